@@ -1,0 +1,16 @@
+//! The lexical layer: bytes come in, pieces go out. It knows nothing of grammar.
+#![tactic(auto)]
+
+ghost use Rattle.std.specs.Prelude.{◌≡◌, ◌+◌, ◌≤◌, drop, length, take};
+
+mod piece;
+
+pub use piece::{Class, Piece};
+
+/// The bytes of a piece.
+pub fn token_text(text: &[u8], piece: Piece) -> &[u8]
+    requires { piece.start + piece.len ≤ length text.now }
+    ensures { result.now ≡ take piece.len (drop piece.start text.now) }
+{
+    &text[piece.start..piece.start + piece.len]
+}
