@@ -1,9 +1,9 @@
 use Rattle.std.proofs.Common.{◌++◌, length, take, ℕ, arith, sym, ap, ◌∙◌, refl}
 use Rattle.snl_cut.specs.Cut.{ticked, last_end}
 use Rattle.snl_cut.proofs.Steps.{walks_on, walks_push, length_push}
-use Rattle.snl_cut.proofs.Again.{walks_rise, walks_last, still_unmet, not_at_end, same_length}
+use Rattle.snl_cut.proofs.Agreeing.{walks_rise, walks_last, still_unmet, not_at_end, same_length}
 use Rattle.snl_cut.proofs.Fresh.{early, head_walk, last_fits, all_together}
-use Rattle.snl_cut.proofs.recut.Goals as goal
+use Rattle.snl_cut.proofs.again.recut.Goals as goal
 
 pub count_below-kept_front-requires : goal.count_below-kept_front-requires
 count_below-kept_front-requires g c =

@@ -1,7 +1,8 @@
-use Rattle.std.proofs.Common.{arith, refl, ap, ◌∙◌}
-use Rattle.snl_cut.specs.Cut.{ticked}
+use Rattle.std.proofs.Common.{◌≡◌, ℕ, length, arith, refl, ap, ◌∙◌, subst}
+use Rattle.snl_cut.specs.Cut.{Walks, ticked}
+use Rattle.snl_cut.proofs.OneCut.{cut_is}
 use Rattle.snl_cut.proofs.Steps.{walks_push, length_push}
-use Rattle.snl_cut.proofs.cut_all.Goals as goal
+use Rattle.snl_cut.proofs.whole.cut_all.Goals as goal
 
 pub loop-at-preserved : goal.loop-at-preserved
 loop-at-preserved g c =
@@ -13,3 +14,9 @@ loop-at-preserved g c =
 
 pub loop-at-init : goal.loop-at-init
 loop-at-init g c = record { walked = rw c.new-ends.ensures.items refl; inside = omega arith; ticked = rw c.new-ends.ensures.items refl }
+
+pub returns-clause-only : goal.returns-clause-only
+returns-clause-only g c =
+    let end : c.loop-at.at ≡ length c.args.units.now = omega (arith, c.loop-at-test.false, c.loop-at.invariant.inside) in
+    cut_is g.F.Front.first_of g.met.F.Front.within c.args.units.now c.loop-at.ends.items
+    (subst (λ (n : ℕ). Walks g.F.Front.first_of c.args.units.now 0 c.loop-at.ends.items n) end c.loop-at.invariant.walked)

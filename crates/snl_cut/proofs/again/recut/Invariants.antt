@@ -1,7 +1,7 @@
 use Rattle.std.proofs.Common.{◌≡◌, ◌-◌, ◌≤◌, length, take}
 use Rattle.snl_cut.specs.Cut.{Walks, after_ticks, last_end}
-use Rattle.snl_cut.proofs.Again.{Unmet}
-use Rattle.snl_cut.proofs.recut.Given as goal
+use Rattle.snl_cut.proofs.Agreeing.{Unmet}
+use Rattle.snl_cut.proofs.again.recut.Given as goal
 
 abbrev pub invariant-loop-count : goal.invariant-loop-count
 invariant-loop-count g l = record {

@@ -1,6 +1,6 @@
 use Rattle.std.proofs.Common.{length, ◌-◌, ◌≡◌, ◌≤◌}
 use Rattle.snl_cut.specs.Cut.{Walks, after_ticks}
-use Rattle.snl_cut.proofs.cut_all.Given as goal
+use Rattle.snl_cut.proofs.whole.cut_all.Given as goal
 
 abbrev pub invariant-loop-at : goal.invariant-loop-at
 invariant-loop-at g l = record {

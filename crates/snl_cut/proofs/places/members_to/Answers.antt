@@ -1,7 +1,7 @@
 use Rattle.std.proofs.Common.{arith, ap, ◌∙◌, add-one, get_or}
 use Rattle.snl_cut.proofs.Below.{last_taken, exact}
-use Rattle.snl_cut.proofs.members_to.Goals as goal
-use Rattle.snl_cut.proofs.members_to.Goals.{else-below-ends-via-then-below-ends+else-ends-below, else-below-ends-via-else-below-ends}
+use Rattle.snl_cut.proofs.places.members_to.Goals as goal
+use Rattle.snl_cut.proofs.places.members_to.Goals.{else-below-ends-via-then-below-ends+else-ends-below, else-below-ends-via-else-below-ends}
 
 pub returns-then-ends-below : goal.returns-then-ends-below
 returns-then-ends-below c =

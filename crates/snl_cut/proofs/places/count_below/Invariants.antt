@@ -1,6 +1,6 @@
 use Rattle.std.proofs.Common.{◌-◌, ◌≤◌, length}
 use Rattle.snl_cut.specs.Cut.{ends_below}
-use Rattle.snl_cut.proofs.count_below.Given as goal
+use Rattle.snl_cut.proofs.places.count_below.Given as goal
 
 abbrev pub invariant-loop-low : goal.invariant-loop-low
 invariant-loop-low l = record {

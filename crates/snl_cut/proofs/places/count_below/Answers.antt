@@ -1,6 +1,6 @@
 use Rattle.std.proofs.Common.{◌+◌, ◌-◌, ◌/◌, arith, ℕ}
 use Rattle.snl_cut.proofs.Below.{below_inside, below_low, below_high}
-use Rattle.snl_cut.proofs.count_below.Goals as goal
+use Rattle.snl_cut.proofs.places.count_below.Goals as goal
 
 pub loop-low-init : goal.loop-low-init
 loop-low-init c = record { least = omega arith; most = below_inside c.args.place c.args.ends.now; inside = omega arith }
