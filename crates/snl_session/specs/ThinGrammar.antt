@@ -6,8 +6,7 @@
 use Rattle.std.specs.Prelude.{ℕ, List, [], ◌∷◌, Option, Some, None, option_map}
 use Rattle.snl_session.specs.declared.thin.tokens.Span.{Span}
 use Rattle.snl_session.specs.declared.thin.tokens.Token.{Token}
-use Rattle.snl_session.specs.declared.thin.tokens.Token.TheVariants.{Program, Ss, State, When, OpenBrace, CloseBrace, OpenParen, CloseParen, Name, Other}
-use Rattle.snl_session.specs.declared.thin.grammar.Role.{Role}
+use Rattle.snl_session.specs.declared.thin.tokens.Token.TheVariants.{Program, Ss, State, When, OpenBrace, CloseBrace, OpenParen, CloseParen, Name}
 use Rattle.snl_session.specs.declared.thin.grammar.Role.TheVariants.{StateName, Target}
 use Rattle.snl_session.specs.declared.thin.grammar.Mention.{Mention}
 use Rattle.snl_session.specs.declared.thin.grammar.Place.{Place}

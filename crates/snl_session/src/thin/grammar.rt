@@ -2,7 +2,7 @@
 //! It knows where names stand, and not how they read.
 #![tactic(auto)]
 
-ghost use Rattle.std.specs.Prelude.{◌≡◌, ◌+◌, ◌<◌, ◌≤◌, IfOk, MatchOption, None, length, option_map};
+ghost use Rattle.std.specs.Prelude.{◌≡◌, ◌++◌, ◌<◌, IfOk, MatchOption, None, OnOk, length, option_map, option_to_list};
 ghost use Rattle.snl_session.specs.ThinGrammar.{mentions_from, mentions_of};
 ghost use Rattle.snl_session.specs.ThinPhrases.{IsPhrase};
 
@@ -65,9 +65,7 @@ fn mentions_behind(alloc: Global, tokens: &[Token]) -> Result<Option<Vec<Mention
         let Some(phrase) = phrase_at(place, rest) else {
             return Ok(None);
         };
-        if let Some(mention) = phrase.mention {
-            named.push(mention)?;
-        }
+        push_some(&mut named, phrase.mention)?;
         place = phrase.place;
         rest = &rest[phrase.len..];
     }
@@ -75,6 +73,16 @@ fn mentions_behind(alloc: Global, tokens: &[Token]) -> Result<Option<Vec<Mention
         Place::BetweenSets => Ok(Some(named)),
         Place::InSet(_) | Place::InState(_) => Ok(None),
     }
+}
+
+// Pushes the mention, if there is one.
+fn push_some(named: &mut Vec<Mention>, mention: Option<Mention>) -> Result<(), AllocError>
+    ensures { OnOk result (named.new.items ≡ named.old.items ++ option_to_list mention) }
+{
+    if let Some(mention) = mention {
+        named.push(mention)?;
+    }
+    Ok(())
 }
 
 // The phrase at the front.
