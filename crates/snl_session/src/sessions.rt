@@ -68,14 +68,14 @@ impl Session {
         ensures text { result.now ≡ self.now }
         ensures size { length result.now ≤ limit }
     {
-        &self.text
+        self.text.as_slice()
     }
 
     /// The diagnostics of the text, sorted by offset and then by code.
     pub fn diagnostics(&self) -> &[Diagnostic]
         ensures { result.now ≡ diagnostics_of self.now }
     {
-        &self.found
+        self.found.as_slice()
     }
 
     /// How many of the diagnostics are errors.
