@@ -2,7 +2,7 @@
 //! An edit has three steps: the test of its range and size, all that takes memory, and the change, which cannot fail.
 #![tactic(auto)]
 
-ghost use Rattle.std.specs.Prelude.{◌≡◌, ℕ, ◌+◌, ◌-◌, ◌≤◌, ◌<◌, [], ◌++◌, List, length, take, drop, IfOk, OnOk, OnErr, IsErrOf, IsOkUnless, MatchOption, None};
+ghost use Rattle.std.specs.Prelude.{◌≡◌, ℕ, ◌+◌, ◌≤◌, [], ◌++◌, List, length, IfOk, OnOk, OnErr, IsErrOf, IsOkUnless, MatchOption, None};
 
 use crate::edits::{Refused, Work};
 use crate::findings::Diagnostic;

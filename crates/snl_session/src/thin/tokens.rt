@@ -2,10 +2,10 @@
 //! White space, names, words and the marks `{ } ( )` are known; all else is `Other`, which no thin text has.
 #![tactic(auto)]
 
-ghost use Rattle.std.specs.Prelude.{◌≡◌, ◌+◌, ◌<◌, ◌≤◌, IfOk, length, take, drop, slice_index};
+ghost use Rattle.std.specs.Prelude.{◌≡◌, ◌<◌, IfOk, length, take, slice_index};
 ghost use Rattle.std.specs.List.{list_any, prefix_len};
 ghost use Rattle.std.specs.Str.{bytes_eq};
-ghost use Rattle.snl_session.specs.ThinTokens.{follows_word, is_digit, is_reserved, is_white, is_word_byte, mark_of, run_len, token_at, tokens_of, word_of};
+ghost use Rattle.snl_session.specs.ThinTokens.{follows_word, is_reserved, is_white, is_word_byte, mark_of, token_at, tokens_of, word_of};
 
 use std::alloc::{AllocError, Global};
 
