@@ -1,0 +1,11 @@
+//! The script engine and the program: commands that come on standard input, their answers on standard output.
+#![tactic(auto)]
+
+pub mod watched;
+
+use std::process::ExitCode;
+
+fn main(rt: HostRuntime) -> ExitCode {
+    let _ = rt;
+    ExitCode::SUCCESS
+}
