@@ -1,6 +1,7 @@
 //! The script engine and the program: commands that come on standard input, their answers on standard output.
 #![tactic(auto)]
 
+pub mod script;
 pub mod watched;
 
 use std::process::ExitCode;
