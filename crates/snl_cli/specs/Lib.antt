@@ -1,3 +1,5 @@
+pub mod Answers
 pub mod Front
+pub mod Said
 pub mod Script
 pub mod Watched

@@ -1,6 +1,8 @@
 //! The script engine and the program: commands that come on standard input, their answers on standard output.
 #![tactic(auto)]
 
+pub mod answers;
+pub mod page;
 pub mod script;
 pub mod watched;
 
