@@ -108,3 +108,30 @@ pieces-all f page xs i d h =
 -- a write that took some of its bytes is no failure
 pub failed-same : (before after : Bool) (n len : ℕ) → (n ≡ 0 → ⊥) → after ≡ (before || (n == 0 && not (len == 0))) → after ≡ before
 failed-same before after n len some h = grind (arith, nat_tests)
+
+-- more was said behind what was said
+pub Said-on : {T E : Type 0} (r : Result T E) (o m n : Option (List ℕ)) (p q xs ys zs : List ℕ) → xs ++ ys ≡ zs → Says o m p xs → Said r m n q (p ++ ys) → Said r o n q zs
+Said-on (Ok x) o m n p q xs ys zs e h k = Says-same o n q (xs ++ ys) zs e (Says-on o m n p q xs ys h k)
+Said-on (Err x) o m n p q xs ys zs e h k = AppendsPart-same o n (xs ++ ys) zs e (AppendsPart-on o m n p xs ys h k)
+
+-- a part of a front was written
+pub Said-part : {T E : Type 0} (r : Result T E) (o n : Option (List ℕ)) (page xs ys zs : List ℕ) → IsErr r → xs ++ ys ≡ zs → AppendsPart o n xs → Said r o n page zs
+Said-part r o n page xs ys zs h e p = Said-err r o n page zs h (AppendsPart-same o n (xs ++ ys) zs e (AppendsPart-front o n xs ys p))
+
+pub Written-part : {T E : Type 0} (r : Result T E) (o n : Option (List ℕ)) (xs ys zs : List ℕ) → IsErr r → xs ++ ys ≡ zs → AppendsPart o n xs → Written r o n zs
+Written-part r o n xs ys zs h e p = Written-err r o n zs h (AppendsPart-same o n (xs ++ ys) zs e (AppendsPart-front o n xs ys p))
+
+-- all that was said was written
+pub Written-finished : {T E : Type 0} (r : Result T E) (o m n : Option (List ℕ)) (p xs zs : List ℕ) → xs ≡ zs → Says o m p xs → Written r m n p → Written r o n zs
+Written-finished (Ok x) o m n p xs zs e h w = Appends-same o n xs zs e (Appends-finished o m n p xs h w)
+Written-finished (Err x) o m n p xs zs e h w = AppendsPart-same o n xs zs e (AppendsPart-finished o m n p xs h w)
+
+-- a line of four pieces
+pub line-1 : (p f g q e : List ℕ) → (p ++ f) ++ (g ++ (q ++ e)) ≡ p ++ (f ++ (g ++ (q ++ e)))
+line-1 p f g q e = simp append_assoc
+
+pub line-2 : (p f g q e : List ℕ) → ((p ++ f) ++ g) ++ (q ++ e) ≡ p ++ (f ++ (g ++ (q ++ e)))
+line-2 p f g q e = simp append_assoc
+
+pub line-3 : (p f g q e : List ℕ) → (((p ++ f) ++ g) ++ q) ++ e ≡ p ++ (f ++ (g ++ (q ++ e)))
+line-3 p f g q e = simp append_assoc

@@ -16,10 +16,14 @@ part_of text start len = take len (drop start text)
 abbrev pub escaped : ℕ → List ℕ
 escaped byte = if nat_le 32 byte && nat_le byte 126 then byte ∷ [] else 92 ∷ 120 ∷ digit_char (byte / 16) ∷ digit_char (byte % 16) ∷ []
 
+-- `FILE:`.
+abbrev pub name_text : List ℕ → List ℕ
+name_text name = flat_map escaped name ++ codes ":"
+
 -- `FILE:`, where a line marker names the file of the line.
 abbrev pub file_text : (text : List ℕ) → Option (ℕ × ℕ) → List ℕ
 file_text text None = []
-file_text text (Some file) = flat_map escaped (part_of text file.0 file.1) ++ codes ":"
+file_text text (Some file) = name_text (part_of text file.0 file.1)
 
 -- ` 'BYTES'`, where bytes are quoted.
 abbrev pub quoted : List ℕ → List ℕ

@@ -36,7 +36,7 @@ impl Model for Page {
 }
 
 /// Writes all of the bytes, in as many calls as it takes.
-fn write_out<W: Write>(out: &mut Watched<W>, bytes: &[u8]) -> Result<(), WriteFault>
+pub fn write_out<W: Write>(out: &mut Watched<W>, bytes: &[u8]) -> Result<(), WriteFault>
     ensures written { Written result (W.contents (inner_of out.old)) (W.contents (inner_of out.new)) bytes.now }
     ensures failed { failed_of out.new ≡ (failed_of out.old || is_err result) }
 {
