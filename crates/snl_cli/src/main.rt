@@ -1,8 +1,11 @@
 //! The script engine and the program: commands that come on standard input, their answers on standard output.
 #![tactic(auto)]
 
+pub mod ahead;
 pub mod answers;
+pub mod faults;
 pub mod page;
+pub mod run;
 pub mod script;
 pub mod watched;
 
