@@ -155,3 +155,11 @@ IsFront-behind n bytes end heading (Whole command len) few h is f =
       inside = omega arith;
       next = λ more. next_of-line n bytes more end few h ∙ ap (λ (o : Option Heading). headed o (drop (end + 1) bytes ++ more)) (sym is) ∙ f.next_is more ∙ ap (λ (l : List ℕ). Then (request_of command) (l ++ more)) both;
     }
+
+-- the first LF stays the first, whatever follows
+pub place_grows : (bytes more : List ℕ) (end : ℕ) → position (λ c. c == 10) bytes ≡ Some end → (position (λ c. c == 10) (bytes ++ more) ≡ Some end) × (end < length bytes)
+place_grows bytes more end h =
+    let at = found_place (feed_place bytes) (length bytes) end h in
+    let front : feed_place (bytes ++ more) ≡ feed_place bytes = prefix_len-append (λ c. not (c == 10)) bytes more ∙ grind (arith, nat_tests) in
+    let long : length (bytes ++ more) ≡ length bytes + length more = length-append bytes more in
+    (position-at (feed_place (bytes ++ more)) (length (bytes ++ more)) (omega (arith, at.0, at.1)) ∙ ap Some (front ∙ at.0), at.1)
