@@ -6,14 +6,13 @@
 use Rattle.std.specs.Prelude.{ℕ, List, [], ◌∷◌, Option, Some, None, option_map}
 use Rattle.snl_session.specs.declared.thin.tokens.Span.{Span}
 use Rattle.snl_session.specs.declared.thin.tokens.Token.{Token}
-use Rattle.snl_session.specs.declared.thin.tokens.Token.TheVariants.{Program, Ss, State, When, OpenBrace, CloseBrace, OpenParen, CloseParen, Name, Other}
-use Rattle.snl_session.specs.declared.thin.grammar.Role.{Role}
+use Rattle.snl_session.specs.declared.thin.tokens.Token.TheVariants.{Program, Ss, State, When, OpenBrace, CloseBrace, OpenParen, CloseParen, Name}
 use Rattle.snl_session.specs.declared.thin.grammar.Role.TheVariants.{StateName, Target}
 use Rattle.snl_session.specs.declared.thin.grammar.Mention.{Mention}
 use Rattle.snl_session.specs.declared.thin.grammar.Place.{Place}
 use Rattle.snl_session.specs.declared.thin.grammar.Place.TheVariants.{BetweenSets, InSet, InState}
 
--- A name that stands in the state set whose own name begins at an offset.
+-- The name of a state, and a target, in the state set whose own name begins at an offset.
 abbrev pub state_name : ℕ → Span → Mention
 state_name set n = record { set = set; role = StateName; name = n }
 
@@ -23,7 +22,7 @@ target set n = record { set = set; role = Target; name = n }
 abbrev pub and_then : Mention → Option (List Mention) → Option (List Mention)
 and_then m more = option_map (λ ms. m ∷ ms) more
 
--- What the tokens from a place of the grammar up to the text's end mention, if they fit it.
+-- What the tokens from a place of the grammar up to the text's end mention, if they fit the grammar there. Each equation is a part of a production.
 abbrev pub mentions_from : Place → List Token → Option (List Mention)
 -- the next state set, with its first state; or the end
 mentions_from BetweenSets (Ss ∷ Name s ∷ OpenBrace ∷ State ∷ Name n ∷ OpenBrace ∷ rest) =
@@ -39,7 +38,7 @@ mentions_from (InState set) (When ∷ OpenParen ∷ CloseParen ∷ OpenBrace ∷
 mentions_from (InState set) (CloseBrace ∷ rest) = mentions_from (InSet set) rest
 mentions_from _ _ = None
 
--- What is mentioned is only that of a program with a state set at least, and so with a state.
+-- A program has a state set at least, and each state set a state: so what mentions nothing is no program.
 abbrev pub unless_empty : List Mention → Option (List Mention)
 unless_empty [] = None
 unless_empty (m ∷ ms) = Some (m ∷ ms)

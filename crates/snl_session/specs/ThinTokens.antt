@@ -1,8 +1,7 @@
 -- The tokens of a thin text. Words and White are those of the SNL reference of the EPICS sequencer 2.2 manual.
-use Rattle.std.specs.Prelude.{ℕ, zero, suc, ◌+◌, ◌-◌, ◌==◌, ◌&&◌, ◌||◌, nat_le, Bool, true, false, if◌then◌else◌, List, [], ◌∷◌, length, take, drop, slice_index, Option, Some, None, codes}
+use Rattle.std.specs.Prelude.{ℕ, zero, suc, ◌==◌, ◌&&◌, ◌||◌, nat_le, Bool, false, if◌then◌else◌, List, [], ◌∷◌, length, take, drop, slice_index, Option, Some, None, codes}
 use Rattle.std.specs.List.{enumerate_from, filter_map, list_any, prefix_len}
 use Rattle.std.specs.Str.{bytes_eq}
-use Rattle.snl_session.specs.declared.thin.tokens.Span.{Span}
 use Rattle.snl_session.specs.declared.thin.tokens.Token.{Token}
 use Rattle.snl_session.specs.declared.thin.tokens.Token.TheVariants.{Program, Ss, State, When, OpenBrace, CloseBrace, OpenParen, CloseParen, Name, Other}
 

@@ -8,6 +8,8 @@ mod codes;
 mod edits;
 mod findings;
 mod sessions;
+#[cfg(test)]
+mod tests;
 mod thin;
 
 pub use codes::Code;

@@ -2,7 +2,7 @@
 //! An edit has three steps: the test of its range and size, all that takes memory, and the change, which cannot fail.
 #![tactic(auto)]
 
-ghost use Rattle.std.specs.Prelude.{◌≡◌, ℕ, ◌+◌, ◌-◌, ◌≤◌, ◌<◌, [], ◌++◌, List, length, take, drop, IfOk, OnOk, OnErr, IsErrOf, IsOkUnless, MatchOption, None};
+ghost use Rattle.std.specs.Prelude.{◌≡◌, ℕ, ◌+◌, ◌≤◌, [], ◌++◌, List, length, IfOk, OnOk, OnErr, IsErrOf, IsOkUnless, MatchOption, None};
 
 use crate::edits::{Refused, Work};
 use crate::findings::Diagnostic;
@@ -68,14 +68,14 @@ impl Session {
         ensures text { result.now ≡ self.now }
         ensures size { length result.now ≤ limit }
     {
-        &self.text
+        self.text.as_slice()
     }
 
     /// The diagnostics of the text, sorted by offset and then by code.
     pub fn diagnostics(&self) -> &[Diagnostic]
         ensures { result.now ≡ diagnostics_of self.now }
     {
-        &self.found
+        self.found.as_slice()
     }
 
     /// How many of the diagnostics are errors.

@@ -18,6 +18,7 @@ use std::alloc::{AllocError, Global};
 use tokens::tokens_in;
 
 /// What is found in a text.
+#[tactic(auto, unfolding(crate::specs::ThinFindings::found))]
 pub fn diagnose(alloc: Global, text: &[u8]) -> Result<Vec<Diagnostic>, AllocError>
     requires { length text.now ≤ 1048576 }
     ensures { IfOk result (λ v. v.items ≡ found text.now) }

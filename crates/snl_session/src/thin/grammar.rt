@@ -2,7 +2,7 @@
 //! It knows where names stand, and not how they read.
 #![tactic(auto)]
 
-ghost use Rattle.std.specs.Prelude.{◌≡◌, ◌+◌, ◌<◌, ◌≤◌, IfOk, MatchOption, None, length, option_map};
+ghost use Rattle.std.specs.Prelude.{◌≡◌, ◌++◌, ◌<◌, IfOk, MatchOption, None, OnOk, length, option_map, option_to_list};
 ghost use Rattle.snl_session.specs.ThinGrammar.{mentions_from, mentions_of};
 ghost use Rattle.snl_session.specs.ThinPhrases.{IsPhrase};
 
@@ -56,7 +56,8 @@ pub fn mentions(alloc: Global, tokens: &[Token]) -> Result<Option<Vec<Mention>>,
 
 // What the state sets mention, if the tokens are state sets.
 fn mentions_behind(alloc: Global, tokens: &[Token]) -> Result<Option<Vec<Mention>>, AllocError>
-    ensures { IfOk result (λ found. option_map (λ v. v.items) found ≡ mentions_from Place.BetweenSets tokens.now) }
+    ensures { IfOk result (λ found. option_map (λ v. v.items) found
+        ≡ mentions_from Place.BetweenSets tokens.now) }
 {
     let mut named = Vec::new(alloc);
     let mut place = Place::BetweenSets;
@@ -65,9 +66,7 @@ fn mentions_behind(alloc: Global, tokens: &[Token]) -> Result<Option<Vec<Mention
         let Some(phrase) = phrase_at(place, rest) else {
             return Ok(None);
         };
-        if let Some(mention) = phrase.mention {
-            named.push(mention)?;
-        }
+        push_some(&mut named, phrase.mention)?;
         place = phrase.place;
         rest = &rest[phrase.len..];
     }
@@ -77,10 +76,22 @@ fn mentions_behind(alloc: Global, tokens: &[Token]) -> Result<Option<Vec<Mention
     }
 }
 
+// Pushes the mention, if there is one.
+fn push_some(named: &mut Vec<Mention>, mention: Option<Mention>) -> Result<(), AllocError>
+    ensures { OnOk result (named.new.items ≡ named.old.items ++ option_to_list mention) }
+{
+    if let Some(mention) = mention {
+        named.push(mention)?;
+    }
+    Ok(())
+}
+
 // The phrase at the front.
 fn phrase_at(place: Place, rest: &[Token]) -> Option<Phrase>
     requires { 0 < length rest.now }
-    ensures { MatchOption result (mentions_from place rest.now ≡ None) (IsPhrase place rest.now) }
+    ensures { MatchOption result
+        (mentions_from place rest.now ≡ None)
+        (IsPhrase place rest.now) }
 {
     match place {
         Place::BetweenSets => set_phrase(rest),
@@ -92,7 +103,9 @@ fn phrase_at(place: Place, rest: &[Token]) -> Option<Phrase>
 // `ss NAME { state NAME {`
 fn set_phrase(rest: &[Token]) -> Option<Phrase>
     requires { 0 < length rest.now }
-    ensures { MatchOption result (mentions_from Place.BetweenSets rest.now ≡ None) (IsPhrase Place.BetweenSets rest.now) }
+    ensures { MatchOption result
+        (mentions_from Place.BetweenSets rest.now ≡ None)
+        (IsPhrase Place.BetweenSets rest.now) }
 {
     match rest {
         [
@@ -118,7 +131,9 @@ fn set_phrase(rest: &[Token]) -> Option<Phrase>
 
 // `state NAME {`, or the `}` of the state set
 fn state_phrase(set: usize, rest: &[Token]) -> Option<Phrase>
-    ensures { MatchOption result (mentions_from (Place.InSet set) rest.now ≡ None) (IsPhrase (Place.InSet set) rest.now) }
+    ensures { MatchOption result
+        (mentions_from (Place.InSet set) rest.now ≡ None)
+        (IsPhrase (Place.InSet set) rest.now) }
 {
     match rest {
         [Token::State, Token::Name(name), Token::OpenBrace, ..] => Some(Phrase {
@@ -141,7 +156,9 @@ fn state_phrase(set: usize, rest: &[Token]) -> Option<Phrase>
 
 // `when ( ) { } state NAME`, or the `}` of the state
 fn transition_phrase(set: usize, rest: &[Token]) -> Option<Phrase>
-    ensures { MatchOption result (mentions_from (Place.InState set) rest.now ≡ None) (IsPhrase (Place.InState set) rest.now) }
+    ensures { MatchOption result
+        (mentions_from (Place.InState set) rest.now ≡ None)
+        (IsPhrase (Place.InState set) rest.now) }
 {
     match rest {
         [

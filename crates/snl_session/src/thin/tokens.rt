@@ -2,8 +2,10 @@
 //! White space, names, words and the marks `{ } ( )` are known; all else is `Other`, which no thin text has.
 #![tactic(auto)]
 
-ghost use Rattle.std.specs.Prelude.{◌≡◌, ◌+◌, ◌<◌, ◌≤◌, IfOk, length, take, drop, slice_index};
-ghost use Rattle.snl_session.specs.ThinTokens.{follows_word, is_digit, is_reserved, is_white, is_word_byte, mark_of, run_len, token_at, tokens_of, word_of};
+ghost use Rattle.std.specs.Prelude.{◌≡◌, ◌<◌, IfOk, length, take, slice_index};
+ghost use Rattle.std.specs.List.{list_any, prefix_len};
+ghost use Rattle.std.specs.Str.{bytes_eq};
+ghost use Rattle.snl_session.specs.ThinTokens.{follows_word, is_reserved, is_white, is_word_byte, mark_of, token_at, tokens_of, word_of};
 
 use std::alloc::{AllocError, Global};
 
@@ -50,10 +52,11 @@ pub fn tokens_in(alloc: Global, text: &[u8]) -> Result<Vec<Token>, AllocError>
     Ok(tokens)
 }
 
-// The token that begins at a place with this byte, if one does.
+// The token that begins at a place, which has this byte, if one does.
 #[tactic(auto, unfolding(crate::specs::ThinTokens::token_at))]
 fn token_from(text: &[u8], at: usize, byte: u8) -> Option<Token>
-    requires { at < length text.now }
+    requires within { at < length text.now }
+    requires there { byte ≡ slice_index text.now at }
     ensures { result ≡ token_at text.now (at, byte) }
 {
     if is_of_word(byte) {
@@ -93,12 +96,12 @@ fn is_behind_word(text: &[u8], at: usize) -> bool
 
 // The word bytes at the front, up to the first other byte.
 fn run(rest: &[u8]) -> &[u8]
-    ensures { result.now ≡ take (run_len rest.now 0) rest.now }
+    ensures { result.now ≡ take (prefix_len is_word_byte rest.now) rest.now }
 {
-    let len = rest
-        .iter()
-        .position(|byte| !is_of_word(*byte))
-        .unwrap_or(rest.len());
+    let mut len = 0;
+    while len < rest.len() && is_of_word(rest[len]) {
+        len += 1;
+    }
     &rest[..len]
 }
 
@@ -130,7 +133,14 @@ fn word_token(word: &[u8], start: usize) -> Token
 fn is_reserved_word(word: &[u8]) -> bool
     ensures { result ≡ is_reserved word.now }
 {
-    RESERVED.iter().any(|reserved| reserved.as_bytes() == word)
+    is_among(&RESERVED, word)
+}
+
+// Whether one of the words is this one.
+fn is_among(words: &[&str], word: &[u8]) -> bool
+    ensures { result ≡ list_any (λ w. bytes_eq w.now word.now) words.now }
+{
+    words.iter().any(|w| w.as_bytes() == word)
 }
 
 // The token that a byte is which is neither white space nor in a word.
