@@ -53,22 +53,24 @@ next_of-grows (b ∷ bytes) more behind request h = at (position (λ c. c == 10)
   where
     all : List ℕ
     all = b ∷ bytes
+
     at : (o : Option ℕ) → position (λ c. c == 10) (b ∷ bytes) ≡ o → lined o (b ∷ bytes) ≡ Then request behind → next_of ((b ∷ bytes) ++ more) ≡ Then request (behind ++ more)
     at None e k = cc
     at (Some end) e k = short (leb end 80) refl k
       where
         line : List ℕ → List ℕ → Next
         line l m = headed (heading_of (words_of l)) m
+
         short : (c : Bool) → leb end 80 ≡ c → cond c (headed (heading_of (words_of (take end (b ∷ bytes)))) (drop (end + 1) (b ∷ bytes))) Unknown ≡ Then request behind → next_of ((b ∷ bytes) ++ more) ≡ Then request (behind ++ more)
         short false t w = cc
         short true t w =
-          let grown = place_grows (b ∷ bytes) more end e in
-          let front : take end ((b ∷ bytes) ++ more) ≡ take end (b ∷ bytes) = take-append-le end (b ∷ bytes) more (omega (arith, grown.1)) in
-          let back : drop (end + 1) ((b ∷ bytes) ++ more) ≡ drop (end + 1) (b ∷ bytes) ++ more = drop-append-le (end + 1) (b ∷ bytes) more (omega (arith, grown.1)) in
-          let found : next_of ((b ∷ bytes) ++ more) ≡ lined (Some end) ((b ∷ bytes) ++ more) = ap (λ (o : Option ℕ). lined o ((b ∷ bytes) ++ more)) grown.0 in
-          let here : lined (Some end) ((b ∷ bytes) ++ more) ≡ headed (heading_of (words_of (take end ((b ∷ bytes) ++ more)))) (drop (end + 1) ((b ∷ bytes) ++ more)) = rw t refl in
-          let same : headed (heading_of (words_of (take end ((b ∷ bytes) ++ more)))) (drop (end + 1) ((b ∷ bytes) ++ more)) ≡ headed (heading_of (words_of (take end (b ∷ bytes)))) (drop (end + 1) (b ∷ bytes) ++ more) = ap (λ (l : List ℕ). headed (heading_of (words_of l)) (drop (end + 1) ((b ∷ bytes) ++ more))) front ∙ ap (λ (l : List ℕ). headed (heading_of (words_of (take end (b ∷ bytes)))) l) back in
-          found ∙ here ∙ same ∙ headed-grows (heading_of (words_of (take end (b ∷ bytes)))) (drop (end + 1) (b ∷ bytes)) more behind request w
+            let grown = place_grows (b ∷ bytes) more end e in
+            let front : take end ((b ∷ bytes) ++ more) ≡ take end (b ∷ bytes) = take-append-le end (b ∷ bytes) more (omega (arith, grown.1)) in
+            let back : drop (end + 1) ((b ∷ bytes) ++ more) ≡ drop (end + 1) (b ∷ bytes) ++ more = drop-append-le (end + 1) (b ∷ bytes) more (omega (arith, grown.1)) in
+            let found : next_of ((b ∷ bytes) ++ more) ≡ lined (Some end) ((b ∷ bytes) ++ more) = ap (λ (o : Option ℕ). lined o ((b ∷ bytes) ++ more)) grown.0 in
+            let here : lined (Some end) ((b ∷ bytes) ++ more) ≡ headed (heading_of (words_of (take end ((b ∷ bytes) ++ more)))) (drop (end + 1) ((b ∷ bytes) ++ more)) = rw t refl in
+            let same : headed (heading_of (words_of (take end ((b ∷ bytes) ++ more)))) (drop (end + 1) ((b ∷ bytes) ++ more)) ≡ headed (heading_of (words_of (take end (b ∷ bytes)))) (drop (end + 1) (b ∷ bytes) ++ more) = ap (λ (l : List ℕ). headed (heading_of (words_of l)) (drop (end + 1) ((b ∷ bytes) ++ more))) front ∙ ap (λ (l : List ℕ). headed (heading_of (words_of (take end (b ∷ bytes)))) l) back in
+            found ∙ here ∙ same ∙ headed-grows (heading_of (words_of (take end (b ∷ bytes)))) (drop (end + 1) (b ∷ bytes)) more behind request w
 
 -- ---- commands, one behind another
 
@@ -219,9 +221,9 @@ malformed-always bytes (Some more) h = h more
 pub Told-malformed : (before behind old new : Option (List ℕ)) (source ahead bytes text : List ℕ) (offset calls : ℕ) → Told before behind old new source (At ahead text offset calls) → bytes ≡ ahead → ((more : List ℕ) → next_of (bytes ++ more) ≡ Unknown) → Ran (Err (Script offset)) before behind old new source
 Told-malformed before behind old new source ahead bytes text offset calls t is h =
     Told-ends before behind old new source (At ahead text offset calls) _ t (λ read rest last a.
-      let same : bytes ≡ rest = is ∙ sym a.0 in
-      let unknown : (more : List ℕ) → next_of (rest ++ more) ≡ Unknown = subst (λ (l : List ℕ). (more : List ℕ) → next_of (l ++ more) ≡ Unknown) same h in
-      (a.2, none-malformed rest unknown, malformed-always rest behind unknown))
+    let same : bytes ≡ rest = is ∙ sym a.0 in
+    let unknown : (more : List ℕ) → next_of (rest ++ more) ≡ Unknown = subst (λ (l : List ℕ). (more : List ℕ) → next_of (l ++ more) ≡ Unknown) same h in
+    (a.2, none-malformed rest unknown, malformed-always rest behind unknown))
 
 -- the reader has no more bytes, and what is ahead is no command
 ends-malformed : (bytes : List ℕ) (left : Option (List ℕ)) → next_of bytes ≡ Unknown → IsAtEnd left → IsMalformed bytes left
@@ -232,8 +234,8 @@ pub Ran-end : (result : Result Status RunFault) (before behind old new : Option 
 Ran-end result before behind old new source [] text offset calls t e short ok err = rw (ok refl) (Told-ends before behind old new source (At [] text offset calls) _ t (λ read rest last a. (a.0, e, ap status_of (sym a.1))))
 Ran-end result before behind old new source (b ∷ bytes) text offset calls t e short ok err =
     rw (err (λ x. cc)) (Told-ends before behind old new source (At (b ∷ bytes) text offset calls) _ t (λ read rest last a.
-      let unknown : next_of rest ≡ Unknown = ap next_of a.0 ∙ short in
-      (a.2, subst HoldsNone (sym a.0) (none-unfinished (b ∷ bytes) short), ends-malformed rest behind unknown e)))
+    let unknown : next_of rest ≡ Unknown = ap next_of a.0 ∙ short in
+    (a.2, subst HoldsNone (sym a.0) (none-unfinished (b ∷ bytes) short), ends-malformed rest behind unknown e)))
 
 -- no more bytes can be read
 pub Ran-read : (fault : ReadFault) (result : Result Status RunFault) (before behind old new : Option (List ℕ)) (source ahead text : List ℕ) (offset calls : ℕ) → result ≡ Err (fault_of_read fault) → Told before behind old new source (At ahead text offset calls) → next_of ahead ≡ unfinished ahead → (fault ≡ reading.TooManyTurns → 16777216 ≤ calls) → Ran result before behind old new source

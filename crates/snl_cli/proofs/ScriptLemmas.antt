@@ -28,6 +28,7 @@ words_of-none line h = one line (no_place (position_or_len (λ b. b == 32) line)
     split : (c : Bool) (x : ℕ) (xs : List ℕ) → (length xs ≤ position_or_len (λ b. b == 32) xs → slice_split (λ b. b == 32) xs ≡ xs ∷ []) → suc (length xs) ≤ cond (not c) (1 + position_or_len (λ b. b == 32) xs) 0 → cond c ([] ∷ slice_split (λ b. b == 32) xs) (onto_first x (slice_split (λ b. b == 32) xs)) ≡ (x ∷ xs) ∷ []
     split true x xs more h = absurd (omega arith)
     split false x xs more h = ap (onto_first x) (more (omega arith))
+
     one : (xs : List ℕ) → length xs ≤ position_or_len (λ b. b == 32) xs → slice_split (λ b. b == 32) xs ≡ xs ∷ []
     one [] h = refl
     one (x ∷ xs) h = split (x == 32) x xs (one xs) h
@@ -49,6 +50,7 @@ one_word (b ∷ bytes) = split (b == 32)
     onto : (parts : List (List ℕ)) → (word : List ℕ) × (words : List (List ℕ)) × (onto_first b parts ≡ word ∷ words)
     onto [] = (b ∷ [], [], refl)
     onto (p ∷ ps) = (b ∷ p, ps, refl)
+
     split : (c : Bool) → (word : List ℕ) × (words : List (List ℕ)) × (cond c ([] ∷ slice_split (λ x. x == 32) bytes) (onto_first b (slice_split (λ x. x == 32) bytes)) ≡ word ∷ words)
     split true = ([], slice_split (λ x. x == 32) bytes, refl)
     split false = onto (slice_split (λ x. x == 32) bytes)
@@ -73,7 +75,7 @@ by_front n bytes more = ap (λ (l : List ℕ). l ++ more) (sym (take-append-drop
 feed_inside : (n : ℕ) (bytes more : List ℕ) → feed_place (take n bytes) < length (take n bytes) → feed_place (bytes ++ more) ≡ feed_place (take n bytes)
 feed_inside n bytes more h =
     let front : feed_place (take n bytes ++ (drop n bytes ++ more)) ≡ feed_place (take n bytes) =
-      prefix_len-append (λ c. not (c == 10)) (take n bytes) (drop n bytes ++ more) ∙ grind (arith, nat_tests) in
+    prefix_len-append (λ c. not (c == 10)) (take n bytes) (drop n bytes ++ more) ∙ grind (arith, nat_tests) in
     ap feed_place (by_front n bytes more) ∙ front
 
 -- where there is none in a front, the first is behind it
@@ -124,6 +126,7 @@ next_of-long n bytes more few h long =
       where
         big_test : leb a 80 ≡ false
         big_test = grind (arith, nat_tests)
+
         split : (b : Bool) → lined (cond b (Some a) None) all ≡ Unknown
         split true = rw big_test refl
         split false = refl

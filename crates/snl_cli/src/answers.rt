@@ -35,27 +35,22 @@ fn hex_digit(digit: u8) -> u8
 }
 
 /// Says a byte of a file's name.
-fn put_escaped<W: Write>(
-    page: &mut Page,
-    out: &mut Watched<W>,
-    byte: u8,
-) -> Result<(), WriteFault>
+fn put_escaped<W: Write>(page: &mut Page, out: &mut Watched<W>, byte: u8) -> Result<(), WriteFault>
     ensures said { Said result (W.contents (inner_of out.old)) (W.contents (inner_of out.new)) page.new (page.old ++ escaped byte) }
     ensures failed { failed_of out.new ≡ (failed_of out.old || is_err result) }
 {
     if 32 <= byte && byte <= 126 {
         page.put(out, &[byte])
     } else {
-        page.put(out, &[b'\\', b'x', hex_digit(byte / 16), hex_digit(byte % 16)])
+        page.put(
+            out,
+            &[b'\\', b'x', hex_digit(byte / 16), hex_digit(byte % 16)],
+        )
     }
 }
 
 /// Says a file's name and a colon.
-fn put_name<W: Write>(
-    page: &mut Page,
-    out: &mut Watched<W>,
-    name: &[u8],
-) -> Result<(), WriteFault>
+fn put_name<W: Write>(page: &mut Page, out: &mut Watched<W>, name: &[u8]) -> Result<(), WriteFault>
     ensures said { Said result (W.contents (inner_of out.old)) (W.contents (inner_of out.new)) page.new (page.old ++ name_text name.now) }
     ensures failed { failed_of out.new ≡ (failed_of out.old || is_err result) }
 {
@@ -188,10 +183,7 @@ pub fn report<W: Write>(out: &mut Watched<W>, session: &Session) -> Result<(), W
 }
 
 /// Writes what became of an edit.
-pub fn tell_edit<W: Write>(
-    out: &mut Watched<W>,
-    refused: Option<Refused>,
-) -> Result<(), WriteFault>
+pub fn tell_edit<W: Write>(out: &mut Watched<W>, refused: Option<Refused>) -> Result<(), WriteFault>
     ensures written { Written result (W.contents (inner_of out.old)) (W.contents (inner_of out.new)) (edit_text refused) }
     ensures failed { failed_of out.new ≡ (failed_of out.old || is_err result) }
 {

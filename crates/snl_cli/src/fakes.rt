@@ -3,6 +3,7 @@
 
 ghost use Rattle.std.specs.Prelude.{◌<◌, Some};
 
+use std::cell::Cell;
 use std::io;
 use std::io::{ErrorKind, Read, Write};
 
@@ -129,5 +130,92 @@ impl Read for Endless<'_> {
             return Ok(1);
         }
         Ok(0)
+    }
+}
+
+/// Gives a command a call, and sees at each call whether as many bytes were written as should be.
+pub struct Asking<'a> {
+    commands: &'a [&'a [u8]],
+    expected: &'a [usize],
+    written: &'a Cell<usize>,
+    at: usize,
+    answered: bool,
+}
+
+impl<'a> Asking<'a> {
+    pub fn new(
+        commands: &'a [&'a [u8]],
+        expected: &'a [usize],
+        written: &'a Cell<usize>,
+    ) -> Asking<'a> {
+        Asking {
+            commands,
+            expected,
+            written,
+            at: 0,
+            answered: true,
+        }
+    }
+
+    /// Whether each call found what was expected, and all commands were given.
+    pub fn was_answered(&self) -> bool {
+        self.answered && self.at == self.expected.len()
+    }
+}
+
+impl Drop for Asking<'_> {
+    fn drop(self) {
+        let Asking {
+            commands: _,
+            expected: _,
+            written: _,
+            at: _,
+            answered: _,
+        } = self;
+    }
+}
+
+impl Read for Asking<'_> {
+    fn read(&mut self, buf: &mut [u8]) -> io::Result<usize> {
+        if self.expected.get(self.at).copied() != Some(self.written.get()) {
+            self.answered = false;
+        }
+        let command: &[u8] = match self.commands.get(self.at) {
+            None => b"",
+            Some(command) => command,
+        };
+        self.at = self.at.saturating_add(1);
+        let n = buf.len().min(command.len());
+        buf[..n].copy_from_slice(&command[..n]);
+        Ok(n)
+    }
+}
+
+/// Takes all bytes, and counts them.
+pub struct Telling<'a> {
+    written: &'a Cell<usize>,
+}
+
+impl<'a> Telling<'a> {
+    pub fn new(written: &'a Cell<usize>) -> Telling<'a> {
+        Telling { written }
+    }
+}
+
+impl Drop for Telling<'_> {
+    fn drop(self) {
+        let Telling { written: _ } = self;
+    }
+}
+
+impl Write for Telling<'_> {
+    fn write(&mut self, buf: &[u8]) -> io::Result<usize> {
+        self.written
+            .set(self.written.get().saturating_add(buf.len()));
+        Ok(buf.len())
+    }
+
+    fn flush(&mut self) -> io::Result<()> {
+        Ok(())
     }
 }

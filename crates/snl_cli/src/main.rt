@@ -5,16 +5,15 @@
 
 pub mod ahead;
 pub mod answers;
+#[cfg(test)]
+mod fakes;
 pub mod faults;
 pub mod page;
 pub mod run;
 pub mod script;
-pub mod watched;
-
-#[cfg(test)]
-mod fakes;
 #[cfg(test)]
 mod tests;
+pub mod watched;
 
 use faults::Status;
 use run::run;

@@ -53,10 +53,7 @@ pub enum Front<'a> {
     /// No command, whatever follows.
     Malformed,
     /// A command, of so many bytes.
-    Whole {
-        command: Command<'a>,
-        length: usize,
-    },
+    Whole { command: Command<'a>, length: usize },
 }
 
 fn place_of(byte: u8, bytes: &[u8]) -> Option<usize>

@@ -11,7 +11,7 @@ returns-in-Some c =
     let end : ℕ = c.in-Some.end in
     let whole : length (drop (end + 1) bytes) ≤ length bytes - (end + 1) = omega (arith, length-drop (end + 1) bytes) in
     let behind : IsFrontBehind (headed c.heading_in.result) (end + 1) (drop (end + 1) bytes) c.front_behind.result =
-      subst (λ (l : List ℕ). IsFrontBehind (headed c.heading_in.result) (end + 1) l c.front_behind.result) (take_all (length bytes - (end + 1)) (drop (end + 1) bytes) whole) c.front_behind.ensures in
+    subst (λ (l : List ℕ). IsFrontBehind (headed c.heading_in.result) (end + 1) l c.front_behind.result) (take_all (length bytes - (end + 1)) (drop (end + 1) bytes) whole) c.front_behind.ensures in
     IsFront-behind c.min.result bytes end c.heading_in.result c.front_behind.result (omega arith) (sym c.in-Some.ensures) c.heading_in.ensures behind
 
 pub returns-in-None : goal.returns-in-None

@@ -2,7 +2,6 @@ use Rattle.std.proofs.Common.{rules, ℕ, List, [], Bor}
 use Rattle.snl_cli.proofs.SaidLemmas.{AppendsPart-front, AppendsPart-on, AppendsPart-same, Said-err, Says-on, Says-same, pieces-all, pieces-more}
 use Rattle.snl_cli.proofs.page.Page.put_all.Goals as goal
 
-
 pub loop-piece-preserved : goal.loop-piece-preserved
 loop-piece-preserved g c =
     let more = pieces-more (λ (piece : Bor (List ℕ)). piece.now) c.args.self.now c.args.pieces.now c.loop-piece.piece-index (record { ref_ptr = (0, 0); now = [] }) c.loop-piece-test.true in
