@@ -193,7 +193,7 @@ fn expect_write_fault(rt: &(impl Abort + AllocGlobal), calls: u64, failure: Fail
         Err(RunFault::Write)
     );
     assert!(rt; out.failed() && !script.failed());
-    assert_eq!(rt; out.calls(), calls + 1);
+    assert_eq!(rt; out.calls(), calls.saturating_add(1));
     assert!(rt; FIRST_SAID.starts_with(out.inner().taken()));
 }
 
