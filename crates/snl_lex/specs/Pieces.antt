@@ -1,0 +1,127 @@
+-- The pieces of a text, and its tokens.
+-- In: a text, as the list of its bytes. Out: the class and length of its first piece; all pieces from the left; those that are tokens.
+use Rattle.std.specs.Prelude.{ℕ, zero, suc, ◌+◌, ◌-◌, Bool, true, false, not, ◌||◌, ◌==◌, nat_lt, List, [], ◌∷◌, length, take, drop, map, filter, slice_index, Option, Some, None, if◌then◌else◌}
+use Rattle.snl_lex.specs.declared.piece.Class.{Class}
+use Rattle.snl_lex.specs.declared.piece.Class.TheVariants.{White, Comment, Marker, CCode, Name, Word, Int, Float, Text, CharLit, Punct, Bad}
+use Rattle.snl_lex.specs.declared.piece.Piece.{Piece}
+use Rattle.snl_lex.specs.declared.alphabet.Start.{Start}
+use Rattle.snl_lex.specs.declared.alphabet.Start.TheVariants.{Blank, Letter, Digit, Dot, Hash, Slash, Percent, Quote, Apostrophe, Sign, Stray}
+use Rattle.snl_lex.specs.Alphabet.{is_white, is_digit, is_word_byte, is_in_line, is_mark, is_stray, start_of}
+use Rattle.snl_lex.specs.Runs.{run_of, run_by, close_of}
+use Rattle.snl_lex.specs.Words.{is_word}
+use Rattle.snl_lex.specs.Numbers.{number_joins, number_class}
+
+-- The first byte, and the run of bytes behind it that pass the test.
+abbrev pub run_piece : Class → (ℕ → Bool) → List ℕ → Class × ℕ
+run_piece kind passes u = (kind, 1 + run_of passes (drop 1 u))
+
+-- The longest run of letters, digits and `_`: a word, or a name.
+abbrev pub name_piece : List ℕ → Class × ℕ
+name_piece u =
+    let count = 1 + run_of is_word_byte (drop 1 u) in
+    (if is_word (take count u) then Word else Name, count)
+
+-- A number run, whose bytes tell the class.
+abbrev pub number_piece : List ℕ → Class × ℕ
+number_piece u =
+    let count = 1 + run_by number_joins (take 1 u) (drop 1 u) in
+    (number_class (take count u), count)
+
+-- The two bytes at the front, and all up to the first `a b` behind them; without one the whole rest, which is faulty.
+abbrev pub closed_piece : Class → ℕ → ℕ → List ℕ → Class × ℕ
+closed_piece kind a b u = elim (close_of a b (drop 2 u)) [ Some count ↦ (kind, 2 + count) | None ↦ (Bad, length u) ]
+
+-- A backslash takes the byte behind it; a backslash that is taken doesn't. (The last byte comes first in the list.)
+abbrev pub is_taken : List ℕ → Bool
+is_taken [] = false
+is_taken (b ∷ before) = if b == 92 then not (is_taken before) else false
+
+-- A string goes on up to its quote or an LF, but for those that a backslash takes.
+abbrev pub string_joins : ℕ → List ℕ → ℕ → Bool
+string_joins quote before b = is_taken before || not (b == quote || b == 10)
+
+-- The quote at the front, and all up to the quote that closes it; without one all before the LF or the end, which is faulty.
+abbrev pub string_piece : Class → ℕ → List ℕ → Class × ℕ
+string_piece kind quote u =
+    let count = 1 + run_by (string_joins quote) [] (drop 1 u) in
+    if slice_index u count == quote then (kind, 1 + count) else (Bad, count)
+
+-- The longest prefix that is a mark: the first byte is one, and none has more than three bytes.
+unfoldable pub longest_mark : List ℕ → ℕ
+longest_mark u = if is_mark (take 3 u) then length (take 3 u) else (if is_mark (take 2 u) then length (take 2 u) else 1)
+
+abbrev pub mark_piece : List ℕ → Class × ℕ
+mark_piece u = (Punct, longest_mark u)
+
+-- A slash: a comment, or a mark.
+abbrev pub slash_piece : List ℕ → Class × ℕ
+slash_piece u =
+    if slice_index u 1 == 47 then run_piece Comment is_in_line u
+    else if slice_index u 1 == 42 then closed_piece Comment 42 47 u
+    else mark_piece u
+
+-- A percent sign: embedded C, or a mark.
+abbrev pub percent_piece : List ℕ → Class × ℕ
+percent_piece u =
+    if slice_index u 1 == 37 then run_piece CCode is_in_line u
+    else if slice_index u 1 == 123 then closed_piece CCode 125 37 u
+    else mark_piece u
+
+-- A dot: a number, if a digit follows it, or a mark.
+abbrev pub dot_piece : List ℕ → Class × ℕ
+dot_piece u = if is_digit (slice_index u 1) then number_piece u else mark_piece u
+
+-- The class and length of the first piece, by what it begins with.
+abbrev pub piece_by : Start → List ℕ → Class × ℕ
+piece_by Blank u = run_piece White is_white u
+piece_by Letter u = name_piece u
+piece_by Digit u = number_piece u
+piece_by Dot u = dot_piece u
+piece_by Hash u = run_piece Marker is_in_line u
+piece_by Slash u = slash_piece u
+piece_by Percent u = percent_piece u
+piece_by Quote u = string_piece Text 34 u
+piece_by Apostrophe u = string_piece CharLit 39 u
+piece_by Sign u = mark_piece u
+piece_by Stray u = run_piece Bad is_stray u
+
+-- The class and length of the first piece of a text that isn't empty.
+unfoldable pub first_piece : List ℕ → Class × ℕ
+first_piece u = piece_by (start_of (slice_index u 0)) u
+
+abbrev pub piece_length : List ℕ → ℕ
+piece_length u = (first_piece u).1
+
+-- The piece that begins at an offset of the text.
+unfoldable pub piece_at : List ℕ → ℕ → Piece
+piece_at text at = record { kind = (first_piece (drop at text)).0; start = at; len = piece_length (drop at text) }
+
+-- The pieces from an offset on, at most so many.
+abbrev pub pieces_from : List ℕ → ℕ → ℕ → List Piece
+pieces_from text at zero = []
+pieces_from text at (suc most) =
+    if nat_lt at (length text) then piece_at text at ∷ pieces_from text (at + piece_length (drop at text)) most else []
+
+-- The pieces of a text, cut from the left: a text has no more pieces than bytes.
+unfoldable pub pieces_of : List ℕ → List Piece
+pieces_of text = pieces_from text 0 (length text)
+
+-- Where a piece ends.
+abbrev pub piece_end : Piece → ℕ
+piece_end p = p.start + p.len
+
+-- White space, comments and line markers are no tokens.
+abbrev pub is_token : Piece → Bool
+is_token p = elim p.kind [ White ↦ false | Comment ↦ false | Marker ↦ false | _ ↦ true ]
+
+-- The tokens of a text, as pieces.
+abbrev pub tokens_of : List ℕ → List Piece
+tokens_of text = filter is_token (pieces_of text)
+
+-- The bytes of a piece of the text.
+abbrev pub bytes_at : List ℕ → Piece → List ℕ
+bytes_at text p = take p.len (drop p.start text)
+
+-- A piece, moved as the bytes from `old_stop` on are moved to `new_stop`.
+abbrev pub moved_piece : ℕ → ℕ → Piece → Piece
+moved_piece old_stop new_stop p = record { kind = p.kind; start = (p.start - old_stop) + new_stop; len = p.len }

@@ -1,0 +1,115 @@
+//! The cut of a text into pieces, made whole or again after an edit.
+//! In: a text; after an edit also the old text and its pieces. Out: the pieces, or what is kept and made of them.
+//! It knows of a piece only that it is the first one of what is left.
+
+ghost use Rattle.snl_cut.specs.Cut.{IsEdit, IsRecut, after_ticks, ticked};
+ghost use Rattle.snl_lex.specs.Local.{piece_front, piece_local};
+ghost use Rattle.snl_lex.specs.Pieces.{moved_piece, piece_at, piece_end, piece_length, pieces_of};
+ghost use Rattle.std.specs.Prelude.{◌≡◌, ◌+◌, ◌-◌, ◌<◌, ◌++◌, IfOk, drop, length, map, take};
+
+use crate::piece::Piece;
+use crate::scan::first_piece;
+use snl_cut::{Count, Front, OutOfMemory, recut};
+use std::alloc::Global;
+
+/// The front that cuts a text into pieces: its units are bytes.
+pub struct Bytes;
+
+impl Front for Bytes {
+    type Unit = u8;
+
+    ghost first_of = { piece_length };
+
+    ghost within = { piece_front };
+
+    ghost local = { piece_local };
+
+    fn first(&self, rest: &[u8], work: &mut Count) -> usize {
+        work.tick();
+        first_piece(rest).1
+    }
+}
+
+// The piece that begins at `at`.
+fn piece_at(text: &[u8], at: usize) -> Piece
+    requires { at < length text.now }
+    ensures { result ≡ piece_at text.now at }
+{
+    let (kind, len) = first_piece(&text[at..]);
+    Piece { kind, start: at, len }
+}
+
+/// The pieces of a text. Each is one tick.
+pub fn lex(alloc: Global, text: &[u8], work: &mut Count) -> Result<Vec<Piece>, OutOfMemory>
+    ensures pieces { IfOk result (λ pieces. pieces.items ≡ pieces_of text.now) }
+    ensures ticks { IfOk result (λ pieces. work.new ≡ after_ticks work.old (length pieces.items)) }
+{
+    let mut pieces = Vec::new(alloc);
+    let mut at = 0;
+    while at < text.len() {
+        work.tick();
+        let piece = piece_at(text, at);
+        pieces.push(piece)?;
+        at += piece.len;
+    }
+    Ok(pieces)
+}
+
+/// What is kept and made of the pieces of an old text: so many at the front, the new ones, and so many at the back, which moved with the bytes.
+#[derive(Drop)]
+pub struct Relexed {
+    pub kept_front: usize,
+    pub made: Vec<Piece>,
+    pub kept_back: usize,
+}
+
+// Where each piece ends.
+fn ends_of(alloc: Global, pieces: &[Piece]) -> Result<Vec<usize>, OutOfMemory> {
+    let mut ends = Vec::new(alloc);
+    for piece in pieces {
+        ends.push(piece.start + piece.len)?;
+    }
+    Ok(ends)
+}
+
+// The pieces that end one behind another at these places.
+fn pieces_to(alloc: Global, text: &[u8], from: usize, ends: &[usize]) -> Result<Vec<Piece>, OutOfMemory> {
+    let mut pieces = Vec::new(alloc);
+    let mut at = from;
+    for end in ends {
+        pieces.push(piece_at(text, at))?;
+        at = *end;
+    }
+    Ok(pieces)
+}
+
+/// The pieces of `text` from those of `old_text`, of which the bytes from `start` to `old_stop` were replaced by those up to `new_stop`. Each piece that is made is one tick.
+pub fn relex(
+    alloc: Global,
+    old_text: &[u8],
+    old: &[Piece],
+    text: &[u8],
+    start: usize,
+    old_stop: usize,
+    new_stop: usize,
+    work: &mut Count,
+) -> Result<Relexed, OutOfMemory>
+    requires old_pieces { old.now ≡ pieces_of old_text.now }
+    requires edit { IsEdit old_text.now text.now start old_stop new_stop }
+    ensures recut { IfOk
+        result
+        (λ r. IsRecut piece_length old_text.now (map piece_end old.now) text.now start old_stop new_stop r.kept_front (map piece_end r.made.items) r.kept_back) }
+    ensures pieces { IfOk
+        result
+        (λ r. pieces_of text.now ≡ (take r.kept_front old.now ++ r.made.items) ++ map (moved_piece old_stop new_stop) (drop (length old.now - r.kept_back) old.now)) }
+    ensures ticks { IfOk result (λ r. work.new ≡ after_ticks work.old (length r.made.items)) }
+{
+    let ends = ends_of(alloc, old)?;
+    let cut = recut(alloc, &Bytes, old_text, &ends, text, start, old_stop, new_stop, work)?;
+    let from = if cut.kept_front == 0 { 0 } else { ends[cut.kept_front - 1] };
+    Ok(Relexed {
+        kept_front: cut.kept_front,
+        made: pieces_to(alloc, text, from, &cut.made)?,
+        kept_back: cut.kept_back,
+    })
+}

@@ -1,0 +1,135 @@
+//! The line and file of an offset, by the line markers before it.
+//! In: a text, its pieces and an offset. Out: the line's number and its file.
+//! It knows nothing of what stands on a line.
+
+ghost use Rattle.snl_lex.specs.Lines.{file_by, has_file, line_at, lines_between, marker_file, marker_number, number_by, number_place, number_stop, sets_line};
+ghost use Rattle.snl_lex.specs.Pieces.{bytes_at, piece_end, pieces_of};
+ghost use Rattle.std.specs.Prelude.{◌≡◌, ◌+◌, ◌<◌, ◌≤◌, drop, length, nat_lt, take};
+
+use crate::alphabet::{Base, Set, is_blank, is_gap, run_end};
+use crate::numbers::value_of;
+use crate::piece::{Class, Piece};
+use crate::scan::string_end;
+
+/// The line of an offset: its number, and start and length of the bytes in the text that name its file, where a line marker names one.
+#[derive(Clone, Copy, Debug, PartialEq, Eq)]
+pub struct Line {
+    pub number: usize,
+    pub file: Option<(usize, usize)>,
+}
+
+// Where the number of a marker begins.
+fn number_place(marker: &[u8]) -> usize
+    requires { 0 < length marker.now }
+    ensures { result ≡ number_place marker.now }
+{
+    let place = run_end(marker, 1, Set::Gaps);
+    if marker.len() - place > 4 && &marker[place..place + 4] == b"line".as_slice() && is_gap(marker[place + 4]) {
+        run_end(marker, place + 4, Set::Gaps)
+    } else {
+        place
+    }
+}
+
+// The number that a marker sets.
+fn marker_number(marker: &[u8]) -> Option<u64>
+    requires { 0 < length marker.now }
+    ensures { result ≡ marker_number marker.now }
+{
+    let begin = number_place(marker);
+    let stop = run_end(marker, begin, Set::Digits(Base::Decimal));
+    if begin == stop || stop - begin > 10 || (stop < marker.len() && !is_blank(marker[stop])) {
+        return None;
+    }
+    value_of(&marker[begin..stop], Base::Decimal).filter(|number| *number <= 2_147_483_647)
+}
+
+// Where in a marker its file stands.
+fn marker_file(marker: &[u8]) -> Option<(usize, usize)>
+    requires { 0 < length marker.now }
+    ensures { result ≡ marker_file marker.now }
+{
+    let stop = run_end(marker, number_place(marker), Set::Digits(Base::Decimal));
+    let quote = run_end(marker, stop, Set::Gaps);
+    if quote == marker.len() || marker[quote] != b'"' {
+        return None;
+    }
+    let end = quote + string_end(&marker[quote..], b'"');
+    if end < marker.len() && marker[end] == b'"' {
+        Some((quote + 1, end - quote - 1))
+    } else {
+        None
+    }
+}
+
+// How many lines end from `from` on and before `to`.
+fn lines_between(text: &[u8], from: usize, to: usize) -> usize
+    ensures { result ≡ lines_between text.now from to }
+{
+    let stop = to.min(text.len());
+    let mut count = 0;
+    if from < stop {
+        for byte in &text[from..stop] {
+            if *byte == b'\n' {
+                count += 1;
+            }
+        }
+    }
+    count
+}
+
+fn has_line_between(text: &[u8], from: usize, to: usize) -> bool
+    ensures { result ≡ nat_lt 0 (lines_between text.now from to) }
+{
+    let stop = to.min(text.len());
+    from < stop && text[from..stop].contains(&b'\n')
+}
+
+// Whether a piece is a marker that sets the line of the offset.
+fn sets_line(text: &[u8], piece: Piece, offset: usize) -> bool
+    requires inside { piece.start + piece.len ≤ length text.now }
+    requires some { 0 < piece.len }
+    ensures { result ≡ sets_line text.now offset piece }
+{
+    piece.kind == Class::Marker
+        && marker_number(&text[piece.start..piece.start + piece.len]).is_some()
+        && has_line_between(text, piece.start + piece.len, offset)
+}
+
+/// The line of an offset, which may be any number. It takes no memory.
+pub fn line_of(text: &[u8], pieces: &[Piece], offset: usize) -> Line
+    requires { pieces.now ≡ pieces_of text.now }
+    ensures { result ≡ line_at text.now offset }
+{
+    let mut last = None;
+    let mut named = None;
+    for piece in pieces {
+        if sets_line(text, *piece, offset) {
+            last = Some(*piece);
+            if marker_file(&text[piece.start..piece.start + piece.len]).is_some() {
+                named = Some(*piece);
+            }
+        }
+    }
+    Line {
+        number: number_by(text, last, offset),
+        file: file_by(text, named),
+    }
+}
+
+fn number_by(text: &[u8], last: Option<Piece>, offset: usize) -> usize {
+    match last {
+        Some(piece) => {
+            let stop = piece.start + piece.len;
+            let number = marker_number(&text[piece.start..stop]).unwrap_or(0) as usize;
+            number + lines_between(text, stop, offset) - 1
+        }
+        None => 1 + lines_between(text, 0, offset),
+    }
+}
+
+fn file_by(text: &[u8], named: Option<Piece>) -> Option<(usize, usize)> {
+    let piece = named?;
+    let (start, len) = marker_file(&text[piece.start..piece.start + piece.len])?;
+    Some((piece.start + start, len))
+}
