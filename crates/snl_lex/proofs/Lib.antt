@@ -1,3 +1,4 @@
 pub mod Table
 pub mod Turns
 pub mod WordGroups
+pub mod Values

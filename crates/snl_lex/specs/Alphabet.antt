@@ -1,6 +1,6 @@
 -- What single bytes are, what a piece begins with, and the marks.
 -- In: a byte, or the bytes of a mark. Out: tests, and what the first byte says of a piece.
-use Rattle.std.specs.Prelude.{ℕ, Bool, true, false, not, ◌&&◌, ◌||◌, ◌==◌, nat_le, List, [], ◌∷◌, codes, if◌then◌else◌}
+use Rattle.std.specs.Prelude.{ℕ, Bool, true, false, not, ◌&&◌, ◌||◌, ◌==◌, nat_le, List, [], ◌∷◌, ◌++◌, codes, if◌then◌else◌}
 use Rattle.std.specs.List.{list_any}
 use Rattle.std.specs.Str.{bytes_eq}
 use Rattle.snl_lex.specs.declared.alphabet.Base.{Base}
@@ -39,13 +39,19 @@ is_hexadecimal_digit b = is_digit b || (nat_le 97 b && nat_le b 102) || (nat_le 
 unfoldable pub is_in_line : ℕ → Bool
 is_in_line b = not (b == 10)
 
--- The marks of the language.
+-- The marks of one byte, of two and of three.
+abbrev pub marks_of_1 : List (List ℕ)
+marks_of_1 = codes "{" ∷ codes "}" ∷ codes "(" ∷ codes ")" ∷ codes "[" ∷ codes "]" ∷ codes ";" ∷ codes "," ∷ codes "." ∷ codes "!" ∷ codes "~" ∷ codes "+" ∷ codes "-" ∷ codes "*" ∷ codes "/" ∷ codes "%" ∷ codes "&" ∷ codes "|" ∷ codes "^" ∷ codes "<" ∷ codes ">" ∷ codes "=" ∷ codes "?" ∷ codes ":" ∷ []
+
+abbrev pub marks_of_2 : List (List ℕ)
+marks_of_2 = codes "->" ∷ codes "++" ∷ codes "--" ∷ codes "&&" ∷ codes "||" ∷ codes "<<" ∷ codes ">>" ∷ codes "<=" ∷ codes ">=" ∷ codes "==" ∷ codes "!=" ∷ codes "+=" ∷ codes "-=" ∷ codes "*=" ∷ codes "/=" ∷ codes "%=" ∷ codes "&=" ∷ codes "|=" ∷ codes "^=" ∷ []
+
+abbrev pub marks_of_3 : List (List ℕ)
+marks_of_3 = codes "<<=" ∷ codes ">>=" ∷ []
+
+-- All marks.
 abbrev pub marks : List (List ℕ)
-marks =
-    codes "{" ∷ codes "}" ∷ codes "(" ∷ codes ")" ∷ codes "[" ∷ codes "]" ∷ codes ";" ∷ codes "," ∷ codes "." ∷ codes "->" ∷ codes "++" ∷ codes "--"
-    ∷ codes "!" ∷ codes "~" ∷ codes "+" ∷ codes "-" ∷ codes "*" ∷ codes "/" ∷ codes "%" ∷ codes "&" ∷ codes "|" ∷ codes "^" ∷ codes "&&" ∷ codes "||"
-    ∷ codes "<<" ∷ codes ">>" ∷ codes "<" ∷ codes ">" ∷ codes "<=" ∷ codes ">=" ∷ codes "==" ∷ codes "!=" ∷ codes "=" ∷ codes "+=" ∷ codes "-=" ∷ codes "*="
-    ∷ codes "/=" ∷ codes "%=" ∷ codes "&=" ∷ codes "|=" ∷ codes "^=" ∷ codes "<<=" ∷ codes ">>=" ∷ codes "?" ∷ codes ":" ∷ []
+marks = marks_of_1 ++ (marks_of_2 ++ marks_of_3)
 
 unfoldable pub is_mark : List ℕ → Bool
 is_mark bytes = list_any (bytes_eq bytes) marks

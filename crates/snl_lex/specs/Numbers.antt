@@ -1,6 +1,6 @@
 -- Numbers: how far a number run reaches, and what its bytes are.
 -- In: bytes. Out: the value of an Int, if they are one; whether they are a Float; the class.
-use Rattle.std.specs.Prelude.{ℕ, ◌+◌, ◌*◌, ◌-◌, Bool, true, false, not, ◌&&◌, ◌||◌, ◌==◌, nat_lt, nat_le, List, [], ◌∷◌, length, take, drop, slice_index, Option, Some, None, is_some, codes, if◌then◌else◌}
+use Rattle.std.specs.Prelude.{ℕ, ◌+◌, ◌*◌, ◌-◌, Bool, true, false, not, ◌&&◌, ◌||◌, ◌==◌, nat_lt, nat_le, List, [], ◌∷◌, length, take, drop, slice_index, count_by, Option, Some, None, is_some, codes, if◌then◌else◌}
 use Rattle.std.specs.List.{list_any, list_all}
 use Rattle.std.specs.Str.{bytes_eq}
 use Rattle.snl_lex.specs.declared.alphabet.Base.{Base}
@@ -40,6 +40,10 @@ abbrev pub value_behind : Base → ℕ → List ℕ → ℕ
 value_behind base value [] = value
 value_behind base value (d ∷ ds) = value_behind base (value * radix base + digit_value d) ds
 
+-- A value, if it is at most 2^64 - 1.
+abbrev pub checked_value : ℕ → Option ℕ
+checked_value value = if nat_lt value 18446744073709551616 then Some value else None
+
 -- What an Int may end with: `u`, `l`, `ll` in either case, the two letters of `ll` in the same one, or `u` and one of these in either order.
 abbrev pub int_suffixes : List (List ℕ)
 int_suffixes =
@@ -65,8 +69,7 @@ from_digits Hexadecimal bytes = drop 2 bytes
 unfoldable pub value_in : Base → List ℕ → Option ℕ
 value_in base bytes =
     let count = run_of (is_digit_in base) bytes in
-    let value = value_behind base 0 (take count bytes) in
-    if nat_lt 0 count && is_int_suffix (drop count bytes) && nat_lt value 18446744073709551616 then Some value else None
+    if nat_lt 0 count && is_int_suffix (drop count bytes) then checked_value (value_behind base 0 (take count bytes)) else None
 
 -- The value of the Int that the bytes are, if they are one.
 unfoldable pub int_value_of : List ℕ → Option ℕ
@@ -93,8 +96,7 @@ is_power_part bytes = is_power (slice_index bytes 0) && is_exponent (drop 1 byte
 
 -- How many dots there are.
 abbrev pub dots_in : List ℕ → ℕ
-dots_in [] = 0
-dots_in (b ∷ bytes) = (if b == 46 then 1 else 0) + dots_in bytes
+dots_in bytes = count_by (λ b. b == 46) bytes
 
 -- Digits with one dot, a digit somewhere, and an optional exponent; or digits and an exponent.
 unfoldable pub is_float : List ℕ → Bool

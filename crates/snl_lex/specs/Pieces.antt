@@ -1,12 +1,14 @@
 -- The pieces of a text, and its tokens.
 -- In: a text, as the list of its bytes. Out: the class and length of its first piece; all pieces from the left; those that are tokens.
 use Rattle.std.specs.Prelude.{ℕ, zero, suc, ◌+◌, ◌-◌, Bool, true, false, not, ◌||◌, ◌==◌, nat_lt, List, [], ◌∷◌, length, take, drop, map, filter, slice_index, Option, Some, None, if◌then◌else◌}
+use Rattle.std.specs.List.{list_any}
+use Rattle.std.specs.Str.{bytes_eq}
 use Rattle.snl_lex.specs.declared.piece.Class.{Class}
 use Rattle.snl_lex.specs.declared.piece.Class.TheVariants.{White, Comment, Marker, CCode, Name, Word, Int, Float, Text, CharLit, Punct, Bad}
 use Rattle.snl_lex.specs.declared.piece.Piece.{Piece}
 use Rattle.snl_lex.specs.declared.alphabet.Start.{Start}
 use Rattle.snl_lex.specs.declared.alphabet.Start.TheVariants.{Blank, Letter, Digit, Dot, Hash, Slash, Percent, Quote, Apostrophe, Sign, Stray}
-use Rattle.snl_lex.specs.Alphabet.{is_white, is_digit, is_word_byte, is_in_line, is_mark, is_stray, start_of}
+use Rattle.snl_lex.specs.Alphabet.{is_white, is_digit, is_word_byte, is_in_line, is_stray, marks_of_2, marks_of_3, start_of}
 use Rattle.snl_lex.specs.Runs.{run_of, run_by, close_of}
 use Rattle.snl_lex.specs.Words.{is_word}
 use Rattle.snl_lex.specs.Numbers.{number_joins, number_class}
@@ -27,9 +29,14 @@ number_piece u =
     let count = 1 + run_by number_joins (take 1 u) (drop 1 u) in
     (number_class (take count u), count)
 
--- The two bytes at the front, and all up to the first `a b` behind them; without one the whole rest, which is faulty.
+-- What ends with a closing mark has two bytes and those up to the mark; without one it is the whole rest, which is faulty.
+abbrev pub closed_by : Class → ℕ → Option ℕ → Class × ℕ
+closed_by kind total None = (Bad, total)
+closed_by kind total (Some count) = (kind, 2 + count)
+
+-- The two bytes at the front, and all up to the first `a b` behind them.
 abbrev pub closed_piece : Class → ℕ → ℕ → List ℕ → Class × ℕ
-closed_piece kind a b u = elim (close_of a b (drop 2 u)) [ Some count ↦ (kind, 2 + count) | None ↦ (Bad, length u) ]
+closed_piece kind a b u = closed_by kind (length u) (close_of a b (drop 2 u))
 
 -- A backslash takes the byte behind it; a backslash that is taken doesn't. (The last byte comes first in the list.)
 abbrev pub is_taken : List ℕ → Bool
@@ -46,9 +53,13 @@ string_piece kind quote u =
     let count = 1 + run_by (string_joins quote) [] (drop 1 u) in
     if slice_index u count == quote then (kind, 1 + count) else (Bad, count)
 
--- The longest prefix that is a mark: the first byte is one, and none has more than three bytes.
+-- The longest of the marks: three bytes, two, or the first byte, which is a mark. (A byte that isn't there counts as 0, which is in no mark.)
 unfoldable pub longest_mark : List ℕ → ℕ
-longest_mark u = if is_mark (take 3 u) then length (take 3 u) else (if is_mark (take 2 u) then length (take 2 u) else 1)
+longest_mark u =
+    let a = slice_index u 0 in
+    let b = slice_index u 1 in
+    let c = slice_index u 2 in
+    if list_any (bytes_eq (a ∷ b ∷ c ∷ [])) marks_of_3 then 3 else (if list_any (bytes_eq (a ∷ b ∷ [])) marks_of_2 then 2 else 1)
 
 abbrev pub mark_piece : List ℕ → Class × ℕ
 mark_piece u = (Punct, longest_mark u)

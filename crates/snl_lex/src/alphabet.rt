@@ -4,7 +4,7 @@
 
 ghost use Rattle.snl_lex.specs.Alphabet.{is_digit, is_digit_in, is_gap, is_in, is_in_line, is_plain, is_stray, is_white, is_word_byte, start_of};
 ghost use Rattle.snl_lex.specs.Runs.{run_of};
-ghost use Rattle.std.specs.Prelude.{◌≡◌, ◌+◌, ◌≤◌, drop, length};
+ghost use Rattle.std.specs.Prelude.{◌≡◌, ◌+◌, ◌≤◌, drop, length, slice_index};
 
 use Start::*;
 
@@ -167,4 +167,18 @@ pub fn run_end(bytes: &[u8], from: usize, set: Set) -> usize
         end += 1;
     }
     end
+}
+
+/// A byte, or 0 where there is none.
+pub fn byte_at(bytes: &[u8], at: usize) -> u8
+    ensures { result ≡ slice_index bytes.now at }
+{
+    if at < bytes.len() { bytes[at] } else { 0 }
+}
+
+/// The bytes behind so many; none, if there are no more.
+pub fn behind(bytes: &[u8], count: usize) -> &[u8]
+    ensures { result.now ≡ drop count bytes.now }
+{
+    &bytes[count.min(bytes.len())..]
 }

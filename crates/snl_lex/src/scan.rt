@@ -2,12 +2,14 @@
 //! In: bytes. Out: the class and length of the piece that they begin with.
 //! It looks at no byte further than one behind the piece.
 
-ghost use Rattle.snl_lex.specs.Alphabet.{is_in, is_mark};
+ghost use Rattle.snl_lex.specs.Alphabet.{is_in, marks_of_2, marks_of_3};
 ghost use Rattle.snl_lex.specs.Pieces.{closed_piece, dot_piece, first_piece, longest_mark, mark_piece, name_piece, number_piece, percent_piece, run_piece, slash_piece, string_joins, string_piece};
 ghost use Rattle.snl_lex.specs.Runs.{close_of, run_by};
-ghost use Rattle.std.specs.Prelude.{◌≡◌, ◌+◌, ◌<◌, ◌≤◌, [], ◌∷◌, drop, length, slice_index};
+ghost use Rattle.std.specs.List.{list_any};
+ghost use Rattle.std.specs.Str.{bytes_eq};
+ghost use Rattle.std.specs.Prelude.{◌≡◌, ◌+◌, ◌<◌, ◌≤◌, IfSome, [], ◌∷◌, drop, length, take};
 
-use crate::alphabet::{Set, Start, is_digit, run_end, start_of};
+use crate::alphabet::{Set, Start, byte_at, is_digit, run_end, start_of};
 use crate::numbers::{number_class, number_end};
 use crate::piece::Class;
 use crate::words::is_word;
@@ -40,7 +42,8 @@ fn number_piece(rest: &[u8]) -> (Class, usize)
 // How many bytes there are from `from` on, up to and with the first `a` that `b` follows.
 fn close_count(bytes: &[u8], from: usize, a: u8, b: u8) -> Option<usize>
     requires { from ≤ length bytes.now }
-    ensures { result ≡ close_of a b (drop from bytes.now) }
+    ensures count { result ≡ close_of a b (drop from bytes.now) }
+    ensures inside { IfSome result (λ count. from + count ≤ length bytes.now) }
 {
     let mut end = from;
     while end + 1 < bytes.len() {
@@ -82,7 +85,7 @@ fn string_piece(rest: &[u8], kind: Class, quote: u8) -> (Class, usize)
     ensures { result ≡ string_piece kind quote rest.now }
 {
     let end = string_end(rest, quote);
-    if end < rest.len() && rest[end] == quote {
+    if byte_at(rest, end) == quote {
         (kind, 1 + end)
     } else {
         (Class::Bad, end)
@@ -90,7 +93,7 @@ fn string_piece(rest: &[u8], kind: Class, quote: u8) -> (Class, usize)
 }
 
 fn is_mark_of_two(a: u8, b: u8) -> bool
-    ensures { result ≡ is_mark (a ∷ b ∷ []) }
+    ensures { result ≡ list_any (bytes_eq (a ∷ b ∷ [])) marks_of_2 }
 {
     match b {
         b'=' => matches!(
@@ -104,21 +107,23 @@ fn is_mark_of_two(a: u8, b: u8) -> bool
 }
 
 fn is_mark_of_three(a: u8, b: u8, c: u8) -> bool
-    ensures { result ≡ is_mark (a ∷ b ∷ c ∷ []) }
+    ensures { result ≡ list_any (bytes_eq (a ∷ b ∷ c ∷ [])) marks_of_3 }
 {
     c == b'=' && a == b && (a == b'<' || a == b'>')
 }
 
+#[tactic(auto, unfolding(crate::specs::Pieces::longest_mark))]
 fn mark_length(rest: &[u8]) -> usize
-    requires { 0 < length rest.now }
     ensures { result ≡ longest_mark rest.now }
 {
-    if rest.len() < 2 || !is_mark_of_two(rest[0], rest[1]) {
-        1
-    } else if rest.len() < 3 || !is_mark_of_three(rest[0], rest[1], rest[2]) {
+    let a = byte_at(rest, 0);
+    let b = byte_at(rest, 1);
+    if is_mark_of_three(a, b, byte_at(rest, 2)) {
+        3
+    } else if is_mark_of_two(a, b) {
         2
     } else {
-        3
+        1
     }
 }
 
@@ -129,18 +134,11 @@ fn mark_piece(rest: &[u8]) -> (Class, usize)
     (Class::Punct, mark_length(rest))
 }
 
-// The byte behind the first, or 0.
-fn second(rest: &[u8]) -> u8
-    ensures { result ≡ slice_index rest.now 1 }
-{
-    if rest.len() > 1 { rest[1] } else { 0 }
-}
-
 fn slash_piece(rest: &[u8]) -> (Class, usize)
     requires { 0 < length rest.now }
     ensures { result ≡ slash_piece rest.now }
 {
-    match second(rest) {
+    match byte_at(rest, 1) {
         b'/' => run_piece(rest, Class::Comment, Set::LineBytes),
         b'*' => closed_piece(rest, Class::Comment, b'*', b'/'),
         _ => mark_piece(rest),
@@ -151,7 +149,7 @@ fn percent_piece(rest: &[u8]) -> (Class, usize)
     requires { 0 < length rest.now }
     ensures { result ≡ percent_piece rest.now }
 {
-    match second(rest) {
+    match byte_at(rest, 1) {
         b'%' => run_piece(rest, Class::CCode, Set::LineBytes),
         b'{' => closed_piece(rest, Class::CCode, b'}', b'%'),
         _ => mark_piece(rest),
@@ -162,7 +160,7 @@ fn dot_piece(rest: &[u8]) -> (Class, usize)
     requires { 0 < length rest.now }
     ensures { result ≡ dot_piece rest.now }
 {
-    if is_digit(second(rest)) {
+    if is_digit(byte_at(rest, 1)) {
         number_piece(rest)
     } else {
         mark_piece(rest)
@@ -170,6 +168,7 @@ fn dot_piece(rest: &[u8]) -> (Class, usize)
 }
 
 /// The class and length of the first piece.
+#[tactic(auto, unfolding(crate::specs::Pieces::first_piece))]
 pub fn first_piece(rest: &[u8]) -> (Class, usize)
     requires { 0 < length rest.now }
     ensures { result ≡ first_piece rest.now }

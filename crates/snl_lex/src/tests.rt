@@ -175,6 +175,6 @@ fn whole_program(rt: HostRuntime) -> Result<(), Fail> {
     let pieces = lex(rt.alloc(), PROGRAM, &mut work)?;
     assert_eq!(rt; PROGRAM.len(), 177);
     assert_eq!(rt; pieces.iter().filter(|piece| piece.kind == Bad).count(), 0);
-    assert_eq!(rt; pieces.iter().filter(|piece| piece.kind == Word).count(), 14);
+    assert_eq!(rt; pieces.iter().filter(|piece| piece.kind == Word).count(), 15);
     Ok(())
 }
