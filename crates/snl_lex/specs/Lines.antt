@@ -66,29 +66,39 @@ unfoldable pub has_file : List ℕ → Piece → Bool
 has_file text p = is_some (marker_file (bytes_at text p))
 
 -- The last of a list, if it has one.
+abbrev pub last_or : {X : Type 0} → Option X → List X → Option X
+last_or found [] = found
+last_or found (x ∷ xs) = last_or (Some x) xs
+
 abbrev pub last_of : {X : Type 0} → List X → Option X
-last_of [] = None
-last_of (x ∷ xs) = elim (last_of xs) [ None ↦ Some x | Some y ↦ Some y ]
+last_of xs = last_or None xs
 
 -- The markers that count for an offset, from the first on.
 abbrev pub setters_of : List ℕ → ℕ → List Piece
 setters_of text offset = filter (sets_line text offset) (pieces_of text)
 
--- The line by one marker: its number is that of the line behind it.
-abbrev pub number_by : List ℕ → ℕ → Piece → ℕ
-number_by text offset p = (unwrap_or (marker_number (bytes_at text p)) 0 + lines_between text (piece_end p) offset) - 1
+-- The line by the last marker that counts: the marker's number is that of the line behind it. Without one, 1 and the line ends before the offset.
+abbrev pub number_by : List ℕ → ℕ → Option Piece → ℕ
+number_by text offset None = 1 + lines_between text 0 offset
+number_by text offset (Some p) = (unwrap_or (marker_number (bytes_at text p)) 0 + lines_between text (piece_end p) offset) - 1
 
--- The number of an offset's line: by the last marker that counts for it; without one, 1 and the line ends before it.
+-- The number of an offset's line.
 abbrev pub line_number_of : List ℕ → ℕ → ℕ
-line_number_of text offset = elim (last_of (setters_of text offset)) [ None ↦ 1 + lines_between text 0 offset | Some p ↦ number_by text offset p ]
+line_number_of text offset = number_by text offset (last_of (setters_of text offset))
 
--- Where a marker's file stands in the text.
-abbrev pub file_by : List ℕ → Piece → Option (ℕ × ℕ)
-file_by text p = elim (marker_file (bytes_at text p)) [ None ↦ None | Some place ↦ Some (p.start + place.0, place.1) ]
+-- A place in a marker, as one in the text.
+abbrev pub place_from : ℕ → Option (ℕ × ℕ) → Option (ℕ × ℕ)
+place_from start None = None
+place_from start (Some place) = Some (start + place.0, place.1)
+
+-- Where the file stands that a marker names.
+abbrev pub file_by : List ℕ → Option Piece → Option (ℕ × ℕ)
+file_by text None = None
+file_by text (Some p) = place_from p.start (marker_file (bytes_at text p))
 
 -- The file of an offset: that of the last marker with a file among those that count for it.
 abbrev pub file_of : List ℕ → ℕ → Option (ℕ × ℕ)
-file_of text offset = elim (last_of (filter (has_file text) (setters_of text offset))) [ None ↦ None | Some p ↦ file_by text p ]
+file_of text offset = file_by text (last_of (filter (has_file text) (setters_of text offset)))
 
 -- The line and file of an offset.
 unfoldable pub line_at : List ℕ → ℕ → Line

@@ -1,6 +1,6 @@
 -- The pieces of a text, and its tokens.
 -- In: a text, as the list of its bytes. Out: the class and length of its first piece; all pieces from the left; those that are tokens.
-use Rattle.std.specs.Prelude.{ℕ, zero, suc, ◌+◌, ◌-◌, Bool, true, false, not, ◌||◌, ◌==◌, nat_lt, List, [], ◌∷◌, length, take, drop, map, filter, slice_index, Option, Some, None, if◌then◌else◌}
+use Rattle.std.specs.Prelude.{ℕ, zero, suc, ◌+◌, ◌-◌, ◌≤◌, Bool, true, false, not, ◌||◌, ◌==◌, nat_lt, List, [], ◌∷◌, length, take, drop, map, filter, slice_index, Option, Some, None, if◌then◌else◌}
 use Rattle.std.specs.List.{list_any}
 use Rattle.std.specs.Str.{bytes_eq}
 use Rattle.snl_lex.specs.declared.piece.Class.{Class}
@@ -117,9 +117,18 @@ pieces_from text at (suc most) =
 unfoldable pub pieces_of : List ℕ → List Piece
 pieces_of text = pieces_from text 0 (length text)
 
+-- The pieces that end one behind another at these places.
+abbrev pub pieces_along : List ℕ → ℕ → List ℕ → List Piece
+pieces_along text from [] = []
+pieces_along text from (e ∷ ends) = piece_at text from ∷ pieces_along text e ends
+
 -- Where a piece ends.
 abbrev pub piece_end : Piece → ℕ
 piece_end p = p.start + p.len
+
+-- A piece has a byte at least, and ends in the text.
+abbrev pub LiesIn : List ℕ → Piece → Type 0
+LiesIn text p = (1 ≤ p.len) × (piece_end p ≤ length text)
 
 -- White space, comments and line markers are no tokens.
 abbrev pub is_token : Piece → Bool

@@ -2,10 +2,10 @@
 //! In: a text; after an edit also the old text and its pieces. Out: the pieces, or what is kept and made of them.
 //! It knows of a piece only that it is the first one of what is left.
 
-ghost use Rattle.snl_cut.specs.Cut.{IsEdit, IsRecut, after_ticks, ticked};
+ghost use Rattle.snl_cut.specs.Cut.{IsEdit, IsRecut, Walks, after_ticks, last_end};
 ghost use Rattle.snl_lex.specs.Local.{piece_front, piece_local};
-ghost use Rattle.snl_lex.specs.Pieces.{moved_piece, piece_at, piece_end, piece_length, pieces_of};
-ghost use Rattle.std.specs.Prelude.{◌≡◌, ◌+◌, ◌-◌, ◌<◌, ◌++◌, IfOk, drop, length, map, take};
+ghost use Rattle.snl_lex.specs.Pieces.{moved_piece, piece_at, piece_end, piece_length, pieces_along, pieces_of};
+ghost use Rattle.std.specs.Prelude.{◌≡◌, ◌+◌, ◌-◌, ◌^◌, ◌<◌, ◌≤◌, ◌++◌, All, IfOk, drop, length, map, take};
 
 use crate::piece::Piece;
 use crate::scan::first_piece;
@@ -31,9 +31,12 @@ impl Front for Bytes {
 }
 
 // The piece that begins at `at`.
+#[tactic(auto, unfolding(crate::specs::Pieces::piece_at))]
 fn piece_at(text: &[u8], at: usize) -> Piece
     requires { at < length text.now }
-    ensures { result ≡ piece_at text.now at }
+    ensures piece { result ≡ piece_at text.now at }
+    ensures some { 1 ≤ result.len }
+    ensures inside { at + result.len ≤ length text.now }
 {
     let (kind, len) = first_piece(&text[at..]);
     Piece { kind, start: at, len }
@@ -64,7 +67,10 @@ pub struct Relexed {
 }
 
 // Where each piece ends.
-fn ends_of(alloc: Global, pieces: &[Piece]) -> Result<Vec<usize>, OutOfMemory> {
+fn ends_of(alloc: Global, pieces: &[Piece]) -> Result<Vec<usize>, OutOfMemory>
+    requires { All (λ p. piece_end p < 2 ^ 64) pieces.now }
+    ensures { IfOk result (λ ends. ends.items ≡ map piece_end pieces.now) }
+{
     let mut ends = Vec::new(alloc);
     for piece in pieces {
         ends.push(piece.start + piece.len)?;
@@ -72,8 +78,24 @@ fn ends_of(alloc: Global, pieces: &[Piece]) -> Result<Vec<usize>, OutOfMemory> {
     Ok(ends)
 }
 
+// Where the first `count` pieces end.
+fn end_of(ends: &[usize], count: usize) -> usize
+    requires { count ≤ length ends.now }
+    ensures { result ≡ last_end 0 (take count ends.now) }
+{
+    if count == 0 { 0 } else { ends[count - 1] }
+}
+
 // The pieces that end one behind another at these places.
-fn pieces_to(alloc: Global, text: &[u8], from: usize, ends: &[usize]) -> Result<Vec<Piece>, OutOfMemory> {
+fn pieces_along(
+    alloc: Global,
+    text: &[u8],
+    from: usize,
+    ends: &[usize],
+) -> Result<Vec<Piece>, OutOfMemory>
+    requires { Walks piece_length text.now from ends.now (last_end from ends.now) }
+    ensures { IfOk result (λ pieces. pieces.items ≡ pieces_along text.now from ends.now) }
+{
     let mut pieces = Vec::new(alloc);
     let mut at = from;
     for end in ends {
@@ -105,11 +127,14 @@ pub fn relex(
     ensures ticks { IfOk result (λ r. work.new ≡ after_ticks work.old (length r.made.items)) }
 {
     let ends = ends_of(alloc, old)?;
-    let cut = recut(alloc, &Bytes, old_text, &ends, text, start, old_stop, new_stop, work)?;
-    let from = if cut.kept_front == 0 { 0 } else { ends[cut.kept_front - 1] };
+    let cut = recut(
+        alloc, &Bytes, old_text, &ends, text, start, old_stop, new_stop, work,
+    )?;
+    let from = end_of(&ends, cut.kept_front);
+    let made = pieces_along(alloc, text, from, &cut.made)?;
     Ok(Relexed {
         kept_front: cut.kept_front,
-        made: pieces_to(alloc, text, from, &cut.made)?,
+        made,
         kept_back: cut.kept_back,
     })
 }

@@ -2,11 +2,11 @@
 //! In: a text, its pieces and an offset. Out: the line's number and its file.
 //! It knows nothing of what stands on a line.
 
-ghost use Rattle.snl_lex.specs.Lines.{file_by, has_file, line_at, lines_between, marker_file, marker_number, number_by, number_place, number_stop, sets_line};
-ghost use Rattle.snl_lex.specs.Pieces.{bytes_at, piece_end, pieces_of};
-ghost use Rattle.std.specs.Prelude.{◌≡◌, ◌+◌, ◌<◌, ◌≤◌, drop, length, nat_lt, take};
+ghost use Rattle.snl_lex.specs.Lines.{file_by, has_file, line_at, lines_between, marker_file, marker_number, number_by, number_place, sets_line};
+ghost use Rattle.snl_lex.specs.Pieces.{LiesIn, pieces_of};
+ghost use Rattle.std.specs.Prelude.{◌≡◌, ◌+◌, ◌<◌, ◌≤◌, IfSome, length, nat_lt};
 
-use crate::alphabet::{Base, Set, is_blank, is_gap, run_end};
+use crate::alphabet::{Base, Set, behind, byte_at, is_blank, is_gap, run_end};
 use crate::numbers::value_of;
 use crate::piece::{Class, Piece};
 use crate::scan::string_end;
@@ -19,12 +19,13 @@ pub struct Line {
 }
 
 // Where the number of a marker begins.
+#[tactic(auto, unfolding(crate::specs::Lines::number_place))]
 fn number_place(marker: &[u8]) -> usize
     requires { 0 < length marker.now }
     ensures { result ≡ number_place marker.now }
 {
     let place = run_end(marker, 1, Set::Gaps);
-    if marker.len() - place > 4 && &marker[place..place + 4] == b"line".as_slice() && is_gap(marker[place + 4]) {
+    if behind(marker, place).starts_with(b"line") && is_gap(byte_at(marker, place + 4)) {
         run_end(marker, place + 4, Set::Gaps)
     } else {
         place
@@ -32,6 +33,7 @@ fn number_place(marker: &[u8]) -> usize
 }
 
 // The number that a marker sets.
+#[tactic(auto, unfolding(crate::specs::Lines::marker_number))]
 fn marker_number(marker: &[u8]) -> Option<u64>
     requires { 0 < length marker.now }
     ensures { result ≡ marker_number marker.now }
@@ -45,6 +47,7 @@ fn marker_number(marker: &[u8]) -> Option<u64>
 }
 
 // Where in a marker its file stands.
+#[tactic(auto, unfolding(crate::specs::Lines::marker_file))]
 fn marker_file(marker: &[u8]) -> Option<(usize, usize)>
     requires { 0 < length marker.now }
     ensures { result ≡ marker_file marker.now }
@@ -86,6 +89,7 @@ fn has_line_between(text: &[u8], from: usize, to: usize) -> bool
 }
 
 // Whether a piece is a marker that sets the line of the offset.
+#[tactic(auto, unfolding(crate::specs::Lines::sets_line))]
 fn sets_line(text: &[u8], piece: Piece, offset: usize) -> bool
     requires inside { piece.start + piece.len ≤ length text.now }
     requires some { 0 < piece.len }
@@ -96,7 +100,46 @@ fn sets_line(text: &[u8], piece: Piece, offset: usize) -> bool
         && has_line_between(text, piece.start + piece.len, offset)
 }
 
+#[tactic(auto, unfolding(crate::specs::Lines::has_file))]
+fn has_file(text: &[u8], piece: Piece) -> bool
+    requires inside { piece.start + piece.len ≤ length text.now }
+    requires some { 0 < piece.len }
+    ensures { result ≡ has_file text.now piece }
+{
+    marker_file(&text[piece.start..piece.start + piece.len]).is_some()
+}
+
+// The line by the last marker that counts.
+fn number_by(text: &[u8], last: Option<Piece>, offset: usize) -> usize
+    requires { IfSome last (λ p. LiesIn text.now p) }
+    ensures { result ≡ number_by text.now offset last }
+{
+    match last {
+        Some(piece) => {
+            let stop = piece.start + piece.len;
+            let number = marker_number(&text[piece.start..stop]).unwrap_or(0) as usize;
+            (number + lines_between(text, stop, offset)).saturating_sub(1)
+        }
+        None => 1 + lines_between(text, 0, offset),
+    }
+}
+
+// The file by the last marker that names one.
+fn file_by(text: &[u8], named: Option<Piece>) -> Option<(usize, usize)>
+    requires { IfSome named (λ p. LiesIn text.now p) }
+    ensures { result ≡ file_by text.now named }
+{
+    match named {
+        Some(piece) => match marker_file(&text[piece.start..piece.start + piece.len]) {
+            Some((start, len)) => Some((piece.start + start, len)),
+            None => None,
+        },
+        None => None,
+    }
+}
+
 /// The line of an offset, which may be any number. It takes no memory.
+#[tactic(auto, unfolding(crate::specs::Lines::line_at))]
 pub fn line_of(text: &[u8], pieces: &[Piece], offset: usize) -> Line
     requires { pieces.now ≡ pieces_of text.now }
     ensures { result ≡ line_at text.now offset }
@@ -106,7 +149,7 @@ pub fn line_of(text: &[u8], pieces: &[Piece], offset: usize) -> Line
     for piece in pieces {
         if sets_line(text, *piece, offset) {
             last = Some(*piece);
-            if marker_file(&text[piece.start..piece.start + piece.len]).is_some() {
+            if has_file(text, *piece) {
                 named = Some(*piece);
             }
         }
@@ -115,21 +158,4 @@ pub fn line_of(text: &[u8], pieces: &[Piece], offset: usize) -> Line
         number: number_by(text, last, offset),
         file: file_by(text, named),
     }
-}
-
-fn number_by(text: &[u8], last: Option<Piece>, offset: usize) -> usize {
-    match last {
-        Some(piece) => {
-            let stop = piece.start + piece.len;
-            let number = marker_number(&text[piece.start..stop]).unwrap_or(0) as usize;
-            number + lines_between(text, stop, offset) - 1
-        }
-        None => 1 + lines_between(text, 0, offset),
-    }
-}
-
-fn file_by(text: &[u8], named: Option<Piece>) -> Option<(usize, usize)> {
-    let piece = named?;
-    let (start, len) = marker_file(&text[piece.start..piece.start + piece.len])?;
-    Some((piece.start + start, len))
 }
