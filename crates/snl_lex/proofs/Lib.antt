@@ -4,3 +4,4 @@ pub mod WordGroups
 pub mod Values
 pub mod Members
 pub mod Meeting
+pub mod Markers

@@ -1,6 +1,7 @@
 -- Lines and files: what the line markers of a text say of an offset.
 -- In: a text and an offset. Out: the line's number, and where its file's name stands.
 use Rattle.std.specs.Prelude.{ℕ, ◌+◌, ◌-◌, Bool, true, false, ◌&&◌, ◌||◌, ◌==◌, nat_lt, nat_le, List, [], ◌∷◌, length, take, drop, filter, count_by, slice_index, codes, Option, Some, None, is_some, unwrap_or, if◌then◌else◌}
+use Rattle.std.specs.List.{list_any}
 use Rattle.std.specs.Str.{bytes_eq}
 use Rattle.snl_lex.specs.declared.alphabet.Base.TheVariants.{Decimal}
 use Rattle.snl_lex.specs.declared.piece.Class.{Class}
@@ -12,9 +13,17 @@ use Rattle.snl_lex.specs.Runs.{run_of, run_by}
 use Rattle.snl_lex.specs.Numbers.{value_behind}
 use Rattle.snl_lex.specs.Pieces.{string_joins, piece_end, bytes_at, pieces_of}
 
+-- The bytes from one offset up to another.
+abbrev pub part_of : List ℕ → ℕ → ℕ → List ℕ
+part_of text from to = take (to - from) (drop from text)
+
 -- How many line ends there are from one offset up to another.
 abbrev pub lines_between : List ℕ → ℕ → ℕ → ℕ
-lines_between text from to = count_by (λ b. b == 10) (take (to - from) (drop from text))
+lines_between text from to = count_by (λ b. b == 10) (part_of text from to)
+
+-- A line ends there.
+abbrev pub has_line_between : List ℕ → ℕ → ℕ → Bool
+has_line_between text from to = list_any (λ b. b == 10) (part_of text from to)
 
 -- Where the spaces and tabs end that begin at a place.
 abbrev pub gap_end : List ℕ → ℕ → ℕ
@@ -51,7 +60,7 @@ marker_number marker =
 unfoldable pub marker_file : List ℕ → Option (ℕ × ℕ)
 marker_file marker =
     let quote = gap_end marker (number_stop marker) in
-    let count = run_by (string_joins 34) [] (drop (quote + 1) marker) in
+    let count = run_by (string_joins 34) [] (drop 1 (drop quote marker)) in
     if slice_index marker quote == 34 && slice_index marker (quote + 1 + count) == 34 then Some (quote + 1, count) else None
 
 abbrev pub is_marker : Class → Bool
@@ -60,10 +69,11 @@ is_marker _ = false
 
 -- The piece is a marker that sets the line of the offset: a line ends at or behind the marker's end and before the offset.
 unfoldable pub sets_line : List ℕ → ℕ → Piece → Bool
-sets_line text offset p = is_marker p.kind && is_some (marker_number (bytes_at text p)) && nat_lt 0 (lines_between text (piece_end p) offset)
+sets_line text offset p = is_marker p.kind && is_some (marker_number (bytes_at text p)) && has_line_between text (piece_end p) offset
 
-unfoldable pub has_file : List ℕ → Piece → Bool
-has_file text p = is_some (marker_file (bytes_at text p))
+-- The same, and it names a file.
+unfoldable pub names_file : List ℕ → ℕ → Piece → Bool
+names_file text offset p = sets_line text offset p && is_some (marker_file (bytes_at text p))
 
 -- The last of a list, if it has one.
 abbrev pub last_or : {X : Type 0} → Option X → List X → Option X
@@ -73,9 +83,9 @@ last_or found (x ∷ xs) = last_or (Some x) xs
 abbrev pub last_of : {X : Type 0} → List X → Option X
 last_of xs = last_or None xs
 
--- The markers that count for an offset, from the first on.
-abbrev pub setters_of : List ℕ → ℕ → List Piece
-setters_of text offset = filter (sets_line text offset) (pieces_of text)
+-- The last piece that passes the test.
+abbrev pub last_that : (Piece → Bool) → List Piece → Option Piece
+last_that passes pieces = last_of (filter passes pieces)
 
 -- The line by the last marker that counts: the marker's number is that of the line behind it. Without one, 1 and the line ends before the offset.
 abbrev pub number_by : List ℕ → ℕ → Option Piece → ℕ
@@ -84,7 +94,7 @@ number_by text offset (Some p) = (unwrap_or (marker_number (bytes_at text p)) 0 
 
 -- The number of an offset's line.
 abbrev pub line_number_of : List ℕ → ℕ → ℕ
-line_number_of text offset = number_by text offset (last_of (setters_of text offset))
+line_number_of text offset = number_by text offset (last_that (sets_line text offset) (pieces_of text))
 
 -- A place in a marker, as one in the text.
 abbrev pub place_from : ℕ → Option (ℕ × ℕ) → Option (ℕ × ℕ)
@@ -98,7 +108,7 @@ file_by text (Some p) = place_from p.start (marker_file (bytes_at text p))
 
 -- The file of an offset: that of the last marker with a file among those that count for it.
 abbrev pub file_of : List ℕ → ℕ → Option (ℕ × ℕ)
-file_of text offset = file_by text (last_of (filter (has_file text) (setters_of text offset)))
+file_of text offset = file_by text (last_that (names_file text offset) (pieces_of text))
 
 -- The line and file of an offset.
 unfoldable pub line_at : List ℕ → ℕ → Line

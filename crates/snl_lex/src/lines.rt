@@ -2,9 +2,9 @@
 //! In: a text, its pieces and an offset. Out: the line's number and its file.
 //! It knows nothing of what stands on a line.
 
-ghost use Rattle.snl_lex.specs.Lines.{file_by, has_file, line_at, lines_between, marker_file, marker_number, number_by, number_place, sets_line};
+ghost use Rattle.snl_lex.specs.Lines.{file_by, has_line_between, last_that, line_at, lines_between, marker_file, marker_number, names_file, number_by, number_place, sets_line};
 ghost use Rattle.snl_lex.specs.Pieces.{LiesIn, pieces_of};
-ghost use Rattle.std.specs.Prelude.{◌≡◌, ◌+◌, ◌<◌, ◌≤◌, IfSome, length, nat_lt};
+ghost use Rattle.std.specs.Prelude.{◌≡◌, ◌+◌, ◌<◌, ◌≤◌, IfSome, length};
 
 use crate::alphabet::{Base, Set, behind, byte_at, is_blank, is_gap, run_end};
 use crate::numbers::value_of;
@@ -22,7 +22,8 @@ pub struct Line {
 #[tactic(auto, unfolding(crate::specs::Lines::number_place))]
 fn number_place(marker: &[u8]) -> usize
     requires { 0 < length marker.now }
-    ensures { result ≡ number_place marker.now }
+    ensures place { result ≡ number_place marker.now }
+    ensures inside { result ≤ length marker.now }
 {
     let place = run_end(marker, 1, Set::Gaps);
     if behind(marker, place).starts_with(b"line") && is_gap(byte_at(marker, place + 4)) {
@@ -36,7 +37,8 @@ fn number_place(marker: &[u8]) -> usize
 #[tactic(auto, unfolding(crate::specs::Lines::marker_number))]
 fn marker_number(marker: &[u8]) -> Option<u64>
     requires { 0 < length marker.now }
-    ensures { result ≡ marker_number marker.now }
+    ensures number { result ≡ marker_number marker.now }
+    ensures small { IfSome result (λ number. number ≤ 2147483647) }
 {
     let begin = number_place(marker);
     let stop = run_end(marker, begin, Set::Digits(Base::Decimal));
@@ -50,16 +52,17 @@ fn marker_number(marker: &[u8]) -> Option<u64>
 #[tactic(auto, unfolding(crate::specs::Lines::marker_file))]
 fn marker_file(marker: &[u8]) -> Option<(usize, usize)>
     requires { 0 < length marker.now }
-    ensures { result ≡ marker_file marker.now }
+    ensures file { result ≡ marker_file marker.now }
+    ensures inside { IfSome result (λ place. place.0 + place.1 ≤ length marker.now) }
 {
     let stop = run_end(marker, number_place(marker), Set::Digits(Base::Decimal));
     let quote = run_end(marker, stop, Set::Gaps);
     if quote == marker.len() || marker[quote] != b'"' {
         return None;
     }
-    let end = quote + string_end(&marker[quote..], b'"');
-    if end < marker.len() && marker[end] == b'"' {
-        Some((quote + 1, end - quote - 1))
+    let count = string_end(&marker[quote..], b'"') - 1;
+    if byte_at(marker, quote + 1 + count) == b'"' {
+        Some((quote + 1, count))
     } else {
         None
     }
@@ -67,7 +70,8 @@ fn marker_file(marker: &[u8]) -> Option<(usize, usize)>
 
 // How many lines end from `from` on and before `to`.
 fn lines_between(text: &[u8], from: usize, to: usize) -> usize
-    ensures { result ≡ lines_between text.now from to }
+    ensures count { result ≡ lines_between text.now from to }
+    ensures bound { result ≤ length text.now }
 {
     let stop = to.min(text.len());
     let mut count = 0;
@@ -82,7 +86,7 @@ fn lines_between(text: &[u8], from: usize, to: usize) -> usize
 }
 
 fn has_line_between(text: &[u8], from: usize, to: usize) -> bool
-    ensures { result ≡ nat_lt 0 (lines_between text.now from to) }
+    ensures { result ≡ has_line_between text.now from to }
 {
     let stop = to.min(text.len());
     from < stop && text[from..stop].contains(&b'\n')
@@ -91,8 +95,7 @@ fn has_line_between(text: &[u8], from: usize, to: usize) -> bool
 // Whether a piece is a marker that sets the line of the offset.
 #[tactic(auto, unfolding(crate::specs::Lines::sets_line))]
 fn sets_line(text: &[u8], piece: Piece, offset: usize) -> bool
-    requires inside { piece.start + piece.len ≤ length text.now }
-    requires some { 0 < piece.len }
+    requires { LiesIn text.now piece }
     ensures { result ≡ sets_line text.now offset piece }
 {
     piece.kind == Class::Marker
@@ -100,13 +103,44 @@ fn sets_line(text: &[u8], piece: Piece, offset: usize) -> bool
         && has_line_between(text, piece.start + piece.len, offset)
 }
 
-#[tactic(auto, unfolding(crate::specs::Lines::has_file))]
-fn has_file(text: &[u8], piece: Piece) -> bool
-    requires inside { piece.start + piece.len ≤ length text.now }
-    requires some { 0 < piece.len }
-    ensures { result ≡ has_file text.now piece }
+// Whether it also names a file.
+#[tactic(auto, unfolding(crate::specs::Lines::names_file))]
+fn names_file(text: &[u8], piece: Piece, offset: usize) -> bool
+    requires { LiesIn text.now piece }
+    ensures { result ≡ names_file text.now offset piece }
 {
-    marker_file(&text[piece.start..piece.start + piece.len]).is_some()
+    sets_line(text, piece, offset)
+        && marker_file(&text[piece.start..piece.start + piece.len]).is_some()
+}
+
+// The last marker that sets the line of the offset.
+fn last_setter(text: &[u8], pieces: &[Piece], offset: usize) -> Option<Piece>
+    requires { pieces.now ≡ pieces_of text.now }
+    ensures last { result ≡ last_that (sets_line text.now offset) pieces.now }
+    ensures lies { IfSome result (LiesIn text.now) }
+{
+    let mut last = None;
+    for piece in pieces {
+        if sets_line(text, *piece, offset) {
+            last = Some(*piece);
+        }
+    }
+    last
+}
+
+// The last of them that names a file.
+fn last_name(text: &[u8], pieces: &[Piece], offset: usize) -> Option<Piece>
+    requires { pieces.now ≡ pieces_of text.now }
+    ensures last { result ≡ last_that (names_file text.now offset) pieces.now }
+    ensures lies { IfSome result (LiesIn text.now) }
+{
+    let mut last = None;
+    for piece in pieces {
+        if names_file(text, *piece, offset) {
+            last = Some(*piece);
+        }
+    }
+    last
 }
 
 // The line by the last marker that counts.
@@ -144,18 +178,8 @@ pub fn line_of(text: &[u8], pieces: &[Piece], offset: usize) -> Line
     requires { pieces.now ≡ pieces_of text.now }
     ensures { result ≡ line_at text.now offset }
 {
-    let mut last = None;
-    let mut named = None;
-    for piece in pieces {
-        if sets_line(text, *piece, offset) {
-            last = Some(*piece);
-            if has_file(text, *piece) {
-                named = Some(*piece);
-            }
-        }
-    }
     Line {
-        number: number_by(text, last, offset),
-        file: file_by(text, named),
+        number: number_by(text, last_setter(text, pieces, offset), offset),
+        file: file_by(text, last_name(text, pieces, offset)),
     }
 }
