@@ -5,3 +5,5 @@ pub mod Values
 pub mod Members
 pub mod Meeting
 pub mod Markers
+pub mod Edited
+pub mod Own

@@ -26,6 +26,10 @@ awaits_sign (b ∷ before) = is_power b && list_all is_plain before
 unfoldable pub number_joins : List ℕ → ℕ → Bool
 number_joins before b = is_word_byte b || b == 46 || (is_sign b && awaits_sign before)
 
+-- A byte that a number may have: a letter, `_`, a digit, a dot or a sign.
+unfoldable pub is_number_byte : ℕ → Bool
+is_number_byte b = is_word_byte b || b == 46 || is_sign b
+
 -- The value of a digit in base 8, 10 or 16.
 unfoldable pub digit_value : ℕ → ℕ
 digit_value b = if is_digit b then b - 48 else (if nat_le 97 b then b - 87 else b - 55)

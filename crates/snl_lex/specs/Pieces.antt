@@ -1,7 +1,7 @@
 -- The pieces of a text, and its tokens.
 -- In: a text, as the list of its bytes. Out: the class and length of its first piece; all pieces from the left; those that are tokens.
-use Rattle.std.specs.Prelude.{ℕ, zero, suc, ◌+◌, ◌-◌, ◌≤◌, Bool, true, false, not, ◌||◌, ◌==◌, nat_lt, List, [], ◌∷◌, length, take, drop, map, filter, slice_index, Option, Some, None, if◌then◌else◌}
-use Rattle.std.specs.List.{list_any}
+use Rattle.std.specs.Prelude.{ℕ, zero, suc, ◌+◌, ◌-◌, ◌≤◌, Bool, true, false, not, ◌||◌, ◌==◌, nat_lt, List, [], ◌∷◌, length, take, drop, map, filter, slice_index, IsTrue, Option, Some, None, if◌then◌else◌}
+use Rattle.std.specs.List.{list_any, list_all}
 use Rattle.std.specs.Str.{bytes_eq}
 use Rattle.snl_lex.specs.declared.piece.Class.{Class}
 use Rattle.snl_lex.specs.declared.piece.Class.TheVariants.{White, Comment, Marker, CCode, Name, Word, Int, Float, Text, CharLit, Punct, Bad}
@@ -11,7 +11,7 @@ use Rattle.snl_lex.specs.declared.alphabet.Start.TheVariants.{Blank, Letter, Dig
 use Rattle.snl_lex.specs.Alphabet.{is_white, is_digit, is_word_byte, is_in_line, is_stray, marks_of_2, marks_of_3, start_of}
 use Rattle.snl_lex.specs.Runs.{run_of, run_by, close_of}
 use Rattle.snl_lex.specs.Words.{is_word}
-use Rattle.snl_lex.specs.Numbers.{number_joins, number_class}
+use Rattle.snl_lex.specs.Numbers.{number_joins, number_class, is_number_byte}
 
 -- The first byte, and the run of bytes behind it that pass the test.
 abbrev pub run_piece : Class → (ℕ → Bool) → List ℕ → Class × ℕ
@@ -141,6 +141,20 @@ tokens_of text = filter is_token (pieces_of text)
 -- The bytes of a piece of the text.
 abbrev pub bytes_at : List ℕ → Piece → List ℕ
 bytes_at text p = take p.len (drop p.start text)
+
+-- A byte that a piece of the class may have: comments, C code, strings, marks and faulty pieces may have any.
+abbrev pub class_byte : Class → ℕ → Bool
+class_byte White b = is_white b
+class_byte Name b = is_word_byte b
+class_byte Word b = is_word_byte b
+class_byte Int b = is_number_byte b
+class_byte Float b = is_number_byte b
+class_byte Marker b = is_in_line b
+class_byte _ b = true
+
+-- The piece has bytes of its class alone.
+abbrev pub HasOwnBytes : List ℕ → Piece → Type 0
+HasOwnBytes text p = IsTrue (list_all (class_byte p.kind) (bytes_at text p))
 
 -- A piece, moved as the bytes from `old_stop` on are moved to `new_stop`.
 abbrev pub moved_piece : ℕ → ℕ → Piece → Piece

@@ -2,9 +2,10 @@
 //! In: a text; after an edit also the old text and its pieces. Out: the pieces, or what is kept and made of them.
 //! It knows of a piece only that it is the first one of what is left.
 
-ghost use Rattle.snl_cut.specs.Cut.{IsEdit, IsRecut, Walks, after_ticks, last_end};
+ghost use Rattle.snl_cut.specs.Cut.{IsCut, IsEdit, IsRecut, Walks, after_ticks, last_end};
 ghost use Rattle.snl_lex.specs.Local.{piece_front, piece_local};
-ghost use Rattle.snl_lex.specs.Pieces.{moved_piece, piece_at, piece_end, piece_length, pieces_along, pieces_of};
+ghost use Rattle.snl_lex.specs.Pieces.{HasOwnBytes, LiesIn, bytes_at, moved_piece, piece_at, piece_end, piece_length, pieces_along, pieces_of};
+ghost use Rattle.std.specs.List.{flat_map};
 ghost use Rattle.std.specs.Prelude.{◌≡◌, ◌+◌, ◌-◌, ◌^◌, ◌<◌, ◌≤◌, ◌++◌, All, IfOk, drop, length, map, take};
 
 use crate::piece::Piece;
@@ -45,6 +46,13 @@ fn piece_at(text: &[u8], at: usize) -> Piece
 /// The pieces of a text. Each is one tick.
 pub fn lex(alloc: Global, text: &[u8], work: &mut Count) -> Result<Vec<Piece>, OutOfMemory>
     ensures pieces { IfOk result (λ pieces. pieces.items ≡ pieces_of text.now) }
+
+    // Laws of the pieces of any text: joined they are the text, each lies in it and has a byte, and each has bytes of its class alone.
+    ensures joined { IfOk result (λ pieces. flat_map (bytes_at text.now) pieces.items ≡ text.now) }
+    ensures inside { IfOk result (λ pieces. All (LiesIn text.now) pieces.items) }
+    ensures own_bytes { IfOk result (λ pieces. All (HasOwnBytes text.now) pieces.items) }
+    ensures cut { IfOk result (λ pieces. IsCut piece_length text.now (map piece_end pieces.items)) }
+
     ensures ticks { IfOk result (λ pieces. work.new ≡ after_ticks work.old (length pieces.items)) }
 {
     let mut pieces = Vec::new(alloc);

@@ -1,5 +1,8 @@
 //! Rows of pieces, numbers and lines, with values from the language's rules.
 
+ghost use Rattle.snl_cut.specs.Cut.{IsEdit};
+ghost use Rattle.std.specs.Prelude.{◌≤◌, ◌+◌, IfOk, length};
+
 use super::*;
 use Class::*;
 use snl_cut::Count;
@@ -176,5 +179,60 @@ fn whole_program(rt: HostRuntime) -> Result<(), Fail> {
     assert_eq!(rt; PROGRAM.len(), 177);
     assert_eq!(rt; pieces.iter().filter(|piece| piece.kind == Bad).count(), 0);
     assert_eq!(rt; pieces.iter().filter(|piece| piece.kind == Word).count(), 15);
+    Ok(())
+}
+
+// The text with the bytes from `start` to `stop` replaced.
+fn edited(alloc: Global, text: &[u8], start: usize, stop: usize, new: &[u8]) -> Result<Vec<u8>, Fail>
+    requires order { start ≤ stop }
+    requires inside { stop ≤ length text.now }
+    ensures { IfOk result (λ now. IsEdit text.now now.items start stop (start + length new.now)) }
+{
+    let mut now = Vec::from_slice(alloc, &text[..start])?;
+    now.extend_from_slice(new)?;
+    now.extend_from_slice(&text[stop..])?;
+    Ok(now)
+}
+
+// Edits a text, and says how many pieces were made anew.
+fn relexed(rt: &impl Abort, alloc: Global, text: &[u8], start: usize, stop: usize, new: &[u8]) -> Result<u64, Fail> {
+    assert!(rt; start <= stop && stop <= text.len() && new.len() < 1000 && start < 1000);
+    let now = edited(alloc, text, start, stop, new)?;
+    let mut work = Count::new();
+    let old = lex(alloc, text, &mut work)?;
+    let pieces = lex(alloc, &now, &mut work)?;
+    let mut work = Count::new();
+    let made = relex(alloc, text, &old, &now, start, stop, start + new.len(), &mut work)?;
+    assert_eq!(rt; made.made.len() as u64, work.ticks());
+    let kept = made.kept_front.saturating_add(made.kept_back);
+    assert_eq!(rt; kept.saturating_add(made.made.len()), pieces.len());
+    Ok(work.ticks())
+}
+
+#[test]
+fn edits(rt: HostRuntime) -> Result<(), Fail> {
+    let alloc = rt.alloc();
+    assert!(rt; PROGRAM.len() == 177);
+    assert_eq!(rt; relexed(&rt, alloc, PROGRAM, 149, 149, b"x")?, 1);
+    assert_eq!(rt; relexed(&rt, alloc, PROGRAM, 141, 141, b"} ss b {\n")?, 9);
+    assert_eq!(rt; relexed(&rt, alloc, PROGRAM, 10, 16, b"int x;")?, 5);
+    assert_eq!(rt; relexed(&rt, alloc, PROGRAM, 30, 30, b"")?, 1);
+    let renamed = edited(alloc, PROGRAM, 149, 149, b"x")?;
+    assert_eq!(rt; relexed(&rt, alloc, &renamed, 90, 90, b"/*\n\n\n*/")?, 2);
+    assert_eq!(rt; relexed(&rt, alloc, &renamed, 0, 0, b"# 10 \"a.st\"\n")?, 2);
+    let commented = edited(alloc, PROGRAM, 177, 177, b"/*c*/")?;
+    assert_eq!(rt; relexed(&rt, alloc, &commented, 10, 10, b"/*")?, 2);
+    Ok(())
+}
+
+#[test]
+fn texts_of_tokens(rt: HostRuntime) -> Result<(), Fail> {
+    let mut work = Count::new();
+    let pieces = lex(rt.alloc(), b"int x;", &mut work)?;
+    assert_eq!(rt; pieces.len(), 4);
+    assert_eq!(rt; token_text(b"int x;", Piece { kind: Name, start: 4, len: 1 }), b"x".as_slice());
+    let mut fresh = Count::new();
+    assert_eq!(rt; snl_cut::Front::first(&Bytes, b"int x;", &mut fresh), 3);
+    assert_eq!(rt; fresh.ticks(), 1);
     Ok(())
 }
