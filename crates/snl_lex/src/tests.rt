@@ -1,7 +1,7 @@
 //! Rows of pieces, numbers and lines, with values from the language's rules.
 
 ghost use Rattle.snl_cut.specs.Cut.{IsEdit};
-ghost use Rattle.std.specs.Prelude.{◌≤◌, ◌+◌, IfOk, length};
+ghost use Rattle.std.specs.Prelude.{◌≡◌, ◌≤◌, ◌+◌, ◌++◌, IfOk, drop, length, take};
 
 use super::*;
 use Class::*;
@@ -183,14 +183,35 @@ fn whole_program(rt: HostRuntime) -> Result<(), Fail> {
 }
 
 // The text with the bytes from `start` to `stop` replaced.
-fn edited(alloc: Global, text: &[u8], start: usize, stop: usize, new: &[u8]) -> Result<Vec<u8>, Fail>
+fn spliced(
+    alloc: Global,
+    text: &[u8],
+    start: usize,
+    stop: usize,
+    new: &[u8],
+) -> Result<Vec<u8>, Fail>
     requires order { start ≤ stop }
     requires inside { stop ≤ length text.now }
-    ensures { IfOk result (λ now. IsEdit text.now now.items start stop (start + length new.now)) }
+    ensures { IfOk result (λ now. now.items ≡ (take start text.now ++ new.now) ++ drop stop text.now) }
 {
     let mut now = Vec::from_slice(alloc, &text[..start])?;
     now.extend_from_slice(new)?;
     now.extend_from_slice(&text[stop..])?;
+    Ok(now)
+}
+
+fn edited(
+    alloc: Global,
+    text: &[u8],
+    start: usize,
+    stop: usize,
+    new: &[u8],
+) -> Result<Vec<u8>, Fail>
+    requires order { start ≤ stop }
+    requires inside { stop ≤ length text.now }
+    ensures { IfOk result (λ now. IsEdit text.now now.items start stop (start + length new.now)) }
+{
+    let now = spliced(alloc, text, start, stop, new)?;
     Ok(now)
 }
 
