@@ -1,6 +1,6 @@
 -- The pieces that are kept at the back begin where both texts have a boundary, and are moved with their bytes.
-use Rattle.std.proofs.Common.{◌≡◌, ℕ, zero, suc, ◌+◌, ◌-◌, ◌<◌, ◌≤◌, ◌⊎◌, inl, inr, List, [], ◌∷◌, ◌++◌, length, drop, take, map, min, Bool, true, false, cond, nat_lt, nat_le, refl, sym, ap, ◌∙◌, subst, arith, length-drop}
-use Rattle.std.proofs.lemmas.List.{take-take, drop-drop, drop-take, take-append-drop, length-map}
+use Rattle.std.proofs.Common.{get_or, ◌≡◌, ℕ, zero, suc, ◌+◌, ◌-◌, ◌<◌, ◌≤◌, ◌⊎◌, inl, inr, List, [], ◌∷◌, ◌++◌, length, drop, take, map, min, Bool, true, false, cond, nat_lt, nat_le, refl, sym, ap, ◌∙◌, subst, arith, length-drop}
+use Rattle.std.proofs.lemmas.List.{take-take, drop-drop, drop-take, take-append-drop, length-map, drop_more}
 use Rattle.std.proofs.lemmas.Bool.Decides.{nat_tests}
 use Rattle.snl_cut.specs.Cut.{Walks, IsCut, IsBoundary, IsEdit, IsMeet, IsRecut, fresh, joined, moved, last_end, ends_below}
 use Rattle.snl_lex.specs.declared.piece.Class.{Class}
@@ -163,19 +163,19 @@ back_begin old text ends start b c front made back edit cut r e es eq =
     let q_walk = walk_front old 0 (take j ends) (e ∷ es) (length old) old_walk in
     let q_back = walk_back old 0 (take j ends) (e ∷ es) (length old) old_walk in
     let new_walk : Walks piece_length text 0 (head ++ moved b c (e ∷ es)) (length text) =
-        subst (λ (l : List ℕ). Walks piece_length text 0 (head ++ moved b c l) (length text)) eq r.whole in
+    subst (λ (l : List ℕ). Walks piece_length text 0 (head ++ moved b c l) (length text)) eq r.whole in
     let m_walk = walk_front text 0 head (moved b c (e ∷ es)) (length text) new_walk in
     let m_back = walk_back text 0 head (moved b c (e ∷ es)) (length text) new_walk in
     let all_fresh : made ≡ fresh start r.meet 0 (head ++ moved b c (e ∷ es)) = subst (λ (l : List ℕ). made ≡ fresh start r.meet 0 (head ++ moved b c l)) eq r.just_fresh in
     let some = some_piece text m m_back.0 in
     let reached : r.meet ≤ m =
-        elim (split m r.meet) [
-          | inl less ↦
-              let found : In a (fresh start r.meet 0 (head ++ a ∷ moved b c es)) = in_fresh start r.meet 0 head a (moved b c es) (omega (arith, edit.new_order)) less in
-              let made_in : In a made = subst (In a) (sym all_fresh) found in
-              absurd (omega (arith, in_below text 0 head m a m_walk (in_right a (take front ends) made made_in), m_back.1, some.0))
-          | inr more ↦ more
-        ]
+    elim (split m r.meet) [
+      | inl less ↦
+          let found : In a (fresh start r.meet 0 (head ++ a ∷ moved b c es)) = in_fresh start r.meet 0 head a (moved b c es) (omega (arith, edit.new_order)) less in
+          let made_in : In a made = subst (In a) (sym all_fresh) found in
+          absurd (omega (arith, in_below text 0 head m a m_walk (in_right a (take front ends) made made_in), m_back.1, some.0))
+      | inr more ↦ more
+    ]
     in
     let behind : c ≤ r.meet = r.meets.behind in
     let ws = between text 0 r.meets.in_new.0 head r.meet m r.meets.in_new.1 m_walk reached in
@@ -214,10 +214,10 @@ recut_pieces old text ps start b c front made back is edit r =
     let all : pieces_along text 0 ((kept ++ made) ++ last) ≡ pieces_of text = leads_pieces text (pieces_along text 0 ((kept ++ made) ++ last)) (walk_leads text 0 ((kept ++ made) ++ last) (length text) r.whole) in
     let front_same : pieces_along text 0 (take (ends_below start ends) ends) ≡ pieces_along old 0 (take (ends_below start ends) ends) = front_along old text start 0 ends (length old) edit.before cut in
     let front_is : pieces_along text 0 kept ≡ take front ps =
-        subst (λ (k : ℕ). pieces_along text 0 (take k ends) ≡ pieces_along old 0 (take k ends)) (sym r.kept) front_same ∙ (sym (along_take old 0 front ends) ∙ ap (take front) same_old) in
+    subst (λ (k : ℕ). pieces_along text 0 (take k ends) ≡ pieces_along old 0 (take k ends)) (sym r.kept) front_same ∙ (sym (along_take old 0 front ends) ∙ ap (take front) same_old) in
     let back_is : pieces_along text (last_end 0 (kept ++ made)) last ≡ map (moved_piece b c) (drop (length ps - back) ps) =
-        back_part old text ends start b c front made back edit cut r (drop j ends) refl
-        ∙ (ap (map (moved_piece b c)) (sym (along_drop old 0 j ends) ∙ ap (drop j) same_old) ∙ ap (λ (n : ℕ). map (moved_piece b c) (drop (n - back) ps)) many)
+    back_part old text ends start b c front made back edit cut r (drop j ends) refl
+    ∙ (ap (map (moved_piece b c)) (sym (along_drop old 0 j ends) ∙ ap (drop j) same_old) ∙ ap (λ (n : ℕ). map (moved_piece b c) (drop (n - back) ps)) many)
     in
     let made_is : List Piece = pieces_along text (last_end 0 kept) made in
     sym all
@@ -232,3 +232,33 @@ made_walk old text ends start b c front made back r =
     let kept : List ℕ = take front ends in
     let head = walk_front text 0 (kept ++ made) (moved b c (drop (length ends - back) ends)) (length text) r.whole in
     subst (λ (n : ℕ). Walks piece_length text (last_end 0 kept) made n) (last_append 0 kept made) (walk_back text 0 kept made (last_end 0 (kept ++ made)) head)
+
+below_next : (place e : ℕ) (es : List ℕ) (k : ℕ) → e < place → k < suc (ends_below place es) → ((m : ℕ) → m < ends_below place es → get_or es m 0 < place) → get_or (e ∷ es) k 0 < place
+below_next place e es zero less lt again = less
+below_next place e es (suc m) less lt again = again m (omega arith)
+
+below_at : (place : ℕ) (es : List ℕ) (k : ℕ) → k < ends_below place es → get_or es k 0 < place
+below_at place [] k lt = absurd (omega arith)
+below_at place (e ∷ es) k lt =
+    elim (split e place) [
+      | inl less ↦ below_next place e es k less (omega (arith, below_yes e place es less)) (below_at place es)
+      | inr more ↦ absurd (omega (arith, below_no e place es more))
+    ]
+
+-- Front and back don't overlap.
+pub recut_order : (old text ends : List ℕ) (start b c front : ℕ) (made : List ℕ) (back : ℕ) → IsEdit old text start b c → Walks piece_length old 0 ends (length old)
+    → IsRecut piece_length old ends text start b c front made back → front + back ≤ length ends
+recut_order old text ends start b c front made back edit cut r =
+    let j : ℕ = length ends - back in
+    elim (split j front) [
+      | inl less ↦
+          let most = below_inside start ends in
+          let e : ℕ = get_or ends j 0 in
+          let eq : drop j ends ≡ e ∷ drop (j + 1) ends = drop_more ends j 0 (omega (arith, r.kept)) in
+          let begun = back_begin old text ends start b c front made back edit cut r e (drop (j + 1) ends) eq in
+          let parts : take j ends ++ e ∷ drop (j + 1) ends ≡ ends = ap (λ (l : List ℕ). take j ends ++ l) (sym eq) ∙ take-append-drop j ends in
+          let old_walk : Walks piece_length old 0 (take j ends ++ e ∷ drop (j + 1) ends) (length old) = subst (λ (l : List ℕ). Walks piece_length old 0 l (length old)) (sym parts) cut in
+          let q_back = walk_back old 0 (take j ends) (e ∷ drop (j + 1) ends) (length old) old_walk in
+          absurd (omega (arith, below_at start ends j (omega (arith, r.kept)), q_back.1, begun.0, edit.old_order))
+      | inr more ↦ omega (arith, r.back_inside)
+    ]

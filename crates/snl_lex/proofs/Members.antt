@@ -74,7 +74,7 @@ leads_along text from [] to h = refl
 leads_along text from (p ∷ ps) to h =
     let e : piece_end p ≡ from + piece_length (drop from text) = ap piece_end h.1 ∙ end_at text from in
     let rest : pieces_along text (piece_end p) (map piece_end ps) ≡ ps =
-        ap (λ (n : ℕ). pieces_along text n (map piece_end ps)) e ∙ leads_along text (from + piece_length (drop from text)) ps to h.2
+    ap (λ (n : ℕ). pieces_along text n (map piece_end ps)) e ∙ leads_along text (from + piece_length (drop from text)) ps to h.2
     in
     ap (λ (q : Piece). q ∷ pieces_along text (piece_end p) (map piece_end ps)) (sym h.1) ∙ ap (λ (l : List Piece). p ∷ l) rest
 

@@ -44,7 +44,7 @@ run_by_same joins before (x ∷ xs) (y ∷ ys) h =
     let n : ℕ = run_by joins (x ∷ before) ys in
     let G : Bool → Type 0 = λ (b : Bool). take (cond b (suc m) 0) xs ≡ take (cond b (suc m) 0) ys → cond b (suc n) 0 ≡ cond b (suc m) 0 in
     let here : run_by joins before (x ∷ ys) ≡ run_by joins before (x ∷ xs) =
-        (elim (joins before x) as G [ true ↦ λ e. ap suc (run_by_same joins (x ∷ before) xs ys e) | false ↦ λ e. refl ]) rest in
+    (elim (joins before x) as G [ true ↦ λ e. ap suc (run_by_same joins (x ∷ before) xs ys e) | false ↦ λ e. refl ]) rest in
     subst (λ (z : ℕ). run_by joins before (z ∷ ys) ≡ run_by joins before (x ∷ xs)) same here
 
 run_of_same : (p : ℕ → Bool) (xs ys : List ℕ) → take (suc (run_of p xs)) xs ≡ take (suc (run_of p xs)) ys → run_of p ys ≡ run_of p xs

@@ -40,10 +40,16 @@ fn piece_at(text: &[u8], at: usize) -> Piece
     ensures inside { at + result.len ≤ length text.now }
 {
     let (kind, len) = first_piece(&text[at..]);
-    Piece { kind, start: at, len }
+    Piece {
+        kind,
+        start: at,
+        len,
+    }
 }
 
-/// The pieces of a text. Each is one tick.
+/// The pieces of a text, cut from the left. Each is one tick. The only error is want of memory.
+///
+/// Classes are those of the SNL reference of the EPICS sequencer 2.2 manual; which bytes a faulty piece takes is this project's profile.
 pub fn lex(alloc: Global, text: &[u8], work: &mut Count) -> Result<Vec<Piece>, OutOfMemory>
     ensures pieces { IfOk result (λ pieces. pieces.items ≡ pieces_of text.now) }
 
@@ -113,7 +119,7 @@ fn pieces_along(
     Ok(pieces)
 }
 
-/// The pieces of `text` from those of `old_text`, of which the bytes from `start` to `old_stop` were replaced by those up to `new_stop`. Each piece that is made is one tick.
+/// The pieces of `text` from those of `old_text`, of which the bytes from `start` to `old_stop` were replaced by those up to `new_stop`. Each piece that is made is one tick. The only error is want of memory.
 pub fn relex(
     alloc: Global,
     old_text: &[u8],
@@ -129,6 +135,7 @@ pub fn relex(
     ensures recut { IfOk
         result
         (λ r. IsRecut piece_length old_text.now (map piece_end old.now) text.now start old_stop new_stop r.kept_front (map piece_end r.made.items) r.kept_back) }
+    ensures order { IfOk result (λ r. r.kept_front + r.kept_back ≤ length old.now) }
     ensures pieces { IfOk
         result
         (λ r. pieces_of text.now ≡ (take r.kept_front old.now ++ r.made.items) ++ map (moved_piece old_stop new_stop) (drop (length old.now - r.kept_back) old.now)) }

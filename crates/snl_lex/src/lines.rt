@@ -172,7 +172,9 @@ fn file_by(text: &[u8], named: Option<Piece>) -> Option<(usize, usize)>
     }
 }
 
-/// The line of an offset, which may be any number. It takes no memory.
+/// The line of an offset, which may be any number; one behind the text counts as its end. It takes no memory, and goes over all the pieces twice.
+///
+/// Line markers are read as this project's profile has them.
 #[tactic(auto, unfolding(crate::specs::Lines::line_at))]
 pub fn line_of(text: &[u8], pieces: &[Piece], offset: usize) -> Line
     requires { pieces.now ≡ pieces_of text.now }

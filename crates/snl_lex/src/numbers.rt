@@ -91,8 +91,27 @@ fn is_int_suffix(bytes: &[u8]) -> bool
 {
     matches!(
         bytes,
-        b"" | b"u" | b"U" | b"l" | b"L" | b"ll" | b"LL" | b"ul" | b"uL" | b"Ul" | b"UL" | b"lu"
-            | b"lU" | b"Lu" | b"LU" | b"ull" | b"uLL" | b"Ull" | b"ULL" | b"llu" | b"llU" | b"LLu"
+        b"" | b"u"
+            | b"U"
+            | b"l"
+            | b"L"
+            | b"ll"
+            | b"LL"
+            | b"ul"
+            | b"uL"
+            | b"Ul"
+            | b"UL"
+            | b"lu"
+            | b"lU"
+            | b"Lu"
+            | b"LU"
+            | b"ull"
+            | b"uLL"
+            | b"Ull"
+            | b"ULL"
+            | b"llu"
+            | b"llU"
+            | b"LLu"
             | b"LLU"
     )
 }
@@ -122,7 +141,9 @@ fn base_of(bytes: &[u8]) -> Base
     }
 }
 
-/// The value of an Int: decimal, octal or hexadecimal digits and an optional suffix of `u` and `l`, of at most 2^64 - 1. None for all other bytes.
+/// The value of an Int: decimal, octal or hexadecimal digits, with an optional suffix, of at most 2^64 - 1. None for all other bytes.
+///
+/// Numbers are those of the SNL reference of the EPICS sequencer 2.2 manual; that `u` and `l` or `ll` may stand in either order is this project's profile.
 #[tactic(auto, unfolding(crate::specs::Numbers::int_value_of))]
 pub fn int_value(bytes: &[u8]) -> Option<u64>
     ensures { result ≡ int_value_of bytes.now }

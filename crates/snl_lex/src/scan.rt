@@ -27,7 +27,11 @@ fn name_piece(rest: &[u8]) -> (Class, usize)
     ensures { result ≡ name_piece rest.now }
 {
     let end = run_end(rest, 1, Set::NameBytes);
-    let kind = if is_word(&rest[..end]) { Class::Word } else { Class::Name };
+    let kind = if is_word(&rest[..end]) {
+        Class::Word
+    } else {
+        Class::Name
+    };
     (kind, end)
 }
 

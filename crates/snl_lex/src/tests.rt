@@ -10,16 +10,30 @@ use std::alloc::Global;
 use std::process::Abort;
 use std::test::Fail;
 
-const PROGRAM: &[u8] = b"program p\nint x;\nassign x to \"dev:x\";\nmonitor x;\nevflag f;\nsync x to f;\nss a {\nstate s1 {\nwhen (efTest(f) && x > 3) {\npvPut(x);\n} state s2\n}\nstate s2 {\nwhen () { } state s1\n}\n}\n";
+const PROGRAM: &[u8] =
+    b"program p\nint x;\nassign x to \"dev:x\";\nmonitor x;\nevflag f;\nsync x to f;\nss a {\nstate s1 {\nwhen (efTest(f) && x > 3) {\npvPut(x);\n} state s2\n}\nstate s2 {\nwhen () { } state s1\n}\n}\n";
 
 // The pieces of a text, as classes and lengths.
-fn cuts_to(rt: &impl Abort, alloc: Global, text: &[u8], want: &[(Class, usize)]) -> Result<(), Fail> {
+fn cuts_to(
+    rt: &impl Abort,
+    alloc: Global,
+    text: &[u8],
+    want: &[(Class, usize)],
+) -> Result<(), Fail> {
     let mut work = Count::new();
     let pieces = lex(alloc, text, &mut work)?;
     assert_eq!(rt; pieces.len(), want.len(), "{text:?}");
     let mut start = 0;
     for (piece, (kind, len)) in pieces.iter().zip(want) {
-        assert_eq!(rt; *piece, Piece { kind: *kind, start, len: *len }, "{text:?}");
+        assert_eq!(rt;
+            *piece,
+            Piece {
+                kind: *kind,
+                start,
+                len: *len
+            },
+            "{text:?}"
+        );
         start = piece.start.saturating_add(piece.len);
     }
     assert_eq!(rt; start, text.len());
@@ -69,8 +83,34 @@ fn pieces(rt: HostRuntime) -> Result<(), Fail> {
         (b"//a\r\n/**/", &[(Comment, 4), (White, 1), (Comment, 4)]),
         (b"%{a}%%%", &[(CCode, 5), (CCode, 2)]),
         (b"%{ ss", &[(Bad, 5)]),
-        (b"<<=>>=->--=<<>", &[(Punct, 3), (Punct, 3), (Punct, 2), (Punct, 2), (Punct, 1), (Punct, 2), (Punct, 1)]),
-        (b"state states syncQ synCq int8_t _1", &[(Word, 5), (White, 1), (Name, 6), (White, 1), (Word, 5), (White, 1), (Name, 5), (White, 1), (Word, 6), (White, 1), (Name, 2)]),
+        (
+            b"<<=>>=->--=<<>",
+            &[
+                (Punct, 3),
+                (Punct, 3),
+                (Punct, 2),
+                (Punct, 2),
+                (Punct, 1),
+                (Punct, 2),
+                (Punct, 1),
+            ],
+        ),
+        (
+            b"state states syncQ synCq int8_t _1",
+            &[
+                (Word, 5),
+                (White, 1),
+                (Name, 6),
+                (White, 1),
+                (Word, 5),
+                (White, 1),
+                (Name, 5),
+                (White, 1),
+                (Word, 6),
+                (White, 1),
+                (Name, 2),
+            ],
+        ),
         (b" \t\n\r\x0b\x0c", &[(White, 6)]),
         (b"1.", &[(Float, 2)]),
         (b"1.5e-3L", &[(Float, 7)]),
@@ -105,29 +145,48 @@ fn values(rt: HostRuntime) {
 
 #[test]
 fn all_words(rt: HostRuntime) -> Result<(), Fail> {
-    let text = b"program ss state entry exit when option assign to monitor sync syncq syncQ foreign if else while for break continue return sizeof const void char short int long unsigned int8_t uint8_t int16_t uint16_t int32_t uint32_t float double string evflag enum struct union typename";
+    let text =
+        b"program ss state entry exit when option assign to monitor sync syncq syncQ foreign if else while for break continue return sizeof const void char short int long unsigned int8_t uint8_t int16_t uint16_t int32_t uint32_t float double string evflag enum struct union typename";
     let mut work = Count::new();
     let pieces = lex(rt.alloc(), text, &mut work)?;
     assert_eq!(rt; pieces.len(), 85);
-    assert_eq!(rt; pieces.iter().filter(|piece| piece.kind == Word).count(), 43);
+    assert_eq!(rt;
+        pieces.iter().filter(|piece| piece.kind == Word).count(),
+        43
+    );
     Ok(())
 }
 
 #[test]
 fn all_marks(rt: HostRuntime) -> Result<(), Fail> {
-    let text = b"{ } ( ) [ ] ; , . -> ++ -- ! ~ + - * / % & | ^ && || << >> < > <= >= == != = += -= *= /= %= &= |= ^= <<= >>= ? :";
+    let text =
+        b"{ } ( ) [ ] ; , . -> ++ -- ! ~ + - * / % & | ^ && || << >> < > <= >= == != = += -= *= /= %= &= |= ^= <<= >>= ? :";
     let mut work = Count::new();
     let pieces = lex(rt.alloc(), text, &mut work)?;
     assert_eq!(rt; pieces.len(), 89);
-    assert_eq!(rt; pieces.iter().filter(|piece| piece.kind == Punct).count(), 45);
+    assert_eq!(rt;
+        pieces.iter().filter(|piece| piece.kind == Punct).count(),
+        45
+    );
     Ok(())
 }
 
 // The lines of offsets, as number and the bytes of the file.
-fn line_is(rt: &impl Abort, alloc: Global, text: &[u8], offset: usize, number: usize, file: Option<(usize, usize)>) -> Result<(), Fail> {
+fn line_is(
+    rt: &impl Abort,
+    alloc: Global,
+    text: &[u8],
+    offset: usize,
+    number: usize,
+    file: Option<(usize, usize)>,
+) -> Result<(), Fail> {
     let mut work = Count::new();
     let pieces = lex(alloc, text, &mut work)?;
-    assert_eq!(rt; line_of(text, &pieces, offset), Line { number, file }, "{text:?} at {offset}");
+    assert_eq!(rt;
+        line_of(text, &pieces, offset),
+        Line { number, file },
+        "{text:?} at {offset}"
+    );
     Ok(())
 }
 
@@ -178,7 +237,10 @@ fn whole_program(rt: HostRuntime) -> Result<(), Fail> {
     let pieces = lex(rt.alloc(), PROGRAM, &mut work)?;
     assert_eq!(rt; PROGRAM.len(), 177);
     assert_eq!(rt; pieces.iter().filter(|piece| piece.kind == Bad).count(), 0);
-    assert_eq!(rt; pieces.iter().filter(|piece| piece.kind == Word).count(), 15);
+    assert_eq!(rt;
+        pieces.iter().filter(|piece| piece.kind == Word).count(),
+        15
+    );
     Ok(())
 }
 
@@ -216,14 +278,30 @@ fn edited(
 }
 
 // Edits a text, and says how many pieces were made anew.
-fn relexed(rt: &impl Abort, alloc: Global, text: &[u8], start: usize, stop: usize, new: &[u8]) -> Result<u64, Fail> {
+fn relexed(
+    rt: &impl Abort,
+    alloc: Global,
+    text: &[u8],
+    start: usize,
+    stop: usize,
+    new: &[u8],
+) -> Result<u64, Fail> {
     assert!(rt; start <= stop && stop <= text.len() && new.len() < 1000 && start < 1000);
     let now = edited(alloc, text, start, stop, new)?;
     let mut work = Count::new();
     let old = lex(alloc, text, &mut work)?;
     let pieces = lex(alloc, &now, &mut work)?;
     let mut work = Count::new();
-    let made = relex(alloc, text, &old, &now, start, stop, start + new.len(), &mut work)?;
+    let made = relex(
+        alloc,
+        text,
+        &old,
+        &now,
+        start,
+        stop,
+        start + new.len(),
+        &mut work,
+    )?;
     assert_eq!(rt; made.made.len() as u64, work.ticks());
     let kept = made.kept_front.saturating_add(made.kept_back);
     assert_eq!(rt; kept.saturating_add(made.made.len()), pieces.len());
@@ -251,7 +329,17 @@ fn texts_of_tokens(rt: HostRuntime) -> Result<(), Fail> {
     let mut work = Count::new();
     let pieces = lex(rt.alloc(), b"int x;", &mut work)?;
     assert_eq!(rt; pieces.len(), 4);
-    assert_eq!(rt; token_text(b"int x;", Piece { kind: Name, start: 4, len: 1 }), b"x".as_slice());
+    assert_eq!(rt;
+        token_text(
+            b"int x;",
+            Piece {
+                kind: Name,
+                start: 4,
+                len: 1
+            }
+        ),
+        b"x".as_slice()
+    );
     let mut fresh = Count::new();
     assert_eq!(rt; snl_cut::Front::first(&Bytes, b"int x;", &mut fresh), 3);
     assert_eq!(rt; fresh.ticks(), 1);

@@ -22,13 +22,28 @@ fn is_word_of_three(name: &[u8]) -> bool
 fn is_word_of_four(name: &[u8]) -> bool
     ensures { result ≡ list_any (bytes_eq name.now) words_of_4 }
 {
-    matches!(name, b"exit" | b"when" | b"sync" | b"else" | b"void" | b"char" | b"long" | b"enum")
+    matches!(
+        name,
+        b"exit" | b"when" | b"sync" | b"else" | b"void" | b"char" | b"long" | b"enum"
+    )
 }
 
 fn is_word_of_five(name: &[u8]) -> bool
     ensures { result ≡ list_any (bytes_eq name.now) words_of_5 }
 {
-    matches!(name, b"state" | b"entry" | b"syncq" | b"syncQ" | b"while" | b"break" | b"const" | b"short" | b"float" | b"union")
+    matches!(
+        name,
+        b"state"
+            | b"entry"
+            | b"syncq"
+            | b"syncQ"
+            | b"while"
+            | b"break"
+            | b"const"
+            | b"short"
+            | b"float"
+            | b"union"
+    )
 }
 
 fn is_word_of_six(name: &[u8]) -> bool

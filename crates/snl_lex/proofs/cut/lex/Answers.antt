@@ -13,7 +13,7 @@ loop-at-preserved c =
     let at : ℕ = c.loop-at.at in
     let items : List Piece = c.loop-at.pieces.items in
     let led : Leads text 0 (items ++ c.piece_at-piece.result ∷ []) (at + c.piece_at-piece.result.len) =
-        subst (λ (q : Piece). Leads text 0 (items ++ q ∷ []) (at + q.len)) (sym c.piece_at-piece.ensures.piece) (leads_on text 0 items at c.loop-at.invariant.leads c.loop-at-test.true) in
+    subst (λ (q : Piece). Leads text 0 (items ++ q ∷ []) (at + q.len)) (sym c.piece_at-piece.ensures.piece) (leads_on text 0 items at c.loop-at.invariant.leads c.loop-at-test.true) in
     record {
       leads = rw c.in_ok-push.ensures.items led;
       inside = c.piece_at-piece.ensures.inside;

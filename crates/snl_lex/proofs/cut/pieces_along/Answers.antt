@@ -23,8 +23,8 @@ loop-end-preserved c =
     let longer : take (i + 1) ends ≡ take i ends ++ e ∷ [] = take_more ends i 0 c.loop-end-test.true in
     let begun : piece ≡ piece_at text (last_end from (take i ends)) = c.piece_at.ensures.piece ∙ ap (piece_at text) c.loop-end.invariant.begun in
     let made : items ++ piece ∷ [] ≡ pieces_along text from (take i ends ++ e ∷ []) =
-        ap (λ (l : List Piece). l ++ piece ∷ []) c.loop-end.invariant.made
-        ∙ (ap (λ (q : Piece). pieces_along text from (take i ends) ++ q ∷ []) begun ∙ sym (along_append text from (take i ends) (e ∷ [])))
+    ap (λ (l : List Piece). l ++ piece ∷ []) c.loop-end.invariant.made
+    ∙ (ap (λ (q : Piece). pieces_along text from (take i ends) ++ q ∷ []) begun ∙ sym (along_append text from (take i ends) (e ∷ [])))
     in
     record {
       made = rw c.in_ok-push.ensures.items (made ∙ ap (pieces_along text from) (sym longer));

@@ -13,10 +13,10 @@ returns-then-quote-marker-clause-file c =
     let quote : ℕ = c.run_end-quote.result in
     let there = quote_is marker c.number_place.result c.run_end-stop.result quote c.number_place.ensures.place c.run_end-stop.ensures.end c.run_end-quote.ensures.end in
     let other : slice_index marker quote ≡ 34 → ⊥ = λ e.
-        elim c.then-quote-marker.branch [
-          | then-quote-marker-via-then-quote-marker w ↦ absurd (omega (arith, get_or_past marker quote 0 (omega (arith, w.if-quote-marker.true)), e))
-          | then-quote-marker-via-else-quote-marker+then-marker-quote-ne34 w ↦ w.if-marker-quote-ne34.true e
-        ]
+    elim c.then-quote-marker.branch [
+      | then-quote-marker-via-then-quote-marker w ↦ absurd (omega (arith, get_or_past marker quote 0 (omega (arith, w.if-quote-marker.true)), e))
+      | then-quote-marker-via-else-quote-marker+then-marker-quote-ne34 w ↦ w.if-marker-quote-ne34.true e
+    ]
     in
     sym (file_is marker quote there ∙ no_quote marker quote (run_by (string_joins 34) [] (drop 1 (drop quote marker))) other)
 
@@ -26,7 +26,7 @@ returns-then-byte_at-eq34-clause-file c =
     let quote : ℕ = c.run_end-quote.result in
     let there = quote_is marker c.number_place.result c.run_end-stop.result quote c.number_place.ensures.place c.run_end-stop.ensures.end c.run_end-quote.ensures.end in
     let run : c.string_end-count.result ≡ 1 + run_by (string_joins 34) [] (drop 1 (drop quote marker)) =
-        c.string_end-count.ensures.end ∙ ap (λ (l : List ℕ). 1 + run_by (string_joins 34) [] (drop 1 l)) (take_rest marker quote) in
+    c.string_end-count.ensures.end ∙ ap (λ (l : List ℕ). 1 + run_by (string_joins 34) [] (drop 1 l)) (take_rest marker quote) in
     let count : run_by (string_joins 34) [] (drop 1 (drop quote marker)) ≡ c.string_end-count.result - 1 = omega (arith, run) in
     sym (file_is marker quote there ∙ (ap (file_with marker quote) count ∙ closed marker quote (c.string_end-count.result - 1) c.if-marker-quote-ne34.false (sym c.byte_at.ensures ∙ c.if-byte_at-eq34.true)))
 
@@ -36,6 +36,6 @@ returns-else-byte_at-eq34-clause-file c =
     let quote : ℕ = c.run_end-quote.result in
     let there = quote_is marker c.number_place.result c.run_end-stop.result quote c.number_place.ensures.place c.run_end-stop.ensures.end c.run_end-quote.ensures.end in
     let run : c.string_end-count.result ≡ 1 + run_by (string_joins 34) [] (drop 1 (drop quote marker)) =
-        c.string_end-count.ensures.end ∙ ap (λ (l : List ℕ). 1 + run_by (string_joins 34) [] (drop 1 l)) (take_rest marker quote) in
+    c.string_end-count.ensures.end ∙ ap (λ (l : List ℕ). 1 + run_by (string_joins 34) [] (drop 1 l)) (take_rest marker quote) in
     let count : run_by (string_joins 34) [] (drop 1 (drop quote marker)) ≡ c.string_end-count.result - 1 = omega (arith, run) in
     sym (file_is marker quote there ∙ (ap (file_with marker quote) count ∙ no_close marker quote (c.string_end-count.result - 1) (λ e. c.if-byte_at-eq34.false (c.byte_at.ensures ∙ e))))

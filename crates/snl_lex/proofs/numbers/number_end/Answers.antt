@@ -25,7 +25,7 @@ loop-end-preserved c =
     let before : List ℕ = c.loop-end.invariant.before in
     let b : ℕ = get_or bytes end 0 in
     let joined : number_joins before b ≡ true =
-        ap (λ (w : Bool). is_word_byte b || b == 46 || (is_sign b && w)) (sym c.loop-end.invariant.awaits) ∙ sym c.if-joins.ensures in
+    ap (λ (w : Bool). is_word_byte b || b == 46 || (is_sign b && w)) (sym c.loop-end.invariant.awaits) ∙ sym c.if-joins.ensures in
     let step = by_on number_joins before bytes end c.loop-end-test.true joined in
     record {
       before = b ∷ before;

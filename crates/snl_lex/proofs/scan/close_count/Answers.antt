@@ -11,10 +11,10 @@ loop-end-preserved c =
     let a : ℕ = c.args.a in
     let b : ℕ = c.args.b in
     let open_ : (eqb (get_or bytes end 0) a && eqb (get_or bytes (end + 1) 0) b) ≡ false =
-        elim c.else-bytes-end.branch [
-          | else-bytes-end-via-then-bytes-end+else-bytes-end-2 w ↦ second_differs (get_or bytes end 0) a (get_or bytes (end + 1) 0) b w.if-bytes-end-2.false
-          | else-bytes-end-via-else-bytes-end w ↦ first_differs (get_or bytes end 0) a (get_or bytes (end + 1) 0) b w.if-bytes-end.false
-        ]
+    elim c.else-bytes-end.branch [
+      | else-bytes-end-via-then-bytes-end+else-bytes-end-2 w ↦ second_differs (get_or bytes end 0) a (get_or bytes (end + 1) 0) b w.if-bytes-end-2.false
+      | else-bytes-end-via-else-bytes-end w ↦ first_differs (get_or bytes end 0) a (get_or bytes (end + 1) 0) b w.if-bytes-end.false
+    ]
     in
     let rest = close_of a b (drop (end + 1) bytes) in
     let count : (end - c.args.from) + 1 ≡ (end + 1) - c.args.from = omega arith in
