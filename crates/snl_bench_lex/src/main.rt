@@ -21,7 +21,8 @@ use stop::Stop;
 const SIZE: usize = 1_048_576;
 
 // A program as an engineer writes it, comments and embedded C included.
-static PROGRAM: &[u8] = b"program vacuum (\"sector=3\")\n\noption +r;\n\n%{\n#include <math.h>\n#include <string.h>\n}%\n\n/* Pump-down of one sector: the roughing pump runs until the\n   pressure is low enough for the turbo pumps. */\n\ndouble pressure;        assign pressure to \"{sector}:gauge:pressure\";\nmonitor pressure;\ndouble threshold = 1.5e-3;\nshort valve;            assign valve to \"{sector}:valve:command\";\nint pump[4];            assign pump to {\"P1\", \"P2\", \"P3\", \"P4\"};\nevflag pressureChanged; sync pressure to pressureChanged;\nstring message;         assign message to \"{sector}:message\";\n\n// The state machine itself.\nss pumpDown {\n    state init {\n        entry {\n            strcpy(message, \"waiting for the operator\\n\");\n            pvPut(message);\n        }\n        when (efTestAndClear(pressureChanged) && pressure < threshold) {\n            valve = 0x1F & ~0x02;\n            pvPut(valve, SYNC);\n        } state pumping\n        when (delay(10.0)) {\n        } state init\n    }\n    state pumping {\n        int i;\n        when (pressure >= 1000 || valve == 'c') {\n            for (i = 0; i < 4; i++) {\n                pump[i] = (i + 1) << 2;\n                pvPut(pump[i]);\n            }\n        } state init\n        when () {\n            %% printf(\"pressure %g\\n\", pVar->pressure);\n        } exit\n    }\n}\n\n";
+static PROGRAM: &[u8] =
+    b"program vacuum (\"sector=3\")\n\noption +r;\n\n%{\n#include <math.h>\n#include <string.h>\n}%\n\n/* Pump-down of one sector: the roughing pump runs until the\n   pressure is low enough for the turbo pumps. */\n\ndouble pressure;        assign pressure to \"{sector}:gauge:pressure\";\nmonitor pressure;\ndouble threshold = 1.5e-3;\nshort valve;            assign valve to \"{sector}:valve:command\";\nint pump[4];            assign pump to {\"P1\", \"P2\", \"P3\", \"P4\"};\nevflag pressureChanged; sync pressure to pressureChanged;\nstring message;         assign message to \"{sector}:message\";\n\n// The state machine itself.\nss pumpDown {\n    state init {\n        entry {\n            strcpy(message, \"waiting for the operator\\n\");\n            pvPut(message);\n        }\n        when (efTestAndClear(pressureChanged) && pressure < threshold) {\n            valve = 0x1F & ~0x02;\n            pvPut(valve, SYNC);\n        } state pumping\n        when (delay(10.0)) {\n        } state init\n    }\n    state pumping {\n        int i;\n        when (pressure >= 1000 || valve == 'c') {\n            for (i = 0; i < 4; i++) {\n                pump[i] = (i + 1) << 2;\n                pvPut(pump[i]);\n            }\n        } state init\n        when () {\n            %% printf(\"pressure %g\\n\", pVar->pressure);\n        } exit\n    }\n}\n\n";
 
 // A text of so many bytes, the program again and again.
 fn text_of(alloc: Global, size: usize) -> Result<Vec<u8>, Stop> {
@@ -106,7 +107,12 @@ fn measure<R: Clock + Print + Eprint>(rt: &R, alloc: Global) -> Result<(), Stop>
     println!(rt; "pieces {}", pieces.len())?;
     let mut typed = Count::new();
     let relexed = relex(alloc, &old, &pieces, &text, at, at, at + 1, &mut typed)?;
-    println!(rt; "kept {} made {} kept {}", relexed.kept_front, relexed.made.len(), relexed.kept_back)?;
+    println!(rt;
+        "kept {} made {} kept {}",
+        relexed.kept_front,
+        relexed.made.len(),
+        relexed.kept_back
+    )?;
     let whole = time_lex(rt, alloc, &old)?;
     let copy = time_copy(rt, alloc, &pieces)?;
     let key = time_key(rt, alloc, &old, &pieces, &text, at)?;
@@ -118,8 +124,6 @@ fn main(rt: HostRuntime) -> io::Result<()> {
     match measure(&rt, rt.alloc()) {
         Ok(()) => Ok(()),
         Err(Stop::Output(error)) => Err(error),
-        Err(Stop::Memory) => {
-            println!(rt; "out of memory")
-        }
+        Err(Stop::Memory) => { println!(rt; "out of memory") }
     }
 }

@@ -1,12 +1,12 @@
 -- Line markers: where their file stands, and the last of those that count.
 use Rattle.std.proofs.Common.{◌≡◌, ◌==◌, ℕ, ◌+◌, ◌<◌, Bool, true, false, ◌&&◌, cond, List, [], ◌∷◌, ◌++◌, length, take, drop, get_or, Option, Some, None, filter, refl, sym, ap, ◌∙◌, subst, arith}
-use Rattle.std.specs.Prelude.{slice_index, IfSome}
+use Rattle.std.specs.Prelude.{slice_index}
 use Rattle.std.proofs.lemmas.List.{take_more}
 use Rattle.std.proofs.lemmas.Bool.Decides.{nat_tests}
 use Rattle.snl_lex.specs.declared.piece.Piece.{Piece}
 use Rattle.snl_lex.specs.Alphabet.{is_digit, is_gap}
 use Rattle.snl_lex.specs.Runs.{run_of, run_by}
-use Rattle.snl_lex.specs.Lines.{gap_end, number_place, number_stop, marker_file, last_or, last_of, last_that}
+use Rattle.snl_lex.specs.Lines.{gap_end, number_place, number_stop, marker_file, last_or, last_that}
 use Rattle.snl_lex.specs.Pieces.{LiesIn, string_joins, pieces_of}
 use Rattle.snl_lex.proofs.Members.{leads_inside, pieces_lead}
 

@@ -1,13 +1,13 @@
 -- The pieces that are kept at the back begin where both texts have a boundary, and are moved with their bytes.
-use Rattle.std.proofs.Common.{get_or, ◌≡◌, ℕ, zero, suc, ◌+◌, ◌-◌, ◌<◌, ◌≤◌, ◌⊎◌, inl, inr, List, [], ◌∷◌, ◌++◌, length, drop, take, map, min, Bool, true, false, cond, nat_lt, nat_le, refl, sym, ap, ◌∙◌, subst, arith, length-drop}
+use Rattle.std.proofs.Common.{get_or, ◌≡◌, ℕ, zero, suc, ◌+◌, ◌-◌, ◌<◌, ◌≤◌, ◌⊎◌, inl, inr, List, [], ◌∷◌, ◌++◌, length, drop, take, map, true, false, cond, nat_lt, nat_le, refl, sym, ap, ◌∙◌, subst, arith, length-drop}
 use Rattle.std.proofs.lemmas.List.{take-take, drop-drop, drop-take, take-append-drop, length-map, drop_more}
 use Rattle.std.proofs.lemmas.Bool.Decides.{nat_tests}
-use Rattle.snl_cut.specs.Cut.{Walks, IsCut, IsBoundary, IsEdit, IsMeet, IsRecut, fresh, joined, moved, last_end, ends_below}
+use Rattle.snl_cut.specs.Cut.{Walks, IsEdit, IsRecut, fresh, moved, last_end, ends_below}
 use Rattle.snl_lex.specs.declared.piece.Class.{Class}
 use Rattle.snl_lex.specs.declared.piece.Piece.{Piece}
-use Rattle.snl_lex.specs.Local.{piece_front, first_same}
+use Rattle.snl_lex.specs.Local.{first_same}
 use Rattle.snl_lex.specs.Pieces.{first_piece, piece_length, piece_at, piece_end, pieces_along, pieces_of, moved_piece}
-use Rattle.snl_lex.proofs.Members.{Leads, split, some_piece, walk_le, walk_last, walk_front, walk_back, along_append, along_take, along_drop, along_ends, along_length, last_append, leads_pieces, leads_walk, leads_along, pieces_lead, walk_leads}
+use Rattle.snl_lex.proofs.Members.{Leads, split, some_piece, walk_le, walk_front, walk_back, along_append, along_take, along_drop, last_append, leads_pieces, leads_walk, leads_along, pieces_lead, walk_leads}
 
 -- A number is among the numbers of a list.
 abbrev In : ℕ → List ℕ → Type 0

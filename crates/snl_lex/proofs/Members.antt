@@ -1,9 +1,9 @@
 -- The pieces of a text as members of its cut.
-use Rattle.std.proofs.Common.{◌≡◌, ℕ, zero, suc, ◌+◌, ◌-◌, ◌<◌, ◌≤◌, ◌⊎◌, inl, inr, List, [], ◌∷◌, ◌++◌, length, drop, take, map, get_or, Bool, true, false, cond, nat_lt, refl, sym, ap, ◌∙◌, subst, arith, length-drop, length-append}
+use Rattle.std.proofs.Common.{◌≡◌, ℕ, zero, suc, ◌+◌, ◌<◌, ◌≤◌, ◌⊎◌, inl, inr, List, [], ◌∷◌, ◌++◌, length, drop, take, map, get_or, refl, sym, ap, ◌∙◌, subst, arith, length-drop, length-append}
 use Rattle.std.proofs.lemmas.Bool.Decides.{nat_tests}
 use Rattle.snl_cut.specs.Cut.{Walks, last_end}
 use Rattle.snl_lex.specs.declared.piece.Piece.{Piece}
-use Rattle.snl_lex.specs.Pieces.{first_piece, piece_length, piece_at, piece_end, pieces_from, pieces_of, pieces_along, LiesIn}
+use Rattle.snl_lex.specs.Pieces.{piece_length, piece_at, piece_end, pieces_from, pieces_of, pieces_along, LiesIn}
 use Rattle.snl_lex.specs.Local.{piece_front}
 
 pub split : (a b : ℕ) → (a < b) ⊎ (b ≤ a)

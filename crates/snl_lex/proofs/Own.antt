@@ -1,8 +1,7 @@
 -- The pieces joined are the text, and each has bytes of its class alone.
-use Rattle.std.proofs.Common.{◌≡◌, ◌==◌, ℕ, zero, suc, ◌+◌, ◌<◌, ◌≤◌, Bool, true, false, cond, ◌&&◌, ◌||◌, List, [], ◌∷◌, ◌++◌, length, take, drop, get_or, Option, Some, None, IsTrue, is_some, refl, sym, ap, ◌∙◌, subst, arith, length-drop}
+use Rattle.std.proofs.Common.{◌≡◌, ◌==◌, ℕ, zero, suc, ◌+◌, ◌<◌, Bool, true, false, cond, ◌&&◌, ◌||◌, List, [], ◌∷◌, ◌++◌, length, take, drop, get_or, Option, Some, None, is_some, refl, sym, ap, ◌∙◌, subst, arith, length-drop}
 use Rattle.std.specs.Prelude.{slice_index}
-use Rattle.std.specs.List.{flat_map, list_all, list_any}
-use Rattle.std.specs.Str.{bytes_eq}
+use Rattle.std.specs.List.{flat_map, list_all}
 use Rattle.std.proofs.lemmas.Bool.{or_left, or_right}
 use Rattle.std.proofs.lemmas.Bool.Decides.{nat_tests}
 use Rattle.std.proofs.lemmas.List.{take-append-drop, drop-drop, drop_all}
@@ -16,7 +15,7 @@ use Rattle.snl_lex.specs.Runs.{run_of, run_by, close_of}
 use Rattle.snl_lex.specs.Words.{is_word}
 use Rattle.snl_lex.specs.Numbers.{awaits_sign, is_float, is_number_byte, is_sign, int_value_of, number_class, number_joins}
 use Rattle.snl_lex.specs.Pieces.{HasOwnBytes, bytes_at, class_byte, closed_by, closed_piece, dot_piece, first_piece, longest_mark, mark_piece, name_piece, number_piece, percent_piece, piece_at, piece_by, piece_length, run_piece, slash_piece, string_joins, string_piece}
-use Rattle.snl_lex.proofs.Members.{Leads, some_piece}
+use Rattle.snl_lex.proofs.Members.{Leads}
 
 -- The pieces from a place on, joined, are the text from there on.
 pub leads_joined : (text : List ℕ) (from : ℕ) (ps : List Piece) → Leads text from ps (length text) → flat_map (bytes_at text) ps ≡ drop from text

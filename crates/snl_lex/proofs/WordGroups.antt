@@ -1,12 +1,12 @@
 -- A name is looked for among the words of its length alone.
-use Rattle.std.proofs.Common.{◌≡◌, ◌==◌, ℕ, zero, suc, Bool, true, false, not, nat_eq, ◌&&◌, ◌||◌, List, [], ◌∷◌, ◌++◌, length, sym, ap, ◌∙◌, refl, arith}
+use Rattle.std.proofs.Common.{◌≡◌, ◌==◌, ℕ, Bool, true, false, not, nat_eq, ◌&&◌, ◌||◌, List, [], ◌∷◌, ◌++◌, length, ap, ◌∙◌, refl, arith}
 use Rattle.std.specs.List.{list_any, list_all}
 use Rattle.std.specs.Str.{bytes_eq}
 use Rattle.std.proofs.lemmas.List.Folds.{list_any-append}
 use Rattle.std.proofs.lemmas.Bool.{and_right, or_from}
 use Rattle.std.proofs.lemmas.Bool.Decides.{nat_tests}
 use Rattle.std.proofs.Math.Bool.{or-false}
-use Rattle.snl_lex.specs.Words.{is_word, words, words_of_2, words_of_3, words_of_4, words_of_5, words_of_6, words_of_7, words_of_8}
+use Rattle.snl_lex.specs.Words.{is_word, words}
 
 -- Lists of different lengths are different.
 differ : (xs ys : List ℕ) → (length ys == length xs) ≡ false → bytes_eq xs ys ≡ false

@@ -9,14 +9,14 @@ use Rattle.std.proofs.lemmas.List.{get_or-take, get_or_past, take-take, drop-tak
 use Rattle.std.proofs.lemmas.Bool.Decides.{nat_tests}
 use Rattle.snl_cut.specs.Cut.{IsFront, IsLocal}
 use Rattle.snl_lex.specs.declared.piece.Class.{Class}
-use Rattle.snl_lex.specs.declared.piece.Class.TheVariants.{White, Comment, Marker, CCode, Name, Word, Int, Float, Text, CharLit, Punct, Bad}
+use Rattle.snl_lex.specs.declared.piece.Class.TheVariants.{White, Comment, Marker, CCode, Name, Word, Text, CharLit, Punct, Bad}
 use Rattle.snl_lex.specs.declared.alphabet.Start.{Start}
 use Rattle.snl_lex.specs.declared.alphabet.Start.TheVariants.{Blank, Letter, Digit, Dot, Hash, Slash, Percent, Quote, Apostrophe, Sign, Stray}
 use Rattle.snl_lex.specs.Alphabet.{is_white, is_digit, is_word_byte, is_in_line, is_stray, marks_of_2, marks_of_3, start_of}
 use Rattle.snl_lex.specs.Runs.{run_of, run_by, begins, close_of}
 use Rattle.snl_lex.specs.Words.{is_word}
 use Rattle.snl_lex.specs.Numbers.{number_joins, number_class}
-use Rattle.snl_lex.specs.Pieces.{run_piece, name_piece, number_piece, closed_by, closed_piece, string_joins, string_piece, longest_mark, mark_piece, slash_piece, percent_piece, dot_piece, piece_by, first_piece, piece_length}
+use Rattle.snl_lex.specs.Pieces.{run_piece, name_piece, number_piece, closed_by, closed_piece, string_joins, string_piece, longest_mark, mark_piece, slash_piece, percent_piece, piece_by, first_piece, piece_length}
 
 -- Pieces of texts that begin with `x`: two that agree behind it, so far as one piece reaches and one byte further, have equal first pieces.
 abbrev IsAlone : ℕ → (List ℕ → Class × ℕ) → Type 0

@@ -1,6 +1,6 @@
 -- The pieces of a text, and its tokens.
 -- In: a text, as the list of its bytes. Out: the class and length of its first piece; all pieces from the left; those that are tokens.
-use Rattle.std.specs.Prelude.{ℕ, zero, suc, ◌+◌, ◌-◌, ◌≤◌, Bool, true, false, not, ◌||◌, ◌==◌, nat_lt, List, [], ◌∷◌, length, take, drop, map, filter, slice_index, IsTrue, Option, Some, None, if◌then◌else◌}
+use Rattle.std.specs.Prelude.{ℕ, zero, suc, ◌+◌, ◌-◌, ◌≤◌, Bool, true, false, not, ◌||◌, ◌==◌, nat_lt, List, [], ◌∷◌, length, take, drop, filter, slice_index, IsTrue, Option, Some, None, if◌then◌else◌}
 use Rattle.std.specs.List.{list_any, list_all}
 use Rattle.std.specs.Str.{bytes_eq}
 use Rattle.snl_lex.specs.declared.piece.Class.{Class}

@@ -1,4 +1,4 @@
-use Rattle.std.proofs.Common.{◌≡◌, ◌==◌, ℕ, ◌+◌, ◌<◌, Bool, true, List, [], ◌∷◌, ◌&&◌, ◌||◌, length, take, drop, get_or, eqb, sym, ap, ◌∙◌, arith}
+use Rattle.std.proofs.Common.{◌≡◌, ◌==◌, ℕ, ◌+◌, Bool, true, List, [], ◌∷◌, ◌&&◌, ◌||◌, drop, get_or, sym, ap, ◌∙◌, arith}
 use Rattle.snl_lex.specs.Alphabet.{is_plain, is_word_byte}
 use Rattle.snl_lex.specs.Numbers.{awaits_sign, is_power, is_sign, number_joins}
 use Rattle.snl_lex.specs.Runs.{run_by}

@@ -1,4 +1,4 @@
-use Rattle.std.proofs.Common.{◌≡◌, ℕ, ◌+◌, ◌-◌, ◌<◌, List, drop, get_or, Bool, false, ◌&&◌, eqb, length-drop, sym, ap, ◌∙◌, arith}
+use Rattle.std.proofs.Common.{◌≡◌, ℕ, ◌+◌, ◌-◌, List, drop, get_or, false, ◌&&◌, eqb, length-drop, sym, ap, ◌∙◌, arith}
 use Rattle.snl_lex.specs.Runs.{close_of}
 use Rattle.snl_lex.proofs.Turns.{shifted, shift_more, close_on, close_end, first_differs, second_differs}
 use Rattle.snl_lex.proofs.scan.close_count.Goals as goal
