@@ -1,5 +1,5 @@
 -- Steps of a run.
-use Rattle.std.proofs.Common.{◌≡◌, ◌≢◌, ℕ, suc, ◌+◌, ◌-◌, ◌*◌, ◌<◌, ◌≤◌, List, [], ◌∷◌, ◌++◌, length, take, drop, Bool, true, false, cond, ltb, leb, Option, Some, None, Result, Ok, Err, refl, sym, ap, ◌∙◌, subst, append_assoc, arith, length-append, length-drop, position, ◌==◌}
+use Rattle.std.proofs.Common.{◌≡◌, ◌≢◌, ℕ, ◌+◌, ◌-◌, ◌*◌, ◌≤◌, List, [], ◌∷◌, ◌++◌, length, take, drop, Bool, true, false, cond, leb, Option, Some, None, Result, Ok, Err, refl, sym, ap, ◌∙◌, subst, append_assoc, arith, length-append, length-drop, position, ◌==◌}
 use Rattle.std.specs.Bool.{OnTrue}
 use Rattle.std.specs.Io.KnownBytes.{Appends, Consumes, IsAtEnd, Keeps}
 use Rattle.std.proofs.lemmas.List.{append-nil, drop-append-le, take-append-le}
@@ -16,7 +16,7 @@ use Rattle.snl_cli.specs.Faults.{fault_of_read}
 use Rattle.snl_cli.specs.Front.{IsWhole, request_of, unfinished}
 use Rattle.snl_cli.specs.Run.{IsMalformed, NoStart, Ran, Told, ToldPart}
 use Rattle.snl_cli.specs.Said.{AppendsPart}
-use Rattle.snl_cli.specs.Script.{Request, Edits, Next, Ends, Unknown, Then, closed, headed, heading_of, lined, next_of, words_of}
+use Rattle.snl_cli.specs.Script.{Request, Next, Unknown, Then, closed, headed, heading_of, lined, next_of, words_of}
 use Rattle.snl_cli.specs.Transcript.{Begins, HoldsNone, IsFair, MayStarve, Turn, after, reply, status_of, text_after, transcript}
 use Rattle.snl_cli.proofs.SaidLemmas.{Appends-none, Appends-on, Appends-same, AppendsPart-after, AppendsPart-same}
 use Rattle.snl_cli.proofs.ScriptLemmas.{place_grows}

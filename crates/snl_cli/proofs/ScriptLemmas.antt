@@ -5,13 +5,12 @@ use Rattle.std.proofs.lemmas.Bool.Decides.{nat_tests}
 use Rattle.std.proofs.lemmas.List.{append-nil, append_assoc, drop-drop, drop-append-le, length-take, take_all, take-append-drop, take-append-le}
 use Rattle.std.proofs.lemmas.List.Folds.{prefix_len-append}
 use Rattle.std.proofs.lemmas.List.Splits.{slice_split_first}
-use Rattle.std.specs.List.{onto_first, position_or_len, prefix_len, slice_split}
-use Rattle.snl_cli.specs.declared.script.Command.{Command}
+use Rattle.std.specs.List.{onto_first, position_or_len, slice_split}
 use Rattle.snl_cli.specs.declared.script.Front.{Front}
 use Rattle.snl_cli.specs.declared.script.Front.TheVariants.{Short, Malformed, Whole}
 use Rattle.snl_cli.specs.declared.script.Heading.{Heading}
-use Rattle.snl_cli.specs.Front.{IsFront, IsFrontBehind, IsWhole, IsWholeBehind, request_of, unfinished}
-use Rattle.snl_cli.specs.Script.{Next, Ends, Unknown, Then, check_of, edit_of, headed, heading_of, lined, next_of, words_of}
+use Rattle.snl_cli.specs.Front.{IsFront, IsFrontBehind, request_of, unfinished}
+use Rattle.snl_cli.specs.Script.{Unknown, Then, check_of, edit_of, headed, heading_of, lined, next_of, words_of}
 
 -- where a place is found
 found_place : (a n i : ℕ) → cond (ltb a n) (Some a) None ≡ Some i → (a ≡ i) × (i < n)

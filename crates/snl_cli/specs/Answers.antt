@@ -1,5 +1,5 @@
 -- What is answered to a command.
-use Rattle.std.specs.Prelude.{ℕ, ◌==◌, ◌/◌, ◌%◌, ◌&&◌, ◌++◌, List, [], ◌∷◌, take, drop, length, flat_map, Bool, Option, Some, None, nat_le, if◌then◌else◌, codes, decimal}
+use Rattle.std.specs.Prelude.{ℕ, ◌/◌, ◌%◌, ◌&&◌, ◌++◌, List, [], ◌∷◌, take, drop, flat_map, Option, Some, None, nat_le, if◌then◌else◌, codes, decimal}
 use Rattle.std.specs.Char.{digit_char}
 use Rattle.std.specs.List.{concat}
 use Rattle.snl_session.specs.declared.edits.Refused.{Refused}

@@ -57,10 +57,6 @@ abbrev pub is_write_fault : Result Status RunFault → Bool
 is_write_fault (Err Write) = true
 is_write_fault _ = false
 
-abbrev pub is_too_many : Result Status RunFault → Bool
-is_too_many (Err TooManyTurns) = true
-is_too_many _ = false
-
 -- A command was carried out on a text, and its answer written as far as the writer took it.
 pub record Answered {T E : Type 0} (result : Result T E) (text next : List ℕ) (request : Request) (old new : Option (List ℕ)) : Type 0 where
   pub starved : Bool

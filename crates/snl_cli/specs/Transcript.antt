@@ -8,7 +8,7 @@ use Rattle.snl_session.specs.Edit.{refusal_of, spliced}
 use Rattle.snl_cli.specs.declared.faults.Status.{Status}
 use Rattle.snl_cli.specs.declared.faults.Status.TheVariants.{Clean, Errors}
 use Rattle.snl_cli.specs.Answers.{edit_text, report_of}
-use Rattle.snl_cli.specs.Script.{Request, Checks, Edits, Next, Then, next_of}
+use Rattle.snl_cli.specs.Script.{Request, Checks, Edits, Then, next_of}
 
 -- A command, and whether it was refused for want of memory.
 pub record Turn : Type 0 where

@@ -7,7 +7,7 @@ ghost use Rattle.std.specs.Prelude.{◌≡◌, ◌≢◌, ℕ, ◌+◌, ◌==◌
 ghost use Rattle.std.specs.Io.KnownBytes.{Keeps};
 ghost use Rattle.snl_session.specs.Edit.{limit, refusal_of, spliced};
 ghost use Rattle.snl_cli.specs.Front.{request_of};
-ghost use Rattle.snl_cli.specs.Run.{Answered, IsEdited, NoStart, Ran, is_read_fault, is_too_many, is_write_fault};
+ghost use Rattle.snl_cli.specs.Run.{Answered, IsEdited, NoStart, Ran, is_read_fault, is_write_fault};
 ghost use Rattle.snl_cli.specs.Transcript.{status_of};
 ghost use Rattle.snl_cli.specs.Watched.{calls_of, failed_of, inner_of};
 
@@ -118,7 +118,7 @@ fn serve<R: Read, W: Write>(
 }
 
 /// Runs a script over a source, which is a session's first text: answers are written, each before the next command is carried out.
-/// An edit that is refused is answered, and the run goes on.
+/// An edit that is refused is answered, and the run goes on. `out` is not flushed, so it is to keep no bytes back.
 pub fn run<R: Read, W: Write>(
     alloc: Global,
     initial: &[u8],

@@ -1,4 +1,4 @@
-use Rattle.std.proofs.Common.{rules, ◌≡◌, ◌++◌, ◌∷◌, [], List, ℕ}
+use Rattle.std.proofs.Common.{◌∷◌, [], List, ℕ}
 use Rattle.snl_cli.specs.Answers.{file_text, finding_text, part_of, quoted}
 use Rattle.snl_cli.proofs.SaidLemmas.{AppendsPart-on, Said-on, Said-part, Says-on, line-1, line-2, line-3}
 use Rattle.snl_cli.proofs.answers.put_line.Goals as goal

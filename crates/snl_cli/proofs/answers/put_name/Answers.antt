@@ -1,4 +1,4 @@
-use Rattle.std.proofs.Common.{arith, rules, take, ◌≡◌, ◌++◌, ◌+◌, ◌∷◌, [], ap, sym, ◌∙◌, append_assoc, drop, List, ℕ, codes}
+use Rattle.std.proofs.Common.{arith, rules, take, ◌≡◌, ◌++◌, ◌+◌, ◌∷◌, [], ap, ◌∙◌, append_assoc, drop, List, ℕ}
 use Rattle.std.proofs.lemmas.List.{take_all}
 use Rattle.std.specs.List.{flat_map}
 use Rattle.snl_cli.specs.Answers.{escaped}

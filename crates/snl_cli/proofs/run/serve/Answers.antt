@@ -3,7 +3,7 @@ use Rattle.std.proofs.lemmas.Result.{err_from_is_err_and}
 use Rattle.snl_cli.specs.Front.{unfinished}
 use Rattle.snl_cli.specs.Script.{next_of}
 use Rattle.snl_cli.specs.Watched.{calls_of}
-use Rattle.snl_cli.proofs.RunLemmas.{Ran-end, Ran-read, Told-gains, Told-malformed, Told-on, Told-start, ToldPart-on}
+use Rattle.snl_cli.proofs.RunLemmas.{Ran-end, Told-gains, Told-malformed, Told-on, Told-start, ToldPart-on}
 use Rattle.snl_cli.proofs.run.serve.Goals as goal
 
 pub commands-init : goal.commands-init

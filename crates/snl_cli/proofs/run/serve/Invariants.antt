@@ -1,4 +1,4 @@
-use Rattle.std.proofs.Common.{◌≡◌, ◌+◌, ◌-◌, ◌*◌, ◌≤◌, false, length, List, ℕ}
+use Rattle.std.proofs.Common.{◌≡◌, ◌+◌, ◌-◌, ◌*◌, ◌≤◌, false, length}
 use Rattle.snl_cli.specs.Run.{Told}
 use Rattle.snl_cli.specs.Watched.{calls_of, failed_of, inner_of}
 use Rattle.snl_cli.proofs.run.serve.Given as goal

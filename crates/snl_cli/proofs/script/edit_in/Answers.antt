@@ -1,4 +1,4 @@
-use Rattle.std.proofs.Common.{◌≡◌, rules, arith, ap, ◌∙◌, sym}
+use Rattle.std.proofs.Common.{rules}
 use Rattle.snl_cli.proofs.ScriptLemmas.{edit_of_more}
 use Rattle.snl_cli.proofs.script.edit_in.Goals as goal
 

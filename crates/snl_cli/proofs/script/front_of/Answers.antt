@@ -1,8 +1,8 @@
-use Rattle.std.proofs.Common.{◌≡◌, ℕ, ◌+◌, ◌-◌, ◌≤◌, List, length, take, drop, sym, ap, ◌∙◌, arith, rules, length-drop, subst, min}
+use Rattle.std.proofs.Common.{ℕ, ◌+◌, ◌-◌, ◌≤◌, List, length, drop, sym, arith, rules, length-drop, subst}
 use Rattle.std.proofs.lemmas.List.{take_all}
-use Rattle.snl_cli.specs.Script.{words_of, headed, heading_of}
+use Rattle.snl_cli.specs.Script.{headed}
 use Rattle.snl_cli.specs.Front.{IsFrontBehind}
-use Rattle.snl_cli.proofs.ScriptLemmas.{IsFront-behind, next_of-long, next_of-short}
+use Rattle.snl_cli.proofs.ScriptLemmas.{IsFront-behind, next_of-long}
 use Rattle.snl_cli.proofs.script.front_of.Goals as goal
 
 pub returns-in-Some : goal.returns-in-Some
