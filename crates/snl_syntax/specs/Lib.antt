@@ -1,0 +1,5 @@
+pub mod Tokens
+pub mod Operators
+pub mod Steps
+pub mod Reading
+pub mod Grammar

@@ -3,6 +3,10 @@
 
 mod kind;
 mod operator;
+mod stop;
+mod tokens;
 pub mod tree;
+mod types;
 
 pub use kind::Kind;
+pub use operator::{Assignment, Binary, Sign};

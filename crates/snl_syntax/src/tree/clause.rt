@@ -8,7 +8,10 @@ pub enum Channel {
     /// `assign v;`
     Anonymous,
     /// `assign v to "c";`
-    Whole { to: bool, text: Items<usize> },
+    Whole {
+        to: bool,
+        text: Items<usize>,
+    },
     /// `assign v[1] to "c";`
     Element {
         subscript: usize,

@@ -1,7 +1,7 @@
 //! Declarations, parameters and initialisers.
 
 use crate::tree::expression::Expr;
-use crate::tree::types::{Pointer, Type};
+use crate::tree::types::{Pointer, QualifiedType};
 use sqlite_items::Items;
 
 /// The value that a declarator begins with.
@@ -24,14 +24,14 @@ pub struct Declarator {
 /// A type, and one declarator or more.
 #[derive(Drop)]
 pub struct Declaration {
-    pub of: Type,
+    pub of: QualifiedType,
     pub declarators: Items<Declarator>,
 }
 
 /// A parameter of a function.
 #[derive(Drop)]
 pub struct Parameter {
-    pub of: Type,
+    pub of: QualifiedType,
     pub pointers: Items<Pointer>,
     pub name: Option<usize>,
     pub lengths: Items<Option<Expr>>,

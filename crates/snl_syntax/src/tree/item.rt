@@ -4,13 +4,13 @@ use crate::tree::clause::{Clause, OptionLine};
 use crate::tree::declaration::{Declaration, Parameter};
 use crate::tree::state::StateMember;
 use crate::tree::statement::Member;
-use crate::tree::types::{Pointer, Type};
+use crate::tree::types::{Pointer, QualifiedType};
 use sqlite_items::Items;
 
 /// A function; one without a body is a prototype.
 #[derive(Drop)]
 pub struct Function {
-    pub of: Type,
+    pub of: QualifiedType,
     pub pointers: Items<Pointer>,
     pub name: usize,
     pub parameters: Items<Parameter>,

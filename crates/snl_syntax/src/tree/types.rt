@@ -38,7 +38,7 @@ pub enum Base {
 
 /// A base, with `const` before and behind it or not.
 #[derive(Clone, Copy, Debug, PartialEq, Eq)]
-pub struct Type {
+pub struct QualifiedType {
     pub leading_const: bool,
     pub base: Base,
     pub trailing_const: bool,
@@ -54,6 +54,6 @@ pub enum Pointer {
 /// A type as casts and `sizeof` name it.
 #[derive(Drop)]
 pub struct TypeName {
-    pub of: Type,
+    pub of: QualifiedType,
     pub pointers: Items<Pointer>,
 }
