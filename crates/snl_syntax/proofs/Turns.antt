@@ -1,5 +1,5 @@
 -- A list that is read element after element, beside a loop that counts up.
-use Rattle.std.proofs.Common.{◌≡◌, ℕ, suc, ◌+◌, ◌-◌, ◌<◌, ◌≤◌, List, [], ◌∷◌, ◌++◌, Option, Some, None, Ok, Err, refl, sym, ap, ◌∙◌, arith}
+use Rattle.std.proofs.Common.{◌≡◌, ℕ, suc, ◌+◌, ◌-◌, ◌<◌, ◌≤◌, List, [], ◌∷◌, ◌++◌, length, Option, Some, None, Ok, Err, refl, sym, ap, ◌∙◌, arith}
 use Rattle.std.specs.Prelude.{option_to_list}
 use Rattle.snl_syntax.specs.declared.kind.Kind.{Kind}
 use Rattle.snl_syntax.specs.declared.stop.Stop.{Stop}
@@ -7,7 +7,7 @@ use Rattle.snl_syntax.specs.declared.stop.Stop.TheVariants as stops
 use Rattle.snl_syntax.specs.declared.stop.Step.{Step}
 use Rattle.snl_syntax.specs.declared.stop.Step.TheVariants as steps
 use Rattle.snl_syntax.specs.Tokens.{Seat}
-use Rattle.snl_syntax.specs.Steps.{Outcome, Reader, and_then, many_within, until_within, Fails}
+use Rattle.snl_syntax.specs.Steps.{Outcome, Reader, and_then, many, many_within, until, until_within, Fails}
 
 module _ {A : Type 0} (next : Reader (Option A)) (total : Outcome (List A)) (n i : ℕ) (found : List A) (k : List Seat) where
   -- the loop is over
@@ -64,3 +64,12 @@ module _ {A B : Type 0} (step : Reader (Step A B)) (total : Outcome (List A × B
 
 pub deeper : {X : Type 0} (f : ℕ → X) (n : ℕ) → 0 < n → f n ≡ f (suc (n - 1))
 deeper f n some = let e : n ≡ suc (n - 1) = omega arith in ap f e
+
+-- before the first turn
+pub turns_begin : {A : Type 0} (next : Reader (Option A)) (found given : List A) (n : ℕ) (k : List Seat) → found ≡ given → n ≡ suc (length k) → many_within next (n - 0) found k ≡ many next given k
+unfolding many
+turns_begin next found given n k f e = let m : n - 0 ≡ suc (length k) = omega arith in ap (λ i. many_within next i found k) m ∙ ap (λ l. many_within next (suc (length k)) l k) f
+
+pub until_begin : {A B : Type 0} (step : Reader (Step A B)) (found given : List A) (n : ℕ) (k : List Seat) → found ≡ given → n ≡ suc (length k) → until_within step (n - 0) found k ≡ until step given k
+unfolding until
+until_begin step found given n k f e = let m : n - 0 ≡ suc (length k) = omega arith in ap (λ i. until_within step i found k) m ∙ ap (λ l. until_within step (suc (length k)) l k) f

@@ -3,3 +3,4 @@ pub mod Operators
 pub mod Steps
 pub mod Reading
 pub mod Grammar
+pub mod Nests

@@ -308,10 +308,14 @@ module _ (inner : Reader Expr) (names : Reader TypeName) where
     r ← until target_step []
     pure (assigned r.0 r.1)
 
+-- the name of a type in brackets, in so many levels
+abbrev pub type_within : ℕ → Reader TypeName
+type_within depth = within depth type_name
+
 -- an expression without commas, in so many levels
 unfoldable pub assignx : ℕ → Reader Expr
 assignx zero = refuse
-assignx (suc depth) = single (assignx depth) (within depth type_name)
+assignx (suc depth) = single (assignx depth) (type_within depth)
 
 -- an expression, in so many levels
 abbrev pub expr : ℕ → Reader Expr

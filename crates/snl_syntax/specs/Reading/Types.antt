@@ -119,7 +119,7 @@ pointer_by _ = pure None
 unfoldable pub next_pointer : Reader (Option Pointer)
 next_pointer = λ k. pointer_by (kind_at k) k
 
-unfoldable pub stars : Reader (List Pointer)
+abbrev pub stars : Reader (List Pointer)
 stars = many next_pointer []
 
 unfoldable pub type_name : Reader TypeName
