@@ -1,3 +1,4 @@
 pub mod Same
 pub mod Ahead
 pub mod Turns
+pub mod Tiers

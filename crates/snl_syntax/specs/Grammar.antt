@@ -1,1 +1,3 @@
 pub mod Base
+pub mod Types
+pub mod Expressions

@@ -1,8 +1,9 @@
-use Rattle.std.proofs.Common.{[], Some, Ok, ap, ◌∙◌, ◌-◌}
+use Rattle.std.proofs.Common.{◌≡◌, ◌<◌, ◌≤◌, [], Some, Ok, ap, ◌∙◌, ◌-◌, arith}
 use Rattle.std.proofs.lemmas.Result.{err_from_is_err_and}
 use Rattle.snl_syntax.specs.Tokens.{ahead}
 use Rattle.snl_syntax.specs.Steps.{many, within}
 use Rattle.snl_syntax.specs.Reading.Expressions.{assignx, type_within, operand, next_link}
+use Rattle.snl_syntax.proofs.Tiers.{tiers_read, tiers_err}
 use Rattle.snl_syntax.proofs.Turns.{turns_begin, turn_err, turn_end, turn_more, turns_over}
 use Rattle.snl_syntax.proofs.expression.Expressions.+tiers.Goals as goal
 
@@ -24,3 +25,12 @@ links-loop-turn-preserved g t c =
 
 pub links-returns : goal.links-returns
 links-returns g t c = turns_over (next_link c.args.tier (operand (assignx c.args.self.now.depth) (type_within c.args.self.now.depth) (c.args.tier - 1))) (many (next_link c.args.tier (operand (assignx c.args.self.now.depth) (type_within c.args.self.now.depth) (c.args.tier - 1))) [] (ahead c.args.kinds.now c.args.start)) c.turns-turn-end.result c.loop-turn._turn c.loop-turn.found (ahead c.args.kinds.now c.loop-turn.at) c.loop-turn-test.false c.loop-turn.invariant
+
+pub tiers_from-returns-in_err-links : goal.tiers_from-returns-in_err-links
+tiers_from-returns-in_err-links g t c =
+    let p = err_from_is_err_and c.from_residual-in_err-links.result c.from_residual-in_err-links.ensures.1 in
+    rw (p.1, p.2) (tiers_err (assignx c.args.self.now.depth) (type_within c.args.self.now.depth) c.args.tier c.args.first (ahead c.args.kinds.now c.args.at) c.in_ok-first.first (ahead c.args.kinds.now c.in_ok-first.at) c.args.kinds.now c.in_err-links.field-0.0 (omega arith) c.in_ok-first.ensures c.in_err-links.ensures)
+
+pub tiers_from-returns : goal.tiers_from-returns
+tiers_from-returns g t c =
+    rw c.in_ok-chained.ensures (tiers_read (assignx c.args.self.now.depth) (type_within c.args.self.now.depth) c.args.tier c.args.first (ahead c.args.kinds.now c.args.at) c.in_ok-first.first (ahead c.args.kinds.now c.in_ok-first.at) c.in_ok-links.links (ahead c.args.kinds.now c.in_ok-links.at) (omega arith) c.in_ok-first.ensures c.in_ok-links.ensures)
