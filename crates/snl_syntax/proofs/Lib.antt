@@ -2,3 +2,4 @@ pub mod Same
 pub mod Ahead
 pub mod Turns
 pub mod Tiers
+pub mod Local
