@@ -96,11 +96,11 @@ ok_is {A} a b k l e =
     let h : p ≡ q = cc in
     (ap (λ (r : A × List Seat). r.0) h, ap (λ (r : A × List Seat). r.1) h)
 
-err_is : {A : Type 0} (k l : List Seat) → (let p : Outcome A = Err k in p ≡ Err l) → k ≡ l
+pub err_is : {A : Type 0} (k l : List Seat) → (let p : Outcome A = Err k in p ≡ Err l) → k ≡ l
 err_is k l e = cc
 
 -- a front that is followed by the same is empty
-no_front : (front m : List Seat) → front ++ m ≡ m → front ≡ []
+pub no_front : (front m : List Seat) → front ++ m ≡ m → front ≡ []
 no_front front m e = append_cancel_right front [] m e
 
 pub pure_local : {A : Type 0} (x : A) → Local (pure x)
