@@ -64,7 +64,7 @@ abbrev pub Lacks : Kind → List Seat → Type 0
 Lacks x [] = Unit {0}
 Lacks x (s ∷ k) = same s.0 x ≡ false
 
-is_false : (b : Bool) → (b ≡ true → ⊥) → b ≡ false
+pub is_false : (b : Bool) → (b ≡ true → ⊥) → b ≡ false
 is_false true h = absurd (h refl)
 is_false false h = refl
 

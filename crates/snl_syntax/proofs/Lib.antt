@@ -5,3 +5,5 @@ pub mod Tiers
 pub mod Local
 pub mod Viable
 pub mod Again
+pub mod TypeLaws
+pub mod ExpressionLocal
