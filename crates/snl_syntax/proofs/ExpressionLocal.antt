@@ -119,6 +119,9 @@ member_eats x make = bind_eats (expect x) _ (expect_eats x) (λ _. bind_local (e
 word_eats : {A : Type 0} (x : Kind) (a : A) → Eats (word x a)
 word_eats x a = bind_eats (expect x) (λ _. pure a) (expect_eats x) (λ _. pure_local a)
 
+abbrev an_arm : Expr → Expr → Option (Expr × Expr)
+an_arm x y = Some (x, y)
+
 module _ (inner : Reader Expr) (names : Reader TypeName) (local : Local inner) (named : Local names) where
   pub sequence_local : Local (sequence inner)
   unfolding sequence
@@ -244,6 +247,9 @@ module _ (inner : Reader Expr) (names : Reader TypeName) (local : Local inner) (
   unfolding plain
   plain_never k x m e = bind_ok (atom k) _ (steps.More x, m) e (λ y m' e1 e2. let v = ok_is (steps.Last None y) (steps.More x) m' m e2 in let h : steps.Last None y ≡ steps.More x = v.0 in absurd cc)
 
+  plain_eats : EatsMore (plain inner names)
+  plain_eats k x m e = absurd (plain_never k x m e)
+
   prefix_by_eats : (o : Option Kind) → EatsMore (prefix_by inner names o)
   unfolding prefix_by
   prefix_by_eats (Some kind.Plus) = eats_more _ (signed_eats signs.Plus)
@@ -256,7 +262,7 @@ module _ (inner : Reader Expr) (names : Reader TypeName) (local : Local inner) (
   prefix_by_eats (Some kind.MinusMinus) = eats_more _ (signed_eats signs.Decrement)
   prefix_by_eats (Some kind.Sizeof) = eats_more _ sizeof_eats
   prefix_by_eats (Some kind.OpenParen) = eats_more _ bracket_eats
-  prefix_by_eats _ k x m e = absurd (plain_never k x m e)
+  prefix_by_eats _ = plain_eats
 
   pub step_eats : EatsMore (prefix_step inner names)
   unfolding prefix_step
@@ -279,8 +285,8 @@ module _ (inner : Reader Expr) (names : Reader TypeName) (local : Local inner) (
   pub operand_local : (n : ℕ) → Local (operand inner names n)
   operand_local n = bind_local (prefix inner names) (tiers_from inner names n) prefix_local (tiers_local n)
 
-  arm_rest_local : Local (λ k. and_then (sequence inner k) (λ x k1. and_then (expect kind.Colon k1) (λ _ k2. and_then (operand inner names 10 k2) (λ y. pure (Some (x, y))))))
-  arm_rest_local = bind_local (sequence inner) _ sequence_local (λ x. bind_local (expect kind.Colon) _ (expect_local kind.Colon) (λ _. bind_local (operand inner names 10) _ (operand_local 10) (λ y. pure_local (Some (x, y)))))
+  arm_rest_local : Local (λ k. and_then (sequence inner k) (λ x k1. and_then (expect kind.Colon k1) (λ _ k2. and_then (operand inner names 10 k2) (λ y. pure (an_arm x y)))))
+  arm_rest_local = bind_local (sequence inner) _ sequence_local (λ x. bind_local (expect kind.Colon) _ (expect_local kind.Colon) (λ _. bind_local (operand inner names 10) _ (operand_local 10) (λ y. pure_local (an_arm x y))))
 
   arm_by_local : (o : Option Kind) → Local (arm_by inner names o)
   arm_by_local (Some kind.Question) = bind_local (expect kind.Question) _ (expect_local kind.Question) (λ _. arm_rest_local)
@@ -291,7 +297,7 @@ module _ (inner : Reader Expr) (names : Reader TypeName) (local : Local inner) (
   arm_local = choice_local (arm_by inner names) arm_by_local
 
   arm_by_eats : (o : Option Kind) → EatsSome (arm_by inner names o)
-  arm_by_eats (Some kind.Question) = eats_some (arm_by inner names (Some kind.Question)) (bind_eats (expect kind.Question) (λ _. λ k. and_then (sequence inner k) (λ x k1. and_then (expect kind.Colon k1) (λ _ k2. and_then (operand inner names 10 k2) (λ y. pure (Some (x, y)))))) (expect_eats kind.Question) (λ _. arm_rest_local))
+  arm_by_eats (Some kind.Question) = eats_some (arm_by inner names (Some kind.Question)) (bind_eats (expect kind.Question) (λ _. λ k. and_then (sequence inner k) (λ x k1. and_then (expect kind.Colon k1) (λ _ k2. and_then (operand inner names 10 k2) (λ y. pure (an_arm x y))))) (expect_eats kind.Question) (λ _. arm_rest_local))
   arm_by_eats _ = none_eats
 
   pub arm_eats : EatsSome (next_arm inner names)
@@ -313,9 +319,12 @@ module _ (inner : Reader Expr) (names : Reader TypeName) (local : Local inner) (
   unfolding target_step
   target_local = bind_local (prefix inner names) _ prefix_local target_rest_local
 
+  value_eats : (x : Expr) → EatsMore (target_by inner names x None)
+  value_eats x k y m e = bind_ok (conditional_from inner names x k) _ (steps.More y, m) e (λ z m' e1 e2. let v = ok_is (steps.Last None z) (steps.More y) m' m e2 in let h : steps.Last None z ≡ steps.More y = v.0 in absurd cc)
+
   target_by_eats : (x : Expr) (o : Option Assignment) → EatsMore (target_by inner names x o)
   target_by_eats x (Some op) = eats_more (target_by inner names x (Some op)) (bind_eats (expect (assignment_mark op)) (λ _. pure (steps.More (x, op))) (expect_eats (assignment_mark op)) (λ _. pure_local (steps.More (x, op))))
-  target_by_eats x None k y m e = bind_ok (conditional_from inner names x k) _ (steps.More y, m) e (λ z m' e1 e2. let v = ok_is (steps.Last None z) (steps.More y) m' m e2 in let h : steps.Last None z ≡ steps.More y = v.0 in absurd cc)
+  target_by_eats x None = value_eats x
 
   pub target_eats : EatsMore (target_step inner names)
   unfolding target_step

@@ -7,3 +7,4 @@ pub mod Viable
 pub mod Again
 pub mod TypeLaws
 pub mod ExpressionLocal
+pub mod ExpressionViable
