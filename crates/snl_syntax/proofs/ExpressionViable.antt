@@ -1,5 +1,5 @@
 -- What readers of expressions took is in the grammar, and where they fail, the tokens before can be completed.
-use Rattle.std.proofs.Common.{◌≡◌, ◌<◌, ◌≤◌, ℕ, zero, suc, eqb, Bool, true, false, cond, List, [], ◌∷◌, ◌++◌, length, Option, Some, None, Ok, Err, refl, sym, ap, subst, ◌∙◌, inl, inr, ◌⊎◌, arith}
+use Rattle.std.proofs.Common.{◌≡◌, ◌<◌, ◌≤◌, ℕ, zero, suc, eqb, Bool, true, false, cond, List, [], ◌∷◌, ◌++◌, length, Option, Some, None, Ok, Err, refl, sym, ap, subst, ◌∙◌, append_assoc, inl, inr, ◌⊎◌, arith}
 use Rattle.std.specs.Prelude.{option_to_list}
 use Rattle.std.proofs.lemmas.Bool.{eqb-true}
 use Rattle.std.proofs.lemmas.List.{append-nil}
@@ -23,10 +23,10 @@ use Rattle.snl_syntax.specs.Tokens.{Seat}
 use Rattle.snl_syntax.specs.Steps.{Reader, and_then, pure, refuse, kind_at, expect, word, many, until, within}
 use Rattle.snl_syntax.specs.Grammar.Base.{Each, First, Leaf, Within}
 use Rattle.snl_syntax.specs.Grammar.Types.{IsTypeName}
-use Rattle.snl_syntax.specs.Grammar.Expressions.{IsBehindComma, AreCommas, AreTexts, IsSequence, one, several, IsPrimary, name, integer, floating, character, texts as is_texts, group as is_group, sizeof_type as is_sizeof_type, AreArguments, IsSuffix, subscript as is_subscript, call as is_call, member as is_member, arrow, increment, decrement, IsPostfix, bare as bare_postfix, suffixed as is_suffixed, IsOperator, sign, sizeof as is_sizeof, cast as is_cast, NoSizeofCast, IsPrefix, bare as bare_prefix, prefixed as is_prefixed, IsLink, IsChain, alone, chain, IsTier, IsArm, IsConditional, IsTarget, IsSingle, IsAssignx, IsExpr}
+use Rattle.snl_syntax.specs.Grammar.Expressions.{IsBehindComma, AreCommas, AreTexts, IsSequence, one, several, IsPrimary, name, integer, floating, character, texts as is_texts, group as is_group, sizeof_type as is_sizeof_type, AreArguments, IsSuffix, subscript as is_subscript, call as is_call, member as is_member, arrow, increment, decrement, IsPostfix, bare as bare_postfix, suffixed as is_suffixed, IsOperator, sign, sizeof as is_size, cast as is_cast, is_sizeof, AreOperators, IsPrefix, bare as bare_prefix, prefixed as is_prefixed, IsLink, IsChain, alone, chain, IsTier, IsArm, IsConditional, IsTarget, IsSingle, IsAssignx, IsExpr}
 use Rattle.snl_syntax.specs.Reading.Types.{type_name, begins_type}
 use Rattle.snl_syntax.specs.Reading.Expressions.{comma_by, next_comma, commas, text_by, next_text, texts, leaf, text, atom_by, atom, suffixed, prefixed, chained, conditional, assigned, sequenced, in_tier, binary_in, assignment_in, link_by, next_link, signed, member, sequence, some_arguments, arguments_by, arguments, subscript, call, suffix_by, next_suffix, group, sizeof_type, cast, sized, sizeof_bracket, sizeof_by, sizeof, bracketed, bracket, plain, prefix_by, prefix_step, prefix, tiers_from, operand, arm_by, next_arm, conditional_from, target_by, target_step, single, type_within, assignx, expr}
-use Rattle.snl_syntax.proofs.Local.{chosen}
+use Rattle.snl_syntax.proofs.Local.{chosen, bind_ok, bind_err, ok_is}
 use Rattle.snl_syntax.proofs.Viable.{Free, Makes, Viable, Full, Exists, Both, both, Joint, Next, Lists, IsNothing, StepOf, Ends, Whole, seats, bind_viable, bind_full, into_full, lighter, choice_viable, refuse_viable, expect_full, pure_full, many_full, until_viable, level_full}
 use Rattle.snl_syntax.proofs.TypeLaws.{word_full, lists_each, none_next, first_then, type_name_full}
 
@@ -181,3 +181,127 @@ module _ (free extra : ℕ) (Inner : Expr → List Seat → List Seat → Type 0
 
   suffixes_full : Full free extra (many (next_suffix inner names) []) (Each (IsSuffix Inner)) []
   suffixes_full = into_full free extra (many (next_suffix inner names) []) (Lists (IsSuffix Inner) []) (Each (IsSuffix Inner)) [] (lists_each (IsSuffix Inner)) (many_full free extra (IsSuffix Inner) (next_suffix inner names) next_suffix_viable [])
+
+  -- ---- operands
+
+  into_leaf : (x : Kind) (make : ℕ → Expr) → ((n : ℕ) (k rest : List Seat) → Leaf x n k rest → IsPrimary Inner Names (make n) k rest) → (y : Expr) (k rest : List Seat) → Both (Leaf x) (λ n. IsNothing (make n)) y k rest → IsPrimary Inner Names y k rest
+  into_leaf x make is y k rest (both n m e h) = subst (λ z. IsPrimary Inner Names z k rest) h.0 (is n k rest (e ∙ ap (λ (l : List Seat). (x, n) ∷ l) h.1))
+
+  leaf_viable : (x : Kind) (make : ℕ → Expr) → ((n : ℕ) (k rest : List Seat) → Leaf x n k rest → IsPrimary Inner Names (make n) k rest) → Viable free extra (leaf x make) (IsPrimary Inner Names) (Exists (IsPrimary Inner Names))
+  unfolding leaf
+  leaf_viable x make is = (into_full free extra (leaf x make) _ (IsPrimary Inner Names) (x ∷ []) (into_leaf x make is) (bind_full free extra (expect x) _ (Leaf x) (λ n. IsNothing (make n)) (x ∷ []) [] (expect_full free extra x) (λ n. pure_full free extra (make n)))).viable
+
+  into_text : (y : Expr) (k rest : List Seat) → Both AreTexts (λ ns. IsNothing (tree.Text ns)) y k rest → IsPrimary Inner Names y k rest
+  into_text y k rest (both ns m e h) = subst (λ z. IsPrimary Inner Names z k rest) h.0 (is_texts ns refl (subst (λ l. AreTexts ns k l) h.1 e))
+
+  text_viable : Viable free extra text (IsPrimary Inner Names) (Exists (IsPrimary Inner Names))
+  unfolding text
+  text_viable = (into_full free extra text _ (IsPrimary Inner Names) (kind.Text ∷ []) into_text (bind_full free extra texts _ AreTexts (λ ns. IsNothing (tree.Text ns)) (kind.Text ∷ []) [] (texts_full free extra) (λ ns. pure_full free extra (tree.Text ns)))).viable
+
+  atom_makes : Makes free extra (Exists (IsPrimary Inner Names)) Int
+  atom_makes n rest room = (tree.Integer n, integer n refl refl)
+
+  atom_by_viable : (o : Option Kind) → Viable free extra (atom_by o) (IsPrimary Inner Names) (Exists (IsPrimary Inner Names))
+  unfolding atom_by
+  atom_by_viable (Some kind.Name) = leaf_viable kind.Name tree.Name (λ n k rest e. name n refl e)
+  atom_by_viable (Some kind.Integer) = leaf_viable kind.Integer tree.Integer (λ n k rest e. integer n refl e)
+  atom_by_viable (Some kind.Floating) = leaf_viable kind.Floating tree.Floating (λ n k rest e. floating n refl e)
+  atom_by_viable (Some kind.Character) = leaf_viable kind.Character tree.Character (λ n k rest e. character n refl e)
+  atom_by_viable (Some kind.Text) = text_viable
+  atom_by_viable _ = refuse_viable free extra (IsPrimary Inner Names) (Exists (IsPrimary Inner Names)) Int atom_makes
+
+  atom_full : Full free extra atom (IsPrimary Inner Names) Int
+  unfolding atom
+  atom_full = record { viable = choice_viable free extra atom_by (IsPrimary Inner Names) (Exists (IsPrimary Inner Names)) atom_by_viable; makes = atom_makes }
+
+  -- an operand, or `sizeof` and an operand in brackets
+  abbrev Operand : Option Prefix → Expr → List Seat → List Seat → Type 0
+  Operand None y k rest = IsPrimary Inner Names y k rest
+  Operand (Some op) y k rest = (mid : List Seat) × (op ≡ prefixes.Sizeof) × First kind.Sizeof k mid × IsPrimary Inner Names y mid rest
+
+  -- one step, behind `sizeof` or not
+  abbrev IsStep : Bool → Step Prefix Expr → List Seat → List Seat → Type 0
+  IsStep b (steps.More op) k rest = IsOperator Names b op k rest
+  IsStep b (steps.Last o y) k rest = Operand o y k rest
+
+  -- operators and the operand that ends them
+  abbrev Operation : Bool → List Seat → List Seat → Type 0
+  Operation b k rest = (xs : List Prefix) × (o : Option Prefix) × (y : Expr) × (mid : List Seat) × AreOperators Names b xs k mid × Operand o y mid rest
+
+  last_step : (b : Bool) (k rest : List Seat) → Exists (IsPrimary Inner Names) k rest → Operation b k rest
+  last_step b k rest h = ([], None, h.0, k, refl, h.1)
+
+  step_makes : (b : Bool) → Makes free extra (Operation b) Int
+  step_makes b n rest room = last_step b (seats n Int ++ rest) rest (atom_makes n rest room)
+
+  into_plain : (b : Bool) (y : Step Prefix Expr) (k rest : List Seat) → Both (IsPrimary Inner Names) (λ x. IsNothing (steps.Last None x)) y k rest → IsStep b y k rest
+  into_plain b y k rest (both x m e h) = subst (λ z. IsStep b z k rest) h.0 (subst (λ l. IsPrimary Inner Names x k l) h.1 e)
+
+  aim_plain : (b : Bool) (y : Step Prefix Expr) (k rest : List Seat) → Both (IsPrimary Inner Names) (λ x. IsNothing (steps.Last None x)) y k rest → Operation b k rest
+  aim_plain b y k rest (both x m e h) = last_step b k rest (x, subst (λ l. IsPrimary Inner Names x k l) h.1 e)
+
+  plain_viable : (b : Bool) → Viable free extra (plain inner names) (IsStep b) (Operation b)
+  unfolding plain
+  plain_viable b = lighter free extra (plain inner names) _ (IsStep b) _ (Operation b) (into_plain b) (λ k rest h. aim_plain b h.0 k rest h.1) (bind_full free extra atom _ (IsPrimary Inner Names) (λ x. IsNothing (steps.Last None x)) Int [] atom_full (λ x. pure_full free extra (steps.Last None x))).viable
+
+  -- an operator, and the shortest operand behind it
+  into_signed : (b : Bool) (op : Sign) (y : Step Prefix Expr) (k rest : List Seat) → Both (Leaf (sign_mark op)) (λ _. IsNothing (steps.More (prefixes.Sign op))) y k rest → IsStep b y k rest
+  into_signed b op y k rest (both n m e h) = subst (λ z. IsStep b z k rest) h.0 (sign op refl (first_then (sign_mark op) n k m rest e h.1))
+
+  -- it is never stuck
+  pure_never : {A : Type 0} (x : A) (G : List Seat → List Seat → Type 0) → Viable free extra (pure x) (IsNothing x) G
+  pure_never x G = record { takes = (pure_full free extra x).viable.takes; stuck = λ k j e. absurd cc }
+
+  aim_signed : (b : Bool) (op : Sign) (k rest : List Seat) → Joint (Leaf (sign_mark op)) (λ _. Operation false) k rest → Operation b k rest
+  aim_signed b op k rest h = (prefixes.Sign op ∷ h.3.0, h.3.1, h.3.2, h.3.3, (h.1, sign op refl (h.0, h.2), h.3.4), h.3.5)
+
+  signed_viable : (b : Bool) (op : Sign) → Viable free extra (signed op) (IsStep b) (Operation b)
+  unfolding signed
+  signed_viable b op = lighter free extra (signed op) _ (IsStep b) _ (Operation b) (into_signed b op) (aim_signed b op) (bind_viable free extra (expect (sign_mark op)) (λ _. pure (steps.More (prefixes.Sign op))) (Leaf (sign_mark op)) (λ _. IsNothing (steps.More (prefixes.Sign op))) (λ _. Operation false) Int (expect_full free extra (sign_mark op)).viable (λ _. pure_never (steps.More (prefixes.Sign op)) (Operation false)) (λ _. step_makes false))
+
+  -- behind "("
+  abbrev Grouped : Option Prefix → Step Prefix Expr → List Seat → List Seat → Type 0
+  Grouped before s k rest = (x : Expr) × (mid : List Seat) × (s ≡ steps.Last before (tree.Group x)) × IsSequence Inner x k mid × First kind.CloseParen mid rest
+
+  into_group : (before : Option Prefix) (s : Step Prefix Expr) (k rest : List Seat) → Both (IsSequence Inner) (λ x. Both (Leaf kind.CloseParen) (λ _. IsNothing (steps.Last before (tree.Group x)))) s k rest → Grouped before s k rest
+  into_group before s k rest (both x m e (both n m2 f h)) = (x, m, sym h.0, e, first_then kind.CloseParen n m m2 rest f h.1)
+
+  group_full : (before : Option Prefix) → Full free extra (group inner names before) (Grouped before) (kind.Integer ∷ kind.CloseParen ∷ [])
+  unfolding group
+  group_full before = into_full free extra (group inner names before) _ (Grouped before) (kind.Integer ∷ kind.CloseParen ∷ []) (into_group before) (bind_full free extra (sequence inner) _ (IsSequence Inner) (λ x. Both (Leaf kind.CloseParen) (λ _. IsNothing (steps.Last before (tree.Group x)))) Int (kind.CloseParen ∷ []) sequence_full (λ x. bind_full free extra (expect kind.CloseParen) _ (Leaf kind.CloseParen) (λ _. IsNothing (steps.Last before (tree.Group x))) (kind.CloseParen ∷ []) [] (expect_full free extra kind.CloseParen) (λ _. pure_full free extra (steps.Last before (tree.Group x)))))
+
+  abbrev Cast : Step Prefix Expr → List Seat → List Seat → Type 0
+  Cast s k rest = (x : TypeName) × (mid : List Seat) × (s ≡ steps.More (prefixes.Cast x)) × Names x k mid × First kind.CloseParen mid rest
+
+  into_cast : (s : Step Prefix Expr) (k rest : List Seat) → Both Names (λ x. Both (Leaf kind.CloseParen) (λ _. IsNothing (steps.More (prefixes.Cast x)))) s k rest → Cast s k rest
+  into_cast s k rest (both x m e (both n m2 f h)) = (x, m, sym h.0, e, first_then kind.CloseParen n m m2 rest f h.1)
+
+  cast_full : Full free extra (cast inner names) Cast (kind.Int ∷ kind.CloseParen ∷ [])
+  unfolding cast
+  cast_full = into_full free extra (cast inner names) _ Cast (kind.Int ∷ kind.CloseParen ∷ []) into_cast (bind_full free extra names _ Names (λ x. Both (Leaf kind.CloseParen) (λ _. IsNothing (steps.More (prefixes.Cast x)))) (kind.Int ∷ []) (kind.CloseParen ∷ []) fn (λ x. bind_full free extra (expect kind.CloseParen) _ (Leaf kind.CloseParen) (λ _. IsNothing (steps.More (prefixes.Cast x))) (kind.CloseParen ∷ []) [] (expect_full free extra kind.CloseParen) (λ _. pure_full free extra (steps.More (prefixes.Cast x)))))
+
+  abbrev Sized : Step Prefix Expr → List Seat → List Seat → Type 0
+  Sized s k rest = (x : TypeName) × (mid : List Seat) × (s ≡ steps.Last None (tree.SizeofType x)) × Names x k mid × First kind.CloseParen mid rest
+
+  into_sized : (s : Step Prefix Expr) (k rest : List Seat) → Both Names (λ x. Both (Leaf kind.CloseParen) (λ _. IsNothing (steps.Last None (tree.SizeofType x)))) s k rest → Sized s k rest
+  into_sized s k rest (both x m e (both n m2 f h)) = (x, m, sym h.0, e, first_then kind.CloseParen n m m2 rest f h.1)
+
+  sized_full : Full free extra (sizeof_type inner names) Sized (kind.Int ∷ kind.CloseParen ∷ [])
+  unfolding sizeof_type
+  sized_full = into_full free extra (sizeof_type inner names) _ Sized (kind.Int ∷ kind.CloseParen ∷ []) into_sized (bind_full free extra names _ Names (λ x. Both (Leaf kind.CloseParen) (λ _. IsNothing (steps.Last None (tree.SizeofType x)))) (kind.Int ∷ []) (kind.CloseParen ∷ []) fn (λ x. bind_full free extra (expect kind.CloseParen) _ (Leaf kind.CloseParen) (λ _. IsNothing (steps.Last None (tree.SizeofType x))) (kind.CloseParen ∷ []) [] (expect_full free extra kind.CloseParen) (λ _. pure_full free extra (steps.Last None (tree.SizeofType x)))))
+
+  -- what stands behind "(", with the bracket before
+  abbrev InBracket : Step Prefix Expr → List Seat → List Seat → Type 0
+  InBracket s k rest = (n : ℕ) → IsStep false s ((kind.OpenParen, n) ∷ k) rest
+
+  abbrev BracketAim : List Seat → List Seat → Type 0
+  BracketAim k rest = (n : ℕ) → Operation false ((kind.OpenParen, n) ∷ k) rest
+
+  group_step : (s : Step Prefix Expr) (k rest : List Seat) → Grouped None s k rest → InBracket s k rest
+  group_step s k rest h n = subst (λ z. IsStep false z ((kind.OpenParen, n) ∷ k) rest) (sym h.2) (is_group h.0 k h.1 refl (n, refl) h.3 h.4)
+
+  group_aim : (k rest : List Seat) → Exists (Grouped None) k rest → BracketAim k rest
+  group_aim k rest h n = last_step false ((kind.OpenParen, n) ∷ k) rest (tree.Group h.1.0, is_group h.1.0 k h.1.1 refl (n, refl) h.1.3 h.1.4)
+
+  cast_step : (s : Step Prefix Expr) (k rest : List Seat) → Cast s k rest → InBracket s k rest
+  cast_step s k rest h n = subst (λ z. IsStep false z ((kind.OpenParen, n) ∷ k) rest) (sym h.2) (is_cast h.0 k h.1 refl refl (n, refl) h.3 h.4)

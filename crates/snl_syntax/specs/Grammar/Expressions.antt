@@ -1,5 +1,5 @@
 -- Expressions, from the tightest level to the loosest. Inner says what an expression without commas is one level deeper, and Names what the name of a type is there.
-use Rattle.std.specs.Prelude.{◌≡◌, ℕ, zero, suc, ◌<◌, List, [], ◌∷◌, length}
+use Rattle.std.specs.Prelude.{◌≡◌, Bool, true, false, ℕ, zero, suc, ◌<◌, List, [], ◌∷◌, length}
 use Rattle.snl_syntax.specs.declared.kind.Kind.{Kind}
 use Rattle.snl_syntax.specs.declared.kind.Kind.TheVariants as kind
 use Rattle.snl_syntax.specs.declared.operator.Binary.{Binary}
@@ -69,23 +69,24 @@ pub data IsPostfix (Inner : Expr → List Seat → List Seat → Type 0) (Names 
   bare : IsPrimary Inner Names t k rest → IsPostfix Inner Names t k rest
   suffixed : (x : Expr) (s : Suffix) (ss : List Suffix) (mid : List Seat) → t ≡ tree.Postfix x (s ∷ ss) → IsPrimary Inner Names x k mid → Each (IsSuffix Inner) (s ∷ ss) mid rest → IsPostfix Inner Names t k rest
 
--- an operator before an operand; the cast is "(" type stars ")"
-pub data IsOperator (Names : TypeName → List Seat → List Seat → Type 0) (t : Prefix) (k rest : List Seat) : Type 0 where
-  sign : (op : Sign) → t ≡ prefixes.Sign op → First (sign_mark op) k rest → IsOperator Names t k rest
-  sizeof : t ≡ prefixes.Sizeof → First kind.Sizeof k rest → IsOperator Names t k rest
-  cast : (x : TypeName) (m1 m2 : List Seat) → t ≡ prefixes.Cast x → First kind.OpenParen k m1 → Names x m1 m2 → First kind.CloseParen m2 rest → IsOperator Names t k rest
+-- An operator before an operand; the cast is "(" type stars ")". The flag says that `sizeof` stands directly before it: then it is no cast.
+pub data IsOperator (Names : TypeName → List Seat → List Seat → Type 0) (behind : Bool) (t : Prefix) (k rest : List Seat) : Type 0 where
+  sign : (op : Sign) → t ≡ prefixes.Sign op → First (sign_mark op) k rest → IsOperator Names behind t k rest
+  sizeof : t ≡ prefixes.Sizeof → First kind.Sizeof k rest → IsOperator Names behind t k rest
+  cast : (x : TypeName) (m1 m2 : List Seat) → behind ≡ false → t ≡ prefixes.Cast x → First kind.OpenParen k m1 → Names x m1 m2 → First kind.CloseParen m2 rest → IsOperator Names behind t k rest
 
--- `sizeof` isn't directly followed by a cast
-abbrev pub NoSizeofCast : List Prefix → Type 0
-NoSizeofCast [] = Unit {0}
-NoSizeofCast (prefixes.Sizeof ∷ []) = Unit {0}
-NoSizeofCast (prefixes.Sizeof ∷ prefixes.Cast x ∷ ops) = ⊥
-NoSizeofCast (op ∷ ops) = NoSizeofCast ops
+abbrev pub is_sizeof : Prefix → Bool
+is_sizeof prefixes.Sizeof = true
+is_sizeof _ = false
+
+abbrev pub AreOperators : (TypeName → List Seat → List Seat → Type 0) → Bool → List Prefix → List Seat → List Seat → Type 0
+AreOperators Names behind [] k rest = k ≡ rest
+AreOperators Names behind (op ∷ ops) k rest = (mid : List Seat) × IsOperator Names behind op k mid × AreOperators Names (is_sizeof op) ops mid rest
 
 -- prefix = { pre } postfix
 pub data IsPrefix (Inner : Expr → List Seat → List Seat → Type 0) (Names : TypeName → List Seat → List Seat → Type 0) (t : Expr) (k rest : List Seat) : Type 0 where
   bare : IsPostfix Inner Names t k rest → IsPrefix Inner Names t k rest
-  prefixed : (op : Prefix) (ops : List Prefix) (x : Expr) (mid : List Seat) → t ≡ tree.Prefixed (op ∷ ops) x → NoSizeofCast (op ∷ ops) → Each (IsOperator Names) (op ∷ ops) k mid → IsPostfix Inner Names x mid rest → IsPrefix Inner Names t k rest
+  prefixed : (op : Prefix) (ops : List Prefix) (x : Expr) (mid : List Seat) → t ≡ tree.Prefixed (op ∷ ops) x → AreOperators Names false (op ∷ ops) k mid → IsPostfix Inner Names x mid rest → IsPrefix Inner Names t k rest
 
 -- an operator of this tier, and an operand
 pub record IsLink (n : ℕ) (Operand : Expr → List Seat → List Seat → Type 0) (link : Binary × Expr) (k rest : List Seat) : Type 0 where
