@@ -23,7 +23,7 @@ use Rattle.snl_syntax.specs.Tokens.{Seat}
 use Rattle.snl_syntax.specs.Steps.{Outcome, Reader, until_within, again_or, and_then, pure, refuse, kind_at, expect, word, many, until, within}
 use Rattle.snl_syntax.specs.Grammar.Base.{Each, First, Leaf, Within}
 use Rattle.snl_syntax.specs.Grammar.Types.{IsTypeName}
-use Rattle.snl_syntax.specs.Grammar.Expressions.{IsBehindComma, AreCommas, AreTexts, IsSequence, one, several, IsPrimary, name, integer, floating, character, texts as is_texts, group as is_group, sizeof_type as is_sizeof_type, AreArguments, IsSuffix, subscript as is_subscript, call as is_call, member as is_member, arrow, increment, decrement, IsPostfix, bare as bare_postfix, suffixed as is_suffixed, IsOperator, sign, sizeof as is_size, cast as is_cast, is_sizeof, AreOperators, IsPrefix, bare as bare_prefix, prefixed as is_prefixed, IsLink, IsChain, alone, chain, IsTier, IsArm, IsConditional, IsTarget, IsSingle, IsAssignx, IsExpr}
+use Rattle.snl_syntax.specs.Grammar.Expressions.{IsBehindComma, AreCommas, AreTexts, IsSequence, one, several, IsPrimary, name, integer, floating, character, texts as is_texts, group as is_group, sizeof_type as is_sizeof_type, AreArguments, IsSuffix, subscript as is_subscript, call as is_call, member as is_member, arrow, increment, decrement, IsPostfix, bare as bare_postfix, suffixed as is_suffixed, IsOperator, sign, sizeof as is_size, cast as is_cast, is_sizeof, AreOperators, IsPrefix, bare as bare_prefix, prefixed as is_prefixed, IsLink, IsChain, alone, chain, IsTier, IsArm, IsConditional, alone as lone, choice, IsTarget, IsSingle, value, assignment, IsAssignx, IsExpr}
 use Rattle.snl_syntax.specs.Reading.Types.{type_name, begins_type}
 use Rattle.snl_syntax.specs.Reading.Expressions.{comma_by, next_comma, commas, text_by, next_text, texts, leaf, text, atom_by, atom, suffixed, prefixed, chained, conditional, assigned, sequenced, in_tier, binary_in, assignment_in, link_by, next_link, signed, member, sequence, some_arguments, arguments_by, arguments, subscript, call, suffix_by, next_suffix, group, sizeof_type, cast, sized, sizeof_bracket, sizeof_by, sizeof, bracketed, bracket, plain, prefix_by, prefix_step, prefix, tiers_from, operand, arm_by, next_arm, conditional_from, target_by, target_step, single, type_within, assignx, expr}
 use Rattle.snl_syntax.proofs.Local.{chosen, bind_ok, bind_err, ok_is, err_is}
@@ -628,3 +628,195 @@ module _ (free extra : ℕ) (Inner : Expr → List Seat → List Seat → Type 0
   pub prefix_full : Full free extra (prefix inner names) (IsPrefix Inner Names) Int
   unfolding prefix
   prefix_full = into_full free extra (prefix inner names) _ (IsPrefix Inner Names) Int into_prefix (bind_full free extra (until (prefix_step inner names) []) _ Operators (λ r. Both (Each (IsSuffix Inner)) (λ ss. IsNothing (prefixed r.0 (suffixed r.1 ss)))) Int [] operators_full (λ r. bind_full free extra (many (next_suffix inner names) []) _ (Each (IsSuffix Inner)) (λ ss. IsNothing (prefixed r.0 (suffixed r.1 ss))) [] [] suffixes_full (λ ss. pure_full free extra (prefixed r.0 (suffixed r.1 ss)))))
+
+  -- ---- tiers of binary operators
+
+  -- a prefix expression that the tiers up to n go on from
+  abbrev Continues : ℕ → Expr → Expr → List Seat → List Seat → Type 0
+  Continues n x t k rest = (m : List Seat) → IsPrefix Inner Names x m k → IsTier Inner Names n t m rest
+
+  make_chain : (n : ℕ) (x : Expr) (links : List (Binary × Expr)) (k m rest : List Seat) → IsTier Inner Names n x k m → Each (IsLink (suc n) (IsTier Inner Names n)) links m rest → IsTier Inner Names (suc n) (chained x links) k rest
+  make_chain n x [] k m rest r e = alone (subst (λ l. IsTier Inner Names n x k l) e r)
+  make_chain n x (link ∷ links) k m rest r e = chain x link links m refl r e
+
+  into_tier : (n : ℕ) (x : Expr) (y : Expr) (k rest : List Seat) → Both (Continues n x) (λ first. Both (Each (IsLink (suc n) (IsTier Inner Names n))) (λ links. IsNothing (chained first links))) y k rest → Continues (suc n) x y k rest
+  into_tier n x y k rest (both first m c (both links m2 e h)) front p = subst (λ z. IsTier Inner Names (suc n) z front rest) h.0 (make_chain n first links front m rest (c front p) (subst (λ l. Each (IsLink (suc n) (IsTier Inner Names n)) links m l) h.1 e))
+
+  into_operand : (n : ℕ) (y : Expr) (k rest : List Seat) → Both (IsPrefix Inner Names) (Continues n) y k rest → IsTier Inner Names n y k rest
+  into_operand n y k rest (both x m p c) = c k p
+
+  into_zero : (x y : Expr) (k rest : List Seat) → IsNothing x y k rest → Continues 0 x y k rest
+  into_zero x y k rest h front p = subst (λ z. IsPrefix Inner Names z front rest) h.0 (subst (λ l. IsPrefix Inner Names x front l) h.1 p)
+
+  operand_of : (n : ℕ) → ((x : Expr) → Full free extra (tiers_from inner names n x) (Continues n x) []) → Full free extra (operand inner names n) (IsTier Inner Names n) Int
+  operand_of n f = into_full free extra (operand inner names n) _ (IsTier Inner Names n) Int (into_operand n) (bind_full free extra (prefix inner names) (tiers_from inner names n) (IsPrefix Inner Names) (Continues n) Int [] prefix_full f)
+
+  pub tiers_full : (n : ℕ) (x : Expr) → Full free extra (tiers_from inner names n x) (Continues n x) []
+  unfolding tiers_from
+  tiers_full zero x = into_full free extra (tiers_from inner names zero x) (IsNothing x) (Continues 0 x) [] (into_zero x) (pure_full free extra x)
+  tiers_full (suc n) x =
+      into_full free extra (tiers_from inner names (suc n) x) _ (Continues (suc n) x) [] (into_tier n x)
+      (bind_full free extra (tiers_from inner names n x) _ (Continues n x) (λ first. Both (Each (IsLink (suc n) (IsTier Inner Names n))) (λ links. IsNothing (chained first links))) [] [] (tiers_full n x) (λ first.
+       bind_full free extra (many (next_link (suc n) (operand inner names n)) []) _ (Each (IsLink (suc n) (IsTier Inner Names n))) (λ links. IsNothing (chained first links)) [] [] (links_full free extra (suc n) (IsTier Inner Names n) (operand inner names n) (operand_of n (tiers_full n))) (λ links. pure_full free extra (chained first links))))
+
+  pub operand_full : (n : ℕ) → Full free extra (operand inner names n) (IsTier Inner Names n) Int
+  operand_full n = operand_of n (tiers_full n)
+
+  -- ---- conditions
+
+  abbrev Arm : (Expr × Expr) → List Seat → List Seat → Type 0
+  Arm arm k rest = IsArm Inner (IsTier Inner Names 10) arm k rest
+
+  abbrev some_arm : Expr → Expr → Option (Expr × Expr)
+  some_arm x y = Some (x, y)
+
+  into_arm : (y : Option (Expr × Expr)) (k rest : List Seat) → Both (Leaf kind.Question) (λ _. Both (IsSequence Inner) (λ a. Both (Leaf kind.Colon) (λ _. Both (IsTier Inner Names 10) (λ b. IsNothing (some_arm a b))))) y k rest → Next Arm y k rest
+  into_arm y k rest (both n m1 e1 (both a m2 e2 (both i m3 e3 (both b m4 e4 h)))) =
+      subst (λ z. Next Arm z k rest) h.0 (record { m1 = m1; m2 = m2; m3 = m3; question = (n, e1); middle = e2; colon = (i, e3); operand = subst (λ l. IsTier Inner Names 10 b m3 l) h.1 e4 })
+
+  arm_by_viable : (o : Option Kind) → Viable free extra (arm_by inner names o) (Next Arm) (Exists (Next Arm))
+  arm_by_viable (Some kind.Question) = (into_full free extra (arm_by inner names (Some kind.Question)) _ (Next Arm) (kind.Question ∷ kind.Integer ∷ kind.Colon ∷ kind.Integer ∷ []) into_arm
+      (bind_full free extra (expect kind.Question) _ (Leaf kind.Question) (λ _. Both (IsSequence Inner) (λ a. Both (Leaf kind.Colon) (λ _. Both (IsTier Inner Names 10) (λ b. IsNothing (some_arm a b))))) (kind.Question ∷ []) (kind.Integer ∷ kind.Colon ∷ kind.Integer ∷ []) (expect_full free extra kind.Question) (λ _.
+       bind_full free extra (sequence inner) _ (IsSequence Inner) (λ a. Both (Leaf kind.Colon) (λ _. Both (IsTier Inner Names 10) (λ b. IsNothing (some_arm a b)))) Int (kind.Colon ∷ kind.Integer ∷ []) sequence_full (λ a.
+       bind_full free extra (expect kind.Colon) _ (Leaf kind.Colon) (λ _. Both (IsTier Inner Names 10) (λ b. IsNothing (some_arm a b))) (kind.Colon ∷ []) Int (expect_full free extra kind.Colon) (λ _.
+       bind_full free extra (operand inner names 10) _ (IsTier Inner Names 10) (λ b. IsNothing (some_arm a b)) Int [] (operand_full 10) (λ b. pure_full free extra (some_arm a b))))))).viable
+  arm_by_viable _ = (into_full free extra (pure None) (IsNothing None) (Next Arm) [] (none_next Arm) (pure_full free extra None)).viable
+
+  next_arm_viable : Viable free extra (next_arm inner names) (Next Arm) (Exists (Next Arm))
+  unfolding next_arm
+  next_arm_viable = choice_viable free extra (arm_by inner names) (Next Arm) (Exists (Next Arm)) arm_by_viable
+
+  arms_full : Full free extra (many (next_arm inner names) []) (Each Arm) []
+  arms_full = into_full free extra (many (next_arm inner names) []) (Lists Arm []) (Each Arm) [] (lists_each Arm) (many_full free extra Arm (next_arm inner names) next_arm_viable [])
+
+  abbrev Conditional : Expr → Expr → List Seat → List Seat → Type 0
+  Conditional x t k rest = (m : List Seat) → IsPrefix Inner Names x m k → IsConditional Inner Names t m rest
+
+  make_conditional : (x : Expr) (arms : List (Expr × Expr)) (k m rest : List Seat) → IsTier Inner Names 10 x k m → Each Arm arms m rest → IsConditional Inner Names (conditional x arms) k rest
+  make_conditional x [] k m rest r e = lone (subst (λ l. IsTier Inner Names 10 x k l) e r)
+  make_conditional x (arm ∷ arms) k m rest r e = choice x arm arms m refl r e
+
+  into_conditional : (x y : Expr) (k rest : List Seat) → Both (Continues 10 x) (λ first. Both (Each Arm) (λ arms. IsNothing (conditional first arms))) y k rest → Conditional x y k rest
+  into_conditional x y k rest (both first m c (both arms m2 e h)) front p = subst (λ z. IsConditional Inner Names z front rest) h.0 (make_conditional first arms front m rest (c front p) (subst (λ l. Each Arm arms m l) h.1 e))
+
+  conditional_full : (x : Expr) → Full free extra (conditional_from inner names x) (Conditional x) []
+  unfolding conditional_from
+  conditional_full x = into_full free extra (conditional_from inner names x) _ (Conditional x) [] (into_conditional x)
+      (bind_full free extra (tiers_from inner names 10 x) _ (Continues 10 x) (λ first. Both (Each Arm) (λ arms. IsNothing (conditional first arms))) [] [] (tiers_full 10 x) (λ first.
+       bind_full free extra (many (next_arm inner names) []) _ (Each Arm) (λ arms. IsNothing (conditional first arms)) [] [] arms_full (λ arms. pure_full free extra (conditional first arms))))
+
+  -- ---- assignments
+
+  abbrev Target : (Expr × Assignment) → List Seat → List Seat → Type 0
+  Target target k rest = IsTarget Inner Names target k rest
+
+  abbrev Value : Option (Expr × Assignment) → Expr → List Seat → List Seat → Type 0
+  Value o y k rest = (o ≡ None) × IsConditional Inner Names y k rest
+
+  -- what stands behind a prefix expression
+  abbrev Behind : Expr → Step (Expr × Assignment) Expr → List Seat → List Seat → Type 0
+  Behind x s k rest = (m : List Seat) → IsPrefix Inner Names x m k → StepOf Target Value s m rest
+
+  abbrev BehindWhole : Expr → List Seat → List Seat → Type 0
+  BehindWhole x k rest = (m : List Seat) → IsPrefix Inner Names x m k → Whole Target Value m rest
+
+  abbrev a_target : Expr → Assignment → Step (Expr × Assignment) Expr
+  a_target x op = steps.More (x, op)
+
+  abbrev a_value : Expr → Step (Expr × Assignment) Expr
+  a_value y = steps.Last None y
+
+  value_whole : (x y : Expr) (k rest : List Seat) → Conditional x y k rest → BehindWhole x k rest
+  value_whole x y k rest c m p = ([], None, y, m, refl, (refl, c m p))
+
+  behind_whole_makes : (x : Expr) → Makes free extra (BehindWhole x) []
+  behind_whole_makes x n rest room = let t = (conditional_full x).makes n rest room in value_whole x t.0 rest rest t.1
+
+  into_target : (x : Expr) (op : Assignment) (s : Step (Expr × Assignment) Expr) (k rest : List Seat) → Both (Leaf (assignment_mark op)) (λ _. IsNothing (a_target x op)) s k rest → Behind x s k rest
+  into_target x op s k rest (both n m e h) front p = subst (λ z. StepOf Target Value z front rest) h.0 (record { mid = k; operand = p; operator = first_then (assignment_mark op) n k m rest e h.1 })
+
+  -- the shortest value
+  whole_makes : Makes free extra (Whole Target Value) Int
+  whole_makes n rest room = let p = prefix_full.makes n rest room in behind_whole_makes p.0 (suc n) rest (free_behind free extra ((kind.Integer, n) ∷ []) rest room) (seats n Int ++ rest) p.1
+
+  target_aim : (x : Expr) (op : Assignment) (k rest : List Seat) → Joint (Leaf (assignment_mark op)) (λ _. Whole Target Value) k rest → BehindWhole x k rest
+  target_aim x op k rest h front p = let w = h.3 in ((x, op) ∷ w.0, w.1, w.2, w.3, (h.1, record { mid = k; operand = p; operator = (h.0, h.2) }, w.4), w.5)
+
+  target_viable : (x : Expr) (op : Assignment) → Viable free extra (target_by inner names x (Some op)) (Behind x) (BehindWhole x)
+  target_viable x op = lighter free extra (target_by inner names x (Some op)) _ (Behind x) _ (BehindWhole x) (into_target x op) (target_aim x op) (bind_viable free extra (expect (assignment_mark op)) (λ _. pure (a_target x op)) (Leaf (assignment_mark op)) (λ _. IsNothing (a_target x op)) (λ _. Whole Target Value) Int (expect_full free extra (assignment_mark op)).viable (λ _. pure_never (a_target x op) (Whole Target Value)) (λ _. whole_makes))
+
+  into_value : (x : Expr) (s : Step (Expr × Assignment) Expr) (k rest : List Seat) → Both (Conditional x) (λ y. IsNothing (a_value y)) s k rest → Behind x s k rest
+  into_value x s k rest (both y m c h) front p = subst (λ z. StepOf Target Value z front rest) h.0 (refl, subst (λ l. IsConditional Inner Names y front l) h.1 (c front p))
+
+  value_aim : (x : Expr) (s : Step (Expr × Assignment) Expr) (k rest : List Seat) → Both (Conditional x) (λ y. IsNothing (a_value y)) s k rest → BehindWhole x k rest
+  value_aim x s k rest (both y m c h) = value_whole x y k rest (λ front p. subst (λ l. IsConditional Inner Names y front l) h.1 (c front p))
+
+  value_viable : (x : Expr) → Viable free extra (target_by inner names x None) (Behind x) (BehindWhole x)
+  value_viable x = lighter free extra (target_by inner names x None) _ (Behind x) _ (BehindWhole x) (into_value x) (λ k rest h. value_aim x h.0 k rest h.1) (bind_full free extra (conditional_from inner names x) _ (Conditional x) (λ y. IsNothing (a_value y)) [] [] (conditional_full x) (λ y. pure_full free extra (a_value y))).viable
+
+  target_by_viable : (x : Expr) (o : Option Assignment) → Viable free extra (target_by inner names x o) (Behind x) (BehindWhole x)
+  target_by_viable x None = value_viable x
+  target_by_viable x (Some op) = target_viable x op
+
+  into_target_step : (s : Step (Expr × Assignment) Expr) (k rest : List Seat) → Both (IsPrefix Inner Names) Behind s k rest → StepOf Target Value s k rest
+  into_target_step s k rest (both x m p c) = c k p
+
+  target_step_viable : Viable free extra (target_step inner names) (StepOf Target Value) (Whole Target Value)
+  unfolding target_step
+  target_step_viable = lighter free extra (target_step inner names) (Both (IsPrefix Inner Names) Behind) (StepOf Target Value) (Joint (IsPrefix Inner Names) BehindWhole) (Whole Target Value) into_target_step (λ k rest h. h.3 k h.2) (bind_viable free extra (prefix inner names) _ (IsPrefix Inner Names) Behind BehindWhole [] prefix_full.viable (λ x. choice_viable free extra (λ o. target_by inner names x (assignment_in o)) (Behind x) (BehindWhole x) (λ o. target_by_viable x (assignment_in o))) behind_whole_makes)
+
+  make_single : (targets : List (Expr × Assignment)) (x : Expr) (k mid rest : List Seat) → Each Target targets k mid → IsConditional Inner Names x mid rest → IsSingle Inner Names (assigned targets x) k rest
+  make_single [] x k mid rest e c = value (subst (λ l. IsConditional Inner Names x l rest) (sym e) c)
+  make_single (target ∷ targets) x k mid rest e c = assignment target targets x mid refl e c
+
+  abbrev Targets : List (Expr × Assignment) × Expr → List Seat → List Seat → Type 0
+  Targets r k rest = IsSingle Inner Names (assigned r.0 r.1) k rest
+
+  with_value : (xs : List (Expr × Assignment)) (o : Option (Expr × Assignment)) (y : Expr) (k mid rest : List Seat) → Each Target xs k mid → Value o y mid rest → Targets (xs ++ option_to_list o, y) k rest
+  with_value xs o y k mid rest e h = subst (λ p. Targets (xs ++ option_to_list p, y) k rest) (sym h.0) (subst (λ l. Targets (l, y) k rest) (sym (append-nil xs)) (make_single xs y k mid rest e h.1))
+
+  into_targets : (r : List (Expr × Assignment) × Expr) (k rest : List Seat) → Ends Target Value [] r k rest → Targets r k rest
+  into_targets r k rest h = subst (λ l. Targets (l, r.1) k rest) (sym h.3) (with_value h.0 h.1 r.1 k h.2 rest h.4 h.5)
+
+  aim_targets : (k rest : List Seat) → Whole Target Value k rest → Exists Targets k rest
+  aim_targets k rest h = ((h.0 ++ option_to_list h.1, h.2), with_value h.0 h.1 h.2 k h.3 rest h.4 h.5)
+
+  targets_full : Full free extra (until (target_step inner names) []) Targets Int
+  targets_full = record {
+    viable = lighter free extra (until (target_step inner names) []) (Ends Target Value []) Targets (Whole Target Value) (Exists Targets) into_targets aim_targets (until_viable free extra Target Value (target_step inner names) Int target_step_viable whole_makes []);
+    makes = λ n rest room. aim_targets (seats n Int ++ rest) rest (whole_makes n rest room);
+  }
+
+  into_single : (y : Expr) (k rest : List Seat) → Both Targets (λ r. IsNothing (assigned r.0 r.1)) y k rest → IsSingle Inner Names y k rest
+  into_single y k rest (both r m e h) = subst (λ z. IsSingle Inner Names z k rest) h.0 (subst (λ l. IsSingle Inner Names (assigned r.0 r.1) k l) h.1 e)
+
+  pub single_full : Full free extra (single inner names) (IsSingle Inner Names) Int
+  unfolding single
+  single_full = into_full free extra (single inner names) _ (IsSingle Inner Names) Int into_single (bind_full free extra (until (target_step inner names) []) _ Targets (λ r. IsNothing (assigned r.0 r.1)) Int [] targets_full (λ r. pure_full free extra (assigned r.0 r.1)))
+
+-- ---- in so many levels
+
+pub names_full : (free extra depth : ℕ) → Full free extra (type_within depth) (Within free extra depth IsTypeName) (kind.Int ∷ [])
+names_full free extra depth = level_full free extra depth type_name IsTypeName (kind.Int ∷ []) (type_name_full free extra)
+
+-- the shortest one, whatever is inside
+one_number : (Inner : Expr → List Seat → List Seat → Type 0) (Names : TypeName → List Seat → List Seat → Type 0) (n : ℕ) (rest : List Seat) (i : ℕ) → IsTier Inner Names i (tree.Integer n) (seats n Int ++ rest) rest
+one_number Inner Names n rest zero = bare_prefix (bare_postfix (integer n refl refl))
+one_number Inner Names n rest (suc i) = alone (one_number Inner Names n rest i)
+
+shortest : (Inner : Expr → List Seat → List Seat → Type 0) (Names : TypeName → List Seat → List Seat → Type 0) (n : ℕ) (rest : List Seat) → IsSingle Inner Names (tree.Integer n) (seats n Int ++ rest) rest
+shortest Inner Names n rest = value (lone (one_number Inner Names n rest 10))
+
+nothing_below : 0 < 0 → ⊥
+nothing_below h = omega (arith, h)
+
+pub assignx_full : (free extra depth : ℕ) → Full free extra (assignx depth) (IsAssignx free extra depth) Int
+unfolding assignx
+assignx_full free extra (suc depth) = single_full free extra (IsAssignx free extra depth) (Within free extra depth IsTypeName) (assignx depth) (type_within depth) (assignx_full free extra depth) (names_full free extra depth)
+assignx_full free zero zero = record { viable = refuse_viable free 0 (IsAssignx free 0 0) (Exists (IsAssignx free 0 0)) Int (λ n rest room. absurd (nothing_below room.0)); makes = λ n rest room. absurd (nothing_below room.0) }
+assignx_full free (suc extra) zero =
+    let makes : Makes free (suc extra) (Exists (IsAssignx free (suc extra) 0)) Int = λ n rest room. (tree.Integer n, (room.1, shortest (IsAssignx free extra 0) (Within free extra 0 IsTypeName) n rest)) in
+    record { viable = refuse_viable free (suc extra) (IsAssignx free (suc extra) 0) (Exists (IsAssignx free (suc extra) 0)) Int makes; makes = makes }
+
+pub expr_full : (free extra depth : ℕ) → Full free extra (expr depth) (IsExpr free extra depth) Int
+expr_full free extra depth = sequence_full free extra (IsAssignx free extra depth) (Within free extra depth IsTypeName) (assignx depth) (type_within depth) (assignx_full free extra depth) (names_full free extra depth)
