@@ -8,3 +8,5 @@ pub mod Again
 pub mod TypeLaws
 pub mod ExpressionLocal
 pub mod ExpressionViable
+pub mod Follow
+pub mod ExpressionAgain
