@@ -10,3 +10,4 @@ pub mod ExpressionLocal
 pub mod ExpressionViable
 pub mod Follow
 pub mod ExpressionAgain
+pub mod OperandAgain
