@@ -11,3 +11,4 @@ pub mod ExpressionViable
 pub mod Follow
 pub mod ExpressionAgain
 pub mod OperandAgain
+pub mod TierAgain

@@ -16,7 +16,7 @@ use Rattle.snl_syntax.specs.Operators.{sign_mark}
 use Rattle.snl_syntax.specs.Tokens.{Seat, same}
 use Rattle.snl_syntax.specs.Steps.{Outcome, Reader, and_then, pure, kind_at, expect, many, until}
 use Rattle.snl_syntax.specs.Grammar.Base.{Each, First, Leaf}
-use Rattle.snl_syntax.specs.Grammar.Expressions.{AreTexts, IsSequence, one, several, IsSuffix, IsPrimary, name, integer, floating, character, texts as is_texts, group as is_group, sizeof_type as is_sizeof_type, IsPostfix, bare as bare_postfix, suffixed as is_suffixed, IsOperator, sign, sizeof as is_size, cast as is_cast, is_sizeof, AreOperators, IsPrefix, bare as bare_prefix, prefixed as is_prefixed}
+use Rattle.snl_syntax.specs.Grammar.Expressions.{AreTexts, IsSequence, one, several, IsSuffix, subscript, call, member, arrow, increment, decrement, IsPrimary, name, integer, floating, character, texts as is_texts, group as is_group, sizeof_type as is_sizeof_type, IsPostfix, bare as bare_postfix, suffixed as is_suffixed, IsOperator, sign, sizeof as is_size, cast as is_cast, is_sizeof, AreOperators, IsPrefix, bare as bare_prefix, prefixed as is_prefixed}
 use Rattle.snl_syntax.specs.Reading.Types.{begins_type}
 use Rattle.snl_syntax.specs.Reading.Expressions.{texts, leaf, text, atom_by, atom, signed, sequence, next_suffix, group, sizeof_type, cast, sized, sizeof_bracket, sizeof_by, sizeof, bracketed, bracket, plain, prefix_by, prefix_step, prefix, prefixed, suffixed}
 use Rattle.snl_syntax.proofs.Local.{Local}
@@ -215,3 +215,29 @@ module _ (free : ℕ) (Inner : Expr → List Seat → List Seat → Type 0) (Nam
   operators_again : (b : Bool) (found ops : List Prefix) (x : Expr) (k mid rest : List Seat) → AreOperators Names b ops k mid → IsPrimary Inner Names x mid rest → Lacks kind.Text rest → Read found ops x k rest
   operators_again b found [] x k mid rest e p h = no_more found x k rest (subst (λ l. IsPrimary Inner Names x l rest) (sym e) p) h
   operators_again b found (op ∷ ops) x k mid rest e p h = one_again b found op ops x k e.0 mid rest e.1 e.2 p h (λ l. operators_again (is_sizeof op) l ops x e.0 mid rest e.2 p h)
+
+  suffix_first : (s : Suffix) (k m : List Seat) → IsSuffix Inner s k m → Lacks kind.Text k
+  suffix_first s k m (subscript x m1 m2 is f r g) = first_lacks kind.OpenBracket kind.Text k m1 refl f
+  suffix_first s k m (call xs mid is f a) = first_lacks kind.OpenParen kind.Text k mid refl f
+  suffix_first s k m (member n mid is f g) = first_lacks kind.Dot kind.Text k mid refl f
+  suffix_first s k m (arrow n mid is f g) = first_lacks kind.Arrow kind.Text k mid refl f
+  suffix_first s k m (increment is f) = first_lacks kind.PlusPlus kind.Text k m refl f
+  suffix_first s k m (decrement is f) = first_lacks kind.MinusMinus kind.Text k m refl f
+
+  no_text_behind : (ss : List Suffix) (k rest : List Seat) → Each (IsSuffix Inner) ss k rest → Stops 0 rest → Lacks kind.Text k
+  no_text_behind [] k rest e h = subst (Lacks kind.Text) (sym e) (stops_lacks 0 rest kind.Text h (omega arith))
+  no_text_behind (s ∷ ss) k rest e h = suffix_first s k e.0 e.1
+
+  parts_again : (ops : List Prefix) (x : Expr) (ss : List Suffix) (k m1 m2 rest : List Seat) → AreOperators Names false ops k m1 → IsPrimary Inner Names x m1 m2 → Each (IsSuffix Inner) ss m2 rest → Stops 0 rest → Comes free (prefix inner names k) (prefixed ops (suffixed x ss)) rest
+  unfolding prefix
+  parts_again ops x ss k m1 m2 rest a p e h =
+      bind_comes free (until (prefix_step inner names) [] k) _ (ops, x) m2 _ rest (operators_again false [] ops x k m1 m2 a p (no_text_behind ss m2 rest e h))
+      (bind_comes free (many (next_suffix inner names) [] m2) _ ss rest _ rest (suffixes_again free Inner inner names local named again begins ss m2 rest e h) (pure_comes free (prefixed ops (suffixed x ss)) rest))
+
+  postfix_again : (ops : List Prefix) (t : Expr) (k m rest : List Seat) → AreOperators Names false ops k m → IsPostfix Inner Names t m rest → Stops 0 rest → Comes free (prefix inner names k) (prefixed ops t) rest
+  postfix_again ops t k m rest a (bare_postfix p) h = parts_again ops t [] k m rest rest a p refl h
+  postfix_again ops t k m rest a (is_suffixed x s ss mid is p e) h = comes_as free _ (prefixed ops (suffixed x (s ∷ ss))) (prefixed ops t) rest (ap (λ (z : Expr). prefixed ops z) (sym is)) (parts_again ops x (s ∷ ss) k m mid rest a p e h)
+
+  pub prefix_again : (t : Expr) (k rest : List Seat) → IsPrefix Inner Names t k rest → Stops 0 rest → Comes free (prefix inner names k) t rest
+  prefix_again t k rest (bare_prefix p) h = postfix_again [] t k k rest refl p h
+  prefix_again t k rest (is_prefixed op ops x mid is a p) h = comes_as free _ (prefixed (op ∷ ops) x) t rest (sym is) (postfix_again (op ∷ ops) x k mid rest a p h)
