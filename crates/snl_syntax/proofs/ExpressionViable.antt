@@ -75,7 +75,6 @@ module _ (free extra : ℕ) where
   pub texts_full : Full free extra texts AreTexts (kind.Text ∷ [])
   unfolding texts
   texts_full = into_full free extra texts _ AreTexts (kind.Text ∷ []) into_texts (bind_full free extra (expect kind.Text) _ (Leaf kind.Text) (λ n. Lists (Leaf kind.Text) (n ∷ [])) (kind.Text ∷ []) [] (expect_full free extra kind.Text) (λ n. many_full free extra (Leaf kind.Text) next_text next_text_viable (n ∷ [])))
-
   -- ---- operators, by their marks
 
 some_is : {A : Type 0} (x y : A) → (let o : Option A = Some x in o ≡ Some y) → x ≡ y
@@ -444,7 +443,6 @@ module _ (free extra : ℕ) (Inner : Expr → List Seat → List Seat → Type 0
   abbrev Ready : Bool → List Seat → Type 0
   Ready b k = b ≡ true → kind_at k ≡ Some kind.OpenParen → ⊥
 
-
   closed_viable : Viable free extra (λ k. closed_by (kind_at k) k) (IsStep true) (Operation true)
   closed_viable = choice_viable free extra closed_by (IsStep true) (Operation true) closed_by_viable
 
@@ -657,7 +655,7 @@ module _ (free extra : ℕ) (Inner : Expr → List Seat → List Seat → Type 0
   tiers_full (suc n) x =
       into_full free extra (tiers_from inner names (suc n) x) _ (Continues (suc n) x) [] (into_tier n x)
       (bind_full free extra (tiers_from inner names n x) _ (Continues n x) (λ first. Both (Each (IsLink (suc n) (IsTier Inner Names n))) (λ links. IsNothing (chained first links))) [] [] (tiers_full n x) (λ first.
-       bind_full free extra (many (next_link (suc n) (operand inner names n)) []) _ (Each (IsLink (suc n) (IsTier Inner Names n))) (λ links. IsNothing (chained first links)) [] [] (links_full free extra (suc n) (IsTier Inner Names n) (operand inner names n) (operand_of n (tiers_full n))) (λ links. pure_full free extra (chained first links))))
+      bind_full free extra (many (next_link (suc n) (operand inner names n)) []) _ (Each (IsLink (suc n) (IsTier Inner Names n))) (λ links. IsNothing (chained first links)) [] [] (links_full free extra (suc n) (IsTier Inner Names n) (operand inner names n) (operand_of n (tiers_full n))) (λ links. pure_full free extra (chained first links))))
 
   pub operand_full : (n : ℕ) → Full free extra (operand inner names n) (IsTier Inner Names n) Int
   operand_full n = operand_of n (tiers_full n)
@@ -677,9 +675,9 @@ module _ (free extra : ℕ) (Inner : Expr → List Seat → List Seat → Type 0
   arm_by_viable : (o : Option Kind) → Viable free extra (arm_by inner names o) (Next Arm) (Exists (Next Arm))
   arm_by_viable (Some kind.Question) = (into_full free extra (arm_by inner names (Some kind.Question)) _ (Next Arm) (kind.Question ∷ kind.Integer ∷ kind.Colon ∷ kind.Integer ∷ []) into_arm
       (bind_full free extra (expect kind.Question) _ (Leaf kind.Question) (λ _. Both (IsSequence Inner) (λ a. Both (Leaf kind.Colon) (λ _. Both (IsTier Inner Names 10) (λ b. IsNothing (some_arm a b))))) (kind.Question ∷ []) (kind.Integer ∷ kind.Colon ∷ kind.Integer ∷ []) (expect_full free extra kind.Question) (λ _.
-       bind_full free extra (sequence inner) _ (IsSequence Inner) (λ a. Both (Leaf kind.Colon) (λ _. Both (IsTier Inner Names 10) (λ b. IsNothing (some_arm a b)))) Int (kind.Colon ∷ kind.Integer ∷ []) sequence_full (λ a.
-       bind_full free extra (expect kind.Colon) _ (Leaf kind.Colon) (λ _. Both (IsTier Inner Names 10) (λ b. IsNothing (some_arm a b))) (kind.Colon ∷ []) Int (expect_full free extra kind.Colon) (λ _.
-       bind_full free extra (operand inner names 10) _ (IsTier Inner Names 10) (λ b. IsNothing (some_arm a b)) Int [] (operand_full 10) (λ b. pure_full free extra (some_arm a b))))))).viable
+      bind_full free extra (sequence inner) _ (IsSequence Inner) (λ a. Both (Leaf kind.Colon) (λ _. Both (IsTier Inner Names 10) (λ b. IsNothing (some_arm a b)))) Int (kind.Colon ∷ kind.Integer ∷ []) sequence_full (λ a.
+      bind_full free extra (expect kind.Colon) _ (Leaf kind.Colon) (λ _. Both (IsTier Inner Names 10) (λ b. IsNothing (some_arm a b))) (kind.Colon ∷ []) Int (expect_full free extra kind.Colon) (λ _.
+      bind_full free extra (operand inner names 10) _ (IsTier Inner Names 10) (λ b. IsNothing (some_arm a b)) Int [] (operand_full 10) (λ b. pure_full free extra (some_arm a b))))))).viable
   arm_by_viable _ = (into_full free extra (pure None) (IsNothing None) (Next Arm) [] (none_next Arm) (pure_full free extra None)).viable
 
   next_arm_viable : Viable free extra (next_arm inner names) (Next Arm) (Exists (Next Arm))
@@ -703,7 +701,7 @@ module _ (free extra : ℕ) (Inner : Expr → List Seat → List Seat → Type 0
   unfolding conditional_from
   conditional_full x = into_full free extra (conditional_from inner names x) _ (Conditional x) [] (into_conditional x)
       (bind_full free extra (tiers_from inner names 10 x) _ (Continues 10 x) (λ first. Both (Each Arm) (λ arms. IsNothing (conditional first arms))) [] [] (tiers_full 10 x) (λ first.
-       bind_full free extra (many (next_arm inner names) []) _ (Each Arm) (λ arms. IsNothing (conditional first arms)) [] [] arms_full (λ arms. pure_full free extra (conditional first arms))))
+      bind_full free extra (many (next_arm inner names) []) _ (Each Arm) (λ arms. IsNothing (conditional first arms)) [] [] arms_full (λ arms. pure_full free extra (conditional first arms))))
 
   -- ---- assignments
 

@@ -12,3 +12,4 @@ pub mod Follow
 pub mod ExpressionAgain
 pub mod OperandAgain
 pub mod TierAgain
+pub mod SingleAgain
