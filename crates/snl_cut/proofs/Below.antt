@@ -1,5 +1,5 @@
 -- Where the ends that are below a place stop.
-use Rattle.std.proofs.Common.{◌≡◌, ℕ, suc, zero, ◌<◌, ◌≤◌, ◌⊎◌, inl, inr, List, [], ◌∷◌, length, drop, take, get_or, refl, arith}
+use Rattle.std.proofs.Common.{◌≡◌, ℕ, suc, zero, ◌<◌, ◌≤◌, ◌⊎◌, inl, inr, List, [], ◌∷◌, length, drop, take, get_or, refl, ap, ◌∙◌, arith}
 use Rattle.std.proofs.lemmas.Bool.Decides.{nat_tests}
 use Rattle.snl_cut.specs.Cut.{Rises, ends_below, last_end}
 
@@ -96,3 +96,12 @@ below_next place (x ∷ xs) e es h =
       | inl less ↦ below_next place xs e es (rw (below_yes x place xs less) at h)
       | inr more ↦ let k = rw (below_no x place xs more) at h in let same : x ≡ e = cc in omega arith
     ]
+
+-- Where the first k members end just at the place, k members end at it or before it.
+pub below_count : (place from : ℕ) (ends : List ℕ) (k : ℕ) → Rises from ends → k ≤ length ends → last_end from (take k ends) ≡ place → ends_below (suc place) ends ≡ k
+below_count place from [] zero r le h = refl
+below_count place from [] (suc k) r le h = absurd (omega arith)
+below_count place from (e ∷ es) zero r le h = below_no e (suc place) es (omega (arith, r.0))
+below_count place from (e ∷ es) (suc k) r le h =
+    let last : e ≤ last_end e (take k es) = rises_last e (take k es) (rises_take e es k r.1) in
+    below_yes e (suc place) es (omega arith) ∙ ap suc (below_count place e es k r.1 (omega arith) h)

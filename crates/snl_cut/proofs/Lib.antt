@@ -1,6 +1,7 @@
 pub mod Steps
 pub mod Below
-pub mod Again
+pub mod Agreeing
 pub mod Fresh
 pub mod Only
-pub mod Turns
+pub mod Members
+pub mod OneCut

@@ -3,7 +3,7 @@ use Rattle.std.proofs.Common.{◌≡◌, ℕ, suc, zero, ◌+◌, ◌-◌, ◌<�
 use Rattle.std.proofs.lemmas.Bool.Decides.{nat_tests}
 use Rattle.snl_cut.specs.Cut.{IsFront, Walks, IsCut, IsMeet, ends_from, ends_of}
 use Rattle.snl_cut.proofs.Below.{split}
-use Rattle.snl_cut.proofs.Again.{some_left}
+use Rattle.snl_cut.proofs.Agreeing.{some_left}
 
 pub walks_only : {X : Type 0} (first : List X → ℕ) (units : List X) (from : ℕ) (xs ys : List ℕ)
     → Walks first units from xs (length units) → Walks first units from ys (length units) → xs ≡ ys

@@ -18,6 +18,21 @@ Walks first units from (e ∷ es) to = (from < length units) × (e ≡ from + fi
 abbrev pub IsCut : {X : Type 0} → (List X → ℕ) → List X → List ℕ → Type 0
 IsCut first units ends = Walks first units 0 ends (length units)
 
+-- The members themselves, from a place on: the units from each end to the next.
+abbrev pub members : {X : Type 0} → List X → ℕ → List ℕ → List (List X)
+members units from [] = []
+members units from (e ∷ es) = take (e - from) (drop from units) ∷ members units e es
+
+-- The members one behind another.
+abbrev pub in_a_row : {X : Type 0} → List (List X) → List X
+in_a_row [] = []
+in_a_row (m ∷ ms) = m ++ in_a_row ms
+
+-- Each member is as long as the front says of what stands from it on.
+abbrev pub EachFirst : {X : Type 0} → (List X → ℕ) → List (List X) → Type 0
+EachFirst first [] = Unit {0}
+EachFirst first (m ∷ ms) = (0 < length m) × (length m ≡ first (m ++ in_a_row ms)) × EachFirst first ms
+
 -- A boundary of `units`: 0, or the end of a member.
 abbrev pub IsBoundary : {X : Type 0} → (List X → ℕ) → List X → ℕ → Type 0
 IsBoundary first units place = (ends : List ℕ) × Walks first units 0 ends place
@@ -82,7 +97,9 @@ pub record IsRecut {X : Type 0} (first : List X → ℕ) (old : List X) (old_end
   pub meets : IsMeet first old units old_stop new_stop meet
   -- the old members that end before the edit are kept
   pub kept : front ≡ ends_below start old_ends
+  -- and those from the meeting point on
   pub back_inside : back ≤ length old_ends
+  pub kept_back : length old_ends ≡ ends_below (suc ((meet - new_stop) + old_stop)) old_ends + back
   pub whole : IsCut first units (joined old_ends old_stop new_stop front made back)
   pub just_fresh : made ≡ fresh start meet 0 (joined old_ends old_stop new_stop front made back)
 

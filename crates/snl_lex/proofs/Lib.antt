@@ -1,0 +1,9 @@
+pub mod Table
+pub mod Turns
+pub mod WordGroups
+pub mod Values
+pub mod Members
+pub mod Meeting
+pub mod Markers
+pub mod Edited
+pub mod Own

@@ -3,8 +3,19 @@
 
 ghost use Rattle.std.specs.Prelude.{◌≡◌, ◌+◌, ◌≤◌, drop, length, take};
 
+mod alphabet;
+mod cut;
+mod lines;
+mod numbers;
 mod piece;
+mod scan;
+#[cfg(test)]
+mod tests;
+mod words;
 
+pub use cut::{Bytes, Relexed, lex, relex};
+pub use lines::{Line, line_of};
+pub use numbers::int_value;
 pub use piece::{Class, Piece};
 
 /// The bytes of a piece.

@@ -1,0 +1,4 @@
+pub mod AnswerLemmas
+pub mod RunLemmas
+pub mod SaidLemmas
+pub mod ScriptLemmas

@@ -1,0 +1,255 @@
+-- Steps of a run.
+use Rattle.std.proofs.Common.{◌≡◌, ◌≢◌, ℕ, suc, ◌+◌, ◌-◌, ◌*◌, ◌<◌, ◌≤◌, List, [], ◌∷◌, ◌++◌, length, take, drop, Bool, true, false, cond, ltb, leb, Option, Some, None, Result, Ok, Err, refl, sym, ap, ◌∙◌, subst, append_assoc, arith, length-append, length-drop, position, ◌==◌}
+use Rattle.std.specs.Bool.{OnTrue}
+use Rattle.std.specs.Io.KnownBytes.{Appends, Consumes, IsAtEnd, Keeps}
+use Rattle.std.proofs.lemmas.List.{append-nil, drop-append-le, take-append-le}
+use Rattle.snl_cli.specs.declared.ahead.ReadFault.{ReadFault}
+use Rattle.snl_cli.specs.declared.ahead.ReadFault.TheVariants as reading
+use Rattle.snl_cli.specs.declared.faults.RunFault.{RunFault}
+use Rattle.snl_cli.specs.declared.faults.RunFault.TheVariants.{Read, Write, Script, Memory, TooManyTurns, Source}
+use Rattle.snl_cli.specs.declared.faults.Status.{Status}
+use Rattle.snl_cli.specs.declared.script.Command.{Command}
+use Rattle.snl_cli.specs.declared.script.Heading.{Heading}
+use Rattle.snl_cli.specs.declared.script.Heading.TheVariants.{Check, Edit}
+use Rattle.snl_cli.specs.Ahead.{Gains}
+use Rattle.snl_cli.specs.Faults.{fault_of_read}
+use Rattle.snl_cli.specs.Front.{IsWhole, request_of, unfinished}
+use Rattle.snl_cli.specs.Run.{IsMalformed, NoStart, Ran, Told, ToldPart}
+use Rattle.snl_cli.specs.Said.{AppendsPart}
+use Rattle.snl_cli.specs.Script.{Request, Edits, Next, Ends, Unknown, Then, closed, headed, heading_of, lined, next_of, words_of}
+use Rattle.snl_cli.specs.Transcript.{Begins, HoldsNone, IsFair, MayStarve, Turn, after, reply, status_of, text_after, transcript}
+use Rattle.snl_cli.proofs.SaidLemmas.{Appends-none, Appends-on, Appends-same, AppendsPart-after, AppendsPart-same}
+use Rattle.snl_cli.proofs.ScriptLemmas.{place_grows}
+
+-- ---- a command that stands whole stands whatever follows it
+
+closed-grows : (request : Request) (bytes more behind : List ℕ) (next : Request) → closed request bytes ≡ Then next behind → closed request (bytes ++ more) ≡ Then next (behind ++ more)
+closed-grows request [] more behind next h = cc
+closed-grows request (b ∷ bytes) more behind next h = split (b == 10) h
+  where
+    split : (c : Bool) → cond c (Then request bytes) Unknown ≡ Then next behind → cond c (Then request (bytes ++ more)) Unknown ≡ Then next (behind ++ more)
+    split true e = cc
+    split false e = cc
+
+-- the bytes of an edit are there where an LF closes them
+edit-room : (request : Request) (len : ℕ) (bytes behind : List ℕ) (next : Request) → closed request (drop len bytes) ≡ Then next behind → len ≤ length bytes
+edit-room request len bytes behind next h = some (drop len bytes) h (length-drop len bytes)
+  where
+    some : (l : List ℕ) → closed request l ≡ Then next behind → length l ≡ length bytes - len → len ≤ length bytes
+    some [] e size = cc
+    some (b ∷ l) e size = omega arith
+
+headed-grows : (heading : Option Heading) (bytes more behind : List ℕ) (next : Request) → headed heading bytes ≡ Then next behind → headed heading (bytes ++ more) ≡ Then next (behind ++ more)
+headed-grows None bytes more behind next h = cc
+headed-grows (Some Check) bytes more behind next h = cc
+headed-grows (Some (Edit start stop len)) bytes more behind next h =
+    let room : len ≤ length bytes = edit-room _ len bytes behind next h in
+    rw (take-append-le len bytes more room, drop-append-le len bytes more room) (closed-grows _ (drop len bytes) more behind next h)
+
+-- a whole command stays the first, whatever follows
+pub next_of-grows : (bytes more behind : List ℕ) (request : Request) → next_of bytes ≡ Then request behind → next_of (bytes ++ more) ≡ Then request (behind ++ more)
+next_of-grows [] more behind request h = cc
+next_of-grows (b ∷ bytes) more behind request h = at (position (λ c. c == 10) (b ∷ bytes)) refl h
+  where
+    all : List ℕ
+    all = b ∷ bytes
+
+    at : (o : Option ℕ) → position (λ c. c == 10) (b ∷ bytes) ≡ o → lined o (b ∷ bytes) ≡ Then request behind → next_of ((b ∷ bytes) ++ more) ≡ Then request (behind ++ more)
+    at None e k = cc
+    at (Some end) e k = short (leb end 80) refl k
+      where
+        line : List ℕ → List ℕ → Next
+        line l m = headed (heading_of (words_of l)) m
+
+        short : (c : Bool) → leb end 80 ≡ c → cond c (headed (heading_of (words_of (take end (b ∷ bytes)))) (drop (end + 1) (b ∷ bytes))) Unknown ≡ Then request behind → next_of ((b ∷ bytes) ++ more) ≡ Then request (behind ++ more)
+        short false t w = cc
+        short true t w =
+            let grown = place_grows (b ∷ bytes) more end e in
+            let front : take end ((b ∷ bytes) ++ more) ≡ take end (b ∷ bytes) = take-append-le end (b ∷ bytes) more (omega (arith, grown.1)) in
+            let back : drop (end + 1) ((b ∷ bytes) ++ more) ≡ drop (end + 1) (b ∷ bytes) ++ more = drop-append-le (end + 1) (b ∷ bytes) more (omega (arith, grown.1)) in
+            let found : next_of ((b ∷ bytes) ++ more) ≡ lined (Some end) ((b ∷ bytes) ++ more) = ap (λ (o : Option ℕ). lined o ((b ∷ bytes) ++ more)) grown.0 in
+            let here : lined (Some end) ((b ∷ bytes) ++ more) ≡ headed (heading_of (words_of (take end ((b ∷ bytes) ++ more)))) (drop (end + 1) ((b ∷ bytes) ++ more)) = rw t refl in
+            let same : headed (heading_of (words_of (take end ((b ∷ bytes) ++ more)))) (drop (end + 1) ((b ∷ bytes) ++ more)) ≡ headed (heading_of (words_of (take end (b ∷ bytes)))) (drop (end + 1) (b ∷ bytes) ++ more) = ap (λ (l : List ℕ). headed (heading_of (words_of l)) (drop (end + 1) ((b ∷ bytes) ++ more))) front ∙ ap (λ (l : List ℕ). headed (heading_of (words_of (take end (b ∷ bytes)))) l) back in
+            found ∙ here ∙ same ∙ headed-grows (heading_of (words_of (take end (b ∷ bytes)))) (drop (end + 1) (b ∷ bytes)) more behind request w
+
+-- ---- commands, one behind another
+
+pub Begins-grows : (bytes more : List ℕ) (turns : List Turn) (rest : List ℕ) → Begins bytes turns rest → Begins (bytes ++ more) turns (rest ++ more)
+Begins-grows bytes more [] rest h = ap (λ l. l ++ more) h
+Begins-grows bytes more (t ∷ ts) rest h = (h.0 ++ more, next_of-grows bytes more h.0 t.request h.1, Begins-grows h.0 more ts rest h.2)
+
+pub Begins-on : (bytes : List ℕ) (turns : List Turn) (rest behind : List ℕ) (turn : Turn) → Begins bytes turns rest → next_of rest ≡ Then turn.request behind → Begins bytes (turns ++ turn ∷ []) behind
+Begins-on bytes [] rest behind turn h e = (behind, ap next_of (sym h) ∙ e, refl)
+Begins-on bytes (t ∷ ts) rest behind turn h e = (h.0, h.1, Begins-on h.0 ts rest behind turn h.2 e)
+
+pub transcript-on : (text : List ℕ) (turns : List Turn) (turn : Turn) → transcript text (turns ++ turn ∷ []) ≡ transcript text turns ++ reply (text_after text turns) turn.request turn.starved
+transcript-on text [] turn = append-nil _
+transcript-on text (t ∷ ts) turn =
+    ap (λ l. reply text t.request t.starved ++ l) (transcript-on (after text t.request t.starved) ts turn) ∙ sym (append_assoc (reply text t.request t.starved) (transcript (after text t.request t.starved) ts) _)
+
+pub text_after-on : (text : List ℕ) (turns : List Turn) (turn : Turn) → text_after text (turns ++ turn ∷ []) ≡ after (text_after text turns) turn.request turn.starved
+text_after-on text [] turn = refl
+text_after-on text (t ∷ ts) turn = text_after-on (after text t.request t.starved) ts turn
+
+pub IsFair-on : (text : List ℕ) (turns : List Turn) (turn : Turn) → IsFair text turns → OnTrue turn.starved (MayStarve (text_after text turns) turn.request) → IsFair text (turns ++ turn ∷ [])
+IsFair-on text [] turn h f = (f, tt)
+IsFair-on text (t ∷ ts) turn h f = (h.0, IsFair-on (after text t.request t.starved) ts turn h.1 f)
+
+-- ---- reading
+
+Consumes-none : (a : Option (List ℕ)) → Consumes a a []
+Consumes-none None = tt
+Consumes-none (Some x) = refl
+
+Consumes-on : (a b c : Option (List ℕ)) (xs ys : List ℕ) → Consumes a b xs → Consumes b c ys → Consumes a c (xs ++ ys)
+Consumes-on None b c xs ys h k = tt
+Consumes-on (Some x) None c xs ys h k = absurd h
+Consumes-on (Some x) (Some y) None xs ys h k = absurd k
+Consumes-on (Some x) (Some y) (Some z) xs ys h k = h ∙ ap (λ l. xs ++ l) k ∙ sym (append_assoc xs ys z)
+
+Keeps-same : (a : Option (List ℕ)) → Keeps a a
+Keeps-same None = tt
+Keeps-same (Some x) = refl
+
+-- ---- how far a run came
+
+-- the rest is what is ahead, the text the session's, and each read gave 1 to 4,096 bytes
+abbrev pub At : (ahead text : List ℕ) (offset calls : ℕ) → (read rest last : List ℕ) → Type 0
+At ahead text offset calls read rest last = (rest ≡ ahead) × (last ≡ text) × (offset + length rest ≡ length read) × (length read ≤ 4096 * calls) × (calls ≤ length read)
+
+pub Told-start : (script out : Option (List ℕ)) (source ahead : List ℕ) (calls : ℕ) → ahead ≡ [] → calls ≡ 0 → Told script script out out source (At ahead source 0 calls)
+Told-start script out source ahead calls e none = record {
+  read = [];
+  turns = [];
+  rest = [];
+  is_read = Consumes-none script;
+  begins = refl;
+  fair = tt;
+  written = Appends-none out;
+  ends = (sym e, refl, refl, omega arith, omega arith);
+}
+
+pub Told-ends : (before behind old new : Option (List ℕ)) (source : List ℕ) (P Q : (read rest text : List ℕ) → Type 0) → Told before behind old new source P → ((read rest text : List ℕ) → P read rest text → Q read rest text) → Told before behind old new source Q
+Told-ends before behind old new source P Q t f = record {
+  read = t.read;
+  turns = t.turns;
+  rest = t.rest;
+  is_read = t.is_read;
+  begins = t.begins;
+  fair = t.fair;
+  written = t.written;
+  ends = f t.read t.rest (text_after source t.turns) t.ends;
+}
+
+-- bytes came
+pub Told-gains : (before mid behind old new : Option (List ℕ)) (source ahead next text : List ℕ) (offset calls more : ℕ) → Told before mid old new source (At ahead text offset calls) → Gains ahead next mid behind → calls ≤ more → length next ≤ length ahead + 4096 * (more - calls) → more + length ahead ≤ calls + length next → Told before behind old new source (At next text offset more)
+Told-gains before mid behind old new source ahead next text offset calls more t g rises few some =
+    let read_size : length (t.read ++ g.gained) ≡ length t.read + length g.gained = length-append t.read g.gained in
+    let rest_size : length (t.rest ++ g.gained) ≡ length t.rest + length g.gained = length-append t.rest g.gained in
+    let next_size : length next ≡ length ahead + length g.gained = ap length g.there ∙ length-append ahead g.gained in
+    let same : length t.rest ≡ length ahead = ap length t.ends.0 in
+    let place = t.ends.2 in
+    let bound = t.ends.3 in
+    let each = t.ends.4 in
+    record {
+      read = t.read ++ g.gained;
+      turns = t.turns;
+      rest = t.rest ++ g.gained;
+      is_read = Consumes-on before mid behind t.read g.gained t.is_read g.given;
+      begins = Begins-grows t.read g.gained t.turns t.rest t.begins;
+      fair = t.fair;
+      written = t.written;
+      ends = (ap (λ l. l ++ g.gained) t.ends.0 ∙ sym g.there, t.ends.1, omega arith, omega arith, omega arith);
+    }
+
+-- the whole command at the front
+whole-next : (bytes : List ℕ) (command : Command) (len : ℕ) → IsWhole bytes command len → next_of bytes ≡ Then (request_of command) (drop len bytes)
+whole-next bytes command len w = ap next_of (sym (append-nil bytes)) ∙ w.next [] ∙ ap (Then (request_of command)) (append-nil (drop len bytes))
+
+-- a command was carried out, and its answer written
+pub Told-on : (before behind old mid new : Option (List ℕ)) (source ahead next bytes text last : List ℕ) (offset calls len : ℕ) (command : Command) (starved : Bool) → Told before behind old mid source (At ahead text offset calls) → bytes ≡ ahead → IsWhole bytes command len → next ≡ drop len ahead → OnTrue starved (MayStarve text (request_of command)) → last ≡ after text (request_of command) starved → Appends mid new (reply text (request_of command) starved) → Told before behind old new source (At next last (offset + len) calls)
+Told-on before behind old mid new source ahead next bytes text last offset calls len command starved t is whole next_is fair last_is written =
+    let turn : Turn = record { request = request_of command; starved = starved } in
+    let here : next_of t.rest ≡ Then (request_of command) next = ap next_of (t.ends.0 ∙ sym is) ∙ whole-next bytes command len whole ∙ ap (λ (l : List ℕ). Then (request_of command) l) (ap (drop len) is ∙ sym next_is) in
+    let text_is : text_after source t.turns ≡ text = t.ends.1 in
+    let behind_size : length next ≡ length ahead - len = ap length next_is ∙ length-drop len ahead in
+    let same : length t.rest ≡ length ahead = ap length t.ends.0 in
+    let size : length bytes ≡ length ahead = ap length is in
+    let inside : len ≤ length bytes = whole.inside in
+    let place = t.ends.2 in
+    record {
+      read = t.read;
+      turns = t.turns ++ turn ∷ [];
+      rest = next;
+      is_read = t.is_read;
+      begins = Begins-on t.read t.turns t.rest next turn t.begins here;
+      fair = IsFair-on source t.turns turn t.fair (subst (λ (x : List ℕ). OnTrue starved (MayStarve x (request_of command))) (sym text_is) fair);
+      written = Appends-same old new _ _ (ap (λ (x : List ℕ). transcript source t.turns ++ reply x (request_of command) starved) (sym text_is) ∙ sym (transcript-on source t.turns turn)) (Appends-on old mid new _ _ t.written written);
+      ends = (refl, text_after-on source t.turns turn ∙ ap (λ (x : List ℕ). after x (request_of command) starved) text_is ∙ sym last_is, omega arith, t.ends.3, t.ends.4);
+    }
+
+-- a command was carried out, and a part of its answer written
+pub ToldPart-on : (before behind old mid new : Option (List ℕ)) (source ahead bytes text : List ℕ) (offset calls len : ℕ) (command : Command) (starved : Bool) → Told before behind old mid source (At ahead text offset calls) → bytes ≡ ahead → IsWhole bytes command len → OnTrue starved (MayStarve text (request_of command)) → AppendsPart mid new (reply text (request_of command) starved) → ToldPart before behind old new source
+ToldPart-on before behind old mid new source ahead bytes text offset calls len command starved t is whole fair written =
+    let turn : Turn = record { request = request_of command; starved = starved } in
+    let here : next_of t.rest ≡ Then (request_of command) (drop len bytes) = ap next_of (t.ends.0 ∙ sym is) ∙ whole-next bytes command len whole in
+    let text_is : text_after source t.turns ≡ text = t.ends.1 in
+    record {
+      read = t.read;
+      turns = t.turns ++ turn ∷ [];
+      rest = drop len bytes;
+      is_read = t.is_read;
+      begins = Begins-on t.read t.turns t.rest (drop len bytes) turn t.begins here;
+      fair = IsFair-on source t.turns turn t.fair (subst (λ (x : List ℕ). OnTrue starved (MayStarve x (request_of command))) (sym text_is) fair);
+      written = AppendsPart-same old new _ _ (ap (λ (x : List ℕ). transcript source t.turns ++ reply x (request_of command) starved) (sym text_is) ∙ sym (transcript-on source t.turns turn)) (AppendsPart-after old mid new _ _ t.written written);
+    }
+
+-- ---- the ends of a run
+
+none-malformed : (bytes : List ℕ) → ((more : List ℕ) → next_of (bytes ++ more) ≡ Unknown) → HoldsNone bytes
+none-malformed bytes h = λ request behind e. let u : next_of bytes ≡ Unknown = ap next_of (sym (append-nil bytes)) ∙ h [] in cc
+
+none-unfinished : (bytes : List ℕ) → next_of bytes ≡ unfinished bytes → HoldsNone bytes
+none-unfinished [] h = λ request behind e. cc
+none-unfinished (b ∷ bytes) h = λ request behind e. cc
+
+malformed-always : (bytes : List ℕ) (left : Option (List ℕ)) → ((more : List ℕ) → next_of (bytes ++ more) ≡ Unknown) → IsMalformed bytes left
+malformed-always bytes None h = tt
+malformed-always bytes (Some more) h = h more
+
+-- no command can stand ahead
+pub Told-malformed : (before behind old new : Option (List ℕ)) (source ahead bytes text : List ℕ) (offset calls : ℕ) → Told before behind old new source (At ahead text offset calls) → bytes ≡ ahead → ((more : List ℕ) → next_of (bytes ++ more) ≡ Unknown) → Ran (Err (Script offset)) before behind old new source
+Told-malformed before behind old new source ahead bytes text offset calls t is h =
+    Told-ends before behind old new source (At ahead text offset calls) _ t (λ read rest last a.
+    let same : bytes ≡ rest = is ∙ sym a.0 in
+    let unknown : (more : List ℕ) → next_of (rest ++ more) ≡ Unknown = subst (λ (l : List ℕ). (more : List ℕ) → next_of (l ++ more) ≡ Unknown) same h in
+    (a.2, none-malformed rest unknown, malformed-always rest behind unknown))
+
+-- the reader has no more bytes, and what is ahead is no command
+ends-malformed : (bytes : List ℕ) (left : Option (List ℕ)) → next_of bytes ≡ Unknown → IsAtEnd left → IsMalformed bytes left
+ends-malformed bytes None h e = tt
+ends-malformed bytes (Some more) h e = ap (λ (l : List ℕ). next_of (bytes ++ l)) e ∙ ap next_of (append-nil bytes) ∙ h
+
+pub Ran-end : (result : Result Status RunFault) (before behind old new : Option (List ℕ)) (source ahead text : List ℕ) (offset calls : ℕ) → Told before behind old new source (At ahead text offset calls) → IsAtEnd behind → next_of ahead ≡ unfinished ahead → (ahead ≡ [] → result ≡ Ok (status_of text)) → (ahead ≢ [] → result ≡ Err (Script offset)) → Ran result before behind old new source
+Ran-end result before behind old new source [] text offset calls t e short ok err = rw (ok refl) (Told-ends before behind old new source (At [] text offset calls) _ t (λ read rest last a. (a.0, e, ap status_of (sym a.1))))
+Ran-end result before behind old new source (b ∷ bytes) text offset calls t e short ok err =
+    rw (err (λ x. cc)) (Told-ends before behind old new source (At (b ∷ bytes) text offset calls) _ t (λ read rest last a.
+    let unknown : next_of rest ≡ Unknown = ap next_of a.0 ∙ short in
+    (a.2, subst HoldsNone (sym a.0) (none-unfinished (b ∷ bytes) short), ends-malformed rest behind unknown e)))
+
+-- no more bytes can be read
+pub Ran-read : (fault : ReadFault) (result : Result Status RunFault) (before behind old new : Option (List ℕ)) (source ahead text : List ℕ) (offset calls : ℕ) → result ≡ Err (fault_of_read fault) → Told before behind old new source (At ahead text offset calls) → next_of ahead ≡ unfinished ahead → (fault ≡ reading.TooManyTurns → 16777216 ≤ calls) → Ran result before behind old new source
+Ran-read reading.Read result before behind old new source ahead text offset calls is t short many = rw is (Told-ends before behind old new source (At ahead text offset calls) _ t (λ read rest last a. subst HoldsNone (sym a.0) (none-unfinished ahead short)))
+Ran-read reading.Memory result before behind old new source ahead text offset calls is t short many = rw is (Told-ends before behind old new source (At ahead text offset calls) _ t (λ read rest last a. subst HoldsNone (sym a.0) (none-unfinished ahead short)))
+Ran-read reading.TooManyTurns result before behind old new source ahead text offset calls is t short many =
+    let lots : 16777216 ≤ calls = many refl in
+    rw is (Told-ends before behind old new source (At ahead text offset calls) _ t (λ read rest last a. (subst HoldsNone (sym a.0) (none-unfinished ahead short), omega (arith, a.4))))
+
+-- no session could begin
+pub Ran-nothing : (fault : RunFault) (result : Result Status RunFault) (script out : Option (List ℕ)) (source : List ℕ) → result ≡ Err fault → NoStart source fault → Ran result script script out out source
+Ran-nothing Source result script out source is h = rw is (Keeps-same script, Keeps-same out, h)
+Ran-nothing Memory result script out source is h = rw is (Told-ends script script out out source (At [] source 0 0) _ (Told-start script out source [] 0 refl refl) (λ read rest last a. subst HoldsNone (sym a.0) (none-unfinished [] refl)))
+Ran-nothing Read result script out source is h = absurd h
+Ran-nothing Write result script out source is h = absurd h
+Ran-nothing (Script at) result script out source is h = absurd h
+Ran-nothing TooManyTurns result script out source is h = absurd h

@@ -1,0 +1,20 @@
+use Rattle.std.proofs.Common.{◌≡◌, ◌+◌, ◌-◌, ◌*◌, ◌≤◌, false, length, List, ℕ}
+use Rattle.snl_cli.specs.Run.{Told}
+use Rattle.snl_cli.specs.Watched.{calls_of, failed_of, inner_of}
+use Rattle.snl_cli.proofs.run.serve.Given as goal
+
+-- the commands before the bytes that are ahead were carried out, and their transcript written
+abbrev pub invariant-commands : goal.invariant-commands
+invariant-commands g l =
+    let remaining = g.R.Read.remaining in
+    let contents = g.W.Write.contents in
+    record {
+      told : Told (remaining (inner_of l.initial.script)) (remaining (inner_of l.script)) (contents (inner_of l.initial.out)) (contents (inner_of l.out)) l.initial.session
+          (λ read rest text. (rest ≡ l.ahead) × (text ≡ l.session) × (l.offset + length rest ≡ length read) × (length read ≤ 4096 * calls_of l.script) × (calls_of l.script ≤ length read));
+      few : calls_of l.script ≤ 16777216;
+      readable : failed_of l.script ≡ false;
+      writable : failed_of l.out ≡ false;
+    }
+
+abbrev pub decreases-commands : goal.decreases-commands
+decreases-commands g l = 4097 * (16777216 - calls_of l.script) + length l.ahead

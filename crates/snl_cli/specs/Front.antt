@@ -1,0 +1,46 @@
+-- What is known of a command by the bytes that are there.
+use Rattle.std.specs.Prelude.{◌≡◌, ℕ, ◌+◌, ◌-◌, ◌≤◌, List, [], ◌∷◌, ◌++◌, length, drop, Option, Some, None}
+use Rattle.snl_cli.specs.declared.script.Command.{Command}
+use Rattle.snl_cli.specs.declared.script.Command.TheVariants.{Check, Edit}
+use Rattle.snl_cli.specs.declared.script.Front.{Front}
+use Rattle.snl_cli.specs.declared.script.Front.TheVariants.{Short, Malformed, Whole}
+use denote.Ref.{Bor}
+use Rattle.snl_cli.specs.Script.{Request, Checks, Edits, Next, Ends, Unknown, Then, next_of, words_of}
+
+-- The command, with its bytes.
+abbrev pub request_of : Command → Request
+request_of Check = Checks
+request_of (Edit start stop new) = Edits start stop new.now
+
+-- What bytes are that end before a command does.
+abbrev pub unfinished : List ℕ → Next
+unfinished [] = Ends
+unfinished (b ∷ bytes) = Unknown
+
+-- The command is this one and has this length, whatever follows the bytes.
+pub record IsWhole (bytes : List ℕ) (command : Command) (len : ℕ) : Type 0 where
+  pub some : 1 ≤ len
+  pub inside : len ≤ length bytes
+  pub next : (more : List ℕ) → next_of (bytes ++ more) ≡ Then (request_of command) (drop len bytes ++ more)
+
+-- The words behind a word's space, if there is one.
+abbrev pub words_behind : Option (Bor (List ℕ)) → List (List ℕ)
+words_behind None = []
+words_behind (Some words) = words_of words.now
+
+-- What stands at the front, where `next` tells it by the bytes behind a line, which has this length with its LF.
+pub record IsWholeBehind (next : List ℕ → Next) (line : ℕ) (behind : List ℕ) (command : Command) (len : ℕ) : Type 0 where
+  pub from : line ≤ len
+  pub inside : len ≤ line + length behind
+  pub next_is : (more : List ℕ) → next (behind ++ more) ≡ Then (request_of command) (drop (len - line) behind ++ more)
+
+abbrev pub IsFrontBehind : (List ℕ → Next) → ℕ → List ℕ → Front → Type 0
+IsFrontBehind next line behind Short = next behind ≡ Unknown
+IsFrontBehind next line behind Malformed = (more : List ℕ) → next (behind ++ more) ≡ Unknown
+IsFrontBehind next line behind (Whole command len) = IsWholeBehind next line behind command len
+
+-- No command stands at the front of the bytes yet, or none can, or one does, whatever follows them.
+abbrev pub IsFront : List ℕ → Front → Type 0
+IsFront bytes Short = next_of bytes ≡ unfinished bytes
+IsFront bytes Malformed = (more : List ℕ) → next_of (bytes ++ more) ≡ Unknown
+IsFront bytes (Whole command len) = IsWhole bytes command len

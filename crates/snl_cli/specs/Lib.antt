@@ -1,0 +1,9 @@
+pub mod Ahead
+pub mod Answers
+pub mod Faults
+pub mod Front
+pub mod Run
+pub mod Said
+pub mod Script
+pub mod Transcript
+pub mod Watched

@@ -1,0 +1,85 @@
+-- What a run has read and written where it ended.
+use Rattle.std.specs.Prelude.{◌≡◌, ℕ, ◌+◌, ◌≤◌, ◌<◌, List, [], length, Bool, true, false, Option, None, Result, Ok, Err, IfSome, ⊤}
+use Rattle.std.specs.Bool.{OnTrue}
+use Rattle.std.specs.Io.KnownBytes.{Appends, Consumes, IsAtEnd, Keeps, prepend_known}
+use Rattle.snl_session.specs.declared.edits.Refused.{Refused}
+use Rattle.snl_session.specs.Edit.{limit, refusal_of, spliced}
+use Rattle.snl_cli.specs.declared.faults.RunFault.{RunFault}
+use Rattle.snl_cli.specs.declared.faults.RunFault.TheVariants.{Read, Write, Script, Memory, TooManyTurns, Source}
+use Rattle.snl_cli.specs.declared.faults.Status.{Status}
+use Rattle.snl_cli.specs.Said.{AppendsPart, Written}
+use Rattle.snl_cli.specs.Script.{Request, Unknown, next_of}
+use Rattle.snl_cli.specs.Transcript.{Begins, HoldsNone, IsFair, MayStarve, Turn, after, edited, refused_for, reply, status_of, text_after, transcript}
+
+-- The bytes that were read are some commands and a rest, and the transcript of these commands was written.
+pub record Told (before behind old new : Option (List ℕ)) (source : List ℕ) (Ends : (read rest text : List ℕ) → Type 0) : Type 0 where
+  pub read : List ℕ
+  pub turns : List Turn
+  pub rest : List ℕ
+  pub is_read : Consumes before behind read
+  pub begins : Begins read turns rest
+  pub fair : IsFair source turns
+  pub written : Appends old new (transcript source turns)
+  pub ends : Ends read rest (text_after source turns)
+
+-- The bytes that were read are some commands and a rest, and a front of the transcript of these commands was written.
+pub record ToldPart (before behind old new : Option (List ℕ)) (source : List ℕ) : Type 0 where
+  pub read : List ℕ
+  pub turns : List Turn
+  pub rest : List ℕ
+  pub is_read : Consumes before behind read
+  pub begins : Begins read turns rest
+  pub fair : IsFair source turns
+  pub written : AppendsPart old new (transcript source turns)
+
+-- The script neither ends behind these bytes nor has a well-formed command there, whatever is left of it.
+abbrev pub IsMalformed : (rest : List ℕ) → (left : Option (List ℕ)) → Type 0
+IsMalformed rest left = IfSome (prepend_known rest left) (λ bytes. next_of bytes ≡ Unknown)
+
+-- What is known of a run over a source, by its end: what is left of the script, and what the writer holds.
+--   the script is whole commands and nothing else, and the status is that of the last text;
+--   at a fault of the script, of reading, of memory and of too many reads, the commands are all that stand whole among the bytes read;
+--   at a fault of writing a front of the transcript was written, and where the source is too large, nothing was read or written.
+abbrev pub Ran : Result Status RunFault → (before behind old new : Option (List ℕ)) → (source : List ℕ) → Type 0
+Ran (Ok status) before behind old new source = Told before behind old new source (λ read rest text. (rest ≡ []) × IsAtEnd behind × (status ≡ status_of text))
+Ran (Err (Script at)) before behind old new source = Told before behind old new source (λ read rest text. (at + length rest ≡ length read) × HoldsNone rest × IsMalformed rest behind)
+Ran (Err Read) before behind old new source = Told before behind old new source (λ read rest text. HoldsNone rest)
+Ran (Err Memory) before behind old new source = Told before behind old new source (λ read rest text. HoldsNone rest)
+Ran (Err TooManyTurns) before behind old new source = Told before behind old new source (λ read rest text. HoldsNone rest × (16777216 ≤ length read))
+Ran (Err Write) before behind old new source = ToldPart before behind old new source
+Ran (Err Source) before behind old new source = Keeps before behind × Keeps old new × (limit < length source)
+
+abbrev pub is_read_fault : Result Status RunFault → Bool
+is_read_fault (Err Read) = true
+is_read_fault _ = false
+
+abbrev pub is_write_fault : Result Status RunFault → Bool
+is_write_fault (Err Write) = true
+is_write_fault _ = false
+
+abbrev pub is_too_many : Result Status RunFault → Bool
+is_too_many (Err TooManyTurns) = true
+is_too_many _ = false
+
+-- A command was carried out on a text, and its answer written as far as the writer took it.
+pub record Answered {T E : Type 0} (result : Result T E) (text next : List ℕ) (request : Request) (old new : Option (List ℕ)) : Type 0 where
+  pub starved : Bool
+  pub fair : OnTrue starved (MayStarve text request)
+  pub text_is : next ≡ after text request starved
+  pub written : Written result old new (reply text request starved)
+
+-- An edit was made, or refused and nothing changed.
+pub record IsEdited (old new : List ℕ) (start stop : ℕ) (added : List ℕ) (refused : Option Refused) : Type 0 where
+  pub starved : Bool
+  pub fair : OnTrue starved (refusal_of old start stop (length added) ≡ None)
+  pub refused_is : refused ≡ refused_for old start stop added starved
+  pub text_is : new ≡ edited refused old (spliced old start stop added)
+
+-- A session over a source cannot begin for want of memory, or as the source is too large.
+abbrev pub NoStart : List ℕ → RunFault → Type 0
+NoStart source Source = limit < length source
+NoStart source Memory = ⊤
+NoStart source Read = ⊥
+NoStart source Write = ⊥
+NoStart source (Script at) = ⊥
+NoStart source TooManyTurns = ⊥

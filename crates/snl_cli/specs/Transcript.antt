@@ -1,0 +1,73 @@
+-- What is written for a script.
+use Rattle.std.specs.Prelude.{◌≡◌, ◌≢◌, ℕ, ◌==◌, List, [], ◌∷◌, ◌++◌, length, Bool, Option, Some, None, ⊤, if◌then◌else◌}
+use Rattle.std.specs.Bool.{OnTrue}
+use Rattle.snl_session.specs.declared.edits.Refused.{Refused}
+use Rattle.snl_session.specs.declared.edits.Refused.TheVariants.{Memory}
+use Rattle.snl_session.specs.Diagnostics.{errors_of}
+use Rattle.snl_session.specs.Edit.{refusal_of, spliced}
+use Rattle.snl_cli.specs.declared.faults.Status.{Status}
+use Rattle.snl_cli.specs.declared.faults.Status.TheVariants.{Clean, Errors}
+use Rattle.snl_cli.specs.Answers.{edit_text, report_of}
+use Rattle.snl_cli.specs.Script.{Request, Checks, Edits, Next, Then, next_of}
+
+-- A command, and whether it was refused for want of memory.
+pub record Turn : Type 0 where
+  pub request : Request
+  pub starved : Bool
+
+-- Another refusal goes before that for want of memory.
+abbrev pub or_memory : Option Refused → (starved : Bool) → Option Refused
+or_memory None starved = if starved then Some Memory else None
+or_memory (Some refused) starved = Some refused
+
+-- What an edit is refused for, if it is.
+abbrev pub refused_for : (text : List ℕ) (start stop : ℕ) (new : List ℕ) (starved : Bool) → Option Refused
+refused_for text start stop new starved = or_memory (refusal_of text start stop (length new)) starved
+
+-- A refused edit leaves the text as it was.
+abbrev pub edited : Option Refused → (old new : List ℕ) → List ℕ
+edited None old new = new
+edited (Some refused) old new = old
+
+-- The answer to a command.
+abbrev pub reply : (text : List ℕ) → Request → (starved : Bool) → List ℕ
+reply text Checks starved = report_of text
+reply text (Edits start stop new) starved = edit_text (refused_for text start stop new starved)
+
+-- The text behind a command.
+abbrev pub after : (text : List ℕ) → Request → (starved : Bool) → List ℕ
+after text Checks starved = text
+after text (Edits start stop new) starved = edited (refused_for text start stop new starved) text (spliced text start stop new)
+
+-- Memory can be wanting for an edit that nothing else refuses, and never for a check.
+abbrev pub MayStarve : (text : List ℕ) → Request → Type 0
+MayStarve text Checks = ⊥
+MayStarve text (Edits start stop new) = refusal_of text start stop (length new) ≡ None
+
+-- The commands that were refused for want of memory are such, and so are answered `refused memory`.
+abbrev pub IsFair : (text : List ℕ) → List Turn → Type 0
+IsFair text [] = ⊤
+IsFair text (t ∷ ts) = OnTrue t.starved (MayStarve text t.request) × IsFair (after text t.request t.starved) ts
+
+-- The answers to commands, in order.
+abbrev pub transcript : (text : List ℕ) → List Turn → List ℕ
+transcript text [] = []
+transcript text (t ∷ ts) = reply text t.request t.starved ++ transcript (after text t.request t.starved) ts
+
+-- The text behind commands.
+abbrev pub text_after : (text : List ℕ) → List Turn → List ℕ
+text_after text [] = text
+text_after text (t ∷ ts) = text_after (after text t.request t.starved) ts
+
+-- The bytes are these commands, one behind another, and then the rest.
+abbrev pub Begins : (bytes : List ℕ) → List Turn → (rest : List ℕ) → Type 0
+Begins bytes [] rest = rest ≡ bytes
+Begins bytes (t ∷ ts) rest = (behind : List ℕ) × (next_of bytes ≡ Then t.request behind) × Begins behind ts rest
+
+-- No well-formed command stands whole at the front of the bytes.
+abbrev pub HoldsNone : List ℕ → Type 0
+HoldsNone bytes = (request : Request) (behind : List ℕ) → next_of bytes ≢ Then request behind
+
+-- The status of a text.
+abbrev pub status_of : List ℕ → Status
+status_of text = if errors_of text == 0 then Clean else Errors

@@ -1,9 +1,0 @@
-use Rattle.std.proofs.Common.{◌≡◌, ◌-◌, suc, take, arith, sym, ap, ◌∙◌}
-use Rattle.snl_cut.specs.Cut.{last_end}
-use Rattle.snl_cut.proofs.Below.{last_taken}
-use Rattle.snl_cut.proofs.end_of.Goals as goal
-
-pub returns-else-count-eq0 : goal.returns-else-count-eq0
-returns-else-count-eq0 c =
-    let one : suc (c.args.count - 1) ≡ c.args.count = omega arith in
-    sym (last_taken 0 c.args.ends.now (c.args.count - 1) (omega arith)) ∙ ap (λ n. last_end 0 (take n c.args.ends.now)) one

@@ -1,0 +1,13 @@
+use Rattle.std.proofs.Common.{◌-◌, ◌≤◌, length}
+use Rattle.snl_cut.specs.Cut.{ends_below}
+use Rattle.snl_cut.proofs.places.count_below.Given as goal
+
+abbrev pub invariant-loop-low : goal.invariant-loop-low
+invariant-loop-low l = record {
+  least : l.low ≤ ends_below l.place l.ends;
+  most : ends_below l.place l.ends ≤ l.high;
+  inside : l.high ≤ length l.ends;
+}
+
+abbrev pub decreases-loop-low : goal.decreases-loop-low
+decreases-loop-low l = l.high - l.low

@@ -1,0 +1,66 @@
+//! Where members end: look-ups in a list of ends, by halving.
+
+ghost use Rattle.snl_cut.specs.Cut.{Rises, ends_below, last_end};
+ghost use Rattle.std.specs.Prelude.{◌≡◌, ◌+◌, ◌-◌, ◌^◌, ◌<◌, ◌≤◌, MatchOption, length, take, ℕ};
+
+// How many of the ends are below `place`, by halving.
+pub fn count_below(ends: &[usize], place: usize) -> usize
+    requires { Rises 0 ends.now }
+    ensures count { result ≡ ends_below place ends.now }
+    ensures inside { result ≤ length ends.now }
+{
+    let mut low = 0;
+    let mut high = ends.len();
+    while low < high {
+        let middle = low + (high - low) / 2;
+        if ends[middle] < place {
+            low = middle + 1;
+        } else {
+            high = middle;
+        }
+    }
+    low
+}
+
+// How many members, from the first on, end just at `place`.
+fn members_to(ends: &[usize], place: usize) -> Option<usize>
+    requires { Rises 0 ends.now }
+    ensures { MatchOption
+        result
+        ((k : ℕ) → last_end 0 (take k ends.now) ≡ place → ⊥)
+        (λ k. (k ≤ length ends.now) × (last_end 0 (take k ends.now) ≡ place)) }
+{
+    if place == 0 {
+        return Some(0);
+    }
+    let below = count_below(ends, place);
+    if below < ends.len() && ends[below] == place {
+        Some(below + 1)
+    } else {
+        None
+    }
+}
+
+// How many old members end where the new place `at` was, which has to stand at the edit's end or behind it.
+pub fn meeting(old_ends: &[usize], old_stop: usize, new_stop: usize, at: usize) -> Option<usize>
+    requires rising { Rises 0 old_ends.now }
+    requires fits { (at - new_stop) + old_stop < 2 ^ 64 }
+    ensures { MatchOption
+        result
+        (new_stop ≤ at → (k : ℕ) → last_end 0 (take k old_ends.now) ≡ (at - new_stop) + old_stop → ⊥)
+        (λ k. (new_stop ≤ at) × (k ≤ length old_ends.now) × (last_end 0 (take k old_ends.now) ≡ (at - new_stop) + old_stop)) }
+{
+    if at < new_stop {
+        None
+    } else {
+        members_to(old_ends, at - new_stop + old_stop)
+    }
+}
+
+// Where the first `count` members end.
+pub fn end_of(ends: &[usize], count: usize) -> usize
+    requires { count ≤ length ends.now }
+    ensures { result ≡ last_end 0 (take count ends.now) }
+{
+    if count == 0 { 0 } else { ends[count - 1] }
+}

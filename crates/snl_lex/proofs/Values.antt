@@ -1,0 +1,26 @@
+-- What digits are worth, digit by digit.
+use Rattle.std.proofs.Common.{◌≡◌, ℕ, ◌+◌, ◌*◌, ◌<◌, ◌≤◌, List, [], ◌∷◌, length, drop, get_or, Some, None, ap, arith}
+use Rattle.std.proofs.lemmas.List.{drop_more}
+use Rattle.std.proofs.lemmas.Bool.Decides.{nat_tests}
+use Rattle.snl_lex.specs.declared.alphabet.Base.{Base}
+use Rattle.snl_lex.specs.declared.alphabet.Base.TheVariants.{Octal, Decimal, Hexadecimal}
+use Rattle.snl_lex.specs.Numbers.{radix, digit_value, value_behind, checked_value}
+
+pub behind_more : (base : Base) (v : ℕ) (ds : List ℕ) (i : ℕ) → i < length ds
+    → value_behind base v (drop i ds) ≡ value_behind base (v * radix base + digit_value (get_or ds i 0)) (drop (i + 1) ds)
+behind_more base v ds i lt = ap (value_behind base v) (drop_more ds i 0 lt)
+
+times : (base : Base) (v d : ℕ) → v ≤ v * radix base + d
+times Octal v d = omega arith
+times Decimal v d = omega arith
+times Hexadecimal v d = omega arith
+
+pub value_grows : (base : Base) (v : ℕ) (ds : List ℕ) → v ≤ value_behind base v ds
+value_grows base v [] = omega arith
+value_grows base v (d ∷ ds) = omega (arith, times base v (digit_value d), value_grows base (v * radix base + digit_value d) ds)
+
+pub too_large : (v : ℕ) → 18446744073709551616 ≤ v → checked_value v ≡ None
+too_large v h = grind (arith, nat_tests)
+
+pub small_enough : (v : ℕ) → v < 18446744073709551616 → checked_value v ≡ Some v
+small_enough v h = grind (arith, nat_tests)

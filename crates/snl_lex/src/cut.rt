@@ -1,0 +1,155 @@
+//! The cut of a text into pieces, made whole or again after an edit.
+//! In: a text; after an edit also the old text and its pieces. Out: the pieces, or what is kept and made of them.
+//! It knows of a piece only that it is the first one of what is left.
+
+ghost use Rattle.snl_cut.specs.Cut.{IsCut, IsEdit, IsRecut, Walks, after_ticks, last_end};
+ghost use Rattle.snl_lex.specs.Local.{piece_front, piece_local};
+ghost use Rattle.snl_lex.specs.Pieces.{HasOwnBytes, LiesIn, bytes_at, moved_piece, piece_at, piece_end, piece_length, pieces_along, pieces_of};
+ghost use Rattle.std.specs.List.{flat_map};
+ghost use Rattle.std.specs.Prelude.{◌≡◌, ◌+◌, ◌-◌, ◌^◌, ◌<◌, ◌≤◌, ◌++◌, All, IfOk, drop, length, map, take};
+
+use crate::piece::Piece;
+use crate::scan::first_piece;
+use snl_cut::{Count, Front, OutOfMemory, recut};
+use std::alloc::Global;
+
+/// The front that cuts a text into pieces: its units are bytes.
+pub struct Bytes;
+
+impl Front for Bytes {
+    type Unit = u8;
+
+    ghost first_of = { piece_length };
+
+    ghost within = { piece_front };
+
+    ghost local = { piece_local };
+
+    fn first(&self, rest: &[u8], work: &mut Count) -> usize {
+        work.tick();
+        first_piece(rest).1
+    }
+}
+
+// The piece that begins at `at`.
+#[tactic(auto, unfolding(crate::specs::Pieces::piece_at))]
+fn piece_at(text: &[u8], at: usize) -> Piece
+    requires { at < length text.now }
+    ensures piece { result ≡ piece_at text.now at }
+    ensures some { 1 ≤ result.len }
+    ensures inside { at + result.len ≤ length text.now }
+{
+    let (kind, len) = first_piece(&text[at..]);
+    Piece {
+        kind,
+        start: at,
+        len,
+    }
+}
+
+/// The pieces of a text, cut from the left. Each is one tick. The only error is want of memory.
+///
+/// Classes are those of the SNL reference of the EPICS sequencer 2.2 manual; which bytes a faulty piece takes is this project's profile.
+pub fn lex(alloc: Global, text: &[u8], work: &mut Count) -> Result<Vec<Piece>, OutOfMemory>
+    ensures pieces { IfOk result (λ pieces. pieces.items ≡ pieces_of text.now) }
+
+    // Laws of the pieces of any text: joined they are the text, each lies in it and has a byte, and each has bytes of its class alone.
+    ensures joined { IfOk result (λ pieces. flat_map (bytes_at text.now) pieces.items ≡ text.now) }
+    ensures inside { IfOk result (λ pieces. All (LiesIn text.now) pieces.items) }
+    ensures own_bytes { IfOk result (λ pieces. All (HasOwnBytes text.now) pieces.items) }
+    ensures cut { IfOk result (λ pieces. IsCut piece_length text.now (map piece_end pieces.items)) }
+
+    ensures ticks { IfOk result (λ pieces. work.new ≡ after_ticks work.old (length pieces.items)) }
+{
+    let mut pieces = Vec::new(alloc);
+    let mut at = 0;
+    while at < text.len() {
+        work.tick();
+        let piece = piece_at(text, at);
+        pieces.push(piece)?;
+        at += piece.len;
+    }
+    Ok(pieces)
+}
+
+/// What is kept and made of the pieces of an old text: so many at the front, the new ones, and so many at the back, which moved with the bytes.
+#[derive(Drop)]
+pub struct Relexed {
+    pub kept_front: usize,
+    pub made: Vec<Piece>,
+    pub kept_back: usize,
+}
+
+// Where each piece ends.
+fn ends_of(alloc: Global, pieces: &[Piece]) -> Result<Vec<usize>, OutOfMemory>
+    requires { All (λ p. piece_end p < 2 ^ 64) pieces.now }
+    ensures { IfOk result (λ ends. ends.items ≡ map piece_end pieces.now) }
+{
+    let mut ends = Vec::new(alloc);
+    for piece in pieces {
+        ends.push(piece.start + piece.len)?;
+    }
+    Ok(ends)
+}
+
+// Where the first `count` pieces end.
+fn end_of(ends: &[usize], count: usize) -> usize
+    requires { count ≤ length ends.now }
+    ensures { result ≡ last_end 0 (take count ends.now) }
+{
+    if count == 0 { 0 } else { ends[count - 1] }
+}
+
+// The pieces that end one behind another at these places.
+fn pieces_along(
+    alloc: Global,
+    text: &[u8],
+    from: usize,
+    ends: &[usize],
+) -> Result<Vec<Piece>, OutOfMemory>
+    requires { Walks piece_length text.now from ends.now (last_end from ends.now) }
+    ensures { IfOk result (λ pieces. pieces.items ≡ pieces_along text.now from ends.now) }
+{
+    let mut pieces = Vec::new(alloc);
+    let mut at = from;
+    for end in ends {
+        pieces.push(piece_at(text, at))?;
+        at = *end;
+    }
+    Ok(pieces)
+}
+
+/// The pieces of `text` from those of `old_text`, of which the bytes from `start` to `old_stop` were replaced by those up to `new_stop`. Each piece that is made is one tick. The only error is want of memory.
+pub fn relex(
+    alloc: Global,
+    old_text: &[u8],
+    old: &[Piece],
+    text: &[u8],
+    start: usize,
+    old_stop: usize,
+    new_stop: usize,
+    work: &mut Count,
+) -> Result<Relexed, OutOfMemory>
+    requires old_pieces { old.now ≡ pieces_of old_text.now }
+    requires edit { IsEdit old_text.now text.now start old_stop new_stop }
+    ensures recut { IfOk
+        result
+        (λ r. IsRecut piece_length old_text.now (map piece_end old.now) text.now start old_stop new_stop r.kept_front (map piece_end r.made.items) r.kept_back) }
+    ensures order { IfOk result (λ r. r.kept_front + r.kept_back ≤ length old.now) }
+    ensures pieces { IfOk
+        result
+        (λ r. pieces_of text.now ≡ (take r.kept_front old.now ++ r.made.items) ++ map (moved_piece old_stop new_stop) (drop (length old.now - r.kept_back) old.now)) }
+    ensures ticks { IfOk result (λ r. work.new ≡ after_ticks work.old (length r.made.items)) }
+{
+    let ends = ends_of(alloc, old)?;
+    let cut = recut(
+        alloc, &Bytes, old_text, &ends, text, start, old_stop, new_stop, work,
+    )?;
+    let from = end_of(&ends, cut.kept_front);
+    let made = pieces_along(alloc, text, from, &cut.made)?;
+    Ok(Relexed {
+        kept_front: cut.kept_front,
+        made,
+        kept_back: cut.kept_back,
+    })
+}

@@ -1,0 +1,26 @@
+//! What an edit answers: what it cost, or why it was not made.
+#![tactic(auto)]
+
+use thiserror::Error;
+
+/// Why a call changed nothing. An edit tests its range first, then the size, and then asks for memory.
+#[derive(Clone, Copy, Debug, PartialEq, Eq, Error)]
+pub enum Refused {
+    /// The range ends before it begins, or behind the text.
+    #[error("the range is not within the text")]
+    Range,
+    /// The new text would have more than 1,048,576 bytes.
+    #[error("the text would be too large")]
+    Size,
+    /// A growth was refused.
+    #[error("out of memory")]
+    Memory,
+}
+
+/// What an edit cost: pieces cut, items parsed and items checked anew. All are 0 as long as nothing is kept between edits.
+#[derive(Clone, Copy, Debug, PartialEq, Eq)]
+pub struct Work {
+    pub lexed: u64,
+    pub parsed: u64,
+    pub checked: u64,
+}

@@ -1,0 +1,139 @@
+//! The session: edits of a text come in, its diagnostics go out.
+//! An edit has three steps: the test of its range and size, all that takes memory, and the change, which cannot fail.
+#![tactic(auto)]
+
+ghost use Rattle.std.specs.Prelude.{◌≡◌, ℕ, ◌+◌, ◌≤◌, [], ◌++◌, List, length, IfOk, OnOk, OnErr, IsErrOf, IsOkUnless, MatchOption, None};
+
+use crate::edits::{Refused, Work};
+use crate::findings::Diagnostic;
+use crate::thin::diagnose;
+use std::alloc::{AllocError, Global};
+use std::marker::Model;
+
+/// The number of bytes that a text has at most.
+const LIMIT: usize = 1_048_576;
+
+/// A text and its diagnostics. Its value is the text: all that it answers is what the text alone defines.
+#[derive(Drop)]
+pub struct Session {
+    text: Vec<u8>,
+    found: Vec<Diagnostic>,
+}
+
+impl Model for Session {
+    ghost use Rattle.std.specs.Prelude.{◌≡◌, ℕ, ◌≤◌, List, length};
+    ghost use Rattle.snl_session.specs.Diagnostics.{diagnostics_of};
+
+    ghost Value = { List ℕ };
+
+    ghost view = { λ s. s.text.items };
+
+    ghost invariant = { λ s. (length s.text.items ≤ 1048576) × (s.found.items ≡ diagnostics_of s.text.items) };
+}
+
+impl Session {
+    ghost use Rattle.snl_session.specs.Diagnostics.{diagnostics_of, errors_of, warnings_of};
+    ghost use Rattle.snl_session.specs.Edit.{limit, refusal_of, spliced};
+
+    /// A session over the empty text. The only refusal is that of memory.
+    pub fn new(alloc: Global) -> Result<Session, Refused>
+        ensures ok { IfOk result (λ s. s ≡ []) }
+        ensures refused { IsOkUnless result Refused.Memory }
+    {
+        let text = Vec::new(alloc);
+        Session::over(alloc, text).map_err(|_| Refused::Memory)
+    }
+
+    /// Puts other bytes in the place of those from `start` up to `stop`. An `Err` changes nothing.
+    pub fn edit(&mut self, start: usize, stop: usize, new: &[u8]) -> Result<Work, Refused>
+        ensures ok { OnOk result (self.new ≡ spliced self.old start stop new.now) }
+        ensures refused { MatchOption (refusal_of self.old start stop (length new.now))
+            (IsOkUnless result Refused.Memory) (λ e. IsErrOf result e) }
+        ensures err { OnErr result (self.new ≡ self.old) }
+    {
+        if let Some(refused) = self.refusal(start, stop, new.len()) {
+            return Err(refused);
+        }
+        let next = self.edited(start, stop, new).map_err(|_| Refused::Memory)?;
+        *self = next;
+        Ok(Work {
+            lexed: 0,
+            parsed: 0,
+            checked: 0,
+        })
+    }
+
+    /// The text.
+    pub fn text(&self) -> &[u8]
+        ensures text { result.now ≡ self.now }
+        ensures size { length result.now ≤ limit }
+    {
+        self.text.as_slice()
+    }
+
+    /// The diagnostics of the text, sorted by offset and then by code.
+    pub fn diagnostics(&self) -> &[Diagnostic]
+        ensures { result.now ≡ diagnostics_of self.now }
+    {
+        self.found.as_slice()
+    }
+
+    /// How many of the diagnostics are errors.
+    #[tactic(auto, unfolding(crate::specs::Diagnostics::errors_of))]
+    pub fn errors(&self) -> usize
+        ensures { result ≡ errors_of self.now }
+    {
+        self.found.iter().filter(|d| d.code.is_error()).count()
+    }
+
+    /// How many of the diagnostics are warnings.
+    #[tactic(auto, unfolding(crate::specs::Diagnostics::warnings_of))]
+    pub fn warnings(&self) -> usize
+        ensures { result ≡ warnings_of self.now }
+    {
+        self.found.iter().filter(|d| !d.code.is_error()).count()
+    }
+
+    // Why an edit is refused before any memory is asked for.
+    fn refusal(&self, start: usize, stop: usize, added: usize) -> Option<Refused>
+        ensures { result ≡ refusal_of self.now start stop added }
+    {
+        if start > stop || stop > self.text.len() {
+            return Some(Refused::Range);
+        }
+        if added > LIMIT - (self.text.len() - (stop - start)) {
+            return Some(Refused::Size);
+        }
+        None
+    }
+
+    // The session after an edit that is not refused. All that takes memory is done here.
+    fn edited(&self, start: usize, stop: usize, new: &[u8]) -> Result<Session, AllocError>
+        requires { refusal_of self.now start stop (length new.now) ≡ None }
+        ensures { IfOk result (λ s. s ≡ spliced self.now start stop new.now) }
+    {
+        let alloc = *self.text.allocator();
+        let text = joined(alloc, &self.text[..start], new, &self.text[stop..])?;
+        Session::over(alloc, text)
+    }
+
+    // A session over this text.
+    #[tactic(auto, unfolding(crate::specs::Diagnostics::diagnostics_of))]
+    fn over(alloc: Global, text: Vec<u8>) -> Result<Session, AllocError>
+        requires { length text.items ≤ 1048576 }
+        ensures { IfOk result (λ s. s ≡ text.items) }
+    {
+        let found = diagnose(alloc, &text)?;
+        Ok(Session { text, found })
+    }
+}
+
+// Three parts, one behind another.
+fn joined(alloc: Global, front: &[u8], middle: &[u8], back: &[u8]) -> Result<Vec<u8>, AllocError>
+    ensures { IfOk result (λ v. v.items ≡ front.now ++ middle.now ++ back.now) }
+{
+    let mut text = Vec::from_slice(alloc, front)?;
+    text.extend_from_slice(middle)?;
+    text.extend_from_slice(back)?;
+    Ok(text)
+}
