@@ -1,0 +1,3 @@
+mod Headers
+mod PlainItems
+mod StateSets

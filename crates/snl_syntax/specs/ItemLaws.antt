@@ -1,5 +1,5 @@
 -- The first item of a list is found, and tells no more of the list than the item and the one token behind it.
-use Rattle.std.specs.Prelude.{◌≡◌, ℕ, zero, suc, ◌+◌, ◌-◌, ◌<◌, ◌≤◌, min, Bool, true, false, cond, List, [], ◌∷◌, length, take, Option, Some, None, ◌⊎◌, refl}
+use Rattle.std.specs.Prelude.{◌≡◌, ℕ, zero, suc, ◌+◌, ◌-◌, ◌<◌, ◌≤◌, min, Bool, true, false, cond, List, [], ◌∷◌, length, take, ◌⊎◌, refl}
 use Rattle.std.specs.List.{slice_get}
 use Rattle.std.proofs.Common.{sym, ap, ◌∙◌, inl, inr, arith, subst}
 use Rattle.std.proofs.lemmas.Bool.Decides.{nat_tests}
@@ -9,7 +9,7 @@ use Rattle.snl_cut.specs.Cut.{IsFront, IsLocal}
 use Rattle.snl_syntax.specs.declared.mark.Mark.{Mark}
 use Rattle.snl_syntax.specs.Items.{ends_before, ends_behind, least_from, item}
 
-split : (a b : ℕ) → (a < b) ⊎ (b ≤ a)
+pub split : (a b : ℕ) → (a < b) ⊎ (b ≤ a)
 split a b = grind (arith, nat_tests)
 
 -- the number is the least from `low` on that passes
@@ -18,10 +18,10 @@ pub record IsLeast (p : ℕ → Bool) (low : ℕ) (k : ℕ) : Type 0 where
   pub passes : p k ≡ true
   pub none : (m : ℕ) → low ≤ m → m < k → p m ≡ false
 
-least_here : (p : ℕ → Bool) (n turns : ℕ) → p n ≡ true → least_from p n (suc turns) ≡ n
+pub least_here : (p : ℕ → Bool) (n turns : ℕ) → p n ≡ true → least_from p n (suc turns) ≡ n
 least_here p n turns h = ap (λ (b : Bool). cond b n (least_from p (suc n) turns)) h
 
-least_next : (p : ℕ → Bool) (n turns : ℕ) → p n ≡ false → least_from p n (suc turns) ≡ least_from p (suc n) turns
+pub least_next : (p : ℕ → Bool) (n turns : ℕ) → p n ≡ false → least_from p n (suc turns) ≡ least_from p (suc n) turns
 least_next p n turns h = ap (λ (b : Bool). cond b n (least_from p (suc n) turns)) h
 
 pub least_is : (p : ℕ → Bool) (n turns k : ℕ) → k ≤ n + turns → IsLeast p n k → least_from p n turns ≡ k
@@ -80,7 +80,7 @@ item_front u some =
 pub item_is : (u : List Mark) (k : ℕ) → k ≤ length u → IsLeast (ends_behind u) 1 k → item u ≡ k
 item_is u k within is = least_is (ends_behind u) 1 (length u) k (omega arith) is
 
-get_taken : (u : List Mark) (m n : ℕ) → m < n → slice_get (take n u) m ≡ slice_get u m
+pub get_taken : (u : List Mark) (m n : ℕ) → m < n → slice_get (take n u) m ≡ slice_get u m
 get_taken u m zero h = absurd (omega arith)
 get_taken [] m (suc n) h = refl
 get_taken (x ∷ xs) zero (suc n) h = refl

@@ -1,14 +1,16 @@
 -- Where the first item of a list of tokens ends. All is said of what stands before a place and of the one token behind it.
-use Rattle.std.specs.Prelude.{ℕ, zero, suc, ◌==◌, Bool, true, false, not, cond, List, [], ◌∷◌, ◌++◌, length, take, Option, Some, None}
+use Rattle.std.specs.Prelude.{ℕ, zero, suc, ◌+◌, ◌-◌, ◌==◌, Bool, true, false, not, ◌&&◌, ◌||◌, cond, List, [], ◌∷◌, ◌++◌, length, take, Option, Some, None}
 use Rattle.std.specs.List.{count_by, slice_get}
 use Rattle.snl_syntax.specs.declared.mark.Mark.{Mark}
 use Rattle.snl_syntax.specs.declared.mark.Mark.TheVariants as mark
 
-abbrev pub both : Bool → Bool → Bool
-both a b = cond a b false
+abbrev pub is_name : Mark → Bool
+is_name mark.Name = true
+is_name _ = false
 
-abbrev pub either : Bool → Bool → Bool
-either a b = cond a true b
+abbrev pub is_text : Mark → Bool
+is_text mark.Text = true
+is_text _ = false
 
 abbrev pub is_open : Mark → Bool
 is_open mark.OpenBrace = true
@@ -17,6 +19,10 @@ is_open _ = false
 abbrev pub is_close : Mark → Bool
 is_close mark.CloseBrace = true
 is_close _ = false
+
+abbrev pub is_open_paren : Mark → Bool
+is_open_paren mark.OpenParen = true
+is_open_paren _ = false
 
 abbrev pub is_close_paren : Mark → Bool
 is_close_paren mark.CloseParen = true
@@ -32,31 +38,33 @@ is_head mark.Ss = true
 is_head mark.Program = true
 is_head _ = false
 
+-- the words whose items end behind a block
 abbrev pub is_body : Mark → Bool
 is_body mark.Body = true
 is_body _ = false
 
-abbrev pub first_is : (Mark → Bool) → List Mark → Bool
-first_is p [] = false
-first_is p (x ∷ xs) = p x
+-- the token is there and passes
+abbrev pub some_is : (Mark → Bool) → Option Mark → Bool
+some_is p None = false
+some_is p (Some x) = p x
 
-abbrev pub last_is : (Mark → Bool) → List Mark → Bool
-last_is p [] = false
-last_is p (x ∷ []) = p x
-last_is p (x ∷ y ∷ ys) = last_is p (y ∷ ys)
+-- the last token, the first one given by itself
+abbrev pub last_of : Mark → List Mark → Mark
+last_of x [] = x
+last_of x (y ∷ ys) = last_of y ys
 
 -- as many opening as closing braces
 abbrev pub level : List Mark → Bool
 level k = count_by is_open k == count_by is_close k
 
-abbrev pub brace_at : List Mark → ℕ → Bool
-brace_at [] n = false
-brace_at (x ∷ xs) zero = is_open x
-brace_at (x ∷ xs) (suc n) = brace_at xs n
+-- the token in front of this place passes
+abbrev pub is_behind : (Mark → Bool) → List Mark → ℕ → Bool
+is_behind p k zero = false
+is_behind p k (suc n) = some_is p (slice_get k n)
 
 -- the opening brace behind the first n tokens raises the balance from 0
 abbrev pub raises : List Mark → ℕ → Bool
-raises k n = both (level (take n k)) (brace_at k n)
+raises k n = level (take n k) && some_is is_open (slice_get k n)
 
 -- the greatest number below n that passes, or 0
 abbrev pub greatest_below : (ℕ → Bool) → ℕ → ℕ
@@ -65,72 +73,54 @@ greatest_below p (suc n) = cond (p n) n (greatest_below p n)
 
 -- the last brace that raised the balance from 0 directly followed a closing parenthesis
 abbrev pub opened_by_paren : List Mark → Bool
-opened_by_paren k = last_is is_close_paren (take (greatest_below (raises k) (length k)) k)
+opened_by_paren k = is_behind is_close_paren k (greatest_below (raises k) (length k))
 
--- A state, entry or exit, or what looks like a function: it ends behind its block.
-abbrev pub has_body : List Mark → Bool
-has_body k = either (first_is is_body k) (opened_by_paren k)
+abbrev pub is_empty : List Mark → Bool
+is_empty [] = true
+is_empty _ = false
 
--- The tokens begin some `ss NAME {`.
+-- The tokens are the front of some list whose first tokens pass these tests, one each, and whose rest passes `then`, or is left out.
+abbrev pub begins : List (Mark → Bool) → (List Mark → Bool) → List Mark → Bool
+begins [] then k = then k
+begins (p ∷ ps) then [] = true
+begins (p ∷ ps) then (x ∷ k) = p x && begins ps then k
+
+-- The tokens behind `ss` begin some `NAME {`.
 abbrev pub begins_state_set : List Mark → Bool
-begins_state_set [] = true
-begins_state_set (mark.Ss ∷ []) = true
-begins_state_set (mark.Ss ∷ mark.Name ∷ []) = true
-begins_state_set (mark.Ss ∷ mark.Name ∷ mark.OpenBrace ∷ []) = true
-begins_state_set _ = false
+begins_state_set = begins (is_name ∷ is_open ∷ []) is_empty
 
--- The tokens begin some `program NAME ( TEXT .. TEXT )` with one text or more; the parts from the last to the first.
-abbrev pub begins_end : List Mark → Bool
-begins_end [] = true
-begins_end _ = false
-
+-- The tokens begin some `TEXT .. TEXT )`.
 abbrev pub begins_texts : List Mark → Bool
 begins_texts [] = true
-begins_texts (mark.Text ∷ k) = begins_texts k
-begins_texts (mark.CloseParen ∷ k) = begins_end k
-begins_texts _ = false
+begins_texts (x ∷ k) = cond (is_text x) (begins_texts k) (is_close_paren x && is_empty k)
 
-abbrev pub begins_text : List Mark → Bool
-begins_text [] = true
-begins_text (mark.Text ∷ k) = begins_texts k
-begins_text _ = false
-
-abbrev pub begins_paren : List Mark → Bool
-begins_paren [] = true
-begins_paren (mark.OpenParen ∷ k) = begins_text k
-begins_paren _ = false
-
-abbrev pub begins_name : List Mark → Bool
-begins_name [] = true
-begins_name (mark.Name ∷ k) = begins_paren k
-begins_name _ = false
-
+-- The tokens behind `program` begin some `NAME ( TEXT .. TEXT )` with one text or more.
 abbrev pub begins_header : List Mark → Bool
-begins_header [] = true
-begins_header (mark.Program ∷ k) = begins_name k
-begins_header _ = false
+begins_header = begins (is_name ∷ is_open_paren ∷ is_text ∷ []) begins_texts
 
--- An item that begins with no token of its own kind ends: behind a `;` at balance 0; behind a `}` at balance 0, where it has a body;
--- before `ss` or `program` at any balance; and before a `}` at balance 0.
-abbrev pub plain_ends : List Mark → Mark → Bool
-plain_ends before next =
-    either (both (level before) (last_is is_semicolon before))
-    (either (both (level before) (both (last_is is_close before) (has_body before)))
-    (either (is_head next) (both (level before) (is_close next))))
+-- An item that begins with no token of its own kind ends behind the token `last` and before the token `ahead`: behind a `;` at balance 0;
+-- behind a `}` at balance 0, where it has a body; before `ss` or `program` at any balance; and before a `}` at balance 0.
+abbrev pub plain_ends : Bool → Mark → Bool → Mark → Bool
+plain_ends is_level last has_body ahead =
+    (is_level && is_semicolon last) || (is_level && is_close last && has_body) || is_head ahead || (is_level && is_close ahead)
+
+-- A state, entry or exit, or what looks like a function, has a body.
+abbrev pub has_body : Mark → List Mark → Bool
+has_body first k = is_body first || opened_by_paren (first ∷ k)
 
 abbrev pub ends_by : Mark → List Mark → Mark → Bool
-ends_by mark.Ss before next = not (begins_state_set (before ++ next ∷ []))
-ends_by mark.Program before next = not (begins_header (before ++ next ∷ []))
-ends_by mark.CloseBrace before next = true
-ends_by mark.CCode before next = true
-ends_by mark.Semicolon before next = true
-ends_by _ before next = plain_ends before next
+ends_by mark.Ss k ahead = not (begins_state_set (k ++ ahead ∷ []))
+ends_by mark.Program k ahead = not (begins_header (k ++ ahead ∷ []))
+ends_by mark.CloseBrace k ahead = true
+ends_by mark.CCode k ahead = true
+ends_by mark.Semicolon k ahead = true
+ends_by first k ahead = plain_ends (level (first ∷ k)) (last_of first k) (has_body first k) ahead
 
 -- The item that begins with `before` ends there, where this token stands next, or none.
 abbrev pub ends_before : List Mark → Option Mark → Bool
 ends_before before None = true
-ends_before [] (Some next) = false
-ends_before (first ∷ k) (Some next) = ends_by first (first ∷ k) next
+ends_before [] (Some ahead) = false
+ends_before (first ∷ k) (Some ahead) = ends_by first k ahead
 
 abbrev pub ends_behind : List Mark → ℕ → Bool
 ends_behind k n = ends_before (take n k) (slice_get k n)
@@ -143,3 +133,21 @@ least_from p n (suc turns) = cond (p n) n (least_from p (suc n) turns)
 -- The length of the first item: the least number of tokens, at least 1, behind which it ends.
 abbrev pub item : List Mark → ℕ
 item k = least_from (ends_behind k) 1 (length k)
+
+-- The token begins no item of its own kind.
+abbrev pub is_plain : Mark → Bool
+is_plain mark.Ss = false
+is_plain mark.Program = false
+is_plain mark.CloseBrace = false
+is_plain mark.CCode = false
+is_plain mark.Semicolon = false
+is_plain _ = true
+
+-- The balance of the braces behind one more token.
+abbrev pub balance_behind : ℕ → Mark → ℕ
+balance_behind balance token = cond (is_open token) (balance + 1) (cond (is_close token) (balance - 1) balance)
+
+-- A plain item ends behind this token, whatever stands next.
+abbrev pub plain_ends_at : Bool → Mark → Bool → Option Mark → Bool
+plain_ends_at is_level last has_body None = true
+plain_ends_at is_level last has_body (Some ahead) = plain_ends is_level last has_body ahead
