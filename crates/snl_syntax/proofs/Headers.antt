@@ -2,8 +2,8 @@
 use Rattle.std.proofs.Common.{◌≡◌, ℕ, zero, suc, ◌+◌, ◌<◌, ◌≤◌, Bool, true, false, not, cond, ◌&&◌, List, [], ◌∷◌, ◌++◌, length, take, Option, Some, None, refl, ap, ◌∙◌, arith, subst, inl, inr}
 use Rattle.std.proofs.Math.Bool.{and-true}
 use Rattle.std.specs.List.{slice_get}
-use Rattle.snl_syntax.specs.declared.mark.Mark.{Mark}
-use Rattle.snl_syntax.specs.declared.mark.Mark.TheVariants as mark
+use Rattle.snl_syntax.specs.declared.marks.Mark.{Mark}
+use Rattle.snl_syntax.specs.declared.marks.Mark.TheVariants as mark
 use Rattle.snl_syntax.specs.Items.{begins_texts, ends_before, ends_behind, is_close_paren, is_empty, is_name, is_open_paren, is_text, item, some_is}
 use Rattle.snl_syntax.specs.ItemLaws.{item_is, least_here, least_next, split}
 

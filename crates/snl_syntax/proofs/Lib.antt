@@ -1,3 +1,4 @@
 mod Headers
 mod PlainItems
+mod Spellings
 mod StateSets

@@ -6,8 +6,8 @@ use Rattle.std.proofs.lemmas.Bool.Decides.{nat_tests}
 use Rattle.std.proofs.lemmas.List.{length-take-le, take-take}
 use Rattle.std.proofs.lemmas.List.Sums.{count_by_more_no, count_by_more_yes}
 use Rattle.std.proofs.lemmas.Option.{get_or_from_slice_get, slice_get-get_or, slice_get_past, slice_get_within}
-use Rattle.snl_syntax.specs.declared.mark.Mark.{Mark}
-use Rattle.snl_syntax.specs.declared.mark.Mark.TheVariants as mark
+use Rattle.snl_syntax.specs.declared.marks.Mark.{Mark}
+use Rattle.snl_syntax.specs.declared.marks.Mark.TheVariants as mark
 use Rattle.snl_syntax.specs.Items.{balance_behind, ends_before, ends_behind, ends_by, greatest_below, has_body, is_behind, is_body, is_close, is_close_paren, is_open, is_plain, item, last_of, level, opened_by_paren, plain_ends, plain_ends_at, raises, some_is}
 use Rattle.snl_syntax.specs.ItemLaws.{get_taken, item_is, split}
 

@@ -1,8 +1,8 @@
 -- Where an item ends that begins with `ss`.
 use Rattle.std.proofs.Common.{◌≡◌, ℕ, Bool, true, false, not, ◌&&◌, List, [], ◌∷◌, length, Some, refl, ap, ◌∙◌}
 use Rattle.std.specs.List.{slice_get}
-use Rattle.snl_syntax.specs.declared.mark.Mark.{Mark}
-use Rattle.snl_syntax.specs.declared.mark.Mark.TheVariants as mark
+use Rattle.snl_syntax.specs.declared.marks.Mark.{Mark}
+use Rattle.snl_syntax.specs.declared.marks.Mark.TheVariants as mark
 use Rattle.snl_syntax.specs.Items.{ends_behind, is_name, is_open, item, some_is}
 use Rattle.snl_syntax.specs.ItemLaws.{least_here, least_next}
 

@@ -6,7 +6,7 @@ use Rattle.std.proofs.lemmas.Bool.Decides.{nat_tests}
 use Rattle.std.proofs.lemmas.List.{take-take, length-take}
 use Rattle.std.proofs.lemmas.Option.{slice_get_past}
 use Rattle.snl_cut.specs.Cut.{IsFront, IsLocal}
-use Rattle.snl_syntax.specs.declared.mark.Mark.{Mark}
+use Rattle.snl_syntax.specs.declared.marks.Mark.{Mark}
 use Rattle.snl_syntax.specs.Items.{ends_before, ends_behind, least_from, item}
 
 pub split : (a b : ℕ) → (a < b) ⊎ (b ≤ a)

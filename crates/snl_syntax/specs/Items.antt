@@ -1,8 +1,8 @@
 -- Where the first item of a list of tokens ends. All is said of what stands before a place and of the one token behind it.
 use Rattle.std.specs.Prelude.{ℕ, zero, suc, ◌+◌, ◌-◌, ◌==◌, Bool, true, false, not, ◌&&◌, ◌||◌, cond, List, [], ◌∷◌, ◌++◌, length, take, Option, Some, None}
 use Rattle.std.specs.List.{count_by, slice_get}
-use Rattle.snl_syntax.specs.declared.mark.Mark.{Mark}
-use Rattle.snl_syntax.specs.declared.mark.Mark.TheVariants as mark
+use Rattle.snl_syntax.specs.declared.marks.Mark.{Mark}
+use Rattle.snl_syntax.specs.declared.marks.Mark.TheVariants as mark
 
 abbrev pub is_name : Mark → Bool
 is_name mark.Name = true
@@ -79,11 +79,11 @@ abbrev pub is_empty : List Mark → Bool
 is_empty [] = true
 is_empty _ = false
 
--- The tokens are the front of some list whose first tokens pass these tests, one each, and whose rest passes `then`, or is left out.
+-- The tokens are the front of some list whose first tokens pass these tests, one each, and whose rest passes `tail`; a front may break off anywhere.
 abbrev pub begins : List (Mark → Bool) → (List Mark → Bool) → List Mark → Bool
-begins [] then k = then k
-begins (p ∷ ps) then [] = true
-begins (p ∷ ps) then (x ∷ k) = p x && begins ps then k
+begins [] tail k = tail k
+begins (p ∷ ps) tail [] = true
+begins (p ∷ ps) tail (x ∷ k) = p x && begins ps tail k
 
 -- The tokens behind `ss` begin some `NAME {`.
 abbrev pub begins_state_set : List Mark → Bool

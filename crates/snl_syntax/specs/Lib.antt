@@ -1,2 +1,4 @@
 pub mod Items
 pub mod ItemLaws
+pub mod Kinds
+pub mod Marks

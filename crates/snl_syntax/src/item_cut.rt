@@ -3,11 +3,11 @@
 ghost use Rattle.snl_cut.specs.Cut.{ticked};
 ghost use Rattle.snl_syntax.specs.ItemLaws.{item_front, item_local};
 ghost use Rattle.snl_syntax.specs.Items.{balance_behind, is_behind, is_close, is_close_paren, is_name, is_open, is_open_paren, is_plain, is_text, item, plain_ends_at, some_is};
-ghost use Rattle.snl_syntax.specs.declared.mark.Mark.TheVariants as mark;
+ghost use Rattle.snl_syntax.specs.declared.marks.Mark.TheVariants as mark;
 ghost use Rattle.std.specs.List.{slice_get};
 ghost use Rattle.std.specs.Prelude.{◌≡◌, ◌==◌, ◌&&◌, ◌+◌, ◌^◌, ◌<◌, ◌≤◌, cond, false, length, true, ℕ};
 
-use crate::mark::Mark;
+use crate::marks::Mark;
 use snl_cut::{Count, Front};
 
 // The mark with this number, if there is one.

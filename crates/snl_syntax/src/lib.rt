@@ -3,10 +3,14 @@
 
 mod item_cut;
 mod kind;
-mod mark;
+mod marks;
 mod operator;
+mod punctuator;
+mod token_kind;
+mod word;
 pub mod tree;
 
 pub use item_cut::Tokens;
 pub use kind::Kind;
-pub use mark::Mark;
+pub use marks::Mark;
+pub use token_kind::mark;
