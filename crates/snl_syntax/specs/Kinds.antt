@@ -83,7 +83,7 @@ abbrev pub punctuators : List Entry
 punctuators = punctuators_of_1 ++ (punctuators_of_2 ++ punctuators_of_3)
 
 -- What a token is. White space, comments and markers are no tokens.
-abbrev pub kind_of : Class → List ℕ → Kind
+unfoldable pub kind_of : Class → List ℕ → Kind
 kind_of class.Name bytes = kind.Name
 kind_of class.Word bytes = look_up words bytes
 kind_of class.Int bytes = kind.Integer

@@ -1,6 +1,8 @@
 //! The grammar: the tokens of one item come in, its tree goes out. It knows no offsets and no scopes.
 #![tactic(auto)]
 
+#[cfg(test)]
+mod cut_tests;
 mod item_cut;
 mod kind;
 mod marks;

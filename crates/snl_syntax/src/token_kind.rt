@@ -12,6 +12,7 @@ use crate::word::word_kind;
 use snl_lex::{Class, Piece, token_text};
 
 /// What a token is to the grammar. White space, comments and markers are no tokens; they give `Bad`.
+#[tactic(auto, unfolding(crate::specs::Kinds::kind_of))]
 pub fn kind(text: &[u8], piece: Piece) -> Kind
     requires { piece.start + piece.len ≤ length text.now }
     ensures { result ≡ kind_of piece.kind (take piece.len (drop piece.start text.now)) }
