@@ -79,7 +79,7 @@ abbrev pub is_empty : List Mark → Bool
 is_empty [] = true
 is_empty _ = false
 
--- The tokens are the front of some list whose first tokens pass these tests, one each, and whose rest passes `tail`; a front may break off anywhere.
+-- The tokens are the front of a list: its first tokens pass these tests, one each, and the rest passes `tail`. A front may break off anywhere.
 abbrev pub begins : List (Mark → Bool) → (List Mark → Bool) → List Mark → Bool
 begins [] tail k = tail k
 begins (p ∷ ps) tail [] = true
@@ -133,6 +133,8 @@ least_from p n (suc turns) = cond (p n) n (least_from p (suc n) turns)
 -- The length of the first item: the least number of tokens, at least 1, behind which it ends.
 abbrev pub item : List Mark → ℕ
 item k = least_from (ends_behind k) 1 (length k)
+
+-- What the code asks while it reads the tokens one by one.
 
 -- The token begins no item of its own kind.
 abbrev pub is_plain : Mark → Bool

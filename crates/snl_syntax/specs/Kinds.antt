@@ -1,4 +1,4 @@
--- What a token is to the grammar, by its class and its bytes.
+-- What a token is to the grammar, by its class and its bytes. The tables are those of the language: 43 words and 45 punctuators.
 use Rattle.std.specs.Prelude.{ℕ, List, [], ◌∷◌, ◌++◌, cond}
 use Rattle.std.specs.Str.{bytes_eq}
 use lib.Chars.{codes}
@@ -16,11 +16,12 @@ infixl 10 ◌is◌
 abbrev pub ◌is◌ : List ℕ → Kind → Entry
 bytes is kind = record { bytes = bytes; kind = kind }
 
--- What the table says of the bytes.
+-- What the table says of the bytes: the first entry counts, and `Bad` where there is none.
 abbrev pub look_up : List Entry → List ℕ → Kind
 look_up [] bytes = kind.Bad
 look_up (e ∷ es) bytes = cond (bytes_eq bytes e.bytes) e.kind (look_up es bytes)
 
+-- The words of two letters, of three, and so on.
 abbrev pub words_of_2 : List Entry
 words_of_2 = (codes "ss" is kind.Ss) ∷ (codes "to" is kind.To) ∷ (codes "if" is kind.If) ∷ []
 
@@ -40,9 +41,9 @@ words_of_5 =
 
 abbrev pub words_of_6 : List Entry
 words_of_6 =
-    (codes "option" is kind.Option) ∷ (codes "assign" is kind.Assign) ∷ (codes "return" is kind.Return) ∷ (codes "sizeof" is kind.Sizeof)
-    ∷ (codes "int8_t" is kind.Int8) ∷ (codes "double" is kind.Double) ∷ (codes "string" is kind.String) ∷ (codes "evflag" is kind.Evflag)
-    ∷ (codes "struct" is kind.Struct) ∷ []
+    (codes "assign" is kind.Assign) ∷ (codes "string" is kind.String) ∷ (codes "double" is kind.Double) ∷ (codes "evflag" is kind.Evflag)
+    ∷ (codes "option" is kind.Option) ∷ (codes "struct" is kind.Struct) ∷ (codes "return" is kind.Return) ∷ (codes "sizeof" is kind.Sizeof)
+    ∷ (codes "int8_t" is kind.Int8) ∷ []
 
 abbrev pub words_of_7 : List Entry
 words_of_7 =
@@ -58,6 +59,7 @@ words_of_8 =
 abbrev pub words : List Entry
 words = words_of_2 ++ (words_of_3 ++ (words_of_4 ++ (words_of_5 ++ (words_of_6 ++ (words_of_7 ++ words_of_8)))))
 
+-- The punctuators of one byte, of two and of three.
 abbrev pub punctuators_of_1 : List Entry
 punctuators_of_1 =
     (codes "{" is kind.OpenBrace) ∷ (codes "}" is kind.CloseBrace) ∷ (codes "(" is kind.OpenParen) ∷ (codes ")" is kind.CloseParen)
@@ -82,7 +84,7 @@ punctuators_of_3 = (codes "<<=" is kind.LessLessEqual) ∷ (codes ">>=" is kind.
 abbrev pub punctuators : List Entry
 punctuators = punctuators_of_1 ++ (punctuators_of_2 ++ punctuators_of_3)
 
--- What a token is. White space, comments and markers are no tokens.
+-- What a token is, by its class, and a word or a punctuator by its bytes too. White space, comments and markers are no tokens.
 unfoldable pub kind_of : Class → List ℕ → Kind
 kind_of class.Name bytes = kind.Name
 kind_of class.Word bytes = look_up words bytes

@@ -24,31 +24,31 @@ pub enum Mark {
 }
 
 impl Mark {
-    pub fn is_body(self) -> bool
+    pub(crate) fn is_body(self) -> bool
         ensures { result ≡ is_body self }
     {
         matches!(self, Mark::Body)
     }
 
-    pub fn is_semicolon(self) -> bool
+    pub(crate) fn is_semicolon(self) -> bool
         ensures { result ≡ is_semicolon self }
     {
         matches!(self, Mark::Semicolon)
     }
 
-    pub fn is_open(self) -> bool
+    pub(crate) fn is_open(self) -> bool
         ensures { result ≡ is_open self }
     {
         matches!(self, Mark::OpenBrace)
     }
 
-    pub fn is_close(self) -> bool
+    pub(crate) fn is_close(self) -> bool
         ensures { result ≡ is_close self }
     {
         matches!(self, Mark::CloseBrace)
     }
 
-    pub fn is_head(self) -> bool
+    pub(crate) fn is_head(self) -> bool
         ensures { result ≡ is_head self }
     {
         matches!(self, Mark::Ss | Mark::Program)

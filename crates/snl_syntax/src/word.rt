@@ -63,24 +63,24 @@ fn word_of_five(word: &[u8]) -> Kind
 fn word_of_six(word: &[u8]) -> Kind
     ensures { result ≡ look_up words_of_6 word.now }
 {
-    if word == b"option".as_slice() {
-        Kind::Option
-    } else if word == b"assign".as_slice() {
+    if word == b"assign".as_slice() {
         Kind::Assign
+    } else if word == b"string".as_slice() {
+        Kind::String
+    } else if word == b"double".as_slice() {
+        Kind::Double
+    } else if word == b"evflag".as_slice() {
+        Kind::Evflag
+    } else if word == b"option".as_slice() {
+        Kind::Option
+    } else if word == b"struct".as_slice() {
+        Kind::Struct
     } else if word == b"return".as_slice() {
         Kind::Return
     } else if word == b"sizeof".as_slice() {
         Kind::Sizeof
     } else if word == b"int8_t".as_slice() {
         Kind::Int8
-    } else if word == b"double".as_slice() {
-        Kind::Double
-    } else if word == b"string".as_slice() {
-        Kind::String
-    } else if word == b"evflag".as_slice() {
-        Kind::Evflag
-    } else if word == b"struct".as_slice() {
-        Kind::Struct
     } else {
         Kind::Bad
     }
