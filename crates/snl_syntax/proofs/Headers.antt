@@ -1,11 +1,12 @@
 -- Where an item ends that begins with `program`.
 use Rattle.std.proofs.Common.{◌≡◌, ℕ, zero, suc, ◌+◌, ◌<◌, ◌≤◌, Bool, true, false, not, cond, ◌&&◌, List, [], ◌∷◌, ◌++◌, length, take, Option, Some, None, refl, ap, ◌∙◌, arith, subst, inl, inr}
 use Rattle.std.proofs.Math.Bool.{and-true}
+use Rattle.std.proofs.lemmas.Bool.{cases_lt}
 use Rattle.std.specs.List.{slice_get}
 use Rattle.snl_syntax.specs.declared.marks.Mark.{Mark}
 use Rattle.snl_syntax.specs.declared.marks.Mark.TheVariants as mark
 use Rattle.snl_syntax.specs.Items.{begins_texts, ends_before, ends_behind, is_close_paren, is_empty, is_name, is_open_paren, is_text, item, some_is}
-use Rattle.snl_syntax.specs.ItemLaws.{item_is, least_here, least_next, split}
+use Rattle.snl_syntax.specs.ItemLaws.{item_is, least_here, least_next}
 
 -- the token there is there
 pub some_within : (p : Mark → Bool) (u : List Mark) (n : ℕ) → some_is p (slice_get u n) ≡ true → n < length u
@@ -107,7 +108,7 @@ header_closed a b t k n is all stop close =
       above = omega arith;
       passes = closed a b t k n is all stop close (slice_get k (suc n));
       none = λ m low high.
-          elim (split m (suc (suc (suc (suc n))))) [
+          elim (cases_lt m (suc (suc (suc (suc n))))) [
             | inl less ↦ unended a b t k n is all m low less
             | inr more ↦
                 let same : suc (suc (suc (suc n))) ≡ m = omega arith in

@@ -1,7 +1,7 @@
 -- Where an item ends that begins with no token of its own kind, as its marks are read one by one.
 use Rattle.std.proofs.Common.{◌≡◌, ℕ, zero, suc, ◌+◌, ◌-◌, ◌<◌, ◌≤◌, ◌==◌, Bool, true, false, cond, ◌&&◌, ◌||◌, List, [], ◌∷◌, length, take, get_or, Option, Some, None, refl, ap, ◌∙◌, sym, arith, subst, inl, inr}
 use Rattle.std.specs.List.{count_by, slice_get}
-use Rattle.std.proofs.lemmas.Bool.{eqb-false, or_parts}
+use Rattle.std.proofs.lemmas.Bool.{cases_lt, eqb-false, or_parts}
 use Rattle.std.proofs.lemmas.Bool.Decides.{nat_tests}
 use Rattle.std.proofs.lemmas.List.{length-take-le, take-take}
 use Rattle.std.proofs.lemmas.List.Sums.{count_by_more_no, count_by_more_yes}
@@ -9,36 +9,14 @@ use Rattle.std.proofs.lemmas.Option.{get_or_from_slice_get, slice_get-get_or, sl
 use Rattle.snl_syntax.specs.declared.marks.Mark.{Mark}
 use Rattle.snl_syntax.specs.declared.marks.Mark.TheVariants as mark
 use Rattle.snl_syntax.specs.Items.{balance_behind, ends_before, ends_behind, ends_by, greatest_below, has_body, is_behind, is_body, is_close, is_close_paren, is_open, is_plain, item, last_of, level, opened_by_paren, plain_ends, plain_ends_at, raises, some_is}
-use Rattle.snl_syntax.specs.ItemLaws.{get_taken, item_is, split}
+use Rattle.snl_syntax.specs.ItemLaws.{get_taken, item_is}
 
 -- what a mark isn't
 open_not_close : (x : Mark) → is_open x ≡ true → is_close x ≡ false
-open_not_close mark.OpenBrace h = refl
-open_not_close mark.CloseBrace h = cc
-open_not_close mark.Program h = refl
-open_not_close mark.Ss h = refl
-open_not_close mark.Body h = refl
-open_not_close mark.Name h = refl
-open_not_close mark.Text h = refl
-open_not_close mark.CCode h = refl
-open_not_close mark.OpenParen h = refl
-open_not_close mark.CloseParen h = refl
-open_not_close mark.Semicolon h = refl
-open_not_close mark.Other h = refl
+open_not_close x h = grind arith
 
 plain_not_close : (x : Mark) → is_plain x ≡ true → is_close x ≡ false
-plain_not_close mark.OpenBrace h = refl
-plain_not_close mark.CloseBrace h = cc
-plain_not_close mark.Program h = refl
-plain_not_close mark.Ss h = refl
-plain_not_close mark.Body h = refl
-plain_not_close mark.Name h = refl
-plain_not_close mark.Text h = refl
-plain_not_close mark.CCode h = refl
-plain_not_close mark.OpenParen h = refl
-plain_not_close mark.CloseParen h = refl
-plain_not_close mark.Semicolon h = refl
-plain_not_close mark.Other h = refl
+plain_not_close x h = grind arith
 
 ends_by_plain : (f : Mark) (k : List Mark) (x : Mark) → is_plain f ≡ true → ends_by f k x ≡ plain_ends (level (f ∷ k)) (last_of f k) (has_body f k) x
 ends_by_plain mark.OpenBrace k x h = refl
@@ -261,7 +239,7 @@ small_by false false balance n h = omega arith
 
 more_there : (u : List Mark) (n : ℕ) → ends_before (take (n + 1) u) (slice_get u (n + 1)) ≡ false → n + 1 < length u
 more_there u n off =
-    elim (split (n + 1) (length u)) [
+    elim (cases_lt (n + 1) (length u)) [
       | inl less ↦ less
       | inr past ↦
           let end : ends_before (take (n + 1) u) (slice_get u (n + 1)) ≡ true = ap (ends_before (take (n + 1) u)) (slice_get_past u (n + 1) past) in cc
@@ -277,7 +255,7 @@ turn_read {u} {n} {balance} {paren} {balance_next} {paren_next} t off =
       counted = counted_there t;
       told = told_there t;
       unended = λ m low high.
-          elim (split m (n + 1)) [
+          elim (cases_lt m (n + 1)) [
             | inl less ↦ t.read.unended m low (omega arith)
             | inr more ↦ let same : n + 1 ≡ m = omega arith in subst (λ (i : ℕ). ends_behind u i ≡ false) same here
           ];

@@ -1,16 +1,13 @@
 -- The first item of a list is found, and tells no more of the list than the item and the one token behind it.
-use Rattle.std.specs.Prelude.{◌≡◌, ℕ, zero, suc, ◌+◌, ◌-◌, ◌<◌, ◌≤◌, min, Bool, true, false, cond, List, [], ◌∷◌, length, take, ◌⊎◌, refl}
+use Rattle.std.specs.Prelude.{◌≡◌, ℕ, zero, suc, ◌+◌, ◌-◌, ◌<◌, ◌≤◌, min, Bool, true, false, cond, List, [], ◌∷◌, length, take, refl}
 use Rattle.std.specs.List.{slice_get}
 use Rattle.std.proofs.Common.{sym, ap, ◌∙◌, inl, inr, arith, subst}
-use Rattle.std.proofs.lemmas.Bool.Decides.{nat_tests}
+use Rattle.std.proofs.lemmas.Bool.{cases_lt}
 use Rattle.std.proofs.lemmas.List.{take-take, length-take}
 use Rattle.std.proofs.lemmas.Option.{slice_get_past}
 use Rattle.snl_cut.specs.Cut.{IsFront, IsLocal}
 use Rattle.snl_syntax.specs.declared.marks.Mark.{Mark}
 use Rattle.snl_syntax.specs.Items.{ends_before, ends_behind, least_from, item}
-
-pub split : (a b : ℕ) → (a < b) ⊎ (b ≤ a)
-split a b = grind (arith, nat_tests)
 
 -- the number is the least from `low` on that passes
 pub record IsLeast (p : ℕ → Bool) (low : ℕ) (k : ℕ) : Type 0 where
@@ -27,7 +24,7 @@ least_next p n turns h = ap (λ (b : Bool). cond b n (least_from p (suc n) turns
 pub least_is : (p : ℕ → Bool) (n turns k : ℕ) → k ≤ n + turns → IsLeast p n k → least_from p n turns ≡ k
 least_is p n zero k high is = let same : n ≡ k = omega (arith, is.above) in same
 least_is p n (suc turns) k high is =
-    elim (split n k) [
+    elim (cases_lt n k) [
       | inl less ↦
           least_next p n turns (is.none n (omega arith) less)
           ∙ least_is p (suc n) turns k (omega arith) (record { above = less; passes = is.passes; none = λ m low under. is.none m (omega arith) under })
@@ -44,7 +41,7 @@ found_step : (p : ℕ → Bool) (low n top : ℕ) → low ≤ n → n ≤ top �
 found_step p low n top le under none true here again = (n, under, record { above = le; passes = here; none = none })
 found_step p low n top le under none false here again =
     again (λ m from below.
-    elim (split m n) [
+    elim (cases_lt m n) [
       | inl less ↦ none m from less
       | inr at ↦ let same : n ≡ m = omega arith in subst (λ (i : ℕ). p i ≡ false) same here
     ])

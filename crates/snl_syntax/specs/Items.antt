@@ -1,4 +1,5 @@
--- Where the first item of a list of tokens ends. All is said of what stands before a place and of the one token behind it.
+-- Where the first item of a list of tokens ends: this project's profile, which on correct text agrees with the manual's grammar.
+-- All is said of what stands before a place and of the one token behind it.
 use Rattle.std.specs.Prelude.{ℕ, zero, suc, ◌+◌, ◌-◌, ◌==◌, Bool, true, false, not, ◌&&◌, ◌||◌, cond, List, [], ◌∷◌, ◌++◌, length, take, Option, Some, None}
 use Rattle.std.specs.List.{count_by, slice_get}
 use Rattle.snl_syntax.specs.declared.marks.Mark.{Mark}

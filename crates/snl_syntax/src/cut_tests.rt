@@ -11,8 +11,16 @@ use std::test::Fail;
 // The class of a token, for the tokens of the tables.
 fn class_of(token: &[u8]) -> Class {
     match token {
-        b"program" | b"ss" | b"state" | b"entry" | b"exit" | b"when" | b"int" | b"struct"
-        | b"assign" | b"to" => Class::Word,
+        b"program"
+        | b"ss"
+        | b"state"
+        | b"entry"
+        | b"exit"
+        | b"when"
+        | b"int"
+        | b"struct"
+        | b"assign"
+        | b"to" => Class::Word,
         [b'a'..=b'z', ..] => Class::Name,
         [b'0'..=b'9', ..] => Class::Int,
         [b'"', ..] => Class::Text,
@@ -32,108 +40,104 @@ fn ends_by<F: Front>(
     Ok((ends, work.ticks()))
 }
 
-// A list of tokens with one space between any two, and where its items end.
-struct Row {
-    tokens: &'static [u8],
-    ends: &'static [usize],
-}
-
-static ROWS: [Row; 22] = [
-    Row { tokens: b"int a = { 1 } ;", ends: &[7] },
-    Row { tokens: b"int f ( ) { } int x ;", ends: &[6, 9] },
-    Row { tokens: b"struct s { int x ; } ;", ends: &[8] },
-    Row { tokens: b"ss a x ;", ends: &[2, 4] },
-    Row { tokens: b"state i { ss b {", ends: &[3, 6] },
+// Lists of tokens with one space between any two, and where their items end.
+static ROWS: [(&[u8], &[usize]); 22] = [
+    (b"int a = { 1 } ;", &[7]),
+    (b"int f ( ) { } int x ;", &[6, 9]),
+    (b"struct s { int x ; } ;", &[8]),
+    (b"ss a x ;", &[2, 4]),
+    (b"state i { ss b {", &[3, 6]),
     // the block of a function ends its item, behind a list of values too
-    Row { tokens: b"int a = { 1 } , f ( ) { } int x ;", ends: &[12, 15] },
+    (b"int a = { 1 } , f ( ) { } int x ;", &[12, 15]),
     // a header has a text at least
-    Row { tokens: b"program p ( )", ends: &[3, 4] },
-    Row { tokens: b"program p ( \"x\" \"y\" ) int x ;", ends: &[6, 9] },
-    Row { tokens: b"program p ( \"x\" \"y\" int", ends: &[5, 6] },
-    Row { tokens: b"program p ss a {", ends: &[2, 5] },
-    Row { tokens: b"program ;", ends: &[1, 2] },
+    (b"program p ( )", &[3, 4]),
+    (b"program p ( \"x\" \"y\" ) int x ;", &[6, 9]),
+    (b"program p ( \"x\" \"y\" int", &[5, 6]),
+    (b"program p ss a {", &[2, 5]),
+    (b"program ;", &[1, 2]),
     // a semicolon counts braces alone
-    Row { tokens: b"int f ( int a ; int b ) { }", ends: &[6, 11] },
-    Row { tokens: b"struct s { int x ; } int y ;", ends: &[10] },
+    (b"int f ( int a ; int b ) { }", &[6, 11]),
+    (b"struct s { int x ; } int y ;", &[10]),
     // state sets
-    Row { tokens: b"ss a { state i { when ( ) { } exit } }", ends: &[3, 13, 14] },
-    Row { tokens: b"ss { }", ends: &[1, 3] },
+    (b"ss a { state i { when ( ) { } exit } }", &[3, 13, 14]),
+    (b"ss { }", &[1, 3]),
     // what ends and begins alone
-    Row { tokens: b"} } ; ; %{c}% %{d}% x", ends: &[1, 2, 3, 4, 5, 6, 7] },
-    Row { tokens: b"entry { ; } exit { { } }", ends: &[4, 9] },
+    (b"} } ; ; %{c}% %{d}% x", &[1, 2, 3, 4, 5, 6, 7]),
+    (b"entry { ; } exit { { } }", &[4, 9]),
     // a block that follows no parenthesis ends nothing
-    Row { tokens: b"when { } x ;", ends: &[5] },
-    Row { tokens: b"{ { { {", ends: &[4] },
+    (b"when { } x ;", &[5]),
+    (b"{ { { {", &[4]),
     // an item ends before a brace that closes nothing, and before a header anywhere
-    Row { tokens: b"int x }", ends: &[2, 3] },
-    Row { tokens: b"int f ( ) { program p", ends: &[5, 7] },
-    Row { tokens: b"int %{c}% x ;", ends: &[4] },
+    (b"int x }", &[2, 3]),
+    (b"int f ( ) { program p", &[5, 7]),
+    (b"int %{c}% x ;", &[4]),
 ];
 
 #[test]
 fn cuts_items(rt: HostRuntime) -> Result<(), Fail> {
-    for row in &ROWS {
+    for (tokens, wanted) in ROWS {
         let mut marks = Vec::new(rt.alloc());
-        for token in row.tokens.split(|byte| *byte == b' ') {
-            let piece = Piece { kind: class_of(token), start: 0, len: token.len() };
+        for token in tokens.split(|byte| *byte == b' ') {
+            let piece = Piece {
+                kind: class_of(token),
+                start: 0,
+                len: token.len(),
+            };
             marks.push(mark(token, piece))?;
         }
         let (ends, ticks) = ends_by(&rt, &Tokens, &marks)?;
-        assert_eq!(rt; ends.as_slice(), row.ends);
-        assert_eq!(rt; ticks, row.ends.len() as u64);
+        assert_eq!(rt; ends.as_slice(), wanted);
+        assert_eq!(rt; ticks, wanted.len() as u64);
     }
     Ok(())
 }
 
-// The bytes of a token, its class, and what it is.
-struct Token {
-    bytes: &'static [u8],
-    class: Class,
-    kind: Kind,
-    mark: Mark,
-}
-
-static TOKENS: [Token; 32] = [
-    Token { bytes: b"program", class: Class::Word, kind: Kind::Program, mark: Mark::Program },
-    Token { bytes: b"ss", class: Class::Word, kind: Kind::Ss, mark: Mark::Ss },
-    Token { bytes: b"state", class: Class::Word, kind: Kind::State, mark: Mark::Body },
-    Token { bytes: b"entry", class: Class::Word, kind: Kind::Entry, mark: Mark::Body },
-    Token { bytes: b"exit", class: Class::Word, kind: Kind::Exit, mark: Mark::Body },
-    Token { bytes: b"when", class: Class::Word, kind: Kind::When, mark: Mark::Other },
-    Token { bytes: b"if", class: Class::Word, kind: Kind::If, mark: Mark::Other },
-    Token { bytes: b"for", class: Class::Word, kind: Kind::For, mark: Mark::Other },
-    Token { bytes: b"syncq", class: Class::Word, kind: Kind::Syncq, mark: Mark::Other },
-    Token { bytes: b"syncQ", class: Class::Word, kind: Kind::SyncqCapital, mark: Mark::Other },
-    Token { bytes: b"int8_t", class: Class::Word, kind: Kind::Int8, mark: Mark::Other },
-    Token { bytes: b"uint16_t", class: Class::Word, kind: Kind::Uint16, mark: Mark::Other },
-    Token { bytes: b"typename", class: Class::Word, kind: Kind::Typename, mark: Mark::Other },
-    Token { bytes: b"State", class: Class::Name, kind: Kind::Name, mark: Mark::Name },
-    Token { bytes: b"ss", class: Class::Name, kind: Kind::Name, mark: Mark::Name },
-    Token { bytes: b"\"x\"", class: Class::Text, kind: Kind::Text, mark: Mark::Text },
-    Token { bytes: b"'x'", class: Class::CharLit, kind: Kind::Character, mark: Mark::Other },
-    Token { bytes: b"0x1F", class: Class::Int, kind: Kind::Integer, mark: Mark::Other },
-    Token { bytes: b"1.5", class: Class::Float, kind: Kind::Floating, mark: Mark::Other },
-    Token { bytes: b"%{c}%", class: Class::CCode, kind: Kind::CCode, mark: Mark::CCode },
-    Token { bytes: b"@", class: Class::Bad, kind: Kind::Bad, mark: Mark::Other },
-    Token { bytes: b"{", class: Class::Punct, kind: Kind::OpenBrace, mark: Mark::OpenBrace },
-    Token { bytes: b"}", class: Class::Punct, kind: Kind::CloseBrace, mark: Mark::CloseBrace },
-    Token { bytes: b"(", class: Class::Punct, kind: Kind::OpenParen, mark: Mark::OpenParen },
-    Token { bytes: b")", class: Class::Punct, kind: Kind::CloseParen, mark: Mark::CloseParen },
-    Token { bytes: b";", class: Class::Punct, kind: Kind::Semicolon, mark: Mark::Semicolon },
-    Token { bytes: b"[", class: Class::Punct, kind: Kind::OpenBracket, mark: Mark::Other },
-    Token { bytes: b"-", class: Class::Punct, kind: Kind::Minus, mark: Mark::Other },
-    Token { bytes: b"->", class: Class::Punct, kind: Kind::Arrow, mark: Mark::Other },
-    Token { bytes: b"--", class: Class::Punct, kind: Kind::MinusMinus, mark: Mark::Other },
-    Token { bytes: b">>", class: Class::Punct, kind: Kind::GreaterGreater, mark: Mark::Other },
-    Token { bytes: b">>=", class: Class::Punct, kind: Kind::GreaterGreaterEqual, mark: Mark::Other },
+// The bytes of tokens, their classes, and what they are.
+static TOKENS: [(&[u8], Class, Kind, Mark); 32] = [
+    (b"program", Class::Word, Kind::Program, Mark::Program),
+    (b"ss", Class::Word, Kind::Ss, Mark::Ss),
+    (b"state", Class::Word, Kind::State, Mark::Body),
+    (b"entry", Class::Word, Kind::Entry, Mark::Body),
+    (b"exit", Class::Word, Kind::Exit, Mark::Body),
+    (b"when", Class::Word, Kind::When, Mark::Other),
+    (b"if", Class::Word, Kind::If, Mark::Other),
+    (b"for", Class::Word, Kind::For, Mark::Other),
+    (b"syncq", Class::Word, Kind::Syncq, Mark::Other),
+    (b"syncQ", Class::Word, Kind::SyncqCapital, Mark::Other),
+    (b"int8_t", Class::Word, Kind::Int8, Mark::Other),
+    (b"uint16_t", Class::Word, Kind::Uint16, Mark::Other),
+    (b"typename", Class::Word, Kind::Typename, Mark::Other),
+    (b"State", Class::Name, Kind::Name, Mark::Name),
+    (b"ss", Class::Name, Kind::Name, Mark::Name),
+    (b"\"x\"", Class::Text, Kind::Text, Mark::Text),
+    (b"'x'", Class::CharLit, Kind::Character, Mark::Other),
+    (b"0x1F", Class::Int, Kind::Integer, Mark::Other),
+    (b"1.5", Class::Float, Kind::Floating, Mark::Other),
+    (b"%{c}%", Class::CCode, Kind::CCode, Mark::CCode),
+    (b"@", Class::Bad, Kind::Bad, Mark::Other),
+    (b"{", Class::Punct, Kind::OpenBrace, Mark::OpenBrace),
+    (b"}", Class::Punct, Kind::CloseBrace, Mark::CloseBrace),
+    (b"(", Class::Punct, Kind::OpenParen, Mark::OpenParen),
+    (b")", Class::Punct, Kind::CloseParen, Mark::CloseParen),
+    (b";", Class::Punct, Kind::Semicolon, Mark::Semicolon),
+    (b"[", Class::Punct, Kind::OpenBracket, Mark::Other),
+    (b"-", Class::Punct, Kind::Minus, Mark::Other),
+    (b"->", Class::Punct, Kind::Arrow, Mark::Other),
+    (b"--", Class::Punct, Kind::MinusMinus, Mark::Other),
+    (b">>", Class::Punct, Kind::GreaterGreater, Mark::Other),
+    (b">>=", Class::Punct, Kind::GreaterGreaterEqual, Mark::Other),
 ];
 
 #[test]
 fn tells_tokens(rt: HostRuntime) -> Result<(), Fail> {
-    for token in &TOKENS {
-        let piece = Piece { kind: token.class, start: 0, len: token.bytes.len() };
-        assert_eq!(rt; kind(token.bytes, piece), token.kind);
-        assert_eq!(rt; mark(token.bytes, piece), token.mark);
+    for (bytes, class, wanted_kind, wanted_mark) in TOKENS {
+        let piece = Piece {
+            kind: class,
+            start: 0,
+            len: bytes.len(),
+        };
+        assert_eq!(rt; kind(bytes, piece), wanted_kind);
+        assert_eq!(rt; mark(bytes, piece), wanted_mark);
     }
     Ok(())
 }

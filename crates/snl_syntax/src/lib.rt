@@ -4,15 +4,17 @@
 #[cfg(test)]
 mod cut_tests;
 mod item_cut;
+mod item_laws;
 mod kind;
 mod marks;
 mod operator;
 mod punctuator;
 mod token_kind;
-mod word;
 pub mod tree;
+mod word;
 
 pub use item_cut::Tokens;
+pub use item_laws::first_item;
 pub use kind::Kind;
 pub use marks::Mark;
 pub use token_kind::mark;
