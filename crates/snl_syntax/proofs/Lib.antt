@@ -13,3 +13,7 @@ pub mod ExpressionAgain
 pub mod OperandAgain
 pub mod TierAgain
 pub mod SingleAgain
+mod Headers
+mod PlainItems
+mod Spellings
+mod StateSets

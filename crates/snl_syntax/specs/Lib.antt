@@ -4,3 +4,7 @@ pub mod Steps
 pub mod Reading
 pub mod Grammar
 pub mod Nests
+pub mod Items
+pub mod ItemLaws
+pub mod Kinds
+pub mod Marks

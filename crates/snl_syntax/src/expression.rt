@@ -16,7 +16,7 @@ use crate::operator::{
     tier,
 };
 use crate::stop::{Step, Stop};
-use crate::tokens::{expect, kind_at, turns};
+use crate::token_steps::{expect, kind_at, turns};
 use crate::tree::expression::{Expr, Prefix, Suffix};
 use crate::tree::types::TypeName;
 use crate::types::{begins_type, type_name};

@@ -1,13 +1,25 @@
 //! The grammar: the tokens of one item come in, its tree goes out. It knows no offsets and no scopes.
 #![tactic(auto)]
 
+#[cfg(test)]
+mod cut_tests;
 mod expression;
+mod item_cut;
+mod item_laws;
 mod kind;
+mod marks;
 mod operator;
+mod punctuator;
 mod stop;
-mod tokens;
+mod token_kind;
+mod token_steps;
 pub mod tree;
 mod types;
+mod word;
 
+pub use item_cut::Tokens;
+pub use item_laws::first_item;
 pub use kind::Kind;
+pub use marks::Mark;
 pub use operator::{Assignment, Binary, Sign};
+pub use token_kind::mark;

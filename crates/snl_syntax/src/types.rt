@@ -10,7 +10,7 @@ ghost use Rattle.snl_syntax.specs.Reading.Types as spec;
 
 use crate::kind::Kind;
 use crate::stop::Stop;
-use crate::tokens::{accept, expect, kind_at, turns};
+use crate::token_steps::{accept, expect, kind_at, turns};
 use crate::tree::types::{Base, Integer, Pointer, QualifiedType, TypeName};
 use sqlite_items::Items;
 use std::alloc::Global;

@@ -1,7 +1,7 @@
 use Rattle.std.proofs.Common.{◌≡◌, ◌-◌, length, arith}
 use Rattle.snl_syntax.specs.Tokens.{ahead}
 use Rattle.snl_syntax.proofs.Ahead.{length-ahead}
-use Rattle.snl_syntax.proofs.tokens.turns.Goals as goal
+use Rattle.snl_syntax.proofs.token_steps.turns.Goals as goal
 
 pub returns : goal.returns
 returns c =

@@ -1,7 +1,7 @@
 use Rattle.std.proofs.Common.{sym}
 use Rattle.snl_syntax.proofs.Ahead.{expect_there, expect_other, expect_none}
-use Rattle.snl_syntax.proofs.tokens.expect.Goals.{else-at-kinds-via-then-at-kinds+else-sees, else-at-kinds-via-else-at-kinds}
-use Rattle.snl_syntax.proofs.tokens.expect.Goals as goal
+use Rattle.snl_syntax.proofs.token_steps.expect.Goals.{else-at-kinds-via-then-at-kinds+else-sees, else-at-kinds-via-else-at-kinds}
+use Rattle.snl_syntax.proofs.token_steps.expect.Goals as goal
 
 pub returns-then-sees : goal.returns-then-sees
 returns-then-sees c = expect_there c.args.kind c.args.kinds.now c.args.at c.args.kind c.if-at-kinds.true (sym c.if-sees.ensures)

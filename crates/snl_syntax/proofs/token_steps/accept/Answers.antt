@@ -1,7 +1,7 @@
 use Rattle.std.proofs.Common.{sym}
 use Rattle.snl_syntax.proofs.Ahead.{accept_there, accept_other, accept_none}
-use Rattle.snl_syntax.proofs.tokens.accept.Goals.{else-at-kinds-via-then-at-kinds+else-sees, else-at-kinds-via-else-at-kinds}
-use Rattle.snl_syntax.proofs.tokens.accept.Goals as goal
+use Rattle.snl_syntax.proofs.token_steps.accept.Goals.{else-at-kinds-via-then-at-kinds+else-sees, else-at-kinds-via-else-at-kinds}
+use Rattle.snl_syntax.proofs.token_steps.accept.Goals as goal
 
 pub returns-then-sees : goal.returns-then-sees
 returns-then-sees c = accept_there c.args.kind c.args.kinds.now c.args.at c.args.kind c.if-at-kinds.true (sym c.if-sees.ensures)
