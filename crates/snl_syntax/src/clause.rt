@@ -18,10 +18,7 @@ use sqlite_items::Items;
 use std::alloc::Global;
 
 #[tactic(auto, unfolding(crate::specs::Reading::Expressions::next_comma, crate::specs::Steps::and_then))]
-fn next_name(
-    kinds: &[Kind],
-    at: usize,
-) -> Result<(Option<usize>, usize), Stop>
+fn next_name(kinds: &[Kind], at: usize) -> Result<(Option<usize>, usize), Stop>
     ensures { Reads kinds.now result (exprs.next_comma (read.expect kind.Name) (ahead kinds.now at)) }
 {
     match kind_at(kinds, at) {
@@ -56,11 +53,7 @@ fn more_names(
 }
 
 #[tactic(auto, unfolding(crate::specs::Reading::Expressions::commas, crate::specs::Steps::and_then))]
-fn names(
-    alloc: Global,
-    kinds: &[Kind],
-    at: usize,
-) -> Result<(Items<usize>, usize), Stop>
+fn names(alloc: Global, kinds: &[Kind], at: usize) -> Result<(Items<usize>, usize), Stop>
     ensures { Reads kinds.now result (exprs.commas (read.expect kind.Name) (ahead kinds.now at)) }
 {
     let first = at;
@@ -72,11 +65,7 @@ fn names(
 
 /// `foreign` and names, with `;` behind them.
 #[tactic(auto, unfolding(crate::specs::Reading::Clauses::foreign, crate::specs::Steps::and_then))]
-pub fn foreign(
-    alloc: Global,
-    kinds: &[Kind],
-    at: usize,
-) -> Result<(Items<usize>, usize), Stop>
+pub fn foreign(alloc: Global, kinds: &[Kind], at: usize) -> Result<(Items<usize>, usize), Stop>
     ensures { Reads kinds.now result (spec.foreign (ahead kinds.now at)) }
 {
     let at = expect(kinds, at, Kind::Foreign)?;
@@ -86,10 +75,7 @@ pub fn foreign(
 }
 
 #[tactic(auto, unfolding(crate::specs::Reading::Clauses::sign, crate::specs::Steps::and_then))]
-fn sign(
-    kinds: &[Kind],
-    at: usize,
-) -> Result<(OptionSign, usize), Stop>
+fn sign(kinds: &[Kind], at: usize) -> Result<(OptionSign, usize), Stop>
     ensures { Reads kinds.now result (spec.sign (ahead kinds.now at)) }
 {
     match kind_at(kinds, at) {
@@ -107,10 +93,7 @@ fn sign(
 
 /// `option`, a sign and letters, with `;` behind them.
 #[tactic(auto, unfolding(crate::specs::Reading::Clauses::option_line, crate::specs::Steps::and_then))]
-pub fn option_line(
-    kinds: &[Kind],
-    at: usize,
-) -> Result<(OptionLine, usize), Stop>
+pub fn option_line(kinds: &[Kind], at: usize) -> Result<(OptionLine, usize), Stop>
     ensures { Reads kinds.now result (spec.option_line (ahead kinds.now at)) }
 {
     let at = expect(kinds, at, Kind::Option)?;
@@ -122,10 +105,7 @@ pub fn option_line(
 }
 
 #[tactic(auto, unfolding(crate::specs::Reading::Clauses::subscript, crate::specs::Steps::and_then))]
-fn subscript(
-    kinds: &[Kind],
-    at: usize,
-) -> Result<(usize, usize), Stop>
+fn subscript(kinds: &[Kind], at: usize) -> Result<(usize, usize), Stop>
     ensures { Reads kinds.now result (spec.subscript (ahead kinds.now at)) }
 {
     let at = expect(kinds, at, Kind::OpenBracket)?;
@@ -136,10 +116,7 @@ fn subscript(
 }
 
 #[tactic(auto, unfolding(crate::specs::Reading::Clauses::subscript_part, crate::specs::Reading::Clauses::some_subscript, crate::specs::Steps::and_then))]
-fn subscript_part(
-    kinds: &[Kind],
-    at: usize,
-) -> Result<(Option<usize>, usize), Stop>
+fn subscript_part(kinds: &[Kind], at: usize) -> Result<(Option<usize>, usize), Stop>
     ensures { Reads kinds.now result (spec.subscript_part (ahead kinds.now at)) }
 {
     match kind_at(kinds, at) {
@@ -152,10 +129,7 @@ fn subscript_part(
 }
 
 #[tactic(auto, unfolding(crate::specs::Reading::Clauses::flag, crate::specs::Steps::and_then))]
-fn flag(
-    kinds: &[Kind],
-    at: usize,
-) -> Result<(Flag, usize), Stop>
+fn flag(kinds: &[Kind], at: usize) -> Result<(Flag, usize), Stop>
     ensures { Reads kinds.now result (spec.flag (ahead kinds.now at)) }
 {
     let (to, at) = accept(kinds, at, Kind::To);
@@ -165,10 +139,7 @@ fn flag(
 }
 
 #[tactic(auto, unfolding(crate::specs::Reading::Clauses::some_flag, crate::specs::Steps::and_then))]
-fn some_flag(
-    kinds: &[Kind],
-    at: usize,
-) -> Result<(Option<Flag>, usize), Stop>
+fn some_flag(kinds: &[Kind], at: usize) -> Result<(Option<Flag>, usize), Stop>
     ensures { Reads kinds.now result (spec.some_flag (ahead kinds.now at)) }
 {
     let (flag, at) = flag(kinds, at)?;
@@ -176,10 +147,7 @@ fn some_flag(
 }
 
 #[tactic(auto, unfolding(crate::specs::Reading::Clauses::flag_part, crate::specs::Steps::and_then))]
-fn flag_part(
-    kinds: &[Kind],
-    at: usize,
-) -> Result<(Option<Flag>, usize), Stop>
+fn flag_part(kinds: &[Kind], at: usize) -> Result<(Option<Flag>, usize), Stop>
     ensures { Reads kinds.now result (spec.flag_part (ahead kinds.now at)) }
 {
     match kind_at(kinds, at) {
@@ -190,10 +158,7 @@ fn flag_part(
 }
 
 #[tactic(auto, unfolding(crate::specs::Reading::Clauses::queue_part, crate::specs::Reading::Clauses::some_queue, crate::specs::Steps::and_then))]
-fn queue_part(
-    kinds: &[Kind],
-    at: usize,
-) -> Result<(Option<usize>, usize), Stop>
+fn queue_part(kinds: &[Kind], at: usize) -> Result<(Option<usize>, usize), Stop>
     ensures { Reads kinds.now result (spec.queue_part (ahead kinds.now at)) }
 {
     match kind_at(kinds, at) {
@@ -282,12 +247,7 @@ fn some_elements(
 }
 
 #[tactic(auto, unfolding(crate::specs::Steps::and_then))]
-fn no_elements(
-    alloc: Global,
-    kinds: &[Kind],
-    at: usize,
-    to: bool,
-) -> Result<(Channel, usize), Stop>
+fn no_elements(alloc: Global, kinds: &[Kind], at: usize, to: bool) -> Result<(Channel, usize), Stop>
     ensures { Reads kinds.now result (spec.elements_by to (Some kind.CloseBrace) (ahead kinds.now at)) }
 {
     let at = expect(kinds, at, Kind::CloseBrace)?;
@@ -300,12 +260,7 @@ fn no_elements(
 }
 
 #[tactic(auto, unfolding(crate::specs::Reading::Clauses::elements, crate::specs::Steps::and_then))]
-fn elements(
-    alloc: Global,
-    kinds: &[Kind],
-    at: usize,
-    to: bool,
-) -> Result<(Channel, usize), Stop>
+fn elements(alloc: Global, kinds: &[Kind], at: usize, to: bool) -> Result<(Channel, usize), Stop>
     ensures { Reads kinds.now result (spec.elements to (ahead kinds.now at)) }
 {
     let at = expect(kinds, at, Kind::OpenBrace)?;
@@ -316,12 +271,7 @@ fn elements(
 }
 
 #[tactic(auto, unfolding(crate::specs::Reading::Clauses::whole, crate::specs::Steps::and_then))]
-fn whole(
-    alloc: Global,
-    kinds: &[Kind],
-    at: usize,
-    to: bool,
-) -> Result<(Channel, usize), Stop>
+fn whole(alloc: Global, kinds: &[Kind], at: usize, to: bool) -> Result<(Channel, usize), Stop>
     ensures { Reads kinds.now result (spec.whole to (ahead kinds.now at)) }
 {
     let (text, at) = texts(alloc, kinds, at)?;
@@ -329,12 +279,7 @@ fn whole(
 }
 
 #[tactic(auto, unfolding(crate::specs::Reading::Clauses::channel_to, crate::specs::Steps::and_then))]
-fn channel_to(
-    alloc: Global,
-    kinds: &[Kind],
-    at: usize,
-    to: bool,
-) -> Result<(Channel, usize), Stop>
+fn channel_to(alloc: Global, kinds: &[Kind], at: usize, to: bool) -> Result<(Channel, usize), Stop>
     ensures { Reads kinds.now result (spec.channel_to to (ahead kinds.now at)) }
 {
     match kind_at(kinds, at) {
@@ -344,11 +289,7 @@ fn channel_to(
 }
 
 #[tactic(auto, unfolding(crate::specs::Reading::Clauses::named_channel, crate::specs::Steps::and_then))]
-fn named_channel(
-    alloc: Global,
-    kinds: &[Kind],
-    at: usize,
-) -> Result<(Channel, usize), Stop>
+fn named_channel(alloc: Global, kinds: &[Kind], at: usize) -> Result<(Channel, usize), Stop>
     ensures { Reads kinds.now result (spec.named_channel (ahead kinds.now at)) }
 {
     let (to, at) = accept(kinds, at, Kind::To);
@@ -356,11 +297,7 @@ fn named_channel(
 }
 
 #[tactic(auto, unfolding(crate::specs::Reading::Clauses::element, crate::specs::Steps::and_then))]
-fn element(
-    alloc: Global,
-    kinds: &[Kind],
-    at: usize,
-) -> Result<(Channel, usize), Stop>
+fn element(alloc: Global, kinds: &[Kind], at: usize) -> Result<(Channel, usize), Stop>
     ensures { Reads kinds.now result (spec.element (ahead kinds.now at)) }
 {
     let (subscript, at) = subscript(kinds, at)?;
@@ -375,11 +312,7 @@ fn element(
 }
 
 #[tactic(auto, unfolding(crate::specs::Reading::Clauses::channel, crate::specs::Steps::and_then))]
-fn channel(
-    alloc: Global,
-    kinds: &[Kind],
-    at: usize,
-) -> Result<(Channel, usize), Stop>
+fn channel(alloc: Global, kinds: &[Kind], at: usize) -> Result<(Channel, usize), Stop>
     ensures { Reads kinds.now result (spec.channel (ahead kinds.now at)) }
 {
     match kind_at(kinds, at) {
@@ -390,11 +323,7 @@ fn channel(
 }
 
 #[tactic(auto, unfolding(crate::specs::Reading::Clauses::assign, crate::specs::Steps::and_then))]
-fn assign(
-    alloc: Global,
-    kinds: &[Kind],
-    at: usize,
-) -> Result<(Clause, usize), Stop>
+fn assign(alloc: Global, kinds: &[Kind], at: usize) -> Result<(Clause, usize), Stop>
     ensures { Reads kinds.now result (spec.assign (ahead kinds.now at)) }
 {
     let at = expect(kinds, at, Kind::Assign)?;
@@ -406,10 +335,7 @@ fn assign(
 }
 
 #[tactic(auto, unfolding(crate::specs::Reading::Clauses::monitor, crate::specs::Steps::and_then))]
-fn monitor(
-    kinds: &[Kind],
-    at: usize,
-) -> Result<(Clause, usize), Stop>
+fn monitor(kinds: &[Kind], at: usize) -> Result<(Clause, usize), Stop>
     ensures { Reads kinds.now result (spec.monitor (ahead kinds.now at)) }
 {
     let at = expect(kinds, at, Kind::Monitor)?;
@@ -421,10 +347,7 @@ fn monitor(
 }
 
 #[tactic(auto, unfolding(crate::specs::Reading::Clauses::sync, crate::specs::Steps::and_then))]
-fn sync(
-    kinds: &[Kind],
-    at: usize,
-) -> Result<(Clause, usize), Stop>
+fn sync(kinds: &[Kind], at: usize) -> Result<(Clause, usize), Stop>
     ensures { Reads kinds.now result (spec.sync (ahead kinds.now at)) }
 {
     let at = expect(kinds, at, Kind::Sync)?;
@@ -442,11 +365,7 @@ fn sync(
 }
 
 #[tactic(auto, unfolding(crate::specs::Reading::Clauses::syncq_rest, crate::specs::Steps::and_then))]
-fn syncq_rest(
-    kinds: &[Kind],
-    at: usize,
-    capital: bool,
-) -> Result<(Clause, usize), Stop>
+fn syncq_rest(kinds: &[Kind], at: usize, capital: bool) -> Result<(Clause, usize), Stop>
     ensures { Reads kinds.now result (spec.syncq_rest capital (ahead kinds.now at)) }
 {
     let name = at;
@@ -466,10 +385,7 @@ fn syncq_rest(
 }
 
 #[tactic(auto, unfolding(crate::specs::Steps::and_then))]
-fn syncq(
-    kinds: &[Kind],
-    at: usize,
-) -> Result<(Clause, usize), Stop>
+fn syncq(kinds: &[Kind], at: usize) -> Result<(Clause, usize), Stop>
     ensures { Reads kinds.now result (spec.syncq (ahead kinds.now at)) }
 {
     let at = expect(kinds, at, Kind::Syncq)?;
@@ -477,10 +393,7 @@ fn syncq(
 }
 
 #[tactic(auto, unfolding(crate::specs::Steps::and_then))]
-fn syncq_capital(
-    kinds: &[Kind],
-    at: usize,
-) -> Result<(Clause, usize), Stop>
+fn syncq_capital(kinds: &[Kind], at: usize) -> Result<(Clause, usize), Stop>
     ensures { Reads kinds.now result (spec.syncq_capital (ahead kinds.now at)) }
 {
     let at = expect(kinds, at, Kind::SyncqCapital)?;
@@ -489,11 +402,7 @@ fn syncq_capital(
 
 /// A clause: `assign`, `monitor`, `sync` or `syncq`, with its `;`.
 #[tactic(auto, unfolding(crate::specs::Reading::Clauses::clause, crate::specs::Steps::and_then))]
-pub fn clause(
-    alloc: Global,
-    kinds: &[Kind],
-    at: usize,
-) -> Result<(Clause, usize), Stop>
+pub fn clause(alloc: Global, kinds: &[Kind], at: usize) -> Result<(Clause, usize), Stop>
     ensures { Reads kinds.now result (spec.clause (ahead kinds.now at)) }
 {
     match kind_at(kinds, at) {

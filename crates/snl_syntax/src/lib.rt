@@ -4,6 +4,7 @@
 mod clause;
 mod declaration;
 mod expression;
+mod function;
 mod kind;
 mod operator;
 mod stop;
