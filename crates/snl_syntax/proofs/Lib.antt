@@ -9,3 +9,8 @@ pub mod Again
 pub mod TypeLaws
 pub mod ExpressionLocal
 pub mod ExpressionViable
+pub mod Follow
+pub mod ExpressionAgain
+pub mod OperandAgain
+pub mod TierAgain
+pub mod SingleAgain

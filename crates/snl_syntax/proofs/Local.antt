@@ -138,7 +138,6 @@ choice_local by locals = record {
   fails = λ front s j more e. ap (λ o. by o (front ++ s ∷ more)) (sym (same_next front s j more)) ∙ (locals (kind_at (front ++ s ∷ j))).fails front s j more e;
 }
 
-
 pub chosen : {A : Type 0} (b : Bool) (x y z : A) → cond b x y ≡ z → ((b ≡ true) × (x ≡ z)) ⊎ ((b ≡ false) × (y ≡ z))
 chosen true x y z e = inl (refl, e)
 chosen false x y z e = inr (refl, e)

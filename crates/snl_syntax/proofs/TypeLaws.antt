@@ -255,8 +255,8 @@ module _ (free extra : ℕ) where
   unfolding type_of
   type_full = into_full free extra type_of _ IsType (kind.Int ∷ []) into_type
       (bind_full free extra (accept kind.Const) _ (Written kind.Const) (λ before. Both IsBase (λ b. Both (Written kind.Const) (λ after. IsNothing (make_type before b after)))) [] (kind.Int ∷ []) (accept_full free extra kind.Const) (λ before.
-       bind_full free extra base _ IsBase (λ b. Both (Written kind.Const) (λ after. IsNothing (make_type before b after))) (kind.Int ∷ []) [] base_full (λ b.
-       bind_full free extra (accept kind.Const) _ (Written kind.Const) (λ after. IsNothing (make_type before b after)) [] [] (accept_full free extra kind.Const) (λ after. pure_full free extra (make_type before b after)))))
+      bind_full free extra base _ IsBase (λ b. Both (Written kind.Const) (λ after. IsNothing (make_type before b after))) (kind.Int ∷ []) [] base_full (λ b.
+      bind_full free extra (accept kind.Const) _ (Written kind.Const) (λ after. IsNothing (make_type before b after)) [] [] (accept_full free extra kind.Const) (λ after. pure_full free extra (make_type before b after)))))
 
   into_pointer : (y : Option Pointer) (k rest : List Seat) → Both (Leaf kind.Star) (λ _. Both (Written kind.Const) (λ b. IsNothing (Some (pointer_of b)))) y k rest → Next IsPointer y k rest
   into_pointer y k rest (both n m e (both true m2 f h)) = subst (λ z. Next IsPointer z k rest) h.0 (m, (n, e), subst (λ l. First kind.Const m l) h.1 f)
@@ -283,7 +283,7 @@ module _ (free extra : ℕ) where
   unfolding type_name
   type_name_full = into_full free extra type_name _ IsTypeName (kind.Int ∷ []) into_name
       (bind_full free extra type_of _ IsType (λ t. Both (Each IsPointer) (λ ps. IsNothing (make_name t ps))) (kind.Int ∷ []) [] type_full (λ t.
-       bind_full free extra stars _ (Each IsPointer) (λ ps. IsNothing (make_name t ps)) [] [] stars_full (λ ps. pure_full free extra (make_name t ps))))
+      bind_full free extra stars _ (Each IsPointer) (λ ps. IsNothing (make_name t ps)) [] [] stars_full (λ ps. pure_full free extra (make_name t ps))))
 
 -- ---- reading again
 

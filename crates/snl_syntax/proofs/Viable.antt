@@ -49,7 +49,7 @@ module _ (free extra : ℕ) where
     -- where it fails, what is before can be completed
     pub stuck : (k j : List Seat) → p k ≡ Err j → (front : List Seat) × (more : List Kind) × (k ≡ front ++ j) × ((n : ℕ) (rest : List Seat) → Free (seats n more ++ rest) → G (front ++ (seats n more ++ rest)) rest)
 
-free_behind : (free extra : ℕ) (front k : List Seat) → Free free extra (front ++ k) → Free free extra k
+pub free_behind : (free extra : ℕ) (front k : List Seat) → Free free extra (front ++ k) → Free free extra k
 free_behind free extra front k f = let h = length-append front k in (f.0, (let l : length (front ++ k) < free = f.1 in omega arith))
 
 free_split : (free extra n : ℕ) (a b : List Kind) (rest : List Seat) → Free free extra (seats n (a ++ b) ++ rest) → Free free extra (seats n a ++ (seats (n + length a) b ++ rest))
