@@ -1,3 +1,5 @@
 pub mod Base
 pub mod Types
 pub mod Expressions
+pub mod Declarations
+pub mod Clauses

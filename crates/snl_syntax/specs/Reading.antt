@@ -1,2 +1,5 @@
 pub mod Types
 pub mod Expressions
+pub mod Declarations
+pub mod Clauses
+pub mod Functions

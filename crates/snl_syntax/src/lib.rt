@@ -1,9 +1,12 @@
 //! The grammar: the tokens of one item come in, its tree goes out. It knows no offsets and no scopes.
 #![tactic(auto)]
 
+mod clause;
 #[cfg(test)]
 mod cut_tests;
+mod declaration;
 mod expression;
+mod function;
 mod item_cut;
 mod item_laws;
 mod kind;
