@@ -1,2 +1,4 @@
 pub mod Types
 pub mod Expressions
+pub mod Declarations
+pub mod Clauses
