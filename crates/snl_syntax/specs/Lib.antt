@@ -4,3 +4,4 @@ pub mod Steps
 pub mod Reading
 pub mod Grammar
 pub mod Nests
+pub mod NestsStatement

@@ -2,3 +2,4 @@ pub mod Types
 pub mod Expressions
 pub mod Declarations
 pub mod Clauses
+pub mod Statements
