@@ -2,6 +2,7 @@ pub mod Same
 pub mod Ahead
 pub mod Turns
 pub mod Tiers
+pub mod Levels
 pub mod Local
 pub mod Viable
 pub mod Again

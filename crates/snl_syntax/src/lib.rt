@@ -1,6 +1,7 @@
 //! The grammar: the tokens of one item come in, its tree goes out. It knows no offsets and no scopes.
 #![tactic(auto)]
 
+mod declaration;
 mod expression;
 mod kind;
 mod operator;

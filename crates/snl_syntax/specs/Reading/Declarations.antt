@@ -88,33 +88,36 @@ abbrev pub init_by : Reader Expr → Reader Init → Option Kind → Reader Init
 init_by value inner (Some kind.OpenBrace) = values inner
 init_by value inner _ = plain_value value
 
--- what a declarator begins with, in so many levels
+unfoldable pub init_of : Reader Expr → Reader Init → Reader Init
+init_of value inner = λ k. init_by value inner (kind_at k) k
+
+-- what a declarator begins with, in so many levels with the one that it stands in
 unfoldable pub init : ℕ → Reader Init
 init zero = refuse
-init (suc depth) = λ k. init_by (assignx (suc depth)) (init depth) (kind_at k) k
+init (suc depth) = init_of (assignx (suc depth)) (init depth)
 
--- ---- declarators and declarations, in so many levels with the one that they stand in
+-- ---- declarators and declarations; `inner` reads an expression without commas one level deeper, `value` what stands behind `=`
 
-unfoldable pub some_init : ℕ → Reader (Option Init)
-some_init depth = do
+unfoldable pub some_init : Reader Init → Reader (Option Init)
+some_init value = do
   expect kind.Equal
-  x ← init depth
+  x ← value
   pure (Some x)
 
-abbrev pub init_part_by : ℕ → Option Kind → Reader (Option Init)
-init_part_by depth (Some kind.Equal) = some_init depth
-init_part_by depth _ = pure None
+abbrev pub init_part_by : Reader Init → Option Kind → Reader (Option Init)
+init_part_by value (Some kind.Equal) = some_init value
+init_part_by value _ = pure None
 
 -- `=` and a value, if it stands there
-unfoldable pub init_part : ℕ → Reader (Option Init)
-init_part depth = λ k. init_part_by depth (kind_at k) k
+unfoldable pub init_part : Reader Init → Reader (Option Init)
+init_part value = λ k. init_part_by value (kind_at k) k
 
-module _ (depth : ℕ) where
+module _ (inner : Reader Expr) (value : Reader Init) where
   -- a declarator from behind its name
   unfoldable pub declarator_from : List Pointer → ℕ → Reader Declarator
   declarator_from ps n = do
-    ls ← lengths (assignx depth)
-    x ← init_part (suc depth)
+    ls ← lengths inner
+    x ← init_part value
     pure (record { pointers = ps; name = n; lengths = ls; init = x })
 
   unfoldable pub declarator : Reader Declarator
@@ -141,7 +144,12 @@ module _ (depth : ℕ) where
     first ← declarator
     more_declarators t first
 
-  unfoldable pub declaration : Reader Declaration
-  declaration = do
+  unfoldable pub declaration_in : Reader Declaration
+  declaration_in = do
     t ← type_of
     declaration_of t
+
+-- a declaration, in so many levels with the one that it stands in
+unfoldable pub declaration : ℕ → Reader Declaration
+declaration zero = refuse
+declaration (suc depth) = declaration_in (assignx depth) (init (suc depth))
