@@ -14,3 +14,5 @@ pub mod ExpressionAgain
 pub mod OperandAgain
 pub mod TierAgain
 pub mod SingleAgain
+pub mod Depths
+pub mod StatementLocal

@@ -1,3 +1,4 @@
 pub mod Base
 pub mod Types
 pub mod Expressions
+pub mod Statements

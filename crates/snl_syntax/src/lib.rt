@@ -5,6 +5,7 @@ mod declaration;
 mod expression;
 mod kind;
 mod operator;
+mod statement;
 mod stop;
 mod tokens;
 pub mod tree;

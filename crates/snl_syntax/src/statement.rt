@@ -1,6 +1,6 @@
 //! Reads statements and blocks.
 
-ghost use Rattle.std.specs.Prelude.{◌≡◌, [], ◌,◌, Some, None};
+ghost use Rattle.std.specs.Prelude.{◌≡◌, []};
 ghost use Rattle.snl_syntax.specs.NestsStatement.{NestsStatement};
 ghost use Rattle.snl_syntax.specs.Reading.Expressions as exprs;
 ghost use Rattle.snl_syntax.specs.Reading.Statements as spec;
@@ -22,7 +22,12 @@ use sqlite_items::{Boxed, Items};
 use std::alloc::Global;
 
 #[tactic(auto, unfolding(crate::specs::Reading::Statements::some_before, crate::specs::Steps::and_then))]
-fn some_before_semicolon(alloc: Global, kinds: &[Kind], at: usize, depth: usize) -> Result<(Option<Expr>, usize), Stop>
+fn some_before_semicolon(
+    alloc: Global,
+    kinds: &[Kind],
+    at: usize,
+    depth: usize,
+) -> Result<(Option<Expr>, usize), Stop>
     ensures { Reads kinds.now result (spec.some_before kind.Semicolon (exprs.expr depth) (ahead kinds.now at)) }
 {
     let (e, at) = expr(alloc, kinds, at, depth)?;
@@ -32,7 +37,12 @@ fn some_before_semicolon(alloc: Global, kinds: &[Kind], at: usize, depth: usize)
 
 /// An expression or none, and the semicolon behind it.
 #[tactic(auto, unfolding(crate::specs::Reading::Statements::before_semicolon, crate::specs::Steps::and_then))]
-pub fn before_semicolon(alloc: Global, kinds: &[Kind], at: usize, depth: usize) -> Result<(Option<Expr>, usize), Stop>
+pub fn before_semicolon(
+    alloc: Global,
+    kinds: &[Kind],
+    at: usize,
+    depth: usize,
+) -> Result<(Option<Expr>, usize), Stop>
     ensures { Reads kinds.now result (spec.before_semicolon (exprs.expr depth) (ahead kinds.now at)) }
 {
     match kind_at(kinds, at) {
@@ -45,7 +55,12 @@ pub fn before_semicolon(alloc: Global, kinds: &[Kind], at: usize, depth: usize) 
 }
 
 #[tactic(auto, unfolding(crate::specs::Reading::Statements::some_before, crate::specs::Steps::and_then))]
-fn some_before_paren(alloc: Global, kinds: &[Kind], at: usize, depth: usize) -> Result<(Option<Expr>, usize), Stop>
+fn some_before_paren(
+    alloc: Global,
+    kinds: &[Kind],
+    at: usize,
+    depth: usize,
+) -> Result<(Option<Expr>, usize), Stop>
     ensures { Reads kinds.now result (spec.some_before kind.CloseParen (exprs.expr depth) (ahead kinds.now at)) }
 {
     let (e, at) = expr(alloc, kinds, at, depth)?;
@@ -55,7 +70,12 @@ fn some_before_paren(alloc: Global, kinds: &[Kind], at: usize, depth: usize) -> 
 
 /// An expression or none, and the closing bracket behind it.
 #[tactic(auto, unfolding(crate::specs::Reading::Statements::before_paren, crate::specs::Steps::and_then))]
-pub fn before_paren(alloc: Global, kinds: &[Kind], at: usize, depth: usize) -> Result<(Option<Expr>, usize), Stop>
+pub fn before_paren(
+    alloc: Global,
+    kinds: &[Kind],
+    at: usize,
+    depth: usize,
+) -> Result<(Option<Expr>, usize), Stop>
     ensures { Reads kinds.now result (spec.before_paren (exprs.expr depth) (ahead kinds.now at)) }
 {
     match kind_at(kinds, at) {
@@ -116,9 +136,14 @@ fn change(kinds: &[Kind], at: usize) -> Result<(Stmt, usize), Stop>
     Ok((Stmt::State { word, name }, at))
 }
 
-#[tactic(auto, unfolding(crate::specs::Reading::Statements::return, crate::specs::Steps::and_then))]
-fn return_value(alloc: Global, kinds: &[Kind], at: usize, depth: usize) -> Result<(Stmt, usize), Stop>
-    ensures { Reads kinds.now result (spec.return depth (ahead kinds.now at)) }
+#[tactic(auto, unfolding(crate::specs::Reading::Statements::return_value, crate::specs::Steps::and_then))]
+fn return_value(
+    alloc: Global,
+    kinds: &[Kind],
+    at: usize,
+    depth: usize,
+) -> Result<(Stmt, usize), Stop>
+    ensures { Reads kinds.now result (spec.return_value depth (ahead kinds.now at)) }
 {
     let at = expect(kinds, at, Kind::Return)?;
     let (value, at) = before_semicolon(alloc, kinds, at, depth)?;
@@ -146,7 +171,12 @@ fn condition(alloc: Global, kinds: &[Kind], at: usize, depth: usize) -> Result<(
 }
 
 #[tactic(auto, unfolding(crate::specs::Reading::Statements::for_head, crate::specs::Steps::and_then))]
-fn for_head(alloc: Global, kinds: &[Kind], at: usize, depth: usize) -> Result<(ForHead, usize), Stop>
+fn for_head(
+    alloc: Global,
+    kinds: &[Kind],
+    at: usize,
+    depth: usize,
+) -> Result<(ForHead, usize), Stop>
     ensures { Reads kinds.now result (spec.for_head depth (ahead kinds.now at)) }
 {
     let at = expect(kinds, at, Kind::OpenParen)?;
@@ -293,7 +323,12 @@ impl<F: Fn(Global, &[Kind], usize, usize) -> Result<(Stmt, usize), Stop>> Statem
     }
 
     #[tactic(auto, unfolding(crate::specs::Reading::Statements::last_body, crate::specs::Steps::and_then))]
-    fn last_body(&self, kinds: &[Kind], at: usize, arm: (Expr, Stmt)) -> Result<(Step<(Expr, Stmt), Option<Boxed<Stmt>>>, usize), Stop>
+    fn last_body(
+        &self,
+        kinds: &[Kind],
+        at: usize,
+        arm: (Expr, Stmt),
+    ) -> Result<(Step<(Expr, Stmt), Option<Boxed<Stmt>>>, usize), Stop>
         requires { NestsStatement self.now.depth (F.pre self.now.inner) (F.post self.now.inner) }
         ensures { Reads kinds.now result (spec.last_body self.now.depth (spec.stmt self.now.depth) arm (ahead kinds.now at)) }
     {
@@ -303,7 +338,12 @@ impl<F: Fn(Global, &[Kind], usize, usize) -> Result<(Stmt, usize), Stop>> Statem
     }
 
     #[tactic(auto, unfolding(crate::specs::Reading::Statements::behind_else, crate::specs::Steps::and_then))]
-    fn behind_else(&self, kinds: &[Kind], at: usize, arm: (Expr, Stmt)) -> Result<(Step<(Expr, Stmt), Option<Boxed<Stmt>>>, usize), Stop>
+    fn behind_else(
+        &self,
+        kinds: &[Kind],
+        at: usize,
+        arm: (Expr, Stmt),
+    ) -> Result<(Step<(Expr, Stmt), Option<Boxed<Stmt>>>, usize), Stop>
         requires { NestsStatement self.now.depth (F.pre self.now.inner) (F.post self.now.inner) }
         ensures { Reads kinds.now result (spec.behind_else self.now.depth (spec.stmt self.now.depth) arm (ahead kinds.now at)) }
     {
@@ -326,7 +366,11 @@ impl<F: Fn(Global, &[Kind], usize, usize) -> Result<(Stmt, usize), Stop>> Statem
     }
 
     #[tactic(auto, unfolding(crate::specs::Reading::Statements::arm_step, crate::specs::Steps::and_then))]
-    fn arm_step(&self, kinds: &[Kind], at: usize) -> Result<(Step<(Expr, Stmt), Option<Boxed<Stmt>>>, usize), Stop>
+    fn arm_step(
+        &self,
+        kinds: &[Kind],
+        at: usize,
+    ) -> Result<(Step<(Expr, Stmt), Option<Boxed<Stmt>>>, usize), Stop>
         requires { NestsStatement self.now.depth (F.pre self.now.inner) (F.post self.now.inner) }
         ensures { Reads kinds.now result (spec.arm_step self.now.depth (spec.stmt self.now.depth) (ahead kinds.now at)) }
     {
@@ -337,7 +381,11 @@ impl<F: Fn(Global, &[Kind], usize, usize) -> Result<(Stmt, usize), Stop>> Statem
         }
     }
 
-    fn arms(&self, kinds: &[Kind], start: usize) -> Result<((Items<(Expr, Stmt)>, Option<Boxed<Stmt>>), usize), Stop>
+    fn arms(
+        &self,
+        kinds: &[Kind],
+        start: usize,
+    ) -> Result<((Items<(Expr, Stmt)>, Option<Boxed<Stmt>>), usize), Stop>
         requires { NestsStatement self.now.depth (F.pre self.now.inner) (F.post self.now.inner) }
         ensures { Reads kinds.now result (read.until (spec.arm_step self.now.depth (spec.stmt self.now.depth)) [] (ahead kinds.now start)) }
     {

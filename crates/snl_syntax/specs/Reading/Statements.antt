@@ -64,8 +64,8 @@ change = do
   expect kind.Semicolon
   pure (tree.State w n)
 
-unfoldable pub return : ℕ → Reader Stmt
-return depth = do
+unfoldable pub return_value : ℕ → Reader Stmt
+return_value depth = do
   expect kind.Return
   e ← before_semicolon (expr depth)
   pure (tree.Return e)
@@ -196,7 +196,7 @@ module _ (depth : ℕ) (inner : Reader Stmt) where
   stmt_by own (Some kind.CCode) = c_code
   stmt_by own (Some kind.Break) = jump kind.Break tree.Break
   stmt_by own (Some kind.Continue) = jump kind.Continue tree.Continue
-  stmt_by own (Some kind.Return) = return own
+  stmt_by own (Some kind.Return) = return_value own
   stmt_by own (Some kind.State) = change
   stmt_by own _ = evaluation own
 
