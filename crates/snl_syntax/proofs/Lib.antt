@@ -14,3 +14,6 @@ pub mod ExpressionAgain
 pub mod OperandAgain
 pub mod TierAgain
 pub mod SingleAgain
+pub mod DeclarationLocal
+pub mod ClauseLocal
+pub mod FunctionLocal

@@ -3,3 +3,4 @@ pub mod Types
 pub mod Expressions
 pub mod Declarations
 pub mod Clauses
+pub mod Functions
