@@ -16,3 +16,6 @@ pub mod TierAgain
 pub mod SingleAgain
 pub mod Depths
 pub mod StatementLocal
+pub mod DeclarationLocal
+pub mod ClauseLocal
+pub mod FunctionLocal

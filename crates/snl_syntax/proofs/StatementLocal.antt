@@ -20,6 +20,7 @@ use Rattle.snl_syntax.specs.Reading.Statements.{some_before, semicolon_by, befor
 use Rattle.snl_syntax.proofs.Local.{Local, Eats, EatsSome, EatsMore, bind_local, choice_local, pure_local, refuse_local, expect_local, many_local, until_local, bind_eats, eats_behind, expect_eats, eats_some, eats_more, none_eats, ok_is, bind_ok, took_shorter, until_step}
 use Rattle.snl_syntax.proofs.TypeLaws.{word_local}
 use Rattle.snl_syntax.proofs.ExpressionLocal.{expr_local}
+use Rattle.snl_syntax.proofs.DeclarationLocal.{declaration_local, declaration_eats}
 
 -- ---- an expression or nothing, and a mark
 
@@ -119,189 +120,188 @@ again_all step eats local found (steps.Last x y) = pure_local _
 until_eats : {A B : Type 0} (step : Reader (Step A B)) → Eats step → Local step → (found : List A) → Eats (until step found)
 until_eats step eats local found k x m e = bind_eats step (again_or found (until step)) eats (again_all step eats local found) k x m (sym (until_step step (eats_more step eats) found k) ∙ e)
 
--- ---- statements that hold others; of declarations it is known that they look no further, and eat
-module _ (declares : (n : ℕ) → Local (declaration n)) (declares_eats : (n : ℕ) → Eats (declaration n)) where
-  module _ (depth : ℕ) (inner : Reader Stmt) (local : Local inner) (eats : Eats inner) where
-    some_by_local : (b : Bool) → Local (some_by depth inner b)
-    unfolding declared stated
-    some_by_local true = bind_local (declaration depth) _ (declares depth) (λ d. pure_local (Some (members.Declaration d)))
-    some_by_local false = bind_local inner _ local (λ s. pure_local (Some (members.Statement s)))
+-- ---- statements that hold others
+module _ (depth : ℕ) (inner : Reader Stmt) (local : Local inner) (eats : Eats inner) where
+  some_by_local : (b : Bool) → Local (some_by depth inner b)
+  unfolding declared stated
+  some_by_local true = bind_local (declaration depth) _ (declaration_local depth) (λ d. pure_local (Some (members.Declaration d)))
+  some_by_local false = bind_local inner _ local (λ s. pure_local (Some (members.Statement s)))
 
-    some_by_eats : (b : Bool) → Eats (some_by depth inner b)
-    unfolding declared stated
-    some_by_eats true = bind_eats (declaration depth) _ (declares_eats depth) (λ d. pure_local (Some (members.Declaration d)))
-    some_by_eats false = bind_eats inner _ eats (λ s. pure_local (Some (members.Statement s)))
+  some_by_eats : (b : Bool) → Eats (some_by depth inner b)
+  unfolding declared stated
+  some_by_eats true = bind_eats (declaration depth) _ (declaration_eats depth) (λ d. pure_local (Some (members.Declaration d)))
+  some_by_eats false = bind_eats inner _ eats (λ s. pure_local (Some (members.Statement s)))
 
-    some_local : Local (some_member depth inner)
-    unfolding some_member
-    some_local = choice_local (λ o. some_by depth inner (begins_type o)) (λ o. some_by_local (begins_type o))
+  some_local : Local (some_member depth inner)
+  unfolding some_member
+  some_local = choice_local (λ o. some_by depth inner (begins_type o)) (λ o. some_by_local (begins_type o))
 
-    some_eats : Eats (some_member depth inner)
-    unfolding some_member
-    some_eats k x m e = some_by_eats (begins_type (kind_at k)) k x m e
+  some_eats : Eats (some_member depth inner)
+  unfolding some_member
+  some_eats k x m e = some_by_eats (begins_type (kind_at k)) k x m e
 
-    member_by_local : (o : Option Kind) → Local (member_by depth inner o)
-    member_by_local (Some kind.CloseBrace) = pure_local None
-    member_by_local _ = some_local
+  member_by_local : (o : Option Kind) → Local (member_by depth inner o)
+  member_by_local (Some kind.CloseBrace) = pure_local None
+  member_by_local _ = some_local
 
-    member_by_eats : (o : Option Kind) → EatsSome (member_by depth inner o)
-    member_by_eats (Some kind.CloseBrace) = none_eats
-    member_by_eats _ = eats_some (some_member depth inner) some_eats
+  member_by_eats : (o : Option Kind) → EatsSome (member_by depth inner o)
+  member_by_eats (Some kind.CloseBrace) = none_eats
+  member_by_eats _ = eats_some (some_member depth inner) some_eats
 
-    pub member_local : Local (next_member depth inner)
-    unfolding next_member
-    member_local = choice_local (member_by depth inner) member_by_local
+  pub member_local : Local (next_member depth inner)
+  unfolding next_member
+  member_local = choice_local (member_by depth inner) member_by_local
 
-    pub member_eats : EatsSome (next_member depth inner)
-    unfolding next_member
-    member_eats k x m e = member_by_eats (kind_at k) k x m e
+  pub member_eats : EatsSome (next_member depth inner)
+  unfolding next_member
+  member_eats k x m e = member_by_eats (kind_at k) k x m e
 
-    block_rest : Local (λ k. and_then (many (next_member depth inner) [] k) (λ ms. λ l. and_then (expect kind.CloseBrace l) (λ _. pure ms)))
-    block_rest = bind_local (many (next_member depth inner) []) _ (many_local (next_member depth inner) member_eats member_local []) (λ ms. bind_local (expect kind.CloseBrace) _ (expect_local kind.CloseBrace) (λ _. pure_local ms))
+  block_rest : Local (λ k. and_then (many (next_member depth inner) [] k) (λ ms. λ l. and_then (expect kind.CloseBrace l) (λ _. pure ms)))
+  block_rest = bind_local (many (next_member depth inner) []) _ (many_local (next_member depth inner) member_eats member_local []) (λ ms. bind_local (expect kind.CloseBrace) _ (expect_local kind.CloseBrace) (λ _. pure_local ms))
 
-    pub block_of_local : Local (block_of depth inner)
-    unfolding block_of
-    block_of_local = bind_local (expect kind.OpenBrace) _ (expect_local kind.OpenBrace) (λ _. block_rest)
+  pub block_of_local : Local (block_of depth inner)
+  unfolding block_of
+  block_of_local = bind_local (expect kind.OpenBrace) _ (expect_local kind.OpenBrace) (λ _. block_rest)
 
-    block_of_eats : Eats (block_of depth inner)
-    unfolding block_of
-    block_of_eats = bind_eats (expect kind.OpenBrace) _ (expect_eats kind.OpenBrace) (λ _. block_rest)
+  block_of_eats : Eats (block_of depth inner)
+  unfolding block_of
+  block_of_eats = bind_eats (expect kind.OpenBrace) _ (expect_eats kind.OpenBrace) (λ _. block_rest)
 
-    block_statement_local : Local (block_statement depth inner)
-    unfolding block_statement
-    block_statement_local = bind_local (block_of depth inner) _ block_of_local (λ ms. pure_local (tree.Block ms))
+  block_statement_local : Local (block_statement depth inner)
+  unfolding block_statement
+  block_statement_local = bind_local (block_of depth inner) _ block_of_local (λ ms. pure_local (tree.Block ms))
 
-    block_statement_eats : Eats (block_statement depth inner)
-    unfolding block_statement
-    block_statement_eats = bind_eats (block_of depth inner) _ block_of_eats (λ ms. pure_local (tree.Block ms))
+  block_statement_eats : Eats (block_statement depth inner)
+  unfolding block_statement
+  block_statement_eats = bind_eats (block_of depth inner) _ block_of_eats (λ ms. pure_local (tree.Block ms))
 
-    body_by_local : (o : Option Kind) → Local (body_by depth inner o)
-    body_by_local (Some kind.OpenBrace) = block_statement_local
-    body_by_local _ = local
+  body_by_local : (o : Option Kind) → Local (body_by depth inner o)
+  body_by_local (Some kind.OpenBrace) = block_statement_local
+  body_by_local _ = local
 
-    body_local : Local (body depth inner)
-    unfolding body
-    body_local = choice_local (body_by depth inner) body_by_local
+  body_local : Local (body depth inner)
+  unfolding body
+  body_local = choice_local (body_by depth inner) body_by_local
 
-    while_rest : Local (λ k. and_then (condition depth k) (λ e. λ l. and_then (body depth inner l) (λ s. pure (tree.While e s))))
-    while_rest = bind_local (condition depth) _ (condition_local depth) (λ e. bind_local (body depth inner) _ body_local (λ s. pure_local (tree.While e s)))
+  while_rest : Local (λ k. and_then (condition depth k) (λ e. λ l. and_then (body depth inner l) (λ s. pure (tree.While e s))))
+  while_rest = bind_local (condition depth) _ (condition_local depth) (λ e. bind_local (body depth inner) _ body_local (λ s. pure_local (tree.While e s)))
 
-    while_local : Local (while_loop depth inner)
-    unfolding while_loop
-    while_local = bind_local (expect kind.While) _ (expect_local kind.While) (λ _. while_rest)
+  while_local : Local (while_loop depth inner)
+  unfolding while_loop
+  while_local = bind_local (expect kind.While) _ (expect_local kind.While) (λ _. while_rest)
 
-    while_eats : Eats (while_loop depth inner)
-    unfolding while_loop
-    while_eats = bind_eats (expect kind.While) _ (expect_eats kind.While) (λ _. while_rest)
+  while_eats : Eats (while_loop depth inner)
+  unfolding while_loop
+  while_eats = bind_eats (expect kind.While) _ (expect_eats kind.While) (λ _. while_rest)
 
-    for_rest : Local (λ k. and_then (for_head depth k) (λ h. λ l. and_then (body depth inner l) (λ s. pure (tree.For h s))))
-    for_rest = bind_local (for_head depth) _ (head_local depth) (λ h. bind_local (body depth inner) _ body_local (λ s. pure_local (tree.For h s)))
+  for_rest : Local (λ k. and_then (for_head depth k) (λ h. λ l. and_then (body depth inner l) (λ s. pure (tree.For h s))))
+  for_rest = bind_local (for_head depth) _ (head_local depth) (λ h. bind_local (body depth inner) _ body_local (λ s. pure_local (tree.For h s)))
 
-    for_local : Local (for_loop depth inner)
-    unfolding for_loop
-    for_local = bind_local (expect kind.For) _ (expect_local kind.For) (λ _. for_rest)
+  for_local : Local (for_loop depth inner)
+  unfolding for_loop
+  for_local = bind_local (expect kind.For) _ (expect_local kind.For) (λ _. for_rest)
 
-    for_eats : Eats (for_loop depth inner)
-    unfolding for_loop
-    for_eats = bind_eats (expect kind.For) _ (expect_eats kind.For) (λ _. for_rest)
+  for_eats : Eats (for_loop depth inner)
+  unfolding for_loop
+  for_eats = bind_eats (expect kind.For) _ (expect_eats kind.For) (λ _. for_rest)
 
-    last_local : (a : Expr × Stmt) → Local (last_body depth inner a)
-    unfolding last_body
-    last_local a = bind_local (body depth inner) _ body_local (λ s. pure_local (steps.Last (Some a) (Some s)))
+  last_local : (a : Expr × Stmt) → Local (last_body depth inner a)
+  unfolding last_body
+  last_local a = bind_local (body depth inner) _ body_local (λ s. pure_local (steps.Last (Some a) (Some s)))
 
-    branch_by_local : (a : Expr × Stmt) (o : Option Kind) → Local (branch_by depth inner a o)
-    branch_by_local a (Some kind.If) = pure_local (steps.More a)
-    branch_by_local a _ = last_local a
+  branch_by_local : (a : Expr × Stmt) (o : Option Kind) → Local (branch_by depth inner a o)
+  branch_by_local a (Some kind.If) = pure_local (steps.More a)
+  branch_by_local a _ = last_local a
 
-    else_local : (a : Expr × Stmt) → Local (behind_else depth inner a)
-    unfolding behind_else
-    else_local a = bind_local (expect kind.Else) _ (expect_local kind.Else) (λ _. choice_local (branch_by depth inner a) (branch_by_local a))
+  else_local : (a : Expr × Stmt) → Local (behind_else depth inner a)
+  unfolding behind_else
+  else_local a = bind_local (expect kind.Else) _ (expect_local kind.Else) (λ _. choice_local (branch_by depth inner a) (branch_by_local a))
 
-    else_by_local : (a : Expr × Stmt) (o : Option Kind) → Local (else_by depth inner a o)
-    else_by_local a (Some kind.Else) = else_local a
-    else_by_local a _ = pure_local (steps.Last (Some a) None)
+  else_by_local : (a : Expr × Stmt) (o : Option Kind) → Local (else_by depth inner a o)
+  else_by_local a (Some kind.Else) = else_local a
+  else_by_local a _ = pure_local (steps.Last (Some a) None)
 
-    arm_rest : Local {A = Expr × Stmt} (λ k. and_then (condition depth k) (λ e. λ l. and_then (body depth inner l) (λ s. pure (e, s))))
-    arm_rest = bind_local (condition depth) _ (condition_local depth) (λ e. bind_local (body depth inner) _ body_local (λ s. pure_local (e, s)))
+  arm_rest : Local {A = Expr × Stmt} (λ k. and_then (condition depth k) (λ e. λ l. and_then (body depth inner l) (λ s. pure (e, s))))
+  arm_rest = bind_local (condition depth) _ (condition_local depth) (λ e. bind_local (body depth inner) _ body_local (λ s. pure_local (e, s)))
 
-    arm_local : Local (arm depth inner)
-    unfolding arm
-    arm_local = bind_local (expect kind.If) _ (expect_local kind.If) (λ _. arm_rest)
+  arm_local : Local (arm depth inner)
+  unfolding arm
+  arm_local = bind_local (expect kind.If) _ (expect_local kind.If) (λ _. arm_rest)
 
-    arm_eats : Eats (arm depth inner)
-    unfolding arm
-    arm_eats = bind_eats (expect kind.If) _ (expect_eats kind.If) (λ _. arm_rest)
+  arm_eats : Eats (arm depth inner)
+  unfolding arm
+  arm_eats = bind_eats (expect kind.If) _ (expect_eats kind.If) (λ _. arm_rest)
 
-    pub step_local : Local (arm_step depth inner)
-    unfolding arm_step
-    step_local = bind_local (arm depth inner) _ arm_local (λ a. choice_local (else_by depth inner a) (else_by_local a))
+  pub step_local : Local (arm_step depth inner)
+  unfolding arm_step
+  step_local = bind_local (arm depth inner) _ arm_local (λ a. choice_local (else_by depth inner a) (else_by_local a))
 
-    pub step_eats : Eats (arm_step depth inner)
-    unfolding arm_step
-    step_eats = bind_eats (arm depth inner) _ arm_eats (λ a. choice_local (else_by depth inner a) (else_by_local a))
+  pub step_eats : Eats (arm_step depth inner)
+  unfolding arm_step
+  step_eats = bind_eats (arm depth inner) _ arm_eats (λ a. choice_local (else_by depth inner a) (else_by_local a))
 
-    arms_local : Local (until (arm_step depth inner) [])
-    arms_local = until_local (arm_step depth inner) (eats_more (arm_step depth inner) step_eats) step_local []
+  arms_local : Local (until (arm_step depth inner) [])
+  arms_local = until_local (arm_step depth inner) (eats_more (arm_step depth inner) step_eats) step_local []
 
-    choice_is_local : Local (choice depth inner)
-    unfolding choice
-    choice_is_local = bind_local (until (arm_step depth inner) []) _ arms_local (λ r. pure_local (tree.If r.0 r.1))
+  choice_is_local : Local (choice depth inner)
+  unfolding choice
+  choice_is_local = bind_local (until (arm_step depth inner) []) _ arms_local (λ r. pure_local (tree.If r.0 r.1))
 
-    choice_eats : Eats (choice depth inner)
-    unfolding choice
-    choice_eats = bind_eats (until (arm_step depth inner) []) _ (until_eats (arm_step depth inner) step_eats step_local []) (λ r. pure_local (tree.If r.0 r.1))
+  choice_eats : Eats (choice depth inner)
+  unfolding choice
+  choice_eats = bind_eats (until (arm_step depth inner) []) _ (until_eats (arm_step depth inner) step_eats step_local []) (λ r. pure_local (tree.If r.0 r.1))
 
-    stmt_by_local : (own : ℕ) (o : Option Kind) → Local (stmt_by depth inner own o)
-    unfolding stmt_by
-    stmt_by_local own (Some kind.OpenBrace) = block_statement_local
-    stmt_by_local own (Some kind.If) = choice_is_local
-    stmt_by_local own (Some kind.While) = while_local
-    stmt_by_local own (Some kind.For) = for_local
-    stmt_by_local own (Some kind.Semicolon) = word_local kind.Semicolon tree.Empty
-    stmt_by_local own (Some kind.CCode) = code_local
-    stmt_by_local own (Some kind.Break) = jump_local kind.Break tree.Break
-    stmt_by_local own (Some kind.Continue) = jump_local kind.Continue tree.Continue
-    stmt_by_local own (Some kind.Return) = return_local own
-    stmt_by_local own (Some kind.State) = change_local
-    stmt_by_local own _ = evaluation_local own
+  stmt_by_local : (own : ℕ) (o : Option Kind) → Local (stmt_by depth inner own o)
+  unfolding stmt_by
+  stmt_by_local own (Some kind.OpenBrace) = block_statement_local
+  stmt_by_local own (Some kind.If) = choice_is_local
+  stmt_by_local own (Some kind.While) = while_local
+  stmt_by_local own (Some kind.For) = for_local
+  stmt_by_local own (Some kind.Semicolon) = word_local kind.Semicolon tree.Empty
+  stmt_by_local own (Some kind.CCode) = code_local
+  stmt_by_local own (Some kind.Break) = jump_local kind.Break tree.Break
+  stmt_by_local own (Some kind.Continue) = jump_local kind.Continue tree.Continue
+  stmt_by_local own (Some kind.Return) = return_local own
+  stmt_by_local own (Some kind.State) = change_local
+  stmt_by_local own _ = evaluation_local own
 
-    stmt_by_eats : (own : ℕ) (o : Option Kind) → Eats (stmt_by depth inner own o)
-    unfolding stmt_by
-    stmt_by_eats own (Some kind.OpenBrace) = block_statement_eats
-    stmt_by_eats own (Some kind.If) = choice_eats
-    stmt_by_eats own (Some kind.While) = while_eats
-    stmt_by_eats own (Some kind.For) = for_eats
-    stmt_by_eats own (Some kind.Semicolon) = word_eats kind.Semicolon tree.Empty
-    stmt_by_eats own (Some kind.CCode) = code_eats
-    stmt_by_eats own (Some kind.Break) = jump_eats kind.Break tree.Break
-    stmt_by_eats own (Some kind.Continue) = jump_eats kind.Continue tree.Continue
-    stmt_by_eats own (Some kind.Return) = return_eats own
-    stmt_by_eats own (Some kind.State) = change_eats
-    stmt_by_eats own _ = evaluation_eats own
+  stmt_by_eats : (own : ℕ) (o : Option Kind) → Eats (stmt_by depth inner own o)
+  unfolding stmt_by
+  stmt_by_eats own (Some kind.OpenBrace) = block_statement_eats
+  stmt_by_eats own (Some kind.If) = choice_eats
+  stmt_by_eats own (Some kind.While) = while_eats
+  stmt_by_eats own (Some kind.For) = for_eats
+  stmt_by_eats own (Some kind.Semicolon) = word_eats kind.Semicolon tree.Empty
+  stmt_by_eats own (Some kind.CCode) = code_eats
+  stmt_by_eats own (Some kind.Break) = jump_eats kind.Break tree.Break
+  stmt_by_eats own (Some kind.Continue) = jump_eats kind.Continue tree.Continue
+  stmt_by_eats own (Some kind.Return) = return_eats own
+  stmt_by_eats own (Some kind.State) = change_eats
+  stmt_by_eats own _ = evaluation_eats own
 
-    of_local : (own : ℕ) → Local (stmt_of depth inner own)
-    unfolding stmt_of
-    of_local own = choice_local (stmt_by depth inner own) (stmt_by_local own)
+  of_local : (own : ℕ) → Local (stmt_of depth inner own)
+  unfolding stmt_of
+  of_local own = choice_local (stmt_by depth inner own) (stmt_by_local own)
 
-    of_eats : (own : ℕ) → Eats (stmt_of depth inner own)
-    unfolding stmt_of
-    of_eats own k x m e = stmt_by_eats own (kind_at k) k x m e
+  of_eats : (own : ℕ) → Eats (stmt_of depth inner own)
+  unfolding stmt_of
+  of_eats own k x m e = stmt_by_eats own (kind_at k) k x m e
 
-  no_eats : {A : Type 0} → Eats {A = A} refuse
-  no_eats k x m e = absurd cc
+no_eats : {A : Type 0} → Eats {A = A} refuse
+no_eats k x m e = absurd cc
 
-  both : (depth : ℕ) → Local (stmt depth) × Eats (stmt depth)
-  unfolding stmt
-  both zero = (refuse_local, no_eats)
-  both (suc depth) = let h = both depth in (of_local depth (stmt depth) h.0 h.1 (suc depth), of_eats depth (stmt depth) h.0 h.1 (suc depth))
+both : (depth : ℕ) → Local (stmt depth) × Eats (stmt depth)
+unfolding stmt
+both zero = (refuse_local, no_eats)
+both (suc depth) = let h = both depth in (of_local depth (stmt depth) h.0 h.1 (suc depth), of_eats depth (stmt depth) h.0 h.1 (suc depth))
 
-  pub stmt_local : (depth : ℕ) → Local (stmt depth)
-  stmt_local depth = (both depth).0
+pub stmt_local : (depth : ℕ) → Local (stmt depth)
+stmt_local depth = (both depth).0
 
-  pub stmt_eats : (depth : ℕ) → Eats (stmt depth)
-  stmt_eats depth = (both depth).1
+pub stmt_eats : (depth : ℕ) → Eats (stmt depth)
+stmt_eats depth = (both depth).1
 
-  pub block_local : (depth : ℕ) → Local (block depth)
-  unfolding block
-  block_local zero = refuse_local
-  block_local (suc depth) = block_of_local depth (stmt depth) (stmt_local depth) (stmt_eats depth)
+pub block_local : (depth : ℕ) → Local (block depth)
+unfolding block
+block_local zero = refuse_local
+block_local (suc depth) = block_of_local depth (stmt depth) (stmt_local depth) (stmt_eats depth)

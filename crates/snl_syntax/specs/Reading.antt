@@ -3,3 +3,4 @@ pub mod Expressions
 pub mod Declarations
 pub mod Clauses
 pub mod Statements
+pub mod Functions

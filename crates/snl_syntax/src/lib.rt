@@ -1,8 +1,10 @@
 //! The grammar: the tokens of one item come in, its tree goes out. It knows no offsets and no scopes.
 #![tactic(auto)]
 
+mod clause;
 mod declaration;
 mod expression;
+mod function;
 mod kind;
 mod operator;
 mod statement;

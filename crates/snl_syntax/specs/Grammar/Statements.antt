@@ -13,6 +13,7 @@ use Rattle.snl_syntax.specs.declared.tree.statement.Stmt.TheVariants as tree
 use Rattle.snl_syntax.specs.Tokens.{Seat}
 use Rattle.snl_syntax.specs.Grammar.Base.{Each, First, Leaf, Perhaps}
 use Rattle.snl_syntax.specs.Grammar.Expressions.{IsExpr}
+use Rattle.snl_syntax.specs.Grammar.Declarations.{IsDeclaration}
 
 -- Where a statement stands: as a member of a block; as the body of `if`, `while` or `for`, where it is no block, since a block opens its level by its braces; or behind `else`, where it is no `if` either, since that goes on with the chain.
 pub data Place : Type 0 where
@@ -116,14 +117,13 @@ pub data IsStmt (Inside Outside : Expr → List Seat → List Seat → Type 0) (
   -- "state" NAME ";"
   change : (w n : ℕ) (m1 m2 : List Seat) → t ≡ tree.State w n → Leaf kind.State w k m1 → Leaf kind.Name n m1 m2 → First kind.Semicolon m2 rest → IsStmt Inside Outside Declared Inner place closed t k rest
 
--- A statement and a block, in so many levels; `extra` more are free where fewer than `free` tokens are left. IsDeclaration says the same of declarations.
-module _ (IsDeclaration : ℕ → ℕ → ℕ → Declaration → List Seat → List Seat → Type 0) where
-  abbrev pub IsStatement : ℕ → ℕ → ℕ → Place → Bool → Stmt → List Seat → List Seat → Type 0
-  IsStatement free extra (suc depth) place closed t k rest = IsStmt (IsExpr free extra depth) (IsExpr free extra (suc depth)) (IsDeclaration free extra depth) (IsStatement free extra depth) place closed t k rest
-  IsStatement free (suc extra) zero place closed t k rest = (length k < free) × IsStmt (IsExpr free extra zero) (IsExpr free (suc extra) zero) (IsDeclaration free extra zero) (IsStatement free extra zero) place closed t k rest
-  IsStatement free zero zero place closed t k rest = ⊥
+-- A statement and a block, in so many levels; `extra` more are free where fewer than `free` tokens are left.
+abbrev pub IsStatement : ℕ → ℕ → ℕ → Place → Bool → Stmt → List Seat → List Seat → Type 0
+IsStatement free extra (suc depth) place closed t k rest = IsStmt (IsExpr free extra depth) (IsExpr free extra (suc depth)) (IsDeclaration free extra depth) (IsStatement free extra depth) place closed t k rest
+IsStatement free (suc extra) zero place closed t k rest = (length k < free) × IsStmt (IsExpr free extra zero) (IsExpr free (suc extra) zero) (IsDeclaration free extra zero) (IsStatement free extra zero) place closed t k rest
+IsStatement free zero zero place closed t k rest = ⊥
 
-  abbrev pub IsBlockWithin : ℕ → ℕ → ℕ → List Member → List Seat → List Seat → Type 0
-  IsBlockWithin free extra (suc depth) ts k rest = IsBlock (IsDeclaration free extra depth) (IsStatement free extra depth) ts k rest
-  IsBlockWithin free (suc extra) zero ts k rest = (length k < free) × IsBlock (IsDeclaration free extra zero) (IsStatement free extra zero) ts k rest
-  IsBlockWithin free zero zero ts k rest = ⊥
+abbrev pub IsBlockWithin : ℕ → ℕ → ℕ → List Member → List Seat → List Seat → Type 0
+IsBlockWithin free extra (suc depth) ts k rest = IsBlock (IsDeclaration free extra depth) (IsStatement free extra depth) ts k rest
+IsBlockWithin free (suc extra) zero ts k rest = (length k < free) × IsBlock (IsDeclaration free extra zero) (IsStatement free extra zero) ts k rest
+IsBlockWithin free zero zero ts k rest = ⊥
