@@ -18,3 +18,8 @@ mod Headers
 mod PlainItems
 mod Spellings
 mod StateSets
+pub mod Depths
+pub mod StatementLocal
+pub mod DeclarationLocal
+pub mod ClauseLocal
+pub mod FunctionLocal

@@ -8,3 +8,4 @@ pub mod Items
 pub mod ItemLaws
 pub mod Kinds
 pub mod Marks
+pub mod NestsStatement

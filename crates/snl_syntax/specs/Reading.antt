@@ -2,4 +2,5 @@ pub mod Types
 pub mod Expressions
 pub mod Declarations
 pub mod Clauses
+pub mod Statements
 pub mod Functions

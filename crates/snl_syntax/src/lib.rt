@@ -13,6 +13,7 @@ mod kind;
 mod marks;
 mod operator;
 mod punctuator;
+mod statement;
 mod stop;
 mod token_kind;
 mod token_steps;
