@@ -1,0 +1,25 @@
+pub mod Same
+pub mod Ahead
+pub mod Turns
+pub mod Tiers
+pub mod Levels
+pub mod Local
+pub mod Viable
+pub mod Again
+pub mod TypeLaws
+pub mod ExpressionLocal
+pub mod ExpressionViable
+pub mod Follow
+pub mod ExpressionAgain
+pub mod OperandAgain
+pub mod TierAgain
+pub mod SingleAgain
+mod Headers
+mod PlainItems
+mod Spellings
+mod StateSets
+pub mod Depths
+pub mod StatementLocal
+pub mod DeclarationLocal
+pub mod ClauseLocal
+pub mod FunctionLocal

@@ -1,0 +1,12 @@
+use Rattle.std.proofs.Common.{◌≡◌, ◌<◌, ◌≤◌, ap, arith}
+use Rattle.snl_syntax.specs.Tokens.{ahead}
+use Rattle.snl_syntax.specs.Reading.Statements.{block}
+use Rattle.snl_syntax.proofs.Depths.{block_deeper}
+use Rattle.snl_syntax.proofs.statement.block.Goals as goal
+
+pub returns-then-depth-eq0 : goal.returns-then-depth-eq0
+unfolding block
+returns-then-depth-eq0 c = let none : c.args.depth ≡ 0 = omega arith in ap (λ n. block n (ahead c.args.kinds.now c.args.at)) none
+
+pub returns : goal.returns
+returns c = rw (block_deeper c.args.depth (ahead c.args.kinds.now c.args.at) (omega arith)) c.block_of.ensures

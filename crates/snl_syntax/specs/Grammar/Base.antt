@@ -1,0 +1,32 @@
+-- What the productions of the grammar are made of. Each word takes the tokens from its first on, and those behind its last.
+use Rattle.std.specs.Prelude.{◌≡◌, ℕ, zero, suc, ◌<◌, List, [], ◌∷◌, length, Option, Some, None}
+use Rattle.snl_syntax.specs.declared.kind.Kind.{Kind}
+use Rattle.snl_syntax.specs.Tokens.{Seat}
+
+-- one after the other
+abbrev pub Each : {A : Type 0} → (A → List Seat → List Seat → Type 0) → List A → List Seat → List Seat → Type 0
+Each R [] k rest = k ≡ rest
+Each R (x ∷ xs) k rest = (mid : List Seat) × R x k mid × Each R xs mid rest
+
+-- a token of this kind stands first
+abbrev pub First : Kind → List Seat → List Seat → Type 0
+First x k rest = (n : ℕ) × (k ≡ ((x, n) ∷ rest))
+
+-- the token with this number stands first, and is of this kind
+abbrev pub Leaf : Kind → ℕ → List Seat → List Seat → Type 0
+Leaf x n k rest = k ≡ ((x, n) ∷ rest)
+
+-- these words and marks
+abbrev pub Fixed : List Kind → List Seat → List Seat → Type 0
+Fixed = Each First
+
+-- x, or nothing
+abbrev pub Perhaps : {A : Type 0} → (A → List Seat → List Seat → Type 0) → Option A → List Seat → List Seat → Type 0
+Perhaps R None k rest = k ≡ rest
+Perhaps R (Some x) k rest = R x k rest
+
+-- What lies inside a level, where so many levels are left. Behind the first tokens, which are held to these levels, `extra` levels are free: only where fewer than `free` tokens are left.
+abbrev pub Within : {A : Type 0} → ℕ → ℕ → ℕ → (A → List Seat → List Seat → Type 0) → A → List Seat → List Seat → Type 0
+Within free extra (suc depth) R x k rest = R x k rest
+Within free (suc extra) zero R x k rest = (length k < free) × R x k rest
+Within free zero zero R x k rest = ⊥

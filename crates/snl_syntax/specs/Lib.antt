@@ -1,0 +1,11 @@
+pub mod Tokens
+pub mod Operators
+pub mod Steps
+pub mod Reading
+pub mod Grammar
+pub mod Nests
+pub mod Items
+pub mod ItemLaws
+pub mod Kinds
+pub mod Marks
+pub mod NestsStatement

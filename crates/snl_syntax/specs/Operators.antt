@@ -1,0 +1,120 @@
+-- The operators of expressions: their marks, and how tightly those between operands bind.
+use Rattle.std.specs.Prelude.{ℕ, Option, Some, None, ◌==◌, if◌then◌else◌, Bool, true, false}
+use Rattle.snl_syntax.specs.declared.kind.Kind.{Kind}
+use Rattle.snl_syntax.specs.declared.kind.Kind.TheVariants as kind
+use Rattle.snl_syntax.specs.declared.operator.Binary.{Binary}
+use Rattle.snl_syntax.specs.declared.operator.Binary.TheVariants as binaries
+use Rattle.snl_syntax.specs.declared.operator.Assignment.{Assignment}
+use Rattle.snl_syntax.specs.declared.operator.Assignment.TheVariants as assignments
+use Rattle.snl_syntax.specs.declared.operator.Sign.{Sign}
+use Rattle.snl_syntax.specs.declared.operator.Sign.TheVariants as signs
+
+-- The operators between operands stand in ten tiers: 1 binds tightest (`* / %`), 10 loosest (`||`).
+abbrev pub tier : Binary → ℕ
+tier binaries.Or = 10
+tier binaries.And = 9
+tier binaries.BitOr = 8
+tier binaries.BitXor = 7
+tier binaries.BitAnd = 6
+tier binaries.Equal = 5
+tier binaries.NotEqual = 5
+tier binaries.Less = 4
+tier binaries.Greater = 4
+tier binaries.LessEqual = 4
+tier binaries.GreaterEqual = 4
+tier binaries.ShiftLeft = 3
+tier binaries.ShiftRight = 3
+tier binaries.Add = 2
+tier binaries.Subtract = 2
+tier binaries.Multiply = 1
+tier binaries.Divide = 1
+tier binaries.Remainder = 1
+
+abbrev pub binary_mark : Binary → Kind
+binary_mark binaries.Or = kind.BarBar
+binary_mark binaries.And = kind.AmpersandAmpersand
+binary_mark binaries.BitOr = kind.Bar
+binary_mark binaries.BitXor = kind.Caret
+binary_mark binaries.BitAnd = kind.Ampersand
+binary_mark binaries.Equal = kind.EqualEqual
+binary_mark binaries.NotEqual = kind.NotEqual
+binary_mark binaries.Less = kind.Less
+binary_mark binaries.Greater = kind.Greater
+binary_mark binaries.LessEqual = kind.LessEqual
+binary_mark binaries.GreaterEqual = kind.GreaterEqual
+binary_mark binaries.ShiftLeft = kind.LessLess
+binary_mark binaries.ShiftRight = kind.GreaterGreater
+binary_mark binaries.Add = kind.Plus
+binary_mark binaries.Subtract = kind.Minus
+binary_mark binaries.Multiply = kind.Star
+binary_mark binaries.Divide = kind.Slash
+binary_mark binaries.Remainder = kind.Percent
+
+abbrev pub binary_of : Kind → Option Binary
+binary_of kind.BarBar = Some binaries.Or
+binary_of kind.AmpersandAmpersand = Some binaries.And
+binary_of kind.Bar = Some binaries.BitOr
+binary_of kind.Caret = Some binaries.BitXor
+binary_of kind.Ampersand = Some binaries.BitAnd
+binary_of kind.EqualEqual = Some binaries.Equal
+binary_of kind.NotEqual = Some binaries.NotEqual
+binary_of kind.Less = Some binaries.Less
+binary_of kind.Greater = Some binaries.Greater
+binary_of kind.LessEqual = Some binaries.LessEqual
+binary_of kind.GreaterEqual = Some binaries.GreaterEqual
+binary_of kind.LessLess = Some binaries.ShiftLeft
+binary_of kind.GreaterGreater = Some binaries.ShiftRight
+binary_of kind.Plus = Some binaries.Add
+binary_of kind.Minus = Some binaries.Subtract
+binary_of kind.Star = Some binaries.Multiply
+binary_of kind.Slash = Some binaries.Divide
+binary_of kind.Percent = Some binaries.Remainder
+binary_of _ = None
+
+abbrev pub assignment_mark : Assignment → Kind
+assignment_mark assignments.Plain = kind.Equal
+assignment_mark assignments.Add = kind.PlusEqual
+assignment_mark assignments.Subtract = kind.MinusEqual
+assignment_mark assignments.Multiply = kind.StarEqual
+assignment_mark assignments.Divide = kind.SlashEqual
+assignment_mark assignments.Remainder = kind.PercentEqual
+assignment_mark assignments.BitAnd = kind.AmpersandEqual
+assignment_mark assignments.BitOr = kind.BarEqual
+assignment_mark assignments.BitXor = kind.CaretEqual
+assignment_mark assignments.ShiftLeft = kind.LessLessEqual
+assignment_mark assignments.ShiftRight = kind.GreaterGreaterEqual
+
+abbrev pub assignment_of : Kind → Option Assignment
+assignment_of kind.Equal = Some assignments.Plain
+assignment_of kind.PlusEqual = Some assignments.Add
+assignment_of kind.MinusEqual = Some assignments.Subtract
+assignment_of kind.StarEqual = Some assignments.Multiply
+assignment_of kind.SlashEqual = Some assignments.Divide
+assignment_of kind.PercentEqual = Some assignments.Remainder
+assignment_of kind.AmpersandEqual = Some assignments.BitAnd
+assignment_of kind.BarEqual = Some assignments.BitOr
+assignment_of kind.CaretEqual = Some assignments.BitXor
+assignment_of kind.LessLessEqual = Some assignments.ShiftLeft
+assignment_of kind.GreaterGreaterEqual = Some assignments.ShiftRight
+assignment_of _ = None
+
+abbrev pub sign_mark : Sign → Kind
+sign_mark signs.Plus = kind.Plus
+sign_mark signs.Minus = kind.Minus
+sign_mark signs.Not = kind.Exclamation
+sign_mark signs.Complement = kind.Tilde
+sign_mark signs.Dereference = kind.Star
+sign_mark signs.Address = kind.Ampersand
+sign_mark signs.Increment = kind.PlusPlus
+sign_mark signs.Decrement = kind.MinusMinus
+
+abbrev pub sign_of : Kind → Option Sign
+sign_of kind.Plus = Some signs.Plus
+sign_of kind.Minus = Some signs.Minus
+sign_of kind.Exclamation = Some signs.Not
+sign_of kind.Tilde = Some signs.Complement
+sign_of kind.Star = Some signs.Dereference
+sign_of kind.Ampersand = Some signs.Address
+sign_of kind.PlusPlus = Some signs.Increment
+sign_of kind.MinusMinus = Some signs.Decrement
+sign_of _ = None

@@ -1,0 +1,6 @@
+pub mod Types
+pub mod Expressions
+pub mod Declarations
+pub mod Clauses
+pub mod Statements
+pub mod Functions

@@ -1,0 +1,28 @@
+//! What readers answer besides trees.
+
+ghost use Rattle.std.specs.Prelude.{◌≡◌};
+ghost use Rattle.snl_syntax.specs.declared.stop.Stop.TheVariants.{OutOfMemory};
+
+use std::alloc::AllocError;
+
+/// Why a reader stopped: at the token with this number, which it can't take, or for want of memory.
+#[derive(Clone, Copy, Debug, PartialEq, Eq)]
+pub enum Stop {
+    Here(usize),
+    OutOfMemory,
+}
+
+impl From<AllocError> for Stop {
+    ghost from_gives = { λ _ s. s ≡ OutOfMemory };
+
+    fn from(_refused: AllocError) -> Stop {
+        Stop::OutOfMemory
+    }
+}
+
+/// One step over a list that something else ends: an element, or what ends it with perhaps a last element before.
+#[derive(Drop)]
+pub enum Step<A, B> {
+    More(A),
+    Last(Option<A>, B),
+}

@@ -1,0 +1,54 @@
+//! Items.
+
+use crate::tree::clause::{Clause, OptionLine};
+use crate::tree::declaration::{Declaration, Parameter};
+use crate::tree::state::StateMember;
+use crate::tree::statement::Member;
+use crate::tree::types::{Pointer, QualifiedType};
+use sqlite_items::Items;
+
+/// A function; one without a body is a prototype.
+#[derive(Drop)]
+pub struct Function {
+    pub of: QualifiedType,
+    pub pointers: Items<Pointer>,
+    pub name: usize,
+    pub parameters: Items<Parameter>,
+    pub body: Option<Items<Member>>,
+}
+
+#[derive(Drop)]
+pub enum StructMember {
+    Declaration(Declaration),
+    CBlock(usize),
+}
+
+/// One item of a text. A text of joined strings is the list of their numbers.
+#[derive(Drop)]
+pub enum Item {
+    Header {
+        name: usize,
+        parameters: Option<Items<usize>>,
+    },
+    Definition(Declaration),
+    Foreign(Items<usize>),
+    Clause(Clause),
+    OptionLine(OptionLine),
+    Entry(Items<Member>),
+    Exit(Items<Member>),
+    SsBegin {
+        name: usize,
+    },
+    SsEnd,
+    StateBlock {
+        name: usize,
+        members: Items<StateMember>,
+    },
+    Function(Function),
+    StructDef {
+        name: usize,
+        members: Items<StructMember>,
+    },
+    CBlock(usize),
+    Empty,
+}

@@ -1,0 +1,279 @@
+//! Reads types and names of types.
+
+ghost use Rattle.std.specs.Prelude.{◌≡◌, [], suc, length};
+ghost use Rattle.snl_syntax.specs.declared.kind.Kind.TheVariants as kind;
+ghost use Rattle.snl_syntax.specs.declared.tree.types.Base.TheVariants as bases;
+ghost use Rattle.snl_syntax.specs.Tokens.{ahead};
+ghost use Rattle.snl_syntax.specs.Steps as read;
+ghost use Rattle.snl_syntax.specs.Steps.{Reads};
+ghost use Rattle.snl_syntax.specs.Reading.Types as spec;
+
+use crate::kind::Kind;
+use crate::stop::Stop;
+use crate::token_steps::{accept, expect, kind_at, turns};
+use crate::tree::types::{Base, Integer, Pointer, QualifiedType, TypeName};
+use sqlite_items::Items;
+use std::alloc::Global;
+
+#[tactic(auto, unfolding(crate::specs::Steps::and_then))]
+fn integer_word(
+    kinds: &[Kind],
+    at: usize,
+    word: Kind,
+    integer: Integer,
+) -> Result<(Integer, usize), Stop>
+    ensures { Reads kinds.now result (read.word word integer (ahead kinds.now at)) }
+{
+    let at = expect(kinds, at, word)?;
+    Ok((integer, at))
+}
+
+#[tactic(auto, unfolding(crate::specs::Steps::and_then))]
+fn base_word(kinds: &[Kind], at: usize, word: Kind, base: Base) -> Result<(Base, usize), Stop>
+    ensures { Reads kinds.now result (read.word word base (ahead kinds.now at)) }
+{
+    let at = expect(kinds, at, word)?;
+    Ok((base, at))
+}
+
+#[tactic(auto, unfolding(crate::specs::Reading::Types::short_integer, crate::specs::Steps::and_then))]
+fn short_integer(kinds: &[Kind], at: usize) -> Result<(Integer, usize), Stop>
+    ensures { Reads kinds.now result (spec.short_integer (ahead kinds.now at)) }
+{
+    let at = expect(kinds, at, Kind::Short)?;
+    let (more, at) = accept(kinds, at, Kind::Int);
+    let integer = if more {
+        Integer::ShortInt
+    } else {
+        Integer::Short
+    };
+    Ok((integer, at))
+}
+
+#[tactic(auto, unfolding(crate::specs::Reading::Types::long_integer, crate::specs::Steps::and_then))]
+fn long_integer(kinds: &[Kind], at: usize) -> Result<(Integer, usize), Stop>
+    ensures { Reads kinds.now result (spec.long_integer (ahead kinds.now at)) }
+{
+    let at = expect(kinds, at, Kind::Long)?;
+    let (more, at) = accept(kinds, at, Kind::Int);
+    let integer = if more {
+        Integer::LongInt
+    } else {
+        Integer::Long
+    };
+    Ok((integer, at))
+}
+
+#[tactic(auto, unfolding(crate::specs::Reading::Types::integer, crate::specs::Reading::Types::integer_by, crate::specs::Steps::and_then))]
+fn integer(kinds: &[Kind], at: usize) -> Result<(Integer, usize), Stop>
+    ensures { Reads kinds.now result (spec.integer (ahead kinds.now at)) }
+{
+    match kind_at(kinds, at) {
+        Some(Kind::Char) => integer_word(kinds, at, Kind::Char, Integer::Char),
+        Some(Kind::Short) => short_integer(kinds, at),
+        Some(Kind::Int) => integer_word(kinds, at, Kind::Int, Integer::Int),
+        Some(Kind::Long) => long_integer(kinds, at),
+        _ => Err(Stop::Here(at)),
+    }
+}
+
+fn begins_integer(kind: Option<Kind>) -> bool
+    ensures { result ≡ spec.begins_integer kind }
+{
+    match kind {
+        Some(Kind::Char) => true,
+        Some(Kind::Short) => true,
+        Some(Kind::Int) => true,
+        Some(Kind::Long) => true,
+        _ => false,
+    }
+}
+
+#[tactic(auto, unfolding(crate::specs::Reading::Types::plain_integer, crate::specs::Steps::and_then))]
+fn plain_integer(kinds: &[Kind], at: usize) -> Result<(Base, usize), Stop>
+    ensures { Reads kinds.now result (spec.plain_integer (ahead kinds.now at)) }
+{
+    let (integer, at) = integer(kinds, at)?;
+    Ok((Base::Integer(integer), at))
+}
+
+#[tactic(auto, unfolding(crate::specs::Reading::Types::unsigned_rest, crate::specs::Steps::and_then))]
+fn unsigned_rest(kinds: &[Kind], at: usize) -> Result<(Base, usize), Stop>
+    ensures { Reads kinds.now result (spec.unsigned_rest (ahead kinds.now at)) }
+{
+    if begins_integer(kind_at(kinds, at)) {
+        let (integer, at) = integer(kinds, at)?;
+        Ok((Base::UnsignedInteger(integer), at))
+    } else {
+        Ok((Base::Unsigned, at))
+    }
+}
+
+#[tactic(auto, unfolding(crate::specs::Reading::Types::unsigned, crate::specs::Steps::and_then))]
+fn unsigned(kinds: &[Kind], at: usize) -> Result<(Base, usize), Stop>
+    ensures { Reads kinds.now result (spec.unsigned (ahead kinds.now at)) }
+{
+    let at = expect(kinds, at, Kind::Unsigned)?;
+    unsigned_rest(kinds, at)
+}
+
+#[tactic(auto, unfolding(crate::specs::Reading::Types::named, crate::specs::Steps::and_then))]
+fn enum_base(kinds: &[Kind], at: usize) -> Result<(Base, usize), Stop>
+    ensures { Reads kinds.now result (spec.named kind.Enum bases.Enum (ahead kinds.now at)) }
+{
+    let at = expect(kinds, at, Kind::Enum)?;
+    let name = at;
+    let at = expect(kinds, at, Kind::Name)?;
+    Ok((Base::Enum(name), at))
+}
+
+#[tactic(auto, unfolding(crate::specs::Reading::Types::named, crate::specs::Steps::and_then))]
+fn struct_base(kinds: &[Kind], at: usize) -> Result<(Base, usize), Stop>
+    ensures { Reads kinds.now result (spec.named kind.Struct bases.Struct (ahead kinds.now at)) }
+{
+    let at = expect(kinds, at, Kind::Struct)?;
+    let name = at;
+    let at = expect(kinds, at, Kind::Name)?;
+    Ok((Base::Struct(name), at))
+}
+
+#[tactic(auto, unfolding(crate::specs::Reading::Types::named, crate::specs::Steps::and_then))]
+fn union_base(kinds: &[Kind], at: usize) -> Result<(Base, usize), Stop>
+    ensures { Reads kinds.now result (spec.named kind.Union bases.Union (ahead kinds.now at)) }
+{
+    let at = expect(kinds, at, Kind::Union)?;
+    let name = at;
+    let at = expect(kinds, at, Kind::Name)?;
+    Ok((Base::Union(name), at))
+}
+
+#[tactic(auto, unfolding(crate::specs::Reading::Types::named, crate::specs::Steps::and_then))]
+fn typename_base(kinds: &[Kind], at: usize) -> Result<(Base, usize), Stop>
+    ensures { Reads kinds.now result (spec.named kind.Typename bases.Typename (ahead kinds.now at)) }
+{
+    let at = expect(kinds, at, Kind::Typename)?;
+    let name = at;
+    let at = expect(kinds, at, Kind::Name)?;
+    Ok((Base::Typename(name), at))
+}
+
+#[tactic(auto, unfolding(crate::specs::Reading::Types::base, crate::specs::Reading::Types::base_by, crate::specs::Steps::and_then))]
+fn base(kinds: &[Kind], at: usize) -> Result<(Base, usize), Stop>
+    ensures { Reads kinds.now result (spec.base (ahead kinds.now at)) }
+{
+    match kind_at(kinds, at) {
+        Some(Kind::Void) => base_word(kinds, at, Kind::Void, Base::Void),
+        Some(Kind::Char) => plain_integer(kinds, at),
+        Some(Kind::Short) => plain_integer(kinds, at),
+        Some(Kind::Int) => plain_integer(kinds, at),
+        Some(Kind::Long) => plain_integer(kinds, at),
+        Some(Kind::Unsigned) => unsigned(kinds, at),
+        Some(Kind::Int8) => base_word(kinds, at, Kind::Int8, Base::Int8),
+        Some(Kind::Uint8) => base_word(kinds, at, Kind::Uint8, Base::Uint8),
+        Some(Kind::Int16) => base_word(kinds, at, Kind::Int16, Base::Int16),
+        Some(Kind::Uint16) => base_word(kinds, at, Kind::Uint16, Base::Uint16),
+        Some(Kind::Int32) => base_word(kinds, at, Kind::Int32, Base::Int32),
+        Some(Kind::Uint32) => base_word(kinds, at, Kind::Uint32, Base::Uint32),
+        Some(Kind::Float) => base_word(kinds, at, Kind::Float, Base::Float),
+        Some(Kind::Double) => base_word(kinds, at, Kind::Double, Base::Double),
+        Some(Kind::String) => base_word(kinds, at, Kind::String, Base::String),
+        Some(Kind::Evflag) => base_word(kinds, at, Kind::Evflag, Base::Evflag),
+        Some(Kind::Enum) => enum_base(kinds, at),
+        Some(Kind::Struct) => struct_base(kinds, at),
+        Some(Kind::Union) => union_base(kinds, at),
+        Some(Kind::Typename) => typename_base(kinds, at),
+        _ => Err(Stop::Here(at)),
+    }
+}
+
+/// A type: a base, and `const` before and behind it or not.
+#[tactic(auto, unfolding(crate::specs::Reading::Types::type_of, crate::specs::Steps::and_then))]
+pub fn type_of(kinds: &[Kind], at: usize) -> Result<(QualifiedType, usize), Stop>
+    ensures { Reads kinds.now result (spec.type_of (ahead kinds.now at)) }
+{
+    let (leading_const, at) = accept(kinds, at, Kind::Const);
+    let (base, at) = base(kinds, at)?;
+    let (trailing_const, at) = accept(kinds, at, Kind::Const);
+    let of = QualifiedType {
+        leading_const,
+        base,
+        trailing_const,
+    };
+    Ok((of, at))
+}
+
+#[tactic(auto, unfolding(crate::specs::Reading::Types::next_pointer, crate::specs::Steps::and_then))]
+fn next_pointer(kinds: &[Kind], at: usize) -> Result<(Option<Pointer>, usize), Stop>
+    ensures { Reads kinds.now result (spec.next_pointer (ahead kinds.now at)) }
+{
+    match kind_at(kinds, at) {
+        Some(Kind::Star) => {
+            let at = expect(kinds, at, Kind::Star)?;
+            let (constant, at) = accept(kinds, at, Kind::Const);
+            let pointer = if constant {
+                Pointer::Const
+            } else {
+                Pointer::Plain
+            };
+            Ok((Some(pointer), at))
+        }
+        _ => Ok((None, at)),
+    }
+}
+
+/// The stars behind a type.
+pub fn stars(alloc: Global, kinds: &[Kind], start: usize) -> Result<(Items<Pointer>, usize), Stop>
+    ensures { Reads kinds.now result (spec.stars (ahead kinds.now start)) }
+{
+    let mut found = Items::new(alloc);
+    let mut at = start;
+    for _turn in 0..turns(kinds, start) {
+        let (next, after) = next_pointer(kinds, at)?;
+        at = after;
+        match next {
+            None => return Ok((found, at)),
+            Some(item) => found.push(item)?,
+        }
+    }
+    Ok((found, at))
+}
+
+/// A type and the stars behind it.
+#[tactic(auto, unfolding(crate::specs::Reading::Types::type_name, crate::specs::Steps::and_then))]
+pub fn type_name(alloc: Global, kinds: &[Kind], at: usize) -> Result<(TypeName, usize), Stop>
+    ensures { Reads kinds.now result (spec.type_name (ahead kinds.now at)) }
+{
+    let (of, at) = type_of(kinds, at)?;
+    let (pointers, at) = stars(alloc, kinds, at)?;
+    Ok((TypeName { of, pointers }, at))
+}
+
+/// Whether a token begins a type.
+pub fn begins_type(kind: Option<Kind>) -> bool
+    ensures { result ≡ spec.begins_type kind }
+{
+    match kind {
+        Some(Kind::Const) => true,
+        Some(Kind::Void) => true,
+        Some(Kind::Char) => true,
+        Some(Kind::Short) => true,
+        Some(Kind::Int) => true,
+        Some(Kind::Long) => true,
+        Some(Kind::Unsigned) => true,
+        Some(Kind::Int8) => true,
+        Some(Kind::Uint8) => true,
+        Some(Kind::Int16) => true,
+        Some(Kind::Uint16) => true,
+        Some(Kind::Int32) => true,
+        Some(Kind::Uint32) => true,
+        Some(Kind::Float) => true,
+        Some(Kind::Double) => true,
+        Some(Kind::String) => true,
+        Some(Kind::Evflag) => true,
+        Some(Kind::Enum) => true,
+        Some(Kind::Struct) => true,
+        Some(Kind::Union) => true,
+        Some(Kind::Typename) => true,
+        _ => false,
+    }
+}
