@@ -145,7 +145,7 @@ module _ (inner : Reader Expr) (value : Reader Init) (li : Local inner) (lv : Lo
   unfolding declarator_from
   declarator_from_local ps n = bind_local (lengths inner) _ (lengths_local inner li) (λ ls. bind_local (init_part value) _ (init_part_local value lv) (λ x. pure_local (record { pointers = ps; name = n; lengths = ls; init = x })))
 
-  declarator_local : Local (declarator inner value)
+  pub declarator_local : Local (declarator inner value)
   unfolding declarator
   declarator_local = bind_local stars _ stars_local (λ ps. bind_local (expect kind.Name) _ (expect_local kind.Name) (λ n. declarator_from_local ps n))
 

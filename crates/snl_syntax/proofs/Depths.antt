@@ -1,6 +1,5 @@
 -- One level deeper, beside the code that counts levels down.
 use Rattle.std.proofs.Common.{◌≡◌, ℕ, suc, ◌-◌, ◌<◌, List, refl, subst, arith}
-use Rattle.snl_syntax.specs.declared.tree.statement.Member.{Member}
 use Rattle.snl_syntax.specs.Tokens.{Seat}
 use Rattle.snl_syntax.specs.Reading.Statements.{stmt, stmt_of, block, block_of}
 

@@ -19,7 +19,17 @@ mod PlainItems
 mod Spellings
 mod StateSets
 pub mod Depths
-pub mod StatementLocal
 pub mod DeclarationLocal
 pub mod ClauseLocal
 pub mod FunctionLocal
+pub mod Braced
+pub mod ClauseViable
+pub mod DeclarationViable
+pub mod FunctionViable
+pub mod BracedAgain
+pub mod ClauseAgain
+pub mod DeclarationAgain
+pub mod StatementLocal
+pub mod StatementViable
+pub mod StatementAgain
+pub mod ItemEnds

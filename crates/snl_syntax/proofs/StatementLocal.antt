@@ -1,23 +1,19 @@
 -- Readers of statements look no further than one token ahead.
-use Rattle.std.proofs.Common.{◌≡◌, ◌<◌, ◌≤◌, length, arith, ℕ, zero, suc, Bool, true, false, List, [], ◌∷◌, ◌++◌, Option, Some, None, Ok, refl, sym, ap, ◌∙◌}
+use Rattle.std.proofs.Common.{ℕ, zero, suc, Bool, true, false, List, [], ◌∷◌, ◌++◌, Option, Some, None, sym, ◌∙◌}
 use Rattle.snl_syntax.specs.declared.kind.Kind.{Kind}
 use Rattle.snl_syntax.specs.declared.kind.Kind.TheVariants as kind
 use Rattle.snl_syntax.specs.declared.stop.Step.{Step}
 use Rattle.snl_syntax.specs.declared.stop.Step.TheVariants as steps
 use Rattle.snl_syntax.specs.declared.tree.expression.Expr.{Expr}
-use Rattle.snl_syntax.specs.declared.tree.declaration.Declaration.{Declaration}
-use Rattle.snl_syntax.specs.declared.tree.statement.ForHead.{ForHead}
-use Rattle.snl_syntax.specs.declared.tree.statement.Member.{Member}
 use Rattle.snl_syntax.specs.declared.tree.statement.Member.TheVariants as members
 use Rattle.snl_syntax.specs.declared.tree.statement.Stmt.{Stmt}
 use Rattle.snl_syntax.specs.declared.tree.statement.Stmt.TheVariants as tree
-use Rattle.snl_syntax.specs.Tokens.{Seat}
 use Rattle.snl_syntax.specs.Steps.{Reader, and_then, pure, refuse, kind_at, expect, word, many, again_or, until}
 use Rattle.snl_syntax.specs.Reading.Types.{begins_type}
 use Rattle.snl_syntax.specs.Reading.Expressions.{expr}
 use Rattle.snl_syntax.specs.Reading.Declarations.{declaration}
 use Rattle.snl_syntax.specs.Reading.Statements.{some_before, semicolon_by, before_semicolon, paren_by, before_paren, c_code, jump, change, return_value, evaluation, condition, for_head, declared, stated, some_by, some_member, member_by, next_member, block_of, block_statement, body_by, body, while_loop, for_loop, last_body, branch_by, behind_else, else_by, arm, arm_step, choice, stmt_by, stmt_of, stmt, block}
-use Rattle.snl_syntax.proofs.Local.{Local, Eats, EatsSome, EatsMore, bind_local, choice_local, pure_local, refuse_local, expect_local, many_local, until_local, bind_eats, eats_behind, expect_eats, eats_some, eats_more, none_eats, ok_is, bind_ok, took_shorter, until_step}
+use Rattle.snl_syntax.proofs.Local.{Local, Eats, EatsSome, bind_local, choice_local, pure_local, refuse_local, expect_local, many_local, until_local, bind_eats, eats_behind, expect_eats, eats_some, eats_more, none_eats, until_step}
 use Rattle.snl_syntax.proofs.TypeLaws.{word_local}
 use Rattle.snl_syntax.proofs.ExpressionLocal.{expr_local}
 use Rattle.snl_syntax.proofs.DeclarationLocal.{declaration_local, declaration_eats}

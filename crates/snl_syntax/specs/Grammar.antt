@@ -5,3 +5,5 @@ pub mod Statements
 pub mod Declarations
 pub mod Clauses
 pub mod Functions
+pub mod States
+pub mod Items

@@ -7,5 +7,6 @@ pub mod Nests
 pub mod Items
 pub mod ItemLaws
 pub mod Kinds
+pub mod Parsing
 pub mod Marks
 pub mod NestsStatement

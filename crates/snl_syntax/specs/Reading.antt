@@ -4,3 +4,5 @@ pub mod Declarations
 pub mod Clauses
 pub mod Statements
 pub mod Functions
+pub mod States
+pub mod Items

@@ -5,14 +5,22 @@ mod clause;
 #[cfg(test)]
 mod cut_tests;
 mod declaration;
+#[cfg(test)]
+mod declaration_tests;
 mod expression;
+mod fault;
 mod function;
+mod item;
 mod item_cut;
 mod item_laws;
+#[cfg(test)]
+mod item_tests;
 mod kind;
 mod marks;
 mod operator;
+mod parse;
 mod punctuator;
+mod state;
 mod statement;
 mod stop;
 mod token_kind;
@@ -21,9 +29,11 @@ pub mod tree;
 mod types;
 mod word;
 
+pub use fault::ParseFault;
 pub use item_cut::Tokens;
 pub use item_laws::first_item;
 pub use kind::Kind;
 pub use marks::Mark;
 pub use operator::{Assignment, Binary, Sign};
+pub use parse::parse_item;
 pub use token_kind::mark;

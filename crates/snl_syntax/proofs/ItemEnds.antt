@@ -1,0 +1,16 @@
+-- An item is read to the end of its tokens.
+use Rattle.std.proofs.Common.{◌≡◌, ℕ, List, [], ◌∷◌, Some, None, Ok, sym}
+use Rattle.snl_syntax.specs.declared.tree.item.Item.{Item}
+use Rattle.snl_syntax.specs.Tokens.{Seat}
+use Rattle.snl_syntax.specs.Steps.{kind_at}
+use Rattle.snl_syntax.specs.Reading.Items.{item, ended, whole_item}
+use Rattle.snl_syntax.proofs.Local.{bind_ok, ok_is}
+
+ended_ends : (y : Item) (n : List Seat) (x : Item) (m : List Seat) → ended y n ≡ Ok (x, m) → m ≡ []
+unfolding ended kind_at
+ended_ends y [] x m e = let v = ok_is y x [] m e in sym v.1
+ended_ends y (s ∷ n) x m e = absurd cc
+
+pub whole_ends : (depth : ℕ) (k : List Seat) (x : Item) (m : List Seat) → whole_item depth k ≡ Ok (x, m) → m ≡ []
+unfolding whole_item
+whole_ends depth k x m e = bind_ok (item depth k) ended (x, m) e (λ y n e1 e2. ended_ends y n x m e2)

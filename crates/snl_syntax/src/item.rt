@@ -1,0 +1,224 @@
+//! Reads items: the kinds of an item's tokens come in, its tree goes out.
+
+ghost use Rattle.std.specs.Prelude.{◌≡◌, ◌<◌, ◌-◌};
+ghost use Rattle.snl_syntax.specs.Reading.Items as spec;
+ghost use Rattle.snl_syntax.specs.Reading.Statements as statements;
+ghost use Rattle.snl_syntax.specs.Steps as read;
+ghost use Rattle.snl_syntax.specs.Steps.{Reads};
+ghost use Rattle.snl_syntax.specs.Tokens.{ahead};
+ghost use Rattle.snl_syntax.specs.declared.kind.Kind.TheVariants as kind;
+ghost use Rattle.snl_syntax.specs.declared.tree.item.Item.TheVariants as items;
+
+use crate::clause::{clause, foreign, option_line};
+use crate::expression::texts;
+use crate::function::{Blocks, typed_item};
+use crate::kind::Kind;
+use crate::state::{entry_block, exit_block, state_members};
+use crate::statement::block;
+use crate::stop::Stop;
+use crate::token_steps::{expect, kind_at};
+use crate::tree::item::Item;
+use crate::tree::statement::Member;
+use sqlite_items::Items;
+use std::alloc::Global;
+
+/// Blocks of statements, as the bodies of functions.
+struct Bodies;
+
+impl Blocks for Bodies {
+    ghost reader = { statements.block };
+
+    fn block(
+        &self,
+        alloc: Global,
+        kinds: &[Kind],
+        at: usize,
+        depth: usize,
+    ) -> Result<(Items<Member>, usize), Stop> {
+        block(alloc, kinds, at, depth)
+    }
+}
+
+#[tactic(auto, unfolding(crate::specs::Reading::Items::some_texts, crate::specs::Steps::and_then))]
+fn some_texts(
+    alloc: Global,
+    kinds: &[Kind],
+    at: usize,
+) -> Result<(Option<Items<usize>>, usize), Stop>
+    ensures { Reads kinds.now result (spec.some_texts (ahead kinds.now at)) }
+{
+    let at = expect(kinds, at, Kind::OpenParen)?;
+    let (texts, at) = texts(alloc, kinds, at)?;
+    let at = expect(kinds, at, Kind::CloseParen)?;
+    Ok((Some(texts), at))
+}
+
+#[tactic(auto, unfolding(crate::specs::Reading::Items::texts_part, crate::specs::Steps::and_then))]
+fn texts_part(
+    alloc: Global,
+    kinds: &[Kind],
+    at: usize,
+) -> Result<(Option<Items<usize>>, usize), Stop>
+    ensures { Reads kinds.now result (spec.texts_part (ahead kinds.now at)) }
+{
+    match kind_at(kinds, at) {
+        Some(Kind::OpenParen) => some_texts(alloc, kinds, at),
+        _ => Ok((None, at)),
+    }
+}
+
+#[tactic(auto, unfolding(crate::specs::Reading::Items::header, crate::specs::Steps::and_then))]
+fn header(alloc: Global, kinds: &[Kind], at: usize) -> Result<(Item, usize), Stop>
+    ensures { Reads kinds.now result (spec.header (ahead kinds.now at)) }
+{
+    let at = expect(kinds, at, Kind::Program)?;
+    let name = at;
+    let at = expect(kinds, at, Kind::Name)?;
+    let (parameters, at) = texts_part(alloc, kinds, at)?;
+    Ok((Item::Header { name, parameters }, at))
+}
+
+#[tactic(auto, unfolding(crate::specs::Reading::Items::set_begin, crate::specs::Steps::and_then))]
+fn set_begin(kinds: &[Kind], at: usize) -> Result<(Item, usize), Stop>
+    ensures { Reads kinds.now result (spec.set_begin (ahead kinds.now at)) }
+{
+    let at = expect(kinds, at, Kind::Ss)?;
+    let name = at;
+    let at = expect(kinds, at, Kind::Name)?;
+    let at = expect(kinds, at, Kind::OpenBrace)?;
+    Ok((Item::SsBegin { name }, at))
+}
+
+#[tactic(auto, unfolding(crate::specs::Steps::and_then))]
+fn set_end(kinds: &[Kind], at: usize) -> Result<(Item, usize), Stop>
+    ensures { Reads kinds.now result (read.word kind.CloseBrace items.SsEnd (ahead kinds.now at)) }
+{
+    let at = expect(kinds, at, Kind::CloseBrace)?;
+    Ok((Item::SsEnd, at))
+}
+
+#[tactic(auto, unfolding(crate::specs::Steps::and_then))]
+fn empty(kinds: &[Kind], at: usize) -> Result<(Item, usize), Stop>
+    ensures { Reads kinds.now result (read.word kind.Semicolon items.Empty (ahead kinds.now at)) }
+{
+    let at = expect(kinds, at, Kind::Semicolon)?;
+    Ok((Item::Empty, at))
+}
+
+#[tactic(auto, unfolding(crate::specs::Reading::Items::c_block, crate::specs::Steps::and_then))]
+fn c_block(kinds: &[Kind], at: usize) -> Result<(Item, usize), Stop>
+    ensures { Reads kinds.now result (spec.c_block (ahead kinds.now at)) }
+{
+    let number = at;
+    let at = expect(kinds, at, Kind::CCode)?;
+    Ok((Item::CBlock(number), at))
+}
+
+#[tactic(auto, unfolding(crate::specs::Reading::Items::foreign_item, crate::specs::Steps::and_then))]
+fn foreign_item(alloc: Global, kinds: &[Kind], at: usize) -> Result<(Item, usize), Stop>
+    ensures { Reads kinds.now result (spec.foreign_item (ahead kinds.now at)) }
+{
+    let (names, at) = foreign(alloc, kinds, at)?;
+    Ok((Item::Foreign(names), at))
+}
+
+#[tactic(auto, unfolding(crate::specs::Reading::Items::clause_item, crate::specs::Steps::and_then))]
+fn clause_item(alloc: Global, kinds: &[Kind], at: usize) -> Result<(Item, usize), Stop>
+    ensures { Reads kinds.now result (spec.clause_item (ahead kinds.now at)) }
+{
+    let (clause, at) = clause(alloc, kinds, at)?;
+    Ok((Item::Clause(clause), at))
+}
+
+#[tactic(auto, unfolding(crate::specs::Reading::Items::option_item, crate::specs::Steps::and_then))]
+fn option_item(kinds: &[Kind], at: usize) -> Result<(Item, usize), Stop>
+    ensures { Reads kinds.now result (spec.option_item (ahead kinds.now at)) }
+{
+    let (line, at) = option_line(kinds, at)?;
+    Ok((Item::OptionLine(line), at))
+}
+
+#[tactic(auto, unfolding(crate::specs::Reading::Items::entry_item, crate::specs::Steps::and_then))]
+fn entry_item(alloc: Global, kinds: &[Kind], at: usize, depth: usize) -> Result<(Item, usize), Stop>
+    ensures { Reads kinds.now result (spec.entry_item depth (ahead kinds.now at)) }
+{
+    let (block, at) = entry_block(alloc, kinds, at, depth)?;
+    Ok((Item::Entry(block), at))
+}
+
+#[tactic(auto, unfolding(crate::specs::Reading::Items::exit_item, crate::specs::Steps::and_then))]
+fn exit_item(alloc: Global, kinds: &[Kind], at: usize, depth: usize) -> Result<(Item, usize), Stop>
+    ensures { Reads kinds.now result (spec.exit_item depth (ahead kinds.now at)) }
+{
+    let (block, at) = exit_block(alloc, kinds, at, depth)?;
+    Ok((Item::Exit(block), at))
+}
+
+#[tactic(auto, unfolding(crate::specs::Reading::Items::state_item, crate::specs::Steps::and_then))]
+fn state_item(alloc: Global, kinds: &[Kind], at: usize, depth: usize) -> Result<(Item, usize), Stop>
+    requires two { 1 < depth }
+    ensures { Reads kinds.now result (spec.state_item depth (ahead kinds.now at)) }
+{
+    let at = expect(kinds, at, Kind::State)?;
+    let name = at;
+    let at = expect(kinds, at, Kind::Name)?;
+    let (members, at) = state_members(alloc, kinds, at, depth - 1)?;
+    Ok((Item::StateBlock { name, members }, at))
+}
+
+/// An item, in so many levels with the one that it stands in.
+#[tactic(auto, unfolding(crate::specs::Reading::Items::item, crate::specs::Steps::and_then))]
+fn item(alloc: Global, kinds: &[Kind], at: usize, depth: usize) -> Result<(Item, usize), Stop>
+    requires two { 1 < depth }
+    ensures { Reads kinds.now result (spec.item depth (ahead kinds.now at)) }
+{
+    match kind_at(kinds, at) {
+        Some(Kind::Program) => header(alloc, kinds, at),
+        Some(Kind::Ss) => set_begin(kinds, at),
+        Some(Kind::CloseBrace) => set_end(kinds, at),
+        Some(Kind::Semicolon) => empty(kinds, at),
+        Some(Kind::CCode) => c_block(kinds, at),
+        Some(Kind::Foreign) => foreign_item(alloc, kinds, at),
+        Some(Kind::Option) => option_item(kinds, at),
+        Some(Kind::Assign) => clause_item(alloc, kinds, at),
+        Some(Kind::Monitor) => clause_item(alloc, kinds, at),
+        Some(Kind::Sync) => clause_item(alloc, kinds, at),
+        Some(Kind::Syncq) => clause_item(alloc, kinds, at),
+        Some(Kind::SyncqCapital) => clause_item(alloc, kinds, at),
+        Some(Kind::Entry) => entry_item(alloc, kinds, at, depth),
+        Some(Kind::Exit) => exit_item(alloc, kinds, at, depth),
+        Some(Kind::State) => state_item(alloc, kinds, at, depth),
+        _ => typed_item(alloc, kinds, at, depth, &Bodies),
+    }
+}
+
+/// An item behind which the tokens end.
+#[tactic(auto, unfolding(crate::specs::Reading::Items::ended, crate::specs::Steps::and_then))]
+fn ended(kinds: &[Kind], at: usize, item: Item) -> Result<(Item, usize), Stop>
+    ensures { Reads kinds.now result (spec.ended item (ahead kinds.now at)) }
+{
+    match kind_at(kinds, at) {
+        None => Ok((item, at)),
+        Some(_) => Err(Stop::Here(at)),
+    }
+}
+
+#[tactic(auto, unfolding(crate::specs::Reading::Items::whole_item, crate::specs::Steps::and_then))]
+fn whole_item(alloc: Global, kinds: &[Kind], at: usize, depth: usize) -> Result<(Item, usize), Stop>
+    requires two { 1 < depth }
+    ensures { Reads kinds.now result (spec.whole_item depth (ahead kinds.now at)) }
+{
+    let (item, at) = item(alloc, kinds, at, depth)?;
+    ended(kinds, at, item)
+}
+
+/// How many levels an item has, with the one that its own tokens stand in: no token may lie within more than 100.
+const LEVELS: usize = 101;
+
+/// The item that all tokens of these kinds make. A leaf is the number of its token.
+pub fn item_in(alloc: Global, kinds: &[Kind]) -> Result<Item, Stop>
+    ensures { spec.ReadsAll kinds.now result (spec.whole_item spec.levels (ahead kinds.now 0)) }
+{
+    let (item, _end) = whole_item(alloc, kinds, 0, LEVELS)?;
+    Ok(item)
+}

@@ -1,0 +1,85 @@
+//! The parser's call: the tokens of one item, as pieces of a text, come in, and its tree goes out.
+
+ghost use Rattle.std.specs.Prelude.{◌≡◌, ◌<◌, All, IfOk, None, Some, position, length};
+ghost use Rattle.snl_cut.specs.Cut.{ticked};
+ghost use Rattle.snl_syntax.specs.Parsing.{IfNoItem, LiesIn, bad_in, is_bad, kinds_in};
+ghost use Rattle.snl_syntax.specs.Reading.Items.{item_of};
+
+use crate::fault::ParseFault;
+use crate::item::item_in;
+use crate::kind::Kind;
+use crate::stop::Stop;
+use crate::token_kind::kind;
+use crate::tree::item::Item;
+use snl_cut::Count;
+use snl_lex::{Class, Piece};
+use std::alloc::{AllocError, Global};
+
+fn is_bad(piece: &Piece) -> bool
+    ensures { result ≡ is_bad piece.now }
+{
+    matches!(piece.kind, Class::Bad)
+}
+
+// The number of the first faulty token.
+fn first_bad(tokens: &[Piece]) -> Option<usize>
+    ensures { result ≡ position is_bad tokens.now }
+{
+    tokens.iter().position(is_bad)
+}
+
+fn kinds_of(alloc: Global, text: &[u8], tokens: &[Piece]) -> Result<Vec<Kind>, AllocError>
+    requires { All (LiesIn text.now) tokens.now }
+    ensures { IfOk result (λ kinds. kinds.items ≡ kinds_in text.now tokens.now) }
+{
+    let mut kinds = Vec::new(alloc);
+    for piece in tokens {
+        kinds.push(kind(text, *piece))?;
+    }
+    Ok(kinds)
+}
+
+#[tactic(auto, unfolding(crate::specs::Reading::Items::item_of))]
+fn read_item(alloc: Global, text: &[u8], tokens: &[Piece]) -> Result<Item, ParseFault>
+    requires some { 0 < length tokens.now }
+    requires within { All (LiesIn text.now) tokens.now }
+    ensures bad { bad_in result ≡ None }
+    ensures tree { IfOk result (λ t. item_of (kinds_in text.now tokens.now) ≡ Some t) }
+    ensures none { IfNoItem result (λ n. item_of (kinds_in text.now tokens.now) ≡ None) }
+    ensures inside { IfNoItem result (λ n. n < length tokens.now) }
+{
+    let kinds = kinds_of(alloc, text, tokens)?;
+    match item_in(alloc, &kinds) {
+        Ok(item) => Ok(item),
+        Err(Stop::OutOfMemory) => Err(ParseFault::OutOfMemory),
+        Err(Stop::Here(at)) => Err(ParseFault::NoItem {
+            at: at.min(tokens.len() - 1),
+        }),
+    }
+}
+
+/// The tree of the item that consists of these tokens; a leaf is the number of its token, from 0.
+///
+/// The tokens are pieces of the text, without white space, comments and markers. A faulty token is found before any
+/// memory is asked for. The grammar is that of the SNL reference of the EPICS sequencer 2.2 manual, with the additions
+/// of this project's profile; no token may lie within more than 100 levels.
+pub fn parse_item(
+    alloc: Global,
+    text: &[u8],
+    tokens: &[Piece],
+    work: &mut Count,
+) -> Result<Item, ParseFault>
+    requires some { 0 < length tokens.now }
+    requires within { All (LiesIn text.now) tokens.now }
+    ensures ticks { work.new ≡ ticked work.old }
+    ensures bad { bad_in result ≡ position is_bad tokens.now }
+    ensures tree { IfOk result (λ t. item_of (kinds_in text.now tokens.now) ≡ Some t) }
+    ensures none { IfNoItem result (λ n. item_of (kinds_in text.now tokens.now) ≡ None) }
+    ensures inside { IfNoItem result (λ n. n < length tokens.now) }
+{
+    work.tick();
+    match first_bad(tokens) {
+        Some(at) => Err(ParseFault::BadPiece { at }),
+        None => read_item(alloc, text, tokens),
+    }
+}
