@@ -32,4 +32,5 @@ pub mod DeclarationAgain
 pub mod StatementLocal
 pub mod StatementViable
 pub mod StatementAgain
+pub mod FunctionAgain
 pub mod ItemEnds
