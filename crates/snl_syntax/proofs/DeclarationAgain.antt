@@ -1,5 +1,5 @@
 -- Declarations are read again.
-use Rattle.std.proofs.Common.{◌≡◌, ◌<◌, ◌≤◌, ℕ, zero, suc, Bool, true, false, List, [], ◌∷◌, ◌++◌, length, Option, Some, None, Ok, Err, refl, sym, ap, subst, ◌∙◌, arith}
+use Rattle.std.proofs.Common.{◌≡◌, ◌<◌, ℕ, zero, suc, Bool, true, false, List, [], ◌∷◌, Option, Some, None, Ok, refl, sym, ap, subst, ◌∙◌, arith}
 use Rattle.snl_syntax.specs.declared.kind.Kind.{Kind}
 use Rattle.snl_syntax.specs.declared.kind.Kind.TheVariants as kind
 use Rattle.snl_syntax.specs.declared.stop.Step.{Step}
@@ -13,9 +13,9 @@ use Rattle.snl_syntax.specs.declared.tree.declaration.Init.TheVariants as inits
 use Rattle.snl_syntax.specs.declared.tree.declaration.Declarator.{Declarator}
 use Rattle.snl_syntax.specs.declared.tree.declaration.Declaration.{Declaration}
 use Rattle.snl_syntax.specs.Tokens.{Seat, same}
-use Rattle.snl_syntax.specs.Steps.{Outcome, Reader, and_then, pure, refuse, kind_at, expect, word, many, until}
-use Rattle.snl_syntax.specs.Grammar.Base.{Each, First, Leaf, Perhaps}
-use Rattle.snl_syntax.specs.Grammar.Types.{Written, IsType, IsPointer}
+use Rattle.snl_syntax.specs.Steps.{Reader, and_then, pure, kind_at, expect, many, until}
+use Rattle.snl_syntax.specs.Grammar.Base.{Each, First, Perhaps}
+use Rattle.snl_syntax.specs.Grammar.Types.{IsPointer}
 use Rattle.snl_syntax.specs.Grammar.Expressions.{IsBehindComma, AreCommas, IsSequence, one, several, IsAssignx}
 use Rattle.snl_syntax.specs.Grammar.Declarations.{IsLength, AreBraced, IsInitOf, value as is_value, list as is_list, IsInit, IsBehindEqual, IsDeclarator, IsDeclarationOf, IsDeclaration}
 use Rattle.snl_syntax.specs.Reading.Types.{type_of, type_name, stars, begins_type}
@@ -24,7 +24,7 @@ use Rattle.snl_syntax.specs.Reading.Declarations.{some_length, length_by, bracke
 use Rattle.snl_syntax.proofs.Local.{Local}
 use Rattle.snl_syntax.proofs.Again.{Comes, read, late, comes_at, comes_as, comes_from, bind_comes, pure_comes, expect_comes, first_comes, kind_first, Heads, first_heads, Lacks, first_lacks, differ, many_comes}
 use Rattle.snl_syntax.proofs.TypeLaws.{word_comes, type_name_local, type_comes, type_begins, stars_comes, TypeStops, first_type_stops}
-use Rattle.snl_syntax.proofs.Follow.{Stops, binds, first_stops, stops_lacks}
+use Rattle.snl_syntax.proofs.Follow.{Stops, binds, first_stops}
 use Rattle.snl_syntax.proofs.ExpressionLocal.{comma_eats, assignx_local}
 use Rattle.snl_syntax.proofs.ExpressionAgain.{begins_expr, no_comma, comma_comes, sequence_again}
 use Rattle.snl_syntax.proofs.SingleAgain.{assignx_begins, assignx_again}
@@ -235,7 +235,7 @@ module _ (free : ℕ) (Inner : Expr → List Seat → List Seat → Type 0) (Val
   init_lacks (Some x) k rest is h = first_lacks kind.Equal kind.OpenBracket k is.mid refl is.equal
 
   -- what stands behind a declarator's name
-  pub name_lacks : (x : Kind) → same kind.OpenBracket x ≡ false → same kind.Equal x ≡ false → goes_behind x ≡ false → (ls : List (Option Expr)) (t : Option Init) (k mid rest : List Seat) → Each (IsLength Inner) ls k mid → Perhaps (IsBehindEqual Value) t mid rest → Heads goes_behind rest → Lacks x k
+  name_lacks : (x : Kind) → same kind.OpenBracket x ≡ false → same kind.Equal x ≡ false → goes_behind x ≡ false → (ls : List (Option Expr)) (t : Option Init) (k mid rest : List Seat) → Each (IsLength Inner) ls k mid → Perhaps (IsBehindEqual Value) t mid rest → Heads goes_behind rest → Lacks x k
   name_lacks x b e g (l ∷ ls) t k mid rest each is h = first_lacks kind.OpenBracket x k each.1.m1 b each.1.opening
   name_lacks x b e g [] (Some v) k mid rest each is h = subst (Lacks x) (sym each) (first_lacks kind.Equal x mid is.mid e is.equal)
   name_lacks x b e g [] None k mid rest each is h = subst (Lacks x) (sym (each ∙ is)) (heads_lack x goes_behind rest g h)
@@ -258,7 +258,7 @@ module _ (free : ℕ) (Inner : Expr → List Seat → List Seat → Type 0) (Val
   next_declarator : (x : Declarator) (k m : List Seat) → IsBehindComma (IsDeclarator Inner Value) x k m → Heads goes_behind m → Comes free (next_comma (declarator inner value) k) (Some x) m
   next_declarator x k m is h = comma_comes free (IsDeclarator Inner Value) (declarator inner value) x k m is (declarator_comes x is.mid m is.element h)
 
-  pub follow_more : (xs : List Declarator) (k mid rest : List Seat) → Each (IsBehindComma (IsDeclarator Inner Value)) xs k mid → First kind.Semicolon mid rest → Heads goes_behind k
+  follow_more : (xs : List Declarator) (k mid rest : List Seat) → Each (IsBehindComma (IsDeclarator Inner Value)) xs k mid → First kind.Semicolon mid rest → Heads goes_behind k
   follow_more [] k mid rest e f = subst (Heads goes_behind) (sym e) (first_heads kind.Semicolon goes_behind mid rest refl f)
   follow_more (x ∷ xs) k mid rest e f = comma_behind x k e.0 e.1
 
@@ -269,11 +269,14 @@ module _ (free : ℕ) (Inner : Expr → List Seat → List Seat → Type 0) (Val
       (many_comes free (next_comma (declarator inner value)) (comma_eats (declarator inner value) (declarator_local inner value li lv)) (IsBehindComma (IsDeclarator Inner Value)) (Heads goes_behind) comma_behind next_declarator (first ∷ []) xs k mid each (first_heads kind.Semicolon goes_behind mid rest refl f) (no_comma free (declarator inner value) mid (first_lacks kind.Semicolon kind.Comma mid rest refl f)))
       (bind_comes free (expect kind.Semicolon mid) _ f.0 rest _ rest (first_comes free kind.Semicolon mid rest f) (pure_comes free _ rest))
 
-  -- a declaration from behind its first name
-  pub declaration_from_comes : (t : QualifiedType) (x : Declarator) (xs : List Declarator) (k m1 m2 mid rest : List Seat) → Each (IsLength Inner) x.lengths k m1 → Perhaps (IsBehindEqual Value) x.init m1 m2 → Each (IsBehindComma (IsDeclarator Inner Value)) xs m2 mid → First kind.Semicolon mid rest → Comes free (declaration_from inner value t x.pointers x.name k) (record { of = t; declarators = x ∷ xs }) rest
+  -- a declaration from behind its first name, where no bracket stands
+  pub declaration_from_comes : (t : QualifiedType) (x : Declarator) (xs : List Declarator) (k m1 m2 mid rest : List Seat) → Each (IsLength Inner) x.lengths k m1 → Perhaps (IsBehindEqual Value) x.init m1 m2 → Each (IsBehindComma (IsDeclarator Inner Value)) xs m2 mid → First kind.Semicolon mid rest → Lacks kind.OpenParen k × Comes free (declaration_from inner value t x.pointers x.name k) (record { of = t; declarators = x ∷ xs }) rest
   unfolding declaration_from
   declaration_from_comes t x xs k m1 m2 mid rest each is more f =
-      bind_comes free (declarator_from inner value x.pointers x.name k) _ x m2 _ rest (declarator_from_comes x k m1 m2 each is (follow_more xs m2 mid rest more f)) (more_comes t x xs m2 mid rest more f)
+      let h = follow_more xs m2 mid rest more f in (
+        name_lacks kind.OpenParen refl refl refl x.lengths x.init k m1 m2 each is h,
+        bind_comes free (declarator_from inner value x.pointers x.name k) _ x m2 _ rest (declarator_from_comes x k m1 m2 each is h) (more_comes t x xs m2 mid rest more f),
+      )
 
   declarator_stops : (t : Declarator) (k rest : List Seat) → IsDeclarator Inner Value t k rest → TypeStops k
   declarator_stops t k rest is = stars_stop t.pointers k is.m1 is.stars (first_type_stops kind.Name is.m1 is.m2 refl refl (t.name, is.name))

@@ -33,4 +33,5 @@ pub mod StatementLocal
 pub mod StatementViable
 pub mod StatementAgain
 pub mod FunctionAgain
+pub mod TypedAgain
 pub mod ItemEnds
