@@ -11,6 +11,7 @@ use Rattle.snl_syntax.specs.declared.tree.expression.Expr.{Expr}
 use Rattle.snl_syntax.specs.declared.tree.declaration.Init.{Init}
 use Rattle.snl_syntax.specs.declared.tree.declaration.Declarator.{Declarator}
 use Rattle.snl_syntax.specs.declared.tree.declaration.Declaration.{Declaration}
+use Rattle.snl_syntax.specs.declared.tree.declaration.Parameter.{Parameter}
 use Rattle.snl_syntax.specs.declared.tree.statement.Member.{Member}
 use Rattle.snl_syntax.specs.declared.tree.item.Function.{Function}
 use Rattle.snl_syntax.specs.declared.tree.item.StructMember.{StructMember}
@@ -24,13 +25,13 @@ use Rattle.snl_syntax.specs.Grammar.Expressions.{IsBehindComma, AreCommas, IsAss
 use Rattle.snl_syntax.specs.Grammar.Declarations.{IsInit, IsDeclarator, IsDeclaration}
 use Rattle.snl_syntax.specs.Grammar.Statements.{IsBlockWithin}
 use Rattle.snl_syntax.specs.Grammar.Functions.{IsParameter, IsFunction, IsStruct, IsTypedItem, definition as is_definition, function as is_function, struct_definition as is_struct}
-use Rattle.snl_syntax.specs.Reading.Types.{type_of, stars}
+use Rattle.snl_syntax.specs.Reading.Types.{type_of, stars, begins_type}
 use Rattle.snl_syntax.specs.Reading.Expressions.{assignx}
 use Rattle.snl_syntax.specs.Reading.Declarations.{init, declaration, declaration_from}
 use Rattle.snl_syntax.specs.Reading.Statements.{block}
 use Rattle.snl_syntax.specs.Reading.Functions.{parameter, function_from, struct_members, type_from, declaration_item, struct_definition, function_item, named_by, named_item, item_of, struct_type, struct_by, struct_from, struct_item, type_item, typed_by, typed_item}
 use Rattle.snl_syntax.proofs.Again.{Comes, comes_at, comes_as, bind_comes, pure_comes, expect_comes, first_comes, kind_first, Lacks, first_lacks, written_comes}
-use Rattle.snl_syntax.proofs.TypeLaws.{type_comes, stars_comes, TypeStops, first_type_stops}
+use Rattle.snl_syntax.proofs.TypeLaws.{type_begins, type_comes, stars_comes, TypeStops, first_type_stops}
 use Rattle.snl_syntax.proofs.ExpressionLocal.{assignx_local}
 use Rattle.snl_syntax.proofs.SingleAgain.{assignx_begins, assignx_again}
 use Rattle.snl_syntax.proofs.DeclarationLocal.{init_local, declaration_local, declaration_eats}
@@ -229,3 +230,9 @@ typed_item_comes free extra depth levels block again t k rest is = typed_comes f
 
 pub typed_item_again : (free extra depth : ℕ) (t : Item) (k rest : List Seat) → IsTypedItem (IsDeclaration free extra (suc depth)) (IsDeclaration free extra depth) (IsParameter free extra depth) (IsBlockWithin free extra (suc depth)) t k rest → Comes free (typed_item (suc depth) (block (suc depth)) k) t rest
 typed_item_again free extra depth t k rest is = typed_item_comes free extra depth (suc depth) (block (suc depth)) (block_within_again free extra (suc depth)) t k rest is
+
+-- such an item begins as a type does
+pub typed_item_begins : (free extra depth : ℕ) (Inner : Declaration → List Seat → List Seat → Type 0) (Param : Parameter → List Seat → List Seat → Type 0) (Block : List Member → List Seat → List Seat → Type 0) (t : Item) (k rest : List Seat) → IsTypedItem (IsDeclaration free extra depth) Inner Param Block t k rest → begins_type (kind_at k) ≡ true
+typed_item_begins free extra depth Inner Param Block t k rest (is_definition d e is) = declaration_begins free extra depth d k rest is
+typed_item_begins free extra depth Inner Param Block t k rest (is_function f e is) = type_begins f.of k is.m1 is.of_type
+typed_item_begins free extra depth Inner Param Block t k rest (is_struct n xs e is) = ap begins_type (kind_first kind.Struct k is.m1 is.word)
