@@ -70,7 +70,12 @@ fn step(text: &[u8], pieces: &[Piece], offset: usize, at: Setting) -> Option<Set
                 return None;
             }
             let file = file_in(text, piece, at.file);
-            Some(Setting { next, base, from, file })
+            Some(Setting {
+                next,
+                base,
+                from,
+                file,
+            })
         }
     }
 }
