@@ -33,3 +33,4 @@ pub mod StatementLocal
 pub mod StatementViable
 pub mod StatementAgain
 pub mod ItemEnds
+pub mod Covers
