@@ -41,7 +41,7 @@ Matches-append [] b (s ∷ k) m p q = absurd p
 Matches-append (x ∷ a) b [] m p q = absurd p
 Matches-append (x ∷ a) b (s ∷ k) m p q = (p.0, Matches-append a b k m p.1 q)
 
-infixr 10 ◌and◌
+infixl 10 ◌and◌
 pub ◌and◌ : {a b : List Spelled} {k m rest : List Seat} → Covers a k m → Covers b m rest → Covers (a ++ b) k rest
 ◌and◌ {a} {b} {k} {m} {rest} c d = record {
   front = c.front ++ d.front;

@@ -34,3 +34,5 @@ pub mod StatementViable
 pub mod StatementAgain
 pub mod ItemEnds
 pub mod Covers
+pub mod TypeSpells
+pub mod ExpressionSpells
