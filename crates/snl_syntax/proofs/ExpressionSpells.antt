@@ -43,7 +43,7 @@ texts_spell [] k rest is = absurd is
 texts_spell (n ∷ ns) k rest is = leaf_covers is.1 and each_spells (Leaf kind.Text) (leaf kind.Text) text_spells ns is.0 rest is.2
 
 module _ (Inner : Expr → List Seat → List Seat → Type 0) (inner_spells : Spells Inner spell_expr) where
-  sequence_spells : Spells (IsSequence Inner) spell_expr
+  pub sequence_spells : Spells (IsSequence Inner) spell_expr
   unfolding roll-Expr roll
   sequence_spells t k rest (one is) = inner_spells t k rest is
   sequence_spells t k rest (several x y ys mid is first more) = expr_covers (Expr-F.Sequence x (y ∷ ys)) is (commas_cover Inner spell_expr inner_spells x (y ∷ ys) k mid rest first more)

@@ -36,3 +36,5 @@ pub mod ItemEnds
 pub mod Covers
 pub mod TypeSpells
 pub mod ExpressionSpells
+pub mod DeclarationSpells
+pub mod StatementSpells
