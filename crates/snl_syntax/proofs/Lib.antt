@@ -38,3 +38,7 @@ pub mod TypeSpells
 pub mod ExpressionSpells
 pub mod DeclarationSpells
 pub mod StatementSpells
+pub mod ClauseSpells
+pub mod FunctionSpells
+pub mod StateSpells
+pub mod ItemSpells
