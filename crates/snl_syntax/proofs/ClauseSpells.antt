@@ -1,17 +1,12 @@
 -- Clauses on variables, options, and foreign names spell their tokens.
-use Rattle.std.proofs.Common.{◌≡◌, ℕ, Bool, true, false, List, [], ◌∷◌, ◌++◌, map, Option, refl}
+use Rattle.std.proofs.Common.{Bool, true, false, List, refl}
 use Rattle.snl_syntax.specs.declared.kind.Kind.TheVariants as kind
-use Rattle.snl_syntax.specs.declared.tree.clause.Channel.{Channel}
-use Rattle.snl_syntax.specs.declared.tree.clause.Flag.{Flag}
-use Rattle.snl_syntax.specs.declared.tree.clause.Clause.{Clause}
-use Rattle.snl_syntax.specs.declared.tree.clause.Clause.TheVariants as clauses
 use Rattle.snl_syntax.specs.declared.tree.clause.OptionSign.{OptionSign}
 use Rattle.snl_syntax.specs.declared.tree.clause.OptionSign.TheVariants as signs
-use Rattle.snl_syntax.specs.declared.tree.clause.OptionLine.{OptionLine}
 use Rattle.snl_syntax.specs.Tokens.{Seat}
 use Rattle.snl_syntax.specs.Grammar.Base.{First, Leaf, Perhaps}
 use Rattle.snl_syntax.specs.Grammar.Expressions.{AreTexts}
-use Rattle.snl_syntax.specs.Grammar.Clauses.{AreForeign, option_mark, IsOptionLine, IsSubscript, IsFlag, IsChannel, anonymous, whole, element, elements, IsAssign, IsMonitor, IsSync, syncq_word, IsSyncq, IsClause, assign, monitor, sync, syncq}
+use Rattle.snl_syntax.specs.Grammar.Clauses.{AreForeign, option_mark, IsOptionLine, IsSubscript, IsFlag, IsChannel, anonymous, whole, element, elements, syncq_word, IsClause, assign, monitor, sync, syncq}
 use Rattle.snl_syntax.specs.Spelling.Base.{leaf, perhaps}
 use Rattle.snl_syntax.specs.Spelling.Expressions.{spell_texts}
 use Rattle.snl_syntax.specs.Spelling.Clauses.{spell_foreign, spell_sign, spell_option_line, spell_subscript, spell_flag, spell_channel, spell_syncq, spell_clause}

@@ -1,13 +1,12 @@
 -- The tokens from one place to another are those that a tree spells.
-use Rattle.std.proofs.Common.{◌≡◌, ℕ, zero, suc, Bool, true, false, List, [], ◌∷◌, ◌++◌, map, Option, Some, None, refl, sym, ap, subst, ◌∙◌, append_assoc}
-use Rattle.std.specs.Prelude.{IfSome}
+use Rattle.std.proofs.Common.{◌≡◌, ℕ, zero, suc, true, false, List, [], ◌∷◌, ◌++◌, map, Some, None, refl, sym, ap, subst, ◌∙◌, append_assoc}
 use Rattle.std.proofs.lemmas.List.{append-nil}
 use Rattle.snl_syntax.specs.declared.kind.Kind.{Kind}
 use Rattle.snl_syntax.specs.Tokens.{Seat}
 use Rattle.snl_syntax.specs.Grammar.Base.{Each, First, Leaf, Perhaps, Within}
 use Rattle.snl_syntax.specs.Grammar.Types.{Written}
 use Rattle.snl_syntax.specs.Grammar.Expressions.{IsBehindComma, AreCommas}
-use Rattle.snl_syntax.specs.Spelling.Base.{Spelled, word, leaf, written, perhaps, joined, behind, between, commas, IsToken, Matches}
+use Rattle.snl_syntax.specs.Spelling.Base.{Spelled, word, leaf, written, perhaps, joined, behind, commas, Matches}
 use Rattle.snl_syntax.specs.declared.kind.Kind.TheVariants as kind
 
 pub record Covers (spelled : List Spelled) (k rest : List Seat) : Type 0 where

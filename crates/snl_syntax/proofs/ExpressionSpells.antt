@@ -1,25 +1,18 @@
 -- Expressions spell their tokens.
-use Rattle.std.proofs.Common.{◌≡◌, ℕ, zero, suc, Bool, false, List, [], ◌∷◌, ◌++◌, map, refl}
+use Rattle.std.proofs.Common.{◌≡◌, ℕ, zero, suc, Bool, false, List, [], ◌∷◌, map, refl}
 use Rattle.snl_syntax.specs.declared.kind.Kind.TheVariants as kind
-use Rattle.snl_syntax.specs.declared.operator.Binary.{Binary}
-use Rattle.snl_syntax.specs.declared.operator.Assignment.{Assignment}
 use Rattle.snl_syntax.specs.declared.tree.types.TypeName.{TypeName}
-use Rattle.snl_syntax.specs.declared.tree.expression.Prefix.{Prefix}
-use Rattle.snl_syntax.specs.declared.tree.expression.Prefix.TheVariants as prefixes
 use Rattle.snl_syntax.specs.declared.tree.expression.Suffix.{Suffix}
-use Rattle.snl_syntax.specs.declared.tree.expression.Suffix.TheVariants as suffixes
 use Rattle.snl_syntax.specs.declared.tree.expression.Expr.{Expr}
-use Rattle.snl_syntax.specs.declared.tree.expression.Expr.TheVariants as tree
 use Rattle.snl_syntax.specs.declared.tree.expression.Expr.TheOpen.{Expr-F, Suffix-F}
 use Rattle.snl_syntax.specs.declared.tree.expression.Expr.TheViews.{roll-Expr, roll-Suffix}
 use Rattle.snl_syntax.specs.declared.tree.expression.Expr.TheFolds.{map-Expr, map-Suffix, fold-roll-Expr, fold-roll-Suffix}
 use denote.Hole.Carrier.{roll}
-use Rattle.snl_syntax.specs.Operators.{binary_mark, assignment_mark, sign_mark}
 use Rattle.snl_syntax.specs.Tokens.{Seat}
-use Rattle.snl_syntax.specs.Grammar.Base.{Each, First, Leaf, Within}
+use Rattle.snl_syntax.specs.Grammar.Base.{First, Leaf, Within}
 use Rattle.snl_syntax.specs.Grammar.Types.{IsTypeName}
 use Rattle.snl_syntax.specs.Grammar.Expressions.{AreTexts, IsSequence, one, several, IsPrimary, name, integer, floating, character, texts, group as is_group, sizeof_type, AreArguments, IsSuffix, subscript, call, member, arrow, increment, decrement, IsPostfix, bare as bare_primary, suffixed, IsOperator, sign, sizeof, cast, is_sizeof, AreOperators, IsPrefix, bare as bare_postfix, prefixed, IsLink, IsChain, alone as alone_operand, chain, IsTier, IsArm, IsConditional, alone as alone_tier, choice, IsTarget, IsSingle, value, assignment, IsAssignx, IsExpr}
-use Rattle.snl_syntax.specs.Spelling.Base.{Spelled, word, leaf, joined, commas, in_parens, in_brackets}
+use Rattle.snl_syntax.specs.Spelling.Base.{Spelled, leaf, joined, commas}
 use Rattle.snl_syntax.specs.Spelling.Types.{spell_type_name}
 use Rattle.snl_syntax.specs.Spelling.Expressions.{spell_texts, spell_prefix, spell_link, spell_arm, spell_target, spell_suffix_step, spell_expr_step, spell_expr, spell_suffix}
 use Rattle.snl_syntax.proofs.Covers.{Covers, Spells, nothing_covers, word_covers, leaf_covers, ◌and◌, covers_as, each_spells, parts_spell, commas_cover, commas_spell, within_spells}

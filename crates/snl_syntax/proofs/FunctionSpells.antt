@@ -1,14 +1,13 @@
 -- Functions, structs, and the items that begin with a type spell their tokens.
-use Rattle.std.proofs.Common.{◌≡◌, ℕ, zero, suc, List, [], ◌∷◌, ◌++◌, map, Option, Some, None, refl}
+use Rattle.std.proofs.Common.{ℕ, zero, suc, List, [], ◌∷◌, map, Some, None, refl}
 use Rattle.snl_syntax.specs.declared.kind.Kind.TheVariants as kind
 use Rattle.snl_syntax.specs.declared.tree.expression.Expr.{Expr}
 use Rattle.snl_syntax.specs.declared.tree.declaration.Declaration.{Declaration}
 use Rattle.snl_syntax.specs.declared.tree.declaration.Parameter.{Parameter}
 use Rattle.snl_syntax.specs.declared.tree.statement.Member.{Member}
-use Rattle.snl_syntax.specs.declared.tree.item.Function.{Function}
 use Rattle.snl_syntax.specs.declared.tree.item.StructMember.{StructMember}
 use Rattle.snl_syntax.specs.Tokens.{Seat}
-use Rattle.snl_syntax.specs.Grammar.Base.{Each, First, Leaf}
+use Rattle.snl_syntax.specs.Grammar.Base.{First, Leaf}
 use Rattle.snl_syntax.specs.Grammar.Expressions.{IsAssignx}
 use Rattle.snl_syntax.specs.Grammar.Declarations.{IsLength}
 use Rattle.snl_syntax.specs.Grammar.Functions.{IsParameterOf, IsParameter, AreParameters, IsBody, IsFunction, IsStructMember, declaration, c_block, IsStruct, IsTypedItem, definition, function, struct_definition}

@@ -1,18 +1,17 @@
 -- Items spell their tokens.
-use Rattle.std.proofs.Common.{◌≡◌, ℕ, suc, List, [], ◌++◌, Option, refl}
+use Rattle.std.proofs.Common.{ℕ, suc, List, [], refl}
 use Rattle.snl_syntax.specs.declared.kind.Kind.{Kind}
 use Rattle.snl_syntax.specs.declared.kind.Kind.TheVariants as kind
 use Rattle.snl_syntax.specs.declared.tree.item.Item.{Item}
-use Rattle.snl_syntax.specs.Tokens.{Seat, ahead}
-use Rattle.snl_syntax.specs.Grammar.Base.{Perhaps}
+use Rattle.snl_syntax.specs.Tokens.{ahead}
 use Rattle.snl_syntax.specs.Grammar.Expressions.{IsExpr}
 use Rattle.snl_syntax.specs.Grammar.Declarations.{IsDeclaration}
 use Rattle.snl_syntax.specs.Grammar.Statements.{IsBlockWithin}
 use Rattle.snl_syntax.specs.Grammar.Functions.{IsParameter}
 use Rattle.snl_syntax.specs.Grammar.Items.{AreBracketed, IsItemWithin, header, set_begin, set_end, empty, c_block, foreign, clause, option_line, entry, exit, state, typed, IsItem}
-use Rattle.snl_syntax.specs.Spelling.Base.{perhaps, Matches}
+use Rattle.snl_syntax.specs.Spelling.Base.{Matches}
 use Rattle.snl_syntax.specs.Spelling.Items.{spell_header_text, spell_item}
-use Rattle.snl_syntax.proofs.Covers.{Covers, Spells, word_covers, leaf_covers, ◌and◌, covers_as, covers_all, perhaps_spells}
+use Rattle.snl_syntax.proofs.Covers.{Spells, word_covers, leaf_covers, ◌and◌, covers_as, covers_all, perhaps_spells}
 use Rattle.snl_syntax.proofs.ExpressionSpells.{texts_spell, expr_spells}
 use Rattle.snl_syntax.proofs.DeclarationSpells.{declaration_spells}
 use Rattle.snl_syntax.proofs.StatementSpells.{block_within_spells}

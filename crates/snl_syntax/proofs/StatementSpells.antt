@@ -1,10 +1,8 @@
 -- Statements and blocks spell their tokens.
-use Rattle.std.proofs.Common.{◌≡◌, ℕ, zero, suc, Bool, true, false, List, [], ◌∷◌, ◌++◌, map, Option, Some, None, refl, sym, subst}
-use Rattle.snl_syntax.specs.declared.kind.Kind.{Kind}
+use Rattle.std.proofs.Common.{◌≡◌, ℕ, zero, suc, Bool, true, false, List, [], ◌∷◌, ◌++◌, map, Some, None, refl, sym, subst}
 use Rattle.snl_syntax.specs.declared.kind.Kind.TheVariants as kind
 use Rattle.snl_syntax.specs.declared.tree.expression.Expr.{Expr}
 use Rattle.snl_syntax.specs.declared.tree.declaration.Declaration.{Declaration}
-use Rattle.snl_syntax.specs.declared.tree.statement.ForHead.{ForHead}
 use Rattle.snl_syntax.specs.declared.tree.statement.Member.{Member}
 use Rattle.snl_syntax.specs.declared.tree.statement.Stmt.{Stmt}
 use Rattle.snl_syntax.specs.declared.tree.statement.Member.TheOpen.{Member-F, Stmt-F}
@@ -15,7 +13,7 @@ use Rattle.snl_syntax.specs.Tokens.{Seat}
 use Rattle.snl_syntax.specs.Grammar.Base.{Each}
 use Rattle.snl_syntax.specs.Grammar.Expressions.{IsExpr}
 use Rattle.snl_syntax.specs.Grammar.Declarations.{IsDeclaration}
-use Rattle.snl_syntax.specs.Grammar.Statements.{Place, within_block, as_body, behind_else, IsCondition, IsForHead, IsMember, declaration, statement, IsBlock, IsBody, block as is_block, deeper, IsArm, IsPassed, IsElse, IsStmt, empty, evaluation, block as block_within, c_code, choice, while_loop, for_loop, break_loop, continue_loop, return_value, change, IsStatement, IsBlockWithin}
+use Rattle.snl_syntax.specs.Grammar.Statements.{Place, within_block, as_body, behind_else, IsCondition, IsForHead, IsMember, declaration, statement, IsBlock, IsBody, block as is_block, deeper, IsArm, IsPassed, IsStmt, empty, evaluation, block as block_within, c_code, choice, while_loop, for_loop, break_loop, continue_loop, return_value, change, IsStatement, IsBlockWithin}
 use Rattle.snl_syntax.specs.Spelling.Base.{Spelled, word, behind, between, in_parens}
 use Rattle.snl_syntax.specs.Spelling.Expressions.{spell_expr}
 use Rattle.snl_syntax.specs.Spelling.Declarations.{spell_declaration}

@@ -1,17 +1,12 @@
 -- Types, and names of types, spell their tokens.
-use Rattle.std.proofs.Common.{◌≡◌, ℕ, List, refl}
-use Rattle.snl_syntax.specs.declared.tree.types.Integer.{Integer}
 use Rattle.snl_syntax.specs.declared.tree.types.Integer.TheVariants as integers
-use Rattle.snl_syntax.specs.declared.tree.types.Base.{Base}
 use Rattle.snl_syntax.specs.declared.tree.types.Base.TheVariants as bases
-use Rattle.snl_syntax.specs.declared.tree.types.Pointer.{Pointer}
 use Rattle.snl_syntax.specs.declared.tree.types.Pointer.TheVariants as pointers
 use Rattle.snl_syntax.specs.declared.kind.Kind.TheVariants as kind
-use Rattle.snl_syntax.specs.Tokens.{Seat}
-use Rattle.snl_syntax.specs.Grammar.Base.{Each, First, Leaf}
+use Rattle.snl_syntax.specs.Grammar.Base.{Each}
 use Rattle.snl_syntax.specs.Grammar.Types.{IsInteger, IsBase, IsType, IsPointer, IsTypeName}
 use Rattle.snl_syntax.specs.Spelling.Types.{spell_integer, spell_base, spell_type, spell_pointer, spell_stars, spell_type_name}
-use Rattle.snl_syntax.proofs.Covers.{Covers, Spells, nothing_covers, word_covers, leaf_covers, ◌and◌, written_spells, each_spells}
+use Rattle.snl_syntax.proofs.Covers.{Spells, nothing_covers, word_covers, leaf_covers, ◌and◌, written_spells, each_spells}
 
 integer_spells : Spells IsInteger spell_integer
 integer_spells integers.Char k rest f = word_covers f.1 and nothing_covers f.2

@@ -31,12 +31,12 @@ abbrev pub joined : List (List Spelled) → List Spelled
 joined [] = []
 joined (part ∷ parts) = part ++ joined parts
 
--- each behind the word
+-- the word before each
 abbrev pub behind : Kind → List (List Spelled) → List Spelled
 behind x [] = []
 behind x (part ∷ parts) = word x ++ part ++ behind x parts
 
--- one after the other, with the word between
+-- one after the other, with the word between each two
 abbrev pub between : Kind → List (List Spelled) → List Spelled
 between x [] = []
 between x (part ∷ parts) = part ++ behind x parts
@@ -53,11 +53,11 @@ in_brackets part = word kind.OpenBracket ++ part ++ word kind.CloseBracket
 abbrev pub in_braces : List Spelled → List Spelled
 in_braces part = word kind.OpenBrace ++ part ++ word kind.CloseBrace
 
--- the token is of the kind, and a leaf's number is its own
+-- the token has the kind that is spelled, and a leaf's number is the token's
 abbrev pub IsToken : Spelled → Seat → Type 0
 IsToken spelled s = (spelled.0 ≡ s.0) × IfSome spelled.1 (λ n. n ≡ s.1)
 
--- The tokens are those that are spelled, one for each.
+-- The tokens are those that are spelled: as many, and each in its place.
 abbrev pub Matches : List Spelled → List Seat → Type 0
 Matches [] [] = Unit {0}
 Matches (x ∷ xs) (s ∷ k) = IsToken x s × Matches xs k

@@ -15,19 +15,25 @@ use Rattle.snl_syntax.specs.Spelling.States.{spell_state}
 abbrev pub spell_header_text : List ℕ → List Spelled
 spell_header_text texts = in_parens (spell_texts texts)
 
--- header = "program" NAME [ "(" texts ")" ], ssbegin = "ss" NAME "{", ssend = "}", cblock = CCODE, empty = ";", entry = "entry" block, exit = "exit" block
+-- header = "program" NAME [ "(" texts ")" ]
+-- ssbegin = "ss" NAME "{"
+-- ssend = "}"
+-- cblock = CCODE
+-- empty = ";"
+-- entry = "entry" block
+-- exit = "exit" block
 abbrev pub spell_item : Item → List Spelled
 spell_item (items.Header name parameters) = word kind.Program ++ leaf kind.Name name ++ perhaps spell_header_text parameters
-spell_item (items.Definition d) = spell_declaration d
-spell_item (items.Foreign names) = spell_foreign names
-spell_item (items.Clause clause) = spell_clause clause
-spell_item (items.OptionLine line) = spell_option_line line
-spell_item (items.Entry block) = word kind.Entry ++ spell_block block
-spell_item (items.Exit block) = word kind.Exit ++ spell_block block
 spell_item (items.SsBegin name) = word kind.Ss ++ leaf kind.Name name ++ word kind.OpenBrace
 spell_item items.SsEnd = word kind.CloseBrace
+spell_item (items.CBlock n) = leaf kind.CCode n
+spell_item items.Empty = word kind.Semicolon
+spell_item (items.OptionLine line) = spell_option_line line
+spell_item (items.Foreign names) = spell_foreign names
+spell_item (items.Definition d) = spell_declaration d
+spell_item (items.Clause clause) = spell_clause clause
+spell_item (items.Entry block) = word kind.Entry ++ spell_block block
+spell_item (items.Exit block) = word kind.Exit ++ spell_block block
 spell_item (items.StateBlock name parts) = spell_state name parts
 spell_item (items.Function f) = spell_function f
 spell_item (items.StructDef name parts) = spell_struct name parts
-spell_item (items.CBlock n) = leaf kind.CCode n
-spell_item items.Empty = word kind.Semicolon

@@ -1,5 +1,5 @@
 -- What statements and blocks spell.
-use Rattle.std.specs.Prelude.{List, ◌++◌, map, Option}
+use Rattle.std.specs.Prelude.{List, ◌++◌, map}
 use Rattle.snl_syntax.specs.declared.kind.Kind.TheVariants as kind
 use Rattle.snl_syntax.specs.declared.tree.expression.Expr.{Expr}
 use Rattle.snl_syntax.specs.declared.tree.statement.ForHead.{ForHead}
@@ -28,6 +28,7 @@ abbrev pub spell_member_step : Member-F (List Spelled) (List Spelled) → List S
 spell_member_step (Member-F.Declaration d) = spell_declaration d
 spell_member_step (Member-F.Statement s) = s
 
+-- An `if` has a condition and a statement for each arm, with "else" between, and perhaps a last "else" with a statement.
 abbrev pub spell_stmt_step : Stmt-F (List Spelled) (List Spelled) → List Spelled
 spell_stmt_step Stmt-F.Empty = word kind.Semicolon
 spell_stmt_step (Stmt-F.Expr e) = spell_expr e ++ word kind.Semicolon
