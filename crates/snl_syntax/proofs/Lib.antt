@@ -36,3 +36,12 @@ pub mod StatementAgain
 pub mod FunctionAgain
 pub mod TypedAgain
 pub mod ItemEnds
+pub mod Covers
+pub mod TypeSpells
+pub mod ExpressionSpells
+pub mod DeclarationSpells
+pub mod StatementSpells
+pub mod ClauseSpells
+pub mod FunctionSpells
+pub mod StateSpells
+pub mod ItemSpells

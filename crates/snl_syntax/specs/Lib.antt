@@ -10,3 +10,4 @@ pub mod Kinds
 pub mod Parsing
 pub mod Marks
 pub mod NestsStatement
+pub mod Spelling
