@@ -32,4 +32,7 @@ pub mod DeclarationAgain
 pub mod StatementLocal
 pub mod StatementViable
 pub mod StatementAgain
+pub mod StateLocal
+pub mod StateViable
+pub mod StateAgain
 pub mod ItemEnds
