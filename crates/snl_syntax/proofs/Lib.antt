@@ -35,4 +35,6 @@ pub mod StatementAgain
 pub mod StateLocal
 pub mod StateViable
 pub mod StateAgain
+pub mod ItemLocal
+pub mod ItemViable
 pub mod ItemEnds
