@@ -37,4 +37,5 @@ pub mod StateViable
 pub mod StateAgain
 pub mod ItemLocal
 pub mod ItemViable
+pub mod ItemAgain
 pub mod ItemEnds
