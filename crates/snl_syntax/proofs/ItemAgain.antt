@@ -2,7 +2,6 @@
 use Rattle.std.proofs.Common.{◌≡◌, ◌<◌, ℕ, zero, suc, ◌-◌, Bool, true, false, List, [], ◌∷◌, ◌++◌, Option, Some, None, Ok, refl, sym, ap, subst, ◌∙◌}
 use Rattle.snl_syntax.specs.declared.kind.Kind.{Kind}
 use Rattle.snl_syntax.specs.declared.kind.Kind.TheVariants as kind
-use Rattle.snl_syntax.specs.declared.tree.statement.Member.{Member}
 use Rattle.snl_syntax.specs.declared.tree.state.StateMember.{StateMember}
 use Rattle.snl_syntax.specs.declared.tree.item.Item.{Item}
 use Rattle.snl_syntax.specs.declared.tree.item.Item.TheVariants as items
@@ -12,7 +11,7 @@ use Rattle.snl_syntax.specs.Grammar.Base.{First, Leaf, Perhaps}
 use Rattle.snl_syntax.specs.Grammar.Expressions.{AreTexts, IsExpr}
 use Rattle.snl_syntax.specs.Grammar.Declarations.{IsDeclaration}
 use Rattle.snl_syntax.specs.Grammar.Statements.{IsBlockWithin}
-use Rattle.snl_syntax.specs.Grammar.Functions.{IsParameter, IsTypedItem, definition as is_definition, function as is_function, struct_definition as is_struct}
+use Rattle.snl_syntax.specs.Grammar.Functions.{IsParameter}
 use Rattle.snl_syntax.specs.Grammar.States.{IsState}
 use Rattle.snl_syntax.specs.Grammar.Items.{AreBracketed, IsHeader, IsSetBegin, IsItemWithin, header as is_header, set_begin as is_set_begin, set_end as is_set_end, empty as is_empty, c_block as is_c_block, foreign as is_foreign, clause as is_clause, option_line as is_option, entry as is_entry, exit as is_exit, state as is_state, typed as is_typed}
 use Rattle.snl_syntax.specs.Reading.Types.{begins_type}
@@ -24,10 +23,10 @@ use Rattle.snl_syntax.specs.Reading.States.{entry_block, exit_block, state_membe
 use Rattle.snl_syntax.specs.Reading.Items.{some_texts, texts_by, texts_part, header, set_begin, c_block, foreign_item, clause_item, option_item, entry_item, exit_item, state_item, item_by, item, ended_by, ended, whole_item}
 use Rattle.snl_syntax.proofs.Depths.{one_less}
 use Rattle.snl_syntax.proofs.Again.{Comes, read, comes_at, comes_as, comes_from, bind_comes, pure_comes, expect_comes, first_comes, kind_first, Lacks, first_lacks}
-use Rattle.snl_syntax.proofs.TypeLaws.{word_comes, type_begins}
+use Rattle.snl_syntax.proofs.TypeLaws.{word_comes}
 use Rattle.snl_syntax.proofs.ExpressionAgain.{texts_comes}
 use Rattle.snl_syntax.proofs.ClauseAgain.{foreign_comes, option_line_comes, clause_comes}
-use Rattle.snl_syntax.proofs.StatementAgain.{declaration_begins}
+use Rattle.snl_syntax.proofs.TypedAgain.{typed_item_again, typed_item_begins}
 use Rattle.snl_syntax.proofs.StateAgain.{entry_block_comes, exit_block_comes, clause_first, state_members_comes}
 
 -- ---- headers and state sets
@@ -97,12 +96,6 @@ typed_by depth (Some kind.State) e = absurd cc
 typed_by depth _ e = refl
 
 module _ (free extra depth : ℕ) where
-  abbrev Block : List Member → List Seat → List Seat → Type 0
-  Block = IsBlockWithin free extra (suc (suc depth))
-
-  abbrev pub Typed : Item → List Seat → List Seat → Type 0
-  Typed = IsTypedItem (IsDeclaration free extra (suc (suc depth))) (IsDeclaration free extra (suc depth)) (IsParameter free extra (suc depth)) Block
-
   abbrev I : Item → List Seat → List Seat → Type 0
   I = IsItemWithin free extra depth
 
@@ -117,11 +110,6 @@ module _ (free extra depth : ℕ) where
   by_type : (k : List Seat) → begins_type (kind_at k) ≡ true → item (suc (suc depth)) k ≡ typed_item (suc (suc depth)) (block (suc (suc depth))) k
   unfolding item
   by_type k e = ap (λ (p : Reader Item). p k) (typed_by (suc (suc depth)) (kind_at k) e)
-
-  typed_begins : (y : Item) (k rest : List Seat) → Typed y k rest → begins_type (kind_at k) ≡ true
-  typed_begins y k rest (is_definition d e is) = declaration_begins free extra (suc (suc depth)) d k rest is
-  typed_begins y k rest (is_function f e is) = type_begins f.of k is.m1 is.of_type
-  typed_begins y k rest (is_struct n xs e is) = ap begins_type (kind_first kind.Struct k is.m1 is.word)
 
   -- an item whose first token says how it is read
   known : (x : Kind) (made y : Item) (k mid rest : List Seat) → y ≡ made → First x k mid → Comes free (item_by (suc (suc depth)) (Some x) k) made rest → Comes free (item (suc (suc depth)) k) y rest
@@ -143,23 +131,22 @@ module _ (free extra depth : ℕ) where
       (bind_comes free (expect kind.Name is.m1) _ n is.m2 (items.StateBlock n ms) rest (expect_comes free kind.Name n is.m1 is.m2 is.name)
       (bind_comes free (state_members (suc (suc depth) - 1) is.m2) _ ms rest (items.StateBlock n ms) rest (members_comes ms n k rest is) (pure_comes free (items.StateBlock n ms) rest)))
 
-  module _ (typed_comes : (y : Item) (k rest : List Seat) → Typed y k rest → Comes free (typed_item (suc (suc depth)) (block (suc (suc depth))) k) y rest) where
-    pub item_comes : (y : Item) (k rest : List Seat) → I y k rest → Lacks kind.OpenParen rest → Comes free (item (suc (suc depth)) k) y rest
-    unfolding c_block foreign_item option_item clause_item entry_item exit_item
-    item_comes y k rest (is_header n ns e is) h = known kind.Program (items.Header n ns) y k is.m1 rest e is.word (header_comes free n ns k rest is h)
-    item_comes y k rest (is_set_begin n e is) h = known kind.Ss (items.SsBegin n) y k is.m1 rest e is.word (set_begin_comes free n k rest is)
-    item_comes y k rest (is_set_end e f) h = known kind.CloseBrace items.SsEnd y k rest rest e f (word_comes free kind.CloseBrace items.SsEnd k rest f)
-    item_comes y k rest (is_empty e f) h = known kind.Semicolon items.Empty y k rest rest e f (word_comes free kind.Semicolon items.Empty k rest f)
-    item_comes y k rest (is_c_block n e leaf) h = made_comes (expect kind.CCode) items.CBlock n y k rest e (expect_comes free kind.CCode n k rest leaf) (by_first kind.CCode k rest (n, leaf))
-    item_comes y k rest (is_foreign ns e is) h = made_comes foreign items.Foreign ns y k rest e (foreign_comes free ns k rest is) (by_first kind.Foreign k is.m1 is.word)
-    item_comes y k rest (is_clause c e is) h = made_comes clause items.Clause c y k rest e (clause_comes free c k rest is) (by_clause k (clause_first c k rest is))
-    item_comes y k rest (is_option o e is) h = made_comes option_line items.OptionLine o y k rest e (option_line_comes free o k rest is) (by_first kind.Option k is.m1 is.word)
-    item_comes y k rest (is_entry b e is) h = made_comes (entry_block (block (suc (suc depth)))) items.Entry b y k rest e (entry_block_comes free extra (suc (suc depth)) b k rest is) (by_first kind.Entry k is.mid is.first)
-    item_comes y k rest (is_exit b e is) h = made_comes (exit_block (block (suc (suc depth)))) items.Exit b y k rest e (exit_block_comes free extra (suc (suc depth)) b k rest is) (by_first kind.Exit k is.mid is.first)
-    item_comes y k rest (is_state n ms e is) h = known kind.State (items.StateBlock n ms) y k is.m1 rest e is.word (state_comes n ms k rest is)
-    item_comes y k rest (is_typed is) h = comes_at free (item (suc (suc depth)) k) _ y rest (by_type k (typed_begins y k rest is)) (typed_comes y k rest is)
+  pub item_comes : (y : Item) (k rest : List Seat) → I y k rest → Lacks kind.OpenParen rest → Comes free (item (suc (suc depth)) k) y rest
+  unfolding c_block foreign_item option_item clause_item entry_item exit_item
+  item_comes y k rest (is_header n ns e is) h = known kind.Program (items.Header n ns) y k is.m1 rest e is.word (header_comes free n ns k rest is h)
+  item_comes y k rest (is_set_begin n e is) h = known kind.Ss (items.SsBegin n) y k is.m1 rest e is.word (set_begin_comes free n k rest is)
+  item_comes y k rest (is_set_end e f) h = known kind.CloseBrace items.SsEnd y k rest rest e f (word_comes free kind.CloseBrace items.SsEnd k rest f)
+  item_comes y k rest (is_empty e f) h = known kind.Semicolon items.Empty y k rest rest e f (word_comes free kind.Semicolon items.Empty k rest f)
+  item_comes y k rest (is_c_block n e leaf) h = made_comes (expect kind.CCode) items.CBlock n y k rest e (expect_comes free kind.CCode n k rest leaf) (by_first kind.CCode k rest (n, leaf))
+  item_comes y k rest (is_foreign ns e is) h = made_comes foreign items.Foreign ns y k rest e (foreign_comes free ns k rest is) (by_first kind.Foreign k is.m1 is.word)
+  item_comes y k rest (is_clause c e is) h = made_comes clause items.Clause c y k rest e (clause_comes free c k rest is) (by_clause k (clause_first c k rest is))
+  item_comes y k rest (is_option o e is) h = made_comes option_line items.OptionLine o y k rest e (option_line_comes free o k rest is) (by_first kind.Option k is.m1 is.word)
+  item_comes y k rest (is_entry b e is) h = made_comes (entry_block (block (suc (suc depth)))) items.Entry b y k rest e (entry_block_comes free extra (suc (suc depth)) b k rest is) (by_first kind.Entry k is.mid is.first)
+  item_comes y k rest (is_exit b e is) h = made_comes (exit_block (block (suc (suc depth)))) items.Exit b y k rest e (exit_block_comes free extra (suc (suc depth)) b k rest is) (by_first kind.Exit k is.mid is.first)
+  item_comes y k rest (is_state n ms e is) h = known kind.State (items.StateBlock n ms) y k is.m1 rest e is.word (state_comes n ms k rest is)
+  item_comes y k rest (is_typed is) h = comes_at free (item (suc (suc depth)) k) _ y rest (by_type k (typed_item_begins free extra (suc (suc depth)) (IsDeclaration free extra (suc depth)) (IsParameter free extra (suc depth)) (IsBlockWithin free extra (suc (suc depth))) y k rest is)) (typed_item_again free extra (suc depth) y k rest is)
 
-    -- an item behind which the tokens end
-    pub whole_item_comes : (y : Item) (k : List Seat) → I y k [] → Comes free (whole_item (suc (suc depth)) k) y []
-    unfolding whole_item ended kind_at
-    whole_item_comes y k is = bind_comes free (item (suc (suc depth)) k) ended y [] y [] (item_comes y k [] is tt) (pure_comes free y [])
+  -- an item behind which the tokens end
+  pub whole_item_comes : (y : Item) (k : List Seat) → I y k [] → Comes free (whole_item (suc (suc depth)) k) y []
+  unfolding whole_item ended kind_at
+  whole_item_comes y k is = bind_comes free (item (suc (suc depth)) k) ended y [] y [] (item_comes y k [] is tt) (pure_comes free y [])

@@ -32,6 +32,8 @@ pub mod DeclarationAgain
 pub mod StatementLocal
 pub mod StatementViable
 pub mod StatementAgain
+pub mod FunctionAgain
+pub mod TypedAgain
 pub mod StateLocal
 pub mod StateViable
 pub mod StateAgain

@@ -28,8 +28,8 @@ use Rattle.snl_syntax.proofs.Depths.{one_less}
 use Rattle.snl_syntax.proofs.Again.{Comes, read, comes_at, comes_as, bind_comes, pure_comes, expect_comes, first_comes, kind_first, many_comes}
 use Rattle.snl_syntax.proofs.TypeLaws.{word_comes}
 use Rattle.snl_syntax.proofs.ClauseAgain.{foreign_comes, option_line_comes, clause_comes}
-use Rattle.snl_syntax.proofs.DeclarationAgain.{declaration_again}
-use Rattle.snl_syntax.proofs.StatementAgain.{paren_again, declaration_begins, block_within_again}
+use Rattle.snl_syntax.proofs.DeclarationAgain.{declaration_again, declaration_begins}
+use Rattle.snl_syntax.proofs.StatementAgain.{paren_again, block_within_again}
 use Rattle.snl_syntax.proofs.StateLocal.{member_eats}
 
 -- ---- blocks at entry and exit
