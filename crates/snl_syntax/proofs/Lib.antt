@@ -42,3 +42,5 @@ pub mod ItemLocal
 pub mod ItemViable
 pub mod ItemAgain
 pub mod ItemEnds
+pub mod OneItem
+pub mod Faults

@@ -59,3 +59,11 @@ pub data IsItemWithin (free extra depth : ℕ) (t : Item) (k rest : List Seat) :
 -- The item that all tokens of these kinds make: each leaf is the number of its token, and no token lies within more than 100 levels.
 abbrev pub IsItem : Item → List Kind → Type 0
 IsItem t kinds = IsItemWithin 0 0 99 t (ahead kinds 0) []
+
+-- No other item consists of these tokens.
+abbrev pub IsOnlyItem : Item → List Kind → Type 0
+IsOnlyItem t kinds = (u : Item) → IsItem u kinds → u ≡ t
+
+-- No item consists of these tokens.
+abbrev pub MakeNoItem : List Kind → Type 0
+MakeNoItem kinds = (u : Item) → IsItem u kinds → ⊥
