@@ -44,3 +44,4 @@ pub mod ItemAgain
 pub mod ItemEnds
 pub mod OneItem
 pub mod Faults
+pub mod Parsed
