@@ -31,7 +31,7 @@ AreFree zero k = ⊥
 AreFree (suc n) [] = Unit {0}
 AreFree (suc n) (s ∷ k) = (n ≤ s.1) × AreFree (suc n) k
 
--- What lies inside a level, where so many levels are left; `extra` more are there for the tokens that are free of them, from the `free`th on.
+-- What lies inside a level, where so many levels are left; tokens from the `free`th on may use `extra` more.
 abbrev pub Within : {A : Type 0} → ℕ → ℕ → ℕ → (A → List Seat → List Seat → Type 0) → A → List Seat → List Seat → Type 0
 Within free extra (suc depth) R x k rest = R x k rest
 Within free (suc extra) zero R x k rest = AreFree free k × R x k rest

@@ -38,7 +38,7 @@ pub data IsInitOf (Here : Expr → List Seat → List Seat → Type 0) (Inner : 
   value : (x : Expr) → t ≡ inits.Value x → Here x k rest → IsInitOf Here Inner t k rest
   list : (xs : List Init) (trailing : Bool) (mid : List Seat) → t ≡ inits.List xs trailing → First kind.OpenBrace k mid → AreBraced Inner xs trailing mid rest → IsInitOf Here Inner t k rest
 
--- The value of a declarator that stands in so many levels; `extra` more are there for the tokens that are free of them, from the `free`th on.
+-- The value of a declarator that stands in so many levels; tokens from the `free`th on may use `extra` more.
 abbrev pub IsInit : ℕ → ℕ → ℕ → Init → List Seat → List Seat → Type 0
 IsInit free extra (suc depth) t k rest = IsInitOf (IsAssignx free extra (suc depth)) (IsInit free extra depth) t k rest
 IsInit free (suc extra) zero t k rest = AreFree free k × IsInitOf (IsAssignx free (suc extra) zero) (IsInit free extra zero) t k rest
@@ -68,7 +68,7 @@ pub record IsDeclarationOf (Inner : Expr → List Seat → List Seat → Type 0)
   pub declarators : AreCommas (IsDeclarator Inner Value) t.declarators m1 m2
   pub semicolon : First kind.Semicolon m2 rest
 
--- A declaration that stands in so many levels; `extra` more are there for the tokens that are free of them, from the `free`th on.
+-- A declaration that stands in so many levels; tokens from the `free`th on may use `extra` more.
 abbrev pub IsDeclaration : ℕ → ℕ → ℕ → Declaration → List Seat → List Seat → Type 0
 IsDeclaration free extra (suc depth) t k rest = IsDeclarationOf (IsAssignx free extra depth) (IsInit free extra (suc depth)) t k rest
 IsDeclaration free (suc extra) zero t k rest = AreFree free k × IsDeclarationOf (IsAssignx free extra zero) (IsInit free (suc extra) zero) t k rest

@@ -130,7 +130,7 @@ pub data IsSingle (Inner : Expr → List Seat → List Seat → Type 0) (Names :
   value : IsConditional Inner Names t k rest → IsSingle Inner Names t k rest
   assignment : (target : Expr × Assignment) (targets : List (Expr × Assignment)) (x : Expr) (mid : List Seat) → t ≡ tree.Assigned (target ∷ targets) x → Each (IsTarget Inner Names) (target ∷ targets) k mid → IsConditional Inner Names x mid rest → IsSingle Inner Names t k rest
 
--- An expression without commas, in so many levels; `extra` more are there for the tokens that are free of them, from the `free`th on.
+-- An expression without commas, in so many levels; tokens from the `free`th on may use `extra` more.
 abbrev pub IsAssignx : ℕ → ℕ → ℕ → Expr → List Seat → List Seat → Type 0
 IsAssignx free extra (suc depth) t k rest = IsSingle (IsAssignx free extra depth) (Within free extra depth IsTypeName) t k rest
 IsAssignx free (suc extra) zero t k rest = AreFree free k × IsSingle (IsAssignx free extra zero) (Within free extra zero IsTypeName) t k rest

@@ -27,7 +27,7 @@ pub record IsParameterOf (Inner : Expr → List Seat → List Seat → Type 0) (
   pub name : Perhaps (Leaf kind.Name) t.name m2 m3
   pub lengths : Each (IsLength Inner) t.lengths m3 rest
 
--- A parameter that stands in so many levels; `extra` more are there for the tokens that are free of them, from the `free`th on.
+-- A parameter that stands in so many levels; tokens from the `free`th on may use `extra` more.
 abbrev pub IsParameter : ℕ → ℕ → ℕ → Parameter → List Seat → List Seat → Type 0
 IsParameter free extra (suc depth) t k rest = IsParameterOf (IsAssignx free extra depth) t k rest
 IsParameter free (suc extra) zero t k rest = AreFree free k × IsParameterOf (IsAssignx free extra zero) t k rest

@@ -117,7 +117,7 @@ pub data IsStmt (Inside Outside : Expr → List Seat → List Seat → Type 0) (
   -- "state" NAME ";"
   change : (w n : ℕ) (m1 m2 : List Seat) → t ≡ tree.State w n → Leaf kind.State w k m1 → Leaf kind.Name n m1 m2 → First kind.Semicolon m2 rest → IsStmt Inside Outside Declared Inner place closed t k rest
 
--- A statement and a block, in so many levels; `extra` more are there for the tokens that are free of them, from the `free`th on.
+-- A statement and a block, in so many levels; tokens from the `free`th on may use `extra` more.
 abbrev pub IsStatement : ℕ → ℕ → ℕ → Place → Bool → Stmt → List Seat → List Seat → Type 0
 IsStatement free extra (suc depth) place closed t k rest = IsStmt (IsExpr free extra depth) (IsExpr free extra (suc depth)) (IsDeclaration free extra depth) (IsStatement free extra depth) place closed t k rest
 IsStatement free (suc extra) zero place closed t k rest = AreFree free k × IsStmt (IsExpr free extra zero) (IsExpr free (suc extra) zero) (IsDeclaration free extra zero) (IsStatement free extra zero) place closed t k rest
