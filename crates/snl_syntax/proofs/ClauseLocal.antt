@@ -1,19 +1,17 @@
 -- Readers of clauses, options and foreign names look no further than one token ahead.
-use Rattle.std.proofs.Common.{◌≡◌, ◌<◌, length, ℕ, Bool, true, false, List, [], ◌∷◌, Option, Some, None, Ok}
+use Rattle.std.proofs.Common.{ℕ, Bool, true, false, [], ◌∷◌, Option, Some, None}
 use Rattle.snl_syntax.specs.declared.kind.Kind.{Kind}
 use Rattle.snl_syntax.specs.declared.kind.Kind.TheVariants as kind
-use Rattle.snl_syntax.specs.declared.stop.Step.{Step}
 use Rattle.snl_syntax.specs.declared.stop.Step.TheVariants as steps
 use Rattle.snl_syntax.specs.declared.tree.clause.Channel.TheVariants as channels
 use Rattle.snl_syntax.specs.declared.tree.clause.Clause.TheVariants as clauses
 use Rattle.snl_syntax.specs.declared.tree.clause.OptionLine.{OptionLine}
 use Rattle.snl_syntax.specs.declared.tree.clause.OptionSign.{OptionSign}
 use Rattle.snl_syntax.specs.declared.tree.clause.OptionSign.TheVariants as signs
-use Rattle.snl_syntax.specs.Tokens.{Seat}
-use Rattle.snl_syntax.specs.Steps.{Reader, and_then, pure, refuse, kind_at, expect, accept, word, many, until}
+use Rattle.snl_syntax.specs.Steps.{and_then, pure, refuse, kind_at, expect, accept, until}
 use Rattle.snl_syntax.specs.Reading.Expressions.{commas, texts}
 use Rattle.snl_syntax.specs.Reading.Clauses.{foreign, sign_by, sign, option_line, subscript, some_subscript, subscript_by, subscript_part, flag, some_flag, flag_by, flag_part, some_queue, queue_by, queue_part, after_comma_by, after_comma, text_step_by, text_step, some_elements, elements_by, elements, whole, channel_to_by, channel_to, named_channel, element, channel_by, channel, assign, monitor, sync, syncq_rest, syncq, syncq_capital, clause_by, clause}
-use Rattle.snl_syntax.proofs.Local.{Local, Eats, EatsSome, EatsMore, bind_local, choice_local, pure_local, refuse_local, expect_local, accept_local, many_local, until_local, bind_eats, expect_eats, eats_more}
+use Rattle.snl_syntax.proofs.Local.{Local, Eats, EatsMore, bind_local, choice_local, pure_local, refuse_local, expect_local, accept_local, until_local, bind_eats, expect_eats, eats_more}
 use Rattle.snl_syntax.proofs.TypeLaws.{word_local}
 use Rattle.snl_syntax.proofs.ExpressionLocal.{commas_local, texts_local}
 use Rattle.snl_syntax.proofs.DeclarationLocal.{last_eats}

@@ -1,5 +1,5 @@
 -- The token that the reader of items blames is at fault.
-use Rattle.std.proofs.Common.{◌≡◌, ℕ, zero, suc, ◌+◌, ◌-◌, ◌<◌, ◌≤◌, min, List, [], ◌∷◌, ◌++◌, length, take, drop, Option, Some, None, Ok, Err, refl, sym, ap, subst, ◌∙◌, append_assoc, inl, inr, ◌⊎◌, arith}
+use Rattle.std.proofs.Common.{◌≡◌, ℕ, zero, suc, ◌+◌, ◌-◌, ◌<◌, ◌≤◌, min, List, [], ◌∷◌, ◌++◌, length, take, drop, None, Ok, Err, refl, sym, ap, subst, ◌∙◌, append_assoc, inl, inr, arith}
 use Rattle.std.proofs.lemmas.List.{append-nil, append_cancel_right, length-append, take-take, take-append-drop, take_all}
 use Rattle.std.proofs.lemmas.Bool.{cases_lt}
 use Rattle.snl_syntax.specs.declared.kind.Kind.{Kind}
@@ -9,10 +9,10 @@ use Rattle.snl_syntax.specs.Steps.{Outcome}
 use Rattle.snl_syntax.specs.Grammar.Base.{AreFree}
 use Rattle.snl_syntax.specs.Grammar.Items.{IsItemWithin, IsItem}
 use Rattle.snl_syntax.specs.Reading.Items.{item, ended, whole_item, levels, tree_of, item_of, blamed_in, fault_of}
-use Rattle.snl_syntax.specs.Viability.{IsViable, BeginNoItem, AreCutShort, IsFaultAt}
+use Rattle.snl_syntax.specs.Viability.{IsViable, BeginNoItem, IsFaultAt}
 use Rattle.snl_syntax.proofs.Ahead.{length-numbered}
-use Rattle.snl_syntax.proofs.Local.{Local, bind_err}
-use Rattle.snl_syntax.proofs.Viable.{Free, seats}
+use Rattle.snl_syntax.proofs.Local.{bind_err}
+use Rattle.snl_syntax.proofs.Viable.{seats}
 use Rattle.snl_syntax.proofs.Again.{Comes, read, late}
 use Rattle.snl_syntax.proofs.ItemLocal.{whole_item_local}
 use Rattle.snl_syntax.proofs.ItemViable.{item_full}

@@ -1,14 +1,14 @@
 -- Items of the grammar are read again. Behind a header no `(` may follow.
-use Rattle.std.proofs.Common.{◌≡◌, ◌<◌, ℕ, zero, suc, ◌-◌, Bool, true, false, List, [], ◌∷◌, ◌++◌, Option, Some, None, Ok, refl, sym, ap, subst, ◌∙◌}
+use Rattle.std.proofs.Common.{◌≡◌, ℕ, suc, ◌-◌, true, false, List, [], ◌∷◌, Option, Some, None, Ok, refl, sym, ap, subst}
 use Rattle.snl_syntax.specs.declared.kind.Kind.{Kind}
 use Rattle.snl_syntax.specs.declared.kind.Kind.TheVariants as kind
 use Rattle.snl_syntax.specs.declared.tree.state.StateMember.{StateMember}
 use Rattle.snl_syntax.specs.declared.tree.item.Item.{Item}
 use Rattle.snl_syntax.specs.declared.tree.item.Item.TheVariants as items
 use Rattle.snl_syntax.specs.Tokens.{Seat, same}
-use Rattle.snl_syntax.specs.Steps.{Reader, and_then, pure, kind_at, expect, word}
-use Rattle.snl_syntax.specs.Grammar.Base.{First, Leaf, Perhaps}
-use Rattle.snl_syntax.specs.Grammar.Expressions.{AreTexts, IsExpr}
+use Rattle.snl_syntax.specs.Steps.{Reader, and_then, pure, kind_at, expect}
+use Rattle.snl_syntax.specs.Grammar.Base.{First, Perhaps}
+use Rattle.snl_syntax.specs.Grammar.Expressions.{IsExpr}
 use Rattle.snl_syntax.specs.Grammar.Declarations.{IsDeclaration}
 use Rattle.snl_syntax.specs.Grammar.Statements.{IsBlockWithin}
 use Rattle.snl_syntax.specs.Grammar.Functions.{IsParameter}
@@ -20,7 +20,7 @@ use Rattle.snl_syntax.specs.Reading.Clauses.{foreign, option_line, clause, begin
 use Rattle.snl_syntax.specs.Reading.Statements.{block}
 use Rattle.snl_syntax.specs.Reading.Functions.{typed_item}
 use Rattle.snl_syntax.specs.Reading.States.{entry_block, exit_block, state_members}
-use Rattle.snl_syntax.specs.Reading.Items.{some_texts, texts_by, texts_part, header, set_begin, c_block, foreign_item, clause_item, option_item, entry_item, exit_item, state_item, item_by, item, ended_by, ended, whole_item}
+use Rattle.snl_syntax.specs.Reading.Items.{some_texts, texts_by, texts_part, header, set_begin, c_block, foreign_item, clause_item, option_item, entry_item, exit_item, state_item, item_by, item, ended, whole_item}
 use Rattle.snl_syntax.proofs.Depths.{one_less}
 use Rattle.snl_syntax.proofs.Again.{Comes, read, comes_at, comes_as, comes_from, bind_comes, pure_comes, expect_comes, first_comes, kind_first, Lacks, first_lacks}
 use Rattle.snl_syntax.proofs.TypeLaws.{word_comes}

@@ -1,15 +1,14 @@
 -- Readers of items look no further than one token ahead.
-use Rattle.std.proofs.Common.{◌≡◌, ℕ, ◌-◌, List, [], ◌∷◌, ◌++◌, Option, Some, None, Ok, Err}
+use Rattle.std.proofs.Common.{◌≡◌, ℕ, ◌-◌, List, Option, Some, None}
 use Rattle.snl_syntax.specs.declared.kind.Kind.{Kind}
 use Rattle.snl_syntax.specs.declared.kind.Kind.TheVariants as kind
 use Rattle.snl_syntax.specs.declared.tree.item.Item.{Item}
 use Rattle.snl_syntax.specs.declared.tree.item.Item.TheVariants as items
 use Rattle.snl_syntax.specs.Tokens.{Seat}
-use Rattle.snl_syntax.specs.Steps.{Reader, and_then, pure, refuse, kind_at, expect, word}
+use Rattle.snl_syntax.specs.Steps.{Reader, and_then, pure, expect}
 use Rattle.snl_syntax.specs.Reading.Expressions.{texts}
 use Rattle.snl_syntax.specs.Reading.Clauses.{foreign, option_line, clause}
 use Rattle.snl_syntax.specs.Reading.Statements.{block}
-use Rattle.snl_syntax.specs.Reading.Functions.{typed_item}
 use Rattle.snl_syntax.specs.Reading.States.{entry_block, exit_block, state_members}
 use Rattle.snl_syntax.specs.Reading.Items.{some_texts, texts_by, texts_part, header, set_begin, c_block, foreign_item, clause_item, option_item, entry_item, exit_item, state_item, item_by, item, ended_by, ended, whole_item}
 use Rattle.snl_syntax.proofs.Local.{Local, bind_local, choice_local, pure_local, refuse_local, expect_local}
@@ -85,7 +84,3 @@ ended_local x = choice_local (ended_by x) (ended_by_local x)
 pub whole_item_local : (depth : ℕ) → Local (whole_item depth)
 unfolding whole_item
 whole_item_local depth = bind_local (item depth) ended (item_local depth) ended_local
-
--- Where a token is blamed, nothing is read that begins with the tokens up to and with it.
-pub never : {A : Type 0} (p : Reader A) → Local p → (front : List Seat) (s : Seat) (j more : List Seat) (x : A) (m : List Seat) → p (front ++ s ∷ j) ≡ Err (s ∷ j) → p (front ++ s ∷ more) ≡ Ok (x, m) → ⊥
-never p local front s j more x m e h = let f = local.fails front s j more e in absurd cc

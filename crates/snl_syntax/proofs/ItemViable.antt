@@ -1,5 +1,5 @@
 -- What readers of items took is in the grammar, and where they fail, the tokens before can be completed.
-use Rattle.std.proofs.Common.{◌≡◌, ℕ, suc, ◌-◌, ◌<◌, List, [], ◌∷◌, ◌++◌, length, Option, Some, None, Ok, Err, refl, sym, ap, subst, ◌∙◌}
+use Rattle.std.proofs.Common.{ℕ, suc, ◌-◌, List, [], ◌∷◌, ◌++◌, Option, Some, refl, sym, subst}
 use Rattle.snl_syntax.specs.declared.kind.Kind.{Kind}
 use Rattle.snl_syntax.specs.declared.kind.Kind.TheVariants as kind
 use Rattle.snl_syntax.specs.declared.tree.statement.Member.{Member}
@@ -7,15 +7,15 @@ use Rattle.snl_syntax.specs.declared.tree.state.StateMember.{StateMember}
 use Rattle.snl_syntax.specs.declared.tree.item.Item.{Item}
 use Rattle.snl_syntax.specs.declared.tree.item.Item.TheVariants as items
 use Rattle.snl_syntax.specs.Tokens.{Seat}
-use Rattle.snl_syntax.specs.Steps.{Reader, and_then, pure, kind_at, expect, word}
+use Rattle.snl_syntax.specs.Steps.{Reader, and_then, pure, expect, word}
 use Rattle.snl_syntax.specs.Grammar.Base.{First, Leaf, Perhaps}
-use Rattle.snl_syntax.specs.Grammar.Expressions.{AreTexts, IsExpr, IsAssignx}
+use Rattle.snl_syntax.specs.Grammar.Expressions.{AreTexts, IsAssignx}
 use Rattle.snl_syntax.specs.Grammar.Declarations.{IsInit, IsDeclarationOf, IsDeclaration}
 use Rattle.snl_syntax.specs.Grammar.Clauses.{AreForeign, IsOptionLine, IsClause}
 use Rattle.snl_syntax.specs.Grammar.Statements.{IsBlockWithin}
 use Rattle.snl_syntax.specs.Grammar.Functions.{IsParameter, IsTypedItem}
-use Rattle.snl_syntax.specs.Grammar.States.{IsBlockBehind, IsState}
-use Rattle.snl_syntax.specs.Grammar.Items.{AreBracketed, IsHeader, IsSetBegin, IsItemWithin, header as is_header, set_begin as is_set_begin, set_end as is_set_end, empty as is_empty, c_block as is_c_block, foreign as is_foreign, clause as is_clause, option_line as is_option, entry as is_entry, exit as is_exit, state as is_state, typed as is_typed}
+use Rattle.snl_syntax.specs.Grammar.States.{IsBlockBehind}
+use Rattle.snl_syntax.specs.Grammar.Items.{AreBracketed, IsItemWithin, header as is_header, set_begin as is_set_begin, set_end as is_set_end, empty as is_empty, c_block as is_c_block, foreign as is_foreign, clause as is_clause, option_line as is_option, entry as is_entry, exit as is_exit, state as is_state, typed as is_typed}
 use Rattle.snl_syntax.specs.Reading.Expressions.{texts}
 use Rattle.snl_syntax.specs.Reading.Clauses.{foreign, option_line, clause}
 use Rattle.snl_syntax.specs.Reading.Statements.{block}
@@ -23,10 +23,10 @@ use Rattle.snl_syntax.specs.Reading.Functions.{typed_item}
 use Rattle.snl_syntax.specs.Reading.States.{entry_block, exit_block, state_members}
 use Rattle.snl_syntax.specs.Reading.Items.{some_texts, texts_by, texts_part, header, set_begin, c_block, foreign_item, clause_item, option_item, entry_item, exit_item, state_item, item_by, item}
 use Rattle.snl_syntax.proofs.Depths.{one_less}
-use Rattle.snl_syntax.proofs.Viable.{Free, Makes, Viable, Full, Exists, Both, both, IsNothing, seats, bind_full, into_full, choice_viable, expect_full, pure_full}
+use Rattle.snl_syntax.proofs.Viable.{Viable, Full, Exists, Both, both, IsNothing, bind_full, into_full, choice_viable, expect_full, pure_full}
 use Rattle.snl_syntax.proofs.TypeLaws.{word_full, first_then}
 use Rattle.snl_syntax.proofs.ExpressionViable.{texts_full}
-use Rattle.snl_syntax.proofs.Braced.{none_perhaps, some_perhaps, perhaps_full}
+use Rattle.snl_syntax.proofs.Braced.{none_perhaps, perhaps_full}
 use Rattle.snl_syntax.proofs.ClauseViable.{foreign_full, option_line_full, clause_full}
 use Rattle.snl_syntax.proofs.StatementViable.{block_within_full}
 use Rattle.snl_syntax.proofs.FunctionViable.{typed_item_full}

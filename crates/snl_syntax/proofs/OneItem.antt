@@ -1,13 +1,12 @@
 -- The item that is read is in the grammar, and no other consists of the same tokens.
-use Rattle.std.proofs.Common.{◌≡◌, ℕ, suc, List, [], ◌∷◌, ◌++◌, Option, Some, None, Ok, Err, refl, sym, ap, subst, ◌∙◌}
-use Rattle.std.proofs.lemmas.List.{append-nil}
+use Rattle.std.proofs.Common.{◌≡◌, ℕ, suc, List, [], ◌++◌, Some, None, Ok, Err, refl, sym, ap, subst, ◌∙◌}
 use Rattle.snl_syntax.specs.declared.kind.Kind.{Kind}
 use Rattle.snl_syntax.specs.declared.tree.item.Item.{Item}
 use Rattle.snl_syntax.specs.Tokens.{Seat, ahead}
-use Rattle.snl_syntax.specs.Steps.{Outcome, kind_at}
+use Rattle.snl_syntax.specs.Steps.{Outcome}
 use Rattle.snl_syntax.specs.Grammar.Items.{IsItemWithin, IsItem}
 use Rattle.snl_syntax.specs.Reading.Items.{item, ended, whole_item, levels, tree_of, item_of}
-use Rattle.snl_syntax.proofs.Local.{bind_ok, ok_is}
+use Rattle.snl_syntax.proofs.Local.{bind_ok}
 use Rattle.snl_syntax.proofs.Again.{Comes, read, late}
 use Rattle.snl_syntax.proofs.ItemViable.{item_full}
 use Rattle.snl_syntax.proofs.ItemAgain.{whole_item_comes}

@@ -1,5 +1,5 @@
 -- What the parser's answer says of the grammar, by what the reader of items says.
-use Rattle.std.proofs.Common.{◌≡◌, ℕ, ◌<◌, List, length, Option, Some, None, Result, Ok, Err, IfOk, sym, subst}
+use Rattle.std.proofs.Common.{◌≡◌, ℕ, ◌<◌, List, length, Some, None, Result, Ok, Err, IfOk, sym, subst}
 use Rattle.std.proofs.lemmas.List.{length-map}
 use Rattle.snl_lex.specs.declared.piece.Piece.{Piece}
 use Rattle.snl_syntax.specs.declared.kind.Kind.{Kind}

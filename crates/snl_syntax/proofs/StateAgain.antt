@@ -1,5 +1,5 @@
 -- States of the grammar are read again.
-use Rattle.std.proofs.Common.{◌≡◌, ◌<◌, ℕ, zero, suc, ◌-◌, Bool, true, false, List, [], ◌∷◌, ◌++◌, Option, Some, None, Ok, refl, sym, ap, subst, ◌∙◌}
+use Rattle.std.proofs.Common.{◌≡◌, ℕ, suc, ◌-◌, true, false, List, [], Option, Some, None, refl, sym, ap, subst}
 use Rattle.snl_syntax.specs.declared.kind.Kind.{Kind}
 use Rattle.snl_syntax.specs.declared.kind.Kind.TheVariants as kind
 use Rattle.snl_syntax.specs.declared.tree.expression.Expr.{Expr}
@@ -10,9 +10,9 @@ use Rattle.snl_syntax.specs.declared.tree.state.Target.TheVariants as targets
 use Rattle.snl_syntax.specs.declared.tree.state.Transition.{Transition}
 use Rattle.snl_syntax.specs.declared.tree.state.StateMember.{StateMember}
 use Rattle.snl_syntax.specs.declared.tree.state.StateMember.TheVariants as members
-use Rattle.snl_syntax.specs.Tokens.{Seat, same}
-use Rattle.snl_syntax.specs.Steps.{Reader, and_then, pure, kind_at, expect, word, many}
-use Rattle.snl_syntax.specs.Grammar.Base.{Each, First, Leaf}
+use Rattle.snl_syntax.specs.Tokens.{Seat}
+use Rattle.snl_syntax.specs.Steps.{Reader, and_then, pure, kind_at, expect, many}
+use Rattle.snl_syntax.specs.Grammar.Base.{Each, First}
 use Rattle.snl_syntax.specs.Grammar.Expressions.{IsExpr}
 use Rattle.snl_syntax.specs.Grammar.Declarations.{IsDeclaration}
 use Rattle.snl_syntax.specs.Grammar.Clauses.{IsClause, assign as is_assign, monitor as is_monitor, sync as is_sync, syncq as is_syncq}

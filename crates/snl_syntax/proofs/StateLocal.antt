@@ -1,5 +1,5 @@
 -- Readers of states and their members look no further than one token ahead.
-use Rattle.std.proofs.Common.{◌≡◌, ◌<◌, ◌-◌, ℕ, List, [], ◌∷◌, length, Option, Some, None, Ok}
+use Rattle.std.proofs.Common.{◌-◌, ℕ, List, [], Option, Some, None}
 use Rattle.snl_syntax.specs.declared.kind.Kind.{Kind}
 use Rattle.snl_syntax.specs.declared.kind.Kind.TheVariants as kind
 use Rattle.snl_syntax.specs.declared.tree.expression.Expr.{Expr}
@@ -9,7 +9,7 @@ use Rattle.snl_syntax.specs.declared.tree.state.Target.TheVariants as targets
 use Rattle.snl_syntax.specs.declared.tree.state.Transition.{Transition}
 use Rattle.snl_syntax.specs.declared.tree.state.StateMember.{StateMember}
 use Rattle.snl_syntax.specs.declared.tree.state.StateMember.TheVariants as members
-use Rattle.snl_syntax.specs.Steps.{Reader, and_then, pure, refuse, kind_at, expect, word, many}
+use Rattle.snl_syntax.specs.Steps.{Reader, and_then, pure, kind_at, expect, word, many}
 use Rattle.snl_syntax.specs.Reading.Expressions.{expr}
 use Rattle.snl_syntax.specs.Reading.Declarations.{declaration}
 use Rattle.snl_syntax.specs.Reading.Clauses.{foreign, option_line, clause}

@@ -1,5 +1,5 @@
 -- What readers of states took is in the grammar, and where they fail, the tokens before can be completed.
-use Rattle.std.proofs.Common.{◌≡◌, ℕ, suc, ◌-◌, ◌<◌, List, [], ◌∷◌, ◌++◌, length, Option, Some, None, Ok, Err, refl, sym, ap, subst, ◌∙◌}
+use Rattle.std.proofs.Common.{ℕ, suc, ◌-◌, List, [], ◌∷◌, ◌++◌, Option, Some, None, refl, sym, ap, subst, ◌∙◌}
 use Rattle.snl_syntax.specs.declared.kind.Kind.{Kind}
 use Rattle.snl_syntax.specs.declared.kind.Kind.TheVariants as kind
 use Rattle.snl_syntax.specs.declared.tree.expression.Expr.{Expr}
@@ -10,7 +10,7 @@ use Rattle.snl_syntax.specs.declared.tree.state.Transition.{Transition}
 use Rattle.snl_syntax.specs.declared.tree.state.StateMember.{StateMember}
 use Rattle.snl_syntax.specs.declared.tree.state.StateMember.TheVariants as members
 use Rattle.snl_syntax.specs.Tokens.{Seat}
-use Rattle.snl_syntax.specs.Steps.{Reader, and_then, pure, refuse, kind_at, expect, word, many}
+use Rattle.snl_syntax.specs.Steps.{Reader, and_then, pure, expect, word, many}
 use Rattle.snl_syntax.specs.Grammar.Base.{Each, First, Leaf}
 use Rattle.snl_syntax.specs.Grammar.Expressions.{IsExpr}
 use Rattle.snl_syntax.specs.Grammar.Declarations.{IsDeclaration}
@@ -23,7 +23,7 @@ use Rattle.snl_syntax.specs.Reading.Clauses.{foreign, option_line, clause}
 use Rattle.snl_syntax.specs.Reading.Statements.{before_paren, block}
 use Rattle.snl_syntax.specs.Reading.States.{entry_block, exit_block, next_state, target_by, target, transition, declared_member, entry_member, exit_member, when_member, foreign_member, clause_member, option_member, c_member, member_by, next_member, state_members}
 use Rattle.snl_syntax.proofs.Depths.{one_less}
-use Rattle.snl_syntax.proofs.Viable.{Free, Makes, Viable, Full, Exists, Both, both, Next, Lists, IsNothing, seats, bind_full, into_full, choice_viable, refuse_viable, expect_full, pure_full, many_full}
+use Rattle.snl_syntax.proofs.Viable.{Viable, Full, Exists, Both, both, Next, Lists, IsNothing, bind_full, into_full, choice_viable, refuse_viable, expect_full, pure_full, many_full}
 use Rattle.snl_syntax.proofs.TypeLaws.{word_full, lists_each, none_next, first_then}
 use Rattle.snl_syntax.proofs.ExpressionViable.{expr_full}
 use Rattle.snl_syntax.proofs.DeclarationViable.{declaration_full}

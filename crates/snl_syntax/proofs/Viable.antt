@@ -1,13 +1,13 @@
 -- What a reader took is in the grammar whatever follows, and where it fails, the tokens before the blamed one can be completed.
-use Rattle.std.proofs.Common.{◌≡◌, ℕ, zero, suc, ◌+◌, ◌<◌, ◌≤◌, Bool, true, false, List, [], ◌∷◌, ◌++◌, length, Option, Some, None, Ok, Err, refl, sym, ap, subst, ◌∙◌, append_assoc, inl, inr, arith}
+use Rattle.std.proofs.Common.{◌≡◌, ℕ, zero, suc, ◌+◌, ◌<◌, Bool, true, false, List, [], ◌∷◌, ◌++◌, length, Option, Some, None, Ok, Err, refl, sym, ap, subst, ◌∙◌, append_assoc, inl, inr, arith}
 use Rattle.std.specs.Prelude.{option_to_list}
-use Rattle.std.proofs.lemmas.List.{append-nil, length-append}
+use Rattle.std.proofs.lemmas.List.{append-nil}
 use Rattle.snl_syntax.specs.declared.kind.Kind.{Kind}
 use Rattle.snl_syntax.specs.declared.stop.Step.{Step}
 use Rattle.snl_syntax.specs.declared.stop.Step.TheVariants as steps
 use Rattle.snl_syntax.specs.Tokens.{Seat, same}
 use Rattle.snl_syntax.specs.Steps.{Outcome, Reader, and_then, pure, refuse, kind_at, expect, accept, more_or, many_within, many, again_or, until_within, until, within}
-use Rattle.snl_syntax.specs.Grammar.Base.{AreFree, Each, First, Leaf, Within}
+use Rattle.snl_syntax.specs.Grammar.Base.{AreFree, Each, Leaf, Within}
 use Rattle.snl_syntax.specs.Grammar.Types.{Written}
 use Rattle.snl_syntax.proofs.Same.{same_true}
 use Rattle.snl_syntax.proofs.Local.{bind_ok, bind_err, chosen, ok_is, err_is}
