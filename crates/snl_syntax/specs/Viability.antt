@@ -5,7 +5,7 @@ use Rattle.snl_syntax.specs.declared.tree.item.Item.{Item}
 use Rattle.snl_syntax.specs.Tokens.{ahead}
 use Rattle.snl_syntax.specs.Grammar.Items.{IsItemWithin}
 
--- An item can begin with the first n tokens: with tokens to come they make one. The first n are held to the levels of an item; those that are free of them are to come.
+-- An item can begin with the first n tokens: with tokens to come they make one. The first n are held to the levels of an item. Tokens from the `free`th on, which are all to come, may use `extra` levels more, as many as they need.
 pub record IsViable (kinds : List Kind) (n : ℕ) : Type 0 where
   pub to_come : List Kind
   pub tree : Item
