@@ -45,7 +45,7 @@ pub accept_none : (c : Kind) (ks : List Kind) (at : ℕ) → length ks ≤ at �
 unfolding accept
 accept_none c ks at le = rw (ahead_none ks at le) refl
 
-length-numbered : (n : ℕ) (ks : List Kind) → length (numbered n ks) ≡ length ks
+pub length-numbered : (n : ℕ) (ks : List Kind) → length (numbered n ks) ≡ length ks
 length-numbered n [] = refl
 length-numbered n (x ∷ ks) = ap suc (length-numbered (suc n) ks)
 

@@ -35,6 +35,12 @@ pub mod StatementViable
 pub mod StatementAgain
 pub mod FunctionAgain
 pub mod TypedAgain
+pub mod StateLocal
+pub mod StateViable
+pub mod StateAgain
+pub mod ItemLocal
+pub mod ItemViable
+pub mod ItemAgain
 pub mod ItemEnds
 pub mod Covers
 pub mod TypeSpells
@@ -45,3 +51,6 @@ pub mod ClauseSpells
 pub mod FunctionSpells
 pub mod StateSpells
 pub mod ItemSpells
+pub mod OneItem
+pub mod Faults
+pub mod Parsed

@@ -10,6 +10,7 @@ mod declaration_tests;
 mod expression;
 mod fault;
 mod function;
+mod grammar_laws;
 mod item;
 mod item_cut;
 mod item_laws;
@@ -31,6 +32,7 @@ mod types;
 mod word;
 
 pub use fault::ParseFault;
+pub use grammar_laws::{one_fault, one_item, viable_fronts};
 pub use item_cut::Tokens;
 pub use item_laws::first_item;
 pub use kind::Kind;
