@@ -10,6 +10,10 @@ use Rattle.snl_syntax.specs.Parsing.{IfNoItem, kind_in, kinds_in}
 use Rattle.snl_syntax.specs.Grammar.Items.{IsItem, IsOnlyItem, MakeNoItem}
 use Rattle.snl_syntax.specs.Reading.Items.{fault_of, item_of}
 use Rattle.snl_syntax.specs.Viability.{IsFaultAt}
+use Rattle.snl_syntax.specs.Tokens.{ahead}
+use Rattle.snl_syntax.specs.Spelling.Base.{Matches}
+use Rattle.snl_syntax.specs.Spelling.Items.{spell_item}
+use Rattle.snl_syntax.proofs.ItemSpells.{item_spells}
 use Rattle.snl_syntax.proofs.OneItem.{item_found, one_item, no_item}
 use Rattle.snl_syntax.proofs.Faults.{fault_at}
 
@@ -17,6 +21,10 @@ module _ (kinds : List Kind) where
   pub answer_found : (r : Result Item ParseFault) → IfOk r (λ t. item_of kinds ≡ Some t) → IfOk r (λ t. IsItem t kinds)
   answer_found (Ok t) e = item_found kinds t e
   answer_found (Err f) e = tt
+
+  pub answer_spelled : (r : Result Item ParseFault) → IfOk r (λ t. item_of kinds ≡ Some t) → IfOk r (λ t. Matches (spell_item t) (ahead kinds 0))
+  answer_spelled (Ok t) e = item_spells t kinds (item_found kinds t e)
+  answer_spelled (Err f) e = tt
 
   pub answer_only : (r : Result Item ParseFault) → IfOk r (λ t. item_of kinds ≡ Some t) → IfOk r (λ t. IsOnlyItem t kinds)
   answer_only (Ok t) e = λ u is. one_item kinds u t is (item_found kinds t e)
