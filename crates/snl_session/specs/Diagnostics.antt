@@ -1,12 +1,25 @@
 -- The diagnostics of a text, which the text alone defines.
-use Rattle.std.specs.Prelude.{ℕ, List, count_by, not}
+use Rattle.std.specs.Prelude.{ℕ, List, ◌++◌, count_by, map, not}
+use Rattle.snl_lex.specs.Lines.{file_of, line_at, line_number_of}
 use Rattle.snl_session.specs.declared.findings.Diagnostic.{Diagnostic}
+use Rattle.snl_session.specs.declared.findings.Finding.{Finding}
 use Rattle.snl_session.specs.Codes.{is_error}
-use Rattle.snl_session.specs.ThinFindings.{found}
+use Rattle.snl_session.specs.Faults.{faults_of}
+use Rattle.snl_session.specs.Order.{in_order}
+use Rattle.snl_session.specs.Program.{items_of}
+use Rattle.snl_session.specs.StateSets.{found_in_sets}
 
--- The diagnostics of a text, by offset and then by code. They are those of thin texts: a text of any other form has one, E02.
+-- What is found in a text: at its faulty items, and in its state sets.
+unfoldable pub found : List ℕ → List Finding
+found text = faults_of text ++ found_in_sets text (items_of text)
+
+-- A finding with its line and file.
+abbrev pub diagnostic : List ℕ → Finding → Diagnostic
+diagnostic text x = record { offset = x.offset; line = (line_at text x.offset).number; file = (line_at text x.offset).file; code = x.code; subject = x.subject }
+
+-- The diagnostics of a text, by offset and then by code.
 unfoldable pub diagnostics_of : List ℕ → List Diagnostic
-diagnostics_of text = found text
+diagnostics_of text = map (diagnostic text) (in_order (found text))
 
 -- How many of them are errors.
 unfoldable pub errors_of : List ℕ → ℕ

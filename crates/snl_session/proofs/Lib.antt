@@ -1,4 +1,0 @@
-pub mod Fronts
-pub mod Lines
-pub mod Phrases
-pub mod Runs
