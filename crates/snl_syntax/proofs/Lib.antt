@@ -22,6 +22,7 @@ pub mod Depths
 pub mod DeclarationLocal
 pub mod ClauseLocal
 pub mod FunctionLocal
+pub mod Blamed
 pub mod Braced
 pub mod ClauseViable
 pub mod DeclarationViable

@@ -1,9 +1,9 @@
 //! The parser's call: the tokens of one item, as pieces of a text, come in, and its tree goes out.
 
-ghost use Rattle.std.specs.Prelude.{◌≡◌, ◌<◌, All, IfOk, None, Some, position, length};
+ghost use Rattle.std.specs.Prelude.{◌≡◌, ◌<◌, All, IfOk, None, Some, min, position, length};
 ghost use Rattle.snl_cut.specs.Cut.{ticked};
 ghost use Rattle.snl_syntax.specs.Parsing.{IfNoItem, LiesIn, bad_in, is_bad, kinds_in};
-ghost use Rattle.snl_syntax.specs.Reading.Items.{item_of};
+ghost use Rattle.snl_syntax.specs.Reading.Items.{fault_of, item_of};
 
 use crate::fault::ParseFault;
 use crate::item::item_in;
@@ -39,6 +39,13 @@ fn kinds_of(alloc: Global, text: &[u8], tokens: &[Piece]) -> Result<Vec<Kind>, A
     Ok(kinds)
 }
 
+// The number of a token: where all were read, it is the last one that is blamed.
+fn within(at: usize, last: usize) -> usize
+    ensures { result ≡ min at last }
+{
+    if at < last { at } else { last }
+}
+
 #[tactic(auto, unfolding(crate::specs::Reading::Items::item_of))]
 fn read_item(alloc: Global, text: &[u8], tokens: &[Piece]) -> Result<Item, ParseFault>
     requires some { 0 < length tokens.now }
@@ -47,13 +54,14 @@ fn read_item(alloc: Global, text: &[u8], tokens: &[Piece]) -> Result<Item, Parse
     ensures tree { IfOk result (λ t. item_of (kinds_in text.now tokens.now) ≡ Some t) }
     ensures none { IfNoItem result (λ n. item_of (kinds_in text.now tokens.now) ≡ None) }
     ensures inside { IfNoItem result (λ n. n < length tokens.now) }
+    ensures blamed { IfNoItem result (λ n. n ≡ fault_of (kinds_in text.now tokens.now)) }
 {
     let kinds = kinds_of(alloc, text, tokens)?;
     match item_in(alloc, &kinds) {
         Ok(item) => Ok(item),
         Err(Stop::OutOfMemory) => Err(ParseFault::OutOfMemory),
         Err(Stop::Here(at)) => Err(ParseFault::NoItem {
-            at: at.min(tokens.len() - 1),
+            at: within(at, tokens.len() - 1),
         }),
     }
 }
@@ -76,6 +84,7 @@ pub fn parse_item(
     ensures tree { IfOk result (λ t. item_of (kinds_in text.now tokens.now) ≡ Some t) }
     ensures none { IfNoItem result (λ n. item_of (kinds_in text.now tokens.now) ≡ None) }
     ensures inside { IfNoItem result (λ n. n < length tokens.now) }
+    ensures blamed { IfNoItem result (λ n. n ≡ fault_of (kinds_in text.now tokens.now)) }
 {
     work.tick();
     match first_bad(tokens) {

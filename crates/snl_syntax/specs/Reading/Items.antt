@@ -2,7 +2,7 @@
 --   An item is chosen by its first token; any that begins no other form begins a type.
 --   Behind a header's name `(` begins texts; any other token isn't the header's.
 --   Behind an item the tokens end, and any token that stands there is blamed.
-use Rattle.std.specs.Prelude.{◌≡◌, ℕ, ◌-◌, List, [], Option, Some, None, Result, Ok, Err}
+use Rattle.std.specs.Prelude.{◌≡◌, ℕ, ◌-◌, min, List, [], length, Option, Some, None, Result, Ok, Err}
 use Rattle.snl_syntax.specs.declared.kind.Kind.{Kind}
 use Rattle.snl_syntax.specs.declared.kind.Kind.TheVariants as kind
 use Rattle.snl_syntax.specs.declared.stop.Stop.{Stop}
@@ -142,3 +142,11 @@ tree_of (Err j) = None
 -- the item that all tokens of these kinds give, if they give one
 unfoldable pub item_of : List Kind → Option Item
 item_of kinds = tree_of (whole_item levels (ahead kinds 0))
+
+-- The number of the token that is blamed, where no item is read: the last one, if all tokens were read and more are wanted.
+abbrev pub blamed_in : ℕ → Outcome Item → ℕ
+blamed_in count (Ok p) = count - 1
+blamed_in count (Err j) = min (count - length j) (count - 1)
+
+unfoldable pub fault_of : List Kind → ℕ
+fault_of kinds = blamed_in (length kinds) (whole_item levels (ahead kinds 0))
