@@ -46,6 +46,9 @@ named_by_member = fold-Member (List ℕ) (List ℕ) member_step stmt_step
 abbrev pub named_by_block : List Member → List ℕ
 named_by_block ms = concat (map named_by_member ms)
 
+abbrev pub named_by_arms : List (Expr × Stmt) → List ℕ
+named_by_arms arms = of_bodies (map (λ arm. (arm.0, named_by_stmt arm.1)) arms)
+
 abbrev pub named_by_target : Target → List ℕ
 named_by_target (target.State name) = name ∷ []
 named_by_target target.Exit = []

@@ -2,10 +2,12 @@
 //! It knows nothing of lines, nor of variables.
 #![tactic(auto)]
 
-ghost use Rattle.std.specs.Prelude.{◌≡◌, ◌++◌, All, IfOk, OnOk, map, take_while};
+ghost use Rattle.std.specs.Prelude.{◌≡◌, ◌∷◌, [], ◌++◌, Some, All, IfOk, IfSome, OnOk, filter, flat_map, if◌then◌else◌, map, not, option_to_list, take_while, None};
+ghost use Rattle.std.specs.List.{filter_map, slice_get};
 ghost use Rattle.snl_lex.specs.Pieces.{LiesIn};
-ghost use Rattle.snl_session.specs.Parts.{IsPart, part_of};
-ghost use Rattle.snl_session.specs.StateSets.{at_name, found_in_set, found_in_sets, have_one_name, is_among, name_behind, opens_set, state_names, stays_in_set};
+ghost use Rattle.snl_session.specs.Parts.{IsPart, part_of, part_stays};
+ghost use Rattle.snl_session.specs.StateSets.{at_name, found_in_set, found_in_sets, have_one_name, is_among, is_set_begin, is_state_word, name_behind, name_if, repeated_names, state_names, target_names, unknown_targets};
+ghost use Rattle.snl_session.specs.Targets.{targets_of};
 
 use crate::codes::Code;
 use crate::findings::Finding;
@@ -16,35 +18,65 @@ use snl_lex::{Class, Piece, token_text};
 use snl_syntax::tree::item::Item;
 use std::alloc::Global;
 
-fn opens_set(part: &Part) -> bool {
+fn opens_set(part: &Part) -> bool
+    ensures { result ≡ is_set_begin part.now.tree }
+{
     matches!(part.tree, Some(Item::SsBegin { .. }))
 }
 
-fn stays_in_set(part: &Part) -> bool {
+fn stays_in_set(part: &Part) -> bool
+    ensures { result ≡ part_stays part.now }
+{
     !matches!(part.tree, Some(Item::SsBegin { .. }) | Some(Item::SsEnd))
 }
 
 // The items at the front that are in the open state set.
-fn in_open_set(parts: &[Part]) -> &[Part] {
+fn in_open_set(parts: &[Part]) -> &[Part]
+    ensures { result.now ≡ take_while part_stays parts.now }
+{
     let len = parts.iter().take_while(|part| stays_in_set(part)).count();
     &parts[..len]
 }
 
-fn is_state_word(text: &[u8], token: Piece) -> bool {
+fn is_state_word(text: &[u8], token: Piece) -> bool
+    requires { LiesIn text.now token }
+    ensures { result ≡ is_state_word text.now token }
+{
     token.kind == Class::Word && token_text(text, token) == b"state".as_slice()
 }
 
 // The name of the state that an item with these tokens is.
-fn name_behind(text: &[u8], tokens: &[Piece]) -> Option<Piece> {
+fn name_behind(text: &[u8], tokens: &[Piece]) -> Option<Piece>
+    requires { All (LiesIn text.now) tokens.now }
+    ensures name { result ≡ name_behind text.now tokens.now }
+    ensures lies { IfSome result (LiesIn text.now) }
+{
     match tokens {
         [word, name, ..] if is_state_word(text, *word) && name.kind == Class::Name => Some(*name),
         _ => None,
     }
 }
 
-fn is_among(text: &[u8], names: &[Piece], name: Piece) -> bool {
-    let bytes = token_text(text, name);
-    names.iter().any(|other| token_text(text, *other) == bytes)
+fn have_one_name(text: &[u8], a: Piece, b: Piece) -> bool
+    requires first { LiesIn text.now a }
+    requires second { LiesIn text.now b }
+    ensures { result ≡ have_one_name text.now a b }
+{
+    token_text(text, a) == token_text(text, b)
+}
+
+// Whether a state with one of these names has the name.
+fn is_among(text: &[u8], names: &[Piece], name: Piece) -> bool
+    requires all { All (LiesIn text.now) names.now }
+    requires one { LiesIn text.now name }
+    ensures { result ≡ is_among text.now names.now name }
+{
+    for other in names {
+        if have_one_name(text, name, *other) {
+            return true;
+        }
+    }
+    false
 }
 
 // A finding at a name, which it quotes.
@@ -58,6 +90,27 @@ fn at_name(code: Code, name: Piece) -> Finding
     }
 }
 
+// Takes the name of a state, and adds E09 if the state is sound and an earlier one has the name.
+fn add_state(
+    text: &[u8],
+    name: Piece,
+    is_sound: bool,
+    names: &mut Vec<Piece>,
+    found: &mut Vec<Finding>,
+) -> Result<(), OutOfMemory>
+    requires all { All (LiesIn text.now) names.old.items }
+    requires one { LiesIn text.now name }
+    ensures names { OnOk result (names.new.items ≡ names.old.items ++ name ∷ []) }
+    ensures found { OnOk result (found.new.items ≡ found.old.items
+        ++ map (at_name Code.E09) (option_to_list (if is_sound then name_if (is_among text.now names.old.items) (Some name) else None))) }
+{
+    if is_sound && is_among(text, names, name) {
+        found.push(at_name(Code::E09, name))?;
+    }
+    names.push(name)?;
+    Ok(())
+}
+
 // Adds E09 at the states whose name an earlier one has. Returns the names of all.
 fn add_repeated(
     alloc: Global,
@@ -65,17 +118,41 @@ fn add_repeated(
     tokens: &[Piece],
     set: &[Part],
     found: &mut Vec<Finding>,
-) -> Result<Vec<Piece>, OutOfMemory> {
+) -> Result<Vec<Piece>, OutOfMemory>
+    requires tokens { All (LiesIn text.now) tokens.now }
+    requires parts { All (IsPart tokens.now) set.now }
+    ensures names { IfOk result (λ names. names.items ≡ state_names text.now (map (part_of tokens.now) set.now)) }
+    ensures lie { IfOk result (λ names. All (LiesIn text.now) names.items) }
+    ensures found { OnOk result (found.new.items ≡ found.old.items
+        ++ map (at_name Code.E09) (repeated_names text.now (map (part_of tokens.now) set.now))) }
+{
     let mut names = Vec::new(alloc);
     for part in set {
         if let Some(name) = name_behind(text, &tokens[part.start..part.stop]) {
-            if part.tree.is_some() && is_among(text, &names, name) {
-                found.push(at_name(Code::E09, name))?;
-            }
-            names.push(name)?;
+            add_state(text, name, part.tree.is_some(), &mut names, found)?;
         }
     }
     Ok(names)
+}
+
+// Adds E10 at a target, if it is no state.
+fn add_if_unknown(
+    text: &[u8],
+    names: &[Piece],
+    target: Option<Piece>,
+    found: &mut Vec<Finding>,
+) -> Result<(), OutOfMemory>
+    requires all { All (LiesIn text.now) names.now }
+    requires one { IfSome target (LiesIn text.now) }
+    ensures { OnOk result (found.new.items ≡ found.old.items
+        ++ map (at_name Code.E10) (filter (λ p. not (is_among text.now names.now p)) (option_to_list target))) }
+{
+    if let Some(target) = target {
+        if !is_among(text, names, target) {
+            found.push(at_name(Code::E10, target))?;
+        }
+    }
+    Ok(())
 }
 
 // Adds E10 at those targets of an item that are no states.
@@ -86,13 +163,37 @@ fn add_unknown(
     names: &[Piece],
     tree: &Option<Item>,
     found: &mut Vec<Finding>,
-) -> Result<(), OutOfMemory> {
-    for number in targets_of(alloc, tree)? {
-        if let Some(target) = tokens.get(number).copied() {
-            if !is_among(text, names, target) {
-                found.push(at_name(Code::E10, target))?;
-            }
-        }
+) -> Result<(), OutOfMemory>
+    requires tokens { All (LiesIn text.now) tokens.now }
+    requires names { All (LiesIn text.now) names.now }
+    ensures { OnOk result (found.new.items ≡ found.old.items
+        ++ map (at_name Code.E10) (filter (λ p. not (is_among text.now names.now p)) (filter_map (slice_get tokens.now) (targets_of tree.now)))) }
+{
+    let numbers = targets_of(alloc, tree)?;
+    for number in &numbers {
+        add_if_unknown(text, names, tokens.get(*number).copied(), found)?;
+    }
+    Ok(())
+}
+
+// Adds E10 at the targets in a state set that are no states.
+fn add_all_unknown(
+    alloc: Global,
+    text: &[u8],
+    tokens: &[Piece],
+    names: &[Piece],
+    set: &[Part],
+    found: &mut Vec<Finding>,
+) -> Result<(), OutOfMemory>
+    requires tokens { All (LiesIn text.now) tokens.now }
+    requires names { All (LiesIn text.now) names.now }
+    requires parts { All (IsPart tokens.now) set.now }
+    ensures { OnOk result (found.new.items ≡ found.old.items
+        ++ map (at_name Code.E10) (filter (λ p. not (is_among text.now names.now p)) (flat_map target_names (map (part_of tokens.now) set.now)))) }
+{
+    for part in set {
+        let own = &tokens[part.start..part.stop];
+        add_unknown(alloc, text, own, names, &part.tree, found)?;
     }
     Ok(())
 }
@@ -104,13 +205,13 @@ fn add_found_in_set(
     tokens: &[Piece],
     set: &[Part],
     found: &mut Vec<Finding>,
-) -> Result<(), OutOfMemory> {
+) -> Result<(), OutOfMemory>
+    requires tokens { All (LiesIn text.now) tokens.now }
+    requires parts { All (IsPart tokens.now) set.now }
+    ensures { OnOk result (found.new.items ≡ found.old.items ++ found_in_set text.now (map (part_of tokens.now) set.now)) }
+{
     let names = add_repeated(alloc, text, tokens, set, found)?;
-    for part in set {
-        let own = &tokens[part.start..part.stop];
-        add_unknown(alloc, text, own, &names, &part.tree, found)?;
-    }
-    Ok(())
+    add_all_unknown(alloc, text, tokens, &names, set, found)
 }
 
 /// Adds what is found in the state sets of a program.
@@ -120,7 +221,11 @@ pub fn add_found_in_sets(
     tokens: &[Piece],
     parts: &[Part],
     found: &mut Vec<Finding>,
-) -> Result<(), OutOfMemory> {
+) -> Result<(), OutOfMemory>
+    requires tokens { All (LiesIn text.now) tokens.now }
+    requires parts { All (IsPart tokens.now) parts.now }
+    ensures { OnOk result (found.new.items ≡ found.old.items ++ found_in_sets text.now (map (part_of tokens.now) parts.now)) }
+{
     let mut rest = parts;
     while let [first, behind @ ..] = rest {
         if opens_set(first) {
