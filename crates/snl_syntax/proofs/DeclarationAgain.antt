@@ -1,5 +1,5 @@
 -- Declarations are read again.
-use Rattle.std.proofs.Common.{◌≡◌, ◌<◌, ◌≤◌, ℕ, zero, suc, Bool, true, false, List, [], ◌∷◌, ◌++◌, length, Option, Some, None, Ok, Err, refl, sym, ap, subst, ◌∙◌, arith}
+use Rattle.std.proofs.Common.{◌≡◌, ◌<◌, ℕ, zero, suc, Bool, true, false, List, [], ◌∷◌, Option, Some, None, Ok, refl, sym, ap, subst, ◌∙◌, arith}
 use Rattle.snl_syntax.specs.declared.kind.Kind.{Kind}
 use Rattle.snl_syntax.specs.declared.kind.Kind.TheVariants as kind
 use Rattle.snl_syntax.specs.declared.stop.Step.{Step}
@@ -13,25 +13,25 @@ use Rattle.snl_syntax.specs.declared.tree.declaration.Init.TheVariants as inits
 use Rattle.snl_syntax.specs.declared.tree.declaration.Declarator.{Declarator}
 use Rattle.snl_syntax.specs.declared.tree.declaration.Declaration.{Declaration}
 use Rattle.snl_syntax.specs.Tokens.{Seat, same}
-use Rattle.snl_syntax.specs.Steps.{Outcome, Reader, and_then, pure, refuse, kind_at, expect, word, many, until}
-use Rattle.snl_syntax.specs.Grammar.Base.{Each, First, Leaf, Perhaps}
-use Rattle.snl_syntax.specs.Grammar.Types.{Written, IsType, IsPointer}
+use Rattle.snl_syntax.specs.Steps.{Reader, and_then, pure, kind_at, expect, many, until}
+use Rattle.snl_syntax.specs.Grammar.Base.{Each, First, Perhaps}
+use Rattle.snl_syntax.specs.Grammar.Types.{IsPointer}
 use Rattle.snl_syntax.specs.Grammar.Expressions.{IsBehindComma, AreCommas, IsSequence, one, several, IsAssignx}
 use Rattle.snl_syntax.specs.Grammar.Declarations.{IsLength, AreBraced, IsInitOf, value as is_value, list as is_list, IsInit, IsBehindEqual, IsDeclarator, IsDeclarationOf, IsDeclaration}
-use Rattle.snl_syntax.specs.Reading.Types.{type_of, type_name, stars}
+use Rattle.snl_syntax.specs.Reading.Types.{type_of, type_name, stars, begins_type}
 use Rattle.snl_syntax.specs.Reading.Expressions.{assignx, sequence, next_comma}
 use Rattle.snl_syntax.specs.Reading.Declarations.{some_length, length_by, bracketed_length, next_length_by, next_length, lengths, after_comma_by, after_comma, value_step_by, value_step, some_values, values_by, values, plain_value, init_by, init_of, init, some_init, init_part_by, init_part, declarator_from, declarator, more_declarators, declaration_from, declaration_of, declaration_in, declaration}
 use Rattle.snl_syntax.proofs.Local.{Local}
 use Rattle.snl_syntax.proofs.Again.{Comes, read, late, comes_at, comes_as, comes_from, bind_comes, pure_comes, expect_comes, first_comes, kind_first, Heads, first_heads, Lacks, first_lacks, differ, many_comes}
-use Rattle.snl_syntax.proofs.TypeLaws.{word_comes, type_name_local, type_comes, stars_comes, TypeStops, first_type_stops}
-use Rattle.snl_syntax.proofs.Follow.{Stops, binds, first_stops, stops_lacks}
+use Rattle.snl_syntax.proofs.TypeLaws.{word_comes, type_name_local, type_comes, type_begins, stars_comes, TypeStops, first_type_stops}
+use Rattle.snl_syntax.proofs.Follow.{Stops, binds, first_stops}
 use Rattle.snl_syntax.proofs.ExpressionLocal.{comma_eats, assignx_local}
 use Rattle.snl_syntax.proofs.ExpressionAgain.{begins_expr, no_comma, comma_comes, sequence_again}
 use Rattle.snl_syntax.proofs.SingleAgain.{assignx_begins, assignx_again}
 use Rattle.snl_syntax.proofs.DeclarationLocal.{next_length_eats, value_step_eats, init_local, declarator_local}
 use Rattle.snl_syntax.proofs.BracedAgain.{goes_on, behind_value, values_comes}
 
-heads_lack : (x : Kind) (p : Kind → Bool) (k : List Seat) → p x ≡ false → Heads p k → Lacks x k
+pub heads_lack : (x : Kind) (p : Kind → Bool) (k : List Seat) → p x ≡ false → Heads p k → Lacks x k
 heads_lack x p [] f h = absurd h
 heads_lack x p (s ∷ k) f h = differ p s.0 x h f
 
@@ -205,11 +205,11 @@ behind_stops : (k : List Seat) → Heads goes_behind k → Stops 12 k
 behind_stops [] h = tt
 behind_stops (s ∷ k) h = behind_kind s.0 h
 
-pointer_first : (x : Pointer) (k m : List Seat) → IsPointer x k m → (mid : List Seat) × First kind.Star k mid
+pub pointer_first : (x : Pointer) (k m : List Seat) → IsPointer x k m → (mid : List Seat) × First kind.Star k mid
 pointer_first pointers.Plain k m is = (m, is)
 pointer_first pointers.Const k m is = (is.0, is.1)
 
-stars_stop : (xs : List Pointer) (k rest : List Seat) → Each IsPointer xs k rest → TypeStops rest → TypeStops k
+pub stars_stop : (xs : List Pointer) (k rest : List Seat) → Each IsPointer xs k rest → TypeStops rest → TypeStops k
 stars_stop [] k rest e h = subst TypeStops (sym e) h
 stars_stop (x ∷ xs) k rest e h = let f = pointer_first x k e.0 e.1 in first_type_stops kind.Star k f.0 refl refl f.1
 
@@ -234,9 +234,23 @@ module _ (free : ℕ) (Inner : Expr → List Seat → List Seat → Type 0) (Val
   init_lacks None k rest is h = subst (Lacks kind.OpenBracket) (sym is) (heads_lack kind.OpenBracket goes_behind rest refl h)
   init_lacks (Some x) k rest is h = first_lacks kind.Equal kind.OpenBracket k is.mid refl is.equal
 
+  -- what stands behind a declarator's name
+  name_lacks : (x : Kind) → same kind.OpenBracket x ≡ false → same kind.Equal x ≡ false → goes_behind x ≡ false → (ls : List (Option Expr)) (t : Option Init) (k mid rest : List Seat) → Each (IsLength Inner) ls k mid → Perhaps (IsBehindEqual Value) t mid rest → Heads goes_behind rest → Lacks x k
+  name_lacks x b e g (l ∷ ls) t k mid rest each is h = first_lacks kind.OpenBracket x k each.1.m1 b each.1.opening
+  name_lacks x b e g [] (Some v) k mid rest each is h = subst (Lacks x) (sym each) (first_lacks kind.Equal x mid is.mid e is.equal)
+  name_lacks x b e g [] None k mid rest each is h = subst (Lacks x) (sym (each ∙ is)) (heads_lack x goes_behind rest g h)
+
+  declarator_from_comes : (t : Declarator) (k mid rest : List Seat) → Each (IsLength Inner) t.lengths k mid → Perhaps (IsBehindEqual Value) t.init mid rest → Heads goes_behind rest → Comes free (declarator_from inner value t.pointers t.name k) t rest
+  unfolding declarator_from
+  declarator_from_comes t k mid rest each is h =
+      bind_comes free (lengths inner k) _ t.lengths mid t rest (lengths_comes free Inner inner li again begins t.lengths k mid each (init_lacks t.init mid rest is h))
+      (bind_comes free (init_part value mid) _ t.init rest t rest (init_part_comes t.init mid rest is h) (pure_comes free t rest))
+
   declarator_comes : (t : Declarator) (k rest : List Seat) → IsDeclarator Inner Value t k rest → Heads goes_behind rest → Comes free (declarator inner value k) t rest
-  unfolding declarator declarator_from
-  declarator_comes t k rest is h = bind_comes free (stars k) _ (t.pointers) is.m1 (t) rest (stars_comes free t.pointers k is.m1 is.stars (first_lacks kind.Name kind.Const is.m1 is.m2 refl (t.name, is.name)) (first_lacks kind.Name kind.Star is.m1 is.m2 refl (t.name, is.name))) (bind_comes free (expect kind.Name is.m1) _ (t.name) is.m2 (t) rest (expect_comes free kind.Name t.name is.m1 is.m2 is.name) (bind_comes free (lengths inner is.m2) _ (t.lengths) is.m3 (t) rest (lengths_comes free Inner inner li again begins t.lengths is.m2 is.m3 is.lengths (init_lacks t.init is.m3 rest is.init h)) (bind_comes free (init_part value is.m3) _ (t.init) rest (t) rest (init_part_comes t.init is.m3 rest is.init h) (pure_comes free (t) rest))))
+  unfolding declarator
+  declarator_comes t k rest is h =
+      bind_comes free (stars k) _ t.pointers is.m1 t rest (stars_comes free t.pointers k is.m1 is.stars (first_lacks kind.Name kind.Const is.m1 is.m2 refl (t.name, is.name)) (first_lacks kind.Name kind.Star is.m1 is.m2 refl (t.name, is.name)))
+      (bind_comes free (expect kind.Name is.m1) _ t.name is.m2 t rest (expect_comes free kind.Name t.name is.m1 is.m2 is.name) (declarator_from_comes t is.m2 is.m3 rest is.lengths is.init h))
 
   comma_behind : (x : Declarator) (k m : List Seat) → IsBehindComma (IsDeclarator Inner Value) x k m → Heads goes_behind k
   comma_behind x k m is = first_heads kind.Comma goes_behind k is.mid refl is.comma
@@ -254,6 +268,15 @@ module _ (free : ℕ) (Inner : Expr → List Seat → List Seat → Type 0) (Val
       bind_comes free (many (next_comma (declarator inner value)) (first ∷ []) k) _ (first ∷ xs) mid _ rest
       (many_comes free (next_comma (declarator inner value)) (comma_eats (declarator inner value) (declarator_local inner value li lv)) (IsBehindComma (IsDeclarator Inner Value)) (Heads goes_behind) comma_behind next_declarator (first ∷ []) xs k mid each (first_heads kind.Semicolon goes_behind mid rest refl f) (no_comma free (declarator inner value) mid (first_lacks kind.Semicolon kind.Comma mid rest refl f)))
       (bind_comes free (expect kind.Semicolon mid) _ f.0 rest _ rest (first_comes free kind.Semicolon mid rest f) (pure_comes free _ rest))
+
+  -- a declaration from behind its first name, where no bracket stands
+  pub declaration_from_comes : (t : QualifiedType) (x : Declarator) (xs : List Declarator) (k m1 m2 mid rest : List Seat) → Each (IsLength Inner) x.lengths k m1 → Perhaps (IsBehindEqual Value) x.init m1 m2 → Each (IsBehindComma (IsDeclarator Inner Value)) xs m2 mid → First kind.Semicolon mid rest → Lacks kind.OpenParen k × Comes free (declaration_from inner value t x.pointers x.name k) (record { of = t; declarators = x ∷ xs }) rest
+  unfolding declaration_from
+  declaration_from_comes t x xs k m1 m2 mid rest each is more f =
+      let h = follow_more xs m2 mid rest more f in (
+        name_lacks kind.OpenParen refl refl refl x.lengths x.init k m1 m2 each is h,
+        bind_comes free (declarator_from inner value x.pointers x.name k) _ x m2 _ rest (declarator_from_comes x k m1 m2 each is h) (more_comes t x xs m2 mid rest more f),
+      )
 
   declarator_stops : (t : Declarator) (k rest : List Seat) → IsDeclarator Inner Value t k rest → TypeStops k
   declarator_stops t k rest is = stars_stop t.pointers k is.m1 is.stars (first_type_stops kind.Name is.m1 is.m2 refl refl (t.name, is.name))
@@ -278,3 +301,8 @@ unfolding declaration
 declaration_again free extra (suc depth) t k rest is = declaration_in_comes free (IsAssignx free extra depth) (IsInit free extra (suc depth)) (assignx depth) (init (suc depth)) (assignx_local depth) (init_local (suc depth)) (assignx_again free extra depth) (assignx_begins free extra depth) (init_again free extra (suc depth)) t k rest is
 declaration_again free (suc extra) zero t k rest is = late k refl is.0
 declaration_again free zero zero t k rest is = absurd is
+
+pub declaration_begins : (free extra depth : ℕ) (t : Declaration) (k rest : List Seat) → IsDeclaration free extra depth t k rest → begins_type (kind_at k) ≡ true
+declaration_begins free extra (suc depth) t k rest is = type_begins t.of k is.m1 is.of_type
+declaration_begins free (suc extra) zero t k rest is = type_begins t.of k is.1.m1 is.1.of_type
+declaration_begins free zero zero t k rest is = absurd is

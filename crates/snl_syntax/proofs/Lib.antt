@@ -33,4 +33,6 @@ pub mod DeclarationAgain
 pub mod StatementLocal
 pub mod StatementViable
 pub mod StatementAgain
+pub mod FunctionAgain
+pub mod TypedAgain
 pub mod ItemEnds
