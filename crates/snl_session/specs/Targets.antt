@@ -1,6 +1,6 @@
 -- The targets of a state: the names behind its transitions, and those in statements `state NAME;` of its transitions' blocks, however
 -- deep. Statements in its blocks at entry and exit are none.
-use Rattle.std.specs.Prelude.{ℕ, List, [], ◌∷◌, ◌++◌, map, Option, Some, None}
+use Rattle.std.specs.Prelude.{ℕ, List, [], ◌∷◌, ◌++◌, map, option_map, Option, Some, None}
 use Rattle.std.specs.List.{concat, flat_map}
 use Rattle.snl_syntax.specs.declared.tree.expression.Expr.{Expr}
 use Rattle.snl_syntax.specs.declared.tree.item.Item.{Item}
@@ -19,15 +19,15 @@ abbrev pub if_some : Option (List ℕ) → List ℕ
 if_some None = []
 if_some (Some ns) = ns
 
-abbrev pub of_bodies : List (Expr × List ℕ) → List ℕ
-of_bodies [] = []
-of_bodies (arm ∷ arms) = arm.1 ++ of_bodies arms
+abbrev pub of_bodies : List (Expr × List ℕ) → List ℕ → List ℕ
+of_bodies [] last = last
+of_bodies (arm ∷ arms) last = arm.1 ++ of_bodies arms last
 
 -- One level of a statement, with what each statement in it names in its place.
 abbrev pub stmt_step : Stmt-F (List ℕ) (List ℕ) → List ℕ
 stmt_step (Stmt-F.State word name) = name ∷ []
 stmt_step (Stmt-F.Block ms) = concat ms
-stmt_step (Stmt-F.If arms other) = of_bodies arms ++ if_some other
+stmt_step (Stmt-F.If arms other) = of_bodies arms (if_some other)
 stmt_step (Stmt-F.While e s) = s
 stmt_step (Stmt-F.For head s) = s
 stmt_step _ = []
@@ -46,8 +46,8 @@ named_by_member = fold-Member (List ℕ) (List ℕ) member_step stmt_step
 abbrev pub named_by_block : List Member → List ℕ
 named_by_block ms = concat (map named_by_member ms)
 
-abbrev pub named_by_arms : List (Expr × Stmt) → List ℕ
-named_by_arms arms = of_bodies (map (λ arm. (arm.0, named_by_stmt arm.1)) arms)
+abbrev pub named_by_choice : List (Expr × Stmt) → Option Stmt → List ℕ
+named_by_choice arms other = of_bodies (map (λ arm. (arm.0, named_by_stmt arm.1)) arms) (if_some (option_map named_by_stmt other))
 
 abbrev pub named_by_target : Target → List ℕ
 named_by_target (target.State name) = name ∷ []

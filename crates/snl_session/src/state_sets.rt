@@ -2,7 +2,7 @@
 //! It knows nothing of lines, nor of variables.
 #![tactic(auto)]
 
-ghost use Rattle.std.specs.Prelude.{◌≡◌, ◌∷◌, [], ◌++◌, Some, All, IfOk, IfSome, OnOk, filter, flat_map, if◌then◌else◌, map, not, option_to_list, take_while, None};
+ghost use Rattle.std.specs.Prelude.{◌≡◌, ◌++◌, All, IfOk, IfSome, OnOk, filter, flat_map, if◌then◌else◌, map, not, option_to_list, take_while, None};
 ghost use Rattle.std.specs.List.{filter_map, slice_get};
 ghost use Rattle.snl_lex.specs.Pieces.{LiesIn};
 ghost use Rattle.snl_session.specs.Parts.{IsPart, part_of, part_stays};
@@ -34,7 +34,10 @@ fn stays_in_set(part: &Part) -> bool
 fn in_open_set(parts: &[Part]) -> &[Part]
     ensures { result.now ≡ take_while part_stays parts.now }
 {
-    let len = parts.iter().take_while(|part| stays_in_set(part)).count();
+    let mut len = 0;
+    while len < parts.len() && stays_in_set(&parts[len]) {
+        len += 1;
+    }
     &parts[..len]
 }
 
@@ -90,24 +93,27 @@ fn at_name(code: Code, name: Piece) -> Finding
     }
 }
 
-// Takes the name of a state, and adds E09 if the state is sound and an earlier one has the name.
+// Takes the name of an item that is a state, and adds E09 if the item is sound and an earlier state has the name.
 fn add_state(
     text: &[u8],
-    name: Piece,
+    name: Option<Piece>,
     is_sound: bool,
     names: &mut Vec<Piece>,
     found: &mut Vec<Finding>,
 ) -> Result<(), OutOfMemory>
     requires all { All (LiesIn text.now) names.old.items }
-    requires one { LiesIn text.now name }
-    ensures names { OnOk result (names.new.items ≡ names.old.items ++ name ∷ []) }
+    requires one { IfSome name (LiesIn text.now) }
+    ensures names { OnOk result (names.new.items ≡ names.old.items ++ option_to_list name) }
+    ensures lie { OnOk result (All (LiesIn text.now) names.new.items) }
     ensures found { OnOk result (found.new.items ≡ found.old.items
-        ++ map (at_name Code.E09) (option_to_list (if is_sound then name_if (is_among text.now names.old.items) (Some name) else None))) }
+        ++ map (at_name Code.E09) (option_to_list (if is_sound then name_if (is_among text.now names.old.items) name else None))) }
 {
-    if is_sound && is_among(text, names, name) {
-        found.push(at_name(Code::E09, name))?;
+    if let Some(name) = name {
+        if is_sound && is_among(text, names, name) {
+            found.push(at_name(Code::E09, name))?;
+        }
+        names.push(name)?;
     }
-    names.push(name)?;
     Ok(())
 }
 
@@ -128,11 +134,20 @@ fn add_repeated(
 {
     let mut names = Vec::new(alloc);
     for part in set {
-        if let Some(name) = name_behind(text, &tokens[part.start..part.stop]) {
-            add_state(text, name, part.tree.is_some(), &mut names, found)?;
-        }
+        let name = name_behind(text, &tokens[part.start..part.stop]);
+        add_state(text, name, part.tree.is_some(), &mut names, found)?;
     }
     Ok(names)
+}
+
+// The token with this number.
+fn token_at(text: &[u8], tokens: &[Piece], number: usize) -> Option<Piece>
+    requires { All (LiesIn text.now) tokens.now }
+    ensures token { result ≡ slice_get tokens.now number }
+    ensures lies { IfSome result (LiesIn text.now) }
+{
+    let _ = text;
+    tokens.get(number).copied()
 }
 
 // Adds E10 at a target, if it is no state.
@@ -155,6 +170,25 @@ fn add_if_unknown(
     Ok(())
 }
 
+// Adds E10 at those of an item's tokens with these numbers that are no states.
+fn add_those_unknown(
+    text: &[u8],
+    tokens: &[Piece],
+    names: &[Piece],
+    numbers: &[usize],
+    found: &mut Vec<Finding>,
+) -> Result<(), OutOfMemory>
+    requires tokens { All (LiesIn text.now) tokens.now }
+    requires names { All (LiesIn text.now) names.now }
+    ensures { OnOk result (found.new.items ≡ found.old.items
+        ++ map (at_name Code.E10) (filter (λ p. not (is_among text.now names.now p)) (filter_map (slice_get tokens.now) numbers.now))) }
+{
+    for number in numbers {
+        add_if_unknown(text, names, token_at(text, tokens, *number), found)?;
+    }
+    Ok(())
+}
+
 // Adds E10 at those targets of an item that are no states.
 fn add_unknown(
     alloc: Global,
@@ -170,10 +204,7 @@ fn add_unknown(
         ++ map (at_name Code.E10) (filter (λ p. not (is_among text.now names.now p)) (filter_map (slice_get tokens.now) (targets_of tree.now)))) }
 {
     let numbers = targets_of(alloc, tree)?;
-    for number in &numbers {
-        add_if_unknown(text, names, tokens.get(*number).copied(), found)?;
-    }
-    Ok(())
+    add_those_unknown(text, tokens, names, &numbers, found)
 }
 
 // Adds E10 at the targets in a state set that are no states.
@@ -226,12 +257,10 @@ pub fn add_found_in_sets(
     requires parts { All (IsPart tokens.now) parts.now }
     ensures { OnOk result (found.new.items ≡ found.old.items ++ found_in_sets text.now (map (part_of tokens.now) parts.now)) }
 {
-    let mut rest = parts;
-    while let [first, behind @ ..] = rest {
-        if opens_set(first) {
-            add_found_in_set(alloc, text, tokens, in_open_set(behind), found)?;
+    for (i, part) in parts.iter().enumerate() {
+        if opens_set(part) {
+            add_found_in_set(alloc, text, tokens, in_open_set(&parts[i + 1..]), found)?;
         }
-        rest = behind;
     }
     Ok(())
 }

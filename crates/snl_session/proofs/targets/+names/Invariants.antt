@@ -1,5 +1,5 @@
-use Rattle.std.proofs.Common.{◌≡◌, ◌++◌, drop, map}
-use Rattle.snl_session.specs.Targets.{named_by_block, named_by_arms}
+use Rattle.std.proofs.Common.{◌≡◌, ◌++◌, drop}
+use Rattle.snl_session.specs.Targets.{named_by_block, named_by_choice}
 use Rattle.snl_session.proofs.targets.+names.Given as goal
 
 -- what is named so far and by the rest is what all name
@@ -7,4 +7,4 @@ abbrev pub invariant-add_block-loop-member : goal.invariant-add_block-loop-membe
 invariant-add_block-loop-member l = l.named.items ++ named_by_block (drop l.member-index l.members) ≡ l.initial.named.items ++ named_by_block l.members
 
 abbrev pub invariant-add_statement-loop-arm : goal.invariant-add_statement-loop-arm
-invariant-add_statement-loop-arm l = l.named.items ++ named_by_arms (drop l.arm-index l.arm-items) ≡ l.initial.named.items ++ named_by_arms l.arm-items
+invariant-add_statement-loop-arm l = l.named.items ++ named_by_choice (drop l.arm-index l.arm-items) l.other ≡ l.initial.named.items ++ named_by_choice l.arm-items l.other
