@@ -2,14 +2,13 @@
 //! It knows nothing of what the trees mean.
 #![tactic(auto)]
 
-ghost use Rattle.std.specs.Prelude.{◌≡◌, ◌<◌, ◌≤◌, All, IfOk, MatchResult, None, Some, filter, length, map};
+ghost use Rattle.std.specs.Prelude.{◌≡◌, ◌<◌, ◌≤◌, ◌++◌, All, IfOk, MatchResult, None, OnOk, Some, filter, length, map, option_to_list};
 ghost use Rattle.std.specs.List.{filter_map};
-ghost use Rattle.snl_cut.specs.Cut.{IsCut, ends_of, members};
-ghost use Rattle.snl_lex.specs.Pieces.{LiesIn, is_token};
-ghost use Rattle.snl_syntax.specs.Items.{item};
-ghost use Rattle.snl_session.specs.Faults.{at_token, fault_in};
-ghost use Rattle.snl_session.specs.Parts.{IsPart, part_of};
-ghost use Rattle.snl_session.specs.Program.{mark_in, program_item, tree_in};
+ghost use Rattle.snl_cut.specs.Cut.{members};
+ghost use Rattle.snl_lex.specs.Pieces.{LiesIn, is_token, tokens_of};
+ghost use Rattle.snl_session.specs.Faults.{at_token, fault_in, faults_of};
+ghost use Rattle.snl_session.specs.Parts.{EndsWithin, IsPart, part_of, tokens_between};
+ghost use Rattle.snl_session.specs.Program.{items_of, mark_in, program_item, tree_in};
 
 use crate::codes::Code;
 use crate::findings::Finding;
@@ -97,52 +96,67 @@ fn parsed(
     }
 }
 
-impl Program {
-    // Takes the next item, with these tokens, into the program.
-    fn take(
-        &mut self,
-        alloc: Global,
-        text: &[u8],
-        tokens: &[Piece],
-        start: usize,
-        stop: usize,
-        work: &mut Count,
-    ) -> Result<(), OutOfMemory> {
-        let tree = match parsed(alloc, text, &tokens[start..stop], work)? {
-            Ok(tree) => Some(tree),
-            Err(fault) => {
-                self.faults.push(fault)?;
-                None
-            }
-        };
-        self.parts.push(Part { start, stop, tree })?;
-        Ok(())
-    }
+// The next item, which has the tokens from one number up to another. Where it is faulty, adds what is found at it.
+fn next_part(
+    alloc: Global,
+    text: &[u8],
+    tokens: &[Piece],
+    start: usize,
+    stop: usize,
+    faults: &mut Vec<Finding>,
+    work: &mut Count,
+) -> Result<Part, OutOfMemory>
+    requires some { start < stop }
+    requires inside { stop ≤ length tokens.now }
+    requires within { All (LiesIn text.now) tokens.now }
+    ensures item { IfOk result (λ part. part_of tokens.now part ≡ program_item text.now (tokens_between tokens.now start stop)) }
+    ensures inside { IfOk result (λ part. IsPart tokens.now part) }
+    ensures faults { OnOk result (faults.new.items ≡ faults.old.items ++ option_to_list (fault_in text.now (tokens_between tokens.now start stop))) }
+{
+    let tree = match parsed(alloc, text, &tokens[start..stop], work)? {
+        Ok(tree) => Some(tree),
+        Err(fault) => {
+            faults.push(fault)?;
+            None
+        }
+    };
+    Ok(Part { start, stop, tree })
 }
 
-// The items that end at these tokens.
-fn parsed_along(
+// The items that end at these tokens, and what is found at the faulty ones.
+fn parts_along(
     alloc: Global,
     text: &[u8],
     tokens: &[Piece],
     ends: &[usize],
-) -> Result<Program, OutOfMemory> {
-    let mut program = Program {
-        parts: Vec::new(alloc),
-        faults: Vec::new(alloc),
-    };
+) -> Result<Program, OutOfMemory>
+    requires ends { EndsWithin 0 ends.now (length tokens.now) }
+    requires within { All (LiesIn text.now) tokens.now }
+    ensures parts { IfOk result (λ p. map (part_of tokens.now) p.parts.items ≡ map (program_item text.now) (members tokens.now 0 ends.now)) }
+    ensures inside { IfOk result (λ p. All (IsPart tokens.now) p.parts.items) }
+    ensures faults { IfOk result (λ p. p.faults.items ≡ filter_map (fault_in text.now) (members tokens.now 0 ends.now)) }
+{
+    let mut parts = Vec::new(alloc);
+    let mut faults = Vec::new(alloc);
     let mut work = Count::new();
     let mut start = 0;
     for stop in ends {
-        program.take(alloc, text, tokens, start, *stop, &mut work)?;
+        let part = next_part(alloc, text, tokens, start, *stop, &mut faults, &mut work)?;
+        parts.push(part)?;
         start = *stop;
     }
-    Ok(program)
+    Ok(Program { parts, faults })
 }
 
 /// The items that the tokens of a text are cut into, and what is found at the faulty ones.
-pub fn program_of(alloc: Global, text: &[u8], tokens: &[Piece]) -> Result<Program, OutOfMemory> {
+pub fn program_of(alloc: Global, text: &[u8], tokens: &[Piece]) -> Result<Program, OutOfMemory>
+    requires tokens { tokens.now ≡ tokens_of text.now }
+    requires within { All (LiesIn text.now) tokens.now }
+    ensures parts { IfOk result (λ p. map (part_of tokens.now) p.parts.items ≡ items_of text.now) }
+    ensures inside { IfOk result (λ p. All (IsPart tokens.now) p.parts.items) }
+    ensures faults { IfOk result (λ p. p.faults.items ≡ faults_of text.now) }
+{
     let marks = marks_of(alloc, text, tokens)?;
     let ends = cut_all(alloc, &Tokens, &marks, &mut Count::new())?;
-    parsed_along(alloc, text, tokens, &ends)
+    parts_along(alloc, text, tokens, &ends)
 }
