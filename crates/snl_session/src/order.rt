@@ -23,7 +23,8 @@ fn order_of(a: &Finding, b: &Finding) -> Ordering
 pub fn sort(found: &mut Vec<Finding>) -> Result<(), OutOfMemory>
     ensures { OnOk result (found.new.items ≡ in_order found.old.items) }
 {
-    found
-        .sort_by(|a, b| order_of(a, b))
-        .map_err(|_| OutOfMemory)
+    match found.sort_by(|a, b| order_of(a, b)) {
+        Ok(()) => Ok(()),
+        Err(_) => Err(OutOfMemory),
+    }
 }
