@@ -1,16 +1,17 @@
 -- The order of findings is total, and only equal ones tie in it.
-use Rattle.std.proofs.Common.{◌≡◌, ℕ, true, false, cond, List, [], ◌∷◌, Option, Some, refl, ap, sym, ◌∙◌}
+use Rattle.std.proofs.Common.{arith, ◌≡◌, ℕ, ◌<◌, ◌≤◌, length, get_or, map, true, false, cond, List, [], ◌∷◌, Option, Some, refl, ap, sym, ◌∙◌}
 use Rattle.std.specs.Cmp.{IsStrictWeakOrder, IsTotalOrder}
 use Rattle.std.specs.Cmp.Lexicographic.{slice_cmp}
 use Rattle.std.specs.FinMap.{nat_cmp-IsAntisymmetric, slice_cmp-IsAntisymmetric}
 use Rattle.std.specs.List.{find}
 use Rattle.std.specs.Str.{bytes_eq}
-use Rattle.std.specs.List.Sorted.{IsPermutation, IsSortedBy}
+use Rattle.std.specs.List.Sorted.{IsNonDecreasing, IsPermutation, IsSortedBy}
 use Rattle.std.specs.Ordering.{is_lt, nat_cmp, ordering_reverse, ordering_then}
 use Rattle.std.specs.declared.cmp.Ordering.{Ordering}
 use Rattle.std.specs.declared.cmp.Ordering.TheVariants.{Less, Equal, Greater}
-use Rattle.std.proofs.lemmas.Cmp.{nat_cmp_total, nat_list_cmp_total, on_total, then_total}
-use Rattle.std.proofs.lemmas.List.Sorted.{ranks_by, sum_by-IsPermutation}
+use Rattle.std.proofs.lemmas.Cmp.{nat_cmp_total, nat_list_cmp_total, on_total, ranked, then_total}
+use Rattle.std.proofs.lemmas.List.Sorted.{ranks_by, sorted_far, sum_by-IsPermutation}
+use Rattle.std.proofs.lemmas.List.{get_or-map, length-map}
 use Rattle.snl_session.specs.declared.codes.Code.{Code}
 use Rattle.snl_session.specs.declared.codes.Code.TheVariants.{E01, E02, E03, E04, E05, E06, E07, E08, E09, E10, E11, E12, E13, E14, E15, E16, E17, E18, E19, E20, E21, E22, W01, W02, W03, W04, W05}
 use Rattle.snl_session.specs.declared.findings.Finding.{Finding}
@@ -107,3 +108,20 @@ all_put_is (x ∷ xs) = ap (put goes_before ranks same_finding x) (all_put_is xs
 -- findings that are sorted are those in order
 pub sorted_in_order : (xs ys : List Finding) → IsPermutation xs ys → IsSortedBy goes_before ys → ys ≡ in_order xs
 sorted_in_order xs ys moved up = sorted_is goes_before ranks same_finding xs ys (λ f. sum_by-IsPermutation f xs ys moved) up ∙ all_put_is xs
+
+no_less : (a b : ℕ) (r s : Ordering) → r ≡ nat_cmp a b → is_lt (ordering_then r s) ≡ false → b ≤ a
+no_less a b Less s e h = cc
+no_less a b Equal s e h = let same : a ≡ b = ranked a b Equal e in omega arith
+no_less a b Greater s e h = let more : b < a = ranked a b Greater e in omega arith
+
+-- the offsets of findings that are sorted never fall
+pub offsets_rise : (xs : List Finding) → IsSortedBy goes_before xs → IsNonDecreasing (map (λ x. x.offset) xs)
+offsets_rise xs up = λ i j d order within.
+    let some : Finding = record { offset = 0; code = E01; subject = 0 } in
+    let inside : j < length xs = omega (arith, within, length-map xs (λ x. x.offset)) in
+    let first : i < length xs = omega arith in
+    let y = get_or xs j some in
+    let x = get_or xs i some in
+    let rises : x.offset ≤ y.offset =
+    no_less y.offset x.offset (nat_cmp y.offset x.offset) _ refl (sorted_far goes_before ranks xs up i j some order inside) in
+    omega (arith, rises, get_or-map (λ z. z.offset) xs i some d first, get_or-map (λ z. z.offset) xs j some d inside)

@@ -1,6 +1,7 @@
 -- The diagnostics of a text, which the text alone defines.
 use Rattle.std.specs.Prelude.{ℕ, List, ◌++◌, count_by, map, not}
-use Rattle.snl_lex.specs.Lines.{file_of, line_at, line_number_of}
+use Rattle.snl_lex.specs.declared.lines.Line.{Line}
+use Rattle.snl_lex.specs.Lines.{line_at}
 use Rattle.snl_session.specs.declared.findings.Diagnostic.{Diagnostic}
 use Rattle.snl_session.specs.declared.findings.Finding.{Finding}
 use Rattle.snl_session.specs.Codes.{is_error}
@@ -14,8 +15,11 @@ unfoldable pub found : List ℕ → List Finding
 found text = faults_of text ++ found_in_sets text (items_of text)
 
 -- A finding with its line and file.
+abbrev pub on_line : Finding → Line → Diagnostic
+on_line x line = record { offset = x.offset; line = line.number; file = line.file; code = x.code; subject = x.subject }
+
 abbrev pub diagnostic : List ℕ → Finding → Diagnostic
-diagnostic text x = record { offset = x.offset; line = (line_at text x.offset).number; file = (line_at text x.offset).file; code = x.code; subject = x.subject }
+diagnostic text x = on_line x (line_at text x.offset)
 
 -- The diagnostics of a text, by offset and then by code.
 unfoldable pub diagnostics_of : List ℕ → List Diagnostic

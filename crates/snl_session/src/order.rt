@@ -2,7 +2,8 @@
 //! It knows nothing of how they were found.
 #![tactic(auto)]
 
-ghost use Rattle.std.specs.Prelude.{◌≡◌, OnOk};
+ghost use Rattle.std.specs.Prelude.{◌≡◌, OnOk, map};
+ghost use Rattle.std.specs.List.Sorted.{IsNonDecreasing};
 ghost use Rattle.snl_session.specs.Order.{in_order, order_of};
 
 use crate::findings::Finding;
@@ -21,7 +22,8 @@ fn order_of(a: &Finding, b: &Finding) -> Ordering
 
 /// Puts findings in order.
 pub fn sort(found: &mut Vec<Finding>) -> Result<(), OutOfMemory>
-    ensures { OnOk result (found.new.items ≡ in_order found.old.items) }
+    ensures order { OnOk result (found.new.items ≡ in_order found.old.items) }
+    ensures rising { OnOk result (IsNonDecreasing (map (λ x. x.offset) found.new.items)) }
 {
     match found.sort_by(|a, b| order_of(a, b)) {
         Ok(()) => Ok(()),
