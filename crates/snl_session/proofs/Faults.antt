@@ -43,14 +43,14 @@ tree_by text tokens bad h = ap (λ b. cond b None (item_of (kinds_in text tokens
 pub sound : (text : List ℕ) (tokens : List Piece) (tree : Item) → None ≡ position is_bad tokens → item_of (kinds_in text tokens) ≡ Some tree → (tree_in text tokens ≡ Some tree) × (fault_in text tokens ≡ None)
 sound text tokens tree good is = (
   tree_by text tokens None (sym good) ∙ is,
-  ap (λ bad. fault_by_bad bad text tokens) (sym good) ∙ ap (λ t. fault_by_tree t tokens (fault_of (kinds_in text tokens))) is
+  ap (λ bad. fault_by_bad bad text tokens) (sym good) ∙ ap (λ t. fault_by_tree t tokens (fault_of (kinds_in text tokens))) is,
 )
 
 -- a Bad token was found
 pub bad : (text : List ℕ) (tokens : List Piece) (at : ℕ) (d : Piece) → Some at ≡ position is_bad tokens → (tree_in text tokens ≡ None) × (fault_in text tokens ≡ Some (at_token E01 (get_or tokens at d)))
 bad text tokens at d is = (
   tree_by text tokens (Some at) (sym is),
-  ap (λ n. fault_by_bad n text tokens) (sym is) ∙ found_at E01 tokens at d (position-Some is_bad tokens at d (sym is)).0
+  ap (λ n. fault_by_bad n text tokens) (sym is) ∙ found_at E01 tokens at d (position-Some is_bad tokens at d (sym is)).0,
 )
 
 -- no tree was found, and a token is blamed
@@ -58,7 +58,7 @@ pub refused : (text : List ℕ) (tokens : List Piece) (at : ℕ) (d : Piece) →
 refused text tokens at d good is blamed within = (
   tree_by text tokens None (sym good) ∙ is,
   ap (λ n. fault_by_bad n text tokens) (sym good)
-  ∙ ap (λ t. fault_by_tree t tokens (fault_of (kinds_in text tokens))) is
-  ∙ ap (at_number E02 tokens) (sym blamed)
-  ∙ found_at E02 tokens at d within
+      ∙ ap (λ t. fault_by_tree t tokens (fault_of (kinds_in text tokens))) is
+      ∙ ap (at_number E02 tokens) (sym blamed)
+      ∙ found_at E02 tokens at d within,
 )

@@ -32,9 +32,9 @@ ties : (x y : Finding) → goes_before x y ≡ false → goes_before y x ≡ fal
 ties x y h k =
     let go : (r s : Ordering) → r ≡ ordering_reverse s → is_lt r ≡ false → is_lt s ≡ false → r ≡ Equal =
     λ r s. elim s as (λ s. r ≡ ordering_reverse s → is_lt r ≡ false → is_lt s ≡ false → r ≡ Equal) [
-      Less ↦ λ e a b. cc
-    | Equal ↦ λ e a b. e
-    | Greater ↦ λ e a b. let l : is_lt r ≡ true = ap is_lt e in cc
+      | Less ↦ λ e a b. cc
+      | Equal ↦ λ e a b. e
+      | Greater ↦ λ e a b. let l : is_lt r ≡ true = ap is_lt e in cc
     ] in
     go (order_of x y) (order_of y x) (order_total.antisymm x y) h k
 

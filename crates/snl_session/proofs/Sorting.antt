@@ -37,8 +37,8 @@ module _ {X : Type 0} (lt : X → X → Bool) (order : IsStrictWeakOrder lt) (sa
 
   irreflexive : (x : X) → lt x x ≡ false
   irreflexive x =
-    let go : (b : Bool) → lt x x ≡ b → lt x x ≡ false = λ b. elim b as (λ b. lt x x ≡ b → lt x x ≡ false) [ true ↦ λ e. order.one_way x x e | false ↦ λ e. e ] in
-    go (lt x x) refl
+      let go : (b : Bool) → lt x x ≡ b → lt x x ≡ false = λ b. elim b as (λ b. lt x x ≡ b → lt x x ≡ false) [ true ↦ λ e. order.one_way x x e | false ↦ λ e. e ] in
+      go (lt x x) refl
 
   -- what is not before y isn't before x either, where y isn't
   none_further : (x y : X) (zs : List X) → lt y x ≡ false → NoneBefore y zs → NoneBefore x zs
@@ -48,17 +48,17 @@ module _ {X : Type 0} (lt : X → X → Bool) (order : IsStrictWeakOrder lt) (sa
   none_put : (w x : X) (ys : List X) → lt x w ≡ false → NoneBefore w ys → NoneBefore w (put x ys)
   none_put w x [] h below = (h, tt)
   none_put w x (y ∷ ys) h below =
-    elim (lt y x) as (λ b. NoneBefore w (cond b (y ∷ put x ys) (x ∷ y ∷ ys))) [ true ↦ (below.0, none_put w x ys h below.1) | false ↦ (h, below) ]
+      elim (lt y x) as (λ b. NoneBefore w (cond b (y ∷ put x ys) (x ∷ y ∷ ys))) [ true ↦ (below.0, none_put w x ys h below.1) | false ↦ (h, below) ]
 
   ordered_put : (x : X) (ys : List X) → Ordered ys → Ordered (put x ys)
   ordered_put x [] h = (tt, tt)
   ordered_put x (y ∷ ys) h =
-    let go : (b : Bool) → lt y x ≡ b → Ordered (cond b (y ∷ put x ys) (x ∷ y ∷ ys)) =
-    λ b. elim b as (λ b. lt y x ≡ b → Ordered (cond b (y ∷ put x ys) (x ∷ y ∷ ys))) [
-      true ↦ λ e. (none_put y x ys (order.one_way y x e) h.0, ordered_put x ys h.1)
-    | false ↦ λ e. ((e, none_further x y ys e h.0), h)
-    ] in
-    go (lt y x) refl
+      let go : (b : Bool) → lt y x ≡ b → Ordered (cond b (y ∷ put x ys) (x ∷ y ∷ ys)) =
+      λ b. elim b as (λ b. lt y x ≡ b → Ordered (cond b (y ∷ put x ys) (x ∷ y ∷ ys))) [
+        | true ↦ λ e. (none_put y x ys (order.one_way y x e) h.0, ordered_put x ys h.1)
+        | false ↦ λ e. ((e, none_further x y ys e h.0), h)
+      ] in
+      go (lt y x) refl
 
   pub ordered_all : (xs : List X) → Ordered (all_put xs)
   ordered_all [] = tt
@@ -67,10 +67,10 @@ module _ {X : Type 0} (lt : X → X → Bool) (order : IsStrictWeakOrder lt) (sa
   total_put : (f : X → ℕ) (x : X) (ys : List X) → total f (put x ys) ≡ f x + total f ys
   total_put f x [] = omega arith
   total_put f x (y ∷ ys) =
-    elim (lt y x) as (λ b. total f (cond b (y ∷ put x ys) (x ∷ y ∷ ys)) ≡ f x + (f y + total f ys)) [
-      true ↦ omega (arith, total_put f x ys)
-    | false ↦ refl
-    ]
+      elim (lt y x) as (λ b. total f (cond b (y ∷ put x ys) (x ∷ y ∷ ys)) ≡ f x + (f y + total f ys)) [
+        | true ↦ omega (arith, total_put f x ys)
+        | false ↦ refl
+      ]
 
   total_all : (f : X → ℕ) (xs : List X) → total f (all_put xs) ≡ total f xs
   total_all f [] = refl
@@ -83,44 +83,44 @@ module _ {X : Type 0} (lt : X → X → Bool) (order : IsStrictWeakOrder lt) (sa
   none_counted : (x : X) (ys : List X) → NoneBefore x ys → total (before x) ys ≡ 0
   none_counted x [] h = refl
   none_counted x (y ∷ ys) h =
-    let first : before x y ≡ 0 = ap (λ b. cond b 1 0) h.0 in
-    omega (arith, first, none_counted x ys h.1)
+      let first : before x y ≡ 0 = ap (λ b. cond b 1 0) h.0 in
+      omega (arith, first, none_counted x ys h.1)
 
   -- the first of one list in order isn't before that of another with the same elements
   first_least : (x y : X) (xs ys : List X) → Ordered (x ∷ xs) → ((f : X → ℕ) → total f (x ∷ xs) ≡ total f (y ∷ ys)) → lt y x ≡ false
   first_least x y xs ys h sums =
-    let go : (b : Bool) → lt y x ≡ b → lt y x ≡ false =
-    λ b. elim b as (λ b. lt y x ≡ b → lt y x ≡ false) [
-      true ↦ λ e.
-        let one : before x y ≡ 1 = ap (λ b. cond b 1 0) e in
-        let none : before x x ≡ 0 = ap (λ b. cond b 1 0) (irreflexive x) in
-        absurd (omega (arith, one, none, none_counted x xs h.0, sums (before x)))
-    | false ↦ λ e. e
-    ] in
-    go (lt y x) refl
+      let go : (b : Bool) → lt y x ≡ b → lt y x ≡ false =
+      λ b. elim b as (λ b. lt y x ≡ b → lt y x ≡ false) [
+        | true ↦ λ e.
+            let one : before x y ≡ 1 = ap (λ b. cond b 1 0) e in
+            let none : before x x ≡ 0 = ap (λ b. cond b 1 0) (irreflexive x) in
+            absurd (omega (arith, one, none, none_counted x xs h.0, sums (before x)))
+        | false ↦ λ e. e
+      ] in
+      go (lt y x) refl
 
   unique : (xs ys : List X) → Ordered xs → Ordered ys → ((f : X → ℕ) → total f xs ≡ total f ys) → xs ≡ ys
   unique [] [] h k sums = refl
   unique [] (y ∷ ys) h k sums = absurd (omega (arith, sums (λ z. 1)))
   unique (x ∷ xs) [] h k sums = absurd (omega (arith, sums (λ z. 1)))
   unique (x ∷ xs) (y ∷ ys) h k sums =
-    let first : x ≡ y = same x y (first_least y x ys xs k (λ f. sym (sums f))) (first_least x y xs ys h sums) in
-    let rest : xs ≡ ys = unique xs ys h.1 k.1 (λ f. let e : f x ≡ f y = ap f first in omega (arith, e, sums f)) in
-    ap (λ z. z ∷ xs) first ∙ ap (λ zs. y ∷ zs) rest
+      let first : x ≡ y = same x y (first_least y x ys xs k (λ f. sym (sums f))) (first_least x y xs ys h sums) in
+      let rest : xs ≡ ys = unique xs ys h.1 k.1 (λ f. let e : f x ≡ f y = ap f first in omega (arith, e, sums f)) in
+      ap (λ z. z ∷ xs) first ∙ ap (λ zs. y ∷ zs) rest
 
   rest_sorted : (x : X) (xs : List X) → IsSortedBy lt (x ∷ xs) → IsSortedBy lt xs
   rest_sorted x xs up = λ k d low h.
-    ap (λ z. lt z (get_or xs k d)) (sym (get_behind x xs (k + 1) d))
-    ∙ ap (λ z. lt (get_or (x ∷ xs) (k + 1 + 1) d) z) (sym (get_behind x xs k d))
-    ∙ up (k + 1) d (omega arith) (omega arith)
+      ap (λ z. lt z (get_or xs k d)) (sym (get_behind x xs (k + 1) d))
+      ∙ ap (λ z. lt (get_or (x ∷ xs) (k + 1 + 1) d) z) (sym (get_behind x xs k d))
+      ∙ up (k + 1) d (omega arith) (omega arith)
 
   ordered_sorted : (xs : List X) → IsSortedBy lt xs → Ordered xs
   ordered_sorted [] up = tt
   ordered_sorted (x ∷ []) up = (tt, tt)
   ordered_sorted (x ∷ y ∷ ys) up =
-    let rest : Ordered (y ∷ ys) = ordered_sorted (y ∷ ys) (rest_sorted x (y ∷ ys) up) in
-    let first : lt y x ≡ false = up 0 x (omega arith) (omega arith) in
-    ((first, none_further x y ys first rest.0), rest)
+      let rest : Ordered (y ∷ ys) = ordered_sorted (y ∷ ys) (rest_sorted x (y ∷ ys) up) in
+      let first : lt y x ≡ false = up 0 x (omega arith) (omega arith) in
+      ((first, none_further x y ys first rest.0), rest)
 
   pub sorted_is : (xs ys : List X) → ((f : X → ℕ) → sum_by f ys ≡ sum_by f xs) → IsSortedBy lt ys → ys ≡ all_put xs
   sorted_is xs ys sums up = unique ys (all_put xs) (ordered_sorted ys up) (ordered_all xs) (λ f. total_is f ys ∙ sums f ∙ sym (total_is f xs) ∙ sym (total_all f xs))

@@ -19,24 +19,24 @@ loop-i-preserved c =
     let here : map item (drop i parts) ≡ item first ∷ behind =
     ap (map item) (drop_here parts i first c.loop-i-test.true c.index-parts-i.is) in
     elim c.if-opens_set.branch [
-      then-opens_set+in_ok-add_found_in_set w ↦
-        let set : map item w.in_open_set.result.now ≡ take_while stays_in_set behind =
-        ap (map item) (w.in_open_set.ensures ∙ ap (take_while part_stays) (take_rest parts (i + 1)))
-        ∙ open_set c.args.tokens.now (drop (i + 1) parts) in
-        let opens : is_set_begin first.tree ≡ true = sym w.if-opens_set.ensures in
-        added (flat_map (found_in_set c.args.text.now)) (flat_map-append (found_in_set c.args.text.now))
-        (state_sets (map item (drop i parts)))
-        (take_while stays_in_set behind ∷ [])
-        (state_sets behind)
-        _ _ _
-        (ap state_sets here ∙ opened (item first) behind opens)
-        (ap (λ v. v.items) w.found-is
-        ∙ w.in_ok-add_found_in_set.ensures
-        ∙ ap (λ s. c.loop-i.found.items ++ s) (ap (found_in_set c.args.text.now) set ∙ sym (append-nil (found_in_set c.args.text.now (take_while stays_in_set behind)))))
-        c.loop-i.invariant
-    | else-opens_set w ↦
-        let shut : is_set_begin first.tree ≡ false = sym w.if-opens_set.ensures in
-        ap (λ v. v.items ++ found_in_sets c.args.text.now behind) w.found-is
-        ∙ ap (λ s. c.loop-i.found.items ++ flat_map (found_in_set c.args.text.now) s) (sym (ap state_sets here ∙ not_opened (item first) behind shut))
-        ∙ c.loop-i.invariant
+      | then-opens_set+in_ok-add_found_in_set w ↦
+          let set : map item w.in_open_set.result.now ≡ take_while stays_in_set behind =
+          ap (map item) (w.in_open_set.ensures ∙ ap (take_while part_stays) (take_rest parts (i + 1)))
+          ∙ open_set c.args.tokens.now (drop (i + 1) parts) in
+          let opens : is_set_begin first.tree ≡ true = sym w.if-opens_set.ensures in
+          added (flat_map (found_in_set c.args.text.now)) (flat_map-append (found_in_set c.args.text.now))
+          (state_sets (map item (drop i parts)))
+          (take_while stays_in_set behind ∷ [])
+          (state_sets behind)
+          _ _ _
+          (ap state_sets here ∙ opened (item first) behind opens)
+          (ap (λ v. v.items) w.found-is
+          ∙ w.in_ok-add_found_in_set.ensures
+          ∙ ap (λ s. c.loop-i.found.items ++ s) (ap (found_in_set c.args.text.now) set ∙ sym (append-nil (found_in_set c.args.text.now (take_while stays_in_set behind)))))
+          c.loop-i.invariant
+      | else-opens_set w ↦
+          let shut : is_set_begin first.tree ≡ false = sym w.if-opens_set.ensures in
+          ap (λ v. v.items ++ found_in_sets c.args.text.now behind) w.found-is
+          ∙ ap (λ s. c.loop-i.found.items ++ flat_map (found_in_set c.args.text.now) s) (sym (ap state_sets here ∙ not_opened (item first) behind shut))
+          ∙ c.loop-i.invariant
     ]

@@ -23,21 +23,21 @@ loop-part-preserved c =
     let before : c.loop-part.names.items ≡ state_names text (take i set) = c.loop-part.invariant.names in
     record {
       names =
-      c.in_ok-add_state.ensures.names
-      ∙ ap (λ l. l ++ option_to_list c.name_behind-name.result) before
-      ∙ ap (λ o. state_names text (take i set) ++ option_to_list o) named
-      ∙ sym (filter_map_more (state_name text) set i (item part) here);
+          c.in_ok-add_state.ensures.names
+          ∙ ap (λ l. l ++ option_to_list c.name_behind-name.result) before
+          ∙ ap (λ o. state_names text (take i set) ++ option_to_list o) named
+          ∙ sym (filter_map_more (state_name text) set i (item part) here);
       lie = c.in_ok-add_state.ensures.lie;
       found =
-      added (map (at_name E09)) (map-append (at_name E09))
-      (filter_map (repeated_name text set) (enumerate_from i (drop i set)))
-      (option_to_list (repeated_name text set (i, item part)))
-      (filter_map (repeated_name text set) (enumerate_from (i + 1) (drop (i + 1) set)))
-      _ _ _
-      (filter_map_here (repeated_name text set) set i (item part) here)
-      (c.in_ok-add_state.ensures.found
-      ∙ ap (λ b. c.loop-part.found.items ++ map (at_name E09) (option_to_list (if b then name_if (is_among text c.loop-part.names.items) c.name_behind-name.result else None))) sound
-      ∙ ap (λ l. c.loop-part.found.items ++ map (at_name E09) (option_to_list (if is_some part.tree then name_if (is_among text l) c.name_behind-name.result else None))) before
-      ∙ ap (λ o. c.loop-part.found.items ++ map (at_name E09) (option_to_list (if is_some part.tree then name_if (is_among text (state_names text (take i set))) o else None))) named)
-      c.loop-part.invariant.found;
+          added (map (at_name E09)) (map-append (at_name E09))
+          (filter_map (repeated_name text set) (enumerate_from i (drop i set)))
+          (option_to_list (repeated_name text set (i, item part)))
+          (filter_map (repeated_name text set) (enumerate_from (i + 1) (drop (i + 1) set)))
+          _ _ _
+          (filter_map_here (repeated_name text set) set i (item part) here)
+          (c.in_ok-add_state.ensures.found
+          ∙ ap (λ b. c.loop-part.found.items ++ map (at_name E09) (option_to_list (if b then name_if (is_among text c.loop-part.names.items) c.name_behind-name.result else None))) sound
+          ∙ ap (λ l. c.loop-part.found.items ++ map (at_name E09) (option_to_list (if is_some part.tree then name_if (is_among text l) c.name_behind-name.result else None))) before
+          ∙ ap (λ o. c.loop-part.found.items ++ map (at_name E09) (option_to_list (if is_some part.tree then name_if (is_among text (state_names text (take i set))) o else None))) named)
+          c.loop-part.invariant.found;
     }

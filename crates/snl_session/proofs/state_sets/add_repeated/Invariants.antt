@@ -14,5 +14,5 @@ invariant-loop-part l =
       names : l.names.items ≡ state_names l.text (take l.part-index set);
       lie : All (LiesIn l.text) l.names.items;
       found : l.found.items ++ map (at_name E09) (filter_map (repeated_name l.text set) (enumerate_from l.part-index (drop l.part-index set)))
-      ≡ l.initial.found.items ++ map (at_name E09) (repeated_names l.text set);
+          ≡ l.initial.found.items ++ map (at_name E09) (repeated_names l.text set);
     }
