@@ -1,5 +1,5 @@
 -- The order of findings is total, and only equal ones tie in it.
-use Rattle.std.proofs.Common.{arith, ◌≡◌, ℕ, ◌<◌, ◌≤◌, length, get_or, map, true, false, cond, List, [], ◌∷◌, Option, Some, refl, ap, sym, ◌∙◌}
+use Rattle.std.proofs.Common.{arith, ◌≡◌, ℕ, ◌+◌, ◌<◌, ◌≤◌, subst, length, get_or, map, true, false, cond, List, [], ◌∷◌, Option, Some, refl, ap, sym, ◌∙◌}
 use Rattle.std.specs.Cmp.{IsStrictWeakOrder, IsTotalOrder}
 use Rattle.std.specs.Cmp.Lexicographic.{slice_cmp}
 use Rattle.std.specs.FinMap.{nat_cmp-IsAntisymmetric, slice_cmp-IsAntisymmetric}
@@ -16,8 +16,9 @@ use Rattle.snl_session.specs.declared.codes.Code.{Code}
 use Rattle.snl_session.specs.declared.codes.Code.TheVariants.{E01, E02, E03, E04, E05, E06, E07, E08, E09, E10, E11, E12, E13, E14, E15, E16, E17, E18, E19, E20, E21, E22, W01, W02, W03, W04, W05}
 use Rattle.snl_session.specs.declared.findings.Finding.{Finding}
 use Rattle.snl_session.specs.Codes.{name_of}
+use Rattle.snl_session.specs.Diagnostics.{diagnostic, diagnostics_of, found, stands_before}
 use Rattle.snl_session.specs.Order.{goes_before, in_order, order_of, put_in_order}
-use Rattle.snl_session.proofs.Sorting.{all_put, put, sorted_is}
+use Rattle.snl_session.proofs.Sorting.{all_put, all_sorted, put, sorted_is}
 
 order_total : IsTotalOrder order_of
 order_total =
@@ -125,3 +126,27 @@ offsets_rise xs up = λ i j d order within.
     let rises : x.offset ≤ y.offset =
     no_less y.offset x.offset (nat_cmp y.offset x.offset) _ refl (sorted_far goes_before ranks xs up i j some order inside) in
     omega (arith, rises, get_or-map (λ z. z.offset) xs i some d first, get_or-map (λ z. z.offset) xs j some d inside)
+
+in_order_sorted : (xs : List Finding) → IsSortedBy goes_before (in_order xs)
+in_order_sorted xs = subst (IsSortedBy goes_before) (all_put_is xs) (all_sorted goes_before ranks same_finding xs)
+
+no_sooner : (r s t : Ordering) → is_lt (ordering_then r (ordering_then s t)) ≡ false → is_lt (ordering_then r s) ≡ false
+no_sooner Less s t h = h
+no_sooner Equal Less t h = h
+no_sooner Equal Equal t h = refl
+no_sooner Equal Greater t h = refl
+no_sooner Greater s t h = refl
+
+-- the diagnostics of a text are sorted
+pub diagnostics_sorted : (text : List ℕ) → IsSortedBy stands_before (diagnostics_of text)
+unfolding diagnostics_of
+diagnostics_sorted text = λ k d low within.
+    let xs = in_order (found text) in
+    let some : Finding = record { offset = 0; code = E01; subject = 0 } in
+    let inside : k + 1 < length xs = omega (arith, within, length-map xs (diagnostic text)) in
+    let first : k < length xs = omega arith in
+    let y = get_or xs (k + 1) some in
+    let x = get_or xs k some in
+    ap (λ z. stands_before z (get_or (map (diagnostic text) xs) k d)) (get_or-map (diagnostic text) xs (k + 1) some d inside)
+    ∙ ap (λ z. stands_before (diagnostic text y) z) (get_or-map (diagnostic text) xs k some d first)
+    ∙ no_sooner (nat_cmp y.offset x.offset) (slice_cmp nat_cmp (name_of y.code) (name_of x.code)) (nat_cmp y.subject x.subject) (in_order_sorted (found text) k some low inside)

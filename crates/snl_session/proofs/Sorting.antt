@@ -1,5 +1,5 @@
 -- A list in order is the only one with its elements in order.
-use Rattle.std.proofs.Common.{arith, ◌≡◌, ℕ, suc, ◌+◌, ◌<◌, ◌≤◌, Bool, true, false, cond, List, [], ◌∷◌, length, get_or, refl, ap, sym, subst, ◌∙◌, add-one}
+use Rattle.std.proofs.Common.{arith, ◌≡◌, ℕ, zero, suc, ◌+◌, ◌<◌, ◌≤◌, Bool, true, false, cond, List, [], ◌∷◌, length, get_or, refl, ap, sym, subst, ◌∙◌, add-one}
 use Rattle.std.specs.Cmp.{IsStrictWeakOrder}
 use Rattle.std.specs.List.{AllByRecursion, sum_by}
 use Rattle.std.specs.List.Sorted.{IsSortedBy}
@@ -121,6 +121,19 @@ module _ {X : Type 0} (lt : X → X → Bool) (order : IsStrictWeakOrder lt) (sa
       let rest : Ordered (y ∷ ys) = ordered_sorted (y ∷ ys) (rest_sorted x (y ∷ ys) up) in
       let first : lt y x ≡ false = up 0 x (omega arith) (omega arith) in
       ((first, none_further x y ys first rest.0), rest)
+
+  sorted_from : (xs : List X) → Ordered xs → (k : ℕ) (d : X) → k + 1 < length xs → lt (get_or xs (k + 1) d) (get_or xs k d) ≡ false
+  sorted_from [] h k d within = absurd (omega arith)
+  sorted_from (x ∷ []) h k d within = absurd (omega arith)
+  sorted_from (x ∷ y ∷ ys) h zero d within = h.0.0
+  sorted_from (x ∷ y ∷ ys) h (suc k) d within =
+      let next : suc k + 1 ≡ (k + 1) + 1 = omega arith in
+      ap (λ n. lt (get_or (x ∷ y ∷ ys) n d) (get_or (y ∷ ys) k d)) next
+      ∙ ap (λ z. lt z (get_or (y ∷ ys) k d)) (get_behind x (y ∷ ys) (k + 1) d)
+      ∙ sorted_from (y ∷ ys) h.1 k d (omega arith)
+
+  pub all_sorted : (xs : List X) → IsSortedBy lt (all_put xs)
+  all_sorted xs = λ k d low within. sorted_from (all_put xs) (ordered_all xs) k d within
 
   pub sorted_is : (xs ys : List X) → ((f : X → ℕ) → sum_by f ys ≡ sum_by f xs) → IsSortedBy lt ys → ys ≡ all_put xs
   sorted_is xs ys sums up = unique ys (all_put xs) (ordered_sorted ys up) (ordered_all xs) (λ f. total_is f ys ∙ sums f ∙ sym (total_is f xs) ∙ sym (total_all f xs))

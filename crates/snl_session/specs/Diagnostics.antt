@@ -1,10 +1,12 @@
 -- The diagnostics of a text, which the text alone defines.
-use Rattle.std.specs.Prelude.{ℕ, List, ◌++◌, count_by, map, not}
+use Rattle.std.specs.Prelude.{ℕ, Bool, List, ◌++◌, count_by, map, not}
+use Rattle.std.specs.Cmp.Lexicographic.{slice_cmp}
+use Rattle.std.specs.Ordering.{is_lt, nat_cmp, ordering_then}
 use Rattle.snl_lex.specs.declared.lines.Line.{Line}
 use Rattle.snl_lex.specs.Lines.{line_at}
 use Rattle.snl_session.specs.declared.findings.Diagnostic.{Diagnostic}
 use Rattle.snl_session.specs.declared.findings.Finding.{Finding}
-use Rattle.snl_session.specs.Codes.{is_error}
+use Rattle.snl_session.specs.Codes.{is_error, name_of}
 use Rattle.snl_session.specs.Faults.{faults_of}
 use Rattle.snl_session.specs.Order.{in_order}
 use Rattle.snl_session.specs.Program.{items_of}
@@ -24,6 +26,10 @@ diagnostic text x = on_line x (line_at text x.offset)
 -- The diagnostics of a text, by offset and then by code.
 unfoldable pub diagnostics_of : List ℕ → List Diagnostic
 diagnostics_of text = map (diagnostic text) (in_order (found text))
+
+-- One diagnostic stands before another: by offset, and at one offset by code, as text.
+abbrev pub stands_before : Diagnostic → Diagnostic → Bool
+stands_before x y = is_lt (ordering_then (nat_cmp x.offset y.offset) (slice_cmp nat_cmp (name_of x.code) (name_of y.code)))
 
 -- How many of them are errors.
 unfoldable pub errors_of : List ℕ → ℕ

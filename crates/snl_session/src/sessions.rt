@@ -33,7 +33,8 @@ impl Model for Session {
 }
 
 impl Session {
-    ghost use Rattle.snl_session.specs.Diagnostics.{diagnostics_of, errors_of, warnings_of};
+    ghost use Rattle.snl_session.specs.Diagnostics.{diagnostics_of, errors_of, stands_before, warnings_of};
+    ghost use Rattle.std.specs.List.Sorted.{IsSortedBy};
     ghost use Rattle.snl_session.specs.Edit.{limit, refusal_of, spliced};
 
     /// A session over the empty text. The only refusal is that of memory.
@@ -74,7 +75,8 @@ impl Session {
 
     /// The diagnostics of the text, sorted by offset and then by code.
     pub fn diagnostics(&self) -> &[Diagnostic]
-        ensures { result.now ≡ diagnostics_of self.now }
+        ensures of_text { result.now ≡ diagnostics_of self.now }
+        ensures sorted { IsSortedBy stands_before result.now }
     {
         self.found.as_slice()
     }
