@@ -29,7 +29,8 @@ opens_set x = is_set_begin x.tree
 abbrev pub stays_in_set : ProgramItem → Bool
 stays_in_set x = not (is_set_begin x.tree || is_set_end x.tree)
 
--- The state sets of a program. The items of a state set are those behind its `ss NAME {`, up to the next `ss NAME {` or `}`.
+-- The state sets of a program. The items of a state set are those behind its `ss NAME {`, up to the next `ss NAME {` or `}`: so an item
+-- stands in the state set of the last `ss NAME {` before it with no `}` between, and without one at program level.
 abbrev pub state_sets : List ProgramItem → List (List ProgramItem)
 state_sets [] = []
 state_sets (x ∷ xs) = if opens_set x then take_while stays_in_set xs ∷ state_sets xs else state_sets xs

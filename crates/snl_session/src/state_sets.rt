@@ -140,29 +140,26 @@ fn add_repeated(
     Ok(names)
 }
 
-// The token with this number.
-fn token_at(text: &[u8], tokens: &[Piece], number: usize) -> Option<Piece>
-    requires { All (LiesIn text.now) tokens.now }
-    ensures token { result ≡ slice_get tokens.now number }
-    ensures lies { IfSome result (LiesIn text.now) }
+fn token_at(tokens: &[Piece], number: usize) -> Option<Piece>
+    ensures { result ≡ slice_get tokens.now number }
 {
-    let _ = text;
     tokens.get(number).copied()
 }
 
-// Adds E10 at a target, if it is no state.
+// Adds E10 at the token with this number, if there is one and it is no state.
 fn add_if_unknown(
     text: &[u8],
+    tokens: &[Piece],
     names: &[Piece],
-    target: Option<Piece>,
+    number: usize,
     found: &mut Vec<Finding>,
 ) -> Result<(), OutOfMemory>
-    requires all { All (LiesIn text.now) names.now }
-    requires one { IfSome target (LiesIn text.now) }
+    requires tokens { All (LiesIn text.now) tokens.now }
+    requires names { All (LiesIn text.now) names.now }
     ensures { OnOk result (found.new.items ≡ found.old.items
-        ++ map (at_name Code.E10) (filter (λ p. not (is_among text.now names.now p)) (option_to_list target))) }
+        ++ map (at_name Code.E10) (filter (λ p. not (is_among text.now names.now p)) (option_to_list (slice_get tokens.now number)))) }
 {
-    if let Some(target) = target {
+    if let Some(target) = token_at(tokens, number) {
         if !is_among(text, names, target) {
             found.push(at_name(Code::E10, target))?;
         }
@@ -184,7 +181,7 @@ fn add_those_unknown(
         ++ map (at_name Code.E10) (filter (λ p. not (is_among text.now names.now p)) (filter_map (slice_get tokens.now) numbers.now))) }
 {
     for number in numbers {
-        add_if_unknown(text, names, token_at(text, tokens, *number), found)?;
+        add_if_unknown(text, tokens, names, *number, found)?;
     }
     Ok(())
 }

@@ -13,11 +13,10 @@ loop-number-preserved c =
     added (λ ps. map (at_name E10) (filter (λ p. not (is_among c.args.text.now c.args.names.now p)) ps))
     (map_filter-append (at_name E10) (λ p. not (is_among c.args.text.now c.args.names.now p)))
     (filter_map (slice_get c.args.tokens.now) (drop i numbers))
-    (option_to_list c.token_at.result)
+    (option_to_list (slice_get c.args.tokens.now (get_or numbers i 0)))
     rest
     _ _ _
     (ap (filter_map (slice_get c.args.tokens.now)) (drop_at numbers i 0 c.loop-number-test.true)
-    ∙ cons_option_is (slice_get c.args.tokens.now (get_or numbers i 0)) rest
-    ∙ ap (λ o. option_to_list o ++ rest) (sym c.token_at.ensures.token))
+    ∙ cons_option_is (slice_get c.args.tokens.now (get_or numbers i 0)) rest)
     c.in_ok-add_if_unknown.ensures
     c.loop-number.invariant
