@@ -1,4 +1,7 @@
-pub mod Fronts
-pub mod Lines
-pub mod Phrases
-pub mod Runs
+pub mod Ends
+pub mod Faults
+pub mod Names
+pub mod Ranks
+pub mod Parts
+pub mod Sorting
+pub mod Steps
