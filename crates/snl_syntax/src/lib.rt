@@ -2,19 +2,13 @@
 #![tactic(auto)]
 
 mod clause;
-#[cfg(test)]
-mod cut_tests;
 mod declaration;
-#[cfg(test)]
-mod declaration_tests;
 mod expression;
 mod fault;
 mod function;
 mod item;
 mod item_cut;
 mod item_laws;
-#[cfg(test)]
-mod item_tests;
 mod kind;
 mod marks;
 mod operator;
