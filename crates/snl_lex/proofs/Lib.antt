@@ -5,5 +5,7 @@ pub mod Values
 pub mod Members
 pub mod Meeting
 pub mod Markers
+pub mod Along
+pub mod SettingSteps
 pub mod Edited
 pub mod Own

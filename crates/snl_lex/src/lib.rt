@@ -6,6 +6,7 @@ ghost use Rattle.std.specs.Prelude.{◌≡◌, ◌+◌, ◌≤◌, drop, length,
 mod alphabet;
 mod cut;
 mod lines;
+mod lines_along;
 mod numbers;
 mod piece;
 mod scan;
@@ -15,6 +16,7 @@ mod words;
 
 pub use cut::{Bytes, Relexed, lex, relex};
 pub use lines::{Line, line_of};
+pub use lines_along::lines_of;
 pub use numbers::int_value;
 pub use piece::{Class, Piece};
 

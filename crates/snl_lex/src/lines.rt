@@ -35,7 +35,7 @@ fn number_place(marker: &[u8]) -> usize
 
 // The number that a marker sets.
 #[tactic(auto, unfolding(crate::specs::Lines::marker_number))]
-fn marker_number(marker: &[u8]) -> Option<u64>
+pub fn marker_number(marker: &[u8]) -> Option<u64>
     requires { 0 < length marker.now }
     ensures number { result ≡ marker_number marker.now }
     ensures small { IfSome result (λ number. number ≤ 2147483647) }
@@ -50,7 +50,7 @@ fn marker_number(marker: &[u8]) -> Option<u64>
 
 // Where in a marker its file stands.
 #[tactic(auto, unfolding(crate::specs::Lines::marker_file))]
-fn marker_file(marker: &[u8]) -> Option<(usize, usize)>
+pub fn marker_file(marker: &[u8]) -> Option<(usize, usize)>
     requires { 0 < length marker.now }
     ensures file { result ≡ marker_file marker.now }
     ensures inside { IfSome result (λ place. place.0 + place.1 ≤ length marker.now) }
@@ -69,7 +69,7 @@ fn marker_file(marker: &[u8]) -> Option<(usize, usize)>
 }
 
 // How many lines end from `from` on and before `to`.
-fn lines_between(text: &[u8], from: usize, to: usize) -> usize
+pub fn lines_between(text: &[u8], from: usize, to: usize) -> usize
     ensures count { result ≡ lines_between text.now from to }
     ensures bound { result ≤ length text.now }
 {
@@ -85,7 +85,7 @@ fn lines_between(text: &[u8], from: usize, to: usize) -> usize
     count
 }
 
-fn has_line_between(text: &[u8], from: usize, to: usize) -> bool
+pub fn has_line_between(text: &[u8], from: usize, to: usize) -> bool
     ensures { result ≡ has_line_between text.now from to }
 {
     let stop = to.min(text.len());
