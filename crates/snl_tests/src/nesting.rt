@@ -18,7 +18,7 @@ struct Nest {
     blamed: usize,
 }
 
-static NESTS: [Nest; 32] = [
+static NESTS: [Nest; 38] = [
     Nest {
         head: "int x = ",
         open: "(",
@@ -165,6 +165,15 @@ static NESTS: [Nest; 32] = [
     },
     Nest {
         head: "exit { ",
+        open: "for (;;) ",
+        inner: ";",
+        close: "",
+        tail: "}",
+        most: 99,
+        blamed: 499,
+    },
+    Nest {
+        head: "exit { ",
         open: "for (a;;) ",
         inner: ";",
         close: "",
@@ -227,6 +236,42 @@ static NESTS: [Nest; 32] = [
         tail: " } exit }",
         most: 97,
         blamed: 107,
+    },
+    Nest {
+        head: "state i { entry ",
+        open: "{",
+        inner: "",
+        close: "}",
+        tail: " }",
+        most: 100,
+        blamed: 104,
+    },
+    Nest {
+        head: "state i { int x = ",
+        open: "(",
+        inner: "1",
+        close: ")",
+        tail: "; }",
+        most: 99,
+        blamed: 106,
+    },
+    Nest {
+        head: "int f() ",
+        open: "{",
+        inner: "",
+        close: "}",
+        tail: "",
+        most: 101,
+        blamed: 105,
+    },
+    Nest {
+        head: "exit { int x = ",
+        open: "{",
+        inner: "",
+        close: "}",
+        tail: "; }",
+        most: 100,
+        blamed: 105,
     },
     // what stands directly in the innermost braces
     Nest {
@@ -296,6 +341,15 @@ static NESTS: [Nest; 32] = [
         head: "exit ",
         open: "{",
         inner: "while (a) { }",
+        close: "}",
+        tail: "",
+        most: 99,
+        blamed: 103,
+    },
+    Nest {
+        head: "exit ",
+        open: "{",
+        inner: "for (;;) { }",
         close: "}",
         tail: "",
         most: 99,
