@@ -103,7 +103,7 @@ static OPTIONS: [Row; 12] = [
     ("foreign a b;", Some(2)),
 ];
 
-static STATES: [Row; 29] = [
+static STATES: [Row; 30] = [
     ("entry { a = 1; }", None),
     ("entry ;", Some(1)),
     ("entry { };", Some(3)),
@@ -139,6 +139,7 @@ static STATES: [Row; 29] = [
     ("state i { when () { } }", Some(8)),
     ("state i { when () { } state }", Some(9)),
     ("state i { when () { } exit", Some(8)),
+    ("state i { when () { a = b + = c; } exit }", Some(11)),
 ];
 
 #[test]

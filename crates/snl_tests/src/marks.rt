@@ -143,7 +143,7 @@ fn cuts_texts(rt: HostRuntime) -> Result<(), Fail> {
 }
 
 // Texts, and the tokens of the text at which their faulty items are blamed.
-static FAULTS: [(&str, &[usize]); 10] = [
+static FAULTS: [(&str, &[usize]); 11] = [
     ("program p () int x;", &[2, 3]),
     ("int a = {1}, f() { } int x;", &[8]),
     ("int f(int a; int b) { } ;", &[5, 8]),
@@ -154,6 +154,7 @@ static FAULTS: [(&str, &[usize]); 10] = [
     ("int x int f() { } int y;", &[2]),
     ("int\nx\nss s { state i { } }", &[1]),
     ("} } ; int } x", &[3, 5]),
+    ("program p (\"x", &[2]),
 ];
 
 // The numbers, among all tokens, of those that are blamed.

@@ -5,380 +5,78 @@ use snl_syntax::ParseFault;
 use std::alloc::Global;
 use std::test::Fail;
 
-// A text is the head, the opening part so many times, the inner part, the closing part as many times, and the tail.
-struct Nest {
-    head: &'static str,
-    open: &'static str,
-    inner: &'static str,
-    close: &'static str,
-    tail: &'static str,
-    // how many times are within 100 levels
-    most: usize,
-    // the first token within 101 levels, where it is one time more
-    blamed: usize,
-}
+/// A text is a head, an opening part so many times, an inner part, a closing part as many times, and a tail. Behind these
+/// five parts stand how many times are within 100 levels, and the first token within 101, where it is one time more.
+type Nest = (
+    &'static str,
+    &'static str,
+    &'static str,
+    &'static str,
+    &'static str,
+    usize,
+    usize,
+);
 
-static NESTS: [Nest; 38] = [
-    Nest {
-        head: "int x = ",
-        open: "(",
-        inner: "1",
-        close: ")",
-        tail: ";",
-        most: 100,
-        blamed: 104,
-    },
-    Nest {
-        head: "int x = ",
-        open: "a[",
-        inner: "1",
-        close: "]",
-        tail: ";",
-        most: 100,
-        blamed: 205,
-    },
-    Nest {
-        head: "int x = ",
-        open: "f(",
-        inner: "1",
-        close: ")",
-        tail: ";",
-        most: 100,
-        blamed: 205,
-    },
-    Nest {
-        head: "int x = ",
-        open: "f(",
-        inner: "",
-        close: ")",
-        tail: ";",
-        most: 101,
-        blamed: 205,
-    },
-    Nest {
-        head: "int x = ",
-        open: "((int)",
-        inner: "1",
-        close: ")",
-        tail: ";",
-        most: 99,
-        blamed: 401,
-    },
-    Nest {
-        head: "int x = ",
-        open: "(",
-        inner: "sizeof(int)",
-        close: ")",
-        tail: ";",
-        most: 99,
-        blamed: 105,
-    },
-    Nest {
-        head: "int x = ",
-        open: "a ? ",
-        inner: "1",
-        close: " : 2",
-        tail: ";",
-        most: 100,
-        blamed: 205,
-    },
-    Nest {
-        head: "int x = ",
-        open: "{",
-        inner: "1",
-        close: "}",
-        tail: ";",
-        most: 100,
-        blamed: 104,
-    },
-    Nest {
-        head: "int x = ",
-        open: "{",
-        inner: "{}",
-        close: ",}",
-        tail: ";",
-        most: 100,
-        blamed: 104,
-    },
-    Nest {
-        head: "int x[",
-        open: "(",
-        inner: "1",
-        close: ")",
-        tail: "];",
-        most: 99,
-        blamed: 103,
-    },
-    Nest {
-        head: "int f(int x[",
-        open: "(",
-        inner: "1",
-        close: ")",
-        tail: "]);",
-        most: 98,
-        blamed: 105,
-    },
-    Nest {
-        head: "struct s { int x[",
-        open: "(",
-        inner: "1",
-        close: ")",
-        tail: "]; };",
-        most: 98,
-        blamed: 105,
-    },
-    Nest {
-        head: "exit ",
-        open: "{",
-        inner: ";",
-        close: "}",
-        tail: "",
-        most: 100,
-        blamed: 102,
-    },
-    Nest {
-        head: "exit ",
-        open: "{",
-        inner: "",
-        close: "}",
-        tail: "",
-        most: 101,
-        blamed: 102,
-    },
-    Nest {
-        head: "exit { ",
-        open: "if (a) ",
-        inner: ";",
-        close: "",
-        tail: "}",
-        most: 99,
-        blamed: 400,
-    },
-    Nest {
-        head: "exit { ",
-        open: "while (a) ",
-        inner: ";",
-        close: "",
-        tail: "}",
-        most: 99,
-        blamed: 400,
-    },
-    Nest {
-        head: "exit { ",
-        open: "for (;;) ",
-        inner: ";",
-        close: "",
-        tail: "}",
-        most: 99,
-        blamed: 499,
-    },
-    Nest {
-        head: "exit { ",
-        open: "for (a;;) ",
-        inner: ";",
-        close: "",
-        tail: "}",
-        most: 99,
-        blamed: 598,
-    },
-    Nest {
-        head: "exit { ",
-        open: "if (a) ; else while (a) ",
-        inner: ";",
-        close: "",
-        tail: "}",
-        most: 49,
-        blamed: 500,
-    },
-    // an `if` behind an `else` is no level deeper
-    Nest {
-        head: "exit { ",
-        open: "if (a) ; else ",
-        inner: ";",
-        close: "",
-        tail: "}",
-        most: 1000,
-        blamed: 0,
-    },
-    // nor is a prefix, an operator or a suffix
-    Nest {
-        head: "int x = ",
-        open: "- (int) a = ",
-        inner: "1",
-        close: " + f(1)[2]",
-        tail: ";",
-        most: 1000,
-        blamed: 0,
-    },
-    Nest {
-        head: "state i { when (",
-        open: "(",
-        inner: "1",
-        close: ")",
-        tail: ") { } exit }",
-        most: 98,
-        blamed: 104,
-    },
-    Nest {
-        head: "state i { when () { ",
-        open: "{",
-        inner: "",
-        close: "}",
-        tail: " } exit }",
-        most: 99,
-        blamed: 106,
-    },
-    Nest {
-        head: "state i { when () { ",
-        open: "{",
-        inner: "if (1) ;",
-        close: "}",
-        tail: " } exit }",
-        most: 97,
-        blamed: 107,
-    },
-    Nest {
-        head: "state i { entry ",
-        open: "{",
-        inner: "",
-        close: "}",
-        tail: " }",
-        most: 100,
-        blamed: 104,
-    },
-    Nest {
-        head: "state i { int x = ",
-        open: "(",
-        inner: "1",
-        close: ")",
-        tail: "; }",
-        most: 99,
-        blamed: 106,
-    },
-    Nest {
-        head: "int f() ",
-        open: "{",
-        inner: "",
-        close: "}",
-        tail: "",
-        most: 101,
-        blamed: 105,
-    },
-    Nest {
-        head: "exit { int x = ",
-        open: "{",
-        inner: "",
-        close: "}",
-        tail: "; }",
-        most: 100,
-        blamed: 105,
-    },
+static NESTS: [Nest; 36] = [
+    ("int x = ", "(", "1", ")", ";", 100, 104),
+    ("int x = ", "a[", "1", "]", ";", 100, 205),
+    ("int x = ", "f(", "1", ")", ";", 100, 205),
+    ("int x = ", "f(", "", ")", ";", 101, 205),
+    ("int x = ", "((int)", "1", ")", ";", 99, 401),
+    ("int x = ", "(", "sizeof(int)", ")", ";", 99, 105),
+    ("int x = ", "a ? ", "1", " : 2", ";", 100, 205),
+    ("int x = ", "{", "1", "}", ";", 100, 104),
+    ("int x = ", "{", "{}", ",}", ";", 100, 104),
+    ("int x[", "(", "1", ")", "];", 99, 103),
+    ("int f(int x[", "(", "1", ")", "]);", 98, 105),
+    ("struct s { int x[", "(", "1", ")", "]; };", 98, 105),
+    ("exit ", "{", ";", "}", "", 100, 102),
+    ("exit ", "{", "", "}", "", 101, 102),
+    ("exit { ", "if (a) ", ";", "", "}", 99, 400),
+    ("exit { ", "while (a) ", ";", "", "}", 99, 400),
+    ("exit { ", "for (;;) ", ";", "", "}", 99, 499),
+    ("exit { ", "for (a;;) ", ";", "", "}", 99, 598),
+    ("exit { ", "if (a) ; else while (a) ", ";", "", "}", 49, 500),
+    ("state i { when (", "(", "1", ")", ") { } exit }", 98, 104),
+    ("state i { when () { ", "{", "", "}", " } exit }", 99, 106),
+    (
+        "state i { when () { ",
+        "{",
+        "if (1) ;",
+        "}",
+        " } exit }",
+        97,
+        107,
+    ),
+    ("state i { entry ", "{", "", "}", " }", 100, 104),
+    ("state i { int x = ", "(", "1", ")", "; }", 99, 106),
+    ("int f() ", "{", "", "}", "", 101, 105),
+    ("exit { int x = ", "{", "", "}", "; }", 100, 105),
     // what stands directly in the innermost braces
-    Nest {
-        head: "exit ",
-        open: "{",
-        inner: "int x;",
-        close: "}",
-        tail: "",
-        most: 100,
-        blamed: 102,
-    },
-    Nest {
-        head: "exit ",
-        open: "{",
-        inner: "%{c}%",
-        close: "}",
-        tail: "",
-        most: 100,
-        blamed: 102,
-    },
-    Nest {
-        head: "exit ",
-        open: "{",
-        inner: "break;",
-        close: "}",
-        tail: "",
-        most: 100,
-        blamed: 102,
-    },
-    Nest {
-        head: "exit ",
-        open: "{",
-        inner: "return;",
-        close: "}",
-        tail: "",
-        most: 100,
-        blamed: 102,
-    },
-    Nest {
-        head: "exit ",
-        open: "{",
-        inner: "state j;",
-        close: "}",
-        tail: "",
-        most: 100,
-        blamed: 102,
-    },
-    Nest {
-        head: "exit ",
-        open: "{",
-        inner: "int x[] = {};",
-        close: "}",
-        tail: "",
-        most: 100,
-        blamed: 102,
-    },
-    Nest {
-        head: "exit ",
-        open: "{",
-        inner: "if (a) { }",
-        close: "}",
-        tail: "",
-        most: 99,
-        blamed: 103,
-    },
-    Nest {
-        head: "exit ",
-        open: "{",
-        inner: "while (a) { }",
-        close: "}",
-        tail: "",
-        most: 99,
-        blamed: 103,
-    },
-    Nest {
-        head: "exit ",
-        open: "{",
-        inner: "for (;;) { }",
-        close: "}",
-        tail: "",
-        most: 99,
-        blamed: 103,
-    },
-    Nest {
-        head: "exit ",
-        open: "{",
-        inner: "int x[1];",
-        close: "}",
-        tail: "",
-        most: 99,
-        blamed: 104,
-    },
+    ("exit ", "{", "int x;", "}", "", 100, 102),
+    ("exit ", "{", "%{c}%", "}", "", 100, 102),
+    ("exit ", "{", "break;", "}", "", 100, 102),
+    ("exit ", "{", "return;", "}", "", 100, 102),
+    ("exit ", "{", "state j;", "}", "", 100, 102),
+    ("exit ", "{", "int x[] = {};", "}", "", 100, 102),
+    ("exit ", "{", "if (a) { }", "}", "", 99, 103),
+    ("exit ", "{", "while (a) { }", "}", "", 99, 103),
+    ("exit ", "{", "for (;;) { }", "}", "", 99, 103),
+    ("exit ", "{", "int x[1];", "}", "", 99, 104),
 ];
 
-impl Nest {
-    fn text(&self, alloc: Global, times: usize) -> Result<Vec<u8>, Fail> {
-        let mut text = Vec::from_slice(alloc, self.head.as_bytes())?;
-        for _time in 0..times {
-            text.extend_from_slice(self.open.as_bytes())?;
-        }
-        text.extend_from_slice(self.inner.as_bytes())?;
-        for _time in 0..times {
-            text.extend_from_slice(self.close.as_bytes())?;
-        }
-        text.extend_from_slice(self.tail.as_bytes())?;
-        Ok(text)
+fn text_of(alloc: Global, nest: &Nest, times: usize) -> Result<Vec<u8>, Fail> {
+    let (head, open, inner, close, tail, _most, _blamed) = *nest;
+    let mut text = Vec::from_slice(alloc, head.as_bytes())?;
+    for _time in 0..times {
+        text.extend_from_slice(open.as_bytes())?;
     }
+    text.extend_from_slice(inner.as_bytes())?;
+    for _time in 0..times {
+        text.extend_from_slice(close.as_bytes())?;
+    }
+    text.extend_from_slice(tail.as_bytes())?;
+    Ok(text)
 }
 
 // What is answered for a text.
@@ -390,25 +88,34 @@ fn fault_in(alloc: Global, text: &[u8]) -> Result<Option<ParseFault>, Fail> {
 #[test]
 fn a_hundred_levels_are_read(rt: HostRuntime) -> Result<(), Fail> {
     for nest in &NESTS {
-        let most = nest.text(rt.alloc(), nest.most)?;
-        assert_eq!(rt;
-            fault_in(rt.alloc(), &most)?,
-            None,
-            "at {} {}",
-            nest.head,
-            nest.open
-        );
-        if nest.blamed > 0 {
-            let more = nest.text(rt.alloc(), nest.most.saturating_add(1))?;
-            let wanted = Some(ParseFault::NoItem { at: nest.blamed });
-            assert_eq!(rt;
-                fault_in(rt.alloc(), &more)?,
-                wanted,
-                "at {} {}",
-                nest.head,
-                nest.open
-            );
-        }
+        let (head, open, inner, _close, _tail, most, blamed) = *nest;
+        let text = text_of(rt.alloc(), nest, most)?;
+        let found = fault_in(rt.alloc(), &text)?;
+        assert_eq!(rt; found, None, "at {head} {open} {inner}");
+        let text = text_of(rt.alloc(), nest, most.saturating_add(1))?;
+        let found = fault_in(rt.alloc(), &text)?;
+        let wanted = Some(ParseFault::NoItem { at: blamed });
+        assert_eq!(rt; found, wanted, "at {head} {open} {inner}");
+    }
+    Ok(())
+}
+
+// Texts that are as long as they may be, since nothing in them opens a level: a head, a part so many times, and a tail.
+static CHAINS: [(&str, &str, &str); 5] = [
+    // an `if` behind an `else` is no level deeper
+    ("exit { ", "if (a) ; else ", "; }"),
+    // nor is a prefix, an operator, a suffix, a condition or an assignment
+    ("int x = ", "- (int) a + ", "1;"),
+    ("int x = ", "a[1] = ", "b;"),
+    ("int x = ", "a ? 1 : ", "b;"),
+    ("int x = a", "[1](2).b", ";"),
+];
+
+#[test]
+fn chains_have_no_levels(rt: HostRuntime) -> Result<(), Fail> {
+    for (head, part, tail) in &CHAINS {
+        let text = text_of(rt.alloc(), &(head, part, tail, "", "", 0, 0), 1000)?;
+        assert_eq!(rt; fault_in(rt.alloc(), &text)?, None, "at {head} {part}");
     }
     Ok(())
 }
