@@ -1,20 +1,20 @@
 -- What is in the grammar is read again; or a token is blamed that is free of the levels, so that it lies too deep.
-use Rattle.std.proofs.Common.{◌≡◌, ℕ, zero, suc, ◌<◌, ◌≤◌, Bool, true, false, cond, List, [], ◌∷◌, ◌++◌, length, Option, Some, None, Ok, Err, refl, sym, ap, subst, ◌∙◌, append_assoc, arith}
+use Rattle.std.proofs.Common.{◌≡◌, ℕ, zero, suc, Bool, true, false, List, [], ◌∷◌, ◌++◌, Option, Some, None, Ok, Err, refl, sym, ap, subst, ◌∙◌, append_assoc}
 use Rattle.std.specs.Prelude.{option_to_list}
 use Rattle.std.proofs.lemmas.List.{append-nil}
 use Rattle.snl_syntax.specs.declared.kind.Kind.{Kind}
 use Rattle.snl_syntax.specs.declared.stop.Step.{Step}
 use Rattle.snl_syntax.specs.declared.stop.Step.TheVariants as steps
 use Rattle.snl_syntax.specs.Tokens.{Seat, same}
-use Rattle.snl_syntax.specs.Steps.{Outcome, Reader, and_then, pure, refuse, kind_at, expect, accept, more_or, many, again_or, until, within}
-use Rattle.snl_syntax.specs.Grammar.Base.{Each, First, Leaf, Within}
+use Rattle.snl_syntax.specs.Steps.{Outcome, Reader, and_then, pure, kind_at, expect, accept, more_or, many, again_or, until, within}
+use Rattle.snl_syntax.specs.Grammar.Base.{AreFree, Each, First, Leaf, Within}
 use Rattle.snl_syntax.specs.Grammar.Types.{Written}
 use Rattle.snl_syntax.proofs.Same.{same_true, same_refl}
 use Rattle.snl_syntax.proofs.Local.{EatsSome, EatsMore, many_step, until_step, bind_is, bind_no}
 
 pub data Comes (free : ℕ) {A : Type 0} (o : Outcome A) (x : A) (rest : List Seat) : Type 0 where
   read : o ≡ Ok (x, rest) → Comes free o x rest
-  late : (j : List Seat) → o ≡ Err j → length j < free → Comes free o x rest
+  late : (j : List Seat) → o ≡ Err j → AreFree free j → Comes free o x rest
 
 -- the same outcome, and the same value
 pub comes_at : {A : Type 0} (free : ℕ) (o o' : Outcome A) (x : A) (rest : List Seat) → o ≡ o' → Comes free o' x rest → Comes free o x rest

@@ -1,8 +1,8 @@
 -- The tokens from a place on.
-use Rattle.std.proofs.Common.{◌≡◌, ℕ, suc, ◌+◌, ◌-◌, ◌<◌, ◌≤◌, true, false, List, [], ◌∷◌, length, get_or, drop, Some, None, Ok, Err, refl, sym, ap, ◌∙◌, add-one, drop-cons, length-drop, arith, inl, inr}
+use Rattle.std.proofs.Common.{◌≡◌, ℕ, suc, ◌+◌, ◌-◌, ◌<◌, ◌≤◌, true, false, List, [], ◌∷◌, length, get_or, drop, Some, None, Ok, Err, refl, ap, ◌∙◌, add-one, drop-cons, length-drop}
 use Rattle.std.proofs.lemmas.List.{drop_all}
 use Rattle.snl_syntax.specs.declared.kind.Kind.{Kind}
-use Rattle.snl_syntax.specs.Tokens.{Seat, numbered, ahead, same}
+use Rattle.snl_syntax.specs.Tokens.{numbered, ahead, same}
 use Rattle.snl_syntax.specs.Steps.{kind_at, expect, accept}
 
 pub ahead_some : (ks : List Kind) (at : ℕ) (d : Kind) → at < length ks → ahead ks at ≡ ((get_or ks at d, at) ∷ ahead ks (at + 1))
@@ -45,7 +45,7 @@ pub accept_none : (c : Kind) (ks : List Kind) (at : ℕ) → length ks ≤ at �
 unfolding accept
 accept_none c ks at le = rw (ahead_none ks at le) refl
 
-length-numbered : (n : ℕ) (ks : List Kind) → length (numbered n ks) ≡ length ks
+pub length-numbered : (n : ℕ) (ks : List Kind) → length (numbered n ks) ≡ length ks
 length-numbered n [] = refl
 length-numbered n (x ∷ ks) = ap suc (length-numbered (suc n) ks)
 

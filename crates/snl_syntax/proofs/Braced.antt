@@ -1,5 +1,5 @@
 -- Lists in braces: elements with commas between, and a comma behind the last or not. What was read is in the grammar, and what was read before a blamed token can be completed.
-use Rattle.std.proofs.Common.{◌≡◌, ℕ, suc, ◌<◌, Bool, true, false, List, [], ◌∷◌, ◌++◌, length, Option, Some, None, Ok, Err, refl, sym, ap, subst, ◌∙◌}
+use Rattle.std.proofs.Common.{◌≡◌, ℕ, Bool, true, false, List, [], ◌∷◌, ◌++◌, Option, Some, None, refl, sym, ap, subst, ◌∙◌}
 use Rattle.std.specs.Prelude.{option_to_list}
 use Rattle.std.proofs.lemmas.List.{append-nil}
 use Rattle.snl_syntax.specs.declared.kind.Kind.{Kind}
@@ -7,12 +7,12 @@ use Rattle.snl_syntax.specs.declared.kind.Kind.TheVariants as kind
 use Rattle.snl_syntax.specs.declared.stop.Step.{Step}
 use Rattle.snl_syntax.specs.declared.stop.Step.TheVariants as steps
 use Rattle.snl_syntax.specs.Tokens.{Seat}
-use Rattle.snl_syntax.specs.Steps.{Outcome, Reader, and_then, pure, kind_at, expect, until}
-use Rattle.snl_syntax.specs.Grammar.Base.{Each, First, Leaf, Perhaps}
+use Rattle.snl_syntax.specs.Steps.{Reader, and_then, pure, kind_at, expect, until}
+use Rattle.snl_syntax.specs.Grammar.Base.{First, Leaf, Perhaps}
 use Rattle.snl_syntax.specs.Grammar.Types.{Written}
-use Rattle.snl_syntax.specs.Grammar.Expressions.{IsBehindComma, AreCommas}
+use Rattle.snl_syntax.specs.Grammar.Expressions.{IsBehindComma}
 use Rattle.snl_syntax.specs.Grammar.Declarations.{AreBraced}
-use Rattle.snl_syntax.proofs.Viable.{Free, Makes, Viable, Full, Exists, Both, both, Joint, IsNothing, StepOf, Ends, Whole, seats, bind_viable, bind_full, into_full, lighter, choice_viable, expect_full, pure_full, until_viable}
+use Rattle.snl_syntax.proofs.Viable.{Makes, Viable, Full, Exists, Both, both, Joint, IsNothing, StepOf, Ends, Whole, seats, bind_viable, bind_full, into_full, lighter, choice_viable, expect_full, pure_full, until_viable}
 
 -- ---- what may stand there
 

@@ -1,17 +1,16 @@
 -- Lists in braces are read again, and what may stand there.
-use Rattle.std.proofs.Common.{◌≡◌, ℕ, suc, ◌<◌, Bool, true, false, List, [], ◌∷◌, ◌++◌, length, Option, Some, None, Ok, Err, refl, sym, ap, subst, ◌∙◌, append_assoc}
-use Rattle.std.specs.Prelude.{option_to_list}
+use Rattle.std.proofs.Common.{ℕ, Bool, true, false, List, [], ◌∷◌, ◌++◌, None, refl, sym, ap, subst, ◌∙◌, append_assoc}
 use Rattle.snl_syntax.specs.declared.kind.Kind.{Kind}
 use Rattle.snl_syntax.specs.declared.kind.Kind.TheVariants as kind
 use Rattle.snl_syntax.specs.declared.stop.Step.{Step}
 use Rattle.snl_syntax.specs.declared.stop.Step.TheVariants as steps
-use Rattle.snl_syntax.specs.Tokens.{Seat, same}
-use Rattle.snl_syntax.specs.Steps.{Outcome, Reader, and_then, pure, kind_at, expect, until}
-use Rattle.snl_syntax.specs.Grammar.Base.{Each, First, Leaf, Perhaps}
+use Rattle.snl_syntax.specs.Tokens.{Seat}
+use Rattle.snl_syntax.specs.Steps.{Reader, until}
+use Rattle.snl_syntax.specs.Grammar.Base.{Each, First}
 use Rattle.snl_syntax.specs.Grammar.Types.{Written}
-use Rattle.snl_syntax.specs.Grammar.Expressions.{IsBehindComma, AreCommas}
+use Rattle.snl_syntax.specs.Grammar.Expressions.{IsBehindComma}
 use Rattle.snl_syntax.proofs.Local.{EatsMore}
-use Rattle.snl_syntax.proofs.Again.{Comes, comes_at, comes_as, comes_from, until_more_comes, until_last_comes, first_heads, Heads}
+use Rattle.snl_syntax.proofs.Again.{Comes, comes_as, until_more_comes, until_last_comes, first_heads, Heads}
 
 -- a comma or a closing brace
 abbrev pub goes_on : Kind → Bool

@@ -1,5 +1,5 @@
 -- Clauses, options and foreign names are read again.
-use Rattle.std.proofs.Common.{◌≡◌, ℕ, suc, ◌<◌, Bool, true, false, List, [], ◌∷◌, ◌++◌, length, Option, Some, None, Ok, Err, refl, sym, ap, subst, ◌∙◌}
+use Rattle.std.proofs.Common.{◌≡◌, ℕ, Bool, true, false, List, [], ◌∷◌, Option, Some, None, Ok, refl, sym, ap, subst, ◌∙◌}
 use Rattle.snl_syntax.specs.declared.kind.Kind.{Kind}
 use Rattle.snl_syntax.specs.declared.kind.Kind.TheVariants as kind
 use Rattle.snl_syntax.specs.declared.stop.Step.{Step}
@@ -13,16 +13,16 @@ use Rattle.snl_syntax.specs.declared.tree.clause.OptionSign.{OptionSign}
 use Rattle.snl_syntax.specs.declared.tree.clause.OptionSign.TheVariants as signs
 use Rattle.snl_syntax.specs.declared.tree.clause.OptionLine.{OptionLine}
 use Rattle.snl_syntax.specs.Tokens.{Seat, same}
-use Rattle.snl_syntax.specs.Steps.{Outcome, Reader, and_then, pure, refuse, kind_at, expect, accept, word, many, until}
-use Rattle.snl_syntax.specs.Grammar.Base.{Each, First, Leaf, Perhaps}
+use Rattle.snl_syntax.specs.Steps.{kind_at, expect, accept, until}
+use Rattle.snl_syntax.specs.Grammar.Base.{First, Leaf, Perhaps}
 use Rattle.snl_syntax.specs.Grammar.Types.{Written}
 use Rattle.snl_syntax.specs.Grammar.Expressions.{IsBehindComma, AreCommas, AreTexts}
 use Rattle.snl_syntax.specs.Grammar.Declarations.{AreBraced}
-use Rattle.snl_syntax.specs.Grammar.Clauses.{AreForeign, option_mark, IsOptionLine, IsSubscript, IsFlag, IsChannel, anonymous, whole as is_whole, element as is_element, elements as are_elements, IsAssign, IsMonitor, IsSync, syncq_word, IsSyncq, IsClause, assign as is_assign, monitor as is_monitor, sync as is_sync, syncq as is_syncq}
+use Rattle.snl_syntax.specs.Grammar.Clauses.{AreForeign, option_mark, IsOptionLine, IsSubscript, IsFlag, IsChannel, anonymous, whole as is_whole, element as is_element, elements as are_elements, IsAssign, IsMonitor, IsSync, IsSyncq, IsClause, assign as is_assign, monitor as is_monitor, sync as is_sync, syncq as is_syncq}
 use Rattle.snl_syntax.specs.Reading.Expressions.{next_comma, commas, texts}
-use Rattle.snl_syntax.specs.Reading.Clauses.{foreign, sign_by, sign, option_line, subscript, some_subscript, subscript_by, subscript_part, flag, some_flag, flag_by, flag_part, some_queue, queue_by, queue_part, after_comma_by, after_comma, text_step_by, text_step, some_elements, elements_by, elements, whole, channel_to_by, channel_to, named_channel, element, channel_by, channel, assign, monitor, sync, syncq_rest, syncq, syncq_capital, clause_by, clause}
+use Rattle.snl_syntax.specs.Reading.Clauses.{foreign, sign_by, sign, option_line, subscript, some_subscript, subscript_by, subscript_part, flag, some_flag, flag_by, flag_part, some_queue, queue_by, queue_part, after_comma_by, after_comma, text_step_by, text_step, some_elements, elements_by, elements, whole, channel_to_by, channel_to, named_channel, element, channel_by, channel, assign, monitor, sync, syncq_rest, clause_by, clause}
 use Rattle.snl_syntax.proofs.Local.{expect_local}
-use Rattle.snl_syntax.proofs.Again.{Comes, read, comes_at, comes_as, comes_from, bind_comes, pure_comes, expect_comes, first_comes, kind_first, Heads, first_heads, Lacks, first_lacks, differ, written_comes, many_comes}
+use Rattle.snl_syntax.proofs.Again.{Comes, read, comes_at, comes_as, comes_from, bind_comes, pure_comes, expect_comes, first_comes, kind_first, Heads, Lacks, first_lacks, differ, written_comes, many_comes}
 use Rattle.snl_syntax.proofs.TypeLaws.{word_comes}
 use Rattle.snl_syntax.proofs.ExpressionLocal.{comma_eats}
 use Rattle.snl_syntax.proofs.ExpressionAgain.{no_comma, comma_comes, texts_comes}

@@ -1,26 +1,33 @@
 -- Readers of clauses, options and foreign names look no further than one token ahead.
-use Rattle.std.proofs.Common.{◌≡◌, ◌<◌, length, ℕ, Bool, true, false, List, [], ◌∷◌, Option, Some, None, Ok}
+use Rattle.std.proofs.Common.{ℕ, Bool, true, false, [], ◌∷◌, Option, Some, None}
 use Rattle.snl_syntax.specs.declared.kind.Kind.{Kind}
 use Rattle.snl_syntax.specs.declared.kind.Kind.TheVariants as kind
-use Rattle.snl_syntax.specs.declared.stop.Step.{Step}
 use Rattle.snl_syntax.specs.declared.stop.Step.TheVariants as steps
 use Rattle.snl_syntax.specs.declared.tree.clause.Channel.TheVariants as channels
 use Rattle.snl_syntax.specs.declared.tree.clause.Clause.TheVariants as clauses
+use Rattle.snl_syntax.specs.declared.tree.clause.OptionLine.{OptionLine}
+use Rattle.snl_syntax.specs.declared.tree.clause.OptionSign.{OptionSign}
 use Rattle.snl_syntax.specs.declared.tree.clause.OptionSign.TheVariants as signs
-use Rattle.snl_syntax.specs.Tokens.{Seat}
-use Rattle.snl_syntax.specs.Steps.{Reader, and_then, pure, refuse, kind_at, expect, accept, word, many, until}
+use Rattle.snl_syntax.specs.Steps.{and_then, pure, refuse, kind_at, expect, accept, until}
 use Rattle.snl_syntax.specs.Reading.Expressions.{commas, texts}
 use Rattle.snl_syntax.specs.Reading.Clauses.{foreign, sign_by, sign, option_line, subscript, some_subscript, subscript_by, subscript_part, flag, some_flag, flag_by, flag_part, some_queue, queue_by, queue_part, after_comma_by, after_comma, text_step_by, text_step, some_elements, elements_by, elements, whole, channel_to_by, channel_to, named_channel, element, channel_by, channel, assign, monitor, sync, syncq_rest, syncq, syncq_capital, clause_by, clause}
-use Rattle.snl_syntax.proofs.Local.{Local, Eats, EatsSome, EatsMore, bind_local, choice_local, pure_local, refuse_local, expect_local, accept_local, many_local, until_local, bind_eats, expect_eats, eats_more}
+use Rattle.snl_syntax.proofs.Local.{Local, Eats, EatsMore, bind_local, choice_local, pure_local, refuse_local, expect_local, accept_local, until_local, bind_eats, expect_eats, eats_more}
 use Rattle.snl_syntax.proofs.TypeLaws.{word_local}
 use Rattle.snl_syntax.proofs.ExpressionLocal.{commas_local, texts_local}
 use Rattle.snl_syntax.proofs.DeclarationLocal.{last_eats}
 
 -- ---- foreign names and options
 
+foreign_rest : Local (λ k. and_then (commas (expect kind.Name) k) (λ ns. λ l. and_then (expect kind.Semicolon l) (λ _. pure ns)))
+foreign_rest = bind_local (commas (expect kind.Name)) _ (commas_local (expect kind.Name) (expect_local kind.Name)) (λ ns. bind_local (expect kind.Semicolon) _ (expect_local kind.Semicolon) (λ _. pure_local ns))
+
 pub foreign_local : Local foreign
 unfolding foreign
-foreign_local = bind_local (expect kind.Foreign) _ (expect_local kind.Foreign) (λ _. bind_local (commas (expect kind.Name)) _ (commas_local (expect kind.Name) (expect_local kind.Name)) (λ ns. bind_local (expect kind.Semicolon) _ (expect_local kind.Semicolon) (λ _. pure_local ns)))
+foreign_local = bind_local (expect kind.Foreign) _ (expect_local kind.Foreign) (λ _. foreign_rest)
+
+pub foreign_eats : Eats foreign
+unfolding foreign
+foreign_eats = bind_eats (expect kind.Foreign) _ (expect_eats kind.Foreign) (λ _. foreign_rest)
 
 sign_by_local : (o : Option Kind) → Local (sign_by o)
 sign_by_local (Some kind.Plus) = word_local kind.Plus signs.Plus
@@ -31,10 +38,19 @@ sign_local : Local sign
 unfolding sign
 sign_local = choice_local sign_by sign_by_local
 
+abbrev make_option : OptionSign → ℕ → OptionLine
+make_option s n = record { sign = s; letters = n }
+
+option_rest : Local (λ k. and_then (sign k) (λ s. λ l. and_then (expect kind.Name l) (λ n. λ m. and_then (expect kind.Semicolon m) (λ _. pure (make_option s n)))))
+option_rest = bind_local sign _ sign_local (λ s. bind_local (expect kind.Name) _ (expect_local kind.Name) (λ n. bind_local (expect kind.Semicolon) _ (expect_local kind.Semicolon) (λ _. pure_local (make_option s n))))
+
 pub option_line_local : Local option_line
 unfolding option_line
-option_line_local =
-    bind_local (expect kind.Option) _ (expect_local kind.Option) (λ _. bind_local sign _ sign_local (λ s. bind_local (expect kind.Name) _ (expect_local kind.Name) (λ n. bind_local (expect kind.Semicolon) _ (expect_local kind.Semicolon) (λ _. pure_local (record { sign = s; letters = n })))))
+option_line_local = bind_local (expect kind.Option) _ (expect_local kind.Option) (λ _. option_rest)
+
+pub option_line_eats : Eats option_line
+unfolding option_line
+option_line_eats = bind_eats (expect kind.Option) _ (expect_eats kind.Option) (λ _. option_rest)
 
 -- ---- subscripts and flags
 
@@ -157,17 +173,38 @@ channel_local = choice_local channel_by channel_by_local
 
 -- ---- clauses
 
+assign_rest : Local (λ k. and_then (expect kind.Name k) (λ n. λ l. and_then (channel l) (λ x. λ m. and_then (expect kind.Semicolon m) (λ _. pure (clauses.Assign n x)))))
+assign_rest = bind_local (expect kind.Name) _ (expect_local kind.Name) (λ n. bind_local channel _ channel_local (λ x. bind_local (expect kind.Semicolon) _ (expect_local kind.Semicolon) (λ _. pure_local (clauses.Assign n x))))
+
 assign_local : Local assign
 unfolding assign
-assign_local = bind_local (expect kind.Assign) _ (expect_local kind.Assign) (λ _. bind_local (expect kind.Name) _ (expect_local kind.Name) (λ n. bind_local channel _ channel_local (λ x. bind_local (expect kind.Semicolon) _ (expect_local kind.Semicolon) (λ _. pure_local (clauses.Assign n x)))))
+assign_local = bind_local (expect kind.Assign) _ (expect_local kind.Assign) (λ _. assign_rest)
+
+assign_eats : Eats assign
+unfolding assign
+assign_eats = bind_eats (expect kind.Assign) _ (expect_eats kind.Assign) (λ _. assign_rest)
+
+monitor_rest : Local (λ k. and_then (expect kind.Name k) (λ n. λ l. and_then (subscript_part l) (λ s. λ m. and_then (expect kind.Semicolon m) (λ _. pure (clauses.Monitor n s)))))
+monitor_rest = bind_local (expect kind.Name) _ (expect_local kind.Name) (λ n. bind_local subscript_part _ subscript_part_local (λ s. bind_local (expect kind.Semicolon) _ (expect_local kind.Semicolon) (λ _. pure_local (clauses.Monitor n s))))
 
 monitor_local : Local monitor
 unfolding monitor
-monitor_local = bind_local (expect kind.Monitor) _ (expect_local kind.Monitor) (λ _. bind_local (expect kind.Name) _ (expect_local kind.Name) (λ n. bind_local subscript_part _ subscript_part_local (λ s. bind_local (expect kind.Semicolon) _ (expect_local kind.Semicolon) (λ _. pure_local (clauses.Monitor n s)))))
+monitor_local = bind_local (expect kind.Monitor) _ (expect_local kind.Monitor) (λ _. monitor_rest)
+
+monitor_eats : Eats monitor
+unfolding monitor
+monitor_eats = bind_eats (expect kind.Monitor) _ (expect_eats kind.Monitor) (λ _. monitor_rest)
+
+sync_rest : Local (λ k. and_then (expect kind.Name k) (λ n. λ l. and_then (subscript_part l) (λ s. λ i. and_then (flag i) (λ f. λ m. and_then (expect kind.Semicolon m) (λ _. pure (clauses.Sync n s f))))))
+sync_rest = bind_local (expect kind.Name) _ (expect_local kind.Name) (λ n. bind_local subscript_part _ subscript_part_local (λ s. bind_local flag _ flag_local (λ f. bind_local (expect kind.Semicolon) _ (expect_local kind.Semicolon) (λ _. pure_local (clauses.Sync n s f)))))
 
 sync_local : Local sync
 unfolding sync
-sync_local = bind_local (expect kind.Sync) _ (expect_local kind.Sync) (λ _. bind_local (expect kind.Name) _ (expect_local kind.Name) (λ n. bind_local subscript_part _ subscript_part_local (λ s. bind_local flag _ flag_local (λ f. bind_local (expect kind.Semicolon) _ (expect_local kind.Semicolon) (λ _. pure_local (clauses.Sync n s f))))))
+sync_local = bind_local (expect kind.Sync) _ (expect_local kind.Sync) (λ _. sync_rest)
+
+sync_eats : Eats sync
+unfolding sync
+sync_eats = bind_eats (expect kind.Sync) _ (expect_eats kind.Sync) (λ _. sync_rest)
 
 syncq_rest_local : (capital : Bool) → Local (syncq_rest capital)
 unfolding syncq_rest
@@ -177,8 +214,14 @@ syncq_rest_local capital =
 syncq_local : Local syncq
 syncq_local = bind_local (expect kind.Syncq) _ (expect_local kind.Syncq) (λ _. syncq_rest_local false)
 
+syncq_eats : Eats syncq
+syncq_eats = bind_eats (expect kind.Syncq) (λ _. syncq_rest false) (expect_eats kind.Syncq) (λ _. syncq_rest_local false)
+
 syncq_capital_local : Local syncq_capital
 syncq_capital_local = bind_local (expect kind.SyncqCapital) _ (expect_local kind.SyncqCapital) (λ _. syncq_rest_local true)
+
+syncq_capital_eats : Eats syncq_capital
+syncq_capital_eats = bind_eats (expect kind.SyncqCapital) (λ _. syncq_rest true) (expect_eats kind.SyncqCapital) (λ _. syncq_rest_local true)
 
 clause_by_local : (o : Option Kind) → Local (clause_by o)
 clause_by_local (Some kind.Assign) = assign_local
@@ -191,3 +234,18 @@ clause_by_local _ = refuse_local
 pub clause_local : Local clause
 unfolding clause
 clause_local = choice_local clause_by clause_by_local
+
+refuse_eats : {A : Type 0} → Eats {A = A} refuse
+refuse_eats k x m e = absurd cc
+
+clause_by_eats : (o : Option Kind) → Eats (clause_by o)
+clause_by_eats (Some kind.Assign) = assign_eats
+clause_by_eats (Some kind.Monitor) = monitor_eats
+clause_by_eats (Some kind.Sync) = sync_eats
+clause_by_eats (Some kind.Syncq) = syncq_eats
+clause_by_eats (Some kind.SyncqCapital) = syncq_capital_eats
+clause_by_eats _ = refuse_eats
+
+pub clause_eats : Eats clause
+unfolding clause
+clause_eats k x m e = clause_by_eats (kind_at k) k x m e

@@ -1,8 +1,7 @@
 -- Clauses, options and foreign names: what was read is in the grammar, and what was read before a blamed token can be completed.
-use Rattle.std.proofs.Common.{◌≡◌, ℕ, suc, ◌<◌, Bool, true, false, List, [], ◌∷◌, ◌++◌, length, Option, Some, None, Ok, Err, refl, sym, ap, subst, ◌∙◌}
+use Rattle.std.proofs.Common.{◌≡◌, ℕ, Bool, true, false, List, [], ◌∷◌, Option, Some, refl, ap, subst, ◌∙◌}
 use Rattle.snl_syntax.specs.declared.kind.Kind.{Kind}
 use Rattle.snl_syntax.specs.declared.kind.Kind.TheVariants as kind
-use Rattle.snl_syntax.specs.declared.stop.Step.{Step}
 use Rattle.snl_syntax.specs.declared.tree.clause.Channel.{Channel}
 use Rattle.snl_syntax.specs.declared.tree.clause.Channel.TheVariants as channels
 use Rattle.snl_syntax.specs.declared.tree.clause.Flag.{Flag}
@@ -12,15 +11,15 @@ use Rattle.snl_syntax.specs.declared.tree.clause.OptionSign.{OptionSign}
 use Rattle.snl_syntax.specs.declared.tree.clause.OptionSign.TheVariants as signs
 use Rattle.snl_syntax.specs.declared.tree.clause.OptionLine.{OptionLine}
 use Rattle.snl_syntax.specs.Tokens.{Seat}
-use Rattle.snl_syntax.specs.Steps.{Outcome, Reader, and_then, pure, refuse, kind_at, expect, accept, word, many, until}
-use Rattle.snl_syntax.specs.Grammar.Base.{Each, First, Leaf, Perhaps}
+use Rattle.snl_syntax.specs.Steps.{pure, kind_at, expect, accept, until}
+use Rattle.snl_syntax.specs.Grammar.Base.{First, Leaf, Perhaps}
 use Rattle.snl_syntax.specs.Grammar.Types.{Written}
 use Rattle.snl_syntax.specs.Grammar.Expressions.{IsBehindComma, AreCommas, AreTexts}
 use Rattle.snl_syntax.specs.Grammar.Declarations.{AreBraced}
-use Rattle.snl_syntax.specs.Grammar.Clauses.{AreForeign, option_mark, IsOptionLine, IsSubscript, IsFlag, IsChannel, anonymous, whole as is_whole, element as is_element, elements as are_elements, IsAssign, IsMonitor, IsSync, syncq_word, IsSyncq, IsClause, assign as is_assign, monitor as is_monitor, sync as is_sync, syncq as is_syncq}
+use Rattle.snl_syntax.specs.Grammar.Clauses.{AreForeign, option_mark, IsOptionLine, IsSubscript, IsFlag, IsChannel, anonymous, whole as is_whole, element as is_element, elements as are_elements, syncq_word, IsClause, assign as is_assign, monitor as is_monitor, sync as is_sync, syncq as is_syncq}
 use Rattle.snl_syntax.specs.Reading.Expressions.{commas, texts}
 use Rattle.snl_syntax.specs.Reading.Clauses.{foreign, sign_by, sign, option_line, subscript, some_subscript, subscript_by, subscript_part, flag, some_flag, flag_by, flag_part, some_queue, queue_by, queue_part, after_comma_by, after_comma, text_step_by, text_step, some_elements, elements_by, elements, whole, channel_to_by, channel_to, named_channel, element, channel_by, channel, assign, monitor, sync, syncq_rest, syncq, syncq_capital, clause_by, clause}
-use Rattle.snl_syntax.proofs.Viable.{Free, Makes, Viable, Full, Exists, Both, both, IsNothing, Ends, seats, bind_full, into_full, choice_viable, refuse_viable, expect_full, accept_full, pure_full}
+use Rattle.snl_syntax.proofs.Viable.{Makes, Viable, Full, Exists, Both, both, IsNothing, Ends, bind_full, into_full, choice_viable, refuse_viable, expect_full, accept_full, pure_full}
 use Rattle.snl_syntax.proofs.TypeLaws.{word_full, first_then}
 use Rattle.snl_syntax.proofs.ExpressionViable.{commas_full, texts_full}
 use Rattle.snl_syntax.proofs.Braced.{none_perhaps, some_perhaps, perhaps_full, IsLast, IsValueStep, AllValues, Behind, BehindAim, close_viable, more_viable, comma_step, last_step, values_full, braced_values}

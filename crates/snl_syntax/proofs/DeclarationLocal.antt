@@ -1,5 +1,5 @@
 -- Readers of declarations look no further than one token ahead.
-use Rattle.std.proofs.Common.{◌≡◌, ◌<◌, length, ℕ, zero, suc, Bool, true, false, List, [], ◌∷◌, Option, Some, None, Ok}
+use Rattle.std.proofs.Common.{◌≡◌, ℕ, zero, suc, true, false, List, [], ◌∷◌, Option, Some, None}
 use Rattle.snl_syntax.specs.declared.kind.Kind.{Kind}
 use Rattle.snl_syntax.specs.declared.kind.Kind.TheVariants as kind
 use Rattle.snl_syntax.specs.declared.stop.Step.{Step}
@@ -10,8 +10,7 @@ use Rattle.snl_syntax.specs.declared.tree.expression.Expr.{Expr}
 use Rattle.snl_syntax.specs.declared.tree.declaration.Init.{Init}
 use Rattle.snl_syntax.specs.declared.tree.declaration.Init.TheVariants as inits
 use Rattle.snl_syntax.specs.declared.tree.declaration.Declarator.{Declarator}
-use Rattle.snl_syntax.specs.Tokens.{Seat}
-use Rattle.snl_syntax.specs.Steps.{Reader, and_then, pure, refuse, kind_at, expect, word, many, until}
+use Rattle.snl_syntax.specs.Steps.{Reader, pure, refuse, kind_at, expect, many, until}
 use Rattle.snl_syntax.specs.Reading.Types.{type_of, type_name, stars}
 use Rattle.snl_syntax.specs.Reading.Expressions.{assignx, sequence, next_comma}
 use Rattle.snl_syntax.specs.Reading.Declarations.{some_length, length_by, bracketed_length, next_length_by, next_length, lengths, after_comma_by, after_comma, value_step_by, value_step, some_values, values_by, values, plain_value, init_by, init_of, init, some_init, init_part_by, init_part, declarator_from, declarator, more_declarators, declaration_from, declaration_of, declaration_in, declaration}

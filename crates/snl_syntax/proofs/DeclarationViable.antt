@@ -1,10 +1,8 @@
 -- Declarations: what was read is in the grammar, and what was read before a blamed token can be completed.
-use Rattle.std.proofs.Common.{◌≡◌, ℕ, zero, suc, ◌<◌, ◌≤◌, Bool, true, false, List, [], ◌∷◌, ◌++◌, length, Option, Some, None, Ok, Err, refl, sym, ap, subst, ◌∙◌, arith}
+use Rattle.std.proofs.Common.{◌≡◌, ℕ, zero, suc, ◌<◌, Bool, false, List, [], ◌∷◌, ◌++◌, Option, Some, None, refl, sym, ap, subst, arith}
 use Rattle.snl_syntax.specs.declared.kind.Kind.{Kind}
 use Rattle.snl_syntax.specs.declared.kind.Kind.TheVariants as kind
-use Rattle.snl_syntax.specs.declared.stop.Step.{Step}
 use Rattle.snl_syntax.specs.declared.tree.types.QualifiedType.{QualifiedType}
-use Rattle.snl_syntax.specs.declared.tree.types.TypeName.{TypeName}
 use Rattle.snl_syntax.specs.declared.tree.types.Pointer.{Pointer}
 use Rattle.snl_syntax.specs.declared.tree.expression.Expr.{Expr}
 use Rattle.snl_syntax.specs.declared.tree.declaration.Init.{Init}
@@ -12,10 +10,10 @@ use Rattle.snl_syntax.specs.declared.tree.declaration.Init.TheVariants as inits
 use Rattle.snl_syntax.specs.declared.tree.declaration.Declarator.{Declarator}
 use Rattle.snl_syntax.specs.declared.tree.declaration.Declaration.{Declaration}
 use Rattle.snl_syntax.specs.Tokens.{Seat}
-use Rattle.snl_syntax.specs.Steps.{Outcome, Reader, and_then, pure, refuse, kind_at, expect, word, many, until}
+use Rattle.snl_syntax.specs.Steps.{Reader, pure, kind_at, expect, many, until}
 use Rattle.snl_syntax.specs.Grammar.Base.{Each, First, Leaf, Perhaps}
-use Rattle.snl_syntax.specs.Grammar.Types.{Written, IsType, IsPointer, IsTypeName}
-use Rattle.snl_syntax.specs.Grammar.Expressions.{IsBehindComma, AreCommas, IsSequence, IsAssignx}
+use Rattle.snl_syntax.specs.Grammar.Types.{IsType, IsPointer, IsTypeName}
+use Rattle.snl_syntax.specs.Grammar.Expressions.{IsBehindComma, IsSequence, IsAssignx}
 use Rattle.snl_syntax.specs.Grammar.Declarations.{IsLength, AreBraced, IsInitOf, value as is_value, list as is_list, IsInit, IsBehindEqual, IsDeclarator, IsDeclarationOf, IsDeclaration}
 use Rattle.snl_syntax.specs.Reading.Types.{type_of, type_name, stars}
 use Rattle.snl_syntax.specs.Reading.Expressions.{assignx, sequence, next_comma}
@@ -23,7 +21,7 @@ use Rattle.snl_syntax.specs.Reading.Declarations.{some_length, length_by, bracke
 use Rattle.snl_syntax.proofs.Viable.{Free, Makes, Viable, Full, Exists, Both, both, Next, Lists, IsNothing, Ends, seats, bind_full, into_full, choice_viable, refuse_viable, expect_full, pure_full, many_full}
 use Rattle.snl_syntax.proofs.TypeLaws.{word_full, lists_each, none_next, first_then, type_full, stars_full, type_name_full}
 use Rattle.snl_syntax.proofs.ExpressionViable.{more_commas, sequence_full, assignx_full}
-use Rattle.snl_syntax.proofs.Braced.{none_perhaps, some_perhaps, perhaps_full, IsLast, IsValueStep, AllValues, Behind, BehindAim, close_viable, more_viable, comma_step, last_step, values_full, braced_values}
+use Rattle.snl_syntax.proofs.Braced.{none_perhaps, perhaps_full, IsLast, IsValueStep, AllValues, Behind, BehindAim, close_viable, more_viable, comma_step, last_step, values_full, braced_values}
 
 abbrev pub make_declarator : List Pointer → ℕ → List (Option Expr) → Option Init → Declarator
 make_declarator ps n ls x = record { pointers = ps; name = n; lengths = ls; init = x }

@@ -10,3 +10,6 @@ stmt_deeper n k lt = let e : suc (n - 1) ≡ n = omega arith in subst (λ i. stm
 pub block_deeper : (n : ℕ) (k : List Seat) → 0 < n → block n k ≡ block_of (n - 1) (stmt (n - 1)) k
 unfolding block
 block_deeper n k lt = let e : suc (n - 1) ≡ n = omega arith in subst (λ i. block i k ≡ block_of (n - 1) (stmt (n - 1)) k) e refl
+
+pub one_less : (n : ℕ) → suc n - 1 ≡ n
+one_less n = omega arith

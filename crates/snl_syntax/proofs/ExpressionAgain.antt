@@ -1,5 +1,5 @@
 -- Expressions of the grammar are read again, where what follows doesn't continue them.
-use Rattle.std.proofs.Common.{◌≡◌, ◌<◌, ◌≤◌, ℕ, zero, suc, Bool, true, false, List, [], ◌∷◌, ◌++◌, length, Option, Some, None, Ok, Err, refl, sym, ap, subst, ◌∙◌, arith}
+use Rattle.std.proofs.Common.{◌≡◌, ◌<◌, ℕ, Bool, true, false, List, [], ◌∷◌, ◌++◌, Some, None, Ok, refl, sym, ap, subst, arith}
 use Rattle.snl_syntax.specs.declared.kind.Kind.{Kind}
 use Rattle.snl_syntax.specs.declared.kind.Kind.TheVariants as kind
 use Rattle.snl_syntax.specs.declared.tree.types.TypeName.{TypeName}
@@ -8,13 +8,13 @@ use Rattle.snl_syntax.specs.declared.tree.expression.Suffix.TheVariants as suffi
 use Rattle.snl_syntax.specs.declared.tree.expression.Expr.{Expr}
 use Rattle.snl_syntax.specs.declared.tree.expression.Expr.TheVariants as tree
 use Rattle.snl_syntax.specs.Tokens.{Seat, same}
-use Rattle.snl_syntax.specs.Steps.{Outcome, Reader, and_then, pure, kind_at, expect, word, many}
+use Rattle.snl_syntax.specs.Steps.{Reader, kind_at, expect, many}
 use Rattle.snl_syntax.specs.Grammar.Base.{Each, First, Leaf}
 use Rattle.snl_syntax.specs.Grammar.Expressions.{IsBehindComma, AreCommas, AreTexts, IsSequence, one, several, AreArguments, IsSuffix, subscript as is_subscript, call as is_call, member as is_member, arrow, increment, decrement}
-use Rattle.snl_syntax.specs.Reading.Expressions.{comma_by, next_comma, commas, text_by, next_text, texts, sequenced, member, sequence, some_arguments, arguments_by, arguments, subscript, call, suffix_by, next_suffix}
+use Rattle.snl_syntax.specs.Reading.Expressions.{comma_by, next_comma, commas, text_by, next_text, texts, member, sequence, some_arguments, arguments_by, arguments, subscript, call, suffix_by, next_suffix}
 use Rattle.snl_syntax.proofs.Local.{Local}
 use Rattle.snl_syntax.proofs.ExpressionLocal.{comma_eats, text_eats, suffix_eats}
-use Rattle.snl_syntax.proofs.Again.{Comes, read, late, comes_at, comes_as, comes_from, bind_comes, pure_comes, expect_comes, first_comes, kind_first, Heads, first_heads, Lacks, first_lacks, many_comes}
+use Rattle.snl_syntax.proofs.Again.{Comes, read, comes_at, comes_as, bind_comes, pure_comes, expect_comes, first_comes, kind_first, Heads, Lacks, many_comes}
 use Rattle.snl_syntax.proofs.Follow.{binds, Stops, stops_less, first_stops, stops_lacks}
 use Rattle.snl_syntax.proofs.TypeLaws.{word_comes}
 

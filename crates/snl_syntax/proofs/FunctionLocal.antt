@@ -1,5 +1,5 @@
 -- Readers of functions and structs look no further than one token ahead, where the reader of blocks doesn't.
-use Rattle.std.proofs.Common.{◌≡◌, ◌<◌, ◌-◌, length, ℕ, zero, suc, Bool, true, false, List, [], ◌∷◌, Option, Some, None, Ok}
+use Rattle.std.proofs.Common.{◌-◌, ℕ, zero, suc, Bool, false, List, [], Option, Some, None}
 use Rattle.snl_syntax.specs.declared.kind.Kind.{Kind}
 use Rattle.snl_syntax.specs.declared.kind.Kind.TheVariants as kind
 use Rattle.snl_syntax.specs.declared.tree.types.Base.{Base}
@@ -12,8 +12,7 @@ use Rattle.snl_syntax.specs.declared.tree.declaration.Parameter.{Parameter}
 use Rattle.snl_syntax.specs.declared.tree.statement.Member.{Member}
 use Rattle.snl_syntax.specs.declared.tree.item.StructMember.TheVariants as members
 use Rattle.snl_syntax.specs.declared.tree.item.Item.TheVariants as items
-use Rattle.snl_syntax.specs.Tokens.{Seat}
-use Rattle.snl_syntax.specs.Steps.{Reader, and_then, pure, refuse, kind_at, expect, accept, word, many}
+use Rattle.snl_syntax.specs.Steps.{Reader, kind_at, expect, accept, many}
 use Rattle.snl_syntax.specs.Reading.Types.{type_of, stars}
 use Rattle.snl_syntax.specs.Reading.Expressions.{assignx, commas}
 use Rattle.snl_syntax.specs.Reading.Declarations.{lengths, init, declaration, declaration_from}

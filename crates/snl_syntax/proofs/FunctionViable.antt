@@ -1,5 +1,5 @@
 -- Functions, structs and items that begin with a type: what was read is in the grammar, and what was read before a blamed token can be completed.
-use Rattle.std.proofs.Common.{◌≡◌, ℕ, zero, suc, ◌-◌, ◌<◌, ◌≤◌, Bool, true, false, List, [], ◌∷◌, ◌++◌, length, Option, Some, None, Ok, Err, refl, sym, ap, subst, ◌∙◌, arith}
+use Rattle.std.proofs.Common.{◌≡◌, ℕ, zero, suc, ◌-◌, ◌<◌, Bool, false, List, [], ◌∷◌, ◌++◌, Option, Some, None, refl, ap, subst, ◌∙◌, arith}
 use Rattle.snl_syntax.specs.declared.kind.Kind.{Kind}
 use Rattle.snl_syntax.specs.declared.kind.Kind.TheVariants as kind
 use Rattle.snl_syntax.specs.declared.tree.types.Base.{Base}
@@ -16,7 +16,7 @@ use Rattle.snl_syntax.specs.declared.tree.item.StructMember.TheVariants as membe
 use Rattle.snl_syntax.specs.declared.tree.item.Item.{Item}
 use Rattle.snl_syntax.specs.declared.tree.item.Item.TheVariants as items
 use Rattle.snl_syntax.specs.Tokens.{Seat}
-use Rattle.snl_syntax.specs.Steps.{Outcome, Reader, and_then, pure, refuse, kind_at, expect, accept, word, many}
+use Rattle.snl_syntax.specs.Steps.{Reader, pure, kind_at, expect, accept, many}
 use Rattle.snl_syntax.specs.Grammar.Base.{Each, First, Leaf, Perhaps}
 use Rattle.snl_syntax.specs.Grammar.Types.{Written, IsType, IsPointer}
 use Rattle.snl_syntax.specs.Grammar.Expressions.{AreCommas, IsAssignx}
@@ -30,7 +30,7 @@ use Rattle.snl_syntax.proofs.Viable.{Free, Makes, Viable, Full, Exists, Both, bo
 use Rattle.snl_syntax.proofs.TypeLaws.{word_full, lists_each, none_next, first_then, type_full, stars_full}
 use Rattle.snl_syntax.proofs.ExpressionViable.{commas_full, assignx_full}
 use Rattle.snl_syntax.proofs.Braced.{none_perhaps, some_perhaps, perhaps_full}
-use Rattle.snl_syntax.proofs.DeclarationViable.{make_declaration, IsDeclaratorFrom, AreMore, IsDeclarationFrom, lengths_full, init_full, declaration_full, declaration_from_full}
+use Rattle.snl_syntax.proofs.DeclarationViable.{make_declaration, IsDeclarationFrom, lengths_full, init_full, declaration_full, declaration_from_full}
 
 abbrev make_parameter : QualifiedType → List Pointer → Option ℕ → List (Option Expr) → Parameter
 make_parameter t ps n ls = record { of = t; pointers = ps; name = n; lengths = ls }

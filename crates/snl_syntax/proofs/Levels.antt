@@ -1,5 +1,5 @@
 -- One level of declarations, beside the code that counts levels down.
-use Rattle.std.proofs.Common.{◌≡◌, ℕ, suc, List, ◌-◌, ◌<◌, ◌≤◌, refl, subst, arith}
+use Rattle.std.proofs.Common.{◌≡◌, ℕ, suc, List, ◌-◌, ◌<◌, refl, subst, arith}
 use Rattle.snl_syntax.specs.Tokens.{Seat}
 use Rattle.snl_syntax.specs.Reading.Expressions.{assignx}
 use Rattle.snl_syntax.specs.Reading.Functions.{parameter, parameter_in}

@@ -1,5 +1,5 @@
 -- Operands with what stands before and behind them are read again.
-use Rattle.std.proofs.Common.{◌≡◌, ◌<◌, ◌≤◌, ℕ, zero, suc, Bool, true, false, List, [], ◌∷◌, ◌++◌, length, Option, Some, None, Ok, Err, refl, sym, ap, subst, ◌∙◌, append_assoc, arith}
+use Rattle.std.proofs.Common.{◌≡◌, ℕ, Bool, true, false, List, [], ◌∷◌, ◌++◌, Option, Some, None, Ok, refl, sym, ap, subst, ◌∙◌, append_assoc, arith}
 use Rattle.snl_syntax.specs.declared.kind.Kind.{Kind}
 use Rattle.snl_syntax.specs.declared.kind.Kind.TheVariants as kind
 use Rattle.snl_syntax.specs.declared.operator.Sign.{Sign}
@@ -14,15 +14,15 @@ use Rattle.snl_syntax.specs.declared.tree.expression.Expr.{Expr}
 use Rattle.snl_syntax.specs.declared.tree.expression.Expr.TheVariants as tree
 use Rattle.snl_syntax.specs.Operators.{sign_mark}
 use Rattle.snl_syntax.specs.Tokens.{Seat, same}
-use Rattle.snl_syntax.specs.Steps.{Outcome, Reader, and_then, pure, kind_at, expect, many, until}
+use Rattle.snl_syntax.specs.Steps.{Reader, kind_at, expect, many, until}
 use Rattle.snl_syntax.specs.Grammar.Base.{Each, First, Leaf}
 use Rattle.snl_syntax.specs.Grammar.Expressions.{AreTexts, IsSequence, one, several, IsSuffix, subscript, call, member, arrow, increment, decrement, IsPrimary, name, integer, floating, character, texts as is_texts, group as is_group, sizeof_type as is_sizeof_type, IsPostfix, bare as bare_postfix, suffixed as is_suffixed, IsOperator, sign, sizeof as is_size, cast as is_cast, is_sizeof, AreOperators, IsPrefix, bare as bare_prefix, prefixed as is_prefixed}
 use Rattle.snl_syntax.specs.Reading.Types.{begins_type}
 use Rattle.snl_syntax.specs.Reading.Expressions.{texts, leaf, text, atom_by, atom, signed, sequence, next_suffix, group, sizeof_type, cast, sized, sizeof_bracket, sizeof_by, sizeof, bracketed, bracket, plain, prefix_by, prefix_step, prefix, prefixed, suffixed}
 use Rattle.snl_syntax.proofs.Local.{Local}
 use Rattle.snl_syntax.proofs.ExpressionLocal.{step_eats}
-use Rattle.snl_syntax.proofs.Again.{Comes, read, late, comes_at, comes_as, comes_from, bind_comes, pure_comes, expect_comes, first_comes, kind_first, Heads, first_heads, Lacks, first_lacks, until_more_comes, until_last_comes}
-use Rattle.snl_syntax.proofs.Follow.{binds, Stops, stops_less, first_stops, stops_lacks}
+use Rattle.snl_syntax.proofs.Again.{Comes, read, comes_at, comes_as, bind_comes, pure_comes, expect_comes, first_comes, kind_first, Heads, Lacks, first_lacks, until_more_comes, until_last_comes}
+use Rattle.snl_syntax.proofs.Follow.{Stops, first_stops, stops_lacks}
 use Rattle.snl_syntax.proofs.ExpressionAgain.{begins_expr, sequence_again, suffixes_again, texts_comes}
 
 no_type_kind : (d : Kind) → begins_expr d ≡ true → begins_type (Some d) ≡ false

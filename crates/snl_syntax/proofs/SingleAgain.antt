@@ -1,29 +1,27 @@
 -- Conditions, assignments and whole expressions are read again.
-use Rattle.std.proofs.Common.{◌≡◌, ◌<◌, ◌≤◌, ℕ, zero, suc, Bool, true, false, List, [], ◌∷◌, ◌++◌, length, Option, Some, None, Ok, Err, refl, sym, ap, subst, ◌∙◌, append_assoc, arith}
+use Rattle.std.proofs.Common.{◌≡◌, ◌<◌, ℕ, zero, suc, Bool, true, false, List, [], ◌∷◌, ◌++◌, Some, None, Ok, refl, sym, ap, subst, append_assoc, arith}
 use Rattle.snl_syntax.specs.declared.kind.Kind.{Kind}
 use Rattle.snl_syntax.specs.declared.kind.Kind.TheVariants as kind
 use Rattle.snl_syntax.specs.declared.operator.Binary.{Binary}
 use Rattle.snl_syntax.specs.declared.operator.Assignment.{Assignment}
 use Rattle.snl_syntax.specs.declared.operator.Sign.{Sign}
 use Rattle.snl_syntax.specs.declared.operator.Sign.TheVariants as signs
-use Rattle.snl_syntax.specs.declared.stop.Step.{Step}
 use Rattle.snl_syntax.specs.declared.stop.Step.TheVariants as steps
 use Rattle.snl_syntax.specs.declared.tree.types.TypeName.{TypeName}
 use Rattle.snl_syntax.specs.declared.tree.expression.Prefix.{Prefix}
 use Rattle.snl_syntax.specs.declared.tree.expression.Expr.{Expr}
-use Rattle.snl_syntax.specs.declared.tree.expression.Expr.TheVariants as tree
-use Rattle.snl_syntax.specs.Operators.{sign_mark, binary_mark, assignment_mark}
+use Rattle.snl_syntax.specs.Operators.{sign_mark, assignment_mark}
 use Rattle.snl_syntax.specs.Tokens.{Seat, same}
-use Rattle.snl_syntax.specs.Steps.{Outcome, Reader, and_then, pure, kind_at, expect, many, until, within}
-use Rattle.snl_syntax.specs.Grammar.Base.{Each, First, Leaf, Within}
+use Rattle.snl_syntax.specs.Steps.{Reader, kind_at, expect, many, until}
+use Rattle.snl_syntax.specs.Grammar.Base.{Each, First, Within}
 use Rattle.snl_syntax.specs.Grammar.Types.{IsTypeName}
-use Rattle.snl_syntax.specs.Grammar.Expressions.{AreTexts, IsSequence, one, several, IsPrimary, name, integer, floating, character, texts as is_texts, group as is_group, sizeof_type as is_sizeof_type, IsPostfix, bare as bare_postfix, suffixed as is_suffixed, IsOperator, sign, sizeof as is_size, cast as is_cast, AreOperators, IsPrefix, bare as bare_prefix, prefixed as is_prefixed, IsLink, IsChain, alone, chain, IsTier, IsArm, IsConditional, alone as lone, choice, IsTarget, IsSingle, value, assignment, IsAssignx, IsExpr}
+use Rattle.snl_syntax.specs.Grammar.Expressions.{AreTexts, IsPrimary, name, integer, floating, character, texts as is_texts, group as is_group, sizeof_type as is_sizeof_type, IsPostfix, bare as bare_postfix, suffixed as is_suffixed, IsOperator, sign, sizeof as is_size, cast as is_cast, IsPrefix, bare as bare_prefix, prefixed as is_prefixed, IsLink, alone, chain, IsTier, IsArm, IsConditional, alone as lone, choice, IsTarget, IsSingle, value, assignment, IsAssignx, IsExpr}
 use Rattle.snl_syntax.specs.Reading.Types.{type_name, begins_type}
 use Rattle.snl_syntax.specs.Reading.Expressions.{sequence, prefix, tiers_from, operand, conditional, arm_by, next_arm, conditional_from, assignment_in, target_by, target_step, assigned, single, type_within, assignx, expr}
 use Rattle.snl_syntax.proofs.Local.{Local}
 use Rattle.snl_syntax.proofs.ExpressionLocal.{arm_eats, target_eats, assignx_local, within_local}
 use Rattle.snl_syntax.proofs.TypeLaws.{type_begins, type_name_comes, first_type_stops}
-use Rattle.snl_syntax.proofs.Again.{Comes, read, late, comes_at, comes_as, comes_from, bind_comes, pure_comes, first_comes, kind_first, Heads, first_heads, Lacks, first_lacks, many_comes, until_more_comes, until_last_comes, level_comes}
+use Rattle.snl_syntax.proofs.Again.{Comes, read, late, comes_at, comes_as, bind_comes, pure_comes, first_comes, kind_first, Heads, first_heads, Lacks, first_lacks, many_comes, until_more_comes, until_last_comes, level_comes}
 use Rattle.snl_syntax.proofs.Follow.{binds, Stops, stops_less, first_stops, stops_lacks, Quiet, stops_quiet, binary_quiet, assignment_some, binds-assignment}
 use Rattle.snl_syntax.proofs.ExpressionAgain.{begins_expr, sequence_again}
 use Rattle.snl_syntax.proofs.OperandAgain.{prefix_again}

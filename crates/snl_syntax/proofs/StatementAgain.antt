@@ -24,10 +24,10 @@ use Rattle.snl_syntax.specs.Reading.Statements.{some_before, semicolon_by, befor
 use Rattle.snl_syntax.proofs.Local.{Local, Eats, eats_more}
 use Rattle.snl_syntax.proofs.Again.{Comes, read, late, comes_at, comes_as, bind_comes, pure_comes, expect_comes, first_comes, kind_first, Heads, first_heads, Lacks, differ, first_lacks, many_comes, until_more_comes, until_last_comes}
 use Rattle.snl_syntax.proofs.Follow.{binds, first_stops}
-use Rattle.snl_syntax.proofs.TypeLaws.{word_comes, type_begins}
+use Rattle.snl_syntax.proofs.TypeLaws.{word_comes}
 use Rattle.snl_syntax.proofs.ExpressionAgain.{begins_expr}
 use Rattle.snl_syntax.proofs.SingleAgain.{assignx_begins, expr_again}
-use Rattle.snl_syntax.proofs.DeclarationAgain.{declaration_again}
+use Rattle.snl_syntax.proofs.DeclarationAgain.{declaration_again, declaration_begins}
 use Rattle.snl_syntax.proofs.StatementLocal.{member_eats, step_eats, stmt_local, stmt_eats}
 
 -- ---- what a statement begins with
@@ -154,7 +154,7 @@ module _ (free extra depth : ℕ) where
       comes_at free (before_semicolon (expr depth) k) (semicolon_by (expr depth) (Some kind.Semicolon) k) None rest (ap (λ o. semicolon_by (expr depth) o k) (kind_first kind.Semicolon k rest f)) (word_comes free kind.Semicolon None k rest f)
   semicolon_again (Some x) k rest is = comes_at free (before_semicolon (expr depth) k) (some_before kind.Semicolon (expr depth) k) (Some x) rest (semicolon_at (expr depth) k (expr_begins x k is.mid is.value)) (some_again kind.Semicolon (omega arith) x k is.mid rest is.value is.mark)
 
-  paren_again : (e : Option Expr) (k rest : List Seat) → IsBefore kind.CloseParen (IsExpr free extra depth) e k rest → Comes free (before_paren (expr depth) k) e rest
+  pub paren_again : (e : Option Expr) (k rest : List Seat) → IsBefore kind.CloseParen (IsExpr free extra depth) e k rest → Comes free (before_paren (expr depth) k) e rest
   unfolding before_paren
   paren_again None k rest is =
       let f : First kind.CloseParen k rest = subst (λ l. First kind.CloseParen l rest) (sym is.value) is.mark in
@@ -465,11 +465,6 @@ pub statement_begins : (free extra depth : ℕ) (p : Place) (closed : Bool) (t :
 statement_begins free extra (suc depth) p closed t k rest is = form_begins free extra depth free extra (suc depth) (IsDeclaration free extra depth) (IsStatement free extra depth) p closed t k rest is
 statement_begins free (suc extra) zero p closed t k rest is = form_begins free extra zero free (suc extra) zero (IsDeclaration free extra zero) (IsStatement free extra zero) p closed t k rest is.1
 statement_begins free zero zero p closed t k rest is = absurd is
-
-declaration_begins : (free extra depth : ℕ) (d : Declaration) (k rest : List Seat) → IsDeclaration free extra depth d k rest → begins_type (kind_at k) ≡ true
-declaration_begins free extra (suc depth) d k rest is = type_begins d.of k is.m1 is.of_type
-declaration_begins free (suc extra) zero d k rest is = type_begins d.of k is.1.m1 is.1.of_type
-declaration_begins free zero zero d k rest is = absurd is
 
 pub stmt_again : (free extra depth : ℕ) (p : Place) (closed : Bool) (t : Stmt) (k rest : List Seat) → IsStatement free extra depth p closed t k rest → Ended closed rest → Comes free (stmt depth k) t rest
 unfolding stmt

@@ -1,18 +1,17 @@
 -- Tiers of binary operators are read again.
-use Rattle.std.proofs.Common.{◌≡◌, ◌<◌, ◌≤◌, ℕ, zero, suc, List, [], ◌∷◌, ◌++◌, Option, Some, None, Ok, refl, sym, ap, subst, ◌∙◌, arith}
+use Rattle.std.proofs.Common.{◌≡◌, ◌<◌, ℕ, zero, suc, List, [], ◌∷◌, Some, None, Ok, refl, sym, ap, subst, ◌∙◌, arith}
 use Rattle.snl_syntax.specs.declared.operator.Binary.{Binary}
 use Rattle.snl_syntax.specs.declared.tree.types.TypeName.{TypeName}
 use Rattle.snl_syntax.specs.declared.tree.expression.Expr.{Expr}
-use Rattle.snl_syntax.specs.declared.tree.expression.Expr.TheVariants as tree
-use Rattle.snl_syntax.specs.Operators.{tier, binary_mark}
+use Rattle.snl_syntax.specs.Operators.{binary_mark}
 use Rattle.snl_syntax.specs.Tokens.{Seat}
-use Rattle.snl_syntax.specs.Steps.{Outcome, Reader, and_then, pure, kind_at, expect, many}
-use Rattle.snl_syntax.specs.Grammar.Base.{Each, First}
-use Rattle.snl_syntax.specs.Grammar.Expressions.{IsPrefix, IsLink, IsChain, alone, chain, IsTier}
-use Rattle.snl_syntax.specs.Reading.Expressions.{binary_in, link_by, next_link, prefix, tiers_from, operand, chained}
+use Rattle.snl_syntax.specs.Steps.{Reader, expect, many}
+use Rattle.snl_syntax.specs.Grammar.Base.{Each}
+use Rattle.snl_syntax.specs.Grammar.Expressions.{IsPrefix, IsLink, alone, chain, IsTier}
+use Rattle.snl_syntax.specs.Reading.Expressions.{link_by, next_link, prefix, tiers_from, operand, chained}
 use Rattle.snl_syntax.proofs.Local.{Local}
 use Rattle.snl_syntax.proofs.ExpressionLocal.{link_eats, operand_local}
-use Rattle.snl_syntax.proofs.Again.{Comes, read, comes_at, comes_as, comes_from, bind_comes, pure_comes, first_comes, many_comes}
+use Rattle.snl_syntax.proofs.Again.{Comes, read, comes_at, comes_as, bind_comes, pure_comes, first_comes, many_comes}
 use Rattle.snl_syntax.proofs.Follow.{binds, Stops, stops_less, first_stops, binds-mark, binary_none, binary_some}
 
 module _ (free : ℕ) (Inner : Expr → List Seat → List Seat → Type 0) (Names : TypeName → List Seat → List Seat → Type 0) (inner : Reader Expr) (names : Reader TypeName) (local : Local inner) (named : Local names) (prefix_again : (t : Expr) (k rest : List Seat) → IsPrefix Inner Names t k rest → Stops 0 rest → Comes free (prefix inner names k) t rest) where

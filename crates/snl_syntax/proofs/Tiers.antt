@@ -1,5 +1,5 @@
 -- One tier of binary operators, beside the code that counts tiers down.
-use Rattle.std.proofs.Common.{◌≡◌, ℕ, suc, ◌-◌, ◌<◌, ◌≤◌, List, [], Ok, Err, refl, sym, ap, subst, ◌∙◌, arith}
+use Rattle.std.proofs.Common.{◌≡◌, ℕ, suc, ◌-◌, ◌<◌, List, [], Ok, Err, refl, ap, subst, ◌∙◌, arith}
 use Rattle.snl_syntax.specs.declared.kind.Kind.{Kind}
 use Rattle.snl_syntax.specs.declared.operator.Binary.{Binary}
 use Rattle.snl_syntax.specs.declared.stop.Stop.{Stop}
@@ -7,7 +7,7 @@ use Rattle.snl_syntax.specs.declared.stop.Stop.TheVariants as stops
 use Rattle.snl_syntax.specs.declared.tree.types.TypeName.{TypeName}
 use Rattle.snl_syntax.specs.declared.tree.expression.Expr.{Expr}
 use Rattle.snl_syntax.specs.Tokens.{Seat}
-use Rattle.snl_syntax.specs.Steps.{Outcome, Reader, and_then, many, Fails}
+use Rattle.snl_syntax.specs.Steps.{Reader, and_then, many, Fails}
 use Rattle.snl_syntax.specs.Reading.Expressions.{tiers_from, operand, next_link, chained}
 
 pub tiers_zero : (inner : Reader Expr) (names : Reader TypeName) (n : ℕ) (x : Expr) (k : List Seat) → n ≡ 0 → tiers_from inner names n x k ≡ Ok (x, k)

@@ -1,5 +1,5 @@
 -- The laws of types and of their names: no look ahead, completion, reading again.
-use Rattle.std.proofs.Common.{◌≡◌, ℕ, zero, suc, ◌<◌, ◌≤◌, Bool, true, false, cond, List, [], ◌∷◌, ◌++◌, length, Option, Some, None, Ok, Err, refl, sym, ap, subst, ◌∙◌, arith}
+use Rattle.std.proofs.Common.{◌≡◌, ℕ, Bool, true, false, List, [], ◌∷◌, Option, Some, None, Ok, refl, sym, ap, subst, ◌∙◌}
 use Rattle.snl_syntax.specs.declared.kind.Kind.{Kind}
 use Rattle.snl_syntax.specs.declared.kind.Kind.TheVariants as kind
 use Rattle.snl_syntax.specs.declared.tree.types.Integer.{Integer}
@@ -11,14 +11,14 @@ use Rattle.snl_syntax.specs.declared.tree.types.Pointer.{Pointer}
 use Rattle.snl_syntax.specs.declared.tree.types.Pointer.TheVariants as pointers
 use Rattle.snl_syntax.specs.declared.tree.types.TypeName.{TypeName}
 use Rattle.snl_syntax.specs.Tokens.{Seat, same}
-use Rattle.snl_syntax.specs.Steps.{Outcome, Reader, and_then, pure, refuse, kind_at, expect, accept, word, many}
+use Rattle.snl_syntax.specs.Steps.{and_then, pure, kind_at, expect, accept, word}
 use Rattle.snl_syntax.specs.Reading.Types.{short, long, short_integer, long_integer, integer_by, integer, begins_integer, plain_integer, unsigned_by, unsigned_rest, unsigned, named, base_by, base, type_of, pointer_of, pointer_by, next_pointer, stars, type_name, begins_type}
 use Rattle.snl_syntax.specs.Grammar.Base.{Each, First, Leaf, Fixed}
 use Rattle.snl_syntax.specs.Grammar.Types.{Written, integer_words, IsInteger, IsBase, IsType, IsPointer, IsTypeName}
 use Rattle.snl_syntax.proofs.Same.{same_true}
-use Rattle.snl_syntax.proofs.Local.{Local, Eats, EatsSome, bind_local, choice_local, pure_local, refuse_local, expect_local, accept_local, many_local, bind_eats, expect_eats, eats_some, none_eats}
-use Rattle.snl_syntax.proofs.Viable.{Free, Makes, Viable, Full, Exists, Both, both, Next, Lists, IsNothing, seats, bind_full, into_full, lighter, choice_viable, refuse_viable, expect_full, accept_full, pure_full, many_full}
-use Rattle.snl_syntax.proofs.Again.{Comes, comes_at, comes_as, comes_from, bind_comes, pure_comes, expect_comes, first_comes, kind_first, Lacks, first_lacks, is_false, written_comes, many_comes, read}
+use Rattle.snl_syntax.proofs.Local.{Local, EatsSome, bind_local, choice_local, pure_local, refuse_local, expect_local, accept_local, many_local, bind_eats, expect_eats, eats_some, none_eats}
+use Rattle.snl_syntax.proofs.Viable.{Makes, Viable, Full, Exists, Both, both, Next, Lists, IsNothing, bind_full, into_full, choice_viable, refuse_viable, expect_full, accept_full, pure_full, many_full}
+use Rattle.snl_syntax.proofs.Again.{Comes, comes_at, bind_comes, pure_comes, expect_comes, first_comes, kind_first, Lacks, first_lacks, is_false, written_comes, many_comes, read}
 
 -- ---- no look ahead
 

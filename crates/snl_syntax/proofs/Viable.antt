@@ -1,13 +1,13 @@
 -- What a reader took is in the grammar whatever follows, and where it fails, the tokens before the blamed one can be completed.
-use Rattle.std.proofs.Common.{◌≡◌, ℕ, zero, suc, ◌+◌, ◌<◌, ◌≤◌, Bool, true, false, List, [], ◌∷◌, ◌++◌, length, Option, Some, None, Ok, Err, refl, sym, ap, subst, ◌∙◌, append_assoc, inl, inr, arith}
+use Rattle.std.proofs.Common.{◌≡◌, ℕ, zero, suc, ◌+◌, ◌<◌, Bool, true, false, List, [], ◌∷◌, ◌++◌, length, Option, Some, None, Ok, Err, refl, sym, ap, subst, ◌∙◌, append_assoc, inl, inr, arith}
 use Rattle.std.specs.Prelude.{option_to_list}
-use Rattle.std.proofs.lemmas.List.{append-nil, length-append}
+use Rattle.std.proofs.lemmas.List.{append-nil}
 use Rattle.snl_syntax.specs.declared.kind.Kind.{Kind}
 use Rattle.snl_syntax.specs.declared.stop.Step.{Step}
 use Rattle.snl_syntax.specs.declared.stop.Step.TheVariants as steps
 use Rattle.snl_syntax.specs.Tokens.{Seat, same}
 use Rattle.snl_syntax.specs.Steps.{Outcome, Reader, and_then, pure, refuse, kind_at, expect, accept, more_or, many_within, many, again_or, until_within, until, within}
-use Rattle.snl_syntax.specs.Grammar.Base.{Each, First, Leaf, Within}
+use Rattle.snl_syntax.specs.Grammar.Base.{AreFree, Each, Leaf, Within}
 use Rattle.snl_syntax.specs.Grammar.Types.{Written}
 use Rattle.snl_syntax.proofs.Same.{same_true}
 use Rattle.snl_syntax.proofs.Local.{bind_ok, bind_err, chosen, ok_is, err_is}
@@ -34,10 +34,10 @@ pub data Both {A B : Type 0} (R : A → List Seat → List Seat → Type 0) (S :
 abbrev pub Joint : {A : Type 0} → (A → List Seat → List Seat → Type 0) → (A → List Seat → List Seat → Type 0) → List Seat → List Seat → Type 0
 Joint {A} R H k rest = (x : A) × (m : List Seat) × R x k m × H x m rest
 
--- The tokens from here on are free of the levels that are left: there are `extra` more, and fewer than `free` tokens.
+-- The tokens from here on are free of the levels that are left, and there are `extra` more.
 module _ (free extra : ℕ) where
   abbrev pub Free : List Seat → Type 0
-  Free k = (0 < extra) × (length k < free)
+  Free k = (0 < extra) × AreFree free k
 
   -- these kinds can stand there, and what is wanted is whole
   abbrev pub Makes : (List Seat → List Seat → Type 0) → List Kind → Type 0
@@ -49,8 +49,13 @@ module _ (free extra : ℕ) where
     -- where it fails, what is before can be completed
     pub stuck : (k j : List Seat) → p k ≡ Err j → (front : List Seat) × (more : List Kind) × (k ≡ front ++ j) × ((n : ℕ) (rest : List Seat) → Free (seats n more ++ rest) → G (front ++ (seats n more ++ rest)) rest)
 
+behind_free : (free : ℕ) (front k : List Seat) → AreFree free (front ++ k) → AreFree free k
+behind_free zero front k h = absurd h
+behind_free (suc n) [] k h = h
+behind_free (suc n) (s ∷ front) k h = behind_free (suc n) front k h.1
+
 pub free_behind : (free extra : ℕ) (front k : List Seat) → Free free extra (front ++ k) → Free free extra k
-free_behind free extra front k f = let h = length-append front k in (f.0, (let l : length (front ++ k) < free = f.1 in omega arith))
+free_behind free extra front k f = (f.0, behind_free free front k f.1)
 
 free_split : (free extra n : ℕ) (a b : List Kind) (rest : List Seat) → Free free extra (seats n (a ++ b) ++ rest) → Free free extra (seats n a ++ (seats (n + length a) b ++ rest))
 free_split free extra n a b rest f = subst (Free free extra) (seats-append n a b rest) f

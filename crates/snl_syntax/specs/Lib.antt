@@ -3,6 +3,7 @@ pub mod Operators
 pub mod Steps
 pub mod Reading
 pub mod Grammar
+pub mod Viability
 pub mod Nests
 pub mod Items
 pub mod ItemLaws
@@ -10,3 +11,4 @@ pub mod Kinds
 pub mod Parsing
 pub mod Marks
 pub mod NestsStatement
+pub mod Spelling

@@ -1,5 +1,5 @@
 -- The tokens of an item as pieces of a text.
-use Rattle.std.specs.Prelude.{◌≡◌, ℕ, ◌+◌, ◌≤◌, Bool, true, false, List, length, take, drop, map, Option, Some, None, Result, Ok, Err}
+use Rattle.std.specs.Prelude.{ℕ, ◌+◌, ◌≤◌, Bool, true, false, List, length, take, drop, map, Option, Some, None, Result, Err}
 use Rattle.snl_lex.specs.declared.piece.Class.{Class}
 use Rattle.snl_lex.specs.declared.piece.Class.TheVariants as class
 use Rattle.snl_lex.specs.declared.piece.Piece.{Piece}

@@ -2,8 +2,13 @@
 
 ghost use Rattle.std.specs.Prelude.{◌≡◌, ◌<◌, All, IfOk, None, Some, min, position, length};
 ghost use Rattle.snl_cut.specs.Cut.{ticked};
+ghost use Rattle.snl_syntax.specs.Grammar.Items.{IsItem, IsOnlyItem, MakeNoItem};
 ghost use Rattle.snl_syntax.specs.Parsing.{IfNoItem, LiesIn, bad_in, is_bad, kinds_in};
 ghost use Rattle.snl_syntax.specs.Reading.Items.{fault_of, item_of};
+ghost use Rattle.snl_syntax.specs.Spelling.Base.{Matches};
+ghost use Rattle.snl_syntax.specs.Spelling.Items.{spell_item};
+ghost use Rattle.snl_syntax.specs.Tokens.{ahead};
+ghost use Rattle.snl_syntax.specs.Viability.{IsFaultAt};
 
 use crate::fault::ParseFault;
 use crate::item::item_in;
@@ -82,9 +87,14 @@ pub fn parse_item(
     ensures ticks { work.new ≡ ticked work.old }
     ensures bad { bad_in result ≡ position is_bad tokens.now }
     ensures tree { IfOk result (λ t. item_of (kinds_in text.now tokens.now) ≡ Some t) }
+    ensures found { IfOk result (λ t. IsItem t (kinds_in text.now tokens.now)) }
+    ensures spelled { IfOk result (λ t. Matches (spell_item t) (ahead (kinds_in text.now tokens.now) 0)) }
+    ensures only { IfOk result (λ t. IsOnlyItem t (kinds_in text.now tokens.now)) }
     ensures none { IfNoItem result (λ n. item_of (kinds_in text.now tokens.now) ≡ None) }
+    ensures no_item { IfNoItem result (λ n. MakeNoItem (kinds_in text.now tokens.now)) }
     ensures inside { IfNoItem result (λ n. n < length tokens.now) }
     ensures blamed { IfNoItem result (λ n. n ≡ fault_of (kinds_in text.now tokens.now)) }
+    ensures fault { IfNoItem result (λ n. IsFaultAt (kinds_in text.now tokens.now) n) }
 {
     work.tick();
     match first_bad(tokens) {

@@ -1,5 +1,5 @@
 -- What the productions of the grammar are made of. Each word takes the tokens from its first on, and those behind its last.
-use Rattle.std.specs.Prelude.{◌≡◌, ℕ, zero, suc, ◌<◌, List, [], ◌∷◌, length, Option, Some, None}
+use Rattle.std.specs.Prelude.{◌≡◌, ℕ, zero, suc, ◌≤◌, List, [], ◌∷◌, Option, Some, None}
 use Rattle.snl_syntax.specs.declared.kind.Kind.{Kind}
 use Rattle.snl_syntax.specs.Tokens.{Seat}
 
@@ -25,8 +25,14 @@ abbrev pub Perhaps : {A : Type 0} → (A → List Seat → List Seat → Type 0)
 Perhaps R None k rest = k ≡ rest
 Perhaps R (Some x) k rest = R x k rest
 
--- What lies inside a level, where so many levels are left. Behind the first tokens, which are held to these levels, `extra` levels are free: only where fewer than `free` tokens are left.
+-- The tokens from here on are free of the levels that are left: each is the `free`th of an item, counted from 1, or stands behind it. With 0 none is free.
+abbrev pub AreFree : ℕ → List Seat → Type 0
+AreFree zero k = ⊥
+AreFree (suc n) [] = Unit {0}
+AreFree (suc n) (s ∷ k) = (n ≤ s.1) × AreFree (suc n) k
+
+-- What lies inside a level, where so many levels are left; tokens from the `free`th on may use `extra` more.
 abbrev pub Within : {A : Type 0} → ℕ → ℕ → ℕ → (A → List Seat → List Seat → Type 0) → A → List Seat → List Seat → Type 0
 Within free extra (suc depth) R x k rest = R x k rest
-Within free (suc extra) zero R x k rest = (length k < free) × R x k rest
+Within free (suc extra) zero R x k rest = AreFree free k × R x k rest
 Within free zero zero R x k rest = ⊥

@@ -1,6 +1,5 @@
 -- Declarations. Inner says what an expression without commas is one level deeper, and Value what stands behind `=`.
-use Rattle.std.specs.Prelude.{◌≡◌, ℕ, zero, suc, ◌<◌, Bool, false, List, [], ◌∷◌, length, Option}
-use Rattle.snl_syntax.specs.declared.kind.Kind.{Kind}
+use Rattle.std.specs.Prelude.{◌≡◌, ℕ, zero, suc, Bool, false, List, [], ◌∷◌, Option}
 use Rattle.snl_syntax.specs.declared.kind.Kind.TheVariants as kind
 use Rattle.snl_syntax.specs.declared.tree.expression.Expr.{Expr}
 use Rattle.snl_syntax.specs.declared.tree.declaration.Init.{Init}
@@ -8,7 +7,7 @@ use Rattle.snl_syntax.specs.declared.tree.declaration.Init.TheVariants as inits
 use Rattle.snl_syntax.specs.declared.tree.declaration.Declarator.{Declarator}
 use Rattle.snl_syntax.specs.declared.tree.declaration.Declaration.{Declaration}
 use Rattle.snl_syntax.specs.Tokens.{Seat}
-use Rattle.snl_syntax.specs.Grammar.Base.{Each, First, Leaf, Perhaps}
+use Rattle.snl_syntax.specs.Grammar.Base.{AreFree, Each, First, Leaf, Perhaps}
 use Rattle.snl_syntax.specs.Grammar.Types.{Written, IsType, IsPointer}
 use Rattle.snl_syntax.specs.Grammar.Expressions.{AreCommas, IsSequence, IsAssignx}
 
@@ -38,10 +37,10 @@ pub data IsInitOf (Here : Expr → List Seat → List Seat → Type 0) (Inner : 
   value : (x : Expr) → t ≡ inits.Value x → Here x k rest → IsInitOf Here Inner t k rest
   list : (xs : List Init) (trailing : Bool) (mid : List Seat) → t ≡ inits.List xs trailing → First kind.OpenBrace k mid → AreBraced Inner xs trailing mid rest → IsInitOf Here Inner t k rest
 
--- The value of a declarator that stands in so many levels; `extra` more are free where fewer than `free` tokens are left.
+-- The value of a declarator that stands in so many levels; tokens from the `free`th on may use `extra` more.
 abbrev pub IsInit : ℕ → ℕ → ℕ → Init → List Seat → List Seat → Type 0
 IsInit free extra (suc depth) t k rest = IsInitOf (IsAssignx free extra (suc depth)) (IsInit free extra depth) t k rest
-IsInit free (suc extra) zero t k rest = (length k < free) × IsInitOf (IsAssignx free (suc extra) zero) (IsInit free extra zero) t k rest
+IsInit free (suc extra) zero t k rest = AreFree free k × IsInitOf (IsAssignx free (suc extra) zero) (IsInit free extra zero) t k rest
 IsInit free zero zero t k rest = ⊥
 
 -- "=" init
@@ -68,8 +67,8 @@ pub record IsDeclarationOf (Inner : Expr → List Seat → List Seat → Type 0)
   pub declarators : AreCommas (IsDeclarator Inner Value) t.declarators m1 m2
   pub semicolon : First kind.Semicolon m2 rest
 
--- A declaration that stands in so many levels; `extra` more are free where fewer than `free` tokens are left.
+-- A declaration that stands in so many levels; tokens from the `free`th on may use `extra` more.
 abbrev pub IsDeclaration : ℕ → ℕ → ℕ → Declaration → List Seat → List Seat → Type 0
 IsDeclaration free extra (suc depth) t k rest = IsDeclarationOf (IsAssignx free extra depth) (IsInit free extra (suc depth)) t k rest
-IsDeclaration free (suc extra) zero t k rest = (length k < free) × IsDeclarationOf (IsAssignx free extra zero) (IsInit free (suc extra) zero) t k rest
+IsDeclaration free (suc extra) zero t k rest = AreFree free k × IsDeclarationOf (IsAssignx free extra zero) (IsInit free (suc extra) zero) t k rest
 IsDeclaration free zero zero t k rest = ⊥

@@ -1,6 +1,5 @@
 -- Expressions, from the tightest level to the loosest. Inner says what an expression without commas is one level deeper, and Names what the name of a type is there.
-use Rattle.std.specs.Prelude.{◌≡◌, Bool, true, false, ℕ, zero, suc, ◌<◌, List, [], ◌∷◌, length}
-use Rattle.snl_syntax.specs.declared.kind.Kind.{Kind}
+use Rattle.std.specs.Prelude.{◌≡◌, Bool, true, false, ℕ, zero, suc, List, [], ◌∷◌}
 use Rattle.snl_syntax.specs.declared.kind.Kind.TheVariants as kind
 use Rattle.snl_syntax.specs.declared.operator.Binary.{Binary}
 use Rattle.snl_syntax.specs.declared.operator.Assignment.{Assignment}
@@ -14,7 +13,7 @@ use Rattle.snl_syntax.specs.declared.tree.expression.Expr.{Expr}
 use Rattle.snl_syntax.specs.declared.tree.expression.Expr.TheVariants as tree
 use Rattle.snl_syntax.specs.Operators.{tier, binary_mark, assignment_mark, sign_mark}
 use Rattle.snl_syntax.specs.Tokens.{Seat}
-use Rattle.snl_syntax.specs.Grammar.Base.{Each, First, Leaf, Within}
+use Rattle.snl_syntax.specs.Grammar.Base.{AreFree, Each, First, Leaf, Within}
 use Rattle.snl_syntax.specs.Grammar.Types.{IsTypeName}
 
 abbrev pub Grammar : Type 0 → Type 1
@@ -130,10 +129,10 @@ pub data IsSingle (Inner : Expr → List Seat → List Seat → Type 0) (Names :
   value : IsConditional Inner Names t k rest → IsSingle Inner Names t k rest
   assignment : (target : Expr × Assignment) (targets : List (Expr × Assignment)) (x : Expr) (mid : List Seat) → t ≡ tree.Assigned (target ∷ targets) x → Each (IsTarget Inner Names) (target ∷ targets) k mid → IsConditional Inner Names x mid rest → IsSingle Inner Names t k rest
 
--- An expression without commas, in so many levels; `extra` more are free where fewer than `free` tokens are left.
+-- An expression without commas, in so many levels; tokens from the `free`th on may use `extra` more.
 abbrev pub IsAssignx : ℕ → ℕ → ℕ → Expr → List Seat → List Seat → Type 0
 IsAssignx free extra (suc depth) t k rest = IsSingle (IsAssignx free extra depth) (Within free extra depth IsTypeName) t k rest
-IsAssignx free (suc extra) zero t k rest = (length k < free) × IsSingle (IsAssignx free extra zero) (Within free extra zero IsTypeName) t k rest
+IsAssignx free (suc extra) zero t k rest = AreFree free k × IsSingle (IsAssignx free extra zero) (Within free extra zero IsTypeName) t k rest
 IsAssignx free zero zero t k rest = ⊥
 
 abbrev pub IsExpr : ℕ → ℕ → ℕ → Expr → List Seat → List Seat → Type 0

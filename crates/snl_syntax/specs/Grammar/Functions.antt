@@ -1,6 +1,5 @@
 -- Functions, structs, and the items that begin with a type.
-use Rattle.std.specs.Prelude.{◌≡◌, ℕ, zero, suc, ◌<◌, List, [], ◌∷◌, length, Option, Some, None}
-use Rattle.snl_syntax.specs.declared.kind.Kind.{Kind}
+use Rattle.std.specs.Prelude.{◌≡◌, ℕ, zero, suc, List, [], ◌∷◌, Option, Some, None}
 use Rattle.snl_syntax.specs.declared.kind.Kind.TheVariants as kind
 use Rattle.snl_syntax.specs.declared.tree.expression.Expr.{Expr}
 use Rattle.snl_syntax.specs.declared.tree.declaration.Declaration.{Declaration}
@@ -12,7 +11,7 @@ use Rattle.snl_syntax.specs.declared.tree.item.StructMember.TheVariants as membe
 use Rattle.snl_syntax.specs.declared.tree.item.Item.{Item}
 use Rattle.snl_syntax.specs.declared.tree.item.Item.TheVariants as items
 use Rattle.snl_syntax.specs.Tokens.{Seat}
-use Rattle.snl_syntax.specs.Grammar.Base.{Each, First, Leaf, Perhaps}
+use Rattle.snl_syntax.specs.Grammar.Base.{AreFree, Each, First, Leaf, Perhaps}
 use Rattle.snl_syntax.specs.Grammar.Types.{IsType, IsPointer}
 use Rattle.snl_syntax.specs.Grammar.Expressions.{AreCommas, IsAssignx}
 use Rattle.snl_syntax.specs.Grammar.Declarations.{IsLength}
@@ -27,10 +26,10 @@ pub record IsParameterOf (Inner : Expr → List Seat → List Seat → Type 0) (
   pub name : Perhaps (Leaf kind.Name) t.name m2 m3
   pub lengths : Each (IsLength Inner) t.lengths m3 rest
 
--- A parameter that stands in so many levels; `extra` more are free where fewer than `free` tokens are left.
+-- A parameter that stands in so many levels; tokens from the `free`th on may use `extra` more.
 abbrev pub IsParameter : ℕ → ℕ → ℕ → Parameter → List Seat → List Seat → Type 0
 IsParameter free extra (suc depth) t k rest = IsParameterOf (IsAssignx free extra depth) t k rest
-IsParameter free (suc extra) zero t k rest = (length k < free) × IsParameterOf (IsAssignx free extra zero) t k rest
+IsParameter free (suc extra) zero t k rest = AreFree free k × IsParameterOf (IsAssignx free extra zero) t k rest
 IsParameter free zero zero t k rest = ⊥
 
 -- [ param { "," param } ] ")"

@@ -1,5 +1,5 @@
 -- Items, and which item all tokens of a list make.
-use Rattle.std.specs.Prelude.{◌≡◌, ℕ, suc, List, [], Option, Some, None}
+use Rattle.std.specs.Prelude.{◌≡◌, ℕ, suc, List, [], Option}
 use Rattle.snl_syntax.specs.declared.kind.Kind.{Kind}
 use Rattle.snl_syntax.specs.declared.kind.Kind.TheVariants as kind
 use Rattle.snl_syntax.specs.declared.tree.statement.Member.{Member}
@@ -41,7 +41,7 @@ pub record IsSetBegin (n : ℕ) (k rest : List Seat) : Type 0 where
   pub name : Leaf kind.Name n m1 m2
   pub opening : First kind.OpenBrace m2 rest
 
--- An item that stands in two levels more than `depth`: so the members of a state stand in one more, and what the brackets of a `when` hold in `depth`. `extra` more are free where fewer than `free` tokens are left.
+-- An item that stands in two levels more than `depth`: so the members of a state stand in one more, and what the brackets of a `when` hold in `depth`. Tokens from the `free`th on may use `extra` more.
 pub data IsItemWithin (free extra depth : ℕ) (t : Item) (k rest : List Seat) : Type 0 where
   header : (n : ℕ) (ns : Option (List ℕ)) → t ≡ items.Header n ns → IsHeader n ns k rest → IsItemWithin free extra depth t k rest
   set_begin : (n : ℕ) → t ≡ items.SsBegin n → IsSetBegin n k rest → IsItemWithin free extra depth t k rest
@@ -59,3 +59,11 @@ pub data IsItemWithin (free extra depth : ℕ) (t : Item) (k rest : List Seat) :
 -- The item that all tokens of these kinds make: each leaf is the number of its token, and no token lies within more than 100 levels.
 abbrev pub IsItem : Item → List Kind → Type 0
 IsItem t kinds = IsItemWithin 0 0 99 t (ahead kinds 0) []
+
+-- No other item consists of these tokens.
+abbrev pub IsOnlyItem : Item → List Kind → Type 0
+IsOnlyItem t kinds = (u : Item) → IsItem u kinds → u ≡ t
+
+-- No item consists of these tokens.
+abbrev pub MakeNoItem : List Kind → Type 0
+MakeNoItem kinds = (u : Item) → IsItem u kinds → ⊥

@@ -1,6 +1,6 @@
 -- Statements and blocks. Inside says what an expression is one level deeper, Outside what it is at a statement's own level, Declared what a declaration is one level deeper, and Inner what a statement is there.
 -- A statement that stands before an `else` doesn't end with an `if` that has none: it is closed. The flag `closed` is handed on to what a statement ends with.
-use Rattle.std.specs.Prelude.{◌≡◌, ◌<◌, ◌++◌, ℕ, zero, suc, Bool, true, false, List, [], ◌∷◌, length, Option, Some, None}
+use Rattle.std.specs.Prelude.{◌≡◌, ◌++◌, ℕ, zero, suc, Bool, true, false, List, [], ◌∷◌, Option, Some, None}
 use Rattle.snl_syntax.specs.declared.kind.Kind.{Kind}
 use Rattle.snl_syntax.specs.declared.kind.Kind.TheVariants as kind
 use Rattle.snl_syntax.specs.declared.tree.expression.Expr.{Expr}
@@ -11,7 +11,7 @@ use Rattle.snl_syntax.specs.declared.tree.statement.Member.TheVariants as member
 use Rattle.snl_syntax.specs.declared.tree.statement.Stmt.{Stmt}
 use Rattle.snl_syntax.specs.declared.tree.statement.Stmt.TheVariants as tree
 use Rattle.snl_syntax.specs.Tokens.{Seat}
-use Rattle.snl_syntax.specs.Grammar.Base.{Each, First, Leaf, Perhaps}
+use Rattle.snl_syntax.specs.Grammar.Base.{AreFree, Each, First, Leaf, Perhaps}
 use Rattle.snl_syntax.specs.Grammar.Expressions.{IsExpr}
 use Rattle.snl_syntax.specs.Grammar.Declarations.{IsDeclaration}
 
@@ -117,13 +117,13 @@ pub data IsStmt (Inside Outside : Expr → List Seat → List Seat → Type 0) (
   -- "state" NAME ";"
   change : (w n : ℕ) (m1 m2 : List Seat) → t ≡ tree.State w n → Leaf kind.State w k m1 → Leaf kind.Name n m1 m2 → First kind.Semicolon m2 rest → IsStmt Inside Outside Declared Inner place closed t k rest
 
--- A statement and a block, in so many levels; `extra` more are free where fewer than `free` tokens are left.
+-- A statement and a block, in so many levels; tokens from the `free`th on may use `extra` more.
 abbrev pub IsStatement : ℕ → ℕ → ℕ → Place → Bool → Stmt → List Seat → List Seat → Type 0
 IsStatement free extra (suc depth) place closed t k rest = IsStmt (IsExpr free extra depth) (IsExpr free extra (suc depth)) (IsDeclaration free extra depth) (IsStatement free extra depth) place closed t k rest
-IsStatement free (suc extra) zero place closed t k rest = (length k < free) × IsStmt (IsExpr free extra zero) (IsExpr free (suc extra) zero) (IsDeclaration free extra zero) (IsStatement free extra zero) place closed t k rest
+IsStatement free (suc extra) zero place closed t k rest = AreFree free k × IsStmt (IsExpr free extra zero) (IsExpr free (suc extra) zero) (IsDeclaration free extra zero) (IsStatement free extra zero) place closed t k rest
 IsStatement free zero zero place closed t k rest = ⊥
 
 abbrev pub IsBlockWithin : ℕ → ℕ → ℕ → List Member → List Seat → List Seat → Type 0
 IsBlockWithin free extra (suc depth) ts k rest = IsBlock (IsDeclaration free extra depth) (IsStatement free extra depth) ts k rest
-IsBlockWithin free (suc extra) zero ts k rest = (length k < free) × IsBlock (IsDeclaration free extra zero) (IsStatement free extra zero) ts k rest
+IsBlockWithin free (suc extra) zero ts k rest = AreFree free k × IsBlock (IsDeclaration free extra zero) (IsStatement free extra zero) ts k rest
 IsBlockWithin free zero zero ts k rest = ⊥

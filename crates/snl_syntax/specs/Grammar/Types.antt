@@ -1,5 +1,5 @@
 -- Types, and names of types.
-use Rattle.std.specs.Prelude.{◌≡◌, ℕ, Bool, true, false, List, [], ◌∷◌}
+use Rattle.std.specs.Prelude.{◌≡◌, Bool, true, false, List, [], ◌∷◌}
 use Rattle.snl_syntax.specs.declared.kind.Kind.{Kind}
 use Rattle.snl_syntax.specs.declared.kind.Kind.TheVariants as kind
 use Rattle.snl_syntax.specs.declared.tree.types.Integer.{Integer}

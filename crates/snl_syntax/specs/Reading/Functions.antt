@@ -5,7 +5,7 @@
 --   A function and a declaration begin alike, with a type, stars and a name: then `(` makes a function, any other token a declaration.
 --   An item's `struct` and a name are taken first: then `{` begins the struct's members, any other token makes them a type.
 --   Among a struct's members `}` ends them, CCODE is one, and any other token begins a declaration.
-use Rattle.std.specs.Prelude.{ℕ, zero, suc, ◌-◌, Bool, false, List, [], ◌∷◌, Option, Some, None}
+use Rattle.std.specs.Prelude.{ℕ, zero, suc, ◌-◌, Bool, false, List, [], Option, Some, None}
 use Rattle.snl_syntax.specs.declared.kind.Kind.{Kind}
 use Rattle.snl_syntax.specs.declared.kind.Kind.TheVariants as kind
 use Rattle.snl_syntax.specs.declared.tree.types.Base.{Base}
@@ -13,7 +13,6 @@ use Rattle.snl_syntax.specs.declared.tree.types.Base.TheVariants as bases
 use Rattle.snl_syntax.specs.declared.tree.types.QualifiedType.{QualifiedType}
 use Rattle.snl_syntax.specs.declared.tree.types.Pointer.{Pointer}
 use Rattle.snl_syntax.specs.declared.tree.expression.Expr.{Expr}
-use Rattle.snl_syntax.specs.declared.tree.declaration.Init.{Init}
 use Rattle.snl_syntax.specs.declared.tree.declaration.Declaration.{Declaration}
 use Rattle.snl_syntax.specs.declared.tree.declaration.Parameter.{Parameter}
 use Rattle.snl_syntax.specs.declared.tree.statement.Member.{Member}

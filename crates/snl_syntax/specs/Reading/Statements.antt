@@ -4,13 +4,12 @@
 --   The body of `if`, `while`, `for` and `else` is a block where `{` stands, which opens its level by its braces; any other token begins a statement one level deeper.
 --   Behind the body of an `if`, `else` is taken first; then `if` goes on with the chain, and any other token begins the body that ends it. So an `else` belongs to the nearest `if`.
 --   Behind `return` and in the brackets of `for`, the mark that ends a part means that it is empty; any other token begins an expression.
-use Rattle.std.specs.Prelude.{ℕ, zero, suc, Bool, true, false, List, [], ◌∷◌, Option, Some, None}
+use Rattle.std.specs.Prelude.{ℕ, zero, suc, Bool, true, false, List, [], Option, Some, None}
 use Rattle.snl_syntax.specs.declared.kind.Kind.{Kind}
 use Rattle.snl_syntax.specs.declared.kind.Kind.TheVariants as kind
 use Rattle.snl_syntax.specs.declared.stop.Step.{Step}
 use Rattle.snl_syntax.specs.declared.stop.Step.TheVariants as steps
 use Rattle.snl_syntax.specs.declared.tree.expression.Expr.{Expr}
-use Rattle.snl_syntax.specs.declared.tree.declaration.Declaration.{Declaration}
 use Rattle.snl_syntax.specs.declared.tree.statement.ForHead.{ForHead}
 use Rattle.snl_syntax.specs.declared.tree.statement.Member.{Member}
 use Rattle.snl_syntax.specs.declared.tree.statement.Member.TheVariants as members

@@ -1,5 +1,5 @@
 -- Types, and names of types.
-use Rattle.std.specs.Prelude.{ℕ, Bool, true, false, List, [], ◌∷◌, Option, Some, None, if◌then◌else◌}
+use Rattle.std.specs.Prelude.{ℕ, Bool, true, false, List, [], Option, Some, None, if◌then◌else◌}
 use Rattle.snl_syntax.specs.declared.kind.Kind.{Kind}
 use Rattle.snl_syntax.specs.declared.kind.Kind.TheVariants as kind
 use Rattle.snl_syntax.specs.declared.tree.types.Integer.{Integer}
@@ -10,8 +10,7 @@ use Rattle.snl_syntax.specs.declared.tree.types.QualifiedType.{QualifiedType}
 use Rattle.snl_syntax.specs.declared.tree.types.Pointer.{Pointer}
 use Rattle.snl_syntax.specs.declared.tree.types.Pointer.TheVariants as pointers
 use Rattle.snl_syntax.specs.declared.tree.types.TypeName.{TypeName}
-use Rattle.snl_syntax.specs.Tokens.{Seat}
-use Rattle.snl_syntax.specs.Steps.{Reader, ◌>>=◌, ◌>>◌, pure, refuse, kind_at, expect, accept, word, many, within}
+use Rattle.snl_syntax.specs.Steps.{Reader, ◌>>=◌, ◌>>◌, pure, refuse, kind_at, expect, accept, word, many}
 
 abbrev pub short : Bool → Integer
 short b = if b then integers.ShortInt else integers.Short

@@ -1,5 +1,4 @@
 use Rattle.std.proofs.Common.{◌≡◌, ◌-◌, length, arith}
-use Rattle.snl_syntax.specs.Tokens.{ahead}
 use Rattle.snl_syntax.proofs.Ahead.{length-ahead}
 use Rattle.snl_syntax.proofs.token_steps.turns.Goals as goal
 

@@ -1,7 +1,7 @@
-use Rattle.std.proofs.Common.{◌≡◌, ◌<◌, ◌≤◌, [], Some, Ok, ap, ◌∙◌, ◌-◌, arith}
+use Rattle.std.proofs.Common.{[], Ok, ap, ◌∙◌, ◌-◌, arith}
 use Rattle.std.proofs.lemmas.Result.{err_from_is_err_and}
 use Rattle.snl_syntax.specs.Tokens.{ahead}
-use Rattle.snl_syntax.specs.Steps.{many, within}
+use Rattle.snl_syntax.specs.Steps.{many}
 use Rattle.snl_syntax.specs.Reading.Expressions.{assignx, type_within, operand, next_link}
 use Rattle.snl_syntax.proofs.Tiers.{tiers_read, tiers_err}
 use Rattle.snl_syntax.proofs.Turns.{turns_begin, turn_err, turn_end, turn_more, turns_over}

@@ -1,6 +1,6 @@
 use Rattle.std.proofs.Common.{◌≡◌, [], ◌-◌, ◌+◌, ◌*◌}
 use Rattle.snl_syntax.specs.Tokens.{ahead}
-use Rattle.snl_syntax.specs.Steps.{many, many_within, within}
+use Rattle.snl_syntax.specs.Steps.{many, many_within}
 use Rattle.snl_syntax.specs.Reading.Expressions.{assignx, type_within, operand, next_link}
 use Rattle.snl_syntax.proofs.expression.Expressions.+tiers.Given as goal
 

@@ -1,6 +1,6 @@
-use Rattle.std.proofs.Common.{◌≡◌, [], ◌-◌, ◌+◌, ◌*◌}
+use Rattle.std.proofs.Common.{◌≡◌, [], ◌-◌}
 use Rattle.snl_syntax.specs.Tokens.{ahead}
-use Rattle.snl_syntax.specs.Steps.{many, many_within, within}
+use Rattle.snl_syntax.specs.Steps.{many, many_within}
 use Rattle.snl_syntax.specs.Reading.Expressions.{assignx, type_within, next_suffix}
 use Rattle.snl_syntax.proofs.expression.Expressions.suffixes.Given as goal
 

@@ -1,0 +1,9 @@
+pub mod Base
+pub mod Types
+pub mod Expressions
+pub mod Declarations
+pub mod Statements
+pub mod Clauses
+pub mod Functions
+pub mod States
+pub mod Items

@@ -1,0 +1,23 @@
+//! The laws of the grammar of items. A function here does nothing: its contract is the law.
+
+ghost use Rattle.snl_syntax.specs.Grammar.Items.{IsItem};
+ghost use Rattle.snl_syntax.specs.Viability.{IsFaultAt, IsViable};
+ghost use Rattle.snl_syntax.specs.declared.kind.Kind.{Kind};
+ghost use Rattle.snl_syntax.specs.declared.tree.item.Item.{Item};
+ghost use Rattle.std.specs.Prelude.{◌≡◌, ℕ, ◌≤◌, List, length};
+
+/// One list of tokens makes one item at most.
+pub fn one_item()
+    ensures { (kinds : List Kind) (t u : Item) → IsItem t kinds → IsItem u kinds → t ≡ u }
+{}
+
+/// An item can begin with all its tokens; and where it can begin with some, it can with the first of them.
+pub fn viable_fronts()
+    ensures whole { (kinds : List Kind) (t : Item) → IsItem t kinds → IsViable kinds (length kinds) }
+    ensures shorter { (kinds : List Kind) (n m : ℕ) → m ≤ n → IsViable kinds n → IsViable kinds m }
+{}
+
+/// One token of a list at most is at fault.
+pub fn one_fault()
+    ensures { (kinds : List Kind) (n m : ℕ) → IsFaultAt kinds n → IsFaultAt kinds m → n ≡ m }
+{}
