@@ -1,5 +1,5 @@
 -- The ends of a cut stand in order, and none behind the list.
-use Rattle.std.proofs.Common.{arith, ◌≡◌, ℕ, ◌+◌, ◌-◌, ◌<◌, ◌≤◌, List, [], ◌∷◌, length, drop, length-drop, subst}
+use Rattle.std.proofs.Common.{arith, ◌≡◌, ℕ, ◌+◌, ◌-◌, ◌<◌, List, [], ◌∷◌, length, drop, length-drop}
 use Rattle.snl_cut.specs.Cut.{IsFront, Walks}
 use Rattle.snl_session.specs.Parts.{EndsWithin}
 

@@ -1,5 +1,5 @@
 -- What a choice names.
-use Rattle.std.proofs.Common.{◌≡◌, ℕ, List, [], ◌++◌, Option, Some, None, ap, sym, ◌∙◌}
+use Rattle.std.proofs.Common.{◌≡◌, ℕ, List, Option, Some, None, ap, sym, ◌∙◌}
 use Rattle.snl_syntax.specs.declared.tree.expression.Expr.{Expr}
 use Rattle.snl_syntax.specs.declared.tree.statement.Member.TheOpen.{Stmt-F}
 use Rattle.snl_syntax.specs.declared.tree.statement.Member.TheFolds.{fold-roll-Stmt}

@@ -1,5 +1,5 @@
 -- One more element of a list: what is done, and what is left.
-use Rattle.std.proofs.Common.{◌≡◌, ℕ, suc, ◌+◌, ◌<◌, Bool, List, [], ◌∷◌, ◌++◌, length, take, drop, get_or, map, Option, Some, None, option_to_list, refl, ap, sym, ◌∙◌, append_assoc, add-one, drop-cons}
+use Rattle.std.proofs.Common.{◌≡◌, ℕ, ◌+◌, ◌<◌, Bool, List, [], ◌∷◌, ◌++◌, length, take, drop, get_or, map, Option, Some, None, option_to_list, refl, ap, sym, ◌∙◌, append_assoc, add-one, drop-cons}
 use Rattle.std.specs.List.{filter, filter_map, enumerate_from, cons_option}
 use Rattle.std.proofs.Math.Seq.{take-add}
 use Rattle.std.proofs.lemmas.List.{append-nil, map-append}

@@ -1,5 +1,5 @@
 -- What is found at a faulty item: one finding, and no other rule speaks of the item.
-use Rattle.std.specs.Prelude.{ℕ, List, length, position, option_map, Option, Some, None}
+use Rattle.std.specs.Prelude.{ℕ, List, position, option_map, Option, Some, None}
 use Rattle.std.specs.List.{filter_map, slice_get}
 use Rattle.snl_lex.specs.declared.piece.Piece.{Piece}
 use Rattle.snl_syntax.specs.declared.tree.item.Item.{Item}

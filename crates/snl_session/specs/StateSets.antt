@@ -1,5 +1,5 @@
 -- The state sets of a program, their states, and what is found in them: states with one name, and targets that are no states.
-use Rattle.std.specs.Prelude.{ℕ, Bool, true, false, not, ◌==◌, ◌&&◌, ◌||◌, if◌then◌else◌, List, [], ◌∷◌, ◌++◌, take, filter, map, flat_map, take_while, Option, Some, None, is_some, codes}
+use Rattle.std.specs.Prelude.{ℕ, Bool, true, false, not, ◌&&◌, ◌||◌, if◌then◌else◌, List, [], ◌∷◌, ◌++◌, take, filter, map, flat_map, take_while, Option, Some, None, is_some, codes}
 use Rattle.std.specs.List.{enumerate_from, filter_map, list_any, slice_get}
 use Rattle.std.specs.Str.{bytes_eq}
 use Rattle.snl_lex.specs.declared.piece.Class.{Class}

@@ -26,20 +26,24 @@ fn quoted<'a>(text: &'a [u8], diagnostic: &Diagnostic) -> &'a [u8] {
     &behind[..diagnostic.subject.min(behind.len())]
 }
 
-// The text has these diagnostics: line, code and what is quoted.
+// The session has these diagnostics: line, code and what is quoted.
+fn expect_diagnostics(rt: &impl Abort, session: &Session, wanted: &[(usize, Code, &[u8])]) {
+    assert_eq!(rt; session.diagnostics().len(), wanted.len());
+    for (diagnostic, (line, code, subject)) in session.diagnostics().iter().zip(wanted) {
+        assert_eq!(rt; diagnostic.line, *line);
+        assert_eq!(rt; diagnostic.file, None);
+        assert_eq!(rt; diagnostic.code, *code);
+        assert_eq!(rt; quoted(session.text(), diagnostic), *subject);
+    }
+}
+
 fn expect_found(
     rt: &(impl Abort + AllocGlobal),
     text: &[u8],
     wanted: &[(usize, Code, &[u8])],
 ) -> Result<(), Refused> {
     let session = session_over(rt.alloc(), text)?;
-    assert_eq!(rt; session.diagnostics().len(), wanted.len());
-    for (diagnostic, (line, code, subject)) in session.diagnostics().iter().zip(wanted) {
-        assert_eq!(rt; diagnostic.line, *line);
-        assert_eq!(rt; diagnostic.file, None);
-        assert_eq!(rt; diagnostic.code, *code);
-        assert_eq!(rt; quoted(text, diagnostic), *subject);
-    }
+    expect_diagnostics(rt, &session, wanted);
     Ok(())
 }
 
@@ -120,6 +124,36 @@ fn refuses_in_order_and_changes_nothing(rt: HostRuntime) -> Result<(), Fail> {
     session.edit(45, 46, b"i")?;
     assert_eq!(rt; session.errors(), 0);
     assert_eq!(rt; session.diagnostics().len(), 0);
+    Ok(())
+}
+
+#[test]
+fn judges_the_text_anew_after_each_edit(rt: HostRuntime) -> Result<(), Fail> {
+    let mut session = session_over(rt.alloc(), WHOLE)?;
+    expect_diagnostics(&rt, &session, &[]);
+    // another state set begins before the second state
+    session.edit(141, 141, b"} ss b {\n")?;
+    expect_diagnostics(
+        &rt,
+        &session,
+        &[(11, Code::E10, b"s2"), (15, Code::E10, b"s1")],
+    );
+    session.edit(141, 150, b"")?;
+    expect_diagnostics(&rt, &session, &[]);
+    // a comment that isn't closed takes the second state
+    session.edit(141, 141, b"/*")?;
+    expect_diagnostics(
+        &rt,
+        &session,
+        &[(11, Code::E10, b"s2"), (13, Code::E01, b"")],
+    );
+    session.edit(141, 143, b"")?;
+    // the second state has another name
+    session.edit(149, 149, b"x")?;
+    expect_diagnostics(&rt, &session, &[(11, Code::E10, b"s2")]);
+    // a comment of lines before it
+    session.edit(90, 90, b"/*\n\n\n*/")?;
+    expect_diagnostics(&rt, &session, &[(14, Code::E10, b"s2")]);
     Ok(())
 }
 

@@ -1,10 +1,5 @@
-use Rattle.std.proofs.Common.{◌≡◌, ℕ, ◌<◌, None, Some, Err, length, position, get_or, ap, sym, subst, ◌∙◌}
-use Rattle.snl_syntax.specs.declared.fault.ParseFault.{ParseFault}
-use Rattle.snl_syntax.specs.declared.tree.item.Item.{Item}
-use Rattle.snl_syntax.specs.Parsing.{IfNoItem, bad_in, is_bad, kinds_in}
-use Rattle.snl_syntax.specs.Reading.Items.{fault_of, item_of}
-use Rattle.snl_session.specs.Faults.{fault_in}
-use Rattle.snl_session.specs.Program.{tree_in}
+use Rattle.std.proofs.Common.{◌≡◌, Some, position, ap, sym, ◌∙◌}
+use Rattle.snl_syntax.specs.Parsing.{is_bad}
 use Rattle.snl_session.proofs.Faults.{bad, refused, sound}
 use Rattle.snl_session.proofs.program.parsed.Goals as goal
 

@@ -1,4 +1,4 @@
-use Rattle.std.proofs.Common.{◌≡◌, ◌+◌, ◌++◌, ◌∷◌, drop, map, not, ap, ◌∙◌}
+use Rattle.std.proofs.Common.{◌≡◌, ◌+◌, ◌∷◌, drop, map, not, ap}
 use Rattle.std.specs.List.{filter, flat_map}
 use Rattle.snl_session.specs.declared.codes.Code.TheVariants.{E10}
 use Rattle.snl_session.specs.Parts.{part_of}

@@ -1,4 +1,4 @@
-use Rattle.std.proofs.Common.{◌≡◌, ◌+◌, ◌++◌, drop, get_or, map, option_to_list, not, ap, sym, ◌∙◌}
+use Rattle.std.proofs.Common.{◌+◌, drop, get_or, map, option_to_list, not, ap, ◌∙◌}
 use Rattle.std.specs.List.{filter, filter_map, slice_get}
 use Rattle.snl_session.specs.declared.codes.Code.TheVariants.{E10}
 use Rattle.snl_session.specs.StateSets.{at_name, is_among}

@@ -1,6 +1,6 @@
-use Rattle.std.proofs.Common.{rules, ◌≡◌, ◌++◌, IfOk, OnOk, ℕ, ap, ◌∙◌, arith}
+use Rattle.std.proofs.Common.{◌≡◌, ap, ◌∙◌, arith}
 use Rattle.std.proofs.lemmas.Grind.{common_steps}
-use Rattle.snl_session.specs.Targets.{named_by_block, named_by_stmt, targets_of, targets_of_member, named_by_choice}
+use Rattle.snl_session.specs.Targets.{named_by_stmt, named_by_choice}
 use Rattle.snl_session.proofs.Names.{named-If}
 use Rattle.snl_session.proofs.targets.+names.Goals as goal
 
