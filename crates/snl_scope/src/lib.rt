@@ -4,12 +4,21 @@
 
 mod codes;
 mod facts;
+mod links;
 mod name;
+mod names;
+mod order;
+mod origin;
+mod places;
 mod spaces;
 mod summary;
+mod tables;
+#[cfg(test)]
+mod tests;
 
 pub use codes::Code;
 pub use facts::{Assigned, Base, Fact, Level, LinkFault};
+pub use links::{Links, link};
 pub use name::Name;
 pub use summary::{
     ClauseKind, Coverage, Declared, Dims, ItemKind, Mention, Nature, Opening, Summary, Variable,
