@@ -1,0 +1,6 @@
+pub mod Below
+pub mod Places
+pub mod Order
+pub mod Names
+pub mod Linked
+pub mod Tables
