@@ -17,7 +17,6 @@ use Rattle.snl_scope.specs.Summaries.Declares.{declared_in}
 use Rattle.snl_scope.specs.Summaries.Targets.{targets_in}
 use Rattle.snl_scope.specs.Summaries.Tokens.{bytes_at, bytes_of, mention_at}
 use Rattle.snl_scope.specs.Summaries.Uses.{used_in}
-
 pub mod Tokens
 pub mod Expressions
 pub mod Uses

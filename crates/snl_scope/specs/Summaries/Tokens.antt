@@ -1,8 +1,13 @@
 -- What the tokens of an item say, by their numbers in it.
-use Rattle.std.specs.Prelude.{ℕ, List, [], take, drop, slice_get, Option, Some, None}
+use Rattle.std.specs.Prelude.{ℕ, List, [], take, drop, slice_get, All, Option, Some, None}
 use Rattle.snl_lex.specs.declared.piece.Piece.{Piece}
 use Rattle.snl_lex.specs.Numbers.{int_value_of}
+use Rattle.snl_syntax.specs.Parsing.{LiesIn}
 use Rattle.snl_scope.specs.declared.summary.Mention.{Mention}
+
+-- Each token lies in the text.
+abbrev pub IsSource : List ℕ → List Piece → Type 0
+IsSource text tokens = All (LiesIn text) tokens
 
 -- The bytes of a token.
 abbrev pub bytes_of : List ℕ → Piece → List ℕ
