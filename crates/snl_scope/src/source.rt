@@ -19,6 +19,7 @@ pub(crate) struct Source<'a> {
 
 impl<'a> Source<'a> {
     /// The bytes of a token.
+    #[tactic(auto, unfolding(crate::specs::Summaries::Tokens::bytes_at))]
     pub(crate) fn bytes(&self, number: usize) -> &'a [u8]
         requires { IsSource self.now.text.now self.now.tokens.now }
         ensures { result.now ≡ bytes_at self.now.text.now self.now.tokens.now number }
