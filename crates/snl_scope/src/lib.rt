@@ -3,6 +3,7 @@
 
 mod clauses_of;
 mod declarations;
+mod distinct;
 mod name;
 mod source;
 mod summarize;

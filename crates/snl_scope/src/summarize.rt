@@ -1,18 +1,18 @@
 //! The summary of an item: its tokens and its tree come in, what it says to the other items goes out.
 //! It knows nothing of the other items.
 
-ghost use Rattle.snl_scope.specs.Summaries.{kind_of, kind_of_tree, once, opening_by_word, opening_in, second_in, summary_in};
-ghost use Rattle.snl_scope.specs.Summaries.Tokens.{IsSource, bytes_at, mention_at};
+ghost use Rattle.snl_scope.specs.Summaries.{kind_of, kind_of_tree, opening_by_word, opening_in, second_in, summary_in};
+ghost use Rattle.snl_scope.specs.Summaries.Tokens.{IsSource, mention_at};
 ghost use Rattle.std.specs.Prelude.{◌≡◌, IfOk, map, option_copied};
 
 use crate::clauses_of::clauses_in;
 use crate::declarations::declared_in;
+use crate::distinct::names_once;
 use crate::name::Name;
 use crate::source::Source;
 use crate::summary::{ItemKind, Mention, Opening, Summary};
 use crate::targets::targets_in;
 use crate::uses_of::uses_in;
-use indexmap::IndexSet;
 use snl_cut::OutOfMemory;
 use snl_lex::{Class, Piece, token_text};
 use snl_syntax::tree::item::Item;
@@ -113,22 +113,6 @@ fn mentions(source: &Source, numbers: &[usize]) -> Result<Items<Mention>, OutOfM
         mentions.push(source.mention(*number)?)?;
     }
     Ok(Items::from_vec(mentions))
-}
-
-// The names at tokens, each once, where it comes first.
-fn names_once(source: &Source, numbers: &[usize]) -> Result<Items<Name>, OutOfMemory>
-    requires { IsSource source.now.text.now source.now.tokens.now }
-    ensures { IfOk result (λ names. names ≡ once (map (bytes_at source.now.text.now source.now.tokens.now) numbers.now)) }
-{
-    let mut found = IndexSet::new(source.alloc);
-    let mut names = Vec::new(source.alloc);
-    for number in numbers {
-        let name = source.bytes(*number);
-        if found.insert(name)? {
-            names.push(Name::new(source.alloc, name)?)?;
-        }
-    }
-    Ok(Items::from_vec(names))
 }
 
 /// The summary of the item that consists of these tokens, of which each lies in the text. `tree` is the item's tree; an item
