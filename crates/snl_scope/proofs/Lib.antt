@@ -1,3 +1,4 @@
 pub mod Operands
 pub mod Branches
 pub mod Kept
+pub mod Firsts

@@ -10,6 +10,7 @@ mod summarize;
 #[cfg(test)]
 mod summarize_tests;
 mod summary;
+mod summary_laws;
 mod targets;
 mod uses;
 mod uses_of;
@@ -20,3 +21,4 @@ pub use summary::{
     ClauseKind, Coverage, Declared, Dims, ItemKind, Mention, Nature, Opening, Summary, Variable,
     VariableClause,
 };
+pub use summary_laws::names_kept_once;
