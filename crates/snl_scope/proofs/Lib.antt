@@ -6,3 +6,7 @@ pub mod Marks
 pub mod Numbering
 pub mod Equality
 pub mod Entries
+pub mod Operands
+pub mod Branches
+pub mod Kept
+pub mod Firsts

@@ -4,3 +4,4 @@ pub mod Order
 pub mod Names
 pub mod Linked
 pub mod Tables
+pub mod Summaries
