@@ -1,0 +1,5 @@
+pub mod Below
+pub mod Places
+pub mod Order
+pub mod Names
+pub mod Linked
