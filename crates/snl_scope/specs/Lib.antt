@@ -3,3 +3,4 @@ pub mod Places
 pub mod Order
 pub mod Names
 pub mod Linked
+pub mod Summaries

@@ -2,15 +2,26 @@
 //! there, and which names and items are out of order. It knows nothing of bytes' offsets, nor of what an item does.
 #![tactic(auto)]
 
+mod clauses_of;
 mod codes;
+mod declarations;
 mod facts;
 mod name;
+mod source;
 mod spaces;
+mod summarize;
+#[cfg(test)]
+mod summarize_tests;
 mod summary;
+pub mod targets;
+pub mod uses;
+mod uses_of;
 
 pub use codes::Code;
 pub use facts::{Assigned, Base, Fact, Level, LinkFault};
 pub use name::Name;
+pub use source::Source;
+pub use summarize::summary_of;
 pub use summary::{
     ClauseKind, Coverage, Declared, Dims, ItemKind, Mention, Nature, Opening, Summary, Variable,
     VariableClause,
