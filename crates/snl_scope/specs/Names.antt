@@ -1,5 +1,5 @@
 -- The names that items bring into spaces of names, and those that stand twice in one.
-use Rattle.std.specs.Prelude.{ℕ, zero, suc, Bool, true, false, ◌&&◌, if◌then◌else◌, List, [], ◌∷◌, ◌++◌, map, length, slice_get, nat_eq, bytes_eq, position, Option, None, Some, is_some, option_map, option_to_list}
+use Rattle.std.specs.Prelude.{ℕ, zero, suc, Bool, true, false, ◌&&◌, if◌then◌else◌, List, [], ◌∷◌, ◌++◌, map, length, slice_get, nat_eq, bytes_eq, position, Option, None, Some, is_some, option_to_list}
 use Rattle.std.specs.Option.{option_map_or}
 use Rattle.snl_scope.specs.declared.codes.Code.{Code}
 use Rattle.snl_scope.specs.declared.codes.Code.TheVariants.{E07, E08, E09}

@@ -1,6 +1,5 @@
 -- The order of items: their phases, and what is found where they are out of place.
 use Rattle.std.specs.Prelude.{ℕ, Bool, true, false, not, ◌&&◌, ◌||◌, if◌then◌else◌, List, [], ◌∷◌, ◌++◌, map, length, slice_get, nat_lt, Option, None, Some, is_some, is_none, option_and_then}
-use Rattle.std.specs.Option.{option_map_or}
 use Rattle.snl_scope.specs.declared.codes.Code.{Code}
 use Rattle.snl_scope.specs.declared.codes.Code.TheVariants.{E03, E04, E05, E06}
 use Rattle.snl_scope.specs.declared.facts.LinkFault.{LinkFault}

@@ -5,6 +5,7 @@
 mod clauses_of;
 mod codes;
 mod declarations;
+mod distinct;
 mod facts;
 mod name;
 mod source;
@@ -15,9 +16,10 @@ mod summarize_tests;
 mod summary;
 pub mod targets;
 pub mod uses;
-mod uses_of;
+pub mod uses_of;
 
 pub use codes::Code;
+pub use distinct::NameSet;
 pub use facts::{Assigned, Base, Fact, Level, LinkFault};
 pub use name::Name;
 pub use source::Source;

@@ -1,6 +1,6 @@
-use Rattle.std.proofs.Common.{rules, ◌≡◌, ◌++◌, IfOk, OnOk, ℕ, ap, ◌∙◌, arith}
+use Rattle.std.proofs.Common.{◌≡◌, ap, ◌∙◌, arith}
 use Rattle.std.proofs.lemmas.Grind.{common_steps}
-use Rattle.snl_scope.specs.Summaries.Targets.{named_by_block, named_by_stmt, named_by_choice}
+use Rattle.snl_scope.specs.Summaries.Targets.{named_by_stmt, named_by_choice}
 use Rattle.snl_scope.proofs.Branches.{named-If}
 use Rattle.snl_scope.proofs.targets.+names.Goals as goal
 

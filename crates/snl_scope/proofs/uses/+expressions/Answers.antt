@@ -1,6 +1,6 @@
-use Rattle.std.proofs.Common.{◌≡◌, ◌++◌, arith, ap, map, ◌∙◌}
+use Rattle.std.proofs.Common.{arith, ap, ◌∙◌}
 use Rattle.std.proofs.lemmas.Grind.{common_steps}
-use Rattle.snl_scope.specs.Summaries.Expressions.{operand, used_by_expr, used_in_all, used_in_arms, used_in_links, used_in_targets}
+use Rattle.snl_scope.specs.Summaries.Expressions.{used_by_expr}
 use Rattle.snl_scope.proofs.Operands.{used-Assigned, used-Chain, used-Conditional, used-Sequence}
 use Rattle.snl_scope.proofs.uses.+expressions.Goals as goal
 

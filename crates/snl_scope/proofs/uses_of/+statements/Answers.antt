@@ -1,4 +1,4 @@
-use Rattle.std.proofs.Common.{◌≡◌, ◌++◌, ap, ◌∙◌, arith}
+use Rattle.std.proofs.Common.{◌≡◌, ap, ◌∙◌, arith}
 use Rattle.std.proofs.lemmas.Grind.{common_steps}
 use Rattle.snl_scope.specs.Summaries.Uses.{used_by_choice, used_by_stmt}
 use Rattle.snl_scope.proofs.Branches.{used-If}
