@@ -13,13 +13,13 @@ use sqlite_items::Items;
 use std::alloc::Global;
 use std::marker::Model;
 
-// The different names so far, which contracts see as their list.
+/// Different names, which contracts see as their list, in the order in which they came.
 #[derive(Drop)]
-struct Found<'a> {
+pub struct NameSet<'a> {
     held: IndexSet<&'a [u8]>,
 }
 
-impl<'a> Model for Found<'a> {
+impl<'a> Model for NameSet<'a> {
     ghost use Rattle.std.specs.Prelude.{ℕ, List, map};
 
     ghost Value = { List (List ℕ) };
@@ -27,21 +27,28 @@ impl<'a> Model for Found<'a> {
     ghost view = { λ a. map (λ k. k.now) a.held.keys };
 }
 
-impl<'a> Found<'a> {
-    fn new(alloc: Global) -> Found<'a>
+impl<'a> NameSet<'a> {
+    pub fn new(alloc: Global) -> NameSet<'a>
         ensures { result ≡ [] }
     {
-        Found {
+        NameSet {
             held: IndexSet::new(alloc),
         }
     }
 
-    // Takes in a name, and says whether it is new.
-    fn add(&mut self, name: &'a [u8]) -> Result<bool, OutOfMemory>
+    /// Takes in a name, and says whether it is new.
+    pub fn add(&mut self, name: &'a [u8]) -> Result<bool, OutOfMemory>
         ensures names { OnOk result (self.new ≡ with_new self.old name.now) }
         ensures added { IfOk result (λ added. added ≡ not (list_any (bytes_eq name.now) self.old)) }
     {
         Ok(self.held.insert(name)?)
+    }
+
+    /// Whether a name is among them.
+    pub fn contains(&self, name: &[u8]) -> bool
+        ensures { result ≡ list_any (bytes_eq name.now) self.now }
+    {
+        self.held.contains(name)
     }
 }
 
@@ -50,7 +57,7 @@ pub(crate) fn names_once(source: &Source, numbers: &[usize]) -> Result<Items<Nam
     requires { IsSource source.now.text.now source.now.tokens.now }
     ensures { IfOk result (λ names. names ≡ once (map (bytes_at source.now.text.now source.now.tokens.now) numbers.now)) }
 {
-    let mut found = Found::new(source.alloc);
+    let mut found = NameSet::new(source.alloc);
     let mut names = Vec::new(source.alloc);
     for number in numbers {
         let name = source.bytes(*number);

@@ -21,16 +21,18 @@ mod summarize_tests;
 mod summary;
 mod summary_laws;
 mod tables;
-mod targets;
+pub mod targets;
 #[cfg(test)]
 mod tests;
-mod uses;
-mod uses_of;
+pub mod uses;
+pub mod uses_of;
 
 pub use codes::Code;
+pub use distinct::NameSet;
 pub use facts::{Assigned, Base, Fact, Level, LinkFault};
 pub use links::{Links, link};
 pub use name::Name;
+pub use source::Source;
 pub use summarize::summary_of;
 pub use summary::{
     ClauseKind, Coverage, Declared, Dims, ItemKind, Mention, Nature, Opening, Summary, Variable,

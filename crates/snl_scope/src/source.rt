@@ -11,7 +11,7 @@ use std::alloc::Global;
 
 /// The tokens of an item as pieces of its text, and the memory for what is made of them.
 #[derive(Clone, Copy)]
-pub(crate) struct Source<'a> {
+pub struct Source<'a> {
     pub text: &'a [u8],
     pub tokens: &'a [Piece],
     pub alloc: Global,
@@ -20,7 +20,7 @@ pub(crate) struct Source<'a> {
 impl<'a> Source<'a> {
     /// The bytes of a token.
     #[tactic(auto, unfolding(crate::specs::Summaries::Tokens::bytes_at))]
-    pub(crate) fn bytes(&self, number: usize) -> &'a [u8]
+    pub fn bytes(&self, number: usize) -> &'a [u8]
         requires { IsSource self.now.text.now self.now.tokens.now }
         ensures { result.now ≡ bytes_at self.now.text.now self.now.tokens.now number }
     {
@@ -31,7 +31,7 @@ impl<'a> Source<'a> {
     }
 
     /// A copy of the bytes of a token.
-    pub(crate) fn name(&self, number: usize) -> Result<Name, OutOfMemory>
+    pub fn name(&self, number: usize) -> Result<Name, OutOfMemory>
         requires { IsSource self.now.text.now self.now.tokens.now }
         ensures { IfOk result (λ n. n ≡ bytes_at self.now.text.now self.now.tokens.now number) }
     {
@@ -39,7 +39,7 @@ impl<'a> Source<'a> {
     }
 
     /// The name that stands at a token.
-    pub(crate) fn mention(&self, number: usize) -> Result<Mention, OutOfMemory>
+    pub fn mention(&self, number: usize) -> Result<Mention, OutOfMemory>
         requires { IsSource self.now.text.now self.now.tokens.now }
         ensures { IfOk result (λ m. m ≡ mention_at self.now.text.now self.now.tokens.now number) }
     {
@@ -50,7 +50,7 @@ impl<'a> Source<'a> {
     }
 
     /// The value of an integer.
-    pub(crate) fn value(&self, number: usize) -> Option<u64>
+    pub fn value(&self, number: usize) -> Option<u64>
         requires { IsSource self.now.text.now self.now.tokens.now }
         ensures { result ≡ value_at self.now.text.now self.now.tokens.now number }
     {

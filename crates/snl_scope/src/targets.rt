@@ -69,7 +69,7 @@ fn add_member(member: &StateMember, named: &mut Vec<usize>) -> Result<(), OutOfM
 }
 
 /// The targets of an item, by the numbers of their tokens. An item that is no state has none, nor has a faulty one.
-pub(crate) fn targets_in(alloc: Global, tree: Option<&Item>) -> Result<Vec<usize>, OutOfMemory>
+pub fn targets_in(alloc: Global, tree: Option<&Item>) -> Result<Vec<usize>, OutOfMemory>
     ensures { IfOk result (λ v. v.items ≡ targets_in (option_copied tree.entry)) }
 {
     let mut named = Vec::new(alloc);

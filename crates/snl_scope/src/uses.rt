@@ -26,7 +26,7 @@ fn begins_with_call(parts: &[Suffix]) -> bool
 
 /// Adds the names that an expression uses.
 #[cycle(expressions)]
-pub(crate) fn add_expr(expr: &Expr, uses: &mut Vec<usize>) -> Result<(), OutOfMemory>
+pub fn add_expr(expr: &Expr, uses: &mut Vec<usize>) -> Result<(), OutOfMemory>
     ensures { OnOk result (uses.new.items ≡ uses.old.items ++ used_by_expr expr.now) }
 {
     match expr {
@@ -123,7 +123,7 @@ fn add_all(exprs: &[Expr], uses: &mut Vec<usize>) -> Result<(), OutOfMemory>
 }
 
 /// Adds the names that an expression uses, if there is one.
-pub(crate) fn add_optional(expr: &Option<Expr>, uses: &mut Vec<usize>) -> Result<(), OutOfMemory>
+pub fn add_optional(expr: &Option<Expr>, uses: &mut Vec<usize>) -> Result<(), OutOfMemory>
     ensures { OnOk result (uses.new.items ≡ uses.old.items ++ used_if expr.now) }
 {
     match expr {
@@ -133,7 +133,7 @@ pub(crate) fn add_optional(expr: &Option<Expr>, uses: &mut Vec<usize>) -> Result
 }
 
 /// Adds the names that the lengths of a declarator or a parameter use.
-pub(crate) fn add_lengths(
+pub fn add_lengths(
     lengths: &[Option<Expr>],
     uses: &mut Vec<usize>,
 ) -> Result<(), OutOfMemory>
@@ -167,7 +167,7 @@ fn add_inits(values: &[Init], uses: &mut Vec<usize>) -> Result<(), OutOfMemory>
 }
 
 /// Adds the names that the value of a declarator uses, if it has one.
-pub(crate) fn add_value(value: &Option<Init>, uses: &mut Vec<usize>) -> Result<(), OutOfMemory>
+pub fn add_value(value: &Option<Init>, uses: &mut Vec<usize>) -> Result<(), OutOfMemory>
     ensures { OnOk result (uses.new.items ≡ uses.old.items ++ used_by_value value.now) }
 {
     match value {

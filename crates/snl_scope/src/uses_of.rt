@@ -20,7 +20,8 @@ fn add_declarator(declarator: &Declarator, uses: &mut Vec<usize>) -> Result<(), 
     add_value(&declarator.init, uses)
 }
 
-fn add_declaration(declaration: &Declaration, uses: &mut Vec<usize>) -> Result<(), OutOfMemory>
+/// Adds the names that the lengths and the initialisers of a declaration use.
+pub fn add_declaration(declaration: &Declaration, uses: &mut Vec<usize>) -> Result<(), OutOfMemory>
     ensures { OnOk result (uses.new.items ≡ uses.old.items ++ used_by_declaration declaration.now) }
 {
     for declarator in declaration.declarators.as_slice() {
@@ -29,7 +30,8 @@ fn add_declaration(declaration: &Declaration, uses: &mut Vec<usize>) -> Result<(
     Ok(())
 }
 
-fn add_head(head: &ForHead, uses: &mut Vec<usize>) -> Result<(), OutOfMemory>
+/// Adds the names that the brackets of a `for` use.
+pub fn add_head(head: &ForHead, uses: &mut Vec<usize>) -> Result<(), OutOfMemory>
     ensures { OnOk result (uses.new.items ≡ uses.old.items ++ used_by_head head.now) }
 {
     add_optional(&head.first, uses)?;
@@ -118,7 +120,8 @@ fn add_state(members: &[StateMember], uses: &mut Vec<usize>) -> Result<(), OutOf
     Ok(())
 }
 
-fn add_struct(members: &[StructMember], uses: &mut Vec<usize>) -> Result<(), OutOfMemory>
+/// Adds the names that the members of a struct use.
+pub fn add_struct(members: &[StructMember], uses: &mut Vec<usize>) -> Result<(), OutOfMemory>
     ensures { OnOk result (uses.new.items ≡ uses.old.items ++ flat_map used_by_part members.now) }
 {
     for member in members {
@@ -130,7 +133,8 @@ fn add_struct(members: &[StructMember], uses: &mut Vec<usize>) -> Result<(), Out
     Ok(())
 }
 
-fn add_parameters(parameters: &[Parameter], uses: &mut Vec<usize>) -> Result<(), OutOfMemory>
+/// Adds the names that the lengths of parameters use.
+pub fn add_parameters(parameters: &[Parameter], uses: &mut Vec<usize>) -> Result<(), OutOfMemory>
     ensures { OnOk result (uses.new.items ≡ uses.old.items ++ flat_map used_by_parameter parameters.now) }
 {
     for parameter in parameters {

@@ -3,7 +3,7 @@ use Rattle.std.specs.List.{list_any}
 use Rattle.std.specs.Str.{bytes_eq}
 use Rattle.snl_scope.specs.Summaries.{with_new}
 use Rattle.snl_scope.proofs.Kept.{among-names, names-with_new}
-use Rattle.snl_scope.proofs.distinct.Found.add.Goals as goal
+use Rattle.snl_scope.proofs.distinct.NameSet.add.Goals as goal
 
 pub returns-clause-names : goal.returns-clause-names
 returns-clause-names c =
