@@ -1,4 +1,5 @@
 pub mod Below
+pub mod Codes
 pub mod Places
 pub mod Order
 pub mod Names

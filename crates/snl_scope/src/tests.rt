@@ -110,3 +110,13 @@ fn items_out_of_order_are_found(rt: HostRuntime) -> Result<(), Fail> {
     );
     Ok(())
 }
+
+#[test]
+fn tells_names_and_messages(rt: HostRuntime) {
+    assert_eq!(rt; Code::E10.name(), "E10");
+    assert_eq!(rt; Code::E10.message(), "unknown state");
+    assert_eq!(rt; Code::W05.name(), "W05");
+    assert_eq!(rt; Code::W05.message(), "monitored twice");
+    assert!(rt; Code::E22.is_error());
+    assert!(rt; !Code::W01.is_error());
+}
