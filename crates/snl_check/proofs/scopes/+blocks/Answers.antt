@@ -1,7 +1,7 @@
 use Rattle.std.proofs.Common.{◌≡◌, ◌++◌, ap, ◌∙◌, arith}
 use Rattle.std.proofs.lemmas.Grind.{common_steps}
 use Rattle.snl_check.specs.Names.{repeated}
-use Rattle.snl_check.specs.Scopes.{names_of_parts, parts_of, repeated_in_parts}
+use Rattle.snl_check.specs.Scopes.{parts_of, repeated_in_parts}
 use Rattle.snl_check.proofs.Choices.{free-For, free-If, free-While, free_in, repeated-If, repeated_in}
 use Rattle.snl_check.proofs.Steps.{behind_own, on_ok}
 use Rattle.snl_check.proofs.scopes.+blocks.Goals as goal
@@ -46,7 +46,5 @@ pub add_block-returns-clause-again : goal.add_block-returns-clause-again
 add_block-returns-clause-again t c =
     let text = c.args.source.now.text.now in
     let tokens = c.args.source.now.tokens.now in
-    let numbers : c.deref.result.now ≡ names_of_parts (parts_of text tokens c.args.members.now) = c.deref.ensures.value ∙ c.in_ok-numbers.ensures in
-    let declared : c.declare.new.again.items ≡ c.args.again.now.items ++ repeated text tokens (names_of_parts (parts_of text tokens c.args.members.now)) = c.in_ok-names.ensures.again ∙ ap (λ n. c.args.again.now.items ++ repeated text tokens n) numbers in
     let inside : c.loop-member.again.items ≡ c.declare.new.again.items ++ repeated_in_parts (parts_of text tokens c.args.members.now) = grind (arith, common_steps) in
-    on_ok c.add_others.result (behind_own _ _ _ _ _ declared inside)
+    on_ok c.add_others.result (behind_own (repeated text tokens) _ _ _ _ _ _ _ c.deref.ensures.value c.in_ok-numbers.ensures c.in_ok-names.ensures.again inside)
