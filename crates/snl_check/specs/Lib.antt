@@ -4,3 +4,4 @@ pub mod EventFlags
 pub mod Undeclared
 pub mod Outlook
 pub mod Found
+pub mod Alike

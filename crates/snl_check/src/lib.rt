@@ -7,6 +7,7 @@ mod check;
 mod check_tests;
 mod event_flags;
 mod findings;
+mod laws;
 mod scopes;
 mod undeclared;
 mod unknown_targets;
@@ -14,4 +15,5 @@ mod view;
 
 pub use check::check_item;
 pub use findings::{Checked, ItemFault};
+pub use laws::equal_views;
 pub use view::View;
