@@ -3,3 +3,4 @@ pub mod Faults
 pub mod Ranks
 pub mod Sorting
 pub mod Steps
+pub mod Views

@@ -1,3 +1,4 @@
+pub mod Checked
 pub mod Diagnostics
 pub mod Edit
 pub mod Faults

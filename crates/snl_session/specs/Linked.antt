@@ -1,14 +1,11 @@
 -- What is found by the links of the items of a text, each finding at a token of an item.
-use Rattle.std.specs.Prelude.{ℕ, Bool, true, false, not, if◌then◌else◌, List, [], ◌++◌, map, filter, flat_map, slice_get, Option, Some, None, is_some, option_and_then}
-use Rattle.std.specs.List.{enumerate_from}
+use Rattle.std.specs.Prelude.{ℕ, Bool, true, false, if◌then◌else◌, List, map, slice_get, Option, Some, None, option_and_then}
 use Rattle.snl_lex.specs.declared.piece.Piece.{Piece}
 use Rattle.snl_scope.specs.declared.codes.Code.{Code}
-use Rattle.snl_scope.specs.declared.codes.Code.TheVariants.{E01, E02, E03, E04, E05, E06, E10, E18, W03}
+use Rattle.snl_scope.specs.declared.codes.Code.TheVariants.{E01, E02, E03, E04, E05, E06, E18, W03}
 use Rattle.snl_scope.specs.declared.facts.LinkFault.{LinkFault}
-use Rattle.snl_scope.specs.declared.summary.Mention.{Mention}
 use Rattle.snl_scope.specs.declared.summary.Summary.{Summary}
 use Rattle.snl_scope.specs.Linked as links
-use Rattle.snl_scope.specs.Places.{place}
 use Rattle.snl_scope.specs.Summaries.{summary_in}
 use Rattle.snl_session.specs.declared.findings.Finding.{Finding}
 use Rattle.snl_session.specs.Program.{ProgramItem}
@@ -45,20 +42,6 @@ token_of xs item number = option_and_then (λ x. slice_get x.tokens number) (sli
 abbrev pub placed : List ProgramItem → LinkFault → Finding
 placed xs fault = finding_at fault.code (token_of xs fault.item fault.token)
 
--- E10 at the targets of item i that name no state of its state set. Those of a state at program level are not looked up.
-abbrev pub names_no_state : List Summary → ℕ → Mention → Bool
-names_no_state ss i target = not (links.has_target ss i target.name)
-
-abbrev pub unknown_target : ℕ → Mention → LinkFault
-unknown_target i target = record { item = i; token = target.token; code = E10 }
-
-abbrev pub unknown_targets_of : List Summary → ℕ × Summary → List LinkFault
-unknown_targets_of ss (i, s) = if is_some (place ss i) then map (unknown_target i) (filter (names_no_state ss i) s.targets) else []
-
-abbrev pub unknown_targets : List Summary → List LinkFault
-unknown_targets ss = flat_map (unknown_targets_of ss) (enumerate_from 0 ss)
-
 -- What is found by the links of the items of a text.
 abbrev pub linked_faults : List ℕ → List ProgramItem → List Finding
-linked_faults text xs =
-    map (placed xs) (links.faults_of (summaries_of text xs)) ++ map (placed xs) (unknown_targets (summaries_of text xs))
+linked_faults text xs = map (placed xs) (links.faults_of (summaries_of text xs))

@@ -7,20 +7,21 @@ ghost use Rattle.std.specs.List.Sorted.{IsNonDecreasing};
 ghost use Rattle.snl_lex.specs.Lines.{line_at};
 ghost use Rattle.snl_lex.specs.Pieces.{LiesIn, pieces_of};
 ghost use Rattle.snl_session.specs.Diagnostics.{diagnostic, diagnostics_of, found, on_line};
+ghost use Rattle.snl_session.specs.Checked.{checked_faults};
 ghost use Rattle.snl_session.specs.Linked.{linked_faults};
 ghost use Rattle.snl_session.specs.Parts.{IsPart, part_of};
 
+use crate::checks::add_checked_faults;
 use crate::findings::{Diagnostic, Finding};
 use crate::linked::add_placed;
 use crate::order::sort;
 use crate::program::{Part, program_of, tokens_among};
 use crate::summaries::{link_all, summaries_of};
-use crate::unknown_targets::unknown_targets;
 use snl_cut::{Count, OutOfMemory};
 use snl_lex::{Line, Piece, lex, lines_of};
 use std::alloc::Global;
 
-// Adds what is found by the links of items.
+// Adds what is found by the links of items, and in each item.
 fn add_linked_faults(
     alloc: Global,
     text: &[u8],
@@ -30,13 +31,13 @@ fn add_linked_faults(
 ) -> Result<(), OutOfMemory>
     requires tokens { All (LiesIn text.now) tokens.now }
     requires parts { All (IsPart tokens.now) parts.now }
-    ensures { OnOk result (found.new.items ≡ found.old.items ++ linked_faults text.now (map (part_of tokens.now) parts.now)) }
+    ensures { OnOk result (found.new.items ≡ found.old.items ++ linked_faults text.now (map (part_of tokens.now) parts.now)
+        ++ checked_faults text.now (map (part_of tokens.now) parts.now)) }
 {
     let summaries = summaries_of(alloc, text, tokens, parts)?;
     let links = link_all(alloc, &summaries)?;
     add_placed(tokens, parts, links.faults(), found)?;
-    let unknown = unknown_targets(alloc, &links, &summaries)?;
-    add_placed(tokens, parts, &unknown, found)
+    add_checked_faults(alloc, text, tokens, parts, &links, &summaries, found)
 }
 
 // What is found in a text that has these pieces.

@@ -28,8 +28,8 @@ fn is_quoted(code: Code) -> bool
     )
 }
 
-// A finding at a token, or at the text's beginning.
-fn finding_at(code: Code, token: Option<Piece>) -> Finding
+/// A finding at a token, or at the text's beginning.
+pub fn finding_at(code: Code, token: Option<Piece>) -> Finding
     ensures { result ≡ finding_at code token }
 {
     match token {

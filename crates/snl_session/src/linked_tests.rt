@@ -251,3 +251,63 @@ fn counts_faulty_states(rt: HostRuntime) -> Result<(), Fail> {
     )?;
     Ok(())
 }
+
+#[test]
+fn finds_names_in_their_scopes(rt: HostRuntime) -> Result<(), Fail> {
+    expect_found(
+        &rt,
+        b"program q int x; int x; evflag g[2]; ss s { int y; state i { int x; when (y && u && u) { int x; int x; evflag h; } exit } }",
+        &[
+            (1, Code::E07, b"x"),
+            (1, Code::E17, b"g"),
+            (1, Code::W01, b"u"),
+            (1, Code::E07, b"x"),
+            (1, Code::E17, b"h"),
+        ],
+    )?;
+    // the block of a function is a scope within that of its parameters
+    expect_found(
+        &rt,
+        b"program p int f(int a) { int a; return a; }\nint g(int b, int b) { } ss s { state i { } }",
+        &[(2, Code::E07, b"b")],
+    )?;
+    expect_found(
+        &rt,
+        b"program p evflag f = 1;\nconst evflag g; struct s { evflag *h; };\nss s { state i { } }",
+        &[(1, Code::E17, b"f"), (2, Code::E17, b"h")],
+    )?;
+    Ok(())
+}
+
+#[test]
+fn finds_names_that_nothing_declares(rt: HostRuntime) -> Result<(), Fail> {
+    // once in each item, at the first use there
+    expect_found(
+        &rt,
+        b"program p int a[n];\nint b = n + n; int f(int n, int c[n]);\nss s { state i { when (n) { } exit } }",
+        &[
+            (1, Code::W01, b"n"),
+            (2, Code::W01, b"n"),
+            (2, Code::W01, b"n"),
+            (3, Code::W01, b"n"),
+        ],
+    )?;
+    // called names and names of members are no uses, and some names need no declaration
+    expect_found(
+        &rt,
+        b"program p int x; ss s { state i { when (f(x) && x.y == x->z) { x = TRUE + FALSE + SYNC + ASYNC + NOEVFLAG + pvStatOK + pvSeverity; } exit } }",
+        &[],
+    )?;
+    expect_found(
+        &rt,
+        b"program p ss s { state i { when ((f)(1)) { } exit } }",
+        &[(1, Code::W01, b"f")],
+    )?;
+    // a state set sees its own names and those of the program
+    expect_found(
+        &rt,
+        b"program p int a; ss s { int b; state i { when (a && b) { } exit } }\nss t { state i { when (a && b) { } exit } }",
+        &[(2, Code::W01, b"b")],
+    )?;
+    Ok(())
+}
