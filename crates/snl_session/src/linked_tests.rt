@@ -295,7 +295,7 @@ fn finds_names_that_nothing_declares(rt: HostRuntime) -> Result<(), Fail> {
     // called names and names of members are no uses, and some names need no declaration
     expect_found(
         &rt,
-        b"program p int x; ss s { state i { when (f(x) && x.y == x->z) { x = TRUE + FALSE + SYNC + ASYNC + NOEVFLAG + pvStatOK + pvSeverity; } exit } }",
+        b"program p int x; ss s { state i { when (f(x) && x.y == x->z) { x = TRUE + FALSE + SYNC + ASYNC + NOEVFLAG + pvStatOK + pvSevrMAJOR; } exit } }",
         &[],
     )?;
     expect_found(
