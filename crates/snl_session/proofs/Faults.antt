@@ -9,8 +9,8 @@ use Rattle.snl_lex.specs.declared.piece.Piece.{Piece}
 use Rattle.snl_syntax.specs.declared.tree.item.Item.{Item}
 use Rattle.snl_syntax.specs.Parsing.{is_bad, kinds_in}
 use Rattle.snl_syntax.specs.Reading.Items.{fault_of, item_of}
-use Rattle.snl_session.specs.declared.codes.Code.{Code}
-use Rattle.snl_session.specs.declared.codes.Code.TheVariants.{E01, E02}
+use Rattle.snl_scope.specs.declared.codes.Code.{Code}
+use Rattle.snl_scope.specs.declared.codes.Code.TheVariants.{E01, E02}
 use Rattle.snl_session.specs.Faults.{at_number, at_token, fault_by_bad, fault_by_tree, fault_in}
 use Rattle.snl_session.specs.Program.{tree_in}
 

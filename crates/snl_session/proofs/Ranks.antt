@@ -12,10 +12,10 @@ use Rattle.std.specs.declared.cmp.Ordering.TheVariants.{Less, Equal, Greater}
 use Rattle.std.proofs.lemmas.Cmp.{nat_cmp_total, nat_list_cmp_total, on_total, ranked, then_total}
 use Rattle.std.proofs.lemmas.List.Sorted.{ranks_by, sorted_far, sum_by-IsPermutation}
 use Rattle.std.proofs.lemmas.List.{get_or-map, length-map}
-use Rattle.snl_session.specs.declared.codes.Code.{Code}
-use Rattle.snl_session.specs.declared.codes.Code.TheVariants.{E01, E02, E03, E04, E05, E06, E07, E08, E09, E10, E11, E12, E13, E14, E15, E16, E17, E18, E19, E20, E21, E22, W01, W02, W03, W04, W05}
+use Rattle.snl_scope.specs.declared.codes.Code.{Code}
+use Rattle.snl_scope.specs.declared.codes.Code.TheVariants.{E01, E02, E03, E04, E05, E06, E07, E08, E09, E10, E11, E12, E13, E14, E15, E16, E17, E18, E19, E20, E21, E22, W01, W02, W03, W04, W05}
 use Rattle.snl_session.specs.declared.findings.Finding.{Finding}
-use Rattle.snl_session.specs.Codes.{name_of}
+use Rattle.snl_scope.specs.Codes.{name_of}
 use Rattle.snl_session.specs.Diagnostics.{diagnostic, diagnostics_of, found, stands_before}
 use Rattle.snl_session.specs.Order.{goes_before, in_order, order_of, put_in_order}
 use Rattle.snl_session.proofs.Sorting.{all_put, all_sorted, put, sorted_is}

@@ -4,17 +4,18 @@ use Rattle.std.specs.Cmp.Lexicographic.{slice_cmp}
 use Rattle.std.specs.Ordering.{is_lt, nat_cmp, ordering_then}
 use Rattle.snl_lex.specs.declared.lines.Line.{Line}
 use Rattle.snl_lex.specs.Lines.{line_at}
+pub use Rattle.snl_scope.specs.Codes.{is_error, message_of, name_of}
 use Rattle.snl_session.specs.declared.findings.Diagnostic.{Diagnostic}
 use Rattle.snl_session.specs.declared.findings.Finding.{Finding}
-use Rattle.snl_session.specs.Codes.{is_error, name_of}
+use Rattle.snl_session.specs.Checked.{checked_faults}
 use Rattle.snl_session.specs.Faults.{faults_of}
+use Rattle.snl_session.specs.Linked.{linked_faults}
 use Rattle.snl_session.specs.Order.{in_order}
 use Rattle.snl_session.specs.Program.{items_of}
-use Rattle.snl_session.specs.StateSets.{found_in_sets}
 
--- What is found in a text: at its faulty items, and in its state sets.
+-- What is found in a text: at its faulty items, by the links of its items, and in each item by itself.
 unfoldable pub found : List ℕ → List Finding
-found text = faults_of text ++ found_in_sets text (items_of text)
+found text = faults_of text ++ linked_faults text (items_of text) ++ checked_faults text (items_of text)
 
 -- A finding with its line and file.
 abbrev pub on_line : Finding → Line → Diagnostic

@@ -1,9 +1,8 @@
-pub mod Codes
+pub mod Checked
 pub mod Diagnostics
 pub mod Edit
 pub mod Faults
+pub mod Linked
 pub mod Order
 pub mod Parts
 pub mod Program
-pub mod StateSets
-pub mod Targets

@@ -1,9 +1,8 @@
 -- The items of a text as the code keeps them: the number of an item's first token, that of the token behind it, and its tree.
-use Rattle.std.specs.Prelude.{ℕ, ◌-◌, ◌<◌, ◌≤◌, ◌||◌, Bool, not, List, [], ◌∷◌, length, take, drop}
+use Rattle.std.specs.Prelude.{ℕ, ◌-◌, ◌<◌, ◌≤◌, List, [], ◌∷◌, length, take, drop}
 use Rattle.snl_lex.specs.declared.piece.Piece.{Piece}
 use Rattle.snl_session.specs.declared.program.Part.{Part}
 use Rattle.snl_session.specs.Program.{ProgramItem}
-use Rattle.snl_session.specs.StateSets.{is_set_begin, is_set_end}
 
 -- The part is one of these tokens.
 abbrev pub IsPart : List Piece → Part → Type 0
@@ -16,10 +15,6 @@ tokens_between tokens start stop = take (stop - start) (drop start tokens)
 -- The item that a part of the tokens is.
 abbrev pub part_of : List Piece → Part → ProgramItem
 part_of tokens part = record { tokens = tokens_between tokens part.start part.stop; tree = part.tree }
-
--- A part that is neither `ss NAME {` nor `}`.
-abbrev pub part_stays : Part → Bool
-part_stays part = not (is_set_begin part.tree || is_set_end part.tree)
 
 -- Each of the ends stands behind the one before it, and none behind `to`.
 abbrev pub EndsWithin : ℕ → List ℕ → ℕ → Type 0

@@ -2,19 +2,43 @@
 //! It keeps nothing between two texts and knows no edits.
 #![tactic(auto)]
 
-ghost use Rattle.std.specs.Prelude.{◌≡◌, All, IfOk, length, map};
+ghost use Rattle.std.specs.Prelude.{◌≡◌, ◌++◌, All, IfOk, OnOk, length, map};
 ghost use Rattle.std.specs.List.Sorted.{IsNonDecreasing};
 ghost use Rattle.snl_lex.specs.Lines.{line_at};
 ghost use Rattle.snl_lex.specs.Pieces.{LiesIn, pieces_of};
 ghost use Rattle.snl_session.specs.Diagnostics.{diagnostic, diagnostics_of, found, on_line};
+ghost use Rattle.snl_session.specs.Checked.{checked_faults};
+ghost use Rattle.snl_session.specs.Linked.{linked_faults};
+ghost use Rattle.snl_session.specs.Parts.{IsPart, part_of};
 
+use crate::checks::add_checked_faults;
 use crate::findings::{Diagnostic, Finding};
+use crate::linked::add_placed;
 use crate::order::sort;
-use crate::program::{program_of, tokens_among};
-use crate::state_sets::add_found_in_sets;
+use crate::program::{Part, program_of, tokens_among};
+use crate::summaries::{link_all, summaries_of};
 use snl_cut::{Count, OutOfMemory};
 use snl_lex::{Line, Piece, lex, lines_of};
 use std::alloc::Global;
+
+// Adds what is found by the links of items, and in each item.
+fn add_linked_faults(
+    alloc: Global,
+    text: &[u8],
+    tokens: &[Piece],
+    parts: &[Part],
+    found: &mut Vec<Finding>,
+) -> Result<(), OutOfMemory>
+    requires tokens { All (LiesIn text.now) tokens.now }
+    requires parts { All (IsPart tokens.now) parts.now }
+    ensures { OnOk result (found.new.items ≡ found.old.items ++ linked_faults text.now (map (part_of tokens.now) parts.now)
+        ++ checked_faults text.now (map (part_of tokens.now) parts.now)) }
+{
+    let summaries = summaries_of(alloc, text, tokens, parts)?;
+    let links = link_all(alloc, &summaries)?;
+    add_placed(tokens, parts, links.faults(), found)?;
+    add_checked_faults(alloc, text, tokens, parts, &links, &summaries, found)
+}
 
 // What is found in a text that has these pieces.
 #[tactic(auto, unfolding(crate::specs::Diagnostics::found))]
@@ -26,7 +50,7 @@ fn found_in(alloc: Global, text: &[u8], pieces: &[Piece]) -> Result<Vec<Finding>
     let tokens = tokens_among(alloc, pieces)?;
     let program = program_of(alloc, text, &tokens)?;
     let mut found = program.faults;
-    add_found_in_sets(alloc, text, &tokens, &program.parts, &mut found)?;
+    add_linked_faults(alloc, text, &tokens, &program.parts, &mut found)?;
     Ok(found)
 }
 

@@ -1,7 +1,7 @@
 //! What is found at a place of a text, with and without its line.
 #![tactic(auto)]
 
-use crate::codes::Code;
+use snl_scope::Code;
 
 /// What is found at a byte offset of the text.
 #[derive(Clone, Copy, Debug, PartialEq, Eq)]

@@ -10,10 +10,10 @@ ghost use Rattle.snl_session.specs.Faults.{at_token, fault_in, faults_of};
 ghost use Rattle.snl_session.specs.Parts.{EndsWithin, IsPart, part_of, tokens_between};
 ghost use Rattle.snl_session.specs.Program.{items_of, mark_in, program_item, tree_in};
 
-use crate::codes::Code;
 use crate::findings::Finding;
 use snl_cut::{Count, OutOfMemory, cut_all};
 use snl_lex::{Class, Piece};
+use snl_scope::Code;
 use snl_syntax::tree::item::Item;
 use snl_syntax::{Mark, ParseFault, Tokens, mark, parse_item};
 use std::alloc::Global;

@@ -37,7 +37,8 @@ fn expect_diagnostics(rt: &impl Abort, session: &Session, wanted: &[(usize, Code
     }
 }
 
-fn expect_found(
+/// The text has these diagnostics.
+pub(crate) fn expect_found(
     rt: &(impl Abort + AllocGlobal),
     text: &[u8],
     wanted: &[(usize, Code, &[u8])],
@@ -96,11 +97,11 @@ fn finds_an_unknown_target(rt: HostRuntime) -> Result<(), Fail> {
 }
 
 #[test]
-fn finds_nothing_in_the_empty_text(rt: HostRuntime) -> Result<(), Fail> {
+fn misses_a_header_and_a_state_set_in_the_empty_text(rt: HostRuntime) -> Result<(), Fail> {
     let session = Session::new(rt.alloc())?;
     assert_eq!(rt; session.text(), b"".as_slice());
-    assert_eq!(rt; session.diagnostics().len(), 0);
-    assert_eq!(rt; session.errors(), 0);
+    expect_diagnostics(&rt, &session, &[(1, Code::E05, b""), (1, Code::E06, b"")]);
+    assert_eq!(rt; session.errors(), 2);
     assert_eq!(rt; session.warnings(), 0);
     Ok(())
 }
@@ -145,7 +146,11 @@ fn judges_the_text_anew_after_each_edit(rt: HostRuntime) -> Result<(), Fail> {
     expect_diagnostics(
         &rt,
         &session,
-        &[(11, Code::E10, b"s2"), (13, Code::E01, b"")],
+        &[
+            (7, Code::E04, b""),
+            (11, Code::E10, b"s2"),
+            (13, Code::E01, b""),
+        ],
     );
     session.edit(141, 143, b"")?;
     // the second state has another name
@@ -158,102 +163,41 @@ fn judges_the_text_anew_after_each_edit(rt: HostRuntime) -> Result<(), Fail> {
 }
 
 #[test]
-fn finds_states_and_targets_by_their_set(rt: HostRuntime) -> Result<(), Fail> {
-    expect_found(&rt, WHOLE, &[])?;
-    expect_found(
-        &rt,
-        b"program p\nss a {\nstate i { }\nstate i { when () { } state k }\n}\nss b { state k { } state i { } }",
-        &[(4, Code::E09, b"i"), (4, Code::E10, b"k")],
-    )?;
-    // two state sets with one name are two state sets
-    expect_found(
-        &rt,
-        b"program p ss a { state i { } } ss a { state i { when () { } state i } }",
-        &[],
-    )?;
-    // another state set begins where the one before is not closed
-    expect_found(
-        &rt,
-        b"ss a { state i { when () { } state j } ss b { state j { } state i { } }",
-        &[(1, Code::E10, b"j")],
-    )?;
-    // a faulty `ss` opens none, and states at program level are not looked up
-    expect_found(
-        &rt,
-        b"ss a state i { when () { } state j } state i { } }",
-        &[(1, Code::E02, b"")],
-    )?;
-    Ok(())
-}
-
-#[test]
-fn finds_each_target(rt: HostRuntime) -> Result<(), Fail> {
-    // in blocks of transitions, however deep
-    expect_found(
-        &rt,
-        b"ss a { state i { when () { state b; if (1) { state c; } else if (2) state d; else while (3) for (;;) { { state e; } } } exit } }",
-        &[
-            (1, Code::E10, b"b"),
-            (1, Code::E10, b"c"),
-            (1, Code::E10, b"d"),
-            (1, Code::E10, b"e"),
-        ],
-    )?;
-    // but not at entry and exit, nor in a state at program level
-    expect_found(
-        &rt,
-        b"ss a { state i { entry { state b; } exit { state c; } } } state k { when () { state d; } state e } state k { }",
-        &[],
-    )?;
-    // one that is written twice is found twice
-    expect_found(
-        &rt,
-        b"ss a { state i { when () { } state b when () { } state b } }",
-        &[(1, Code::E10, b"b"), (1, Code::E10, b"b")],
-    )?;
-    Ok(())
-}
-
-#[test]
-fn counts_faulty_states(rt: HostRuntime) -> Result<(), Fail> {
-    // as targets, also where they stand behind
-    expect_found(
-        &rt,
-        b"ss a { state i { when () { } state j } state j { x } }",
-        &[(1, Code::E02, b"")],
-    )?;
-    // as earlier states of a name, but they are not found twice themselves
-    expect_found(
-        &rt,
-        b"ss a {\nstate i { x }\nstate i { }\nstate i { @ }\n}",
-        &[
-            (2, Code::E02, b""),
-            (3, Code::E09, b"i"),
-            (4, Code::E01, b""),
-        ],
-    )?;
-    // the targets of a faulty state are not looked up
-    expect_found(
-        &rt,
-        b"ss a { state i { when () { } state j x } }",
-        &[(1, Code::E02, b"")],
-    )?;
-    Ok(())
-}
-
-#[test]
 fn finds_one_fault_an_item(rt: HostRuntime) -> Result<(), Fail> {
     expect_found(
         &rt,
         b"program p (\"x",
-        &[(1, Code::E02, b""), (1, Code::E01, b"")],
+        &[
+            (1, Code::E06, b""),
+            (1, Code::E02, b""),
+            (1, Code::E01, b""),
+        ],
     )?;
-    expect_found(&rt, b"program p (\"x\")", &[])?;
-    expect_found(&rt, b"program p\n;\nint x\n", &[(3, Code::E02, b"")])?;
+    expect_found(&rt, b"program p (\"x\")", &[(1, Code::E06, b"")])?;
+    expect_found(
+        &rt,
+        b"program p\n;\nint x\n",
+        &[(1, Code::E06, b""), (3, Code::E02, b"")],
+    )?;
+    // an item begins anew behind `(`
+    expect_found(
+        &rt,
+        b"program p ()",
+        &[
+            (1, Code::E06, b""),
+            (1, Code::E02, b""),
+            (1, Code::E02, b""),
+        ],
+    )?;
     expect_found(
         &rt,
         b"int 08 09 @;\n)",
-        &[(1, Code::E01, b""), (2, Code::E02, b"")],
+        &[
+            (1, Code::E05, b""),
+            (1, Code::E06, b""),
+            (1, Code::E01, b""),
+            (2, Code::E02, b""),
+        ],
     )?;
     Ok(())
 }
@@ -330,31 +274,29 @@ fn takes_a_hundred_levels(rt: HostRuntime) -> Result<(), Fail> {
 #[test]
 fn takes_a_text_of_braces(rt: HostRuntime) -> Result<(), Fail> {
     let braces = vec![in rt.alloc(); b'{'; 1_048_576]?;
-    expect_found(&rt, &braces, &[(1, Code::E02, b"")])?;
+    expect_found(
+        &rt,
+        &braces,
+        &[
+            (1, Code::E02, b""),
+            (1, Code::E05, b""),
+            (1, Code::E06, b""),
+        ],
+    )?;
     Ok(())
 }
 
 #[test]
 fn tells_lines_and_files_by_the_markers(rt: HostRuntime) -> Result<(), Fail> {
-    let text = b"ss a {\n# 10 \"a.st\"\nstate i { when () { } state j }\n}";
+    let text = b"program p ss a {\n# 10 \"a.st\"\nstate i { when () { } state j }\n}";
     let session = session_over(rt.alloc(), text)?;
     let wanted = Diagnostic {
-        offset: 47,
+        offset: 57,
         line: 10,
-        file: Some((13, 4)),
+        file: Some((23, 4)),
         code: Code::E10,
         subject: 1,
     };
     assert_eq!(rt; session.diagnostics(), [wanted].as_slice());
     Ok(())
-}
-
-#[test]
-fn tells_names_and_messages(rt: HostRuntime) {
-    assert_eq!(rt; Code::E10.name(), "E10");
-    assert_eq!(rt; Code::E10.message(), "unknown state");
-    assert_eq!(rt; Code::W05.name(), "W05");
-    assert_eq!(rt; Code::W05.message(), "monitored twice");
-    assert!(rt; Code::E22.is_error());
-    assert!(rt; !Code::W01.is_error());
 }

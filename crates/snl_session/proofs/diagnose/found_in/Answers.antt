@@ -9,7 +9,7 @@ program_of-requires-clause-within c =
     subst (All (LiesIn c.args.text.now)) (sym (c.deref.ensures.value ∙ c.in_ok-tokens.ensures))
     (All-filter is_token (LiesIn c.args.text.now) c.args.pieces.now c.requires.within)
 
-pub add_found_in_sets-requires-clause-tokens : goal.add_found_in_sets-requires-clause-tokens
-add_found_in_sets-requires-clause-tokens c =
+pub add_linked_faults-requires-clause-tokens : goal.add_linked_faults-requires-clause-tokens
+add_linked_faults-requires-clause-tokens c =
     subst (All (LiesIn c.args.text.now)) (sym (c.deref-2.ensures.value ∙ c.in_ok-tokens.ensures))
     (All-filter is_token (LiesIn c.args.text.now) c.args.pieces.now c.requires.within)

@@ -1,7 +1,7 @@
 use Rattle.std.proofs.Common.{arith, ◌≡◌, ◌<◌, ◌++◌, ◌∷◌, [], length, get_or, take, map, ap, sym, ◌∙◌}
 use Rattle.std.proofs.lemmas.List.{get_or-map, length-map, map-append}
 use Rattle.snl_lex.specs.Lines.{line_at}
-use Rattle.snl_session.specs.declared.codes.Code.TheVariants.{E01}
+use Rattle.snl_scope.specs.declared.codes.Code.TheVariants.{E01}
 use Rattle.snl_session.specs.declared.findings.Finding.{Finding}
 use Rattle.snl_session.specs.Diagnostics.{diagnostic, on_line}
 use Rattle.snl_session.proofs.Steps.{drop_at, take_more}

@@ -1,0 +1,5 @@
+pub mod SameView
+pub mod Choices
+pub mod Each
+pub mod FreeUses
+pub mod Steps

@@ -1,0 +1,12 @@
+use Rattle.std.proofs.Common.{◌≡◌, ◌++◌, drop, filter}
+use Rattle.snl_check.specs.Names.{firsts_behind}
+use Rattle.snl_check.specs.Outlook.{knows}
+use Rattle.snl_check.specs.Undeclared.{is_undeclared, undeclared}
+use Rattle.snl_check.proofs.undeclared.undeclared.Given as goal
+
+-- those found so far and those of the rest are all
+abbrev pub invariant-loop-number : goal.invariant-loop-number
+invariant-loop-number l =
+    l.firsts.items
+    ++ firsts_behind l.source.text.now l.source.tokens.now l.names (filter (is_undeclared l.source.text.now l.source.tokens.now (knows l.view)) (drop l.number-index l.free))
+    ≡ undeclared l.source.text.now l.source.tokens.now (knows l.view) l.free

@@ -1,0 +1,196 @@
+//! Items with what is found in them, told from the language's rules.
+
+ghost use Rattle.snl_scope.specs.Summaries.Tokens.{IsSource};
+ghost use Rattle.std.specs.Prelude.{◌<◌, IfOk, length};
+
+use crate::check::check_item;
+use crate::view::View;
+use snl_cut::Count;
+use snl_lex::{Class, Piece, lex, token_text};
+use snl_scope::{Code, Name};
+use snl_syntax::parse_item;
+use sqlite_items::Items;
+use std::alloc::Global;
+use std::process::Abort;
+use std::test::Fail;
+
+// The tokens of a text.
+fn tokens_of(alloc: Global, text: &[u8]) -> Result<Vec<Piece>, Fail>
+    ensures { IfOk result (λ tokens. IsSource text.now tokens.items) }
+{
+    let mut tokens = Vec::new(alloc);
+    for piece in &lex(alloc, text, &mut Count::new())? {
+        let is_within = piece.start <= text.len() && piece.len <= text.len() - piece.start;
+        let is_blank = matches!(piece.kind, Class::White | Class::Comment | Class::Marker);
+        if is_within && !is_blank {
+            tokens.push(*piece)?;
+        }
+    }
+    Ok(tokens)
+}
+
+// One name, or none.
+fn lone(alloc: Global, name: &[u8]) -> Result<Items<Name>, Fail> {
+    let mut names = Vec::new(alloc);
+    if !name.is_empty() {
+        names.push(Name::new(alloc, name)?)?;
+    }
+    Ok(Items::from_vec(names))
+}
+
+// What is found in the item that a text consists of: each code's letters and the name at its token. The item stands in a
+// state set that has a state `z`, and sees a name `y`.
+fn found(alloc: Global, text: &[u8]) -> Result<Vec<u8>, Fail> {
+    let tokens = tokens_of(alloc, text)?;
+    if tokens.is_empty() {
+        return Ok(Vec::new(alloc));
+    }
+    let view = View {
+        known: lone(alloc, b"y")?,
+        states: lone(alloc, b"z")?,
+        in_set: true,
+    };
+    let Ok(tree) = parse_item(alloc, text, &tokens, &mut Count::new()) else {
+        return Ok(Vec::from_slice(alloc, b"faulty")?);
+    };
+    let checked = check_item(alloc, text, &tokens, &tree, &view, &mut Count::new())?;
+    let mut words = Vec::new(alloc);
+    for fault in checked.faults.as_slice() {
+        words.extend_from_slice(match fault.code {
+            Code::E07 => b"E07:".as_slice(),
+            Code::E10 => b"E10:".as_slice(),
+            Code::E17 => b"E17:".as_slice(),
+            Code::W01 => b"W01:".as_slice(),
+            _ => b"?".as_slice(),
+        })?;
+        if let Some(piece) = tokens.get(fault.token) {
+            if piece.start <= text.len() && piece.len <= text.len() - piece.start {
+                words.extend_from_slice(token_text(text, *piece))?;
+            }
+        }
+        words.push(b' ')?;
+    }
+    Ok(words)
+}
+
+#[test]
+fn a_state_with_several_findings(rt: HostRuntime) -> Result<(), Fail> {
+    let alloc = rt.alloc();
+    let text = b"state i { int x; when (y && u && u) { int x; int x; evflag h; } exit }";
+    assert_eq!(rt;
+        found(alloc, text)?.as_slice(),
+        b"E07:x E17:h W01:u ".as_slice()
+    );
+    Ok(())
+}
+
+#[test]
+fn event_flags_declared_wrongly(rt: HostRuntime) -> Result<(), Fail> {
+    let alloc = rt.alloc();
+    assert_eq!(rt;
+        found(alloc, b"evflag g[2], h, *p, k = 1;")?.as_slice(),
+        b"E17:g E17:p E17:k ".as_slice()
+    );
+    assert_eq!(rt;
+        found(alloc, b"const evflag f;")?.as_slice(),
+        b"".as_slice()
+    );
+    assert_eq!(rt;
+        found(alloc, b"struct s { evflag f; evflag g[1]; };")?.as_slice(),
+        b"E17:g ".as_slice()
+    );
+    assert_eq!(rt;
+        found(alloc, b"int f(evflag *g) { if (y) { evflag h; } }")?.as_slice(),
+        b"E17:h ".as_slice()
+    );
+    assert_eq!(rt;
+        found(alloc, b"int f(evflag *g);")?.as_slice(),
+        b"".as_slice()
+    );
+    Ok(())
+}
+
+#[test]
+fn targets_without_a_state(rt: HostRuntime) -> Result<(), Fail> {
+    let alloc = rt.alloc();
+    let text =
+        b"state i { when () { state z; if (y) state q; else state r; } state w when () { } state z exit { state v; } }";
+    assert_eq!(rt;
+        found(alloc, text)?.as_slice(),
+        b"E10:q E10:r E10:w ".as_slice()
+    );
+    Ok(())
+}
+
+#[test]
+fn names_declared_twice_in_a_scope(rt: HostRuntime) -> Result<(), Fail> {
+    let alloc = rt.alloc();
+    assert_eq!(rt;
+        found(
+            alloc,
+            b"state i { int a, a; foreign b, a; entry { int b; { int b, b; } } }"
+        )?
+        .as_slice(),
+        b"E07:a E07:a E07:b ".as_slice()
+    );
+    assert_eq!(rt;
+        found(alloc, b"int f(int a, int b, int a) { int a; }")?.as_slice(),
+        b"E07:a ".as_slice()
+    );
+    assert_eq!(rt;
+        found(alloc, b"int f(int a, int a);")?.as_slice(),
+        b"".as_slice()
+    );
+    assert_eq!(rt;
+        found(alloc, b"struct s { int a; int a; };")?.as_slice(),
+        b"".as_slice()
+    );
+    assert_eq!(rt; found(alloc, b"int a, a;")?.as_slice(), b"".as_slice());
+    Ok(())
+}
+
+#[test]
+fn names_that_nothing_declares(rt: HostRuntime) -> Result<(), Fail> {
+    let alloc = rt.alloc();
+    assert_eq!(rt;
+        found(alloc, b"int f(int n, int a[n]);")?.as_slice(),
+        b"W01:n ".as_slice()
+    );
+    assert_eq!(rt;
+        found(alloc, b"int f(int n, int a[n]) { a = n + m; }")?.as_slice(),
+        b"W01:m ".as_slice()
+    );
+    assert_eq!(rt;
+        found(
+            alloc,
+            b"int f(int n) { { int k[l]; k; } k; g(l, p.q->r); (h)(1); int l; }"
+        )?
+        .as_slice(),
+        b"W01:k W01:p W01:h ".as_slice()
+    );
+    assert_eq!(rt;
+        found(
+            alloc,
+            b"int a = TRUE + pvStatOK + pvSevrMAJOR + pvStats + pvSta + NOEVFLAG + SYNC;"
+        )?
+        .as_slice(),
+        b"W01:pvSta ".as_slice()
+    );
+    assert_eq!(rt;
+        found(
+            alloc,
+            b"state i { when (a) { b; } exit exit { a; c; } int a[c]; foreign b; }"
+        )?
+        .as_slice(),
+        b"W01:c ".as_slice()
+    );
+    assert_eq!(rt;
+        found(alloc, b"entry { sizeof u; (int) v; w = w; }")?.as_slice(),
+        b"W01:u W01:v W01:w ".as_slice()
+    );
+    assert_eq!(rt;
+        found(alloc, b"struct s { int a[N]; };")?.as_slice(),
+        b"W01:N ".as_slice()
+    );
+    Ok(())
+}

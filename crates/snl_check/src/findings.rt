@@ -1,0 +1,17 @@
+//! What a check of an item gives.
+
+use snl_scope::Code;
+use sqlite_items::Items;
+
+/// A finding at a token of an item, which is told by its number in the item.
+#[derive(Clone, Copy, Debug, PartialEq, Eq)]
+pub struct ItemFault {
+    pub token: usize,
+    pub code: Code,
+}
+
+/// What a check of an item gives.
+#[derive(Drop)]
+pub struct Checked {
+    pub faults: Items<ItemFault>,
+}

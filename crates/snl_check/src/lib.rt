@@ -1,0 +1,19 @@
+//! What is found in an item: its tokens, its tree and what it sees of the other items come in, findings at token numbers go
+//! out. It knows no offsets, and of the other items no more than what it is told.
+#![tactic(auto)]
+
+mod check;
+#[cfg(test)]
+mod check_tests;
+mod event_flags;
+mod findings;
+mod laws;
+mod scopes;
+mod undeclared;
+mod unknown_targets;
+mod view;
+
+pub use check::check_item;
+pub use findings::{Checked, ItemFault};
+pub use laws::equal_views;
+pub use view::View;

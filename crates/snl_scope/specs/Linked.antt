@@ -1,0 +1,59 @@
+-- What the links of items answer, by their summaries.
+use Rattle.std.specs.Prelude.{ℕ, Bool, false, if◌then◌else◌, List, ◌++◌, length, slice_get, nat_lt, Option, None, Some, is_some, option_map, option_and_then}
+use Rattle.std.specs.Option.{option_map_or, option_or}
+use Rattle.snl_scope.specs.declared.facts.Assigned.TheVariants.{Unassigned}
+use Rattle.snl_scope.specs.declared.facts.Base.{Base}
+use Rattle.snl_scope.specs.declared.facts.Base.TheVariants as base
+use Rattle.snl_scope.specs.declared.facts.Fact.{Fact}
+use Rattle.snl_scope.specs.declared.facts.Level.{Level}
+use Rattle.snl_scope.specs.declared.facts.Level.TheVariants as level
+use Rattle.snl_scope.specs.declared.facts.LinkFault.{LinkFault}
+use Rattle.snl_scope.specs.declared.spaces.Space.{Space}
+use Rattle.snl_scope.specs.declared.spaces.Space.TheVariants as space
+use Rattle.snl_scope.specs.declared.summary.Nature.{Nature}
+use Rattle.snl_scope.specs.declared.summary.Nature.TheVariants as nature
+use Rattle.snl_scope.specs.declared.summary.Summary.{Summary}
+use Rattle.snl_scope.specs.declared.summary.Variable.{Variable}
+use Rattle.snl_scope.specs.Names.{Entry, entries, number_in, name_faults}
+use Rattle.snl_scope.specs.Order.{order_faults}
+use Rattle.snl_scope.specs.Places.{place}
+
+-- The number of the entry that a name resolves to from where the items of a place stand: the first declaration in the
+-- state set, else the first in the program.
+abbrev pub resolve : List Entry → Option ℕ → List ℕ → Option ℕ
+resolve es None name = number_in es space.Program name
+resolve es (Some k) name = option_or (number_in es (space.StateSet k) name) (number_in es space.Program name)
+
+-- The scope in which a declaration stands, as the items see it that can name it.
+abbrev pub level_of : Space → Level
+level_of (space.StateSet k) = level.StateSet
+level_of _ = level.Program
+
+abbrev pub base_of : Nature → Base
+base_of nature.EventFlag = base.EventFlag
+base_of nature.Foreign = base.Foreign
+base_of nature.Function = base.Function
+base_of nature.Assignable = base.Other
+base_of nature.Unassignable = base.Other
+
+abbrev pub variable_fact : Space → Variable → Fact
+variable_fact s v = record { level = level_of s; base = base_of v.nature; dims = v.dims; assigned = Unassigned }
+
+-- What is known of an entry, where it is a declaration.
+abbrev pub entry_fact : Entry → Option Fact
+entry_fact e = option_map (variable_fact e.space) e.variable
+
+-- What a name means to an item, by the scopes outside it.
+abbrev pub fact_of : List Summary → ℕ → List ℕ → Option Fact
+fact_of ss i name =
+    if nat_lt i (length ss)
+    then option_and_then (λ number. option_and_then entry_fact (slice_get (entries ss) number)) (resolve (entries ss) (place ss i) name)
+    else None
+
+-- The state set in which an item stands has a state of the name.
+abbrev pub has_target : List Summary → ℕ → List ℕ → Bool
+has_target ss i name = option_map_or (λ k. is_some (number_in (entries ss) (space.States k) name)) (place ss i) false
+
+-- All findings of links.
+abbrev pub faults_of : List Summary → List LinkFault
+faults_of ss = order_faults ss ++ name_faults ss

@@ -1,0 +1,104 @@
+-- The names that items bring into spaces of names, and those that stand twice in one.
+use Rattle.std.specs.Prelude.{ℕ, zero, suc, Bool, true, false, ◌&&◌, if◌then◌else◌, List, [], ◌∷◌, ◌++◌, map, length, slice_get, nat_eq, bytes_eq, position, Option, None, Some, is_some, option_to_list}
+use Rattle.std.specs.Option.{option_map_or}
+use Rattle.snl_scope.specs.declared.codes.Code.{Code}
+use Rattle.snl_scope.specs.declared.codes.Code.TheVariants.{E07, E08, E09}
+use Rattle.snl_scope.specs.declared.facts.LinkFault.{LinkFault}
+use Rattle.snl_scope.specs.declared.spaces.Space.{Space}
+use Rattle.snl_scope.specs.declared.spaces.Space.TheVariants as space
+use Rattle.snl_scope.specs.declared.summary.Declared.{Declared}
+use Rattle.snl_scope.specs.declared.summary.Summary.{Summary}
+use Rattle.snl_scope.specs.declared.summary.Variable.{Variable}
+use Rattle.snl_scope.specs.Order.{is_faulty, is_state, state_name}
+use Rattle.snl_scope.specs.Places.{begins_set, place}
+
+-- A name that an item brings into a space. `code` is what it gives where an earlier one has the name, if anything;
+-- `variable` is what a declaration says of it.
+pub record Entry : Type 0 where
+  pub space : Space
+  pub name : List ℕ
+  pub item : ℕ
+  pub token : ℕ
+  pub code : Option Code
+  pub variable : Option Variable
+
+-- The scope of what stands at a place.
+abbrev pub scope_at : Option ℕ → Space
+scope_at None = space.Program
+scope_at (Some k) = space.StateSet k
+
+-- The scope that an item declares in: a state its own, any other the one that it stands in.
+abbrev pub scope_of : List Summary → ℕ → Summary → Space
+scope_of ss i s = if is_state s.kind then space.State i else scope_at (place ss i)
+
+-- What a second declaration in a scope gives. Those of a state are found with the state.
+abbrev pub scope_code : Space → Option Code
+scope_code (space.State i) = None
+scope_code _ = Some E07
+
+abbrev pub declared_entry : Space → ℕ → Declared → Entry
+declared_entry scope i d = record { space = scope; name = d.name; item = i; token = d.token; code = scope_code scope; variable = Some d.variable }
+
+-- The name of an item is its second token.
+abbrev pub named_entry : Space → ℕ → Option Code → List ℕ → Entry
+named_entry names i code name = record { space = names; name = name; item = i; token = 1; code = code; variable = None }
+
+-- The name of the state set that an item begins.
+abbrev pub set_name : Summary → Option (List ℕ)
+set_name s = if begins_set s.kind then s.second else None
+
+abbrev pub set_entries : ℕ → Summary → List Entry
+set_entries i s = map (named_entry space.Sets i (Some E08)) (option_to_list (set_name s))
+
+-- A faulty state has its name too, but gives no finding of its own.
+abbrev pub state_code : Summary → Option Code
+state_code s = if is_faulty s.kind then None else Some E09
+
+-- A state in a state set; one at program level is in none.
+abbrev pub state_entries : Option ℕ → ℕ → Summary → List Entry
+state_entries None i s = []
+state_entries (Some k) i s = map (named_entry (space.States k) i (state_code s)) (option_to_list (state_name s))
+
+-- The entries of item i, and of all items in order.
+abbrev pub entries_of : List Summary → ℕ → Summary → List Entry
+entries_of ss i s = set_entries i s ++ state_entries (place ss i) i s ++ map (declared_entry (scope_of ss i s) i) s.declares
+
+abbrev pub entries_before : List Summary → ℕ → List Entry
+entries_before ss zero = []
+entries_before ss (suc n) = entries_before ss n ++ option_map_or (entries_of ss n) (slice_get ss n) []
+
+abbrev pub entries : List Summary → List Entry
+entries ss = entries_before ss (length ss)
+
+-- One space.
+abbrev pub same_space : Space → Space → Bool
+same_space space.Program space.Program = true
+same_space (space.StateSet a) (space.StateSet b) = nat_eq a b
+same_space (space.State a) (space.State b) = nat_eq a b
+same_space space.Sets space.Sets = true
+same_space (space.States a) (space.States b) = nat_eq a b
+same_space _ _ = false
+
+abbrev pub has_name : Space → List ℕ → Entry → Bool
+has_name s name e = same_space s e.space && bytes_eq name e.name
+
+-- The number of the first entry with a name in a space.
+abbrev pub number_in : List Entry → Space → List ℕ → Option ℕ
+number_in es s name = position (has_name s name) es
+
+-- What a second entry with its name gives.
+abbrev pub repetition_at : Entry → List LinkFault
+repetition_at e = map (λ code. record { item = e.item; token = e.token; code = code }) (option_to_list e.code)
+
+abbrev pub repetition : List Entry → Entry → List LinkFault
+repetition earlier e = if is_some (number_in earlier e.space e.name) then repetition_at e else []
+
+-- What is found at entries, behind the earlier ones.
+abbrev pub repetitions : List Entry → List Entry → List LinkFault
+repetitions earlier [] = []
+repetitions earlier (e ∷ es) = repetition earlier e ++ repetitions (earlier ++ e ∷ []) es
+
+-- E07, E08 and E09: each second or later declaration of a name in the scope of the program or of a state set, state set
+-- of a name, and state of a name in its state set.
+abbrev pub name_faults : List Summary → List LinkFault
+name_faults ss = repetitions [] (entries ss)

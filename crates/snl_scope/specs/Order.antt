@@ -1,0 +1,161 @@
+-- The order of items: their phases, and what is found where they are out of place.
+use Rattle.std.specs.Prelude.{ℕ, Bool, true, false, not, ◌&&◌, ◌||◌, if◌then◌else◌, List, [], ◌∷◌, ◌++◌, map, length, slice_get, nat_lt, Option, None, Some, is_some, is_none, option_and_then}
+use Rattle.snl_scope.specs.declared.codes.Code.{Code}
+use Rattle.snl_scope.specs.declared.codes.Code.TheVariants.{E03, E04, E05, E06}
+use Rattle.snl_scope.specs.declared.facts.LinkFault.{LinkFault}
+use Rattle.snl_scope.specs.declared.summary.ItemKind.{ItemKind}
+use Rattle.snl_scope.specs.declared.summary.ItemKind.TheVariants as kind
+use Rattle.snl_scope.specs.declared.summary.Opening.{Opening}
+use Rattle.snl_scope.specs.declared.summary.Opening.TheVariants as opening
+use Rattle.snl_scope.specs.declared.summary.Summary.{Summary}
+use Rattle.snl_scope.specs.Below.{any_below, all_below}
+use Rattle.snl_scope.specs.Places.{item_is, is_set_begin, is_set_end, place, stands_in}
+
+-- The item begins with the word, faulty or not.
+abbrev pub is_program_word : Opening → Bool
+is_program_word opening.Program = true
+is_program_word _ = false
+
+abbrev pub is_ss_word : Opening → Bool
+is_ss_word opening.Ss = true
+is_ss_word _ = false
+
+abbrev pub is_state_word : Opening → Bool
+is_state_word opening.State = true
+is_state_word _ = false
+
+abbrev pub is_program_item : List Summary → ℕ → Bool
+is_program_item ss i = item_is (λ s. is_program_word s.opening) ss i
+
+abbrev pub is_ss_item : List Summary → ℕ → Bool
+is_ss_item ss i = item_is (λ s. is_ss_word s.opening) ss i
+
+-- The name of the state that an item is: it begins with `state NAME`, and it may be faulty.
+abbrev pub state_name : Summary → Option (List ℕ)
+state_name s = if is_state_word s.opening then s.second else None
+
+abbrev pub is_named_state : List Summary → ℕ → Bool
+is_named_state ss i = item_is (λ s. is_some (state_name s)) ss i
+
+abbrev pub is_faulty : ItemKind → Bool
+is_faulty kind.Faulty = true
+is_faulty _ = false
+
+abbrev pub is_state : ItemKind → Bool
+is_state kind.State = true
+is_state _ = false
+
+-- Entries, state sets and exits: the items of phases 2, 3 and 4.
+abbrev pub is_main : ItemKind → Bool
+is_main kind.Entry = true
+is_main kind.SsBegin = true
+is_main kind.Exit = true
+is_main _ = false
+
+-- The phase of a declaration and its like is 1, or 5 behind an item of phase 2, 3 or 4.
+abbrev pub part_phase : Bool → Option ℕ
+part_phase begun = Some (if begun then 5 else 1)
+
+-- The phase of an item at program level, where it is known whether an item of phase 2, 3 or 4 stands before it.
+-- States, C code, `}`, the empty item and faulty items have none.
+abbrev pub phase_of : Bool → ItemKind → Option ℕ
+phase_of begun kind.Header = Some 0
+phase_of begun kind.Entry = Some 2
+phase_of begun kind.SsBegin = Some 3
+phase_of begun kind.Exit = Some 4
+phase_of begun kind.Declaration = part_phase begun
+phase_of begun kind.Foreign = part_phase begun
+phase_of begun kind.Clause = part_phase begun
+phase_of begun kind.OptionLine = part_phase begun
+phase_of begun kind.Function = part_phase begun
+phase_of begun kind.StructDef = part_phase begun
+phase_of begun _ = None
+
+-- An item of phase 2, 3 or 4 stands at program level before item i.
+abbrev pub has_begun : List Summary → ℕ → Bool
+has_begun ss i = any_below (λ j. item_is (λ s. is_main s.kind) ss j && is_none (place ss j)) i
+
+-- The phase of an item. One in a state set has none.
+abbrev pub phase : List Summary → ℕ → Option ℕ
+phase ss i = if is_none (place ss i) then option_and_then (λ s. phase_of (has_begun ss i) s.kind) (slice_get ss i) else None
+
+abbrev pub exceeds : Option ℕ → Option ℕ → Bool
+exceeds (Some a) (Some b) = nat_lt b a
+exceeds _ _ = false
+
+-- The item has a phase, and an earlier one has a greater phase.
+abbrev pub is_late : List Summary → ℕ → Bool
+is_late ss i = any_below (λ j. exceeds (phase ss j) (phase ss i)) i
+
+-- What may not stand in a state set.
+abbrev pub is_barred_in_sets : ItemKind → Bool
+is_barred_in_sets kind.Header = true
+is_barred_in_sets kind.OptionLine = true
+is_barred_in_sets kind.Entry = true
+is_barred_in_sets kind.Exit = true
+is_barred_in_sets kind.Function = true
+is_barred_in_sets kind.StructDef = true
+is_barred_in_sets _ = false
+
+-- A state at program level, or an item that may not stand in the state set that it stands in.
+abbrev pub is_barred : List Summary → ℕ → Bool
+is_barred ss i = item_is (λ s. if is_none (place ss i) then is_state s.kind else is_barred_in_sets s.kind) ss i
+
+-- The second or a later item that begins with `program`.
+abbrev pub is_later_program : List Summary → ℕ → Bool
+is_later_program ss i = is_program_item ss i && any_below (is_program_item ss) i
+
+-- E03. A second or later header is out of place by another rule.
+abbrev pub is_misplaced : List Summary → ℕ → Bool
+is_misplaced ss i = (is_late ss i || is_barred ss i) && not (is_later_program ss i)
+
+-- The `}` item that stands in a state set closes it.
+abbrev pub is_closed : List Summary → ℕ → Bool
+is_closed ss k = any_below (λ j. is_set_end ss j && stands_in ss k j) (length ss)
+
+-- E04: a state set that no `}` item closes, and a `}` item that closes none.
+abbrev pub is_unmatched : List Summary → ℕ → Bool
+is_unmatched ss i = (is_set_begin ss i && not (is_closed ss i)) || (is_set_end ss i && is_none (place ss i))
+
+-- E05: a second or later header; a faulty one has its own code.
+abbrev pub is_repeated_header : List Summary → ℕ → Bool
+is_repeated_header ss i = item_is (λ s. not (is_faulty s.kind)) ss i && is_later_program ss i
+
+-- A state stands in the state set that item k begins.
+abbrev pub has_state : List Summary → ℕ → Bool
+has_state ss k = any_below (λ j. is_named_state ss j && stands_in ss k j) (length ss)
+
+-- E06: a state set in which no state stands.
+abbrev pub is_stateless : List Summary → ℕ → Bool
+is_stateless ss i = is_set_begin ss i && not (has_state ss i)
+
+-- A finding at the first token of an item. What an item should have given stands behind the last item.
+abbrev pub at_item : Code → ℕ → LinkFault
+at_item code i = record { item = i; token = 0; code = code }
+
+abbrev pub found_if : Bool → Code → ℕ → List LinkFault
+found_if is_found code i = if is_found then at_item code i ∷ [] else []
+
+abbrev pub at_items_where : Code → (ℕ → Bool) → ℕ → List LinkFault
+at_items_where code test n = map (at_item code) (all_below test n)
+
+abbrev pub if_missing : Code → (ℕ → Bool) → ℕ → List LinkFault
+if_missing code test n = found_if (not (any_below test n)) code n
+
+abbrev pub misplaced_items : List Summary → List LinkFault
+misplaced_items ss = at_items_where E03 (is_misplaced ss) (length ss)
+
+abbrev pub unmatched_braces : List Summary → List LinkFault
+unmatched_braces ss = at_items_where E04 (is_unmatched ss) (length ss)
+
+-- Several items begin with `program`, or none does.
+abbrev pub header_faults : List Summary → List LinkFault
+header_faults ss = at_items_where E05 (is_repeated_header ss) (length ss) ++ if_missing E05 (is_program_item ss) (length ss)
+
+-- A state set has no state, or no item begins with `ss`.
+abbrev pub missing_states : List Summary → List LinkFault
+missing_states ss = at_items_where E06 (is_stateless ss) (length ss) ++ if_missing E06 (is_ss_item ss) (length ss)
+
+-- What is found of the order of items.
+abbrev pub order_faults : List Summary → List LinkFault
+order_faults ss = misplaced_items ss ++ unmatched_braces ss ++ header_faults ss ++ missing_states ss

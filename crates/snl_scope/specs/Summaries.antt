@@ -1,0 +1,100 @@
+-- The summary of an item, from its tokens and its tree; a faulty item has none.
+use Rattle.std.specs.Prelude.{ℕ, List, [], ◌∷◌, ◌++◌, map, slice_get, Option, Some, None, codes, if◌then◌else◌}
+use Rattle.std.specs.List.{list_any}
+use Rattle.std.specs.Str.{bytes_eq}
+use Rattle.snl_lex.specs.declared.piece.Class.{Class}
+use Rattle.snl_lex.specs.declared.piece.Class.TheVariants as class
+use Rattle.snl_lex.specs.declared.piece.Piece.{Piece}
+use Rattle.snl_syntax.specs.declared.tree.item.Item.{Item}
+use Rattle.snl_syntax.specs.declared.tree.item.Item.TheVariants as items
+use Rattle.snl_scope.specs.declared.summary.ItemKind.{ItemKind}
+use Rattle.snl_scope.specs.declared.summary.ItemKind.TheVariants as kinds
+use Rattle.snl_scope.specs.declared.summary.Opening.{Opening}
+use Rattle.snl_scope.specs.declared.summary.Opening.TheVariants as openings
+use Rattle.snl_scope.specs.declared.summary.Summary.{Summary}
+use Rattle.snl_scope.specs.Summaries.Clauses.{clauses_in}
+use Rattle.snl_scope.specs.Summaries.Declares.{declared_in}
+use Rattle.snl_scope.specs.Summaries.Targets.{targets_in}
+use Rattle.snl_scope.specs.Summaries.Tokens.{bytes_at, bytes_of, mention_at}
+use Rattle.snl_scope.specs.Summaries.Uses.{used_in}
+pub mod Tokens
+pub mod Expressions
+pub mod Uses
+pub mod Declares
+pub mod Clauses
+pub mod Targets
+
+-- What an item is.
+abbrev pub kind_of_tree : Item → ItemKind
+kind_of_tree (items.Header name parameters) = kinds.Header
+kind_of_tree (items.Definition d) = kinds.Declaration
+kind_of_tree (items.Foreign names) = kinds.Foreign
+kind_of_tree (items.Clause clause) = kinds.Clause
+kind_of_tree (items.OptionLine line) = kinds.OptionLine
+kind_of_tree (items.Entry block) = kinds.Entry
+kind_of_tree (items.Exit block) = kinds.Exit
+kind_of_tree (items.SsBegin name) = kinds.SsBegin
+kind_of_tree items.SsEnd = kinds.SsEnd
+kind_of_tree (items.StateBlock name ms) = kinds.State
+kind_of_tree (items.Function f) = kinds.Function
+kind_of_tree (items.StructDef name ms) = kinds.StructDef
+kind_of_tree (items.CBlock n) = kinds.CBlock
+kind_of_tree items.Empty = kinds.Empty
+
+abbrev pub kind_of : Option Item → ItemKind
+kind_of None = kinds.Faulty
+kind_of (Some tree) = kind_of_tree tree
+
+abbrev pub opening_by_word : List ℕ → Opening
+opening_by_word word =
+    if bytes_eq word (codes "program") then openings.Program
+    else (if bytes_eq word (codes "ss") then openings.Ss else (if bytes_eq word (codes "state") then openings.State else openings.Other))
+
+abbrev pub opening_by : Class → List ℕ → Opening
+opening_by class.Word bytes = opening_by_word bytes
+opening_by _ bytes = openings.Other
+
+-- The word that an item begins with.
+abbrev pub opening_if : List ℕ → Option Piece → Opening
+opening_if text None = openings.Other
+opening_if text (Some first) = opening_by first.kind (bytes_of text first)
+
+abbrev pub opening_in : List ℕ → List Piece → Opening
+opening_in text tokens = opening_if text (slice_get tokens 0)
+
+abbrev pub name_by : Class → List ℕ → Option (List ℕ)
+name_by class.Name bytes = Some bytes
+name_by _ bytes = None
+
+abbrev pub name_if : List ℕ → Option Piece → Option (List ℕ)
+name_if text None = None
+name_if text (Some piece) = name_by piece.kind (bytes_of text piece)
+
+-- The second token, if that is a name.
+abbrev pub second_in : List ℕ → List Piece → Option (List ℕ)
+second_in text tokens = name_if text (slice_get tokens 1)
+
+-- The names found so far, and one more where it isn't among them.
+abbrev pub with_new : List (List ℕ) → List ℕ → List (List ℕ)
+with_new found name = if list_any (bytes_eq name) found then found else found ++ name ∷ []
+
+-- Behind names found, each further name once, where it comes first.
+abbrev pub once_behind : List (List ℕ) → List (List ℕ) → List (List ℕ)
+once_behind found [] = found
+once_behind found (name ∷ names) = once_behind (with_new found name) names
+
+-- Each name once, where it comes first.
+abbrev pub once : List (List ℕ) → List (List ℕ)
+once names = once_behind [] names
+
+-- The summary of the item that consists of these tokens of the text and has this tree.
+abbrev pub summary_in : List ℕ → List Piece → Option Item → Summary
+summary_in text tokens tree = record {
+  declares = declared_in text tokens tree;
+  clauses = clauses_in text tokens tree;
+  uses = once (map (bytes_at text tokens) (used_in tree));
+  targets = map (mention_at text tokens) (targets_in tree);
+  second = second_in text tokens;
+  kind = kind_of tree;
+  opening = opening_in text tokens;
+}

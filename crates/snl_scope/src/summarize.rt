@@ -1,0 +1,149 @@
+//! The summary of an item: its tokens and its tree come in, what it says to the other items goes out.
+//! It knows nothing of the other items.
+
+ghost use Rattle.snl_scope.specs.Summaries.{kind_of, kind_of_tree, opening_by_word, opening_in, second_in, summary_in};
+ghost use Rattle.snl_scope.specs.Summaries.Tokens.{IsSource, mention_at};
+ghost use Rattle.std.specs.Prelude.{◌≡◌, IfOk, map, option_copied};
+
+use crate::clauses_of::clauses_in;
+use crate::declarations::declared_in;
+use crate::distinct::names_once;
+use crate::name::Name;
+use crate::source::Source;
+use crate::summary::{ItemKind, Mention, Opening, Summary};
+use crate::targets::targets_in;
+use crate::uses_of::uses_in;
+use snl_cut::OutOfMemory;
+use snl_lex::{Class, Piece, token_text};
+use snl_syntax::tree::item::Item;
+use sqlite_items::Items;
+use std::alloc::Global;
+
+fn kind_of_tree(tree: &Item) -> ItemKind
+    ensures { result ≡ kind_of_tree tree.now }
+{
+    match tree {
+        Item::Header {
+            name: _,
+            parameters: _,
+        } => ItemKind::Header,
+        Item::Definition(_) => ItemKind::Declaration,
+        Item::Foreign(_) => ItemKind::Foreign,
+        Item::Clause(_) => ItemKind::Clause,
+        Item::OptionLine(_) => ItemKind::OptionLine,
+        Item::Entry(_) => ItemKind::Entry,
+        Item::Exit(_) => ItemKind::Exit,
+        Item::SsBegin { name: _ } => ItemKind::SsBegin,
+        Item::SsEnd => ItemKind::SsEnd,
+        Item::StateBlock {
+            name: _,
+            members: _,
+        } => ItemKind::State,
+        Item::Function(_) => ItemKind::Function,
+        Item::StructDef {
+            name: _,
+            members: _,
+        } => ItemKind::StructDef,
+        Item::CBlock(_) => ItemKind::CBlock,
+        Item::Empty => ItemKind::Empty,
+    }
+}
+
+fn kind_of(tree: Option<&Item>) -> ItemKind
+    ensures { result ≡ kind_of (option_copied tree.entry) }
+{
+    match tree {
+        None => ItemKind::Faulty,
+        Some(tree) => kind_of_tree(tree),
+    }
+}
+
+fn opening_by_word(word: &[u8]) -> Opening
+    ensures { result ≡ opening_by_word word.now }
+{
+    if word == b"program".as_slice() {
+        Opening::Program
+    } else if word == b"ss".as_slice() {
+        Opening::Ss
+    } else if word == b"state".as_slice() {
+        Opening::State
+    } else {
+        Opening::Other
+    }
+}
+
+// The word that an item begins with.
+fn opening_of(source: &Source) -> Opening
+    requires { IsSource source.now.text.now source.now.tokens.now }
+    ensures { result ≡ opening_in source.now.text.now source.now.tokens.now }
+{
+    match source.tokens.get(0) {
+        Some(first) => match first.kind {
+            Class::Word => opening_by_word(token_text(source.text, *first)),
+            _ => Opening::Other,
+        },
+        None => Opening::Other,
+    }
+}
+
+// The second token, if that is a name.
+fn second_of(source: &Source) -> Result<Option<Name>, OutOfMemory>
+    requires { IsSource source.now.text.now source.now.tokens.now }
+    ensures { IfOk result (λ name. name ≡ second_in source.now.text.now source.now.tokens.now) }
+{
+    match source.tokens.get(1) {
+        Some(second) => match second.kind {
+            Class::Name => {
+                let name = token_text(source.text, *second);
+                Ok(Some(Name::new(source.alloc, name)?))
+            }
+            _ => Ok(None),
+        },
+        None => Ok(None),
+    }
+}
+
+// The names at tokens.
+fn mentions(source: &Source, numbers: &[usize]) -> Result<Items<Mention>, OutOfMemory>
+    requires { IsSource source.now.text.now source.now.tokens.now }
+    ensures { IfOk result (λ m. m ≡ map (mention_at source.now.text.now source.now.tokens.now) numbers.now) }
+{
+    let mut mentions = Vec::new(source.alloc);
+    for number in numbers {
+        mentions.push(source.mention(*number)?)?;
+    }
+    Ok(Items::from_vec(mentions))
+}
+
+/// The summary of the item that consists of these tokens, of which each lies in the text. `tree` is the item's tree; an item
+/// without one is faulty, and declares and uses nothing.
+pub fn summary_of(
+    alloc: Global,
+    text: &[u8],
+    tokens: &[Piece],
+    tree: Option<&Item>,
+) -> Result<Summary, OutOfMemory>
+    requires { IsSource text.now tokens.now }
+    ensures { IfOk result (λ summary. summary ≡ summary_in text.now tokens.now (option_copied tree.entry)) }
+{
+    let source = Source {
+        text,
+        tokens,
+        alloc,
+    };
+    let declares = Items::from_vec(declared_in(&source, tree)?);
+    let clauses = Items::from_vec(clauses_in(&source, tree)?);
+    let used = uses_in(alloc, tree)?;
+    let uses = names_once(&source, &used)?;
+    let named = targets_in(alloc, tree)?;
+    let targets = mentions(&source, &named)?;
+    Ok(Summary {
+        declares,
+        clauses,
+        uses,
+        targets,
+        second: second_of(&source)?,
+        kind: kind_of(tree),
+        opening: opening_of(&source),
+    })
+}
