@@ -5,8 +5,7 @@ use Rattle.std.specs.List.{concat}
 use Rattle.snl_session.specs.declared.edits.Refused.{Refused}
 use Rattle.snl_session.specs.declared.edits.Refused.TheVariants.{Range, Size, Memory}
 use Rattle.snl_session.specs.declared.findings.Diagnostic.{Diagnostic}
-use Rattle.snl_session.specs.Codes.{message_of, name_of}
-use Rattle.snl_session.specs.Diagnostics.{diagnostics_of, errors_of, warnings_of}
+use Rattle.snl_session.specs.Diagnostics.{diagnostics_of, errors_of, message_of, name_of, warnings_of}
 
 -- So many bytes of a text from an offset on.
 abbrev pub part_of : (text : List ℕ) (start len : ℕ) → List ℕ

@@ -1,3 +1,12 @@
+pub mod Empty
+pub mod Searches
+pub mod OpenSets
+pub mod Phases
+pub mod Marks
+pub mod Numbering
+pub mod Equality
+pub mod Entries
 pub mod Operands
 pub mod Branches
 pub mod Kept
+pub mod Firsts

@@ -133,11 +133,14 @@ is_stateless ss i = is_set_begin ss i && not (has_state ss i)
 abbrev pub at_item : Code → ℕ → LinkFault
 at_item code i = record { item = i; token = 0; code = code }
 
+abbrev pub found_if : Bool → Code → ℕ → List LinkFault
+found_if is_found code i = if is_found then at_item code i ∷ [] else []
+
 abbrev pub at_items_where : Code → (ℕ → Bool) → ℕ → List LinkFault
 at_items_where code test n = map (at_item code) (all_below test n)
 
 abbrev pub if_missing : Code → (ℕ → Bool) → ℕ → List LinkFault
-if_missing code test n = if any_below test n then [] else at_item code n ∷ []
+if_missing code test n = found_if (not (any_below test n)) code n
 
 abbrev pub misplaced_items : List Summary → List LinkFault
 misplaced_items ss = at_items_where E03 (is_misplaced ss) (length ss)

@@ -7,20 +7,30 @@ mod codes;
 mod declarations;
 mod distinct;
 mod facts;
+mod links;
 mod name;
+mod names;
+mod order;
+mod origin;
+mod places;
 mod source;
 mod spaces;
 mod summarize;
 #[cfg(test)]
 mod summarize_tests;
 mod summary;
+mod summary_laws;
+mod tables;
 pub mod targets;
+#[cfg(test)]
+mod tests;
 pub mod uses;
 pub mod uses_of;
 
 pub use codes::Code;
 pub use distinct::NameSet;
 pub use facts::{Assigned, Base, Fact, Level, LinkFault};
+pub use links::{Links, link};
 pub use name::Name;
 pub use source::Source;
 pub use summarize::summary_of;
@@ -28,3 +38,4 @@ pub use summary::{
     ClauseKind, Coverage, Declared, Dims, ItemKind, Mention, Nature, Opening, Summary, Variable,
     VariableClause,
 };
+pub use summary_laws::names_kept_once;

@@ -1,4 +1,5 @@
-pub mod Fronts
-pub mod Lines
-pub mod Phrases
-pub mod Runs
+pub mod Ends
+pub mod Faults
+pub mod Ranks
+pub mod Sorting
+pub mod Steps

@@ -1,12 +1,35 @@
 -- The diagnostics of a text, which the text alone defines.
-use Rattle.std.specs.Prelude.{ℕ, List, count_by, not}
+use Rattle.std.specs.Prelude.{ℕ, Bool, List, ◌++◌, count_by, map, not}
+use Rattle.std.specs.Cmp.Lexicographic.{slice_cmp}
+use Rattle.std.specs.Ordering.{is_lt, nat_cmp, ordering_then}
+use Rattle.snl_lex.specs.declared.lines.Line.{Line}
+use Rattle.snl_lex.specs.Lines.{line_at}
+pub use Rattle.snl_scope.specs.Codes.{is_error, message_of, name_of}
 use Rattle.snl_session.specs.declared.findings.Diagnostic.{Diagnostic}
-use Rattle.snl_session.specs.Codes.{is_error}
-use Rattle.snl_session.specs.ThinFindings.{found}
+use Rattle.snl_session.specs.declared.findings.Finding.{Finding}
+use Rattle.snl_session.specs.Faults.{faults_of}
+use Rattle.snl_session.specs.Linked.{linked_faults}
+use Rattle.snl_session.specs.Order.{in_order}
+use Rattle.snl_session.specs.Program.{items_of}
 
--- The diagnostics of a text, by offset and then by code. They are those of thin texts: a text of any other form has one, E02.
+-- What is found in a text: at its faulty items, and by the links of its items.
+unfoldable pub found : List ℕ → List Finding
+found text = faults_of text ++ linked_faults text (items_of text)
+
+-- A finding with its line and file.
+abbrev pub on_line : Finding → Line → Diagnostic
+on_line x line = record { offset = x.offset; line = line.number; file = line.file; code = x.code; subject = x.subject }
+
+abbrev pub diagnostic : List ℕ → Finding → Diagnostic
+diagnostic text x = on_line x (line_at text x.offset)
+
+-- The diagnostics of a text, by offset and then by code.
 unfoldable pub diagnostics_of : List ℕ → List Diagnostic
-diagnostics_of text = found text
+diagnostics_of text = map (diagnostic text) (in_order (found text))
+
+-- One diagnostic stands before another: by offset, and at one offset by code, as text.
+abbrev pub stands_before : Diagnostic → Diagnostic → Bool
+stands_before x y = is_lt (ordering_then (nat_cmp x.offset y.offset) (slice_cmp nat_cmp (name_of x.code) (name_of y.code)))
 
 -- How many of them are errors.
 unfoldable pub errors_of : List ℕ → ℕ

@@ -1,7 +1,7 @@
-pub mod Codes
 pub mod Diagnostics
 pub mod Edit
-pub mod ThinFindings
-pub mod ThinGrammar
-pub mod ThinPhrases
-pub mod ThinTokens
+pub mod Faults
+pub mod Linked
+pub mod Order
+pub mod Parts
+pub mod Program

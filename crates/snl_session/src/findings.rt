@@ -1,7 +1,7 @@
-//! A diagnostic: what is found at a place of a text.
+//! What is found at a place of a text, with and without its line.
 #![tactic(auto)]
 
-use crate::codes::Code;
+use snl_scope::Code;
 
 /// What is found at a byte offset of the text.
 #[derive(Clone, Copy, Debug, PartialEq, Eq)]
@@ -14,5 +14,13 @@ pub struct Diagnostic {
     pub file: Option<(usize, usize)>,
     pub code: Code,
     /// How many bytes at the offset are quoted; 0 quotes nothing.
+    pub subject: usize,
+}
+
+/// A diagnostic that has no line and file yet.
+#[derive(Clone, Copy, Debug, PartialEq, Eq)]
+pub struct Finding {
+    pub offset: usize,
+    pub code: Code,
     pub subject: usize,
 }

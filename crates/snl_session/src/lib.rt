@@ -1,18 +1,24 @@
 //! The session layer: a text that is edited by ranges of bytes comes in, its diagnostics go out.
-//! Whatever edits led to a text, its diagnostics are those that the text alone defines.
-//! Private below it is `thin`, which judges a whole text of the plainest form anew at each edit.
-//! It knows nothing of scripts, of files or of how a diagnostic is printed.
+//! Whatever edits led to a text, its diagnostics are those that the text alone defines: the whole text is judged anew at each edit.
+//! Private below it: `program` cuts a text into items and parses them, `summaries` links them, `linked` tells what is found by the links, `order` sorts what is found,
+//! and `diagnose` joins them. It knows nothing of scripts, of files or of how a diagnostic is printed.
 #![tactic(auto)]
 
-mod codes;
+mod diagnose;
 mod edits;
 mod findings;
+mod linked;
+#[cfg(test)]
+mod linked_tests;
+mod order;
+mod program;
 mod sessions;
+mod summaries;
 #[cfg(test)]
 mod tests;
-mod thin;
+mod unknown_targets;
 
-pub use codes::Code;
 pub use edits::{Refused, Work};
 pub use findings::Diagnostic;
 pub use sessions::Session;
+pub use snl_scope::Code;

@@ -4,10 +4,11 @@
 
 ghost use Rattle.std.specs.Prelude.{◌≡◌, ℕ, ◌+◌, ◌≤◌, [], ◌++◌, List, length, IfOk, OnOk, OnErr, IsErrOf, IsOkUnless, MatchOption, None};
 
+use crate::diagnose::diagnose;
 use crate::edits::{Refused, Work};
 use crate::findings::Diagnostic;
-use crate::thin::diagnose;
-use std::alloc::{AllocError, Global};
+use snl_cut::OutOfMemory;
+use std::alloc::Global;
 use std::marker::Model;
 
 /// The number of bytes that a text has at most.
@@ -32,7 +33,8 @@ impl Model for Session {
 }
 
 impl Session {
-    ghost use Rattle.snl_session.specs.Diagnostics.{diagnostics_of, errors_of, warnings_of};
+    ghost use Rattle.snl_session.specs.Diagnostics.{diagnostics_of, errors_of, stands_before, warnings_of};
+    ghost use Rattle.std.specs.List.Sorted.{IsSortedBy};
     ghost use Rattle.snl_session.specs.Edit.{limit, refusal_of, spliced};
 
     /// A session over the empty text. The only refusal is that of memory.
@@ -73,7 +75,8 @@ impl Session {
 
     /// The diagnostics of the text, sorted by offset and then by code.
     pub fn diagnostics(&self) -> &[Diagnostic]
-        ensures { result.now ≡ diagnostics_of self.now }
+        ensures of_text { result.now ≡ diagnostics_of self.now }
+        ensures sorted { IsSortedBy stands_before result.now }
     {
         self.found.as_slice()
     }
@@ -108,7 +111,7 @@ impl Session {
     }
 
     // The session after an edit that is not refused. All that takes memory is done here.
-    fn edited(&self, start: usize, stop: usize, new: &[u8]) -> Result<Session, AllocError>
+    fn edited(&self, start: usize, stop: usize, new: &[u8]) -> Result<Session, OutOfMemory>
         requires { refusal_of self.now start stop (length new.now) ≡ None }
         ensures { IfOk result (λ s. s ≡ spliced self.now start stop new.now) }
     {
@@ -119,7 +122,7 @@ impl Session {
 
     // A session over this text.
     #[tactic(auto, unfolding(crate::specs::Diagnostics::diagnostics_of))]
-    fn over(alloc: Global, text: Vec<u8>) -> Result<Session, AllocError>
+    fn over(alloc: Global, text: Vec<u8>) -> Result<Session, OutOfMemory>
         requires { length text.items ≤ 1048576 }
         ensures { IfOk result (λ s. s ≡ text.items) }
     {
@@ -129,11 +132,11 @@ impl Session {
 }
 
 // Three parts, one behind another.
-fn joined(alloc: Global, front: &[u8], middle: &[u8], back: &[u8]) -> Result<Vec<u8>, AllocError>
+fn joined(alloc: Global, front: &[u8], middle: &[u8], back: &[u8]) -> Result<Vec<u8>, OutOfMemory>
     ensures { IfOk result (λ v. v.items ≡ front.now ++ middle.now ++ back.now) }
 {
-    let mut text = Vec::from_slice(alloc, front)?;
-    text.extend_from_slice(middle)?;
-    text.extend_from_slice(back)?;
+    let mut text = Vec::from_slice(alloc, front).map_err(|_| OutOfMemory)?;
+    text.extend_from_slice(middle).map_err(|_| OutOfMemory)?;
+    text.extend_from_slice(back).map_err(|_| OutOfMemory)?;
     Ok(text)
 }

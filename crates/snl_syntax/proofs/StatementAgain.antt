@@ -16,13 +16,13 @@ use Rattle.snl_syntax.specs.Steps.{Reader, pure, kind_at, expect, many, until}
 use Rattle.snl_syntax.specs.Grammar.Base.{Each, First, Leaf}
 use Rattle.snl_syntax.specs.Grammar.Expressions.{one, several, IsExpr}
 use Rattle.snl_syntax.specs.Grammar.Declarations.{IsDeclaration}
-use Rattle.snl_syntax.specs.Grammar.Statements.{Place, within_block, as_body, behind_else as at_else, may_be_block, may_be_choice, IsBefore, IsCondition, IsForHead, IsMember, declaration as is_declaration, statement as is_statement, IsBlock, IsBody, block as is_block_body, deeper, IsArm, IsPassed, IsLast, IsStmt, empty as is_empty, evaluation as is_evaluation, block as is_block, c_code as is_code, choice as is_choice, while_loop as is_while, for_loop as is_for, break_loop as is_break, continue_loop as is_continue, return_value as is_return, change as is_change, IsStatement, IsBlockWithin}
+use Rattle.snl_syntax.specs.Grammar.Statements.{Place, within_block, as_body, behind_else as at_else, may_be_block, may_be_choice, IsBefore, IsCondition, AreForParts, IsForHeadWithin, IsMember, declaration as is_declaration, statement as is_statement, IsBlock, IsBody, block as is_block_body, deeper, IsArm, IsPassed, IsLast, IsStmt, empty as is_empty, evaluation as is_evaluation, block as is_block, c_code as is_code, choice as is_choice, while_loop as is_while, for_loop as is_for, break_loop as is_break, continue_loop as is_continue, return_value as is_return, change as is_change, IsStatement, IsBlockWithin}
 use Rattle.snl_syntax.specs.Reading.Types.{begins_type}
 use Rattle.snl_syntax.specs.Reading.Expressions.{expr}
 use Rattle.snl_syntax.specs.Reading.Declarations.{declaration}
-use Rattle.snl_syntax.specs.Reading.Statements.{some_before, semicolon_by, before_semicolon, paren_by, before_paren, c_code, jump, change, return_value, evaluation, condition, for_head, declared, stated, some_by, some_member, member_by, next_member, block_of, block_statement, body_by, body, while_loop, for_loop, last_body, branch_by, behind_else, else_by, arm, arm_step, choice, stmt_by, stmt_of, stmt, block}
+use Rattle.snl_syntax.specs.Reading.Statements.{some_before, semicolon_by, before_semicolon, paren_by, before_paren, c_code, jump, change, return_value, evaluation, condition, for_parts, for_head, declared, stated, some_by, some_member, member_by, next_member, block_of, block_statement, body_by, body, while_loop, for_loop, last_body, branch_by, behind_else, else_by, arm, arm_step, choice, stmt_by, stmt_of, stmt, block}
 use Rattle.snl_syntax.proofs.Local.{Local, Eats, eats_more}
-use Rattle.snl_syntax.proofs.Again.{Comes, read, late, comes_at, comes_as, bind_comes, pure_comes, expect_comes, first_comes, kind_first, Heads, first_heads, Lacks, differ, first_lacks, many_comes, until_more_comes, until_last_comes}
+use Rattle.snl_syntax.proofs.Again.{Comes, read, late, comes_at, comes_as, bind_comes, pure_comes, expect_comes, first_comes, kind_first, Heads, first_heads, Lacks, differ, first_lacks, many_comes, until_more_comes, until_last_comes, level_comes}
 use Rattle.snl_syntax.proofs.Follow.{binds, first_stops}
 use Rattle.snl_syntax.proofs.TypeLaws.{word_comes}
 use Rattle.snl_syntax.proofs.ExpressionAgain.{begins_expr}
@@ -168,13 +168,18 @@ module _ (free extra depth : ℕ) where
       (bind_comes free (expr depth is.m1) _ e is.m2 e rest (expr_again free extra depth e is.m1 is.m2 is.value (first_stops kind.CloseParen 13 is.m2 rest (omega arith) is.closing))
       (bind_comes free (expect kind.CloseParen is.m2) _ is.closing.0 rest e rest (first_comes free kind.CloseParen is.m2 rest is.closing) (pure_comes free e rest)))
 
-  head_again : (t : ForHead) (k rest : List Seat) → IsForHead (IsExpr free extra depth) t k rest → Comes free (for_head depth k) t rest
+  parts_again : (t : ForHead) (k rest : List Seat) → AreForParts (IsExpr free extra depth) t k rest → Comes free (for_parts depth k) t rest
+  unfolding for_parts
+  parts_again t k rest is =
+      bind_comes free (before_semicolon (expr depth) k) _ t.first is.m1 t rest (semicolon_again t.first k is.m1 is.first)
+      (bind_comes free (before_semicolon (expr depth) is.m1) _ t.condition is.m2 t rest (semicolon_again t.condition is.m1 is.m2 is.condition)
+      (bind_comes free (before_paren (expr depth) is.m2) _ t.step rest t rest (paren_again t.step is.m2 rest is.step) (pure_comes free t rest)))
+
+  head_again : (t : ForHead) (k rest : List Seat) → IsForHeadWithin free extra depth t k rest → Comes free (for_head depth k) t rest
   unfolding for_head
   head_again t k rest is =
-      bind_comes free (expect kind.OpenParen k) _ is.opening.0 is.m1 t rest (first_comes free kind.OpenParen k is.m1 is.opening)
-      (bind_comes free (before_semicolon (expr depth) is.m1) _ t.first is.m2 t rest (semicolon_again t.first is.m1 is.m2 is.first)
-      (bind_comes free (before_semicolon (expr depth) is.m2) _ t.condition is.m3 t rest (semicolon_again t.condition is.m2 is.m3 is.condition)
-      (bind_comes free (before_paren (expr depth) is.m3) _ t.step rest t rest (paren_again t.step is.m3 rest is.step) (pure_comes free t rest))))
+      bind_comes free (expect kind.OpenParen k) _ is.opening.0 is.mid t rest (first_comes free kind.OpenParen k is.mid is.opening)
+      (level_comes free extra depth (for_parts depth) (AreForParts (IsExpr free extra depth)) t is.mid rest (parts_again t is.mid rest) is.parts)
 
 -- ---- of statements and declarations one level deeper it is given what they begin with, and that they are read again
 
@@ -266,7 +271,7 @@ module _ (free extra depth : ℕ) (Inner : Place → Bool → Stmt → List Seat
       (bind_comes free (condition depth m1) _ e m2 (tree.While e s) rest (condition_again free extra depth e m1 m2 c)
       (bind_comes free (body depth inner m2) _ s rest (tree.While e s) rest (body_again as_body refl closed s m2 rest b h) (pure_comes free (tree.While e s) rest)))
 
-  for_again : (closed : Bool) (t : ForHead) (s : Stmt) (k m1 m2 rest : List Seat) → First kind.For k m1 → IsForHead (IsExpr free extra depth) t m1 m2 → B as_body closed s m2 rest → Ended closed rest → Comes free (for_loop depth inner k) (tree.For t s) rest
+  for_again : (closed : Bool) (t : ForHead) (s : Stmt) (k m1 m2 rest : List Seat) → First kind.For k m1 → IsForHeadWithin free extra depth t m1 m2 → B as_body closed s m2 rest → Ended closed rest → Comes free (for_loop depth inner k) (tree.For t s) rest
   unfolding for_loop
   for_again closed t s k m1 m2 rest f c b h =
       bind_comes free (expect kind.For k) _ f.0 m1 (tree.For t s) rest (first_comes free kind.For k m1 f)
@@ -375,7 +380,7 @@ module _ (free extra depth : ℕ) (Inner : Place → Bool → Stmt → List Seat
   -- ---- a statement by its first token
 
   abbrev S : Place → Bool → Stmt → List Seat → List Seat → Type 0
-  S = IsStmt (IsExpr free extra depth) (IsExpr free extra (suc depth)) (IsDeclaration free extra depth) Inner
+  S = IsStmt (IsExpr free extra depth) (IsExpr free extra (suc depth)) (IsForHeadWithin free extra depth) (IsDeclaration free extra depth) Inner
 
   by_first : (x : Kind) (s t : Stmt) (k mid rest : List Seat) → t ≡ s → First x k mid → Comes free (stmt_by depth inner (suc depth) (Some x) k) s rest → Comes free (stmt_of depth inner (suc depth) k) t rest
   unfolding stmt_of
@@ -446,7 +451,7 @@ module _ (free extra depth : ℕ) (own_free own_extra own : ℕ) (Declared : Dec
   first_if closed [] a branch k mid rest e l = first_arm closed a branch k rest (subst (λ q. IsLast (IsExpr free extra depth) Declared Inner closed a branch q rest) (sym e) l)
   first_if closed (b ∷ arms) a branch k mid rest e l = (e.1.front.m1, e.1.front.word)
 
-  form_begins : (p : Place) (closed : Bool) (t : Stmt) (k rest : List Seat) → IsStmt (IsExpr free extra depth) (IsExpr own_free own_extra own) Declared Inner p closed t k rest → Heads (begins_stmt p) k
+  form_begins : (p : Place) (closed : Bool) (t : Stmt) (k rest : List Seat) → IsStmt (IsExpr free extra depth) (IsExpr own_free own_extra own) (IsForHeadWithin free extra depth) Declared Inner p closed t k rest → Heads (begins_stmt p) k
   form_begins p closed t k rest (is_empty is f) = first_heads kind.Semicolon (begins_stmt p) k rest refl f
   form_begins p closed t k rest (is_evaluation e mid is r f) = expr_heads p k (expr_begins own_free own_extra own e k mid r)
   form_begins p closed t k rest (is_block ts may is b) = first_heads kind.OpenBrace (begins_stmt p) k b.m1 may b.opening

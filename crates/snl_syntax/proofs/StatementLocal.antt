@@ -12,8 +12,8 @@ use Rattle.snl_syntax.specs.Steps.{Reader, and_then, pure, refuse, kind_at, expe
 use Rattle.snl_syntax.specs.Reading.Types.{begins_type}
 use Rattle.snl_syntax.specs.Reading.Expressions.{expr}
 use Rattle.snl_syntax.specs.Reading.Declarations.{declaration}
-use Rattle.snl_syntax.specs.Reading.Statements.{some_before, semicolon_by, before_semicolon, paren_by, before_paren, c_code, jump, change, return_value, evaluation, condition, for_head, declared, stated, some_by, some_member, member_by, next_member, block_of, block_statement, body_by, body, while_loop, for_loop, last_body, branch_by, behind_else, else_by, arm, arm_step, choice, stmt_by, stmt_of, stmt, block}
-use Rattle.snl_syntax.proofs.Local.{Local, Eats, EatsSome, bind_local, choice_local, pure_local, refuse_local, expect_local, many_local, until_local, bind_eats, eats_behind, expect_eats, eats_some, eats_more, none_eats, until_step}
+use Rattle.snl_syntax.specs.Reading.Statements.{some_before, semicolon_by, before_semicolon, paren_by, before_paren, c_code, jump, change, return_value, evaluation, condition, for_parts, for_head, declared, stated, some_by, some_member, member_by, next_member, block_of, block_statement, body_by, body, while_loop, for_loop, last_body, branch_by, behind_else, else_by, arm, arm_step, choice, stmt_by, stmt_of, stmt, block}
+use Rattle.snl_syntax.proofs.Local.{Local, Eats, EatsSome, bind_local, choice_local, pure_local, refuse_local, expect_local, many_local, until_local, level_local, bind_eats, eats_behind, expect_eats, eats_some, eats_more, none_eats, until_step}
 use Rattle.snl_syntax.proofs.TypeLaws.{word_local}
 use Rattle.snl_syntax.proofs.ExpressionLocal.{expr_local}
 use Rattle.snl_syntax.proofs.DeclarationLocal.{declaration_local, declaration_eats}
@@ -100,13 +100,16 @@ module _ (depth : ℕ) where
   unfolding condition
   condition_local = bind_local (expect kind.OpenParen) _ (expect_local kind.OpenParen) (λ _. bind_local (expr depth) _ (expr_local depth) (λ e. bind_local (expect kind.CloseParen) _ (expect_local kind.CloseParen) (λ _. pure_local e)))
 
-  head_local : Local (for_head depth)
-  unfolding for_head
-  head_local =
-      bind_local (expect kind.OpenParen) _ (expect_local kind.OpenParen) (λ _.
+  parts_local : Local (for_parts depth)
+  unfolding for_parts
+  parts_local =
       bind_local (before_semicolon (expr depth)) _ (semicolon_local (expr depth) (expr_local depth)) (λ a.
       bind_local (before_semicolon (expr depth)) _ (semicolon_local (expr depth) (expr_local depth)) (λ b.
-      bind_local (before_paren (expr depth)) _ (paren_local (expr depth) (expr_local depth)) (λ c. pure_local _))))
+      bind_local (before_paren (expr depth)) _ (paren_local (expr depth) (expr_local depth)) (λ c. pure_local _)))
+
+  head_local : Local (for_head depth)
+  unfolding for_head
+  head_local = bind_local (expect kind.OpenParen) _ (expect_local kind.OpenParen) (λ _. level_local depth (for_parts depth) parts_local)
 
 -- a list whose every step eats
 again_all : {A B : Type 0} (step : Reader (Step A B)) → Eats step → Local step → (found : List A) (o : Step A B) → Local (again_or found (until step) o)

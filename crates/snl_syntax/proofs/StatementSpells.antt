@@ -3,6 +3,7 @@ use Rattle.std.proofs.Common.{◌≡◌, ℕ, zero, suc, Bool, true, false, List
 use Rattle.snl_syntax.specs.declared.kind.Kind.TheVariants as kind
 use Rattle.snl_syntax.specs.declared.tree.expression.Expr.{Expr}
 use Rattle.snl_syntax.specs.declared.tree.declaration.Declaration.{Declaration}
+use Rattle.snl_syntax.specs.declared.tree.statement.ForHead.{ForHead}
 use Rattle.snl_syntax.specs.declared.tree.statement.Member.{Member}
 use Rattle.snl_syntax.specs.declared.tree.statement.Stmt.{Stmt}
 use Rattle.snl_syntax.specs.declared.tree.statement.Member.TheOpen.{Member-F, Stmt-F}
@@ -13,12 +14,12 @@ use Rattle.snl_syntax.specs.Tokens.{Seat}
 use Rattle.snl_syntax.specs.Grammar.Base.{Each}
 use Rattle.snl_syntax.specs.Grammar.Expressions.{IsExpr}
 use Rattle.snl_syntax.specs.Grammar.Declarations.{IsDeclaration}
-use Rattle.snl_syntax.specs.Grammar.Statements.{Place, within_block, as_body, behind_else, IsCondition, IsForHead, IsMember, declaration, statement, IsBlock, IsBody, block as is_block, deeper, IsArm, IsPassed, IsStmt, empty, evaluation, block as block_within, c_code, choice, while_loop, for_loop, break_loop, continue_loop, return_value, change, IsStatement, IsBlockWithin}
+use Rattle.snl_syntax.specs.Grammar.Statements.{Place, within_block, as_body, behind_else, IsCondition, AreForParts, IsForHeadWithin, IsMember, declaration, statement, IsBlock, IsBody, block as is_block, deeper, IsArm, IsPassed, IsStmt, empty, evaluation, block as block_within, c_code, choice, while_loop, for_loop, break_loop, continue_loop, return_value, change, IsStatement, IsBlockWithin}
 use Rattle.snl_syntax.specs.Spelling.Base.{Spelled, word, behind, between, in_parens}
 use Rattle.snl_syntax.specs.Spelling.Expressions.{spell_expr}
 use Rattle.snl_syntax.specs.Spelling.Declarations.{spell_declaration}
-use Rattle.snl_syntax.specs.Spelling.Statements.{spell_choice, spell_for_head, spell_member_step, spell_stmt_step, spell_member, spell_stmt, spell_block}
-use Rattle.snl_syntax.proofs.Covers.{Covers, Spells, nothing_covers, word_covers, leaf_covers, ◌and◌, covers_as, perhaps_spells, each_spells}
+use Rattle.snl_syntax.specs.Spelling.Statements.{spell_choice, spell_for_parts, spell_for_head, spell_member_step, spell_stmt_step, spell_member, spell_stmt, spell_block}
+use Rattle.snl_syntax.proofs.Covers.{Covers, Spells, nothing_covers, word_covers, leaf_covers, ◌and◌, covers_as, perhaps_spells, each_spells, within_spells}
 use Rattle.snl_syntax.proofs.ExpressionSpells.{expr_spells}
 use Rattle.snl_syntax.proofs.DeclarationSpells.{declaration_spells}
 
@@ -36,15 +37,19 @@ module _ (Inside : Expr → List Seat → List Seat → Type 0) (inside_spells :
   condition_spells : Spells (IsCondition Inside) (λ e. in_parens (spell_expr e))
   condition_spells e k rest is = word_covers is.opening and inside_spells e is.m1 is.m2 is.value and word_covers is.closing
 
-  for_head_spells : Spells (IsForHead Inside) spell_for_head
-  for_head_spells t k rest is =
-      word_covers is.opening
-      and (perhaps_spells Inside spell_expr inside_spells t.first is.m1 is.first.mid is.first.value
+  for_parts_spell : Spells (AreForParts Inside) (λ t. spell_for_parts t ++ word kind.CloseParen)
+  for_parts_spell t k rest is =
+      (perhaps_spells Inside spell_expr inside_spells t.first k is.first.mid is.first.value
       and word_covers is.first.mark
-      and perhaps_spells Inside spell_expr inside_spells t.condition is.m2 is.condition.mid is.condition.value
+      and perhaps_spells Inside spell_expr inside_spells t.condition is.m1 is.condition.mid is.condition.value
       and word_covers is.condition.mark
-      and perhaps_spells Inside spell_expr inside_spells t.step is.m3 is.step.mid is.step.value)
+      and perhaps_spells Inside spell_expr inside_spells t.step is.m2 is.step.mid is.step.value)
       and word_covers is.step.mark
+
+for_head_spells : (free extra depth : ℕ) → Spells (IsForHeadWithin free extra depth) spell_for_head
+for_head_spells free extra depth t k rest is =
+    word_covers is.opening
+    and within_spells free extra depth (AreForParts (IsExpr free extra depth)) (λ t. spell_for_parts t ++ word kind.CloseParen) (for_parts_spell (IsExpr free extra depth) (expr_spells free extra depth)) t is.mid rest is.parts
 
 -- ---- blocks and bodies
 
@@ -84,8 +89,8 @@ module _ (Inside : Expr → List Seat → List Seat → Type 0) (inside_spells :
       subst (λ (l : List Spelled). Covers (spell_choice (spelled_arm arm) ++ l) k rest) (sym (behind_arms arms last))
       (arm_spells true arm k e.1.mid e.1.front and (word_covers e.1.word and arms_spell arms last closed e.0 m rest e.2 is))
 
-module _ (Inside : Expr → List Seat → List Seat → Type 0) (inside_spells : Spells Inside spell_expr) (Outside : Expr → List Seat → List Seat → Type 0) (outside_spells : Spells Outside spell_expr) (Declared : Declaration → List Seat → List Seat → Type 0) (declared_spells : Spells Declared spell_declaration) (Inner : Place → Bool → Stmt → List Seat → List Seat → Type 0) (inner_spells : (place : Place) (closed : Bool) → Spells (Inner place closed) spell_stmt) where
-  form_spells : (place : Place) (closed : Bool) → Spells (IsStmt Inside Outside Declared Inner place closed) spell_stmt
+module _ (Inside : Expr → List Seat → List Seat → Type 0) (inside_spells : Spells Inside spell_expr) (Outside : Expr → List Seat → List Seat → Type 0) (outside_spells : Spells Outside spell_expr) (Head : ForHead → List Seat → List Seat → Type 0) (head_spells : Spells Head spell_for_head) (Declared : Declaration → List Seat → List Seat → Type 0) (declared_spells : Spells Declared spell_declaration) (Inner : Place → Bool → Stmt → List Seat → List Seat → Type 0) (inner_spells : (place : Place) (closed : Bool) → Spells (Inner place closed) spell_stmt) where
+  form_spells : (place : Place) (closed : Bool) → Spells (IsStmt Inside Outside Head Declared Inner place closed) spell_stmt
   unfolding roll-Stmt roll
   form_spells place closed t k rest (empty is mark) = stmt_covers Stmt-F.Empty is (word_covers mark)
   form_spells place closed t k rest (evaluation e mid is inside mark) = stmt_covers (Stmt-F.Expr e) is (outside_spells e k mid inside and word_covers mark)
@@ -101,7 +106,7 @@ module _ (Inside : Expr → List Seat → List Seat → Type 0) (inside_spells :
   form_spells place closed t k rest (while_loop e s m1 m2 is mark condition inside) =
       stmt_covers (Stmt-F.While e s) is (word_covers mark and condition_spells Inside inside_spells e m1 m2 condition and body_spells Declared declared_spells Inner inner_spells as_body closed s m2 rest inside)
   form_spells place closed t k rest (for_loop h s m1 m2 is mark head inside) =
-      stmt_covers (Stmt-F.For h s) is (word_covers mark and for_head_spells Inside inside_spells h m1 m2 head and body_spells Declared declared_spells Inner inner_spells as_body closed s m2 rest inside)
+      stmt_covers (Stmt-F.For h s) is (word_covers mark and head_spells h m1 m2 head and body_spells Declared declared_spells Inner inner_spells as_body closed s m2 rest inside)
   form_spells place closed t k rest (break_loop n mid is at mark) = stmt_covers (Stmt-F.Break n) is (leaf_covers at and word_covers mark)
   form_spells place closed t k rest (continue_loop n mid is at mark) = stmt_covers (Stmt-F.Continue n) is (leaf_covers at and word_covers mark)
   form_spells place closed t k rest (return_value e mid is mark inside) = stmt_covers (Stmt-F.Return e) is (word_covers mark and perhaps_spells Outside spell_expr outside_spells e mid inside.mid inside.value and word_covers inside.mark)
@@ -111,9 +116,9 @@ module _ (Inside : Expr → List Seat → List Seat → Type 0) (inside_spells :
 
 pub statement_spells : (free extra depth : ℕ) (place : Place) (closed : Bool) → Spells (IsStatement free extra depth place closed) spell_stmt
 statement_spells free extra (suc depth) place closed t k rest is =
-    form_spells (IsExpr free extra depth) (expr_spells free extra depth) (IsExpr free extra (suc depth)) (expr_spells free extra (suc depth)) (IsDeclaration free extra depth) (declaration_spells free extra depth) (IsStatement free extra depth) (statement_spells free extra depth) place closed t k rest is
+    form_spells (IsExpr free extra depth) (expr_spells free extra depth) (IsExpr free extra (suc depth)) (expr_spells free extra (suc depth)) (IsForHeadWithin free extra depth) (for_head_spells free extra depth) (IsDeclaration free extra depth) (declaration_spells free extra depth) (IsStatement free extra depth) (statement_spells free extra depth) place closed t k rest is
 statement_spells free (suc extra) zero place closed t k rest is =
-    form_spells (IsExpr free extra zero) (expr_spells free extra zero) (IsExpr free (suc extra) zero) (expr_spells free (suc extra) zero) (IsDeclaration free extra zero) (declaration_spells free extra zero) (IsStatement free extra zero) (statement_spells free extra zero) place closed t k rest is.1
+    form_spells (IsExpr free extra zero) (expr_spells free extra zero) (IsExpr free (suc extra) zero) (expr_spells free (suc extra) zero) (IsForHeadWithin free extra zero) (for_head_spells free extra zero) (IsDeclaration free extra zero) (declaration_spells free extra zero) (IsStatement free extra zero) (statement_spells free extra zero) place closed t k rest is.1
 statement_spells free zero zero place closed t k rest is = absurd is
 
 pub block_within_spells : (free extra depth : ℕ) → Spells (IsBlockWithin free extra depth) spell_block

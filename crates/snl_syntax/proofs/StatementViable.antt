@@ -14,16 +14,16 @@ use Rattle.snl_syntax.specs.declared.tree.statement.Stmt.{Stmt}
 use Rattle.snl_syntax.specs.declared.tree.statement.Stmt.TheVariants as tree
 use Rattle.snl_syntax.specs.Tokens.{Seat}
 use Rattle.snl_syntax.specs.Steps.{Outcome, Reader, and_then, pure, refuse, kind_at, expect, word, many, again_or, until_within, until}
-use Rattle.snl_syntax.specs.Grammar.Base.{Each, Leaf}
+use Rattle.snl_syntax.specs.Grammar.Base.{Each, Leaf, Within}
 use Rattle.snl_syntax.specs.Grammar.Expressions.{IsExpr}
 use Rattle.snl_syntax.specs.Grammar.Declarations.{IsDeclaration}
-use Rattle.snl_syntax.specs.Grammar.Statements.{Place, within_block, as_body, behind_else as at_else, may_be_block, may_be_choice, IsBefore, IsCondition, IsForHead, IsMember, declaration as is_declaration, statement as is_statement, IsBlock, IsBody, block as is_block_body, deeper, IsArm, IsPassed, IsLast, IsStmt, empty as is_empty, evaluation as is_evaluation, block as is_block, c_code as is_code, choice as is_choice, while_loop as is_while, for_loop as is_for, break_loop as is_break, continue_loop as is_continue, return_value as is_return, change as is_change, IsStatement, IsBlockWithin}
+use Rattle.snl_syntax.specs.Grammar.Statements.{Place, within_block, as_body, behind_else as at_else, may_be_block, may_be_choice, IsBefore, IsCondition, AreForParts, IsForHead, IsForHeadWithin, IsMember, declaration as is_declaration, statement as is_statement, IsBlock, IsBody, block as is_block_body, deeper, IsArm, IsPassed, IsLast, IsStmt, empty as is_empty, evaluation as is_evaluation, block as is_block, c_code as is_code, choice as is_choice, while_loop as is_while, for_loop as is_for, break_loop as is_break, continue_loop as is_continue, return_value as is_return, change as is_change, IsStatement, IsBlockWithin}
 use Rattle.snl_syntax.specs.Reading.Types.{begins_type}
 use Rattle.snl_syntax.specs.Reading.Expressions.{expr}
 use Rattle.snl_syntax.specs.Reading.Declarations.{declaration}
-use Rattle.snl_syntax.specs.Reading.Statements.{some_before, semicolon_by, before_semicolon, paren_by, before_paren, c_code, jump, change, return_value, evaluation, condition, for_head, declared, stated, some_by, some_member, member_by, next_member, block_of, block_statement, body_by, body, while_loop, for_loop, last_body, branch_by, behind_else, else_by, arm, arm_step, choice, stmt_by, stmt_of, stmt, block}
+use Rattle.snl_syntax.specs.Reading.Statements.{some_before, semicolon_by, before_semicolon, paren_by, before_paren, c_code, jump, change, return_value, evaluation, condition, for_parts, for_head, declared, stated, some_by, some_member, member_by, next_member, block_of, block_statement, body_by, body, while_loop, for_loop, last_body, branch_by, behind_else, else_by, arm, arm_step, choice, stmt_by, stmt_of, stmt, block}
 use Rattle.snl_syntax.proofs.Local.{bind_ok, bind_err, ok_is}
-use Rattle.snl_syntax.proofs.Viable.{Free, Makes, Viable, Full, Exists, Both, both, Joint, Next, Lists, IsNothing, StepOf, Ends, Whole, seats, bind_viable, bind_full, into_full, lighter, choice_viable, refuse_viable, expect_full, pure_full, many_full, until_viable}
+use Rattle.snl_syntax.proofs.Viable.{Free, Makes, Viable, Full, Exists, Both, both, Joint, Next, Lists, IsNothing, StepOf, Ends, Whole, seats, bind_viable, bind_full, into_full, lighter, choice_viable, refuse_viable, expect_full, pure_full, many_full, until_viable, level_full}
 use Rattle.snl_syntax.proofs.TypeLaws.{word_full, lists_each, none_next, first_then}
 use Rattle.snl_syntax.proofs.ExpressionViable.{expr_full}
 use Rattle.snl_syntax.proofs.DeclarationViable.{declaration_full}
@@ -82,17 +82,28 @@ module _ (free extra depth : ℕ) where
       bind_full free extra (expr depth) _ R (λ e. Both (Leaf kind.CloseParen) (λ _. IsNothing e)) Int (kind.CloseParen ∷ []) (expr_full free extra depth) (λ e.
       bind_full free extra (expect kind.CloseParen) _ (Leaf kind.CloseParen) (λ _. IsNothing e) (kind.CloseParen ∷ []) [] (expect_full free extra kind.CloseParen) (λ _. pure_full free extra e))))
 
-  into_head : (y : ForHead) (k rest : List Seat) → Both (Leaf kind.OpenParen) (λ _. Both (IsBefore kind.Semicolon R) (λ a. Both (IsBefore kind.Semicolon R) (λ b. Both (IsBefore kind.CloseParen R) (λ c. IsNothing (a_head a b c))))) y k rest → IsForHead R y k rest
-  into_head y k rest (both n m e (both a m2 ra (both b m3 rb (both c m4 rc h)))) =
-      subst (λ z. IsForHead R z k rest) h.0 (record { m1 = m; m2 = m2; m3 = m3; opening = (n, e); first = ra; condition = rb; step = subst (λ l. IsBefore kind.CloseParen R c m3 l) h.1 rc })
+  into_parts : (y : ForHead) (k rest : List Seat) → Both (IsBefore kind.Semicolon R) (λ a. Both (IsBefore kind.Semicolon R) (λ b. Both (IsBefore kind.CloseParen R) (λ c. IsNothing (a_head a b c)))) y k rest → AreForParts R y k rest
+  into_parts y k rest (both a m ra (both b m2 rb (both c m3 rc h))) =
+      subst (λ z. AreForParts R z k rest) h.0 (record { m1 = m; m2 = m2; first = ra; condition = rb; step = subst (λ l. IsBefore kind.CloseParen R c m2 l) h.1 rc })
 
-  pub head_full : Full free extra (for_head depth) (IsForHead R) (kind.OpenParen ∷ kind.Semicolon ∷ kind.Semicolon ∷ kind.CloseParen ∷ [])
-  unfolding for_head
-  head_full = into_full free extra (for_head depth) _ (IsForHead R) (kind.OpenParen ∷ kind.Semicolon ∷ kind.Semicolon ∷ kind.CloseParen ∷ []) into_head
-      (bind_full free extra (expect kind.OpenParen) _ (Leaf kind.OpenParen) (λ _. Both (IsBefore kind.Semicolon R) (λ a. Both (IsBefore kind.Semicolon R) (λ b. Both (IsBefore kind.CloseParen R) (λ c. IsNothing (a_head a b c))))) (kind.OpenParen ∷ []) (kind.Semicolon ∷ kind.Semicolon ∷ kind.CloseParen ∷ []) (expect_full free extra kind.OpenParen) (λ _.
-      bind_full free extra (before_semicolon (expr depth)) _ (IsBefore kind.Semicolon R) (λ a. Both (IsBefore kind.Semicolon R) (λ b. Both (IsBefore kind.CloseParen R) (λ c. IsNothing (a_head a b c)))) Semi (kind.Semicolon ∷ kind.CloseParen ∷ []) (semicolon_full free extra R (expr depth) (expr_full free extra depth)) (λ a.
+  parts_full : Full free extra (for_parts depth) (AreForParts R) (kind.Semicolon ∷ kind.Semicolon ∷ kind.CloseParen ∷ [])
+  unfolding for_parts
+  parts_full = into_full free extra (for_parts depth) _ (AreForParts R) (kind.Semicolon ∷ kind.Semicolon ∷ kind.CloseParen ∷ []) into_parts
+      (bind_full free extra (before_semicolon (expr depth)) _ (IsBefore kind.Semicolon R) (λ a. Both (IsBefore kind.Semicolon R) (λ b. Both (IsBefore kind.CloseParen R) (λ c. IsNothing (a_head a b c)))) Semi (kind.Semicolon ∷ kind.CloseParen ∷ []) (semicolon_full free extra R (expr depth) (expr_full free extra depth)) (λ a.
       bind_full free extra (before_semicolon (expr depth)) _ (IsBefore kind.Semicolon R) (λ b. Both (IsBefore kind.CloseParen R) (λ c. IsNothing (a_head a b c))) Semi (kind.CloseParen ∷ []) (semicolon_full free extra R (expr depth) (expr_full free extra depth)) (λ b.
-      bind_full free extra (before_paren (expr depth)) _ (IsBefore kind.CloseParen R) (λ c. IsNothing (a_head a b c)) (kind.CloseParen ∷ []) [] (paren_full free extra R (expr depth) (expr_full free extra depth)) (λ c. pure_full free extra (a_head a b c))))))
+      bind_full free extra (before_paren (expr depth)) _ (IsBefore kind.CloseParen R) (λ c. IsNothing (a_head a b c)) (kind.CloseParen ∷ []) [] (paren_full free extra R (expr depth) (expr_full free extra depth)) (λ c. pure_full free extra (a_head a b c)))))
+
+  abbrev Parts : ForHead → List Seat → List Seat → Type 0
+  Parts = Within free extra depth (AreForParts R)
+
+  into_head : (y : ForHead) (k rest : List Seat) → Both (Leaf kind.OpenParen) (λ _. Parts) y k rest → IsForHead Parts y k rest
+  into_head y k rest (both n m e r) = record { mid = m; opening = (n, e); parts = r }
+
+  pub head_full : Full free extra (for_head depth) (IsForHeadWithin free extra depth) (kind.OpenParen ∷ kind.Semicolon ∷ kind.Semicolon ∷ kind.CloseParen ∷ [])
+  unfolding for_head
+  head_full = into_full free extra (for_head depth) _ (IsForHead Parts) (kind.OpenParen ∷ kind.Semicolon ∷ kind.Semicolon ∷ kind.CloseParen ∷ []) into_head
+      (bind_full free extra (expect kind.OpenParen) _ (Leaf kind.OpenParen) (λ _. Parts) (kind.OpenParen ∷ []) (kind.Semicolon ∷ kind.Semicolon ∷ kind.CloseParen ∷ []) (expect_full free extra kind.OpenParen) (λ _.
+      level_full free extra depth (for_parts depth) (AreForParts R) (kind.Semicolon ∷ kind.Semicolon ∷ kind.CloseParen ∷ []) parts_full))
 
 -- ---- where an `else` stands next, what was read is closed
 
@@ -151,7 +162,7 @@ module _ (free extra depth : ℕ) (Inner : Place → Bool → Stmt → List Seat
   Declares = IsDeclaration free extra depth
 
   abbrev S : Place → Bool → Stmt → List Seat → List Seat → Type 0
-  S = IsStmt E (IsExpr free extra (suc depth)) Declares Inner
+  S = IsStmt E (IsExpr free extra (suc depth)) (IsForHeadWithin free extra depth) Declares Inner
 
   module _ (place : Place) (closed : Bool) where
     empty_full : Full free extra (word kind.Semicolon tree.Empty) (S place closed) Semi
@@ -369,7 +380,7 @@ module _ (free extra depth : ℕ) (Inner : Place → Bool → Stmt → List Seat
         map_shut (body depth inner) (λ s. tree.While e s) (B as_body true) body_shut)))
 
     abbrev Head : ForHead → List Seat → List Seat → Type 0
-    Head = IsForHead (IsExpr free extra depth)
+    Head = IsForHeadWithin free extra depth
 
     abbrev Heads : List Kind
     Heads = kind.OpenParen ∷ kind.Semicolon ∷ kind.Semicolon ∷ kind.CloseParen ∷ []

@@ -2,11 +2,7 @@
 #![tactic(auto)]
 
 mod clause;
-#[cfg(test)]
-mod cut_tests;
 mod declaration;
-#[cfg(test)]
-mod declaration_tests;
 mod expression;
 mod fault;
 mod function;
@@ -14,8 +10,6 @@ mod grammar_laws;
 mod item;
 mod item_cut;
 mod item_laws;
-#[cfg(test)]
-mod item_tests;
 mod kind;
 mod marks;
 mod operator;

@@ -170,6 +170,42 @@ fn condition(alloc: Global, kinds: &[Kind], at: usize, depth: usize) -> Result<(
     Ok((e, at))
 }
 
+#[tactic(auto, unfolding(crate::specs::Reading::Statements::for_parts, crate::specs::Steps::and_then))]
+fn for_parts(
+    alloc: Global,
+    kinds: &[Kind],
+    at: usize,
+    depth: usize,
+) -> Result<(ForHead, usize), Stop>
+    ensures { Reads kinds.now result (spec.for_parts depth (ahead kinds.now at)) }
+{
+    let (first, at) = before_semicolon(alloc, kinds, at, depth)?;
+    let (condition, at) = before_semicolon(alloc, kinds, at, depth)?;
+    let (step, at) = before_paren(alloc, kinds, at, depth)?;
+    let head = ForHead {
+        first,
+        condition,
+        step,
+    };
+    Ok((head, at))
+}
+
+/// What stands in the brackets of a `for`, within which so many levels are left: a part may be missing, its mark may not.
+fn for_within(
+    alloc: Global,
+    kinds: &[Kind],
+    at: usize,
+    depth: usize,
+) -> Result<(ForHead, usize), Stop>
+    ensures { Reads kinds.now result (spec.for_within depth (ahead kinds.now at)) }
+{
+    if depth == 0 {
+        Err(Stop::Here(at))
+    } else {
+        for_parts(alloc, kinds, at, depth)
+    }
+}
+
 #[tactic(auto, unfolding(crate::specs::Reading::Statements::for_head, crate::specs::Steps::and_then))]
 fn for_head(
     alloc: Global,
@@ -180,15 +216,7 @@ fn for_head(
     ensures { Reads kinds.now result (spec.for_head depth (ahead kinds.now at)) }
 {
     let at = expect(kinds, at, Kind::OpenParen)?;
-    let (first, at) = before_semicolon(alloc, kinds, at, depth)?;
-    let (condition, at) = before_semicolon(alloc, kinds, at, depth)?;
-    let (step, at) = before_paren(alloc, kinds, at, depth)?;
-    let head = ForHead {
-        first,
-        condition,
-        step,
-    };
-    Ok((head, at))
+    for_within(alloc, kinds, at, depth)
 }
 
 /// The rules of statements that hold others, with the reader of those one level deeper.

@@ -1,4 +1,4 @@
--- Statements and blocks. Inside says what an expression is one level deeper, Outside what it is at a statement's own level, Declared what a declaration is one level deeper, and Inner what a statement is there.
+-- Statements and blocks. Inside says what an expression is one level deeper, Outside what it is at a statement's own level, Head what the brackets of a `for` are, Declared what a declaration is one level deeper, and Inner what a statement is there.
 -- A statement that stands before an `else` doesn't end with an `if` that has none: it is closed. The flag `closed` is handed on to what a statement ends with.
 use Rattle.std.specs.Prelude.{◌≡◌, ◌++◌, ℕ, zero, suc, Bool, true, false, List, [], ◌∷◌, Option, Some, None}
 use Rattle.snl_syntax.specs.declared.kind.Kind.{Kind}
@@ -11,7 +11,7 @@ use Rattle.snl_syntax.specs.declared.tree.statement.Member.TheVariants as member
 use Rattle.snl_syntax.specs.declared.tree.statement.Stmt.{Stmt}
 use Rattle.snl_syntax.specs.declared.tree.statement.Stmt.TheVariants as tree
 use Rattle.snl_syntax.specs.Tokens.{Seat}
-use Rattle.snl_syntax.specs.Grammar.Base.{AreFree, Each, First, Leaf, Perhaps}
+use Rattle.snl_syntax.specs.Grammar.Base.{AreFree, Each, First, Leaf, Perhaps, Within}
 use Rattle.snl_syntax.specs.Grammar.Expressions.{IsExpr}
 use Rattle.snl_syntax.specs.Grammar.Declarations.{IsDeclaration}
 
@@ -43,15 +43,23 @@ pub record IsCondition (Inside : Expr → List Seat → List Seat → Type 0) (e
   pub value : Inside e m1 m2
   pub closing : First kind.CloseParen m2 rest
 
--- "(" [expr] ";" [expr] ";" [expr] ")"
-pub record IsForHead (Inside : Expr → List Seat → List Seat → Type 0) (t : ForHead) (k rest : List Seat) : Type 0 where
+-- [expr] ";" [expr] ";" [expr] ")"
+pub record AreForParts (Inside : Expr → List Seat → List Seat → Type 0) (t : ForHead) (k rest : List Seat) : Type 0 where
   pub m1 : List Seat
   pub m2 : List Seat
-  pub m3 : List Seat
-  pub opening : First kind.OpenParen k m1
-  pub first : IsBefore kind.Semicolon Inside t.first m1 m2
-  pub condition : IsBefore kind.Semicolon Inside t.condition m2 m3
-  pub step : IsBefore kind.CloseParen Inside t.step m3 rest
+  pub first : IsBefore kind.Semicolon Inside t.first k m1
+  pub condition : IsBefore kind.Semicolon Inside t.condition m1 m2
+  pub step : IsBefore kind.CloseParen Inside t.step m2 rest
+
+-- "(" and what stands within these brackets
+pub record IsForHead (Parts : ForHead → List Seat → List Seat → Type 0) (t : ForHead) (k rest : List Seat) : Type 0 where
+  pub mid : List Seat
+  pub opening : First kind.OpenParen k mid
+  pub parts : Parts t mid rest
+
+-- "(" [expr] ";" [expr] ";" [expr] ")", where so many levels are left within the brackets
+abbrev pub IsForHeadWithin : ℕ → ℕ → ℕ → ForHead → List Seat → List Seat → Type 0
+IsForHeadWithin free extra depth = IsForHead (Within free extra depth (AreForParts (IsExpr free extra depth)))
 
 -- decl | stmt
 pub data IsMember (Declared : Declaration → List Seat → List Seat → Type 0) (Inner : Place → Bool → Stmt → List Seat → List Seat → Type 0) (t : Member) (k rest : List Seat) : Type 0 where
@@ -96,31 +104,31 @@ abbrev pub IsLast : (Expr → List Seat → List Seat → Type 0) → (Declarati
 IsLast Inside Declared Inner closed arm None k rest = (closed ≡ false) × IsArm Inside Declared Inner false arm k rest
 IsLast Inside Declared Inner closed arm (Some t) k rest = (mid : List Seat) × IsArm Inside Declared Inner true arm k mid × IsElse Declared Inner closed t mid rest
 
-pub data IsStmt (Inside Outside : Expr → List Seat → List Seat → Type 0) (Declared : Declaration → List Seat → List Seat → Type 0) (Inner : Place → Bool → Stmt → List Seat → List Seat → Type 0) (place : Place) (closed : Bool) (t : Stmt) (k rest : List Seat) : Type 0 where
+pub data IsStmt (Inside Outside : Expr → List Seat → List Seat → Type 0) (Head : ForHead → List Seat → List Seat → Type 0) (Declared : Declaration → List Seat → List Seat → Type 0) (Inner : Place → Bool → Stmt → List Seat → List Seat → Type 0) (place : Place) (closed : Bool) (t : Stmt) (k rest : List Seat) : Type 0 where
   -- [expr] ";"
-  empty : t ≡ tree.Empty → First kind.Semicolon k rest → IsStmt Inside Outside Declared Inner place closed t k rest
-  evaluation : (e : Expr) (mid : List Seat) → t ≡ tree.Expr e → Outside e k mid → First kind.Semicolon mid rest → IsStmt Inside Outside Declared Inner place closed t k rest
-  block : (ts : List Member) → may_be_block place ≡ true → t ≡ tree.Block ts → IsBlock Declared Inner ts k rest → IsStmt Inside Outside Declared Inner place closed t k rest
-  c_code : (n : ℕ) → t ≡ tree.CCode n → Leaf kind.CCode n k rest → IsStmt Inside Outside Declared Inner place closed t k rest
+  empty : t ≡ tree.Empty → First kind.Semicolon k rest → IsStmt Inside Outside Head Declared Inner place closed t k rest
+  evaluation : (e : Expr) (mid : List Seat) → t ≡ tree.Expr e → Outside e k mid → First kind.Semicolon mid rest → IsStmt Inside Outside Head Declared Inner place closed t k rest
+  block : (ts : List Member) → may_be_block place ≡ true → t ≡ tree.Block ts → IsBlock Declared Inner ts k rest → IsStmt Inside Outside Head Declared Inner place closed t k rest
+  c_code : (n : ℕ) → t ≡ tree.CCode n → Leaf kind.CCode n k rest → IsStmt Inside Outside Head Declared Inner place closed t k rest
   -- "if" "(" expr ")" stmt [ "else" stmt ]
-  choice : (arms : List (Expr × Stmt)) (last : Expr × Stmt) (branch : Option Stmt) (mid : List Seat) → may_be_choice place ≡ true → t ≡ tree.If (arms ++ last ∷ []) branch → Each (IsPassed Inside Declared Inner) arms k mid → IsLast Inside Declared Inner closed last branch mid rest → IsStmt Inside Outside Declared Inner place closed t k rest
+  choice : (arms : List (Expr × Stmt)) (last : Expr × Stmt) (branch : Option Stmt) (mid : List Seat) → may_be_choice place ≡ true → t ≡ tree.If (arms ++ last ∷ []) branch → Each (IsPassed Inside Declared Inner) arms k mid → IsLast Inside Declared Inner closed last branch mid rest → IsStmt Inside Outside Head Declared Inner place closed t k rest
   -- "while" "(" expr ")" stmt
-  while_loop : (e : Expr) (s : Stmt) (m1 m2 : List Seat) → t ≡ tree.While e s → First kind.While k m1 → IsCondition Inside e m1 m2 → IsBody Declared Inner as_body closed s m2 rest → IsStmt Inside Outside Declared Inner place closed t k rest
+  while_loop : (e : Expr) (s : Stmt) (m1 m2 : List Seat) → t ≡ tree.While e s → First kind.While k m1 → IsCondition Inside e m1 m2 → IsBody Declared Inner as_body closed s m2 rest → IsStmt Inside Outside Head Declared Inner place closed t k rest
   -- "for" "(" [expr] ";" [expr] ";" [expr] ")" stmt
-  for_loop : (h : ForHead) (s : Stmt) (m1 m2 : List Seat) → t ≡ tree.For h s → First kind.For k m1 → IsForHead Inside h m1 m2 → IsBody Declared Inner as_body closed s m2 rest → IsStmt Inside Outside Declared Inner place closed t k rest
+  for_loop : (h : ForHead) (s : Stmt) (m1 m2 : List Seat) → t ≡ tree.For h s → First kind.For k m1 → Head h m1 m2 → IsBody Declared Inner as_body closed s m2 rest → IsStmt Inside Outside Head Declared Inner place closed t k rest
   -- "break" ";"
-  break_loop : (n : ℕ) (mid : List Seat) → t ≡ tree.Break n → Leaf kind.Break n k mid → First kind.Semicolon mid rest → IsStmt Inside Outside Declared Inner place closed t k rest
+  break_loop : (n : ℕ) (mid : List Seat) → t ≡ tree.Break n → Leaf kind.Break n k mid → First kind.Semicolon mid rest → IsStmt Inside Outside Head Declared Inner place closed t k rest
   -- "continue" ";"
-  continue_loop : (n : ℕ) (mid : List Seat) → t ≡ tree.Continue n → Leaf kind.Continue n k mid → First kind.Semicolon mid rest → IsStmt Inside Outside Declared Inner place closed t k rest
+  continue_loop : (n : ℕ) (mid : List Seat) → t ≡ tree.Continue n → Leaf kind.Continue n k mid → First kind.Semicolon mid rest → IsStmt Inside Outside Head Declared Inner place closed t k rest
   -- "return" [expr] ";"
-  return_value : (e : Option Expr) (mid : List Seat) → t ≡ tree.Return e → First kind.Return k mid → IsBefore kind.Semicolon Outside e mid rest → IsStmt Inside Outside Declared Inner place closed t k rest
+  return_value : (e : Option Expr) (mid : List Seat) → t ≡ tree.Return e → First kind.Return k mid → IsBefore kind.Semicolon Outside e mid rest → IsStmt Inside Outside Head Declared Inner place closed t k rest
   -- "state" NAME ";"
-  change : (w n : ℕ) (m1 m2 : List Seat) → t ≡ tree.State w n → Leaf kind.State w k m1 → Leaf kind.Name n m1 m2 → First kind.Semicolon m2 rest → IsStmt Inside Outside Declared Inner place closed t k rest
+  change : (w n : ℕ) (m1 m2 : List Seat) → t ≡ tree.State w n → Leaf kind.State w k m1 → Leaf kind.Name n m1 m2 → First kind.Semicolon m2 rest → IsStmt Inside Outside Head Declared Inner place closed t k rest
 
 -- A statement and a block, in so many levels; tokens from the `free`th on may use `extra` more.
 abbrev pub IsStatement : ℕ → ℕ → ℕ → Place → Bool → Stmt → List Seat → List Seat → Type 0
-IsStatement free extra (suc depth) place closed t k rest = IsStmt (IsExpr free extra depth) (IsExpr free extra (suc depth)) (IsDeclaration free extra depth) (IsStatement free extra depth) place closed t k rest
-IsStatement free (suc extra) zero place closed t k rest = AreFree free k × IsStmt (IsExpr free extra zero) (IsExpr free (suc extra) zero) (IsDeclaration free extra zero) (IsStatement free extra zero) place closed t k rest
+IsStatement free extra (suc depth) place closed t k rest = IsStmt (IsExpr free extra depth) (IsExpr free extra (suc depth)) (IsForHeadWithin free extra depth) (IsDeclaration free extra depth) (IsStatement free extra depth) place closed t k rest
+IsStatement free (suc extra) zero place closed t k rest = AreFree free k × IsStmt (IsExpr free extra zero) (IsExpr free (suc extra) zero) (IsForHeadWithin free extra zero) (IsDeclaration free extra zero) (IsStatement free extra zero) place closed t k rest
 IsStatement free zero zero place closed t k rest = ⊥
 
 abbrev pub IsBlockWithin : ℕ → ℕ → ℕ → List Member → List Seat → List Seat → Type 0

@@ -15,7 +15,7 @@ use Rattle.snl_syntax.specs.declared.tree.statement.Member.{Member}
 use Rattle.snl_syntax.specs.declared.tree.statement.Member.TheVariants as members
 use Rattle.snl_syntax.specs.declared.tree.statement.Stmt.{Stmt}
 use Rattle.snl_syntax.specs.declared.tree.statement.Stmt.TheVariants as tree
-use Rattle.snl_syntax.specs.Steps.{Reader, ◌>>=◌, ◌>>◌, pure, refuse, kind_at, expect, word, many, until}
+use Rattle.snl_syntax.specs.Steps.{Reader, ◌>>=◌, ◌>>◌, pure, refuse, kind_at, expect, word, many, until, within}
 use Rattle.snl_syntax.specs.Reading.Types.{begins_type}
 use Rattle.snl_syntax.specs.Reading.Expressions.{expr}
 use Rattle.snl_syntax.specs.Reading.Declarations.{declaration}
@@ -84,13 +84,19 @@ condition depth = do
   expect kind.CloseParen
   pure e
 
-unfoldable pub for_head : ℕ → Reader ForHead
-for_head depth = do
-  expect kind.OpenParen
+unfoldable pub for_parts : ℕ → Reader ForHead
+for_parts depth = do
   a ← before_semicolon (expr depth)
   b ← before_semicolon (expr depth)
   c ← before_paren (expr depth)
   pure (record { first = a; condition = b; step = c })
+
+-- a part may be missing, so that nothing but its mark lies within the brackets
+abbrev pub for_within : ℕ → Reader ForHead
+for_within depth = within depth (for_parts depth)
+
+unfoldable pub for_head : ℕ → Reader ForHead
+for_head depth = expect kind.OpenParen >> for_within depth
 
 -- ---- statements that hold others; `depth` levels are left inside, and `inner` reads a statement there
 module _ (depth : ℕ) (inner : Reader Stmt) where

@@ -19,9 +19,13 @@ spell_choice arm = word kind.If ++ in_parens (spell_expr arm.0) ++ arm.1
 abbrev pub spell_else : List Spelled → List Spelled
 spell_else branch = word kind.Else ++ branch
 
+-- [expr] ";" [expr] ";" [expr]
+abbrev pub spell_for_parts : ForHead → List Spelled
+spell_for_parts head = perhaps spell_expr head.first ++ word kind.Semicolon ++ perhaps spell_expr head.condition ++ word kind.Semicolon ++ perhaps spell_expr head.step
+
 -- "(" [expr] ";" [expr] ";" [expr] ")"
 abbrev pub spell_for_head : ForHead → List Spelled
-spell_for_head head = in_parens (perhaps spell_expr head.first ++ word kind.Semicolon ++ perhaps spell_expr head.condition ++ word kind.Semicolon ++ perhaps spell_expr head.step)
+spell_for_head head = in_parens (spell_for_parts head)
 
 -- One level of a tree, with what each part spells in its place: a member is a declaration or a statement.
 abbrev pub spell_member_step : Member-F (List Spelled) (List Spelled) → List Spelled

@@ -1,0 +1,186 @@
+-- Lemmas on entries: what one more is to the tables that follow them.
+use Rattle.std.proofs.Common.{◌≡◌, ℕ, ◌≤◌, Bool, true, false, cond, List, [], ◌∷◌, ◌++◌, length, map, get_or, Option, None, Some, is_some, refl, sym, ap, ◌∙◌, arith, append_assoc, true≢false, length-append, if◌then◌else◌}
+use Rattle.std.proofs.lemmas.List.{append-nil, map-append}
+use Rattle.std.proofs.lemmas.List.Quantifiers.{position-Some}
+use Rattle.std.proofs.lemmas.Slice.Eq.{bytes_eq-Decides}
+use Rattle.std.specs.List.{position}
+use Rattle.std.specs.Map.{lookup}
+use Rattle.std.specs.Option.{option_and_then, option_or}
+use Rattle.std.specs.Str.{bytes_eq}
+use Rattle.snl_scope.specs.declared.facts.Fact.{Fact}
+use Rattle.snl_scope.specs.declared.facts.LinkFault.{LinkFault}
+use Rattle.snl_scope.specs.declared.spaces.Key.{Key}
+use Rattle.snl_scope.specs.declared.spaces.Space.{Space}
+use Rattle.snl_scope.specs.contracts.spaces.KeyPartialEq.TheImpl as key_eq
+use Rattle.snl_scope.specs.Linked.{entry_fact}
+use Rattle.snl_scope.specs.Names.{Entry, has_name, number_in, repetition, repetition_at, repetitions}
+use Rattle.snl_scope.specs.Tables.{Follows, number_by, same_key, with_name}
+use Rattle.snl_scope.proofs.Equality.{key_is, key_true, key_same, name_same, name_true}
+use Rattle.snl_scope.proofs.Numbering.{position-push}
+
+-- the findings with one more entry
+repetitions-push : (earlier es : List Entry) (e : Entry) → repetitions earlier (es ++ e ∷ []) ≡ repetitions earlier es ++ repetition (earlier ++ es) e
+repetitions-push earlier [] e = append-nil (repetition earlier e) ∙ ap (λ l. repetition l e) (sym (append-nil earlier))
+repetitions-push earlier (x ∷ xs) e =
+    ap (λ l. repetition earlier x ++ l) (repetitions-push (earlier ++ x ∷ []) xs e)
+    ∙ ap (λ l. repetition earlier x ++ (repetitions (earlier ++ x ∷ []) xs ++ repetition l e)) (append_assoc earlier (x ∷ []) xs)
+    ∙ sym (append_assoc (repetition earlier x) (repetitions (earlier ++ x ∷ []) xs) (repetition (earlier ++ x ∷ xs) e))
+
+some-or : {A : Type 0} (o p : Option A) → is_some o ≡ true → option_or o p ≡ o
+some-or None p h = absurd (true≢false (sym h))
+some-or (Some x) p h = refl
+
+none-or : {A : Type 0} (o p : Option A) → is_some o ≡ false → option_or o p ≡ p
+none-or None p h = refl
+none-or (Some x) p h = absurd (true≢false h)
+
+or-none : {A : Type 0} (o : Option A) → option_or o None ≡ o
+or-none None = refl
+or-none (Some x) = refl
+
+abbrev key : Space → ℕ → Key
+key s n = record { space = s; name = n }
+
+module _ (names : List (List ℕ)) (first : List (Key × ℕ)) (facts : List (Option Fact)) (faults : List LinkFault) (es : List Entry) (f : Follows names first facts faults es) where
+  -- a new name that nothing is declared by yet
+  same_numbers : (name : List ℕ) (s : Space) (other : List ℕ) → number_by (with_name names name) first s other ≡ number_by names first s other
+  same_numbers name s other = by (position (bytes_eq name) names)
+    where
+      later : (o : Option ℕ) (b : Bool)
+          → option_and_then (λ n. lookup (same_key (key s n)) first) (option_or o (cond b (Some (length names)) None))
+          ≡ option_and_then (λ n. lookup (same_key (key s n)) first) o
+      later None true = f.fresh s (length names) (omega arith)
+      later None false = refl
+      later (Some n) b = refl
+
+      by : (o : Option ℕ) → number_by (if is_some o then names else names ++ name ∷ []) first s other ≡ number_by names first s other
+      by None = ap (option_and_then (λ n. lookup (same_key (key s n)) first)) (position-push (bytes_eq other) names name) ∙ later (position (bytes_eq other) names) (bytes_eq other name)
+      by (Some n) = refl
+
+  longer : (name : List ℕ) → length names ≤ length (with_name names name)
+  longer name = by (position (bytes_eq name) names)
+    where
+      by : (o : Option ℕ) → length names ≤ length (if is_some o then names else names ++ name ∷ [])
+      by None = omega (arith, length-append names (name ∷ []))
+      by (Some n) = omega arith
+
+  pub follows_name : (name : List ℕ) → Follows (with_name names name) first facts faults es
+  follows_name name = record {
+    tabled = record { found = λ s other. same_numbers name s other ∙ f.tabled.found s other; known = f.tabled.known };
+    fresh = λ s n h. f.fresh s n (omega (arith, h, longer name));
+    again = f.again;
+  }
+
+  module _ (e : Entry) (k : ℕ) (numbered : position (bytes_eq e.name) names ≡ Some k) where
+    -- what the tables have for the entry's name
+    here : number_by names first e.space e.name ≡ lookup (same_key (key e.space k)) first
+    here = ap (option_and_then (λ n. lookup (same_key (key e.space n)) first)) numbered
+
+    known_here : (facts' : List (Option Fact)) → facts' ≡ facts ++ entry_fact e ∷ [] → facts' ≡ map entry_fact (es ++ e ∷ [])
+    known_here facts' h = h ∙ ap (λ l. l ++ entry_fact e ∷ []) f.tabled.known ∙ sym (map-append entry_fact es (e ∷ []))
+
+    -- the entry's name is there: the tables stay, and a finding is added
+    module _ (there : is_some (lookup (same_key (key e.space k)) first) ≡ true) where
+      seen : is_some (number_in es e.space e.name) ≡ true
+      seen = ap is_some (sym (f.tabled.found e.space e.name)) ∙ ap is_some here ∙ there
+
+      stays : (s : Space) (name : List ℕ) → number_in es s name ≡ number_in (es ++ e ∷ []) s name
+      stays s name = sym (position-push (has_name s name) es e ∙ by (has_name s name e) refl)
+        where
+          by : (b : Bool) → has_name s name e ≡ b → option_or (number_in es s name) (cond (has_name s name e) (Some (length es)) None) ≡ number_in es s name
+          by true h =
+              let p = name_true s name e h in
+              some-or (number_in es s name) (cond (has_name s name e) (Some (length es)) None)
+              (ap (λ t. is_some (number_in es t name)) p.0 ∙ ap (λ n. is_some (number_in es e.space n)) p.1 ∙ seen)
+          by false h = ap (λ b. option_or (number_in es s name) (cond b (Some (length es)) None)) h ∙ or-none (number_in es s name)
+
+      pub follows_again : (facts' : List (Option Fact)) (faults' : List LinkFault) → facts' ≡ facts ++ entry_fact e ∷ [] → faults' ≡ faults ++ repetition_at e
+          → Follows names first facts' faults' (es ++ e ∷ [])
+      follows_again facts' faults' h g = record {
+        tabled = record { found = λ s name. f.tabled.found s name ∙ stays s name; known = known_here facts' h };
+        fresh = f.fresh;
+        again = g ∙ ap (λ l. l ++ repetition_at e) f.again
+            ∙ sym (repetitions-push [] es e ∙ ap (λ b. repetitions [] es ++ (if b then repetition_at e else [])) seen);
+      }
+
+    -- it is new: the tables have it, and there is no finding
+    module _ (first' : List (Key × ℕ)) (number : ℕ) (absent : is_some (lookup (same_key (key e.space k)) first) ≡ false)
+        (put : (q : Key) → lookup (same_key q) first' ≡ cond (same_key (key e.space k) q) (Some number) (lookup (same_key q) first)) (counted : number ≡ length es) where
+      unseen : is_some (number_in es e.space e.name) ≡ false
+      unseen = ap is_some (sym (f.tabled.found e.space e.name)) ∙ ap is_some here ∙ absent
+
+      -- a name with the entry's number is the entry's
+      one_name : (name : List ℕ) → position (bytes_eq name) names ≡ Some k → name ≡ e.name
+      one_name name h =
+          (bytes_eq-Decides name (get_or names k [])).0 (position-Some (bytes_eq name) names k [] h).1
+          ∙ sym ((bytes_eq-Decides e.name (get_or names k [])).0 (position-Some (bytes_eq e.name) names k [] numbered).1)
+
+      found : (s : Space) (name : List ℕ) → number_by names first' s name ≡ number_in (es ++ e ∷ []) s name
+      found s name = by (position (bytes_eq name) names) refl ∙ sym (position-push (has_name s name) es e)
+        where
+          before : (o : Option ℕ) → position (bytes_eq name) names ≡ o → number_in es s name ≡ option_and_then (λ n. lookup (same_key (key s n)) first) o
+          before o h = sym (f.tabled.found s name) ∙ ap (option_and_then (λ n. lookup (same_key (key s n)) first)) h
+
+          other : has_name s name e ≡ false → option_or (number_in es s name) (cond (has_name s name e) (Some (length es)) None) ≡ number_in es s name
+          other h = ap (λ b. option_or (number_in es s name) (cond b (Some (length es)) None)) h ∙ or-none (number_in es s name)
+
+          by : (o : Option ℕ) → position (bytes_eq name) names ≡ o
+              → option_and_then (λ n. lookup (same_key (key s n)) first') o ≡ option_or (number_in es s name) (cond (has_name s name e) (Some (length es)) None)
+          by None h = no_number (has_name s name e) refl
+            where
+              no_number : (b : Bool) → has_name s name e ≡ b → None ≡ option_or (number_in es s name) (cond (has_name s name e) (Some (length es)) None)
+              no_number true g =
+                  let p = name_true s name e g in
+                  let clash : None ≡ Some k = sym h ∙ ap (λ n. position (bytes_eq n) names) p.1 ∙ numbered in absurd (cc)
+              no_number false g = sym (other g ∙ before None h)
+          by (Some j) h = put (key s j) ∙ compared (same_key (key e.space k) (key s j)) refl
+            where
+              compared : (b : Bool) → same_key (key e.space k) (key s j) ≡ b
+                  → cond (same_key (key e.space k) (key s j)) (Some number) (lookup (same_key (key s j)) first)
+                  ≡ option_or (number_in es s name) (cond (has_name s name e) (Some (length es)) None)
+              compared true g =
+                  let p = key_true (key e.space k) (key s j) g in
+                  let n = one_name name (h ∙ ap Some (sym p.1)) in
+                  let same : has_name s name e ≡ true = ap (λ t. has_name t name e) (sym p.0) ∙ ap (λ m. has_name e.space m e) n ∙ name_same e in
+                  let gone : is_some (number_in es s name) ≡ false = ap (λ t. is_some (number_in es t name)) (sym p.0) ∙ ap (λ m. is_some (number_in es e.space m)) n ∙ unseen in
+                  ap (λ b. cond b (Some number) (lookup (same_key (key s j)) first)) g ∙ ap Some counted
+                  ∙ sym (none-or (number_in es s name) (cond (has_name s name e) (Some (length es)) None) gone ∙ ap (λ b. cond b (Some (length es)) None) same)
+              compared false g =
+                  ap (λ b. cond b (Some number) (lookup (same_key (key s j)) first)) g ∙ sym (before (Some j) h) ∙ sym (differs (has_name s name e) refl)
+                where
+                  differs : (b : Bool) → has_name s name e ≡ b → option_or (number_in es s name) (cond (has_name s name e) (Some (length es)) None) ≡ number_in es s name
+                  differs true t =
+                      let p = name_true s name e t in
+                      let q : Some j ≡ Some k = sym h ∙ ap (λ n. position (bytes_eq n) names) p.1 ∙ numbered in
+                      let m : j ≡ k = cc in
+                      absurd (true≢false (sym (key_same (key s j)) ∙ ap (λ n. same_key (key s n) (key s j)) m ∙ ap (λ t. same_key (key t k) (key s j)) p.0 ∙ g))
+                  differs false t = other t
+
+      none_there : (s : Space) (n : ℕ) → length names ≤ n → cond (same_key (key e.space k) (key s n)) (Some number) (lookup (same_key (key s n)) first) ≡ None
+      none_there s n l = by (same_key (key e.space k) (key s n)) refl
+        where
+          by : (b : Bool) → same_key (key e.space k) (key s n) ≡ b → cond (same_key (key e.space k) (key s n)) (Some number) (lookup (same_key (key s n)) first) ≡ None
+          by true h = let p = (key_true (key e.space k) (key s n) h).1 in let w = (position-Some (bytes_eq e.name) names k [] numbered).0 in absurd (omega (arith, l, p, w))
+          by false h = ap (λ b. cond b (Some number) (lookup (same_key (key s n)) first)) h ∙ f.fresh s n l
+
+      pub follows_new : (facts' : List (Option Fact)) → facts' ≡ facts ++ entry_fact e ∷ [] → Follows names first' facts' faults (es ++ e ∷ [])
+      follows_new facts' h = record {
+        tabled = record { found = found; known = known_here facts' h };
+        fresh = λ s n l. put (key s n) ∙ none_there s n l;
+        again = f.again ∙ sym (repetitions-push [] es e ∙ ap (λ b. repetitions [] es ++ (if b then repetition_at e else [])) unseen ∙ append-nil (repetitions [] es));
+      }
+
+-- the table is read by the test that the code derives
+lookup-same : (p q : Key → Bool) (entries : List (Key × ℕ)) → ((k : Key) → p k ≡ q k) → lookup p entries ≡ lookup q entries
+lookup-same p q [] h = refl
+lookup-same p q (e ∷ es) h = ap (λ b. cond b (Some e.1) (lookup p es)) (h e.0) ∙ ap (λ o. cond (q e.0) (Some e.1) o) (lookup-same p q es h)
+
+pub lookup_is : (k : Key) (entries : List (Key × ℕ)) → lookup (key_eq.eq-value.it k) entries ≡ lookup (same_key k) entries
+lookup_is k entries = lookup-same (key_eq.eq-value.it k) (same_key k) entries (key_is k)
+
+pub put_is : (k : Key) (number : ℕ) (before after : List (Key × ℕ))
+    → ((q : Key) → lookup (key_eq.eq-value.it q) after ≡ cond (key_eq.eq-value.it k q) (Some number) (lookup (key_eq.eq-value.it q) before))
+    → (q : Key) → lookup (same_key q) after ≡ cond (same_key k q) (Some number) (lookup (same_key q) before)
+put_is k number before after h q =
+    sym (lookup_is q after) ∙ h q ∙ ap (λ b. cond b (Some number) (lookup (key_eq.eq-value.it q) before)) (key_is k q)
+    ∙ ap (λ o. cond (same_key k q) (Some number) o) (lookup_is q before)

@@ -1,0 +1,86 @@
+-- Lemmas on the numbers of names: what one more is to a search from the front.
+use Rattle.std.proofs.Common.{◌≡◌, ℕ, suc, ◌+◌, Bool, not, nat_lt, true, false, cond, List, [], ◌∷◌, ◌++◌, length, map, None, Some, is_some, ◌||◌, refl, sym, ap, ◌∙◌, arith, add-zero, zero-add}
+use Rattle.std.specs.List.{list_any, position, position_from, position_or_len}
+use Rattle.std.specs.Option.{option_or}
+use Rattle.std.specs.Str.{bytes_eq}
+use Rattle.std.proofs.lemmas.Bool.Decides.{nat_tests}
+use borrow.Author.Tests.{lt-ltb, lt-leb}
+use Rattle.std.proofs.lemmas.Slice.Eq.{bytes_eq-Decides}
+use Rattle.snl_scope.specs.Tables.{with_name}
+
+zero-lt : (n : ℕ) → nat_lt 0 (suc n) ≡ true
+zero-lt n = lt-ltb 0 (suc n) (omega arith)
+
+more-lt : (m n : ℕ) → nat_lt m n ≡ nat_lt (1 + m) (suc n)
+more-lt m n = grind (arith, nat_tests)
+
+-- the first place that passes, by a recursion that counts up
+from_here : {A : Type 0} (p : A → Bool) (i : ℕ) (xs : List A)
+    → position_from p i xs ≡ cond (nat_lt (position_or_len p xs) (length xs)) (Some (i + position_or_len p xs)) None
+from_here p i [] = sym (ap (λ b. cond b (Some (i + 0)) None) (lt-leb 1 0 (omega arith)))
+from_here p i (x ∷ xs) = by (p x) (from_here p (i + 1) xs)
+  where
+    by : (b : Bool) → position_from p (i + 1) xs ≡ cond (nat_lt (position_or_len p xs) (length xs)) (Some (i + 1 + position_or_len p xs)) None
+        → cond b (Some i) (position_from p (i + 1) xs)
+        ≡ cond (nat_lt (cond (not b) (1 + position_or_len p xs) 0) (suc (length xs))) (Some (i + cond (not b) (1 + position_or_len p xs) 0)) None
+    by true h = ap Some (sym (add-zero i)) ∙ sym (ap (λ b. cond b (Some (i + 0)) None) (zero-lt (length xs)))
+    by false h =
+        let e : i + 1 + position_or_len p xs ≡ i + (1 + position_or_len p xs) = omega arith in
+        h ∙ ap (λ n. cond (nat_lt (position_or_len p xs) (length xs)) (Some n) None) e
+        ∙ ap (λ b. cond b (Some (i + (1 + position_or_len p xs))) None) (more-lt (position_or_len p xs) (length xs))
+
+position_is : {A : Type 0} (p : A → Bool) (xs : List A) → position p xs ≡ position_from p 0 xs
+position_is p xs = sym (from_here p 0 xs ∙ ap (λ n. cond (nat_lt (position_or_len p xs) (length xs)) (Some n) None) (zero-add (position_or_len p xs)))
+
+position_from-map : {A B : Type 0} (p : B → Bool) (f : A → B) (i : ℕ) (xs : List A) → position_from (λ x. p (f x)) i xs ≡ position_from p i (map f xs)
+position_from-map p f i [] = refl
+position_from-map p f i (x ∷ xs) = ap (cond (p (f x)) (Some i)) (position_from-map p f (i + 1) xs)
+
+pub position-map : {A B : Type 0} (p : B → Bool) (f : A → B) (xs : List A) → position (λ x. p (f x)) xs ≡ position p (map f xs)
+position-map p f xs = position_is (λ x. p (f x)) xs ∙ position_from-map p f 0 xs ∙ sym (position_is p (map f xs))
+
+position_from-push : {A : Type 0} (p : A → Bool) (i : ℕ) (xs : List A) (x : A)
+    → position_from p i (xs ++ x ∷ []) ≡ option_or (position_from p i xs) (cond (p x) (Some (i + length xs)) None)
+position_from-push p i [] x = ap (λ n. cond (p x) (Some n) None) (sym (add-zero i))
+position_from-push p i (y ∷ ys) x = by (p y) (position_from-push p (i + 1) ys x ∙ ap (λ n. option_or (position_from p (i + 1) ys) (cond (p x) (Some n) None)) shift)
+  where
+    shift : i + 1 + length ys ≡ i + length (y ∷ ys)
+    shift = omega arith
+
+    by : (b : Bool) → position_from p (i + 1) (ys ++ x ∷ []) ≡ option_or (position_from p (i + 1) ys) (cond (p x) (Some (i + length (y ∷ ys))) None)
+        → cond b (Some i) (position_from p (i + 1) (ys ++ x ∷ [])) ≡ option_or (cond b (Some i) (position_from p (i + 1) ys)) (cond (p x) (Some (i + length (y ∷ ys))) None)
+    by true h = refl
+    by false h = h
+
+-- a search with one more element
+pub position-push : {A : Type 0} (p : A → Bool) (xs : List A) (x : A) → position p (xs ++ x ∷ []) ≡ option_or (position p xs) (cond (p x) (Some (length xs)) None)
+position-push p xs x =
+    position_is p (xs ++ x ∷ []) ∙ position_from-push p 0 xs x ∙ ap (λ o. option_or o (cond (p x) (Some (0 + length xs)) None)) (sym (position_is p xs))
+    ∙ ap (λ n. option_or (position p xs) (cond (p x) (Some n) None)) (zero-add (length xs))
+
+any_from : {A : Type 0} (p : A → Bool) (i : ℕ) (xs : List A) → list_any p xs ≡ is_some (position_from p i xs)
+any_from p i [] = refl
+any_from p i (x ∷ xs) = by (p x) (any_from p (i + 1) xs)
+  where
+    by : (b : Bool) → list_any p xs ≡ is_some (position_from p (i + 1) xs) → (b || list_any p xs) ≡ is_some (cond b (Some i) (position_from p (i + 1) xs))
+    by true h = refl
+    by false h = h
+
+-- a list that a search finds nothing in has nothing that passes
+pub none-any : {A : Type 0} (p : A → Bool) (xs : List A) → None ≡ position p xs → list_any p xs ≡ false
+none-any p xs h = any_from p 0 xs ∙ ap is_some (sym (position_is p xs)) ∙ ap is_some (sym h)
+
+pub bytes_eq-same : (a : List ℕ) → bytes_eq a a ≡ true
+bytes_eq-same a = (bytes_eq-Decides a a).1 refl
+
+-- a new name comes last
+pub name-new : (names : List (List ℕ)) (name : List ℕ) → None ≡ position (bytes_eq name) names → position (bytes_eq name) (names ++ name ∷ []) ≡ Some (length names)
+name-new names name h =
+    position-push (bytes_eq name) names name ∙ ap (λ o. option_or o (cond (bytes_eq name name) (Some (length names)) None)) (sym h)
+    ∙ ap (λ b. cond b (Some (length names)) None) (bytes_eq-same name)
+
+pub with_name-known : (names : List (List ℕ)) (name : List ℕ) (n : ℕ) → Some n ≡ position (bytes_eq name) names → names ≡ with_name names name
+with_name-known names name n h = ap (λ o. cond (is_some o) names (names ++ name ∷ [])) h
+
+pub with_name-new : (names : List (List ℕ)) (name : List ℕ) → None ≡ position (bytes_eq name) names → names ++ name ∷ [] ≡ with_name names name
+with_name-new names name h = ap (λ o. cond (is_some o) names (names ++ name ∷ [])) h

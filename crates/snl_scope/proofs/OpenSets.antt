@@ -1,0 +1,75 @@
+-- Lemmas on places: what one more item is to the state set that is open.
+use Rattle.std.proofs.Common.{◌≡◌, ℕ, suc, ◌+◌, ◌<◌, Bool, true, false, not, ◌&&◌, ◌||◌, List, [], ◌∷◌, ◌++◌, Option, None, Some, slice_get, nat_lt, refl, sym, ap, ◌∙◌, arith, length-append, if◌then◌else◌}
+use Rattle.std.specs.Option.{option_map_or}
+use borrow.Author.Count.{below_more}
+use Rattle.snl_scope.specs.declared.summary.Summary.{Summary}
+use Rattle.snl_scope.specs.Below.{last_below}
+use Rattle.snl_scope.specs.Places.{begins_set, ends_between, ends_set, is_set_begin, is_set_end, open_before, place}
+use Rattle.snl_scope.specs.Tables.{Placed}
+use Rattle.snl_scope.proofs.Searches.{any_below-none, get-front, get-last, last_below-none, last_below-same, last_below-within, nat_lt-false, nat_lt-true}
+
+module _ (ss : List Summary) (i : ℕ) where
+  and-false : (b : Bool) → (b && false) ≡ false
+  and-false true = refl
+  and-false false = refl
+
+  -- what is left of the search before item i
+  abbrev earlier : Option ℕ
+  earlier = last_below (λ k. is_set_begin ss k && not (ends_between ss k (suc i))) i
+
+  -- an item that begins a state set opens it
+  opens : is_set_begin ss i ≡ true → open_before ss (suc i) ≡ Some i
+  opens b =
+      ap (λ c. if (c && not (ends_between ss i (suc i))) then Some i else earlier) b
+      ∙ ap (λ c. if not c then Some i else earlier)
+      (any_below-none (λ j. nat_lt i j && is_set_end ss j) (suc i) (λ j l. ap (λ c. c && is_set_end ss j) (nat_lt-false j i l)))
+
+  -- one that ends a state set leaves none open
+  closes : is_set_begin ss i ≡ false → is_set_end ss i ≡ true → open_before ss (suc i) ≡ None
+  closes b e =
+      ap (λ c. if (c && not (ends_between ss i (suc i))) then Some i else earlier) b
+      ∙ last_below-none (λ k. is_set_begin ss k && not (ends_between ss k (suc i))) i (λ k l.
+      ap (λ c. is_set_begin ss k && not ((c && is_set_end ss i) || ends_between ss k i)) (nat_lt-true k i l)
+      ∙ ap (λ c. is_set_begin ss k && not (c || ends_between ss k i)) e ∙ and-false (is_set_begin ss k))
+
+  -- and any other changes nothing
+  stays : is_set_begin ss i ≡ false → is_set_end ss i ≡ false → open_before ss (suc i) ≡ open_before ss i
+  stays b e =
+      ap (λ c. if (c && not (ends_between ss i (suc i))) then Some i else earlier) b
+      ∙ last_below-same (λ k. is_set_begin ss k && not (ends_between ss k (suc i))) (λ k. is_set_begin ss k && not (ends_between ss k i)) i (λ k l.
+      ap (λ c. is_set_begin ss k && not ((nat_lt k i && c) || ends_between ss k i)) e
+      ∙ ap (λ c. is_set_begin ss k && not (c || ends_between ss k i)) (and-false (nat_lt k i)))
+
+  pub open_step : (s : Summary) → slice_get ss i ≡ Some s
+      → open_before ss (suc i) ≡ (if begins_set s.kind then Some i else (if ends_set s.kind then None else open_before ss i))
+  open_step s at = by (begins_set s.kind) (ends_set s.kind) (ap (λ o. option_map_or (λ s. begins_set s.kind) o false) at) (ap (λ o. option_map_or (λ s. ends_set s.kind) o false) at)
+    where
+      by : (b e : Bool) → is_set_begin ss i ≡ b → is_set_end ss i ≡ e → open_before ss (suc i) ≡ (if b then Some i else (if e then None else open_before ss i))
+      by true e p q = opens p
+      by false true p q = closes p q
+      by false false p q = stays p q
+
+  -- the place of an item that is read
+  pub place_here : (s : Summary) → slice_get ss i ≡ Some s → place ss i ≡ (if begins_set s.kind then None else open_before ss i)
+  place_here s at = ap (λ o. if option_map_or (λ s. not (begins_set s.kind)) o false then open_before ss i else None) at ∙ by (begins_set s.kind)
+    where
+      by : (b : Bool) → (if not b then open_before ss i else None) ≡ (if b then None else open_before ss i)
+      by true = refl
+      by false = refl
+
+  -- the state set that an item stands in begins before it
+  pub place_within : (k : ℕ) → place ss i ≡ Some k → k < i
+  place_within k = by (option_map_or (λ s. not (begins_set s.kind)) (slice_get ss i) false)
+    where
+      by : (b : Bool) → (if b then open_before ss i else None) ≡ Some k → k < i
+      by true e = last_below-within (λ k. is_set_begin ss k && not (ends_between ss k i)) i k e
+      by false e = absurd (cc)
+
+-- the places with one more item
+pub placed-push : (places : List (Option ℕ)) (ss : List Summary) (n : ℕ) (p : Option ℕ) → Placed places ss n → p ≡ place ss n → Placed (places ++ p ∷ []) ss (n + 1)
+placed-push places ss n p h e = record {
+  len = omega (arith, length-append places (p ∷ []), h.len);
+  each = below_more (λ k. slice_get (places ++ p ∷ []) k ≡ Some (place ss k)) n
+      (λ k l. get-front places p k (omega (arith, l, h.len)) ∙ h.each k l)
+      (ap (λ m. slice_get (places ++ p ∷ []) m) (sym h.len) ∙ get-last places p ∙ ap Some e);
+}

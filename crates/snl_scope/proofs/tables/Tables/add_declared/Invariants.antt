@@ -1,0 +1,11 @@
+use Rattle.std.proofs.Common.{List, ◌++◌, map, take}
+use Rattle.snl_scope.specs.Names.{Entry, declared_entry}
+use Rattle.snl_scope.specs.Tables.{Follows}
+use Rattle.snl_scope.proofs.tables.Tables.add_declared.Given as goal
+
+-- the tables follow the declared names so far, behind whatever they followed before
+abbrev pub invariant-loop-declared : goal.invariant-loop-declared
+invariant-loop-declared l =
+    (es : List Entry)
+    → Follows l.initial.self.names l.initial.self.first.entries l.initial.self.facts.items l.initial.self.faults.items es
+    → Follows l.self.names l.self.first.entries l.self.facts.items l.self.faults.items (es ++ map (declared_entry l.scope l.item) (take l.declared-index l.declares))

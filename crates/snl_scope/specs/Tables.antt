@@ -1,0 +1,109 @@
+-- How the tables that links are made of follow the list of summaries.
+use Rattle.std.specs.Prelude.{◌≡◌, ℕ, zero, suc, ◌<◌, ◌≤◌, Bool, true, false, not, ◌&&◌, ◌||◌, if◌then◌else◌, List, [], ◌∷◌, ◌++◌, map, length, get_or, set, slice_get, nat_eq, nat_lt, bytes_eq, position, Option, None, Some, is_some, is_none, option_and_then}
+use Rattle.std.specs.Map.{lookup}
+use Rattle.std.specs.Option.{option_map_or}
+use Rattle.snl_scope.specs.declared.facts.Fact.{Fact}
+use Rattle.snl_scope.specs.declared.facts.LinkFault.{LinkFault}
+use Rattle.snl_scope.specs.declared.order.Before.{Before}
+use Rattle.snl_scope.specs.declared.order.Member.{Member}
+use Rattle.snl_scope.specs.declared.order.Member.TheVariants as member
+use Rattle.snl_scope.specs.declared.spaces.Key.{Key}
+use Rattle.snl_scope.specs.declared.spaces.Space.{Space}
+use Rattle.snl_scope.specs.declared.summary.ItemKind.{ItemKind}
+use Rattle.snl_scope.specs.declared.summary.Summary.{Summary}
+use Rattle.snl_scope.specs.declared.tables.Named.{Named}
+use Rattle.snl_scope.specs.Below.{any_below}
+use Rattle.snl_scope.specs.Linked.{entry_fact}
+use Rattle.snl_scope.specs.Names.{Entry, number_in, repetitions, same_space}
+use Rattle.snl_scope.specs.Order.{has_begun, is_barred_in_sets, is_main, is_program_item, is_program_word, is_state, phase, phase_of, state_name}
+use Rattle.snl_scope.specs.Places.{ends_set, item_is, place, stands_in}
+
+-- The places of the first n items.
+pub record Placed (places : List (Option ℕ)) (ss : List Summary) (n : ℕ) : Type 0 where
+  pub len : length places ≡ n
+  pub each : (i : ℕ) → i < n → slice_get places i ≡ Some (place ss i)
+
+-- The greater of a phase and the greatest one so far.
+abbrev pub with_phase : Option ℕ → ℕ → ℕ
+with_phase None greatest = greatest
+with_phase (Some p) greatest = if nat_lt greatest p then p else greatest
+
+abbrev pub greatest_before : List Summary → ℕ → ℕ
+greatest_before ss zero = 0
+greatest_before ss (suc n) = with_phase (phase ss n) (greatest_before ss n)
+
+-- What the items before item i say to it.
+abbrev pub before : List Summary → ℕ → Before
+before ss i = record { greatest = greatest_before ss i; begun = has_begun ss i; has_program = any_below (is_program_item ss) i }
+
+abbrev pub phase_in : Bool → Option ℕ → ItemKind → Option ℕ
+phase_in begun None k = phase_of begun k
+phase_in begun (Some _) k = None
+
+-- A phase that a greater one stands before.
+abbrev pub is_below : Option ℕ → ℕ → Bool
+is_below None greatest = false
+is_below (Some p) greatest = nat_lt p greatest
+
+abbrev pub barred_at : Option ℕ → ItemKind → Bool
+barred_at None k = is_state k
+barred_at (Some _) k = is_barred_in_sets k
+
+abbrev pub later_program : Before → Summary → Bool
+later_program b s = is_program_word s.opening && b.has_program
+
+abbrev pub misplaced_behind : Before → Option ℕ → Summary → Bool
+misplaced_behind b p s = (is_below (phase_in b.begun p s.kind) b.greatest || barred_at p s.kind) && not (later_program b s)
+
+-- And what they say together with item i, which is the summary.
+abbrev pub and_item : Before → Option ℕ → Summary → Before
+and_item b p s = record {
+  greatest = with_phase (phase_in b.begun p s.kind) b.greatest;
+  begun = (is_main s.kind && is_none p) || b.begun;
+  has_program = is_program_word s.opening || b.has_program;
+}
+
+-- The item is what the members of a state set are searched for.
+abbrev pub is_member : Member → Summary → Bool
+is_member member.End s = ends_set s.kind
+is_member member.State s = is_some (state_name s)
+
+-- Whether a member that passes the test stands in each state set, as far as the first n items tell.
+pub record Marked (test : Summary → Bool) (marks : List Bool) (ss : List Summary) (n : ℕ) : Type 0 where
+  pub len : length marks ≡ length ss
+  pub each : (k : ℕ) → k < length ss → get_or marks k false ≡ any_below (λ j. item_is test ss j && stands_in ss k j) n
+
+-- The state set that a member stands in, if it is one.
+abbrev pub set_of : Bool → Option ℕ → Option ℕ
+set_of is_member p = if is_member then p else None
+
+-- The marks with one more.
+abbrev pub with_mark : List Bool → Option ℕ → List Bool
+with_mark marks p = option_map_or (λ k. set marks k true) p marks
+
+-- A list of different names, with one more.
+abbrev pub with_name : List (List ℕ) → List ℕ → List (List ℕ)
+with_name names name = if is_some (position (bytes_eq name) names) then names else names ++ name ∷ []
+
+-- One name in one space.
+abbrev pub same_key : Key → Key → Bool
+same_key a b = same_space a.space b.space && nat_eq a.name b.name
+
+-- What the tables have for a name in a space.
+abbrev pub number_by : List (List ℕ) → List (Key × ℕ) → Space → List ℕ → Option ℕ
+number_by names first s name = option_and_then (λ n. lookup (same_key (record { space = s; name = n })) first) (position (bytes_eq name) names)
+
+-- The tables tell of a list of entries the first of each name in a space, and what is known of each.
+pub record Tabled (names : List (List ℕ)) (first : List (Key × ℕ)) (facts : List (Option Fact)) (es : List Entry) : Type 0 where
+  pub found : (s : Space) (name : List ℕ) → number_by names first s name ≡ number_in es s name
+  pub known : facts ≡ map entry_fact es
+
+-- And more can be added, with findings at the names that came again.
+pub record Follows (names : List (List ℕ)) (first : List (Key × ℕ)) (facts : List (Option Fact)) (faults : List LinkFault) (es : List Entry) : Type 0 where
+  pub tabled : Tabled names first facts es
+  pub fresh : (s : Space) (n : ℕ) → length names ≤ n → lookup (same_key (record { space = s; name = n })) first ≡ None
+  pub again : faults ≡ repetitions [] es
+
+-- A name that is handed in, as an entry.
+abbrev pub entry_of : Named → Entry
+entry_of d = record { space = d.space; name = d.name.now; item = d.item; token = d.token; code = d.code; variable = d.variable }

@@ -1,0 +1,149 @@
+//! The links of items: their summaries come in, and what names mean to each item goes out.
+
+ghost use Rattle.std.specs.Prelude.{◌≡◌, ◌++◌, map, IfOk};
+ghost use Rattle.snl_scope.specs.Order.{order_faults};
+
+use crate::facts::{Fact, LinkFault};
+use crate::names::Names;
+use crate::order::add_order_faults;
+use crate::origin::Origin;
+use crate::places::places_of;
+use crate::spaces::{Key, Space};
+use crate::summary::Summary;
+use crate::tables::{Tables, number_in, tables_of};
+use indexmap::IndexMap;
+use snl_cut::OutOfMemory;
+use std::alloc::Global;
+use std::marker::Model;
+
+/// What names mean among the items of a text, which contracts see as the list of their summaries.
+#[derive(Drop)]
+pub struct Links {
+    places: Vec<Option<usize>>,
+    names: Names,
+    first: IndexMap<Key, usize>,
+    facts: Vec<Option<Fact>>,
+    faults: Vec<LinkFault>,
+    origin: Origin,
+}
+
+impl Model for Links {
+    ghost use Rattle.std.specs.Prelude.{List, length, ◌≡◌};
+    ghost use Rattle.snl_scope.specs.declared.summary.Summary.{Summary};
+    ghost use Rattle.snl_scope.specs.Linked.{faults_of};
+    ghost use Rattle.snl_scope.specs.Names.{entries};
+    ghost use Rattle.snl_scope.specs.Tables.{Placed, Tabled};
+
+    ghost Value = { List Summary };
+
+    ghost view = { λ a. a.origin.summaries };
+
+    ghost invariant = { λ a. Placed a.places.items a.origin.summaries (length a.origin.summaries)
+        × Tabled a.names a.first.entries a.facts.items (entries a.origin.summaries)
+        × (a.faults.items ≡ faults_of a.origin.summaries) };
+}
+
+impl Links {
+    ghost use Rattle.std.specs.Prelude.{option_and_then, slice_get};
+    ghost use Rattle.snl_scope.specs.Linked.{entry_fact, fact_of, faults_of, has_target, resolve};
+    ghost use Rattle.snl_scope.specs.Names.{entries};
+    ghost use Rattle.snl_scope.specs.Places.{place};
+
+    /// The state set in which an item stands, by the number of its `ss NAME {` item, or None at program level.
+    pub fn place(&self, item: usize) -> Option<usize>
+        ensures { result ≡ place self.now item }
+    {
+        match self.places.get(item) {
+            Some(place) => *place,
+            None => None,
+        }
+    }
+
+    // The number of what a name resolves to from a place.
+    fn resolve(&self, place: Option<usize>, name: &[u8]) -> Option<usize>
+        ensures { result ≡ resolve (entries self.now) place name.now }
+    {
+        if let Some(set) = place {
+            let inside = number_in(&self.names, &self.first, Space::StateSet(set), name);
+            if inside.is_some() {
+                return inside;
+            }
+        }
+        number_in(&self.names, &self.first, Space::Program, name)
+    }
+
+    // What is known of the declaration with a number.
+    fn known_at(&self, number: usize) -> Option<Fact>
+        ensures { result ≡ option_and_then entry_fact (slice_get (entries self.now) number) }
+    {
+        match self.facts.get(number) {
+            Some(fact) => *fact,
+            None => None,
+        }
+    }
+
+    /// What a name means to an item, by the scopes outside it.
+    pub fn fact(&self, item: usize, name: &[u8]) -> Option<Fact>
+        ensures { result ≡ fact_of self.now item name.now }
+    {
+        if item < self.places.len() {
+            let number = self.resolve(self.place(item), name)?;
+            self.known_at(number)
+        } else {
+            None
+        }
+    }
+
+    /// Whether the state set in which an item stands has a state of the name.
+    pub fn has_target(&self, item: usize, name: &[u8]) -> bool
+        ensures { result ≡ has_target self.now item name.now }
+    {
+        match self.place(item) {
+            Some(set) => number_in(&self.names, &self.first, Space::States(set), name).is_some(),
+            None => false,
+        }
+    }
+
+    /// What is found of the order of items, and names that are declared twice; each finding once.
+    pub fn faults(&self) -> &[LinkFault]
+        ensures { result.now ≡ faults_of self.now }
+    {
+        self.faults.as_slice()
+    }
+}
+
+fn origin_of(summaries: &[&Summary]) -> Origin
+    ensures { result.summaries ≡ map (λ s. s.now) summaries.now }
+{
+    let mut origin = Origin::new();
+    for summary in summaries {
+        origin = origin.then(summary);
+    }
+    origin
+}
+
+/// What names mean among the items that these summaries tell of.
+pub fn link(alloc: Global, summaries: &[&Summary]) -> Result<Links, OutOfMemory>
+    ensures { IfOk result (λ l. l ≡ map (λ s. s.now) summaries.now) }
+{
+    let places = places_of(alloc, summaries)?;
+    let mut faults = Vec::new(alloc);
+    add_order_faults(alloc, summaries, &places, &mut faults)?;
+    let Tables {
+        names,
+        first,
+        facts,
+        faults: mut repeated,
+    } = tables_of(alloc, summaries, &places)?;
+    if faults.append(&mut repeated).is_err() {
+        return Err(OutOfMemory);
+    }
+    Ok(Links {
+        places,
+        names,
+        first,
+        facts,
+        faults,
+        origin: origin_of(summaries),
+    })
+}

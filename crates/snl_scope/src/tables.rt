@@ -1,0 +1,296 @@
+//! The names of all spaces, with where each stands first.
+
+ghost use Rattle.std.specs.Prelude.{◌≡◌, ◌++◌, ◌∷◌, [], List, OnOk, IfOk, Option, if◌then◌else◌, is_some, length, map, option_copied};
+ghost use Rattle.snl_scope.specs.Linked.{base_of, entry_fact, level_of, variable_fact};
+ghost use Rattle.snl_scope.specs.Names.{Entry, declared_entry, entries, entries_of, repetition_at, scope_at, scope_code, scope_of, set_entries, set_name, state_code, state_entries};
+ghost use Rattle.snl_scope.specs.Order.{is_faulty, is_state};
+ghost use Rattle.snl_scope.specs.Places as Places;
+ghost use Rattle.snl_scope.specs.declared.summary.Summary.{Summary};
+ghost use Rattle.snl_scope.specs.declared.codes.Code.{Code};
+ghost use Rattle.snl_scope.specs.declared.spaces.Space.{Space};
+ghost use Rattle.snl_scope.specs.Tables.{Follows, Placed, entry_of, number_by};
+
+use crate::codes::Code;
+use crate::facts::{Assigned, Base, Fact, Level, LinkFault};
+use crate::names::Names;
+use crate::order::state_name;
+use crate::spaces::{Key, Space};
+use crate::summary::{Declared, ItemKind, Nature, Summary, Variable};
+use indexmap::IndexMap;
+use snl_cut::OutOfMemory;
+use std::alloc::Global;
+
+/// A name that an item brings into a space: `code` is what it gives where an earlier one has the name, and `variable`
+/// is what a declaration says of it.
+#[derive(Clone, Copy)]
+pub(crate) struct Named<'a> {
+    pub space: Space,
+    pub name: &'a [u8],
+    pub item: usize,
+    pub token: usize,
+    pub code: Option<Code>,
+    pub variable: Option<Variable>,
+}
+
+/// The names that have come so far: for each name in a space the number of the first that came, for each number the fact
+/// of a declaration, and the findings at those that came again.
+#[derive(Drop)]
+pub(crate) struct Tables {
+    pub names: Names,
+    pub first: IndexMap<Key, usize>,
+    pub facts: Vec<Option<Fact>>,
+    pub faults: Vec<LinkFault>,
+}
+
+fn level_of(space: Space) -> Level
+    ensures { result ≡ level_of space }
+{
+    match space {
+        Space::StateSet(_) => Level::StateSet,
+        _ => Level::Program,
+    }
+}
+
+fn base_of(nature: Nature) -> Base
+    ensures { result ≡ base_of nature }
+{
+    match nature {
+        Nature::EventFlag => Base::EventFlag,
+        Nature::Foreign => Base::Foreign,
+        Nature::Function => Base::Function,
+        Nature::Assignable | Nature::Unassignable => Base::Other,
+    }
+}
+
+fn fact_of(named: Named) -> Option<Fact>
+    ensures { result ≡ entry_fact (entry_of named.entry) }
+{
+    let variable = named.variable?;
+    Some(Fact {
+        dims: variable.dims,
+        level: level_of(named.space),
+        base: base_of(variable.nature),
+        assigned: Assigned::Unassigned,
+    })
+}
+
+/// The number of the first that came with a name in a space.
+pub(crate) fn number_in(
+    names: &Names,
+    first: &IndexMap<Key, usize>,
+    space: Space,
+    name: &[u8],
+) -> Option<usize>
+    ensures { result ≡ number_by names.now first.now.entries space name.now }
+{
+    let name = names.number(name)?;
+    first.get(&Key { space, name }).copied()
+}
+
+// Adds what a name gives that came again.
+fn add_repetition(named: Named, faults: &mut Vec<LinkFault>) -> Result<(), OutOfMemory>
+    ensures { OnOk result (faults.new.items ≡ faults.old.items ++ repetition_at (entry_of named.entry)) }
+{
+    if let Some(code) = named.code {
+        faults.push(LinkFault {
+            item: named.item,
+            token: named.token,
+            code,
+        })?;
+    }
+    Ok(())
+}
+
+// The scope of what stands at a place.
+fn scope_at(place: Option<usize>) -> Space
+    ensures { result ≡ scope_at place }
+{
+    match place {
+        None => Space::Program,
+        Some(set) => Space::StateSet(set),
+    }
+}
+
+// The scope that an item declares in.
+fn scope_of(kind: ItemKind, item: usize, place: Option<usize>) -> Space
+    ensures { result ≡ (if is_state kind then Space.State item else scope_at place) }
+{
+    match kind {
+        ItemKind::State => Space::State(item),
+        _ => scope_at(place),
+    }
+}
+
+// What a second declaration in a scope gives.
+fn scope_code(scope: Space) -> Option<Code>
+    ensures { result ≡ scope_code scope }
+{
+    match scope {
+        Space::State(_) => None,
+        _ => Some(Code::E07),
+    }
+}
+
+fn set_name(summary: &Summary) -> Option<&[u8]>
+    ensures { option_copied result ≡ set_name summary.now }
+{
+    match summary.kind {
+        ItemKind::SsBegin => summary.second.as_ref().map(|name| name.bytes()),
+        _ => None,
+    }
+}
+
+fn state_code(kind: ItemKind) -> Option<Code>
+    ensures { result ≡ (if is_faulty kind then None else Some Code.E09) }
+{
+    match kind {
+        ItemKind::Faulty => None,
+        _ => Some(Code::E09),
+    }
+}
+
+impl Tables {
+    pub(crate) fn new(alloc: Global) -> Tables
+        ensures { Follows result.names result.first.entries result.facts.items result.faults.items [] }
+    {
+        Tables {
+            names: Names::new(alloc),
+            first: IndexMap::new(alloc),
+            facts: Vec::new(alloc),
+            faults: Vec::new(alloc),
+        }
+    }
+
+    fn add(&mut self, alloc: Global, named: Named) -> Result<(), OutOfMemory>
+        ensures { OnOk result ((es : List Entry)
+            → Follows self.old.names self.old.first.entries self.old.facts.items self.old.faults.items es
+            → Follows self.new.names self.new.first.entries self.new.facts.items self.new.faults.items (es ++ entry_of named.entry ∷ [])) }
+    {
+        let number = self.facts.len();
+        let name = self.names.add(alloc, named.name)?;
+        let key = Key {
+            space: named.space,
+            name,
+        };
+        if self.first.contains_key(&key) {
+            add_repetition(named, &mut self.faults)?;
+        } else {
+            self.first.insert(key, number)?;
+        }
+        self.facts.push(fact_of(named))?;
+        Ok(())
+    }
+
+    // Adds the name of the state set that an item begins.
+    fn add_set(&mut self, alloc: Global, item: usize, summary: &Summary) -> Result<(), OutOfMemory>
+        ensures { OnOk result ((es : List Entry)
+            → Follows self.old.names self.old.first.entries self.old.facts.items self.old.faults.items es
+            → Follows self.new.names self.new.first.entries self.new.facts.items self.new.faults.items (es ++ set_entries item summary.now)) }
+    {
+        match set_name(summary) {
+            None => Ok(()),
+            Some(name) => self.add(
+                alloc,
+                Named {
+                    space: Space::Sets,
+                    name,
+                    item,
+                    token: 1,
+                    code: Some(Code::E08),
+                    variable: None,
+                },
+            ),
+        }
+    }
+
+    // Adds the name of the state that an item is, if it stands in a state set.
+    fn add_state(
+        &mut self,
+        alloc: Global,
+        place: Option<usize>,
+        item: usize,
+        summary: &Summary,
+    ) -> Result<(), OutOfMemory>
+        ensures { OnOk result ((es : List Entry)
+            → Follows self.old.names self.old.first.entries self.old.facts.items self.old.faults.items es
+            → Follows self.new.names self.new.first.entries self.new.facts.items self.new.faults.items (es ++ state_entries place item summary.now)) }
+    {
+        match (place, state_name(summary)) {
+            (Some(set), Some(name)) => self.add(
+                alloc,
+                Named {
+                    space: Space::States(set),
+                    name,
+                    item,
+                    token: 1,
+                    code: state_code(summary.kind),
+                    variable: None,
+                },
+            ),
+            _ => Ok(()),
+        }
+    }
+
+    // Adds the names that an item declares in a scope.
+    fn add_declared(
+        &mut self,
+        alloc: Global,
+        scope: Space,
+        item: usize,
+        declares: &[Declared],
+    ) -> Result<(), OutOfMemory>
+        ensures { OnOk result ((es : List Entry)
+            → Follows self.old.names self.old.first.entries self.old.facts.items self.old.faults.items es
+            → Follows self.new.names self.new.first.entries self.new.facts.items self.new.faults.items (es ++ map (declared_entry scope item) declares.now)) }
+    {
+        for declared in declares {
+            self.add(
+                alloc,
+                Named {
+                    space: scope,
+                    name: declared.name.bytes(),
+                    item,
+                    token: declared.token,
+                    code: scope_code(scope),
+                    variable: Some(declared.variable),
+                },
+            )?;
+        }
+        Ok(())
+    }
+
+    fn add_item(
+        &mut self,
+        alloc: Global,
+        place: Option<usize>,
+        item: usize,
+        summary: &Summary,
+    ) -> Result<(), OutOfMemory>
+        ensures { OnOk result ((ss : List Summary) → place ≡ Places.place ss item → (es : List Entry)
+            → Follows self.old.names self.old.first.entries self.old.facts.items self.old.faults.items es
+            → Follows self.new.names self.new.first.entries self.new.facts.items self.new.faults.items (es ++ entries_of ss item summary.now)) }
+    {
+        self.add_set(alloc, item, summary)?;
+        self.add_state(alloc, place, item, summary)?;
+        let scope = scope_of(summary.kind, item, place);
+        self.add_declared(alloc, scope, item, summary.declares.as_slice())?;
+        Ok(())
+    }
+}
+
+/// The tables of all items.
+pub(crate) fn tables_of(
+    alloc: Global,
+    summaries: &[&Summary],
+    places: &[Option<usize>],
+) -> Result<Tables, OutOfMemory>
+    requires { Placed places.now (map (λ s. s.now) summaries.now) (length summaries.now) }
+    ensures { IfOk result (λ t. Follows t.names t.first.entries t.facts.items t.faults.items (entries (map (λ s. s.now) summaries.now))) }
+{
+    let mut tables = Tables::new(alloc);
+    for item in 0..summaries.len() {
+        let summary = summaries[item];
+        tables.add_item(alloc, places[item], item, summary)?;
+    }
+    Ok(tables)
+}

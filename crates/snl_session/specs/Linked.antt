@@ -1,0 +1,64 @@
+-- What is found by the links of the items of a text, each finding at a token of an item.
+use Rattle.std.specs.Prelude.{ℕ, Bool, true, false, not, if◌then◌else◌, List, [], ◌++◌, map, filter, flat_map, slice_get, Option, Some, None, is_some, option_and_then}
+use Rattle.std.specs.List.{enumerate_from}
+use Rattle.snl_lex.specs.declared.piece.Piece.{Piece}
+use Rattle.snl_scope.specs.declared.codes.Code.{Code}
+use Rattle.snl_scope.specs.declared.codes.Code.TheVariants.{E01, E02, E03, E04, E05, E06, E10, E18, W03}
+use Rattle.snl_scope.specs.declared.facts.LinkFault.{LinkFault}
+use Rattle.snl_scope.specs.declared.summary.Mention.{Mention}
+use Rattle.snl_scope.specs.declared.summary.Summary.{Summary}
+use Rattle.snl_scope.specs.Linked as links
+use Rattle.snl_scope.specs.Places.{place}
+use Rattle.snl_scope.specs.Summaries.{summary_in}
+use Rattle.snl_session.specs.declared.findings.Finding.{Finding}
+use Rattle.snl_session.specs.Program.{ProgramItem}
+
+-- What each item says to the others.
+abbrev pub summary_of_item : List ℕ → ProgramItem → Summary
+summary_of_item text x = summary_in text x.tokens x.tree
+
+abbrev pub summaries_of : List ℕ → List ProgramItem → List Summary
+summaries_of text xs = map (summary_of_item text) xs
+
+-- A finding with this code quotes the token at which it stands.
+abbrev pub is_quoted : Code → Bool
+is_quoted E01 = false
+is_quoted E02 = false
+is_quoted E03 = false
+is_quoted E04 = false
+is_quoted E05 = false
+is_quoted E06 = false
+is_quoted E18 = false
+is_quoted W03 = false
+is_quoted _ = true
+
+-- A finding at a token. One of what is missing altogether has none, and stands at the text's beginning.
+abbrev pub finding_at : Code → Option Piece → Finding
+finding_at code None = record { offset = 0; code = code; subject = 0 }
+finding_at code (Some token) = record { offset = token.start; code = code; subject = if is_quoted code then token.len else 0 }
+
+-- The token of an item by the number of the item and its own number in it.
+abbrev pub token_of : List ProgramItem → ℕ → ℕ → Option Piece
+token_of xs item number = option_and_then (λ x. slice_get x.tokens number) (slice_get xs item)
+
+-- A finding of the links, at its token.
+abbrev pub placed : List ProgramItem → LinkFault → Finding
+placed xs fault = finding_at fault.code (token_of xs fault.item fault.token)
+
+-- E10 at the targets of item i that name no state of its state set. Those of a state at program level are not looked up.
+abbrev pub names_no_state : List Summary → ℕ → Mention → Bool
+names_no_state ss i target = not (links.has_target ss i target.name)
+
+abbrev pub unknown_target : ℕ → Mention → LinkFault
+unknown_target i target = record { item = i; token = target.token; code = E10 }
+
+abbrev pub unknown_targets_of : List Summary → ℕ × Summary → List LinkFault
+unknown_targets_of ss (i, s) = if is_some (place ss i) then map (unknown_target i) (filter (names_no_state ss i) s.targets) else []
+
+abbrev pub unknown_targets : List Summary → List LinkFault
+unknown_targets ss = flat_map (unknown_targets_of ss) (enumerate_from 0 ss)
+
+-- What is found by the links of the items of a text.
+abbrev pub linked_faults : List ℕ → List ProgramItem → List Finding
+linked_faults text xs =
+    map (placed xs) (links.faults_of (summaries_of text xs)) ++ map (placed xs) (unknown_targets (summaries_of text xs))

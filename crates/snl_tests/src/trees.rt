@@ -1,0 +1,248 @@
+//! The trees of items: which form each has, and what hangs under what.
+
+use crate::reading::item_of;
+use snl_syntax::Binary;
+use snl_syntax::tree::declaration::{Declaration, Init};
+use snl_syntax::tree::expression::Expr;
+use snl_syntax::tree::item::Item;
+use snl_syntax::tree::state::{StateMember, Target, Transition};
+use snl_syntax::tree::statement::{Member, Stmt};
+use sqlite_items::Items;
+use std::alloc::Global;
+use std::test::Fail;
+
+fn form_of(item: &Item) -> &'static str {
+    match item {
+        Item::Header { .. } => "header",
+        Item::Definition(_) => "declaration",
+        Item::Foreign(_) => "foreign",
+        Item::Clause(_) => "clause",
+        Item::OptionLine(_) => "option",
+        Item::Entry(_) => "entry",
+        Item::Exit(_) => "exit",
+        Item::SsBegin { .. } => "state set",
+        Item::SsEnd => "end of a state set",
+        Item::StateBlock { .. } => "state",
+        Item::Function(_) => "function",
+        Item::StructDef { .. } => "struct",
+        Item::CBlock(_) => "C code",
+        Item::Empty => "empty",
+    }
+}
+
+static FORMS: [(&str, &str); 17] = [
+    ("program p", "header"),
+    ("int x;", "declaration"),
+    ("struct s x;", "declaration"),
+    ("foreign x;", "foreign"),
+    ("assign x;", "clause"),
+    ("syncQ x 3;", "clause"),
+    ("option +a;", "option"),
+    ("entry { }", "entry"),
+    ("exit { }", "exit"),
+    ("ss a {", "state set"),
+    ("}", "end of a state set"),
+    ("state i { }", "state"),
+    ("int f();", "function"),
+    ("struct s *f() { }", "function"),
+    ("struct s { };", "struct"),
+    ("%{c}%", "C code"),
+    (";", "empty"),
+];
+
+#[test]
+fn items_have_their_form(rt: HostRuntime) -> Result<(), Fail> {
+    for (text, wanted) in &FORMS {
+        let item = item_of(rt.alloc(), text.as_bytes())?;
+        assert_eq!(rt; form_of(&item), *wanted, "at {text}");
+    }
+    Ok(())
+}
+
+fn declaration_of(item: Item) -> Option<Declaration> {
+    match item {
+        Item::Definition(declaration) => Some(declaration),
+        _ => None,
+    }
+}
+
+fn init_value(init: &Init) -> Option<&Expr> {
+    match init {
+        Init::Value(value) => Some(value),
+        Init::List(..) => None,
+    }
+}
+
+// The value of the first variable of a declaration.
+fn value_of(declaration: &Declaration) -> Option<&Expr> {
+    let declarator = declaration.declarators.get(0)?;
+    init_value(declarator.init.as_ref()?)
+}
+
+// What an expression is, with the length of its list.
+fn form_of_expression(expression: &Expr) -> (&'static str, usize) {
+    match expression {
+        Expr::Group(_) => ("group", 1),
+        Expr::Postfix(_, suffixes) => ("postfix", suffixes.len()),
+        Expr::Prefixed(prefixes, _) => ("prefixed", prefixes.len()),
+        Expr::Chain(_, links) => ("chain", links.len()),
+        Expr::Conditional(_, arms) => ("conditional", arms.len()),
+        Expr::Assigned(targets, _) => ("assigned", targets.len()),
+        Expr::Sequence(_, rest) => ("sequence", rest.len()),
+        _ => ("leaf", 1),
+    }
+}
+
+// The declaration that a text consists of.
+fn variable(alloc: Global, text: &str) -> Result<Declaration, Fail> {
+    let item = item_of(alloc, text.as_bytes())?;
+    Ok(declaration_of(item).ok_or("no declaration")?)
+}
+
+static EXPRESSIONS: [(&str, &str, usize); 17] = [
+    ("a", "leaf", 1),
+    ("\"s\" \"t\"", "leaf", 1),
+    ("sizeof(int)", "leaf", 1),
+    ("(a + b)", "group", 1),
+    ("a[1](2).b++", "postfix", 4),
+    ("-a++", "prefixed", 1),
+    ("- (int) sizeof a", "prefixed", 3),
+    ("a - b - c", "chain", 2),
+    ("a - b + c - d", "chain", 3),
+    ("a - b * c", "chain", 1),
+    ("a == b != c", "chain", 2),
+    ("a < b == c", "chain", 1),
+    ("a ? b : c ? d : e", "conditional", 2),
+    ("a ? b ? c : d : e", "conditional", 1),
+    ("a || b ? c : d", "conditional", 1),
+    ("a = b += c ? d : e", "assigned", 2),
+    ("a = (b = c)", "assigned", 1),
+];
+
+#[test]
+fn expressions_have_their_form(rt: HostRuntime) -> Result<(), Fail> {
+    for (text, form, count) in &EXPRESSIONS {
+        let whole = format!(in rt.alloc(); "int x = {text};")?;
+        let declaration = variable(rt.alloc(), &whole)?;
+        let found = value_of(&declaration).map(form_of_expression);
+        assert_eq!(rt; found, Some((*form, *count)), "at {text}");
+    }
+    Ok(())
+}
+
+// The operators of each level, from the loosest on.
+static LEVELS: [(&str, Binary); 10] = [
+    ("||", Binary::Or),
+    ("&&", Binary::And),
+    ("|", Binary::BitOr),
+    ("^", Binary::BitXor),
+    ("&", Binary::BitAnd),
+    ("!=", Binary::NotEqual),
+    (">=", Binary::GreaterEqual),
+    ("<<", Binary::ShiftLeft),
+    ("-", Binary::Subtract),
+    ("/", Binary::Divide),
+];
+
+// The only operator of a chain.
+fn operator_of(chain: &Expr) -> Option<Binary> {
+    match chain {
+        Expr::Chain(_, links) if links.len() == 1 => Some(links.get(0)?.0),
+        _ => None,
+    }
+}
+
+#[test]
+fn a_looser_operator_holds_a_tighter_one(rt: HostRuntime) -> Result<(), Fail> {
+    for i in 1..LEVELS.len() {
+        let (loose, wanted) = LEVELS[i - 1];
+        let (tight, _) = LEVELS[i];
+        let before = format!(in rt.alloc(); "int x = a {loose} b {tight} c;")?;
+        let declaration = variable(rt.alloc(), &before)?;
+        assert_eq!(rt;
+            value_of(&declaration).and_then(operator_of),
+            Some(wanted),
+            "at {before}"
+        );
+        let behind = format!(in rt.alloc(); "int x = a {tight} b {loose} c;")?;
+        let declaration = variable(rt.alloc(), &behind)?;
+        assert_eq!(rt;
+            value_of(&declaration).and_then(operator_of),
+            Some(wanted),
+            "at {behind}"
+        );
+    }
+    Ok(())
+}
+
+fn members_of(item: Item) -> Option<Items<StateMember>> {
+    match item {
+        Item::StateBlock { members, .. } => Some(members),
+        _ => None,
+    }
+}
+
+fn transition_in(member: &StateMember) -> Option<&Transition> {
+    match member {
+        StateMember::When(transition) => Some(transition),
+        _ => None,
+    }
+}
+
+// The transition that is the first member of a state.
+fn first_transition(members: &Items<StateMember>) -> Option<&Transition> {
+    transition_in(members.get(0)?)
+}
+
+// The tokens of a chain of three names, with a `-` between any two.
+fn differences(condition: &Expr) -> Option<[usize; 3]> {
+    let Expr::Chain(first, links) = condition else {
+        return None;
+    };
+    match (first.get(), links.as_slice()) {
+        (
+            Expr::Name(a),
+            [
+                (Binary::Subtract, Expr::Name(b)),
+                (Binary::Subtract, Expr::Name(c)),
+            ],
+        ) => { Some([*a, *b, *c]) }
+        _ => None,
+    }
+}
+
+// The name that is the only condition of an `if`, its body, and whether it has an `else`.
+fn choice(statement: &Stmt) -> Option<(usize, &Stmt, bool)> {
+    let Stmt::If(arms, branch) = statement else {
+        return None;
+    };
+    match arms.as_slice() {
+        [(Expr::Name(name), body)] => Some((*name, body, branch.is_some())),
+        _ => None,
+    }
+}
+
+// The statement that is the first member of a block.
+fn statement_of(transition: &Transition) -> Option<&Stmt> {
+    match transition.block.get(0)? {
+        Member::Statement(statement) => Some(statement),
+        Member::Declaration(_) => None,
+    }
+}
+
+#[test]
+fn an_else_belongs_to_the_nearest_if(rt: HostRuntime) -> Result<(), Fail> {
+    let text = b"state i { when (a - b - c) { if (p) if (q) x = 1; else x = 2; } exit }";
+    let item = item_of(rt.alloc(), text)?;
+    let members = members_of(item).ok_or("no state")?;
+    let transition = first_transition(&members).ok_or("no transition")?;
+    assert_eq!(rt; transition.target, Target::Exit);
+    let condition = transition.condition.as_ref().ok_or("no condition")?;
+    assert_eq!(rt; differences(condition), Some([5, 7, 9]));
+    let outer = statement_of(transition).ok_or("no statement")?;
+    let (name, body, has_else) = choice(outer).ok_or("no if")?;
+    assert_eq!(rt; (name, has_else), (14, false));
+    let (name, _body, has_else) = choice(body).ok_or("no inner if")?;
+    assert_eq!(rt; (name, has_else), (18, true));
+    Ok(())
+}
