@@ -8,5 +8,5 @@ use Rattle.snl_check.proofs.undeclared.undeclared.Given as goal
 abbrev pub invariant-loop-number : goal.invariant-loop-number
 invariant-loop-number l =
     l.firsts.items
-    ++ firsts_behind l.source.text.now l.source.tokens.now l.names (filter (is_undeclared l.source.text.now l.source.tokens.now (knows l.view)) (drop l.number-index l.free))
-    ≡ undeclared l.source.text.now l.source.tokens.now (knows l.view) l.free
+    ++ firsts_behind l.source.text.now l.source.tokens.now l.names (filter (is_undeclared l.source.text.now l.source.tokens.now (knows l.view.links.now l.view.item)) (drop l.number-index l.free))
+    ≡ undeclared l.source.text.now l.source.tokens.now (knows l.view.links.now l.view.item) l.free
