@@ -2,7 +2,7 @@
 
 ghost use Rattle.std.specs.Prelude.{◌≡◌, ◌++◌, IfOk, OnOk, map};
 ghost use Rattle.snl_cut.specs.Cut.{ticked};
-ghost use Rattle.snl_scope.specs.Summaries.Tokens.{IsSource};
+ghost use Rattle.snl_scope.specs.Summaries.Tokens.{IsSource, bytes_at};
 ghost use Rattle.snl_check.specs.Found.{fault_at, faults_in};
 ghost use Rattle.snl_check.specs.Outlook.{is_in_set, knows, leads_to};
 
@@ -44,7 +44,7 @@ pub fn check_item(
     work: &mut Count,
 ) -> Result<Checked, OutOfMemory>
     requires { IsSource text.now tokens.now }
-    ensures faults { IfOk result (λ c. c.faults ≡ faults_in text.now tokens.now tree.now (is_in_set links.now item) (knows links.now item) (leads_to links.now item)) }
+    ensures faults { IfOk result (λ c. c.faults ≡ faults_in (bytes_at text.now tokens.now) tree.now (is_in_set links.now item) (knows links.now item) (leads_to links.now item)) }
     ensures ticks { work.new ≡ ticked work.old }
 {
     work.tick();
