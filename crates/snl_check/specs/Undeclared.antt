@@ -1,8 +1,7 @@
 -- Names that an item uses, and that nothing declares.
-use Rattle.std.specs.Prelude.{ℕ, Bool, not, ◌&&◌, ◌||◌, List, filter, codes}
+use Rattle.std.specs.Prelude.{ℕ, Bool, not, ◌&&◌, ◌||◌, List, filter, codes, nat_eq}
 use Rattle.std.specs.List.{starts_with}
 use Rattle.std.specs.Str.{bytes_eq}
-use Rattle.std.specs.Prelude.{nat_eq}
 use Rattle.snl_check.specs.Names.{firsts}
 
 -- The constants of the language, which nothing needs to declare.
