@@ -1,6 +1,5 @@
 -- What is found in a choice or a loop: the folds at a variant.
 use Rattle.std.proofs.Common.{◌≡◌, ℕ, List, ◌++◌, Option, Some, None, ap, sym, ◌∙◌}
-use Rattle.snl_lex.specs.declared.piece.Piece.{Piece}
 use Rattle.snl_syntax.specs.declared.tree.expression.Expr.{Expr}
 use Rattle.snl_syntax.specs.declared.tree.statement.ForHead.{ForHead}
 use Rattle.snl_syntax.specs.declared.tree.statement.Member.TheOpen.{Stmt-F}
@@ -16,30 +15,30 @@ pub wrong-If : (arms : List (Expr × Stmt)) (last : Option Stmt) → wrong_in_st
 wrong-If arms None = ap wrong_in_stmt (sym (tree.rolls-If arms None)) ∙ fold-roll-Stmt (List ℕ) (List ℕ) flag_member_step flag_step (Stmt-F.If arms None)
 wrong-If arms (Some last) = ap wrong_in_stmt (sym (tree.rolls-If arms (Some last))) ∙ fold-roll-Stmt (List ℕ) (List ℕ) flag_member_step flag_step (Stmt-F.If arms (Some last))
 
-abbrev pub free_in : List ℕ → List Piece → Stmt → List ℕ
-free_in text tokens s = (inside_stmt text tokens s).free
+abbrev pub free_in : (ℕ → List ℕ) → Stmt → List ℕ
+free_in bytes s = (inside_stmt bytes s).free
 
-abbrev pub repeated_in : List ℕ → List Piece → Stmt → List ℕ
-repeated_in text tokens s = (inside_stmt text tokens s).repeated
+abbrev pub repeated_in : (ℕ → List ℕ) → Stmt → List ℕ
+repeated_in bytes s = (inside_stmt bytes s).repeated
 
-pub free-If : (text : List ℕ) (tokens : List Piece) (arms : List (Expr × Stmt)) (last : Option Stmt) →
-    (inside_stmt text tokens (tree.If arms last)).free ≡ free_in_branches (arms_of text tokens arms) (last_of text tokens last)
-free-If text tokens arms None =
-    ap (free_in text tokens) (sym (tree.rolls-If arms None)) ∙ ap (λ (i : Inside). i.free) (fold-roll-Stmt Part Inside part_step (stmt_step text tokens) (Stmt-F.If arms None))
-free-If text tokens arms (Some last) =
-    ap (free_in text tokens) (sym (tree.rolls-If arms (Some last))) ∙ ap (λ (i : Inside). i.free) (fold-roll-Stmt Part Inside part_step (stmt_step text tokens) (Stmt-F.If arms (Some last)))
+pub free-If : (bytes : ℕ → List ℕ) (arms : List (Expr × Stmt)) (last : Option Stmt) →
+    (inside_stmt bytes (tree.If arms last)).free ≡ free_in_branches (arms_of bytes arms) (last_of bytes last)
+free-If bytes arms None =
+    ap (free_in bytes) (sym (tree.rolls-If arms None)) ∙ ap (λ (i : Inside). i.free) (fold-roll-Stmt Part Inside part_step (stmt_step bytes) (Stmt-F.If arms None))
+free-If bytes arms (Some last) =
+    ap (free_in bytes) (sym (tree.rolls-If arms (Some last))) ∙ ap (λ (i : Inside). i.free) (fold-roll-Stmt Part Inside part_step (stmt_step bytes) (Stmt-F.If arms (Some last)))
 
-pub repeated-If : (text : List ℕ) (tokens : List Piece) (arms : List (Expr × Stmt)) (last : Option Stmt) →
-    (inside_stmt text tokens (tree.If arms last)).repeated ≡ repeated_in_branches (arms_of text tokens arms) (last_of text tokens last)
-repeated-If text tokens arms None =
-    ap (repeated_in text tokens) (sym (tree.rolls-If arms None)) ∙ ap (λ (i : Inside). i.repeated) (fold-roll-Stmt Part Inside part_step (stmt_step text tokens) (Stmt-F.If arms None))
-repeated-If text tokens arms (Some last) =
-    ap (repeated_in text tokens) (sym (tree.rolls-If arms (Some last))) ∙ ap (λ (i : Inside). i.repeated) (fold-roll-Stmt Part Inside part_step (stmt_step text tokens) (Stmt-F.If arms (Some last)))
+pub repeated-If : (bytes : ℕ → List ℕ) (arms : List (Expr × Stmt)) (last : Option Stmt) →
+    (inside_stmt bytes (tree.If arms last)).repeated ≡ repeated_in_branches (arms_of bytes arms) (last_of bytes last)
+repeated-If bytes arms None =
+    ap (repeated_in bytes) (sym (tree.rolls-If arms None)) ∙ ap (λ (i : Inside). i.repeated) (fold-roll-Stmt Part Inside part_step (stmt_step bytes) (Stmt-F.If arms None))
+repeated-If bytes arms (Some last) =
+    ap (repeated_in bytes) (sym (tree.rolls-If arms (Some last))) ∙ ap (λ (i : Inside). i.repeated) (fold-roll-Stmt Part Inside part_step (stmt_step bytes) (Stmt-F.If arms (Some last)))
 
-pub free-While : (text : List ℕ) (tokens : List Piece) (e : Expr) (body : Stmt) → (inside_stmt text tokens (tree.While e body)).free ≡ used_by_expr e ++ (inside_stmt text tokens body).free
-free-While text tokens e body =
-    ap (free_in text tokens) (sym (tree.rolls-While e body)) ∙ ap (λ (i : Inside). i.free) (fold-roll-Stmt Part Inside part_step (stmt_step text tokens) (Stmt-F.While e body))
+pub free-While : (bytes : ℕ → List ℕ) (e : Expr) (body : Stmt) → (inside_stmt bytes (tree.While e body)).free ≡ used_by_expr e ++ (inside_stmt bytes body).free
+free-While bytes e body =
+    ap (free_in bytes) (sym (tree.rolls-While e body)) ∙ ap (λ (i : Inside). i.free) (fold-roll-Stmt Part Inside part_step (stmt_step bytes) (Stmt-F.While e body))
 
-pub free-For : (text : List ℕ) (tokens : List Piece) (head : ForHead) (body : Stmt) → (inside_stmt text tokens (tree.For head body)).free ≡ used_by_head head ++ (inside_stmt text tokens body).free
-free-For text tokens head body =
-    ap (free_in text tokens) (sym (tree.rolls-For head body)) ∙ ap (λ (i : Inside). i.free) (fold-roll-Stmt Part Inside part_step (stmt_step text tokens) (Stmt-F.For head body))
+pub free-For : (bytes : ℕ → List ℕ) (head : ForHead) (body : Stmt) → (inside_stmt bytes (tree.For head body)).free ≡ used_by_head head ++ (inside_stmt bytes body).free
+free-For bytes head body =
+    ap (free_in bytes) (sym (tree.rolls-For head body)) ∙ ap (λ (i : Inside). i.free) (fold-roll-Stmt Part Inside part_step (stmt_step bytes) (Stmt-F.For head body))

@@ -5,6 +5,11 @@ use Rattle.std.specs.List.{All}
 use Rattle.snl_lex.specs.declared.piece.Piece.{Piece}
 use Rattle.snl_syntax.specs.declared.tree.item.Item.{Item}
 use Rattle.snl_scope.specs.Summaries.{summary_in}
+use Rattle.snl_scope.specs.Summaries.Tokens.{bytes_at}
+
+-- The tokens have the same bytes, wherever they stand in their texts.
+abbrev pub SameTokens : List ℕ → List Piece → List ℕ → List Piece → Type 0
+SameTokens text tokens moved shifted = (n : ℕ) → bytes_at text tokens n ≡ bytes_at moved shifted n
 
 -- Two tests say the same of each of these names.
 abbrev pub Agree : (List ℕ → Bool) → (List ℕ → Bool) → List (List ℕ) → Type 0

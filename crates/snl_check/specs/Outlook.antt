@@ -1,13 +1,17 @@
--- What an item sees of the others.
-use Rattle.std.specs.Prelude.{ℕ, Bool, List}
-use Rattle.std.specs.List.{list_any}
-use Rattle.std.specs.Str.{bytes_eq}
-use Rattle.snl_check.specs.declared.view.View.{View}
+-- What an item sees of the others, by the summaries of all and its number among them.
+use Rattle.std.specs.Prelude.{ℕ, Bool, List, is_some}
+use Rattle.snl_scope.specs.declared.summary.Summary.{Summary}
+use Rattle.snl_scope.specs.Linked.{fact_of, has_target}
+use Rattle.snl_scope.specs.Places.{place}
 
--- A scope outside the item declares the name.
-abbrev pub knows : View → List ℕ → Bool
-knows view name = list_any (bytes_eq name) view.known
+-- It stands in a state set.
+unfoldable pub is_in_set : List Summary → ℕ → Bool
+is_in_set ss item = is_some (place ss item)
 
--- The item's state set has a state of the name.
-abbrev pub leads_to : View → List ℕ → Bool
-leads_to view name = list_any (bytes_eq name) view.states
+-- A scope outside it declares the name.
+unfoldable pub knows : List Summary → ℕ → List ℕ → Bool
+knows ss item name = is_some (fact_of ss item name)
+
+-- Its state set has a state of the name.
+unfoldable pub leads_to : List Summary → ℕ → List ℕ → Bool
+leads_to ss item name = has_target ss item name

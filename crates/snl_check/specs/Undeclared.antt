@@ -1,10 +1,7 @@
 -- Names that an item uses, and that nothing declares.
-use Rattle.std.specs.Prelude.{ℕ, Bool, not, ◌&&◌, ◌||◌, List, filter, codes}
+use Rattle.std.specs.Prelude.{ℕ, Bool, not, ◌&&◌, ◌||◌, List, filter, codes, nat_eq}
 use Rattle.std.specs.List.{starts_with}
 use Rattle.std.specs.Str.{bytes_eq}
-use Rattle.std.specs.Prelude.{nat_eq}
-use Rattle.snl_lex.specs.declared.piece.Piece.{Piece}
-use Rattle.snl_scope.specs.Summaries.Tokens.{bytes_at}
 use Rattle.snl_check.specs.Names.{firsts}
 
 -- The constants of the language, which nothing needs to declare.
@@ -20,9 +17,9 @@ abbrev pub is_built_in : List ℕ → Bool
 is_built_in name = is_constant name || is_channel_constant name
 
 -- The name at a token stands for nothing; `known` says which names the scopes outside the item declare.
-abbrev pub is_undeclared : List ℕ → List Piece → (List ℕ → Bool) → ℕ → Bool
-is_undeclared text tokens known number = not (known (bytes_at text tokens number)) && not (is_built_in (bytes_at text tokens number))
+abbrev pub is_undeclared : (ℕ → List ℕ) → (List ℕ → Bool) → ℕ → Bool
+is_undeclared bytes known number = not (known (bytes number)) && not (is_built_in (bytes number))
 
 -- Of the uses that no scope of an item declares, the first of each name that stands for nothing.
-abbrev pub undeclared : List ℕ → List Piece → (List ℕ → Bool) → List ℕ → List ℕ
-undeclared text tokens known free = firsts text tokens (filter (is_undeclared text tokens known) free)
+abbrev pub undeclared : (ℕ → List ℕ) → (List ℕ → Bool) → List ℕ → List ℕ
+undeclared bytes known free = firsts bytes (filter (is_undeclared bytes known) free)

@@ -4,12 +4,10 @@ ghost use Rattle.snl_scope.specs.Summaries.Tokens.{IsSource};
 ghost use Rattle.std.specs.Prelude.{◌<◌, IfOk, length};
 
 use crate::check::check_item;
-use crate::view::View;
 use snl_cut::Count;
 use snl_lex::{Class, Piece, lex, token_text};
-use snl_scope::{Code, Name};
+use snl_scope::{Code, Links, Summary, link, summary_of};
 use snl_syntax::parse_item;
-use sqlite_items::Items;
 use std::alloc::Global;
 use std::process::Abort;
 use std::test::Fail;
@@ -29,31 +27,37 @@ fn tokens_of(alloc: Global, text: &[u8]) -> Result<Vec<Piece>, Fail>
     Ok(tokens)
 }
 
-// One name, or none.
-fn lone(alloc: Global, name: &[u8]) -> Result<Items<Name>, Fail> {
-    let mut names = Vec::new(alloc);
-    if !name.is_empty() {
-        names.push(Name::new(alloc, name)?)?;
+// The summary of the item that a text consists of.
+fn summary(alloc: Global, text: &[u8]) -> Result<Summary, Fail> {
+    let tokens = tokens_of(alloc, text)?;
+    if tokens.is_empty() {
+        return Ok(summary_of(alloc, text, &tokens, None)?);
     }
-    Ok(Items::from_vec(names))
+    let tree = parse_item(alloc, text, &tokens, &mut Count::new()).ok();
+    Ok(summary_of(alloc, text, &tokens, tree.as_ref())?)
 }
 
 // What is found in the item that a text consists of: each code's letters and the name at its token. The item stands in a
-// state set that has a state `z`, and sees a name `y`.
+// state set that has a state `z`, behind the declaration of a name `y`.
 fn found(alloc: Global, text: &[u8]) -> Result<Vec<u8>, Fail> {
+    let before = summary(alloc, b"int y;")?;
+    let set = summary(alloc, b"ss s {")?;
+    let state = summary(alloc, b"state z { }")?;
+    let own = summary(alloc, text)?;
+    let links = link(alloc, &[&before, &set, &state, &own])?;
+    found_by(alloc, text, &links, 3)
+}
+
+// The same of an item of a program that is linked.
+fn found_by(alloc: Global, text: &[u8], links: &Links, item: usize) -> Result<Vec<u8>, Fail> {
     let tokens = tokens_of(alloc, text)?;
     if tokens.is_empty() {
         return Ok(Vec::new(alloc));
     }
-    let view = View {
-        known: lone(alloc, b"y")?,
-        states: lone(alloc, b"z")?,
-        in_set: true,
-    };
     let Ok(tree) = parse_item(alloc, text, &tokens, &mut Count::new()) else {
         return Ok(Vec::from_slice(alloc, b"faulty")?);
     };
-    let checked = check_item(alloc, text, &tokens, &tree, &view, &mut Count::new())?;
+    let checked = check_item(alloc, text, &tokens, &tree, links, item, &mut Count::new())?;
     let mut words = Vec::new(alloc);
     for fault in checked.faults.as_slice() {
         words.extend_from_slice(match fault.code {
@@ -191,6 +195,19 @@ fn names_that_nothing_declares(rt: HostRuntime) -> Result<(), Fail> {
     assert_eq!(rt;
         found(alloc, b"struct s { int a[N]; };")?.as_slice(),
         b"W01:N ".as_slice()
+    );
+    Ok(())
+}
+
+#[test]
+fn targets_at_program_level(rt: HostRuntime) -> Result<(), Fail> {
+    let alloc = rt.alloc();
+    let text = b"state i { when (a) { } state q }";
+    let own = summary(alloc, text)?;
+    let links = link(alloc, &[&own])?;
+    assert_eq!(rt;
+        found_by(alloc, text, &links, 0)?.as_slice(),
+        b"W01:a ".as_slice()
     );
     Ok(())
 }

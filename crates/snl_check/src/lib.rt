@@ -16,4 +16,3 @@ mod view;
 pub use check::check_item;
 pub use findings::{Checked, ItemFault};
 pub use laws::equal_views;
-pub use view::View;

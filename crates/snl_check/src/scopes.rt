@@ -3,7 +3,7 @@
 
 ghost use Rattle.std.specs.Prelude.{◌≡◌, ◌++◌, IfOk, OnOk};
 ghost use Rattle.std.specs.List.{flat_map};
-ghost use Rattle.snl_scope.specs.Summaries.Tokens.{IsSource};
+ghost use Rattle.snl_scope.specs.Summaries.Tokens.{IsSource, bytes_at};
 ghost use Rattle.snl_check.specs.Names.{declared_names, names_at, names_of_member, others, parameter_name, repeated};
 ghost use Rattle.snl_check.specs.Scopes.{free_in_member, inside_block, inside_function, inside_item, inside_member, inside_state, inside_stmt, names_of_parts, part_of, parts_of, repeated_in_member};
 
@@ -25,8 +25,8 @@ fn declare<'a>(
     again: &mut Vec<usize>,
 ) -> Result<NameSet<'a>, OutOfMemory>
     requires { IsSource source.now.text.now source.now.tokens.now }
-    ensures names { IfOk result (λ names. names ≡ names_at source.now.text.now source.now.tokens.now numbers.now) }
-    ensures again { OnOk result (again.new.items ≡ again.old.items ++ repeated source.now.text.now source.now.tokens.now numbers.now) }
+    ensures names { IfOk result (λ names. names ≡ names_at (bytes_at source.now.text.now source.now.tokens.now) numbers.now) }
+    ensures again { OnOk result (again.new.items ≡ again.old.items ++ repeated (bytes_at source.now.text.now source.now.tokens.now) numbers.now) }
 {
     let mut names = NameSet::new(source.alloc);
     for number in numbers {
@@ -45,7 +45,7 @@ fn add_others(
     free: &mut Vec<usize>,
 ) -> Result<(), OutOfMemory>
     requires { IsSource source.now.text.now source.now.tokens.now }
-    ensures { OnOk result (free.new.items ≡ free.old.items ++ others source.now.text.now source.now.tokens.now names.now uses.now) }
+    ensures { OnOk result (free.new.items ≡ free.old.items ++ others (bytes_at source.now.text.now source.now.tokens.now) names.now uses.now) }
 {
     for number in uses {
         if !names.contains(source.bytes(*number)) {
@@ -66,7 +66,7 @@ fn add_names(declaration: &Declaration, names: &mut Vec<usize>) -> Result<(), Ou
 
 // The names that a block declares.
 fn names_in_block(source: &Source, members: &[Member]) -> Result<Vec<usize>, OutOfMemory>
-    ensures { IfOk result (λ names. names.items ≡ names_of_parts (parts_of source.now.text.now source.now.tokens.now members.now)) }
+    ensures { IfOk result (λ names. names.items ≡ names_of_parts (parts_of (bytes_at source.now.text.now source.now.tokens.now) members.now)) }
 {
     let mut names = Vec::new(source.alloc);
     for member in members {
@@ -87,8 +87,8 @@ fn add_statement(
     again: &mut Vec<usize>,
 ) -> Result<(), OutOfMemory>
     requires { IsSource source.now.text.now source.now.tokens.now }
-    ensures free { OnOk result (free.new.items ≡ free.old.items ++ (inside_stmt source.now.text.now source.now.tokens.now statement.now).free) }
-    ensures again { OnOk result (again.new.items ≡ again.old.items ++ (inside_stmt source.now.text.now source.now.tokens.now statement.now).repeated) }
+    ensures free { OnOk result (free.new.items ≡ free.old.items ++ (inside_stmt (bytes_at source.now.text.now source.now.tokens.now) statement.now).free) }
+    ensures again { OnOk result (again.new.items ≡ again.old.items ++ (inside_stmt (bytes_at source.now.text.now source.now.tokens.now) statement.now).repeated) }
 {
     match statement {
         Stmt::Expr(expr) => add_expr(expr, free),
@@ -129,8 +129,8 @@ fn add_part(
     again: &mut Vec<usize>,
 ) -> Result<(), OutOfMemory>
     requires { IsSource source.now.text.now source.now.tokens.now }
-    ensures free { OnOk result (free.new.items ≡ free.old.items ++ (part_of source.now.text.now source.now.tokens.now member.now).inside.free) }
-    ensures again { OnOk result (again.new.items ≡ again.old.items ++ (part_of source.now.text.now source.now.tokens.now member.now).inside.repeated) }
+    ensures free { OnOk result (free.new.items ≡ free.old.items ++ (part_of (bytes_at source.now.text.now source.now.tokens.now) member.now).inside.free) }
+    ensures again { OnOk result (again.new.items ≡ again.old.items ++ (part_of (bytes_at source.now.text.now source.now.tokens.now) member.now).inside.repeated) }
 {
     match member {
         Member::Declaration(declaration) => add_declaration_uses(declaration, free),
@@ -147,8 +147,8 @@ fn add_block(
     again: &mut Vec<usize>,
 ) -> Result<(), OutOfMemory>
     requires { IsSource source.now.text.now source.now.tokens.now }
-    ensures free { OnOk result (free.new.items ≡ free.old.items ++ (inside_block source.now.text.now source.now.tokens.now members.now).free) }
-    ensures again { OnOk result (again.new.items ≡ again.old.items ++ (inside_block source.now.text.now source.now.tokens.now members.now).repeated) }
+    ensures free { OnOk result (free.new.items ≡ free.old.items ++ (inside_block (bytes_at source.now.text.now source.now.tokens.now) members.now).free) }
+    ensures again { OnOk result (again.new.items ≡ again.old.items ++ (inside_block (bytes_at source.now.text.now source.now.tokens.now) members.now).repeated) }
 {
     let numbers = names_in_block(source, members)?;
     let names = declare(source, &numbers, again)?;
@@ -195,8 +195,8 @@ fn add_member(
     again: &mut Vec<usize>,
 ) -> Result<(), OutOfMemory>
     requires { IsSource source.now.text.now source.now.tokens.now }
-    ensures free { OnOk result (free.new.items ≡ free.old.items ++ (inside_member source.now.text.now source.now.tokens.now member.now).free) }
-    ensures again { OnOk result (again.new.items ≡ again.old.items ++ (inside_member source.now.text.now source.now.tokens.now member.now).repeated) }
+    ensures free { OnOk result (free.new.items ≡ free.old.items ++ (inside_member (bytes_at source.now.text.now source.now.tokens.now) member.now).free) }
+    ensures again { OnOk result (again.new.items ≡ again.old.items ++ (inside_member (bytes_at source.now.text.now source.now.tokens.now) member.now).repeated) }
 {
     match member {
         StateMember::Declaration(declaration) => add_declaration_uses(declaration, free),
@@ -222,8 +222,8 @@ fn add_state(
     again: &mut Vec<usize>,
 ) -> Result<(), OutOfMemory>
     requires { IsSource source.now.text.now source.now.tokens.now }
-    ensures free { OnOk result (free.new.items ≡ free.old.items ++ (inside_state source.now.text.now source.now.tokens.now members.now).free) }
-    ensures again { OnOk result (again.new.items ≡ again.old.items ++ (inside_state source.now.text.now source.now.tokens.now members.now).repeated) }
+    ensures free { OnOk result (free.new.items ≡ free.old.items ++ (inside_state (bytes_at source.now.text.now source.now.tokens.now) members.now).free) }
+    ensures again { OnOk result (again.new.items ≡ again.old.items ++ (inside_state (bytes_at source.now.text.now source.now.tokens.now) members.now).repeated) }
 {
     let numbers = names_in_state(source, members)?;
     let names = declare(source, &numbers, again)?;
@@ -254,8 +254,8 @@ fn add_function(
     again: &mut Vec<usize>,
 ) -> Result<(), OutOfMemory>
     requires { IsSource source.now.text.now source.now.tokens.now }
-    ensures free { OnOk result (free.new.items ≡ free.old.items ++ (inside_function source.now.text.now source.now.tokens.now function.now).free) }
-    ensures again { OnOk result (again.new.items ≡ again.old.items ++ (inside_function source.now.text.now source.now.tokens.now function.now).repeated) }
+    ensures free { OnOk result (free.new.items ≡ free.old.items ++ (inside_function (bytes_at source.now.text.now source.now.tokens.now) function.now).free) }
+    ensures again { OnOk result (again.new.items ≡ again.old.items ++ (inside_function (bytes_at source.now.text.now source.now.tokens.now) function.now).repeated) }
 {
     match &function.body {
         Some(block) => {
@@ -278,8 +278,8 @@ pub(crate) fn add_item(
     again: &mut Vec<usize>,
 ) -> Result<(), OutOfMemory>
     requires { IsSource source.now.text.now source.now.tokens.now }
-    ensures free { OnOk result (free.new.items ≡ free.old.items ++ (inside_item source.now.text.now source.now.tokens.now tree.now).free) }
-    ensures again { OnOk result (again.new.items ≡ again.old.items ++ (inside_item source.now.text.now source.now.tokens.now tree.now).repeated) }
+    ensures free { OnOk result (free.new.items ≡ free.old.items ++ (inside_item (bytes_at source.now.text.now source.now.tokens.now) tree.now).free) }
+    ensures again { OnOk result (again.new.items ≡ again.old.items ++ (inside_item (bytes_at source.now.text.now source.now.tokens.now) tree.now).repeated) }
 {
     match tree {
         Item::Definition(declaration) => add_declaration_uses(declaration, free),

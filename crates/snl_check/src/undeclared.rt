@@ -2,7 +2,7 @@
 //! nothing goes out.
 
 ghost use Rattle.std.specs.Prelude.{◌≡◌, IfOk};
-ghost use Rattle.snl_scope.specs.Summaries.Tokens.{IsSource};
+ghost use Rattle.snl_scope.specs.Summaries.Tokens.{IsSource, bytes_at};
 ghost use Rattle.snl_check.specs.Outlook.{knows};
 ghost use Rattle.snl_check.specs.Undeclared.{is_built_in, is_channel_constant, is_constant, undeclared};
 
@@ -40,7 +40,7 @@ pub(crate) fn undeclared(
     free: &[usize],
 ) -> Result<Vec<usize>, OutOfMemory>
     requires { IsSource source.now.text.now source.now.tokens.now }
-    ensures { IfOk result (λ v. v.items ≡ undeclared source.now.text.now source.now.tokens.now (knows view.now) free.now) }
+    ensures { IfOk result (λ v. v.items ≡ undeclared (bytes_at source.now.text.now source.now.tokens.now) (knows view.now.links.now view.now.item) free.now) }
 {
     let mut names = NameSet::new(source.alloc);
     let mut firsts = Vec::new(source.alloc);

@@ -1,9 +1,9 @@
 //! Targets of a state that name no state of its state set.
 
 ghost use Rattle.std.specs.Prelude.{◌≡◌, IfOk};
-ghost use Rattle.snl_scope.specs.Summaries.Tokens.{IsSource};
+ghost use Rattle.snl_scope.specs.Summaries.Tokens.{IsSource, bytes_at};
 ghost use Rattle.snl_check.specs.Found.{unknown_targets};
-ghost use Rattle.snl_check.specs.Outlook.{leads_to};
+ghost use Rattle.snl_check.specs.Outlook.{is_in_set, leads_to};
 
 use crate::view::View;
 use snl_cut::OutOfMemory;
@@ -18,10 +18,10 @@ pub(crate) fn unknown_targets(
     view: &View,
 ) -> Result<Vec<usize>, OutOfMemory>
     requires { IsSource source.now.text.now source.now.tokens.now }
-    ensures { IfOk result (λ v. v.items ≡ unknown_targets source.now.text.now source.now.tokens.now view.now.in_set (leads_to view.now) tree.now) }
+    ensures { IfOk result (λ v. v.items ≡ unknown_targets (bytes_at source.now.text.now source.now.tokens.now) (is_in_set view.now.links.now view.now.item) (leads_to view.now.links.now view.now.item) tree.now) }
 {
     let mut unknown = Vec::new(source.alloc);
-    if view.in_set {
+    if view.is_in_set() {
         let targets = targets_in(source.alloc, Some(tree))?;
         for target in &targets {
             if !view.leads_to(source.bytes(*target)) {

@@ -2,38 +2,39 @@
 
 ghost use Rattle.std.specs.Prelude.{◌≡◌};
 
-use snl_scope::Name;
-use sqlite_items::Items;
+use snl_scope::Links;
 
-/// What an item sees of the other items: whether it stands in a state set, the names that the scopes outside it declare,
-/// and the states of its state set.
-#[derive(Drop)]
-pub struct View {
-    pub known: Items<Name>,
-    pub states: Items<Name>,
-    pub in_set: bool,
+/// What an item sees of the other items: the item is told by its number among those that are linked.
+#[derive(Clone, Copy)]
+pub(crate) struct View<'a> {
+    pub links: &'a Links,
+    pub item: usize,
 }
 
-impl View {
-    ghost use Rattle.snl_check.specs.Outlook.{knows, leads_to};
+impl View<'_> {
+    ghost use Rattle.snl_check.specs.Outlook.{is_in_set, knows, leads_to};
+
+    /// Whether the item stands in a state set.
+    #[tactic(auto, unfolding(crate::specs::Outlook::is_in_set))]
+    pub(crate) fn is_in_set(&self) -> bool
+        ensures { result ≡ is_in_set self.now.links.now self.now.item }
+    {
+        self.links.place(self.item).is_some()
+    }
 
     /// Whether a scope outside the item declares the name.
-    pub fn knows(&self, name: &[u8]) -> bool
-        ensures { result ≡ knows self.now name.now }
+    #[tactic(auto, unfolding(crate::specs::Outlook::knows))]
+    pub(crate) fn knows(&self, name: &[u8]) -> bool
+        ensures { result ≡ knows self.now.links.now self.now.item name.now }
     {
-        self.known
-            .as_slice()
-            .iter()
-            .any(|known| name == known.bytes())
+        self.links.fact(self.item, name).is_some()
     }
 
     /// Whether the item's state set has a state of the name.
-    pub fn leads_to(&self, name: &[u8]) -> bool
-        ensures { result ≡ leads_to self.now name.now }
+    #[tactic(auto, unfolding(crate::specs::Outlook::leads_to))]
+    pub(crate) fn leads_to(&self, name: &[u8]) -> bool
+        ensures { result ≡ leads_to self.now.links.now self.now.item name.now }
     {
-        self.states
-            .as_slice()
-            .iter()
-            .any(|state| name == state.bytes())
+        self.links.has_target(self.item, name)
     }
 }

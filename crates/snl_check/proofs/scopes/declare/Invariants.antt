@@ -8,7 +8,7 @@ use Rattle.snl_check.proofs.scopes.declare.Given as goal
 abbrev pub invariant-loop-number : goal.invariant-loop-number
 invariant-loop-number l = record {
   names : once_behind l.names (map (bytes_at l.source.text.now l.source.tokens.now) (drop l.number-index l.numbers))
-      ≡ names_at l.source.text.now l.source.tokens.now l.numbers;
-  again : l.again.items ++ repeated_behind l.source.text.now l.source.tokens.now l.names (drop l.number-index l.numbers)
-      ≡ l.initial.again.items ++ repeated l.source.text.now l.source.tokens.now l.numbers;
+      ≡ names_at (bytes_at l.source.text.now l.source.tokens.now) l.numbers;
+  again : l.again.items ++ repeated_behind (bytes_at l.source.text.now l.source.tokens.now) l.names (drop l.number-index l.numbers)
+      ≡ l.initial.again.items ++ repeated (bytes_at l.source.text.now l.source.tokens.now) l.numbers;
 }
