@@ -3,4 +3,3 @@ pub mod Faults
 pub mod Ranks
 pub mod Sorting
 pub mod Steps
-pub mod Views

@@ -1,25 +1,21 @@
 -- What is found in each item by itself, by its tokens, its tree and what the links say of the names in it.
-use Rattle.std.specs.Prelude.{ℕ, Bool, List, [], map, flat_map, slice_get, Option, Some, None, is_some}
+use Rattle.std.specs.Prelude.{ℕ, List, [], map, flat_map, slice_get, Option, Some, None}
 use Rattle.std.specs.List.{enumerate_from}
 use Rattle.snl_lex.specs.declared.piece.Piece.{Piece}
 use Rattle.snl_syntax.specs.declared.tree.item.Item.{Item}
 use Rattle.snl_scope.specs.declared.summary.Summary.{Summary}
-use Rattle.snl_scope.specs.Linked.{fact_of, has_target}
-use Rattle.snl_scope.specs.Places.{place}
+use Rattle.snl_scope.specs.Summaries.Tokens.{bytes_at}
 use Rattle.snl_check.specs.declared.findings.ItemFault.{ItemFault}
 use Rattle.snl_check.specs.Found.{faults_in}
+use Rattle.snl_check.specs.Outlook.{is_in_set, knows, leads_to}
 use Rattle.snl_session.specs.declared.findings.Finding.{Finding}
 use Rattle.snl_session.specs.Linked.{finding_at, summaries_of}
 use Rattle.snl_session.specs.Program.{ProgramItem}
 
--- A scope outside item i declares the name.
-abbrev pub is_known : List Summary → ℕ → List ℕ → Bool
-is_known ss i name = is_some (fact_of ss i name)
-
 -- What is found in item i. A faulty item has no tree, and is checked no further.
 abbrev pub faults_of_item : List ℕ → List Summary → ℕ → List Piece → Option Item → List ItemFault
 faults_of_item text ss i tokens None = []
-faults_of_item text ss i tokens (Some tree) = faults_in text tokens tree (is_some (place ss i)) (is_known ss i) (has_target ss i)
+faults_of_item text ss i tokens (Some tree) = faults_in (bytes_at text tokens) tree (is_in_set ss i) (knows ss i) (leads_to ss i)
 
 -- A finding of an item, at its token.
 abbrev pub at_own_token : List Piece → ItemFault → Finding

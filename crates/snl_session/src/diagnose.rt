@@ -37,7 +37,7 @@ fn add_linked_faults(
     let summaries = summaries_of(alloc, text, tokens, parts)?;
     let links = link_all(alloc, &summaries)?;
     add_placed(tokens, parts, links.faults(), found)?;
-    add_checked_faults(alloc, text, tokens, parts, &links, &summaries, found)
+    add_checked_faults(alloc, text, tokens, parts, &links, found)
 }
 
 // What is found in a text that has these pieces.

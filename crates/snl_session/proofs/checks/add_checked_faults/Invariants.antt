@@ -7,4 +7,4 @@ use Rattle.snl_session.proofs.checks.add_checked_faults.Given as goal
 abbrev pub invariant-loop-item : goal.invariant-loop-item
 invariant-loop-item l =
     let xs = map (part_of l.tokens) l.parts in
-    l.found.items ++ flat_map (found_in_item l.text l.summaries) (enumerate_from l.item (drop l.item xs)) ≡ l.initial.found.items ++ checked_faults l.text xs
+    l.found.items ++ flat_map (found_in_item l.text l.links) (enumerate_from l.item (drop l.item xs)) ≡ l.initial.found.items ++ checked_faults l.text xs
