@@ -133,10 +133,7 @@ pub fn add_optional(expr: &Option<Expr>, uses: &mut Vec<usize>) -> Result<(), Ou
 }
 
 /// Adds the names that the lengths of a declarator or a parameter use.
-pub fn add_lengths(
-    lengths: &[Option<Expr>],
-    uses: &mut Vec<usize>,
-) -> Result<(), OutOfMemory>
+pub fn add_lengths(lengths: &[Option<Expr>], uses: &mut Vec<usize>) -> Result<(), OutOfMemory>
     ensures { OnOk result (uses.new.items ≡ uses.old.items ++ flat_map used_if lengths.now) }
 {
     for length in lengths {
