@@ -10,3 +10,11 @@ pub mod Operands
 pub mod Branches
 pub mod Kept
 pub mod Firsts
+pub mod Pairs
+pub mod Leaves
+pub mod Mentioned
+pub mod Families
+pub mod OnceOrder
+pub mod OnceNames
+pub mod OnceClauses
+pub mod Once

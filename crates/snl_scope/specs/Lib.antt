@@ -8,3 +8,4 @@ pub mod Flags
 pub mod Linked
 pub mod Tables
 pub mod Summaries
+pub mod Once
