@@ -6,10 +6,6 @@ pub mod Marks
 pub mod Numbering
 pub mod Equality
 pub mod Entries
-pub mod Operands
-pub mod Branches
-pub mod Kept
-pub mod Firsts
 pub mod Pairs
 pub mod Leaves
 pub mod Mentioned
@@ -18,3 +14,7 @@ pub mod OnceOrder
 pub mod OnceNames
 pub mod OnceClauses
 pub mod Once
+pub mod Operands
+pub mod Branches
+pub mod Kept
+pub mod Firsts
