@@ -7,14 +7,13 @@ use Rattle.std.specs.List.{position}
 use Rattle.std.specs.Map.{lookup}
 use Rattle.std.specs.Option.{option_and_then, option_or}
 use Rattle.std.specs.Str.{bytes_eq}
-use Rattle.snl_scope.specs.declared.facts.Fact.{Fact}
 use Rattle.snl_scope.specs.declared.facts.LinkFault.{LinkFault}
 use Rattle.snl_scope.specs.declared.spaces.Key.{Key}
 use Rattle.snl_scope.specs.declared.spaces.Space.{Space}
+use Rattle.snl_scope.specs.declared.tables.Standing.{Standing}
 use Rattle.snl_scope.specs.contracts.spaces.KeyPartialEq.TheImpl as key_eq
-use Rattle.snl_scope.specs.Linked.{entry_fact}
 use Rattle.snl_scope.specs.Names.{Entry, has_name, number_in, repetition, repetition_at, repetitions}
-use Rattle.snl_scope.specs.Tables.{Follows, number_by, same_key, with_name}
+use Rattle.snl_scope.specs.Tables.{Follows, number_by, same_key, standing_of, with_name}
 use Rattle.snl_scope.proofs.Equality.{key_is, key_true, key_same, name_same, name_true}
 use Rattle.snl_scope.proofs.Numbering.{position-push}
 
@@ -41,7 +40,7 @@ or-none (Some x) = refl
 abbrev key : Space → ℕ → Key
 key s n = record { space = s; name = n }
 
-module _ (names : List (List ℕ)) (first : List (Key × ℕ)) (facts : List (Option Fact)) (faults : List LinkFault) (es : List Entry) (f : Follows names first facts faults es) where
+module _ (names : List (List ℕ)) (first : List (Key × ℕ)) (standings : List Standing) (faults : List LinkFault) (es : List Entry) (f : Follows names first standings faults es) where
   -- a new name that nothing is declared by yet
   same_numbers : (name : List ℕ) (s : Space) (other : List ℕ) → number_by (with_name names name) first s other ≡ number_by names first s other
   same_numbers name s other = by (position (bytes_eq name) names)
@@ -64,7 +63,7 @@ module _ (names : List (List ℕ)) (first : List (Key × ℕ)) (facts : List (Op
       by None = omega (arith, length-append names (name ∷ []))
       by (Some n) = omega arith
 
-  pub follows_name : (name : List ℕ) → Follows (with_name names name) first facts faults es
+  pub follows_name : (name : List ℕ) → Follows (with_name names name) first standings faults es
   follows_name name = record {
     tabled = record { found = λ s other. same_numbers name s other ∙ f.tabled.found s other; known = f.tabled.known };
     fresh = λ s n h. f.fresh s n (omega (arith, h, longer name));
@@ -76,8 +75,8 @@ module _ (names : List (List ℕ)) (first : List (Key × ℕ)) (facts : List (Op
     here : number_by names first e.space e.name ≡ lookup (same_key (key e.space k)) first
     here = ap (option_and_then (λ n. lookup (same_key (key e.space n)) first)) numbered
 
-    known_here : (facts' : List (Option Fact)) → facts' ≡ facts ++ entry_fact e ∷ [] → facts' ≡ map entry_fact (es ++ e ∷ [])
-    known_here facts' h = h ∙ ap (λ l. l ++ entry_fact e ∷ []) f.tabled.known ∙ sym (map-append entry_fact es (e ∷ []))
+    known_here : (standings' : List Standing) → standings' ≡ standings ++ standing_of e ∷ [] → standings' ≡ map standing_of (es ++ e ∷ [])
+    known_here standings' h = h ∙ ap (λ l. l ++ standing_of e ∷ []) f.tabled.known ∙ sym (map-append standing_of es (e ∷ []))
 
     -- the entry's name is there: the tables stay, and a finding is added
     module _ (there : is_some (lookup (same_key (key e.space k)) first) ≡ true) where
@@ -94,10 +93,10 @@ module _ (names : List (List ℕ)) (first : List (Key × ℕ)) (facts : List (Op
               (ap (λ t. is_some (number_in es t name)) p.0 ∙ ap (λ n. is_some (number_in es e.space n)) p.1 ∙ seen)
           by false h = ap (λ b. option_or (number_in es s name) (cond b (Some (length es)) None)) h ∙ or-none (number_in es s name)
 
-      pub follows_again : (facts' : List (Option Fact)) (faults' : List LinkFault) → facts' ≡ facts ++ entry_fact e ∷ [] → faults' ≡ faults ++ repetition_at e
-          → Follows names first facts' faults' (es ++ e ∷ [])
-      follows_again facts' faults' h g = record {
-        tabled = record { found = λ s name. f.tabled.found s name ∙ stays s name; known = known_here facts' h };
+      pub follows_again : (standings' : List Standing) (faults' : List LinkFault) → standings' ≡ standings ++ standing_of e ∷ [] → faults' ≡ faults ++ repetition_at e
+          → Follows names first standings' faults' (es ++ e ∷ [])
+      follows_again standings' faults' h g = record {
+        tabled = record { found = λ s name. f.tabled.found s name ∙ stays s name; known = known_here standings' h };
         fresh = f.fresh;
         again = g ∙ ap (λ l. l ++ repetition_at e) f.again
             ∙ sym (repetitions-push [] es e ∙ ap (λ b. repetitions [] es ++ (if b then repetition_at e else [])) seen);
@@ -163,9 +162,9 @@ module _ (names : List (List ℕ)) (first : List (Key × ℕ)) (facts : List (Op
           by true h = let p = (key_true (key e.space k) (key s n) h).1 in let w = (position-Some (bytes_eq e.name) names k [] numbered).0 in absurd (omega (arith, l, p, w))
           by false h = ap (λ b. cond b (Some number) (lookup (same_key (key s n)) first)) h ∙ f.fresh s n l
 
-      pub follows_new : (facts' : List (Option Fact)) → facts' ≡ facts ++ entry_fact e ∷ [] → Follows names first' facts' faults (es ++ e ∷ [])
-      follows_new facts' h = record {
-        tabled = record { found = found; known = known_here facts' h };
+      pub follows_new : (standings' : List Standing) → standings' ≡ standings ++ standing_of e ∷ [] → Follows names first' standings' faults (es ++ e ∷ [])
+      follows_new standings' h = record {
+        tabled = record { found = found; known = known_here standings' h };
         fresh = λ s n l. put (key s n) ∙ none_there s n l;
         again = f.again ∙ sym (repetitions-push [] es e ∙ ap (λ b. repetitions [] es ++ (if b then repetition_at e else [])) unseen ∙ append-nil (repetitions [] es));
       }

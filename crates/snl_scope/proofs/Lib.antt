@@ -6,6 +6,14 @@ pub mod Marks
 pub mod Numbering
 pub mod Equality
 pub mod Entries
+pub mod Pairs
+pub mod Leaves
+pub mod Mentioned
+pub mod Families
+pub mod OnceOrder
+pub mod OnceNames
+pub mod OnceClauses
+pub mod Once
 pub mod Operands
 pub mod Branches
 pub mod Kept

@@ -3,6 +3,9 @@ pub mod Codes
 pub mod Places
 pub mod Order
 pub mod Names
+pub mod Clauses
+pub mod Flags
 pub mod Linked
 pub mod Tables
 pub mod Summaries
+pub mod Once

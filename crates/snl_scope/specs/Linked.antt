@@ -1,6 +1,6 @@
 -- What the links of items answer, by their summaries.
 use Rattle.std.specs.Prelude.{ℕ, Bool, false, if◌then◌else◌, List, ◌++◌, length, slice_get, nat_lt, Option, None, Some, is_some, option_map, option_and_then}
-use Rattle.std.specs.Option.{option_map_or, option_or}
+use Rattle.std.specs.Option.{option_map_or}
 use Rattle.snl_scope.specs.declared.facts.Assigned.TheVariants.{Unassigned}
 use Rattle.snl_scope.specs.declared.facts.Base.{Base}
 use Rattle.snl_scope.specs.declared.facts.Base.TheVariants as base
@@ -14,15 +14,9 @@ use Rattle.snl_scope.specs.declared.summary.Nature.{Nature}
 use Rattle.snl_scope.specs.declared.summary.Nature.TheVariants as nature
 use Rattle.snl_scope.specs.declared.summary.Summary.{Summary}
 use Rattle.snl_scope.specs.declared.summary.Variable.{Variable}
-use Rattle.snl_scope.specs.Names.{Entry, entries, number_in, name_faults}
+use Rattle.snl_scope.specs.Names.{Entry, entries, number_in, name_faults, resolve}
 use Rattle.snl_scope.specs.Order.{order_faults}
 use Rattle.snl_scope.specs.Places.{place}
-
--- The number of the entry that a name resolves to from where the items of a place stand: the first declaration in the
--- state set, else the first in the program.
-abbrev pub resolve : List Entry → Option ℕ → List ℕ → Option ℕ
-resolve es None name = number_in es space.Program name
-resolve es (Some k) name = option_or (number_in es (space.StateSet k) name) (number_in es space.Program name)
 
 -- The scope in which a declaration stands, as the items see it that can name it.
 abbrev pub level_of : Space → Level

@@ -1,6 +1,6 @@
 -- The names that items bring into spaces of names, and those that stand twice in one.
 use Rattle.std.specs.Prelude.{ℕ, zero, suc, Bool, true, false, ◌&&◌, if◌then◌else◌, List, [], ◌∷◌, ◌++◌, map, length, slice_get, nat_eq, bytes_eq, position, Option, None, Some, is_some, option_to_list}
-use Rattle.std.specs.Option.{option_map_or}
+use Rattle.std.specs.Option.{option_map_or, option_or}
 use Rattle.snl_scope.specs.declared.codes.Code.{Code}
 use Rattle.snl_scope.specs.declared.codes.Code.TheVariants.{E07, E08, E09}
 use Rattle.snl_scope.specs.declared.facts.LinkFault.{LinkFault}
@@ -85,6 +85,12 @@ has_name s name e = same_space s e.space && bytes_eq name e.name
 -- The number of the first entry with a name in a space.
 abbrev pub number_in : List Entry → Space → List ℕ → Option ℕ
 number_in es s name = position (has_name s name) es
+
+-- The number of the entry that a name resolves to from where the items of a place stand: the first declaration in the
+-- state set, else the first in the program.
+abbrev pub resolve : List Entry → Option ℕ → List ℕ → Option ℕ
+resolve es None name = number_in es space.Program name
+resolve es (Some k) name = option_or (number_in es (space.StateSet k) name) (number_in es space.Program name)
 
 -- What a second entry with its name gives.
 abbrev pub repetition_at : Entry → List LinkFault

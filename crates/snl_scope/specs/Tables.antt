@@ -2,7 +2,6 @@
 use Rattle.std.specs.Prelude.{◌≡◌, ℕ, zero, suc, ◌<◌, ◌≤◌, Bool, true, false, not, ◌&&◌, ◌||◌, if◌then◌else◌, List, [], ◌∷◌, ◌++◌, map, length, get_or, set, slice_get, nat_eq, nat_lt, bytes_eq, position, Option, None, Some, is_some, is_none, option_and_then}
 use Rattle.std.specs.Map.{lookup}
 use Rattle.std.specs.Option.{option_map_or}
-use Rattle.snl_scope.specs.declared.facts.Fact.{Fact}
 use Rattle.snl_scope.specs.declared.facts.LinkFault.{LinkFault}
 use Rattle.snl_scope.specs.declared.order.Before.{Before}
 use Rattle.snl_scope.specs.declared.order.Member.{Member}
@@ -12,8 +11,8 @@ use Rattle.snl_scope.specs.declared.spaces.Space.{Space}
 use Rattle.snl_scope.specs.declared.summary.ItemKind.{ItemKind}
 use Rattle.snl_scope.specs.declared.summary.Summary.{Summary}
 use Rattle.snl_scope.specs.declared.tables.Named.{Named}
+use Rattle.snl_scope.specs.declared.tables.Standing.{Standing}
 use Rattle.snl_scope.specs.Below.{any_below}
-use Rattle.snl_scope.specs.Linked.{entry_fact}
 use Rattle.snl_scope.specs.Names.{Entry, number_in, repetitions, same_space}
 use Rattle.snl_scope.specs.Order.{has_begun, is_barred_in_sets, is_main, is_program_item, is_program_word, is_state, phase, phase_of, state_name}
 use Rattle.snl_scope.specs.Places.{ends_set, item_is, place, stands_in}
@@ -93,14 +92,18 @@ same_key a b = same_space a.space b.space && nat_eq a.name b.name
 abbrev pub number_by : List (List ℕ) → List (Key × ℕ) → Space → List ℕ → Option ℕ
 number_by names first s name = option_and_then (λ n. lookup (same_key (record { space = s; name = n })) first) (position (bytes_eq name) names)
 
--- The tables tell of a list of entries the first of each name in a space, and what is known of each.
-pub record Tabled (names : List (List ℕ)) (first : List (Key × ℕ)) (facts : List (Option Fact)) (es : List Entry) : Type 0 where
+-- Where an entry stands, and what it declares.
+abbrev pub standing_of : Entry → Standing
+standing_of e = record { space = e.space; item = e.item; token = e.token; variable = e.variable }
+
+-- The tables tell of a list of entries the first of each name in a space, and where each stands.
+pub record Tabled (names : List (List ℕ)) (first : List (Key × ℕ)) (standings : List Standing) (es : List Entry) : Type 0 where
   pub found : (s : Space) (name : List ℕ) → number_by names first s name ≡ number_in es s name
-  pub known : facts ≡ map entry_fact es
+  pub known : standings ≡ map standing_of es
 
 -- And more can be added, with findings at the names that came again.
-pub record Follows (names : List (List ℕ)) (first : List (Key × ℕ)) (facts : List (Option Fact)) (faults : List LinkFault) (es : List Entry) : Type 0 where
-  pub tabled : Tabled names first facts es
+pub record Follows (names : List (List ℕ)) (first : List (Key × ℕ)) (standings : List Standing) (faults : List LinkFault) (es : List Entry) : Type 0 where
+  pub tabled : Tabled names first standings es
   pub fresh : (s : Space) (n : ℕ) → length names ≤ n → lookup (same_key (record { space = s; name = n })) first ≡ None
   pub again : faults ≡ repetitions [] es
 

@@ -10,6 +10,7 @@ mod facts;
 mod links;
 mod name;
 mod names;
+mod once_laws;
 mod order;
 mod origin;
 mod places;
@@ -32,6 +33,7 @@ pub use distinct::NameSet;
 pub use facts::{Assigned, Base, Fact, Level, LinkFault};
 pub use links::{Links, link};
 pub use name::Name;
+pub use once_laws::{each_fault_once, tokens_declared_once};
 pub use source::Source;
 pub use summarize::summary_of;
 pub use summary::{

@@ -1,16 +1,17 @@
 //! The links of items: their summaries come in, and what names mean to each item goes out.
 
-ghost use Rattle.std.specs.Prelude.{◌≡◌, ◌++◌, map, IfOk};
+ghost use Rattle.std.specs.Prelude.{◌≡◌, ◌++◌, map, IfOk, option_map};
+ghost use Rattle.snl_scope.specs.Linked.{base_of, level_of, variable_fact};
 ghost use Rattle.snl_scope.specs.Order.{order_faults};
 
-use crate::facts::{Fact, LinkFault};
+use crate::facts::{Assigned, Base, Fact, Level, LinkFault};
 use crate::names::Names;
 use crate::order::add_order_faults;
 use crate::origin::Origin;
 use crate::places::places_of;
 use crate::spaces::{Key, Space};
-use crate::summary::Summary;
-use crate::tables::{Tables, number_in, tables_of};
+use crate::summary::{Nature, Summary};
+use crate::tables::{Standing, Tables, number_in, tables_of};
 use indexmap::IndexMap;
 use snl_cut::OutOfMemory;
 use std::alloc::Global;
@@ -22,7 +23,7 @@ pub struct Links {
     places: Vec<Option<usize>>,
     names: Names,
     first: IndexMap<Key, usize>,
-    facts: Vec<Option<Fact>>,
+    standings: Vec<Standing>,
     faults: Vec<LinkFault>,
     origin: Origin,
 }
@@ -39,14 +40,14 @@ impl Model for Links {
     ghost view = { λ a. a.origin.summaries };
 
     ghost invariant = { λ a. Placed a.places.items a.origin.summaries (length a.origin.summaries)
-        × Tabled a.names a.first.entries a.facts.items (entries a.origin.summaries)
+        × Tabled a.names a.first.entries a.standings.items (entries a.origin.summaries)
         × (a.faults.items ≡ faults_of a.origin.summaries) };
 }
 
 impl Links {
     ghost use Rattle.std.specs.Prelude.{option_and_then, slice_get};
-    ghost use Rattle.snl_scope.specs.Linked.{entry_fact, fact_of, faults_of, has_target, resolve};
-    ghost use Rattle.snl_scope.specs.Names.{entries};
+    ghost use Rattle.snl_scope.specs.Linked.{entry_fact, fact_of, faults_of, has_target};
+    ghost use Rattle.snl_scope.specs.Names.{entries, resolve};
     ghost use Rattle.snl_scope.specs.Places.{place};
 
     /// The state set in which an item stands, by the number of its `ss NAME {` item, or None at program level.
@@ -76,8 +77,8 @@ impl Links {
     fn known_at(&self, number: usize) -> Option<Fact>
         ensures { result ≡ option_and_then entry_fact (slice_get (entries self.now) number) }
     {
-        match self.facts.get(number) {
-            Some(fact) => *fact,
+        match self.standings.get(number) {
+            Some(standing) => known_of(*standing),
             None => None,
         }
     }
@@ -112,6 +113,39 @@ impl Links {
     }
 }
 
+fn level_of(space: Space) -> Level
+    ensures { result ≡ level_of space }
+{
+    match space {
+        Space::StateSet(_) => Level::StateSet,
+        _ => Level::Program,
+    }
+}
+
+fn base_of(nature: Nature) -> Base
+    ensures { result ≡ base_of nature }
+{
+    match nature {
+        Nature::EventFlag => Base::EventFlag,
+        Nature::Foreign => Base::Foreign,
+        Nature::Function => Base::Function,
+        Nature::Assignable | Nature::Unassignable => Base::Other,
+    }
+}
+
+// What is known of what stands there, if it is a declaration.
+fn known_of(standing: Standing) -> Option<Fact>
+    ensures { result ≡ option_map (variable_fact standing.space) standing.variable }
+{
+    let variable = standing.variable?;
+    Some(Fact {
+        dims: variable.dims,
+        level: level_of(standing.space),
+        base: base_of(variable.nature),
+        assigned: Assigned::Unassigned,
+    })
+}
+
 fn origin_of(summaries: &[&Summary]) -> Origin
     ensures { result.summaries ≡ map (λ s. s.now) summaries.now }
 {
@@ -132,7 +166,7 @@ pub fn link(alloc: Global, summaries: &[&Summary]) -> Result<Links, OutOfMemory>
     let Tables {
         names,
         first,
-        facts,
+        standings,
         faults: mut repeated,
     } = tables_of(alloc, summaries, &places)?;
     if faults.append(&mut repeated).is_err() {
@@ -142,7 +176,7 @@ pub fn link(alloc: Global, summaries: &[&Summary]) -> Result<Links, OutOfMemory>
         places,
         names,
         first,
-        facts,
+        standings,
         faults,
         origin: origin_of(summaries),
     })

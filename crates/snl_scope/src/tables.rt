@@ -1,21 +1,20 @@
 //! The names of all spaces, with where each stands first.
 
 ghost use Rattle.std.specs.Prelude.{◌≡◌, ◌++◌, ◌∷◌, [], List, OnOk, IfOk, Option, if◌then◌else◌, is_some, length, map, option_copied};
-ghost use Rattle.snl_scope.specs.Linked.{base_of, entry_fact, level_of, variable_fact};
 ghost use Rattle.snl_scope.specs.Names.{Entry, declared_entry, entries, entries_of, repetition_at, scope_at, scope_code, scope_of, set_entries, set_name, state_code, state_entries};
 ghost use Rattle.snl_scope.specs.Order.{is_faulty, is_state};
 ghost use Rattle.snl_scope.specs.Places as Places;
 ghost use Rattle.snl_scope.specs.declared.summary.Summary.{Summary};
 ghost use Rattle.snl_scope.specs.declared.codes.Code.{Code};
 ghost use Rattle.snl_scope.specs.declared.spaces.Space.{Space};
-ghost use Rattle.snl_scope.specs.Tables.{Follows, Placed, entry_of, number_by};
+ghost use Rattle.snl_scope.specs.Tables.{Follows, Placed, entry_of, number_by, standing_of};
 
 use crate::codes::Code;
-use crate::facts::{Assigned, Base, Fact, Level, LinkFault};
+use crate::facts::LinkFault;
 use crate::names::Names;
 use crate::order::state_name;
 use crate::spaces::{Key, Space};
-use crate::summary::{Declared, ItemKind, Nature, Summary, Variable};
+use crate::summary::{Declared, ItemKind, Summary, Variable};
 use indexmap::IndexMap;
 use snl_cut::OutOfMemory;
 use std::alloc::Global;
@@ -32,46 +31,34 @@ pub(crate) struct Named<'a> {
     pub variable: Option<Variable>,
 }
 
-/// The names that have come so far: for each name in a space the number of the first that came, for each number the fact
-/// of a declaration, and the findings at those that came again.
+/// Where a name stands that has come, and what a declaration says of it.
+#[derive(Clone, Copy, Debug, PartialEq, Eq)]
+pub(crate) struct Standing {
+    pub space: Space,
+    pub item: usize,
+    pub token: usize,
+    pub variable: Option<Variable>,
+}
+
+/// The names that have come so far: for each name in a space the number of the first that came, for each number where it
+/// stands, and the findings at those that came again.
 #[derive(Drop)]
 pub(crate) struct Tables {
     pub names: Names,
     pub first: IndexMap<Key, usize>,
-    pub facts: Vec<Option<Fact>>,
+    pub standings: Vec<Standing>,
     pub faults: Vec<LinkFault>,
 }
 
-fn level_of(space: Space) -> Level
-    ensures { result ≡ level_of space }
+fn standing_of(named: Named) -> Standing
+    ensures { result ≡ standing_of (entry_of named.entry) }
 {
-    match space {
-        Space::StateSet(_) => Level::StateSet,
-        _ => Level::Program,
+    Standing {
+        space: named.space,
+        item: named.item,
+        token: named.token,
+        variable: named.variable,
     }
-}
-
-fn base_of(nature: Nature) -> Base
-    ensures { result ≡ base_of nature }
-{
-    match nature {
-        Nature::EventFlag => Base::EventFlag,
-        Nature::Foreign => Base::Foreign,
-        Nature::Function => Base::Function,
-        Nature::Assignable | Nature::Unassignable => Base::Other,
-    }
-}
-
-fn fact_of(named: Named) -> Option<Fact>
-    ensures { result ≡ entry_fact (entry_of named.entry) }
-{
-    let variable = named.variable?;
-    Some(Fact {
-        dims: variable.dims,
-        level: level_of(named.space),
-        base: base_of(variable.nature),
-        assigned: Assigned::Unassigned,
-    })
 }
 
 /// The number of the first that came with a name in a space.
@@ -151,22 +138,22 @@ fn state_code(kind: ItemKind) -> Option<Code>
 
 impl Tables {
     pub(crate) fn new(alloc: Global) -> Tables
-        ensures { Follows result.names result.first.entries result.facts.items result.faults.items [] }
+        ensures { Follows result.names result.first.entries result.standings.items result.faults.items [] }
     {
         Tables {
             names: Names::new(alloc),
             first: IndexMap::new(alloc),
-            facts: Vec::new(alloc),
+            standings: Vec::new(alloc),
             faults: Vec::new(alloc),
         }
     }
 
     fn add(&mut self, alloc: Global, named: Named) -> Result<(), OutOfMemory>
         ensures { OnOk result ((es : List Entry)
-            → Follows self.old.names self.old.first.entries self.old.facts.items self.old.faults.items es
-            → Follows self.new.names self.new.first.entries self.new.facts.items self.new.faults.items (es ++ entry_of named.entry ∷ [])) }
+            → Follows self.old.names self.old.first.entries self.old.standings.items self.old.faults.items es
+            → Follows self.new.names self.new.first.entries self.new.standings.items self.new.faults.items (es ++ entry_of named.entry ∷ [])) }
     {
-        let number = self.facts.len();
+        let number = self.standings.len();
         let name = self.names.add(alloc, named.name)?;
         let key = Key {
             space: named.space,
@@ -177,15 +164,15 @@ impl Tables {
         } else {
             self.first.insert(key, number)?;
         }
-        self.facts.push(fact_of(named))?;
+        self.standings.push(standing_of(named))?;
         Ok(())
     }
 
     // Adds the name of the state set that an item begins.
     fn add_set(&mut self, alloc: Global, item: usize, summary: &Summary) -> Result<(), OutOfMemory>
         ensures { OnOk result ((es : List Entry)
-            → Follows self.old.names self.old.first.entries self.old.facts.items self.old.faults.items es
-            → Follows self.new.names self.new.first.entries self.new.facts.items self.new.faults.items (es ++ set_entries item summary.now)) }
+            → Follows self.old.names self.old.first.entries self.old.standings.items self.old.faults.items es
+            → Follows self.new.names self.new.first.entries self.new.standings.items self.new.faults.items (es ++ set_entries item summary.now)) }
     {
         match set_name(summary) {
             None => Ok(()),
@@ -212,8 +199,8 @@ impl Tables {
         summary: &Summary,
     ) -> Result<(), OutOfMemory>
         ensures { OnOk result ((es : List Entry)
-            → Follows self.old.names self.old.first.entries self.old.facts.items self.old.faults.items es
-            → Follows self.new.names self.new.first.entries self.new.facts.items self.new.faults.items (es ++ state_entries place item summary.now)) }
+            → Follows self.old.names self.old.first.entries self.old.standings.items self.old.faults.items es
+            → Follows self.new.names self.new.first.entries self.new.standings.items self.new.faults.items (es ++ state_entries place item summary.now)) }
     {
         match (place, state_name(summary)) {
             (Some(set), Some(name)) => self.add(
@@ -240,8 +227,8 @@ impl Tables {
         declares: &[Declared],
     ) -> Result<(), OutOfMemory>
         ensures { OnOk result ((es : List Entry)
-            → Follows self.old.names self.old.first.entries self.old.facts.items self.old.faults.items es
-            → Follows self.new.names self.new.first.entries self.new.facts.items self.new.faults.items (es ++ map (declared_entry scope item) declares.now)) }
+            → Follows self.old.names self.old.first.entries self.old.standings.items self.old.faults.items es
+            → Follows self.new.names self.new.first.entries self.new.standings.items self.new.faults.items (es ++ map (declared_entry scope item) declares.now)) }
     {
         for declared in declares {
             self.add(
@@ -267,8 +254,8 @@ impl Tables {
         summary: &Summary,
     ) -> Result<(), OutOfMemory>
         ensures { OnOk result ((ss : List Summary) → place ≡ Places.place ss item → (es : List Entry)
-            → Follows self.old.names self.old.first.entries self.old.facts.items self.old.faults.items es
-            → Follows self.new.names self.new.first.entries self.new.facts.items self.new.faults.items (es ++ entries_of ss item summary.now)) }
+            → Follows self.old.names self.old.first.entries self.old.standings.items self.old.faults.items es
+            → Follows self.new.names self.new.first.entries self.new.standings.items self.new.faults.items (es ++ entries_of ss item summary.now)) }
     {
         self.add_set(alloc, item, summary)?;
         self.add_state(alloc, place, item, summary)?;
@@ -285,7 +272,7 @@ pub(crate) fn tables_of(
     places: &[Option<usize>],
 ) -> Result<Tables, OutOfMemory>
     requires { Placed places.now (map (λ s. s.now) summaries.now) (length summaries.now) }
-    ensures { IfOk result (λ t. Follows t.names t.first.entries t.facts.items t.faults.items (entries (map (λ s. s.now) summaries.now))) }
+    ensures { IfOk result (λ t. Follows t.names t.first.entries t.standings.items t.faults.items (entries (map (λ s. s.now) summaries.now))) }
 {
     let mut tables = Tables::new(alloc);
     for item in 0..summaries.len() {

@@ -2,8 +2,7 @@ use Rattle.std.proofs.Common.{◌≡◌, ◌++◌, ◌∷◌, [], ap, is_some, l
 use Rattle.std.proofs.lemmas.List.{length-map}
 use Rattle.snl_scope.specs.declared.spaces.Key.{Key}
 use Rattle.snl_scope.specs.declared.tables.Tables.{Tables}
-use Rattle.snl_scope.specs.Linked.{entry_fact}
-use Rattle.snl_scope.specs.Tables.{Follows, entry_of}
+use Rattle.snl_scope.specs.Tables.{Follows, entry_of, standing_of}
 use Rattle.snl_scope.proofs.Entries.{follows_again, follows_name, follows_new, lookup_is, put_is}
 use Rattle.snl_scope.proofs.tables.Tables.add.Goals as goal
 use Rattle.snl_scope.proofs.tables.Tables.add.Goals.{then-contains_key+in_ok-add_repetition, else-contains_key+in_ok-insert}
@@ -14,24 +13,24 @@ returns c = λ es f.
     let e = entry_of c.args.named in
     let k = c.in_ok-name.name in
     let key : Key = record { space = c.args.named.space; name = k } in
-    let facts = c.push.new.self.items in
-    let g : Follows c.add.new.self old.first.entries old.facts.items old.faults.items es =
-    subst (λ names. Follows names old.first.entries old.facts.items old.faults.items es) (sym c.in_ok-name.ensures.names)
-    (follows_name old.names old.first.entries old.facts.items old.faults.items es f e.name) in
+    let standings = c.push.new.self.items in
+    let g : Follows c.add.new.self old.first.entries old.standings.items old.faults.items es =
+    subst (λ names. Follows names old.first.entries old.standings.items old.faults.items es) (sym c.in_ok-name.ensures.names)
+    (follows_name old.names old.first.entries old.standings.items old.faults.items es f e.name) in
     let is_there = c.contains_key.ensures ∙ ap is_some (lookup_is key old.first.entries) in
-    let P : Tables → Type 0 = λ t. Follows t.names t.first.entries facts t.faults.items (es ++ e ∷ []) in
-    let F : Tables → Type 0 = λ t. facts ≡ t.facts.items ++ entry_fact e ∷ [] in
-    let pushed : facts ≡ c.if-contains_key.self.facts.items ++ entry_fact e ∷ [] =
-    c.in_ok-push.ensures.items ∙ ap (λ x. c.if-contains_key.self.facts.items ++ x ∷ []) c.fact_of.ensures in
+    let P : Tables → Type 0 = λ t. Follows t.names t.first.entries standings t.faults.items (es ++ e ∷ []) in
+    let F : Tables → Type 0 = λ t. standings ≡ t.standings.items ++ standing_of e ∷ [] in
+    let pushed : standings ≡ c.if-contains_key.self.standings.items ++ standing_of e ∷ [] =
+    c.in_ok-push.ensures.items ∙ ap (λ x. c.if-contains_key.self.standings.items ++ x ∷ []) c.standing_of.ensures in
     elim c.if-contains_key.branch [
       | then-contains_key+in_ok-add_repetition w ↦
           subst P (sym w.self-is)
-          (follows_again c.add.new.self old.first.entries old.facts.items old.faults.items es g e k c.in_ok-name.ensures.number
-          (sym is_there ∙ w.if-contains_key.true) facts w.add_repetition.new.faults.items (subst F w.self-is pushed) w.in_ok-add_repetition.ensures)
+          (follows_again c.add.new.self old.first.entries old.standings.items old.faults.items es g e k c.in_ok-name.ensures.number
+          (sym is_there ∙ w.if-contains_key.true) standings w.add_repetition.new.faults.items (subst F w.self-is pushed) w.in_ok-add_repetition.ensures)
       | else-contains_key+in_ok-insert w ↦
           subst P (sym w.self-is)
-          (follows_new c.add.new.self old.first.entries old.facts.items old.faults.items es g e k c.in_ok-name.ensures.number
+          (follows_new c.add.new.self old.first.entries old.standings.items old.faults.items es g e k c.in_ok-name.ensures.number
           w.insert.new.self.entries c.len-number.result (sym is_there ∙ w.if-contains_key.false)
           (put_is key c.len-number.result old.first.entries w.insert.new.self.entries w.in_ok-insert.ensures.updates.0)
-          (c.len-number.ensures ∙ old.facts.ok.0 ∙ ap length f.tabled.known ∙ length-map es entry_fact) facts (subst F w.self-is pushed))
+          (c.len-number.ensures ∙ old.standings.ok.0 ∙ ap length f.tabled.known ∙ length-map es standing_of) standings (subst F w.self-is pushed))
     ]
