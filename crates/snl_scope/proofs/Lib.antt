@@ -18,3 +18,6 @@ pub mod Operands
 pub mod Branches
 pub mod Kept
 pub mod Firsts
+pub mod Assigning
+pub mod Overlaps
+pub mod Judging

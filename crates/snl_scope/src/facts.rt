@@ -1,4 +1,4 @@
-//! What links answer: facts of names, and findings.
+//! What links answer: facts of names, clauses and findings.
 
 use crate::codes::Code;
 use crate::summary::Dims;
@@ -42,4 +42,13 @@ pub struct LinkFault {
     pub item: usize,
     pub token: usize,
     pub code: Code,
+}
+
+/// A clause of an item: what its variable and its flag resolve to, by the numbers of declarations, and whether it is sound.
+#[derive(Clone, Copy, Debug, PartialEq, Eq)]
+pub struct ClauseLink {
+    pub item: usize,
+    pub variable: Option<usize>,
+    pub flag: Option<usize>,
+    pub is_sound: bool,
 }

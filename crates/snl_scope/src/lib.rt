@@ -2,6 +2,8 @@
 //! there, and which names and items are out of order. It knows nothing of bytes' offsets, nor of what an item does.
 #![tactic(auto)]
 
+mod assigned;
+mod claims;
 mod clauses_of;
 mod codes;
 mod declarations;
@@ -14,6 +16,9 @@ mod once_laws;
 mod order;
 mod origin;
 mod places;
+mod resolved;
+mod scopes;
+mod soundness;
 mod source;
 mod spaces;
 mod summarize;
@@ -30,7 +35,7 @@ pub mod uses_of;
 
 pub use codes::Code;
 pub use distinct::NameSet;
-pub use facts::{Assigned, Base, Fact, Level, LinkFault};
+pub use facts::{Assigned, Base, ClauseLink, Fact, Level, LinkFault};
 pub use links::{Links, link};
 pub use name::Name;
 pub use once_laws::{each_fault_once, tokens_declared_once};

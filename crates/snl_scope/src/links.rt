@@ -1,14 +1,18 @@
 //! The links of items: their summaries come in, and what names mean to each item goes out.
 
 ghost use Rattle.std.specs.Prelude.{◌≡◌, ◌++◌, map, IfOk, option_map};
-ghost use Rattle.snl_scope.specs.Linked.{base_of, level_of, variable_fact};
+ghost use Rattle.snl_scope.specs.Linked.{base_of, entry_fact, level_of, variable_fact};
 ghost use Rattle.snl_scope.specs.Order.{order_faults};
 
-use crate::facts::{Assigned, Base, Fact, Level, LinkFault};
+use crate::assigned::assigned_in;
+use crate::facts::{Assigned, Base, ClauseLink, Fact, Level, LinkFault};
 use crate::names::Names;
 use crate::order::add_order_faults;
 use crate::origin::Origin;
 use crate::places::places_of;
+use crate::resolved::resolved_clauses;
+use crate::scopes::Scopes;
+use crate::soundness::clause_links;
 use crate::spaces::{Key, Space};
 use crate::summary::{Nature, Summary};
 use crate::tables::{Standing, Tables, number_in, tables_of};
@@ -24,6 +28,8 @@ pub struct Links {
     names: Names,
     first: IndexMap<Key, usize>,
     standings: Vec<Standing>,
+    clauses: Vec<ClauseLink>,
+    assigned: IndexMap<usize, Assigned>,
     faults: Vec<LinkFault>,
     origin: Origin,
 }
@@ -31,8 +37,10 @@ pub struct Links {
 impl Model for Links {
     ghost use Rattle.std.specs.Prelude.{List, length, ◌≡◌};
     ghost use Rattle.snl_scope.specs.declared.summary.Summary.{Summary};
+    ghost use Rattle.snl_scope.specs.Clauses.{clause_links, clauses_of};
     ghost use Rattle.snl_scope.specs.Linked.{faults_of};
     ghost use Rattle.snl_scope.specs.Names.{entries};
+    ghost use Rattle.snl_scope.specs.Resolved.{Assigns};
     ghost use Rattle.snl_scope.specs.Tables.{Placed, Tabled};
 
     ghost Value = { List Summary };
@@ -41,12 +49,14 @@ impl Model for Links {
 
     ghost invariant = { λ a. Placed a.places.items a.origin.summaries (length a.origin.summaries)
         × Tabled a.names a.first.entries a.standings.items (entries a.origin.summaries)
+        × (a.clauses.items ≡ clause_links a.origin.summaries)
+        × Assigns a.assigned.entries (clauses_of a.origin.summaries)
         × (a.faults.items ≡ faults_of a.origin.summaries) };
 }
 
 impl Links {
-    ghost use Rattle.std.specs.Prelude.{option_and_then, slice_get};
-    ghost use Rattle.snl_scope.specs.Linked.{entry_fact, fact_of, faults_of, has_target};
+    ghost use Rattle.snl_scope.specs.Clauses.{assigned_by, clause_links, clauses_of};
+    ghost use Rattle.snl_scope.specs.Linked.{fact_at, fact_of, faults_of, has_target};
     ghost use Rattle.snl_scope.specs.Names.{entries, resolve};
     ghost use Rattle.snl_scope.specs.Places.{place};
 
@@ -73,12 +83,22 @@ impl Links {
         number_in(&self.names, &self.first, Space::Program, name)
     }
 
+    // To what the declaration with a number is assigned.
+    fn assigned_to(&self, number: usize) -> Assigned
+        ensures { result ≡ assigned_by (clauses_of self.now) number }
+    {
+        match self.assigned.get(&number) {
+            Some(assigned) => *assigned,
+            None => Assigned::Unassigned,
+        }
+    }
+
     // What is known of the declaration with a number.
     fn known_at(&self, number: usize) -> Option<Fact>
-        ensures { result ≡ option_and_then entry_fact (slice_get (entries self.now) number) }
+        ensures { result ≡ fact_at self.now number }
     {
         match self.standings.get(number) {
-            Some(standing) => known_of(*standing),
+            Some(standing) => known_of(*standing, self.assigned_to(number)),
             None => None,
         }
     }
@@ -105,7 +125,14 @@ impl Links {
         }
     }
 
-    /// What is found of the order of items, and names that are declared twice; each finding once.
+    /// The clauses of all items, in the order of the text.
+    pub fn clauses(&self) -> &[ClauseLink]
+        ensures { result.now ≡ clause_links self.now }
+    {
+        self.clauses.as_slice()
+    }
+
+    /// What is found of the order of items, names that are declared twice, and what is found at clauses; each finding once.
     pub fn faults(&self) -> &[LinkFault]
         ensures { result.now ≡ faults_of self.now }
     {
@@ -134,15 +161,15 @@ fn base_of(nature: Nature) -> Base
 }
 
 // What is known of what stands there, if it is a declaration.
-fn known_of(standing: Standing) -> Option<Fact>
-    ensures { result ≡ option_map (variable_fact standing.space) standing.variable }
+fn known_of(standing: Standing, assigned: Assigned) -> Option<Fact>
+    ensures { result ≡ option_map (variable_fact assigned standing.space) standing.variable }
 {
     let variable = standing.variable?;
     Some(Fact {
         dims: variable.dims,
         level: level_of(standing.space),
         base: base_of(variable.nature),
-        assigned: Assigned::Unassigned,
+        assigned,
     })
 }
 
@@ -172,12 +199,25 @@ pub fn link(alloc: Global, summaries: &[&Summary]) -> Result<Links, OutOfMemory>
     if faults.append(&mut repeated).is_err() {
         return Err(OutOfMemory);
     }
+    let origin = origin_of(summaries);
+    let scopes = Scopes {
+        places: places.as_slice(),
+        names: &names,
+        first: &first,
+        standings: standings.as_slice(),
+        origin: &origin,
+    };
+    let resolved = resolved_clauses(alloc, &scopes, summaries)?;
+    let assigned = assigned_in(alloc, resolved.as_slice())?;
+    let clauses = clause_links(alloc, &scopes, &assigned, resolved.as_slice(), &mut faults)?;
     Ok(Links {
         places,
         names,
         first,
         standings,
+        clauses,
+        assigned,
         faults,
-        origin: origin_of(summaries),
+        origin,
     })
 }
