@@ -7,6 +7,9 @@ mod codes;
 mod declarations;
 mod distinct;
 mod facts;
+mod flags;
+#[cfg(test)]
+mod flags_tests;
 mod links;
 mod name;
 mod names;
@@ -29,7 +32,7 @@ pub mod uses_of;
 
 pub use codes::Code;
 pub use distinct::NameSet;
-pub use facts::{Assigned, Base, Fact, Level, LinkFault};
+pub use facts::{Assigned, Base, Declaration, Fact, Level, LinkFault, Scope};
 pub use links::{Links, link};
 pub use name::Name;
 pub use source::Source;

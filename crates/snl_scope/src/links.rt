@@ -1,10 +1,11 @@
 //! The links of items: their summaries come in, and what names mean to each item goes out.
 
-ghost use Rattle.std.specs.Prelude.{◌≡◌, ◌++◌, map, IfOk, option_map};
-ghost use Rattle.snl_scope.specs.Linked.{base_of, level_of, variable_fact};
+ghost use Rattle.std.specs.Prelude.{◌≡◌, ◌++◌, map, IfOk, option_and_then, option_map};
+ghost use Rattle.snl_scope.specs.Linked.{base_of, level_of, scope_in, variable_declaration, variable_fact};
 ghost use Rattle.snl_scope.specs.Order.{order_faults};
 
-use crate::facts::{Assigned, Base, Fact, Level, LinkFault};
+use crate::facts::{Assigned, Base, Declaration, Fact, Level, LinkFault, Scope};
+use crate::flags::{flag_number, flags_of};
 use crate::names::Names;
 use crate::order::add_order_faults;
 use crate::origin::Origin;
@@ -24,6 +25,7 @@ pub struct Links {
     names: Names,
     first: IndexMap<Key, usize>,
     standings: Vec<Standing>,
+    flags: Vec<usize>,
     faults: Vec<LinkFault>,
     origin: Origin,
 }
@@ -31,6 +33,7 @@ pub struct Links {
 impl Model for Links {
     ghost use Rattle.std.specs.Prelude.{List, length, ◌≡◌};
     ghost use Rattle.snl_scope.specs.declared.summary.Summary.{Summary};
+    ghost use Rattle.snl_scope.specs.Flags.{flags_of};
     ghost use Rattle.snl_scope.specs.Linked.{faults_of};
     ghost use Rattle.snl_scope.specs.Names.{entries};
     ghost use Rattle.snl_scope.specs.Tables.{Placed, Tabled};
@@ -41,12 +44,15 @@ impl Model for Links {
 
     ghost invariant = { λ a. Placed a.places.items a.origin.summaries (length a.origin.summaries)
         × Tabled a.names a.first.entries a.standings.items (entries a.origin.summaries)
+        × (a.flags.items ≡ flags_of a.origin.summaries)
         × (a.faults.items ≡ faults_of a.origin.summaries) };
 }
 
 impl Links {
-    ghost use Rattle.std.specs.Prelude.{option_and_then, slice_get};
-    ghost use Rattle.snl_scope.specs.Linked.{entry_fact, fact_of, faults_of, has_target};
+    ghost use Rattle.std.specs.Prelude.{slice_get};
+    ghost use Rattle.snl_scope.specs.Clauses.{resolve_in};
+    ghost use Rattle.snl_scope.specs.Flags as flags;
+    ghost use Rattle.snl_scope.specs.Linked.{declaration_at, entry_fact, fact_of, faults_of, has_target};
     ghost use Rattle.snl_scope.specs.Names.{entries, resolve};
     ghost use Rattle.snl_scope.specs.Places.{place};
 
@@ -93,6 +99,42 @@ impl Links {
         } else {
             None
         }
+    }
+
+    /// The number of the declaration that a name outside the blocks of an item means. A state sees its own declarations
+    /// first.
+    pub fn declaration(&self, item: usize, name: &[u8]) -> Option<usize>
+        ensures { result ≡ resolve_in self.now item name.now }
+    {
+        let own = number_in(&self.names, &self.first, Space::State(item), name);
+        if own.is_some() {
+            return own;
+        }
+        self.resolve(self.place(item), name)
+    }
+
+    /// The declaration with a number. Names of state sets and states have numbers too, and are no declarations.
+    pub fn declared(&self, declaration: usize) -> Option<Declaration>
+        ensures { result ≡ declaration_at self.now declaration }
+    {
+        match self.standings.get(declaration) {
+            Some(standing) => declaration_of(*standing),
+            None => None,
+        }
+    }
+
+    /// The event flags, by the numbers of their declarations, in the order of the text.
+    pub fn flags(&self) -> &[usize]
+        ensures { result.now ≡ flags.flags_of self.now }
+    {
+        self.flags.as_slice()
+    }
+
+    /// The number of an event flag among all, from 1 on, or None where the declaration is none of them.
+    pub fn flag_number(&self, declaration: usize) -> Option<usize>
+        ensures { result ≡ flags.flag_number self.now declaration }
+    {
+        flag_number(self.flags(), declaration)
     }
 
     /// Whether the state set in which an item stands has a state of the name.
@@ -146,6 +188,30 @@ fn known_of(standing: Standing) -> Option<Fact>
     })
 }
 
+// The scope that is a space of names.
+fn scope_in(space: Space) -> Option<Scope>
+    ensures { result ≡ scope_in space }
+{
+    match space {
+        Space::Program => Some(Scope::Program),
+        Space::StateSet(set) => Some(Scope::StateSet(set)),
+        Space::State(state) => Some(Scope::State(state)),
+        Space::Sets | Space::States(_) => None,
+    }
+}
+
+// The declaration that stands there, if it is one.
+fn declaration_of(standing: Standing) -> Option<Declaration>
+    ensures { result ≡ option_and_then (λ v. option_map (λ s. variable_declaration standing.item standing.token s v) (scope_in standing.space)) standing.variable }
+{
+    Some(Declaration {
+        variable: standing.variable?,
+        scope: scope_in(standing.space)?,
+        item: standing.item,
+        token: standing.token,
+    })
+}
+
 fn origin_of(summaries: &[&Summary]) -> Origin
     ensures { result.summaries ≡ map (λ s. s.now) summaries.now }
 {
@@ -163,12 +229,14 @@ pub fn link(alloc: Global, summaries: &[&Summary]) -> Result<Links, OutOfMemory>
     let places = places_of(alloc, summaries)?;
     let mut faults = Vec::new(alloc);
     add_order_faults(alloc, summaries, &places, &mut faults)?;
+    let tables = tables_of(alloc, summaries, &places)?;
+    let flags = flags_of(alloc, &tables)?;
     let Tables {
         names,
         first,
         standings,
         faults: mut repeated,
-    } = tables_of(alloc, summaries, &places)?;
+    } = tables;
     if faults.append(&mut repeated).is_err() {
         return Err(OutOfMemory);
     }
@@ -177,6 +245,7 @@ pub fn link(alloc: Global, summaries: &[&Summary]) -> Result<Links, OutOfMemory>
         names,
         first,
         standings,
+        flags,
         faults,
         origin: origin_of(summaries),
     })
