@@ -5,6 +5,8 @@ pub mod Phases
 pub mod Marks
 pub mod Numbering
 pub mod Equality
+pub mod Rising
+pub mod FirstEntries
 pub mod Entries
 pub mod Pairs
 pub mod Leaves

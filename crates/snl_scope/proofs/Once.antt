@@ -33,8 +33,5 @@ module _ (ss : List Summary) (rise : All TokensRise ss) where
   three_families : EachTwo Differ (order_faults ss ++ name_faults ss ++ clause_faults ss)
   three_families = two_by_rank 10 (order_faults ss ++ name_faults ss) (clause_faults ss) two_families_ranks two_families (clause_ranks ss) (clauses_once ss each_rises)
 
-  pub faults_once : AreFoundOnce (order_faults ss ++ name_faults ss)
-  faults_once = pairs_from_two Differ (order_faults ss ++ name_faults ss) two_families
-
-  pub faults_and_clauses_once : AreFoundOnce (order_faults ss ++ name_faults ss ++ clause_faults ss)
-  faults_and_clauses_once = pairs_from_two Differ (order_faults ss ++ name_faults ss ++ clause_faults ss) three_families
+  pub faults_once : AreFoundOnce (order_faults ss ++ name_faults ss ++ clause_faults ss)
+  faults_once = pairs_from_two Differ (order_faults ss ++ name_faults ss ++ clause_faults ss) three_families

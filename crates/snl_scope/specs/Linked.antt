@@ -1,13 +1,16 @@
 -- What the links of items answer, by their summaries.
-use Rattle.std.specs.Prelude.{ℕ, Bool, false, if◌then◌else◌, List, ◌++◌, length, slice_get, nat_lt, Option, None, is_some, option_map, option_and_then}
+use Rattle.std.specs.Prelude.{ℕ, Bool, false, if◌then◌else◌, List, ◌++◌, length, slice_get, nat_lt, Option, None, Some, is_some, option_map, option_and_then}
 use Rattle.std.specs.Option.{option_map_or}
 use Rattle.snl_scope.specs.declared.facts.Assigned.{Assigned}
 use Rattle.snl_scope.specs.declared.facts.Base.{Base}
 use Rattle.snl_scope.specs.declared.facts.Base.TheVariants as base
+use Rattle.snl_scope.specs.declared.facts.Declaration.{Declaration}
 use Rattle.snl_scope.specs.declared.facts.Fact.{Fact}
 use Rattle.snl_scope.specs.declared.facts.Level.{Level}
 use Rattle.snl_scope.specs.declared.facts.Level.TheVariants as level
 use Rattle.snl_scope.specs.declared.facts.LinkFault.{LinkFault}
+use Rattle.snl_scope.specs.declared.facts.Scope.{Scope}
+use Rattle.snl_scope.specs.declared.facts.Scope.TheVariants as scope
 use Rattle.snl_scope.specs.declared.spaces.Space.{Space}
 use Rattle.snl_scope.specs.declared.spaces.Space.TheVariants as space
 use Rattle.snl_scope.specs.declared.summary.Nature.{Nature}
@@ -48,6 +51,24 @@ fact_of ss i name =
     if nat_lt i (length ss)
     then option_and_then (fact_at ss) (resolve (entries ss) (place ss i) name)
     else None
+
+-- The scope that is a space of names; the names of state sets and states are in none.
+abbrev pub scope_in : Space → Option Scope
+scope_in space.Program = Some scope.Program
+scope_in (space.StateSet k) = Some (scope.StateSet k)
+scope_in (space.State i) = Some (scope.State i)
+scope_in _ = None
+
+abbrev pub variable_declaration : ℕ → ℕ → Scope → Variable → Declaration
+variable_declaration i token s v = record { scope = s; item = i; token = token; variable = v }
+
+-- What an entry declares. The name of a state set or a state is no declaration.
+abbrev pub entry_declaration : Entry → Option Declaration
+entry_declaration e = option_and_then (λ v. option_map (λ s. variable_declaration e.item e.token s v) (scope_in e.space)) e.variable
+
+-- The declaration that is the entry with a number.
+abbrev pub declaration_at : List Summary → ℕ → Option Declaration
+declaration_at ss number = option_and_then entry_declaration (slice_get (entries ss) number)
 
 -- The state set in which an item stands has a state of the name.
 abbrev pub has_target : List Summary → ℕ → List ℕ → Bool

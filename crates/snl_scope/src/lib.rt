@@ -9,6 +9,9 @@ mod codes;
 mod declarations;
 mod distinct;
 mod facts;
+mod flags;
+#[cfg(test)]
+mod flags_tests;
 mod links;
 mod name;
 mod names;
@@ -35,7 +38,7 @@ pub mod uses_of;
 
 pub use codes::Code;
 pub use distinct::NameSet;
-pub use facts::{Assigned, Base, ClauseLink, Fact, Level, LinkFault};
+pub use facts::{Assigned, Base, ClauseLink, Declaration, Fact, Level, LinkFault, Scope};
 pub use links::{Links, link};
 pub use name::Name;
 pub use once_laws::{each_fault_once, tokens_declared_once};

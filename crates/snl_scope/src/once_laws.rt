@@ -2,16 +2,13 @@
 
 ghost use Rattle.snl_lex.specs.declared.piece.Piece.{Piece};
 ghost use Rattle.snl_scope.specs.declared.summary.Summary.{Summary};
-ghost use Rattle.snl_scope.specs.Clauses.{clause_faults};
 ghost use Rattle.snl_scope.specs.Linked.{faults_of};
-ghost use Rattle.snl_scope.specs.Names.{name_faults};
 ghost use Rattle.snl_scope.specs.Once.{AreFoundOnce, TokensRise};
-ghost use Rattle.snl_scope.specs.Order.{order_faults};
 ghost use Rattle.snl_scope.specs.Summaries.{summary_in};
 ghost use Rattle.snl_syntax.specs.Grammar.Items.{IsItem};
 ghost use Rattle.snl_syntax.specs.Parsing.{kinds_in};
 ghost use Rattle.snl_syntax.specs.declared.tree.item.Item.{Item};
-ghost use Rattle.std.specs.Prelude.{ℕ, ◌++◌, All, List};
+ghost use Rattle.std.specs.Prelude.{ℕ, All, List};
 
 use snl_syntax::item_spelled;
 
@@ -25,8 +22,6 @@ pub fn tokens_declared_once()
 }
 
 /// Where the tokens of each summary rise, no finding of the links comes twice: no two have the same item, token and code.
-/// Nor do two findings of order, of names and of clauses.
 pub fn each_fault_once()
-    ensures linked { (ss : List Summary) → All TokensRise ss → AreFoundOnce (faults_of ss) }
-    ensures clauses { (ss : List Summary) → All TokensRise ss → AreFoundOnce (order_faults ss ++ name_faults ss ++ clause_faults ss) }
+    ensures { (ss : List Summary) → All TokensRise ss → AreFoundOnce (faults_of ss) }
 {}
