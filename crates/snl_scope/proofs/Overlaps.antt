@@ -1,8 +1,7 @@
 -- Lemmas on claims: those of a clause, and that they tell of an overlap.
-use Rattle.std.proofs.Common.{◌≡◌, ℕ, zero, suc, ◌+◌, Bool, true, false, ◌&&◌, ◌||◌, cond, List, [], ◌∷◌, ◌++◌, nat_eq, nat_lt, Option, None, Some, refl, sym, ap, ◌∙◌, add-one, true≢false, if◌then◌else◌}
+use Rattle.std.proofs.Common.{◌≡◌, ℕ, zero, suc, Bool, true, false, ◌&&◌, ◌||◌, cond, List, [], ◌∷◌, nat_eq, nat_lt, Option, None, Some, refl, sym, ap, ◌∙◌, true≢false}
 use Rattle.std.proofs.Math.Bool.{and_assoc, or_assoc, or_comm, or-false}
 use Rattle.std.proofs.lemmas.Bool.Decides.{Decides-eqb, nat_tests}
-use Rattle.std.proofs.lemmas.List.Folds.{list_any-append}
 use Rattle.std.proofs.Common.{arith}
 use Rattle.std.specs.List.{list_any}
 use Rattle.snl_scope.specs.declared.claims.Claim.{Claim}
@@ -68,10 +67,7 @@ added_is one before after h q =
     sym (has_is q after) ∙ h q ∙ cond-or (claim_eq.eq-value.it one q) (list_any (claim_eq.eq-value.it q) before)
     ∙ ap (λ b. b || list_any (claim_eq.eq-value.it q) before) (claim_is one q) ∙ ap (λ b. same_claim one q || b) (has_is q before)
 
--- one number more
-pub below-more : (p : ℕ → Bool) (n : ℕ) → any_below p (n + 1) ≡ (p n || any_below p n)
-below-more p n = ap (any_below p) (add-one n)
-
+-- a number that passes
 pub below-found : (p : ℕ → Bool) (n k : ℕ) → nat_lt k n ≡ true → p k ≡ true → any_below p n ≡ true
 below-found p zero k h t = absurd (true≢false (sym h ∙ grind (arith, nat_tests)))
 below-found p (suc n) k h t = by (p n) refl (λ l. below-found p n k l t)
@@ -119,16 +115,6 @@ joined true true a b c o h = sym (or_assoc b a o) ∙ ap (λ d. d || o) h
 joined true false a b c o h = refl
 joined false n a b c o h = refl
 
-whole_claims : (e : Extent) → (same_extent extent.Whole e || same_extent extent.Any e) ≡ claims coverage.Whole e
-whole_claims extent.Any = refl
-whole_claims extent.Whole = refl
-whole_claims (extent.Element j) = refl
-
-element_claims : (k : ℕ) (e : Extent) → (same_extent (extent.Element k) e || same_extent extent.Any e) ≡ claims (coverage.Element k) e
-element_claims k extent.Any = refl
-element_claims k extent.Whole = refl
-element_claims k (extent.Element j) = or-false (nat_eq k j)
-
 front_claims : (n : ℕ) (e : Extent) → (any_below (λ k. same_extent (extent.Element k) e) n || same_extent extent.Any e) ≡ claims (coverage.Front n) e
 front_claims n extent.Any = or_comm (any_below (λ k. false) n) true
 front_claims n extent.Whole = ap (λ b. b || false) (below-nothing n)
@@ -139,53 +125,12 @@ module _ (p : Purpose) (v : ℕ) (m : Claim) (before any after : Bool)
   abbrev all_claims : Coverage → Bool
   all_claims c = same_purpose p m.purpose && nat_eq v m.variable && claims c m.extent
 
-  pub makes_whole : after ≡ (same_claim (record { purpose = p; variable = v; extent = extent.Whole }) m || any) → after ≡ (all_claims coverage.Whole || before)
-  makes_whole h =
-      h ∙ ap (λ b. same_claim (record { purpose = p; variable = v; extent = extent.Whole }) m || b) first
-      ∙ joined (same_purpose p m.purpose) (nat_eq v m.variable) (same_extent extent.Any m.extent) (same_extent extent.Whole m.extent) (claims coverage.Whole m.extent) before (whole_claims m.extent)
-
-  pub makes_element : (k : ℕ) → after ≡ (same_claim (record { purpose = p; variable = v; extent = extent.Element k }) m || any) → after ≡ (all_claims (coverage.Element k) || before)
-  makes_element k h =
-      h ∙ ap (λ b. same_claim (record { purpose = p; variable = v; extent = extent.Element k }) m || b) first
-      ∙ joined (same_purpose p m.purpose) (nat_eq v m.variable) (same_extent extent.Any m.extent) (same_extent (extent.Element k) m.extent) (claims (coverage.Element k) m.extent) before (element_claims k m.extent)
-
   pub makes_front : (n : ℕ) → after ≡ (any_below (λ k. same_claim (record { purpose = p; variable = v; extent = extent.Element k }) m) n || any) → after ≡ (all_claims (coverage.Front n) || before)
   makes_front n h =
       h ∙ ap (λ b. b || any) (below-and (same_purpose p m.purpose) (nat_eq v m.variable) (λ k. same_extent (extent.Element k) m.extent) n)
       ∙ ap (λ b. (same_purpose p m.purpose && nat_eq v m.variable && any_below (λ k. same_extent (extent.Element k) m.extent) n) || b) first
       ∙ joined (same_purpose p m.purpose) (nat_eq v m.variable) (same_extent extent.Any m.extent) (any_below (λ k. same_extent (extent.Element k) m.extent) n) (claims (coverage.Front n) m.extent) before
       (front_claims n m.extent)
-
--- the claims with those of one more sound clause
-pub claimed-push : (held held' : List Claim) (sound : List LinkedClause) (c : LinkedClause) (v : ℕ) → Claimed held sound → c.variable ≡ Some v
-    → ((m : Claim) → list_any (same_claim m) held' ≡ ((same_purpose (purpose_of c.clause.kind) m.purpose && nat_eq v m.variable && claims c.clause.coverage m.extent) || list_any (same_claim m) held))
-    → Claimed held' (sound ++ c ∷ [])
-claimed-push held held' sound c v f is made = record {
-  each = λ m.
-      made m
-      ∙ ap (λ o. (same_purpose (purpose_of c.clause.kind) m.purpose && same_number o (Some m.variable) && claims c.clause.coverage m.extent) || list_any (same_claim m) held) (sym is)
-      ∙ ap (λ b. makes c m || b) (f.each m) ∙ or_comm (makes c m) (list_any (λ d. makes d m) sound)
-      ∙ ap (λ b. list_any (λ d. makes d m) sound || b) (sym (or-false (makes c m))) ∙ sym (list_any-append (λ d. makes d m) sound (c ∷ []));
-}
-
-no_claim : (c : LinkedClause) (m : Claim) → c.variable ≡ None → makes c m ≡ false
-no_claim c m h =
-    ap (λ o. same_purpose (purpose_of c.clause.kind) m.purpose && same_number o (Some m.variable) && claims c.clause.coverage m.extent) h
-    ∙ never (same_purpose (purpose_of c.clause.kind) m.purpose) (same_number None (Some m.variable)) (claims c.clause.coverage m.extent) refl
-  where
-    never : (b n e : Bool) → n ≡ false → (b && n && e) ≡ false
-    never true true e g = absurd (true≢false g)
-    never true false e g = refl
-    never false n e g = refl
-
--- a clause whose variable resolves to nothing claims nothing
-pub claimed-none : (held : List Claim) (sound : List LinkedClause) (c : LinkedClause) (b : Bool) → Claimed held sound → c.variable ≡ None → Claimed held (if b then sound ++ c ∷ [] else sound)
-claimed-none held sound c false f h = f
-claimed-none held sound c true f h = record {
-  each = λ m.
-      f.each m ∙ sym (list_any-append (λ d. makes d m) sound (c ∷ []) ∙ ap (λ b. list_any (λ d. makes d m) sound || (b || false)) (no_claim c m h)
-      ∙ or-false (list_any (λ d. makes d m) sound));
-}
 
 -- an overlap with a sound clause is told by its claims
 kinds : (a b : ClauseKind) → same_purpose (purpose_of b) (purpose_of a) ≡ same_kind a b

@@ -5,6 +5,8 @@
 mod assigned;
 mod claims;
 mod clauses_of;
+#[cfg(test)]
+mod clauses_tests;
 mod codes;
 mod declarations;
 mod distinct;
