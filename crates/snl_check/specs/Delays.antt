@@ -1,4 +1,4 @@
--- Calls of `delay` outside the conditions of transitions, where alone it has a meaning.
+-- Calls of `delay` outside the conditions of transitions. In these alone it has a meaning.
 use Rattle.std.specs.Prelude.{ℕ, Bool, List, [], ◌∷◌, ◌++◌, map, filter, codes, option_map, Option, Some, None}
 use Rattle.std.specs.List.{concat, flat_map}
 use Rattle.std.specs.Str.{bytes_eq}

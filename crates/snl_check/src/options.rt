@@ -14,6 +14,12 @@ use snl_syntax::tree::clause::OptionLine;
 use snl_syntax::tree::item::Item;
 use snl_syntax::tree::state::StateMember;
 
+/// The options of a program.
+const PROGRAM_LETTERS: &[u8] = b"acdeilmrswW";
+
+/// The options of a state.
+const STATE_LETTERS: &[u8] = b"tex";
+
 // Adds a finding at each letter of an option that is not among the known ones.
 fn add_letters(
     source: &Source,
@@ -47,7 +53,7 @@ fn add_state(
 {
     for member in members {
         if let StateMember::OptionLine(line) = member {
-            add_letters(source, b"tex", *line, faults)?;
+            add_letters(source, STATE_LETTERS, *line, faults)?;
         }
     }
     Ok(())
@@ -69,7 +75,7 @@ pub(crate) fn add_unknown_options(
             if view.is_in_set() {
                 return Ok(());
             }
-            add_letters(source, b"acdeilmrswW", *line, faults)
+            add_letters(source, PROGRAM_LETTERS, *line, faults)
         }
         Item::StateBlock { name: _, members } => add_state(source, members.as_slice(), faults),
         Item::Header {
