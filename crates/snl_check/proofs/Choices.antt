@@ -9,11 +9,27 @@ use Rattle.snl_syntax.specs.declared.tree.statement.Stmt.TheVariants as tree
 use Rattle.snl_scope.specs.Summaries.Expressions.{used_by_expr}
 use Rattle.snl_scope.specs.Summaries.Uses.{used_by_head}
 use Rattle.snl_check.specs.EventFlags.{flag_member_step, flag_step, wrong_in_choice, wrong_in_stmt}
+use Rattle.snl_check.specs.Delays.{calls_in_choice, calls_in_stmt}
+use Rattle.snl_check.specs.Delays as delays
+use Rattle.snl_check.specs.Loops.{jump_member_step, jump_step, jumps_in_choice, jumps_in_stmt}
+use Rattle.snl_check.specs.StateChanges.{change_member_step, change_step, changes_in_choice, changes_in_stmt}
 use Rattle.snl_check.specs.Scopes.{Inside, Part, arms_of, free_in_branches, inside_stmt, last_of, part_step, repeated_in_branches, stmt_step}
 
 pub wrong-If : (arms : List (Expr × Stmt)) (last : Option Stmt) → wrong_in_stmt (tree.If arms last) ≡ wrong_in_choice arms last
 wrong-If arms None = ap wrong_in_stmt (sym (tree.rolls-If arms None)) ∙ fold-roll-Stmt (List ℕ) (List ℕ) flag_member_step flag_step (Stmt-F.If arms None)
 wrong-If arms (Some last) = ap wrong_in_stmt (sym (tree.rolls-If arms (Some last))) ∙ fold-roll-Stmt (List ℕ) (List ℕ) flag_member_step flag_step (Stmt-F.If arms (Some last))
+
+pub changes-If : (arms : List (Expr × Stmt)) (last : Option Stmt) → changes_in_stmt (tree.If arms last) ≡ changes_in_choice arms last
+changes-If arms None = ap changes_in_stmt (sym (tree.rolls-If arms None)) ∙ fold-roll-Stmt (List ℕ) (List ℕ) change_member_step change_step (Stmt-F.If arms None)
+changes-If arms (Some last) = ap changes_in_stmt (sym (tree.rolls-If arms (Some last))) ∙ fold-roll-Stmt (List ℕ) (List ℕ) change_member_step change_step (Stmt-F.If arms (Some last))
+
+pub jumps-If : (arms : List (Expr × Stmt)) (last : Option Stmt) → jumps_in_stmt (tree.If arms last) ≡ jumps_in_choice arms last
+jumps-If arms None = ap jumps_in_stmt (sym (tree.rolls-If arms None)) ∙ fold-roll-Stmt (List ℕ) (List ℕ) jump_member_step jump_step (Stmt-F.If arms None)
+jumps-If arms (Some last) = ap jumps_in_stmt (sym (tree.rolls-If arms (Some last))) ∙ fold-roll-Stmt (List ℕ) (List ℕ) jump_member_step jump_step (Stmt-F.If arms (Some last))
+
+pub calls-If : (arms : List (Expr × Stmt)) (last : Option Stmt) → calls_in_stmt (tree.If arms last) ≡ calls_in_choice arms last
+calls-If arms None = ap calls_in_stmt (sym (tree.rolls-If arms None)) ∙ fold-roll-Stmt (List ℕ) (List ℕ) delays.member_step delays.stmt_step (Stmt-F.If arms None)
+calls-If arms (Some last) = ap calls_in_stmt (sym (tree.rolls-If arms (Some last))) ∙ fold-roll-Stmt (List ℕ) (List ℕ) delays.member_step delays.stmt_step (Stmt-F.If arms (Some last))
 
 abbrev pub free_in : (ℕ → List ℕ) → Stmt → List ℕ
 free_in bytes s = (inside_stmt bytes s).free

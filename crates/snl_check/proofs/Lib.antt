@@ -2,4 +2,6 @@ pub mod SameView
 pub mod Choices
 pub mod Each
 pub mod FreeUses
+pub mod Operands
+pub mod Within
 pub mod Steps

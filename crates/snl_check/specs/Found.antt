@@ -1,12 +1,16 @@
 -- What is found in an item, from its tokens, its tree and what it sees of the others.
-use Rattle.std.specs.Prelude.{ℕ, Bool, not, if◌then◌else◌, List, [], ◌++◌, map, filter}
+use Rattle.std.specs.Prelude.{ℕ, ◌≤◌, Bool, not, if◌then◌else◌, List, [], ◌++◌, map, filter, length}
 use Rattle.snl_syntax.specs.declared.tree.item.Item.{Item}
 use Rattle.snl_scope.specs.declared.codes.Code.{Code}
-use Rattle.snl_scope.specs.declared.codes.Code.TheVariants.{E07, E10, E17, W01}
+use Rattle.snl_scope.specs.declared.codes.Code.TheVariants.{E07, E10, E17, E18, E19, W01, W03}
 use Rattle.snl_scope.specs.Summaries.Targets.{targets_in_tree}
 use Rattle.snl_check.specs.declared.findings.ItemFault.{ItemFault}
+use Rattle.snl_check.specs.Delays.{stray_delays}
 use Rattle.snl_check.specs.EventFlags.{wrong_in_item}
+use Rattle.snl_check.specs.Loops.{stray_jumps}
+use Rattle.snl_check.specs.Options.{unknown_options}
 use Rattle.snl_check.specs.Scopes.{inside_item}
+use Rattle.snl_check.specs.StateChanges.{stray_changes}
 use Rattle.snl_check.specs.Undeclared.{undeclared}
 
 -- The targets that `target` has no state for.
@@ -18,7 +22,16 @@ abbrev pub unknown_targets : (ℕ → List ℕ) → Bool → (List ℕ → Bool)
 unknown_targets bytes in_set target tree = if in_set then missing_targets bytes target (targets_in_tree tree) else []
 
 abbrev pub fault_at : Code → ℕ → ItemFault
-fault_at code token = record { token = token; code = code }
+fault_at code token = record { token = token; byte = 0; code = code }
+
+-- A finding stands in its token.
+abbrev pub StandsIn : (ℕ → List ℕ) → ItemFault → Type 0
+StandsIn bytes fault = fault.byte ≤ length (bytes fault.token)
+
+-- What the tree alone says: event flags that are declared wrongly, changes of the state outside a transition, and `break` and
+-- `continue` in no loop.
+abbrev pub faults_of_tree : Item → List ItemFault
+faults_of_tree tree = map (fault_at E17) (wrong_in_item tree) ++ map (fault_at E18) (stray_changes tree) ++ map (fault_at E19) (stray_jumps tree)
 
 -- The findings of an item. `bytes` says what stands at each token, `in_set` that the item stands in a state set, `known`
 -- which names the scopes outside it declare, and `target` which states its state set has.
@@ -26,5 +39,7 @@ abbrev pub faults_in : (ℕ → List ℕ) → Item → Bool → (List ℕ → Bo
 faults_in bytes tree in_set known target =
     map (fault_at E07) (inside_item bytes tree).repeated
     ++ map (fault_at E10) (unknown_targets bytes in_set target tree)
-    ++ map (fault_at E17) (wrong_in_item tree)
+    ++ faults_of_tree tree
     ++ map (fault_at W01) (undeclared bytes known (inside_item bytes tree).free)
+    ++ map (fault_at W03) (stray_delays bytes tree)
+    ++ unknown_options bytes in_set tree

@@ -1,6 +1,11 @@
 pub mod Names
 pub mod Scopes
 pub mod EventFlags
+pub mod StateChanges
+pub mod Loops
+pub mod Calls
+pub mod Delays
+pub mod Options
 pub mod Undeclared
 pub mod Outlook
 pub mod Found

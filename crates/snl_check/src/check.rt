@@ -1,14 +1,18 @@
 //! The check of one item.
 
-ghost use Rattle.std.specs.Prelude.{◌≡◌, ◌++◌, IfOk, OnOk, map};
+ghost use Rattle.std.specs.Prelude.{◌≡◌, ◌++◌, All, IfOk, OnOk, map};
 ghost use Rattle.snl_cut.specs.Cut.{ticked};
 ghost use Rattle.snl_scope.specs.Summaries.Tokens.{IsSource, bytes_at};
-ghost use Rattle.snl_check.specs.Found.{fault_at, faults_in};
+ghost use Rattle.snl_check.specs.Found.{StandsIn, fault_at, faults_in, faults_of_tree};
 ghost use Rattle.snl_check.specs.Outlook.{is_in_set, knows, leads_to};
 
+use crate::delays::stray_delays;
 use crate::event_flags::add_wrong_flags;
 use crate::findings::{Checked, ItemFault};
+use crate::loops::add_stray_jumps;
+use crate::options::add_unknown_options;
 use crate::scopes::add_item;
+use crate::state_changes::add_stray_changes;
 use crate::undeclared::undeclared;
 use crate::unknown_targets::unknown_targets;
 use crate::view::View;
@@ -26,10 +30,30 @@ fn add_faults(code: Code, tokens: &[usize], faults: &mut Vec<ItemFault>) -> Resu
     for token in tokens {
         faults.push(ItemFault {
             token: *token,
+            byte: 0,
             code,
         })?;
     }
     Ok(())
+}
+
+// Adds what the tree alone says.
+fn add_tree_faults(
+    alloc: Global,
+    tree: &Item,
+    faults: &mut Vec<ItemFault>,
+) -> Result<(), OutOfMemory>
+    ensures { OnOk result (faults.new.items ≡ faults.old.items ++ faults_of_tree tree.now) }
+{
+    let mut flags = Vec::new(alloc);
+    add_wrong_flags(tree, &mut flags)?;
+    let mut changes = Vec::new(alloc);
+    add_stray_changes(tree, &mut changes)?;
+    let mut jumps = Vec::new(alloc);
+    add_stray_jumps(tree, &mut jumps)?;
+    add_faults(Code::E17, &flags, faults)?;
+    add_faults(Code::E18, &changes, faults)?;
+    add_faults(Code::E19, &jumps, faults)
 }
 
 /// Checks the item that consists of these tokens, of which each lies in the text, and has this tree and this number among the
@@ -45,6 +69,7 @@ pub fn check_item(
 ) -> Result<Checked, OutOfMemory>
     requires { IsSource text.now tokens.now }
     ensures faults { IfOk result (λ c. c.faults ≡ faults_in (bytes_at text.now tokens.now) tree.now (is_in_set links.now item) (knows links.now item) (leads_to links.now item)) }
+    ensures within { IfOk result (λ c. All (StandsIn (bytes_at text.now tokens.now)) c.faults) }
     ensures ticks { work.new ≡ ticked work.old }
 {
     work.tick();
@@ -57,8 +82,6 @@ pub fn check_item(
     let mut free = Vec::new(alloc);
     let mut again = Vec::new(alloc);
     add_item(&source, tree, &mut free, &mut again)?;
-    let mut flags = Vec::new(alloc);
-    add_wrong_flags(tree, &mut flags)?;
     let mut faults = Vec::new(alloc);
     add_faults(Code::E07, &again, &mut faults)?;
     add_faults(
@@ -66,8 +89,10 @@ pub fn check_item(
         &unknown_targets(&source, tree, &view)?,
         &mut faults,
     )?;
-    add_faults(Code::E17, &flags, &mut faults)?;
+    add_tree_faults(alloc, tree, &mut faults)?;
     add_faults(Code::W01, &undeclared(&source, &view, &free)?, &mut faults)?;
+    add_faults(Code::W03, &stray_delays(&source, tree)?, &mut faults)?;
+    add_unknown_options(&source, tree, &view, &mut faults)?;
     Ok(Checked {
         faults: Items::from_vec(faults),
     })

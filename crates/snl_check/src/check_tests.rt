@@ -37,7 +37,7 @@ fn summary(alloc: Global, text: &[u8]) -> Result<Summary, Fail> {
     Ok(summary_of(alloc, text, &tokens, tree.as_ref())?)
 }
 
-// What is found in the item that a text consists of: each code's letters and the name at its token. The item stands in a
+// What is found in the item that a text consists of: each code's letters and what stands at its place in its token. The item stands in a
 // state set that has a state `z`, behind the declaration of a name `y`.
 fn found(alloc: Global, text: &[u8]) -> Result<Vec<u8>, Fail> {
     let before = summary(alloc, b"int y;")?;
@@ -64,12 +64,19 @@ fn found_by(alloc: Global, text: &[u8], links: &Links, item: usize) -> Result<Ve
             Code::E07 => b"E07:".as_slice(),
             Code::E10 => b"E10:".as_slice(),
             Code::E17 => b"E17:".as_slice(),
+            Code::E18 => b"E18:".as_slice(),
+            Code::E19 => b"E19:".as_slice(),
             Code::W01 => b"W01:".as_slice(),
+            Code::W03 => b"W03:".as_slice(),
+            Code::W04 => b"W04:".as_slice(),
             _ => b"?".as_slice(),
         })?;
         if let Some(piece) = tokens.get(fault.token) {
             if piece.start <= text.len() && piece.len <= text.len() - piece.start {
-                words.extend_from_slice(token_text(text, *piece))?;
+                let token = token_text(text, *piece);
+                if fault.byte <= token.len() {
+                    words.extend_from_slice(&token[fault.byte..])?;
+                }
             }
         }
         words.push(b' ')?;
@@ -121,7 +128,7 @@ fn targets_without_a_state(rt: HostRuntime) -> Result<(), Fail> {
         b"state i { when () { state z; if (y) state q; else state r; } state w when () { } state z exit { state v; } }";
     assert_eq!(rt;
         found(alloc, text)?.as_slice(),
-        b"E10:q E10:r E10:w ".as_slice()
+        b"E10:q E10:r E10:w E18:state ".as_slice()
     );
     Ok(())
 }
@@ -208,6 +215,132 @@ fn targets_at_program_level(rt: HostRuntime) -> Result<(), Fail> {
     assert_eq!(rt;
         found_by(alloc, text, &links, 0)?.as_slice(),
         b"W01:a ".as_slice()
+    );
+    Ok(())
+}
+
+#[test]
+fn statements_and_options_of_a_state(rt: HostRuntime) -> Result<(), Fail> {
+    let alloc = rt.alloc();
+    let text =
+        b"state i { option +tz; entry { state i; } when (delay(1)) { break; delay(2); } state z }";
+    assert_eq!(rt;
+        found(alloc, text)?.as_slice(),
+        b"E18:state E19:break W03:delay W04:z ".as_slice()
+    );
+    Ok(())
+}
+
+#[test]
+fn changes_of_the_state_outside_transitions(rt: HostRuntime) -> Result<(), Fail> {
+    let alloc = rt.alloc();
+    assert_eq!(rt;
+        found(
+            alloc,
+            b"state i { when () { if (y) state z; { while (y) state z; } } exit exit { if (y) ; else state q; } }"
+        )?
+        .as_slice(),
+        b"E18:state ".as_slice()
+    );
+    assert_eq!(rt;
+        found(
+            alloc,
+            b"int f() { while (y) { state z; } for (;;) state z; if (y) state z; else if (y) state z; }"
+        )?
+        .as_slice(),
+        b"E18:state E18:state E18:state E18:state ".as_slice()
+    );
+    assert_eq!(rt;
+        found(alloc, b"entry { state z; }")?.as_slice(),
+        b"E18:state ".as_slice()
+    );
+    Ok(())
+}
+
+#[test]
+fn jumps_in_no_loop(rt: HostRuntime) -> Result<(), Fail> {
+    let alloc = rt.alloc();
+    assert_eq!(rt;
+        found(alloc, b"exit { while (1) { } break; }")?.as_slice(),
+        b"E19:break ".as_slice()
+    );
+    assert_eq!(rt;
+        found(
+            alloc,
+            b"int f() { while (y) { if (y) break; { continue; } } for (;;) continue; if (y) continue; else { break; } }"
+        )?
+        .as_slice(),
+        b"E19:continue E19:break ".as_slice()
+    );
+    assert_eq!(rt;
+        found(
+            alloc,
+            b"state i { entry { continue; } when () { break; } exit exit { while (y) ; break; } }"
+        )?
+        .as_slice(),
+        b"E19:continue E19:break E19:break ".as_slice()
+    );
+    Ok(())
+}
+
+#[test]
+fn delays_outside_conditions(rt: HostRuntime) -> Result<(), Fail> {
+    let alloc = rt.alloc();
+    assert_eq!(rt;
+        found(
+            alloc,
+            b"state i { when (y && (delay(1) || !delay(delay(2)))) { } exit }"
+        )?
+        .as_slice(),
+        b"".as_slice()
+    );
+    assert_eq!(rt;
+        found(
+            alloc,
+            b"state i { int a[delay(1)] = {y, delay(2)}; entry { for (y; delay(3); y) y = -delay(4); } exit { return (delay(5)); } }"
+        )?
+        .as_slice(),
+        b"W03:delay W03:delay W03:delay W03:delay W03:delay ".as_slice()
+    );
+    assert_eq!(rt;
+        found(alloc, b"int f(int a[delay(1)]);")?.as_slice(),
+        b"W03:delay ".as_slice()
+    );
+    assert_eq!(rt;
+        found(alloc, b"struct s { int a[delay(1)]; };")?.as_slice(),
+        b"W03:delay ".as_slice()
+    );
+    assert_eq!(rt;
+        found(
+            alloc,
+            b"int f(int delay) { delay(1); delay; delay[0](1); (delay)(1); y.delay(1); delays(1); g(delay(2)); }"
+        )?
+        .as_slice(),
+        b"W03:delay W03:delay ".as_slice()
+    );
+    Ok(())
+}
+
+#[test]
+fn letters_of_options(rt: HostRuntime) -> Result<(), Fail> {
+    let alloc = rt.alloc();
+    assert_eq!(rt;
+        found(alloc, b"state i { option +tex; option -ta_; }")?.as_slice(),
+        b"W04:a_ W04:_ ".as_slice()
+    );
+    assert_eq!(rt; found(alloc, b"option +xyz;")?.as_slice(), b"".as_slice());
+    let links = link(alloc, &[&summary(alloc, b"option +t;")?])?;
+    assert_eq!(rt;
+        found_by(alloc, b"option -acdeilmrswW;", &links, 0)?.as_slice(),
+        b"".as_slice()
+    );
+    assert_eq!(rt;
+        found_by(alloc, b"option +tax0;", &links, 0)?.as_slice(),
+        b"W04:tax0 W04:x0 W04:0 ".as_slice()
+    );
+    assert_eq!(rt;
+        found_by(alloc, b"state i { option +w; }", &links, 0)?.as_slice(),
+        b"W04:w ".as_slice()
     );
     Ok(())
 }

@@ -2,13 +2,18 @@
 //! out. It knows no offsets, and of the other items no more than what it is told.
 #![tactic(auto)]
 
+mod calls;
 mod check;
 #[cfg(test)]
 mod check_tests;
+mod delays;
 mod event_flags;
 mod findings;
 mod laws;
+mod loops;
+mod options;
 mod scopes;
+mod state_changes;
 mod undeclared;
 mod unknown_targets;
 mod view;

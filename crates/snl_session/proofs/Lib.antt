@@ -1,4 +1,5 @@
 pub mod Ends
+pub mod Offsets
 pub mod Faults
 pub mod Ranks
 pub mod Sorting

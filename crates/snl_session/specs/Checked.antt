@@ -1,5 +1,5 @@
 -- What is found in each item by itself, by its tokens, its tree and what the links say of the names in it.
-use Rattle.std.specs.Prelude.{ℕ, List, [], map, flat_map, slice_get, Option, Some, None}
+use Rattle.std.specs.Prelude.{ℕ, ◌+◌, ◌^◌, ◌<◌, List, [], map, flat_map, slice_get, Option, Some, None}
 use Rattle.std.specs.List.{enumerate_from}
 use Rattle.snl_lex.specs.declared.piece.Piece.{Piece}
 use Rattle.snl_syntax.specs.declared.tree.item.Item.{Item}
@@ -17,9 +17,17 @@ abbrev pub faults_of_item : List ℕ → List Summary → ℕ → List Piece →
 faults_of_item text ss i tokens None = []
 faults_of_item text ss i tokens (Some tree) = faults_in (bytes_at text tokens) tree (is_in_set ss i) (knows ss i) (leads_to ss i)
 
--- A finding of an item, at its token.
+-- A finding some bytes further on.
+abbrev pub moved : ℕ → Finding → Finding
+moved bytes x = record { offset = x.offset + bytes; code = x.code; subject = x.subject }
+
+-- A finding of an item, at its byte in its token.
 abbrev pub at_own_token : List Piece → ItemFault → Finding
-at_own_token tokens fault = finding_at fault.code (slice_get tokens fault.token)
+at_own_token tokens fault = moved fault.byte (finding_at fault.code (slice_get tokens fault.token))
+
+-- It stands where an offset can say.
+abbrev pub HasOffset : List Piece → ItemFault → Type 0
+HasOffset tokens fault = (at_own_token tokens fault).offset < 2 ^ 64
 
 abbrev pub found_in_item : List ℕ → List Summary → ℕ × ProgramItem → List Finding
 found_in_item text ss (i, x) = map (at_own_token x.tokens) (faults_of_item text ss i x.tokens x.tree)

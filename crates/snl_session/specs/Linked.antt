@@ -2,7 +2,7 @@
 use Rattle.std.specs.Prelude.{ℕ, Bool, true, false, if◌then◌else◌, List, map, slice_get, Option, Some, None, option_and_then}
 use Rattle.snl_lex.specs.declared.piece.Piece.{Piece}
 use Rattle.snl_scope.specs.declared.codes.Code.{Code}
-use Rattle.snl_scope.specs.declared.codes.Code.TheVariants.{E01, E02, E03, E04, E05, E06, E18, W03}
+use Rattle.snl_scope.specs.declared.codes.Code.TheVariants.{E01, E02, E03, E04, E05, E06, E18, W03, W04}
 use Rattle.snl_scope.specs.declared.facts.LinkFault.{LinkFault}
 use Rattle.snl_scope.specs.declared.summary.Summary.{Summary}
 use Rattle.snl_scope.specs.Linked as links
@@ -29,10 +29,15 @@ is_quoted E18 = false
 is_quoted W03 = false
 is_quoted _ = true
 
+-- How many bytes a finding with this code quotes, at a token of so many: none, all of them, or the one letter that is unknown.
+abbrev pub quoted_bytes : Code → ℕ → ℕ
+quoted_bytes W04 len = 1
+quoted_bytes code len = if is_quoted code then len else 0
+
 -- A finding at a token. One of what is missing altogether has none, and stands at the text's beginning.
 abbrev pub finding_at : Code → Option Piece → Finding
 finding_at code None = record { offset = 0; code = code; subject = 0 }
-finding_at code (Some token) = record { offset = token.start; code = code; subject = if is_quoted code then token.len else 0 }
+finding_at code (Some token) = record { offset = token.start; code = code; subject = quoted_bytes code token.len }
 
 -- The token of an item by the number of the item and its own number in it.
 abbrev pub token_of : List ProgramItem → ℕ → ℕ → Option Piece

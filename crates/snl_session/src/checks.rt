@@ -4,7 +4,7 @@
 
 ghost use Rattle.std.specs.Prelude.{◌≡◌, ◌++◌, All, OnOk, map};
 ghost use Rattle.snl_lex.specs.Pieces.{LiesIn};
-ghost use Rattle.snl_session.specs.Checked.{at_own_token, checked_faults, found_in_item};
+ghost use Rattle.snl_session.specs.Checked.{HasOffset, at_own_token, checked_faults, found_in_item};
 ghost use Rattle.snl_session.specs.Linked.{summaries_of};
 ghost use Rattle.snl_session.specs.Parts.{IsPart, part_of};
 
@@ -18,11 +18,16 @@ use snl_scope::Links;
 use snl_syntax::tree::item::Item;
 use std::alloc::Global;
 
-// A finding of an item, at its token.
+// A finding of an item, at its byte in its token.
 fn at_own_token(own: &[Piece], fault: ItemFault) -> Finding
+    requires { HasOffset own.now fault }
     ensures { result ≡ at_own_token own.now fault }
 {
-    finding_at(fault.code, own.get(fault.token).copied())
+    let found = finding_at(fault.code, own.get(fault.token).copied());
+    Finding {
+        offset: found.offset + fault.byte,
+        ..found
+    }
 }
 
 // Adds findings of an item, at their tokens.
@@ -31,6 +36,7 @@ fn add_at_tokens(
     faults: &[ItemFault],
     found: &mut Vec<Finding>,
 ) -> Result<(), OutOfMemory>
+    requires { All (HasOffset own.now) faults.now }
     ensures { OnOk result (found.new.items ≡ found.old.items ++ map (at_own_token own.now) faults.now) }
 {
     for fault in faults {

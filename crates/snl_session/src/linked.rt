@@ -3,7 +3,7 @@
 #![tactic(auto)]
 
 ghost use Rattle.std.specs.Prelude.{◌≡◌, ◌++◌, All, OnOk, map};
-ghost use Rattle.snl_session.specs.Linked.{finding_at, is_quoted, placed, token_of};
+ghost use Rattle.snl_session.specs.Linked.{finding_at, is_quoted, placed, quoted_bytes, token_of};
 ghost use Rattle.snl_session.specs.Parts.{IsPart, part_of};
 
 use crate::findings::Finding;
@@ -28,6 +28,16 @@ fn is_quoted(code: Code) -> bool
     )
 }
 
+// How many bytes are quoted, at a token of so many.
+fn quoted_bytes(code: Code, len: usize) -> usize
+    ensures { result ≡ quoted_bytes code len }
+{
+    match code {
+        Code::W04 => 1,
+        code => if is_quoted(code) { len } else { 0 },
+    }
+}
+
 /// A finding at a token, or at the text's beginning.
 pub fn finding_at(code: Code, token: Option<Piece>) -> Finding
     ensures { result ≡ finding_at code token }
@@ -36,7 +46,7 @@ pub fn finding_at(code: Code, token: Option<Piece>) -> Finding
         Some(token) => Finding {
             offset: token.start,
             code,
-            subject: if is_quoted(code) { token.len } else { 0 },
+            subject: quoted_bytes(code, token.len),
         },
         None => Finding {
             offset: 0,

@@ -311,3 +311,33 @@ fn finds_names_that_nothing_declares(rt: HostRuntime) -> Result<(), Fail> {
     )?;
     Ok(())
 }
+
+#[test]
+fn finds_statements_and_letters_by_their_place(rt: HostRuntime) -> Result<(), Fail> {
+    // one that quotes a letter stands at that letter
+    expect_found(
+        &rt,
+        b"program p option +ctw; ss s {\noption +z;\nstate i {\noption +tz;\nentry { state i; }\nwhen (delay(1)) { break; delay(2); } state i\n} }",
+        &[
+            (1, Code::W04, b"t"),
+            (2, Code::E03, b""),
+            (4, Code::W04, b"z"),
+            (5, Code::E18, b""),
+            (6, Code::E19, b"break"),
+            (6, Code::W03, b""),
+        ],
+    )?;
+    // at program level a state's options are still those of a state
+    expect_found(
+        &rt,
+        b"program p\nstate i { option +ext; option -www; entry { while (1) { } continue; } }\nss s { state i { } }",
+        &[
+            (2, Code::E03, b""),
+            (2, Code::W04, b"w"),
+            (2, Code::W04, b"w"),
+            (2, Code::W04, b"w"),
+            (2, Code::E19, b"continue"),
+        ],
+    )?;
+    Ok(())
+}
