@@ -3,3 +3,5 @@ pub mod Choices
 pub mod Each
 pub mod FreeUses
 pub mod Steps
+pub mod Searching
+pub mod Walks

@@ -5,3 +5,4 @@ pub mod Undeclared
 pub mod Outlook
 pub mod Found
 pub mod Alike
+pub mod Reach

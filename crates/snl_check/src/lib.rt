@@ -8,6 +8,9 @@ mod check_tests;
 mod event_flags;
 mod findings;
 mod laws;
+#[cfg(test)]
+mod reach_tests;
+mod reaching;
 mod scopes;
 mod undeclared;
 mod unknown_targets;
@@ -16,3 +19,4 @@ mod view;
 pub use check::check_item;
 pub use findings::{Checked, ItemFault};
 pub use laws::equal_views;
+pub use reaching::reach;
