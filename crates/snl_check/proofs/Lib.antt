@@ -5,3 +5,5 @@ pub mod FreeUses
 pub mod Steps
 pub mod Searching
 pub mod Walks
+pub mod Conditions
+pub mod Mentions

@@ -6,3 +6,4 @@ pub mod Outlook
 pub mod Found
 pub mod Alike
 pub mod Reach
+pub mod Wake

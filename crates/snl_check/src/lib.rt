@@ -15,8 +15,12 @@ mod scopes;
 mod undeclared;
 mod unknown_targets;
 mod view;
+mod wake;
+#[cfg(test)]
+mod wake_tests;
 
 pub use check::check_item;
 pub use findings::{Checked, ItemFault};
 pub use laws::equal_views;
 pub use reaching::reach;
+pub use wake::{WakeUse, wake_uses};
