@@ -1,6 +1,6 @@
 -- The uses of names in the conditions of a state, in the order of the text, each with its subscript: what can wake the state.
 -- A name that is called is not used, nor is one behind `.` or `->`. `bytes` says what stands at each token.
-use Rattle.std.specs.Prelude.{ℕ, Bool, true, false, List, [], ◌∷◌, ◌++◌, Option, Some, None, if◌then◌else◌}
+use Rattle.std.specs.Prelude.{ℕ, Bool, true, false, List, [], ◌∷◌, ◌++◌, map, Option, Some, None, if◌then◌else◌}
 use Rattle.std.specs.List.{flat_map}
 use Rattle.snl_lex.specs.Numbers.{int_value_of}
 use Rattle.snl_syntax.specs.declared.operator.Assignment.{Assignment}
@@ -92,6 +92,10 @@ behind bytes = fold-Suffix Operand Behind (expr_step bytes) suffix_step
 
 abbrev pub uses_in_expr : (ℕ → List ℕ) → Expr → List WakeUse
 uses_in_expr bytes e = (operand bytes e).uses
+
+-- An operand before these parts.
+abbrev pub uses_before_parts : (ℕ → List ℕ) → Expr → List Suffix → List WakeUse
+uses_before_parts bytes e parts = uses_before (operand bytes e).name (operand bytes e).uses (map (behind bytes) parts)
 
 -- A condition may be missing.
 abbrev pub uses_in_condition : (ℕ → List ℕ) → Option Expr → List WakeUse

@@ -1,10 +1,10 @@
 //! What can wake a state: its tree and its tokens come in; the uses of names in its conditions, in the order of the text and
 //! each with its subscript, go out. It does not know what a name means.
 
-ghost use Rattle.std.specs.Prelude.{◌≡◌, ◌++◌, IfOk, OnOk, map};
+ghost use Rattle.std.specs.Prelude.{◌≡◌, ◌++◌, ℕ, List, IfOk, OnOk, map};
 ghost use Rattle.std.specs.List.{flat_map};
 ghost use Rattle.snl_scope.specs.Summaries.Tokens.{IsSource, bytes_at};
-ghost use Rattle.snl_check.specs.Wake.{behind, operand, used_by_conditions, uses_behind, uses_in_all, uses_in_arms, uses_in_condition, uses_in_expr, uses_in_links, uses_in_targets, uses_of_name, wake_of_member, wake_uses};
+ghost use Rattle.snl_check.specs.Wake.{behind, operand, used_by_conditions, uses_before_parts, uses_behind, uses_in_all, uses_in_arms, uses_in_condition, uses_in_expr, uses_in_links, uses_in_targets, uses_of_name, wake_of_member, wake_uses};
 
 use snl_cut::OutOfMemory;
 use snl_scope::Source;
@@ -23,8 +23,8 @@ pub struct WakeUse {
 }
 
 // The token of an operand that is a name alone.
-fn name_of(source: &Source, expr: &Expr) -> Option<usize>
-    ensures { result ≡ (operand (bytes_at source.now.text.now source.now.tokens.now) expr.now).name }
+fn name_of(expr: &Expr) -> Option<usize>
+    ensures { (bytes : ℕ → List ℕ) → result ≡ (operand bytes expr.now).name }
 {
     match expr {
         Expr::Name(name) => Some(*name),
@@ -75,10 +75,7 @@ fn add_expr(source: &Source, expr: &Expr, uses: &mut Vec<WakeUse>) -> Result<(),
         Expr::Name(name) => add_name(source, *name, &[], uses),
         Expr::Group(inner) => add_expr(source, inner.get(), uses),
         Expr::Postfix(operand, parts) => {
-            match name_of(source, operand.get()) {
-                Some(name) => add_name(source, name, parts.as_slice(), uses)?,
-                None => add_expr(source, operand.get(), uses)?,
-            }
+            add_operand(source, operand.get(), parts.as_slice(), uses)?;
             add_parts(source, parts.as_slice(), uses)
         }
         Expr::Prefixed(_, operand) => add_expr(source, operand.get(), uses),
@@ -103,6 +100,23 @@ fn add_expr(source: &Source, expr: &Expr, uses: &mut Vec<WakeUse>) -> Result<(),
         | Expr::Character(_)
         | Expr::Text(_)
         | Expr::SizeofType(_) => Ok(()),
+    }
+}
+
+// Adds the uses in an operand before these parts.
+#[cycle(conditions)]
+fn add_operand(
+    source: &Source,
+    operand: &Expr,
+    parts: &[Suffix],
+    uses: &mut Vec<WakeUse>,
+) -> Result<(), OutOfMemory>
+    requires { IsSource source.now.text.now source.now.tokens.now }
+    ensures { OnOk result (uses.new.items ≡ uses.old.items ++ uses_before_parts (bytes_at source.now.text.now source.now.tokens.now) operand.now parts.now) }
+{
+    match name_of(operand) {
+        Some(name) => add_name(source, name, parts, uses),
+        None => add_expr(source, operand, uses),
     }
 }
 

@@ -28,3 +28,13 @@ add_expr-returns-in_ok-add_expr-in-Sequence t c =
     let bytes = bytes_at c.args.source.now.text.now c.args.source.now.tokens.now in
     let same = ap (uses_in_expr bytes) c.in-Sequence.is ∙ uses-Sequence bytes c.in-Sequence.first c.in-Sequence.others in
     rw same (grind (arith, common_steps))
+
+pub add_operand-returns-in-Some : goal.add_operand-returns-in-Some
+add_operand-returns-in-Some t c =
+    let named = c.in-Some.ensures (bytes_at c.args.source.now.text.now c.args.source.now.tokens.now) in
+    rw (← named) c.add_name.ensures
+
+pub add_operand-returns-in-None : goal.add_operand-returns-in-None
+add_operand-returns-in-None t c =
+    let named = c.in-None.ensures (bytes_at c.args.source.now.text.now c.args.source.now.tokens.now) in
+    rw (← named) c.add_expr.ensures
