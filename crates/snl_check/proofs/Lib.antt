@@ -5,3 +5,7 @@ pub mod FreeUses
 pub mod Operands
 pub mod Within
 pub mod Steps
+pub mod Searching
+pub mod Walks
+pub mod Conditions
+pub mod Mentions

@@ -10,3 +10,5 @@ pub mod Undeclared
 pub mod Outlook
 pub mod Found
 pub mod Alike
+pub mod Reach
+pub mod Wake

@@ -12,12 +12,20 @@ mod findings;
 mod laws;
 mod loops;
 mod options;
+#[cfg(test)]
+mod reach_tests;
+mod reaching;
 mod scopes;
 mod state_changes;
 mod undeclared;
 mod unknown_targets;
 mod view;
+mod wake;
+#[cfg(test)]
+mod wake_tests;
 
 pub use check::check_item;
 pub use findings::{Checked, ItemFault};
 pub use laws::equal_views;
+pub use reaching::reach;
+pub use wake::{WakeUse, wake_uses};
