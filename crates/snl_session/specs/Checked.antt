@@ -25,7 +25,7 @@ moved bytes x = record { offset = x.offset + bytes; code = x.code; subject = x.s
 abbrev pub at_own_token : List Piece → ItemFault → Finding
 at_own_token tokens fault = moved fault.byte (finding_at fault.code (slice_get tokens fault.token))
 
--- It stands where an offset can say.
+-- Its place is an offset that the machine can hold.
 abbrev pub HasOffset : List Piece → ItemFault → Type 0
 HasOffset tokens fault = (at_own_token tokens fault).offset < 2 ^ 64
 
