@@ -1,5 +1,5 @@
 -- Lemmas on what declarations are assigned to: what one more clause is to the table that follows them.
-use Rattle.std.proofs.Common.{◌≡◌, ℕ, Bool, true, false, ◌&&◌, ◌||◌, cond, List, [], ◌∷◌, ◌++◌, nat_eq, Option, None, Some, is_some, refl, sym, ap, ◌∙◌, true≢false, if◌then◌else◌}
+use Rattle.std.proofs.Common.{◌≡◌, ℕ, Bool, true, false, ◌&&◌, ◌||◌, cond, List, [], ◌∷◌, ◌++◌, nat_eq, Option, None, Some, is_none, is_some, refl, sym, ap, ◌∙◌, true≢false, if◌then◌else◌}
 use Rattle.std.proofs.lemmas.Bool.Decides.{Decides-eqb}
 use Rattle.std.specs.List.{list_any}
 use Rattle.std.specs.Map.{lookup}
@@ -65,24 +65,39 @@ stays held cs c f known = record { each = λ q. f.each q ∙ sym (first_assign-p
     by q true None h = absurd (true≢false (sym (h refl)))
     by q false None h = refl
 
-pub no_assign : (held : List (ℕ × Assigned)) (cs : List LinkedClause) (c : LinkedClause) → Assigns held cs → is_assign c.clause.kind ≡ false → Assigns held (cs ++ c ∷ [])
-no_assign held cs c f h = stays held cs c f (λ q t. absurd (true≢false (sym (assigns-kind c q t) ∙ h)))
-
 pub no_variable : (held : List (ℕ × Assigned)) (cs : List LinkedClause) (c : LinkedClause) → Assigns held cs → c.variable ≡ None → Assigns held (cs ++ c ∷ [])
 no_variable held cs c f h =
     stays held cs c f (λ q t.
     absurd (true≢false (sym (both-true (is_assign c.clause.kind) (same_number (Some q) c.variable) t).1 ∙ ap (λ o. same_number (Some q) o) h)))
 
-pub assigned_before : (held : List (ℕ × Assigned)) (cs : List LinkedClause) (c : LinkedClause) (v : ℕ) → Assigns held cs → c.variable ≡ Some v
-    → is_some (lookup (nat_eq v) held) ≡ true → Assigns held (cs ++ c ∷ [])
-assigned_before held cs c v f is there = stays held cs c f (λ q t. ap (λ n. is_some (first_assign cs n)) (assigns-number c q v is t) ∙ ap is_some (sym (f.each v)) ∙ there)
+-- the clause assigns nothing, or something that the table tells of
+pub not_first : (held : List (ℕ × Assigned)) (cs : List LinkedClause) (c : LinkedClause) (v : ℕ) → Assigns held cs → c.variable ≡ Some v
+    → (is_assign c.clause.kind && is_none (lookup (nat_eq v) held)) ≡ false → Assigns held (cs ++ c ∷ [])
+not_first held cs c v f is h =
+    stays held cs c f (λ q t.
+    there (is_assign c.clause.kind) (lookup (nat_eq v) held) (assigns-kind c q t) h (f.each v ∙ ap (first_assign cs) (sym (assigns-number c q v is t))))
+  where
+    there : (b : Bool) (o : Option Assigned) {p : Option Assigned} → b ≡ true → (b && is_none o) ≡ false → o ≡ p → is_some p ≡ true
+    there true (Some x) g n e = ap is_some (sym e)
+    there true None g n e = absurd (true≢false n)
+    there false o g n e = absurd (true≢false (sym g))
 
 -- the clause is the first that assigns its variable
 pub assigned_now : (held held' : List (ℕ × Assigned)) (cs : List LinkedClause) (c : LinkedClause) (v : ℕ) → Assigns held cs → c.variable ≡ Some v
-    → is_assign c.clause.kind ≡ true → is_some (lookup (nat_eq v) held) ≡ false
+    → (is_assign c.clause.kind && is_none (lookup (nat_eq v) held)) ≡ true
     → ((q : ℕ) → lookup (nat_eq q) held' ≡ cond (nat_eq v q) (Some (assigned_as c.clause.coverage)) (lookup (nat_eq q) held)) → Assigns held' (cs ++ c ∷ [])
-assigned_now held held' cs c v f is kind absent put = record { each = λ q. put q ∙ by q (nat_eq v q) refl ∙ sym (first_assign-push cs c q) }
+assigned_now held held' cs c v f is first put = record { each = λ q. put q ∙ by q (nat_eq v q) refl ∙ sym (first_assign-push cs c q) }
   where
+    kind : is_assign c.clause.kind ≡ true
+    kind = (both-true (is_assign c.clause.kind) (is_none (lookup (nat_eq v) held)) first).0
+
+    missing : (o : Option Assigned) → is_none o ≡ true → is_some o ≡ false
+    missing None h = refl
+    missing (Some x) h = absurd (true≢false (sym h))
+
+    absent : is_some (lookup (nat_eq v) held) ≡ false
+    absent = missing (lookup (nat_eq v) held) (both-true (is_assign c.clause.kind) (is_none (lookup (nat_eq v) held)) first).1
+
     test : (q : ℕ) → assigns (Some q) c ≡ nat_eq q v
     test q = ap (λ b. b && same_number (Some q) c.variable) kind ∙ ap (λ o. same_number (Some q) o) is
 
