@@ -5,19 +5,20 @@ ghost use Rattle.snl_scope.specs.declared.summary.Summary.{Summary};
 ghost use Rattle.snl_scope.specs.Linked.{faults_of};
 ghost use Rattle.snl_scope.specs.Once.{AreFoundOnce, TokensRise};
 ghost use Rattle.snl_scope.specs.Summaries.{summary_in};
-ghost use Rattle.snl_syntax.specs.Grammar.Items.{IsItem};
+ghost use Rattle.snl_syntax.specs.Reading.Items.{item_of};
 ghost use Rattle.snl_syntax.specs.Parsing.{kinds_in};
 ghost use Rattle.snl_syntax.specs.declared.tree.item.Item.{Item};
-ghost use Rattle.std.specs.Prelude.{ℕ, All, List};
+ghost use Rattle.std.specs.Prelude.{◌≡◌, ℕ, All, List, Some};
 
-use snl_syntax::item_spelled;
+use snl_syntax::{item_read, item_spelled};
 
 /// In the summary of an item, no two declarations stand at one token, nor do the variables of two clauses, nor the flags
 /// of two. A faulty item has none of them.
 pub fn tokens_declared_once()
-    ensures tree { (text : List ℕ) (tokens : List Piece) (t : Item) → IsItem t (kinds_in text tokens) → TokensRise (summary_in text tokens (Some t)) }
+    ensures tree { (text : List ℕ) (tokens : List Piece) (t : Item) → item_of (kinds_in text tokens) ≡ Some t → TokensRise (summary_in text tokens (Some t)) }
     ensures faulty { (text : List ℕ) (tokens : List Piece) → TokensRise (summary_in text tokens None) }
 {
+    item_read();
     item_spelled();
 }
 

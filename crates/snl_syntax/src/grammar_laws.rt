@@ -1,14 +1,21 @@
 //! The laws of the grammar of items. A function here does nothing: its contract is the law.
 
 ghost use Rattle.snl_syntax.specs.Grammar.Items.{IsItem};
+ghost use Rattle.snl_syntax.specs.Reading.Items.{item_of};
 ghost use Rattle.snl_syntax.specs.Viability.{IsFaultAt, IsViable};
 ghost use Rattle.snl_syntax.specs.declared.kind.Kind.{Kind};
 ghost use Rattle.snl_syntax.specs.declared.tree.item.Item.{Item};
-ghost use Rattle.std.specs.Prelude.{◌≡◌, ℕ, ◌≤◌, List, length};
+ghost use Rattle.std.specs.Prelude.{◌≡◌, ℕ, ◌≤◌, List, Some, length};
 
 /// One list of tokens makes one item at most.
 pub fn one_item()
     ensures { (kinds : List Kind) (t u : Item) → IsItem t kinds → IsItem u kinds → t ≡ u }
+{}
+
+/// The tree that is read of tokens is the one that the grammar has for them, and where nothing is read, the grammar has none.
+pub fn item_read()
+    ensures read { (kinds : List Kind) (t : Item) → IsItem t kinds → item_of kinds ≡ Some t }
+    ensures told { (kinds : List Kind) (t : Item) → item_of kinds ≡ Some t → IsItem t kinds }
 {}
 
 /// An item can begin with all its tokens; and where it can begin with some, it can with the first of them.
