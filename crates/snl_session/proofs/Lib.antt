@@ -1,5 +1,6 @@
 pub mod Ends
 pub mod Offsets
+pub mod Rising
 pub mod Faults
 pub mod Ranks
 pub mod Sorting

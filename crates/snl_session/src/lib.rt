@@ -8,6 +8,7 @@ mod checks;
 mod diagnose;
 mod edits;
 mod findings;
+mod laws;
 mod linked;
 #[cfg(test)]
 mod linked_tests;
@@ -20,5 +21,6 @@ mod tests;
 
 pub use edits::{Refused, Work};
 pub use findings::Diagnostic;
+pub use laws::linked_once;
 pub use sessions::Session;
 pub use snl_scope::Code;
