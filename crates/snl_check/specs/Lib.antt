@@ -5,6 +5,7 @@ pub mod StateChanges
 pub mod Loops
 pub mod Calls
 pub mod Delays
+pub mod Arguments
 pub mod Options
 pub mod Undeclared
 pub mod Outlook

@@ -2,6 +2,8 @@
 //! out. It knows no offsets, and of the other items no more than what it is told.
 #![tactic(auto)]
 
+mod arguments;
+mod arguments_of;
 mod calls;
 mod check;
 #[cfg(test)]
