@@ -8,6 +8,8 @@ pub mod Delays
 pub mod Arguments
 pub mod Options
 pub mod Undeclared
+pub mod Meanings
+pub mod Judged
 pub mod Outlook
 pub mod Found
 pub mod Alike

@@ -11,10 +11,7 @@ use snl_syntax::tree::declaration::{Declaration, Declarator, Parameter};
 use snl_syntax::tree::item::StructMember;
 use snl_syntax::tree::statement::ForHead;
 
-fn add_declarator(
-    declarator: &Declarator,
-    arguments: &mut Vec<Argument>,
-) -> Result<(), OutOfMemory>
+fn add_declarator(declarator: &Declarator, arguments: &mut Vec<Argument>) -> Result<(), OutOfMemory>
     ensures { OnOk result (arguments.new.items ≡ arguments.old.items ++ arguments_in_declarator declarator.now) }
 {
     add_lengths(declarator.lengths.as_slice(), arguments)?;
@@ -35,10 +32,7 @@ pub(crate) fn add_declaration(
 }
 
 /// Adds the arguments in the brackets of a `for`.
-pub(crate) fn add_head(
-    head: &ForHead,
-    arguments: &mut Vec<Argument>,
-) -> Result<(), OutOfMemory>
+pub(crate) fn add_head(head: &ForHead, arguments: &mut Vec<Argument>) -> Result<(), OutOfMemory>
     ensures { OnOk result (arguments.new.items ≡ arguments.old.items ++ arguments_in_head head.now) }
 {
     add_optional(&head.first, arguments)?;

@@ -8,11 +8,14 @@ mod calls;
 mod check;
 #[cfg(test)]
 mod check_tests;
+mod declares;
 mod delays;
 mod event_flags;
 mod findings;
+mod judged;
 mod laws;
 mod loops;
+mod meanings;
 mod options;
 mod scopes;
 mod state_changes;
