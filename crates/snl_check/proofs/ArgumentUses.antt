@@ -1,5 +1,5 @@
 -- The arguments in expressions, initialisers and what they stand in are uses: what holds of each use holds of each argument's name.
-use Rattle.std.proofs.Common.{◌≡◌, ℕ, Bool, true, false, ◌&&◌, cond, if◌then◌else◌, List, [], ◌∷◌, ◌++◌, map, Option, Some, None, is_some, refl, subst, sym, ap, ◌∙◌, true≢false}
+use Rattle.std.proofs.Common.{◌≡◌, ℕ, Bool, true, false, ◌&&◌, if◌then◌else◌, List, [], ◌∷◌, ◌++◌, map, Option, Some, None, is_some, refl, subst, sym, true≢false}
 use Rattle.std.specs.List.{AllByRecursion, concat, flat_map}
 use Rattle.snl_syntax.specs.declared.operator.Assignment.{Assignment}
 use Rattle.snl_syntax.specs.declared.operator.Binary.{Binary}

@@ -17,7 +17,7 @@ use Rattle.snl_scope.specs.Summaries.Uses.{used_by_block, used_by_body, used_by_
 use Rattle.snl_scope.specs.Summaries.Uses as uses
 use Rattle.snl_check.specs.declared.arguments.Argument.{Argument}
 use Rattle.snl_check.specs.declared.meanings.Declared.{Declared}
-use Rattle.snl_check.specs.Arguments.{arguments_if, arguments_in_declaration, arguments_in_expr, arguments_in_head, arguments_in_parameter, arguments_in_part}
+use Rattle.snl_check.specs.Arguments.{arguments_if, arguments_in_expr, arguments_in_head, arguments_in_parameter, arguments_in_part}
 use Rattle.snl_check.specs.Judged.{Inside, Part, arms_of, asked_in_branches, asked_in_member, asked_in_parts, declared_by_parts, inside_block, inside_function_with, inside_item, inside_stmt, part_of, part_step, parts_of, stmt_step}
 use Rattle.snl_check.specs.Meanings.{declared_by_members, declared_by_parameter, is_unresolved, meaning_in, unresolved_by}
 use Rattle.snl_check.proofs.ArgumentUses.{in_declaration, in_each, in_expr, in_head, in_optional, in_parameter, in_part, token_is}
