@@ -1,8 +1,13 @@
 pub mod SameView
 pub mod Choices
+pub mod JudgedChoices
 pub mod Each
 pub mod FreeUses
+pub mod ArgumentUses
+pub mod AskedUses
 pub mod Operands
+pub mod Asked
+pub mod Lookups
 pub mod Within
 pub mod Steps
 pub mod Searching

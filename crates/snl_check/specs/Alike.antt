@@ -1,6 +1,6 @@
 -- What is found in an item goes by its tokens, its tree and its view alone: by whether it stands in a state set, by what is
 -- known of the names that it uses, and by whether its targets are states.
-use Rattle.std.specs.Prelude.{◌≡◌, ℕ, Bool, List, map, Some}
+use Rattle.std.specs.Prelude.{◌≡◌, ℕ, List, map, Some}
 use Rattle.std.specs.List.{All}
 use Rattle.snl_lex.specs.declared.piece.Piece.{Piece}
 use Rattle.snl_syntax.specs.declared.tree.item.Item.{Item}
@@ -11,9 +11,9 @@ use Rattle.snl_scope.specs.Summaries.Tokens.{bytes_at}
 abbrev pub SameTokens : List ℕ → List Piece → List ℕ → List Piece → Type 0
 SameTokens text tokens moved shifted = (n : ℕ) → bytes_at text tokens n ≡ bytes_at moved shifted n
 
--- Two tests say the same of each of these names.
-abbrev pub Agree : (List ℕ → Bool) → (List ℕ → Bool) → List (List ℕ) → Type 0
-Agree test other names = All (λ name. test name ≡ other name) names
+-- Two accounts of names say the same of each of these.
+abbrev pub Agree : {A : Type 0} → (List ℕ → A) → (List ℕ → A) → List (List ℕ) → Type 0
+Agree account other names = All (λ name. account name ≡ other name) names
 
 -- The names that an item uses, each once, and the states that it leads to, as its summary has them.
 abbrev pub used_names : List ℕ → List Piece → Item → List (List ℕ)

@@ -5,8 +5,11 @@ pub mod StateChanges
 pub mod Loops
 pub mod Calls
 pub mod Delays
+pub mod Arguments
 pub mod Options
 pub mod Undeclared
+pub mod Meanings
+pub mod Judged
 pub mod Outlook
 pub mod Found
 pub mod Alike

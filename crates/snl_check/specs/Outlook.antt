@@ -1,5 +1,6 @@
 -- What an item sees of the others, by the summaries of all and its number among them.
-use Rattle.std.specs.Prelude.{ℕ, Bool, List, is_some}
+use Rattle.std.specs.Prelude.{ℕ, Bool, List, Option, is_some}
+use Rattle.snl_scope.specs.declared.facts.Fact.{Fact}
 use Rattle.snl_scope.specs.declared.summary.Summary.{Summary}
 use Rattle.snl_scope.specs.Linked.{fact_of, has_target}
 use Rattle.snl_scope.specs.Places.{place}
@@ -8,9 +9,9 @@ use Rattle.snl_scope.specs.Places.{place}
 unfoldable pub is_in_set : List Summary → ℕ → Bool
 is_in_set ss item = is_some (place ss item)
 
--- A scope outside it declares the name.
-unfoldable pub knows : List Summary → ℕ → List ℕ → Bool
-knows ss item name = is_some (fact_of ss item name)
+-- What is known of a name that a scope outside it declares.
+unfoldable pub known_of : List Summary → ℕ → List ℕ → Option Fact
+known_of ss item name = fact_of ss item name
 
 -- Its state set has a state of the name.
 unfoldable pub leads_to : List Summary → ℕ → List ℕ → Bool

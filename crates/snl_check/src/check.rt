@@ -3,13 +3,16 @@
 ghost use Rattle.std.specs.Prelude.{◌≡◌, ◌++◌, All, IfOk, OnOk, map};
 ghost use Rattle.snl_cut.specs.Cut.{ticked};
 ghost use Rattle.snl_scope.specs.Summaries.Tokens.{IsSource, bytes_at};
-ghost use Rattle.snl_check.specs.Found.{StandsIn, fault_at, faults_in, faults_of_tree};
-ghost use Rattle.snl_check.specs.Outlook.{is_in_set, knows, leads_to};
+ghost use Rattle.snl_check.specs.Found.{StandsIn, argument_code, argument_fault, fault_at, faults_in, faults_of_tree};
+ghost use Rattle.snl_check.specs.Outlook.{is_in_set, known_of, leads_to};
 
+use crate::arguments::Argument;
 use crate::delays::stray_delays;
 use crate::event_flags::add_wrong_flags;
 use crate::findings::{Checked, ItemFault};
+use crate::judged::wrong_arguments;
 use crate::loops::add_stray_jumps;
+use crate::meanings::asks_for_flag;
 use crate::options::add_unknown_options;
 use crate::scopes::add_item;
 use crate::state_changes::add_stray_changes;
@@ -32,6 +35,36 @@ fn add_faults(code: Code, tokens: &[usize], faults: &mut Vec<ItemFault>) -> Resu
             token: *token,
             byte: 0,
             code,
+        })?;
+    }
+    Ok(())
+}
+
+fn argument_code(source: &Source, argument: Argument) -> Code
+    requires { IsSource source.now.text.now source.now.tokens.now }
+    ensures { result ≡ argument_code (bytes_at source.now.text.now source.now.tokens.now) argument }
+{
+    if asks_for_flag(source.bytes(argument.call)) {
+        Code::E20
+    } else {
+        Code::E21
+    }
+}
+
+// Adds a finding at each of these arguments.
+fn add_argument_faults(
+    source: &Source,
+    arguments: &[Argument],
+    faults: &mut Vec<ItemFault>,
+) -> Result<(), OutOfMemory>
+    requires { IsSource source.now.text.now source.now.tokens.now }
+    ensures { OnOk result (faults.new.items ≡ faults.old.items ++ map (argument_fault (bytes_at source.now.text.now source.now.tokens.now)) arguments.now) }
+{
+    for argument in arguments {
+        faults.push(ItemFault {
+            token: argument.token,
+            byte: 0,
+            code: argument_code(source, *argument),
         })?;
     }
     Ok(())
@@ -68,7 +101,7 @@ pub fn check_item(
     work: &mut Count,
 ) -> Result<Checked, OutOfMemory>
     requires { IsSource text.now tokens.now }
-    ensures faults { IfOk result (λ c. c.faults ≡ faults_in (bytes_at text.now tokens.now) tree.now (is_in_set links.now item) (knows links.now item) (leads_to links.now item)) }
+    ensures faults { IfOk result (λ c. c.faults ≡ faults_in (bytes_at text.now tokens.now) tree.now (is_in_set links.now item) (known_of links.now item) (leads_to links.now item)) }
     ensures within { IfOk result (λ c. All (StandsIn (bytes_at text.now tokens.now)) c.faults) }
     ensures ticks { work.new ≡ ticked work.old }
 {
@@ -90,6 +123,11 @@ pub fn check_item(
         &mut faults,
     )?;
     add_tree_faults(alloc, tree, &mut faults)?;
+    add_argument_faults(
+        &source,
+        &wrong_arguments(&source, tree, &view)?,
+        &mut faults,
+    )?;
     add_faults(Code::W01, &undeclared(&source, &view, &free)?, &mut faults)?;
     add_faults(Code::W03, &stray_delays(&source, tree)?, &mut faults)?;
     add_unknown_options(&source, tree, &view, &mut faults)?;

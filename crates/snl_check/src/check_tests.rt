@@ -66,6 +66,8 @@ fn found_by(alloc: Global, text: &[u8], links: &Links, item: usize) -> Result<Ve
             Code::E17 => b"E17:".as_slice(),
             Code::E18 => b"E18:".as_slice(),
             Code::E19 => b"E19:".as_slice(),
+            Code::E20 => b"E20:".as_slice(),
+            Code::E21 => b"E21:".as_slice(),
             Code::W01 => b"W01:".as_slice(),
             Code::W03 => b"W03:".as_slice(),
             Code::W04 => b"W04:".as_slice(),
@@ -341,6 +343,91 @@ fn letters_of_options(rt: HostRuntime) -> Result<(), Fail> {
     assert_eq!(rt;
         found_by(alloc, b"state i { option +w; }", &links, 0)?.as_slice(),
         b"W04:w ".as_slice()
+    );
+    Ok(())
+}
+
+#[test]
+fn arguments_of_calls(rt: HostRuntime) -> Result<(), Fail> {
+    let alloc = rt.alloc();
+    assert_eq!(rt;
+        found(
+            alloc,
+            b"state i { int x; evflag f; entry { efSet(x); pvPut(x); efSet(f); pvPut(f); efSet(y); pvGet(y); efSet(u); } }"
+        )?
+        .as_slice(),
+        b"E20:x E21:x E21:f E20:y E21:y W01:u ".as_slice()
+    );
+    assert_eq!(rt;
+        found(
+            alloc,
+            b"entry { efSet((y)); pvGet(&y); efTest(y[1]); pvGet(y[1][2]); pvPut(y.m[1]); pvPut(y, 1); efClear(1); pvGet(); (pvGet)(y); pvGet[0](y); g(pvGet(y)); }"
+        )?
+        .as_slice(),
+        b"E21:y E21:y E21:y W01:pvGet ".as_slice()
+    );
+    assert_eq!(rt;
+        found(
+            alloc,
+            b"int f(int pvStatus) { efTest(y), efTestAndClear(y); pvMonitor(y); pvStopMonitor(y); pvAssign(y); pvConnected(y); pvAssigned(y); pvStatus(y); pvSeverity(y); pvTimeStamp(y); pvFlush(y); }"
+        )?
+        .as_slice(),
+        b"E20:y E20:y E21:y E21:y E21:y E21:y E21:y E21:y E21:y E21:y ".as_slice()
+    );
+    assert_eq!(rt;
+        found(
+            alloc,
+            b"state i { int a[pvGet(y)] = {efTest(y)}; when (pvGet(y)) { } state z }"
+        )?
+        .as_slice(),
+        b"E21:y E20:y E21:y ".as_slice()
+    );
+    Ok(())
+}
+
+#[test]
+fn arguments_by_scopes(rt: HostRuntime) -> Result<(), Fail> {
+    let alloc = rt.alloc();
+    assert_eq!(rt;
+        found(
+            alloc,
+            b"int f(int y, evflag g) { efSet(y); pvPut(y); efSet(g); pvPut(g); { int g; evflag y; efSet(y); efSet(g); pvPut(g); } }"
+        )?
+        .as_slice(),
+        b"E17:y E20:g E21:g E20:y ".as_slice()
+    );
+    assert_eq!(rt;
+        found(
+            alloc,
+            b"state i { foreign y; int x; assign x to \"c\"; evflag g; int g; entry { efSet(y); pvPut(y); pvPut(x); efSet(x); efSet(g); pvPut(g); } }"
+        )?
+        .as_slice(),
+        b"E07:g E20:x E21:g ".as_slice()
+    );
+    assert_eq!(rt;
+        found(
+            alloc,
+            b"state i { int x; monitor x; exit { pvPut(x); { assert(x); pvPut(x[1]); } } }"
+        )?
+        .as_slice(),
+        b"E21:x E21:x ".as_slice()
+    );
+    Ok(())
+}
+
+#[test]
+fn arguments_by_other_items(rt: HostRuntime) -> Result<(), Fail> {
+    let alloc = rt.alloc();
+    let before = summary(alloc, b"evflag f;")?;
+    let names = summary(alloc, b"foreign g;")?;
+    let function = summary(alloc, b"evflag h() { }")?;
+    let text =
+        b"entry { efSet(f); pvPut(f); efSet(g); pvPut(g); efSet(h); pvPut(h); efSet(u); pvPut(u); }";
+    let own = summary(alloc, text)?;
+    let links = link(alloc, &[&before, &names, &function, &own])?;
+    assert_eq!(rt;
+        found_by(alloc, text, &links, 3)?.as_slice(),
+        b"E21:f E20:h E21:h W01:u ".as_slice()
     );
     Ok(())
 }

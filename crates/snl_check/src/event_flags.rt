@@ -11,7 +11,7 @@ use snl_syntax::tree::state::StateMember;
 use snl_syntax::tree::statement::{Member, Stmt};
 use snl_syntax::tree::types::Base;
 
-fn is_event_flag(base: Base) -> bool
+pub(crate) fn is_event_flag(base: Base) -> bool
     ensures { result ≡ is_event_flag base }
 {
     matches!(base, Base::Evflag)

@@ -1,8 +1,9 @@
 //! The law of the check of items. A function here does nothing: its contract is the law.
 
-ghost use Rattle.std.specs.Prelude.{◌≡◌, ℕ, Bool, List};
+ghost use Rattle.std.specs.Prelude.{◌≡◌, ℕ, Bool, List, Option};
 ghost use Rattle.snl_lex.specs.declared.piece.Piece.{Piece};
 ghost use Rattle.snl_syntax.specs.declared.tree.item.Item.{Item};
+ghost use Rattle.snl_scope.specs.declared.facts.Fact.{Fact};
 ghost use Rattle.snl_scope.specs.Summaries.Tokens.{bytes_at};
 ghost use Rattle.snl_check.specs.Alike.{Agree, SameTokens, target_names, used_names};
 ghost use Rattle.snl_check.specs.Found.{faults_in};
@@ -10,9 +11,9 @@ ghost use Rattle.snl_check.specs.Found.{faults_in};
 /// The same is found in an item of the same tokens and tree, wherever it stands, where the same is known of each name that it
 /// uses, and of each of its targets.
 pub fn equal_views()
-    ensures { (text moved : List ℕ) (tokens shifted : List Piece) (tree : Item) (in_set : Bool) (known other target another : List ℕ → Bool)
+    ensures { (text moved : List ℕ) (tokens shifted : List Piece) (tree : Item) (in_set : Bool) (fact other : List ℕ → Option Fact) (target another : List ℕ → Bool)
         → SameTokens text tokens moved shifted
-        → Agree known other (used_names text tokens tree)
+        → Agree fact other (used_names text tokens tree)
         → Agree target another (target_names text tokens tree)
-        → faults_in (bytes_at text tokens) tree in_set known target ≡ faults_in (bytes_at moved shifted) tree in_set other another }
+        → faults_in (bytes_at text tokens) tree in_set fact target ≡ faults_in (bytes_at moved shifted) tree in_set other another }
 {}

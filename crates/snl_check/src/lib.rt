@@ -2,15 +2,20 @@
 //! out. It knows no offsets, and of the other items no more than what it is told.
 #![tactic(auto)]
 
+mod arguments;
+mod arguments_of;
 mod calls;
 mod check;
 #[cfg(test)]
 mod check_tests;
+mod declares;
 mod delays;
 mod event_flags;
 mod findings;
+mod judged;
 mod laws;
 mod loops;
+mod meanings;
 mod options;
 #[cfg(test)]
 mod reach_tests;

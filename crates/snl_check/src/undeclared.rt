@@ -3,7 +3,7 @@
 
 ghost use Rattle.std.specs.Prelude.{◌≡◌, IfOk};
 ghost use Rattle.snl_scope.specs.Summaries.Tokens.{IsSource, bytes_at};
-ghost use Rattle.snl_check.specs.Outlook.{knows};
+ghost use Rattle.snl_check.specs.Outlook.{known_of};
 ghost use Rattle.snl_check.specs.Undeclared.{is_built_in, is_channel_constant, is_constant, undeclared};
 
 use crate::view::View;
@@ -40,13 +40,13 @@ pub(crate) fn undeclared(
     free: &[usize],
 ) -> Result<Vec<usize>, OutOfMemory>
     requires { IsSource source.now.text.now source.now.tokens.now }
-    ensures { IfOk result (λ v. v.items ≡ undeclared (bytes_at source.now.text.now source.now.tokens.now) (knows view.now.links.now view.now.item) free.now) }
+    ensures { IfOk result (λ v. v.items ≡ undeclared (bytes_at source.now.text.now source.now.tokens.now) (known_of view.now.links.now view.now.item) free.now) }
 {
     let mut names = NameSet::new(source.alloc);
     let mut firsts = Vec::new(source.alloc);
     for number in free {
         let name = source.bytes(*number);
-        if !view.knows(name) && !is_built_in(name) {
+        if view.fact(name).is_none() && !is_built_in(name) {
             if names.add(name)? {
                 firsts.push(*number)?;
             }

@@ -2,7 +2,7 @@
 
 ghost use Rattle.std.specs.Prelude.{◌≡◌};
 
-use snl_scope::Links;
+use snl_scope::{Fact, Links};
 
 /// What an item sees of the other items: the item is told by its number among those that are linked.
 #[derive(Clone, Copy)]
@@ -12,7 +12,7 @@ pub(crate) struct View<'a> {
 }
 
 impl View<'_> {
-    ghost use Rattle.snl_check.specs.Outlook.{is_in_set, knows, leads_to};
+    ghost use Rattle.snl_check.specs.Outlook.{is_in_set, known_of, leads_to};
 
     /// Whether the item stands in a state set.
     #[tactic(auto, unfolding(crate::specs::Outlook::is_in_set))]
@@ -22,12 +22,12 @@ impl View<'_> {
         self.links.place(self.item).is_some()
     }
 
-    /// Whether a scope outside the item declares the name.
-    #[tactic(auto, unfolding(crate::specs::Outlook::knows))]
-    pub(crate) fn knows(&self, name: &[u8]) -> bool
-        ensures { result ≡ knows self.now.links.now self.now.item name.now }
+    /// What a name means by the scopes outside the item.
+    #[tactic(auto, unfolding(crate::specs::Outlook::known_of))]
+    pub(crate) fn fact(&self, name: &[u8]) -> Option<Fact>
+        ensures { result ≡ known_of self.now.links.now self.now.item name.now }
     {
-        self.links.fact(self.item, name).is_some()
+        self.links.fact(self.item, name)
     }
 
     /// Whether the item's state set has a state of the name.

@@ -7,7 +7,7 @@ use Rattle.snl_scope.specs.declared.summary.Summary.{Summary}
 use Rattle.snl_scope.specs.Summaries.Tokens.{bytes_at}
 use Rattle.snl_check.specs.declared.findings.ItemFault.{ItemFault}
 use Rattle.snl_check.specs.Found.{faults_in}
-use Rattle.snl_check.specs.Outlook.{is_in_set, knows, leads_to}
+use Rattle.snl_check.specs.Outlook.{is_in_set, known_of, leads_to}
 use Rattle.snl_session.specs.declared.findings.Finding.{Finding}
 use Rattle.snl_session.specs.Linked.{finding_at, summaries_of}
 use Rattle.snl_session.specs.Program.{ProgramItem}
@@ -15,7 +15,7 @@ use Rattle.snl_session.specs.Program.{ProgramItem}
 -- What is found in item i. A faulty item has no tree, and is checked no further.
 abbrev pub faults_of_item : List ℕ → List Summary → ℕ → List Piece → Option Item → List ItemFault
 faults_of_item text ss i tokens None = []
-faults_of_item text ss i tokens (Some tree) = faults_in (bytes_at text tokens) tree (is_in_set ss i) (knows ss i) (leads_to ss i)
+faults_of_item text ss i tokens (Some tree) = faults_in (bytes_at text tokens) tree (is_in_set ss i) (known_of ss i) (leads_to ss i)
 
 -- A finding some bytes further on.
 abbrev pub moved : ℕ → Finding → Finding
