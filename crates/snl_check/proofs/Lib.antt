@@ -3,3 +3,4 @@ pub mod Choices
 pub mod Each
 pub mod FreeUses
 pub mod Steps
+pub mod Items

@@ -5,3 +5,5 @@ pub mod Undeclared
 pub mod Outlook
 pub mod Found
 pub mod Alike
+pub mod Rows
+pub mod ClauseTrees

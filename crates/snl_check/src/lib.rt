@@ -2,12 +2,16 @@
 //! out. It knows no offsets, and of the other items no more than what it is told.
 #![tactic(auto)]
 
+mod channel_names;
 mod check;
 #[cfg(test)]
 mod check_tests;
 mod event_flags;
 mod findings;
+mod item_clauses;
 mod laws;
+mod program;
+mod rows;
 mod scopes;
 mod undeclared;
 mod unknown_targets;
@@ -16,3 +20,4 @@ mod view;
 pub use check::check_item;
 pub use findings::{Checked, ItemFault};
 pub use laws::equal_views;
+pub use rows::{ChannelRow, FlagRow, Queue, ScopeName, Span, Synced, Tables};

@@ -5,6 +5,7 @@ pub mod Order
 pub mod Names
 pub mod Clauses
 pub mod Flags
+pub mod Channels
 pub mod Linked
 pub mod Tables
 pub mod Summaries
