@@ -7,14 +7,19 @@ use Rattle.std.specs.List.{position}
 use Rattle.std.specs.Map.{lookup}
 use Rattle.std.specs.Option.{option_and_then, option_or}
 use Rattle.std.specs.Str.{bytes_eq}
+use Rattle.indexmap.specs.IndexMap.{insert_entry}
+use Rattle.indexmap.proofs.MapLemmas.{absent_from_lookup, insert_entry-absent}
 use Rattle.snl_scope.specs.declared.facts.LinkFault.{LinkFault}
 use Rattle.snl_scope.specs.declared.spaces.Key.{Key}
 use Rattle.snl_scope.specs.declared.spaces.Space.{Space}
 use Rattle.snl_scope.specs.declared.tables.Standing.{Standing}
 use Rattle.snl_scope.specs.contracts.spaces.KeyPartialEq.TheImpl as key_eq
+use Rattle.snl_scope.specs.Below.{all_below}
+use Rattle.snl_scope.specs.Flags.{is_first_at}
 use Rattle.snl_scope.specs.Names.{Entry, has_name, number_in, repetition, repetition_at, repetitions}
 use Rattle.snl_scope.specs.Tables.{Follows, number_by, same_key, standing_of, with_name}
 use Rattle.snl_scope.proofs.Equality.{key_is, key_true, key_same, name_same, name_true}
+use Rattle.snl_scope.proofs.FirstEntries.{firsts-new, firsts-seen}
 use Rattle.snl_scope.proofs.Numbering.{position-push}
 
 -- the findings with one more entry
@@ -68,6 +73,7 @@ module _ (names : List (List ℕ)) (first : List (Key × ℕ)) (standings : List
     tabled = record { found = λ s other. same_numbers name s other ∙ f.tabled.found s other; known = f.tabled.known };
     fresh = λ s n h. f.fresh s n (omega (arith, h, longer name));
     again = f.again;
+    firsts = f.firsts;
   }
 
   module _ (e : Entry) (k : ℕ) (numbered : position (bytes_eq e.name) names ≡ Some k) where
@@ -100,11 +106,13 @@ module _ (names : List (List ℕ)) (first : List (Key × ℕ)) (standings : List
         fresh = f.fresh;
         again = g ∙ ap (λ l. l ++ repetition_at e) f.again
             ∙ sym (repetitions-push [] es e ∙ ap (λ b. repetitions [] es ++ (if b then repetition_at e else [])) seen);
+        firsts = f.firsts ∙ sym (firsts-seen es e seen);
       }
 
     -- it is new: the tables have it, and there is no finding
     module _ (first' : List (Key × ℕ)) (number : ℕ) (absent : is_some (lookup (same_key (key e.space k)) first) ≡ false)
-        (put : (q : Key) → lookup (same_key q) first' ≡ cond (same_key (key e.space k) q) (Some number) (lookup (same_key q) first)) (counted : number ≡ length es) where
+        (put : (q : Key) → lookup (same_key q) first' ≡ cond (same_key (key e.space k) q) (Some number) (lookup (same_key q) first))
+        (listed : first' ≡ first ++ (key e.space k, number) ∷ []) (counted : number ≡ length es) where
       unseen : is_some (number_in es e.space e.name) ≡ false
       unseen = ap is_some (sym (f.tabled.found e.space e.name)) ∙ ap is_some here ∙ absent
 
@@ -167,6 +175,8 @@ module _ (names : List (List ℕ)) (first : List (Key × ℕ)) (standings : List
         tabled = record { found = found; known = known_here standings' h };
         fresh = λ s n l. put (key s n) ∙ none_there s n l;
         again = f.again ∙ sym (repetitions-push [] es e ∙ ap (λ b. repetitions [] es ++ (if b then repetition_at e else [])) unseen ∙ append-nil (repetitions [] es));
+        firsts = ap (map (λ p. p.1)) listed ∙ map-append (λ p. p.1) first ((key e.space k, number) ∷ [])
+            ∙ ap (λ l. l ++ number ∷ []) f.firsts ∙ ap (λ n. all_below (is_first_at es) (length es) ++ n ∷ []) counted ∙ sym (firsts-new es e unseen);
       }
 
 -- the table is read by the test that the code derives
@@ -176,6 +186,15 @@ lookup-same p q (e ∷ es) h = ap (λ b. cond b (Some e.1) (lookup p es)) (h e.0
 
 pub lookup_is : (k : Key) (entries : List (Key × ℕ)) → lookup (key_eq.eq-value.it k) entries ≡ lookup (same_key k) entries
 lookup_is k entries = lookup-same (key_eq.eq-value.it k) (same_key k) entries (key_is k)
+
+-- a new key goes last
+pub listed_last : (k : Key) (number : ℕ) (entries : List (Key × ℕ)) → is_some (lookup (same_key k) entries) ≡ false
+    → insert_entry key_eq.eq-value.it entries k number ≡ entries ++ (k, number) ∷ []
+listed_last k number entries absent = insert_entry-absent key_eq.eq-value.it k number entries (absent_from_lookup (key_eq.eq-value.it k) entries (gone (lookup (key_eq.eq-value.it k) entries) (ap is_some (lookup_is k entries) ∙ absent)))
+  where
+    gone : (o : Option ℕ) → is_some o ≡ false → o ≡ None
+    gone None h = refl
+    gone (Some n) h = absurd (true≢false h)
 
 pub put_is : (k : Key) (number : ℕ) (before after : List (Key × ℕ))
     → ((q : Key) → lookup (key_eq.eq-value.it q) after ≡ cond (key_eq.eq-value.it k q) (Some number) (lookup (key_eq.eq-value.it q) before))

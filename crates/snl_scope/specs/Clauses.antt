@@ -1,11 +1,12 @@
 -- The clauses of a text: what their names resolve to, which of them are sound, and what is found at them.
-use Rattle.std.specs.Prelude.{ℕ, zero, suc, Bool, true, false, not, ◌&&◌, ◌||◌, if◌then◌else◌, List, [], ◌∷◌, ◌++◌, map, length, slice_get, nat_eq, nat_lt, Option, None, Some, is_some, option_and_then, option_to_list}
-use Rattle.std.specs.List.{list_any}
+use Rattle.std.specs.Prelude.{ℕ, zero, suc, Bool, true, false, not, ◌&&◌, if◌then◌else◌, List, [], ◌∷◌, ◌++◌, map, length, slice_get, nat_eq, nat_lt, Option, None, Some, is_some, option_and_then, option_to_list}
+use Rattle.std.specs.List.{list_any, zip}
 use Rattle.std.specs.Option.{option_map_or, option_or}
 use Rattle.snl_scope.specs.declared.codes.Code.{Code}
 use Rattle.snl_scope.specs.declared.codes.Code.TheVariants.{E11, E12, E13, E14, E15, E16, E22, W05}
 use Rattle.snl_scope.specs.declared.facts.Assigned.{Assigned}
 use Rattle.snl_scope.specs.declared.facts.Assigned.TheVariants as assigned
+use Rattle.snl_scope.specs.declared.facts.ClauseLink.{ClauseLink}
 use Rattle.snl_scope.specs.declared.facts.LinkFault.{LinkFault}
 use Rattle.snl_scope.specs.declared.spaces.Space.TheVariants as space
 use Rattle.snl_scope.specs.declared.summary.ClauseKind.{ClauseKind}
@@ -157,6 +158,14 @@ soundness_behind es cs sound (d ∷ ds) = is_sound es cs sound d ∷ soundness_b
 
 abbrev pub soundness : List Summary → List Bool
 soundness ss = soundness_behind (entries ss) (clauses_of ss) [] (clauses_of ss)
+
+-- A clause as links tell it.
+abbrev pub clause_link : LinkedClause → Bool → ClauseLink
+clause_link c is_sound = record { item = c.item; variable = c.variable; flag = c.flag; is_sound = is_sound }
+
+-- All clauses of a text, each with its soundness.
+abbrev pub clause_links : List Summary → List ClauseLink
+clause_links ss = map (λ p. clause_link p.0 p.1) (zip (clauses_of ss) (soundness ss))
 
 abbrev pub at_mention : ℕ → Mention → Code → LinkFault
 at_mention i m code = record { item = i; token = m.token; code = code }

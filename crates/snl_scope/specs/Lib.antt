@@ -4,8 +4,11 @@ pub mod Places
 pub mod Order
 pub mod Names
 pub mod Clauses
+pub mod Claims
 pub mod Flags
 pub mod Channels
 pub mod Linked
 pub mod Tables
+pub mod Resolved
 pub mod Summaries
+pub mod Once

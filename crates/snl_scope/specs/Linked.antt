@@ -1,19 +1,23 @@
 -- What the links of items answer, by their summaries.
 use Rattle.std.specs.Prelude.{ℕ, Bool, false, if◌then◌else◌, List, ◌++◌, length, slice_get, nat_lt, Option, None, Some, is_some, option_map, option_and_then}
 use Rattle.std.specs.Option.{option_map_or}
-use Rattle.snl_scope.specs.declared.facts.Assigned.TheVariants.{Unassigned}
+use Rattle.snl_scope.specs.declared.facts.Assigned.{Assigned}
 use Rattle.snl_scope.specs.declared.facts.Base.{Base}
 use Rattle.snl_scope.specs.declared.facts.Base.TheVariants as base
+use Rattle.snl_scope.specs.declared.facts.Declaration.{Declaration}
 use Rattle.snl_scope.specs.declared.facts.Fact.{Fact}
 use Rattle.snl_scope.specs.declared.facts.Level.{Level}
 use Rattle.snl_scope.specs.declared.facts.Level.TheVariants as level
 use Rattle.snl_scope.specs.declared.facts.LinkFault.{LinkFault}
+use Rattle.snl_scope.specs.declared.facts.Scope.{Scope}
+use Rattle.snl_scope.specs.declared.facts.Scope.TheVariants as scope
 use Rattle.snl_scope.specs.declared.spaces.Space.{Space}
 use Rattle.snl_scope.specs.declared.spaces.Space.TheVariants as space
 use Rattle.snl_scope.specs.declared.summary.Nature.{Nature}
 use Rattle.snl_scope.specs.declared.summary.Nature.TheVariants as nature
 use Rattle.snl_scope.specs.declared.summary.Summary.{Summary}
 use Rattle.snl_scope.specs.declared.summary.Variable.{Variable}
+use Rattle.snl_scope.specs.Clauses.{assigned_by, clause_faults, clauses_of}
 use Rattle.snl_scope.specs.Names.{Entry, entries, number_in, name_faults, resolve}
 use Rattle.snl_scope.specs.Order.{order_faults}
 use Rattle.snl_scope.specs.Places.{place}
@@ -30,19 +34,41 @@ base_of nature.Function = base.Function
 base_of nature.Assignable = base.Other
 base_of nature.Unassignable = base.Other
 
-abbrev pub variable_fact : Space → Variable → Fact
-variable_fact s v = record { level = level_of s; base = base_of v.nature; dims = v.dims; assigned = Unassigned }
+abbrev pub variable_fact : Assigned → Space → Variable → Fact
+variable_fact a s v = record { level = level_of s; base = base_of v.nature; dims = v.dims; assigned = a }
 
 -- What is known of an entry, where it is a declaration.
-abbrev pub entry_fact : Entry → Option Fact
-entry_fact e = option_map (variable_fact e.space) e.variable
+abbrev pub entry_fact : Assigned → Entry → Option Fact
+entry_fact a e = option_map (variable_fact a e.space) e.variable
+
+-- What is known of the declaration with a number.
+abbrev pub fact_at : List Summary → ℕ → Option Fact
+fact_at ss number = option_and_then (entry_fact (assigned_by (clauses_of ss) number)) (slice_get (entries ss) number)
 
 -- What a name means to an item, by the scopes outside it.
 abbrev pub fact_of : List Summary → ℕ → List ℕ → Option Fact
 fact_of ss i name =
     if nat_lt i (length ss)
-    then option_and_then (λ number. option_and_then entry_fact (slice_get (entries ss) number)) (resolve (entries ss) (place ss i) name)
+    then option_and_then (fact_at ss) (resolve (entries ss) (place ss i) name)
     else None
+
+-- The scope that is a space of names; the names of state sets and states are in none.
+abbrev pub scope_in : Space → Option Scope
+scope_in space.Program = Some scope.Program
+scope_in (space.StateSet k) = Some (scope.StateSet k)
+scope_in (space.State i) = Some (scope.State i)
+scope_in _ = None
+
+abbrev pub variable_declaration : ℕ → ℕ → Scope → Variable → Declaration
+variable_declaration i token s v = record { scope = s; item = i; token = token; variable = v }
+
+-- What an entry declares. The name of a state set or a state is no declaration.
+abbrev pub entry_declaration : Entry → Option Declaration
+entry_declaration e = option_and_then (λ v. option_map (λ s. variable_declaration e.item e.token s v) (scope_in e.space)) e.variable
+
+-- The declaration that is the entry with a number.
+abbrev pub declaration_at : List Summary → ℕ → Option Declaration
+declaration_at ss number = option_and_then entry_declaration (slice_get (entries ss) number)
 
 -- The state set in which an item stands has a state of the name.
 abbrev pub has_target : List Summary → ℕ → List ℕ → Bool
@@ -50,4 +76,4 @@ has_target ss i name = option_map_or (λ k. is_some (number_in (entries ss) (spa
 
 -- All findings of links.
 abbrev pub faults_of : List Summary → List LinkFault
-faults_of ss = order_faults ss ++ name_faults ss
+faults_of ss = order_faults ss ++ name_faults ss ++ clause_faults ss

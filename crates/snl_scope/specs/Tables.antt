@@ -12,7 +12,8 @@ use Rattle.snl_scope.specs.declared.summary.ItemKind.{ItemKind}
 use Rattle.snl_scope.specs.declared.summary.Summary.{Summary}
 use Rattle.snl_scope.specs.declared.tables.Named.{Named}
 use Rattle.snl_scope.specs.declared.tables.Standing.{Standing}
-use Rattle.snl_scope.specs.Below.{any_below}
+use Rattle.snl_scope.specs.Below.{all_below, any_below}
+use Rattle.snl_scope.specs.Flags.{declares_flag, is_first_at}
 use Rattle.snl_scope.specs.Names.{Entry, number_in, repetitions, same_space}
 use Rattle.snl_scope.specs.Order.{has_begun, is_barred_in_sets, is_main, is_program_item, is_program_word, is_state, phase, phase_of, state_name}
 use Rattle.snl_scope.specs.Places.{ends_set, item_is, place, stands_in}
@@ -96,16 +97,22 @@ number_by names first s name = option_and_then (λ n. lookup (same_key (record {
 abbrev pub standing_of : Entry → Standing
 standing_of e = record { space = e.space; item = e.item; token = e.token; variable = e.variable }
 
+-- The entry with a number declares an event flag, by what the tables have there.
+abbrev pub flag_stands : List Standing → ℕ → Bool
+flag_stands standings number = option_map_or (λ s. declares_flag s.variable) (slice_get standings number) false
+
 -- The tables tell of a list of entries the first of each name in a space, and where each stands.
 pub record Tabled (names : List (List ℕ)) (first : List (Key × ℕ)) (standings : List Standing) (es : List Entry) : Type 0 where
   pub found : (s : Space) (name : List ℕ) → number_by names first s name ≡ number_in es s name
   pub known : standings ≡ map standing_of es
 
--- And more can be added, with findings at the names that came again.
+-- And more can be added, with findings at the names that came again. The table of the first has them in the order in
+-- which they came.
 pub record Follows (names : List (List ℕ)) (first : List (Key × ℕ)) (standings : List Standing) (faults : List LinkFault) (es : List Entry) : Type 0 where
   pub tabled : Tabled names first standings es
   pub fresh : (s : Space) (n : ℕ) → length names ≤ n → lookup (same_key (record { space = s; name = n })) first ≡ None
   pub again : faults ≡ repetitions [] es
+  pub firsts : map (λ p. p.1) first ≡ all_below (is_first_at es) (length es)
 
 -- A name that is handed in, as an entry.
 abbrev pub entry_of : Named → Entry

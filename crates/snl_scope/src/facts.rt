@@ -1,7 +1,7 @@
-//! What links answer: facts of names, and findings.
+//! What links answer: facts of names, declarations, clauses and findings.
 
 use crate::codes::Code;
-use crate::summary::Dims;
+use crate::summary::{Dims, Variable};
 
 /// The scope in which a name is declared.
 #[derive(Clone, Copy, Debug, PartialEq, Eq)]
@@ -36,10 +36,37 @@ pub struct Fact {
     pub assigned: Assigned,
 }
 
+/// The scope that a declaration outside blocks stands in. A state set is told by the number of its `ss NAME {` item, and a
+/// state by that of its own item.
+#[derive(Clone, Copy, Debug, PartialEq, Eq)]
+pub enum Scope {
+    Program,
+    StateSet(usize),
+    State(usize),
+}
+
+/// A declaration outside blocks: where it stands, the token of its name in the item, and what it says of the name.
+#[derive(Clone, Copy, Debug, PartialEq, Eq)]
+pub struct Declaration {
+    pub scope: Scope,
+    pub item: usize,
+    pub token: usize,
+    pub variable: Variable,
+}
+
 /// A finding at a token of an item. What is missing altogether stands at token 0 behind the last item.
 #[derive(Clone, Copy, Debug, PartialEq, Eq)]
 pub struct LinkFault {
     pub item: usize,
     pub token: usize,
     pub code: Code,
+}
+
+/// A clause of an item: what its variable and its flag resolve to, by the numbers of declarations, and whether it is sound.
+#[derive(Clone, Copy, Debug, PartialEq, Eq)]
+pub struct ClauseLink {
+    pub item: usize,
+    pub variable: Option<usize>,
+    pub flag: Option<usize>,
+    pub is_sound: bool,
 }

@@ -2,17 +2,28 @@
 //! there, and which names and items are out of order. It knows nothing of bytes' offsets, nor of what an item does.
 #![tactic(auto)]
 
+mod assigned;
+mod claims;
 mod clauses_of;
+#[cfg(test)]
+mod clauses_tests;
 mod codes;
 mod declarations;
 mod distinct;
 mod facts;
+mod flags;
+#[cfg(test)]
+mod flags_tests;
 mod links;
 mod name;
 mod names;
+mod once_laws;
 mod order;
 mod origin;
 mod places;
+mod resolved;
+mod scopes;
+mod soundness;
 mod source;
 mod spaces;
 mod summarize;
@@ -29,9 +40,10 @@ pub mod uses_of;
 
 pub use codes::Code;
 pub use distinct::NameSet;
-pub use facts::{Assigned, Base, Fact, Level, LinkFault};
+pub use facts::{Assigned, Base, ClauseLink, Declaration, Fact, Level, LinkFault, Scope};
 pub use links::{Links, link};
 pub use name::Name;
+pub use once_laws::{each_fault_once, tokens_declared_once};
 pub use source::Source;
 pub use summarize::summary_of;
 pub use summary::{

@@ -27,7 +27,7 @@ fn tokens_of(alloc: Global, text: &[u8]) -> Result<Vec<Piece>, Fail>
 }
 
 // The summary of the item that a text consists of.
-fn summary(alloc: Global, text: &[u8]) -> Result<Summary, Fail> {
+pub(crate) fn summary(alloc: Global, text: &[u8]) -> Result<Summary, Fail> {
     let tokens = tokens_of(alloc, text)?;
     if tokens.is_empty() {
         return Ok(summary_of(alloc, text, &tokens, None)?);

@@ -3,7 +3,7 @@ use Rattle.std.proofs.lemmas.List.{length-map}
 use Rattle.snl_scope.specs.declared.spaces.Key.{Key}
 use Rattle.snl_scope.specs.declared.tables.Tables.{Tables}
 use Rattle.snl_scope.specs.Tables.{Follows, entry_of, standing_of}
-use Rattle.snl_scope.proofs.Entries.{follows_again, follows_name, follows_new, lookup_is, put_is}
+use Rattle.snl_scope.proofs.Entries.{follows_again, follows_name, follows_new, listed_last, lookup_is, put_is}
 use Rattle.snl_scope.proofs.tables.Tables.add.Goals as goal
 use Rattle.snl_scope.proofs.tables.Tables.add.Goals.{then-contains_key+in_ok-add_repetition, else-contains_key+in_ok-insert}
 
@@ -32,5 +32,6 @@ returns c = λ es f.
           (follows_new c.add.new.self old.first.entries old.standings.items old.faults.items es g e k c.in_ok-name.ensures.number
           w.insert.new.self.entries c.len-number.result (sym is_there ∙ w.if-contains_key.false)
           (put_is key c.len-number.result old.first.entries w.insert.new.self.entries w.in_ok-insert.ensures.updates.0)
+          (w.in_ok-insert.ensures.entries ∙ listed_last key c.len-number.result old.first.entries (sym is_there ∙ w.if-contains_key.false))
           (c.len-number.ensures ∙ old.standings.ok.0 ∙ ap length f.tabled.known ∙ length-map es standing_of) standings (subst F w.self-is pushed))
     ]

@@ -1,0 +1,109 @@
+-- Lemmas on what declarations are assigned to: what one more clause is to the table that follows them.
+use Rattle.std.proofs.Common.{◌≡◌, ℕ, Bool, true, false, ◌&&◌, ◌||◌, cond, List, [], ◌∷◌, ◌++◌, nat_eq, Option, None, Some, is_some, refl, sym, ap, ◌∙◌, true≢false, if◌then◌else◌}
+use Rattle.std.proofs.lemmas.Bool.Decides.{Decides-eqb}
+use Rattle.std.specs.List.{list_any}
+use Rattle.std.specs.Map.{lookup}
+use Rattle.std.specs.Option.{option_or, unwrap_or}
+use Rattle.snl_scope.specs.declared.facts.Assigned.{Assigned}
+use Rattle.snl_scope.specs.declared.facts.Assigned.TheVariants.{Unassigned}
+use Rattle.snl_scope.specs.Clauses.{LinkedClause, assigned_as, assigned_by, assigns, is_assign, same_number}
+use Rattle.snl_scope.specs.Resolved.{Assigns, first_assign}
+
+abbrev assigned_if : Bool → LinkedClause → Option Assigned
+assigned_if b c = if b then Some (assigned_as c.clause.coverage) else None
+
+first_assign-push : (cs : List LinkedClause) (c : LinkedClause) (n : ℕ) → first_assign (cs ++ c ∷ []) n ≡ option_or (first_assign cs n) (assigned_if (assigns (Some n) c) c)
+first_assign-push [] c n = refl
+first_assign-push (d ∷ ds) c n = by (assigns (Some n) d) (first_assign-push ds c n)
+  where
+    by : (b : Bool) → first_assign (ds ++ c ∷ []) n ≡ option_or (first_assign ds n) (assigned_if (assigns (Some n) c) c)
+        → (if b then Some (assigned_as d.clause.coverage) else first_assign (ds ++ c ∷ []) n)
+        ≡ option_or (if b then Some (assigned_as d.clause.coverage) else first_assign ds n) (assigned_if (assigns (Some n) c) c)
+    by true h = refl
+    by false h = h
+
+-- what the table tells of a declaration
+pub assigned-first : (cs : List LinkedClause) (n : ℕ) → unwrap_or (first_assign cs n) Unassigned ≡ assigned_by cs n
+assigned-first [] n = refl
+assigned-first (c ∷ cs) n = by (assigns (Some n) c) (assigned-first cs n)
+  where
+    by : (b : Bool) → unwrap_or (first_assign cs n) Unassigned ≡ assigned_by cs n
+        → unwrap_or (if b then Some (assigned_as c.clause.coverage) else first_assign cs n) Unassigned ≡ (if b then assigned_as c.clause.coverage else assigned_by cs n)
+    by true h = refl
+    by false h = h
+
+pub assigns-first : (cs : List LinkedClause) (n : ℕ) → is_some (first_assign cs n) ≡ list_any (assigns (Some n)) cs
+assigns-first [] n = refl
+assigns-first (c ∷ cs) n = by (assigns (Some n) c) (assigns-first cs n)
+  where
+    by : (b : Bool) → is_some (first_assign cs n) ≡ list_any (assigns (Some n)) cs
+        → is_some (if b then Some (assigned_as c.clause.coverage) else first_assign cs n) ≡ (b || list_any (assigns (Some n)) cs)
+    by true h = refl
+    by false h = h
+
+both-true : (b c : Bool) → (b && c) ≡ true → (b ≡ true) × (c ≡ true)
+both-true true true h = (refl, refl)
+both-true true false h = absurd (true≢false (sym h))
+both-true false c h = absurd (true≢false (sym h))
+
+assigns-kind : (c : LinkedClause) (q : ℕ) → assigns (Some q) c ≡ true → is_assign c.clause.kind ≡ true
+assigns-kind c q h = (both-true (is_assign c.clause.kind) (same_number (Some q) c.variable) h).0
+
+numbers : (a b : Option ℕ) (q v : ℕ) → a ≡ Some q → b ≡ Some v → same_number a b ≡ true → q ≡ v
+numbers a b q v g h s = (Decides-eqb q v).0 (ap (λ x. same_number x (Some v)) (sym g) ∙ ap (λ y. same_number a y) (sym h) ∙ s)
+
+assigns-number : (c : LinkedClause) (q v : ℕ) → c.variable ≡ Some v → assigns (Some q) c ≡ true → q ≡ v
+assigns-number c q v is h = numbers (Some q) c.variable q v refl is (both-true (is_assign c.clause.kind) (same_number (Some q) c.variable) h).1
+
+-- the table stays where each declaration that the clause assigns is in it
+stays : (held : List (ℕ × Assigned)) (cs : List LinkedClause) (c : LinkedClause) → Assigns held cs
+    → ((q : ℕ) → assigns (Some q) c ≡ true → is_some (first_assign cs q) ≡ true) → Assigns held (cs ++ c ∷ [])
+stays held cs c f known = record { each = λ q. f.each q ∙ sym (first_assign-push cs c q ∙ by q (assigns (Some q) c) (first_assign cs q) (known q)) }
+  where
+    by : (q : ℕ) (b : Bool) (o : Option Assigned) → (b ≡ true → is_some o ≡ true) → option_or o (assigned_if b c) ≡ o
+    by q b (Some x) h = refl
+    by q true None h = absurd (true≢false (sym (h refl)))
+    by q false None h = refl
+
+pub no_assign : (held : List (ℕ × Assigned)) (cs : List LinkedClause) (c : LinkedClause) → Assigns held cs → is_assign c.clause.kind ≡ false → Assigns held (cs ++ c ∷ [])
+no_assign held cs c f h = stays held cs c f (λ q t. absurd (true≢false (sym (assigns-kind c q t) ∙ h)))
+
+pub no_variable : (held : List (ℕ × Assigned)) (cs : List LinkedClause) (c : LinkedClause) → Assigns held cs → c.variable ≡ None → Assigns held (cs ++ c ∷ [])
+no_variable held cs c f h =
+    stays held cs c f (λ q t.
+    absurd (true≢false (sym (both-true (is_assign c.clause.kind) (same_number (Some q) c.variable) t).1 ∙ ap (λ o. same_number (Some q) o) h)))
+
+pub assigned_before : (held : List (ℕ × Assigned)) (cs : List LinkedClause) (c : LinkedClause) (v : ℕ) → Assigns held cs → c.variable ≡ Some v
+    → is_some (lookup (nat_eq v) held) ≡ true → Assigns held (cs ++ c ∷ [])
+assigned_before held cs c v f is there = stays held cs c f (λ q t. ap (λ n. is_some (first_assign cs n)) (assigns-number c q v is t) ∙ ap is_some (sym (f.each v)) ∙ there)
+
+-- the clause is the first that assigns its variable
+pub assigned_now : (held held' : List (ℕ × Assigned)) (cs : List LinkedClause) (c : LinkedClause) (v : ℕ) → Assigns held cs → c.variable ≡ Some v
+    → is_assign c.clause.kind ≡ true → is_some (lookup (nat_eq v) held) ≡ false
+    → ((q : ℕ) → lookup (nat_eq q) held' ≡ cond (nat_eq v q) (Some (assigned_as c.clause.coverage)) (lookup (nat_eq q) held)) → Assigns held' (cs ++ c ∷ [])
+assigned_now held held' cs c v f is kind absent put = record { each = λ q. put q ∙ by q (nat_eq v q) refl ∙ sym (first_assign-push cs c q) }
+  where
+    test : (q : ℕ) → assigns (Some q) c ≡ nat_eq q v
+    test q = ap (λ b. b && same_number (Some q) c.variable) kind ∙ ap (λ o. same_number (Some q) o) is
+
+    none : (o : Option Assigned) (p : Option Assigned) → is_some o ≡ false → option_or o p ≡ p
+    none None p h = refl
+    none (Some x) p h = absurd (true≢false h)
+
+    or-nothing : (o : Option Assigned) → option_or o None ≡ o
+    or-nothing None = refl
+    or-nothing (Some x) = refl
+
+    other : (q : ℕ) (b : Bool) → nat_eq q v ≡ b → nat_eq v q ≡ false → lookup (nat_eq q) held ≡ option_or (first_assign cs q) (assigned_if b c)
+    other q true g h = absurd (true≢false (sym ((Decides-eqb v q).1 (sym ((Decides-eqb q v).0 g))) ∙ h))
+    other q false g h = f.each q ∙ sym (or-nothing (first_assign cs q))
+
+    by : (q : ℕ) (b : Bool) → nat_eq v q ≡ b → cond (nat_eq v q) (Some (assigned_as c.clause.coverage)) (lookup (nat_eq q) held) ≡ option_or (first_assign cs q) (assigned_if (assigns (Some q) c) c)
+    by q true h =
+        let same : v ≡ q = (Decides-eqb v q).0 h in
+        let gone : is_some (first_assign cs q) ≡ false = ap (λ n. is_some (first_assign cs n)) (sym same) ∙ ap is_some (sym (f.each v)) ∙ absent in
+        ap (λ b. cond b (Some (assigned_as c.clause.coverage)) (lookup (nat_eq q) held)) h
+        ∙ sym (none (first_assign cs q) (assigned_if (assigns (Some q) c) c) gone ∙ ap (λ b. assigned_if b c) (test q ∙ (Decides-eqb q v).1 (sym same)))
+    by q false h =
+        ap (λ b. cond b (Some (assigned_as c.clause.coverage)) (lookup (nat_eq q) held)) h
+        ∙ other q (nat_eq q v) refl h ∙ ap (λ b. option_or (first_assign cs q) (assigned_if b c)) (sym (test q))

@@ -1,0 +1,40 @@
+-- Lemmas on the soundness of clauses: what one clause more is to a walk over them.
+use Rattle.std.proofs.Common.{◌≡◌, Bool, not, ◌&&◌, List, [], ◌∷◌, ◌++◌, map, Option, None, Some, refl, sym, ap, ◌∙◌, append_assoc, if◌then◌else◌}
+use Rattle.std.proofs.lemmas.List.{append-nil}
+use Rattle.std.specs.List.{zip}
+use Rattle.snl_scope.specs.declared.codes.Code.{Code}
+use Rattle.snl_scope.specs.declared.codes.Code.TheVariants.{E13, E15, E16}
+use Rattle.snl_scope.specs.declared.facts.ClauseLink.{ClauseLink}
+use Rattle.snl_scope.specs.declared.summary.Variable.{Variable}
+use Rattle.snl_scope.specs.Clauses.{LinkedClause, clause_link, found_at, found_behind, is_assign, is_assignable, is_sound, misfits, repetition_code, sound_behind, soundness_behind, with_clause}
+use Rattle.snl_scope.specs.Names.{Entry}
+
+-- what a clause gives at its variable, where it is known whether that is assigned and whether the clause overlaps one
+abbrev pub code_by : LinkedClause → Variable → Bool → Bool → Option Code
+code_by c v is_assigned is_repeated =
+    if is_assign c.clause.kind && not (is_assignable v.nature) then Some E15
+    else if misfits v.dims c.clause.coverage then Some E16
+    else if not (is_assign c.clause.kind) && not is_assigned then Some E13
+    else if is_repeated then Some (repetition_code c.clause.kind)
+    else None
+
+module _ (es : List Entry) (cs : List LinkedClause) where
+  pub sound-push : (sound ds : List LinkedClause) (d : LinkedClause) → sound_behind es cs sound (ds ++ d ∷ []) ≡ with_clause es cs (sound_behind es cs sound ds) d
+  sound-push sound [] d = refl
+  sound-push sound (c ∷ ds) d = sound-push (with_clause es cs sound c) ds d
+
+  pub found-push : (sound ds : List LinkedClause) (d : LinkedClause)
+      → found_behind es cs sound (ds ++ d ∷ []) ≡ found_behind es cs sound ds ++ found_at es cs (sound_behind es cs sound ds) d
+  found-push sound [] d = append-nil (found_at es cs sound d)
+  found-push sound (c ∷ ds) d =
+      ap (λ l. found_at es cs sound c ++ l) (found-push (with_clause es cs sound c) ds d)
+      ∙ sym (append_assoc (found_at es cs sound c) (found_behind es cs (with_clause es cs sound c) ds) (found_at es cs (sound_behind es cs (with_clause es cs sound c) ds) d))
+
+  -- the links of clauses, behind the sound ones before them
+  abbrev pub links_behind : List LinkedClause → List LinkedClause → List ClauseLink
+  links_behind sound ds = map (λ p. clause_link p.0 p.1) (zip ds (soundness_behind es cs sound ds))
+
+  pub links-push : (sound ds : List LinkedClause) (d : LinkedClause)
+      → links_behind sound (ds ++ d ∷ []) ≡ links_behind sound ds ++ clause_link d (is_sound es cs (sound_behind es cs sound ds) d) ∷ []
+  links-push sound [] d = refl
+  links-push sound (c ∷ ds) d = ap (λ l. clause_link c (is_sound es cs sound c) ∷ l) (links-push (with_clause es cs sound c) ds d)

@@ -1,0 +1,98 @@
+//! What names resolve to, by the tables of all items. It knows nothing of clauses.
+
+ghost use Rattle.std.specs.Prelude.{◌≡◌};
+
+use crate::names::Names;
+use crate::origin::Origin;
+use crate::spaces::{Key, Space};
+use crate::summary::Variable;
+use crate::tables::{Standing, number_in};
+use indexmap::IndexMap;
+use std::marker::Model;
+
+/// The finished tables of all items, which contracts see as the list of their summaries.
+#[derive(Drop)]
+pub(crate) struct Scopes {
+    pub places: Vec<Option<usize>>,
+    pub names: Names,
+    pub first: IndexMap<Key, usize>,
+    pub standings: Vec<Standing>,
+    pub origin: Origin,
+}
+
+impl Model for Scopes {
+    ghost use Rattle.std.specs.Prelude.{List, length, ◌≡◌};
+    ghost use Rattle.snl_scope.specs.declared.summary.Summary.{Summary};
+    ghost use Rattle.snl_scope.specs.Names.{entries};
+    ghost use Rattle.snl_scope.specs.Tables.{Placed, Tabled};
+
+    ghost Value = { List Summary };
+
+    ghost view = { λ a. a.origin.summaries };
+
+    ghost invariant = { λ a. Placed a.places.items a.origin.summaries (length a.origin.summaries)
+        × Tabled a.names a.first.entries a.standings.items (entries a.origin.summaries) };
+}
+
+impl Scopes {
+    ghost use Rattle.snl_scope.specs.Clauses.{resolve_in, variable_at};
+    ghost use Rattle.snl_scope.specs.Names.{entries, number_in, resolve};
+    ghost use Rattle.snl_scope.specs.Places.{place};
+    ghost use Rattle.snl_scope.specs.Tables.{standing_of};
+    ghost use Rattle.std.specs.Prelude.{option_map, slice_get};
+
+    /// The state set in which an item stands, or None at program level.
+    pub(crate) fn place(&self, item: usize) -> Option<usize>
+        ensures { result ≡ place self.now item }
+    {
+        match self.places.get(item) {
+            Some(place) => *place,
+            None => None,
+        }
+    }
+
+    /// The number of the first that stands under a name in a space.
+    pub(crate) fn number_in(&self, space: Space, name: &[u8]) -> Option<usize>
+        ensures { result ≡ number_in (entries self.now) space name.now }
+    {
+        number_in(&self.names, &self.first, space, name)
+    }
+
+    /// What stands there with a number.
+    pub(crate) fn standing(&self, number: usize) -> Option<Standing>
+        ensures { result ≡ option_map standing_of (slice_get (entries self.now) number) }
+    {
+        self.standings.get(number).copied()
+    }
+
+    /// The number of what a name resolves to from a place.
+    pub(crate) fn resolve(&self, place: Option<usize>, name: &[u8]) -> Option<usize>
+        ensures { result ≡ resolve (entries self.now) place name.now }
+    {
+        if let Some(set) = place {
+            let inside = self.number_in(Space::StateSet(set), name);
+            if inside.is_some() {
+                return inside;
+            }
+        }
+        self.number_in(Space::Program, name)
+    }
+
+    /// The number of what a name resolves to that stands in an item outside its blocks.
+    pub(crate) fn resolve_in(&self, item: usize, name: &[u8]) -> Option<usize>
+        ensures { result ≡ resolve_in self.now item name.now }
+    {
+        let own = self.number_in(Space::State(item), name);
+        if own.is_some() {
+            return own;
+        }
+        self.resolve(self.place(item), name)
+    }
+
+    /// What the declaration with a number says.
+    pub(crate) fn variable_at(&self, number: Option<usize>) -> Option<Variable>
+        ensures { result ≡ variable_at (entries self.now) number }
+    {
+        self.standing(number?)?.variable
+    }
+}
