@@ -1,11 +1,12 @@
 -- Lemmas on the soundness of clauses: what one clause more is to a walk over them.
-use Rattle.std.proofs.Common.{◌≡◌, Bool, not, ◌&&◌, List, [], ◌∷◌, ◌++◌, map, Option, None, Some, refl, sym, ap, ◌∙◌, append_assoc, if◌then◌else◌}
-use Rattle.std.proofs.lemmas.List.{append-nil}
+use Rattle.std.proofs.Common.{◌≡◌, Bool, true, false, not, ◌&&◌, List, [], ◌∷◌, ◌++◌, map, Option, None, Some, refl, sym, ap, ◌∙◌, append_assoc, if◌then◌else◌}
+use Rattle.std.proofs.lemmas.List.{append-nil, map-append}
 use Rattle.std.specs.List.{zip}
 use Rattle.snl_scope.specs.declared.codes.Code.{Code}
 use Rattle.snl_scope.specs.declared.codes.Code.TheVariants.{E13, E15, E16}
 use Rattle.snl_scope.specs.declared.facts.ClauseLink.{ClauseLink}
 use Rattle.snl_scope.specs.declared.summary.Variable.{Variable}
+use Rattle.snl_scope.specs.Claims.{sound_among}
 use Rattle.snl_scope.specs.Clauses.{LinkedClause, clause_link, found_at, found_behind, is_assign, is_assignable, is_sound, misfits, repetition_code, sound_behind, soundness_behind, with_clause}
 use Rattle.snl_scope.specs.Names.{Entry}
 
@@ -30,11 +31,30 @@ module _ (es : List Entry) (cs : List LinkedClause) where
       ap (λ l. found_at es cs sound c ++ l) (found-push (with_clause es cs sound c) ds d)
       ∙ sym (append_assoc (found_at es cs sound c) (found_behind es cs (with_clause es cs sound c) ds) (found_at es cs (sound_behind es cs (with_clause es cs sound c) ds) d))
 
+  -- clauses with their soundness, behind the sound ones before them
+  abbrev pub judged_behind : List LinkedClause → List LinkedClause → List (LinkedClause × Bool)
+  judged_behind sound ds = zip ds (soundness_behind es cs sound ds)
+
+  pub judged-push : (sound ds : List LinkedClause) (d : LinkedClause)
+      → judged_behind sound (ds ++ d ∷ []) ≡ judged_behind sound ds ++ (d, is_sound es cs (sound_behind es cs sound ds) d) ∷ []
+  judged-push sound [] d = refl
+  judged-push sound (c ∷ ds) d = ap (λ l. (c, is_sound es cs sound c) ∷ l) (judged-push (with_clause es cs sound c) ds d)
+
+  -- the sound ones among them
+  pub sound-judged : (sound ds : List LinkedClause) → sound ++ sound_among (judged_behind sound ds) ≡ sound_behind es cs sound ds
+  sound-judged sound [] = append-nil sound
+  sound-judged sound (c ∷ ds) = by (is_sound es cs sound c) (judged_behind (with_clause es cs sound c) ds) ∙ sound-judged (with_clause es cs sound c) ds
+    where
+      by : (b : Bool) (ps : List (LinkedClause × Bool)) → sound ++ sound_among ((c, b) ∷ ps) ≡ (if b then sound ++ c ∷ [] else sound) ++ sound_among ps
+      by true ps = sym (append_assoc sound (c ∷ []) (sound_among ps))
+      by false ps = refl
+
   -- the links of clauses, behind the sound ones before them
   abbrev pub links_behind : List LinkedClause → List LinkedClause → List ClauseLink
-  links_behind sound ds = map (λ p. clause_link p.0 p.1) (zip ds (soundness_behind es cs sound ds))
+  links_behind sound ds = map (λ p. clause_link p.0 p.1) (judged_behind sound ds)
 
   pub links-push : (sound ds : List LinkedClause) (d : LinkedClause)
       → links_behind sound (ds ++ d ∷ []) ≡ links_behind sound ds ++ clause_link d (is_sound es cs (sound_behind es cs sound ds) d) ∷ []
-  links-push sound [] d = refl
-  links-push sound (c ∷ ds) d = ap (λ l. clause_link c (is_sound es cs sound c) ∷ l) (links-push (with_clause es cs sound c) ds d)
+  links-push sound ds d =
+      ap (map (λ p. clause_link p.0 p.1)) (judged-push sound ds d)
+      ∙ map-append (λ p. clause_link p.0 p.1) (judged_behind sound ds) ((d, is_sound es cs (sound_behind es cs sound ds) d) ∷ [])

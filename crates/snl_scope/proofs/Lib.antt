@@ -21,5 +21,7 @@ pub mod Branches
 pub mod Kept
 pub mod Firsts
 pub mod Assigning
+pub mod FirstClaims
 pub mod Overlaps
+pub mod SpokenChannels
 pub mod Judging

@@ -1,11 +1,12 @@
 -- Lemmas on the numbers of names: what one more is to a search from the front.
-use Rattle.std.proofs.Common.{◌≡◌, ℕ, suc, ◌+◌, Bool, not, nat_lt, true, false, cond, List, [], ◌∷◌, ◌++◌, length, map, None, Some, is_some, ◌||◌, refl, sym, ap, ◌∙◌, arith, add-zero, zero-add}
+use Rattle.std.proofs.Common.{◌≡◌, ℕ, suc, ◌+◌, ◌≤◌, Bool, not, nat_lt, true, false, cond, List, [], ◌∷◌, ◌++◌, length, map, Option, None, Some, is_some, ◌||◌, refl, sym, ap, ◌∙◌, arith, add-zero, zero-add, if◌then◌else◌}
 use Rattle.std.specs.List.{list_any, position, position_from, position_or_len}
 use Rattle.std.specs.Option.{option_or}
 use Rattle.std.specs.Str.{bytes_eq}
 use Rattle.std.proofs.lemmas.Bool.Decides.{nat_tests}
 use borrow.Author.Tests.{lt-ltb, lt-leb}
 use Rattle.std.proofs.lemmas.Slice.Eq.{bytes_eq-Decides}
+use Rattle.snl_scope.specs.Claims.{lesser}
 use Rattle.snl_scope.specs.Tables.{with_name}
 
 zero-lt : (n : ℕ) → nat_lt 0 (suc n) ≡ true
@@ -58,6 +59,52 @@ position-push p xs x =
     position_is p (xs ++ x ∷ []) ∙ position_from-push p 0 xs x ∙ ap (λ o. option_or o (cond (p x) (Some (0 + length xs)) None)) (sym (position_is p xs))
     ∙ ap (λ n. option_or (position p xs) (cond (p x) (Some n) None)) (zero-add (length xs))
 
+position_from-same : {A : Type 0} (p q : A → Bool) (i : ℕ) (xs : List A) → ((x : A) → p x ≡ q x) → position_from p i xs ≡ position_from q i xs
+position_from-same p q i [] h = refl
+position_from-same p q i (x ∷ xs) h =
+    ap (λ b. cond b (Some i) (position_from p (i + 1) xs)) (h x) ∙ ap (cond (q x) (Some i)) (position_from-same p q (i + 1) xs h)
+
+pub position-same : {A : Type 0} (p q : A → Bool) (xs : List A) → ((x : A) → p x ≡ q x) → position p xs ≡ position q xs
+position-same p q xs h = position_is p xs ∙ position_from-same p q 0 xs h ∙ sym (position_is q xs)
+
+from-within : {A : Type 0} (p : A → Bool) (i k : ℕ) (xs : List A) → position_from p i xs ≡ Some k → i ≤ k
+from-within p i k [] h = absurd (cc)
+from-within p i k (x ∷ xs) h = by (p x) (from-within p (i + 1) k xs) h
+  where
+    by : (b : Bool) → (position_from p (i + 1) xs ≡ Some k → i + 1 ≤ k) → cond b (Some i) (position_from p (i + 1) xs) ≡ Some k → i ≤ k
+    by true g e = let same : i ≡ k = cc in omega (arith, same)
+    by false g e = let more = g e in omega (arith, more)
+
+from-either : {A : Type 0} (p q : A → Bool) (i : ℕ) (xs : List A) → lesser (position_from p i xs) (position_from q i xs) ≡ position_from (λ x. p x || q x) i xs
+from-either p q i [] = refl
+from-either p q i (x ∷ xs) = by (p x) (q x) (from-either p q (i + 1) xs)
+  where
+    same : (b : Bool) → (if b then Some i else Some i) ≡ Some i
+    same true = refl
+    same false = refl
+
+    left : (o : Option ℕ) → ((k : ℕ) → o ≡ Some k → i + 1 ≤ k) → lesser (Some i) o ≡ Some i
+    left None h = refl
+    left (Some k) h = let more : i + 1 ≤ k = h k refl in ap (λ b. if b then Some k else Some i) (lt-leb (suc k) i (omega (arith, more)))
+
+    right : (o : Option ℕ) → ((k : ℕ) → o ≡ Some k → i + 1 ≤ k) → lesser o (Some i) ≡ Some i
+    right None h = refl
+    right (Some k) h = let more : i + 1 ≤ k = h k refl in ap (λ b. if b then Some i else Some k) (lt-ltb i k (omega (arith, more)))
+
+    by : (b c : Bool) → lesser (position_from p (i + 1) xs) (position_from q (i + 1) xs) ≡ position_from (λ y. p y || q y) (i + 1) xs
+        → lesser (cond b (Some i) (position_from p (i + 1) xs)) (cond c (Some i) (position_from q (i + 1) xs))
+        ≡ cond (b || c) (Some i) (position_from (λ y. p y || q y) (i + 1) xs)
+    by true true h = same (nat_lt i i)
+    by true false h = left (position_from q (i + 1) xs) (λ k e. from-within q (i + 1) k xs e)
+    by false true h = right (position_from p (i + 1) xs) (λ k e. from-within p (i + 1) k xs e)
+    by false false h = h
+
+-- the first place at which one of two tests passes
+pub position-either : {A : Type 0} (p q : A → Bool) (xs : List A) → lesser (position p xs) (position q xs) ≡ position (λ x. p x || q x) xs
+position-either p q xs =
+    ap (λ o. lesser o (position q xs)) (position_is p xs) ∙ ap (lesser (position_from p 0 xs)) (position_is q xs) ∙ from-either p q 0 xs
+    ∙ sym (position_is (λ x. p x || q x) xs)
+
 any_from : {A : Type 0} (p : A → Bool) (i : ℕ) (xs : List A) → list_any p xs ≡ is_some (position_from p i xs)
 any_from p i [] = refl
 any_from p i (x ∷ xs) = by (p x) (any_from p (i + 1) xs)
@@ -66,9 +113,12 @@ any_from p i (x ∷ xs) = by (p x) (any_from p (i + 1) xs)
     by true h = refl
     by false h = h
 
+pub any-position : {A : Type 0} (p : A → Bool) (xs : List A) → list_any p xs ≡ is_some (position p xs)
+any-position p xs = any_from p 0 xs ∙ ap is_some (sym (position_is p xs))
+
 -- a list that a search finds nothing in has nothing that passes
 pub none-any : {A : Type 0} (p : A → Bool) (xs : List A) → None ≡ position p xs → list_any p xs ≡ false
-none-any p xs h = any_from p 0 xs ∙ ap is_some (sym (position_is p xs)) ∙ ap is_some (sym h)
+none-any p xs h = any-position p xs ∙ ap is_some (sym h)
 
 pub bytes_eq-same : (a : List ℕ) → bytes_eq a a ≡ true
 bytes_eq-same a = (bytes_eq-Decides a a).1 refl

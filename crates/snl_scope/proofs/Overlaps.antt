@@ -1,71 +1,24 @@
 -- Lemmas on claims: those of a clause, and that they tell of an overlap.
-use Rattle.std.proofs.Common.{◌≡◌, ℕ, zero, suc, Bool, true, false, ◌&&◌, ◌||◌, cond, List, [], ◌∷◌, nat_eq, nat_lt, Option, None, Some, refl, sym, ap, ◌∙◌, true≢false}
-use Rattle.std.proofs.Math.Bool.{and_assoc, or_assoc, or_comm, or-false}
+use Rattle.std.proofs.Common.{◌≡◌, ℕ, zero, suc, Bool, true, false, ◌&&◌, ◌||◌, List, [], ◌∷◌, nat_eq, nat_lt, Option, None, Some, refl, sym, ap, ◌∙◌, true≢false, arith}
+use Rattle.std.proofs.Math.Bool.{or_comm, or-false}
 use Rattle.std.proofs.lemmas.Bool.Decides.{Decides-eqb, nat_tests}
-use Rattle.std.proofs.Common.{arith}
 use Rattle.std.specs.List.{list_any}
 use Rattle.snl_scope.specs.declared.claims.Claim.{Claim}
 use Rattle.snl_scope.specs.declared.claims.Extent.{Extent}
 use Rattle.snl_scope.specs.declared.claims.Extent.TheVariants as extent
 use Rattle.snl_scope.specs.declared.claims.Purpose.{Purpose}
-use Rattle.snl_scope.specs.declared.claims.Purpose.TheVariants as purpose
 use Rattle.snl_scope.specs.declared.summary.ClauseKind.{ClauseKind}
 use Rattle.snl_scope.specs.declared.summary.ClauseKind.TheVariants as kind
 use Rattle.snl_scope.specs.declared.summary.Coverage.{Coverage}
 use Rattle.snl_scope.specs.declared.summary.Coverage.TheVariants as coverage
-use Rattle.snl_scope.specs.contracts.claims.ClaimPartialEq.TheImpl as claim_eq
-use Rattle.snl_scope.specs.contracts.claims.ExtentPartialEq.TheImpl as extent_eq
-use Rattle.snl_scope.specs.contracts.claims.PurposePartialEq.TheImpl as purpose_eq
 use Rattle.snl_scope.specs.Below.{any_below}
-use Rattle.snl_scope.specs.Claims.{Claimed, claims, has_claim, makes, overlaps_claims, purpose_of, same_claim, same_extent, same_purpose}
+use Rattle.snl_scope.specs.Claims.{Adds, Claimed, claims, has_claim, makes, overlaps_claims, purpose_of, same_claim, same_extent, same_purpose, sound_among}
 use Rattle.snl_scope.specs.Clauses.{LinkedClause, clash, overlaps, same_kind, same_number}
-
--- the set of claims is read by the test that the code derives
-purpose_is : (a b : Purpose) → purpose_eq.eq-value.it a b ≡ same_purpose a b
-purpose_is purpose.Assign purpose.Assign = refl
-purpose_is purpose.Assign purpose.Monitor = refl
-purpose_is purpose.Assign purpose.Sync = refl
-purpose_is purpose.Monitor purpose.Assign = refl
-purpose_is purpose.Monitor purpose.Monitor = refl
-purpose_is purpose.Monitor purpose.Sync = refl
-purpose_is purpose.Sync purpose.Assign = refl
-purpose_is purpose.Sync purpose.Monitor = refl
-purpose_is purpose.Sync purpose.Sync = refl
-
-extent_is : (a b : Extent) → extent_eq.eq-value.it a b ≡ same_extent a b
-extent_is extent.Any extent.Any = refl
-extent_is extent.Any extent.Whole = refl
-extent_is extent.Any (extent.Element b) = refl
-extent_is extent.Whole extent.Any = refl
-extent_is extent.Whole extent.Whole = refl
-extent_is extent.Whole (extent.Element b) = refl
-extent_is (extent.Element a) extent.Any = refl
-extent_is (extent.Element a) extent.Whole = refl
-extent_is (extent.Element a) (extent.Element b) = refl
-
-claim_is : (a b : Claim) → claim_eq.eq-value.it a b ≡ same_claim a b
-claim_is a b =
-    sym (and_assoc (purpose_eq.eq-value.it a.purpose b.purpose) (nat_eq a.variable b.variable) (extent_eq.eq-value.it a.extent b.extent))
-    ∙ ap (λ p. p && nat_eq a.variable b.variable && extent_eq.eq-value.it a.extent b.extent) (purpose_is a.purpose b.purpose)
-    ∙ ap (λ e. same_purpose a.purpose b.purpose && nat_eq a.variable b.variable && e) (extent_is a.extent b.extent)
+use Rattle.snl_scope.proofs.FirstClaims.{adds-same, adds-then, claimed-told}
 
 list_any-same : {A : Type 0} (p q : A → Bool) (xs : List A) → ((x : A) → p x ≡ q x) → list_any p xs ≡ list_any q xs
 list_any-same p q [] h = refl
 list_any-same p q (x ∷ xs) h = ap (λ b. b || list_any p xs) (h x) ∙ ap (λ b. q x || b) (list_any-same p q xs h)
-
-pub has_is : (m : Claim) (held : List Claim) → list_any (claim_eq.eq-value.it m) held ≡ list_any (same_claim m) held
-has_is m held = list_any-same (claim_eq.eq-value.it m) (same_claim m) held (claim_is m)
-
-cond-or : (b c : Bool) → cond b true c ≡ (b || c)
-cond-or true c = refl
-cond-or false c = refl
-
-pub added_is : (one : Claim) (before after : List Claim)
-    → ((q : Claim) → list_any (claim_eq.eq-value.it q) after ≡ cond (claim_eq.eq-value.it one q) true (list_any (claim_eq.eq-value.it q) before))
-    → (q : Claim) → list_any (same_claim q) after ≡ (same_claim one q || list_any (same_claim q) before)
-added_is one before after h q =
-    sym (has_is q after) ∙ h q ∙ cond-or (claim_eq.eq-value.it one q) (list_any (claim_eq.eq-value.it q) before)
-    ∙ ap (λ b. b || list_any (claim_eq.eq-value.it q) before) (claim_is one q) ∙ ap (λ b. same_claim one q || b) (has_is q before)
 
 -- a number that passes
 pub below-found : (p : ℕ → Bool) (n k : ℕ) → nat_lt k n ≡ true → p k ≡ true → any_below p n ≡ true
@@ -110,27 +63,35 @@ below-front j zero = grind (arith, nat_tests)
 below-front j (suc n) = ap (λ b. nat_lt n j || b) (below-front j n) ∙ grind (arith, nat_tests)
 
 -- what a clause claims
-joined : (p n a b c o : Bool) → (b || a) ≡ c → ((p && n && b) || ((p && n && a) || o)) ≡ ((p && n && c) || o)
-joined true true a b c o h = sym (or_assoc b a o) ∙ ap (λ d. d || o) h
-joined true false a b c o h = refl
-joined false n a b c o h = refl
+pub and-or : (p n a b : Bool) → ((p && n && a) || (p && n && b)) ≡ (p && n && (a || b))
+and-or true true a b = refl
+and-or true false a b = refl
+and-or false n a b = refl
 
 front_claims : (n : ℕ) (e : Extent) → (any_below (λ k. same_extent (extent.Element k) e) n || same_extent extent.Any e) ≡ claims (coverage.Front n) e
 front_claims n extent.Any = or_comm (any_below (λ k. false) n) true
 front_claims n extent.Whole = ap (λ b. b || false) (below-nothing n)
 front_claims n (extent.Element j) = or-false (any_below (λ k. nat_eq k j) n) ∙ below-one j n
 
-module _ (p : Purpose) (v : ℕ) (m : Claim) (before any after : Bool)
-    (first : any ≡ (same_claim (record { purpose = p; variable = v; extent = extent.Any }) m || before)) where
-  abbrev all_claims : Coverage → Bool
-  all_claims c = same_purpose p m.purpose && nat_eq v m.variable && claims c m.extent
+module _ (p : Purpose) (v : ℕ) (before any after : List (Claim × ℕ)) (number : ℕ)
+    (first : Adds before any (same_claim (record { purpose = p; variable = v; extent = extent.Any })) number) where
+  abbrev claims_of : (Extent → Bool) → Claim → Bool
+  claims_of test m = same_purpose p m.purpose && nat_eq v m.variable && test m.extent
 
-  pub makes_front : (n : ℕ) → after ≡ (any_below (λ k. same_claim (record { purpose = p; variable = v; extent = extent.Element k }) m) n || any) → after ≡ (all_claims (coverage.Front n) || before)
-  makes_front n h =
-      h ∙ ap (λ b. b || any) (below-and (same_purpose p m.purpose) (nat_eq v m.variable) (λ k. same_extent (extent.Element k) m.extent) n)
-      ∙ ap (λ b. (same_purpose p m.purpose && nat_eq v m.variable && any_below (λ k. same_extent (extent.Element k) m.extent) n) || b) first
-      ∙ joined (same_purpose p m.purpose) (nat_eq v m.variable) (same_extent extent.Any m.extent) (any_below (λ k. same_extent (extent.Element k) m.extent) n) (claims (coverage.Front n) m.extent) before
-      (front_claims n m.extent)
+  together : (test : Extent → Bool) (c : Coverage) → ((e : Extent) → (test e || same_extent extent.Any e) ≡ claims c e)
+      → Adds any after (claims_of test) number → Adds before after (claims_of (claims c)) number
+  together test c h more =
+      adds-same before after (λ m. claims_of test m || claims_of (same_extent extent.Any) m) (claims_of (claims c)) number (λ m.
+      and-or (same_purpose p m.purpose) (nat_eq v m.variable) (test m.extent) (same_extent extent.Any m.extent)
+      ∙ ap (λ b. same_purpose p m.purpose && nat_eq v m.variable && b) (h m.extent))
+      (adds-then before any after (claims_of (same_extent extent.Any)) (claims_of test) number first more)
+
+  pub makes_front : (n : ℕ) → Adds any after (λ m. any_below (λ k. claims_of (same_extent (extent.Element k)) m) n) number
+      → Adds before after (claims_of (claims (coverage.Front n))) number
+  makes_front n more =
+      together (λ e. any_below (λ k. same_extent (extent.Element k) e) n) (coverage.Front n) (front_claims n)
+      (adds-same any after (λ m. any_below (λ k. claims_of (same_extent (extent.Element k)) m) n) (claims_of (λ e. any_below (λ k. same_extent (extent.Element k) e) n)) number
+      (λ m. below-and (same_purpose p m.purpose) (nat_eq v m.variable) (λ k. same_extent (extent.Element k) m.extent) n) more)
 
 -- an overlap with a sound clause is told by its claims
 kinds : (a b : ClauseKind) → same_purpose (purpose_of b) (purpose_of a) ≡ same_kind a b
@@ -151,7 +112,7 @@ kinds kind.Syncq kind.Monitor = refl
 kinds kind.Syncq kind.Sync = refl
 kinds kind.Syncq kind.Syncq = refl
 
-numbers : (a : Option ℕ) (v : ℕ) → same_number a (Some v) ≡ same_number (Some v) a
+pub numbers : (a : Option ℕ) (v : ℕ) → same_number a (Some v) ≡ same_number (Some v) a
 numbers None v = refl
 numbers (Some a) v = eq-sym a v
 
@@ -189,12 +150,10 @@ below-any p xs zero = sym (none xs)
     none (y ∷ ys) = none ys
 below-any p xs (suc n) = ap (λ b. list_any (p n) xs || b) (below-any p xs n) ∙ or-any (p n) (λ x. any_below (λ k. p k x) n) xs
 
-and-or : (p n a b : Bool) → ((p && n && a) || (p && n && b)) ≡ (p && n && (a || b))
-and-or true true a b = refl
-and-or true false a b = refl
-and-or false n a b = refl
+module _ (held : List (Claim × ℕ)) (judged : List (LinkedClause × Bool)) (c : LinkedClause) (v : ℕ) (f : Claimed held judged) (is : c.variable ≡ Some v) where
+  abbrev sound : List LinkedClause
+  sound = sound_among judged
 
-module _ (held : List Claim) (sound : List LinkedClause) (c : LinkedClause) (v : ℕ) (f : Claimed held sound) (is : c.variable ≡ Some v) where
   abbrev claim : Extent → Claim
   claim e = record { purpose = purpose_of c.clause.kind; variable = v; extent = e }
 
@@ -212,15 +171,15 @@ module _ (held : List Claim) (sound : List LinkedClause) (c : LinkedClause) (v :
 
   at_whole : c.clause.coverage ≡ coverage.Whole → has_claim held (purpose_of c.clause.kind) v extent.Any ≡ list_any (clash c) sound
   at_whole h =
-      f.each (claim extent.Any)
+      claimed-told held judged f (claim extent.Any)
       ∙ list_any-same (λ d. makes d (claim extent.Any)) (clash c) sound (λ d.
       clashes d (claims d.clause.coverage extent.Any) (any_overlaps d.clause.coverage ∙ ap (λ o. overlaps o d.clause.coverage) (sym h)))
 
   at_element : (k : ℕ) → c.clause.coverage ≡ coverage.Element k
       → (has_claim held (purpose_of c.clause.kind) v extent.Whole || has_claim held (purpose_of c.clause.kind) v (extent.Element k)) ≡ list_any (clash c) sound
   at_element k h =
-      ap (λ b. b || has_claim held (purpose_of c.clause.kind) v (extent.Element k)) (f.each (claim extent.Whole))
-      ∙ ap (λ b. list_any (λ d. makes d (claim extent.Whole)) sound || b) (f.each (claim (extent.Element k)))
+      ap (λ b. b || has_claim held (purpose_of c.clause.kind) v (extent.Element k)) (claimed-told held judged f (claim extent.Whole))
+      ∙ ap (λ b. list_any (λ d. makes d (claim extent.Whole)) sound || b) (claimed-told held judged f (claim (extent.Element k)))
       ∙ or-any (λ d. makes d (claim extent.Whole)) (λ d. makes d (claim (extent.Element k))) sound
       ∙ list_any-same (λ d. makes d (claim extent.Whole) || makes d (claim (extent.Element k))) (clash c) sound (λ d.
       and-or (of_kind d) (of_variable d) (claims d.clause.coverage extent.Whole) (claims d.clause.coverage (extent.Element k))
@@ -229,9 +188,9 @@ module _ (held : List Claim) (sound : List LinkedClause) (c : LinkedClause) (v :
   at_front : (n : ℕ) → c.clause.coverage ≡ coverage.Front n
       → (has_claim held (purpose_of c.clause.kind) v extent.Whole || any_below (λ k. has_claim held (purpose_of c.clause.kind) v (extent.Element k)) n) ≡ list_any (clash c) sound
   at_front n h =
-      ap (λ b. b || any_below (λ k. has_claim held (purpose_of c.clause.kind) v (extent.Element k)) n) (f.each (claim extent.Whole))
+      ap (λ b. b || any_below (λ k. has_claim held (purpose_of c.clause.kind) v (extent.Element k)) n) (claimed-told held judged f (claim extent.Whole))
       ∙ ap (λ b. list_any (λ d. makes d (claim extent.Whole)) sound || b)
-      (below-same (λ k. has_claim held (purpose_of c.clause.kind) v (extent.Element k)) (λ k. list_any (λ d. makes d (claim (extent.Element k))) sound) n (λ k. f.each (claim (extent.Element k)))
+      (below-same (λ k. has_claim held (purpose_of c.clause.kind) v (extent.Element k)) (λ k. list_any (λ d. makes d (claim (extent.Element k))) sound) n (λ k. claimed-told held judged f (claim (extent.Element k)))
       ∙ below-any (λ k d. makes d (claim (extent.Element k))) sound n)
       ∙ or-any (λ d. makes d (claim extent.Whole)) (λ d. any_below (λ k. makes d (claim (extent.Element k))) n) sound
       ∙ list_any-same (λ d. makes d (claim extent.Whole) || any_below (λ k. makes d (claim (extent.Element k))) n) (clash c) sound (λ d.

@@ -1,6 +1,7 @@
--- The claims that sound clauses make on variables, by which an overlap with them is told.
-use Rattle.std.specs.Prelude.{◌≡◌, ℕ, Bool, true, false, ◌&&◌, ◌||◌, List, nat_eq, nat_lt, Some}
-use Rattle.std.specs.List.{list_any}
+-- The claims that sound clauses make on variables, by which an overlap with them is told, and what they say of channels.
+use Rattle.std.specs.Prelude.{◌≡◌, ℕ, Bool, true, false, ◌&&◌, ◌||◌, if◌then◌else◌, List, filter, map, nat_eq, nat_lt, Option, None, Some, is_some, position}
+use Rattle.std.specs.Map.{lookup}
+use Rattle.std.specs.Option.{option_or}
 use Rattle.snl_scope.specs.declared.claims.Claim.{Claim}
 use Rattle.snl_scope.specs.declared.claims.Extent.{Extent}
 use Rattle.snl_scope.specs.declared.claims.Extent.TheVariants as extent
@@ -48,16 +49,39 @@ claims (coverage.Front n) (extent.Element k) = nat_lt k n
 abbrev pub makes : LinkedClause → Claim → Bool
 makes c m = same_purpose (purpose_of c.clause.kind) m.purpose && same_number c.variable (Some m.variable) && claims c.clause.coverage m.extent
 
--- The claims are those that the sound clauses make.
-pub record Claimed (held : List Claim) (sound : List LinkedClause) : Type 0 where
-  pub each : (m : Claim) → list_any (same_claim m) held ≡ list_any (λ c. makes c m) sound
+-- The sound ones among clauses of which it is told whether they are.
+abbrev pub sound_among : List (LinkedClause × Bool) → List LinkedClause
+sound_among judged = map (λ p. p.0) (filter (λ p. p.1) judged)
 
-abbrev pub has_claim : List Claim → Purpose → ℕ → Extent → Bool
-has_claim held p variable e = list_any (same_claim (record { purpose = p; variable = variable; extent = e })) held
+-- The claims are those that the sound ones among these clauses make, each with the number of the first that makes it.
+pub record Claimed (held : List (Claim × ℕ)) (judged : List (LinkedClause × Bool)) : Type 0 where
+  pub each : (m : Claim) → lookup (same_claim m) held ≡ position (λ p. p.1 && makes p.0 m) judged
+
+-- The clause with this number makes the claims that pass the test; an earlier one that made a claim stays the first.
+pub record Adds (before after : List (Claim × ℕ)) (made : Claim → Bool) (number : ℕ) : Type 0 where
+  pub each : (m : Claim) → lookup (same_claim m) after ≡ option_or (lookup (same_claim m) before) (if made m then Some number else None)
+
+-- The number of the first clause that makes the claim.
+abbrev pub claim_number : List (Claim × ℕ) → Purpose → ℕ → Extent → Option ℕ
+claim_number held p variable e = lookup (same_claim (record { purpose = p; variable = variable; extent = e })) held
+
+abbrev pub has_claim : List (Claim × ℕ) → Purpose → ℕ → Extent → Bool
+has_claim held p variable e = is_some (claim_number held p variable e)
 
 -- A clause with this coverage overlaps one that made its claims: whatever covers the whole overlaps any, and an element
 -- one that covers it or the whole.
-abbrev pub overlaps_claims : List Claim → Purpose → ℕ → Coverage → Bool
+abbrev pub overlaps_claims : List (Claim × ℕ) → Purpose → ℕ → Coverage → Bool
 overlaps_claims held p variable coverage.Whole = has_claim held p variable extent.Any
 overlaps_claims held p variable (coverage.Element k) = has_claim held p variable extent.Whole || has_claim held p variable (extent.Element k)
 overlaps_claims held p variable (coverage.Front n) = has_claim held p variable extent.Whole || any_below (λ k. has_claim held p variable (extent.Element k)) n
+
+abbrev pub lesser : Option ℕ → Option ℕ → Option ℕ
+lesser None b = b
+lesser (Some a) None = Some a
+lesser (Some a) (Some b) = if nat_lt b a then Some b else Some a
+
+-- The number of the first clause that speaks of a channel: any clause speaks of that of the whole variable, and of that of
+-- an element one that covers the whole or the element.
+abbrev pub channel_number : List (Claim × ℕ) → Purpose → ℕ → Option ℕ → Option ℕ
+channel_number held p variable None = claim_number held p variable extent.Any
+channel_number held p variable (Some e) = lesser (claim_number held p variable extent.Whole) (claim_number held p variable (extent.Element e))

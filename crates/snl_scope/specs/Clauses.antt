@@ -161,7 +161,15 @@ soundness ss = soundness_behind (entries ss) (clauses_of ss) [] (clauses_of ss)
 
 -- A clause as links tell it.
 abbrev pub clause_link : LinkedClause → Bool → ClauseLink
-clause_link c is_sound = record { item = c.item; variable = c.variable; flag = c.flag; is_sound = is_sound }
+clause_link c is_sound = record {
+  item = c.item;
+  token = c.clause.variable.token;
+  kind = c.clause.kind;
+  coverage = c.clause.coverage;
+  variable = c.variable;
+  flag = c.flag;
+  is_sound = is_sound;
+}
 
 -- All clauses of a text, each with its soundness.
 abbrev pub clause_links : List Summary → List ClauseLink

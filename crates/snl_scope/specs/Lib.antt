@@ -5,6 +5,7 @@ pub mod Order
 pub mod Names
 pub mod Clauses
 pub mod Claims
+pub mod Channels
 pub mod Flags
 pub mod Channels
 pub mod Linked

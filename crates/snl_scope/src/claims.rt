@@ -1,15 +1,15 @@
-//! What sound clauses claim of variables: a clause comes in, and whether it overlaps an earlier one goes out.
+//! What sound clauses claim of variables: a clause comes in, and whether it overlaps an earlier one goes out, and which was
+//! the first to speak of a channel.
 
-ghost use Rattle.std.specs.Prelude.{◌≡◌, ◌||◌, ◌&&◌, ◌++◌, ◌∷◌, [], nat_eq, OnOk};
-ghost use Rattle.std.specs.List.{list_any};
+ghost use Rattle.std.specs.Prelude.{◌≡◌, ◌&&◌, [], nat_eq, OnOk};
+ghost use Rattle.std.specs.Map.{lookup};
 ghost use Rattle.snl_scope.specs.Below.{any_below};
-ghost use Rattle.snl_scope.specs.Claims.{claims, has_claim, overlaps_claims, purpose_of, same_claim, same_purpose};
-ghost use Rattle.snl_scope.specs.declared.claims.Claim.{Claim};
+ghost use Rattle.snl_scope.specs.Claims.{Adds, channel_number, claim_number, claims, has_claim, lesser, overlaps_claims, purpose_of, same_claim, same_purpose};
 ghost use Rattle.snl_scope.specs.declared.claims.Extent.{Extent};
 ghost use Rattle.snl_scope.specs.declared.claims.Extent.TheVariants as extent;
 
 use crate::summary::{ClauseKind, Coverage};
-use indexmap::IndexSet;
+use indexmap::IndexMap;
 use snl_cut::OutOfMemory;
 use std::alloc::Global;
 use std::marker::Model;
@@ -51,19 +51,30 @@ pub(crate) fn purpose_of(kind: ClauseKind) -> Purpose
     }
 }
 
-/// The claims of clauses, which contracts see as their list.
+// The lesser of two numbers, where there are two.
+fn lesser(first: Option<usize>, second: Option<usize>) -> Option<usize>
+    ensures { result ≡ lesser first second }
+{
+    match (first, second) {
+        (Some(a), Some(b)) => Some(if b < a { b } else { a }),
+        (Some(a), None) => Some(a),
+        (None, b) => b,
+    }
+}
+
+/// The claims of clauses, each with the number of the first that makes it, which contracts see as the list of these pairs.
 #[derive(Drop)]
 pub(crate) struct Claims {
-    held: IndexSet<Claim>,
+    held: IndexMap<Claim, usize>,
 }
 
 impl Model for Claims {
-    ghost use Rattle.std.specs.Prelude.{List};
+    ghost use Rattle.std.specs.Prelude.{ℕ, List};
     ghost use Rattle.snl_scope.specs.declared.claims.Claim.{Claim};
 
-    ghost Value = { List Claim };
+    ghost Value = { List (Claim × ℕ) };
 
-    ghost view = { λ a. a.held.keys };
+    ghost view = { λ a. a.held.entries };
 }
 
 impl Claims {
@@ -71,18 +82,26 @@ impl Claims {
         ensures { result ≡ [] }
     {
         Claims {
-            held: IndexSet::new(alloc),
+            held: IndexMap::new(alloc),
         }
+    }
+
+    // The number of the first clause that makes the claim.
+    fn number(&self, purpose: Purpose, variable: usize, extent: Extent) -> Option<usize>
+        ensures { result ≡ claim_number self.now purpose variable extent }
+    {
+        let claim = Claim {
+            purpose,
+            variable,
+            extent,
+        };
+        self.held.get(&claim).copied()
     }
 
     fn has(&self, purpose: Purpose, variable: usize, extent: Extent) -> bool
         ensures { result ≡ has_claim self.now purpose variable extent }
     {
-        self.held.contains(&Claim {
-            purpose,
-            variable,
-            extent,
-        })
+        self.number(purpose, variable, extent).is_some()
     }
 
     // Whether one of the first elements is claimed.
@@ -114,15 +133,43 @@ impl Claims {
         }
     }
 
-    fn add(&mut self, purpose: Purpose, variable: usize, extent: Extent) -> Result<(), OutOfMemory>
-        ensures { OnOk result ((m : Claim) → list_any (same_claim m) self.new
-            ≡ (same_claim (record { purpose = purpose; variable = variable; extent = extent }) m || list_any (same_claim m) self.old)) }
+    /// The number of the first clause that speaks of the channel of an element, or of that of the whole variable.
+    pub(crate) fn channel_number(
+        &self,
+        purpose: Purpose,
+        variable: usize,
+        element: Option<u64>,
+    ) -> Option<usize>
+        ensures { result ≡ channel_number self.now purpose variable element }
     {
-        self.held.insert(Claim {
+        match element {
+            Some(element) => lesser(
+                self.number(purpose, variable, Extent::Whole),
+                self.number(purpose, variable, Extent::Element(element)),
+            ),
+            None => self.number(purpose, variable, Extent::Any),
+        }
+    }
+
+    // Adds a claim of the clause with a number. One that made it before stays the first.
+    fn add(
+        &mut self,
+        purpose: Purpose,
+        variable: usize,
+        extent: Extent,
+        number: usize,
+    ) -> Result<(), OutOfMemory>
+        ensures { OnOk result (Adds self.old self.new
+            (same_claim (record { purpose = purpose; variable = variable; extent = extent })) number) }
+    {
+        let claim = Claim {
             purpose,
             variable,
             extent,
-        })?;
+        };
+        if !self.held.contains_key(&claim) {
+            self.held.insert(claim, number)?;
+        }
         Ok(())
     }
 
@@ -132,31 +179,35 @@ impl Claims {
         purpose: Purpose,
         variable: usize,
         length: usize,
+        number: usize,
     ) -> Result<(), OutOfMemory>
-        ensures { OnOk result ((m : Claim) → list_any (same_claim m) self.new
-            ≡ (any_below (λ k. same_claim (record { purpose = purpose; variable = variable; extent = Extent.Element k }) m) length || list_any (same_claim m) self.old)) }
+        ensures { OnOk result (Adds self.old self.new
+            (λ m. any_below (λ k. same_claim (record { purpose = purpose; variable = variable; extent = Extent.Element k }) m) length) number) }
     {
         for element in 0..length {
-            self.add(purpose, variable, Extent::Element(element as u64))?;
+            self.add(purpose, variable, Extent::Element(element as u64), number)?;
         }
         Ok(())
     }
 
-    /// Makes the claims of a clause.
+    /// Makes the claims of the clause with a number.
     pub(crate) fn make(
         &mut self,
         purpose: Purpose,
         variable: usize,
         coverage: Coverage,
+        number: usize,
     ) -> Result<(), OutOfMemory>
-        ensures { OnOk result ((m : Claim) → list_any (same_claim m) self.new
-            ≡ ((same_purpose purpose m.purpose && nat_eq variable m.variable && claims coverage m.extent) || list_any (same_claim m) self.old)) }
+        ensures { OnOk result (Adds self.old self.new
+            (λ m. same_purpose purpose m.purpose && nat_eq variable m.variable && claims coverage m.extent) number) }
     {
-        self.add(purpose, variable, Extent::Any)?;
+        self.add(purpose, variable, Extent::Any, number)?;
         match coverage {
-            Coverage::Whole => self.add(purpose, variable, Extent::Whole),
-            Coverage::Element(number) => self.add(purpose, variable, Extent::Element(number)),
-            Coverage::Front(length) => self.add_front(purpose, variable, length),
+            Coverage::Whole => self.add(purpose, variable, Extent::Whole, number),
+            Coverage::Element(element) => {
+                self.add(purpose, variable, Extent::Element(element), number)
+            }
+            Coverage::Front(length) => self.add_front(purpose, variable, length, number),
         }
     }
 }

@@ -6,7 +6,7 @@ use std::alloc::Global;
 use std::test::Fail;
 
 // The links of a text that has an item on each line.
-fn links_of(alloc: Global, text: &[u8]) -> Result<Links, Fail> {
+pub(crate) fn links_of(alloc: Global, text: &[u8]) -> Result<Links, Fail> {
     let mut summaries = Vec::new(alloc);
     for item in text.split(|byte| *byte == b'\n') {
         summaries.push(summary(alloc, item)?)?;

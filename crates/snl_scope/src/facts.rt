@@ -1,7 +1,7 @@
 //! What links answer: facts of names, declarations, clauses and findings.
 
 use crate::codes::Code;
-use crate::summary::{Dims, Variable};
+use crate::summary::{ClauseKind, Coverage, Dims, Variable};
 
 /// The scope in which a name is declared.
 #[derive(Clone, Copy, Debug, PartialEq, Eq)]
@@ -62,10 +62,14 @@ pub struct LinkFault {
     pub code: Code,
 }
 
-/// A clause of an item: what its variable and its flag resolve to, by the numbers of declarations, and whether it is sound.
+/// A clause of an item, with the token of its variable: what its variable and its flag resolve to, by the numbers of
+/// declarations, and whether it is sound.
 #[derive(Clone, Copy, Debug, PartialEq, Eq)]
 pub struct ClauseLink {
     pub item: usize,
+    pub token: usize,
+    pub kind: ClauseKind,
+    pub coverage: Coverage,
     pub variable: Option<usize>,
     pub flag: Option<usize>,
     pub is_sound: bool,

@@ -3,6 +3,8 @@
 #![tactic(auto)]
 
 mod assigned;
+#[cfg(test)]
+mod channels_tests;
 mod claims;
 mod clauses_of;
 #[cfg(test)]

@@ -5,6 +5,7 @@ ghost use Rattle.snl_scope.specs.Linked.{base_of, entry_fact, level_of, scope_in
 ghost use Rattle.snl_scope.specs.Order.{order_faults};
 
 use crate::assigned::assigned_in;
+use crate::claims::{Claims, Purpose};
 use crate::facts::{Assigned, Base, ClauseLink, Declaration, Fact, Level, LinkFault, Scope};
 use crate::flags::{flag_number, flags_of};
 use crate::order::add_order_faults;
@@ -12,7 +13,7 @@ use crate::origin::Origin;
 use crate::places::places_of;
 use crate::resolved::resolved_clauses;
 use crate::scopes::Scopes;
-use crate::soundness::clause_links;
+use crate::soundness::{JudgedClauses, judged_clauses};
 use crate::spaces::Space;
 use crate::summary::{Nature, Summary};
 use crate::tables::{Standing, Tables, tables_of};
@@ -26,6 +27,7 @@ use std::marker::Model;
 pub struct Links {
     scopes: Scopes,
     clauses: Vec<ClauseLink>,
+    claims: Claims,
     assigned: IndexMap<usize, Assigned>,
     flags: Vec<usize>,
     faults: Vec<LinkFault>,
@@ -33,8 +35,10 @@ pub struct Links {
 
 impl Model for Links {
     ghost use Rattle.std.specs.Prelude.{List, ◌≡◌};
+    ghost use Rattle.std.specs.List.{zip};
     ghost use Rattle.snl_scope.specs.declared.summary.Summary.{Summary};
-    ghost use Rattle.snl_scope.specs.Clauses.{clause_links, clauses_of};
+    ghost use Rattle.snl_scope.specs.Claims.{Claimed};
+    ghost use Rattle.snl_scope.specs.Clauses.{clause_links, clauses_of, soundness};
     ghost use Rattle.snl_scope.specs.Flags.{flags_of};
     ghost use Rattle.snl_scope.specs.Linked.{faults_of};
     ghost use Rattle.snl_scope.specs.Resolved.{Assigns};
@@ -46,10 +50,12 @@ impl Model for Links {
     ghost invariant = { λ a. (a.clauses.items ≡ clause_links a.scopes)
         × Assigns a.assigned.entries (clauses_of a.scopes)
         × (a.flags.items ≡ flags_of a.scopes)
-        × (a.faults.items ≡ faults_of a.scopes) };
+        × (a.faults.items ≡ faults_of a.scopes)
+        × Claimed a.claims (zip (clauses_of a.scopes) (soundness a.scopes)) };
 }
 
 impl Links {
+    ghost use Rattle.snl_scope.specs.Channels.{is_monitored, sync_number};
     ghost use Rattle.snl_scope.specs.Clauses.{assigned_by, clause_links, clauses_of, resolve_in};
     ghost use Rattle.snl_scope.specs.Flags as flags;
     ghost use Rattle.snl_scope.specs.Linked.{declaration_at, fact_at, fact_of, faults_of, has_target};
@@ -136,6 +142,24 @@ impl Links {
         ensures { result.now ≡ clause_links self.now }
     {
         self.clauses.as_slice()
+    }
+
+    /// Whether a sound `monitor` speaks of a channel of the declaration with a number: that of an element, or of the whole
+    /// variable.
+    pub fn is_monitored(&self, variable: usize, element: Option<u64>) -> bool
+        ensures { result ≡ is_monitored self.now variable element }
+    {
+        self.claims
+            .channel_number(Purpose::Monitor, variable, element)
+            .is_some()
+    }
+
+    /// The first sound `sync` or `syncq` that speaks of a channel of the declaration with a number, by its number among the
+    /// clauses.
+    pub fn sync_number(&self, variable: usize, element: Option<u64>) -> Option<usize>
+        ensures { result ≡ sync_number self.now variable element }
+    {
+        self.claims.channel_number(Purpose::Sync, variable, element)
     }
 
     /// What is found of the order of items, names that are declared twice, and what is found at clauses; each finding once.
@@ -240,10 +264,17 @@ pub fn link(alloc: Global, summaries: &[&Summary]) -> Result<Links, OutOfMemory>
     };
     let resolved = resolved_clauses(alloc, &scopes, summaries)?;
     let assigned = assigned_in(alloc, &resolved)?;
-    let clauses = clause_links(alloc, &scopes, &assigned, &resolved, &mut faults)?;
+    let JudgedClauses { links, claims } = judged_clauses(
+        alloc,
+        &scopes,
+        &assigned,
+        &resolved,
+        &mut faults,
+    )?;
     Ok(Links {
         scopes,
-        clauses,
+        clauses: links,
+        claims,
         assigned,
         flags,
         faults,

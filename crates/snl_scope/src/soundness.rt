@@ -1,9 +1,10 @@
-//! Which clauses are sound: resolved clauses come in, their links and what is found at them go out.
+//! Which clauses are sound: resolved clauses come in, their links, what is found at them and the claims of the sound ones
+//! go out.
 
-ghost use Rattle.std.specs.Prelude.{◌≡◌, ◌&&◌, ◌||◌, ◌++◌, ◌∷◌, [], List, false, not, map, Option, IfOk, OnOk, if◌then◌else◌, option_to_list};
+ghost use Rattle.std.specs.Prelude.{◌≡◌, ◌&&◌, ◌||◌, ◌++◌, ◌∷◌, [], List, Bool, false, length, not, map, Option, IfOk, OnOk, if◌then◌else◌, option_to_list};
 ghost use Rattle.std.specs.Option.{option_map_or};
 ghost use Rattle.std.specs.List.{list_any, zip};
-ghost use Rattle.snl_scope.specs.Claims.{Claimed};
+ghost use Rattle.snl_scope.specs.Claims.{Claimed, sound_among};
 ghost use Rattle.snl_scope.specs.Clauses.{LinkedClause, assigns, at_mention, clash, clause_link, code_on, found_at_flag, found_behind, has_wrong_flag, is_assign, is_assignable, is_event_flag, misfits, repetition_code, soundness_behind, variable_code};
 ghost use Rattle.snl_scope.specs.Codes.{is_error};
 ghost use Rattle.snl_scope.specs.Names.{entries};
@@ -92,8 +93,8 @@ fn variable_code(
     claims: &Claims,
     clause: Resolved,
 ) -> Option<Code>
-    ensures { (cs sound : List LinkedClause) → Assigns assigned.now.entries cs → Claimed claims.now sound
-        → result ≡ variable_code (entries scopes.now) cs sound (linked clause.entry) }
+    ensures { (cs : List LinkedClause) → (judged : List (LinkedClause × Bool)) → Assigns assigned.now.entries cs → Claimed claims.now judged
+        → result ≡ variable_code (entries scopes.now) cs (sound_among judged) (linked clause.entry) }
 {
     let number = match clause.variable {
         Some(number) => number,
@@ -172,17 +173,23 @@ fn is_sound(code: Option<Code>, has_wrong_flag: bool) -> bool
     }
 }
 
-// Makes the claims of a clause, if it is sound.
-fn make_claims(claims: &mut Claims, clause: Resolved, is_sound: bool) -> Result<(), OutOfMemory>
-    ensures { OnOk result ((sound : List LinkedClause) → Claimed claims.old sound
-        → Claimed claims.new (if is_sound then sound ++ linked clause.entry ∷ [] else sound)) }
+// Makes the claims of the clause with a number, if it is sound.
+fn make_claims(
+    claims: &mut Claims,
+    clause: Resolved,
+    number: usize,
+    is_sound: bool,
+) -> Result<(), OutOfMemory>
+    ensures { OnOk result ((judged : List (LinkedClause × Bool)) → number ≡ length judged → Claimed claims.old judged
+        → Claimed claims.new (judged ++ (linked clause.entry, is_sound) ∷ [])) }
 {
-    if let Some(number) = clause.variable {
+    if let Some(variable) = clause.variable {
         if is_sound {
             claims.make(
                 purpose_of(clause.clause.kind),
-                number,
+                variable,
                 clause.clause.coverage,
+                number,
             )?;
         }
     }
@@ -194,22 +201,35 @@ fn link_of(clause: Resolved, is_sound: bool) -> ClauseLink
 {
     ClauseLink {
         item: clause.item,
+        token: clause.clause.variable.token,
+        kind: clause.clause.kind,
+        coverage: clause.clause.coverage,
         variable: clause.variable,
         flag: clause.flag,
         is_sound,
     }
 }
 
-/// The links of all clauses; what is found at them is added.
-pub(crate) fn clause_links(
+/// Clauses of which it is known whether they are sound: their links, and the claims of the sound ones, each with the number
+/// of the first that makes it.
+#[derive(Drop)]
+pub(crate) struct JudgedClauses {
+    pub links: Vec<ClauseLink>,
+    pub claims: Claims,
+}
+
+/// Judges all clauses; what is found at them is added.
+pub(crate) fn judged_clauses(
     alloc: Global,
     scopes: &Scopes,
     assigned: &IndexMap<usize, Assigned>,
     clauses: &[Resolved],
     faults: &mut Vec<LinkFault>,
-) -> Result<Vec<ClauseLink>, OutOfMemory>
+) -> Result<JudgedClauses, OutOfMemory>
     requires { Assigns assigned.now.entries (map linked clauses.now) }
-    ensures links { IfOk result (λ links. links.items ≡ map (λ p. clause_link p.0 p.1)
+    ensures links { IfOk result (λ judged. judged.links.items ≡ map (λ p. clause_link p.0 p.1)
+        (zip (map linked clauses.now) (soundness_behind (entries scopes.now) (map linked clauses.now) [] (map linked clauses.now)))) }
+    ensures claims { IfOk result (λ judged. Claimed judged.claims
         (zip (map linked clauses.now) (soundness_behind (entries scopes.now) (map linked clauses.now) [] (map linked clauses.now)))) }
     ensures found { OnOk result (faults.new.items ≡ faults.old.items
         ++ found_behind (entries scopes.now) (map linked clauses.now) [] (map linked clauses.now)) }
@@ -222,8 +242,8 @@ pub(crate) fn clause_links(
         let is_sound = is_sound(code, is_flag_wrong);
         add_at_variable(*clause, code, faults)?;
         add_at_flag(*clause, is_flag_wrong, faults)?;
-        make_claims(&mut claims, *clause, is_sound)?;
+        make_claims(&mut claims, *clause, links.len(), is_sound)?;
         links.push(link_of(*clause, is_sound))?;
     }
-    Ok(links)
+    Ok(JudgedClauses { links, claims })
 }

@@ -1,12 +1,17 @@
-use Rattle.std.proofs.Common.{◌||◌, ap, ◌∙◌}
-use Rattle.std.specs.List.{list_any}
+use Rattle.std.proofs.Common.{subst, sym, ◌∙◌}
 use Rattle.snl_scope.specs.declared.claims.Claim.{Claim}
-use Rattle.snl_scope.specs.Claims.{same_claim}
-use Rattle.snl_scope.proofs.Overlaps.{added_is}
+use Rattle.snl_scope.specs.Claims.{Adds, same_claim}
+use Rattle.snl_scope.proofs.FirstClaims.{adds-known, adds-new}
 use Rattle.snl_scope.proofs.claims.Claims.add.Goals as goal
 
-pub returns : goal.returns
-returns c = λ m.
+pub returns-in_ok-insert : goal.returns-in_ok-insert
+returns-in_ok-insert c =
     let one : Claim = record { purpose = c.args.purpose; variable = c.args.variable; extent = c.args.extent } in
-    added_is one c.self.inside.held.keys c.insert.new.self.keys c.in_ok-insert.ensures.updates.0 m
-    ∙ ap (λ l. same_claim one m || list_any (same_claim m) l) c.self.view_is
+    subst (λ l. Adds l c.insert.new.self.entries (same_claim one) c.args.number) c.self.view_is
+    (adds-new one c.args.number c.self.inside.held.entries c.insert.new.self.entries (sym c.contains_key.ensures ∙ c.if-not-contains_key.true) c.in_ok-insert.ensures.updates.0)
+
+pub returns-else-not-contains_key : goal.returns-else-not-contains_key
+returns-else-not-contains_key c =
+    let one : Claim = record { purpose = c.args.purpose; variable = c.args.variable; extent = c.args.extent } in
+    subst (λ l. Adds l l (same_claim one) c.args.number) c.self.view_is
+    (adds-known one c.args.number c.self.inside.held.entries (sym c.contains_key.ensures ∙ c.if-not-contains_key.false))
