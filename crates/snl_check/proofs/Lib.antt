@@ -4,3 +4,5 @@ pub mod Each
 pub mod FreeUses
 pub mod Steps
 pub mod Items
+pub mod Ends
+pub mod SameClauses

@@ -6,4 +6,5 @@ pub mod Outlook
 pub mod Found
 pub mod Alike
 pub mod Rows
+pub mod Tables
 pub mod ClauseTrees

@@ -9,6 +9,10 @@ use Rattle.snl_syntax.specs.declared.tree.item.Item.{Item}
 use Rattle.snl_syntax.specs.declared.tree.item.Item.TheVariants as items
 use Rattle.snl_syntax.specs.declared.tree.state.StateMember.{StateMember}
 use Rattle.snl_syntax.specs.declared.tree.state.StateMember.TheVariants as members
+use Rattle.snl_scope.specs.declared.summary.Summary.{Summary}
+use Rattle.snl_scope.specs.declared.summary.VariableClause.{VariableClause}
+use Rattle.snl_scope.specs.Summaries.{summary_in}
+use Rattle.snl_scope.specs.Summaries.Clauses.{clause_of}
 use Rattle.snl_scope.specs.Summaries.Tokens.{IsSource, bytes_at}
 use Rattle.snl_check.specs.declared.program.Program.{Program}
 use Rattle.snl_check.specs.declared.rows.Span.{Span}
@@ -52,6 +56,10 @@ tokens_in xs item = option_map_or (λ x. x.tokens) (slice_get xs item) []
 -- The tree of the item with a number.
 abbrev pub tree_in : List ProgramItem → ℕ → Option Item
 tree_in xs item = option_and_then (λ x. x.tree) (slice_get xs item)
+
+-- What each item says to the others.
+abbrev pub summaries_of : List ℕ → List ProgramItem → List Summary
+summaries_of text xs = map (λ x. summary_in text x.tokens x.tree) xs
 
 -- Where a token stands. A token that isn't there stands nowhere, with no bytes.
 abbrev pub span_of : Option Piece → Span
@@ -113,3 +121,7 @@ item_clauses_before xs (suc n) = item_clauses_before xs n ++ item_clauses_if n (
 
 abbrev pub item_clauses : List ProgramItem → List ItemClause
 item_clauses xs = item_clauses_before xs (length xs)
+
+-- A clause of a text as the summary of its item has it, with the number of the item.
+abbrev pub summarized : List ℕ → List ProgramItem → ItemClause → ℕ × VariableClause
+summarized text xs c = (c.item, clause_of text (tokens_in xs c.item) c.clause)

@@ -3,21 +3,29 @@
 #![tactic(auto)]
 
 mod channel_names;
+mod channel_rows;
 mod check;
 #[cfg(test)]
 mod check_tests;
 mod event_flags;
 mod findings;
+mod flag_rows;
 mod item_clauses;
 mod laws;
+mod listing;
 mod program;
 mod rows;
 mod scopes;
+mod syncs;
+mod tables_of;
+#[cfg(test)]
+mod tables_tests;
 mod undeclared;
 mod unknown_targets;
 mod view;
 
 pub use check::check_item;
 pub use findings::{Checked, ItemFault};
-pub use laws::equal_views;
+pub use laws::{equal_views, same_clauses};
 pub use rows::{ChannelRow, FlagRow, Queue, ScopeName, Span, Synced, Tables};
+pub use tables_of::tables;

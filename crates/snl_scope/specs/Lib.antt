@@ -7,7 +7,6 @@ pub mod Clauses
 pub mod Claims
 pub mod Channels
 pub mod Flags
-pub mod Channels
 pub mod Linked
 pub mod Tables
 pub mod Resolved
