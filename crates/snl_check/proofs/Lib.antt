@@ -14,3 +14,6 @@ pub mod Searching
 pub mod Walks
 pub mod Conditions
 pub mod Mentions
+pub mod Items
+pub mod Ends
+pub mod SameClauses

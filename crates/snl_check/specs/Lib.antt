@@ -15,3 +15,6 @@ pub mod Found
 pub mod Alike
 pub mod Reach
 pub mod Wake
+pub mod Rows
+pub mod Tables
+pub mod ClauseTrees

@@ -13,7 +13,7 @@ use std::process::Abort;
 use std::test::Fail;
 
 // The tokens of a text.
-fn tokens_of(alloc: Global, text: &[u8]) -> Result<Vec<Piece>, Fail>
+pub(crate) fn tokens_of(alloc: Global, text: &[u8]) -> Result<Vec<Piece>, Fail>
     ensures { IfOk result (λ tokens. IsSource text.now tokens.items) }
 {
     let mut tokens = Vec::new(alloc);

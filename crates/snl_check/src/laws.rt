@@ -1,12 +1,20 @@
-//! The law of the check of items. A function here does nothing: its contract is the law.
+//! Laws of what is found in items and of their clauses. A function here does nothing: its contract is the law.
 
-ghost use Rattle.std.specs.Prelude.{◌≡◌, ℕ, Bool, List, Option};
+ghost use Rattle.std.specs.Prelude.{◌≡◌, ℕ, Bool, List, Option, map};
 ghost use Rattle.snl_lex.specs.declared.piece.Piece.{Piece};
 ghost use Rattle.snl_syntax.specs.declared.tree.item.Item.{Item};
 ghost use Rattle.snl_scope.specs.declared.facts.Fact.{Fact};
+ghost use Rattle.snl_scope.specs.Clauses.{clauses_of};
 ghost use Rattle.snl_scope.specs.Summaries.Tokens.{bytes_at};
 ghost use Rattle.snl_check.specs.Alike.{Agree, SameTokens, target_names, used_names};
 ghost use Rattle.snl_check.specs.Found.{faults_in};
+ghost use Rattle.snl_check.specs.Rows.{ProgramItem, item_clauses, summaries_of, summarized};
+
+/// The clauses of items, as trees, are those that the summaries of the items have, one by one in the order of the text.
+pub fn same_clauses()
+    ensures { (text : List ℕ) (xs : List ProgramItem)
+        → map (summarized text xs) (item_clauses xs) ≡ map (λ c. (c.item, c.clause)) (clauses_of (summaries_of text xs)) }
+{}
 
 /// The same is found in an item of the same tokens and tree, wherever it stands, where the same is known of each name that it
 /// uses, and of each of its targets.

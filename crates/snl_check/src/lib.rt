@@ -5,6 +5,8 @@
 mod arguments;
 mod arguments_of;
 mod calls;
+mod channel_names;
+mod channel_rows;
 mod check;
 #[cfg(test)]
 mod check_tests;
@@ -12,16 +14,25 @@ mod declares;
 mod delays;
 mod event_flags;
 mod findings;
+mod flag_rows;
+mod item_clauses;
 mod judged;
 mod laws;
+mod listing;
 mod loops;
 mod meanings;
 mod options;
+mod program;
 #[cfg(test)]
 mod reach_tests;
 mod reaching;
+mod rows;
 mod scopes;
 mod state_changes;
+mod syncs;
+mod tables_of;
+#[cfg(test)]
+mod tables_tests;
 mod undeclared;
 mod unknown_targets;
 mod view;
@@ -31,6 +42,8 @@ mod wake_tests;
 
 pub use check::check_item;
 pub use findings::{Checked, ItemFault};
-pub use laws::equal_views;
+pub use laws::{equal_views, same_clauses};
 pub use reaching::reach;
+pub use rows::{ChannelRow, FlagRow, Queue, ScopeName, Span, Synced, Tables};
+pub use tables_of::tables;
 pub use wake::{WakeUse, wake_uses};

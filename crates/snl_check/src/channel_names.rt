@@ -1,0 +1,35 @@
+//! Names of channels: the strings of a clause come in, what is between their quotes goes out, joined.
+
+ghost use Rattle.std.specs.Prelude.{◌≡◌, IfOk};
+ghost use Rattle.snl_scope.specs.Summaries.Tokens.{IsSource};
+ghost use Rattle.snl_check.specs.Rows.{between_quotes, joined};
+
+use snl_cut::OutOfMemory;
+use snl_scope::{Name, Source};
+
+// The bytes between the quotes of a string.
+fn between_quotes(string: &[u8]) -> &[u8]
+    ensures { result.now ≡ between_quotes string.now }
+{
+    if string.len() < 2 {
+        return &[];
+    }
+    &string[1..string.len() - 1]
+}
+
+/// What is between the quotes of strings, joined.
+pub(crate) fn joined(source: &Source, strings: &[usize]) -> Result<Name, OutOfMemory>
+    requires { IsSource source.now.text.now source.now.tokens.now }
+    ensures { IfOk result (λ name. name ≡ joined source.now.text.now source.now.tokens.now strings.now) }
+{
+    let mut bytes = Vec::new(source.alloc);
+    for string in strings {
+        if bytes
+            .extend_from_slice(between_quotes(source.bytes(*string)))
+            .is_err()
+        {
+            return Err(OutOfMemory);
+        }
+    }
+    Name::new(source.alloc, &bytes)
+}
