@@ -122,32 +122,23 @@ fn what_is_found_at_clauses(rt: HostRuntime) -> Result<(), Fail> {
     Ok(())
 }
 
-// The first clause that assigns a variable says it, sound or not.
-static ASSIGNED: &[u8] =
+static ASSIGNS: &[u8] =
     b"int a[2], b[2], c, d[2], e;\nassign a[1] to \"x\";\nassign a to \"y\";\nassign b to \"y\";\nassign b[1] to \"x\";\nassign c[0] to \"x\";\nassign d to {};";
+
+// To what a variable is assigned there: the first clause that assigns it says it, sound or not.
+static ASSIGNED: [(&[u8], Assigned); 5] = [
+    (b"a", Assigned::Elements),
+    (b"b", Assigned::Whole),
+    (b"c", Assigned::Elements),
+    (b"d", Assigned::Elements),
+    (b"e", Assigned::Unassigned),
+];
 
 #[test]
 fn what_is_assigned(rt: HostRuntime) -> Result<(), Fail> {
-    let links = links_of(rt.alloc(), ASSIGNED)?;
-    assert_eq!(rt;
-        links.fact(0, b"a").map(|f| f.assigned),
-        Some(Assigned::Elements)
-    );
-    assert_eq!(rt;
-        links.fact(0, b"b").map(|f| f.assigned),
-        Some(Assigned::Whole)
-    );
-    assert_eq!(rt;
-        links.fact(0, b"c").map(|f| f.assigned),
-        Some(Assigned::Elements)
-    );
-    assert_eq!(rt;
-        links.fact(0, b"d").map(|f| f.assigned),
-        Some(Assigned::Elements)
-    );
-    assert_eq!(rt;
-        links.fact(0, b"e").map(|f| f.assigned),
-        Some(Assigned::Unassigned)
-    );
+    let links = links_of(rt.alloc(), ASSIGNS)?;
+    for (name, assigned) in &ASSIGNED {
+        assert_eq!(rt; links.fact(0, name).map(|f| f.assigned), Some(*assigned));
+    }
     Ok(())
 }

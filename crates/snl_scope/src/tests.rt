@@ -49,6 +49,28 @@ fn count(links: &Links, code: Code) -> usize {
     links.faults().iter().filter(|f| f.code == code).count()
 }
 
+// An item, and the state set that it stands in.
+static PLACES: [(usize, Option<usize>); 6] = [
+    (1, None),
+    (2, None),
+    (3, Some(2)),
+    (5, Some(2)),
+    (6, None),
+    (7, None),
+];
+
+// An item, a name, and the scope that it is found in from there.
+static LEVELS: [(usize, &[u8], Option<Level>); 5] = [
+    (4, b"b", Some(Level::StateSet)),
+    (4, b"a", Some(Level::Program)),
+    (6, b"b", Some(Level::Program)),
+    (4, b"i", None),
+    (7, b"a", None),
+];
+
+// An item, a name, and whether its state set has a state of the name.
+static TARGETS: [(usize, &[u8], bool); 3] = [(4, b"i", true), (4, b"s", false), (6, b"i", false)];
+
 #[test]
 fn names_are_found_from_the_inside_out(rt: HostRuntime) -> Result<(), Fail> {
     let alloc = rt.alloc();
@@ -63,16 +85,16 @@ fn names_are_found_from_the_inside_out(rt: HostRuntime) -> Result<(), Fail> {
         alloc,
         &[&header, &outer, &begin, &inner, &state, &end, &last],
     )?;
-    assert!(rt; links.place(1) == None && links.place(2) == None && links.place(3) == Some(2));
-    assert!(rt; links.place(5) == Some(2) && links.place(6) == None && links.place(7) == None);
-    assert!(rt; links.fact(4, b"b").map(|f| f.level) == Some(Level::StateSet));
-    assert!(rt; links.fact(4, b"a").map(|f| f.level) == Some(Level::Program));
+    for (item, place) in &PLACES {
+        assert_eq!(rt; links.place(*item), *place);
+    }
+    for (item, name, level) in &LEVELS {
+        assert_eq!(rt; links.fact(*item, name).map(|f| f.level), *level);
+    }
+    for (item, name, is_target) in &TARGETS {
+        assert_eq!(rt; links.has_target(*item, name), *is_target);
+    }
     assert!(rt; links.fact(6, b"b").map(|f| f.base) == Some(Base::Other));
-    assert!(rt; links.fact(6, b"b").map(|f| f.level) == Some(Level::Program));
-    assert!(rt; links.fact(4, b"i").is_none() && links.fact(7, b"a").is_none());
-    assert!(rt;
-        links.has_target(4, b"i") && !links.has_target(4, b"s") && !links.has_target(6, b"i")
-    );
     assert!(rt; links.faults().len() == 1 && count(&links, Code::E07) == 1);
     Ok(())
 }
