@@ -13,7 +13,7 @@ use Rattle.snl_scope.specs.declared.summary.Coverage.{Coverage}
 use Rattle.snl_scope.specs.declared.summary.Coverage.TheVariants as coverage
 use Rattle.snl_scope.specs.declared.summary.Summary.{Summary}
 use Rattle.snl_scope.specs.Channels.{is_monitor, is_monitored, is_sync, speaks_of, speaks_on, sync_number}
-use Rattle.snl_scope.specs.Claims.{Claimed, channel_number, claim_number, claims, lesser, makes, purpose_of, same_purpose, sound_among}
+use Rattle.snl_scope.specs.Claims.{Claimed, claim_number, claims, first_clause, lesser, makes, purpose_of, same_purpose, sound_among}
 use Rattle.snl_scope.specs.Clauses.{LinkedClause, clauses_of, same_number, soundness}
 use Rattle.snl_scope.specs.Names.{entries}
 use Rattle.snl_scope.proofs.FirstClaims.{any-among}
@@ -58,7 +58,7 @@ module _ (held : List (Claim × ℕ)) (judged : List (LinkedClause × Bool)) (f 
       ∙ ap (λ b. test c.clause.kind && same_number (Some v) c.variable && b) h
       ∙ and_assoc (test c.clause.kind) (same_number (Some v) c.variable) (speaks_of c.clause.coverage element)
 
-  whole : channel_number held p v None ≡ position (λ r. r.1 && speaks None r.0) judged
+  whole : first_clause held p v None ≡ position (λ r. r.1 && speaks None r.0) judged
   whole =
       f.each (claim extent.Any)
       ∙ position-same (λ r. r.1 && makes r.0 (claim extent.Any)) (λ r. r.1 && speaks None r.0) judged (λ r.
@@ -68,7 +68,7 @@ module _ (held : List (Claim × ℕ)) (judged : List (LinkedClause × Bool)) (f 
   either true a b = refl
   either false a b = refl
 
-  of_element : (e : ℕ) → channel_number held p v (Some e) ≡ position (λ r. r.1 && speaks (Some e) r.0) judged
+  of_element : (e : ℕ) → first_clause held p v (Some e) ≡ position (λ r. r.1 && speaks (Some e) r.0) judged
   of_element e =
       ap (λ o. lesser o (claim_number held p v (extent.Element e))) (f.each (claim extent.Whole))
       ∙ ap (lesser (position (λ r. r.1 && makes r.0 (claim extent.Whole)) judged)) (f.each (claim (extent.Element e)))
@@ -79,21 +79,21 @@ module _ (held : List (Claim × ℕ)) (judged : List (LinkedClause × Bool)) (f 
       (and-or (same_purpose (purpose_of r.0.clause.kind) p) (same_number r.0.variable (Some v)) (claims r.0.clause.coverage extent.Whole) (claims r.0.clause.coverage (extent.Element e))
       ∙ spoken r.0 (Some e) (claims r.0.clause.coverage extent.Whole || claims r.0.clause.coverage (extent.Element e)) (element_speaks r.0.clause.coverage e)))
 
-  pub channel-first : (element : Option ℕ) → channel_number held p v element ≡ position (λ r. r.1 && speaks element r.0) judged
+  pub channel-first : (element : Option ℕ) → first_clause held p v element ≡ position (λ r. r.1 && speaks element r.0) judged
   channel-first None = whole
   channel-first (Some e) = of_element e
 
-  pub channel-any : (element : Option ℕ) → is_some (channel_number held p v element) ≡ list_any (speaks element) (sound_among judged)
+  pub channel-any : (element : Option ℕ) → is_some (first_clause held p v element) ≡ list_any (speaks element) (sound_among judged)
   channel-any element = ap is_some (channel-first element) ∙ any-among (speaks element) judged
 
 -- what the claims of all sound clauses tell
 module _ (ss : List Summary) (held : List (Claim × ℕ)) (f : Claimed held (zip (clauses_of ss) (soundness ss))) (v : ℕ) (element : Option ℕ) where
-  pub monitored-claims : is_some (channel_number held purpose.Monitor v element) ≡ is_monitored ss v element
+  pub monitored-claims : is_some (first_clause held purpose.Monitor v element) ≡ is_monitored ss v element
   monitored-claims =
       channel-any held (zip (clauses_of ss) (soundness ss)) f purpose.Monitor v is_monitor monitors element
       ∙ ap (list_any (λ c. is_monitor c.clause.kind && speaks_on v element c)) (sound-judged (entries ss) (clauses_of ss) [] (clauses_of ss))
 
-  pub sync-claims : channel_number held purpose.Sync v element ≡ sync_number ss v element
+  pub sync-claims : first_clause held purpose.Sync v element ≡ sync_number ss v element
   sync-claims =
       channel-first held (zip (clauses_of ss) (soundness ss)) f purpose.Sync v is_sync syncs element
       ∙ position-same (λ p. p.1 && (is_sync p.0.clause.kind && speaks_on v element p.0)) (λ p. p.1 && is_sync p.0.clause.kind && speaks_on v element p.0)

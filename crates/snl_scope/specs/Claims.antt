@@ -82,6 +82,6 @@ lesser (Some a) (Some b) = if nat_lt b a then Some b else Some a
 
 -- The number of the first clause that speaks of a channel: any clause speaks of that of the whole variable, and of that of
 -- an element one that covers the whole or the element.
-abbrev pub channel_number : List (Claim × ℕ) → Purpose → ℕ → Option ℕ → Option ℕ
-channel_number held p variable None = claim_number held p variable extent.Any
-channel_number held p variable (Some e) = lesser (claim_number held p variable extent.Whole) (claim_number held p variable (extent.Element e))
+abbrev pub first_clause : List (Claim × ℕ) → Purpose → ℕ → Option ℕ → Option ℕ
+first_clause held p variable None = claim_number held p variable extent.Any
+first_clause held p variable (Some e) = lesser (claim_number held p variable extent.Whole) (claim_number held p variable (extent.Element e))

@@ -1,6 +1,7 @@
-//! What clauses say of channels: which of them are monitored, and by which clause each is in step with a flag.
+//! What clauses say of channels: which of them are monitored, and which `sync` or `syncq` speaks of each.
 
 use crate::clauses_tests::links_of;
+use crate::{ClauseKind, Coverage};
 use std::test::Fail;
 
 // Declarations 0 to 3 are `a`, `b`, `c` and `f`. Clauses are numbered from the first `assign` on: the `sync` of `c` names no
@@ -49,6 +50,28 @@ fn which_sync_speaks_of_a_channel(rt: HostRuntime) -> Result<(), Fail> {
     let links = links_of(rt.alloc(), TEXT)?;
     for (variable, element, number) in SYNCS {
         assert_eq!(rt; links.sync_number(variable, element), number);
+    }
+    Ok(())
+}
+
+static CLAUSES: [(usize, ClauseKind, Coverage); 5] = [
+    (1, ClauseKind::Assign, Coverage::Front(2)),
+    (1, ClauseKind::Syncq, Coverage::Whole),
+    (4, ClauseKind::Assign, Coverage::Element(3)),
+    (12, ClauseKind::Monitor, Coverage::Element(3)),
+    (18, ClauseKind::Sync, Coverage::Element(2)),
+];
+
+#[test]
+fn what_clauses_cover_and_where_they_stand(rt: HostRuntime) -> Result<(), Fail> {
+    let text =
+        b"assign a to {\"p\", \"q\"};\nsyncq a;\nstate i { assign a[3] to \"r\"; monitor a[3]; sync a[2] to f; when () { } exit }";
+    let links = links_of(rt.alloc(), text)?;
+    assert_eq!(rt; links.clauses().len(), CLAUSES.len());
+    for (clause, (token, kind, coverage)) in links.clauses().iter().zip(&CLAUSES) {
+        assert_eq!(rt; clause.token, *token);
+        assert_eq!(rt; clause.kind, *kind);
+        assert_eq!(rt; clause.coverage, *coverage);
     }
     Ok(())
 }

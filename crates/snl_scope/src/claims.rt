@@ -4,7 +4,7 @@
 ghost use Rattle.std.specs.Prelude.{◌≡◌, ◌&&◌, [], nat_eq, OnOk};
 ghost use Rattle.std.specs.Map.{lookup};
 ghost use Rattle.snl_scope.specs.Below.{any_below};
-ghost use Rattle.snl_scope.specs.Claims.{Adds, channel_number, claim_number, claims, has_claim, lesser, overlaps_claims, purpose_of, same_claim, same_purpose};
+ghost use Rattle.snl_scope.specs.Claims.{Adds, claim_number, claims, first_clause, has_claim, lesser, overlaps_claims, purpose_of, same_claim, same_purpose};
 ghost use Rattle.snl_scope.specs.declared.claims.Extent.{Extent};
 ghost use Rattle.snl_scope.specs.declared.claims.Extent.TheVariants as extent;
 
@@ -134,13 +134,13 @@ impl Claims {
     }
 
     /// The number of the first clause that speaks of the channel of an element, or of that of the whole variable.
-    pub(crate) fn channel_number(
+    pub(crate) fn first_clause(
         &self,
         purpose: Purpose,
         variable: usize,
         element: Option<u64>,
     ) -> Option<usize>
-        ensures { result ≡ channel_number self.now purpose variable element }
+        ensures { result ≡ first_clause self.now purpose variable element }
     {
         match element {
             Some(element) => lesser(

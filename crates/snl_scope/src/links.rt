@@ -150,7 +150,7 @@ impl Links {
         ensures { result ≡ is_monitored self.now variable element }
     {
         self.claims
-            .channel_number(Purpose::Monitor, variable, element)
+            .first_clause(Purpose::Monitor, variable, element)
             .is_some()
     }
 
@@ -159,7 +159,7 @@ impl Links {
     pub fn sync_number(&self, variable: usize, element: Option<u64>) -> Option<usize>
         ensures { result ≡ sync_number self.now variable element }
     {
-        self.claims.channel_number(Purpose::Sync, variable, element)
+        self.claims.first_clause(Purpose::Sync, variable, element)
     }
 
     /// What is found of the order of items, names that are declared twice, and what is found at clauses; each finding once.
