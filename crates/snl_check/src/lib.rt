@@ -27,5 +27,6 @@ mod wake_tests;
 pub use check::check_item;
 pub use findings::{Checked, ItemFault};
 pub use laws::equal_views;
+pub use options::warning_setting;
 pub use reaching::reach;
 pub use wake::{WakeUse, wake_uses};
