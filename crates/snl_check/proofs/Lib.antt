@@ -7,5 +7,6 @@ pub mod Within
 pub mod Steps
 pub mod Searching
 pub mod Walks
+pub mod FewSteps
 pub mod Conditions
 pub mod Mentions

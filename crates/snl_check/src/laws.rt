@@ -1,11 +1,12 @@
-//! The law of the check of items. A function here does nothing: its contract is the law.
+//! The laws of the check of items, and of walks. A function here does nothing: its contract is the law.
 
-ghost use Rattle.std.specs.Prelude.{◌≡◌, ℕ, Bool, List};
+ghost use Rattle.std.specs.Prelude.{◌≡◌, ◌<◌, ◌↔◌, ℕ, Bool, true, List, length};
 ghost use Rattle.snl_lex.specs.declared.piece.Piece.{Piece};
 ghost use Rattle.snl_syntax.specs.declared.tree.item.Item.{Item};
 ghost use Rattle.snl_scope.specs.Summaries.Tokens.{bytes_at};
 ghost use Rattle.snl_check.specs.Alike.{Agree, SameTokens, target_names, used_names};
 ghost use Rattle.snl_check.specs.Found.{faults_in};
+ghost use Rattle.snl_check.specs.Reach.{AreStates, IsReached, is_reached};
 
 /// The same is found in an item of the same tokens and tree, wherever it stands, where the same is known of each name that it
 /// uses, and of each of its targets.
@@ -15,4 +16,9 @@ pub fn equal_views()
         → Agree known other (used_names text tokens tree)
         → Agree target another (target_names text tokens tree)
         → faults_in (bytes_at text tokens) tree in_set known target ≡ faults_in (bytes_at moved shifted) tree in_set other another }
+{}
+
+/// A walk leads to a state from the initial one exactly where one with as many steps as there are states, or fewer, does.
+pub fn walks_of_few_steps()
+    ensures { (targets : List (List ℕ)) → AreStates targets → (s : ℕ) → s < length targets → (is_reached targets s ≡ true) ↔ IsReached targets s }
 {}

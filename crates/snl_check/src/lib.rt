@@ -26,7 +26,7 @@ mod wake_tests;
 
 pub use check::check_item;
 pub use findings::{Checked, ItemFault};
-pub use laws::equal_views;
+pub use laws::{equal_views, walks_of_few_steps};
 pub use options::warning_setting;
 pub use reaching::reach;
 pub use wake::{WakeUse, wake_uses};
