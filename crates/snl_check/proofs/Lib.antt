@@ -12,6 +12,7 @@ pub mod Within
 pub mod Steps
 pub mod Searching
 pub mod Walks
+pub mod FewSteps
 pub mod Conditions
 pub mod Mentions
 pub mod Items

@@ -1,7 +1,9 @@
--- Letters of options that are not known where the option stands.
-use Rattle.std.specs.Prelude.{ℕ, Bool, List, [], ◌∷◌, codes, nat_eq, if◌then◌else◌}
+-- Letters of options that are not known where the option stands, and what an option says of warnings.
+use Rattle.std.specs.Prelude.{ℕ, Bool, true, false, List, [], ◌∷◌, codes, nat_eq, if◌then◌else◌, Option, None, Some}
 use Rattle.std.specs.List.{enumerate_from, flat_map, list_any}
 use Rattle.snl_syntax.specs.declared.tree.clause.OptionLine.{OptionLine}
+use Rattle.snl_syntax.specs.declared.tree.clause.OptionSign.{OptionSign}
+use Rattle.snl_syntax.specs.declared.tree.clause.OptionSign.TheVariants.{Plus, Minus}
 use Rattle.snl_syntax.specs.declared.tree.item.Item.{Item}
 use Rattle.snl_syntax.specs.declared.tree.item.Item.TheVariants as items
 use Rattle.snl_syntax.specs.declared.tree.state.StateMember.{StateMember}
@@ -39,3 +41,21 @@ abbrev pub unknown_options : (ℕ → List ℕ) → Bool → Item → List ItemF
 unknown_options bytes in_set (items.OptionLine line) = if in_set then [] else unknown_letters bytes program_letters line
 unknown_options bytes in_set (items.StateBlock name ms) = flat_map (unknown_in_member bytes) ms
 unknown_options bytes in_set _ = []
+
+-- The letter of warnings, `w`.
+abbrev pub warnings_letter : ℕ
+warnings_letter = 119
+
+abbrev pub has_letter : List ℕ → ℕ → Bool
+has_letter letters letter = list_any (λ k. nat_eq k letter) letters
+
+abbrev pub is_on : OptionSign → Bool
+is_on Plus = true
+is_on Minus = false
+
+-- What an item says of warnings: they are on or off. Only an option says something that has the letter and stands at
+-- program level.
+abbrev pub warning_setting : (ℕ → List ℕ) → Bool → Item → Option Bool
+warning_setting bytes in_set (items.OptionLine line) =
+    if in_set then None else (if has_letter (bytes line.letters) warnings_letter then Some (is_on line.sign) else None)
+warning_setting bytes in_set _ = None

@@ -1,7 +1,8 @@
 -- The states of a state set that are reached. A state is told by its number in the set, and `targets` has the targets of each.
-use Rattle.std.specs.Prelude.{◌≡◌, ◌⊎◌, ◌+◌, ◌-◌, ◌<◌, ℕ, true, not, List, [], map, length, slice_get, slice_index_or, All, Contains, Some, Vec, count_by}
-use Rattle.std.specs.List.{AllAdjacentBelow}
+use Rattle.std.specs.Prelude.{◌≡◌, ◌⊎◌, ◌+◌, ◌-◌, ◌<◌, ℕ, zero, suc, Bool, true, not, ◌&&◌, ◌||◌, nat_eq, List, [], map, length, slice_get, slice_index_or, All, Contains, Some, Vec, count_by}
+use Rattle.std.specs.List.{AllAdjacentBelow, list_any}
 use Rattle.std.specs.declared.alloc.Global.{Global}
+use Rattle.snl_scope.specs.Below.{any_below}
 use Rattle.snl_check.specs.declared.reaching.Search.{Search}
 
 -- The targets of each state, as lists.
@@ -26,6 +27,21 @@ pub record IsWalk (targets : List (List ℕ)) (first last : ℕ) (walk : List �
 -- A walk leads to the state from the initial one, which is the first of the set.
 abbrev pub IsReached : List (List ℕ) → ℕ → Type 0
 IsReached targets s = (walk : List ℕ) × IsWalk targets 0 s walk
+
+-- Whether state `t` is a target of state `s`.
+abbrev pub leads_on : List (List ℕ) → ℕ → ℕ → Bool
+leads_on targets s t = list_any (nat_eq t) (slice_index_or targets s [])
+
+-- Whether a walk of at most so many steps leads to the state from the initial one.
+abbrev pub is_reached_within : List (List ℕ) → ℕ → ℕ → Bool
+is_reached_within targets zero t = nat_eq t 0
+is_reached_within targets (suc steps) t =
+    is_reached_within targets steps t || any_below (λ s. is_reached_within targets steps s && leads_on targets s t) (length targets)
+
+-- Whether a walk leads to the state from the initial one. The shortest walk comes to no state twice, so it has fewer steps
+-- than there are states.
+unfoldable pub is_reached : List (List ℕ) → ℕ → Bool
+is_reached targets s = is_reached_within targets (length targets) s
 
 -- A search has come to the state.
 abbrev pub HasMarked : Search → ℕ → Type 0

@@ -1,6 +1,6 @@
-//! Laws of what is found in items and of their clauses. A function here does nothing: its contract is the law.
+//! Laws of what is found in items, of their clauses, and of walks. A function here does nothing: its contract is the law.
 
-ghost use Rattle.std.specs.Prelude.{◌≡◌, ℕ, Bool, List, Option, map};
+ghost use Rattle.std.specs.Prelude.{◌≡◌, ◌<◌, ◌↔◌, ℕ, Bool, true, List, Option, length, map};
 ghost use Rattle.snl_lex.specs.declared.piece.Piece.{Piece};
 ghost use Rattle.snl_syntax.specs.declared.tree.item.Item.{Item};
 ghost use Rattle.snl_scope.specs.declared.facts.Fact.{Fact};
@@ -8,6 +8,7 @@ ghost use Rattle.snl_scope.specs.Clauses.{clauses_of};
 ghost use Rattle.snl_scope.specs.Summaries.Tokens.{bytes_at};
 ghost use Rattle.snl_check.specs.Alike.{Agree, SameTokens, target_names, used_names};
 ghost use Rattle.snl_check.specs.Found.{faults_in};
+ghost use Rattle.snl_check.specs.Reach.{AreStates, IsReached, is_reached};
 ghost use Rattle.snl_check.specs.Rows.{ProgramItem, item_clauses, summaries_of, summarized};
 
 /// The clauses of items, as trees, are those that the summaries of the items have, one by one in the order of the text.
@@ -24,4 +25,9 @@ pub fn equal_views()
         → Agree fact other (used_names text tokens tree)
         → Agree target another (target_names text tokens tree)
         → faults_in (bytes_at text tokens) tree in_set fact target ≡ faults_in (bytes_at moved shifted) tree in_set other another }
+{}
+
+/// A walk leads to a state from the initial one exactly where one with as many steps as there are states, or fewer, does.
+pub fn walks_of_few_steps()
+    ensures { (targets : List (List ℕ)) → AreStates targets → (s : ℕ) → s < length targets → (is_reached targets s ≡ true) ↔ IsReached targets s }
 {}

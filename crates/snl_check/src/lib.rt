@@ -42,7 +42,8 @@ mod wake_tests;
 
 pub use check::check_item;
 pub use findings::{Checked, ItemFault};
-pub use laws::{equal_views, same_clauses};
+pub use laws::{equal_views, same_clauses, walks_of_few_steps};
+pub use options::warning_setting;
 pub use reaching::reach;
 pub use rows::{ChannelRow, FlagRow, Queue, ScopeName, Span, Synced, Tables};
 pub use tables_of::tables;

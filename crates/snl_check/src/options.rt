@@ -1,16 +1,17 @@
-//! Letters of options that are not known: a tree comes in, findings at single bytes of tokens go out.
+//! The letters of options: a tree comes in, findings at the single bytes of tokens that are not known, and what an option says of
+//! warnings, go out. It knows nothing of other items' options.
 
 ghost use Rattle.std.specs.Prelude.{◌≡◌, ◌++◌, OnOk};
 ghost use Rattle.std.specs.List.{flat_map};
 ghost use Rattle.snl_scope.specs.Summaries.Tokens.{IsSource, bytes_at};
-ghost use Rattle.snl_check.specs.Options.{unknown_in_member, unknown_letters, unknown_options};
+ghost use Rattle.snl_check.specs.Options.{is_on, unknown_in_member, unknown_letters, unknown_options, warning_setting};
 ghost use Rattle.snl_check.specs.Outlook.{is_in_set};
 
 use crate::findings::ItemFault;
 use crate::view::View;
 use snl_cut::OutOfMemory;
-use snl_scope::{Code, Source};
-use snl_syntax::tree::clause::OptionLine;
+use snl_scope::{Code, Links, Source};
+use snl_syntax::tree::clause::{OptionLine, OptionSign};
 use snl_syntax::tree::item::Item;
 use snl_syntax::tree::state::StateMember;
 
@@ -19,6 +20,9 @@ const PROGRAM_LETTERS: &[u8] = b"acdeilmrswW";
 
 /// The options of a state.
 const STATE_LETTERS: &[u8] = b"tex";
+
+/// The option of a program that says whether warnings are shown.
+const WARNINGS: u8 = b'w';
 
 // Adds a finding at each letter of an option that is not among the known ones.
 fn add_letters(
@@ -96,5 +100,31 @@ pub(crate) fn add_unknown_options(
         }
         | Item::CBlock(_)
         | Item::Empty => Ok(()),
+    }
+}
+
+fn is_on(sign: OptionSign) -> bool
+    ensures { result ≡ is_on sign }
+{
+    match sign {
+        OptionSign::Plus => true,
+        OptionSign::Minus => false,
+    }
+}
+
+/// Whether an item turns warnings on or off, if it does one of them. One that stands in a state set is out of place, and
+/// does neither.
+pub fn warning_setting(source: &Source, tree: &Item, links: &Links, item: usize) -> Option<bool>
+    requires { IsSource source.now.text.now source.now.tokens.now }
+    ensures { result ≡ warning_setting (bytes_at source.now.text.now source.now.tokens.now) (is_in_set links.now item) tree.now }
+{
+    let Item::OptionLine(line) = tree else {
+        return None;
+    };
+    let view = View { links, item };
+    if !view.is_in_set() && source.bytes(line.letters).contains(&WARNINGS) {
+        Some(is_on(line.sign))
+    } else {
+        None
     }
 }

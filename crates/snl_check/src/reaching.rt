@@ -2,7 +2,7 @@
 //! each state, whether it is reached, goes out. States are numbers here. It knows nothing of their names, nor of items.
 
 ghost use Rattle.std.specs.Prelude.{◌≡◌, ◌<◌, ◌↔◌, ℕ, [], ◌∷◌, false, true, All, IfOk, OnOk, Some, length, replicate, slice_get};
-ghost use Rattle.snl_check.specs.Reach.{AreStates, Enters, IsReached, target_lists};
+ghost use Rattle.snl_check.specs.Reach.{AreStates, Enters, IsReached, is_reached, target_lists};
 
 use snl_cut::OutOfMemory;
 use std::alloc::Global;
@@ -60,6 +60,7 @@ pub fn reach(alloc: Global, targets: &[Vec<usize>]) -> Result<Vec<bool>, OutOfMe
     requires { AreStates (target_lists targets.now) }
     ensures each { IfOk result (λ reached. length reached.items ≡ length targets.now) }
     ensures reached { IfOk result (λ reached. (s : ℕ) → (slice_get reached.items s ≡ Some true) ↔ IsReached (target_lists targets.now) s) }
+    ensures told { IfOk result (λ reached. (s : ℕ) → s < length targets.now → slice_get reached.items s ≡ Some (is_reached (target_lists targets.now) s)) }
 {
     let mut search = Search::new(alloc, targets.len())?;
     if !targets.is_empty() {

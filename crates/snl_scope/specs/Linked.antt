@@ -70,6 +70,14 @@ entry_declaration e = option_and_then (λ v. option_map (λ s. variable_declarat
 abbrev pub declaration_at : List Summary → ℕ → Option Declaration
 declaration_at ss number = option_and_then entry_declaration (slice_get (entries ss) number)
 
+-- The first state with a name in the state set that item k begins, by the number of its item.
+abbrev pub state_in : List Summary → ℕ → List ℕ → Option ℕ
+state_in ss k name = option_and_then (λ number. option_map (λ e. e.item) (slice_get (entries ss) number)) (number_in (entries ss) (space.States k) name)
+
+-- The first state with a name in the state set in which an item stands.
+abbrev pub state_of : List Summary → ℕ → List ℕ → Option ℕ
+state_of ss i name = option_and_then (λ k. state_in ss k name) (place ss i)
+
 -- The state set in which an item stands has a state of the name.
 abbrev pub has_target : List Summary → ℕ → List ℕ → Bool
 has_target ss i name = option_map_or (λ k. is_some (number_in (entries ss) (space.States k) name)) (place ss i) false

@@ -58,7 +58,7 @@ impl Links {
     ghost use Rattle.snl_scope.specs.Channels.{is_monitored, sync_number};
     ghost use Rattle.snl_scope.specs.Clauses.{assigned_by, clause_links, clauses_of, resolve_in};
     ghost use Rattle.snl_scope.specs.Flags as flags;
-    ghost use Rattle.snl_scope.specs.Linked.{declaration_at, fact_at, fact_of, faults_of, has_target};
+    ghost use Rattle.snl_scope.specs.Linked.{declaration_at, fact_at, fact_of, faults_of, has_target, state_of};
     ghost use Rattle.snl_scope.specs.Places.{place};
 
     /// The state set in which an item stands, by the number of its `ss NAME {` item, or None at program level.
@@ -135,6 +135,13 @@ impl Links {
             Some(set) => self.scopes.number_in(Space::States(set), name).is_some(),
             None => false,
         }
+    }
+
+    /// The first state of the name in the state set in which an item stands, by the number of its item.
+    pub fn state(&self, item: usize, name: &[u8]) -> Option<usize>
+        ensures { result ≡ state_of self.now item name.now }
+    {
+        self.scopes.state_in(self.place(item)?, name)
     }
 
     /// The clauses of all items, in the order of the text.

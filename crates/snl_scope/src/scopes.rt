@@ -36,6 +36,7 @@ impl Model for Scopes {
 
 impl Scopes {
     ghost use Rattle.snl_scope.specs.Clauses.{resolve_in, variable_at};
+    ghost use Rattle.snl_scope.specs.Linked.{state_in};
     ghost use Rattle.snl_scope.specs.Names.{entries, number_in, resolve};
     ghost use Rattle.snl_scope.specs.Places.{place};
     ghost use Rattle.snl_scope.specs.Tables.{standing_of};
@@ -87,6 +88,14 @@ impl Scopes {
             return own;
         }
         self.resolve(self.place(item), name)
+    }
+
+    /// The first state with a name in a state set, by the number of its item.
+    pub(crate) fn state_in(&self, set: usize, name: &[u8]) -> Option<usize>
+        ensures { result ≡ state_in self.now set name.now }
+    {
+        let number = self.number_in(Space::States(set), name)?;
+        Some(self.standing(number)?.item)
     }
 
     /// What the declaration with a number says.

@@ -16,7 +16,7 @@ use Rattle.snl_scope.specs.declared.codes.Code.{Code}
 use Rattle.snl_scope.specs.declared.codes.Code.TheVariants.{E01, E02, E03, E04, E05, E06, E07, E08, E09, E10, E11, E12, E13, E14, E15, E16, E17, E18, E19, E20, E21, E22, W01, W02, W03, W04, W05}
 use Rattle.snl_session.specs.declared.findings.Finding.{Finding}
 use Rattle.snl_scope.specs.Codes.{name_of}
-use Rattle.snl_session.specs.Diagnostics.{diagnostic, diagnostics_of, found, stands_before}
+use Rattle.snl_session.specs.Diagnostics.{diagnostic, diagnostics_of, shown, stands_before}
 use Rattle.snl_session.specs.Order.{goes_before, in_order, order_of, put_in_order}
 use Rattle.snl_session.proofs.Sorting.{all_put, all_sorted, put, sorted_is}
 
@@ -141,7 +141,7 @@ no_sooner Greater s t h = refl
 pub diagnostics_sorted : (text : List ℕ) → IsSortedBy stands_before (diagnostics_of text)
 unfolding diagnostics_of
 diagnostics_sorted text = λ k d low within.
-    let xs = in_order (found text) in
+    let xs = in_order (shown text) in
     let some : Finding = record { offset = 0; code = E01; subject = 0 } in
     let inside : k + 1 < length xs = omega (arith, within, length-map xs (diagnostic text)) in
     let first : k < length xs = omega arith in
@@ -149,4 +149,4 @@ diagnostics_sorted text = λ k d low within.
     let x = get_or xs k some in
     ap (λ z. stands_before z (get_or (map (diagnostic text) xs) k d)) (get_or-map (diagnostic text) xs (k + 1) some d inside)
     ∙ ap (λ z. stands_before (diagnostic text y) z) (get_or-map (diagnostic text) xs k some d first)
-    ∙ no_sooner (nat_cmp y.offset x.offset) (slice_cmp nat_cmp (name_of y.code) (name_of x.code)) (nat_cmp y.subject x.subject) (in_order_sorted (found text) k some low inside)
+    ∙ no_sooner (nat_cmp y.offset x.offset) (slice_cmp nat_cmp (name_of y.code) (name_of x.code)) (nat_cmp y.subject x.subject) (in_order_sorted (shown text) k some low inside)

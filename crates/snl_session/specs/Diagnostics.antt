@@ -1,5 +1,5 @@
 -- The diagnostics of a text, which the text alone defines.
-use Rattle.std.specs.Prelude.{ℕ, Bool, List, ◌++◌, count_by, map, not}
+use Rattle.std.specs.Prelude.{ℕ, Bool, List, ◌++◌, count_by, filter, if◌then◌else◌, map, not}
 use Rattle.std.specs.Cmp.Lexicographic.{slice_cmp}
 use Rattle.std.specs.Ordering.{is_lt, nat_cmp, ordering_then}
 use Rattle.snl_lex.specs.declared.lines.Line.{Line}
@@ -11,11 +11,19 @@ use Rattle.snl_session.specs.Checked.{checked_faults}
 use Rattle.snl_session.specs.Faults.{faults_of}
 use Rattle.snl_session.specs.Linked.{linked_faults}
 use Rattle.snl_session.specs.Order.{in_order}
-use Rattle.snl_session.specs.Program.{items_of}
+use Rattle.snl_session.specs.Program.{ProgramItem, items_of}
+use Rattle.snl_session.specs.Warnings.{shows_warnings}
 
 -- What is found in a text: at its faulty items, by the links of its items, and in each item by itself.
 unfoldable pub found : List ℕ → List Finding
 found text = faults_of text ++ linked_faults text (items_of text) ++ checked_faults text (items_of text)
+
+-- What of it is shown: no warnings, where they are turned off.
+abbrev pub shown_of : List ℕ → List ProgramItem → List Finding → List Finding
+shown_of text xs found = if shows_warnings text xs then found else filter (λ x. is_error x.code) found
+
+unfoldable pub shown : List ℕ → List Finding
+shown text = shown_of text (items_of text) (found text)
 
 -- A finding with its line and file.
 abbrev pub on_line : Finding → Line → Diagnostic
@@ -26,7 +34,7 @@ diagnostic text x = on_line x (line_at text x.offset)
 
 -- The diagnostics of a text, by offset and then by code.
 unfoldable pub diagnostics_of : List ℕ → List Diagnostic
-diagnostics_of text = map (diagnostic text) (in_order (found text))
+diagnostics_of text = map (diagnostic text) (in_order (shown text))
 
 -- One diagnostic stands before another: by offset, and at one offset by code, as text.
 abbrev pub stands_before : Diagnostic → Diagnostic → Bool

@@ -6,3 +6,4 @@ pub mod Linked
 pub mod Order
 pub mod Parts
 pub mod Program
+pub mod Warnings

@@ -2,13 +2,13 @@
 //! It keeps nothing between two texts and knows no edits.
 #![tactic(auto)]
 
-ghost use Rattle.std.specs.Prelude.{◌≡◌, ◌++◌, All, IfOk, OnOk, length, map};
+ghost use Rattle.std.specs.Prelude.{◌≡◌, ◌++◌, All, IfOk, OnOk, filter, map};
 ghost use Rattle.std.specs.List.Sorted.{IsNonDecreasing};
 ghost use Rattle.snl_lex.specs.Lines.{line_at};
 ghost use Rattle.snl_lex.specs.Pieces.{LiesIn, pieces_of};
-ghost use Rattle.snl_session.specs.Diagnostics.{diagnostic, diagnostics_of, found, on_line};
+ghost use Rattle.snl_session.specs.Diagnostics.{diagnostic, diagnostics_of, found, is_error, on_line, shown, shown_of};
 ghost use Rattle.snl_session.specs.Checked.{checked_faults};
-ghost use Rattle.snl_session.specs.Linked.{linked_faults};
+ghost use Rattle.snl_session.specs.Linked.{linked_faults, summaries_of};
 ghost use Rattle.snl_session.specs.Parts.{IsPart, part_of};
 
 use crate::checks::add_checked_faults;
@@ -17,11 +17,32 @@ use crate::linked::add_placed;
 use crate::order::sort;
 use crate::program::{Part, program_of, tokens_among};
 use crate::summaries::{link_all, summaries_of};
+use crate::warnings::shows_warnings;
 use snl_cut::{Count, OutOfMemory};
 use snl_lex::{Line, Piece, lex, lines_of};
+use snl_scope::Links;
 use std::alloc::Global;
 
-// Adds what is found by the links of items, and in each item.
+// Takes the warnings out, where they are turned off.
+fn withhold(
+    alloc: Global,
+    text: &[u8],
+    tokens: &[Piece],
+    parts: &[Part],
+    links: &Links,
+    found: &mut Vec<Finding>,
+)
+    requires tokens { All (LiesIn text.now) tokens.now }
+    requires parts { All (IsPart tokens.now) parts.now }
+    requires links { links.now ≡ summaries_of text.now (map (part_of tokens.now) parts.now) }
+    ensures { found.new.items ≡ shown_of text.now (map (part_of tokens.now) parts.now) found.old.items }
+{
+    if !shows_warnings(alloc, text, tokens, parts, links) {
+        found.retain(|x| x.code.is_error());
+    }
+}
+
+// Adds what is found by the links of items, and in each item. Leaves what is shown.
 fn add_linked_faults(
     alloc: Global,
     text: &[u8],
@@ -31,21 +52,24 @@ fn add_linked_faults(
 ) -> Result<(), OutOfMemory>
     requires tokens { All (LiesIn text.now) tokens.now }
     requires parts { All (IsPart tokens.now) parts.now }
-    ensures { OnOk result (found.new.items ≡ found.old.items ++ linked_faults text.now (map (part_of tokens.now) parts.now)
-        ++ checked_faults text.now (map (part_of tokens.now) parts.now)) }
+    ensures { OnOk result (found.new.items ≡ shown_of text.now (map (part_of tokens.now) parts.now)
+        (found.old.items ++ linked_faults text.now (map (part_of tokens.now) parts.now)
+        ++ checked_faults text.now (map (part_of tokens.now) parts.now))) }
 {
     let summaries = summaries_of(alloc, text, tokens, parts)?;
     let links = link_all(alloc, &summaries)?;
     add_placed(tokens, parts, links.faults(), found)?;
-    add_checked_faults(alloc, text, tokens, parts, &links, found)
+    add_checked_faults(alloc, text, tokens, parts, &links, found)?;
+    withhold(alloc, text, tokens, parts, &links, found);
+    Ok(())
 }
 
-// What is found in a text that has these pieces.
-#[tactic(auto, unfolding(crate::specs::Diagnostics::found))]
+// What is shown of what is found in a text that has these pieces.
+#[tactic(auto, unfolding(crate::specs::Diagnostics::found, crate::specs::Diagnostics::shown))]
 fn found_in(alloc: Global, text: &[u8], pieces: &[Piece]) -> Result<Vec<Finding>, OutOfMemory>
     requires pieces { pieces.now ≡ pieces_of text.now }
     requires within { All (LiesIn text.now) pieces.now }
-    ensures { IfOk result (λ v. v.items ≡ found text.now) }
+    ensures { IfOk result (λ v. v.items ≡ shown text.now) }
 {
     let tokens = tokens_among(alloc, pieces)?;
     let program = program_of(alloc, text, &tokens)?;

@@ -3,6 +3,7 @@ use Rattle.std.proofs.lemmas.Bool.{eqb-false, eqb-true}
 use Rattle.std.proofs.lemmas.List.{length-map}
 use Rattle.snl_check.specs.declared.reaching.Search.{Search}
 use Rattle.snl_check.specs.Reach.{target_lists}
+use Rattle.snl_check.proofs.FewSteps.{told}
 use Rattle.snl_check.proofs.Walks.{Follows, follows_all, follows_first, follows_more, follows_none, own_states, own_targets, row_within}
 use Rattle.snl_check.proofs.reaching.reach.Goals as goal
 use Rattle.snl_check.proofs.reaching.reach.Goals.{then-not-is_empty+in_ok-enter, else-not-is_empty}
@@ -50,3 +51,10 @@ loop-state-preserved c =
 pub returns-clause-reached : goal.returns-clause-reached
 returns-clause-reached c =
     follows_all (target_lists c.args.targets.now) c.loop-state.search c.loop-state.invariant (omega (arith, c.in_default.ensures.cases.0, c.loop-state.search.waiting.ok.0))
+
+pub returns-clause-told : goal.returns-clause-told
+returns-clause-told c =
+    let rows = c.args.targets.now in
+    let search = c.loop-state.search in
+    let says = follows_all (target_lists rows) search c.loop-state.invariant (omega (arith, c.in_default.ensures.cases.0, search.waiting.ok.0)) in
+    λ s l. told (target_lists rows) c.requires search.reached.items c.loop-state.invariant.as_long says s (omega (arith, l, length-map rows (λ row. row.items)))
