@@ -1,7 +1,7 @@
 -- The items of a text, by their numbers: the tokens of each, and its tree.
 use Rattle.std.proofs.Common.{◌≡◌, ℕ, zero, suc, ◌+◌, ◌-◌, ◌<◌, ◌≤◌, List, [], ◌∷◌, length, take, drop, map, get_or, slice_get, Option, Some, None, option_and_then, option_map, is_some, true, false, refl, ap, sym, ◌∙◌, arith}
 use Rattle.std.specs.List.{zip}
-use Rattle.std.specs.Option.{option_map_or, option_or}
+use Rattle.std.specs.Option.{option_or}
 use Rattle.snl_cut.specs.Cut.{members}
 use Rattle.snl_lex.specs.declared.piece.Piece.{Piece}
 use Rattle.snl_syntax.specs.declared.tree.item.Item.{Item}
@@ -10,7 +10,7 @@ use Rattle.std.proofs.lemmas.List.{drop_all, length-map}
 use Rattle.std.proofs.lemmas.Option.{slice_get-map, slice_get_past, slice_get_read}
 use Rattle.snl_check.specs.declared.program.Program.{Program}
 use denote.Bor.{Bor}
-use Rattle.snl_check.specs.Rows.{EndsWithin, IsProgram, ProgramItem, header_name, items_in, named_by, program_name, span_at, span_of, start_of, tokens_in, tree_in}
+use Rattle.snl_check.specs.Rows.{EndsWithin, IsProgram, ProgramItem, header_name, items_in, program_name, start_of, tokens_in, tree_in}
 
 abbrev items_from : List Piece → ℕ → List ℕ → List (Option Item) → List ProgramItem
 items_from tokens from ends trees = map (λ p. record { tokens = p.0; tree = p.1 }) (zip (members tokens from ends) trees)
@@ -92,14 +92,6 @@ end_before p i h some lt = omega (arith, start_is p.ends.now i some, (ends_at 0 
 
 pub end_within : (p : Program) (i : ℕ) → IsProgram p → i < length p.ends.now → get_or p.ends.now i 0 ≤ length p.tokens.now
 end_within p i h lt = (ends_at 0 p.ends.now (length p.tokens.now) i h.within lt).1
-
--- what a header names, by the number of the item
-pub header_at : (xs : List ProgramItem) (i : ℕ) → option_and_then header_name (slice_get xs i) ≡ option_map (span_at xs i) (named_by (tree_in xs i))
-header_at xs i =
-    elim (slice_get xs i) as (λ o. option_and_then header_name o ≡ option_map (λ n. span_of (slice_get (option_map_or (λ x. x.tokens) o []) n)) (named_by (option_and_then (λ x. x.tree) o))) [
-      | None ↦ refl
-      | Some x ↦ refl
-    ]
 
 -- the first name among the rest of the items
 rest_of : (xs : List ProgramItem) (i : ℕ) → i < length xs → program_name (drop i xs) ≡ option_or (option_and_then header_name (slice_get xs i)) (program_name (drop (i + 1) xs))
