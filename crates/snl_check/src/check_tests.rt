@@ -225,10 +225,10 @@ fn targets_at_program_level(rt: HostRuntime) -> Result<(), Fail> {
 fn statements_and_options_of_a_state(rt: HostRuntime) -> Result<(), Fail> {
     let alloc = rt.alloc();
     let text =
-        b"state i { option +tz; entry { state i; } when (delay(1)) { break; delay(2); } state z }";
+        b"state i { option +tz; entry { state i; } when (delay(1)) { efSet(y); pvPut(y); break; delay(2); } state z }";
     assert_eq!(rt;
         found(alloc, text)?.as_slice(),
-        b"E18:state E19:break W03:delay W04:z ".as_slice()
+        b"E18:state E19:break E20:y E21:y W03:delay W04:z ".as_slice()
     );
     Ok(())
 }
