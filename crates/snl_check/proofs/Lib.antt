@@ -8,5 +8,6 @@ pub mod Steps
 pub mod Searching
 pub mod Walks
 pub mod FewSteps
+pub mod Sets
 pub mod Conditions
 pub mod Mentions

@@ -7,6 +7,7 @@ pub mod Calls
 pub mod Delays
 pub mod Options
 pub mod Undeclared
+pub mod Unreached
 pub mod Outlook
 pub mod Found
 pub mod Alike

@@ -11,6 +11,7 @@ mod event_flags;
 mod findings;
 mod laws;
 mod loops;
+mod not_reached;
 mod options;
 #[cfg(test)]
 mod reach_tests;
@@ -27,6 +28,7 @@ mod wake_tests;
 pub use check::check_item;
 pub use findings::{Checked, ItemFault};
 pub use laws::{equal_views, walks_of_few_steps};
+pub use not_reached::unreached;
 pub use options::warning_setting;
 pub use reaching::reach;
 pub use wake::{WakeUse, wake_uses};
