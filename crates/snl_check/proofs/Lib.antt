@@ -13,6 +13,7 @@ pub mod Steps
 pub mod Searching
 pub mod Walks
 pub mod FewSteps
+pub mod Sets
 pub mod Conditions
 pub mod Mentions
 pub mod Items

@@ -10,6 +10,7 @@ pub mod Options
 pub mod Undeclared
 pub mod Meanings
 pub mod Judged
+pub mod Unreached
 pub mod Outlook
 pub mod Found
 pub mod Alike

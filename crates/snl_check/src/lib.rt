@@ -21,6 +21,7 @@ mod laws;
 mod listing;
 mod loops;
 mod meanings;
+mod not_reached;
 mod options;
 mod program;
 #[cfg(test)]
@@ -43,6 +44,7 @@ mod wake_tests;
 pub use check::check_item;
 pub use findings::{Checked, ItemFault};
 pub use laws::{equal_views, same_clauses, walks_of_few_steps};
+pub use not_reached::unreached;
 pub use options::warning_setting;
 pub use reaching::reach;
 pub use rows::{ChannelRow, FlagRow, Queue, ScopeName, Span, Synced, Tables};

@@ -8,16 +8,17 @@ ghost use Rattle.snl_lex.specs.Lines.{line_at};
 ghost use Rattle.snl_lex.specs.Pieces.{LiesIn, pieces_of};
 ghost use Rattle.snl_session.specs.Diagnostics.{diagnostic, diagnostics_of, found, is_error, on_line, shown, shown_of};
 ghost use Rattle.snl_session.specs.Checked.{checked_faults};
-ghost use Rattle.snl_session.specs.Linked.{linked_faults, summaries_of};
+ghost use Rattle.snl_session.specs.Linked.{linked_faults, summaries_of, walked_faults};
 ghost use Rattle.snl_session.specs.Parts.{IsPart, part_of};
 
 use crate::checks::add_checked_faults;
 use crate::findings::{Diagnostic, Finding};
-use crate::linked::add_placed;
+use crate::linked::{add_placed, add_unreached};
 use crate::order::sort;
 use crate::program::{Part, program_of, tokens_among};
 use crate::summaries::{link_all, summaries_of};
 use crate::warnings::shows_warnings;
+use snl_check::unreached;
 use snl_cut::{Count, OutOfMemory};
 use snl_lex::{Line, Piece, lex, lines_of};
 use snl_scope::Links;
@@ -42,7 +43,7 @@ fn withhold(
     }
 }
 
-// Adds what is found by the links of items, and in each item. Leaves what is shown.
+// Adds what is found by the links of items, by the walks of state sets, and in each item. Leaves what is shown.
 fn add_linked_faults(
     alloc: Global,
     text: &[u8],
@@ -54,11 +55,14 @@ fn add_linked_faults(
     requires parts { All (IsPart tokens.now) parts.now }
     ensures { OnOk result (found.new.items ≡ shown_of text.now (map (part_of tokens.now) parts.now)
         (found.old.items ++ linked_faults text.now (map (part_of tokens.now) parts.now)
+        ++ walked_faults text.now (map (part_of tokens.now) parts.now)
         ++ checked_faults text.now (map (part_of tokens.now) parts.now))) }
 {
     let summaries = summaries_of(alloc, text, tokens, parts)?;
     let links = link_all(alloc, &summaries)?;
     add_placed(tokens, parts, links.faults(), found)?;
+    let missed = unreached(alloc, &summaries, &links)?;
+    add_unreached(tokens, parts, &missed, found)?;
     add_checked_faults(alloc, text, tokens, parts, &links, found)?;
     withhold(alloc, text, tokens, parts, &links, found);
     Ok(())

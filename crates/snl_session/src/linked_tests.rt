@@ -77,6 +77,7 @@ fn keeps_items_in_order(rt: HostRuntime) -> Result<(), Fail> {
             (4, Code::E03, b""),
             (5, Code::E03, b""),
             (6, Code::E03, b""),
+            (7, Code::E13, b"x"),
         ],
     )?;
     Ok(())
@@ -175,7 +176,11 @@ fn finds_states_and_targets_by_their_set(rt: HostRuntime) -> Result<(), Fail> {
     expect_found(
         &rt,
         b"program p\nss a {\nstate i { }\nstate i { when () { } state k }\n}\nss b { state k { } state i { } }",
-        &[(4, Code::E09, b"i"), (4, Code::E10, b"k")],
+        &[
+            (4, Code::E09, b"i"),
+            (4, Code::E10, b"k"),
+            (6, Code::W02, b"i"),
+        ],
     )?;
     // two state sets with one name are two state sets
     expect_found(
@@ -187,7 +192,11 @@ fn finds_states_and_targets_by_their_set(rt: HostRuntime) -> Result<(), Fail> {
     expect_found(
         &rt,
         b"program p ss a { state i { when () { } state j } ss b { state j { } state i { } }",
-        &[(1, Code::E04, b""), (1, Code::E10, b"j")],
+        &[
+            (1, Code::E04, b""),
+            (1, Code::E10, b"j"),
+            (1, Code::W02, b"i"),
+        ],
     )?;
     // a faulty `ss` opens none, and the targets of states at program level are not looked up
     expect_found(
@@ -338,6 +347,49 @@ fn finds_statements_and_letters_by_their_place(rt: HostRuntime) -> Result<(), Fa
             (2, Code::W04, b"w"),
             (2, Code::E19, b"continue"),
         ],
+    )?;
+    Ok(())
+}
+
+#[test]
+fn finds_states_that_no_walk_reaches(rt: HostRuntime) -> Result<(), Fail> {
+    // a state that only an unreached one names, and one that names itself
+    expect_found(
+        &rt,
+        b"program p ss a { state i { }\nstate j { when () { } state k }\nstate k { }\nstate l { when () { } state l } }",
+        &[
+            (2, Code::W02, b"j"),
+            (3, Code::W02, b"k"),
+            (4, Code::W02, b"l"),
+        ],
+    )?;
+    // a jump in a transition's block counts, one in an entry block doesn't
+    expect_found(
+        &rt,
+        b"program p ss a { state i { entry { state k; }\nwhen () { if (1) { state j; } } exit }\nstate j { when () { } exit }\nstate k { when () { } exit } }",
+        &[(1, Code::E18, b""), (4, Code::W02, b"k")],
+    )?;
+    // a target means the first state of its name, and a repetition is found as one
+    expect_found(
+        &rt,
+        b"program p ss a { state i { when () { } state j }\nstate j { when () { } exit }\nstate j { when () { } state k }\nstate k { when () { } exit } }",
+        &[(3, Code::E09, b"j"), (4, Code::W02, b"k")],
+    )?;
+    Ok(())
+}
+
+#[test]
+fn leaves_state_sets_with_faulty_items_alone(rt: HostRuntime) -> Result<(), Fail> {
+    // any item of the set, also behind the states, and an `ss` that opens none
+    expect_found(
+        &rt,
+        b"program p ss a { state i { } state j { }\nint ; }\nss b { state i { } state j { } }",
+        &[(2, Code::E02, b""), (3, Code::W02, b"j")],
+    )?;
+    expect_found(
+        &rt,
+        b"program p ss a { state i { } state j { }\nss }",
+        &[(2, Code::E02, b"")],
     )?;
     Ok(())
 }

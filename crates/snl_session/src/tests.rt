@@ -155,10 +155,24 @@ fn judges_the_text_anew_after_each_edit(rt: HostRuntime) -> Result<(), Fail> {
     session.edit(141, 143, b"")?;
     // the second state has another name
     session.edit(149, 149, b"x")?;
-    expect_diagnostics(&rt, &session, &[(11, Code::E10, b"s2")]);
+    expect_diagnostics(
+        &rt,
+        &session,
+        &[(11, Code::E10, b"s2"), (13, Code::W02, b"s2x")],
+    );
     // a comment of lines before it
     session.edit(90, 90, b"/*\n\n\n*/")?;
-    expect_diagnostics(&rt, &session, &[(14, Code::E10, b"s2")]);
+    expect_diagnostics(
+        &rt,
+        &session,
+        &[(14, Code::E10, b"s2"), (16, Code::W02, b"s2x")],
+    );
+    // an option that turns warnings off, and then none
+    session.edit(10, 10, b"option -w;\n")?;
+    expect_diagnostics(&rt, &session, &[(15, Code::E10, b"s2")]);
+    assert_eq!(rt; session.warnings(), 0);
+    session.edit(10, 21, b"")?;
+    assert_eq!(rt; session.warnings(), 1);
     Ok(())
 }
 

@@ -1,0 +1,188 @@
+-- The items of a state set stand one behind another; its states, and what is found in it.
+use Rattle.std.proofs.Common.{◌≡◌, ◌⊎◌, ◌&&◌, ◌||◌, ℕ, zero, suc, ◌+◌, ◌-◌, ◌<◌, ◌≤◌, Bool, true, false, not, List, [], ◌∷◌, ◌++◌, length, get_or, nat_eq, nat_lt, slice_get, All, Option, Some, None, inl, inr, refl, sym, ap, subst, ◌∙◌, add-one, arith, if◌then◌else◌, option_copied, is_some, Bor}
+use Rattle.std.specs.List.{cons_option, enumerate_from, filter_map, flat_map}
+use Rattle.std.specs.Option.{option_map_or}
+use Rattle.std.proofs.lemmas.Bool.{cases_lt, eqb-true, false≢true}
+use Rattle.std.proofs.lemmas.Grind.{flat_map-append}
+use Rattle.std.proofs.lemmas.List.{append-nil, length-map}
+use Rattle.std.proofs.lemmas.List.Elements.{All-append, All-map, All-nil, All-push}
+use Rattle.std.proofs.lemmas.List.Quantifiers.{position-Some}
+use borrow.Author.Tests.{eq-eqb, le-ltb, lt-ltb}
+use Rattle.snl_scope.specs.declared.summary.Summary.{Summary}
+use Rattle.snl_scope.specs.Below.{all_below, any_below}
+use Rattle.snl_scope.specs.Places.{begins_set, ends_set, item_is, open_before, place, stands_in}
+use Rattle.snl_scope.proofs.OpenSets.{open_step, place_here, place_within}
+use Rattle.snl_scope.proofs.Searches.{any_below-none}
+use Rattle.snl_check.specs.Reach.{AreStates}
+use Rattle.snl_check.specs.Unreached.{is_first_state, missed, number_among, target_number, target_numbers, targets_among}
+
+and_false : (b : Bool) → (b && false) ≡ false
+and_false true = refl
+and_false false = refl
+
+and_true : (b : Bool) → (b && true) ≡ b
+and_true true = refl
+and_true false = refl
+
+get_here : {X : Type 0} (xs : List X) (j : ℕ) → j < length xs → (x : X) × (slice_get xs j ≡ Some x)
+get_here [] j l = absurd (omega (arith, l))
+get_here (x ∷ xs) zero l = (x, refl)
+get_here (x ∷ xs) (suc j) l = get_here xs j (omega (arith, l))
+
+pub false_if : (b : Bool) → (b ≡ true → ⊥) → b ≡ false
+false_if true h = absurd (h refl)
+false_if false h = refl
+
+module _ (ss : List Summary) (k : ℕ) where
+  stands_from : (j : ℕ) → stands_in ss k j ≡ true → place ss j ≡ Some k
+  stands_from j = by (place ss j)
+    where
+      by : (o : Option ℕ) → option_map_or (nat_eq k) o false ≡ true → o ≡ Some k
+      by None h = absurd (false≢true h)
+      by (Some m) h = ap Some (sym (eqb-true k m h))
+
+  stands_is : (j : ℕ) → place ss j ≡ Some k → stands_in ss k j ≡ true
+  stands_is j h = ap (λ o. option_map_or (nat_eq k) o false) h ∙ eq-eqb k k refl
+
+  -- an item stands in the set that the next one stands in
+  step_back : (j : ℕ) (s : Summary) → slice_get ss j ≡ Some s → k < j → place ss (suc j) ≡ Some k → place ss j ≡ Some k
+  step_back j s at l h = by (begins_set s.kind) (ends_set s.kind) refl (sym (open_step ss j s at) ∙ opened (item_is (λ s. not (begins_set s.kind)) ss (suc j)) h)
+    where
+      opened : (b : Bool) → (if b then open_before ss (suc j) else None) ≡ Some k → open_before ss (suc j) ≡ Some k
+      opened true e = e
+      opened false e = absurd cc
+
+      by : (b e : Bool) → begins_set s.kind ≡ b → (if b then Some j else (if e then None else open_before ss j)) ≡ Some k → place ss j ≡ Some k
+      by true e is o = let same : j ≡ k = cc in absurd (omega (arith, same, l))
+      by false true is o = absurd cc
+      by false false is o = place_here ss j s at ∙ ap (λ b. if b then None else open_before ss j) is ∙ o
+
+  back : (d i : ℕ) → k < i → i + d < length ss → place ss (i + d) ≡ Some k → place ss i ≡ Some k
+  back zero i l within h = let same : i + 0 ≡ i = omega arith in subst (λ n. place ss n ≡ Some k) same h
+  back (suc d) i l within h =
+      let same : i + suc d ≡ suc (i + d) = omega arith in
+      let inside : i + d < length ss = omega (arith, within) in
+      let before : k < i + d = omega (arith, l) in
+      let here = get_here ss (i + d) inside in
+      back d i l inside (step_back (i + d) here.0 here.1 before (subst (λ n. place ss n ≡ Some k) same h))
+
+  between : (i j : ℕ) → k < i → i ≤ j → j < length ss → stands_in ss k j ≡ true → stands_in ss k i ≡ true
+  between i j l le within h =
+      let same : i + (j - i) ≡ j = omega (arith, le) in
+      stands_is i (back (j - i) i l (omega (arith, le, within)) (subst (λ n. place ss n ≡ Some k) (sym same) (stands_from j h)))
+
+  none_before : (j : ℕ) → j ≤ k → stands_in ss k j ≡ false
+  none_before j l = false_if (stands_in ss k j) (λ h. let less = place_within ss j k (stands_from j h) in omega (arith, l, less))
+
+  -- behind the item that ends the set no item stands in it
+  none_behind : (i : ℕ) → k < i → (i ≡ length ss) ⊎ (stands_in ss k i ≡ false) → (j : ℕ) → i ≤ j → j < length ss → stands_in ss k j ≡ false
+  none_behind i l end j le within =
+      false_if (stands_in ss k j) (λ h. elim end [ inl all ↦ omega (arith, all, le, within) | inr out ↦ false≢true (sym out ∙ between i j l le within h) ])
+
+  pub stand_within : (i : ℕ) → k < i → ((j : ℕ) → k < j → j < i → stands_in ss k j ≡ true) → (i ≡ length ss) ⊎ (stands_in ss k i ≡ false) → (j : ℕ) → j < length ss → stands_in ss k j ≡ (nat_lt k j && nat_lt j i)
+  stand_within i l inside end j within =
+      elim (cases_lt k j) [
+        | inr low ↦ none_before j low ∙ sym (ap (λ b. b && nat_lt j i) (le-ltb k j low))
+        | inl high ↦
+            elim (cases_lt j i) [
+              | inl near ↦ inside j high near ∙ sym (ap (λ b. b && nat_lt j i) (lt-ltb k j high) ∙ lt-ltb j i near)
+              | inr far ↦ none_behind i l end j far within ∙ sym (ap (λ b. b && nat_lt j i) (lt-ltb k j high) ∙ le-ltb j i far)
+            ]
+      ]
+
+-- searches that pass over numbers
+pub all_none : (p : ℕ → Bool) (n : ℕ) → ((j : ℕ) → j < n → p j ≡ false) → all_below p n ≡ []
+all_none p zero h = refl
+all_none p (suc n) h = ap (λ l. l ++ (if p n then n ∷ [] else [])) (all_none p n (λ j l. h j (omega (arith, l)))) ∙ ap (λ b. if b then n ∷ [] else []) (h n (omega arith))
+
+pub all_past : (p : ℕ → Bool) (i d : ℕ) → ((j : ℕ) → i ≤ j → j < i + d → p j ≡ false) → all_below p (i + d) ≡ all_below p i
+all_past p i zero h = let same : i + 0 ≡ i = omega arith in ap (all_below p) same
+all_past p i (suc d) h =
+    let same : i + suc d ≡ suc (i + d) = omega arith in
+    ap (all_below p) same ∙ ap (λ b. all_below p (i + d) ++ (if b then (i + d) ∷ [] else [])) (h (i + d) (omega arith) (omega arith))
+    ∙ append-nil (all_below p (i + d)) ∙ all_past p i d (λ j l m. h j l (omega (arith, m)))
+
+pub any_past : (p : ℕ → Bool) (i d : ℕ) → ((j : ℕ) → i ≤ j → j < i + d → p j ≡ false) → any_below p (i + d) ≡ any_below p i
+any_past p i zero h = let same : i + 0 ≡ i = omega arith in ap (any_below p) same
+any_past p i (suc d) h =
+    let same : i + suc d ≡ suc (i + d) = omega arith in
+    ap (any_below p) same ∙ ap (λ b. b || any_below p (i + d)) (h (i + d) (omega arith) (omega arith)) ∙ any_past p i d (λ j l m. h j l (omega (arith, m)))
+
+-- the members of a set, of which the items from `from` up to `end` are all
+module _ (ss : List Summary) (k : ℕ) (test : ℕ → Bool) (end : ℕ) (some : k < end) (within : end ≤ length ss)
+    (items : (j : ℕ) → j < length ss → stands_in ss k j ≡ (nat_lt k j && nat_lt j end)) where
+  outside : (j : ℕ) → j < length ss → (j ≤ k) ⊎ (end ≤ j) → (test j && stands_in ss k j) ≡ false
+  outside j l (inl low) = ap (λ b. test j && b) (items j l ∙ ap (λ b. b && nat_lt j end) (le-ltb k j low)) ∙ and_false (test j)
+  outside j l (inr far) = ap (λ b. test j && b) (items j l ∙ ap (λ b. nat_lt k j && b) (le-ltb j end far) ∙ and_false (nat_lt k j)) ∙ and_false (test j)
+
+  pub members_none : all_below (λ j. test j && stands_in ss k j) (k + 1) ≡ []
+  members_none = all_none (λ j. test j && stands_in ss k j) (k + 1) (λ j l. outside j (omega (arith, l, some, within)) (inl (omega (arith, l))))
+
+  pub members_no_one : any_below (λ j. test j && stands_in ss k j) (k + 1) ≡ false
+  members_no_one = any_below-none (λ j. test j && stands_in ss k j) (k + 1) (λ j l. outside j (omega (arith, l, some, within)) (inl (omega (arith, l))))
+
+  -- an item of the set
+  here : (i : ℕ) → k < i → i < end → (test i && stands_in ss k i) ≡ test i
+  here i l m =
+      ap (λ b. test i && b) (items i (omega (arith, m, within)) ∙ ap (λ b. b && nat_lt i end) (lt-ltb k i l) ∙ lt-ltb i end m) ∙ and_true (test i)
+
+  pub members_more : (i : ℕ) → k < i → i < end → all_below (λ j. test j && stands_in ss k j) (i + 1) ≡ all_below (λ j. test j && stands_in ss k j) i ++ (if test i then i ∷ [] else [])
+  members_more i l m = ap (all_below (λ j. test j && stands_in ss k j)) (add-one i) ∙ ap (λ b. all_below (λ j. test j && stands_in ss k j) i ++ (if b then i ∷ [] else [])) (here i l m)
+
+  pub members_one_more : (i : ℕ) → k < i → i < end → any_below (λ j. test j && stands_in ss k j) (i + 1) ≡ (test i || any_below (λ j. test j && stands_in ss k j) i)
+  members_one_more i l m = ap (any_below (λ j. test j && stands_in ss k j)) (add-one i) ∙ ap (λ b. b || any_below (λ j. test j && stands_in ss k j) i) (here i l m)
+
+  pub members_all : all_below (λ j. test j && stands_in ss k j) (length ss) ≡ all_below (λ j. test j && stands_in ss k j) end
+  members_all =
+      let same : end + (length ss - end) ≡ length ss = omega (arith, within) in
+      ap (all_below (λ j. test j && stands_in ss k j)) (sym same) ∙ all_past (λ j. test j && stands_in ss k j) end (length ss - end) (λ j l m. outside j (omega (arith, m, same)) (inr l))
+
+  pub members_any : any_below (λ j. test j && stands_in ss k j) (length ss) ≡ any_below (λ j. test j && stands_in ss k j) end
+  members_any =
+      let same : end + (length ss - end) ≡ length ss = omega (arith, within) in
+      ap (any_below (λ j. test j && stands_in ss k j)) (sym same) ∙ any_past (λ j. test j && stands_in ss k j) end (length ss - end) (λ j l m. outside j (omega (arith, m, same)) (inr l))
+
+-- what each kept image has
+all_kept : {X Y : Type 0} (f : X → Option Y) (P : Y → Type 0) → ((x : X) (y : Y) → f x ≡ Some y → P y) → (xs : List X) → All P (filter_map f xs)
+all_kept f P h [] = All-nil P
+all_kept {Y = Y} f P h (x ∷ xs) = by (f x) refl (all_kept f P h xs)
+  where
+    by : (o : Option Y) → f x ≡ o → All P (filter_map f xs) → All P (cons_option o (filter_map f xs))
+    by None e rest = rest
+    by (Some y) e rest = All-append P (y ∷ []) (filter_map f xs) (All-push P [] y (All-nil P) (h x y e)) rest
+
+module _ (ss : List Summary) (states : List ℕ) where
+  found_among : (o : Option ℕ) (n : ℕ) → number_among states o ≡ Some n → n < length states
+  found_among None n e = absurd cc
+  found_among (Some j) n e = (position-Some (nat_eq j) states n 0 e).0
+
+  numbers_within : (o : Option Summary) (j : ℕ) → All (λ n. n < length states) (option_map_or (λ s. filter_map (target_number ss states j) s.targets) o [])
+  numbers_within None j = All-nil (λ n. n < length states)
+  numbers_within (Some s) j = all_kept (target_number ss states j) (λ n. n < length states) (λ target n e. found_among _ n e) s.targets
+
+  -- the targets of states are states
+  pub targets_are_states : AreStates (targets_among ss states)
+  targets_are_states =
+      subst (λ count. All (All (λ t. t < count)) (targets_among ss states)) (sym (length-map states (target_numbers ss states)))
+      (All-map (All (λ t. t < length states)) (target_numbers ss states) states (λ i d l. numbers_within (slice_get ss (get_or states i d)) (get_or states i d)))
+
+-- what is missed goes by what is reached of the states alone
+pub missed_alike : (ss : List Summary) (p q : ℕ → Bool) (from : ℕ) (states : List ℕ) → ((n : ℕ) → from ≤ n → n < from + length states → p n ≡ q n) → filter_map (missed ss p) (enumerate_from from states) ≡ filter_map (missed ss q) (enumerate_from from states)
+missed_alike ss p q from [] h = refl
+missed_alike ss p q from (j ∷ states) h =
+    ap (λ b. cons_option (if is_first_state ss j && not b then Some j else None) (filter_map (missed ss p) (enumerate_from (from + 1) states))) (h from (omega arith) (omega arith))
+    ∙ ap (λ l. cons_option (missed ss q (from, j)) l) (missed_alike ss p q (from + 1) states (λ n l m. h n (omega (arith, l)) (omega (arith, m))))
+
+pub copied_some : {X : Type 0} (o : Option (Bor X)) → is_some (option_copied o) ≡ is_some o
+copied_some None = refl
+copied_some (Some x) = refl
+
+-- what one more number brings, where it passes
+pub flat_more : (F : ℕ → List ℕ) (p : ℕ → Bool) (i : ℕ) (b : Bool) → p i ≡ b → flat_map F (all_below p (i + 1)) ≡ flat_map F (all_below p i) ++ (if b then F i else [])
+flat_more F p i b h =
+    ap (λ n. flat_map F (all_below p n)) (add-one i) ∙ flat_map-append F (all_below p i) (if p i then i ∷ [] else [])
+    ∙ ap (λ c. flat_map F (all_below p i) ++ flat_map F (if c then i ∷ [] else [])) h ∙ ap (λ l. flat_map F (all_below p i) ++ l) (by b)
+  where
+    by : (c : Bool) → flat_map F (if c then i ∷ [] else []) ≡ (if c then F i else [])
+    by true = append-nil (F i)
+    by false = refl

@@ -1,0 +1,55 @@
+-- The states that are not reached, set by set. An item is told by its number among the summaries of all, and a state also by
+-- its number among the states of its set.
+use Rattle.std.specs.Prelude.{ℕ, Bool, false, not, ◌&&◌, if◌then◌else◌, List, [], length, map, slice_get, nat_eq, position, Option, None, Some, option_and_then}
+use Rattle.std.specs.List.{enumerate_from, filter_map, flat_map}
+use Rattle.std.specs.Option.{option_map_or}
+use Rattle.snl_scope.specs.declared.summary.Mention.{Mention}
+use Rattle.snl_scope.specs.declared.summary.Summary.{Summary}
+use Rattle.snl_scope.specs.Below.{all_below, any_below}
+use Rattle.snl_scope.specs.Linked.{state_of}
+use Rattle.snl_scope.specs.Order.{is_faulty, is_named_state, state_name}
+use Rattle.snl_scope.specs.Places.{is_set_begin, item_is, stands_in}
+use Rattle.snl_check.specs.Reach.{is_reached}
+
+-- The states that stand in the state set that item k begins, faulty or not.
+abbrev pub states_in : List Summary → ℕ → List ℕ
+states_in ss k = all_below (λ j. is_named_state ss j && stands_in ss k j) (length ss)
+
+-- One of the items of the state set is faulty.
+abbrev pub has_faulty : List Summary → ℕ → Bool
+has_faulty ss k = any_below (λ j. item_is (λ s. is_faulty s.kind) ss j && stands_in ss k j) (length ss)
+
+-- The number of an item among the states of a set.
+abbrev pub number_among : List ℕ → Option ℕ → Option ℕ
+number_among states item = option_and_then (λ j. position (nat_eq j) states) item
+
+-- A target of state j means the first state of its name.
+abbrev pub target_number : List Summary → List ℕ → ℕ → Mention → Option ℕ
+target_number ss states j target = number_among states (state_of ss j target.name)
+
+abbrev pub target_numbers : List Summary → List ℕ → ℕ → List ℕ
+target_numbers ss states j = option_map_or (λ s. filter_map (target_number ss states j) s.targets) (slice_get ss j) []
+
+-- The targets of each state.
+abbrev pub targets_among : List Summary → List ℕ → List (List ℕ)
+targets_among ss states = map (target_numbers ss states) states
+
+-- State j is the first of its name in its set.
+abbrev pub is_first_state : List Summary → ℕ → Bool
+is_first_state ss j = option_map_or (λ name. option_map_or (nat_eq j) (state_of ss j name) false) (option_and_then state_name (slice_get ss j)) false
+
+-- Those that are not reached. A repetition of a name is found as one, and is no state to reach.
+abbrev pub missed : List Summary → (ℕ → Bool) → ℕ × ℕ → Option ℕ
+missed ss reached (number, j) = if is_first_state ss j && not (reached number) then Some j else None
+
+abbrev pub missed_among : List Summary → (ℕ → Bool) → List ℕ → List ℕ
+missed_among ss reached states = filter_map (missed ss reached) (enumerate_from 0 states)
+
+-- W02. Where an item of the set is faulty it may be one that leads on, and nothing is said.
+abbrev pub unreached_in : List Summary → ℕ → List ℕ
+unreached_in ss k =
+    if has_faulty ss k then [] else missed_among ss (is_reached (targets_among ss (states_in ss k))) (states_in ss k)
+
+-- The states that are not reached, by the numbers of their items.
+unfoldable pub unreached : List Summary → List ℕ
+unreached ss = flat_map (unreached_in ss) (all_below (is_set_begin ss) (length ss))
