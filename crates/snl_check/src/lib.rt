@@ -1,5 +1,5 @@
 //! What is found in an item: its tokens, its tree and what it sees of the other items come in, findings at token numbers go
-//! out. It knows no offsets, and of the other items no more than what it is told.
+//! out; and the tables of a text, from its items and their links. It knows no edits, and not how names are found.
 #![tactic(auto)]
 
 mod arguments;
