@@ -14,7 +14,7 @@ mod scan;
 mod tests;
 mod words;
 
-pub use cut::{Bytes, Relexed, lex, relex};
+pub use cut::{Bytes, Relexed, lex, relex, relex_by};
 pub use lines::{Line, line_of};
 pub use lines_along::lines_of;
 pub use numbers::int_value;
