@@ -1,6 +1,6 @@
 //! The recut: what is kept and made of a cut after an edit.
 
-ghost use Rattle.snl_cut.specs.Cut.{IsCut, IsEdit, IsRecut, after_ticks};
+ghost use Rattle.snl_cut.specs.Cut.{Counted, IsCut, IsEdit, IsRecut, after_ticks};
 ghost use Rattle.std.specs.Prelude.{◌≡◌, IfOk, length};
 
 use crate::kept::Recut;
@@ -30,6 +30,7 @@ pub fn recut_by<F: Front, E: Ends>(
         result
         (λ r. IsRecut F.first_of old_units.now (E.listed old_ends.now) units.now start old_stop new_stop r.kept_front r.made.items r.kept_back) }
     ensures ticks { IfOk result (λ r. work.new ≡ after_ticks work.old (length r.made.items)) }
+    ensures counted { Counted work.old work.new }
 {
     let count = old_ends.count();
     let last = end_of(old_ends, count);
@@ -71,6 +72,7 @@ pub fn recut<F: Front>(
         result
         (λ r. IsRecut F.first_of old_units.now old_ends.now units.now start old_stop new_stop r.kept_front r.made.items r.kept_back) }
     ensures ticks { IfOk result (λ r. work.new ≡ after_ticks work.old (length r.made.items)) }
+    ensures counted { Counted work.old work.new }
 {
     recut_by(
         alloc,

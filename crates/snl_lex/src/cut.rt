@@ -2,7 +2,7 @@
 //! In: a text; after an edit also the old text and its pieces. Out: the pieces, or what is kept and made of them.
 //! It knows of a piece only that it is the first one of what is left.
 
-ghost use Rattle.snl_cut.specs.Cut.{IsCut, IsEdit, IsRecut, Walks, after_ticks, last_end};
+ghost use Rattle.snl_cut.specs.Cut.{Counted, IsCut, IsEdit, IsRecut, Walks, after_ticks, last_end};
 ghost use Rattle.snl_lex.specs.Local.{piece_front, piece_local};
 ghost use Rattle.snl_lex.specs.Pieces.{HasOwnBytes, LiesIn, bytes_at, moved_piece, piece_at, piece_end, piece_length, pieces_along, pieces_of};
 ghost use Rattle.std.specs.List.{flat_map};
@@ -60,6 +60,7 @@ pub fn lex(alloc: Global, text: &[u8], work: &mut Count) -> Result<Vec<Piece>, O
     ensures cut { IfOk result (λ pieces. IsCut piece_length text.now (map piece_end pieces.items)) }
 
     ensures ticks { IfOk result (λ pieces. work.new ≡ after_ticks work.old (length pieces.items)) }
+    ensures counted { Counted work.old work.new }
 {
     let mut pieces = Vec::new(alloc);
     let mut at = 0;
@@ -120,6 +121,7 @@ pub fn relex_by<E: Ends>(
         result
         (λ r. pieces_of text.now ≡ (take r.kept_front (pieces_of old_text.now) ++ r.made.items) ++ map (moved_piece old_stop new_stop) (drop (length (pieces_of old_text.now) - r.kept_back) (pieces_of old_text.now))) }
     ensures ticks { IfOk result (λ r. work.new ≡ after_ticks work.old (length r.made.items)) }
+    ensures counted { Counted work.old work.new }
 {
     let cut = recut_by(
         alloc, &Bytes, old_text, old, text, start, old_stop, new_stop, work,
@@ -181,6 +183,7 @@ pub fn relex(
         result
         (λ r. pieces_of text.now ≡ (take r.kept_front old.now ++ r.made.items) ++ map (moved_piece old_stop new_stop) (drop (length old.now - r.kept_back) old.now)) }
     ensures ticks { IfOk result (λ r. work.new ≡ after_ticks work.old (length r.made.items)) }
+    ensures counted { Counted work.old work.new }
 {
     relex_by(
         alloc,

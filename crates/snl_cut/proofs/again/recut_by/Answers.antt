@@ -1,4 +1,4 @@
-use Rattle.std.proofs.Common.{◌++◌, length, take, ℕ, arith, sym, ap, ◌∙◌, refl}
+use Rattle.std.proofs.Common.{◌++◌, length, suc, take, ℕ, arith, sym, ap, ◌∙◌, refl}
 use Rattle.snl_cut.specs.Cut.{ticked, last_end}
 use Rattle.snl_cut.proofs.Steps.{walks_on, walks_push, length_push}
 use Rattle.snl_cut.proofs.Agreeing.{walks_rise, walks_last, still_unmet, not_at_end, same_length}
@@ -55,3 +55,7 @@ loop-kept-preserved g c =
           c.requires.old_cut upto c.loop-kept.invariant.unmet c.in_default.ensures c.next_end-at.ensures.end;
       ticked = rw c.in_ok-push.ensures.items (rw (length_push c.loop-kept.made.items c.next_end-at.result) (c.next_end-at.ensures.ticks ∙ ap ticked c.loop-kept.invariant.ticked));
     }
+
+pub returns-in_err-push-clause-counted : goal.returns-in_err-push-clause-counted
+returns-in_err-push-clause-counted g c =
+    record { calls = suc (length c.loop-kept.made.items); ticks = c.next_end-at.ensures.ticks ∙ ap ticked c.loop-kept.invariant.ticked }

@@ -57,4 +57,5 @@ returns g c =
       pieces = recut_pieces old text ps start b d front made back refl c.requires.edit r
           ∙ ap (λ (l : List Piece). (take front ps ++ l) ++ map (moved_piece b d) (drop (length ps - back) ps)) (ap (λ n. pieces_along text n made) place ∙ sym made_are);
       ticks = c.in_ok-cut.ensures.ticks ∙ ap (after_ticks c.args.work.now) (sym count);
+      counted = c.in_ok-cut.ensures.counted;
     }
