@@ -5,7 +5,7 @@ use Rattle.std.proofs.lemmas.Bool.Decides.{nat_tests}
 use Rattle.snl_cut.specs.Cut.{IsFront, IsLocal, Walks, IsCut, Rises, ends_below, last_end, moved, fresh, IsEdit, IsRecut}
 use Rattle.snl_cut.proofs.Steps.{walks_on}
 use Rattle.snl_cut.proofs.Below.{split, below_last, below_count, rises_last}
-use Rattle.snl_cut.proofs.Agreeing.{walks_le, walks_rise, walks_front, walks_back, front_walk, made_late, same_length, shift, Unmet, some_left}
+use Rattle.snl_cut.proofs.Agreeing.{walks_le, walks_last, walks_rise, walks_front, walks_back, front_walk, made_late, same_length, shift, Unmet, some_left}
 
 fresh_early : (start meet from e : ℕ) (es : List ℕ) → e < start → fresh start meet from (e ∷ es) ≡ fresh start meet e es
 fresh_early start meet from e es h = grind (arith, nat_tests)
@@ -114,6 +114,8 @@ all_together {X} first front local old units ends start b c edit cut kept is mad
       kept = is;
       back_inside = omega arith;
       kept_back = omega (arith, below_count ((at - c) + b) 0 ends count (walks_rise first front old 0 ends (length old) cut) count_le there);
+      led = walks_last first units 0 (head ++ made) at upto;
+      from = ap (λ n. last_end 0 (take n ends)) (omega arith) ∙ there;
       whole = subst (λ (l : List ℕ). Walks first units 0 ((head ++ made) ++ moved b c l) (length units)) (sym back_is) all;
       just_fresh = sym (ap (λ (l : List ℕ). fresh start at 0 ((head ++ made) ++ moved b c l)) back_is ∙ made_fresh);
     }

@@ -1,15 +1,54 @@
 //! The recut: what is kept and made of a cut after an edit.
 
-ghost use Rattle.snl_cut.specs.Cut.{IsCut, IsEdit, IsRecut, after_ticks};
+ghost use Rattle.snl_cut.specs.Cut.{Counted, IsCut, IsEdit, IsRecut, after_ticks};
 ghost use Rattle.std.specs.Prelude.{◌≡◌, IfOk, length};
 
 use crate::kept::Recut;
 use crate::memory::OutOfMemory;
 use crate::places::{count_below, end_of, meeting};
+use crate::trait_ends::{Ends, Listed};
 use crate::trait_front::Front;
 use crate::whole::next_end;
 use crate::work::Count;
 use std::alloc::Global;
+
+/// The same as `recut`, where the old ends are kept in another way. It looks at a few of them, by halving.
+pub fn recut_by<F: Front, E: Ends>(
+    alloc: Global,
+    front: &F,
+    old_units: &[F::Unit],
+    old_ends: &E,
+    units: &[F::Unit],
+    start: usize,
+    old_stop: usize,
+    new_stop: usize,
+    work: &mut Count,
+) -> Result<Recut, OutOfMemory>
+    requires old_cut { IsCut F.first_of old_units.now (E.listed old_ends.now) }
+    requires edit { IsEdit old_units.now units.now start old_stop new_stop }
+    ensures recut { IfOk
+        result
+        (λ r. IsRecut F.first_of old_units.now (E.listed old_ends.now) units.now start old_stop new_stop r.kept_front r.made.items r.kept_back) }
+    ensures ticks { IfOk result (λ r. work.new ≡ after_ticks work.old (length r.made.items)) }
+    ensures counted { Counted work.old work.new }
+{
+    let count = old_ends.count();
+    let last = end_of(old_ends, count);
+    let kept_front = count_below(old_ends, start);
+    let mut at = end_of(old_ends, kept_front);
+    let mut made = Vec::new(alloc);
+    loop {
+        if let Some(kept) = meeting(old_ends, old_stop, new_stop, at) {
+            return Ok(Recut {
+                kept_front,
+                made,
+                kept_back: count - kept,
+            });
+        }
+        at = next_end(front, units, at, work);
+        made.push(at)?;
+    }
+}
 
 /// What is kept and made of the cut of `old_units` for that of `units`, in which the old units from `start` up to
 /// `old_stop` were replaced by those from `start` up to `new_stop`.
@@ -33,19 +72,17 @@ pub fn recut<F: Front>(
         result
         (λ r. IsRecut F.first_of old_units.now old_ends.now units.now start old_stop new_stop r.kept_front r.made.items r.kept_back) }
     ensures ticks { IfOk result (λ r. work.new ≡ after_ticks work.old (length r.made.items)) }
+    ensures counted { Counted work.old work.new }
 {
-    let kept_front = count_below(old_ends, start);
-    let mut at = end_of(old_ends, kept_front);
-    let mut made = Vec::new(alloc);
-    loop {
-        if let Some(count) = meeting(old_ends, old_stop, new_stop, at) {
-            return Ok(Recut {
-                kept_front,
-                made,
-                kept_back: old_ends.len() - count,
-            });
-        }
-        at = next_end(front, units, at, work);
-        made.push(at)?;
-    }
+    recut_by(
+        alloc,
+        front,
+        old_units,
+        &Listed { ends: old_ends },
+        units,
+        start,
+        old_stop,
+        new_stop,
+        work,
+    )
 }

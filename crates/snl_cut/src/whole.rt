@@ -1,6 +1,6 @@
 //! The cut of a whole list.
 
-ghost use Rattle.snl_cut.specs.Cut.{IsCut, after_ticks, ends_of, ticked};
+ghost use Rattle.snl_cut.specs.Cut.{Counted, IsCut, after_ticks, ends_of, ticked};
 ghost use Rattle.std.specs.Prelude.{◌≡◌, ◌+◌, ◌<◌, ◌≤◌, IfOk, drop, length};
 
 use crate::memory::OutOfMemory;
@@ -29,6 +29,7 @@ pub fn cut_all<F: Front>(
     ensures cut { IfOk result (λ ends. IsCut F.first_of units.now ends.items) }
     ensures only { IfOk result (λ ends. ends.items ≡ ends_of F.first_of units.now) }
     ensures ticks { IfOk result (λ ends. work.new ≡ after_ticks work.old (length ends.items)) }
+    ensures counted { Counted work.old work.new }
 {
     let mut ends = Vec::new(alloc);
     let mut at = 0;

@@ -2,7 +2,7 @@
 //! In: a text; after an edit also the old text and its pieces. Out: the pieces, or what is kept and made of them.
 //! It knows of a piece only that it is the first one of what is left.
 
-ghost use Rattle.snl_cut.specs.Cut.{IsCut, IsEdit, IsRecut, Walks, after_ticks, last_end};
+ghost use Rattle.snl_cut.specs.Cut.{Counted, IsCut, IsEdit, IsRecut, Walks, after_ticks, last_end};
 ghost use Rattle.snl_lex.specs.Local.{piece_front, piece_local};
 ghost use Rattle.snl_lex.specs.Pieces.{HasOwnBytes, LiesIn, bytes_at, moved_piece, piece_at, piece_end, piece_length, pieces_along, pieces_of};
 ghost use Rattle.std.specs.List.{flat_map};
@@ -10,7 +10,7 @@ ghost use Rattle.std.specs.Prelude.{◌≡◌, ◌+◌, ◌-◌, ◌^◌, ◌<�
 
 use crate::piece::Piece;
 use crate::scan::first_piece;
-use snl_cut::{Count, Front, OutOfMemory, recut};
+use snl_cut::{Count, Ends, Front, OutOfMemory, recut_by};
 use std::alloc::Global;
 
 /// The front that cuts a text into pieces: its units are bytes.
@@ -60,6 +60,7 @@ pub fn lex(alloc: Global, text: &[u8], work: &mut Count) -> Result<Vec<Piece>, O
     ensures cut { IfOk result (λ pieces. IsCut piece_length text.now (map piece_end pieces.items)) }
 
     ensures ticks { IfOk result (λ pieces. work.new ≡ after_ticks work.old (length pieces.items)) }
+    ensures counted { Counted work.old work.new }
 {
     let mut pieces = Vec::new(alloc);
     let mut at = 0;
@@ -80,26 +81,6 @@ pub struct Relexed {
     pub kept_back: usize,
 }
 
-// Where each piece ends.
-fn ends_of(alloc: Global, pieces: &[Piece]) -> Result<Vec<usize>, OutOfMemory>
-    requires { All (λ p. piece_end p < 2 ^ 64) pieces.now }
-    ensures { IfOk result (λ ends. ends.items ≡ map piece_end pieces.now) }
-{
-    let mut ends = Vec::new(alloc);
-    for piece in pieces {
-        ends.push(piece.start + piece.len)?;
-    }
-    Ok(ends)
-}
-
-// Where the first `count` pieces end.
-fn end_of(ends: &[usize], count: usize) -> usize
-    requires { count ≤ length ends.now }
-    ensures { result ≡ last_end 0 (take count ends.now) }
-{
-    if count == 0 { 0 } else { ends[count - 1] }
-}
-
 // The pieces that end one behind another at these places.
 fn pieces_along(
     alloc: Global,
@@ -117,6 +98,68 @@ fn pieces_along(
         at = *end;
     }
     Ok(pieces)
+}
+
+/// The pieces of `text` from the ends of those of `old_text`, however these ends are kept, of which text the bytes from `start` to `old_stop` were replaced by those up to `new_stop`. Each piece that is made is one tick. The only error is want of memory.
+pub fn relex_by<E: Ends>(
+    alloc: Global,
+    old_text: &[u8],
+    old: &E,
+    text: &[u8],
+    start: usize,
+    old_stop: usize,
+    new_stop: usize,
+    work: &mut Count,
+) -> Result<Relexed, OutOfMemory>
+    requires old_ends { E.listed old.now ≡ map piece_end (pieces_of old_text.now) }
+    requires edit { IsEdit old_text.now text.now start old_stop new_stop }
+    ensures recut { IfOk
+        result
+        (λ r. IsRecut piece_length old_text.now (map piece_end (pieces_of old_text.now)) text.now start old_stop new_stop r.kept_front (map piece_end r.made.items) r.kept_back) }
+    ensures order { IfOk result (λ r. r.kept_front + r.kept_back ≤ length (pieces_of old_text.now)) }
+    ensures pieces { IfOk
+        result
+        (λ r. pieces_of text.now ≡ (take r.kept_front (pieces_of old_text.now) ++ r.made.items) ++ map (moved_piece old_stop new_stop) (drop (length (pieces_of old_text.now) - r.kept_back) (pieces_of old_text.now))) }
+    ensures ticks { IfOk result (λ r. work.new ≡ after_ticks work.old (length r.made.items)) }
+    ensures counted { Counted work.old work.new }
+{
+    let cut = recut_by(
+        alloc, &Bytes, old_text, old, text, start, old_stop, new_stop, work,
+    )?;
+    let from = end_by(old, cut.kept_front);
+    let made = pieces_along(alloc, text, from, &cut.made)?;
+    Ok(Relexed {
+        kept_front: cut.kept_front,
+        made,
+        kept_back: cut.kept_back,
+    })
+}
+
+// Where the first `count` members end.
+fn end_by<E: Ends>(ends: &E, count: usize) -> usize
+    requires { count ≤ length (E.listed ends.now) }
+    ensures { result ≡ last_end 0 (take count (E.listed ends.now)) }
+{
+    if count == 0 { 0 } else { ends.end(count - 1) }
+}
+
+// Pieces, as the places where they end. None is too far off.
+#[derive(Clone, Copy)]
+struct Placed<'a> {
+    pieces: &'a [Piece],
+    ghost near: { All (λ p. piece_end p < 2 ^ 64) pieces.now },
+}
+
+impl Ends for Placed<'_> {
+    ghost listed = { λ p. map piece_end p.pieces.now };
+
+    fn count(&self) -> usize {
+        self.pieces.len()
+    }
+
+    fn end(&self, number: usize) -> usize {
+        self.pieces[number].start + self.pieces[number].len
+    }
 }
 
 /// The pieces of `text` from those of `old_text`, of which the bytes from `start` to `old_stop` were replaced by those up to `new_stop`. Each piece that is made is one tick. The only error is want of memory.
@@ -140,16 +183,16 @@ pub fn relex(
         result
         (λ r. pieces_of text.now ≡ (take r.kept_front old.now ++ r.made.items) ++ map (moved_piece old_stop new_stop) (drop (length old.now - r.kept_back) old.now)) }
     ensures ticks { IfOk result (λ r. work.new ≡ after_ticks work.old (length r.made.items)) }
+    ensures counted { Counted work.old work.new }
 {
-    let ends = ends_of(alloc, old)?;
-    let cut = recut(
-        alloc, &Bytes, old_text, &ends, text, start, old_stop, new_stop, work,
-    )?;
-    let from = end_of(&ends, cut.kept_front);
-    let made = pieces_along(alloc, text, from, &cut.made)?;
-    Ok(Relexed {
-        kept_front: cut.kept_front,
-        made,
-        kept_back: cut.kept_back,
-    })
+    relex_by(
+        alloc,
+        old_text,
+        &Placed { pieces: old },
+        text,
+        start,
+        old_stop,
+        new_stop,
+        work,
+    )
 }

@@ -5,6 +5,7 @@ ghost use Rattle.std.specs.Prelude.{◌≡◌, ◌+◌, ◌≤◌, drop, length,
 
 mod alphabet;
 mod cut;
+mod laws;
 mod lines;
 mod lines_along;
 mod numbers;
@@ -14,7 +15,8 @@ mod scan;
 mod tests;
 mod words;
 
-pub use cut::{Bytes, Relexed, lex, relex};
+pub use cut::{Bytes, Relexed, lex, relex, relex_by};
+pub use laws::text_in_pieces;
 pub use lines::{Line, line_of};
 pub use lines_along::lines_of;
 pub use numbers::int_value;

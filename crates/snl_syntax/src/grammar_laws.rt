@@ -1,11 +1,11 @@
 //! The laws of the grammar of items. A function here does nothing: its contract is the law.
 
 ghost use Rattle.snl_syntax.specs.Grammar.Items.{IsItem};
-ghost use Rattle.snl_syntax.specs.Reading.Items.{item_of};
+ghost use Rattle.snl_syntax.specs.Reading.Items.{fault_of, item_of};
 ghost use Rattle.snl_syntax.specs.Viability.{IsFaultAt, IsViable};
 ghost use Rattle.snl_syntax.specs.declared.kind.Kind.{Kind};
 ghost use Rattle.snl_syntax.specs.declared.tree.item.Item.{Item};
-ghost use Rattle.std.specs.Prelude.{◌≡◌, ℕ, ◌≤◌, List, Some, length};
+ghost use Rattle.std.specs.Prelude.{◌≡◌, ℕ, ◌<◌, ◌≤◌, List, None, Some, length};
 
 /// One list of tokens makes one item at most.
 pub fn one_item()
@@ -27,4 +27,9 @@ pub fn viable_fronts()
 /// One token of a list at most is at fault.
 pub fn one_fault()
     ensures { (kinds : List Kind) (n m : ℕ) → IsFaultAt kinds n → IsFaultAt kinds m → n ≡ m }
+{}
+
+/// Where tokens make no item, the token that is blamed is the one at fault.
+pub fn blamed_at_fault()
+    ensures { (kinds : List Kind) → 0 < length kinds → item_of kinds ≡ None → IsFaultAt kinds (fault_of kinds) }
 {}

@@ -26,9 +26,9 @@ mod types;
 mod word;
 
 pub use fault::ParseFault;
-pub use grammar_laws::{item_read, one_fault, one_item, viable_fronts};
+pub use grammar_laws::{blamed_at_fault, item_read, one_fault, one_item, viable_fronts};
 pub use item_cut::Tokens;
-pub use item_laws::first_item;
+pub use item_laws::{first_item, tokens_in_items};
 pub use kind::Kind;
 pub use marks::Mark;
 pub use operator::{Assignment, Binary, Sign};

@@ -1,6 +1,6 @@
 //! Reads statements and blocks.
 
-ghost use Rattle.std.specs.Prelude.{◌≡◌, []};
+ghost use Rattle.std.specs.Prelude.{◌≡◌, [], IfOk};
 ghost use Rattle.snl_syntax.specs.NestsStatement.{NestsStatement};
 ghost use Rattle.snl_syntax.specs.Reading.Expressions as exprs;
 ghost use Rattle.snl_syntax.specs.Reading.Statements as spec;
@@ -19,7 +19,7 @@ use crate::tree::expression::Expr;
 use crate::tree::statement::{ForHead, Member, Stmt};
 use crate::types::begins_type;
 use sqlite_items::{Boxed, Items};
-use std::alloc::Global;
+use std::alloc::{AllocError, Global};
 
 #[tactic(auto, unfolding(crate::specs::Reading::Statements::some_before, crate::specs::Steps::and_then))]
 fn some_before_semicolon(
@@ -219,6 +219,14 @@ fn for_head(
     for_within(alloc, kinds, at, depth)
 }
 
+// The statement that a head and a body make.
+fn for_of(alloc: Global, head: ForHead, body: Stmt) -> Result<Stmt, AllocError>
+    ensures { IfOk result (λ s. s ≡ tree.For head body) }
+{
+    let head = Boxed::new(alloc, head)?;
+    Ok(Stmt::For(head, Boxed::new(alloc, body)?))
+}
+
 /// The rules of statements that hold others, with the reader of those one level deeper.
 #[derive(Clone, Copy)]
 pub struct Statements<F> {
@@ -346,8 +354,7 @@ impl<F: Fn(Global, &[Kind], usize, usize) -> Result<(Stmt, usize), Stop>> Statem
         let at = expect(kinds, at, Kind::For)?;
         let (head, at) = for_head(self.alloc, kinds, at, self.depth)?;
         let (body, at) = self.body(kinds, at)?;
-        let head = Boxed::new(self.alloc, head)?;
-        Ok((Stmt::For(head, Boxed::new(self.alloc, body)?), at))
+        Ok((for_of(self.alloc, head, body)?, at))
     }
 
     #[tactic(auto, unfolding(crate::specs::Reading::Statements::last_body, crate::specs::Steps::and_then))]

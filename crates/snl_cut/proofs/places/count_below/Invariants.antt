@@ -3,11 +3,11 @@ use Rattle.snl_cut.specs.Cut.{ends_below}
 use Rattle.snl_cut.proofs.places.count_below.Given as goal
 
 abbrev pub invariant-loop-low : goal.invariant-loop-low
-invariant-loop-low l = record {
-  least : l.low ≤ ends_below l.place l.ends;
-  most : ends_below l.place l.ends ≤ l.high;
-  inside : l.high ≤ length l.ends;
+invariant-loop-low g l = record {
+  least : l.low ≤ ends_below l.place (g.E.Ends.listed l.ends);
+  most : ends_below l.place (g.E.Ends.listed l.ends) ≤ l.high;
+  inside : l.high ≤ length (g.E.Ends.listed l.ends);
 }
 
 abbrev pub decreases-loop-low : goal.decreases-loop-low
-decreases-loop-low l = l.high - l.low
+decreases-loop-low g l = l.high - l.low

@@ -4,6 +4,6 @@ use Rattle.snl_cut.proofs.Below.{last_taken}
 use Rattle.snl_cut.proofs.places.end_of.Goals as goal
 
 pub returns-else-count-eq0 : goal.returns-else-count-eq0
-returns-else-count-eq0 c =
+returns-else-count-eq0 g c =
     let one : suc (c.args.count - 1) ≡ c.args.count = omega arith in
-    sym (last_taken 0 c.args.ends.now (c.args.count - 1) (omega arith)) ∙ ap (λ n. last_end 0 (take n c.args.ends.now)) one
+    c.end.ensures ∙ sym (last_taken 0 (g.E.Ends.listed c.args.ends.now) (c.args.count - 1) (omega arith)) ∙ ap (λ n. last_end 0 (take n (g.E.Ends.listed c.args.ends.now))) one

@@ -1,4 +1,4 @@
-use Rattle.std.proofs.Common.{◌≡◌, ℕ, length, arith, refl, ap, ◌∙◌, subst}
+use Rattle.std.proofs.Common.{◌≡◌, ℕ, suc, length, arith, refl, ap, ◌∙◌, subst}
 use Rattle.snl_cut.specs.Cut.{Walks, ticked}
 use Rattle.snl_cut.proofs.OneCut.{cut_is}
 use Rattle.snl_cut.proofs.Steps.{walks_push, length_push}
@@ -20,3 +20,7 @@ returns-clause-only g c =
     let end : c.loop-at.at ≡ length c.args.units.now = omega (arith, c.loop-at-test.false, c.loop-at.invariant.inside) in
     cut_is g.F.Front.first_of g.met.F.Front.within c.args.units.now c.loop-at.ends.items
     (subst (λ (n : ℕ). Walks g.F.Front.first_of c.args.units.now 0 c.loop-at.ends.items n) end c.loop-at.invariant.walked)
+
+pub returns-in_err-push-clause-counted : goal.returns-in_err-push-clause-counted
+returns-in_err-push-clause-counted g c =
+    record { calls = suc (length c.loop-at.ends.items); ticks = c.next_end-at.ensures.ticks ∙ ap ticked c.loop-at.invariant.ticked }

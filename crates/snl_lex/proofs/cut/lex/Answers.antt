@@ -1,4 +1,4 @@
-use Rattle.std.proofs.Common.{◌≡◌, ℕ, ◌+◌, ◌≤◌, List, [], ◌∷◌, ◌++◌, length, sym, ap, ◌∙◌, subst, arith}
+use Rattle.std.proofs.Common.{◌≡◌, ℕ, suc, ◌+◌, ◌≤◌, List, [], ◌∷◌, ◌++◌, length, sym, ap, ◌∙◌, subst, arith}
 use Rattle.snl_cut.specs.Cut.{ticked}
 use Rattle.snl_lex.specs.declared.piece.Piece.{Piece}
 use Rattle.snl_lex.specs.Pieces.{piece_at}
@@ -42,3 +42,7 @@ pub returns-clause-pieces : goal.returns-clause-pieces
 returns-clause-pieces c =
     leads_pieces c.args.text.now c.loop-at.pieces.items
     (all_led c.args.text.now c.loop-at.pieces.items c.loop-at.at c.loop-at.invariant.leads c.loop-at.invariant.inside c.loop-at-test.false)
+
+pub returns-in_err-push-clause-counted : goal.returns-in_err-push-clause-counted
+returns-in_err-push-clause-counted c =
+    record { calls = suc (length c.loop-at.pieces.items); ticks = c.tick.ensures ∙ ap ticked c.loop-at.invariant.ticked }

@@ -1,0 +1,9 @@
+use Rattle.std.proofs.Common.{length, ap, arith}
+use Rattle.snl_lists.proofs.Storing.{as_many}
+use Rattle.snl_lists.proofs.order.Ordered.replace.Goals as goal
+
+pub replace_in-requires-clause-within : goal.replace_in-requires-clause-within
+replace_in-requires-clause-within g c =
+    let many = as_many c.self.inside.kept c.self.inside.keys.items c.self.invariant.stored in
+    let seen = ap (λ row. length row.values) c.self.view_is in
+    omega (arith, c.self.inside.keys.ok, many, seen, c.requires.within)
