@@ -9,6 +9,8 @@ pub mod answers;
 mod fakes;
 pub mod faults;
 pub mod file;
+#[cfg(test)]
+mod file_tests;
 pub mod page;
 pub mod run;
 pub mod script;
