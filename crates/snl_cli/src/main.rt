@@ -45,13 +45,19 @@ fn words_of(rt: &HostRuntime) -> Result<Vec<String>, WordsFault> {
         ErrorKind::OutOfMemory => WordsFault::Memory,
         _ => WordsFault::Usage,
     })?;
-    let words = args.collect(rt.alloc())?;
+    let mut words = Vec::new(rt.alloc());
+    for word in args {
+        words.push(word).map_err(|_| WordsFault::Memory)?;
+    }
     Ok(words)
 }
 
 /// The path that the words name, if they name one.
 fn path_in(rt: &HostRuntime, words: &[String]) -> Result<Option<String>, WordsFault> {
-    let texts: Vec<&str> = words.iter().map(|word| word.as_str()).collect(rt.alloc())?;
+    let mut texts = Vec::new(rt.alloc());
+    for word in words {
+        texts.push(word.as_str()).map_err(|_| WordsFault::Memory)?;
+    }
     source_of(rt.alloc(), &texts)
 }
 
