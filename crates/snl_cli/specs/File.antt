@@ -1,5 +1,5 @@
 -- What is known of a source that is read from a file.
-use Rattle.std.specs.Prelude.{◌≡◌, ℕ, ◌≤◌, List, length, Bool, true, false, Option, Result, Ok, Err}
+use Rattle.std.specs.Prelude.{ℕ, ◌≤◌, List, length, Bool, true, false, Option, Result, Ok, Err}
 use Rattle.std.specs.Io.KnownBytes.{Consumes}
 use Rattle.snl_cli.specs.declared.file.SourceFault.{SourceFault}
 use Rattle.snl_cli.specs.declared.file.SourceFault.TheVariants.{Unreadable, TooLarge, Memory}
