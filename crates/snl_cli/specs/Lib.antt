@@ -1,6 +1,7 @@
 pub mod Ahead
 pub mod Answers
 pub mod Faults
+pub mod File
 pub mod Front
 pub mod Run
 pub mod Said

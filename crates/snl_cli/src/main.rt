@@ -1,5 +1,5 @@
 //! The script engine and the program: the script comes on standard input, the answers go to standard output.
-//! `watched` counts calls, `ahead` reads, `script` tells commands, `answers` and `page` write, `run` joins them.
+//! `watched` counts calls, `file` reads the source, `ahead` the script, `script` tells commands, `answers` and `page` write, `run` joins them.
 //! The program's status is 0 where the last text has no errors, 1 where it has some, and 2 at a fault, which it names on standard error.
 #![tactic(auto)]
 
@@ -8,6 +8,9 @@ pub mod answers;
 #[cfg(test)]
 mod fakes;
 pub mod faults;
+pub mod file;
+#[cfg(test)]
+mod file_tests;
 pub mod page;
 pub mod run;
 pub mod script;
@@ -15,15 +18,70 @@ pub mod script;
 mod tests;
 pub mod watched;
 
-use faults::Status;
+use faults::{RunFault, Status};
+use file::{SourceFault, read_source};
 use run::run;
+use snl_words::{WordsFault, source_of};
+use std::io::ErrorKind;
 use std::process::ExitCode;
+use std::{env, fs};
+use thiserror::Error;
 use watched::Watched;
 
-fn main(rt: HostRuntime) -> ExitCode {
+/// Why the program gives no status of a text. The message is its line on standard error.
+#[derive(Clone, Copy, Debug, PartialEq, Eq, Error)]
+enum Fault {
+    #[error(transparent)]
+    Words(#[from] WordsFault),
+    #[error(transparent)]
+    Source(#[from] SourceFault),
+    #[error(transparent)]
+    Run(#[from] RunFault),
+}
+
+/// The words of the command line. The command takes none that is no text.
+fn words_of(rt: &HostRuntime) -> Result<Vec<String>, WordsFault> {
+    let args = env::args(rt).map_err(|error| match error.kind() {
+        ErrorKind::OutOfMemory => WordsFault::Memory,
+        _ => WordsFault::Usage,
+    })?;
+    let mut words = Vec::new(rt.alloc());
+    for word in args {
+        words.push(word).map_err(|_| WordsFault::Memory)?;
+    }
+    Ok(words)
+}
+
+/// The path that the words name, if they name one.
+fn path_in(rt: &HostRuntime, words: &[String]) -> Result<Option<String>, WordsFault> {
+    let mut texts = Vec::new(rt.alloc());
+    for word in words {
+        texts.push(word.as_str()).map_err(|_| WordsFault::Memory)?;
+    }
+    source_of(rt.alloc(), &texts)
+}
+
+/// The bytes of the file at a path.
+fn read_file(rt: &HostRuntime, path: &str) -> Result<Vec<u8>, SourceFault> {
+    let file = fs::open(rt, path).map_err(|_| SourceFault::Unreadable)?;
+    read_source(rt.alloc(), &mut Watched::new(file))
+}
+
+/// Reads the words, then the file, and then runs the script.
+fn serve(rt: &HostRuntime) -> Result<Status, Fault> {
+    let words = words_of(rt)?;
+    let source = match path_in(rt, &words)? {
+        Some(path) => read_file(rt, path.as_str())?,
+        None => Vec::new(rt.alloc()),
+    };
     let mut script = Watched::new(rt.stdin());
     let mut out = Watched::new(rt.stdout());
-    match run(rt.alloc(), b"", &mut script, &mut out) {
+    let status = run(rt.alloc(), &source, &mut script, &mut out)?;
+    Ok(status)
+}
+
+fn main(rt: HostRuntime) -> ExitCode {
+    match serve(&rt) {
         Ok(Status::Clean) => ExitCode::SUCCESS,
         Ok(Status::Errors) => ExitCode::from(1),
         Err(fault) => {
