@@ -1,4 +1,5 @@
-//! What items say to each other: tokens, ends and trees come in; summaries, and what the links and the checks answer, go out.
+//! What items say to each other: summaries, or tokens, ends and trees, come in; how much the links and the checks answer goes
+//! out.
 #![tactic(auto)]
 
 ghost use Rattle.snl_lex.specs.Pieces.{LiesIn};
@@ -8,39 +9,9 @@ use crate::stop::Stop;
 use snl_check::check_item;
 use snl_cut::Count;
 use snl_lex::Piece;
-use snl_scope::{Links, Summary, link, summary_of};
+use snl_scope::{Links, Summary};
 use snl_syntax::tree::item::Item;
 use std::alloc::Global;
-
-/// The summaries of the items that end at these tokens.
-pub fn summaries_of(
-    alloc: Global,
-    text: &[u8],
-    tokens: &[Piece],
-    ends: &[usize],
-    trees: &[Option<Item>],
-) -> Result<Vec<Summary>, Stop>
-    requires { All (LiesIn text.now) tokens.now }
-{
-    let mut summaries = Vec::new(alloc);
-    let mut start = 0;
-    for (i, end) in ends.iter().enumerate() {
-        let own = tokens.get(start..*end).unwrap_or(&[]);
-        let tree = trees.get(i).and_then(|tree| tree.as_ref());
-        summaries.push(summary_of(alloc, text, own, tree)?)?;
-        start = *end;
-    }
-    Ok(summaries)
-}
-
-/// The links of the items that these summaries tell of.
-pub fn links_of(alloc: Global, summaries: &[Summary]) -> Result<Links, Stop> {
-    let mut all = Vec::new(alloc);
-    for summary in summaries {
-        all.push(summary)?;
-    }
-    Ok(link(alloc, &all)?)
-}
 
 // How much the links answer of what an item asks: its place, each name that it uses, and each target.
 fn view_of(links: &Links, item: usize, summary: &Summary) -> usize {

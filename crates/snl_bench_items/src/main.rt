@@ -1,24 +1,22 @@
 //! Times what is done with the items of a text of 1 MiB: the cut of its tokens into items, the trees, the summaries, the links,
 //! what each item asks of them, and the checks.
-//! In: nothing. Out: what there is in the text, on standard output; the best times, in microseconds, on standard error.
+//! In: the template of the text, on standard input (the file stdin). Out: what there is in the text, on standard output; the best times, in microseconds, on standard error.
 #![tactic(auto)]
 
 ghost use Rattle.snl_lex.specs.Pieces.{LiesIn};
 ghost use Rattle.std.specs.Prelude.{All};
 
 mod linked;
-mod parsed;
 mod stop;
 mod text;
 
-use linked::{checked, links_of, summaries_of, views_of};
-use parsed::{ends_of, tokens_of, trees_of};
-use snl_cut::Count;
-use snl_lex::{Piece, lex};
+use linked::{checked, views_of};
+use snl_lex::Piece;
+use snl_reading::{ends_of, links_of, marks_of, summaries_of, tokens_of, trees_of};
 use snl_scope::{Links, Summary};
 use snl_syntax::tree::item::Item;
 use std::alloc::Global;
-use std::io;
+use std::io::{self, Read};
 use std::rt::Clock;
 use std::time::Instant;
 use stop::Stop;
@@ -40,7 +38,7 @@ fn time_cut(rt: &impl Clock, alloc: Global, text: &[u8], tokens: &[Piece]) -> Re
     let mut best = u64::MAX;
     for _ in 0..TURNS {
         let begin = Instant::now(rt)?;
-        let ends = ends_of(alloc, text, tokens)?;
+        let ends = ends_of(alloc, &marks_of(alloc, text, tokens)?)?;
         best = best.min(micros(rt, begin)?);
         drop(ends);
     }
@@ -137,11 +135,10 @@ fn time_checks(
     Ok((best, found))
 }
 
-fn measure<R: Clock + Print + Eprint>(rt: &R, alloc: Global) -> Result<(), Stop> {
-    let text = text_of(alloc, SIZE)?;
-    let pieces = lex(alloc, &text, &mut Count::new())?;
-    let tokens = tokens_of(alloc, &text, &pieces)?;
-    let ends = ends_of(alloc, &text, &tokens)?;
+fn measure<R: Clock + Print + Eprint>(rt: &R, alloc: Global, template: &[u8]) -> Result<(), Stop> {
+    let text = text_of(alloc, template, SIZE)?;
+    let tokens = tokens_of(alloc, &text)?;
+    let ends = ends_of(alloc, &marks_of(alloc, &text, &tokens)?)?;
     let trees = trees_of(alloc, &text, &tokens, &ends)?;
     let faulty = trees.iter().filter(|tree| tree.is_none()).count();
     println!(rt;
@@ -170,7 +167,9 @@ fn measure<R: Clock + Print + Eprint>(rt: &R, alloc: Global) -> Result<(), Stop>
 }
 
 fn main(rt: HostRuntime) -> io::Result<()> {
-    match measure(&rt, rt.alloc()) {
+    let mut template = Vec::new(rt.alloc());
+    rt.stdin().read_to_end(&mut template)?;
+    match measure(&rt, rt.alloc(), &template) {
         Ok(()) => Ok(()),
         Err(Stop::Output(error)) => Err(error),
         Err(Stop::Memory) => { println!(rt; "out of memory") }

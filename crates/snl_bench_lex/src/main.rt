@@ -1,5 +1,5 @@
 //! Times the lexer on a text of 1 MiB: the whole text, one key typed in its middle, and a copy of the list of its pieces.
-//! In: nothing. Out: the numbers of pieces on standard output; the best times, in microseconds, on standard error.
+//! In: a program, on standard input (the file stdin), of which the text is made. Out: the numbers of pieces on standard output; the best times, in microseconds, on standard error.
 //! It knows nothing of grammar.
 #![tactic(auto)]
 
@@ -13,22 +13,21 @@ mod stop;
 use snl_cut::Count;
 use snl_lex::{Piece, lex, relex};
 use std::alloc::Global;
-use std::io;
+use std::io::{self, Read};
 use std::rt::Clock;
 use std::time::Instant;
 use stop::Stop;
 
 const SIZE: usize = 1_048_576;
 
-// A program as an engineer writes it, comments and embedded C included.
-static PROGRAM: &[u8] =
-    b"program vacuum (\"sector=3\")\n\noption +r;\n\n%{\n#include <math.h>\n#include <string.h>\n}%\n\n/* Pump-down of one sector: the roughing pump runs until the\n   pressure is low enough for the turbo pumps. */\n\ndouble pressure;        assign pressure to \"{sector}:gauge:pressure\";\nmonitor pressure;\ndouble threshold = 1.5e-3;\nshort valve;            assign valve to \"{sector}:valve:command\";\nint pump[4];            assign pump to {\"P1\", \"P2\", \"P3\", \"P4\"};\nevflag pressureChanged; sync pressure to pressureChanged;\nstring message;         assign message to \"{sector}:message\";\n\n// The state machine itself.\nss pumpDown {\n    state init {\n        entry {\n            strcpy(message, \"waiting for the operator\\n\");\n            pvPut(message);\n        }\n        when (efTestAndClear(pressureChanged) && pressure < threshold) {\n            valve = 0x1F & ~0x02;\n            pvPut(valve, SYNC);\n        } state pumping\n        when (delay(10.0)) {\n        } state init\n    }\n    state pumping {\n        int i;\n        when (pressure >= 1000 || valve == 'c') {\n            for (i = 0; i < 4; i++) {\n                pump[i] = (i + 1) << 2;\n                pvPut(pump[i]);\n            }\n        } state init\n        when () {\n            %% printf(\"pressure %g\\n\", pVar->pressure);\n        } exit\n    }\n}\n\n";
-
 // A text of so many bytes, the program again and again.
-fn text_of(alloc: Global, size: usize) -> Result<Vec<u8>, Stop> {
+fn text_of(alloc: Global, program: &[u8], size: usize) -> Result<Vec<u8>, Stop> {
     let mut text = Vec::new(alloc);
+    if program.is_empty() {
+        return Ok(text);
+    }
     for i in 0..size {
-        text.push(PROGRAM[i % PROGRAM.len()])?;
+        text.push(program[i % program.len()])?;
     }
     Ok(text)
 }
@@ -98,8 +97,8 @@ fn micros(rt: &impl Clock, begin: Instant) -> Result<u64, Stop> {
     Ok(u64::try_from(passed).unwrap_or(u64::MAX))
 }
 
-fn measure<R: Clock + Print + Eprint>(rt: &R, alloc: Global) -> Result<(), Stop> {
-    let old = text_of(alloc, SIZE)?;
+fn measure<R: Clock + Print + Eprint>(rt: &R, alloc: Global, program: &[u8]) -> Result<(), Stop> {
+    let old = text_of(alloc, program, SIZE)?;
     let at = old.len() / 2;
     let text = with_key(alloc, &old, at, b'x')?;
     let mut work = Count::new();
@@ -121,7 +120,9 @@ fn measure<R: Clock + Print + Eprint>(rt: &R, alloc: Global) -> Result<(), Stop>
 }
 
 fn main(rt: HostRuntime) -> io::Result<()> {
-    match measure(&rt, rt.alloc()) {
+    let mut program = Vec::new(rt.alloc());
+    rt.stdin().read_to_end(&mut program)?;
+    match measure(&rt, rt.alloc(), &program) {
         Ok(()) => Ok(()),
         Err(Stop::Output(error)) => Err(error),
         Err(Stop::Memory) => { println!(rt; "out of memory") }

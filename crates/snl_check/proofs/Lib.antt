@@ -17,5 +17,4 @@ pub mod Sets
 pub mod Conditions
 pub mod Mentions
 pub mod Items
-pub mod Ends
 pub mod SameClauses

@@ -8,8 +8,6 @@ mod calls;
 mod channel_names;
 mod channel_rows;
 mod check;
-#[cfg(test)]
-mod check_tests;
 mod declares;
 mod delays;
 mod event_flags;
@@ -24,22 +22,16 @@ mod meanings;
 mod not_reached;
 mod options;
 mod program;
-#[cfg(test)]
-mod reach_tests;
 mod reaching;
 mod rows;
 mod scopes;
 mod state_changes;
 mod syncs;
 mod tables_of;
-#[cfg(test)]
-mod tables_tests;
 mod undeclared;
 mod unknown_targets;
 mod view;
 mod wake;
-#[cfg(test)]
-mod wake_tests;
 
 pub use check::check_item;
 pub use findings::{Checked, ItemFault};

@@ -11,8 +11,6 @@ mod lines_along;
 mod numbers;
 mod piece;
 mod scan;
-#[cfg(test)]
-mod tests;
 mod words;
 
 pub use cut::{Bytes, Relexed, lex, relex, relex_by};

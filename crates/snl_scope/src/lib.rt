@@ -3,19 +3,13 @@
 #![tactic(auto)]
 
 mod assigned;
-#[cfg(test)]
-mod channels_tests;
 mod claims;
 mod clauses_of;
-#[cfg(test)]
-mod clauses_tests;
 mod codes;
 mod declarations;
 mod distinct;
 mod facts;
 mod flags;
-#[cfg(test)]
-mod flags_tests;
 mod links;
 mod name;
 mod names;
@@ -29,14 +23,10 @@ mod soundness;
 mod source;
 mod spaces;
 mod summarize;
-#[cfg(test)]
-mod summarize_tests;
 mod summary;
 mod summary_laws;
 mod tables;
 pub mod targets;
-#[cfg(test)]
-mod tests;
 pub mod uses;
 pub mod uses_of;
 

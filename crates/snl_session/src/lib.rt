@@ -10,14 +10,10 @@ mod edits;
 mod findings;
 mod laws;
 mod linked;
-#[cfg(test)]
-mod linked_tests;
 mod order;
 mod program;
 mod sessions;
 mod summaries;
-#[cfg(test)]
-mod tests;
 mod warnings;
 
 pub use edits::{Refused, Work};

@@ -1,7 +1,8 @@
 //! Items: which tokens make one, which number is blamed where they don't, and the faulty pieces among them.
 
-use crate::reading::{Row, fault_of, read_rows, tokens_of};
+use crate::reading::{Row, fault_of, read_rows};
 use snl_cut::Count;
+use snl_reading::tokens_of;
 use snl_syntax::{ParseFault, parse_item};
 use std::test::Fail;
 

@@ -4,15 +4,23 @@
 #![tactic(auto)]
 
 #[cfg(test)]
+mod cuts;
+#[cfg(test)]
 mod declarations;
+#[cfg(test)]
+mod edits;
 #[cfg(test)]
 mod expressions;
 #[cfg(test)]
 mod items;
 #[cfg(test)]
+mod lines;
+#[cfg(test)]
 mod marks;
 #[cfg(test)]
 mod nesting;
+#[cfg(test)]
+mod pieces;
 #[cfg(test)]
 mod reading;
 #[cfg(test)]

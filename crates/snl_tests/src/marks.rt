@@ -1,24 +1,11 @@
 //! What tokens are to the cut into items, and where the items of their lists end.
 
-ghost use Rattle.snl_lex.specs.Pieces.{LiesIn};
-ghost use Rattle.std.specs.Prelude.{All};
-
-use crate::reading::{fault_of, tokens_of};
+use crate::reading::fault_of;
 use snl_cut::{Count, Front, cut_all};
-use snl_lex::Piece;
-use snl_syntax::{Mark, ParseFault, Tokens, mark};
+use snl_reading::{marks_of, tokens_of};
+use snl_syntax::{Mark, ParseFault, Tokens};
 use std::alloc::Global;
 use std::test::Fail;
-
-fn marks_of(alloc: Global, text: &[u8], tokens: &[Piece]) -> Result<Vec<Mark>, Fail>
-    requires { All (LiesIn text.now) tokens.now }
-{
-    let mut marks = Vec::new(alloc);
-    for token in tokens {
-        marks.push(mark(text, *token))?;
-    }
-    Ok(marks)
-}
 
 // Tokens, and their marks.
 static MARKS: [(&str, &[Mark]); 12] = [

@@ -1,6 +1,7 @@
 //! Nesting: a hundred levels of each kind are read and let go on the stack that a program has, and one level more is refused.
 
-use crate::reading::{fault_of, tokens_of};
+use crate::reading::fault_of;
+use snl_reading::tokens_of;
 use snl_syntax::ParseFault;
 use std::alloc::Global;
 use std::test::Fail;

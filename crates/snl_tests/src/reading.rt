@@ -1,33 +1,16 @@
 //! What the tests of the parser share: a text comes in, its tokens, and what is answered for them as one item, go out.
 
 ghost use Rattle.snl_lex.specs.Pieces.{LiesIn};
-ghost use Rattle.std.specs.Prelude.{All, IfOk};
+ghost use Rattle.std.specs.Prelude.{All};
 
 use snl_cut::Count;
-use snl_lex::{Class, Piece, lex};
+use snl_lex::Piece;
+use snl_reading::tokens_of;
 use snl_syntax::tree::item::Item;
 use snl_syntax::{ParseFault, parse_item};
 use std::alloc::Global;
 use std::process::Abort;
 use std::test::Fail;
-
-fn is_token(piece: &Piece) -> bool {
-    !matches!(piece.kind, Class::White | Class::Comment | Class::Marker)
-}
-
-/// The tokens of a text.
-pub fn tokens_of(alloc: Global, text: &[u8]) -> Result<Vec<Piece>, Fail>
-    ensures { IfOk result (λ tokens. All (LiesIn text.now) tokens.items) }
-{
-    let pieces = lex(alloc, text, &mut Count::new())?;
-    let mut tokens = Vec::new(alloc);
-    for piece in &pieces {
-        if is_token(piece) {
-            tokens.push(*piece)?;
-        }
-    }
-    Ok(tokens)
-}
 
 /// The fault that is answered for these tokens of a text; none for no tokens.
 pub fn fault_of(alloc: Global, text: &[u8], tokens: &[Piece]) -> Option<ParseFault>

@@ -59,7 +59,7 @@ fn items_have_their_form(rt: HostRuntime) -> Result<(), Fail> {
     Ok(())
 }
 
-fn declaration_of(item: Item) -> Option<Declaration> {
+fn declaration_of(item: &Item) -> Option<&Declaration> {
     match item {
         Item::Definition(declaration) => Some(declaration),
         _ => None,
@@ -73,9 +73,9 @@ fn init_value(init: &Init) -> Option<&Expr> {
     }
 }
 
-// The value of the first variable of a declaration.
-fn value_of(declaration: &Declaration) -> Option<&Expr> {
-    let declarator = declaration.declarators.get(0)?;
+// The value of the first variable that an item declares.
+fn value_of(item: &Item) -> Option<&Expr> {
+    let declarator = declaration_of(item)?.declarators.get(0)?;
     init_value(declarator.init.as_ref()?)
 }
 
@@ -91,12 +91,6 @@ fn form_of_expression(expression: &Expr) -> (&'static str, usize) {
         Expr::Sequence(_, rest) => ("sequence", rest.len()),
         _ => ("leaf", 1),
     }
-}
-
-// The declaration that a text consists of.
-fn variable(alloc: Global, text: &str) -> Result<Declaration, Fail> {
-    let item = item_of(alloc, text.as_bytes())?;
-    Ok(declaration_of(item).ok_or("no declaration")?)
 }
 
 static EXPRESSIONS: [(&str, &str, usize); 17] = [
@@ -123,8 +117,8 @@ static EXPRESSIONS: [(&str, &str, usize); 17] = [
 fn expressions_have_their_form(rt: HostRuntime) -> Result<(), Fail> {
     for (text, form, count) in &EXPRESSIONS {
         let whole = format!(in rt.alloc(); "int x = {text};")?;
-        let declaration = variable(rt.alloc(), &whole)?;
-        let found = value_of(&declaration).map(form_of_expression);
+        let item = item_of(rt.alloc(), whole.as_bytes())?;
+        let found = value_of(&item).map(form_of_expression);
         assert_eq!(rt; found, Some((*form, *count)), "at {text}");
     }
     Ok(())
@@ -152,22 +146,26 @@ fn operator_of(chain: &Expr) -> Option<Binary> {
     }
 }
 
+// The only operator of a chain that is a variable's value.
+fn operator_in(alloc: Global, text: &str) -> Result<Option<Binary>, Fail> {
+    let item = item_of(alloc, text.as_bytes())?;
+    Ok(value_of(&item).and_then(operator_of))
+}
+
 #[test]
 fn a_looser_operator_holds_a_tighter_one(rt: HostRuntime) -> Result<(), Fail> {
     for i in 1..LEVELS.len() {
         let (loose, wanted) = LEVELS[i - 1];
         let (tight, _) = LEVELS[i];
         let before = format!(in rt.alloc(); "int x = a {loose} b {tight} c;")?;
-        let declaration = variable(rt.alloc(), &before)?;
         assert_eq!(rt;
-            value_of(&declaration).and_then(operator_of),
+            operator_in(rt.alloc(), &before)?,
             Some(wanted),
             "at {before}"
         );
         let behind = format!(in rt.alloc(); "int x = a {tight} b {loose} c;")?;
-        let declaration = variable(rt.alloc(), &behind)?;
         assert_eq!(rt;
-            value_of(&declaration).and_then(operator_of),
+            operator_in(rt.alloc(), &behind)?,
             Some(wanted),
             "at {behind}"
         );
@@ -175,7 +173,7 @@ fn a_looser_operator_holds_a_tighter_one(rt: HostRuntime) -> Result<(), Fail> {
     Ok(())
 }
 
-fn members_of(item: Item) -> Option<Items<StateMember>> {
+fn members_of(item: &Item) -> Option<&Items<StateMember>> {
     match item {
         Item::StateBlock { members, .. } => Some(members),
         _ => None,
@@ -234,8 +232,8 @@ fn statement_of(transition: &Transition) -> Option<&Stmt> {
 fn an_else_belongs_to_the_nearest_if(rt: HostRuntime) -> Result<(), Fail> {
     let text = b"state i { when (a - b - c) { if (p) if (q) x = 1; else x = 2; } exit }";
     let item = item_of(rt.alloc(), text)?;
-    let members = members_of(item).ok_or("no state")?;
-    let transition = first_transition(&members).ok_or("no transition")?;
+    let members = members_of(&item).ok_or("no state")?;
+    let transition = first_transition(members).ok_or("no transition")?;
     assert_eq!(rt; transition.target, Target::Exit);
     let condition = transition.condition.as_ref().ok_or("no condition")?;
     assert_eq!(rt; differences(condition), Some([5, 7, 9]));

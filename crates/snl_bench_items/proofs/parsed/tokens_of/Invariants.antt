@@ -1,6 +1,0 @@
-use Rattle.std.proofs.Common.{All}
-use Rattle.snl_lex.specs.Pieces.{LiesIn}
-use Rattle.snl_bench_items.proofs.parsed.tokens_of.Given as goal
-
-abbrev pub invariant-loop-piece : goal.invariant-loop-piece
-invariant-loop-piece l = All (LiesIn l.text) l.tokens.items

@@ -1,6 +1,0 @@
-use Rattle.std.proofs.Common.{◌<◌, All}
-use Rattle.snl_check.proofs.reach_tests.states_of.Given as goal
-
--- the targets so far are states
-abbrev pub invariant-loop-target : goal.invariant-loop-target
-invariant-loop-target l = All (λ t. t < l.count) l.states.items

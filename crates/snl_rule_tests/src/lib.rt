@@ -1,0 +1,27 @@
+//! Tests of the rules on names and on what is inside items, from the bytes of a text on. There is no code of the product here.
+//!
+//! Tables hold texts and the answers that the language's rules give, as words.
+#![tactic(auto)]
+
+#[cfg(test)]
+mod clauses;
+#[cfg(test)]
+mod conditions;
+#[cfg(test)]
+mod findings;
+#[cfg(test)]
+mod names;
+#[cfg(test)]
+mod order;
+#[cfg(test)]
+mod questions;
+#[cfg(test)]
+mod reading;
+#[cfg(test)]
+mod summaries;
+#[cfg(test)]
+mod tables;
+#[cfg(test)]
+mod walks;
+#[cfg(test)]
+mod words;

@@ -1,0 +1,64 @@
+//! What the tests share to read a text: its summaries and links, and the item that a rule is asked about.
+
+ghost use Rattle.std.specs.Prelude.{All, IfOk};
+ghost use Rattle.snl_lex.specs.Pieces.{LiesIn};
+
+use snl_lex::Piece;
+use snl_reading::{ends_of, links_of, marks_of, summaries_of, tokens_of, trees_of};
+use snl_scope::{Links, Summary};
+use snl_syntax::tree::item::Item;
+use std::alloc::Global;
+use std::test::Fail;
+
+/// The summaries of the items of a text.
+pub fn summaries(alloc: Global, text: &[u8]) -> Result<Vec<Summary>, Fail> {
+    let tokens = tokens_of(alloc, text)?;
+    let marks = marks_of(alloc, text, &tokens)?;
+    let ends = ends_of(alloc, &marks)?;
+    let trees = trees_of(alloc, text, &tokens, &ends)?;
+    Ok(summaries_of(alloc, text, &tokens, &ends, &trees)?)
+}
+
+/// The links of the items of a text.
+pub fn links(alloc: Global, text: &[u8]) -> Result<Links, Fail> {
+    Ok(links_of(alloc, &summaries(alloc, text)?)?)
+}
+
+/// The summary of a text that is taken as one item, also where it isn't one.
+pub fn summary(alloc: Global, text: &[u8]) -> Result<Summary, Fail> {
+    let tokens = tokens_of(alloc, text)?;
+    let ends = [tokens.len()];
+    let trees = trees_of(alloc, text, &tokens, &ends)?;
+    let mut summaries = summaries_of(alloc, text, &tokens, &ends, &trees)?;
+    Ok(summaries.pop().ok_or("no summary")?)
+}
+
+/// The last item of a text, whose tokens are those of the text from `start` on, and what names mean in it.
+#[derive(Drop)]
+pub struct LastItem {
+    pub tokens: Vec<Piece>,
+    pub start: usize,
+    pub tree: Item,
+    pub links: Links,
+    pub number: usize,
+}
+
+/// The last item of a text; an error if it is faulty.
+pub fn last_item(alloc: Global, text: &[u8]) -> Result<LastItem, Fail>
+    ensures { IfOk result (λ last. All (LiesIn text.now) last.tokens.items) }
+{
+    let tokens = tokens_of(alloc, text)?;
+    let marks = marks_of(alloc, text, &tokens)?;
+    let ends = ends_of(alloc, &marks)?;
+    let mut trees = trees_of(alloc, text, &tokens, &ends)?;
+    let summaries = summaries_of(alloc, text, &tokens, &ends, &trees)?;
+    let number = ends.len().saturating_sub(1);
+    let start = ends[..number].last().copied().unwrap_or(0);
+    Ok(LastItem {
+        tokens,
+        start,
+        tree: trees.pop().unwrap_or(None).ok_or("no tree")?,
+        links: links_of(alloc, &summaries)?,
+        number,
+    })
+}

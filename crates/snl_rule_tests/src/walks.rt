@@ -1,0 +1,90 @@
+//! State sets with the states that are reached in them, told from the language's rules.
+
+ghost use Rattle.std.specs.Prelude.{◌<◌, All, IfOk, length};
+ghost use Rattle.snl_check.specs.Reach.{AreStates, target_lists};
+
+use crate::reading::summaries;
+use snl_check::{reach, unreached};
+use snl_reading::links_of;
+use std::alloc::Global;
+use std::test::Fail;
+
+// Those of these targets that are states, among so many.
+fn states_of(alloc: Global, targets: &[usize], count: usize) -> Result<Vec<usize>, Fail>
+    ensures { IfOk result (λ states. All (λ t. t < count) states.items) }
+{
+    let mut states = Vec::new(alloc);
+    for target in targets {
+        if *target < count {
+            states.push(*target)?;
+        }
+    }
+    Ok(states)
+}
+
+fn set_of(alloc: Global, rows: &[&[usize]]) -> Result<Vec<Vec<usize>>, Fail>
+    ensures { IfOk result (λ set. AreStates (target_lists set.items)) }
+{
+    let mut set = Vec::new(alloc);
+    for row in rows {
+        set.push(states_of(alloc, row, rows.len())?)?;
+    }
+    Ok(set)
+}
+
+// The targets of each state of a set, and whether it is reached.
+static SETS: [(&[&[usize]], &[bool]); 6] = [
+    (&[], &[]),
+    (&[&[]], &[true]),
+    (&[&[], &[0, 1]], &[true, false]),
+    (&[&[0, 1], &[]], &[true, true]),
+    (
+        &[&[3, 3], &[2], &[4, 1], &[5, 0], &[0], &[5]],
+        &[true, false, false, true, false, true],
+    ),
+    (
+        &[&[4, 2], &[], &[3], &[1, 2], &[4, 0]],
+        &[true, true, true, true, true],
+    ),
+];
+
+#[test]
+fn states_that_are_reached(rt: HostRuntime) -> Result<(), Fail> {
+    for (set, wanted) in &SETS {
+        let reached = reach(rt.alloc(), &set_of(rt.alloc(), set)?)?;
+        assert_eq!(rt; reached.as_slice(), *wanted, "{set:?}");
+    }
+    Ok(())
+}
+
+// A text, and its items that are states which no walk reaches.
+static TEXTS: [(&[u8], &[usize]); 4] = [
+    (b"", &[]),
+    (
+        b"program p ss a { state i { } state j { when () { } state k } state k { } state l { when () { } state l } }",
+        &[3, 4, 5],
+    ),
+    (
+        b"ss a { state i { when () { } state j } state j { } state j { } state k { } }",
+        &[4],
+    ),
+    (
+        b"ss a { state i { } state j { } int ; } ss b { state i { } state j { } }",
+        &[7],
+    ),
+];
+
+fn missed_in(alloc: Global, text: &[u8]) -> Result<Vec<usize>, Fail> {
+    let summaries = summaries(alloc, text)?;
+    let links = links_of(alloc, &summaries)?;
+    Ok(unreached(alloc, &summaries, &links)?)
+}
+
+#[test]
+fn states_that_are_not_reached(rt: HostRuntime) -> Result<(), Fail> {
+    for (text, wanted) in &TEXTS {
+        let missed = missed_in(rt.alloc(), text)?;
+        assert_eq!(rt; missed.as_slice(), *wanted, "{text:?}");
+    }
+    Ok(())
+}

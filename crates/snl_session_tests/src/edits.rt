@@ -1,0 +1,127 @@
+//! Sessions with edits in turn: what each answers, what the text is then, and what is found in it.
+
+use snl_session::{Refused, Session, Work};
+use std::test::Fail;
+
+// An edit, and the lines and codes of what is found after it.
+struct Step {
+    start: usize,
+    stop: usize,
+    new: &'static [u8],
+    found: &'static [(usize, &'static str)],
+}
+
+static STEPS: [Step; 9] = [
+    Step {
+        start: 0,
+        stop: 0,
+        new: b"program p\nint x;\nassign x to \"dev:x\";\nmonitor x;\nevflag f;\nsync x to f;\nss a {\nstate s1 {\nwhen (efTest(f) && x > 3) {\npvPut(x);\n} state s2\n}\nstate s2 {\nwhen () { } state s1\n}\n}\n",
+        found: &[],
+    },
+    // another state set begins before the second state
+    Step {
+        start: 141,
+        stop: 141,
+        new: b"} ss b {\n",
+        found: &[(11, "E10"), (15, "E10")],
+    },
+    Step {
+        start: 141,
+        stop: 150,
+        new: b"",
+        found: &[],
+    },
+    // a comment that isn't closed takes the second state
+    Step {
+        start: 141,
+        stop: 141,
+        new: b"/*",
+        found: &[(7, "E04"), (11, "E10"), (13, "E01")],
+    },
+    // the comment goes, and the second state has another name
+    Step {
+        start: 141,
+        stop: 151,
+        new: b"state s2x",
+        found: &[(11, "E10"), (13, "W02")],
+    },
+    // a comment of lines before it
+    Step {
+        start: 90,
+        stop: 90,
+        new: b"/*\n\n\n*/",
+        found: &[(14, "E10"), (16, "W02")],
+    },
+    // an option that turns warnings off
+    Step {
+        start: 10,
+        stop: 10,
+        new: b"option -w;\n",
+        found: &[(15, "E10")],
+    },
+    Step {
+        start: 10,
+        stop: 21,
+        new: b"",
+        found: &[(14, "E10"), (16, "W02")],
+    },
+    // nothing is left
+    Step {
+        start: 0,
+        stop: 185,
+        new: b"",
+        found: &[(1, "E05"), (1, "E06")],
+    },
+];
+
+#[test]
+fn judges_the_text_anew_after_each_edit(rt: HostRuntime) -> Result<(), Fail> {
+    let mut session = Session::new(rt.alloc())?;
+    for step in &STEPS {
+        session.edit(step.start, step.stop, step.new)?;
+        let mut found = Vec::new(rt.alloc());
+        for diagnostic in session.diagnostics() {
+            found.push((diagnostic.line, diagnostic.code.name()))?;
+        }
+        assert_eq!(rt; found.as_slice(), step.found, "at {}", step.start);
+    }
+    Ok(())
+}
+
+const NO_WORK: Work = Work {
+    lexed: 0,
+    parsed: 0,
+    checked: 0,
+};
+
+// An edit that puts so many blanks in the place of a range, what it answers, and how long the text is then.
+static ANSWERS: [(usize, usize, usize, Result<Work, Refused>, usize); 10] = [
+    (5, 4, 0, Err(Refused::Range), 0),
+    (0, 1, 0, Err(Refused::Range), 0),
+    // the range is tested before the size
+    (0, 1, 1_048_577, Err(Refused::Range), 0),
+    (0, 0, 1_048_577, Err(Refused::Size), 0),
+    (0, 0, 50, Ok(NO_WORK), 50),
+    (50, 51, 0, Err(Refused::Range), 50),
+    (50, 50, 1_048_575, Err(Refused::Size), 50),
+    (50, 50, 1_048_526, Ok(NO_WORK), 1_048_576),
+    (1_048_576, 1_048_576, 1, Err(Refused::Size), 1_048_576),
+    (50, 1_048_576, 0, Ok(NO_WORK), 50),
+];
+
+#[test]
+fn refuses_in_order_and_changes_nothing(rt: HostRuntime) -> Result<(), Fail> {
+    let blanks = vec![in rt.alloc(); b' '; 1_048_577]?;
+    let mut session = Session::new(rt.alloc())?;
+    for (start, stop, added, wanted, size) in &ANSWERS {
+        let new = blanks.get(..*added).unwrap_or(&[]);
+        assert_eq!(rt;
+            session.edit(*start, *stop, new),
+            *wanted,
+            "{start} to {stop}"
+        );
+        assert_eq!(rt; session.text().len(), *size);
+        assert!(rt; session.text().iter().all(|byte| *byte == b' '));
+    }
+    Ok(())
+}
