@@ -18,6 +18,9 @@ pub mod script;
 mod tests;
 pub mod watched;
 
+ghost use Rattle.std.specs.Prelude.{◌≡◌, false, map, option_map, IfOk, IsErrOf, string_bytes};
+ghost use Rattle.snl_words.specs.Source.{source_in, takes_words};
+
 use faults::{RunFault, Status};
 use file::{SourceFault, read_source};
 use run::run;
@@ -53,7 +56,10 @@ fn words_of(rt: &HostRuntime) -> Result<Vec<String>, WordsFault> {
 }
 
 /// The path that the words name, if they name one.
-fn path_in(rt: &HostRuntime, words: &[String]) -> Result<Option<String>, WordsFault> {
+fn path_in(rt: &HostRuntime, words: &[String]) -> Result<Option<String>, WordsFault>
+    ensures ok { IfOk result (λ path. option_map (λ s. string_bytes s) path ≡ source_in (map (λ w. string_bytes w) words.now)) }
+    ensures usage { IsErrOf result WordsFault.Usage → takes_words (map (λ w. string_bytes w) words.now) ≡ false }
+{
     let mut texts = Vec::new(rt.alloc());
     for word in words {
         texts.push(word.as_str()).map_err(|_| WordsFault::Memory)?;
