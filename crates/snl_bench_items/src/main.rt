@@ -135,11 +135,17 @@ fn time_checks(
     Ok((best, found))
 }
 
-fn measure<R: Clock + Print + Eprint>(rt: &R, alloc: Global, template: &[u8]) -> Result<(), Stop> {
-    let text = text_of(alloc, template, SIZE)?;
-    let tokens = tokens_of(alloc, &text)?;
-    let ends = ends_of(alloc, &marks_of(alloc, &text, &tokens)?)?;
-    let trees = trees_of(alloc, &text, &tokens, &ends)?;
+// Times what is done with the trees, and says how many items there are.
+fn measure_trees<R: Clock + Print + Eprint>(
+    rt: &R,
+    alloc: Global,
+    text: &[u8],
+    tokens: &[Piece],
+    ends: &[usize],
+    trees: &[Option<Item>],
+) -> Result<(), Stop>
+    requires { All (LiesIn text.now) tokens.now }
+{
     let faulty = trees.iter().filter(|tree| tree.is_none()).count();
     println!(rt;
         "bytes {} tokens {} items {} faulty {faulty}",
@@ -147,15 +153,29 @@ fn measure<R: Clock + Print + Eprint>(rt: &R, alloc: Global, template: &[u8]) ->
         tokens.len(),
         ends.len()
     )?;
-    let cut = time_cut(rt, alloc, &text, &tokens)?;
-    let (made, dropped) = time_trees(rt, alloc, &text, &tokens, &ends)?;
+    let cut = time_cut(rt, alloc, text, tokens)?;
+    let (made, dropped) = time_trees(rt, alloc, text, tokens, ends)?;
     eprintln!(rt; "cut {cut} us, all trees {made} us, drop of the trees {dropped} us")?;
-    let summarized = time_summaries(rt, alloc, &text, &tokens, &ends, &trees)?;
-    let summaries = summaries_of(alloc, &text, &tokens, &ends, &trees)?;
-    let linked = time_links(rt, alloc, &summaries)?;
-    let links = links_of(alloc, &summaries)?;
-    let (viewed, answers) = time_views(rt, &links, &summaries)?;
-    let (checked, found) = time_checks(rt, alloc, &text, &tokens, &ends, &trees, &links)?;
+    Ok(())
+}
+
+// Times what is done with the links, and says how much they answer.
+fn measure_links<R: Clock + Print + Eprint>(
+    rt: &R,
+    alloc: Global,
+    text: &[u8],
+    tokens: &[Piece],
+    ends: &[usize],
+    trees: &[Option<Item>],
+    summaries: &[Summary],
+    links: &Links,
+) -> Result<(), Stop>
+    requires { All (LiesIn text.now) tokens.now }
+{
+    let summarized = time_summaries(rt, alloc, text, tokens, ends, trees)?;
+    let linked = time_links(rt, alloc, summaries)?;
+    let (viewed, answers) = time_views(rt, links, summaries)?;
+    let (checked, found) = time_checks(rt, alloc, text, tokens, ends, trees, links)?;
     println!(rt;
         "by links {} by checks {found} answers {answers}",
         links.faults().len()
@@ -164,6 +184,41 @@ fn measure<R: Clock + Print + Eprint>(rt: &R, alloc: Global, template: &[u8]) ->
         "summaries {summarized} us, link {linked} us, views {viewed} us, checks {checked} us"
     )?;
     Ok(())
+}
+
+fn measure_summaries<R: Clock + Print + Eprint>(
+    rt: &R,
+    alloc: Global,
+    text: &[u8],
+    tokens: &[Piece],
+    ends: &[usize],
+    trees: &[Option<Item>],
+) -> Result<(), Stop>
+    requires { All (LiesIn text.now) tokens.now }
+{
+    let summaries = summaries_of(alloc, text, tokens, ends, trees)?;
+    let links = links_of(alloc, &summaries)?;
+    measure_links(rt, alloc, text, tokens, ends, trees, &summaries, &links)
+}
+
+fn measure_items<R: Clock + Print + Eprint>(
+    rt: &R,
+    alloc: Global,
+    text: &[u8],
+    tokens: &[Piece],
+) -> Result<(), Stop>
+    requires { All (LiesIn text.now) tokens.now }
+{
+    let ends = ends_of(alloc, &marks_of(alloc, text, tokens)?)?;
+    let trees = trees_of(alloc, text, tokens, &ends)?;
+    measure_trees(rt, alloc, text, tokens, &ends, &trees)?;
+    measure_summaries(rt, alloc, text, tokens, &ends, &trees)
+}
+
+fn measure<R: Clock + Print + Eprint>(rt: &R, alloc: Global, template: &[u8]) -> Result<(), Stop> {
+    let text = text_of(alloc, template, SIZE)?;
+    let tokens = tokens_of(alloc, &text)?;
+    measure_items(rt, alloc, &text, &tokens)
 }
 
 fn main(rt: HostRuntime) -> io::Result<()> {

@@ -1,6 +1,7 @@
 //! Sessions with edits in turn: what each answers, what the text is then, and what is found in it.
 
 use snl_session::{Refused, Session, Work};
+use std::alloc::Global;
 use std::test::Fail;
 
 // An edit, and the lines and codes of what is found after it.
@@ -74,15 +75,21 @@ static STEPS: [Step; 9] = [
     },
 ];
 
+// The lines and codes of what is found.
+fn found_in(alloc: Global, session: &Session) -> Result<Vec<(usize, &'static str)>, Fail> {
+    let mut found = Vec::new(alloc);
+    for diagnostic in session.diagnostics() {
+        found.push((diagnostic.line, diagnostic.code.name()))?;
+    }
+    Ok(found)
+}
+
 #[test]
 fn judges_the_text_anew_after_each_edit(rt: HostRuntime) -> Result<(), Fail> {
     let mut session = Session::new(rt.alloc())?;
     for step in &STEPS {
         session.edit(step.start, step.stop, step.new)?;
-        let mut found = Vec::new(rt.alloc());
-        for diagnostic in session.diagnostics() {
-            found.push((diagnostic.line, diagnostic.code.name()))?;
-        }
+        let found = found_in(rt.alloc(), &session)?;
         assert_eq!(rt; found.as_slice(), step.found, "at {}", step.start);
     }
     Ok(())
@@ -120,8 +127,7 @@ fn refuses_in_order_and_changes_nothing(rt: HostRuntime) -> Result<(), Fail> {
             *wanted,
             "{start} to {stop}"
         );
-        assert_eq!(rt; session.text().len(), *size);
-        assert!(rt; session.text().iter().all(|byte| *byte == b' '));
+        assert!(rt; blanks.get(..*size) == Some(session.text()));
     }
     Ok(())
 }
