@@ -19,3 +19,4 @@ pub mod Mentions
 pub mod Items
 pub mod Ends
 pub mod SameClauses
+pub mod Standing

@@ -19,3 +19,6 @@ pub mod Wake
 pub mod Rows
 pub mod Tables
 pub mod ClauseTrees
+pub mod Settings
+pub mod SettingTrees
+pub mod States

@@ -1,5 +1,5 @@
 -- The items of a text, the places of names in it, and what a clause says of channels.
-use Rattle.std.specs.Prelude.{◌≡◌, ℕ, zero, suc, ◌-◌, ◌<◌, ◌≤◌, List, [], ◌∷◌, ◌++◌, map, length, take, drop, get_or, slice_get, Option, None, Some, option_and_then, option_copied, option_map}
+use Rattle.std.specs.Prelude.{◌≡◌, ℕ, zero, suc, ◌-◌, ◌<◌, ◌≤◌, List, [], ◌∷◌, ◌++◌, map, length, take, drop, get_or, slice_get, Option, None, Some, option_and_then, option_copied, option_map, option_to_list}
 use Rattle.std.specs.List.{flat_map, zip}
 use Rattle.std.specs.Option.{option_map_or, option_or}
 use Rattle.snl_cut.specs.Cut.{members}
@@ -69,6 +69,15 @@ span_of (Some p) = record { start = p.start; len = p.len }
 -- Where a token of an item stands, by the number of the item and its own number in it.
 abbrev pub span_at : List ProgramItem → ℕ → ℕ → Span
 span_at xs item number = span_of (slice_get (tokens_in xs item) number)
+
+-- A state set and a state are named by the second token of their item.
+abbrev pub item_name : List ProgramItem → ℕ → Span
+item_name xs item = span_at xs item 1
+
+-- What the numbers below n give, in order.
+abbrev pub gathered : {X : Type 0} → (ℕ → Option X) → ℕ → List X
+gathered f zero = []
+gathered f (suc n) = gathered f n ++ option_to_list (f n)
 
 -- The token that names a program.
 abbrev pub named_by : Option Item → Option ℕ

@@ -24,14 +24,11 @@ use Rattle.snl_check.specs.declared.rows.Queue.{Queue}
 use Rattle.snl_check.specs.declared.rows.Queue.TheVariants as queue
 use Rattle.snl_check.specs.declared.rows.ScopeName.{ScopeName}
 use Rattle.snl_check.specs.declared.rows.ScopeName.TheVariants as named
-use Rattle.snl_check.specs.declared.rows.Span.{Span}
 use Rattle.snl_check.specs.declared.rows.Synced.{Synced}
 use Rattle.snl_check.specs.declared.rows.Tables.{Tables}
-use Rattle.snl_check.specs.Rows.{ItemClause, ProgramItem, item_clauses, joined, program_name, span_at, tokens_in}
-
--- A state set and a state are named by the second token of their item.
-abbrev pub item_name : List ProgramItem → ℕ → Span
-item_name xs item = span_at xs item 1
+use Rattle.snl_check.specs.Rows.{ItemClause, ProgramItem, item_clauses, item_name, joined, program_name, span_at, tokens_in}
+use Rattle.snl_check.specs.Settings.{program_options}
+use Rattle.snl_check.specs.States.{set_rows}
 
 -- A scope by its names.
 abbrev pub scope_name : List ProgramItem → List Summary → Scope → ScopeName
@@ -123,4 +120,10 @@ channel_rows text xs ss = channel_rows_before text xs ss (length (item_clauses x
 
 -- The tables of a text.
 abbrev pub tables_of : List ℕ → List ProgramItem → List Summary → Tables
-tables_of text xs ss = record { program = program_name xs; flags = flag_rows xs ss; channels = channel_rows text xs ss }
+tables_of text xs ss = record {
+  program = program_name xs;
+  options = program_options text xs ss;
+  flags = flag_rows xs ss;
+  channels = channel_rows text xs ss;
+  sets = set_rows text xs ss;
+}

@@ -17,11 +17,13 @@ mod findings;
 mod flag_rows;
 mod item_clauses;
 mod judged;
+mod jumps;
 mod laws;
 mod listing;
 mod loops;
 mod meanings;
 mod not_reached;
+mod option_rows;
 mod options;
 mod program;
 #[cfg(test)]
@@ -29,7 +31,9 @@ mod reach_tests;
 mod reaching;
 mod rows;
 mod scopes;
+mod set_rows;
 mod state_changes;
+mod state_rows;
 mod syncs;
 mod tables_of;
 #[cfg(test)]
@@ -47,6 +51,9 @@ pub use laws::{equal_views, same_clauses, walks_of_few_steps};
 pub use not_reached::unreached;
 pub use options::warning_setting;
 pub use reaching::reach;
-pub use rows::{ChannelRow, FlagRow, Queue, ScopeName, Span, Synced, Tables};
+pub use rows::{
+    ChannelRow, Destination, FlagRow, NamedState, OptionRow, Queue, ScopeName, SetRow, Span,
+    StateRow, Synced, Tables,
+};
 pub use tables_of::tables;
 pub use wake::{WakeUse, wake_uses};

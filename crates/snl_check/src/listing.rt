@@ -18,8 +18,8 @@ pub(crate) struct Listing<'a> {
 
 impl<'a> Listing<'a> {
     ghost use Rattle.snl_check.specs.ClauseTrees.{IsListing, placed};
-    ghost use Rattle.snl_check.specs.Rows.{items_in};
-    ghost use Rattle.snl_check.specs.Tables.{clause_at, item_name, scope_name, scope_of_variable};
+    ghost use Rattle.snl_check.specs.Rows.{item_name, items_in};
+    ghost use Rattle.snl_check.specs.Tables.{clause_at, scope_name, scope_of_variable};
 
     /// The clause with a number among all, and what links tell of it.
     pub(crate) fn clause(&self, number: usize) -> Option<(Placed<'a>, ClauseLink)>
@@ -31,8 +31,8 @@ impl<'a> Listing<'a> {
         Some((*clause, *link))
     }
 
-    // Where the name of a state set or of a state stands.
-    fn item_name(&self, item: usize) -> Span
+    /// Where the name of a state set or of a state stands.
+    pub(crate) fn item_name(&self, item: usize) -> Span
         requires { IsListing self.now }
         ensures { result ≡ item_name (items_in self.now.program) item }
     {

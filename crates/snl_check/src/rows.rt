@@ -20,6 +20,13 @@ pub enum ScopeName {
     State { set: Option<Span>, state: Span },
 }
 
+/// A letter of options, by its byte, and what its last setting says.
+#[derive(Clone, Copy, Debug, PartialEq, Eq)]
+pub struct OptionRow {
+    pub letter: u8,
+    pub is_set: bool,
+}
+
 /// An event flag. Flags are numbered from 1.
 #[derive(Clone, Copy, Debug, PartialEq, Eq)]
 pub struct FlagRow {
@@ -57,11 +64,46 @@ pub struct ChannelRow {
     pub sync: Option<Synced>,
 }
 
+/// A state that is named where another one is left, with whether the state set has one of the name.
+#[derive(Clone, Copy, Debug, PartialEq, Eq)]
+pub struct NamedState {
+    pub name: Span,
+    pub is_known: bool,
+}
+
+/// Where a transition leads.
+#[derive(Clone, Copy, Debug, PartialEq, Eq)]
+pub enum Destination {
+    State(NamedState),
+    Exit,
+}
+
+/// A state of a state set. Of a faulty one no more is known than its name.
+#[derive(Drop)]
+pub struct StateRow {
+    pub name: Span,
+    /// The options of the state, by rising letters.
+    pub options: Items<OptionRow>,
+    pub transitions: Items<Destination>,
+    /// The states that statements in its transitions name.
+    pub gotos: Items<NamedState>,
+}
+
+/// A state set, and its states in the order of the text.
+#[derive(Drop)]
+pub struct SetRow {
+    pub name: Span,
+    pub states: Items<StateRow>,
+}
+
 /// The tables of a text.
 #[derive(Drop)]
 pub struct Tables {
     /// The name of the program.
     pub program: Option<Span>,
+    /// The options of the program, by rising letters.
+    pub options: Items<OptionRow>,
     pub flags: Items<FlagRow>,
     pub channels: Items<ChannelRow>,
+    pub sets: Items<SetRow>,
 }

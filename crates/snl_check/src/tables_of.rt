@@ -8,8 +8,10 @@ use crate::channel_rows::channel_rows;
 use crate::flag_rows::flag_rows;
 use crate::item_clauses::item_clauses;
 use crate::listing::Listing;
+use crate::option_rows::program_options;
 use crate::program::Program;
 use crate::rows::Tables;
+use crate::set_rows::set_rows;
 use snl_cut::OutOfMemory;
 use snl_lex::Piece;
 use snl_scope::Links;
@@ -46,7 +48,9 @@ pub fn tables(
     };
     Ok(Tables {
         program: program.name(),
+        options: Items::from_vec(program_options(&listing)?),
         flags: Items::from_vec(flag_rows(&listing)?),
         channels: Items::from_vec(channel_rows(&listing)?),
+        sets: Items::from_vec(set_rows(&listing)?),
     })
 }

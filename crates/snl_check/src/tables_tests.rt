@@ -5,7 +5,10 @@ ghost use Rattle.snl_scope.specs.Summaries.Tokens.{IsSource};
 ghost use Rattle.snl_check.specs.Rows.{EndsWithin};
 
 use crate::check_tests::tokens_of;
-use crate::{ChannelRow, FlagRow, Queue, ScopeName, Span, Synced, Tables, tables};
+use crate::{
+    ChannelRow, Destination, FlagRow, NamedState, OptionRow, Queue, ScopeName, SetRow, Span,
+    StateRow, Synced, Tables, tables,
+};
 use snl_cut::{Count, cut_all};
 use snl_lex::Piece;
 use snl_scope::{Summary, link, summary_of};
@@ -107,6 +110,14 @@ fn add_scope(text: &[u8], scope: ScopeName, words: &mut Vec<u8>) -> Result<(), F
     Ok(())
 }
 
+fn add_option(option: OptionRow, words: &mut Vec<u8>) -> Result<(), Fail> {
+    words.extend_from_slice(b"option ")?;
+    words.push(if option.is_set { b'+' } else { b'-' })?;
+    words.push(option.letter)?;
+    words.push(b'\n')?;
+    Ok(())
+}
+
 fn add_flag(text: &[u8], flag: FlagRow, words: &mut Vec<u8>) -> Result<(), Fail> {
     words.extend_from_slice(b"flag ")?;
     add_span(text, flag.name, words)?;
@@ -157,6 +168,57 @@ fn add_channel(text: &[u8], channel: &ChannelRow, words: &mut Vec<u8>) -> Result
     Ok(())
 }
 
+fn add_named(text: &[u8], named: NamedState, words: &mut Vec<u8>) -> Result<(), Fail> {
+    words.push(b' ')?;
+    add_span(text, named.name, words)?;
+    if !named.is_known {
+        words.extend_from_slice(b" ?")?;
+    }
+    words.push(b'\n')?;
+    Ok(())
+}
+
+fn add_transitions(
+    text: &[u8],
+    transitions: &[Destination],
+    words: &mut Vec<u8>,
+) -> Result<(), Fail> {
+    for (number, transition) in transitions.iter().enumerate() {
+        words.extend_from_slice(b"when ")?;
+        add_number(words, number)?;
+        match transition {
+            Destination::State(named) => add_named(text, *named, words)?,
+            Destination::Exit => words.extend_from_slice(b" exit\n")?,
+        }
+    }
+    Ok(())
+}
+
+fn add_state(text: &[u8], state: &StateRow, words: &mut Vec<u8>) -> Result<(), Fail> {
+    words.extend_from_slice(b"state ")?;
+    add_span(text, state.name, words)?;
+    words.push(b'\n')?;
+    for option in state.options.as_slice() {
+        add_option(*option, words)?;
+    }
+    add_transitions(text, state.transitions.as_slice(), words)?;
+    for goto in state.gotos.as_slice() {
+        words.extend_from_slice(b"goto")?;
+        add_named(text, *goto, words)?;
+    }
+    Ok(())
+}
+
+fn add_set(text: &[u8], set: &SetRow, words: &mut Vec<u8>) -> Result<(), Fail> {
+    words.extend_from_slice(b"ss ")?;
+    add_span(text, set.name, words)?;
+    words.push(b'\n')?;
+    for state in set.states.as_slice() {
+        add_state(text, state, words)?;
+    }
+    Ok(())
+}
+
 // The lines of the tables of a text. Of a number the last digit is written.
 fn lines(alloc: Global, text: &[u8]) -> Result<Vec<u8>, Fail> {
     let tables = tables_of(alloc, text)?;
@@ -166,28 +228,34 @@ fn lines(alloc: Global, text: &[u8]) -> Result<Vec<u8>, Fail> {
         None => words.push(b'-')?,
     }
     words.push(b'\n')?;
+    for option in tables.options.as_slice() {
+        add_option(*option, &mut words)?;
+    }
     for flag in tables.flags.as_slice() {
         add_flag(text, *flag, &mut words)?;
     }
     for channel in tables.channels.as_slice() {
         add_channel(text, channel, &mut words)?;
     }
+    for set in tables.sets.as_slice() {
+        add_set(text, set, &mut words)?;
+    }
     Ok(words)
 }
 
 // A text, and the lines of its tables.
-static TEXTS: [(&[u8], &[u8]); 10] = [
+static TEXTS: [(&[u8], &[u8]); 14] = [
     (
         b"program p\nint x;\nassign x to \"dev:x\";\nmonitor x;\nevflag f;\nsync x to f;\nss a {\nstate s1 {\nwhen (efTest(f) && x > 3) {\npvPut(x);\n} state s2\n}\nstate s2 {\nwhen () { } state s1\n}\n}\n",
-        b"program p\nflag f program\nchannel x program \"dev:x\" monitor sync 1\n",
+        b"program p\nflag f program\nchannel x program \"dev:x\" monitor sync 1\nss a\nstate s1\nwhen 0 s2\nstate s2\nwhen 0 s1\n",
     ),
     (
         b"program q\nint a[2];\nassign a to {\"p\",\"q\",\"r\"};\nss s { state i { when () { } exit } }",
-        b"program q\n",
+        b"program q\nss s\nstate i\nwhen 0 exit\n",
     ),
     (
         b"program q\nint a[N];\nassign a to {\"p\",\"q\",\"r\"};\nss s { state i { when () { } exit } }",
-        b"program q\nchannel a[0] program \"p\"\nchannel a[1] program \"q\"\nchannel a[2] program \"r\"\n",
+        b"program q\nchannel a[0] program \"p\"\nchannel a[1] program \"q\"\nchannel a[2] program \"r\"\nss s\nstate i\nwhen 0 exit\n",
     ),
     (
         b"program q int x; int y; evflag f; assign x to \"a\"; assign y; syncq x 5; syncq y to f;",
@@ -197,7 +265,7 @@ static TEXTS: [(&[u8], &[u8]); 10] = [
     (b"program ;\nprogram r program t", b"program r\n"),
     (
         b"evflag g; int g; int f; evflag f; ss s { evflag f; state i { evflag h; when () { } exit } } state k { evflag h; }",
-        b"program -\nflag g program\nflag f s\nflag h s.i\nflag h -.k\n",
+        b"program -\nflag g program\nflag f s\nflag h s.i\nflag h -.k\nss s\nstate i\nwhen 0 exit\n",
     ),
     (
         b"int a[4]; assign a[3] to \"x\" /* */ \"y\\\"\"\n\"z\"; assign a[1] \"w\"; monitor a[03]; evflag e, f; sync a[1] to f; syncq a 2;",
@@ -209,7 +277,23 @@ static TEXTS: [(&[u8], &[u8]); 10] = [
     ),
     (
         b"int x; ss s { int x; assign x to \"p\"; state i { int x; assign x to \"q\"; when () { } exit } } assign x to \"r\"; assign x to \"again\";",
-        b"program -\nchannel x s \"p\"\nchannel x s.i \"q\"\nchannel x program \"r\"\n",
+        b"program -\nchannel x s \"p\"\nchannel x s.i \"q\"\nchannel x program \"r\"\nss s\nstate i\nwhen 0 exit\n",
+    ),
+    (
+        b"program o option +scaW; option -sqt; option + ; ss s { option +d; } option -W; option +s;",
+        b"program o\noption -W\noption +a\noption +c\noption +s\nss s\n",
+    ),
+    (
+        b"option -wrmlie; option +dc; option -a; option +se;",
+        b"program -\noption -a\noption +c\noption +d\noption +e\noption -i\noption -l\noption -m\noption -r\noption +s\noption -w\n",
+    ),
+    (
+        b"program r\nss s {\nstate i { when (a()) { state z; } state i }\nstate z { when () { } exit }\n}\n",
+        b"program r\nss s\nstate i\nwhen 0 i\ngoto z\nstate z\nwhen 0 exit\n",
+    ),
+    (
+        b"state k { when () { } exit } ss a { int x; state i { option +xt; when () { if (1) state j; else { state q; } } state r option -t; entry { state i; } when () { } state i } state j } ss b { state i ( } state { } } state l { } ss c {",
+        b"program -\nss a\nstate i\noption -t\noption +x\nwhen 0 r ?\nwhen 1 i\ngoto j\ngoto q ?\nstate j\nss b\nstate i\nss c\n",
     ),
 ];
 

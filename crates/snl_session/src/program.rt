@@ -6,6 +6,7 @@ ghost use Rattle.std.specs.Prelude.{◌≡◌, ◌<◌, ◌≤◌, ◌++◌, All
 ghost use Rattle.std.specs.List.{filter_map};
 ghost use Rattle.snl_cut.specs.Cut.{members};
 ghost use Rattle.snl_lex.specs.Pieces.{LiesIn, is_token, tokens_of};
+ghost use Rattle.snl_check.specs.Rows.{IsCutUp, program_items};
 ghost use Rattle.snl_session.specs.Faults.{at_token, fault_in, faults_of};
 ghost use Rattle.snl_session.specs.Parts.{EndsWithin, IsPart, part_of, tokens_between};
 ghost use Rattle.snl_session.specs.Program.{items_of, mark_in, program_item, tree_in};
@@ -26,10 +27,11 @@ pub struct Part {
     pub tree: Option<Item>,
 }
 
-/// The items of a text, and what is found at the faulty ones.
+/// The items of a text, the number of the token behind each, and what is found at the faulty ones.
 #[derive(Drop)]
 pub struct Program {
     pub parts: Vec<Part>,
+    pub ends: Vec<usize>,
     pub faults: Vec<Finding>,
 }
 
@@ -128,24 +130,29 @@ fn parts_along(
     alloc: Global,
     text: &[u8],
     tokens: &[Piece],
-    ends: &[usize],
+    ends: Vec<usize>,
 ) -> Result<Program, OutOfMemory>
-    requires ends { EndsWithin 0 ends.now (length tokens.now) }
+    requires ends { EndsWithin 0 ends.items (length tokens.now) }
     requires within { All (LiesIn text.now) tokens.now }
-    ensures parts { IfOk result (λ p. map (part_of tokens.now) p.parts.items ≡ map (program_item text.now) (members tokens.now 0 ends.now)) }
+    ensures parts { IfOk result (λ p. map (part_of tokens.now) p.parts.items ≡ map (program_item text.now) (members tokens.now 0 ends.items)) }
+    ensures ends { IfOk result (λ p. p.ends.items ≡ ends.items) }
     ensures inside { IfOk result (λ p. All (IsPart tokens.now) p.parts.items) }
-    ensures faults { IfOk result (λ p. p.faults.items ≡ filter_map (fault_in text.now) (members tokens.now 0 ends.now)) }
+    ensures faults { IfOk result (λ p. p.faults.items ≡ filter_map (fault_in text.now) (members tokens.now 0 ends.items)) }
 {
     let mut parts = Vec::new(alloc);
     let mut faults = Vec::new(alloc);
     let mut work = Count::new();
     let mut start = 0;
-    for stop in ends {
+    for stop in &ends {
         let part = next_part(alloc, text, tokens, start, *stop, &mut faults, &mut work)?;
         parts.push(part)?;
         start = *stop;
     }
-    Ok(Program { parts, faults })
+    Ok(Program {
+        parts,
+        ends,
+        faults,
+    })
 }
 
 /// The items that the tokens of a text are cut into, and what is found at the faulty ones.
@@ -153,10 +160,12 @@ pub fn program_of(alloc: Global, text: &[u8], tokens: &[Piece]) -> Result<Progra
     requires tokens { tokens.now ≡ tokens_of text.now }
     requires within { All (LiesIn text.now) tokens.now }
     ensures parts { IfOk result (λ p. map (part_of tokens.now) p.parts.items ≡ items_of text.now) }
+    ensures cut { IfOk result (λ p. IsCutUp text.now tokens.now p.ends.items (length p.parts.items)) }
+    ensures trees { IfOk result (λ p. program_items tokens.now p.ends.items (map (λ part. part.tree) p.parts.items) ≡ items_of text.now) }
     ensures inside { IfOk result (λ p. All (IsPart tokens.now) p.parts.items) }
     ensures faults { IfOk result (λ p. p.faults.items ≡ faults_of text.now) }
 {
     let marks = marks_of(alloc, text, tokens)?;
     let ends = cut_all(alloc, &Tokens, &marks, &mut Count::new())?;
-    parts_along(alloc, text, tokens, &ends)
+    parts_along(alloc, text, tokens, ends)
 }
