@@ -9,10 +9,10 @@ use Rattle.snl_syntax.specs.declared.tree.state.StateMember.{StateMember}
 use Rattle.snl_syntax.specs.declared.tree.state.StateMember.TheVariants as members
 use Rattle.snl_scope.specs.declared.summary.Summary.{Summary}
 use Rattle.snl_scope.specs.Summaries.Tokens.{bytes_at}
-use Rattle.snl_check.specs.declared.rows.OptionRow.{OptionRow}
+use Rattle.snl_tables.specs.declared.rows.OptionRow.{OptionRow}
 use Rattle.snl_check.specs.Options.{has_letter, is_on}
 use Rattle.snl_check.specs.Outlook.{is_in_set}
-use Rattle.snl_check.specs.Rows.{ProgramItem, gathered, tokens_in, tree_in}
+use Rattle.snl_check.specs.Items.{ProgramItem, gathered, tokens_in, tree_in}
 
 -- The letters of a program's options and those of a state's, by rising bytes.
 abbrev pub letters_of_program : List ℕ

@@ -1,7 +1,8 @@
 -- The rows of state sets and of their states.
-use Rattle.std.specs.Prelude.{ℕ, Bool, ◌&&◌, is_some, if◌then◌else◌, List, [], ◌∷◌, map, length, Option, None, Some}
-use Rattle.std.specs.List.{flat_map}
-use Rattle.snl_lex.specs.declared.piece.Piece.{Piece}
+use Rattle.std.specs.Prelude.{ℕ, Bool, not, if◌then◌else◌, List, [], ◌∷◌, map, length, Option, Some}
+use Rattle.std.specs.List.{enumerate_from, flat_map}
+use Rattle.snl_lex.specs.declared.lines.Line.{Line}
+use Rattle.snl_lex.specs.Lines.{line_at}
 use Rattle.snl_syntax.specs.declared.tree.item.Item.{Item}
 use Rattle.snl_syntax.specs.declared.tree.item.Item.TheVariants as items
 use Rattle.snl_syntax.specs.declared.tree.state.StateMember.{StateMember}
@@ -9,23 +10,24 @@ use Rattle.snl_syntax.specs.declared.tree.state.StateMember.TheVariants as membe
 use Rattle.snl_syntax.specs.declared.tree.state.Target.{Target}
 use Rattle.snl_syntax.specs.declared.tree.state.Target.TheVariants as target
 use Rattle.snl_scope.specs.declared.summary.Summary.{Summary}
+use Rattle.snl_scope.specs.Below.{all_below}
 use Rattle.snl_scope.specs.Linked.{has_target}
-use Rattle.snl_scope.specs.Order.{is_state_word}
-use Rattle.snl_scope.specs.Places.{stands_in}
-use Rattle.snl_scope.specs.Summaries.{opening_in, second_in}
+use Rattle.snl_scope.specs.Places.{is_set_begin}
 use Rattle.snl_scope.specs.Summaries.Targets.{named_by_block}
 use Rattle.snl_scope.specs.Summaries.Tokens.{bytes_at}
-use Rattle.snl_check.specs.declared.rows.Destination.{Destination}
-use Rattle.snl_check.specs.declared.rows.Destination.TheVariants as destinations
-use Rattle.snl_check.specs.declared.rows.NamedState.{NamedState}
-use Rattle.snl_check.specs.declared.rows.SetRow.{SetRow}
-use Rattle.snl_check.specs.declared.rows.StateRow.{StateRow}
-use Rattle.snl_check.specs.Rows.{ProgramItem, gathered, item_name, span_at, tokens_in, tree_in}
+use Rattle.snl_tables.specs.declared.rows.Destination.{Destination}
+use Rattle.snl_tables.specs.declared.rows.Destination.TheVariants as destinations
+use Rattle.snl_tables.specs.declared.rows.NamedState.{NamedState}
+use Rattle.snl_tables.specs.declared.rows.SetRow.{SetRow}
+use Rattle.snl_tables.specs.declared.rows.StateMark.{StateMark}
+use Rattle.snl_tables.specs.declared.rows.StateMark.TheVariants as mark
+use Rattle.snl_tables.specs.declared.rows.StateRow.{StateRow}
+use Rattle.snl_check.specs.Channels.{assigned_channels}
+use Rattle.snl_check.specs.Conditions.{uses_in, wake_ups}
+use Rattle.snl_check.specs.Items.{ProgramItem, item_name, item_start, span_at, tokens_in, tree_in}
+use Rattle.snl_check.specs.Members.{has_faulty, is_faulty_item, is_first_state, states_in, targets_among}
+use Rattle.snl_check.specs.Reach.{is_reached}
 use Rattle.snl_check.specs.Settings.{state_options}
-
--- An item is a state if it begins with `state NAME`, faulty or not.
-abbrev pub is_state : List ℕ → List Piece → Bool
-is_state text tokens = is_state_word (opening_in text tokens) && is_some (second_in text tokens)
 
 -- The members of a state. A faulty one has none.
 abbrev pub members_in : Option Item → List StateMember
@@ -53,35 +55,50 @@ abbrev pub jumps_in_member : StateMember → List ℕ
 jumps_in_member (members.When t) = named_by_block t.block
 jumps_in_member _ = []
 
+-- The line of an item is that of its first token.
+abbrev pub line_of_item : List ℕ → List ProgramItem → ℕ → Line
+line_of_item text xs item = line_at text (item_start xs item)
+
+-- A state whose name an earlier state of its set has.
+abbrev pub is_repeated : List Summary → ℕ → Bool
+is_repeated ss j = not (is_first_state ss j)
+
+-- A walk along targets leads to the state with a number from the first of the set that item k begins.
+abbrev pub is_reached_in : List Summary → ℕ → ℕ → Bool
+is_reached_in ss k number = is_reached (targets_among ss (states_in ss k)) number
+
+-- What is known of state j, which has this number in the set that item k begins: the first that holds.
+abbrev pub mark_of : List Summary → ℕ → ℕ → ℕ → StateMark
+mark_of ss k number j =
+    if is_faulty_item ss j then mark.Faulty
+    else if is_repeated ss j then mark.Repeated
+    else if has_faulty ss k then mark.Unknown
+    else if is_reached_in ss k number then mark.Reached
+    else mark.Unreached
+
 -- The row of a state.
-abbrev pub state_row : List ℕ → List ProgramItem → List Summary → ℕ → List StateMember → StateRow
-state_row text xs ss item ms = record {
+abbrev pub state_row : List ℕ → List ProgramItem → List Summary → StateMark → ℕ → StateRow
+state_row text xs ss m item = record {
   name = item_name xs item;
-  options = state_options (bytes_at text (tokens_in xs item)) ms;
-  transitions = flat_map (destinations_in_member text xs ss item) ms;
-  gotos = map (named_state text xs ss item) (flat_map jumps_in_member ms);
+  line = line_of_item text xs item;
+  mark = m;
+  options = state_options (bytes_at text (tokens_in xs item)) (members_in (tree_in xs item));
+  transitions = flat_map (destinations_in_member text xs ss item) (members_in (tree_in xs item));
+  gotos = map (named_state text xs ss item) (flat_map jumps_in_member (members_in (tree_in xs item)));
+  wake = wake_ups text xs ss (assigned_channels text xs ss) item (uses_in text xs item);
 }
 
--- The row of an item that is a state of the set that item k begins.
-abbrev pub state_row_at : List ℕ → List ProgramItem → List Summary → ℕ → Option StateRow
-state_row_at text xs ss item =
-    if is_state text (tokens_in xs item) then Some (state_row text xs ss item (members_in (tree_in xs item))) else None
-
-abbrev pub state_row_in : List ℕ → List ProgramItem → List Summary → ℕ → ℕ → Option StateRow
-state_row_in text xs ss k item = if stands_in ss k item then state_row_at text xs ss item else None
+abbrev pub numbered_row : List ℕ → List ProgramItem → List Summary → ℕ → ℕ × ℕ → StateRow
+numbered_row text xs ss k (number, item) = state_row text xs ss (mark_of ss k number item) item
 
 -- The states of the set that item k begins, in the order of the text.
 abbrev pub state_rows : List ℕ → List ProgramItem → List Summary → ℕ → List StateRow
-state_rows text xs ss k = gathered (state_row_in text xs ss k) (length xs)
+state_rows text xs ss k = map (numbered_row text xs ss k) (enumerate_from 0 (states_in ss k))
 
 -- The row of an item that begins a state set.
-abbrev pub set_row_if : List ℕ → List ProgramItem → List Summary → ℕ → Option Item → Option SetRow
-set_row_if text xs ss item (Some (items.SsBegin name)) = Some (record { name = item_name xs item; states = state_rows text xs ss item })
-set_row_if text xs ss item _ = None
-
-abbrev pub set_row_at : List ℕ → List ProgramItem → List Summary → ℕ → Option SetRow
-set_row_at text xs ss item = set_row_if text xs ss item (tree_in xs item)
+abbrev pub set_row : List ℕ → List ProgramItem → List Summary → ℕ → SetRow
+set_row text xs ss k = record { name = item_name xs k; line = line_of_item text xs k; states = state_rows text xs ss k }
 
 -- The state sets in the order of the text.
 abbrev pub set_rows : List ℕ → List ProgramItem → List Summary → List SetRow
-set_rows text xs ss = gathered (set_row_at text xs ss) (length xs)
+set_rows text xs ss = map (set_row text xs ss) (all_below (is_set_begin ss) (length ss))

@@ -3,20 +3,19 @@
 ghost use Rattle.std.specs.Prelude.{◌≡◌, ◌++◌, IfOk, OnOk, map, option_map};
 ghost use Rattle.std.specs.List.{flat_map};
 ghost use Rattle.snl_scope.specs.Summaries.Tokens.{IsSource, bytes_at};
-ghost use Rattle.snl_check.specs.ClauseTrees.{IsListing};
-ghost use Rattle.snl_check.specs.Options.{is_on};
-ghost use Rattle.snl_check.specs.Rows.{items_in};
+ghost use Rattle.snl_check.specs.Collected.{IsListing, items_in};
 ghost use Rattle.snl_check.specs.SettingTrees.{told};
 ghost use Rattle.snl_check.specs.Settings.{last_setting, option_rows, program_options, program_settings, setting_at, setting_of, settings_in_member, state_options};
 
 use crate::listing::Listing;
-use crate::rows::OptionRow;
+use crate::options::is_on;
 use crate::view::View;
 use snl_cut::OutOfMemory;
 use snl_scope::Source;
-use snl_syntax::tree::clause::{OptionLine, OptionSign};
+use snl_syntax::tree::clause::OptionLine;
 use snl_syntax::tree::item::Item;
 use snl_syntax::tree::state::StateMember;
+use snl_tables::OptionRow;
 use std::alloc::Global;
 
 /// The letters of a program's options, by rising bytes.
@@ -30,12 +29,6 @@ const STATE_LETTERS: &[u8] = b"etx";
 struct LetterSetting<'a> {
     letters: &'a [u8],
     is_set: bool,
-}
-
-fn is_on(sign: OptionSign) -> bool
-    ensures { result ≡ is_on sign }
-{
-    matches!(sign, OptionSign::Plus)
 }
 
 fn setting_of<'a>(source: &Source<'a>, line: OptionLine) -> LetterSetting<'a>

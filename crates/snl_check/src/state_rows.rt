@@ -1,59 +1,28 @@
 //! The rows of states: a state set comes in, a row for each of its states goes out.
 
-ghost use Rattle.std.specs.Prelude.{◌≡◌, ◌<◌, IfOk, length, map, option_copied};
+ghost use Rattle.std.specs.Prelude.{◌≡◌, ◌<◌, ℕ, IfOk, false, if◌then◌else◌, length, map, option_copied, slice_index_or};
 ghost use Rattle.std.specs.List.{flat_map};
-ghost use Rattle.snl_scope.specs.Order.{is_state_word};
-ghost use Rattle.snl_scope.specs.Places as places;
-ghost use Rattle.snl_scope.specs.Summaries.{opening_by_word};
-ghost use Rattle.snl_scope.specs.Summaries.Tokens.{IsSource, bytes_at};
-ghost use Rattle.snl_check.specs.ClauseTrees.{IsListing};
-ghost use Rattle.snl_check.specs.Rows.{items_in, tokens_in};
+ghost use Rattle.snl_tables.specs.declared.rows.StateMark.TheVariants as StateMark;
+ghost use Rattle.snl_scope.specs.Summaries.Tokens.{bytes_at};
+ghost use Rattle.snl_check.specs.Collected.{IsLinked, IsListing, IsOutline, items_in};
+ghost use Rattle.snl_check.specs.Items.{tokens_in};
+ghost use Rattle.snl_check.specs.Members.{is_faulty_item, states_in};
 ghost use Rattle.snl_check.specs.Settings.{state_options};
 ghost use Rattle.snl_check.specs.States as states;
 
 use crate::jumps::jumps_in;
 use crate::listing::Listing;
+use crate::members::{Members, is_faulty, is_first_state, members_of, targets_among};
 use crate::option_rows::state_options;
-use crate::rows::{Destination, NamedState, OptionRow, StateRow};
+use crate::outline::Outline;
+use crate::reaching::reach;
+use crate::room::with_room;
+use crate::wake_ups::wake_ups;
 use snl_cut::OutOfMemory;
-use snl_lex::{Class, Piece, token_text};
-use snl_scope::{Links, Source};
 use snl_syntax::tree::item::Item;
 use snl_syntax::tree::state::{StateMember, Target};
+use snl_tables::{Destination, NamedState, OptionRow, StateMark, StateRow};
 use sqlite_items::Items;
-
-fn is_state_word(word: &[u8]) -> bool
-    ensures { result ≡ is_state_word (opening_by_word word.now) }
-{
-    word == b"state".as_slice()
-}
-
-// Whether an item begins with `state NAME`.
-fn is_state(source: &Source) -> bool
-    requires { IsSource source.now.text.now source.now.tokens.now }
-    ensures { result ≡ states.is_state source.now.text.now source.now.tokens.now }
-{
-    let first: Option<&Piece> = source.tokens.get(0);
-    let second: Option<&Piece> = source.tokens.get(1);
-    match (first, second) {
-        (Some(first), Some(second)) => {
-            first.kind == Class::Word
-                && is_state_word(token_text(source.text, *first))
-                && second.kind == Class::Name
-        }
-        _ => false,
-    }
-}
-
-// Whether an item stands in the state set that another begins.
-fn stands_in(links: &Links, set: usize, item: usize) -> bool
-    ensures { result ≡ places.stands_in links.now set item }
-{
-    match links.place(item) {
-        Some(place) => set == place,
-        None => false,
-    }
-}
 
 // A state that an item names at a token.
 fn named_state(listing: &Listing, item: usize, token: usize) -> NamedState
@@ -135,49 +104,84 @@ fn options(
     state_options(&source, members)
 }
 
-fn state_row(
-    listing: &Listing,
-    item: usize,
-    members: &[StateMember],
-) -> Result<StateRow, OutOfMemory>
-    requires { IsListing listing.now }
-    ensures { IfOk result (λ row. row ≡ states.state_row listing.now.program.text.now (items_in listing.now.program) listing.now.links.now item members.now) }
+// What is known of a state, which has this number among the states of its set: the first that holds. `reached` is asked only
+// where no item of the set is faulty.
+fn mark_of(
+    outline: &Outline,
+    members: &Members,
+    reached: &[bool],
+    number: usize,
+    state: usize,
+) -> StateMark
+    requires linked { IsLinked outline.now.listing }
+    requires state { state < length outline.now.listing.program.trees.now }
+    ensures { result ≡ (if is_faulty_item outline.now.listing.links.now state then StateMark.Faulty
+        else if states.is_repeated outline.now.listing.links.now state then StateMark.Repeated
+        else if members.now.has_faulty then StateMark.Unknown
+        else if slice_index_or reached.now number false then StateMark.Reached
+        else StateMark.Unreached) }
 {
-    Ok(StateRow {
-        name: listing.item_name(item),
-        options: Items::from_vec(options(listing, item, members)?),
-        transitions: Items::from_vec(destinations(listing, item, members)?),
-        gotos: Items::from_vec(gotos(listing, item, members)?),
-    })
-}
-
-// The row of an item that is a state.
-fn state_row_at(listing: &Listing, item: usize) -> Result<Option<StateRow>, OutOfMemory>
-    requires { IsListing listing.now }
-    ensures { IfOk result (λ row. row ≡ states.state_row_at listing.now.program.text.now (items_in listing.now.program) listing.now.links.now item) }
-{
-    if is_state(&listing.program.source(item)) {
-        let members = members_in(listing.program.tree(item));
-        Ok(Some(state_row(listing, item, members)?))
-    } else {
-        Ok(None)
+    if is_faulty(&outline.listing, state) {
+        return StateMark::Faulty;
+    }
+    if !is_first_state(&outline.listing, state) {
+        return StateMark::Repeated;
+    }
+    if members.has_faulty {
+        return StateMark::Unknown;
+    }
+    match reached.get(number) {
+        Some(true) => StateMark::Reached,
+        _ => StateMark::Unreached,
     }
 }
 
-/// The states of the set that an item begins: the items of a set stand one behind another.
-pub(crate) fn state_rows(listing: &Listing, set: usize) -> Result<Vec<StateRow>, OutOfMemory>
-    requires listing { IsListing listing.now }
-    requires set { set < length listing.now.program.trees.now }
-    ensures { IfOk result (λ rows. rows.items ≡ states.state_rows listing.now.program.text.now (items_in listing.now.program) listing.now.links.now set) }
+// Of each state of a set whether it is reached. Where an item of the set is faulty, nothing is said.
+fn reached_among(outline: &Outline, members: &Members, set: usize) -> Result<Vec<bool>, OutOfMemory>
+    requires linked { IsLinked outline.now.listing }
+    requires states { members.now.states.items ≡ states_in outline.now.listing.links.now set }
+    ensures { IfOk result (λ reached. members.now.has_faulty ≡ false
+        → (number : ℕ) → number < length (states_in outline.now.listing.links.now set) → slice_index_or reached.items number false ≡ states.is_reached_in outline.now.listing.links.now set number) }
 {
-    let mut rows = Vec::new(listing.program.alloc);
-    for item in set + 1..listing.program.trees.len() {
-        if !stands_in(listing.links, set, item) {
-            return Ok(rows);
-        }
-        if let Some(row) = state_row_at(listing, item)? {
-            rows.push(row)?;
-        }
+    if members.has_faulty {
+        return Ok(Vec::new(outline.listing.program.alloc));
+    }
+    let targets = targets_among(&outline.listing, &members.states)?;
+    Ok(reach(outline.listing.program.alloc, &targets)?)
+}
+
+fn state_row(outline: &Outline, mark: StateMark, item: usize) -> Result<StateRow, OutOfMemory>
+    requires outline { IsOutline outline.now }
+    requires item { item < length outline.now.listing.program.trees.now }
+    ensures { IfOk result (λ row. row
+        ≡ states.state_row outline.now.listing.program.text.now (items_in outline.now.listing.program) outline.now.listing.links.now mark item) }
+{
+    let listing = &outline.listing;
+    let members = members_in(listing.program.tree(item));
+    Ok(StateRow {
+        name: listing.item_name(item),
+        line: outline.line(item),
+        mark,
+        options: Items::from_vec(options(listing, item, members)?),
+        transitions: Items::from_vec(destinations(listing, item, members)?),
+        gotos: Items::from_vec(gotos(listing, item, members)?),
+        wake: Items::from_vec(wake_ups(outline, item)?),
+    })
+}
+
+/// The states of the set that an item begins, in the order of the text.
+pub(crate) fn state_rows(outline: &Outline, set: usize) -> Result<Vec<StateRow>, OutOfMemory>
+    requires outline { IsOutline outline.now }
+    requires set { set < length outline.now.listing.program.trees.now }
+    ensures { IfOk result (λ rows. rows.items
+        ≡ states.state_rows outline.now.listing.program.text.now (items_in outline.now.listing.program) outline.now.listing.links.now set) }
+{
+    let members = members_of(&outline.listing, set)?;
+    let reached = reached_among(outline, &members, set)?;
+    let mut rows = with_room(outline.listing.program.alloc, members.states.len())?;
+    for (number, state) in members.states.iter().enumerate() {
+        let mark = mark_of(outline, &members, &reached, number, *state);
+        rows.push(state_row(outline, mark, *state)?)?;
     }
     Ok(rows)
 }

@@ -2,7 +2,7 @@
 
 ghost use Rattle.std.specs.Prelude.{◌≡◌, IfOk, length};
 ghost use Rattle.snl_scope.specs.Summaries.Tokens.{IsSource};
-ghost use Rattle.snl_check.specs.Rows.{EndsWithin};
+ghost use Rattle.snl_check.specs.Items.{EndsWithin};
 
 use crate::check_tests::tokens_of;
 use crate::{

@@ -4,7 +4,7 @@ use Rattle.std.specs.List.{zip}
 use Rattle.std.proofs.lemmas.List.{length-map}
 use Rattle.snl_cut.specs.Cut.{members}
 use Rattle.snl_lex.specs.declared.piece.Piece.{Piece}
-use Rattle.snl_check.specs.Rows.{ProgramItem, program_items}
+use Rattle.snl_check.specs.Items.{ProgramItem, program_items}
 use Rattle.snl_session.specs.declared.program.Part.{Part}
 use Rattle.snl_session.specs.Parts.{part_of}
 use Rattle.snl_session.specs.Program.{program_item, tree_in}

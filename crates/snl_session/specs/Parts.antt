@@ -1,7 +1,7 @@
 -- The items of a text as the code keeps them: the number of an item's first token, that of the token behind it, and its tree.
 use Rattle.std.specs.Prelude.{ℕ, ◌-◌, ◌≤◌, List, length, take, drop}
 use Rattle.snl_lex.specs.declared.piece.Piece.{Piece}
-pub use Rattle.snl_check.specs.Rows.{EndsWithin}
+pub use Rattle.snl_check.specs.Items.{EndsWithin}
 use Rattle.snl_session.specs.declared.program.Part.{Part}
 use Rattle.snl_session.specs.Program.{ProgramItem}
 

@@ -10,7 +10,7 @@ use Rattle.snl_syntax.specs.Items.{item}
 use Rattle.snl_syntax.specs.Marks.{mark_of}
 use Rattle.snl_syntax.specs.Parsing.{is_bad, kinds_in}
 use Rattle.snl_syntax.specs.Reading.Items.{item_of}
-pub use Rattle.snl_check.specs.Rows.{ProgramItem}
+pub use Rattle.snl_check.specs.Items.{ProgramItem}
 
 -- What a token is to the cut into items.
 abbrev pub mark_in : List ℕ → Piece → Mark

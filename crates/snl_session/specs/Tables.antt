@@ -1,6 +1,6 @@
 -- The tables of a text, which the text alone defines.
 use Rattle.std.specs.Prelude.{ℕ, List}
-use Rattle.snl_check.specs.declared.rows.Tables.{Tables}
+use Rattle.snl_tables.specs.declared.rows.Tables.{Tables}
 use Rattle.snl_check.specs.Tables.{tables_of}
 use Rattle.snl_session.specs.Linked.{summaries_of}
 use Rattle.snl_session.specs.Program.{items_of}

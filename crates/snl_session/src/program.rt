@@ -6,7 +6,7 @@ ghost use Rattle.std.specs.Prelude.{◌≡◌, ◌<◌, ◌≤◌, ◌++◌, All
 ghost use Rattle.std.specs.List.{filter_map};
 ghost use Rattle.snl_cut.specs.Cut.{members};
 ghost use Rattle.snl_lex.specs.Pieces.{LiesIn, is_token, tokens_of};
-ghost use Rattle.snl_check.specs.Rows.{IsCutUp, program_items};
+ghost use Rattle.snl_check.specs.Items.{IsCutUp, program_items};
 ghost use Rattle.snl_session.specs.Faults.{at_token, fault_in, faults_of};
 ghost use Rattle.snl_session.specs.Parts.{EndsWithin, IsPart, part_of, tokens_between};
 ghost use Rattle.snl_session.specs.Program.{items_of, mark_in, program_item, tree_in};

@@ -3,7 +3,7 @@
 #![tactic(auto)]
 
 ghost use Rattle.std.specs.Prelude.{◌≡◌, IfOk, length, map, option_copied};
-ghost use Rattle.snl_check.specs.Rows.{IsCutUp, program_items};
+ghost use Rattle.snl_check.specs.Items.{IsCutUp, program_items};
 ghost use Rattle.snl_check.specs.Tables.{tables_of};
 
 use crate::program::Part;

@@ -1,5 +1,6 @@
 use Rattle.std.proofs.Common.{◌≡◌, map}
-use Rattle.snl_check.specs.Rows.{gathered, items_in}
+use Rattle.snl_check.specs.Collected.{items_in}
+use Rattle.snl_check.specs.Items.{gathered}
 use Rattle.snl_check.specs.SettingTrees.{told}
 use Rattle.snl_check.specs.Settings.{setting_at}
 use Rattle.snl_check.proofs.option_rows.program_settings.Given as goal

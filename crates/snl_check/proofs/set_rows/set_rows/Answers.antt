@@ -1,12 +1,15 @@
-use Rattle.std.proofs.Common.{◌≡◌, length, ap, ◌∙◌, arith}
-use Rattle.snl_check.specs.Rows.{gathered, items_in}
-use Rattle.snl_check.specs.States.{set_row_at}
-use Rattle.snl_check.proofs.Items.{count_in}
+use Rattle.std.proofs.Common.{◌≡◌, length, map, ap, ◌∙◌, arith}
+use Rattle.snl_scope.specs.Below.{all_below}
+use Rattle.snl_scope.specs.Places.{is_set_begin}
+use Rattle.snl_check.specs.Collected.{items_in}
+use Rattle.snl_check.specs.States.{set_row}
+use Rattle.snl_check.proofs.Linked.{counted}
 use Rattle.snl_check.proofs.set_rows.set_rows.Goals as goal
 
 pub returns : goal.returns
 returns c =
-    let p = c.args.listing.now.program in
-    let xs = items_in p in
-    let all : c.loop-item.item ≡ length xs = omega (arith, count_in p c.requires.program, c.loop-item.auto.item-end, c.loop-item-test.false) in
-    c.loop-item.invariant ∙ ap (gathered (set_row_at p.text.now xs c.args.listing.now.links.now)) all
+    let listing = c.args.outline.now.listing in
+    let ss = listing.links.now in
+    let count : length listing.program.trees.now ≡ length ss = counted listing.program ss c.requires.linked.listing.program c.requires.linked.summaries in
+    let at_end : c.loop-item.item ≡ length ss = omega (arith, c.loop-item-test.false, c.loop-item.auto.item-end, count) in
+    c.loop-item.invariant ∙ ap (λ n. map (set_row listing.program.text.now (items_in listing.program) ss) (all_below (is_set_begin ss) n)) at_end

@@ -1,6 +1,6 @@
 use Rattle.std.proofs.Common.{◌≡◌, ◌++◌, drop}
 use Rattle.std.specs.List.{flat_map}
-use Rattle.snl_check.specs.Rows.{items_in}
+use Rattle.snl_check.specs.Collected.{items_in}
 use Rattle.snl_check.specs.States.{destinations_in_member}
 use Rattle.snl_check.proofs.state_rows.destinations.Given as goal
 

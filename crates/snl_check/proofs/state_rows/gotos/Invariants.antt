@@ -1,5 +1,5 @@
 use Rattle.std.proofs.Common.{◌≡◌, ◌++◌, drop, map}
-use Rattle.snl_check.specs.Rows.{items_in}
+use Rattle.snl_check.specs.Collected.{items_in}
 use Rattle.snl_check.specs.States.{named_state}
 use Rattle.snl_check.proofs.state_rows.gotos.Given as goal
 

@@ -1,7 +1,7 @@
 use Rattle.std.proofs.Common.{◌≡◌, length, ap, subst, ◌∙◌}
 use Rattle.snl_syntax.specs.Items.{item}
 use Rattle.snl_syntax.specs.ItemLaws.{item_front}
-use Rattle.snl_check.specs.Rows.{EndsWithin}
+use Rattle.snl_check.specs.Items.{EndsWithin}
 use Rattle.snl_check.proofs.Ends.{ends_within}
 use Rattle.snl_check.proofs.tables_tests.ends_of.Goals as goal
 

@@ -1,5 +1,5 @@
 use Rattle.std.proofs.Common.{drop, length}
-use Rattle.snl_check.specs.Rows.{EndsWithin}
+use Rattle.snl_check.specs.Items.{EndsWithin}
 use Rattle.snl_check.proofs.tables_tests.items_of.Given as goal
 
 -- the rest of the ends stand among the tokens

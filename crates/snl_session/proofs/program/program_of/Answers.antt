@@ -7,7 +7,7 @@ use Rattle.snl_lex.specs.Pieces.{tokens_of}
 use Rattle.snl_syntax.specs.declared.marks.Mark.{Mark}
 use Rattle.snl_syntax.specs.Items.{item}
 use Rattle.snl_syntax.specs.ItemLaws.{item_front}
-use Rattle.snl_check.specs.Rows.{IsCutUp, program_items}
+use Rattle.snl_check.specs.Items.{IsCutUp, program_items}
 use Rattle.snl_session.specs.Faults.{fault_in}
 use Rattle.snl_session.specs.Parts.{EndsWithin, part_of}
 use Rattle.snl_session.specs.Program.{item_tokens, items_of, mark_in, program_item}
