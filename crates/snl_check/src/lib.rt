@@ -40,8 +40,6 @@ mod state_changes;
 mod state_rows;
 mod syncs;
 mod tables_of;
-#[cfg(test)]
-mod tables_tests;
 mod tokens;
 mod undeclared;
 mod unknown_targets;

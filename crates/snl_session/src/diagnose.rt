@@ -1,5 +1,5 @@
-//! The diagnostics of a program: its items come in, what is shown of what is found goes out, and with its lines.
-//! It knows nothing of tables.
+//! The diagnostics of a program: its items come in, what their links find goes out; what is found comes in, what is shown of it goes
+//! out, and with its lines. It knows nothing of tables.
 #![tactic(auto)]
 
 ghost use Rattle.std.specs.Prelude.{◌≡◌, ◌++◌, All, IfOk, OnOk, filter, map};
@@ -7,24 +7,21 @@ ghost use Rattle.std.specs.List.Sorted.{IsNonDecreasing};
 ghost use Rattle.snl_lex.specs.Lines.{line_at};
 ghost use Rattle.snl_lex.specs.Pieces.{LiesIn, pieces_of};
 ghost use Rattle.snl_session.specs.Diagnostics.{diagnostic, is_error, on_line, shown_of};
-ghost use Rattle.snl_session.specs.Checked.{checked_faults};
-ghost use Rattle.snl_session.specs.Linked.{linked_faults, summaries_of, walked_faults};
+ghost use Rattle.snl_session.specs.Linked.{linked_faults, summaries_of};
 ghost use Rattle.snl_session.specs.Parts.{IsPart, part_of};
 
-use crate::checks::add_checked_faults;
 use crate::findings::{Diagnostic, Finding};
-use crate::linked::{add_placed, add_unreached};
+use crate::linked::add_placed;
 use crate::program::Part;
 use crate::summaries::{link_all, summaries_of};
 use crate::warnings::shows_warnings;
-use snl_check::unreached;
 use snl_cut::OutOfMemory;
 use snl_lex::{Line, Piece, lines_of};
 use snl_scope::Links;
 use std::alloc::Global;
 
-// Takes the warnings out, where they are turned off.
-fn withhold(
+/// Takes the warnings out, where they are turned off.
+pub fn withhold(
     alloc: Global,
     text: &[u8],
     tokens: &[Piece],
@@ -42,7 +39,7 @@ fn withhold(
     }
 }
 
-/// Adds what is found by the links of items, by the walks of state sets, and in each item. Leaves what is shown, and gives the links.
+/// Adds what is found by the links of items, and gives the links.
 pub fn add_linked_faults(
     alloc: Global,
     text: &[u8],
@@ -53,18 +50,11 @@ pub fn add_linked_faults(
     requires tokens { All (LiesIn text.now) tokens.now }
     requires parts { All (IsPart tokens.now) parts.now }
     ensures links { IfOk result (λ links. links ≡ summaries_of text.now (map (part_of tokens.now) parts.now)) }
-    ensures shown { OnOk result (found.new.items ≡ shown_of text.now (map (part_of tokens.now) parts.now)
-        (found.old.items ++ linked_faults text.now (map (part_of tokens.now) parts.now)
-        ++ walked_faults text.now (map (part_of tokens.now) parts.now)
-        ++ checked_faults text.now (map (part_of tokens.now) parts.now))) }
+    ensures found { OnOk result (found.new.items ≡ found.old.items ++ linked_faults text.now (map (part_of tokens.now) parts.now)) }
 {
     let summaries = summaries_of(alloc, text, tokens, parts)?;
     let links = link_all(alloc, &summaries)?;
     add_placed(tokens, parts, links.faults(), found)?;
-    let missed = unreached(alloc, &summaries, &links)?;
-    add_unreached(tokens, parts, &missed, found)?;
-    add_checked_faults(alloc, text, tokens, parts, &links, found)?;
-    withhold(alloc, text, tokens, parts, &links, found);
     Ok(links)
 }
 

@@ -66,15 +66,14 @@ returns-clause-trees c =
     let text = c.args.text.now in
     let tokens = c.args.tokens.now in
     let ends = c.in_ok-ends.ends.items in
-    let same = same_tokens text tokens c.deref.result.now ends c.requires.tokens (c.deref.ensures.value ∙ c.in_ok-marks.ensures) c.in_ok-ends.ensures.only in
     both c.parts_along.result
     (λ p. map (part_of tokens) p.parts.items ≡ map (program_item text) (members tokens 0 ends))
     (λ p. p.ends.items ≡ ends)
-    (λ p. program_items tokens p.ends.items (map (λ part. part.tree) p.parts.items) ≡ items_of text)
+    (λ p. program_items tokens p.ends.items (map (λ part. part.tree) p.parts.items) ≡ map (part_of tokens) p.parts.items)
     (λ p is kept.
     ap (λ es. program_items tokens es (map (λ part. part.tree) p.parts.items)) kept
     ∙ trees_give text tokens ends p.parts.items is
-    ∙ ap (map (program_item text)) same)
+    ∙ sym is)
     c.parts_along.ensures.parts c.parts_along.ensures.ends
 
 pub returns-clause-faults : goal.returns-clause-faults
