@@ -18,3 +18,8 @@ pub mod Conditions
 pub mod Mentions
 pub mod Items
 pub mod SameClauses
+pub mod Linked
+pub mod Beside
+pub mod Numbers
+pub mod Starts
+pub mod Marks

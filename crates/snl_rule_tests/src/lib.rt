@@ -20,8 +20,6 @@ mod reading;
 #[cfg(test)]
 mod summaries;
 #[cfg(test)]
-mod tables;
-#[cfg(test)]
 mod walks;
 #[cfg(test)]
 mod words;

@@ -1,11 +1,9 @@
-//! State sets with the states that are reached in them, told from the language's rules.
+//! Sets of states with those that are reached in them.
 
 ghost use Rattle.std.specs.Prelude.{◌<◌, All, IfOk, length};
 ghost use Rattle.snl_check.specs.Reach.{AreStates, target_lists};
 
-use crate::reading::summaries;
-use snl_check::{reach, unreached};
-use snl_reading::links_of;
+use snl_check::reach;
 use std::alloc::Global;
 use std::test::Fail;
 
@@ -53,38 +51,6 @@ fn states_that_are_reached(rt: HostRuntime) -> Result<(), Fail> {
     for (set, wanted) in &SETS {
         let reached = reach(rt.alloc(), &set_of(rt.alloc(), set)?)?;
         assert_eq!(rt; reached.as_slice(), *wanted, "{set:?}");
-    }
-    Ok(())
-}
-
-// A text, and its items that are states which no walk reaches.
-static TEXTS: [(&[u8], &[usize]); 4] = [
-    (b"", &[]),
-    (
-        b"program p ss a { state i { } state j { when () { } state k } state k { } state l { when () { } state l } }",
-        &[3, 4, 5],
-    ),
-    (
-        b"ss a { state i { when () { } state j } state j { } state j { } state k { } }",
-        &[4],
-    ),
-    (
-        b"ss a { state i { } state j { } int ; } ss b { state i { } state j { } }",
-        &[7],
-    ),
-];
-
-fn missed_in(alloc: Global, text: &[u8]) -> Result<Vec<usize>, Fail> {
-    let summaries = summaries(alloc, text)?;
-    let links = links_of(alloc, &summaries)?;
-    Ok(unreached(alloc, &summaries, &links)?)
-}
-
-#[test]
-fn states_that_are_not_reached(rt: HostRuntime) -> Result<(), Fail> {
-    for (text, wanted) in &TEXTS {
-        let missed = missed_in(rt.alloc(), text)?;
-        assert_eq!(rt; missed.as_slice(), *wanted, "{text:?}");
     }
     Ok(())
 }

@@ -6,4 +6,5 @@ pub mod Linked
 pub mod Order
 pub mod Parts
 pub mod Program
+pub mod Tables
 pub mod Warnings

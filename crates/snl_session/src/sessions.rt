@@ -1,12 +1,13 @@
-//! The session: edits of a text come in, its diagnostics go out.
+//! The session: edits of a text come in, its diagnostics and tables go out.
 //! An edit has three steps: the test of its range and size, all that takes memory, and the change, which cannot fail.
 #![tactic(auto)]
 
 ghost use Rattle.std.specs.Prelude.{◌≡◌, ℕ, ◌+◌, ◌≤◌, [], ◌++◌, List, length, IfOk, OnOk, OnErr, IsErrOf, IsOkUnless, MatchOption, None};
 
-use crate::diagnose::diagnose;
 use crate::edits::{Refused, Work};
 use crate::findings::Diagnostic;
+use crate::judge::{Judgement, judge};
+use snl_check::Tables;
 use snl_cut::OutOfMemory;
 use std::alloc::Global;
 use std::marker::Model;
@@ -14,28 +15,31 @@ use std::marker::Model;
 /// The number of bytes that a text has at most.
 const LIMIT: usize = 1_048_576;
 
-/// A text and its diagnostics. Its value is the text: all that it answers is what the text alone defines.
+/// A text, its diagnostics and its tables. Its value is the text: all that it answers is what the text alone defines.
 #[derive(Drop)]
 pub struct Session {
     text: Vec<u8>,
     found: Vec<Diagnostic>,
+    tables: Tables,
 }
 
 impl Model for Session {
     ghost use Rattle.std.specs.Prelude.{◌≡◌, ℕ, ◌≤◌, List, length};
     ghost use Rattle.snl_session.specs.Diagnostics.{diagnostics_of};
+    ghost use Rattle.snl_session.specs.Tables.{tables_in};
 
     ghost Value = { List ℕ };
 
     ghost view = { λ s. s.text.items };
 
-    ghost invariant = { λ s. (length s.text.items ≤ 1048576) × (s.found.items ≡ diagnostics_of s.text.items) };
+    ghost invariant = { λ s. (length s.text.items ≤ 1048576) × (s.found.items ≡ diagnostics_of s.text.items) × (s.tables ≡ tables_in s.text.items) };
 }
 
 impl Session {
     ghost use Rattle.snl_session.specs.Diagnostics.{diagnostics_of, errors_of, stands_before, warnings_of};
     ghost use Rattle.std.specs.List.Sorted.{IsSortedBy};
     ghost use Rattle.snl_session.specs.Edit.{limit, refusal_of, spliced};
+    ghost use Rattle.snl_session.specs.Tables.{tables_in};
 
     /// A session over the empty text. The only refusal is that of memory.
     pub fn new(alloc: Global) -> Result<Session, Refused>
@@ -79,6 +83,13 @@ impl Session {
         ensures sorted { IsSortedBy stands_before result.now }
     {
         self.found.as_slice()
+    }
+
+    /// The tables of the text.
+    pub fn tables(&self) -> &Tables
+        ensures { result.now ≡ tables_in self.now }
+    {
+        &self.tables
     }
 
     /// How many of the diagnostics are errors.
@@ -126,8 +137,15 @@ impl Session {
         requires { length text.items ≤ 1048576 }
         ensures { IfOk result (λ s. s ≡ text.items) }
     {
-        let found = diagnose(alloc, &text)?;
-        Ok(Session { text, found })
+        let Judgement {
+            diagnostics,
+            tables,
+        } = judge(alloc, &text)?;
+        Ok(Session {
+            text,
+            found: diagnostics,
+            tables,
+        })
     }
 }
 

@@ -6,3 +6,5 @@
 mod edits;
 #[cfg(test)]
 mod places;
+#[cfg(test)]
+mod tables;
