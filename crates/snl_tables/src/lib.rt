@@ -1,0 +1,10 @@
+//! The tables of a text, as values: rows of options, event flags, channels, state sets and states. It knows no rules: who makes
+//! the rows, and who prints them, are other crates.
+#![tactic(auto)]
+
+mod rows;
+
+pub use rows::{
+    ChannelRow, Destination, FlagRow, NamedState, OptionRow, Queue, ScopeName, SetRow, Span,
+    StateMark, StateRow, Synced, Tables, WakeUp,
+};

@@ -1,0 +1,151 @@
+//! The rows of the tables of a text. A name is told by the bytes where it is written, so that a row is small however long the
+//! name is.
+
+use snl_lex::Line;
+use snl_scope::Name;
+use sqlite_items::Items;
+
+/// Bytes of the text: so many, from a place on.
+#[derive(Clone, Copy, Debug, PartialEq, Eq)]
+pub struct Span {
+    pub start: usize,
+    pub len: usize,
+}
+
+/// What the last setting of an option's letter says.
+#[derive(Clone, Copy, Debug, PartialEq, Eq)]
+pub struct OptionRow {
+    pub letter: u8,
+    /// `option +L`; else `option -L`.
+    pub is_set: bool,
+}
+
+/// The scope that declares a name, by the names of the state set and of the state.
+#[derive(Clone, Copy, Debug, PartialEq, Eq)]
+pub enum ScopeName {
+    Program,
+    StateSet(Span),
+    /// A state at program level is in no state set.
+    State {
+        set: Option<Span>,
+        state: Span,
+    },
+}
+
+/// An event flag. Flags are numbered from 1.
+#[derive(Clone, Copy, Debug, PartialEq, Eq)]
+pub struct FlagRow {
+    pub name: Span,
+    pub scope: ScopeName,
+}
+
+/// The queue of a synced channel.
+#[derive(Clone, Copy, Debug, PartialEq, Eq)]
+pub enum Queue {
+    /// `sync`
+    Unqueued,
+    /// `syncq` with no length written.
+    Default,
+    /// `syncq` with a length.
+    Length(u64),
+}
+
+/// How a channel is synced: the number of the event flag, if the clause names one, and the queue.
+#[derive(Clone, Copy, Debug, PartialEq, Eq)]
+pub struct Synced {
+    pub flag: Option<usize>,
+    pub queue: Queue,
+}
+
+/// A channel: of an element of a variable, or of the whole variable. Channels are numbered from 0.
+#[derive(Drop)]
+pub struct ChannelRow {
+    pub variable: Span,
+    pub element: Option<u64>,
+    pub scope: ScopeName,
+    /// The channel's name: the bytes between the quotes, as written, those of adjacent strings joined.
+    pub pv: Name,
+    pub is_monitored: bool,
+    pub sync: Option<Synced>,
+}
+
+/// What is known of a state.
+#[derive(Clone, Copy, Debug, PartialEq, Eq)]
+pub enum StateMark {
+    /// The grammar has no such state, or one of its tokens is faulty.
+    Faulty,
+    /// An earlier state of the set has its name.
+    Repeated,
+    /// An item of its set is faulty, so it isn't known whether the state is reached.
+    Unknown,
+    /// A walk along targets leads to it from the first state of the set.
+    Reached,
+    Unreached,
+}
+
+/// A state that another state leads to, with whether the state set has one of the name.
+#[derive(Clone, Copy, Debug, PartialEq, Eq)]
+pub struct NamedState {
+    pub name: Span,
+    pub is_known: bool,
+}
+
+/// Where a transition leads.
+#[derive(Clone, Copy, Debug, PartialEq, Eq)]
+pub enum Destination {
+    State(NamedState),
+    Exit,
+}
+
+/// What a use of a name in a condition means: on a change of this the state wakes up.
+#[derive(Clone, Copy, Debug, PartialEq, Eq)]
+pub enum WakeUp {
+    /// The event flag with this number.
+    Flag(usize),
+    /// The channel with this number.
+    Channel(usize),
+    /// Each channel of the variable with this number, which `Tables::variables` lists.
+    Variable(usize),
+}
+
+/// A state of a state set. Of a faulty one no more is known than its name and its line.
+#[derive(Drop)]
+pub struct StateRow {
+    pub name: Span,
+    /// That of the item's first token.
+    pub line: Line,
+    pub mark: StateMark,
+    /// The options of the state, by rising letters.
+    pub options: Items<OptionRow>,
+    /// The transitions in the order of the text, numbered from 0.
+    pub transitions: Items<Destination>,
+    /// The states that statements in its transitions name.
+    pub gotos: Items<NamedState>,
+    /// What the names in its conditions mean, in the order of the text, those left out that mean no event flag and no
+    /// variable. Its wake-up set is all of these, each once.
+    pub wake: Items<WakeUp>,
+}
+
+/// A state set, and its states in the order of the text.
+#[derive(Drop)]
+pub struct SetRow {
+    pub name: Span,
+    /// That of the item's first token.
+    pub line: Line,
+    pub states: Items<StateRow>,
+}
+
+/// The tables of a text.
+#[derive(Drop)]
+pub struct Tables {
+    /// The name of the program.
+    pub program: Option<Span>,
+    /// The options of the program, by rising letters.
+    pub options: Items<OptionRow>,
+    pub flags: Items<FlagRow>,
+    pub channels: Items<ChannelRow>,
+    /// The channels of each variable, rising, by the number of the variable's declaration: one list for all states that
+    /// wake up on it. Most declarations have none.
+    pub variables: Items<Items<usize>>,
+    pub sets: Items<SetRow>,
+}
