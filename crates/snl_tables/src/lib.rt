@@ -4,9 +4,11 @@
 
 mod number_set;
 mod rows;
+mod wake_sets;
 
 pub use number_set::NumberSet;
 pub use rows::{
     ChannelRow, Destination, FlagRow, NamedState, OptionRow, Queue, ScopeName, SetRow, Span,
     StateMark, StateRow, Synced, Tables, WakeUp,
 };
+pub use wake_sets::{WakeMarks, wake_channels, wake_flags};

@@ -67,7 +67,7 @@ impl NumberSet {
     /// Takes out the least number.
     #[tactic(auto, using(crate::proofs::Marking::kept_taken, crate::proofs::Marking::marked_first, crate::proofs::Marking::marked_none))]
     pub fn take_first(&mut self) -> Option<usize>
-        ensures taken { MatchOption result (marked self.old ≡ []) (λ n. marked self.old ≡ n ∷ marked self.new) }
+        ensures taken { MatchOption result ((marked self.old ≡ []) × (marked self.new ≡ [])) (λ n. marked self.old ≡ n ∷ marked self.new) }
         ensures below { IfSome result (λ n. n < length self.old) }
         ensures limit { length self.new ≡ length self.old }
     {
@@ -75,6 +75,14 @@ impl NumberSet {
         self.marks[number] = false;
         self.from = number;
         Some(number)
+    }
+
+    /// Takes out all numbers.
+    pub fn clear(&mut self)
+        ensures empty { marked self.new ≡ [] }
+        ensures limit { length self.new ≡ length self.old }
+    {
+        while self.take_first().is_some() {}
     }
 }
 
