@@ -1,12 +1,12 @@
 -- The first marked number, and the list of marked numbers.
-use Rattle.std.proofs.Common.{◌≡◌, ◌≢◌, ℕ, zero, suc, ◌+◌, ◌-◌, ◌/◌, ◌<◌, ◌≤◌, List, [], ◌∷◌, ◌++◌, Bool, true, false, cond, ltb, length, take, drop, get_or, filter, Option, Some, None, refl, sym, ap, ◌∙◌, arith, length-drop, position, set, length-set}
-use Rattle.std.proofs.Common.{inl, inr}
+use Rattle.std.proofs.Common.{◌≡◌, ◌≢◌, ℕ, zero, suc, ◌+◌, ◌-◌, ◌<◌, ◌≤◌, List, [], ◌∷◌, Bool, true, false, cond, ltb, length, take, drop, get_or, filter, Option, Some, None, refl, sym, ap, ◌∙◌, arith, length-drop, position, set, length-set}
+use Rattle.std.proofs.Common.{inl, inr, ◌==◌, MatchOption, is_none}
 use Rattle.std.proofs.lemmas.Bool.{cases_eq}
 use Rattle.std.proofs.lemmas.Bool.Decides.{nat_tests}
-use Rattle.std.proofs.lemmas.List.{get_or-drop, get_or-set_other, get_or-set_same, get_or-take, get_or_past, length-take}
+use Rattle.std.proofs.lemmas.List.{get_or-drop, get_or-set_other, get_or-set_same, get_or-take, length-take}
 use Rattle.std.proofs.lemmas.List.Sums.{fails_before_first, passes_at_first}
-use Rattle.std.specs.List.{position_or_len, range_with_len, slice_range}
-use Rattle.snl_tables.specs.Marks.{AreKept, EndsBlock, IsFirstMarked, NoneMarked, is_marked, marked}
+use Rattle.std.specs.List.{position_or_len, range_with_len}
+use Rattle.snl_tables.specs.Marks.{AreKept, IsFirstMarked, NoneMarked, is_marked, marked}
 
 -- ---- the first mark of a part of the marks
 
@@ -99,3 +99,11 @@ kept_taken marks blocks from n kept first = record {
   where
     still : (k : ℕ) → is_marked marks k ≡ false → is_marked (set marks n false) k ≡ false
     still k h = elim (cases_eq k n) [ inl same ↦ ap (is_marked (set marks n false)) same ∙ get_or-set_same marks n false false first.within | inr other ↦ get_or-set_other marks n k false false other ∙ h ]
+
+-- there is no marked number just where no first one is found
+pub none_found : (marks others : List Bool) (first : Option ℕ) (none : Bool) → marks ≡ others → none ≡ is_none first → MatchOption first (NoneMarked marks 0 (length marks)) (IsFirstMarked marks 0) → none ≡ (length (marked others) == 0)
+none_found marks others None none same is h = is ∙ ap (λ (m : List ℕ). length m == 0) (sym (ap marked (sym same) ∙ marked_none marks h))
+none_found marks others (Some n) none same is first =
+    let size : length (marked others) ≡ suc (length (marked (set marks n false))) = ap (λ (m : List Bool). length (marked m)) (sym same) ∙ ap length (marked_first marks n first) in
+    let some : (length (marked others) == 0) ≡ false = grind (arith, nat_tests) in
+    is ∙ sym some

@@ -1,5 +1,5 @@
 -- Numbers that are put into sets, and what uses cover.
-use Rattle.std.proofs.Common.{◌≡◌, ◌≢◌, ℕ, zero, suc, ◌+◌, ◌-◌, ◌<◌, ◌≤◌, ◌==◌, ◌||◌, ◌⊎◌, leb, List, [], ◌∷◌, ◌++◌, Bool, true, false, cond, length, take, get_or, filter, inl, inr, refl, sym, ap, ◌∙◌, arith, set, length-set, replicate, add-one}
+use Rattle.std.proofs.Common.{◌≡◌, ℕ, zero, suc, ◌+◌, ◌<◌, ◌≤◌, ◌==◌, ◌||◌, ◌⊎◌, leb, List, [], ◌∷◌, Bool, true, false, cond, length, take, get_or, filter, inl, inr, refl, sym, ap, ◌∙◌, arith, set, length-set, replicate, add-one}
 use Rattle.std.proofs.lemmas.Bool.{cases_eq, leb-false, leb-true}
 use Rattle.std.proofs.lemmas.Bool.Decides.{nat_tests}
 use Rattle.std.proofs.lemmas.List.{length-replicate, get_or-replicate, get_or-set_other, get_or-set_same, get_or_past}
@@ -8,8 +8,7 @@ use Rattle.std.specs.List.{list_any, range_with_len}
 use Rattle.snl_tables.specs.declared.rows.StateRow.{StateRow}
 use Rattle.snl_tables.specs.declared.rows.Tables.{Tables}
 use Rattle.snl_tables.specs.declared.rows.WakeUp.{WakeUp}
-use Rattle.snl_tables.specs.declared.rows.WakeUp.TheVariants.{Flag, Channel, Variable}
-use Rattle.snl_tables.specs.Marks.{NoneMarked, is_marked, marked}
+use Rattle.snl_tables.specs.Marks.{is_marked, marked}
 use Rattle.snl_tables.specs.WakeSets.{AreCovered, AreSeen, Inserts, channels_of, covers_channel, covers_flag, holds, wake_channels, wake_flags}
 use Rattle.snl_tables.proofs.Marking.{filter_same, marked_none}
 

@@ -2,7 +2,7 @@
 //! All numbers of a block without members are passed over at once.
 #![tactic(auto)]
 
-ghost use Rattle.std.specs.Prelude.{◌≡◌, ℕ, ◌+◌, ◌*◌, ◌/◌, ◌<◌, ◌≤◌, List, [], ◌∷◌, Bool, true, false, length, replicate, IfOk, IfSome, IfNone, MatchOption, position};
+ghost use Rattle.std.specs.Prelude.{◌≡◌, ℕ, ◌+◌, ◌*◌, ◌/◌, ◌<◌, ◌≤◌, List, [], ◌∷◌, Bool, true, false, length, replicate, IfOk, IfSome, IfNone, MatchOption, ◌==◌, position};
 ghost use Rattle.std.specs.List.{slice_set};
 ghost use Rattle.snl_tables.specs.Marks.{AreKept, EndsBlock, IsFirstMarked, NoneMarked, is_marked, marked};
 
@@ -51,6 +51,13 @@ impl NumberSet {
             Some(mark) => *mark,
             None => false,
         }
+    }
+
+    pub fn is_empty(&mut self) -> bool
+        ensures value { result ≡ (length (marked self.old) == 0) }
+        ensures same { self.new ≡ self.old }
+    {
+        first_from(&self.marks, &mut self.blocks, self.from).is_none()
     }
 
     /// Puts in a number, if it is below the limit.
