@@ -7,3 +7,5 @@ pub mod Order
 pub mod Parts
 pub mod Program
 pub mod Warnings
+pub mod Tables
+pub mod Listing

@@ -12,6 +12,7 @@ mod laws;
 mod linked;
 #[cfg(test)]
 mod linked_tests;
+mod no_tables;
 mod order;
 mod program;
 mod sessions;
@@ -24,4 +25,6 @@ pub use edits::{Refused, Work};
 pub use findings::Diagnostic;
 pub use laws::linked_once;
 pub use sessions::Session;
+pub use snl_listing::{Lister, Sink};
 pub use snl_scope::Code;
+pub use snl_tables::Tables;

@@ -2,12 +2,15 @@
 //! An edit has three steps: the test of its range and size, all that takes memory, and the change, which cannot fail.
 #![tactic(auto)]
 
-ghost use Rattle.std.specs.Prelude.{◌≡◌, ℕ, ◌+◌, ◌≤◌, [], ◌++◌, List, length, IfOk, OnOk, OnErr, IsErrOf, IsOkUnless, MatchOption, None};
+ghost use Rattle.std.specs.Prelude.{◌≡◌, ℕ, ◌+◌, ◌≤◌, [], ◌++◌, List, length, IfOk, OnOk, OnErr, IsErrOf, IsOkUnless, MatchOption, None, string_bytes};
 
 use crate::diagnose::diagnose;
 use crate::edits::{Refused, Work};
 use crate::findings::Diagnostic;
+use crate::no_tables::no_tables;
 use snl_cut::OutOfMemory;
+use snl_listing::{Lister, listing};
+use snl_tables::Tables;
 use std::alloc::Global;
 use std::marker::Model;
 
@@ -19,23 +22,28 @@ const LIMIT: usize = 1_048_576;
 pub struct Session {
     text: Vec<u8>,
     found: Vec<Diagnostic>,
+    tables: Tables,
 }
 
 impl Model for Session {
     ghost use Rattle.std.specs.Prelude.{◌≡◌, ℕ, ◌≤◌, List, length};
     ghost use Rattle.snl_session.specs.Diagnostics.{diagnostics_of};
+    ghost use Rattle.snl_session.specs.Tables.{tables_in};
 
     ghost Value = { List ℕ };
 
     ghost view = { λ s. s.text.items };
 
-    ghost invariant = { λ s. (length s.text.items ≤ 1048576) × (s.found.items ≡ diagnostics_of s.text.items) };
+    ghost invariant = { λ s. (length s.text.items ≤ 1048576) × (s.found.items ≡ diagnostics_of s.text.items) × (s.tables ≡ tables_in s.text.items) };
 }
 
 impl Session {
     ghost use Rattle.snl_session.specs.Diagnostics.{diagnostics_of, errors_of, stands_before, warnings_of};
     ghost use Rattle.std.specs.List.Sorted.{IsSortedBy};
     ghost use Rattle.snl_session.specs.Edit.{limit, refusal_of, spliced};
+    ghost use Rattle.snl_listing.specs.Lister.{IsFor};
+    ghost use Rattle.snl_session.specs.Listing.{listing_text};
+    ghost use Rattle.snl_session.specs.Tables.{tables_in};
 
     /// A session over the empty text. The only refusal is that of memory.
     pub fn new(alloc: Global) -> Result<Session, Refused>
@@ -79,6 +87,29 @@ impl Session {
         ensures sorted { IsSortedBy stands_before result.now }
     {
         self.found.as_slice()
+    }
+
+    /// The tables of the text.
+    pub fn tables(&self) -> &Tables
+        ensures { result.now ≡ tables_in self.now }
+    {
+        &self.tables
+    }
+
+    /// A writer of the text's listing, which has all the memory that it needs. The only refusal is that of memory.
+    pub fn lister(&self) -> Result<Lister, Refused>
+        ensures ok { IfOk result (IsFor (tables_in self.now)) }
+        ensures refused { IsOkUnless result Refused.Memory }
+    {
+        Lister::new(*self.text.allocator(), &self.tables).map_err(|_| Refused::Memory)
+    }
+
+    /// The listing of the text. The only refusal is that of memory.
+    pub fn listing(&self) -> Result<String, Refused>
+        ensures ok { IfOk result (λ listing. string_bytes listing ≡ listing_text self.now) }
+        ensures refused { IsOkUnless result Refused.Memory }
+    {
+        listing(*self.text.allocator(), self.text(), self.tables()).map_err(|_| Refused::Memory)
     }
 
     /// How many of the diagnostics are errors.
@@ -127,7 +158,8 @@ impl Session {
         ensures { IfOk result (λ s. s ≡ text.items) }
     {
         let found = diagnose(alloc, &text)?;
-        Ok(Session { text, found })
+        let tables = no_tables(alloc, &text);
+        Ok(Session { text, found, tables })
     }
 }
 
