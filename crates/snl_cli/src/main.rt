@@ -8,7 +8,9 @@ pub mod answers;
 #[cfg(test)]
 mod fakes;
 pub mod faults;
+pub mod listing;
 pub mod page;
+pub mod paged;
 pub mod run;
 pub mod script;
 #[cfg(test)]

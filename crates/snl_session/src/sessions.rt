@@ -159,7 +159,11 @@ impl Session {
     {
         let found = diagnose(alloc, &text)?;
         let tables = no_tables(alloc, &text);
-        Ok(Session { text, found, tables })
+        Ok(Session {
+            text,
+            found,
+            tables,
+        })
     }
 }
 
