@@ -1,7 +1,7 @@
 -- The ends of a cut stand in order, and none behind the list.
 use Rattle.std.proofs.Common.{arith, ◌≡◌, ℕ, ◌+◌, ◌-◌, ◌<◌, List, [], ◌∷◌, length, drop, length-drop}
 use Rattle.snl_cut.specs.Cut.{IsFront, Walks}
-use Rattle.snl_check.specs.Rows.{EndsWithin}
+use Rattle.snl_check.specs.Items.{EndsWithin}
 
 rest_some : {X : Type 0} (units : List X) (from : ℕ) → from < length units → 0 < length (drop from units)
 rest_some units from h = omega (arith, length-drop from units)

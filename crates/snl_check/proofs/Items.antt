@@ -10,7 +10,8 @@ use Rattle.std.proofs.lemmas.List.{drop_all, length-map}
 use Rattle.std.proofs.lemmas.Option.{slice_get-map, slice_get_past, slice_get_read}
 use Rattle.snl_check.specs.declared.program.Program.{Program}
 use denote.Bor.{Bor}
-use Rattle.snl_check.specs.Rows.{EndsWithin, IsProgram, ProgramItem, header_name, items_in, program_name, start_of, tokens_in, tree_in}
+use Rattle.snl_check.specs.Collected.{IsProgram, items_in}
+use Rattle.snl_check.specs.Items.{EndsWithin, ProgramItem, header_name, program_name, start_of, tokens_in, tree_in}
 
 abbrev items_from : List Piece → ℕ → List ℕ → List (Option Item) → List ProgramItem
 items_from tokens from ends trees = map (λ p. record { tokens = p.0; tree = p.1 }) (zip (members tokens from ends) trees)
@@ -73,7 +74,7 @@ pub count_in : (p : Program) → IsProgram p → length (items_in p) ≡ length 
 count_in p h = count_items p.tokens.now 0 p.ends.now (map option_copied p.trees.now) (trees_count p h) ∙ simp length-map refl
 
 -- an item begins before it ends, and ends among the tokens
-ends_at : (from : ℕ) (ends : List ℕ) (to i : ℕ) → EndsWithin from ends to → i < length ends → (start_of from ends i < get_or ends i 0) × (get_or ends i 0 ≤ to)
+pub ends_at : (from : ℕ) (ends : List ℕ) (to i : ℕ) → EndsWithin from ends to → i < length ends → (start_of from ends i < get_or ends i 0) × (get_or ends i 0 ≤ to)
 ends_at from [] to i h lt = absurd (omega arith)
 ends_at from (e ∷ ends) to zero h lt = (h.0, h.1)
 ends_at from (e ∷ ends) to (suc i) h lt =

@@ -19,3 +19,8 @@ pub mod Mentions
 pub mod Items
 pub mod Ends
 pub mod SameClauses
+pub mod Linked
+pub mod Beside
+pub mod Numbers
+pub mod Starts
+pub mod Marks

@@ -15,7 +15,8 @@ use Rattle.snl_scope.specs.declared.summary.VariableClause.{VariableClause}
 use Rattle.snl_scope.specs.Clauses.{LinkedClause, clauses_before, clauses_of, linked_clause}
 use Rattle.snl_scope.specs.Summaries.{summary_in}
 use Rattle.snl_scope.specs.Summaries.Clauses as summary
-use Rattle.snl_check.specs.Rows.{ProgramItem, clause_in_member, clauses_in_tree, item_clause, item_clauses, item_clauses_before, item_clauses_if, summaries_of, summarized, tokens_in, tree_in}
+use Rattle.snl_check.specs.Clauses.{clause_in_member, clauses_in_tree, item_clause, item_clauses, item_clauses_before, item_clauses_if, summarized}
+use Rattle.snl_check.specs.Items.{ProgramItem, summaries_of, tokens_in, tree_in}
 
 members_alike : (text : List ℕ) (tokens : List Piece) (ms : List StateMember) →
     map (summary.clause_of text tokens) (flat_map clause_in_member ms) ≡ flat_map (summary.clauses_of_member text tokens) ms

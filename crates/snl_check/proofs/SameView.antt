@@ -84,6 +84,9 @@ found_alike bytes tree in_set fact other target another k t =
     ∙ ap (λ l. found_with bytes tree in_set (missing_targets bytes another (targets_in_tree tree)) l (undeclared bytes fact free)) wrong
     ∙ ap (λ l. found_with bytes tree in_set (missing_targets bytes another (targets_in_tree tree)) (wrong_outside bytes other asked) l) names
 
+pub same_bytes : (text moved : List ℕ) (tokens shifted : List Piece) → SameTokens text tokens moved shifted → bytes_at text tokens ≡ bytes_at moved shifted
+same_bytes text moved tokens shifted same = fun_ext same
+
 pub faults_alike : (text moved : List ℕ) (tokens shifted : List Piece) (tree : Item) (in_set : Bool) (fact other : List ℕ → Option Fact) (target another : List ℕ → Bool) →
     SameTokens text tokens moved shifted → Agree fact other (used_names text tokens tree) → Agree target another (target_names text tokens tree) →
     faults_in (bytes_at text tokens) tree in_set fact target ≡ faults_in (bytes_at moved shifted) tree in_set other another

@@ -1,10 +1,10 @@
 -- The items of a state set stand one behind another; its states, and what is found in it.
-use Rattle.std.proofs.Common.{◌≡◌, ◌⊎◌, ◌&&◌, ◌||◌, ℕ, zero, suc, ◌+◌, ◌-◌, ◌<◌, ◌≤◌, Bool, true, false, not, List, [], ◌∷◌, ◌++◌, length, get_or, nat_eq, nat_lt, slice_get, All, Option, Some, None, inl, inr, refl, sym, ap, subst, ◌∙◌, add-one, arith, if◌then◌else◌, option_copied, is_some, Bor}
-use Rattle.std.specs.List.{cons_option, enumerate_from, filter_map, flat_map}
+use Rattle.std.proofs.Common.{◌≡◌, ◌⊎◌, ◌&&◌, ◌||◌, ℕ, zero, suc, ◌+◌, ◌-◌, ◌<◌, ◌≤◌, Bool, true, false, not, List, [], ◌∷◌, ◌++◌, length, length-append, get_or, map, nat_eq, nat_lt, slice_get, All, Option, Some, None, inl, inr, refl, sym, ap, subst, ◌∙◌, add-one, arith, if◌then◌else◌, option_copied, is_some, Bor}
+use Rattle.std.specs.List.{cons_option, filter_map}
 use Rattle.std.specs.Option.{option_map_or}
 use Rattle.std.proofs.lemmas.Bool.{cases_lt, eqb-true, false≢true}
-use Rattle.std.proofs.lemmas.Grind.{flat_map-append}
-use Rattle.std.proofs.lemmas.List.{append-nil, length-map}
+use Rattle.std.proofs.Math.Seq.{get_or-append_seam}
+use Rattle.std.proofs.lemmas.List.{append-nil, get_or_append_left, length-map, map-append}
 use Rattle.std.proofs.lemmas.List.Elements.{All-append, All-map, All-nil, All-push}
 use Rattle.std.proofs.lemmas.List.Quantifiers.{position-Some}
 use borrow.Author.Tests.{eq-eqb, le-ltb, lt-ltb}
@@ -14,7 +14,7 @@ use Rattle.snl_scope.specs.Places.{begins_set, ends_set, item_is, open_before, p
 use Rattle.snl_scope.proofs.OpenSets.{open_step, place_here, place_within}
 use Rattle.snl_scope.proofs.Searches.{any_below-none}
 use Rattle.snl_check.specs.Reach.{AreStates}
-use Rattle.snl_check.specs.Unreached.{is_first_state, missed, number_among, target_number, target_numbers, targets_among}
+use Rattle.snl_check.specs.Members.{number_among, target_number, target_numbers, targets_among}
 
 and_false : (b : Bool) → (b && false) ≡ false
 and_false true = refl
@@ -24,7 +24,7 @@ and_true : (b : Bool) → (b && true) ≡ b
 and_true true = refl
 and_true false = refl
 
-get_here : {X : Type 0} (xs : List X) (j : ℕ) → j < length xs → (x : X) × (slice_get xs j ≡ Some x)
+pub get_here : {X : Type 0} (xs : List X) (j : ℕ) → j < length xs → (x : X) × (slice_get xs j ≡ Some x)
 get_here [] j l = absurd (omega (arith, l))
 get_here (x ∷ xs) zero l = (x, refl)
 get_here (x ∷ xs) (suc j) l = get_here xs j (omega (arith, l))
@@ -166,23 +166,37 @@ module _ (ss : List Summary) (states : List ℕ) where
       subst (λ count. All (All (λ t. t < count)) (targets_among ss states)) (sym (length-map states (target_numbers ss states)))
       (All-map (All (λ t. t < length states)) (target_numbers ss states) states (λ i d l. numbers_within (slice_get ss (get_or states i d)) (get_or states i d)))
 
--- what is missed goes by what is reached of the states alone
-pub missed_alike : (ss : List Summary) (p q : ℕ → Bool) (from : ℕ) (states : List ℕ) → ((n : ℕ) → from ≤ n → n < from + length states → p n ≡ q n) → filter_map (missed ss p) (enumerate_from from states) ≡ filter_map (missed ss q) (enumerate_from from states)
-missed_alike ss p q from [] h = refl
-missed_alike ss p q from (j ∷ states) h =
-    ap (λ b. cons_option (if is_first_state ss j && not b then Some j else None) (filter_map (missed ss p) (enumerate_from (from + 1) states))) (h from (omega arith) (omega arith))
-    ∙ ap (λ l. cons_option (missed ss q (from, j)) l) (missed_alike ss p q (from + 1) states (λ n l m. h n (omega (arith, l)) (omega (arith, m))))
-
 pub copied_some : {X : Type 0} (o : Option (Bor X)) → is_some (option_copied o) ≡ is_some o
 copied_some None = refl
 copied_some (Some x) = refl
 
 -- what one more number brings, where it passes
-pub flat_more : (F : ℕ → List ℕ) (p : ℕ → Bool) (i : ℕ) (b : Bool) → p i ≡ b → flat_map F (all_below p (i + 1)) ≡ flat_map F (all_below p i) ++ (if b then F i else [])
-flat_more F p i b h =
-    ap (λ n. flat_map F (all_below p n)) (add-one i) ∙ flat_map-append F (all_below p i) (if p i then i ∷ [] else [])
-    ∙ ap (λ c. flat_map F (all_below p i) ++ flat_map F (if c then i ∷ [] else [])) h ∙ ap (λ l. flat_map F (all_below p i) ++ l) (by b)
+pub map_more : {X : Type 0} (f : ℕ → X) (p : ℕ → Bool) (i : ℕ) (b : Bool) → p i ≡ b → map f (all_below p (i + 1)) ≡ map f (all_below p i) ++ (if b then f i ∷ [] else [])
+map_more f p i b h =
+    ap (λ n. map f (all_below p n)) (add-one i) ∙ map-append f (all_below p i) (if p i then i ∷ [] else [])
+    ∙ ap (λ c. map f (all_below p i) ++ map f (if c then i ∷ [] else [])) h ∙ ap (λ l. map f (all_below p i) ++ l) (by b)
   where
-    by : (c : Bool) → flat_map F (if c then i ∷ [] else []) ≡ (if c then F i else [])
-    by true = append-nil (F i)
+    by : (c : Bool) → map f (if c then i ∷ [] else []) ≡ (if c then f i ∷ [] else [])
+    by true = refl
     by false = refl
+
+-- the numbers below n that pass a test are below n
+pub within_below : (p : ℕ → Bool) (n i d : ℕ) → i < length (all_below p n) → get_or (all_below p n) i d < n
+within_below p zero i d h = absurd (omega (arith, h))
+within_below p (suc n) i d h = by (p n) (within_below p n i d) h
+  where
+    by : (b : Bool) → (i < length (all_below p n) → get_or (all_below p n) i d < n) → i < length (all_below p n ++ (if b then n ∷ [] else [])) → get_or (all_below p n ++ (if b then n ∷ [] else [])) i d < suc n
+    by false below l =
+        let less = below (subst (λ xs. i < length xs) (append-nil (all_below p n)) l) in
+        subst (λ xs. get_or xs i d < suc n) (sym (append-nil (all_below p n))) (omega (arith, less))
+    by true below l =
+        elim (cases_lt i (length (all_below p n))) [
+          | inl inside ↦
+              let less = below inside in
+              let same = get_or_append_left (all_below p n) (n ∷ []) d i inside in
+              omega (arith, less, same)
+          | inr past ↦
+              let last : i ≡ length (all_below p n) = omega (arith, past, l, length-append (all_below p n) (n ∷ [])) in
+              let same : get_or (all_below p n ++ n ∷ []) i d ≡ n = ap (λ k. get_or (all_below p n ++ n ∷ []) k d) last ∙ get_or-append_seam (all_below p n) n [] d in
+              omega (arith, same)
+        ]

@@ -1,10 +1,8 @@
--- The rows of the tables of a text, from its bytes, its items and the summaries of these.
-use Rattle.std.specs.Prelude.{ℕ, zero, suc, ◌+◌, if◌then◌else◌, List, [], ◌∷◌, ◌++◌, map, length, slice_get, Option, None, Some, option_and_then, option_map, unwrap_or}
+-- The rows of the tables of a text, from its bytes and its items.
+use Rattle.std.specs.Prelude.{ℕ, List, map, length, slice_get, Option, None, Some, option_and_then, option_map, unwrap_or}
 use Rattle.std.specs.List.{filter_map}
 use Rattle.std.specs.Option.{option_map_or}
 use Rattle.snl_lex.specs.declared.piece.Piece.{Piece}
-use Rattle.snl_syntax.specs.declared.tree.clause.Channel.{Channel}
-use Rattle.snl_syntax.specs.declared.tree.clause.Channel.TheVariants as channels
 use Rattle.snl_syntax.specs.declared.tree.clause.Clause.{Clause}
 use Rattle.snl_syntax.specs.declared.tree.clause.Clause.TheVariants as clauses
 use Rattle.snl_scope.specs.declared.facts.ClauseLink.{ClauseLink}
@@ -13,25 +11,24 @@ use Rattle.snl_scope.specs.declared.facts.Scope.{Scope}
 use Rattle.snl_scope.specs.declared.facts.Scope.TheVariants as scope
 use Rattle.snl_scope.specs.declared.summary.Summary.{Summary}
 use Rattle.snl_scope.specs.Channels.{is_monitored, sync_number}
-use Rattle.snl_scope.specs.Clauses.{clause_links}
 use Rattle.snl_scope.specs.Flags.{flag_number, flags_of}
 use Rattle.snl_scope.specs.Linked.{declaration_at}
+use Rattle.snl_scope.specs.Names.{entries}
 use Rattle.snl_scope.specs.Places.{place}
 use Rattle.snl_scope.specs.Summaries.Tokens.{value_at}
-use Rattle.snl_check.specs.declared.rows.ChannelRow.{ChannelRow}
-use Rattle.snl_check.specs.declared.rows.FlagRow.{FlagRow}
-use Rattle.snl_check.specs.declared.rows.Queue.{Queue}
-use Rattle.snl_check.specs.declared.rows.Queue.TheVariants as queue
-use Rattle.snl_check.specs.declared.rows.ScopeName.{ScopeName}
-use Rattle.snl_check.specs.declared.rows.ScopeName.TheVariants as named
-use Rattle.snl_check.specs.declared.rows.Span.{Span}
-use Rattle.snl_check.specs.declared.rows.Synced.{Synced}
-use Rattle.snl_check.specs.declared.rows.Tables.{Tables}
-use Rattle.snl_check.specs.Rows.{ItemClause, ProgramItem, item_clauses, joined, program_name, span_at, tokens_in}
-
--- A state set and a state are named by the second token of their item.
-abbrev pub item_name : List ProgramItem → ℕ → Span
-item_name xs item = span_at xs item 1
+use Rattle.snl_tables.specs.declared.rows.ChannelRow.{ChannelRow}
+use Rattle.snl_tables.specs.declared.rows.FlagRow.{FlagRow}
+use Rattle.snl_tables.specs.declared.rows.Queue.{Queue}
+use Rattle.snl_tables.specs.declared.rows.Queue.TheVariants as queue
+use Rattle.snl_tables.specs.declared.rows.ScopeName.{ScopeName}
+use Rattle.snl_tables.specs.declared.rows.ScopeName.TheVariants as named
+use Rattle.snl_tables.specs.declared.rows.Synced.{Synced}
+use Rattle.snl_tables.specs.declared.rows.Tables.{Tables}
+use Rattle.snl_check.specs.Channels.{AssignedChannel, assigned_channels, joined, variables_before}
+use Rattle.snl_check.specs.Clauses.{ItemClause, told_clauses}
+use Rattle.snl_check.specs.Items.{ProgramItem, item_name, program_name, span_at, summaries_of, tokens_in}
+use Rattle.snl_check.specs.Settings.{program_options}
+use Rattle.snl_check.specs.States.{set_rows}
 
 -- A scope by its names.
 abbrev pub scope_name : List ProgramItem → List Summary → Scope → ScopeName
@@ -54,10 +51,6 @@ flag_rows xs ss = filter_map (flag_row_at xs ss) (flags_of ss)
 abbrev pub scope_of_variable : List ProgramItem → List Summary → ℕ → ScopeName
 scope_of_variable xs ss number = option_map_or (λ d. scope_name xs ss d.scope) (declaration_at ss number) named.Program
 
--- The clause with a number among all, and what links tell of it.
-abbrev pub clause_at : List ProgramItem → List Summary → ℕ → Option (ItemClause × ClauseLink)
-clause_at xs ss number = option_and_then (λ c. option_map (λ link. (c, link)) (slice_get (clause_links ss) number)) (slice_get (item_clauses xs) number)
-
 -- The queue of a `syncq`: of the length that is written, if one is.
 abbrev pub queue_of : List ℕ → List Piece → Option ℕ → Queue
 queue_of text tokens None = queue.Default
@@ -70,57 +63,40 @@ synced_by text tokens flag (clauses.Syncq capital name subscript named_flag leng
 synced_by text tokens flag _ = None
 
 abbrev pub synced : List ℕ → List ProgramItem → List Summary → ItemClause × ClauseLink → Option Synced
-synced text xs ss p = synced_by text (tokens_in xs p.0.item) (option_and_then (flag_number ss) p.1.flag) p.0.clause
+synced text xs ss (c, link) = synced_by text (tokens_in xs c.item) (option_and_then (flag_number ss) link.flag) c.clause
 
 -- How a channel of a variable is synced: by the first sound clause that speaks of it.
 abbrev pub sync_of : List ℕ → List ProgramItem → List Summary → ℕ → Option ℕ → Option Synced
-sync_of text xs ss variable element = option_and_then (λ number. option_and_then (synced text xs ss) (clause_at xs ss number)) (sync_number ss variable element)
+sync_of text xs ss variable element = option_and_then (λ number. option_and_then (synced text xs ss) (slice_get (told_clauses xs ss) number)) (sync_number ss variable element)
 
--- A channel that an `assign` names: its element, if it is that of one, and the strings of its name.
-pub record NamedChannel : Type 0 where
-  pub element : Option ℕ
-  pub strings : List ℕ
-
--- A list of channels covers the elements from the first on.
-abbrev pub by_element : ℕ → List (List ℕ) → List NamedChannel
-by_element element [] = []
-by_element element (strings ∷ rest) = record { element = Some element; strings = strings } ∷ by_element (element + 1) rest
-
--- The channels of an `assign`; `assign v;` names one with an empty name.
-abbrev pub channels_in : List ℕ → List Piece → Channel → List NamedChannel
-channels_in text tokens channels.Anonymous = record { element = None; strings = [] } ∷ []
-channels_in text tokens (channels.Whole to strings) = record { element = None; strings = strings } ∷ []
-channels_in text tokens (channels.Element subscript to strings) = record { element = Some (unwrap_or (value_at text tokens subscript) 0); strings = strings } ∷ []
-channels_in text tokens (channels.Elements to lists trailing) = by_element 0 lists
-
--- The row of a channel of the variable that is the declaration with a number; the clause stands in the item, and names the
--- variable at the token.
-abbrev pub channel_row : List ℕ → List ProgramItem → List Summary → ℕ → ℕ → ℕ → NamedChannel → ChannelRow
-channel_row text xs ss item token variable a = record {
-  variable = span_at xs item token;
-  element = a.element;
-  scope = scope_of_variable xs ss variable;
-  pv = joined text (tokens_in xs item) a.strings;
-  is_monitored = is_monitored ss variable a.element;
-  sync = sync_of text xs ss variable a.element;
+abbrev pub channel_row : List ℕ → List ProgramItem → List Summary → AssignedChannel → ChannelRow
+channel_row text xs ss c = record {
+  variable = span_at xs c.item c.token;
+  element = c.element;
+  scope = scope_of_variable xs ss c.variable;
+  pv = joined text (tokens_in xs c.item) c.strings;
+  is_monitored = is_monitored ss c.variable c.element;
+  sync = sync_of text xs ss c.variable c.element;
 }
 
-abbrev pub rows_of_assign : List ℕ → List ProgramItem → List Summary → ℕ → Option ℕ → Clause → List ChannelRow
-rows_of_assign text xs ss item (Some variable) (clauses.Assign name channel) = map (channel_row text xs ss item name variable) (channels_in text (tokens_in xs item) channel)
-rows_of_assign text xs ss item _ _ = []
-
--- The rows of a clause: a sound `assign` has them.
-abbrev pub rows_of_clause : List ℕ → List ProgramItem → List Summary → ItemClause × ClauseLink → List ChannelRow
-rows_of_clause text xs ss p = if p.1.is_sound then rows_of_assign text xs ss p.0.item p.1.variable p.0.clause else []
-
--- The channels of the first n clauses, and of all, in the order of the text.
-abbrev pub channel_rows_before : List ℕ → List ProgramItem → List Summary → ℕ → List ChannelRow
-channel_rows_before text xs ss zero = []
-channel_rows_before text xs ss (suc n) = channel_rows_before text xs ss n ++ option_map_or (rows_of_clause text xs ss) (clause_at xs ss n) []
-
+-- The channels in the order of the text.
 abbrev pub channel_rows : List ℕ → List ProgramItem → List Summary → List ChannelRow
-channel_rows text xs ss = channel_rows_before text xs ss (length (item_clauses xs))
+channel_rows text xs ss = map (channel_row text xs ss) (assigned_channels text xs ss)
 
--- The tables of a text.
-abbrev pub tables_of : List ℕ → List ProgramItem → List Summary → Tables
-tables_of text xs ss = record { program = program_name xs; flags = flag_rows xs ss; channels = channel_rows text xs ss }
+-- The channels of each declaration.
+abbrev pub variables_of : List ℕ → List ProgramItem → List Summary → List (List ℕ)
+variables_of text xs ss = variables_before (assigned_channels text xs ss) (length (entries ss))
+
+abbrev pub tables_by : List ℕ → List ProgramItem → List Summary → Tables
+tables_by text xs ss = record {
+  program = program_name xs;
+  options = program_options text xs ss;
+  flags = flag_rows xs ss;
+  channels = channel_rows text xs ss;
+  variables = variables_of text xs ss;
+  sets = set_rows text xs ss;
+}
+
+-- The tables of a text that has these items.
+abbrev pub tables_of : List ℕ → List ProgramItem → Tables
+tables_of text xs = tables_by text xs (summaries_of text xs)

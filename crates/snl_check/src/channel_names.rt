@@ -2,7 +2,7 @@
 
 ghost use Rattle.std.specs.Prelude.{◌≡◌, IfOk};
 ghost use Rattle.snl_scope.specs.Summaries.Tokens.{IsSource};
-ghost use Rattle.snl_check.specs.Rows.{between_quotes, joined};
+ghost use Rattle.snl_check.specs.Channels.{between_quotes, joined};
 
 use snl_cut::OutOfMemory;
 use snl_scope::{Name, Source};

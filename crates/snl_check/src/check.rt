@@ -5,6 +5,7 @@ ghost use Rattle.snl_cut.specs.Cut.{ticked};
 ghost use Rattle.snl_scope.specs.Summaries.Tokens.{IsSource, bytes_at};
 ghost use Rattle.snl_check.specs.Found.{StandsIn, argument_code, argument_fault, fault_at, faults_in, faults_of_tree};
 ghost use Rattle.snl_check.specs.Outlook.{is_in_set, known_of, leads_to};
+ghost use Rattle.snl_check.specs.Wake.{wake_uses};
 
 use crate::arguments::Argument;
 use crate::delays::stray_delays;
@@ -19,6 +20,7 @@ use crate::state_changes::add_stray_changes;
 use crate::undeclared::undeclared;
 use crate::unknown_targets::unknown_targets;
 use crate::view::View;
+use crate::wake::wake_uses;
 use snl_cut::{Count, OutOfMemory};
 use snl_lex::Piece;
 use snl_scope::{Code, Links, Source};
@@ -103,6 +105,7 @@ pub fn check_item(
     requires { IsSource text.now tokens.now }
     ensures faults { IfOk result (λ c. c.faults ≡ faults_in (bytes_at text.now tokens.now) tree.now (is_in_set links.now item) (known_of links.now item) (leads_to links.now item)) }
     ensures within { IfOk result (λ c. All (StandsIn (bytes_at text.now tokens.now)) c.faults) }
+    ensures wake_uses { IfOk result (λ c. c.wake_uses ≡ wake_uses (bytes_at text.now tokens.now) tree.now) }
     ensures ticks { work.new ≡ ticked work.old }
 {
     work.tick();
@@ -133,5 +136,6 @@ pub fn check_item(
     add_unknown_options(&source, tree, &view, &mut faults)?;
     Ok(Checked {
         faults: Items::from_vec(faults),
+        wake_uses: Items::from_vec(wake_uses(&source, tree)?),
     })
 }

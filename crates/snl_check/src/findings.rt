@@ -1,5 +1,6 @@
 //! What a check of an item gives.
 
+use crate::wake::WakeUse;
 use snl_scope::Code;
 use sqlite_items::Items;
 
@@ -16,4 +17,6 @@ pub struct ItemFault {
 #[derive(Drop)]
 pub struct Checked {
     pub faults: Items<ItemFault>,
+    /// The uses of names in its conditions, in the order of the text.
+    pub wake_uses: Items<WakeUse>,
 }

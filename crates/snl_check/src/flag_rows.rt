@@ -1,13 +1,12 @@
 //! The rows of event flags.
 
 ghost use Rattle.std.specs.Prelude.{◌≡◌, IfOk};
-ghost use Rattle.snl_check.specs.ClauseTrees.{IsListing};
-ghost use Rattle.snl_check.specs.Rows.{items_in};
+ghost use Rattle.snl_check.specs.Collected.{IsListing, items_in};
 ghost use Rattle.snl_check.specs.Tables.{flag_row_at, flag_rows};
 
 use crate::listing::Listing;
-use crate::rows::FlagRow;
 use snl_cut::OutOfMemory;
+use snl_tables::FlagRow;
 
 // The row of the flag that is the declaration with a number.
 fn flag_row_at(listing: &Listing, number: usize) -> Option<FlagRow>

@@ -9,7 +9,9 @@ ghost use Rattle.snl_scope.specs.Summaries.Tokens.{bytes_at};
 ghost use Rattle.snl_check.specs.Alike.{Agree, SameTokens, target_names, used_names};
 ghost use Rattle.snl_check.specs.Found.{faults_in};
 ghost use Rattle.snl_check.specs.Reach.{AreStates, IsReached, is_reached};
-ghost use Rattle.snl_check.specs.Rows.{ProgramItem, item_clauses, summaries_of, summarized};
+ghost use Rattle.snl_check.specs.Wake.{wake_uses};
+ghost use Rattle.snl_check.specs.Clauses.{item_clauses, summarized};
+ghost use Rattle.snl_check.specs.Items.{ProgramItem, summaries_of};
 
 /// The clauses of items, as trees, are those that the summaries of the items have, one by one in the order of the text.
 pub fn same_clauses()
@@ -18,13 +20,15 @@ pub fn same_clauses()
 {}
 
 /// The same is found in an item of the same tokens and tree, wherever it stands, where the same is known of each name that it
-/// uses, and of each of its targets.
+/// uses, and of each of its targets; and its conditions use the same names.
 pub fn equal_views()
-    ensures { (text moved : List ℕ) (tokens shifted : List Piece) (tree : Item) (in_set : Bool) (fact other : List ℕ → Option Fact) (target another : List ℕ → Bool)
+    ensures faults { (text moved : List ℕ) (tokens shifted : List Piece) (tree : Item) (in_set : Bool) (fact other : List ℕ → Option Fact) (target another : List ℕ → Bool)
         → SameTokens text tokens moved shifted
         → Agree fact other (used_names text tokens tree)
         → Agree target another (target_names text tokens tree)
         → faults_in (bytes_at text tokens) tree in_set fact target ≡ faults_in (bytes_at moved shifted) tree in_set other another }
+    ensures wake_uses { (text moved : List ℕ) (tokens shifted : List Piece) (tree : Item)
+        → SameTokens text tokens moved shifted → wake_uses (bytes_at text tokens) tree ≡ wake_uses (bytes_at moved shifted) tree }
 {}
 
 /// A walk leads to a state from the initial one exactly where one with as many steps as there are states, or fewer, does.

@@ -6,7 +6,9 @@ mod arguments;
 mod arguments_of;
 mod calls;
 mod channel_names;
+mod channel_numbers;
 mod channel_rows;
+mod channels;
 mod check;
 #[cfg(test)]
 mod check_tests;
@@ -16,37 +18,46 @@ mod event_flags;
 mod findings;
 mod flag_rows;
 mod item_clauses;
+mod item_lines;
 mod judged;
+mod jumps;
 mod laws;
 mod listing;
 mod loops;
 mod meanings;
-mod not_reached;
+mod members;
+mod option_rows;
 mod options;
+mod outline;
 mod program;
 #[cfg(test)]
 mod reach_tests;
 mod reaching;
-mod rows;
+mod room;
 mod scopes;
+mod set_rows;
 mod state_changes;
+mod state_rows;
 mod syncs;
 mod tables_of;
-#[cfg(test)]
-mod tables_tests;
+mod tokens;
 mod undeclared;
 mod unknown_targets;
 mod view;
 mod wake;
 #[cfg(test)]
 mod wake_tests;
+mod wake_ups;
 
 pub use check::check_item;
 pub use findings::{Checked, ItemFault};
 pub use laws::{equal_views, same_clauses, walks_of_few_steps};
-pub use not_reached::unreached;
 pub use options::warning_setting;
 pub use reaching::reach;
-pub use rows::{ChannelRow, FlagRow, Queue, ScopeName, Span, Synced, Tables};
-pub use tables_of::tables;
+pub use snl_tables::{
+    ChannelRow, Destination, FlagRow, NamedState, OptionRow, Queue, ScopeName, SetRow, Span,
+    StateMark, StateRow, Synced, Tables, WakeUp,
+};
+pub use tables_of::{tables, tables_by_tokens};
+pub use tokens::tokens_among;
 pub use wake::{WakeUse, wake_uses};

@@ -1,38 +1,27 @@
-//! What rows are made from: the items of a text, their clauses and their links come in; scopes go out by their names, and
-//! clauses with what links tell of them.
+//! What rows are made from: the items of a text, their clauses and their links come in, scopes go out by their names.
 
 ghost use Rattle.std.specs.Prelude.{◌≡◌, option_map};
 
-use crate::item_clauses::Placed;
+use crate::item_clauses::ToldClause;
 use crate::program::Program;
-use crate::rows::{ScopeName, Span};
-use snl_scope::{ClauseLink, Links, Scope};
+use snl_scope::{Links, Scope};
+use snl_tables::{ScopeName, Span};
 
 /// The items of a text, their clauses in the order of the text, and their links.
 #[derive(Clone, Copy)]
 pub(crate) struct Listing<'a> {
     pub program: Program<'a>,
-    pub clauses: &'a [Placed<'a>],
+    pub clauses: &'a [ToldClause<'a>],
     pub links: &'a Links,
 }
 
 impl<'a> Listing<'a> {
-    ghost use Rattle.snl_check.specs.ClauseTrees.{IsListing, placed};
-    ghost use Rattle.snl_check.specs.Rows.{items_in};
-    ghost use Rattle.snl_check.specs.Tables.{clause_at, item_name, scope_name, scope_of_variable};
+    ghost use Rattle.snl_check.specs.Collected.{IsListing, items_in};
+    ghost use Rattle.snl_check.specs.Items.{item_name};
+    ghost use Rattle.snl_check.specs.Tables.{scope_name, scope_of_variable};
 
-    /// The clause with a number among all, and what links tell of it.
-    pub(crate) fn clause(&self, number: usize) -> Option<(Placed<'a>, ClauseLink)>
-        requires { IsListing self.now }
-        ensures { option_map (λ p. (placed p.0, p.1)) result ≡ clause_at (items_in self.now.program) self.now.links.now number }
-    {
-        let clause = self.clauses.get(number)?;
-        let link = self.links.clauses().get(number)?;
-        Some((*clause, *link))
-    }
-
-    // Where the name of a state set or of a state stands.
-    fn item_name(&self, item: usize) -> Span
+    /// Where the name of a state set or of a state stands.
+    pub(crate) fn item_name(&self, item: usize) -> Span
         requires { IsListing self.now }
         ensures { result ≡ item_name (items_in self.now.program) item }
     {

@@ -103,7 +103,8 @@ pub(crate) fn add_unknown_options(
     }
 }
 
-fn is_on(sign: OptionSign) -> bool
+/// Whether an option sets its letters.
+pub(crate) fn is_on(sign: OptionSign) -> bool
     ensures { result ≡ is_on sign }
 {
     match sign {

@@ -1,12 +1,12 @@
 //! The items of a text: the number of an item comes in, its tokens, its tree and where they stand go out. It knows no rules.
 
 ghost use Rattle.std.specs.Prelude.{◌≡◌, option_copied};
-ghost use Rattle.snl_check.specs.Rows as rows;
+ghost use Rattle.snl_check.specs.Items as items;
 
-use crate::rows::Span;
 use snl_lex::Piece;
 use snl_scope::Source;
 use snl_syntax::tree::item::Item;
+use snl_tables::Span;
 use std::alloc::Global;
 
 /// The tokens of a text, the number of the token behind each item, and the trees of the items. A faulty item has no tree.
@@ -21,7 +21,7 @@ pub(crate) struct Program<'a> {
 
 // Where a token stands.
 fn span_of(token: Option<&Piece>) -> Span
-    ensures { result ≡ rows.span_of (option_copied token.entry) }
+    ensures { result ≡ items.span_of (option_copied token.entry) }
 {
     match token {
         Some(token) => Span {
@@ -35,7 +35,8 @@ fn span_of(token: Option<&Piece>) -> Span
 impl<'a> Program<'a> {
     ghost use Rattle.std.specs.Prelude.{◌<◌, ◌≤◌, length, option_and_then, slice_get, slice_index};
     ghost use Rattle.snl_scope.specs.Summaries.Tokens.{IsSource};
-    ghost use Rattle.snl_check.specs.Rows.{IsProgram, header_name, items_in, program_name, span_at, start_of, tokens_in, tree_in};
+    ghost use Rattle.snl_check.specs.Collected.{IsProgram, items_in};
+    ghost use Rattle.snl_check.specs.Items.{header_name, program_name, span_at, start_of, tokens_in, tree_in};
 
     // The number of the first token of an item.
     fn start(&self, item: usize) -> usize

@@ -3,16 +3,14 @@
 ghost use Rattle.std.specs.Prelude.{◌≡◌, option_and_then};
 ghost use Rattle.snl_scope.specs.Flags.{flag_number};
 ghost use Rattle.snl_scope.specs.Summaries.Tokens.{IsSource};
-ghost use Rattle.snl_scope.specs.declared.facts.ClauseLink.{ClauseLink};
-ghost use Rattle.snl_check.specs.ClauseTrees.{IsListing, placed};
-ghost use Rattle.snl_check.specs.Rows.{items_in};
+ghost use Rattle.snl_check.specs.Collected.{IsListing, items_in, told};
 ghost use Rattle.snl_check.specs.Tables as tables;
 
-use crate::item_clauses::Placed;
+use crate::item_clauses::ToldClause;
 use crate::listing::Listing;
-use crate::rows::{Queue, Synced};
-use snl_scope::{ClauseLink, Links, Source};
+use snl_scope::{Links, Source};
 use snl_syntax::tree::clause::Clause;
+use snl_tables::{Queue, Synced};
 
 // The queue of a `syncq`.
 fn queue_of(source: &Source, length: Option<usize>) -> Queue
@@ -33,11 +31,11 @@ fn flag_number(links: &Links, flag: Option<usize>) -> Option<usize>
 }
 
 // How a clause syncs what it speaks of.
-fn synced(listing: &Listing, clause: Placed, link: ClauseLink) -> Option<Synced>
+fn synced(listing: &Listing, clause: ToldClause) -> Option<Synced>
     requires { IsListing listing.now }
-    ensures { result ≡ tables.synced listing.now.program.text.now (items_in listing.now.program) listing.now.links.now (placed clause.entry, link) }
+    ensures { result ≡ tables.synced listing.now.program.text.now (items_in listing.now.program) listing.now.links.now (told clause.entry) }
 {
-    let flag = flag_number(listing.links, link.flag);
+    let flag = flag_number(listing.links, clause.link.flag);
     match clause.clause {
         Clause::Sync {
             name: _,
@@ -70,6 +68,6 @@ pub(crate) fn sync_of(listing: &Listing, variable: usize, element: Option<u64>) 
     ensures { result ≡ tables.sync_of listing.now.program.text.now (items_in listing.now.program) listing.now.links.now variable element }
 {
     let number = listing.links.sync_number(variable, element)?;
-    let (clause, link) = listing.clause(number)?;
-    synced(listing, clause, link)
+    let clause = listing.clauses.get(number)?;
+    synced(listing, *clause)
 }

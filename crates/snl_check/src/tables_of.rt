@@ -1,35 +1,85 @@
-//! The tables of a text: its items and their links come in, rows go out. They are made whole after each change of the text.
+//! The tables of a text: its items, their links and what their checks gave come in, rows go out. They are made whole after each
+//! change of the text.
 
 ghost use Rattle.std.specs.Prelude.{◌≡◌, IfOk, length, map, option_copied};
-ghost use Rattle.snl_check.specs.Rows.{IsCutUp, program_items};
-ghost use Rattle.snl_check.specs.Tables.{tables_of};
+ghost use Rattle.snl_lex.specs.Pieces.{pieces_of, tokens_of};
+ghost use Rattle.snl_check.specs.Collected.{IsLinked, items_in, uses_told};
+ghost use Rattle.snl_check.specs.Conditions.{uses_in_item};
+ghost use Rattle.snl_check.specs.Items.{IsCutUp, program_items, summaries_of};
+ghost use Rattle.snl_check.specs.Tables.{tables_by, tables_of};
 
-use crate::channel_rows::channel_rows;
+use crate::channel_numbers::numbers_of;
+use crate::channel_rows::{channel_rows, variables};
+use crate::channels::assigned_channels;
+use crate::findings::Checked;
 use crate::flag_rows::flag_rows;
-use crate::item_clauses::item_clauses;
+use crate::item_clauses::told_clauses;
+use crate::item_lines::item_lines;
 use crate::listing::Listing;
+use crate::option_rows::program_options;
+use crate::outline::Outline;
 use crate::program::Program;
-use crate::rows::Tables;
+use crate::set_rows::set_rows;
+use crate::tokens::tokens_among;
 use snl_cut::OutOfMemory;
 use snl_lex::Piece;
 use snl_scope::Links;
 use snl_syntax::tree::item::Item;
+use snl_tables::Tables;
 use sqlite_items::Items;
 use std::alloc::Global;
 
-/// The tables of a text. `ends` has, for each item, the number of the token behind it; a faulty item has no tree. The links
-/// are to be those of the summaries of these items: what they tell of clauses is put beside the clauses' trees in the order of
-/// the text.
-pub fn tables(
+// The rows of all tables.
+fn rows_of(
+    listing: &Listing,
+    pieces: &[Piece],
+    checked: &[Option<&Checked>],
+) -> Result<Tables, OutOfMemory>
+    requires linked { IsLinked listing.now }
+    requires pieces { pieces.now ≡ pieces_of listing.now.program.text.now }
+    requires tokens { listing.now.program.tokens.now ≡ tokens_of listing.now.program.text.now }
+    requires checked { map uses_told checked.now ≡ map (uses_in_item listing.now.program.text.now) (items_in listing.now.program) }
+    ensures { IfOk result (λ t. t ≡ tables_by listing.now.program.text.now (items_in listing.now.program) listing.now.links.now) }
+{
+    let alloc = listing.program.alloc;
+    let lines = item_lines(&listing.program, pieces)?;
+    let channels = assigned_channels(listing)?;
+    let numbers = numbers_of(alloc, &channels)?;
+    let outline = Outline {
+        listing: *listing,
+        lines: &lines,
+        checked,
+        numbers: &numbers,
+    };
+    let variables = variables(alloc, listing.links.declarations(), &channels)?;
+    Ok(Tables {
+        program: listing.program.name(),
+        options: Items::from_vec(program_options(listing)?),
+        flags: Items::from_vec(flag_rows(listing)?),
+        channels: Items::from_vec(channel_rows(listing, &channels)?),
+        variables: Items::from_vec(variables),
+        sets: Items::from_vec(set_rows(&outline)?),
+    })
+}
+
+/// The tables of a text, by its pieces and the tokens among them. `ends` has, for each item, the number of the token after
+/// it; a faulty item has no tree. `checked` has what the check gave of each item that isn't faulty.
+pub fn tables_by_tokens(
     alloc: Global,
     text: &[u8],
+    pieces: &[Piece],
     tokens: &[Piece],
     ends: &[usize],
     items: &[Option<&Item>],
     links: &Links,
+    checked: &[Option<&Checked>],
 ) -> Result<Tables, OutOfMemory>
-    requires { IsCutUp text.now tokens.now ends.now (length items.now) }
-    ensures { IfOk result (λ t. t ≡ tables_of text.now (program_items tokens.now ends.now (map option_copied items.now)) links.now) }
+    requires pieces { pieces.now ≡ pieces_of text.now }
+    requires tokens { tokens.now ≡ tokens_of text.now }
+    requires cut { IsCutUp text.now tokens.now ends.now (length items.now) }
+    requires links { links.now ≡ summaries_of text.now (program_items tokens.now ends.now (map option_copied items.now)) }
+    requires checked { map uses_told checked.now ≡ map (uses_in_item text.now) (program_items tokens.now ends.now (map option_copied items.now)) }
+    ensures { IfOk result (λ t. t ≡ tables_of text.now (program_items tokens.now ends.now (map option_copied items.now))) }
 {
     let program = Program {
         text,
@@ -38,15 +88,34 @@ pub fn tables(
         trees: items,
         alloc,
     };
-    let clauses = item_clauses(&program)?;
+    let clauses = told_clauses(&program, links)?;
     let listing = Listing {
         program,
         clauses: &clauses,
         links,
     };
-    Ok(Tables {
-        program: program.name(),
-        flags: Items::from_vec(flag_rows(&listing)?),
-        channels: Items::from_vec(channel_rows(&listing)?),
-    })
+    let tables = rows_of(&listing, pieces, checked)?;
+    Ok(tables)
+}
+
+/// The tables of a text, by its pieces. `ends` has, for each item, the number of the token after it; a faulty item has no tree.
+/// `checked` has what the check gave of each item that isn't faulty.
+pub fn tables(
+    alloc: Global,
+    text: &[u8],
+    pieces: &[Piece],
+    ends: &[usize],
+    items: &[Option<&Item>],
+    links: &Links,
+    checked: &[Option<&Checked>],
+) -> Result<Tables, OutOfMemory>
+    requires pieces { pieces.now ≡ pieces_of text.now }
+    requires cut { IsCutUp text.now (tokens_of text.now) ends.now (length items.now) }
+    requires links { links.now ≡ summaries_of text.now (program_items (tokens_of text.now) ends.now (map option_copied items.now)) }
+    requires checked { map uses_told checked.now ≡ map (uses_in_item text.now) (program_items (tokens_of text.now) ends.now (map option_copied items.now)) }
+    ensures { IfOk result (λ t. t ≡ tables_of text.now (program_items (tokens_of text.now) ends.now (map option_copied items.now))) }
+{
+    let tokens = tokens_among(alloc, pieces)?;
+    let tables = tables_by_tokens(alloc, text, pieces, &tokens, ends, items, links, checked)?;
+    Ok(tables)
 }

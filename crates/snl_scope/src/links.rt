@@ -59,7 +59,9 @@ impl Links {
     ghost use Rattle.snl_scope.specs.Clauses.{assigned_by, clause_links, clauses_of, resolve_in};
     ghost use Rattle.snl_scope.specs.Flags as flags;
     ghost use Rattle.snl_scope.specs.Linked.{declaration_at, fact_at, fact_of, faults_of, has_target, state_of};
+    ghost use Rattle.snl_scope.specs.Names.{entries};
     ghost use Rattle.snl_scope.specs.Places.{place};
+    ghost use Rattle.std.specs.Prelude.{length};
 
     /// The state set in which an item stands, by the number of its `ss NAME {` item, or None at program level.
     pub fn place(&self, item: usize) -> Option<usize>
@@ -111,6 +113,13 @@ impl Links {
         ensures { result ≡ declaration_at self.now declaration }
     {
         declaration_of(self.scopes.standing(declaration)?)
+    }
+
+    /// How many numbers of declarations there are, those of the names of state sets and states among them.
+    pub fn declarations(&self) -> usize
+        ensures { result ≡ length (entries self.now) }
+    {
+        self.scopes.count()
     }
 
     /// The event flags, by the numbers of their declarations, in the order of the text.

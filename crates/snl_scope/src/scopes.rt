@@ -40,7 +40,14 @@ impl Scopes {
     ghost use Rattle.snl_scope.specs.Names.{entries, number_in, resolve};
     ghost use Rattle.snl_scope.specs.Places.{place};
     ghost use Rattle.snl_scope.specs.Tables.{standing_of};
-    ghost use Rattle.std.specs.Prelude.{option_map, slice_get};
+    ghost use Rattle.std.specs.Prelude.{length, option_map, slice_get};
+
+    /// How many numbers there are.
+    pub(crate) fn count(&self) -> usize
+        ensures { result ≡ length (entries self.now) }
+    {
+        self.standings.len()
+    }
 
     /// The state set in which an item stands, or None at program level.
     pub(crate) fn place(&self, item: usize) -> Option<usize>

@@ -41,9 +41,9 @@ fn add_statement(statement: &Stmt, named: &mut Vec<usize>) -> Result<(), OutOfMe
     }
 }
 
-// Adds the states that the statements of a block name.
+/// Adds the states that the statements of a block name, by the numbers of their tokens.
 #[cycle(names)]
-fn add_block(members: &[Member], named: &mut Vec<usize>) -> Result<(), OutOfMemory>
+pub fn add_block(members: &[Member], named: &mut Vec<usize>) -> Result<(), OutOfMemory>
     ensures { OnOk result (named.new.items ≡ named.old.items ++ named_by_block members.now) }
 {
     for member in members {

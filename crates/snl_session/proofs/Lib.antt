@@ -5,3 +5,4 @@ pub mod Faults
 pub mod Ranks
 pub mod Sorting
 pub mod Steps
+pub mod Trees

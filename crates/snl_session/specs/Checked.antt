@@ -5,7 +5,9 @@ use Rattle.snl_lex.specs.declared.piece.Piece.{Piece}
 use Rattle.snl_syntax.specs.declared.tree.item.Item.{Item}
 use Rattle.snl_scope.specs.declared.summary.Summary.{Summary}
 use Rattle.snl_scope.specs.Summaries.Tokens.{bytes_at}
+use Rattle.snl_check.specs.declared.findings.Checked.{Checked}
 use Rattle.snl_check.specs.declared.findings.ItemFault.{ItemFault}
+use Rattle.snl_check.specs.declared.wake.WakeUse.{WakeUse}
 use Rattle.snl_check.specs.Found.{faults_in}
 use Rattle.snl_check.specs.Outlook.{is_in_set, known_of, leads_to}
 use Rattle.snl_session.specs.declared.findings.Finding.{Finding}
@@ -35,3 +37,8 @@ found_in_item text ss (i, x) = map (at_own_token x.tokens) (faults_of_item text 
 -- What is found in the items of a text.
 abbrev pub checked_faults : List ℕ → List ProgramItem → List Finding
 checked_faults text xs = flat_map (found_in_item text (summaries_of text xs)) (enumerate_from 0 xs)
+
+-- What the check of an item has told of its conditions. A faulty item has none.
+abbrev pub uses_kept : Option Checked → List WakeUse
+uses_kept None = []
+uses_kept (Some c) = c.wake_uses

@@ -3,9 +3,9 @@ pub mod Diagnostics
 pub mod Edit
 pub mod Faults
 pub mod Linked
+pub mod Listing
 pub mod Order
 pub mod Parts
 pub mod Program
-pub mod Warnings
 pub mod Tables
-pub mod Listing
+pub mod Warnings

@@ -1,22 +1,13 @@
--- What is found by the links of the items of a text, and by the walks of its state sets, each finding at a token of an item.
+-- What is found by the links of the items of a text, each finding at a token of an item.
 use Rattle.std.specs.Prelude.{ℕ, Bool, true, false, if◌then◌else◌, List, map, slice_get, Option, Some, None, option_and_then}
 use Rattle.snl_lex.specs.declared.piece.Piece.{Piece}
 use Rattle.snl_scope.specs.declared.codes.Code.{Code}
-use Rattle.snl_scope.specs.declared.codes.Code.TheVariants.{E01, E02, E03, E04, E05, E06, E18, W02, W03, W04}
+use Rattle.snl_scope.specs.declared.codes.Code.TheVariants.{E01, E02, E03, E04, E05, E06, E18, W03, W04}
 use Rattle.snl_scope.specs.declared.facts.LinkFault.{LinkFault}
-use Rattle.snl_scope.specs.declared.summary.Summary.{Summary}
 use Rattle.snl_scope.specs.Linked as links
-use Rattle.snl_scope.specs.Summaries.{summary_in}
-use Rattle.snl_check.specs.Unreached.{unreached}
 use Rattle.snl_session.specs.declared.findings.Finding.{Finding}
+pub use Rattle.snl_check.specs.Items.{summaries_of}
 use Rattle.snl_session.specs.Program.{ProgramItem}
-
--- What each item says to the others.
-abbrev pub summary_of_item : List ℕ → ProgramItem → Summary
-summary_of_item text x = summary_in text x.tokens x.tree
-
-abbrev pub summaries_of : List ℕ → List ProgramItem → List Summary
-summaries_of text xs = map (summary_of_item text) xs
 
 -- A finding with this code quotes the token at which it stands.
 abbrev pub is_quoted : Code → Bool
@@ -43,14 +34,6 @@ finding_at code (Some token) = record { offset = token.start; code = code; subje
 -- The token of an item by the number of the item and its own number in it.
 abbrev pub token_of : List ProgramItem → ℕ → ℕ → Option Piece
 token_of xs item number = option_and_then (λ x. slice_get x.tokens number) (slice_get xs item)
-
--- A state that is not reached, at its name, which is the second token of its item.
-abbrev pub at_name : List ProgramItem → ℕ → Finding
-at_name xs item = finding_at W02 (token_of xs item 1)
-
--- What is found by the walks of the state sets of a text.
-abbrev pub walked_faults : List ℕ → List ProgramItem → List Finding
-walked_faults text xs = map (at_name xs) (unreached (summaries_of text xs))
 
 -- A finding of the links, at its token.
 abbrev pub placed : List ProgramItem → LinkFault → Finding

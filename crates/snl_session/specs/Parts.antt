@@ -1,6 +1,7 @@
 -- The items of a text as the code keeps them: the number of an item's first token, that of the token behind it, and its tree.
-use Rattle.std.specs.Prelude.{ℕ, ◌-◌, ◌<◌, ◌≤◌, List, [], ◌∷◌, length, take, drop}
+use Rattle.std.specs.Prelude.{ℕ, ◌-◌, ◌≤◌, List, length, take, drop}
 use Rattle.snl_lex.specs.declared.piece.Piece.{Piece}
+pub use Rattle.snl_check.specs.Items.{EndsWithin}
 use Rattle.snl_session.specs.declared.program.Part.{Part}
 use Rattle.snl_session.specs.Program.{ProgramItem}
 
@@ -15,8 +16,3 @@ tokens_between tokens start stop = take (stop - start) (drop start tokens)
 -- The item that a part of the tokens is.
 abbrev pub part_of : List Piece → Part → ProgramItem
 part_of tokens part = record { tokens = tokens_between tokens part.start part.stop; tree = part.tree }
-
--- Each of the ends stands behind the one before it, and none behind `to`.
-abbrev pub EndsWithin : ℕ → List ℕ → ℕ → Type 0
-EndsWithin from [] to = Unit {0}
-EndsWithin from (e ∷ es) to = (from < e) × (e ≤ to) × EndsWithin e es to

@@ -10,6 +10,7 @@ use Rattle.snl_syntax.specs.Items.{item}
 use Rattle.snl_syntax.specs.Marks.{mark_of}
 use Rattle.snl_syntax.specs.Parsing.{is_bad, kinds_in}
 use Rattle.snl_syntax.specs.Reading.Items.{item_of}
+pub use Rattle.snl_check.specs.Items.{ProgramItem}
 
 -- What a token is to the cut into items.
 abbrev pub mark_in : List ℕ → Piece → Mark
@@ -18,11 +19,6 @@ mark_in text p = mark_of p.kind (bytes_at text p)
 -- The tokens of a text, item by item.
 unfoldable pub item_tokens : List ℕ → List (List Piece)
 item_tokens text = members (tokens_of text) 0 (ends_of item (map (mark_in text) (tokens_of text)))
-
--- An item of a text: its tokens, and its tree, which a faulty one has not.
-pub record ProgramItem : Type 0 where
-  pub tokens : List Piece
-  pub tree : Option Item
 
 -- The tree of an item. An item is faulty if it holds a Bad token, or if the grammar has no tree for its tokens.
 abbrev pub tree_in : List ℕ → List Piece → Option Item

@@ -1,7 +1,38 @@
--- The tables of a text, which the text alone defines.
-use Rattle.std.specs.Prelude.{ℕ, List, [], None}
+-- The tables of a text, which the text alone defines, and what is found of the states in them.
+use Rattle.std.specs.Prelude.{ℕ, Bool, true, false, if◌then◌else◌, List, [], ◌∷◌}
+use Rattle.std.specs.List.{flat_map}
+use Rattle.snl_scope.specs.declared.codes.Code.TheVariants.{W02}
+use Rattle.snl_tables.specs.declared.rows.SetRow.{SetRow}
+use Rattle.snl_tables.specs.declared.rows.StateMark.{StateMark}
+use Rattle.snl_tables.specs.declared.rows.StateMark.TheVariants as mark
+use Rattle.snl_tables.specs.declared.rows.StateRow.{StateRow}
 use Rattle.snl_tables.specs.declared.rows.Tables.{Tables}
+use Rattle.snl_check.specs.Tables.{tables_of}
+use Rattle.snl_session.specs.declared.findings.Finding.{Finding}
+use Rattle.snl_session.specs.Program.{ProgramItem, items_of}
 
--- None yet.
+-- The tables that its items give.
 unfoldable pub tables_in : List ℕ → Tables
-tables_in text = record { program = None; options = []; flags = []; channels = []; variables = []; sets = [] }
+tables_in text = tables_of text (items_of text)
+
+abbrev pub is_unreached : StateMark → Bool
+is_unreached mark.Unreached = true
+is_unreached _ = false
+
+-- W02, at the name of a state.
+abbrev pub at_state : StateRow → Finding
+at_state row = record { offset = row.name.start; code = W02; subject = row.name.len }
+
+-- A state that isn't reached.
+abbrev pub found_at_state : StateRow → List Finding
+found_at_state row = if is_unreached row.mark then at_state row ∷ [] else []
+
+abbrev pub found_in_set : SetRow → List Finding
+found_in_set row = flat_map found_at_state row.states
+
+-- What is found by the walks of the state sets of a text.
+abbrev pub walked_in : Tables → List Finding
+walked_in tables = flat_map found_in_set tables.sets
+
+abbrev pub walked_faults : List ℕ → List ProgramItem → List Finding
+walked_faults text xs = walked_in (tables_of text xs)

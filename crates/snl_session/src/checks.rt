@@ -1,17 +1,19 @@
-//! What is found in each item by itself: the items of a program and their links come in, findings at offsets go out.
+//! What is found in each item by itself: the items of a program and their links come in, findings at offsets go out, and what the
+//! check of each item gave.
 //! It knows nothing of the rules.
 #![tactic(auto)]
 
-ghost use Rattle.std.specs.Prelude.{◌≡◌, ◌++◌, All, OnOk, map};
+ghost use Rattle.std.specs.Prelude.{◌≡◌, ◌++◌, All, IfOk, OnOk, map};
 ghost use Rattle.snl_lex.specs.Pieces.{LiesIn};
-ghost use Rattle.snl_session.specs.Checked.{HasOffset, at_own_token, checked_faults, found_in_item};
+ghost use Rattle.snl_check.specs.Conditions.{uses_in_item};
+ghost use Rattle.snl_session.specs.Checked.{HasOffset, at_own_token, checked_faults, found_in_item, uses_kept};
 ghost use Rattle.snl_session.specs.Linked.{summaries_of};
 ghost use Rattle.snl_session.specs.Parts.{IsPart, part_of};
 
 use crate::findings::Finding;
 use crate::linked::finding_at;
 use crate::program::Part;
-use snl_check::{ItemFault, check_item};
+use snl_check::{Checked, ItemFault, check_item};
 use snl_cut::{Count, OutOfMemory};
 use snl_lex::Piece;
 use snl_scope::Links;
@@ -55,18 +57,20 @@ fn add_item(
     item: usize,
     work: &mut Count,
     found: &mut Vec<Finding>,
-) -> Result<(), OutOfMemory>
+) -> Result<Option<Checked>, OutOfMemory>
     requires { All (LiesIn text.now) own.now }
-    ensures { OnOk result (found.new.items ≡ found.old.items ++ found_in_item text.now links.now (item, record { tokens = own.now; tree = tree.now })) }
+    ensures found { OnOk result (found.new.items ≡ found.old.items ++ found_in_item text.now links.now (item, record { tokens = own.now; tree = tree.now })) }
+    ensures uses { IfOk result (λ checked. uses_kept checked ≡ uses_in_item text.now (record { tokens = own.now; tree = tree.now })) }
 {
-    if let Some(tree) = tree {
-        let checked = check_item(alloc, text, own, tree, links, item, work)?;
-        add_at_tokens(own, checked.faults.as_slice(), found)?;
-    }
-    Ok(())
+    let Some(tree) = tree else {
+        return Ok(None);
+    };
+    let checked = check_item(alloc, text, own, tree, links, item, work)?;
+    add_at_tokens(own, checked.faults.as_slice(), found)?;
+    Ok(Some(checked))
 }
 
-/// Adds what is found in each item by itself.
+/// Adds what is found in each item by itself, and gives what the check of each gave that isn't faulty.
 pub fn add_checked_faults(
     alloc: Global,
     text: &[u8],
@@ -74,16 +78,19 @@ pub fn add_checked_faults(
     parts: &[Part],
     links: &Links,
     found: &mut Vec<Finding>,
-) -> Result<(), OutOfMemory>
+) -> Result<Vec<Option<Checked>>, OutOfMemory>
     requires tokens { All (LiesIn text.now) tokens.now }
     requires parts { All (IsPart tokens.now) parts.now }
     requires links { links.now ≡ summaries_of text.now (map (part_of tokens.now) parts.now) }
-    ensures { OnOk result (found.new.items ≡ found.old.items ++ checked_faults text.now (map (part_of tokens.now) parts.now)) }
+    ensures found { OnOk result (found.new.items ≡ found.old.items ++ checked_faults text.now (map (part_of tokens.now) parts.now)) }
+    ensures uses { IfOk result (λ checked. map uses_kept checked.items ≡ map (uses_in_item text.now) (map (part_of tokens.now) parts.now)) }
 {
     let mut work = Count::new();
+    let mut checked = Vec::with_capacity(alloc, parts.len()).map_err(|_| OutOfMemory)?;
     for (item, part) in parts.iter().enumerate() {
         let own = &tokens[part.start..part.stop];
-        add_item(alloc, text, own, &part.tree, links, item, &mut work, found)?;
+        let kept = add_item(alloc, text, own, &part.tree, links, item, &mut work, found)?;
+        checked.push(kept)?;
     }
-    Ok(())
+    Ok(checked)
 }

@@ -1,30 +1,37 @@
-//! The session layer: a text that is edited by ranges of bytes comes in, its diagnostics go out.
-//! Whatever edits led to a text, its diagnostics are those that the text alone defines: the whole text is judged anew at each edit.
-//! Private below it: `program` cuts a text into items and parses them, `summaries` links them, `linked` and `checks` tell what is found by the links and in each item, `order` sorts what is found,
-//! `warnings` says whether those are shown, and `diagnose` joins them all. It knows nothing of scripts, of files or of how a diagnostic is printed.
+//! The session layer: a text that is edited by ranges of bytes comes in, its diagnostics, its tables and its listing go out.
+//! Whatever edits led to a text, these are those that the text alone defines: the whole text is judged anew at each edit.
+//! Private below it: `program` cuts a text into items and parses them, `summaries` links them, `linked`, `checks` and `walked` tell what is found by the links, in each item and by the walks of state sets,
+//! `order` sorts what is found, `warnings` says whether those are shown, `diagnose` tells lines, `tables` has the tables made, and `judge` does both. It knows nothing of scripts, of files or of how a diagnostic is printed.
 #![tactic(auto)]
 
 mod checks;
 mod diagnose;
 mod edits;
 mod findings;
+mod judge;
 mod laws;
 mod linked;
 #[cfg(test)]
 mod linked_tests;
-mod no_tables;
 mod order;
 mod program;
 mod sessions;
 mod summaries;
+mod tables;
+#[cfg(test)]
+mod tables_tests;
 #[cfg(test)]
 mod tests;
+mod walked;
 mod warnings;
 
 pub use edits::{Refused, Work};
 pub use findings::Diagnostic;
 pub use laws::linked_once;
 pub use sessions::Session;
+pub use snl_check::{
+    ChannelRow, Destination, FlagRow, NamedState, OptionRow, Queue, ScopeName, SetRow, Span,
+    StateMark, StateRow, Synced, Tables, WakeUp,
+};
 pub use snl_listing::{Lister, Sink};
 pub use snl_scope::Code;
-pub use snl_tables::Tables;

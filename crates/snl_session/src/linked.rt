@@ -3,7 +3,7 @@
 #![tactic(auto)]
 
 ghost use Rattle.std.specs.Prelude.{◌≡◌, ◌++◌, All, OnOk, map};
-ghost use Rattle.snl_session.specs.Linked.{at_name, finding_at, is_quoted, placed, quoted_bytes, token_of};
+ghost use Rattle.snl_session.specs.Linked.{finding_at, is_quoted, placed, quoted_bytes, token_of};
 ghost use Rattle.snl_session.specs.Parts.{IsPart, part_of};
 
 use crate::findings::Finding;
@@ -80,23 +80,6 @@ pub fn add_placed(
     for fault in faults {
         let token = token_of(tokens, parts, fault.item, fault.token);
         found.push(finding_at(fault.code, token))?;
-    }
-    Ok(())
-}
-
-/// Adds the states that are not reached, at their names.
-pub fn add_unreached(
-    tokens: &[Piece],
-    parts: &[Part],
-    unreached: &[usize],
-    found: &mut Vec<Finding>,
-) -> Result<(), OutOfMemory>
-    requires { All (IsPart tokens.now) parts.now }
-    ensures { OnOk result (found.new.items ≡ found.old.items ++ map (at_name (map (part_of tokens.now) parts.now)) unreached.now) }
-{
-    for item in unreached {
-        let name = token_of(tokens, parts, *item, 1);
-        found.push(finding_at(Code::W02, name))?;
     }
     Ok(())
 }

@@ -2,17 +2,18 @@
 //! It knows nothing of what the trees mean.
 #![tactic(auto)]
 
-ghost use Rattle.std.specs.Prelude.{◌≡◌, ◌<◌, ◌≤◌, ◌++◌, All, IfOk, MatchResult, None, OnOk, Some, filter, length, map, option_to_list};
+ghost use Rattle.std.specs.Prelude.{◌≡◌, ◌<◌, ◌≤◌, ◌++◌, All, IfOk, MatchResult, None, OnOk, Some, length, map, option_to_list};
 ghost use Rattle.std.specs.List.{filter_map};
 ghost use Rattle.snl_cut.specs.Cut.{members};
-ghost use Rattle.snl_lex.specs.Pieces.{LiesIn, is_token, tokens_of};
+ghost use Rattle.snl_lex.specs.Pieces.{LiesIn, tokens_of};
+ghost use Rattle.snl_check.specs.Items.{IsCutUp, program_items};
 ghost use Rattle.snl_session.specs.Faults.{at_token, fault_in, faults_of};
 ghost use Rattle.snl_session.specs.Parts.{EndsWithin, IsPart, part_of, tokens_between};
 ghost use Rattle.snl_session.specs.Program.{items_of, mark_in, program_item, tree_in};
 
 use crate::findings::Finding;
 use snl_cut::{Count, OutOfMemory, cut_all};
-use snl_lex::{Class, Piece};
+use snl_lex::Piece;
 use snl_scope::Code;
 use snl_syntax::tree::item::Item;
 use snl_syntax::{Mark, ParseFault, Tokens, mark, parse_item};
@@ -26,30 +27,12 @@ pub struct Part {
     pub tree: Option<Item>,
 }
 
-/// The items of a text, and what is found at the faulty ones.
+/// The items of a text, the number of the token behind each, and what is found at the faulty ones.
 #[derive(Drop)]
 pub struct Program {
     pub parts: Vec<Part>,
+    pub ends: Vec<usize>,
     pub faults: Vec<Finding>,
-}
-
-fn is_token(piece: &Piece) -> bool
-    ensures { result ≡ is_token piece.now }
-{
-    !matches!(piece.kind, Class::White | Class::Comment | Class::Marker)
-}
-
-/// The tokens among pieces.
-pub fn tokens_among(alloc: Global, pieces: &[Piece]) -> Result<Vec<Piece>, OutOfMemory>
-    ensures { IfOk result (λ tokens. tokens.items ≡ filter is_token pieces.now) }
-{
-    let mut tokens = Vec::new(alloc);
-    for piece in pieces {
-        if is_token(piece) {
-            tokens.push(*piece)?;
-        }
-    }
-    Ok(tokens)
 }
 
 // What the tokens are to the cut into items.
@@ -128,24 +111,29 @@ fn parts_along(
     alloc: Global,
     text: &[u8],
     tokens: &[Piece],
-    ends: &[usize],
+    ends: Vec<usize>,
 ) -> Result<Program, OutOfMemory>
-    requires ends { EndsWithin 0 ends.now (length tokens.now) }
+    requires ends { EndsWithin 0 ends.items (length tokens.now) }
     requires within { All (LiesIn text.now) tokens.now }
-    ensures parts { IfOk result (λ p. map (part_of tokens.now) p.parts.items ≡ map (program_item text.now) (members tokens.now 0 ends.now)) }
+    ensures parts { IfOk result (λ p. map (part_of tokens.now) p.parts.items ≡ map (program_item text.now) (members tokens.now 0 ends.items)) }
+    ensures ends { IfOk result (λ p. p.ends.items ≡ ends.items) }
     ensures inside { IfOk result (λ p. All (IsPart tokens.now) p.parts.items) }
-    ensures faults { IfOk result (λ p. p.faults.items ≡ filter_map (fault_in text.now) (members tokens.now 0 ends.now)) }
+    ensures faults { IfOk result (λ p. p.faults.items ≡ filter_map (fault_in text.now) (members tokens.now 0 ends.items)) }
 {
     let mut parts = Vec::new(alloc);
     let mut faults = Vec::new(alloc);
     let mut work = Count::new();
     let mut start = 0;
-    for stop in ends {
+    for stop in &ends {
         let part = next_part(alloc, text, tokens, start, *stop, &mut faults, &mut work)?;
         parts.push(part)?;
         start = *stop;
     }
-    Ok(Program { parts, faults })
+    Ok(Program {
+        parts,
+        ends,
+        faults,
+    })
 }
 
 /// The items that the tokens of a text are cut into, and what is found at the faulty ones.
@@ -153,10 +141,12 @@ pub fn program_of(alloc: Global, text: &[u8], tokens: &[Piece]) -> Result<Progra
     requires tokens { tokens.now ≡ tokens_of text.now }
     requires within { All (LiesIn text.now) tokens.now }
     ensures parts { IfOk result (λ p. map (part_of tokens.now) p.parts.items ≡ items_of text.now) }
+    ensures cut { IfOk result (λ p. IsCutUp text.now tokens.now p.ends.items (length p.parts.items)) }
+    ensures trees { IfOk result (λ p. program_items tokens.now p.ends.items (map (λ part. part.tree) p.parts.items) ≡ map (part_of tokens.now) p.parts.items) }
     ensures inside { IfOk result (λ p. All (IsPart tokens.now) p.parts.items) }
     ensures faults { IfOk result (λ p. p.faults.items ≡ faults_of text.now) }
 {
     let marks = marks_of(alloc, text, tokens)?;
     let ends = cut_all(alloc, &Tokens, &marks, &mut Count::new())?;
-    parts_along(alloc, text, tokens, &ends)
+    parts_along(alloc, text, tokens, ends)
 }

@@ -1,23 +1,22 @@
-//! The session: edits of a text come in, its diagnostics go out.
+//! The session: edits of a text come in, its diagnostics and tables go out.
 //! An edit has three steps: the test of its range and size, all that takes memory, and the change, which cannot fail.
 #![tactic(auto)]
 
 ghost use Rattle.std.specs.Prelude.{◌≡◌, ℕ, ◌+◌, ◌≤◌, [], ◌++◌, List, length, IfOk, OnOk, OnErr, IsErrOf, IsOkUnless, MatchOption, None, string_bytes};
 
-use crate::diagnose::diagnose;
 use crate::edits::{Refused, Work};
 use crate::findings::Diagnostic;
-use crate::no_tables::no_tables;
+use crate::judge::{Judgement, judge};
+use snl_check::Tables;
 use snl_cut::OutOfMemory;
 use snl_listing::{Lister, listing};
-use snl_tables::Tables;
 use std::alloc::Global;
 use std::marker::Model;
 
 /// The number of bytes that a text has at most.
 const LIMIT: usize = 1_048_576;
 
-/// A text and its diagnostics. Its value is the text: all that it answers is what the text alone defines.
+/// A text, its diagnostics and its tables. Its value is the text: all that it answers is what the text alone defines.
 #[derive(Drop)]
 pub struct Session {
     text: Vec<u8>,
@@ -157,11 +156,13 @@ impl Session {
         requires { length text.items ≤ 1048576 }
         ensures { IfOk result (λ s. s ≡ text.items) }
     {
-        let found = diagnose(alloc, &text)?;
-        let tables = no_tables(alloc, &text);
+        let Judgement {
+            diagnostics,
+            tables,
+        } = judge(alloc, &text)?;
         Ok(Session {
             text,
-            found,
+            found: diagnostics,
             tables,
         })
     }

@@ -10,11 +10,11 @@ use std::test::Fail;
 const UNKNOWN_TARGET: &[u8] = b"program p ss a { state i { when () { } state j } }";
 
 /// A program without faults: a header, a variable on a channel, an event flag, and a state set of two states.
-const WHOLE: &[u8] =
+pub(crate) const WHOLE: &[u8] =
     b"program p\nint x;\nassign x to \"dev:x\";\nmonitor x;\nevflag f;\nsync x to f;\nss a {\nstate s1 {\nwhen (efTest(f) && x > 3) {\npvPut(x);\n} state s2\n}\nstate s2 {\nwhen () { } state s1\n}\n}\n";
 
-// A session over a text.
-fn session_over(alloc: Global, text: &[u8]) -> Result<Session, Refused> {
+/// A session over a text.
+pub(crate) fn session_over(alloc: Global, text: &[u8]) -> Result<Session, Refused> {
     let mut session = Session::new(alloc)?;
     session.edit(0, 0, text)?;
     Ok(session)

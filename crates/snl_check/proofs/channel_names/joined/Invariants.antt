@@ -1,5 +1,5 @@
 use Rattle.std.proofs.Common.{◌≡◌, ◌++◌, drop}
-use Rattle.snl_check.specs.Rows.{joined}
+use Rattle.snl_check.specs.Channels.{joined}
 use Rattle.snl_check.proofs.channel_names.joined.Given as goal
 
 -- what is joined so far and that of the rest is all

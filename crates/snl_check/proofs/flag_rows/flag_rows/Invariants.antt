@@ -1,6 +1,6 @@
 use Rattle.std.proofs.Common.{◌≡◌, ◌++◌, drop}
 use Rattle.std.specs.List.{filter_map}
-use Rattle.snl_check.specs.Rows.{items_in}
+use Rattle.snl_check.specs.Collected.{items_in}
 use Rattle.snl_check.specs.Tables.{flag_row_at}
 use Rattle.snl_check.proofs.flag_rows.flag_rows.Given as goal
 

@@ -1,7 +1,7 @@
 use Rattle.std.proofs.Common.{◌≡◌, ◌++◌, drop, map}
 use Rattle.std.specs.List.{flat_map}
-use Rattle.snl_check.specs.ClauseTrees.{placed}
-use Rattle.snl_check.specs.Rows.{clause_in_member, item_clause}
+use Rattle.snl_check.specs.Collected.{placed}
+use Rattle.snl_check.specs.Clauses.{clause_in_member, item_clause}
 use Rattle.snl_check.proofs.item_clauses.add_members.Given as goal
 
 -- the clauses so far and those of the rest are those of all

@@ -1,5 +1,6 @@
 use Rattle.std.proofs.Common.{◌≡◌, length, ap, ◌∙◌, arith}
-use Rattle.snl_check.specs.Rows.{item_clauses_before, items_in}
+use Rattle.snl_check.specs.Clauses.{item_clauses_before}
+use Rattle.snl_check.specs.Collected.{items_in}
 use Rattle.snl_check.proofs.Items.{count_in}
 use Rattle.snl_check.proofs.item_clauses.item_clauses.Goals as goal
 

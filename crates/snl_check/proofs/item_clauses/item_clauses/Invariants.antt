@@ -1,6 +1,7 @@
 use Rattle.std.proofs.Common.{◌≡◌, map}
-use Rattle.snl_check.specs.ClauseTrees.{placed}
-use Rattle.snl_check.specs.Rows.{item_clauses_before, items_in}
+use Rattle.snl_check.specs.Collected.{placed}
+use Rattle.snl_check.specs.Clauses.{item_clauses_before}
+use Rattle.snl_check.specs.Collected.{items_in}
 use Rattle.snl_check.proofs.item_clauses.item_clauses.Given as goal
 
 -- the clauses of the items so far are collected

@@ -1,5 +1,5 @@
 use Rattle.std.proofs.Common.{◌≡◌, take, map}
-use Rattle.snl_session.specs.Linked.{summary_of_item}
+use Rattle.snl_check.specs.Items.{summary_of_item}
 use Rattle.snl_session.specs.Parts.{part_of}
 use Rattle.snl_session.proofs.summaries.summaries_of.Given as goal
 

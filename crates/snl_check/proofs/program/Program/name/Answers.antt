@@ -1,6 +1,6 @@
 use Rattle.std.proofs.Common.{sym, ap, ◌∙◌, arith}
 use Rattle.std.specs.Option.{is_some}
-use Rattle.snl_check.specs.Rows.{items_in}
+use Rattle.snl_check.specs.Collected.{items_in}
 use Rattle.snl_check.proofs.Items.{count_in, name_at, name_step, no_name}
 use Rattle.snl_check.proofs.program.Program.name.Goals as goal
 

@@ -1,8 +1,0 @@
-use Rattle.std.proofs.Common.{◌≡◌, map, take}
-use Rattle.snl_check.specs.Reach.{target_lists}
-use Rattle.snl_check.specs.Unreached.{target_numbers}
-use Rattle.snl_check.proofs.not_reached.targets_among.Given as goal
-
--- the targets of the states so far
-abbrev pub invariant-loop-state : goal.invariant-loop-state
-invariant-loop-state l = target_lists l.targets.items ≡ map (target_numbers l.summaries l.states) (take l.state-index l.states)

@@ -1,0 +1,52 @@
+-- The clauses of the items of a text: their trees, and beside each what links tell of it.
+use Rattle.std.specs.Prelude.{ℕ, zero, suc, List, [], ◌∷◌, ◌++◌, map, length, Option, None, Some}
+use Rattle.std.specs.List.{flat_map, zip}
+use Rattle.snl_syntax.specs.declared.tree.clause.Clause.{Clause}
+use Rattle.snl_syntax.specs.declared.tree.item.Item.{Item}
+use Rattle.snl_syntax.specs.declared.tree.item.Item.TheVariants as items
+use Rattle.snl_syntax.specs.declared.tree.state.StateMember.{StateMember}
+use Rattle.snl_syntax.specs.declared.tree.state.StateMember.TheVariants as members
+use Rattle.snl_scope.specs.declared.facts.ClauseLink.{ClauseLink}
+use Rattle.snl_scope.specs.declared.summary.Summary.{Summary}
+use Rattle.snl_scope.specs.declared.summary.VariableClause.{VariableClause}
+use Rattle.snl_scope.specs.Clauses.{clause_links}
+use Rattle.snl_scope.specs.Summaries.Clauses.{clause_of}
+use Rattle.snl_check.specs.Items.{ProgramItem, tokens_in, tree_in}
+
+-- The clauses of an item, as trees.
+abbrev pub clause_in_member : StateMember → List Clause
+clause_in_member (members.Clause clause) = clause ∷ []
+clause_in_member _ = []
+
+abbrev pub clauses_in_tree : Item → List Clause
+clauses_in_tree (items.Clause clause) = clause ∷ []
+clauses_in_tree (items.StateBlock name ms) = flat_map clause_in_member ms
+clauses_in_tree _ = []
+
+-- A clause of a text: the number of its item, and its tree.
+pub record ItemClause : Type 0 where
+  pub item : ℕ
+  pub clause : Clause
+
+abbrev pub item_clause : ℕ → Clause → ItemClause
+item_clause item clause = record { item = item; clause = clause }
+
+abbrev pub item_clauses_if : ℕ → Option Item → List ItemClause
+item_clauses_if item None = []
+item_clauses_if item (Some tree) = map (item_clause item) (clauses_in_tree tree)
+
+-- The clauses of the first n items, and of all, in the order of the text.
+abbrev pub item_clauses_before : List ProgramItem → ℕ → List ItemClause
+item_clauses_before xs zero = []
+item_clauses_before xs (suc n) = item_clauses_before xs n ++ item_clauses_if n (tree_in xs n)
+
+abbrev pub item_clauses : List ProgramItem → List ItemClause
+item_clauses xs = item_clauses_before xs (length xs)
+
+-- The clauses of a text in its order, each with what links tell of it.
+abbrev pub told_clauses : List ProgramItem → List Summary → List (ItemClause × ClauseLink)
+told_clauses xs ss = zip (item_clauses xs) (clause_links ss)
+
+-- A clause of a text as the summary of its item has it, with the number of the item.
+abbrev pub summarized : List ℕ → List ProgramItem → ItemClause → ℕ × VariableClause
+summarized text xs c = (c.item, clause_of text (tokens_in xs c.item) c.clause)

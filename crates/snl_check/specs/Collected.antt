@@ -1,0 +1,55 @@
+-- What the code has collected of a text, as what it is in the text.
+use Rattle.std.specs.Prelude.{◌≡◌, ◌<◌, ℕ, List, [], map, length, slice_get, Option, None, Some, option_copied}
+use denote.Ref.{Bor}
+use Rattle.snl_scope.specs.declared.facts.ClauseLink.{ClauseLink}
+use Rattle.snl_check.specs.declared.channels.AssignedChannel.{AssignedChannel}
+use Rattle.snl_check.specs.declared.findings.Checked.{Checked}
+use Rattle.snl_check.specs.declared.item_clauses.Placed.{Placed}
+use Rattle.snl_check.specs.declared.item_clauses.ToldClause.{ToldClause}
+use Rattle.snl_check.specs.declared.listing.Listing.{Listing}
+use Rattle.snl_check.specs.declared.outline.Outline.{Outline}
+use Rattle.snl_check.specs.declared.program.Program.{Program}
+use Rattle.snl_check.specs.declared.wake.WakeUse.{WakeUse}
+use Rattle.snl_check.specs.Channels as channels
+use Rattle.snl_check.specs.Clauses.{ItemClause, told_clauses}
+use Rattle.snl_check.specs.Conditions.{uses_in_item}
+use Rattle.snl_check.specs.Items.{IsCutUp, ProgramItem, program_items, summaries_of}
+use Rattle.snl_check.specs.Numbered.{Numbered}
+use Rattle.snl_check.specs.States.{line_of_item}
+
+abbrev pub items_in : Program → List ProgramItem
+items_in p = program_items p.tokens.now p.ends.now (map option_copied p.trees.now)
+
+abbrev pub IsProgram : Program → Type 0
+IsProgram p = IsCutUp p.text.now p.tokens.now p.ends.now (length p.trees.now)
+
+abbrev pub placed : Placed → ItemClause
+placed p = record { item = p.item; clause = p.clause.now }
+
+abbrev pub told : ToldClause → ItemClause × ClauseLink
+told t = (record { item = t.item; clause = t.clause.now }, t.link)
+
+-- The clauses are those of the program's items, with what links tell of each.
+pub record IsListing (l : Listing) : Type 0 where
+  pub program : IsProgram l.program
+  pub clauses : map told l.clauses.now ≡ told_clauses (items_in l.program) l.links.now
+
+-- The links are those of the items.
+pub record IsLinked (l : Listing) : Type 0 where
+  pub listing : IsListing l
+  pub summaries : l.links.now ≡ summaries_of l.program.text.now (items_in l.program)
+
+abbrev pub assigned : AssignedChannel → channels.AssignedChannel
+assigned c = record { item = c.item; token = c.token; variable = c.variable; element = c.element; strings = c.strings.now }
+
+-- What the check of an item has told of its conditions.
+abbrev pub uses_told : Option (Bor Checked) → List WakeUse
+uses_told None = []
+uses_told (Some c) = c.now.wake_uses
+
+-- What the rows of states are made from.
+pub record IsOutline (o : Outline) : Type 0 where
+  pub linked : IsLinked o.listing
+  pub lines : (i : ℕ) → i < length o.listing.program.trees.now → slice_get o.lines.now i ≡ Some (line_of_item o.listing.program.text.now (items_in o.listing.program) i)
+  pub checked : map uses_told o.checked.now ≡ map (uses_in_item o.listing.program.text.now) (items_in o.listing.program)
+  pub numbered : Numbered o.numbers.now (channels.assigned_channels o.listing.program.text.now (items_in o.listing.program) o.listing.links.now)

@@ -1,0 +1,43 @@
+-- What the conditions of a state mean: the event flags and channels on a change of which it wakes up.
+use Rattle.std.specs.Prelude.{ℕ, if◌then◌else◌, List, [], slice_get, Option, None, Some, option_and_then, option_map}
+use Rattle.std.specs.List.{filter_map}
+use Rattle.std.specs.Option.{option_map_or}
+use Rattle.snl_scope.specs.declared.summary.Summary.{Summary}
+use Rattle.snl_scope.specs.Clauses.{resolve_in}
+use Rattle.snl_scope.specs.Flags.{flag_number}
+use Rattle.snl_scope.specs.Summaries.Tokens.{bytes_at}
+use Rattle.snl_tables.specs.declared.rows.WakeUp.{WakeUp}
+use Rattle.snl_tables.specs.declared.rows.WakeUp.TheVariants as wake
+use Rattle.snl_check.specs.declared.wake.WakeUse.{WakeUse}
+use Rattle.snl_check.specs.Channels.{AssignedChannel, covers_elements, element_number}
+use Rattle.snl_check.specs.Items.{ProgramItem, tokens_in}
+use Rattle.snl_check.specs.Wake.{wake_uses}
+
+-- The uses of names in the conditions of an item. A faulty one has none.
+abbrev pub uses_in_item : List ℕ → ProgramItem → List WakeUse
+uses_in_item text x = option_map_or (wake_uses (bytes_at text x.tokens)) x.tree []
+
+-- Those of the item with a number.
+abbrev pub uses_in : List ℕ → List ProgramItem → ℕ → List WakeUse
+uses_in text xs item = option_map_or (uses_in_item text) (slice_get xs item) []
+
+-- A variable with a subscript means the channel of that element, where elements are assigned; any other mention means all its
+-- channels.
+abbrev pub on_variable : List AssignedChannel → Option ℕ → ℕ → Option WakeUp
+on_variable cs None variable = Some (wake.Variable variable)
+on_variable cs (Some e) variable =
+    if covers_elements cs variable then option_map wake.Channel (element_number cs variable (Some e)) else Some (wake.Variable variable)
+
+-- An event flag means itself.
+abbrev pub on_declaration : List Summary → List AssignedChannel → Option ℕ → ℕ → Option WakeUp
+on_declaration ss cs subscript number =
+    elim (flag_number ss number) [ Some flag ↦ Some (wake.Flag flag) | None ↦ on_variable cs subscript number ]
+
+-- What a use of a name in an item means. A name that resolves to nothing means nothing.
+abbrev pub wake_up : List ℕ → List ProgramItem → List Summary → List AssignedChannel → ℕ → WakeUse → Option WakeUp
+wake_up text xs ss cs item used =
+    option_and_then (on_declaration ss cs used.subscript) (resolve_in ss item (bytes_at text (tokens_in xs item) used.token))
+
+-- What the uses in the conditions of an item mean, in the order of the text.
+abbrev pub wake_ups : List ℕ → List ProgramItem → List Summary → List AssignedChannel → ℕ → List WakeUse → List WakeUp
+wake_ups text xs ss cs item uses = filter_map (wake_up text xs ss cs item) uses

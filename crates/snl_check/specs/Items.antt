@@ -1,0 +1,90 @@
+-- The items of a text: its tokens, cut into items, each with its tree; what each says to the others; and where their tokens
+-- are. Whatever speaks of the items of a text speaks of them by these words.
+use Rattle.std.specs.Prelude.{◌≡◌, ℕ, zero, suc, ◌<◌, ◌≤◌, List, [], ◌∷◌, ◌++◌, map, length, get_or, slice_get, Option, None, Some, option_and_then, option_map, option_to_list}
+use Rattle.std.specs.List.{zip}
+use Rattle.std.specs.Option.{option_map_or, option_or}
+use Rattle.snl_cut.specs.Cut.{members}
+use Rattle.snl_lex.specs.declared.piece.Piece.{Piece}
+use Rattle.snl_syntax.specs.declared.tree.item.Item.{Item}
+use Rattle.snl_syntax.specs.declared.tree.item.Item.TheVariants as items
+use Rattle.snl_scope.specs.declared.summary.Summary.{Summary}
+use Rattle.snl_scope.specs.Summaries.{summary_in}
+use Rattle.snl_scope.specs.Summaries.Tokens.{IsSource}
+use Rattle.snl_tables.specs.declared.rows.Span.{Span}
+
+-- An item of a text: its tokens, and its tree, which a faulty one has not.
+pub record ProgramItem : Type 0 where
+  pub tokens : List Piece
+  pub tree : Option Item
+
+-- The items of a text whose tokens end, item by item, at these numbers.
+abbrev pub program_items : List Piece → List ℕ → List (Option Item) → List ProgramItem
+program_items tokens ends trees = map (λ p. record { tokens = p.0; tree = p.1 }) (zip (members tokens 0 ends) trees)
+
+-- Each of the ends is after the one before it, and none after `to`.
+abbrev pub EndsWithin : ℕ → List ℕ → ℕ → Type 0
+EndsWithin from [] to = Unit {0}
+EndsWithin from (e ∷ es) to = (from < e) × (e ≤ to) × EndsWithin e es to
+
+-- Tokens of a text, cut into items: each token lies in the text, each end is among the tokens, and each item has a tree or is
+-- faulty.
+pub record IsCutUp (text : List ℕ) (tokens : List Piece) (ends : List ℕ) (count : ℕ) : Type 0 where
+  pub source : IsSource text tokens
+  pub within : EndsWithin 0 ends (length tokens)
+  pub each : count ≡ length ends
+
+-- The number of the first token of the item with a number, where the first item begins at `from`.
+abbrev pub start_of : ℕ → List ℕ → ℕ → ℕ
+start_of from ends zero = from
+start_of from ends (suc i) = get_or ends i 0
+
+-- The tokens of the item with a number; none, where there is no such item.
+abbrev pub tokens_in : List ProgramItem → ℕ → List Piece
+tokens_in xs item = option_map_or (λ x. x.tokens) (slice_get xs item) []
+
+-- The tree of the item with a number.
+abbrev pub tree_in : List ProgramItem → ℕ → Option Item
+tree_in xs item = option_and_then (λ x. x.tree) (slice_get xs item)
+
+-- What an item says to the others, and what each of the items does.
+abbrev pub summary_of_item : List ℕ → ProgramItem → Summary
+summary_of_item text x = summary_in text x.tokens x.tree
+
+abbrev pub summaries_of : List ℕ → List ProgramItem → List Summary
+summaries_of text xs = map (summary_of_item text) xs
+
+-- Where a token is. A token that isn't there is nowhere, with no bytes.
+abbrev pub span_of : Option Piece → Span
+span_of None = record { start = 0; len = 0 }
+span_of (Some p) = record { start = p.start; len = p.len }
+
+-- Where a token of an item is, by the number of the item and its own number in it.
+abbrev pub span_at : List ProgramItem → ℕ → ℕ → Span
+span_at xs item number = span_of (slice_get (tokens_in xs item) number)
+
+-- A state set and a state are named by the second token of their item.
+abbrev pub item_name : List ProgramItem → ℕ → Span
+item_name xs item = span_at xs item 1
+
+-- Where an item begins.
+abbrev pub item_start : List ProgramItem → ℕ → ℕ
+item_start xs item = (span_at xs item 0).start
+
+-- What the numbers below n give, in order.
+abbrev pub gathered : {X : Type 0} → (ℕ → Option X) → ℕ → List X
+gathered f zero = []
+gathered f (suc n) = gathered f n ++ option_to_list (f n)
+
+-- The token that names a program.
+abbrev pub named_by : Option Item → Option ℕ
+named_by (Some (items.Header name parameters)) = Some name
+named_by _ = None
+
+-- Where the name of a program is, if the item is a header.
+abbrev pub header_name : ProgramItem → Option Span
+header_name x = option_map (λ number. span_of (slice_get x.tokens number)) (named_by x.tree)
+
+-- Where the name of the program is: that of the first header that isn't faulty.
+abbrev pub program_name : List ProgramItem → Option Span
+program_name [] = None
+program_name (x ∷ xs) = option_or (header_name x) (program_name xs)

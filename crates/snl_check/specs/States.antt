@@ -1,0 +1,104 @@
+-- The rows of state sets and of their states.
+use Rattle.std.specs.Prelude.{ℕ, Bool, not, if◌then◌else◌, List, [], ◌∷◌, map, length, Option, Some}
+use Rattle.std.specs.List.{enumerate_from, flat_map}
+use Rattle.snl_lex.specs.declared.lines.Line.{Line}
+use Rattle.snl_lex.specs.Lines.{line_at}
+use Rattle.snl_syntax.specs.declared.tree.item.Item.{Item}
+use Rattle.snl_syntax.specs.declared.tree.item.Item.TheVariants as items
+use Rattle.snl_syntax.specs.declared.tree.state.StateMember.{StateMember}
+use Rattle.snl_syntax.specs.declared.tree.state.StateMember.TheVariants as members
+use Rattle.snl_syntax.specs.declared.tree.state.Target.{Target}
+use Rattle.snl_syntax.specs.declared.tree.state.Target.TheVariants as target
+use Rattle.snl_scope.specs.declared.summary.Summary.{Summary}
+use Rattle.snl_scope.specs.Below.{all_below}
+use Rattle.snl_scope.specs.Linked.{has_target}
+use Rattle.snl_scope.specs.Places.{is_set_begin}
+use Rattle.snl_scope.specs.Summaries.Targets.{named_by_block}
+use Rattle.snl_scope.specs.Summaries.Tokens.{bytes_at}
+use Rattle.snl_tables.specs.declared.rows.Destination.{Destination}
+use Rattle.snl_tables.specs.declared.rows.Destination.TheVariants as destinations
+use Rattle.snl_tables.specs.declared.rows.NamedState.{NamedState}
+use Rattle.snl_tables.specs.declared.rows.SetRow.{SetRow}
+use Rattle.snl_tables.specs.declared.rows.StateMark.{StateMark}
+use Rattle.snl_tables.specs.declared.rows.StateMark.TheVariants as mark
+use Rattle.snl_tables.specs.declared.rows.StateRow.{StateRow}
+use Rattle.snl_check.specs.Channels.{assigned_channels}
+use Rattle.snl_check.specs.Conditions.{uses_in, wake_ups}
+use Rattle.snl_check.specs.Items.{ProgramItem, item_name, item_start, span_at, tokens_in, tree_in}
+use Rattle.snl_check.specs.Members.{has_faulty, is_faulty_item, is_first_state, states_in, targets_among}
+use Rattle.snl_check.specs.Reach.{is_reached}
+use Rattle.snl_check.specs.Settings.{state_options}
+
+-- The members of a state. A faulty one has none.
+abbrev pub members_in : Option Item → List StateMember
+members_in (Some (items.StateBlock name ms)) = ms
+members_in _ = []
+
+-- A state that an item names at a token, with whether the state set of the item has one of the name.
+abbrev pub named_state : List ℕ → List ProgramItem → List Summary → ℕ → ℕ → NamedState
+named_state text xs ss item token = record {
+  name = span_at xs item token;
+  is_known = has_target ss item (bytes_at text (tokens_in xs item) token);
+}
+
+-- Where a transition leads.
+abbrev pub destination : List ℕ → List ProgramItem → List Summary → ℕ → Target → Destination
+destination text xs ss item (target.State name) = destinations.State (named_state text xs ss item name)
+destination text xs ss item target.Exit = destinations.Exit
+
+abbrev pub destinations_in_member : List ℕ → List ProgramItem → List Summary → ℕ → StateMember → List Destination
+destinations_in_member text xs ss item (members.When t) = destination text xs ss item t.target ∷ []
+destinations_in_member text xs ss item _ = []
+
+-- The states that statements `state NAME;` in the blocks of transitions name.
+abbrev pub jumps_in_member : StateMember → List ℕ
+jumps_in_member (members.When t) = named_by_block t.block
+jumps_in_member _ = []
+
+-- The line of an item is that of its first token.
+abbrev pub line_of_item : List ℕ → List ProgramItem → ℕ → Line
+line_of_item text xs item = line_at text (item_start xs item)
+
+-- A state whose name an earlier state of its set has.
+abbrev pub is_repeated : List Summary → ℕ → Bool
+is_repeated ss j = not (is_first_state ss j)
+
+-- A walk along targets leads to the state with a number from the first of the set that item k begins.
+abbrev pub is_reached_in : List Summary → ℕ → ℕ → Bool
+is_reached_in ss k number = is_reached (targets_among ss (states_in ss k)) number
+
+-- What is known of state j, which has this number in the set that item k begins: the first that holds.
+abbrev pub mark_of : List Summary → ℕ → ℕ → ℕ → StateMark
+mark_of ss k number j =
+    if is_faulty_item ss j then mark.Faulty
+    else if is_repeated ss j then mark.Repeated
+    else if has_faulty ss k then mark.Unknown
+    else if is_reached_in ss k number then mark.Reached
+    else mark.Unreached
+
+-- The row of a state.
+abbrev pub state_row : List ℕ → List ProgramItem → List Summary → StateMark → ℕ → StateRow
+state_row text xs ss m item = record {
+  name = item_name xs item;
+  line = line_of_item text xs item;
+  mark = m;
+  options = state_options (bytes_at text (tokens_in xs item)) (members_in (tree_in xs item));
+  transitions = flat_map (destinations_in_member text xs ss item) (members_in (tree_in xs item));
+  gotos = map (named_state text xs ss item) (flat_map jumps_in_member (members_in (tree_in xs item)));
+  wake = wake_ups text xs ss (assigned_channels text xs ss) item (uses_in text xs item);
+}
+
+abbrev pub numbered_row : List ℕ → List ProgramItem → List Summary → ℕ → ℕ × ℕ → StateRow
+numbered_row text xs ss k (number, item) = state_row text xs ss (mark_of ss k number item) item
+
+-- The states of the set that item k begins, in the order of the text.
+abbrev pub state_rows : List ℕ → List ProgramItem → List Summary → ℕ → List StateRow
+state_rows text xs ss k = map (numbered_row text xs ss k) (enumerate_from 0 (states_in ss k))
+
+-- The row of an item that begins a state set.
+abbrev pub set_row : List ℕ → List ProgramItem → List Summary → ℕ → SetRow
+set_row text xs ss k = record { name = item_name xs k; line = line_of_item text xs k; states = state_rows text xs ss k }
+
+-- The state sets in the order of the text.
+abbrev pub set_rows : List ℕ → List ProgramItem → List Summary → List SetRow
+set_rows text xs ss = map (set_row text xs ss) (all_below (is_set_begin ss) (length ss))

@@ -1,0 +1,5 @@
+use Rattle.std.proofs.Common.{◌≡◌, map, take, option_copied}
+use Rattle.snl_session.proofs.tables.trees_of.Given as goal
+
+abbrev pub invariant-loop-part : goal.invariant-loop-part
+invariant-loop-part l = map option_copied l.trees.items ≡ map (λ part. part.tree) (take l.part-index l.parts)
