@@ -2,3 +2,4 @@ pub mod AnswerLemmas
 pub mod RunLemmas
 pub mod SaidLemmas
 pub mod ScriptLemmas
+pub mod ListingLemmas

@@ -10,7 +10,7 @@ use Rattle.snl_cli.specs.declared.faults.RunFault.TheVariants.{Read, Write, Scri
 use Rattle.snl_cli.specs.declared.faults.Status.{Status}
 use Rattle.snl_cli.specs.declared.script.Command.{Command}
 use Rattle.snl_cli.specs.declared.script.Heading.{Heading}
-use Rattle.snl_cli.specs.declared.script.Heading.TheVariants.{Check, Edit}
+use Rattle.snl_cli.specs.declared.script.Heading.TheVariants.{Check, List as Listing, Edit}
 use Rattle.snl_cli.specs.Ahead.{Gains}
 use Rattle.snl_cli.specs.Faults.{fault_of_read}
 use Rattle.snl_cli.specs.Front.{IsWhole, request_of, unfinished}
@@ -42,6 +42,7 @@ edit-room request len bytes behind next h = some (drop len bytes) h (length-drop
 headed-grows : (heading : Option Heading) (bytes more behind : List ℕ) (next : Request) → headed heading bytes ≡ Then next behind → headed heading (bytes ++ more) ≡ Then next (behind ++ more)
 headed-grows None bytes more behind next h = cc
 headed-grows (Some Check) bytes more behind next h = cc
+headed-grows (Some Listing) bytes more behind next h = cc
 headed-grows (Some (Edit start stop len)) bytes more behind next h =
     let room : len ≤ length bytes = edit-room _ len bytes behind next h in
     rw (take-append-le len bytes more room, drop-append-le len bytes more room) (closed-grows _ (drop len bytes) more behind next h)

@@ -8,17 +8,7 @@ use Rattle.std.proofs.lemmas.Result.{MatchResult-from_err}
 use Rattle.std.proofs.lemmas.List.{append-nil, flat_map_more, take-append-drop, take_more}
 use Rattle.std.specs.Io.KnownBytes.{Appends, Keeps}
 use Rattle.snl_cli.specs.Said.{AppendsPart, Says, Said, Written}
-
--- bytes written behind bytes
-pub Appends-on : (o m n : Option (List ℕ)) (xs ys : List ℕ) → Appends o m xs → Appends m n ys → Appends o n (xs ++ ys)
-Appends-on None m n xs ys h k = tt
-Appends-on (Some o) None n xs ys h k = absurd h
-Appends-on (Some o) (Some m) None xs ys h k = absurd k
-Appends-on (Some o) (Some m) (Some n) xs ys h k = k ∙ ap (λ l. l ++ ys) h ∙ append_assoc o xs ys
-
-pub Appends-none : (o : Option (List ℕ)) → Appends o o []
-Appends-none None = tt
-Appends-none (Some o) = sym (append-nil o)
+pub use Rattle.snl_cli.specs.SaidLaws.{AppendsPart-same, Says-same, Appends-on, Appends-none, AppendsPart-front, Says-page, Says-on, AppendsPart-on}
 
 pub Appends-same : (o n : Option (List ℕ)) (xs ys : List ℕ) → xs ≡ ys → Appends o n xs → Appends o n ys
 Appends-same o n xs ys e h = rw (← e) h
@@ -36,44 +26,13 @@ Appends-nothing o m n xs ys e h k = Appends-same o n (xs ++ ys) xs (ap (λ l. xs
 pub AppendsPart-take : (o n : Option (List ℕ)) (at : ℕ) (xs : List ℕ) → Appends o n (take at xs) → AppendsPart o n xs
 AppendsPart-take o n at xs h = record { written = take at xs; lost = drop at xs; part = take-append-drop at xs; grown = h }
 
--- a part of the front of the bytes was written
-pub AppendsPart-front : (o n : Option (List ℕ)) (xs ys : List ℕ) → AppendsPart o n xs → AppendsPart o n (xs ++ ys)
-AppendsPart-front o n xs ys p = record { written = p.written; lost = p.lost ++ ys; part = sym (append_assoc p.written p.lost ys) ∙ ap (λ l. l ++ ys) p.part; grown = p.grown }
-
-pub AppendsPart-same : (o n : Option (List ℕ)) (xs ys : List ℕ) → xs ≡ ys → AppendsPart o n xs → AppendsPart o n ys
-AppendsPart-same o n xs ys e p = record { written = p.written; lost = p.lost; part = p.part ∙ e; grown = p.grown }
-
 -- bytes were written, and then a part of more
 pub AppendsPart-after : (o m n : Option (List ℕ)) (xs ys : List ℕ) → Appends o m xs → AppendsPart m n ys → AppendsPart o n (xs ++ ys)
 AppendsPart-after o m n xs ys h p = record { written = xs ++ p.written; lost = p.lost; part = append_assoc xs p.written p.lost ∙ ap (λ l. xs ++ l) p.part; grown = Appends-on o m n xs p.written h p.grown }
 
--- nothing was said yet but what stands on the page
-pub Says-page : (o : Option (List ℕ)) (page bytes : List ℕ) → page ≡ bytes → Says o o page bytes
-Says-page o page bytes e = record { written = []; all = e; grown = Appends-none o }
-
 -- all of the bytes were written, and the page is empty
 pub Says-written : (o n : Option (List ℕ)) (page bytes : List ℕ) → page ≡ [] → Appends o n bytes → Says o n page bytes
 Says-written o n page bytes e h = record { written = bytes; all = ap (λ l. bytes ++ l) e ∙ append-nil bytes; grown = h }
-
--- bytes were said, and then more
-pub Says-on : (o m n : Option (List ℕ)) (p q xs ys : List ℕ) → Says o m p xs → Says m n q (p ++ ys) → Says o n q (xs ++ ys)
-Says-on o m n p q xs ys h k = record {
-  written = h.written ++ k.written;
-  all = append_assoc h.written k.written q ∙ ap (λ l. h.written ++ l) k.all ∙ sym (append_assoc h.written p ys) ∙ ap (λ l. l ++ ys) h.all;
-  grown = Appends-on o m n h.written k.written h.grown k.grown;
-}
-
--- bytes were said, and a part of more was written
-pub AppendsPart-on : (o m n : Option (List ℕ)) (p xs ys : List ℕ) → Says o m p xs → AppendsPart m n (p ++ ys) → AppendsPart o n (xs ++ ys)
-AppendsPart-on o m n p xs ys h k = record {
-  written = h.written ++ k.written;
-  lost = k.lost;
-  part = append_assoc h.written k.written k.lost ∙ ap (λ l. h.written ++ l) k.part ∙ sym (append_assoc h.written p ys) ∙ ap (λ l. l ++ ys) h.all;
-  grown = Appends-on o m n h.written k.written h.grown k.grown;
-}
-
-pub Says-same : (o n : Option (List ℕ)) (p xs ys : List ℕ) → xs ≡ ys → Says o n p xs → Says o n p ys
-Says-same o n p xs ys e h = record { written = h.written; all = h.all ∙ e; grown = h.grown }
 
 -- the page was written, and it held the rest
 pub Appends-finished : (o m n : Option (List ℕ)) (p xs : List ℕ) → Says o m p xs → Appends m n p → Appends o n xs

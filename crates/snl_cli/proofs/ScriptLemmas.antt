@@ -10,7 +10,7 @@ use Rattle.snl_cli.specs.declared.script.Front.{Front}
 use Rattle.snl_cli.specs.declared.script.Front.TheVariants.{Short, Malformed, Whole}
 use Rattle.snl_cli.specs.declared.script.Heading.{Heading}
 use Rattle.snl_cli.specs.Front.{IsFront, IsFrontBehind, request_of, unfinished}
-use Rattle.snl_cli.specs.Script.{Unknown, Then, check_of, edit_of, headed, heading_of, lined, next_of, words_of}
+use Rattle.snl_cli.specs.Script.{Unknown, Then, edit_of, headed, heading_of, lined, lone, next_of, words_of}
 
 -- where a place is found
 found_place : (a n i : ℕ) → cond (ltb a n) (Some a) None ≡ Some i → (a ≡ i) × (i < n)
@@ -58,9 +58,9 @@ one_word (b ∷ bytes) = split (b == 32)
 pub edit_of_more : (a b c more : List ℕ) → edit_of (a ∷ b ∷ c ∷ words_of more) ≡ None
 edit_of_more a b c more = let w = one_word more in ap (λ (l : List (List ℕ)). edit_of (a ∷ b ∷ c ∷ l)) w.2
 
--- `check` has no second word
-pub check_of_more : (more : List ℕ) → check_of (words_of more) ≡ None
-check_of_more more = let w = one_word more in ap check_of w.2
+-- a lone command has no second word
+pub lone_more : (heading : Heading) (more : List ℕ) → lone heading (words_of more) ≡ None
+lone_more heading more = let w = one_word more in ap (lone heading) w.2
 
 -- the place of the first LF
 abbrev feed_place : List ℕ → ℕ

@@ -1,10 +1,11 @@
 -- What is answered to a command.
-use Rattle.std.specs.Prelude.{ℕ, ◌/◌, ◌%◌, ◌&&◌, ◌++◌, List, [], ◌∷◌, take, drop, flat_map, Option, Some, None, nat_le, if◌then◌else◌, codes, decimal}
+use Rattle.std.specs.Prelude.{ℕ, Bool, true, false, ◌/◌, ◌%◌, ◌&&◌, ◌++◌, List, [], ◌∷◌, take, drop, flat_map, Option, Some, None, nat_le, if◌then◌else◌, codes, decimal}
 use Rattle.std.specs.Char.{digit_char}
 use Rattle.std.specs.List.{concat}
 use Rattle.snl_session.specs.declared.edits.Refused.{Refused}
 use Rattle.snl_session.specs.declared.edits.Refused.TheVariants.{Range, Size, Memory}
 use Rattle.snl_session.specs.declared.findings.Diagnostic.{Diagnostic}
+use Rattle.snl_session.specs.Listing.{listing_text}
 use Rattle.snl_session.specs.Diagnostics.{diagnostics_of, errors_of, message_of, name_of, warnings_of}
 
 -- So many bytes of a text from an offset on.
@@ -55,3 +56,8 @@ refusal_text Memory = codes "refused memory\n"
 abbrev pub edit_text : Option Refused → List ℕ
 edit_text None = codes "ok\n"
 edit_text (Some refused) = refusal_text refused
+
+-- The answer to `list`: the listing of the text and `end`, or that memory is wanting for it.
+abbrev pub list_text : (text : List ℕ) → (starved : Bool) → List ℕ
+list_text text true = codes "refused memory\n"
+list_text text false = listing_text text ++ codes "end\n"

@@ -4,7 +4,10 @@ pub mod Faults
 pub mod File
 pub mod Front
 pub mod Run
+pub mod Paged
+pub mod PagedLaws
 pub mod Said
+pub mod SaidLaws
 pub mod Script
 pub mod Transcript
 pub mod Watched

@@ -5,11 +5,12 @@ use Rattle.std.specs.List.{list_all, slice_split}
 use Rattle.std.specs.Str.{bytes_eq}
 use Rattle.std.specs.Str.Parse.{digits_value}
 use Rattle.snl_cli.specs.declared.script.Heading.{Heading}
-use Rattle.snl_cli.specs.declared.script.Heading.TheVariants.{Check, Edit}
+use Rattle.snl_cli.specs.declared.script.Heading.TheVariants.{Check, List as Listing, Edit}
 
 -- A command, with the bytes that an edit puts in.
 pub data Request : Type 0 where
   Checks : Request
+  Lists : Request
   Edits : (start stop : ℕ) (new : List ℕ) → Request
 
 -- What the bytes of a script begin with: there are none, or no well-formed command stands whole at their front, or a command and what is behind it.
@@ -40,16 +41,17 @@ abbrev pub edit_of : List (List ℕ) → Option Heading
 edit_of (start ∷ stop ∷ len ∷ []) = edit_with (number_of start) (number_of stop) (number_of len)
 edit_of words = None
 
--- `check`, which has no word behind the first.
-abbrev pub check_of : List (List ℕ) → Option Heading
-check_of [] = Some Check
-check_of words = None
+-- A command that has no word behind the first.
+abbrev pub lone : Heading → List (List ℕ) → Option Heading
+lone heading [] = Some heading
+lone heading words = None
 
 -- What a command's line says.
 abbrev pub heading_of : List (List ℕ) → Option Heading
 heading_of [] = None
 heading_of (word ∷ words) =
-    if bytes_eq word (codes "check") then check_of words
+    if bytes_eq word (codes "check") then lone Check words
+    else if bytes_eq word (codes "list") then lone Listing words
     else if bytes_eq word (codes "edit") then edit_of words
     else None
 
@@ -62,6 +64,7 @@ closed request (b ∷ rest) = if b == 10 then Then request rest else Unknown
 abbrev pub headed : Option Heading → List ℕ → Next
 headed None behind = Unknown
 headed (Some Check) behind = Then Checks behind
+headed (Some Listing) behind = Then Lists behind
 headed (Some (Edit start stop len)) behind = closed (Edits start stop (take len behind)) (drop len behind)
 
 -- A command's line has at most 80 bytes without its LF.

@@ -7,8 +7,8 @@ use Rattle.snl_session.specs.Diagnostics.{errors_of}
 use Rattle.snl_session.specs.Edit.{refusal_of, spliced}
 use Rattle.snl_cli.specs.declared.faults.Status.{Status}
 use Rattle.snl_cli.specs.declared.faults.Status.TheVariants.{Clean, Errors}
-use Rattle.snl_cli.specs.Answers.{edit_text, report_of}
-use Rattle.snl_cli.specs.Script.{Request, Checks, Edits, Then, next_of}
+use Rattle.snl_cli.specs.Answers.{edit_text, list_text, report_of}
+use Rattle.snl_cli.specs.Script.{Request, Checks, Lists, Edits, Then, next_of}
 
 -- A command, and whether it was refused for want of memory.
 pub record Turn : Type 0 where
@@ -32,16 +32,19 @@ edited (Some refused) old new = old
 -- The answer to a command.
 abbrev pub reply : (text : List ℕ) → Request → (starved : Bool) → List ℕ
 reply text Checks starved = report_of text
+reply text Lists starved = list_text text starved
 reply text (Edits start stop new) starved = edit_text (refused_for text start stop new starved)
 
 -- The text behind a command.
 abbrev pub after : (text : List ℕ) → Request → (starved : Bool) → List ℕ
 after text Checks starved = text
+after text Lists starved = text
 after text (Edits start stop new) starved = edited (refused_for text start stop new starved) text (spliced text start stop new)
 
--- Memory can be wanting for an edit that nothing else refuses, and never for a check.
+-- Memory can be wanting for an edit that nothing else refuses and for a listing, and never for a check.
 abbrev pub MayStarve : (text : List ℕ) → Request → Type 0
 MayStarve text Checks = ⊥
+MayStarve text Lists = ⊤
 MayStarve text (Edits start stop new) = refusal_of text start stop (length new) ≡ None
 
 -- The commands that were refused for want of memory are such, and so are answered `refused memory`.

@@ -11,7 +11,9 @@ pub mod faults;
 pub mod file;
 #[cfg(test)]
 mod file_tests;
+pub mod listing;
 pub mod page;
+pub mod paged;
 pub mod run;
 pub mod script;
 #[cfg(test)]

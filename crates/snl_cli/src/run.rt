@@ -14,6 +14,7 @@ ghost use Rattle.snl_cli.specs.Watched.{calls_of, failed_of, inner_of};
 use crate::ahead::Ahead;
 use crate::answers::{report, tell_edit};
 use crate::faults::{RunFault, Status};
+use crate::listing::list;
 use crate::page::WriteFault;
 use crate::script::{Command, Front, front_of};
 use crate::watched::Watched;
@@ -40,6 +41,7 @@ fn answer<W: Write>(
 {
     match command {
         Command::Check => report(out, session),
+        Command::List => list(out, session),
         Command::Edit { start, stop, new } => tell_edit(out, edit(session, start, stop, new)),
     }
 }

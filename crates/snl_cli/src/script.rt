@@ -5,7 +5,7 @@
 
 ghost use Rattle.std.specs.Prelude.{◌≡◌, ℕ, ◌+◌, ◌==◌, ◌≤◌, ◌<◌, List, [], ◌∷◌, length, take, drop, Some, None, IfSome, position};
 ghost use Rattle.snl_cli.specs.Front.{IsFront, IsFrontBehind, words_behind};
-ghost use Rattle.snl_cli.specs.Script.{edit_of, edit_with, heading_of, headed, number_of, words_of};
+ghost use Rattle.snl_cli.specs.Script.{edit_of, edit_with, heading_of, headed, lone, number_of, words_of};
 
 /// A command's line has at most so many bytes without its LF.
 const MAX_LINE: usize = 80;
@@ -18,12 +18,15 @@ const MAX_ADDED: usize = 2_097_152;
 
 const CHECK: &[u8] = b"check";
 
+const LIST: &[u8] = b"list";
+
 const EDIT: &[u8] = b"edit";
 
 /// What a command's line says.
 #[derive(Clone, Copy, Debug, PartialEq, Eq)]
 pub enum Heading {
     Check,
+    List,
     /// `len` bytes and an LF follow the line.
     Edit {
         start: usize,
@@ -37,6 +40,8 @@ pub enum Heading {
 pub enum Command<'a> {
     /// Say the diagnostics.
     Check,
+    /// Say the listing.
+    List,
     /// The bytes from `start` up to `stop` become `new`.
     Edit {
         start: usize,
@@ -116,12 +121,23 @@ fn heading_in(line: &[u8]) -> Option<Heading>
 {
     let (word, words) = first_word(line);
     if word == CHECK {
-        return match words {
-            None => Some(Heading::Check),
-            Some(_) => None,
-        };
+        return lone(Heading::Check, words);
+    }
+    if word == LIST {
+        return lone(Heading::List, words);
     }
     if word == EDIT { edit_in(words?) } else { None }
+}
+
+/// A command that has no word behind the first.
+#[tactic(auto, using(crate::proofs::ScriptLemmas::lone_more))]
+fn lone(heading: Heading, words: Option<&[u8]>) -> Option<Heading>
+    ensures { result ≡ lone heading (words_behind words.entry) }
+{
+    match words {
+        None => Some(heading),
+        Some(_) => None,
+    }
 }
 
 /// The command of a heading, whose line and LF have `line` bytes.
@@ -133,6 +149,10 @@ fn front_behind(heading: Option<Heading>, line: usize, behind: &[u8]) -> Front<'
         None => Front::Malformed,
         Some(Heading::Check) => Front::Whole {
             command: Command::Check,
+            length: line,
+        },
+        Some(Heading::List) => Front::Whole {
+            command: Command::List,
             length: line,
         },
         Some(Heading::Edit { start, stop, len }) => match behind.get(len) {

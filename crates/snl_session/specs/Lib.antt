@@ -3,6 +3,7 @@ pub mod Diagnostics
 pub mod Edit
 pub mod Faults
 pub mod Linked
+pub mod Listing
 pub mod Order
 pub mod Parts
 pub mod Program

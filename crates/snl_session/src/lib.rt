@@ -1,4 +1,4 @@
-//! The session layer: a text that is edited by ranges of bytes comes in, its diagnostics and tables go out.
+//! The session layer: a text that is edited by ranges of bytes comes in, its diagnostics, its tables and its listing go out.
 //! Whatever edits led to a text, these are those that the text alone defines: the whole text is judged anew at each edit.
 //! Private below it: `program` cuts a text into items and parses them, `summaries` links them, `linked`, `checks` and `walked` tell what is found by the links, in each item and by the walks of state sets,
 //! `order` sorts what is found, `warnings` says whether those are shown, `diagnose` tells lines, `tables` has the tables made, and `judge` does both. It knows nothing of scripts, of files or of how a diagnostic is printed.
@@ -27,4 +27,5 @@ pub use snl_check::{
     ChannelRow, Destination, FlagRow, NamedState, OptionRow, Queue, ScopeName, SetRow, Span,
     StateMark, StateRow, Synced, Tables, WakeUp,
 };
+pub use snl_listing::{Lister, Sink};
 pub use snl_scope::Code;

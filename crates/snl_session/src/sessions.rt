@@ -2,13 +2,14 @@
 //! An edit has three steps: the test of its range and size, all that takes memory, and the change, which cannot fail.
 #![tactic(auto)]
 
-ghost use Rattle.std.specs.Prelude.{◌≡◌, ℕ, ◌+◌, ◌≤◌, [], ◌++◌, List, length, IfOk, OnOk, OnErr, IsErrOf, IsOkUnless, MatchOption, None};
+ghost use Rattle.std.specs.Prelude.{◌≡◌, ℕ, ◌+◌, ◌≤◌, [], ◌++◌, List, length, IfOk, OnOk, OnErr, IsErrOf, IsOkUnless, MatchOption, None, string_bytes};
 
 use crate::edits::{Refused, Work};
 use crate::findings::Diagnostic;
 use crate::judge::{Judgement, judge};
 use snl_check::Tables;
 use snl_cut::OutOfMemory;
+use snl_listing::{Lister, listing};
 use std::alloc::Global;
 use std::marker::Model;
 
@@ -39,6 +40,8 @@ impl Session {
     ghost use Rattle.snl_session.specs.Diagnostics.{diagnostics_of, errors_of, stands_before, warnings_of};
     ghost use Rattle.std.specs.List.Sorted.{IsSortedBy};
     ghost use Rattle.snl_session.specs.Edit.{limit, refusal_of, spliced};
+    ghost use Rattle.snl_listing.specs.Lister.{IsFor};
+    ghost use Rattle.snl_session.specs.Listing.{listing_text};
     ghost use Rattle.snl_session.specs.Tables.{tables_in};
 
     /// A session over the empty text. The only refusal is that of memory.
@@ -90,6 +93,22 @@ impl Session {
         ensures { result.now ≡ tables_in self.now }
     {
         &self.tables
+    }
+
+    /// A writer of the text's listing, which has all the memory that it needs. The only refusal is that of memory.
+    pub fn lister(&self) -> Result<Lister, Refused>
+        ensures ok { IfOk result (IsFor (tables_in self.now)) }
+        ensures refused { IsOkUnless result Refused.Memory }
+    {
+        Lister::new(*self.text.allocator(), &self.tables).map_err(|_| Refused::Memory)
+    }
+
+    /// The listing of the text. The only refusal is that of memory.
+    pub fn listing(&self) -> Result<String, Refused>
+        ensures ok { IfOk result (λ listing. string_bytes listing ≡ listing_text self.now) }
+        ensures refused { IsOkUnless result Refused.Memory }
+    {
+        listing(*self.text.allocator(), self.text(), self.tables()).map_err(|_| Refused::Memory)
     }
 
     /// How many of the diagnostics are errors.

@@ -26,10 +26,7 @@ pub enum ScopeName {
     Program,
     StateSet(Span),
     /// A state at program level is in no state set.
-    State {
-        set: Option<Span>,
-        state: Span,
-    },
+    State { set: Option<Span>, state: Span },
 }
 
 /// An event flag. Flags are numbered from 1.
