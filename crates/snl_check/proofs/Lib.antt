@@ -23,3 +23,4 @@ pub mod Beside
 pub mod Numbers
 pub mod Starts
 pub mod Marks
+pub mod WakeLaws

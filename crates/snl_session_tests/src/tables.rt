@@ -321,20 +321,23 @@ fn tables_of_texts(rt: HostRuntime) -> Result<(), Fail> {
     Ok(())
 }
 
-// Edits of one session in turn, each with the number of the text in TEXTS whose tables are those of the text after it.
-static EDITS: [(usize, usize, &[u8], usize); 4] = [
-    (0, 0, TEXTS[0].0, 0),
-    (0, 178, b"", 0),
-    (0, 177, TEXTS[4].0, 4),
-    (0, 0, b"/*", 9),
+// Edits of one session in turn: a range, the number of the text in TEXTS that is put there, and the number of the text whose
+// tables the session has after it.
+static EDITS: [(usize, usize, usize, usize); 5] = [
+    (0, 0, 0, 0),
+    (0, 178, 9, 0),
+    (1, 0, 4, 0),
+    (0, 177, 4, 4),
+    (0, 115, 9, 9),
 ];
 
 #[test]
 fn tables_after_edits(rt: HostRuntime) -> Result<(), Fail> {
     let mut session = Session::new(rt.alloc())?;
     for (start, stop, new, text) in &EDITS {
-        let _ = session.edit(*start, *stop, new);
-        if *text < TEXTS.len() {
+        if *new < TEXTS.len() && *text < TEXTS.len() {
+            let refused = session.edit(*start, *stop, TEXTS[*new].0).is_err();
+            assert_eq!(rt; refused, *stop == 178 || start > stop);
             assert_eq!(rt; lines(rt.alloc(), &session)?.as_slice(), TEXTS[*text].1);
         }
     }
