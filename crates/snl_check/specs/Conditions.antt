@@ -29,9 +29,12 @@ on_variable cs (Some e) variable =
     if covers_elements cs variable then option_map wake.Channel (element_number cs variable (Some e)) else Some (wake.Variable variable)
 
 -- An event flag means itself.
+abbrev pub by_flag : Option ℕ → Option WakeUp → Option WakeUp
+by_flag (Some flag) other = Some (wake.Flag flag)
+by_flag None other = other
+
 abbrev pub on_declaration : List Summary → List AssignedChannel → Option ℕ → ℕ → Option WakeUp
-on_declaration ss cs subscript number =
-    elim (flag_number ss number) [ Some flag ↦ Some (wake.Flag flag) | None ↦ on_variable cs subscript number ]
+on_declaration ss cs subscript number = by_flag (flag_number ss number) (on_variable cs subscript number)
 
 -- What a use of a name in an item means. A name that resolves to nothing means nothing.
 abbrev pub wake_up : List ℕ → List ProgramItem → List Summary → List AssignedChannel → ℕ → WakeUse → Option WakeUp

@@ -26,3 +26,4 @@ pub mod Collected
 pub mod Settings
 pub mod SettingTrees
 pub mod States
+pub mod WakeSets

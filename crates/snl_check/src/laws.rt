@@ -1,4 +1,4 @@
-//! Laws of what is found in items, of their clauses, and of walks. A function here does nothing: its contract is the law.
+//! Laws of what is found in items, of their clauses, of wake-up sets and of walks. A function here does nothing: its contract is the law.
 
 ghost use Rattle.std.specs.Prelude.{◌≡◌, ◌<◌, ◌↔◌, ℕ, Bool, true, List, Option, length, map};
 ghost use Rattle.snl_lex.specs.declared.piece.Piece.{Piece};
@@ -10,6 +10,7 @@ ghost use Rattle.snl_check.specs.Alike.{Agree, SameTokens, target_names, used_na
 ghost use Rattle.snl_check.specs.Found.{faults_in};
 ghost use Rattle.snl_check.specs.Reach.{AreStates, IsReached, is_reached};
 ghost use Rattle.snl_check.specs.Wake.{wake_uses};
+ghost use Rattle.snl_check.specs.WakeSets.{HasChannels, HasFlags};
 ghost use Rattle.snl_check.specs.Clauses.{item_clauses, summarized};
 ghost use Rattle.snl_check.specs.Items.{ProgramItem, summaries_of};
 
@@ -29,6 +30,13 @@ pub fn equal_views()
         → faults_in (bytes_at text tokens) tree in_set fact target ≡ faults_in (bytes_at moved shifted) tree in_set other another }
     ensures wake_uses { (text moved : List ℕ) (tokens shifted : List Piece) (tree : Item)
         → SameTokens text tokens moved shifted → wake_uses (bytes_at text tokens) tree ≡ wake_uses (bytes_at moved shifted) tree }
+{}
+
+/// An event flag or a channel is in the wake-up set that the row of a state has exactly where a use of a name in the state's
+/// conditions means it.
+pub fn wake_up_sets()
+    ensures flags { (text : List ℕ) (xs : List ProgramItem) (item : ℕ) → HasFlags text xs item }
+    ensures channels { (text : List ℕ) (xs : List ProgramItem) (item : ℕ) → HasChannels text xs item }
 {}
 
 /// A walk leads to a state from the initial one exactly where one with as many steps as there are states, or fewer, does.

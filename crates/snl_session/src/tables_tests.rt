@@ -3,7 +3,7 @@
 #![tactic(auto)]
 
 use super::*;
-use crate::tests::{WHOLE, session_over};
+use crate::tests::session_over;
 use snl_lex::Line;
 use sqlite_items::Items;
 use std::alloc::Global;
@@ -268,14 +268,8 @@ static TEXTS: [(&[u8], &[u8]); 19] = [
         b"program q int x; int y; evflag f; assign x to \"a\"; assign y; syncq x 5; syncq y to f;",
         b"program q\nflag f program\nchannel x program \"a\" syncq - 5\nchannel y program \"\" syncq 1 default\nvariable 0 c0\nvariable 1 c1\n",
     ),
-    (
-        b"",
-        b"program -\n",
-    ),
-    (
-        b"program ;\nprogram r program t",
-        b"program r\n",
-    ),
+    (b"", b"program -\n"),
+    (b"program ;\nprogram r program t", b"program r\n"),
     (
         b"evflag g; int g; int f; evflag f; ss s { evflag f; state i { evflag h; when () { } exit } } state k { evflag h; }",
         b"program -\nflag g program\nflag f s\nflag h s.i\nflag h -.k\nss s line 1\nstate i line 1 reached\nwhen 0 exit\nwake\n",
@@ -319,20 +313,23 @@ fn tables_of_texts(rt: HostRuntime) -> Result<(), Fail> {
     Ok(())
 }
 
-// Edits of one session in turn, each with the number of the text in TEXTS whose tables are those of the text after it.
-static EDITS: [(usize, usize, &[u8], usize); 4] = [
-    (0, 0, TEXTS[0].0, 0),
-    (0, 178, b"", 0),
-    (0, 177, TEXTS[4].0, 4),
-    (0, 0, b"/*", 9),
+// Edits of one session in turn: a range, the number of the text in TEXTS that is put there, and the number of the text whose
+// tables the session has after it.
+static EDITS: [(usize, usize, usize, usize); 5] = [
+    (0, 0, 0, 0),
+    (0, 178, 9, 0),
+    (1, 0, 4, 0),
+    (0, 177, 4, 4),
+    (0, 115, 9, 9),
 ];
 
 #[test]
 fn tables_after_edits(rt: HostRuntime) -> Result<(), Fail> {
     let mut session = Session::new(rt.alloc())?;
     for (start, stop, new, text) in &EDITS {
-        let _ = session.edit(*start, *stop, new);
-        if *text < TEXTS.len() {
+        if *new < TEXTS.len() && *text < TEXTS.len() {
+            let refused = session.edit(*start, *stop, TEXTS[*new].0).is_err();
+            assert_eq!(rt; refused, *stop == 178 || start > stop);
             assert_eq!(rt; lines(rt.alloc(), &session)?.as_slice(), TEXTS[*text].1);
         }
     }
