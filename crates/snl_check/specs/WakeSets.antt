@@ -1,6 +1,6 @@
 -- The wake-up set of a state, in the words of the language and in those of the rows: an event flag or a channel is in it where a
 -- use of a name in the state's conditions means it.
-use Rattle.std.specs.Prelude.{◌≡◌, ℕ, Bool, false, ◌&&◌, if◌then◌else◌, List, [], nat_eq, slice_index_or, Option, None, Some}
+use Rattle.std.specs.Prelude.{◌≡◌, ℕ, Bool, false, ◌&&◌, if◌then◌else◌, List, nat_eq, Option, None, Some}
 use Rattle.std.specs.List.{list_any}
 use Rattle.std.specs.Option.{is_none, option_map_or}
 use Rattle.snl_scope.specs.declared.summary.Summary.{Summary}
@@ -8,7 +8,7 @@ use Rattle.snl_scope.specs.Clauses.{resolve_in}
 use Rattle.snl_scope.specs.Flags.{flag_number}
 use Rattle.snl_scope.specs.Summaries.Tokens.{bytes_at}
 use Rattle.snl_tables.specs.declared.rows.WakeUp.{WakeUp}
-use Rattle.snl_tables.specs.declared.rows.WakeUp.TheVariants as wake
+pub use Rattle.snl_tables.specs.WakeSets.{covers_channel, covers_flag}
 use Rattle.snl_check.specs.declared.wake.WakeUse.{WakeUse}
 use Rattle.snl_check.specs.Channels.{AssignedChannel, assigned_channels, covers_elements, element_number, is_channel_of}
 use Rattle.snl_check.specs.Conditions.{uses_in, wake_ups}
@@ -37,17 +37,6 @@ channel_meant cs (Some e) v n = if covers_elements cs v then is_number n (elemen
 abbrev pub means_channel : List ℕ → List ProgramItem → List Summary → ℕ → ℕ → WakeUse → Bool
 means_channel text xs ss item n u =
     option_map_or (λ v. is_none (flag_number ss v) && channel_meant (assigned_channels text xs ss) u.subscript v n) (declaration_of text xs ss item u) false
-
--- An entry of a row covers an event flag: it is this very flag.
-abbrev pub covers_flag : ℕ → WakeUp → Bool
-covers_flag n (wake.Flag flag) = nat_eq n flag
-covers_flag n _ = false
-
--- It covers a channel: it is this very channel, or the variable has it.
-abbrev pub covers_channel : List (List ℕ) → ℕ → WakeUp → Bool
-covers_channel variables n (wake.Flag flag) = false
-covers_channel variables n (wake.Channel channel) = nat_eq n channel
-covers_channel variables n (wake.Variable variable) = list_any (nat_eq n) (slice_index_or variables variable [])
 
 -- The entries of the row of an item.
 abbrev pub entries_of_item : List ℕ → List ProgramItem → List Summary → ℕ → List WakeUp

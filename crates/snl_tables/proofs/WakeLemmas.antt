@@ -1,5 +1,5 @@
 -- Numbers that are put into sets, and what uses cover.
-use Rattle.std.proofs.Common.{◌≡◌, ℕ, zero, suc, ◌+◌, ◌<◌, ◌≤◌, ◌==◌, ◌||◌, ◌⊎◌, leb, List, [], ◌∷◌, Bool, true, false, cond, length, take, get_or, filter, inl, inr, refl, sym, ap, ◌∙◌, arith, set, length-set, replicate, add-one}
+use Rattle.std.proofs.Common.{◌≡◌, ℕ, zero, suc, ◌+◌, ◌<◌, ◌≤◌, nat_eq, ◌||◌, ◌⊎◌, leb, List, [], ◌∷◌, Bool, true, false, cond, length, take, get_or, filter, inl, inr, refl, sym, ap, ◌∙◌, arith, set, length-set, replicate, add-one}
 use Rattle.std.proofs.lemmas.Bool.{cases_eq, leb-false, leb-true}
 use Rattle.std.proofs.lemmas.Bool.Decides.{nat_tests}
 use Rattle.std.proofs.lemmas.List.{length-replicate, get_or-replicate, get_or-set_other, get_or-set_same, get_or_past}
@@ -53,17 +53,17 @@ inserts_more old new numbers i number h is inserted = record {
   each = λ n below. each n below (cases_eq n number);
 }
   where
-    more : (n : ℕ) → holds (take (i + 1) numbers) n ≡ (holds (take i numbers) n || (number == n))
-    more n = list_any_more (λ m. m == n) numbers i 0 h ∙ ap (λ (m : ℕ). holds (take i numbers) n || (m == n)) is
+    more : (n : ℕ) → holds (take (i + 1) numbers) n ≡ (holds (take i numbers) n || nat_eq n number)
+    more n = list_any_more (nat_eq n) numbers i 0 h ∙ ap (λ (m : ℕ). holds (take i numbers) n || nat_eq n m) is
 
     each : (n : ℕ) → n < length old → (n ≡ number) ⊎ (n ≡ number → ⊥) → is_marked (set new number true) n ≡ (is_marked old n || holds (take (i + 1) numbers) n)
     each n below (inl same) =
         let here : is_marked (set new number true) n ≡ true = ap (is_marked (set new number true)) same ∙ get_or-set_same new number true false (omega (arith, inserted.limit)) in
-        let test : (number == n) ≡ true = grind (arith, nat_tests) in
+        let test : nat_eq n number ≡ true = grind (arith, nat_tests) in
         rw (here, more n, test) (sym (or_true_right (is_marked old n) (holds (take i numbers) n)))
     each n below (inr other) =
         let here : is_marked (set new number true) n ≡ is_marked new n = get_or-set_other new number n true false other in
-        let test : (number == n) ≡ false = grind (arith, nat_tests) in
+        let test : nat_eq n number ≡ false = grind (arith, nat_tests) in
         rw (here, more n, test, inserted.each n below) (ap (λ (b : Bool). is_marked old n || b) (sym (or_false_right (holds (take i numbers) n))))
 
 -- what was seen is put in already

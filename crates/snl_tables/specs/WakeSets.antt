@@ -1,5 +1,5 @@
 -- The wake-up set of a state: the event flags and the channels on whose change it wakes up, by their numbers.
-use Rattle.std.specs.Prelude.{◌≡◌, ℕ, ◌+◌, ◌==◌, ◌<◌, ◌||◌, Bool, true, false, List, [], length, filter}
+use Rattle.std.specs.Prelude.{◌≡◌, ℕ, ◌+◌, ◌<◌, ◌||◌, nat_eq, Bool, true, false, List, [], length, filter}
 use Rattle.std.specs.List.{list_any, range_with_len, slice_index_or}
 use Rattle.snl_tables.specs.declared.rows.StateRow.{StateRow}
 use Rattle.snl_tables.specs.declared.rows.Tables.{Tables}
@@ -10,7 +10,7 @@ use Rattle.snl_tables.specs.Marks.{is_marked, marked}
 
 -- Whether it is among some numbers.
 abbrev pub holds : List ℕ → ℕ → Bool
-holds numbers n = list_any (λ m. m == n) numbers
+holds numbers n = list_any (nat_eq n) numbers
 
 -- The channels of a variable.
 abbrev pub channels_of : (variables : List (List ℕ)) → ℕ → List ℕ
@@ -18,14 +18,14 @@ channels_of variables variable = slice_index_or variables variable []
 
 -- A use covers an event flag: it means this very flag.
 abbrev pub covers_flag : ℕ → WakeUp → Bool
-covers_flag n (Flag flag) = flag == n
+covers_flag n (Flag flag) = nat_eq n flag
 covers_flag n (Channel channel) = false
 covers_flag n (Variable variable) = false
 
 -- A use covers a channel: it means this very channel, or the variable has it.
 abbrev pub covers_channel : (variables : List (List ℕ)) → ℕ → WakeUp → Bool
 covers_channel variables n (Flag flag) = false
-covers_channel variables n (Channel channel) = channel == n
+covers_channel variables n (Channel channel) = nat_eq n channel
 covers_channel variables n (Variable variable) = holds (channels_of variables variable) n
 
 -- The event flags of a wake-up set: of the numbers from 1 on those that a use covers.

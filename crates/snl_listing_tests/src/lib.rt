@@ -1,0 +1,5 @@
+//! Listings and wake-up sets of texts, told from the rules of the format.
+#![tactic(auto)]
+
+#[cfg(test)]
+mod tests;
