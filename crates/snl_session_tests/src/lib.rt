@@ -5,6 +5,8 @@
 #[cfg(test)]
 mod edits;
 #[cfg(test)]
+mod listings;
+#[cfg(test)]
 mod places;
 #[cfg(test)]
 mod tables;

@@ -1,5 +1,4 @@
 //! Texts with their listings, and with the wake-up set of their first state.
-#![tactic(auto)]
 
 use snl_session::Session;
 use snl_tables::{wake_channels, wake_flags};

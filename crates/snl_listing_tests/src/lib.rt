@@ -1,5 +1,0 @@
-//! Listings and wake-up sets of texts, told from the rules of the format.
-#![tactic(auto)]
-
-#[cfg(test)]
-mod tests;
