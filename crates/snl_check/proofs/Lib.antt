@@ -17,7 +17,6 @@ pub mod Sets
 pub mod Conditions
 pub mod Mentions
 pub mod Items
-pub mod Ends
 pub mod SameClauses
 pub mod Linked
 pub mod Beside
@@ -25,3 +24,4 @@ pub mod Numbers
 pub mod Starts
 pub mod Marks
 pub mod WakeLaws
+pub mod SpanLaws
