@@ -24,3 +24,4 @@ pub mod Numbers
 pub mod Starts
 pub mod Marks
 pub mod WakeLaws
+pub mod SpanLaws

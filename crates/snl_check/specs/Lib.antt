@@ -27,3 +27,4 @@ pub mod Settings
 pub mod SettingTrees
 pub mod States
 pub mod WakeSets
+pub mod Spans

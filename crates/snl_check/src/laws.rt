@@ -1,18 +1,20 @@
-//! Laws of what is found in items, of their clauses, of wake-up sets and of walks. A function here does nothing: its contract is the law.
+//! Laws of what is found in items, of their clauses, of wake-up sets, of spans and of walks. A function here does nothing: its contract is the law.
 
 ghost use Rattle.std.specs.Prelude.{◌≡◌, ◌<◌, ◌↔◌, ℕ, Bool, true, List, Option, length, map};
 ghost use Rattle.snl_lex.specs.declared.piece.Piece.{Piece};
 ghost use Rattle.snl_syntax.specs.declared.tree.item.Item.{Item};
 ghost use Rattle.snl_scope.specs.declared.facts.Fact.{Fact};
 ghost use Rattle.snl_scope.specs.Clauses.{clauses_of};
-ghost use Rattle.snl_scope.specs.Summaries.Tokens.{bytes_at};
+ghost use Rattle.snl_scope.specs.Summaries.Tokens.{IsSource, bytes_at};
 ghost use Rattle.snl_check.specs.Alike.{Agree, SameTokens, target_names, used_names};
 ghost use Rattle.snl_check.specs.Found.{faults_in};
 ghost use Rattle.snl_check.specs.Reach.{AreStates, IsReached, is_reached};
+ghost use Rattle.snl_check.specs.Spans.{TablesLieIn};
+ghost use Rattle.snl_check.specs.Tables.{tables_of};
 ghost use Rattle.snl_check.specs.Wake.{wake_uses};
 ghost use Rattle.snl_check.specs.WakeSets.{HasChannels, HasFlags};
 ghost use Rattle.snl_check.specs.Clauses.{item_clauses, summarized};
-ghost use Rattle.snl_check.specs.Items.{ProgramItem, summaries_of};
+ghost use Rattle.snl_check.specs.Items.{ProgramItem, summaries_of, tokens_in};
 
 /// The clauses of items, as trees, are those that the summaries of the items have, one by one in the order of the text.
 pub fn same_clauses()
@@ -37,6 +39,11 @@ pub fn equal_views()
 pub fn wake_up_sets()
     ensures flags { (text : List ℕ) (xs : List ProgramItem) (item : ℕ) → HasFlags text xs item }
     ensures channels { (text : List ℕ) (xs : List ProgramItem) (item : ℕ) → HasChannels text xs item }
+{}
+
+/// The spans in the rows of tables lie in the text, where the tokens of its items do.
+pub fn spans_lie_in_text()
+    ensures { (text : List ℕ) (xs : List ProgramItem) → ((item : ℕ) → IsSource text (tokens_in xs item)) → TablesLieIn text (tables_of text xs) }
 {}
 
 /// A walk leads to a state from the initial one exactly where one with as many steps as there are states, or fewer, does.
