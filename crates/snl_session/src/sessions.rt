@@ -28,17 +28,19 @@ impl Model for Session {
     ghost use Rattle.std.specs.Prelude.{◌≡◌, ℕ, ◌≤◌, List, length};
     ghost use Rattle.snl_session.specs.Diagnostics.{diagnostics_of};
     ghost use Rattle.snl_session.specs.Tables.{tables_in};
+    ghost use Rattle.snl_check.specs.Spans.{TablesLieIn};
 
     ghost Value = { List ℕ };
 
     ghost view = { λ s. s.text.items };
 
-    ghost invariant = { λ s. (length s.text.items ≤ 1048576) × (s.found.items ≡ diagnostics_of s.text.items) × (s.tables ≡ tables_in s.text.items) };
+    ghost invariant = { λ s. (length s.text.items ≤ 1048576) × (s.found.items ≡ diagnostics_of s.text.items) × (s.tables ≡ tables_in s.text.items) × TablesLieIn s.text.items s.tables };
 }
 
 impl Session {
     ghost use Rattle.snl_session.specs.Diagnostics.{diagnostics_of, errors_of, stands_before, warnings_of};
     ghost use Rattle.std.specs.List.Sorted.{IsSortedBy};
+    ghost use Rattle.snl_check.specs.Spans.{TablesLieIn};
     ghost use Rattle.snl_session.specs.Edit.{limit, refusal_of, spliced};
     ghost use Rattle.snl_listing.specs.Lister.{IsFor};
     ghost use Rattle.snl_session.specs.Listing.{listing_text};
@@ -88,9 +90,10 @@ impl Session {
         self.found.as_slice()
     }
 
-    /// The tables of the text.
+    /// The tables of the text. The bytes that their rows speak of lie in it.
     pub fn tables(&self) -> &Tables
-        ensures { result.now ≡ tables_in self.now }
+        ensures of_text { result.now ≡ tables_in self.now }
+        ensures spans { TablesLieIn self.now result.now }
     {
         &self.tables
     }
