@@ -61,55 +61,52 @@ fn goes_on_after_a_refused_edit(rt: HostRuntime) {
     );
 }
 
-#[test]
-fn breaks_off_where_no_command_stands(rt: HostRuntime) {
-    expect_run(&rt, b"edit 0 0 10\nabcdef", Err(RunFault::Script(0)), b"");
-    expect_run(
-        &rt,
-        b"check\nedit 0 0 5\nab",
-        Err(RunFault::Script(6)),
-        EMPTY_SAID,
-    );
-    expect_run(&rt, b"check", Err(RunFault::Script(0)), b"");
-    expect_run(&rt, b"check \n", Err(RunFault::Script(0)), b"");
-    expect_run(&rt, b" check\n", Err(RunFault::Script(0)), b"");
-    expect_run(&rt, b"check\r\n", Err(RunFault::Script(0)), b"");
-    expect_run(&rt, b"\n", Err(RunFault::Script(0)), b"");
-    expect_run(&rt, b"list\n", Err(RunFault::Script(0)), b"");
-    expect_run(&rt, b"work\n", Err(RunFault::Script(0)), b"");
-    expect_run(&rt, b"edit 0 0\n\n", Err(RunFault::Script(0)), b"");
-    expect_run(&rt, b"edit 0 0 0 \n\n", Err(RunFault::Script(0)), b"");
-    expect_run(&rt, b"edit 0  0 0\n\n", Err(RunFault::Script(0)), b"");
-    expect_run(&rt, b"edit 0 0 +0\n\n", Err(RunFault::Script(0)), b"");
-    expect_run(&rt, b"edit 0 0 1\n;;", Err(RunFault::Script(0)), b"");
-    expect_run(
-        &rt,
-        b"edit 0 0 1\n;\nlist x\n",
-        Err(RunFault::Script(13)),
-        b"ok\n",
-    );
-}
+// Scripts with a place where no command is: its offset, and what was written before.
+static NO_COMMANDS: [(&[u8], usize, &[u8]); 18] = [
+    (b"edit 0 0 10\nabcdef", 0, b""),
+    (b"check\nedit 0 0 5\nab", 6, EMPTY_SAID),
+    (b"check", 0, b""),
+    (b"check \n", 0, b""),
+    (b" check\n", 0, b""),
+    (b"check\r\n", 0, b""),
+    (b"\n", 0, b""),
+    (b"list", 0, b""),
+    (b"lists\n", 0, b""),
+    (b"work\n", 0, b""),
+    (b"edit 0 0\n\n", 0, b""),
+    (b"edit 0 0 0 \n\n", 0, b""),
+    (b"edit 0  0 0\n\n", 0, b""),
+    (b"edit 0 0 +0\n\n", 0, b""),
+    (b"edit 0 0 1\n;;", 0, b""),
+    (b"edit 0 0 1\n;\nlist x\n", 13, b"ok\n"),
+    // a line of 81 bytes, and a number of 20 digits
+    (
+        b"aaaaaaaaaaaaaaaaaaaaaaaaaaaaaaaaaaaaaaaaaaaaaaaaaaaaaaaaaaaaaaaaaaaaaaaaaaaaaaaaa\n",
+        0,
+        b"",
+    ),
+    (b"edit 00000000000000000000 0 0\n\n", 0, b""),
+];
 
 #[test]
-fn takes_lines_of_80_bytes(rt: HostRuntime) {
-    let spaced =
-        b"edit 0 0                                                                       0\n";
-    assert_eq!(rt; spaced.len(), 81);
-    expect_run(&rt, spaced, Err(RunFault::Script(0)), b"");
-    let long =
-        b"aaaaaaaaaaaaaaaaaaaaaaaaaaaaaaaaaaaaaaaaaaaaaaaaaaaaaaaaaaaaaaaaaaaaaaaaaaaaaaaaa\n";
-    assert_eq!(rt; long.len(), 82);
-    expect_run(&rt, long, Err(RunFault::Script(0)), b"");
+fn breaks_off_where_no_command_is(rt: HostRuntime) {
+    for (script, at, said) in &NO_COMMANDS {
+        expect_run(&rt, script, Err(RunFault::Script(*at)), said);
+    }
 }
 
+// Scripts of one command that is one just about, with its answer.
+static JUST_COMMANDS: [(&[u8], &[u8]); 3] = [
+    (b"edit 0000000000000000000 0 0\n\n", b"ok\n"),
+    (b"edit 9999999999999999999 0 0\n\n", b"refused range\n"),
+    (b"list\n", b"program -\nend\n"),
+];
+
 #[test]
-fn takes_numbers_of_19_digits(rt: HostRuntime) {
-    let zeros = b"edit 0000000000000000000 0 0\n\n";
-    expect_run(&rt, zeros, Ok(Status::Errors), b"ok\n");
-    let more_zeros = b"edit 00000000000000000000 0 0\n\n";
-    expect_run(&rt, more_zeros, Err(RunFault::Script(0)), b"");
-    let nines = b"edit 9999999999999999999 0 0\n\n";
-    expect_run(&rt, nines, Ok(Status::Errors), b"refused range\n");
+fn takes_numbers_of_19_digits_and_lists(rt: HostRuntime) {
+    for (script, said) in &JUST_COMMANDS {
+        expect_run(&rt, script, Ok(Status::Errors), said);
+    }
 }
 
 #[test]
