@@ -38,6 +38,7 @@ fn expect_run(
 fn answers_an_edit_and_a_check(rt: HostRuntime) {
     expect_run(&rt, FIRST, Ok(Status::Errors), FIRST_SAID);
     expect_run(&rt, b"check\n", Ok(Status::Errors), EMPTY_SAID);
+    expect_run(&rt, b"list\n", Ok(Status::Errors), b"program -\nend\n");
     expect_run(&rt, b"", Ok(Status::Errors), b"");
 }
 
@@ -75,7 +76,7 @@ fn breaks_off_where_no_command_stands(rt: HostRuntime) {
     expect_run(&rt, b" check\n", Err(RunFault::Script(0)), b"");
     expect_run(&rt, b"check\r\n", Err(RunFault::Script(0)), b"");
     expect_run(&rt, b"\n", Err(RunFault::Script(0)), b"");
-    expect_run(&rt, b"list\n", Err(RunFault::Script(0)), b"");
+    expect_run(&rt, b"lists\n", Err(RunFault::Script(0)), b"");
     expect_run(&rt, b"work\n", Err(RunFault::Script(0)), b"");
     expect_run(&rt, b"edit 0 0\n\n", Err(RunFault::Script(0)), b"");
     expect_run(&rt, b"edit 0 0 0 \n\n", Err(RunFault::Script(0)), b"");
