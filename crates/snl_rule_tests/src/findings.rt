@@ -5,8 +5,9 @@ ghost use Rattle.snl_lex.specs.Pieces.{LiesIn};
 
 use crate::reading::{LastItem, last_item};
 use crate::words::add_word;
-use snl_check::{check_item, warning_setting};
+use snl_check::{ItemFault, check_item, warning_setting};
 use snl_cut::Count;
+use snl_lex::Piece;
 use snl_scope::Source;
 use std::alloc::Global;
 use std::process::Abort;
@@ -15,15 +16,33 @@ use std::test::Fail;
 /// A text, and what is found in its last item: each code, and what stands at its place in its token.
 type Row = (&'static [u8], &'static [u8]);
 
+// The tokens of the last item.
+fn own_tokens<'a>(text: &[u8], last: &'a LastItem) -> &'a [Piece]
+    requires { All (LiesIn text.now) last.now.tokens.items }
+    ensures { All (LiesIn text.now) result.now }
+{
+    last.tokens.get(last.start..).unwrap_or(&[])
+}
+
+// Findings: each code, and what is at its place in its token.
+fn told(source: &Source, faults: &[ItemFault]) -> Result<Vec<u8>, Fail>
+    requires { All (LiesIn source.now.text.now) source.now.tokens.now }
+{
+    let mut words = Vec::new(source.alloc);
+    for fault in faults {
+        words.extend_from_slice(fault.code.name().as_bytes())?;
+        words.push(b':')?;
+        let token = source.bytes(fault.token);
+        add_word(&mut words, token.get(fault.byte..).unwrap_or(&[]))?;
+    }
+    Ok(words)
+}
+
 fn found_in(alloc: Global, text: &[u8], last: &LastItem) -> Result<Vec<u8>, Fail>
     requires { All (LiesIn text.now) last.now.tokens.items }
 {
-    let tokens = last.tokens.get(last.start..).unwrap_or(&[]);
-    let source = Source {
-        text,
-        tokens,
-        alloc,
-    };
+    let tokens = own_tokens(text, last);
+    let mut work = Count::new();
     let checked = check_item(
         alloc,
         text,
@@ -31,16 +50,14 @@ fn found_in(alloc: Global, text: &[u8], last: &LastItem) -> Result<Vec<u8>, Fail
         &last.tree,
         &last.links,
         last.number,
-        &mut Count::new(),
+        &mut work,
     )?;
-    let mut words = Vec::new(alloc);
-    for fault in checked.faults.as_slice() {
-        words.extend_from_slice(fault.code.name().as_bytes())?;
-        words.push(b':')?;
-        let token = source.bytes(fault.token);
-        add_word(&mut words, token.get(fault.byte..).unwrap_or(&[]))?;
-    }
-    Ok(words)
+    let source = Source {
+        text,
+        tokens,
+        alloc,
+    };
+    told(&source, checked.faults.as_slice())
 }
 
 fn found(alloc: Global, text: &[u8]) -> Result<Vec<u8>, Fail> {
