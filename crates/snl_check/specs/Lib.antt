@@ -26,5 +26,6 @@ pub mod Collected
 pub mod Settings
 pub mod SettingTrees
 pub mod States
+pub mod Unreached
 pub mod WakeSets
 pub mod Spans

@@ -8,7 +8,12 @@ ghost use Rattle.snl_scope.specs.Clauses.{clauses_of};
 ghost use Rattle.snl_scope.specs.Summaries.Tokens.{IsSource, bytes_at};
 ghost use Rattle.snl_check.specs.Alike.{Agree, SameTokens, target_names, used_names};
 ghost use Rattle.snl_check.specs.Found.{faults_in};
+ghost use Rattle.snl_check.specs.Members.{states_in};
 ghost use Rattle.snl_check.specs.Reach.{AreStates, IsReached, is_reached};
+ghost use Rattle.snl_check.specs.States.{mark_of};
+ghost use Rattle.snl_check.specs.Unreached.{IsUnreached};
+ghost use Rattle.snl_scope.specs.declared.summary.Summary.{Summary};
+ghost use Rattle.snl_tables.specs.declared.rows.StateMark.TheVariants.{Unreached};
 ghost use Rattle.snl_check.specs.Spans.{TablesLieIn};
 ghost use Rattle.snl_check.specs.Tables.{tables_of};
 ghost use Rattle.snl_check.specs.Wake.{wake_uses};
@@ -49,4 +54,10 @@ pub fn spans_lie_in_text()
 /// A walk leads to a state from the initial one exactly where one with as many steps as there are states, or fewer, does.
 pub fn walks_of_few_steps()
     ensures { (targets : List (List ℕ)) → AreStates targets → (s : ℕ) → s < length targets → (is_reached targets s ≡ true) ↔ IsReached targets s }
+{}
+
+/// A state is marked as not reached exactly where no walk leads to it, it is sound and the first of its name, and no item of its
+/// set is faulty.
+pub fn unreached_without_a_walk()
+    ensures { (ss : List Summary) (k number j : ℕ) → number < length (states_in ss k) → (mark_of ss k number j ≡ Unreached) ↔ IsUnreached ss k number j }
 {}

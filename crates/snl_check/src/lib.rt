@@ -45,7 +45,10 @@ mod wake_ups;
 
 pub use check::check_item;
 pub use findings::{Checked, ItemFault};
-pub use laws::{equal_views, same_clauses, spans_lie_in_text, wake_up_sets, walks_of_few_steps};
+pub use laws::{
+    equal_views, same_clauses, spans_lie_in_text, unreached_without_a_walk, wake_up_sets,
+    walks_of_few_steps,
+};
 pub use options::warning_setting;
 pub use reaching::reach;
 pub use snl_tables::{
