@@ -3,7 +3,6 @@ use Rattle.std.proofs.Common.{◌≡◌, ℕ, zero, suc, ◌+◌, ◌<◌, ◌�
 use Rattle.std.specs.List.{AllByRecursion, cons_option, enumerate_from, filter_map, flat_map, zip}
 use Rattle.std.specs.Option.{option_and_then, option_map, option_map_or, option_or, option_to_list}
 use Rattle.std.proofs.lemmas.Bool.{false≢true}
-use Rattle.std.proofs.lemmas.List.{append-nil, length-map, map-append}
 use Rattle.std.proofs.lemmas.Option.{get_or_from_slice_get, slice_get_within}
 use Rattle.snl_lex.specs.declared.piece.Piece.{Piece}
 use Rattle.snl_syntax.specs.declared.tree.clause.Clause.{Clause}
@@ -20,7 +19,6 @@ use Rattle.snl_scope.specs.declared.codes.Code.TheVariants.{E08}
 use Rattle.snl_scope.specs.declared.facts.ClauseLink.{ClauseLink}
 use Rattle.snl_scope.specs.declared.facts.Declaration.{Declaration}
 use Rattle.snl_scope.specs.declared.facts.Scope.{Scope}
-use Rattle.snl_scope.specs.declared.facts.Scope.TheVariants as scope
 use Rattle.snl_scope.specs.declared.spaces.Space.{Space}
 use Rattle.snl_scope.specs.declared.spaces.Space.TheVariants as space
 use Rattle.snl_scope.specs.declared.summary.Declared.{Declared}
@@ -33,7 +31,7 @@ use Rattle.snl_scope.specs.NamedTokens.{NamesItsTokens, own_name}
 use Rattle.snl_scope.specs.Names.{Entry, declared_entry, entries, entries_before, entries_of, named_entry, scope_at, scope_of, set_entries, set_name, state_code, state_entries}
 use Rattle.snl_scope.specs.Order.{is_named_state, is_state, is_state_word, state_name}
 use Rattle.snl_scope.specs.Places.{begins_set, ends_between, is_set_begin, item_is, open_before, place, stands_in}
-use Rattle.snl_scope.specs.Summaries.{kind_of, name_if, opening_in, second_in, summary_in}
+use Rattle.snl_scope.specs.Summaries.{kind_of, name_if, opening_in, second_in}
 use Rattle.snl_scope.specs.Summaries.Clauses as summary
 use Rattle.snl_scope.specs.Summaries.Declares.{declared_in, declared_in_tree}
 use Rattle.snl_scope.specs.Summaries.Targets.{named_by_block, named_by_target, targets_in_tree, targets_of_member}
@@ -366,9 +364,9 @@ module _ (P : Span → Type 0) (text : List ℕ) (xs : List ProgramItem) (names 
   set_row_holds k h = record {
     name = set_holds k h;
     states =
-      each_counted (InState P) (numbered_row text xs ss k) 0 (states_in ss k)
-      (each_below (λ j. (i : ℕ) → InState P (numbered_row text xs ss k (i, j))) (λ j. is_named_state ss j && stands_in ss k j) (length ss)
-      (λ j is i. state_row_holds k i j (named_state_holds j (and_front (is_named_state ss j) (stands_in ss k j) is))));
+        each_counted (InState P) (numbered_row text xs ss k) 0 (states_in ss k)
+        (each_below (λ j. (i : ℕ) → InState P (numbered_row text xs ss k (i, j))) (λ j. is_named_state ss j && stands_in ss k j) (length ss)
+        (λ j is i. state_row_holds k i j (named_state_holds j (and_front (is_named_state ss j) (stands_in ss k j) is))));
   }
 
   tables_hold : InTables P (tables_of text xs)

@@ -1,7 +1,6 @@
 -- The spans in the rows of tables: they lie in the text, and each has a byte.
-use Rattle.std.specs.Prelude.{◌≡◌, ℕ, ◌+◌, ◌≤◌, List, All, length, Option, Some, IfSome}
+use Rattle.std.specs.Prelude.{◌≡◌, ℕ, ◌+◌, ◌≤◌, List, All, length, Some, IfSome}
 use Rattle.std.specs.List.{AllByRecursion}
-use Rattle.snl_lex.specs.declared.piece.Piece.{Piece}
 use Rattle.snl_syntax.specs.declared.tree.item.Item.{Item}
 use Rattle.snl_syntax.specs.Parsing.{kinds_in}
 use Rattle.snl_syntax.specs.Reading.Items.{item_of}
