@@ -31,7 +31,7 @@ members_alike text tokens (members.Entry block ∷ ms) = members_alike text toke
 members_alike text tokens (members.Exit block ∷ ms) = members_alike text tokens ms
 members_alike text tokens (members.When t ∷ ms) = members_alike text tokens ms
 
-tree_alike : (text : List ℕ) (tokens : List Piece) (tree : Item) → map (summary.clause_of text tokens) (clauses_in_tree tree) ≡ summary.clauses_in_tree text tokens tree
+pub tree_alike : (text : List ℕ) (tokens : List Piece) (tree : Item) → map (summary.clause_of text tokens) (clauses_in_tree tree) ≡ summary.clauses_in_tree text tokens tree
 tree_alike text tokens (items.Header name parameters) = refl
 tree_alike text tokens (items.Definition d) = refl
 tree_alike text tokens (items.Foreign names) = refl

@@ -1,6 +1,9 @@
--- The spans of rows lie in the text.
-use Rattle.std.specs.Prelude.{ℕ, ◌+◌, ◌≤◌, List, length, Option, None, Some}
+-- The spans in the rows of tables: they lie in the text, and each has a byte.
+use Rattle.std.specs.Prelude.{◌≡◌, ℕ, ◌+◌, ◌≤◌, List, All, length, Some, IfSome}
 use Rattle.std.specs.List.{AllByRecursion}
+use Rattle.snl_syntax.specs.declared.tree.item.Item.{Item}
+use Rattle.snl_syntax.specs.Parsing.{kinds_in}
+use Rattle.snl_syntax.specs.Reading.Items.{item_of}
 use Rattle.snl_tables.specs.declared.rows.ChannelRow.{ChannelRow}
 use Rattle.snl_tables.specs.declared.rows.Destination.{Destination}
 use Rattle.snl_tables.specs.declared.rows.Destination.TheVariants as destinations
@@ -12,43 +15,57 @@ use Rattle.snl_tables.specs.declared.rows.SetRow.{SetRow}
 use Rattle.snl_tables.specs.declared.rows.Span.{Span}
 use Rattle.snl_tables.specs.declared.rows.StateRow.{StateRow}
 use Rattle.snl_tables.specs.declared.rows.Tables.{Tables}
+use Rattle.snl_check.specs.Items.{ProgramItem, tokens_in, tree_in}
 
+-- What holds of each span in a row.
+abbrev pub InScope : (Span → Type 0) → ScopeName → Type 0
+InScope P named.Program = Unit {0}
+InScope P (named.StateSet set) = P set
+InScope P (named.State set state) = IfSome set P × P state
+
+abbrev pub InFlag : (Span → Type 0) → FlagRow → Type 0
+InFlag P row = P row.name × InScope P row.scope
+
+abbrev pub InChannel : (Span → Type 0) → ChannelRow → Type 0
+InChannel P row = P row.variable × InScope P row.scope
+
+abbrev pub InDestination : (Span → Type 0) → Destination → Type 0
+InDestination P (destinations.State named) = P named.name
+InDestination P destinations.Exit = Unit {0}
+
+abbrev pub InNamed : (Span → Type 0) → NamedState → Type 0
+InNamed P named = P named.name
+
+pub record InState (P : Span → Type 0) (row : StateRow) : Type 0 where
+  pub name : P row.name
+  pub transitions : AllByRecursion (InDestination P) row.transitions
+  pub gotos : AllByRecursion (InNamed P) row.gotos
+
+pub record InSet (P : Span → Type 0) (row : SetRow) : Type 0 where
+  pub name : P row.name
+  pub states : AllByRecursion (InState P) row.states
+
+pub record InTables (P : Span → Type 0) (t : Tables) : Type 0 where
+  pub program : IfSome t.program P
+  pub flags : AllByRecursion (InFlag P) t.flags
+  pub channels : AllByRecursion (InChannel P) t.channels
+  pub sets : AllByRecursion (InSet P) t.sets
+
+-- The span lies in the text.
 abbrev pub LiesIn : List ℕ → Span → Type 0
 LiesIn text s = s.start + s.len ≤ length text
 
-abbrev pub LiesInIf : List ℕ → Option Span → Type 0
-LiesInIf text None = Unit {0}
-LiesInIf text (Some s) = LiesIn text s
+-- It has a byte.
+abbrev pub HasByte : Span → Type 0
+HasByte s = 1 ≤ s.len
 
-abbrev pub ScopeLiesIn : List ℕ → ScopeName → Type 0
-ScopeLiesIn text named.Program = Unit {0}
-ScopeLiesIn text (named.StateSet set) = LiesIn text set
-ScopeLiesIn text (named.State set state) = LiesInIf text set × LiesIn text state
+abbrev pub TablesLieIn : List ℕ → Tables → Type 0
+TablesLieIn text t = InTables (LiesIn text) t
 
-abbrev pub FlagLiesIn : List ℕ → FlagRow → Type 0
-FlagLiesIn text row = LiesIn text row.name × ScopeLiesIn text row.scope
+abbrev pub TablesHaveBytes : Tables → Type 0
+TablesHaveBytes t = InTables HasByte t
 
-abbrev pub ChannelLiesIn : List ℕ → ChannelRow → Type 0
-ChannelLiesIn text row = LiesIn text row.variable × ScopeLiesIn text row.scope
-
-abbrev pub DestinationLiesIn : List ℕ → Destination → Type 0
-DestinationLiesIn text (destinations.State named) = LiesIn text named.name
-DestinationLiesIn text destinations.Exit = Unit {0}
-
-abbrev pub NamedLiesIn : List ℕ → NamedState → Type 0
-NamedLiesIn text named = LiesIn text named.name
-
-pub record StateLiesIn (text : List ℕ) (row : StateRow) : Type 0 where
-  pub name : LiesIn text row.name
-  pub transitions : AllByRecursion (DestinationLiesIn text) row.transitions
-  pub gotos : AllByRecursion (NamedLiesIn text) row.gotos
-
-pub record SetLiesIn (text : List ℕ) (row : SetRow) : Type 0 where
-  pub name : LiesIn text row.name
-  pub states : AllByRecursion (StateLiesIn text) row.states
-
-pub record TablesLieIn (text : List ℕ) (t : Tables) : Type 0 where
-  pub program : LiesInIf text t.program
-  pub flags : AllByRecursion (FlagLiesIn text) t.flags
-  pub channels : AllByRecursion (ChannelLiesIn text) t.channels
-  pub sets : AllByRecursion (SetLiesIn text) t.sets
+-- The tokens of each item have a byte, and a tree is the one that is read of its item's tokens.
+pub record AreRead (text : List ℕ) (xs : List ProgramItem) : Type 0 where
+  pub bytes : (item : ℕ) → All (λ p. 1 ≤ p.len) (tokens_in xs item)
+  pub trees : (item : ℕ) (t : Item) → tree_in xs item ≡ Some t → item_of (kinds_in text (tokens_in xs item)) ≡ Some t

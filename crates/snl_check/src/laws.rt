@@ -14,12 +14,14 @@ ghost use Rattle.snl_check.specs.States.{mark_of};
 ghost use Rattle.snl_check.specs.Unreached.{IsUnreached};
 ghost use Rattle.snl_scope.specs.declared.summary.Summary.{Summary};
 ghost use Rattle.snl_tables.specs.declared.rows.StateMark.TheVariants.{Unreached};
-ghost use Rattle.snl_check.specs.Spans.{TablesLieIn};
+ghost use Rattle.snl_check.specs.Spans.{AreRead, TablesHaveBytes, TablesLieIn};
 ghost use Rattle.snl_check.specs.Tables.{tables_of};
 ghost use Rattle.snl_check.specs.Wake.{wake_uses};
 ghost use Rattle.snl_check.specs.WakeSets.{HasChannels, HasFlags};
 ghost use Rattle.snl_check.specs.Clauses.{item_clauses, summarized};
 ghost use Rattle.snl_check.specs.Items.{ProgramItem, summaries_of, tokens_in};
+
+use snl_scope::names_are_tokens;
 
 /// The clauses of items, as trees, are those that the summaries of the items have, one by one in the order of the text.
 pub fn same_clauses()
@@ -46,10 +48,14 @@ pub fn wake_up_sets()
     ensures channels { (text : List ℕ) (xs : List ProgramItem) (item : ℕ) → HasChannels text xs item }
 {}
 
-/// The spans in the rows of tables lie in the text, where the tokens of its items do.
+/// The spans in the rows of tables lie in the text, where the tokens of its items do. Each has a byte, where the tokens have
+/// one and the trees are those that are read of them.
 pub fn spans_lie_in_text()
-    ensures { (text : List ℕ) (xs : List ProgramItem) → ((item : ℕ) → IsSource text (tokens_in xs item)) → TablesLieIn text (tables_of text xs) }
-{}
+    ensures lie { (text : List ℕ) (xs : List ProgramItem) → ((item : ℕ) → IsSource text (tokens_in xs item)) → TablesLieIn text (tables_of text xs) }
+    ensures bytes { (text : List ℕ) (xs : List ProgramItem) → AreRead text xs → TablesHaveBytes (tables_of text xs) }
+{
+    names_are_tokens();
+}
 
 /// A walk leads to a state from the initial one exactly where one with as many steps as there are states, or fewer, does.
 pub fn walks_of_few_steps()

@@ -11,6 +11,7 @@ pub mod Entries
 pub mod Pairs
 pub mod Leaves
 pub mod Mentioned
+pub mod NamedTokens
 pub mod Families
 pub mod OnceOrder
 pub mod OnceNames

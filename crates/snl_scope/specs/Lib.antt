@@ -12,3 +12,4 @@ pub mod Tables
 pub mod Resolved
 pub mod Summaries
 pub mod Once
+pub mod NamedTokens

@@ -27,6 +27,7 @@ mod summary;
 mod summary_laws;
 mod tables;
 pub mod targets;
+mod token_laws;
 pub mod uses;
 pub mod uses_of;
 
@@ -43,3 +44,4 @@ pub use summary::{
     VariableClause,
 };
 pub use summary_laws::names_kept_once;
+pub use token_laws::names_are_tokens;
