@@ -6,3 +6,4 @@ pub mod Ranks
 pub mod Sorting
 pub mod Steps
 pub mod Trees
+pub mod TextSpans

@@ -4,7 +4,6 @@
 
 ghost use Rattle.std.specs.Prelude.{◌≡◌, All, IfOk};
 ghost use Rattle.snl_lex.specs.Pieces.{LiesIn, pieces_of, tokens_of};
-ghost use Rattle.snl_check.specs.Spans.{TablesLieIn};
 ghost use Rattle.snl_session.specs.Diagnostics.{diagnostics_of, shown};
 ghost use Rattle.snl_session.specs.Tables.{tables_in};
 
@@ -47,7 +46,6 @@ fn told_by(
     requires within { All (LiesIn text.now) tokens.now }
     ensures shown { IfOk result (λ t. t.shown.items ≡ shown text.now) }
     ensures tables { IfOk result (λ t. t.tables ≡ tables_in text.now) }
-    ensures spans { IfOk result (λ t. TablesLieIn text.now t.tables) }
 {
     let Program {
         parts,
@@ -69,7 +67,6 @@ fn told_in(alloc: Global, text: &[u8], pieces: &[Piece]) -> Result<Told, OutOfMe
     requires within { All (LiesIn text.now) pieces.now }
     ensures shown { IfOk result (λ t. t.shown.items ≡ shown text.now) }
     ensures tables { IfOk result (λ t. t.tables ≡ tables_in text.now) }
-    ensures spans { IfOk result (λ t. TablesLieIn text.now t.tables) }
 {
     let tokens = tokens_among(alloc, pieces)?;
     let told = told_by(alloc, text, pieces, &tokens)?;
@@ -81,7 +78,6 @@ fn told_in(alloc: Global, text: &[u8], pieces: &[Piece]) -> Result<Told, OutOfMe
 pub fn judge(alloc: Global, text: &[u8]) -> Result<Judgement, OutOfMemory>
     ensures diagnostics { IfOk result (λ j. j.diagnostics.items ≡ diagnostics_of text.now) }
     ensures tables { IfOk result (λ j. j.tables ≡ tables_in text.now) }
-    ensures spans { IfOk result (λ j. TablesLieIn text.now j.tables) }
 {
     let pieces = lex(alloc, text, &mut Count::new())?;
     let Told { mut shown, tables } = told_in(alloc, text, &pieces)?;

@@ -21,7 +21,7 @@ mod warnings;
 
 pub use edits::{Refused, Work};
 pub use findings::Diagnostic;
-pub use laws::linked_once;
+pub use laws::{linked_once, rows_have_bytes};
 pub use sessions::Session;
 pub use snl_check::{
     ChannelRow, Destination, FlagRow, NamedState, OptionRow, Queue, ScopeName, SetRow, Span,

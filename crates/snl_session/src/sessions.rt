@@ -7,6 +7,7 @@ ghost use Rattle.std.specs.Prelude.{◌≡◌, ℕ, ◌+◌, ◌≤◌, [], ◌+
 use crate::edits::{Refused, Work};
 use crate::findings::Diagnostic;
 use crate::judge::{Judgement, judge};
+use crate::laws::rows_have_bytes;
 use snl_check::Tables;
 use snl_cut::OutOfMemory;
 use snl_listing::{Lister, listing};
@@ -28,19 +29,18 @@ impl Model for Session {
     ghost use Rattle.std.specs.Prelude.{◌≡◌, ℕ, ◌≤◌, List, length};
     ghost use Rattle.snl_session.specs.Diagnostics.{diagnostics_of};
     ghost use Rattle.snl_session.specs.Tables.{tables_in};
-    ghost use Rattle.snl_check.specs.Spans.{TablesLieIn};
 
     ghost Value = { List ℕ };
 
     ghost view = { λ s. s.text.items };
 
-    ghost invariant = { λ s. (length s.text.items ≤ 1048576) × (s.found.items ≡ diagnostics_of s.text.items) × (s.tables ≡ tables_in s.text.items) × TablesLieIn s.text.items s.tables };
+    ghost invariant = { λ s. (length s.text.items ≤ 1048576) × (s.found.items ≡ diagnostics_of s.text.items) × (s.tables ≡ tables_in s.text.items) };
 }
 
 impl Session {
     ghost use Rattle.snl_session.specs.Diagnostics.{diagnostics_of, errors_of, stands_before, warnings_of};
     ghost use Rattle.std.specs.List.Sorted.{IsSortedBy};
-    ghost use Rattle.snl_check.specs.Spans.{TablesLieIn};
+    ghost use Rattle.snl_check.specs.Spans.{TablesHaveBytes, TablesLieIn};
     ghost use Rattle.snl_session.specs.Edit.{limit, refusal_of, spliced};
     ghost use Rattle.snl_listing.specs.Lister.{IsFor};
     ghost use Rattle.snl_session.specs.Listing.{listing_text};
@@ -90,11 +90,13 @@ impl Session {
         self.found.as_slice()
     }
 
-    /// The tables of the text. The bytes that their rows speak of lie in it.
+    /// The tables of the text. The bytes that their rows speak of lie in it, at least one for each name.
     pub fn tables(&self) -> &Tables
         ensures of_text { result.now ≡ tables_in self.now }
         ensures spans { TablesLieIn self.now result.now }
+        ensures bytes { TablesHaveBytes result.now }
     {
+        rows_have_bytes();
         &self.tables
     }
 

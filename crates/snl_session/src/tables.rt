@@ -7,13 +7,12 @@ ghost use Rattle.snl_lex.specs.Pieces.{pieces_of, tokens_of};
 ghost use Rattle.snl_check.specs.Collected.{uses_told};
 ghost use Rattle.snl_check.specs.Conditions.{uses_in_item};
 ghost use Rattle.snl_check.specs.Items.{IsCutUp, program_items, summaries_of};
-ghost use Rattle.snl_check.specs.Spans.{TablesLieIn};
 ghost use Rattle.snl_check.specs.Tables.{tables_of};
 ghost use Rattle.snl_session.specs.Checked.{uses_kept};
 ghost use Rattle.snl_session.specs.Parts.{part_of};
 
 use crate::program::Part;
-use snl_check::{Checked, Tables, spans_lie_in_text, tables_by_tokens};
+use snl_check::{Checked, Tables, tables_by_tokens};
 use snl_cut::OutOfMemory;
 use snl_lex::Piece;
 use snl_scope::Links;
@@ -62,12 +61,10 @@ pub fn tables_of(
     requires items { program_items tokens.now ends.now (map (λ part. part.tree) parts.now) ≡ map (part_of tokens.now) parts.now }
     requires links { links.now ≡ summaries_of text.now (map (part_of tokens.now) parts.now) }
     requires checked { map uses_kept checked.now ≡ map (uses_in_item text.now) (map (part_of tokens.now) parts.now) }
-    ensures tables { IfOk result (λ t. t ≡ tables_of text.now (map (part_of tokens.now) parts.now)) }
-    ensures spans { IfOk result (λ t. TablesLieIn text.now t) }
+    ensures { IfOk result (λ t. t ≡ tables_of text.now (map (part_of tokens.now) parts.now)) }
 {
     let trees = trees_of(alloc, parts)?;
     let checks = checks_of(alloc, checked)?;
     let tables = tables_by_tokens(alloc, text, pieces, tokens, ends, &trees, links, &checks)?;
-    spans_lie_in_text();
     Ok(tables)
 }

@@ -32,5 +32,5 @@ returns-clause-shown c =
     same_shown text xs faults c.withhold.new.found.items items c.in_ok-parts.ensures.faults
     (c.withhold.ensures
     ∙ ap (shown_of text xs) (c.in_ok-add_walked_faults.ensures
-    ∙ ap (λ t. c.add_checked_faults.new.found.items ++ walked_in t) c.in_ok-tables.ensures.tables
+    ∙ ap (λ t. c.add_checked_faults.new.found.items ++ walked_in t) c.in_ok-tables.ensures
     ∙ ap (λ l. l ++ walked_faults text xs) (c.in_ok-checked.ensures.found ∙ ap (λ l. l ++ checked_faults text xs) c.in_ok-links.ensures.found)))
