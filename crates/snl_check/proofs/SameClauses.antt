@@ -10,13 +10,13 @@ use Rattle.snl_syntax.specs.declared.tree.item.Item.{Item}
 use Rattle.snl_syntax.specs.declared.tree.item.Item.TheVariants as items
 use Rattle.snl_syntax.specs.declared.tree.state.StateMember.{StateMember}
 use Rattle.snl_syntax.specs.declared.tree.state.StateMember.TheVariants as members
-use Rattle.snl_scope.specs.declared.summary.Summary.{Summary}
+use Rattle.snl_scope.specs.declared.summary.Outline.{Outline}
 use Rattle.snl_scope.specs.declared.summary.VariableClause.{VariableClause}
 use Rattle.snl_scope.specs.Clauses.{LinkedClause, clauses_before, clauses_of, linked_clause}
-use Rattle.snl_scope.specs.Summaries.{summary_in}
+use Rattle.snl_scope.specs.Summaries.{outline_in}
 use Rattle.snl_scope.specs.Summaries.Clauses as summary
 use Rattle.snl_check.specs.Clauses.{clause_in_member, clauses_in_tree, item_clause, item_clauses, item_clauses_before, item_clauses_if, summarized}
-use Rattle.snl_check.specs.Items.{ProgramItem, summaries_of, tokens_in, tree_in}
+use Rattle.snl_check.specs.Items.{ProgramItem, outlines_of, tokens_in, tree_in}
 
 members_alike : (text : List ℕ) (tokens : List Piece) (ms : List StateMember) →
     map (summary.clause_of text tokens) (flat_map clause_in_member ms) ≡ flat_map (summary.clauses_of_member text tokens) ms
@@ -58,7 +58,7 @@ tree_told : (text : List ℕ) (tokens : List Piece) (n : ℕ) (tree : Item) →
     map (λ c. (n, summary.clause_of text tokens c)) (clauses_in_tree tree) ≡ map (placed_at n) (summary.clauses_in_tree text tokens tree)
 tree_told text tokens n tree = sym (map-map (placed_at n) (summary.clause_of text tokens) (clauses_in_tree tree)) ∙ ap (map (placed_at n)) (tree_alike text tokens tree)
 
-some_told : (text : List ℕ) (xs : List ProgramItem) (ss : List Summary) (n : ℕ) (tokens : List Piece) (tree : Option Item) → tokens_in xs n ≡ tokens →
+some_told : (text : List ℕ) (xs : List ProgramItem) (ss : List Outline) (n : ℕ) (tokens : List Piece) (tree : Option Item) → tokens_in xs n ≡ tokens →
     map (summarized text xs) (item_clauses_if n tree) ≡ map told (map (linked_clause ss n) (summary.clauses_in text tokens tree))
 some_told text xs ss n tokens None is = refl
 some_told text xs ss n tokens (Some tree) is =
@@ -66,24 +66,24 @@ some_told text xs ss n tokens (Some tree) is =
     ∙ tree_told text tokens n tree ∙ sym (map-map told (linked_clause ss n) (summary.clauses_in_tree text tokens tree))
 
 -- the clauses of the item with a number
-item_told : (text : List ℕ) (xs : List ProgramItem) (ss : List Summary) (n : ℕ) (o : Option ProgramItem) → slice_get xs n ≡ o →
+item_told : (text : List ℕ) (xs : List ProgramItem) (ss : List Outline) (n : ℕ) (o : Option ProgramItem) → slice_get xs n ≡ o →
     map (summarized text xs) (item_clauses_if n (option_and_then (λ x. x.tree) o))
-    ≡ map told (option_map_or (λ (s : Summary). map (linked_clause ss n) s.clauses) (option_map (λ (x : ProgramItem). summary_in text x.tokens x.tree) o) [])
+    ≡ map told (option_map_or (λ (s : Outline). map (linked_clause ss n) s.clauses) (option_map (λ (x : ProgramItem). outline_in text x.tokens x.tree) o) [])
 item_told text xs ss n None is = refl
 item_told text xs ss n (Some x) is = some_told text xs ss n x.tokens x.tree (ap (λ (o : Option ProgramItem). option_map_or (λ y. y.tokens) o []) is)
 
 before_told : (text : List ℕ) (xs : List ProgramItem) (n : ℕ) →
-    map (summarized text xs) (item_clauses_before xs n) ≡ map told (clauses_before (summaries_of text xs) n)
+    map (summarized text xs) (item_clauses_before xs n) ≡ map told (clauses_before (outlines_of text xs) n)
 before_told text xs zero = refl
 before_told text xs (suc n) =
-    let ss = summaries_of text xs in
+    let ss = outlines_of text xs in
     let own = item_clauses_if n (tree_in xs n) in
-    let linked : Option Summary → List LinkedClause = λ o. option_map_or (λ (s : Summary). map (linked_clause ss n) s.clauses) o [] in
+    let linked : Option Outline → List LinkedClause = λ o. option_map_or (λ (s : Outline). map (linked_clause ss n) s.clauses) o [] in
     map-append (summarized text xs) (item_clauses_before xs n) own ∙ ap (λ l. l ++ map (summarized text xs) own) (before_told text xs n)
     ∙ ap (λ l. map told (clauses_before ss n) ++ l)
-    (item_told text xs ss n (slice_get xs n) refl ∙ ap (λ o. map told (linked o)) (sym (slice_get-map (λ (x : ProgramItem). summary_in text x.tokens x.tree) xs n)))
+    (item_told text xs ss n (slice_get xs n) refl ∙ ap (λ o. map told (linked o)) (sym (slice_get-map (λ (x : ProgramItem). outline_in text x.tokens x.tree) xs n)))
     ∙ sym (map-append told (clauses_before ss n) (linked (slice_get ss n)))
 
-pub clauses_told : (text : List ℕ) (xs : List ProgramItem) → map (summarized text xs) (item_clauses xs) ≡ map told (clauses_of (summaries_of text xs))
+pub clauses_told : (text : List ℕ) (xs : List ProgramItem) → map (summarized text xs) (item_clauses xs) ≡ map told (clauses_of (outlines_of text xs))
 clauses_told text xs =
-    before_told text xs (length xs) ∙ ap (λ n. map told (clauses_before (summaries_of text xs) n)) (sym (length-map xs (λ (x : ProgramItem). summary_in text x.tokens x.tree)))
+    before_told text xs (length xs) ∙ ap (λ n. map told (clauses_before (outlines_of text xs) n)) (sym (length-map xs (λ (x : ProgramItem). outline_in text x.tokens x.tree)))

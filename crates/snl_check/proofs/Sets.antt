@@ -8,11 +8,12 @@ use Rattle.std.proofs.lemmas.List.{append-nil, get_or_append_left, length-map, m
 use Rattle.std.proofs.lemmas.List.Elements.{All-append, All-map, All-nil, All-push}
 use Rattle.std.proofs.lemmas.List.Quantifiers.{position-Some}
 use borrow.Author.Tests.{eq-eqb, le-ltb, lt-ltb}
-use Rattle.snl_scope.specs.declared.summary.Summary.{Summary}
+use Rattle.snl_scope.specs.declared.summary.Outline.{Outline}
 use Rattle.snl_scope.specs.Below.{all_below, any_below}
 use Rattle.snl_scope.specs.Places.{begins_set, ends_set, item_is, open_before, place, stands_in}
 use Rattle.snl_scope.proofs.OpenSets.{open_step, place_here, place_within}
 use Rattle.snl_scope.proofs.Searches.{any_below-none}
+use Rattle.snl_check.specs.Items.{ProgramItem, summary_of_item}
 use Rattle.snl_check.specs.Reach.{AreStates}
 use Rattle.snl_check.specs.Members.{number_among, target_number, target_numbers, targets_among}
 
@@ -33,7 +34,7 @@ pub false_if : (b : Bool) → (b ≡ true → ⊥) → b ≡ false
 false_if true h = absurd (h refl)
 false_if false h = refl
 
-module _ (ss : List Summary) (k : ℕ) where
+module _ (ss : List Outline) (k : ℕ) where
   stands_from : (j : ℕ) → stands_in ss k j ≡ true → place ss j ≡ Some k
   stands_from j = by (place ss j)
     where
@@ -45,14 +46,14 @@ module _ (ss : List Summary) (k : ℕ) where
   stands_is j h = ap (λ o. option_map_or (nat_eq k) o false) h ∙ eq-eqb k k refl
 
   -- an item stands in the set that the next one stands in
-  step_back : (j : ℕ) (s : Summary) → slice_get ss j ≡ Some s → k < j → place ss (suc j) ≡ Some k → place ss j ≡ Some k
-  step_back j s at l h = by (begins_set s.kind) (ends_set s.kind) refl (sym (open_step ss j s at) ∙ opened (item_is (λ s. not (begins_set s.kind)) ss (suc j)) h)
+  step_back : (j : ℕ) (s : Outline) → slice_get ss j ≡ Some s → k < j → place ss (suc j) ≡ Some k → place ss j ≡ Some k
+  step_back j s at l h = by (begins_set s.role) (ends_set s.role) refl (sym (open_step ss j s at) ∙ opened (item_is (λ s. not (begins_set s.role)) ss (suc j)) h)
     where
       opened : (b : Bool) → (if b then open_before ss (suc j) else None) ≡ Some k → open_before ss (suc j) ≡ Some k
       opened true e = e
       opened false e = absurd cc
 
-      by : (b e : Bool) → begins_set s.kind ≡ b → (if b then Some j else (if e then None else open_before ss j)) ≡ Some k → place ss j ≡ Some k
+      by : (b e : Bool) → begins_set s.role ≡ b → (if b then Some j else (if e then None else open_before ss j)) ≡ Some k → place ss j ≡ Some k
       by true e is o = let same : j ≡ k = cc in absurd (omega (arith, same, l))
       by false true is o = absurd cc
       by false false is o = place_here ss j s at ∙ ap (λ b. if b then None else open_before ss j) is ∙ o
@@ -109,7 +110,7 @@ any_past p i (suc d) h =
     ap (any_below p) same ∙ ap (λ b. b || any_below p (i + d)) (h (i + d) (omega arith) (omega arith)) ∙ any_past p i d (λ j l m. h j l (omega (arith, m)))
 
 -- the members of a set, of which the items from `from` up to `end` are all
-module _ (ss : List Summary) (k : ℕ) (test : ℕ → Bool) (end : ℕ) (some : k < end) (within : end ≤ length ss)
+module _ (ss : List Outline) (k : ℕ) (test : ℕ → Bool) (end : ℕ) (some : k < end) (within : end ≤ length ss)
     (items : (j : ℕ) → j < length ss → stands_in ss k j ≡ (nat_lt k j && nat_lt j end)) where
   outside : (j : ℕ) → j < length ss → (j ≤ k) ⊎ (end ≤ j) → (test j && stands_in ss k j) ≡ false
   outside j l (inl low) = ap (λ b. test j && b) (items j l ∙ ap (λ b. b && nat_lt j end) (le-ltb k j low)) ∙ and_false (test j)
@@ -151,20 +152,20 @@ all_kept {Y = Y} f P h (x ∷ xs) = by (f x) refl (all_kept f P h xs)
     by None e rest = rest
     by (Some y) e rest = All-append P (y ∷ []) (filter_map f xs) (All-push P [] y (All-nil P) (h x y e)) rest
 
-module _ (ss : List Summary) (states : List ℕ) where
+module _ (text : List ℕ) (xs : List ProgramItem) (ss : List Outline) (states : List ℕ) where
   found_among : (o : Option ℕ) (n : ℕ) → number_among states o ≡ Some n → n < length states
   found_among None n e = absurd cc
   found_among (Some j) n e = (position-Some (nat_eq j) states n 0 e).0
 
-  numbers_within : (o : Option Summary) (j : ℕ) → All (λ n. n < length states) (option_map_or (λ s. filter_map (target_number ss states j) s.targets) o [])
+  numbers_within : (o : Option ProgramItem) (j : ℕ) → All (λ n. n < length states) (option_map_or (λ x. filter_map (target_number ss states j) (summary_of_item text x).targets) o [])
   numbers_within None j = All-nil (λ n. n < length states)
-  numbers_within (Some s) j = all_kept (target_number ss states j) (λ n. n < length states) (λ target n e. found_among _ n e) s.targets
+  numbers_within (Some x) j = all_kept (target_number ss states j) (λ n. n < length states) (λ target n e. found_among _ n e) (summary_of_item text x).targets
 
   -- the targets of states are states
-  pub targets_are_states : AreStates (targets_among ss states)
+  pub targets_are_states : AreStates (targets_among text xs ss states)
   targets_are_states =
-      subst (λ count. All (All (λ t. t < count)) (targets_among ss states)) (sym (length-map states (target_numbers ss states)))
-      (All-map (All (λ t. t < length states)) (target_numbers ss states) states (λ i d l. numbers_within (slice_get ss (get_or states i d)) (get_or states i d)))
+      subst (λ count. All (All (λ t. t < count)) (targets_among text xs ss states)) (sym (length-map states (target_numbers text xs ss states)))
+      (All-map (All (λ t. t < length states)) (target_numbers text xs ss states) states (λ i d l. numbers_within (slice_get xs (get_or states i d)) (get_or states i d)))
 
 pub copied_some : {X : Type 0} (o : Option (Bor X)) → is_some (option_copied o) ≡ is_some o
 copied_some None = refl

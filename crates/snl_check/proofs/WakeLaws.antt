@@ -7,7 +7,7 @@ use Rattle.std.proofs.lemmas.List.Quantifiers.{position-Some}
 use Rattle.std.proofs.lemmas.Option.{slice_get_past}
 use borrow.Author.Tests.{eq-eqb, le-ltb, lt-ltb}
 use Rattle.snl_scope.specs.declared.spaces.Space.TheVariants as space
-use Rattle.snl_scope.specs.declared.summary.Summary.{Summary}
+use Rattle.snl_scope.specs.declared.summary.Outline.{Outline}
 use Rattle.snl_scope.specs.Below.{all_below}
 use Rattle.snl_scope.specs.Clauses.{resolve_in}
 use Rattle.snl_scope.specs.Flags.{flag_number}
@@ -18,7 +18,7 @@ use Rattle.snl_tables.specs.declared.rows.WakeUp.TheVariants as wake
 use Rattle.snl_check.specs.declared.wake.WakeUse.{WakeUse}
 use Rattle.snl_check.specs.Channels.{AssignedChannel, assigned_channels, covers_elements, element_number, is_channel_of, is_on, variables_before}
 use Rattle.snl_check.specs.Conditions.{by_flag, on_declaration, on_variable, uses_in, wake_up}
-use Rattle.snl_check.specs.Items.{ProgramItem, summaries_of, tokens_in}
+use Rattle.snl_check.specs.Items.{ProgramItem, outlines_of, tokens_in}
 use Rattle.snl_check.specs.Tables.{variables_of}
 use Rattle.snl_check.specs.WakeSets.{HasChannels, HasFlags, channel_meant, covers_channel, covers_flag, declaration_of, is_number, means_channel, means_flag}
 use Rattle.snl_check.proofs.Numbers.{list_at}
@@ -92,7 +92,7 @@ either_below : (n : ℕ) (a b : Option ℕ) (v : ℕ) → ((k : ℕ) → a ≡ S
 either_below n None b v f g h = g v h
 either_below n (Some k) b v f g h = f v h
 
-resolved_below : (ss : List Summary) (item : ℕ) (name : List ℕ) (v : ℕ) → resolve_in ss item name ≡ Some v → v < length (entries ss)
+resolved_below : (ss : List Outline) (item : ℕ) (name : List ℕ) (v : ℕ) → resolve_in ss item name ≡ Some v → v < length (entries ss)
 resolved_below ss item name v h =
     either_below (length (entries ss)) (number_in (entries ss) (space.State item) name) (resolve (entries ss) (place ss item) name) v
     (λ k. found_entry (entries ss) (has_name (space.State item) name) k) (outside (place ss item)) h
@@ -143,7 +143,7 @@ listed_own cs count n v l =
       | inr past ↦ ap (λ b. b && is_channel_of cs v n) (le-ltb n (length cs) past) ∙ sym (ap (λ o. option_map_or (is_on v) o false) (slice_get_past cs n past))
     ]
 
-module _ (text : List ℕ) (xs : List ProgramItem) (ss : List Summary) (cs : List AssignedChannel) (item n : ℕ) where
+module _ (text : List ℕ) (xs : List ProgramItem) (ss : List Outline) (cs : List AssignedChannel) (item n : ℕ) where
   flag_meant : (u : WakeUse) → option_map_or (covers_flag n) (wake_up text xs ss cs item u) false ≡ means_flag text xs ss item n u
   flag_meant u = by (declaration_of text xs ss item u)
     where
@@ -164,12 +164,12 @@ module _ (text : List ℕ) (xs : List ProgramItem) (ss : List Summary) (cs : Lis
 
 pub has_flags : (text : List ℕ) (xs : List ProgramItem) (item : ℕ) → HasFlags text xs item
 has_flags text xs item = λ n.
-    let ss = summaries_of text xs in
+    let ss = outlines_of text xs in
     let cs = assigned_channels text xs ss in
     any_kept (covers_flag n) (wake_up text xs ss cs item) (means_flag text xs ss item n) (flag_meant text xs ss cs item n) (uses_in text xs item)
 
 pub has_channels : (text : List ℕ) (xs : List ProgramItem) (item : ℕ) → HasChannels text xs item
 has_channels text xs item = λ n.
-    let ss = summaries_of text xs in
+    let ss = outlines_of text xs in
     let cs = assigned_channels text xs ss in
     any_kept (covers_channel (variables_of text xs ss) n) (wake_up text xs ss cs item) (means_channel text xs ss item n) (channel_covered text xs ss cs item n) (uses_in text xs item)

@@ -8,7 +8,7 @@ use Rattle.snl_syntax.specs.declared.tree.clause.Channel.TheVariants as channels
 use Rattle.snl_syntax.specs.declared.tree.clause.Clause.{Clause}
 use Rattle.snl_syntax.specs.declared.tree.clause.Clause.TheVariants as clauses
 use Rattle.snl_scope.specs.declared.facts.ClauseLink.{ClauseLink}
-use Rattle.snl_scope.specs.declared.summary.Summary.{Summary}
+use Rattle.snl_scope.specs.declared.summary.Outline.{Outline}
 use Rattle.snl_scope.specs.Below.{all_below}
 use Rattle.snl_scope.specs.Summaries.Tokens.{bytes_at, value_at}
 use Rattle.snl_check.specs.Clauses.{ItemClause, told_clauses}
@@ -61,7 +61,7 @@ abbrev pub channels_of_clause : List ℕ → List ProgramItem → ItemClause × 
 channels_of_clause text xs (c, link) = if link.is_sound then channels_on text xs c.item link.variable c.clause else []
 
 -- The channels in the order of the text.
-abbrev pub assigned_channels : List ℕ → List ProgramItem → List Summary → List AssignedChannel
+abbrev pub assigned_channels : List ℕ → List ProgramItem → List Outline → List AssignedChannel
 assigned_channels text xs ss = flat_map (channels_of_clause text xs) (told_clauses xs ss)
 
 -- The channel is one of the variable.

@@ -7,7 +7,7 @@ use Rattle.snl_syntax.specs.declared.tree.item.Item.TheVariants as items
 use Rattle.snl_syntax.specs.declared.tree.state.StateMember.{StateMember}
 use Rattle.snl_syntax.specs.declared.tree.state.StateMember.TheVariants as members
 use Rattle.snl_scope.specs.declared.facts.ClauseLink.{ClauseLink}
-use Rattle.snl_scope.specs.declared.summary.Summary.{Summary}
+use Rattle.snl_scope.specs.declared.summary.Outline.{Outline}
 use Rattle.snl_scope.specs.declared.summary.VariableClause.{VariableClause}
 use Rattle.snl_scope.specs.Clauses.{clause_links}
 use Rattle.snl_scope.specs.Summaries.Clauses.{clause_of}
@@ -44,7 +44,7 @@ abbrev pub item_clauses : List ProgramItem → List ItemClause
 item_clauses xs = item_clauses_before xs (length xs)
 
 -- The clauses of a text in its order, each with what links tell of it.
-abbrev pub told_clauses : List ProgramItem → List Summary → List (ItemClause × ClauseLink)
+abbrev pub told_clauses : List ProgramItem → List Outline → List (ItemClause × ClauseLink)
 told_clauses xs ss = zip (item_clauses xs) (clause_links ss)
 
 -- A clause of a text as the summary of its item has it, with the number of the item.

@@ -13,7 +13,7 @@ use Rattle.snl_check.specs.declared.wake.WakeUse.{WakeUse}
 use Rattle.snl_check.specs.Channels as channels
 use Rattle.snl_check.specs.Clauses.{ItemClause, told_clauses}
 use Rattle.snl_check.specs.Conditions.{uses_in_item}
-use Rattle.snl_check.specs.Items.{IsCutUp, ProgramItem, program_items, summaries_of}
+use Rattle.snl_check.specs.Items.{IsCutUp, ProgramItem, program_items, outlines_of}
 use Rattle.snl_check.specs.Numbered.{Numbered}
 use Rattle.snl_check.specs.States.{line_of_item}
 
@@ -32,12 +32,12 @@ told t = (record { item = t.item; clause = t.clause.now }, t.link)
 -- The clauses are those of the program's items, with what links tell of each.
 pub record IsListing (l : Listing) : Type 0 where
   pub program : IsProgram l.program
-  pub clauses : map told l.clauses.now ≡ told_clauses (items_in l.program) l.links.now
+  pub clauses : map told l.clauses.now ≡ told_clauses (items_in l.program) l.links.now.outlines
 
 -- The links are those of the items.
 pub record IsLinked (l : Listing) : Type 0 where
   pub listing : IsListing l
-  pub summaries : l.links.now ≡ summaries_of l.program.text.now (items_in l.program)
+  pub outlines : l.links.now.outlines ≡ outlines_of l.program.text.now (items_in l.program)
 
 abbrev pub assigned : AssignedChannel → channels.AssignedChannel
 assigned c = record { item = c.item; token = c.token; variable = c.variable; element = c.element; strings = c.strings.now }
@@ -52,4 +52,4 @@ pub record IsOutline (o : Outline) : Type 0 where
   pub linked : IsLinked o.listing
   pub lines : (i : ℕ) → i < length o.listing.program.trees.now → slice_get o.lines.now i ≡ Some (line_of_item o.listing.program.text.now (items_in o.listing.program) i)
   pub checked : map uses_told o.checked.now ≡ map (uses_in_item o.listing.program.text.now) (items_in o.listing.program)
-  pub numbered : Numbered o.numbers.now (channels.assigned_channels o.listing.program.text.now (items_in o.listing.program) o.listing.links.now)
+  pub numbered : Numbered o.numbers.now (channels.assigned_channels o.listing.program.text.now (items_in o.listing.program) o.listing.links.now.outlines)

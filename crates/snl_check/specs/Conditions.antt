@@ -2,7 +2,7 @@
 use Rattle.std.specs.Prelude.{ℕ, if◌then◌else◌, List, [], slice_get, Option, None, Some, option_and_then, option_map}
 use Rattle.std.specs.List.{filter_map}
 use Rattle.std.specs.Option.{option_map_or}
-use Rattle.snl_scope.specs.declared.summary.Summary.{Summary}
+use Rattle.snl_scope.specs.declared.summary.Outline.{Outline}
 use Rattle.snl_scope.specs.Clauses.{resolve_in}
 use Rattle.snl_scope.specs.Flags.{flag_number}
 use Rattle.snl_scope.specs.Summaries.Tokens.{bytes_at}
@@ -33,14 +33,14 @@ abbrev pub by_flag : Option ℕ → Option WakeUp → Option WakeUp
 by_flag (Some flag) other = Some (wake.Flag flag)
 by_flag None other = other
 
-abbrev pub on_declaration : List Summary → List AssignedChannel → Option ℕ → ℕ → Option WakeUp
+abbrev pub on_declaration : List Outline → List AssignedChannel → Option ℕ → ℕ → Option WakeUp
 on_declaration ss cs subscript number = by_flag (flag_number ss number) (on_variable cs subscript number)
 
 -- What a use of a name in an item means. A name that resolves to nothing means nothing.
-abbrev pub wake_up : List ℕ → List ProgramItem → List Summary → List AssignedChannel → ℕ → WakeUse → Option WakeUp
+abbrev pub wake_up : List ℕ → List ProgramItem → List Outline → List AssignedChannel → ℕ → WakeUse → Option WakeUp
 wake_up text xs ss cs item used =
     option_and_then (on_declaration ss cs used.subscript) (resolve_in ss item (bytes_at text (tokens_in xs item) used.token))
 
 -- What the uses in the conditions of an item mean, in the order of the text.
-abbrev pub wake_ups : List ℕ → List ProgramItem → List Summary → List AssignedChannel → ℕ → List WakeUse → List WakeUp
+abbrev pub wake_ups : List ℕ → List ProgramItem → List Outline → List AssignedChannel → ℕ → List WakeUse → List WakeUp
 wake_ups text xs ss cs item uses = filter_map (wake_up text xs ss cs item) uses

@@ -7,8 +7,10 @@ use Rattle.snl_cut.specs.Cut.{members}
 use Rattle.snl_lex.specs.declared.piece.Piece.{Piece}
 use Rattle.snl_syntax.specs.declared.tree.item.Item.{Item}
 use Rattle.snl_syntax.specs.declared.tree.item.Item.TheVariants as items
+use Rattle.snl_scope.specs.declared.summary.Outline.{Outline}
 use Rattle.snl_scope.specs.declared.summary.Summary.{Summary}
-use Rattle.snl_scope.specs.Summaries.{summary_in}
+use Rattle.snl_scope.specs.LinkedItems.{LinkedItems}
+use Rattle.snl_scope.specs.Summaries.{kind_of, outline_in, summary_in}
 use Rattle.snl_scope.specs.Summaries.Tokens.{IsSource}
 use Rattle.snl_tables.specs.declared.rows.Span.{Span}
 
@@ -46,12 +48,23 @@ tokens_in xs item = option_map_or (λ x. x.tokens) (slice_get xs item) []
 abbrev pub tree_in : List ProgramItem → ℕ → Option Item
 tree_in xs item = option_and_then (λ x. x.tree) (slice_get xs item)
 
--- What an item says to the others, and what each of the items does.
+-- The summary of an item, and those of all.
 abbrev pub summary_of_item : List ℕ → ProgramItem → Summary
 summary_of_item text x = summary_in text x.tokens x.tree
 
 abbrev pub summaries_of : List ℕ → List ProgramItem → List Summary
 summaries_of text xs = map (summary_of_item text) xs
+
+-- What an item says to the others, and what each of the items does.
+abbrev pub outline_of_item : List ℕ → ProgramItem → Outline
+outline_of_item text x = outline_in text x.tokens x.tree
+
+abbrev pub outlines_of : List ℕ → List ProgramItem → List Outline
+outlines_of text xs = map (outline_of_item text) xs
+
+-- What the links of the items are of: what each says to the others, and of what kind it is.
+abbrev pub linked_of : List ℕ → List ProgramItem → LinkedItems
+linked_of text xs = record { outlines = outlines_of text xs; kinds = map (λ x. kind_of x.tree) xs }
 
 -- Where a token is. A token that isn't there is nowhere, with no bytes.
 abbrev pub span_of : Option Piece → Span

@@ -7,7 +7,7 @@ use Rattle.snl_syntax.specs.declared.tree.item.Item.{Item}
 use Rattle.snl_syntax.specs.declared.tree.item.Item.TheVariants as items
 use Rattle.snl_syntax.specs.declared.tree.state.StateMember.{StateMember}
 use Rattle.snl_syntax.specs.declared.tree.state.StateMember.TheVariants as members
-use Rattle.snl_scope.specs.declared.summary.Summary.{Summary}
+use Rattle.snl_scope.specs.declared.summary.Outline.{Outline}
 use Rattle.snl_scope.specs.Summaries.Tokens.{bytes_at}
 use Rattle.snl_tables.specs.declared.rows.OptionRow.{OptionRow}
 use Rattle.snl_check.specs.Options.{has_letter, is_on}
@@ -53,15 +53,15 @@ setting_in_tree bytes (items.OptionLine line) = Some (setting_of bytes line)
 setting_in_tree bytes _ = None
 
 -- What an item sets for the program. An option in a state set sets nothing, nor does a faulty one.
-abbrev pub setting_at : List ℕ → List ProgramItem → List Summary → ℕ → Option LetterSetting
+abbrev pub setting_at : List ℕ → List ProgramItem → List Outline → ℕ → Option LetterSetting
 setting_at text xs ss item =
     if is_in_set ss item then None else option_and_then (setting_in_tree (bytes_at text (tokens_in xs item))) (tree_in xs item)
 
 -- What the items set for the program, in the order of the text.
-abbrev pub program_settings : List ℕ → List ProgramItem → List Summary → List LetterSetting
+abbrev pub program_settings : List ℕ → List ProgramItem → List Outline → List LetterSetting
 program_settings text xs ss = gathered (setting_at text xs ss) (length xs)
 
-abbrev pub program_options : List ℕ → List ProgramItem → List Summary → List OptionRow
+abbrev pub program_options : List ℕ → List ProgramItem → List Outline → List OptionRow
 program_options text xs ss = option_rows letters_of_program (program_settings text xs ss)
 
 -- What the options of a state set, in the order of the text.

@@ -9,7 +9,7 @@ use Rattle.snl_syntax.specs.declared.tree.state.StateMember.{StateMember}
 use Rattle.snl_syntax.specs.declared.tree.state.StateMember.TheVariants as members
 use Rattle.snl_syntax.specs.declared.tree.state.Target.{Target}
 use Rattle.snl_syntax.specs.declared.tree.state.Target.TheVariants as target
-use Rattle.snl_scope.specs.declared.summary.Summary.{Summary}
+use Rattle.snl_scope.specs.declared.summary.Outline.{Outline}
 use Rattle.snl_scope.specs.Below.{all_below}
 use Rattle.snl_scope.specs.Linked.{has_target}
 use Rattle.snl_scope.specs.Places.{is_set_begin}
@@ -35,18 +35,18 @@ members_in (Some (items.StateBlock name ms)) = ms
 members_in _ = []
 
 -- A state that an item names at a token, with whether the state set of the item has one of the name.
-abbrev pub named_state : List ℕ → List ProgramItem → List Summary → ℕ → ℕ → NamedState
+abbrev pub named_state : List ℕ → List ProgramItem → List Outline → ℕ → ℕ → NamedState
 named_state text xs ss item token = record {
   name = span_at xs item token;
   is_known = has_target ss item (bytes_at text (tokens_in xs item) token);
 }
 
 -- Where a transition leads.
-abbrev pub destination : List ℕ → List ProgramItem → List Summary → ℕ → Target → Destination
+abbrev pub destination : List ℕ → List ProgramItem → List Outline → ℕ → Target → Destination
 destination text xs ss item (target.State name) = destinations.State (named_state text xs ss item name)
 destination text xs ss item target.Exit = destinations.Exit
 
-abbrev pub destinations_in_member : List ℕ → List ProgramItem → List Summary → ℕ → StateMember → List Destination
+abbrev pub destinations_in_member : List ℕ → List ProgramItem → List Outline → ℕ → StateMember → List Destination
 destinations_in_member text xs ss item (members.When t) = destination text xs ss item t.target ∷ []
 destinations_in_member text xs ss item _ = []
 
@@ -60,24 +60,24 @@ abbrev pub line_of_item : List ℕ → List ProgramItem → ℕ → Line
 line_of_item text xs item = line_at text (item_start xs item)
 
 -- A state whose name an earlier state of its set has.
-abbrev pub is_repeated : List Summary → ℕ → Bool
+abbrev pub is_repeated : List Outline → ℕ → Bool
 is_repeated ss j = not (is_first_state ss j)
 
 -- A walk along targets leads to the state with a number from the first of the set that item k begins.
-abbrev pub is_reached_in : List Summary → ℕ → ℕ → Bool
-is_reached_in ss k number = is_reached (targets_among ss (states_in ss k)) number
+abbrev pub is_reached_in : List ℕ → List ProgramItem → List Outline → ℕ → ℕ → Bool
+is_reached_in text xs ss k number = is_reached (targets_among text xs ss (states_in ss k)) number
 
 -- What is known of state j, which has this number in the set that item k begins: the first that holds.
-abbrev pub mark_of : List Summary → ℕ → ℕ → ℕ → StateMark
-mark_of ss k number j =
-    if is_faulty_item ss j then mark.Faulty
+abbrev pub mark_of : List ℕ → List ProgramItem → List Outline → ℕ → ℕ → ℕ → StateMark
+mark_of text xs ss k number j =
+    if is_faulty_item xs j then mark.Faulty
     else if is_repeated ss j then mark.Repeated
-    else if has_faulty ss k then mark.Unknown
-    else if is_reached_in ss k number then mark.Reached
+    else if has_faulty xs ss k then mark.Unknown
+    else if is_reached_in text xs ss k number then mark.Reached
     else mark.Unreached
 
 -- The row of a state.
-abbrev pub state_row : List ℕ → List ProgramItem → List Summary → StateMark → ℕ → StateRow
+abbrev pub state_row : List ℕ → List ProgramItem → List Outline → StateMark → ℕ → StateRow
 state_row text xs ss m item = record {
   name = item_name xs item;
   line = line_of_item text xs item;
@@ -88,17 +88,17 @@ state_row text xs ss m item = record {
   wake = wake_ups text xs ss (assigned_channels text xs ss) item (uses_in text xs item);
 }
 
-abbrev pub numbered_row : List ℕ → List ProgramItem → List Summary → ℕ → ℕ × ℕ → StateRow
-numbered_row text xs ss k (number, item) = state_row text xs ss (mark_of ss k number item) item
+abbrev pub numbered_row : List ℕ → List ProgramItem → List Outline → ℕ → ℕ × ℕ → StateRow
+numbered_row text xs ss k (number, item) = state_row text xs ss (mark_of text xs ss k number item) item
 
 -- The states of the set that item k begins, in the order of the text.
-abbrev pub state_rows : List ℕ → List ProgramItem → List Summary → ℕ → List StateRow
+abbrev pub state_rows : List ℕ → List ProgramItem → List Outline → ℕ → List StateRow
 state_rows text xs ss k = map (numbered_row text xs ss k) (enumerate_from 0 (states_in ss k))
 
 -- The row of an item that begins a state set.
-abbrev pub set_row : List ℕ → List ProgramItem → List Summary → ℕ → SetRow
+abbrev pub set_row : List ℕ → List ProgramItem → List Outline → ℕ → SetRow
 set_row text xs ss k = record { name = item_name xs k; line = line_of_item text xs k; states = state_rows text xs ss k }
 
 -- The state sets in the order of the text.
-abbrev pub set_rows : List ℕ → List ProgramItem → List Summary → List SetRow
+abbrev pub set_rows : List ℕ → List ProgramItem → List Outline → List SetRow
 set_rows text xs ss = map (set_row text xs ss) (all_below (is_set_begin ss) (length ss))

@@ -17,7 +17,7 @@ use std::alloc::Global;
 
 fn channel_row(listing: &Listing, channel: AssignedChannel) -> Result<ChannelRow, OutOfMemory>
     requires { IsListing listing.now }
-    ensures { IfOk result (λ row. row ≡ channel_row listing.now.program.text.now (items_in listing.now.program) listing.now.links.now (assigned channel.entry)) }
+    ensures { IfOk result (λ row. row ≡ channel_row listing.now.program.text.now (items_in listing.now.program) listing.now.links.now.outlines (assigned channel.entry)) }
 {
     Ok(ChannelRow {
         variable: listing.program.span(channel.item, channel.token),
@@ -38,7 +38,7 @@ pub(crate) fn channel_rows(
 ) -> Result<Vec<ChannelRow>, OutOfMemory>
     requires { IsListing listing.now }
     ensures { IfOk result (λ rows. rows.items
-        ≡ map (channel_row listing.now.program.text.now (items_in listing.now.program) listing.now.links.now) (map assigned channels.now)) }
+        ≡ map (channel_row listing.now.program.text.now (items_in listing.now.program) listing.now.links.now.outlines) (map assigned channels.now)) }
 {
     let mut rows = with_room(listing.program.alloc, channels.len())?;
     for channel in channels {

@@ -124,7 +124,7 @@ pub(crate) fn assigned_channels<'a>(
 ) -> Result<Vec<AssignedChannel<'a>>, OutOfMemory>
     requires { IsListing listing.now }
     ensures { IfOk result (λ channels. map assigned channels.items
-        ≡ assigned_channels listing.now.program.text.now (items_in listing.now.program) listing.now.links.now) }
+        ≡ assigned_channels listing.now.program.text.now (items_in listing.now.program) listing.now.links.now.outlines) }
 {
     let mut channels = Vec::new(listing.program.alloc);
     for clause in listing.clauses {

@@ -103,7 +103,7 @@ pub fn check_item(
     work: &mut Count,
 ) -> Result<Checked, OutOfMemory>
     requires { IsSource text.now tokens.now }
-    ensures faults { IfOk result (λ c. c.faults ≡ faults_in (bytes_at text.now tokens.now) tree.now (is_in_set links.now item) (known_of links.now item) (leads_to links.now item)) }
+    ensures faults { IfOk result (λ c. c.faults ≡ faults_in (bytes_at text.now tokens.now) tree.now (is_in_set links.now.outlines item) (known_of links.now.outlines item) (leads_to links.now.outlines item)) }
     ensures within { IfOk result (λ c. All (StandsIn (bytes_at text.now tokens.now)) c.faults) }
     ensures wake_uses { IfOk result (λ c. c.wake_uses ≡ wake_uses (bytes_at text.now tokens.now) tree.now) }
     ensures ticks { work.new ≡ ticked work.old }

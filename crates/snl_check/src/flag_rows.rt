@@ -11,7 +11,7 @@ use snl_tables::FlagRow;
 // The row of the flag that is the declaration with a number.
 fn flag_row_at(listing: &Listing, number: usize) -> Option<FlagRow>
     requires { IsListing listing.now }
-    ensures { result ≡ flag_row_at (items_in listing.now.program) listing.now.links.now number }
+    ensures { result ≡ flag_row_at (items_in listing.now.program) listing.now.links.now.outlines number }
 {
     let declaration = listing.links.declared(number)?;
     Some(FlagRow {
@@ -23,7 +23,7 @@ fn flag_row_at(listing: &Listing, number: usize) -> Option<FlagRow>
 /// The event flags in the order of the text.
 pub(crate) fn flag_rows(listing: &Listing) -> Result<Vec<FlagRow>, OutOfMemory>
     requires { IsListing listing.now }
-    ensures { IfOk result (λ rows. rows.items ≡ flag_rows (items_in listing.now.program) listing.now.links.now) }
+    ensures { IfOk result (λ rows. rows.items ≡ flag_rows (items_in listing.now.program) listing.now.links.now.outlines) }
 {
     let mut rows = Vec::new(listing.program.alloc);
     for number in listing.links.flags() {

@@ -82,7 +82,7 @@ pub(crate) fn told_clauses<'a>(
     links: &Links,
 ) -> Result<Vec<ToldClause<'a>>, OutOfMemory>
     requires { IsProgram program.now }
-    ensures { IfOk result (λ clauses. map told clauses.items ≡ told_clauses (items_in program.now) links.now) }
+    ensures { IfOk result (λ clauses. map told clauses.items ≡ told_clauses (items_in program.now) links.now.outlines) }
 {
     let placed = item_clauses(program)?;
     let links = links.clauses();

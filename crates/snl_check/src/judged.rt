@@ -251,7 +251,7 @@ fn add_wrong_outside(
     wrong: &mut Vec<Argument>,
 ) -> Result<(), OutOfMemory>
     requires { IsSource source.now.text.now source.now.tokens.now }
-    ensures { OnOk result (wrong.new.items ≡ wrong.old.items ++ wrong_outside (bytes_at source.now.text.now source.now.tokens.now) (known_of view.now.links.now view.now.item) asked.now) }
+    ensures { OnOk result (wrong.new.items ≡ wrong.old.items ++ wrong_outside (bytes_at source.now.text.now source.now.tokens.now) (known_of view.now.links.now.outlines view.now.item) asked.now) }
 {
     for argument in asked {
         if let Some(fact) = view.fact(source.bytes(argument.token)) {
@@ -270,7 +270,7 @@ pub(crate) fn wrong_arguments(
     view: &View,
 ) -> Result<Vec<Argument>, OutOfMemory>
     requires { IsSource source.now.text.now source.now.tokens.now }
-    ensures { IfOk result (λ v. v.items ≡ wrong_arguments (bytes_at source.now.text.now source.now.tokens.now) (known_of view.now.links.now view.now.item) tree.now) }
+    ensures { IfOk result (λ v. v.items ≡ wrong_arguments (bytes_at source.now.text.now source.now.tokens.now) (known_of view.now.links.now.outlines view.now.item) tree.now) }
 {
     let mut asked = Vec::new(source.alloc);
     let mut wrong = Vec::new(source.alloc);

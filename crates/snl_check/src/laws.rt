@@ -19,14 +19,14 @@ ghost use Rattle.snl_check.specs.Tables.{tables_of};
 ghost use Rattle.snl_check.specs.Wake.{wake_uses};
 ghost use Rattle.snl_check.specs.WakeSets.{HasChannels, HasFlags};
 ghost use Rattle.snl_check.specs.Clauses.{item_clauses, summarized};
-ghost use Rattle.snl_check.specs.Items.{ProgramItem, summaries_of, tokens_in};
+ghost use Rattle.snl_check.specs.Items.{ProgramItem, outlines_of, summaries_of, tokens_in};
 
 use snl_scope::names_are_tokens;
 
 /// The clauses of items, as trees, are those that the summaries of the items have, one by one in the order of the text.
 pub fn same_clauses()
     ensures { (text : List ℕ) (xs : List ProgramItem)
-        → map (summarized text xs) (item_clauses xs) ≡ map (λ c. (c.item, c.clause)) (clauses_of (summaries_of text xs)) }
+        → map (summarized text xs) (item_clauses xs) ≡ map (λ c. (c.item, c.clause)) (clauses_of (outlines_of text xs)) }
 {}
 
 /// The same is found in an item of the same tokens and tree, wherever it stands, where the same is known of each name that it

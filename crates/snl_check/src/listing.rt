@@ -38,7 +38,7 @@ impl<'a> Listing<'a> {
     /// A scope by its names.
     pub(crate) fn scope_name(&self, scope: Scope) -> ScopeName
         requires { IsListing self.now }
-        ensures { result ≡ scope_name (items_in self.now.program) self.now.links.now scope }
+        ensures { result ≡ scope_name (items_in self.now.program) self.now.links.now.outlines scope }
     {
         match scope {
             Scope::Program => ScopeName::Program,
@@ -53,7 +53,7 @@ impl<'a> Listing<'a> {
     /// The scope that declares a variable.
     pub(crate) fn scope_of_variable(&self, variable: usize) -> ScopeName
         requires { IsListing self.now }
-        ensures { result ≡ scope_of_variable (items_in self.now.program) self.now.links.now variable }
+        ensures { result ≡ scope_of_variable (items_in self.now.program) self.now.links.now.outlines variable }
     {
         match self.links.declared(variable) {
             Some(declaration) => self.scope_name(declaration.scope),

@@ -7,9 +7,9 @@ ghost use Rattle.std.specs.Option.{option_map_or};
 ghost use Rattle.snl_scope.specs.Linked.{state_of};
 ghost use Rattle.snl_scope.specs.Order.{is_state_word, state_name};
 ghost use Rattle.snl_scope.specs.Places.{stands_in};
-ghost use Rattle.snl_scope.specs.Summaries.{opening_by_word, summary_in};
+ghost use Rattle.snl_scope.specs.Summaries.{opening_by_word, outline_in};
 ghost use Rattle.snl_scope.specs.Summaries.Tokens.{IsSource};
-ghost use Rattle.snl_check.specs.Collected.{IsLinked};
+ghost use Rattle.snl_check.specs.Collected.{IsLinked, items_in};
 ghost use Rattle.snl_check.specs.Members.{has_faulty, is_faulty_item, is_first_state, name_of_state, number_among, states_in, target_numbers, targets_among};
 ghost use Rattle.snl_check.specs.Reach.{target_lists};
 
@@ -36,7 +36,7 @@ fn is_state_word(word: &[u8]) -> bool
 // The name of a state that has these tokens, faulty or not.
 fn name_in<'a>(text: &'a [u8], tokens: &'a [Piece]) -> Option<&'a [u8]>
     requires { IsSource text.now tokens.now }
-    ensures { option_copied result ≡ state_name (summary_in text.now tokens.now None) }
+    ensures { option_copied result ≡ state_name (outline_in text.now tokens.now None) }
 {
     let first: Option<&Piece> = tokens.get(0);
     let second: Option<&Piece> = tokens.get(1);
@@ -58,7 +58,7 @@ fn name_in<'a>(text: &'a [u8], tokens: &'a [Piece]) -> Option<&'a [u8]>
 // The name of an item that is a state.
 fn name_of_state<'a>(listing: &Listing<'a>, item: usize) -> Option<&'a [u8]>
     requires { IsLinked listing.now }
-    ensures { option_copied result ≡ name_of_state listing.now.links.now item }
+    ensures { option_copied result ≡ name_of_state listing.now.links.now.outlines item }
 {
     let source = listing.program.source(item);
     name_in(source.text, source.tokens)
@@ -68,14 +68,14 @@ fn name_of_state<'a>(listing: &Listing<'a>, item: usize) -> Option<&'a [u8]>
 pub(crate) fn is_faulty(listing: &Listing, item: usize) -> bool
     requires linked { IsLinked listing.now }
     requires item { item < length listing.now.program.trees.now }
-    ensures { result ≡ is_faulty_item listing.now.links.now item }
+    ensures { result ≡ is_faulty_item (items_in listing.now.program) item }
 {
     listing.program.tree(item).is_none()
 }
 
 // Whether an item is in the state set that another begins.
 fn stands_in(links: &Links, set: usize, item: usize) -> bool
-    ensures { result ≡ stands_in links.now set item }
+    ensures { result ≡ stands_in links.now.outlines set item }
 {
     match links.place(item) {
         Some(place) => set == place,
@@ -85,11 +85,11 @@ fn stands_in(links: &Links, set: usize, item: usize) -> bool
 
 // The number of the item after those of a state set: they follow the item that begins it.
 fn end_of(links: &Links, set: usize, count: usize) -> usize
-    requires count { count ≡ length links.now }
+    requires count { count ≡ length links.now.outlines }
     requires set { set < count }
     ensures within { result ≤ count }
     ensures some { set < result }
-    ensures items { (j : ℕ) → j < count → stands_in links.now set j ≡ (nat_lt set j && nat_lt j result) }
+    ensures items { (j : ℕ) → j < count → stands_in links.now.outlines set j ≡ (nat_lt set j && nat_lt j result) }
 {
     for item in set + 1..count {
         if !stands_in(links, set, item) {
@@ -103,8 +103,8 @@ fn end_of(links: &Links, set: usize, count: usize) -> usize
 pub(crate) fn members_of(listing: &Listing, set: usize) -> Result<Members, OutOfMemory>
     requires linked { IsLinked listing.now }
     requires set { set < length listing.now.program.trees.now }
-    ensures states { IfOk result (λ m. m.states.items ≡ states_in listing.now.links.now set) }
-    ensures faulty { IfOk result (λ m. m.has_faulty ≡ has_faulty listing.now.links.now set) }
+    ensures states { IfOk result (λ m. m.states.items ≡ states_in listing.now.links.now.outlines set) }
+    ensures faulty { IfOk result (λ m. m.has_faulty ≡ has_faulty (items_in listing.now.program) listing.now.links.now.outlines set) }
 {
     let end = end_of(listing.links, set, listing.program.trees.len());
     let mut states = Vec::new(listing.program.alloc);
@@ -134,7 +134,7 @@ fn number_among(states: &[usize], item: usize) -> Option<usize>
 // What a target of a state means, by its number among the states of the set.
 fn target_number(links: &Links, states: &[usize], state: usize, name: &[u8]) -> Option<usize>
     requires { IsStrictlyIncreasing states.now }
-    ensures { result ≡ number_among states.now (state_of links.now state name.now) }
+    ensures { result ≡ number_among states.now (state_of links.now.outlines state name.now) }
 {
     number_among(states, links.state(state, name)?)
 }
@@ -147,7 +147,7 @@ fn target_numbers(
 ) -> Result<Vec<usize>, OutOfMemory>
     requires linked { IsLinked listing.now }
     requires rising { IsStrictlyIncreasing states.now }
-    ensures { IfOk result (λ v. v.items ≡ target_numbers listing.now.links.now states.now state) }
+    ensures { IfOk result (λ v. v.items ≡ target_numbers listing.now.program.text.now (items_in listing.now.program) listing.now.links.now.outlines states.now state) }
 {
     let source = listing.program.source(state);
     let targets = targets_in(source.alloc, listing.program.tree(state))?;
@@ -168,7 +168,7 @@ pub(crate) fn targets_among(
 ) -> Result<Vec<Vec<usize>>, OutOfMemory>
     requires linked { IsLinked listing.now }
     requires rising { IsStrictlyIncreasing states.now }
-    ensures { IfOk result (λ v. target_lists v.items ≡ targets_among listing.now.links.now states.now) }
+    ensures { IfOk result (λ v. target_lists v.items ≡ targets_among listing.now.program.text.now (items_in listing.now.program) listing.now.links.now.outlines states.now) }
 {
     let mut targets = with_room(listing.program.alloc, states.len())?;
     for state in states {
@@ -179,7 +179,7 @@ pub(crate) fn targets_among(
 
 // Whether a state is the first of a name in its set.
 fn is_first_of(links: &Links, state: usize, name: &[u8]) -> bool
-    ensures { result ≡ option_map_or (nat_eq state) (state_of links.now state name.now) false }
+    ensures { result ≡ option_map_or (nat_eq state) (state_of links.now.outlines state name.now) false }
 {
     match links.state(state, name) {
         Some(first) => state == first,
@@ -190,7 +190,7 @@ fn is_first_of(links: &Links, state: usize, name: &[u8]) -> bool
 /// Whether a state is the first of its name in its set.
 pub(crate) fn is_first_state(listing: &Listing, state: usize) -> bool
     requires { IsLinked listing.now }
-    ensures { result ≡ is_first_state listing.now.links.now state }
+    ensures { result ≡ is_first_state listing.now.links.now.outlines state }
 {
     match name_of_state(listing, state) {
         Some(name) => is_first_of(listing.links, state, name),

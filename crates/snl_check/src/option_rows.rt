@@ -77,7 +77,7 @@ fn option_rows(
 // What an item sets for the program.
 fn setting_at<'a>(listing: &Listing<'a>, item: usize) -> Option<LetterSetting<'a>>
     requires { IsListing listing.now }
-    ensures { option_map told result ≡ setting_at listing.now.program.text.now (items_in listing.now.program) listing.now.links.now item }
+    ensures { option_map told result ≡ setting_at listing.now.program.text.now (items_in listing.now.program) listing.now.links.now.outlines item }
 {
     let view = View {
         links: listing.links,
@@ -95,7 +95,7 @@ fn setting_at<'a>(listing: &Listing<'a>, item: usize) -> Option<LetterSetting<'a
 fn program_settings<'a>(listing: &Listing<'a>) -> Result<Vec<LetterSetting<'a>>, OutOfMemory>
     requires { IsListing listing.now }
     ensures { IfOk result (λ settings. map told settings.items
-        ≡ program_settings listing.now.program.text.now (items_in listing.now.program) listing.now.links.now) }
+        ≡ program_settings listing.now.program.text.now (items_in listing.now.program) listing.now.links.now.outlines) }
 {
     let mut settings = Vec::new(listing.program.alloc);
     for item in 0..listing.program.trees.len() {
@@ -110,7 +110,7 @@ fn program_settings<'a>(listing: &Listing<'a>) -> Result<Vec<LetterSetting<'a>>,
 pub(crate) fn program_options(listing: &Listing) -> Result<Vec<OptionRow>, OutOfMemory>
     requires { IsListing listing.now }
     ensures { IfOk result (λ rows. rows.items
-        ≡ program_options listing.now.program.text.now (items_in listing.now.program) listing.now.links.now) }
+        ≡ program_options listing.now.program.text.now (items_in listing.now.program) listing.now.links.now.outlines) }
 {
     let settings = program_settings(listing)?;
     option_rows(listing.program.alloc, PROGRAM_LETTERS, &settings)

@@ -72,7 +72,7 @@ pub(crate) fn add_unknown_options(
     faults: &mut Vec<ItemFault>,
 ) -> Result<(), OutOfMemory>
     requires { IsSource source.now.text.now source.now.tokens.now }
-    ensures { OnOk result (faults.new.items ≡ faults.old.items ++ unknown_options (bytes_at source.now.text.now source.now.tokens.now) (is_in_set view.now.links.now view.now.item) tree.now) }
+    ensures { OnOk result (faults.new.items ≡ faults.old.items ++ unknown_options (bytes_at source.now.text.now source.now.tokens.now) (is_in_set view.now.links.now.outlines view.now.item) tree.now) }
 {
     match tree {
         Item::OptionLine(line) => {
@@ -117,7 +117,7 @@ pub(crate) fn is_on(sign: OptionSign) -> bool
 /// does neither.
 pub fn warning_setting(source: &Source, tree: &Item, links: &Links, item: usize) -> Option<bool>
     requires { IsSource source.now.text.now source.now.tokens.now }
-    ensures { result ≡ warning_setting (bytes_at source.now.text.now source.now.tokens.now) (is_in_set links.now item) tree.now }
+    ensures { result ≡ warning_setting (bytes_at source.now.text.now source.now.tokens.now) (is_in_set links.now.outlines item) tree.now }
 {
     let Item::OptionLine(line) = tree else {
         return None;

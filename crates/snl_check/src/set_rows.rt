@@ -16,7 +16,7 @@ use sqlite_items::Items;
 // Whether an item begins a state set.
 fn begins_set(listing: &Listing, item: usize) -> bool
     requires { IsLinked listing.now }
-    ensures { result ≡ is_set_begin listing.now.links.now item }
+    ensures { result ≡ is_set_begin listing.now.links.now.outlines item }
 {
     matches!(listing.program.tree(item), Some(Item::SsBegin { name: _ }))
 }
@@ -25,7 +25,7 @@ fn set_row(outline: &Outline, set: usize) -> Result<SetRow, OutOfMemory>
     requires outline { IsOutline outline.now }
     requires set { set < length outline.now.listing.program.trees.now }
     ensures { IfOk result (λ row. row
-        ≡ set_row outline.now.listing.program.text.now (items_in outline.now.listing.program) outline.now.listing.links.now set) }
+        ≡ set_row outline.now.listing.program.text.now (items_in outline.now.listing.program) outline.now.listing.links.now.outlines set) }
 {
     Ok(SetRow {
         name: outline.listing.item_name(set),
@@ -38,7 +38,7 @@ fn set_row(outline: &Outline, set: usize) -> Result<SetRow, OutOfMemory>
 pub(crate) fn set_rows(outline: &Outline) -> Result<Vec<SetRow>, OutOfMemory>
     requires { IsOutline outline.now }
     ensures { IfOk result (λ rows. rows.items
-        ≡ set_rows outline.now.listing.program.text.now (items_in outline.now.listing.program) outline.now.listing.links.now) }
+        ≡ set_rows outline.now.listing.program.text.now (items_in outline.now.listing.program) outline.now.listing.links.now.outlines) }
 {
     let mut rows = Vec::new(outline.listing.program.alloc);
     for item in 0..outline.listing.program.trees.len() {

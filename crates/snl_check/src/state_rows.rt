@@ -27,7 +27,7 @@ use sqlite_items::Items;
 // A state that an item names at a token.
 fn named_state(listing: &Listing, item: usize, token: usize) -> NamedState
     requires { IsListing listing.now }
-    ensures { result ≡ states.named_state listing.now.program.text.now (items_in listing.now.program) listing.now.links.now item token }
+    ensures { result ≡ states.named_state listing.now.program.text.now (items_in listing.now.program) listing.now.links.now.outlines item token }
 {
     let source = listing.program.source(item);
     NamedState {
@@ -38,7 +38,7 @@ fn named_state(listing: &Listing, item: usize, token: usize) -> NamedState
 
 fn destination(listing: &Listing, item: usize, target: Target) -> Destination
     requires { IsListing listing.now }
-    ensures { result ≡ states.destination listing.now.program.text.now (items_in listing.now.program) listing.now.links.now item target }
+    ensures { result ≡ states.destination listing.now.program.text.now (items_in listing.now.program) listing.now.links.now.outlines item target }
 {
     match target {
         Target::State(name) => Destination::State(named_state(listing, item, name)),
@@ -54,7 +54,7 @@ fn destinations(
 ) -> Result<Vec<Destination>, OutOfMemory>
     requires { IsListing listing.now }
     ensures { IfOk result (λ v. v.items
-        ≡ flat_map (states.destinations_in_member listing.now.program.text.now (items_in listing.now.program) listing.now.links.now item) members.now) }
+        ≡ flat_map (states.destinations_in_member listing.now.program.text.now (items_in listing.now.program) listing.now.links.now.outlines item) members.now) }
 {
     let mut destinations = Vec::new(listing.program.alloc);
     for member in members {
@@ -73,7 +73,7 @@ fn gotos(
 ) -> Result<Vec<NamedState>, OutOfMemory>
     requires { IsListing listing.now }
     ensures { IfOk result (λ v. v.items
-        ≡ map (states.named_state listing.now.program.text.now (items_in listing.now.program) listing.now.links.now item) (flat_map states.jumps_in_member members.now)) }
+        ≡ map (states.named_state listing.now.program.text.now (items_in listing.now.program) listing.now.links.now.outlines item) (flat_map states.jumps_in_member members.now)) }
 {
     let mut gotos = Vec::new(listing.program.alloc);
     let jumps = jumps_in(listing.program.alloc, members)?;
@@ -115,8 +115,8 @@ fn mark_of(
 ) -> StateMark
     requires linked { IsLinked outline.now.listing }
     requires state { state < length outline.now.listing.program.trees.now }
-    ensures { result ≡ (if is_faulty_item outline.now.listing.links.now state then StateMark.Faulty
-        else if states.is_repeated outline.now.listing.links.now state then StateMark.Repeated
+    ensures { result ≡ (if is_faulty_item (items_in outline.now.listing.program) state then StateMark.Faulty
+        else if states.is_repeated outline.now.listing.links.now.outlines state then StateMark.Repeated
         else if members.now.has_faulty then StateMark.Unknown
         else if slice_index_or reached.now number false then StateMark.Reached
         else StateMark.Unreached) }
@@ -139,9 +139,9 @@ fn mark_of(
 // Of each state of a set whether it is reached. Where an item of the set is faulty, nothing is said.
 fn reached_among(outline: &Outline, members: &Members, set: usize) -> Result<Vec<bool>, OutOfMemory>
     requires linked { IsLinked outline.now.listing }
-    requires states { members.now.states.items ≡ states_in outline.now.listing.links.now set }
+    requires states { members.now.states.items ≡ states_in outline.now.listing.links.now.outlines set }
     ensures { IfOk result (λ reached. members.now.has_faulty ≡ false
-        → (number : ℕ) → number < length (states_in outline.now.listing.links.now set) → slice_index_or reached.items number false ≡ states.is_reached_in outline.now.listing.links.now set number) }
+        → (number : ℕ) → number < length (states_in outline.now.listing.links.now.outlines set) → slice_index_or reached.items number false ≡ states.is_reached_in outline.now.listing.program.text.now (items_in outline.now.listing.program) outline.now.listing.links.now.outlines set number) }
 {
     if members.has_faulty {
         return Ok(Vec::new(outline.listing.program.alloc));
@@ -154,7 +154,7 @@ fn state_row(outline: &Outline, mark: StateMark, item: usize) -> Result<StateRow
     requires outline { IsOutline outline.now }
     requires item { item < length outline.now.listing.program.trees.now }
     ensures { IfOk result (λ row. row
-        ≡ states.state_row outline.now.listing.program.text.now (items_in outline.now.listing.program) outline.now.listing.links.now mark item) }
+        ≡ states.state_row outline.now.listing.program.text.now (items_in outline.now.listing.program) outline.now.listing.links.now.outlines mark item) }
 {
     let listing = &outline.listing;
     let members = members_in(listing.program.tree(item));
@@ -174,7 +174,7 @@ pub(crate) fn state_rows(outline: &Outline, set: usize) -> Result<Vec<StateRow>,
     requires outline { IsOutline outline.now }
     requires set { set < length outline.now.listing.program.trees.now }
     ensures { IfOk result (λ rows. rows.items
-        ≡ states.state_rows outline.now.listing.program.text.now (items_in outline.now.listing.program) outline.now.listing.links.now set) }
+        ≡ states.state_rows outline.now.listing.program.text.now (items_in outline.now.listing.program) outline.now.listing.links.now.outlines set) }
 {
     let members = members_of(&outline.listing, set)?;
     let reached = reached_among(outline, &members, set)?;

@@ -25,7 +25,7 @@ fn queue_of(source: &Source, length: Option<usize>) -> Queue
 
 // The number of a flag that a clause names.
 fn flag_number(links: &Links, flag: Option<usize>) -> Option<usize>
-    ensures { result ≡ option_and_then (flag_number links.now) flag }
+    ensures { result ≡ option_and_then (flag_number links.now.outlines) flag }
 {
     links.flag_number(flag?)
 }
@@ -33,7 +33,7 @@ fn flag_number(links: &Links, flag: Option<usize>) -> Option<usize>
 // How a clause syncs what it speaks of.
 fn synced(listing: &Listing, clause: ToldClause) -> Option<Synced>
     requires { IsListing listing.now }
-    ensures { result ≡ tables.synced listing.now.program.text.now (items_in listing.now.program) listing.now.links.now (told clause.entry) }
+    ensures { result ≡ tables.synced listing.now.program.text.now (items_in listing.now.program) listing.now.links.now.outlines (told clause.entry) }
 {
     let flag = flag_number(listing.links, clause.link.flag);
     match clause.clause {
@@ -65,7 +65,7 @@ fn synced(listing: &Listing, clause: ToldClause) -> Option<Synced>
 /// How a channel of a variable is synced: by the first sound clause that speaks of it.
 pub(crate) fn sync_of(listing: &Listing, variable: usize, element: Option<u64>) -> Option<Synced>
     requires { IsListing listing.now }
-    ensures { result ≡ tables.sync_of listing.now.program.text.now (items_in listing.now.program) listing.now.links.now variable element }
+    ensures { result ≡ tables.sync_of listing.now.program.text.now (items_in listing.now.program) listing.now.links.now.outlines variable element }
 {
     let number = listing.links.sync_number(variable, element)?;
     let clause = listing.clauses.get(number)?;

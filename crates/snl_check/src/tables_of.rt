@@ -5,7 +5,7 @@ ghost use Rattle.std.specs.Prelude.{◌≡◌, IfOk, length, map, option_copied}
 ghost use Rattle.snl_lex.specs.Pieces.{pieces_of, tokens_of};
 ghost use Rattle.snl_check.specs.Collected.{IsLinked, items_in, uses_told};
 ghost use Rattle.snl_check.specs.Conditions.{uses_in_item};
-ghost use Rattle.snl_check.specs.Items.{IsCutUp, program_items, summaries_of};
+ghost use Rattle.snl_check.specs.Items.{IsCutUp, program_items, outlines_of};
 ghost use Rattle.snl_check.specs.Tables.{tables_by, tables_of};
 
 use crate::channel_numbers::numbers_of;
@@ -39,7 +39,7 @@ fn rows_of(
     requires pieces { pieces.now ≡ pieces_of listing.now.program.text.now }
     requires tokens { listing.now.program.tokens.now ≡ tokens_of listing.now.program.text.now }
     requires checked { map uses_told checked.now ≡ map (uses_in_item listing.now.program.text.now) (items_in listing.now.program) }
-    ensures { IfOk result (λ t. t ≡ tables_by listing.now.program.text.now (items_in listing.now.program) listing.now.links.now) }
+    ensures { IfOk result (λ t. t ≡ tables_by listing.now.program.text.now (items_in listing.now.program) listing.now.links.now.outlines) }
 {
     let alloc = listing.program.alloc;
     let lines = item_lines(&listing.program, pieces)?;
@@ -77,7 +77,7 @@ pub fn tables_by_tokens(
     requires pieces { pieces.now ≡ pieces_of text.now }
     requires tokens { tokens.now ≡ tokens_of text.now }
     requires cut { IsCutUp text.now tokens.now ends.now (length items.now) }
-    requires links { links.now ≡ summaries_of text.now (program_items tokens.now ends.now (map option_copied items.now)) }
+    requires links { links.now.outlines ≡ outlines_of text.now (program_items tokens.now ends.now (map option_copied items.now)) }
     requires checked { map uses_told checked.now ≡ map (uses_in_item text.now) (program_items tokens.now ends.now (map option_copied items.now)) }
     ensures { IfOk result (λ t. t ≡ tables_of text.now (program_items tokens.now ends.now (map option_copied items.now))) }
 {
@@ -111,7 +111,7 @@ pub fn tables(
 ) -> Result<Tables, OutOfMemory>
     requires pieces { pieces.now ≡ pieces_of text.now }
     requires cut { IsCutUp text.now (tokens_of text.now) ends.now (length items.now) }
-    requires links { links.now ≡ summaries_of text.now (program_items (tokens_of text.now) ends.now (map option_copied items.now)) }
+    requires links { links.now.outlines ≡ outlines_of text.now (program_items (tokens_of text.now) ends.now (map option_copied items.now)) }
     requires checked { map uses_told checked.now ≡ map (uses_in_item text.now) (program_items (tokens_of text.now) ends.now (map option_copied items.now)) }
     ensures { IfOk result (λ t. t ≡ tables_of text.now (program_items (tokens_of text.now) ends.now (map option_copied items.now))) }
 {

@@ -40,7 +40,7 @@ pub(crate) fn undeclared(
     free: &[usize],
 ) -> Result<Vec<usize>, OutOfMemory>
     requires { IsSource source.now.text.now source.now.tokens.now }
-    ensures { IfOk result (λ v. v.items ≡ undeclared (bytes_at source.now.text.now source.now.tokens.now) (known_of view.now.links.now view.now.item) free.now) }
+    ensures { IfOk result (λ v. v.items ≡ undeclared (bytes_at source.now.text.now source.now.tokens.now) (known_of view.now.links.now.outlines view.now.item) free.now) }
 {
     let mut names = NameSet::new(source.alloc);
     let mut firsts = Vec::new(source.alloc);

@@ -18,7 +18,7 @@ pub(crate) fn unknown_targets(
     view: &View,
 ) -> Result<Vec<usize>, OutOfMemory>
     requires { IsSource source.now.text.now source.now.tokens.now }
-    ensures { IfOk result (λ v. v.items ≡ unknown_targets (bytes_at source.now.text.now source.now.tokens.now) (is_in_set view.now.links.now view.now.item) (leads_to view.now.links.now view.now.item) tree.now) }
+    ensures { IfOk result (λ v. v.items ≡ unknown_targets (bytes_at source.now.text.now source.now.tokens.now) (is_in_set view.now.links.now.outlines view.now.item) (leads_to view.now.links.now.outlines view.now.item) tree.now) }
 {
     let mut unknown = Vec::new(source.alloc);
     if view.is_in_set() {

@@ -17,7 +17,7 @@ impl View<'_> {
     /// Whether the item stands in a state set.
     #[tactic(auto, unfolding(crate::specs::Outlook::is_in_set))]
     pub(crate) fn is_in_set(&self) -> bool
-        ensures { result ≡ is_in_set self.now.links.now self.now.item }
+        ensures { result ≡ is_in_set self.now.links.now.outlines self.now.item }
     {
         self.links.place(self.item).is_some()
     }
@@ -25,7 +25,7 @@ impl View<'_> {
     /// What a name means by the scopes outside the item.
     #[tactic(auto, unfolding(crate::specs::Outlook::known_of))]
     pub(crate) fn fact(&self, name: &[u8]) -> Option<Fact>
-        ensures { result ≡ known_of self.now.links.now self.now.item name.now }
+        ensures { result ≡ known_of self.now.links.now.outlines self.now.item name.now }
     {
         self.links.fact(self.item, name)
     }
@@ -33,7 +33,7 @@ impl View<'_> {
     /// Whether the item's state set has a state of the name.
     #[tactic(auto, unfolding(crate::specs::Outlook::leads_to))]
     pub(crate) fn leads_to(&self, name: &[u8]) -> bool
-        ensures { result ≡ leads_to self.now.links.now self.now.item name.now }
+        ensures { result ≡ leads_to self.now.links.now.outlines self.now.item name.now }
     {
         self.links.has_target(self.item, name)
     }

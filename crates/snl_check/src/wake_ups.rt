@@ -17,7 +17,7 @@ use snl_tables::WakeUp;
 fn covers_elements(outline: &Outline, variable: usize) -> bool
     requires { IsOutline outline.now }
     ensures { result ≡ covers_elements
-        (assigned_channels outline.now.listing.program.text.now (items_in outline.now.listing.program) outline.now.listing.links.now) variable }
+        (assigned_channels outline.now.listing.program.text.now (items_in outline.now.listing.program) outline.now.listing.links.now.outlines) variable }
 {
     let any = Key {
         variable,
@@ -30,7 +30,7 @@ fn covers_elements(outline: &Outline, variable: usize) -> bool
 fn element_number(outline: &Outline, variable: usize, element: u64) -> Option<usize>
     requires { IsOutline outline.now }
     ensures { result ≡ element_number
-        (assigned_channels outline.now.listing.program.text.now (items_in outline.now.listing.program) outline.now.listing.links.now) variable (Some element) }
+        (assigned_channels outline.now.listing.program.text.now (items_in outline.now.listing.program) outline.now.listing.links.now.outlines) variable (Some element) }
 {
     outline.numbers.number(Key {
         variable,
@@ -42,7 +42,7 @@ fn element_number(outline: &Outline, variable: usize, element: u64) -> Option<us
 fn on_variable(outline: &Outline, subscript: Option<u64>, variable: usize) -> Option<WakeUp>
     requires { IsOutline outline.now }
     ensures { result ≡ conditions.on_variable
-        (assigned_channels outline.now.listing.program.text.now (items_in outline.now.listing.program) outline.now.listing.links.now) subscript variable }
+        (assigned_channels outline.now.listing.program.text.now (items_in outline.now.listing.program) outline.now.listing.links.now.outlines) subscript variable }
 {
     match subscript {
         Some(element) => {
@@ -59,8 +59,8 @@ fn on_variable(outline: &Outline, subscript: Option<u64>, variable: usize) -> Op
 // What a use of a name in an item means.
 fn wake_up(outline: &Outline, item: usize, used: WakeUse) -> Option<WakeUp>
     requires { IsOutline outline.now }
-    ensures { result ≡ conditions.wake_up outline.now.listing.program.text.now (items_in outline.now.listing.program) outline.now.listing.links.now
-        (assigned_channels outline.now.listing.program.text.now (items_in outline.now.listing.program) outline.now.listing.links.now) item used }
+    ensures { result ≡ conditions.wake_up outline.now.listing.program.text.now (items_in outline.now.listing.program) outline.now.listing.links.now.outlines
+        (assigned_channels outline.now.listing.program.text.now (items_in outline.now.listing.program) outline.now.listing.links.now.outlines) item used }
 {
     let links = outline.listing.links;
     let name = outline.listing.program.source(item).bytes(used.token);
@@ -75,8 +75,8 @@ fn wake_up(outline: &Outline, item: usize, used: WakeUse) -> Option<WakeUp>
 pub(crate) fn wake_ups(outline: &Outline, item: usize) -> Result<Vec<WakeUp>, OutOfMemory>
     requires { IsOutline outline.now }
     ensures { IfOk result (λ wake. wake.items
-        ≡ conditions.wake_ups outline.now.listing.program.text.now (items_in outline.now.listing.program) outline.now.listing.links.now
-        (assigned_channels outline.now.listing.program.text.now (items_in outline.now.listing.program) outline.now.listing.links.now) item
+        ≡ conditions.wake_ups outline.now.listing.program.text.now (items_in outline.now.listing.program) outline.now.listing.links.now.outlines
+        (assigned_channels outline.now.listing.program.text.now (items_in outline.now.listing.program) outline.now.listing.links.now.outlines) item
         (conditions.uses_in outline.now.listing.program.text.now (items_in outline.now.listing.program) item)) }
 {
     let uses = outline.wake_uses(item);

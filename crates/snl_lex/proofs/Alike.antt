@@ -1,9 +1,9 @@
 -- The pieces before and behind an edit have the bytes that they had.
-use Rattle.std.proofs.Common.{◌≡◌, ℕ, zero, suc, ◌+◌, ◌-◌, ◌<◌, ◌≤◌, inl, inr, List, [], ◌∷◌, length, map, take, drop, refl, sym, ap, ◌∙◌, subst, arith}
+use Rattle.std.proofs.Common.{◌≡◌, ℕ, zero, suc, ◌+◌, ◌-◌, ◌<◌, ◌≤◌, inl, inr, List, [], ◌∷◌, map, take, drop, refl, sym, ap, ◌∙◌, subst, arith}
 use Rattle.std.specs.List.{AllByRecursion}
 use Rattle.std.proofs.lemmas.List.{drop-drop, take-take, drop-take}
 use Rattle.std.proofs.lemmas.Bool.Decides.{nat_tests}
-use Rattle.snl_cut.specs.Cut.{IsEdit, ends_below, last_end}
+use Rattle.snl_cut.specs.Cut.{ends_below, last_end}
 use Rattle.snl_lex.specs.declared.piece.Piece.{Piece}
 use Rattle.snl_lex.specs.Pieces.{bytes_at, moved_piece, piece_at, piece_end, piece_length}
 use Rattle.snl_lex.proofs.Members.{Leads, end_at, split}
@@ -31,7 +31,7 @@ alike_before old text start (p ∷ ps) h =
       | inr more ↦ subst (λ (n : ℕ). AllByRecursion (λ q. bytes_at text q ≡ bytes_at old q) (take n (p ∷ ps))) (sym (below_no (piece_end p) start (map piece_end ps) more)) tt
     ]
 
-start_at : (text : List ℕ) (at : ℕ) → (piece_at text at).start ≡ at
+pub start_at : (text : List ℕ) (at : ℕ) → (piece_at text at).start ≡ at
 unfolding piece_at
 start_at text at = refl
 

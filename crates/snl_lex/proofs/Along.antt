@@ -12,7 +12,7 @@ use Rattle.snl_lex.proofs.Members.{split, Leads, pieces_lead, end_at}
 
 -- ---- parts of a text
 
-take_split : {X : Type 0} (m n : ℕ) (u : List X) → take (m + n) u ≡ take m u ++ take n (drop m u)
+pub take_split : {X : Type 0} (m n : ℕ) (u : List X) → take (m + n) u ≡ take m u ++ take n (drop m u)
 take_split {X} m n u =
     sym (take-append-drop m (take (m + n) u))
     ∙ (ap (λ (l : List X). l ++ drop m (take (m + n) u)) (take-take m (m + n) u (omega arith)) ∙ ap (λ (l : List X). take m u ++ l) (drop-take m n u))
@@ -75,7 +75,7 @@ same_last f g found (p ∷ ps) (suc n) same none =
 
 -- ---- pieces in order
 
-leads_from : (text : List ℕ) (from : ℕ) (ps : List Piece) (to : ℕ) → Leads text from ps to → (j : ℕ) (d : Piece) → j < length ps → from ≤ piece_end (get_or ps j d)
+pub leads_from : (text : List ℕ) (from : ℕ) (ps : List Piece) (to : ℕ) → Leads text from ps to → (j : ℕ) (d : Piece) → j < length ps → from ≤ piece_end (get_or ps j d)
 leads_from text from [] to h j d lt = absurd (omega (arith, lt))
 leads_from text from (p ∷ ps) to h zero d lt = omega (arith, ap piece_end h.1, end_at text from)
 leads_from text from (p ∷ ps) to h (suc j) d lt = omega (arith, leads_from text (from + piece_length (drop from text)) ps to h.2 j d (omega (arith, lt)))

@@ -136,7 +136,7 @@ pub fn relex_by<E: Ends>(
 }
 
 // Where the first `count` members end.
-fn end_by<E: Ends>(ends: &E, count: usize) -> usize
+pub fn end_by<E: Ends>(ends: &E, count: usize) -> usize
     requires { count ≤ length (E.listed ends.now) }
     ensures { result ≡ last_end 0 (take count (E.listed ends.now)) }
 {

@@ -6,19 +6,23 @@ ghost use Rattle.std.specs.Prelude.{◌≡◌, ◌+◌, ◌≤◌, drop, length,
 mod alphabet;
 mod cut;
 mod laws;
+mod line_list;
 mod lines;
 mod lines_along;
 mod numbers;
 mod piece;
+mod piece_list;
 mod scan;
 mod words;
 
 pub use cut::{Bytes, Relexed, lex, relex, relex_by};
-pub use laws::text_in_pieces;
+pub use laws::{first_piece_reaches, kept_as_spelled, text_in_pieces};
+pub use line_list::{LineList, Marker};
 pub use lines::{Line, line_of};
 pub use lines_along::lines_of;
 pub use numbers::int_value;
 pub use piece::{Class, Piece};
+pub use piece_list::{PieceChange, PieceList, TextEdit};
 
 /// The bytes of a piece.
 pub fn token_text(text: &[u8], piece: Piece) -> &[u8]

@@ -22,7 +22,7 @@ struct Setting {
 }
 
 // The number that a piece sets, if it is a marker that sets one.
-fn number_in(text: &[u8], piece: Piece) -> Option<usize>
+pub fn number_in(text: &[u8], piece: Piece) -> Option<usize>
     requires { LiesIn text.now piece }
     ensures some { is_some result ≡ numbers text.now piece }
     ensures number { IfSome result (λ n. marker_number (bytes_at text.now piece) ≡ Some n) }

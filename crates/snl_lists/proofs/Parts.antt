@@ -39,3 +39,14 @@ remove_behind {X} xs made start stop h w m =
     let gone : drop stop (front ++ rest) ≡ drop (stop - (start + length made)) rest = drop_front front rest stop (stop - (start + length made)) (omega (arith, long)) in
     let there : drop (stop - (start + length made)) rest ≡ drop stop xs = drop-drop (stop - (start + length made)) (start + length made) xs ∙ ap (λ n. drop n xs) (omega arith) in
     ap₂ (λ (a b : List X). a ++ b) before (ap (drop stop) as_two ∙ gone ∙ there) ∙ append_assoc (take start xs) made (drop stop xs)
+
+-- a list with other items in a place: what stands before their end, and what stands behind it
+pub split_there : {X : Type 0} (xs made : List X) (start stop : ℕ) → start ≤ length xs
+    → (take (start + length made) (replaced xs start stop made) ≡ take start xs ++ made) × (drop (start + length made) (replaced xs start stop made) ≡ drop stop xs)
+split_there {X} xs made start stop h =
+    let front : List X = take start xs ++ made in
+    let long : start + length made ≡ length front = sym (front_length xs made start h) in
+    let as_two : replaced xs start stop made ≡ front ++ drop stop xs = sym (append_assoc (take start xs) made (drop stop xs)) in (
+      ap (take (start + length made)) as_two ∙ take_front front (drop stop xs) (start + length made) long,
+      ap (drop (start + length made)) as_two ∙ drop_front front (drop stop xs) (start + length made) 0 (omega (arith, long)),
+    )

@@ -1,7 +1,7 @@
 //! Lists that change in place: a part is replaced, and what stands behind it is moved. No memory is asked for.
 
 ghost use Rattle.std.specs.Prelude.{◌≡◌, ℕ, ◌+◌, ◌-◌, ◌^◌, ◌<◌, ◌≤◌, ◌++◌, All, length, take, drop, map, slice_index, vec_len, vec_capacity};
-ghost use Rattle.snl_lists.specs.Moves.{moved, replaced};
+ghost use Rattle.snl_lists.specs.Moves.{moved, replaced, replaced_and_moved};
 
 // Puts other items in the place of as many.
 fn overwrite<T: Copy + Drop>(list: &mut Vec<T>, start: usize, made: &[T])
@@ -71,4 +71,24 @@ pub fn shift(places: &mut Vec<u32>, from: usize, old_stop: u32, new_stop: u32)
     ensures { places.new.items ≡ take from places.old.items ++ moved old_stop new_stop (drop from places.old.items) }
 {
     shift_all(&mut places[from..], old_stop, new_stop);
+}
+
+/// Puts other places in the place of those from `start` up to `stop`, and moves those behind, as the bytes from `old_stop` on are moved to `new_stop`. There is room for them.
+pub fn replace_and_shift(
+    places: &mut Vec<u32>,
+    start: usize,
+    stop: usize,
+    made: &[u32],
+    old_stop: u32,
+    new_stop: u32,
+)
+    requires range { start ≤ stop }
+    requires within { stop ≤ vec_len places.old }
+    requires room { vec_len places.old + length made.now ≤ vec_capacity places.old }
+    requires behind { (i : ℕ) → i < length (drop stop places.old.items) → old_stop ≤ slice_index (drop stop places.old.items) i }
+    requires fits { (i : ℕ) → i < length (drop stop places.old.items) → (slice_index (drop stop places.old.items) i - old_stop) + new_stop < 2 ^ 32 }
+    ensures { places.new.items ≡ replaced_and_moved places.old.items start stop made.now old_stop new_stop }
+{
+    replace(places, start, stop, made);
+    shift(places, start + made.len(), old_stop, new_stop);
 }

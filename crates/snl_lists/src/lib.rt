@@ -5,5 +5,5 @@
 mod in_place;
 mod order;
 
-pub use in_place::{replace, shift};
+pub use in_place::{replace, replace_and_shift, shift};
 pub use order::Ordered;

@@ -5,6 +5,7 @@
 ghost use Rattle.std.specs.Prelude.{◌≡◌, All, IfOk, length};
 ghost use Rattle.snl_cut.specs.Cut.{IsCut};
 ghost use Rattle.snl_lex.specs.Pieces.{LiesIn};
+ghost use Rattle.snl_scope.specs.LinkedItems.{linked_items};
 ghost use Rattle.snl_syntax.specs.Items.{item};
 
 use snl_cut::{Count, OutOfMemory, cut_all};
@@ -114,7 +115,7 @@ pub fn summaries_of(
 
 /// What names mean among the items that these summaries tell of.
 pub fn links_of(alloc: Global, summaries: &[Summary]) -> Result<Links, OutOfMemory>
-    ensures { IfOk result (λ links. links ≡ summaries.now) }
+    ensures { IfOk result (λ links. links ≡ linked_items summaries.now) }
 {
     let mut all = Vec::new(alloc);
     for summary in summaries {

@@ -14,6 +14,8 @@ mod names;
 #[cfg(test)]
 mod order;
 #[cfg(test)]
+mod outlines;
+#[cfg(test)]
 mod questions;
 #[cfg(test)]
 mod reading;

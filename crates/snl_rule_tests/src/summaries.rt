@@ -93,7 +93,7 @@ static USES: [Row; 22] = [
 
 // Each declared name, with a mark for its dims and a letter for its nature.
 fn add_declares(summary: &Summary, words: &mut Vec<u8>) -> Result<(), Fail> {
-    for declared in summary.declares.as_slice() {
+    for declared in summary.outline.declares.as_slice() {
         words.extend_from_slice(declared.name.bytes())?;
         add_variable(declared.variable, words)?;
         words.push(b' ')?;
@@ -141,7 +141,7 @@ fn add_coverage(coverage: Coverage, words: &mut Vec<u8>) -> Result<(), Fail> {
 
 // Each clause: its kind, its variable, what it covers, and its flag.
 fn add_clauses(summary: &Summary, words: &mut Vec<u8>) -> Result<(), Fail> {
-    for clause in summary.clauses.as_slice() {
+    for clause in summary.outline.clauses.as_slice() {
         words.push(match clause.kind {
             ClauseKind::Assign => b'=',
             ClauseKind::Monitor => b'm',
@@ -235,8 +235,8 @@ fn beginnings(rt: HostRuntime) -> Result<(), Fail> {
     for (text, second, kind, opening) in &BEGINNINGS {
         let summary = summary(rt.alloc(), text)?;
         assert_eq!(rt; summary.kind, *kind, "{text:?}");
-        assert_eq!(rt; summary.opening, *opening, "{text:?}");
-        let name = match &summary.second {
+        assert_eq!(rt; summary.outline.opening, *opening, "{text:?}");
+        let name = match &summary.outline.second {
             Some(name) => name.bytes(),
             None => &[],
         };

@@ -1,7 +1,7 @@
 pub mod Empty
 pub mod Searches
 pub mod OpenSets
-pub mod Phases
+pub mod OrderSteps
 pub mod Marks
 pub mod Numbering
 pub mod Equality
@@ -26,3 +26,4 @@ pub mod FirstClaims
 pub mod Overlaps
 pub mod SpokenChannels
 pub mod Judging
+pub mod Views

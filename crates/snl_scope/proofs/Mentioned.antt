@@ -30,7 +30,7 @@ use Rattle.snl_syntax.specs.Tokens.{ahead}
 use Rattle.snl_scope.specs.declared.summary.Declared.{Declared}
 use Rattle.snl_scope.specs.declared.summary.VariableClause.{VariableClause}
 use Rattle.snl_scope.specs.Once.{TokensRise, declared_tokens, flag_tokens, tokens_of_flag, variable_tokens}
-use Rattle.snl_scope.specs.Summaries.{summary_in}
+use Rattle.snl_scope.specs.Summaries.{outline_in}
 use Rattle.snl_scope.specs.Summaries.Clauses.{clause_of, clauses_in_tree, clauses_of_member}
 use Rattle.snl_scope.specs.Summaries.Declares.{declared_at, declared_by_declaration, declared_by_declarator, declared_by_foreign, declared_by_function, declared_by_member, declared_if_body, declared_in_tree, foreign_name, function_name, nature_of}
 use Rattle.snl_scope.proofs.Leaves.{AreLeaves, leaves_before, leaves_behind, leaves_between, leaves_joined, leaves_rise, no_leaves, one_leaf}
@@ -126,11 +126,11 @@ module _ (text : List ℕ) (tokens : List Piece) where
   flags_leaves = clause_leaves (flat_map tokens_of_flag) refl (flat_map-append tokens_of_flag) (λ c. subst (λ ns. AreLeaves ns (spell_clause c)) (sym (append-nil (tokens_of_flag (clause_of text tokens c)))) (flag_leaves c))
 
   -- so the tokens of each sort rise
-  pub rises_in : (t : Item) (kinds : List Kind) → Matches (spell_item t) (ahead kinds 0) → TokensRise (summary_in text tokens (Some t))
+  pub rises_in : (t : Item) (kinds : List Kind) → Matches (spell_item t) (ahead kinds 0) → TokensRise (outline_in text tokens (Some t))
   rises_in t kinds h = record {
-    declared = rising (declared_tokens (summary_in text tokens (Some t))) (declared_leaves t);
-    variables = rising (variable_tokens (summary_in text tokens (Some t))) (variable_leaves t);
-    flags = rising (flag_tokens (summary_in text tokens (Some t))) (flags_leaves t);
+    declared = rising (declared_tokens (outline_in text tokens (Some t))) (declared_leaves t);
+    variables = rising (variable_tokens (outline_in text tokens (Some t))) (variable_leaves t);
+    flags = rising (flag_tokens (outline_in text tokens (Some t))) (flags_leaves t);
   }
     where
       rising : (ns : List ℕ) → AreLeaves ns (spell_item t) → IsStrictlyIncreasing ns

@@ -8,7 +8,7 @@ use Rattle.snl_scope.specs.declared.facts.LinkFault.{LinkFault}
 use Rattle.snl_scope.specs.declared.summary.ClauseKind.{ClauseKind}
 use Rattle.snl_scope.specs.declared.summary.ClauseKind.TheVariants as kind
 use Rattle.snl_scope.specs.declared.summary.Mention.{Mention}
-use Rattle.snl_scope.specs.declared.summary.Summary.{Summary}
+use Rattle.snl_scope.specs.declared.summary.Outline.{Outline}
 use Rattle.snl_scope.specs.declared.summary.Variable.{Variable}
 use Rattle.snl_scope.specs.declared.summary.VariableClause.{VariableClause}
 use Rattle.snl_scope.specs.Clauses.{LinkedClause, assigns, at_mention, clash, clause_faults, clauses_before, clauses_of, code_on, found_at, found_at_flag, found_at_variable, found_behind, has_wrong_flag, is_assign, is_assignable, linked_clause, misfits, repetition_code, variable_at, variable_code, with_clause}
@@ -153,13 +153,13 @@ flags_rise (c ∷ cs) h = (
 abbrev BothRise : VariableClause → VariableClause → Type 0
 BothRise c d = (c.variable.token < d.variable.token) × FlagsRise c d
 
-item_clauses : (s : Summary) → TokensRise s → EachTwo BothRise s.clauses
+item_clauses : (s : Outline) → TokensRise s → EachTwo BothRise s.clauses
 item_clauses s rise =
     two_both (λ c d. c.variable.token < d.variable.token) FlagsRise s.clauses
     (two_unmap (λ a b. a < b) (λ c. c.variable.token) s.clauses (two_from_rising (variable_tokens s) rise.variables))
     (flags_rise s.clauses (two_from_rising (flag_tokens s) rise.flags))
 
-module _ (ss : List Summary) where
+module _ (ss : List Outline) where
   linked_apart : (n : ℕ) (c d : VariableClause) → BothRise c d → StandApart (linked_clause ss n c) (linked_clause ss n d)
   linked_apart n c d h = record {
     variables = λ same e. omega (arith, h.0, e);
@@ -169,7 +169,7 @@ module _ (ss : List Summary) where
   apart_by_item : (c d : LinkedClause) → c.item < d.item → StandApart c d
   apart_by_item c d h = record { variables = λ e same. omega (arith, h, e); flags = λ e m n i j same. omega (arith, h, e) }
 
-  clauses_if : (n : ℕ) (o : Option Summary) → IfSome o TokensRise
+  clauses_if : (n : ℕ) (o : Option Outline) → IfSome o TokensRise
       → Each (λ c. c.item ≡ n) (option_map_or (λ s. map (linked_clause ss n) s.clauses) o []) × EachTwo StandApart (option_map_or (λ s. map (linked_clause ss n) s.clauses) o [])
   clauses_if n None h = (tt, tt)
   clauses_if n (Some s) h = (

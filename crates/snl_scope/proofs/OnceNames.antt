@@ -1,5 +1,5 @@
 -- No finding at a name that comes again comes twice.
-use Rattle.std.proofs.Common.{◌≡◌, ℕ, zero, suc, ◌<◌, ◌≤◌, Bool, true, false, List, [], ◌∷◌, ◌++◌, length, map, Option, None, Some, IfSome, is_some, slice_get, arith, refl, subst, sym, if◌then◌else◌}
+use Rattle.std.proofs.Common.{◌≡◌, ℕ, zero, suc, ◌<◌, ◌≤◌, Bool, true, false, List, [], ◌∷◌, ◌++◌, filter, length, map, Option, None, Some, IfSome, is_some, slice_get, arith, refl, subst, sym, if◌then◌else◌}
 use Rattle.std.specs.List.{AllByRecursion as Each}
 use Rattle.std.specs.Option.{option_map_or, option_to_list}
 use Rattle.snl_scope.specs.declared.codes.Code.{Code}
@@ -7,10 +7,11 @@ use Rattle.snl_scope.specs.declared.codes.Code.TheVariants.{E08, E09}
 use Rattle.snl_scope.specs.declared.facts.LinkFault.{LinkFault}
 use Rattle.snl_scope.specs.declared.spaces.Space.{Space}
 use Rattle.snl_scope.specs.declared.spaces.Space.TheVariants as space
-use Rattle.snl_scope.specs.declared.summary.Summary.{Summary}
-use Rattle.snl_scope.specs.Names.{Entry, declared_entry, entries, entries_before, entries_of, name_faults, named_entry, number_in, repetition, repetition_at, repetitions, scope_code, scope_of, set_entries, set_name, state_code, state_entries}
+use Rattle.snl_scope.specs.declared.summary.Outline.{Outline}
+use Rattle.snl_scope.specs.LinkedItems.{LinkedItems}
+use Rattle.snl_scope.specs.Names.{Entry, declared_entry, entries, entries_before, entries_of, name_faults, named_entry, number_in, repetition, repetition_at, repetitions, scope_code, scope_of, set_entries, set_name, state_entries, told_by}
 use Rattle.snl_scope.specs.Once.{TokensRise, declared_tokens}
-use Rattle.snl_scope.specs.Order.{is_faulty, state_name}
+use Rattle.snl_scope.specs.Order.{state_name}
 use Rattle.snl_scope.specs.Places.{place}
 use Rattle.snl_scope.proofs.Families.{Differ, differ_by_item, differ_by_rank, differ_by_token, rank}
 use Rattle.snl_scope.proofs.Pairs.{EachTwo, each-append, each-map, each_at, each_by, each_weaker, two-map, two_from_rising, two_parts, two_unmap, two_weaker}
@@ -76,7 +77,7 @@ apart_by_item : (d e : Entry) → d.item < e.item → GiveApart d e
 apart_by_item d e h f g p q = differ_by_item f g (λ r. omega (arith, h, r, p.item, q.item))
 
 -- the entries of one item
-module _ (ss : List Summary) (i : ℕ) (s : Summary) where
+module _ (ss : List Outline) (i : ℕ) (s : Outline) where
   named_once : (names : Space) (code : Option Code) (a : ℕ) → IfSome code (λ c. (a ≤ rank c) × (rank c < suc a)) → (o : Option (List ℕ))
       → Each (IsOf i a (suc a)) (map (named_entry names i code) (option_to_list o)) × EachTwo GiveApart (map (named_entry names i code) (option_to_list o))
   named_once names code a h None = (tt, tt)
@@ -87,11 +88,7 @@ module _ (ss : List Summary) (i : ℕ) (s : Summary) where
 
   state_once : (p : Option ℕ) → Each (IsOf i 9 10) (state_entries p i s) × EachTwo GiveApart (state_entries p i s)
   state_once None = (tt, tt)
-  state_once (Some k) = named_once (space.States k) (state_code s) 9 (by (is_faulty s.kind)) (state_name s)
-    where
-      by : (b : Bool) → IfSome (if b then None else Some E09) (λ c. (9 ≤ rank c) × (rank c < 10))
-      by true = tt
-      by false = (omega arith, omega arith)
+  state_once (Some k) = named_once (space.States k) (Some E09) 9 (omega arith, omega arith) (state_name s)
 
   by_scope : (scope : Space) → IfSome (scope_code scope) (λ c. (7 ≤ rank c) × (rank c < 8))
   by_scope (space.State k) = tt
@@ -135,8 +132,26 @@ record IsBefore (n : ℕ) (e : Entry) : Type 0 where
   item : e.item < n
   code : IfSome e.code (λ c. (7 ≤ rank c) × (rank c < 10))
 
-module _ (ss : List Summary) (rise : Each TokensRise ss) where
-  entries_if : (n : ℕ) (o : Option Summary) → IfSome o TokensRise → Each (IsOf n 7 10) (option_map_or (entries_of ss n) o []) × EachTwo GiveApart (option_map_or (entries_of ss n) o [])
+-- what holds of all, holds of those that pass a test
+module _ (p : LinkFault → Bool) where
+  each-filter : (P : LinkFault → Type 0) (xs : List LinkFault) → Each P xs → Each P (filter p xs)
+  each-filter P [] h = tt
+  each-filter P (x ∷ xs) h = by (p x) h.0 (each-filter P xs h.1)
+    where
+      by : (b : Bool) → P x → Each P (filter p xs) → Each P (if b then x ∷ filter p xs else filter p xs)
+      by true here rest = (here, rest)
+      by false here rest = rest
+
+  two-filter : (R : LinkFault → LinkFault → Type 0) (xs : List LinkFault) → EachTwo R xs → EachTwo R (filter p xs)
+  two-filter R [] h = tt
+  two-filter R (x ∷ xs) h = by (p x) (each-filter (R x) xs h.0) (two-filter R xs h.1)
+    where
+      by : (b : Bool) → Each (R x) (filter p xs) → EachTwo R (filter p xs) → EachTwo R (if b then x ∷ filter p xs else filter p xs)
+      by true here rest = (here, rest)
+      by false here rest = rest
+
+module _ (ss : List Outline) (rise : Each TokensRise ss) where
+  entries_if : (n : ℕ) (o : Option Outline) → IfSome o TokensRise → Each (IsOf n 7 10) (option_map_or (entries_of ss n) o []) × EachTwo GiveApart (option_map_or (entries_of ss n) o [])
   entries_if n None h = (tt, tt)
   entries_if n (Some s) h = item_entries ss n s h
 
@@ -152,10 +167,17 @@ module _ (ss : List Summary) (rise : Each TokensRise ss) where
         two_parts GiveApart (IsBefore n) (IsOf n 7 10) (λ d e p q. apart_by_item d e (omega (arith, p.item, q.item))) (entries_before ss n) last before.0 before.1 here.0 here.1,
       )
 
-  pub names_once : EachTwo Differ (name_faults ss)
-  names_once = repeated_once [] (entries ss) (entries_once (length ss)).1
+  repetitions_once : EachTwo Differ (repetitions [] (entries ss))
+  repetitions_once = repeated_once [] (entries ss) (entries_once (length ss)).1
 
-  pub names_ranks : Each (λ f. (7 ≤ rank f.code) × (rank f.code < 10)) (name_faults ss)
-  names_ranks =
+  repetitions_ranks : Each (λ f. (7 ≤ rank f.code) × (rank f.code < 10)) (repetitions [] (entries ss))
+  repetitions_ranks =
       repeated_each (λ f. (7 ≤ rank f.code) × (rank f.code < 10)) [] (entries ss)
       (each_weaker (IsBefore (length ss)) (λ e. (f : LinkFault) → Gives e f → (7 ≤ rank f.code) × (rank f.code < 10)) (λ e h f p. given_rank 7 10 e f h.code p) (entries ss) (entries_once (length ss)).0)
+
+module _ (l : LinkedItems) (rise : Each TokensRise l.outlines) where
+  pub names_once : EachTwo Differ (name_faults l)
+  names_once = two-filter (told_by l.kinds) Differ (repetitions [] (entries l.outlines)) (repetitions_once l.outlines rise)
+
+  pub names_ranks : Each (λ f. (7 ≤ rank f.code) × (rank f.code < 10)) (name_faults l)
+  names_ranks = each-filter (told_by l.kinds) (λ f. (7 ≤ rank f.code) × (rank f.code < 10)) (repetitions [] (entries l.outlines)) (repetitions_ranks l.outlines rise)

@@ -3,8 +3,8 @@ use Rattle.std.proofs.Common.{◌≡◌, ℕ, zero, suc, ◌<◌, ◌≤◌, Boo
 use Rattle.std.specs.List.{AllByRecursion as Each}
 use Rattle.snl_scope.specs.declared.codes.Code.{Code}
 use Rattle.snl_scope.specs.declared.codes.Code.TheVariants.{E03, E04, E05, E06}
-use Rattle.snl_scope.specs.declared.summary.Summary.{Summary}
 use Rattle.snl_scope.specs.Below.{all_below, any_below}
+use Rattle.snl_scope.specs.LinkedItems.{LinkedItems}
 use Rattle.snl_scope.specs.Order.{at_item, at_items_where, found_if, header_faults, if_missing, is_misplaced, is_program_item, is_repeated_header, is_ss_item, is_stateless, is_unmatched, misplaced_items, missing_states, order_faults, unmatched_braces}
 use Rattle.snl_scope.proofs.Families.{Differ, differ_by_item, rank, rank_from, rank_under, two_by_item, two_by_rank}
 use Rattle.snl_scope.proofs.Pairs.{EachTwo, each-append, each-map, each_weaker, two-map, two_parts, two_weaker}
@@ -58,47 +58,47 @@ module _ (code : Code) where
   coded_or_missing : (test other : ℕ → Bool) (n : ℕ) → Each (λ f. f.code ≡ code) (at_items_where code test n ++ if_missing code other n)
   coded_or_missing test other n = each-append (λ f. f.code ≡ code) (at_items_where code test n) (if_missing code other n) (coded_items test n) (coded_if (not (any_below other n)) n)
 
-module _ (ss : List Summary) where
-  early_ranks : (n : ℕ) → 4 < n → Each (λ f. rank f.code < n) (misplaced_items ss ++ unmatched_braces ss)
+module _ (l : LinkedItems) where
+  early_ranks : (n : ℕ) → 4 < n → Each (λ f. rank f.code < n) (misplaced_items l ++ unmatched_braces l.outlines)
   early_ranks n h =
-      each-append (λ f. rank f.code < n) (misplaced_items ss) (unmatched_braces ss)
-      (rank_under n E03 (misplaced_items ss) (omega (arith, h)) (coded_items E03 (is_misplaced ss) (length ss)))
-      (rank_under n E04 (unmatched_braces ss) h (coded_items E04 (is_unmatched ss) (length ss)))
+      each-append (λ f. rank f.code < n) (misplaced_items l) (unmatched_braces l.outlines)
+      (rank_under n E03 (misplaced_items l) (omega (arith, h)) (coded_items E03 (is_misplaced l) (length l.outlines)))
+      (rank_under n E04 (unmatched_braces l.outlines) h (coded_items E04 (is_unmatched l.outlines) (length l.outlines)))
 
-  early_once : EachTwo Differ (misplaced_items ss ++ unmatched_braces ss)
+  early_once : EachTwo Differ (misplaced_items l ++ unmatched_braces l.outlines)
   early_once =
-      two_by_rank 4 (misplaced_items ss) (unmatched_braces ss)
-      (rank_under 4 E03 (misplaced_items ss) (omega arith) (coded_items E03 (is_misplaced ss) (length ss)))
-      (once_at_items E03 (is_misplaced ss) (length ss))
-      (rank_from 4 E04 (unmatched_braces ss) (omega arith) (coded_items E04 (is_unmatched ss) (length ss)))
-      (once_at_items E04 (is_unmatched ss) (length ss))
+      two_by_rank 4 (misplaced_items l) (unmatched_braces l.outlines)
+      (rank_under 4 E03 (misplaced_items l) (omega arith) (coded_items E03 (is_misplaced l) (length l.outlines)))
+      (once_at_items E03 (is_misplaced l) (length l.outlines))
+      (rank_from 4 E04 (unmatched_braces l.outlines) (omega arith) (coded_items E04 (is_unmatched l.outlines) (length l.outlines)))
+      (once_at_items E04 (is_unmatched l.outlines) (length l.outlines))
 
-  coded_headers : Each (λ f. f.code ≡ E05) (header_faults ss)
-  coded_headers = coded_or_missing E05 (is_repeated_header ss) (is_program_item ss) (length ss)
+  coded_headers : Each (λ f. f.code ≡ E05) (header_faults l)
+  coded_headers = coded_or_missing E05 (is_repeated_header l) (is_program_item l.outlines) (length l.outlines)
 
-  headers_once : EachTwo Differ (misplaced_items ss ++ unmatched_braces ss ++ header_faults ss)
+  headers_once : EachTwo Differ (misplaced_items l ++ unmatched_braces l.outlines ++ header_faults l)
   headers_once =
-      two_by_rank 5 (misplaced_items ss ++ unmatched_braces ss) (header_faults ss)
+      two_by_rank 5 (misplaced_items l ++ unmatched_braces l.outlines) (header_faults l)
       (early_ranks 5 (omega arith)) early_once
-      (rank_from 5 E05 (header_faults ss) (omega arith) coded_headers)
-      (once_or_missing E05 (is_repeated_header ss) (is_program_item ss) (length ss))
+      (rank_from 5 E05 (header_faults l) (omega arith) coded_headers)
+      (once_or_missing E05 (is_repeated_header l) (is_program_item l.outlines) (length l.outlines))
 
-  header_ranks : (n : ℕ) → 5 < n → Each (λ f. rank f.code < n) (misplaced_items ss ++ unmatched_braces ss ++ header_faults ss)
+  header_ranks : (n : ℕ) → 5 < n → Each (λ f. rank f.code < n) (misplaced_items l ++ unmatched_braces l.outlines ++ header_faults l)
   header_ranks n h =
-      each-append (λ f. rank f.code < n) (misplaced_items ss ++ unmatched_braces ss) (header_faults ss)
-      (early_ranks n (omega (arith, h))) (rank_under n E05 (header_faults ss) h coded_headers)
+      each-append (λ f. rank f.code < n) (misplaced_items l ++ unmatched_braces l.outlines) (header_faults l)
+      (early_ranks n (omega (arith, h))) (rank_under n E05 (header_faults l) h coded_headers)
 
-  coded_states : Each (λ f. f.code ≡ E06) (missing_states ss)
-  coded_states = coded_or_missing E06 (is_stateless ss) (is_ss_item ss) (length ss)
+  coded_states : Each (λ f. f.code ≡ E06) (missing_states l.outlines)
+  coded_states = coded_or_missing E06 (is_stateless l.outlines) (is_ss_item l.outlines) (length l.outlines)
 
-  pub order_once : EachTwo Differ (order_faults ss)
+  pub order_once : EachTwo Differ (order_faults l)
   order_once =
-      two_by_rank 6 (misplaced_items ss ++ unmatched_braces ss ++ header_faults ss) (missing_states ss)
+      two_by_rank 6 (misplaced_items l ++ unmatched_braces l.outlines ++ header_faults l) (missing_states l.outlines)
       (header_ranks 6 (omega arith)) headers_once
-      (rank_from 6 E06 (missing_states ss) (omega arith) coded_states)
-      (once_or_missing E06 (is_stateless ss) (is_ss_item ss) (length ss))
+      (rank_from 6 E06 (missing_states l.outlines) (omega arith) coded_states)
+      (once_or_missing E06 (is_stateless l.outlines) (is_ss_item l.outlines) (length l.outlines))
 
-  pub order_ranks : Each (λ f. rank f.code < 7) (order_faults ss)
+  pub order_ranks : Each (λ f. rank f.code < 7) (order_faults l)
   order_ranks =
-      each-append (λ f. rank f.code < 7) (misplaced_items ss ++ unmatched_braces ss ++ header_faults ss) (missing_states ss)
-      (header_ranks 7 (omega arith)) (rank_under 7 E06 (missing_states ss) (omega arith) coded_states)
+      each-append (λ f. rank f.code < 7) (misplaced_items l ++ unmatched_braces l.outlines ++ header_faults l) (missing_states l.outlines)
+      (header_ranks 7 (omega arith)) (rank_under 7 E06 (missing_states l.outlines) (omega arith) coded_states)

@@ -2,13 +2,13 @@
 use Rattle.std.proofs.Common.{◌≡◌, ℕ, suc, ◌+◌, ◌<◌, Bool, true, false, not, ◌&&◌, ◌||◌, List, [], ◌∷◌, ◌++◌, Option, None, Some, slice_get, nat_lt, refl, sym, ap, ◌∙◌, arith, length-append, if◌then◌else◌}
 use Rattle.std.specs.Option.{option_map_or}
 use borrow.Author.Count.{below_more}
-use Rattle.snl_scope.specs.declared.summary.Summary.{Summary}
+use Rattle.snl_scope.specs.declared.summary.Outline.{Outline}
 use Rattle.snl_scope.specs.Below.{last_below}
 use Rattle.snl_scope.specs.Places.{begins_set, ends_between, ends_set, is_set_begin, is_set_end, open_before, place}
 use Rattle.snl_scope.specs.Tables.{Placed}
 use Rattle.snl_scope.proofs.Searches.{any_below-none, get-front, get-last, last_below-none, last_below-same, last_below-within, nat_lt-false, nat_lt-true}
 
-module _ (ss : List Summary) (i : ℕ) where
+module _ (ss : List Outline) (i : ℕ) where
   and-false : (b : Bool) → (b && false) ≡ false
   and-false true = refl
   and-false false = refl
@@ -40,9 +40,9 @@ module _ (ss : List Summary) (i : ℕ) where
       ap (λ c. is_set_begin ss k && not ((nat_lt k i && c) || ends_between ss k i)) e
       ∙ ap (λ c. is_set_begin ss k && not (c || ends_between ss k i)) (and-false (nat_lt k i)))
 
-  pub open_step : (s : Summary) → slice_get ss i ≡ Some s
-      → open_before ss (suc i) ≡ (if begins_set s.kind then Some i else (if ends_set s.kind then None else open_before ss i))
-  open_step s at = by (begins_set s.kind) (ends_set s.kind) (ap (λ o. option_map_or (λ s. begins_set s.kind) o false) at) (ap (λ o. option_map_or (λ s. ends_set s.kind) o false) at)
+  pub open_step : (s : Outline) → slice_get ss i ≡ Some s
+      → open_before ss (suc i) ≡ (if begins_set s.role then Some i else (if ends_set s.role then None else open_before ss i))
+  open_step s at = by (begins_set s.role) (ends_set s.role) (ap (λ o. option_map_or (λ s. begins_set s.role) o false) at) (ap (λ o. option_map_or (λ s. ends_set s.role) o false) at)
     where
       by : (b e : Bool) → is_set_begin ss i ≡ b → is_set_end ss i ≡ e → open_before ss (suc i) ≡ (if b then Some i else (if e then None else open_before ss i))
       by true e p q = opens p
@@ -50,8 +50,8 @@ module _ (ss : List Summary) (i : ℕ) where
       by false false p q = stays p q
 
   -- the place of an item that is read
-  pub place_here : (s : Summary) → slice_get ss i ≡ Some s → place ss i ≡ (if begins_set s.kind then None else open_before ss i)
-  place_here s at = ap (λ o. if option_map_or (λ s. not (begins_set s.kind)) o false then open_before ss i else None) at ∙ by (begins_set s.kind)
+  pub place_here : (s : Outline) → slice_get ss i ≡ Some s → place ss i ≡ (if begins_set s.role then None else open_before ss i)
+  place_here s at = ap (λ o. if option_map_or (λ s. not (begins_set s.role)) o false then open_before ss i else None) at ∙ by (begins_set s.role)
     where
       by : (b : Bool) → (if not b then open_before ss i else None) ≡ (if b then None else open_before ss i)
       by true = refl
@@ -59,14 +59,14 @@ module _ (ss : List Summary) (i : ℕ) where
 
   -- the state set that an item stands in begins before it
   pub place_within : (k : ℕ) → place ss i ≡ Some k → k < i
-  place_within k = by (option_map_or (λ s. not (begins_set s.kind)) (slice_get ss i) false)
+  place_within k = by (option_map_or (λ s. not (begins_set s.role)) (slice_get ss i) false)
     where
       by : (b : Bool) → (if b then open_before ss i else None) ≡ Some k → k < i
       by true e = last_below-within (λ k. is_set_begin ss k && not (ends_between ss k i)) i k e
       by false e = absurd (cc)
 
 -- the places with one more item
-pub placed-push : (places : List (Option ℕ)) (ss : List Summary) (n : ℕ) (p : Option ℕ) → Placed places ss n → p ≡ place ss n → Placed (places ++ p ∷ []) ss (n + 1)
+pub placed-push : (places : List (Option ℕ)) (ss : List Outline) (n : ℕ) (p : Option ℕ) → Placed places ss n → p ≡ place ss n → Placed (places ++ p ∷ []) ss (n + 1)
 placed-push places ss n p h e = record {
   len = omega (arith, length-append places (p ∷ []), h.len);
   each = below_more (λ k. slice_get (places ++ p ∷ []) k ≡ Some (place ss k)) n

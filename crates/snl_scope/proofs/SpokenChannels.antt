@@ -11,7 +11,7 @@ use Rattle.snl_scope.specs.declared.summary.ClauseKind.{ClauseKind}
 use Rattle.snl_scope.specs.declared.summary.ClauseKind.TheVariants as kind
 use Rattle.snl_scope.specs.declared.summary.Coverage.{Coverage}
 use Rattle.snl_scope.specs.declared.summary.Coverage.TheVariants as coverage
-use Rattle.snl_scope.specs.declared.summary.Summary.{Summary}
+use Rattle.snl_scope.specs.declared.summary.Outline.{Outline}
 use Rattle.snl_scope.specs.Channels.{is_monitor, is_monitored, is_sync, speaks_of, speaks_on, sync_number}
 use Rattle.snl_scope.specs.Claims.{Claimed, claim_number, claims, first_clause, lesser, makes, purpose_of, same_purpose, sound_among}
 use Rattle.snl_scope.specs.Clauses.{LinkedClause, clauses_of, same_number, soundness}
@@ -87,7 +87,7 @@ module _ (held : List (Claim × ℕ)) (judged : List (LinkedClause × Bool)) (f 
   channel-any element = ap is_some (channel-first element) ∙ any-among (speaks element) judged
 
 -- what the claims of all sound clauses tell
-module _ (ss : List Summary) (held : List (Claim × ℕ)) (f : Claimed held (zip (clauses_of ss) (soundness ss))) (v : ℕ) (element : Option ℕ) where
+module _ (ss : List Outline) (held : List (Claim × ℕ)) (f : Claimed held (zip (clauses_of ss) (soundness ss))) (v : ℕ) (element : Option ℕ) where
   pub monitored-claims : is_some (first_clause held purpose.Monitor v element) ≡ is_monitored ss v element
   monitored-claims =
       channel-any held (zip (clauses_of ss) (soundness ss)) f purpose.Monitor v is_monitor monitors element

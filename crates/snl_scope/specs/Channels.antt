@@ -6,7 +6,7 @@ use Rattle.snl_scope.specs.declared.summary.ClauseKind.{ClauseKind}
 use Rattle.snl_scope.specs.declared.summary.ClauseKind.TheVariants as kind
 use Rattle.snl_scope.specs.declared.summary.Coverage.{Coverage}
 use Rattle.snl_scope.specs.declared.summary.Coverage.TheVariants as coverage
-use Rattle.snl_scope.specs.declared.summary.Summary.{Summary}
+use Rattle.snl_scope.specs.declared.summary.Outline.{Outline}
 use Rattle.snl_scope.specs.Clauses.{LinkedClause, clauses_of, same_number, sound_clauses, soundness}
 
 -- The clause speaks of the channel: any clause of that of the whole variable, of that of an element one that covers it.
@@ -30,10 +30,10 @@ abbrev pub speaks_on : ℕ → Option ℕ → LinkedClause → Bool
 speaks_on variable element c = same_number (Some variable) c.variable && speaks_of c.clause.coverage element
 
 -- A sound `monitor` speaks of the channel.
-abbrev pub is_monitored : List Summary → ℕ → Option ℕ → Bool
+abbrev pub is_monitored : List Outline → ℕ → Option ℕ → Bool
 is_monitored ss variable element = list_any (λ c. is_monitor c.clause.kind && speaks_on variable element c) (sound_clauses ss)
 
 -- The number, among all clauses, of the first sound `sync` or `syncq` that speaks of the channel.
-abbrev pub sync_number : List Summary → ℕ → Option ℕ → Option ℕ
+abbrev pub sync_number : List Outline → ℕ → Option ℕ → Option ℕ
 sync_number ss variable element =
     position (λ p. p.1 && is_sync p.0.clause.kind && speaks_on variable element p.0) (zip (clauses_of ss) (soundness ss))

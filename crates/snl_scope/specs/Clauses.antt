@@ -18,7 +18,7 @@ use Rattle.snl_scope.specs.declared.summary.Dims.TheVariants as dims
 use Rattle.snl_scope.specs.declared.summary.Mention.{Mention}
 use Rattle.snl_scope.specs.declared.summary.Nature.{Nature}
 use Rattle.snl_scope.specs.declared.summary.Nature.TheVariants as nature
-use Rattle.snl_scope.specs.declared.summary.Summary.{Summary}
+use Rattle.snl_scope.specs.declared.summary.Outline.{Outline}
 use Rattle.snl_scope.specs.declared.summary.Variable.{Variable}
 use Rattle.snl_scope.specs.declared.summary.VariableClause.{VariableClause}
 use Rattle.snl_scope.specs.Codes.{is_error}
@@ -27,7 +27,7 @@ use Rattle.snl_scope.specs.Places.{place}
 
 -- The number of the entry that a name outside the blocks of item i resolves to. A state's own scope comes first; an item
 -- that is none has nothing in such a scope.
-abbrev pub resolve_in : List Summary → ℕ → List ℕ → Option ℕ
+abbrev pub resolve_in : List Outline → ℕ → List ℕ → Option ℕ
 resolve_in ss i name = option_or (number_in (entries ss) (space.State i) name) (resolve (entries ss) (place ss i) name)
 
 -- A clause in a text: the item that it stands in, and the numbers of the entries that its variable and its flag resolve to.
@@ -37,7 +37,7 @@ pub record LinkedClause : Type 0 where
   pub variable : Option ℕ
   pub flag : Option ℕ
 
-abbrev pub linked_clause : List Summary → ℕ → VariableClause → LinkedClause
+abbrev pub linked_clause : List Outline → ℕ → VariableClause → LinkedClause
 linked_clause ss i c = record {
   item = i;
   clause = c;
@@ -46,11 +46,11 @@ linked_clause ss i c = record {
 }
 
 -- The clauses of the first n items, and of all, in the order of the text.
-abbrev pub clauses_before : List Summary → ℕ → List LinkedClause
+abbrev pub clauses_before : List Outline → ℕ → List LinkedClause
 clauses_before ss zero = []
 clauses_before ss (suc n) = clauses_before ss n ++ option_map_or (λ s. map (linked_clause ss n) s.clauses) (slice_get ss n) []
 
-abbrev pub clauses_of : List Summary → List LinkedClause
+abbrev pub clauses_of : List Outline → List LinkedClause
 clauses_of ss = clauses_before ss (length ss)
 
 -- What the declaration with a number says.
@@ -148,7 +148,7 @@ abbrev pub sound_behind : List Entry → List LinkedClause → List LinkedClause
 sound_behind es cs sound [] = sound
 sound_behind es cs sound (d ∷ ds) = sound_behind es cs (with_clause es cs sound d) ds
 
-abbrev pub sound_clauses : List Summary → List LinkedClause
+abbrev pub sound_clauses : List Outline → List LinkedClause
 sound_clauses ss = sound_behind (entries ss) (clauses_of ss) [] (clauses_of ss)
 
 -- Of each clause whether it is sound, behind the sound ones before them.
@@ -156,7 +156,7 @@ abbrev pub soundness_behind : List Entry → List LinkedClause → List LinkedCl
 soundness_behind es cs sound [] = []
 soundness_behind es cs sound (d ∷ ds) = is_sound es cs sound d ∷ soundness_behind es cs (with_clause es cs sound d) ds
 
-abbrev pub soundness : List Summary → List Bool
+abbrev pub soundness : List Outline → List Bool
 soundness ss = soundness_behind (entries ss) (clauses_of ss) [] (clauses_of ss)
 
 -- A clause as links tell it.
@@ -172,7 +172,7 @@ clause_link c is_sound = record {
 }
 
 -- All clauses of a text, each with its soundness.
-abbrev pub clause_links : List Summary → List ClauseLink
+abbrev pub clause_links : List Outline → List ClauseLink
 clause_links ss = map (λ p. clause_link p.0 p.1) (zip (clauses_of ss) (soundness ss))
 
 abbrev pub at_mention : ℕ → Mention → Code → LinkFault
@@ -194,7 +194,7 @@ found_behind es cs sound [] = []
 found_behind es cs sound (d ∷ ds) = found_at es cs sound d ++ found_behind es cs (with_clause es cs sound d) ds
 
 -- E11 to E16, E22 and W05.
-abbrev pub clause_faults : List Summary → List LinkFault
+abbrev pub clause_faults : List Outline → List LinkFault
 clause_faults ss = found_behind (entries ss) (clauses_of ss) [] (clauses_of ss)
 
 -- What a clause that assigns says of its variable.

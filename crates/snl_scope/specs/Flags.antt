@@ -1,7 +1,7 @@
 -- The event flags of a text and their numbers.
 use Rattle.std.specs.Prelude.{ℕ, suc, Bool, false, ◌&&◌, List, length, slice_get, nat_eq, Option, option_map, position}
 use Rattle.std.specs.Option.{option_map_or}
-use Rattle.snl_scope.specs.declared.summary.Summary.{Summary}
+use Rattle.snl_scope.specs.declared.summary.Outline.{Outline}
 use Rattle.snl_scope.specs.declared.summary.Variable.{Variable}
 use Rattle.snl_scope.specs.Below.{all_below}
 use Rattle.snl_scope.specs.Clauses.{is_event_flag}
@@ -24,9 +24,9 @@ abbrev pub is_flag : List Entry → ℕ → Bool
 is_flag es number = option_map_or (λ e. declares_flag e.variable && is_first es number e) (slice_get es number) false
 
 -- The event flags of a text, by the numbers of their entries, in the order of the text.
-abbrev pub flags_of : List Summary → List ℕ
+abbrev pub flags_of : List Outline → List ℕ
 flags_of ss = all_below (is_flag (entries ss)) (length (entries ss))
 
 -- Event flags are numbered from 1.
-abbrev pub flag_number : List Summary → ℕ → Option ℕ
+abbrev pub flag_number : List Outline → ℕ → Option ℕ
 flag_number ss number = option_map suc (position (nat_eq number) (flags_of ss))

@@ -1,5 +1,6 @@
 pub mod Below
 pub mod Codes
+pub mod LinkedItems
 pub mod Places
 pub mod Order
 pub mod Names
@@ -8,6 +9,7 @@ pub mod Claims
 pub mod Channels
 pub mod Flags
 pub mod Linked
+pub mod View
 pub mod Tables
 pub mod Resolved
 pub mod Summaries

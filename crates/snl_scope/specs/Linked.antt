@@ -1,4 +1,4 @@
--- What the links of items answer, by their summaries.
+-- What the links of items answer: all but the findings by the outlines alone.
 use Rattle.std.specs.Prelude.{ℕ, Bool, false, if◌then◌else◌, List, ◌++◌, length, slice_get, nat_lt, Option, None, Some, is_some, option_map, option_and_then}
 use Rattle.std.specs.Option.{option_map_or}
 use Rattle.snl_scope.specs.declared.facts.Assigned.{Assigned}
@@ -15,9 +15,10 @@ use Rattle.snl_scope.specs.declared.spaces.Space.{Space}
 use Rattle.snl_scope.specs.declared.spaces.Space.TheVariants as space
 use Rattle.snl_scope.specs.declared.summary.Nature.{Nature}
 use Rattle.snl_scope.specs.declared.summary.Nature.TheVariants as nature
-use Rattle.snl_scope.specs.declared.summary.Summary.{Summary}
+use Rattle.snl_scope.specs.declared.summary.Outline.{Outline}
 use Rattle.snl_scope.specs.declared.summary.Variable.{Variable}
 use Rattle.snl_scope.specs.Clauses.{assigned_by, clause_faults, clauses_of}
+use Rattle.snl_scope.specs.LinkedItems.{LinkedItems}
 use Rattle.snl_scope.specs.Names.{Entry, entries, number_in, name_faults, resolve}
 use Rattle.snl_scope.specs.Order.{order_faults}
 use Rattle.snl_scope.specs.Places.{place}
@@ -42,11 +43,11 @@ abbrev pub entry_fact : Assigned → Entry → Option Fact
 entry_fact a e = option_map (variable_fact a e.space) e.variable
 
 -- What is known of the declaration with a number.
-abbrev pub fact_at : List Summary → ℕ → Option Fact
+abbrev pub fact_at : List Outline → ℕ → Option Fact
 fact_at ss number = option_and_then (entry_fact (assigned_by (clauses_of ss) number)) (slice_get (entries ss) number)
 
 -- What a name means to an item, by the scopes outside it.
-abbrev pub fact_of : List Summary → ℕ → List ℕ → Option Fact
+abbrev pub fact_of : List Outline → ℕ → List ℕ → Option Fact
 fact_of ss i name =
     if nat_lt i (length ss)
     then option_and_then (fact_at ss) (resolve (entries ss) (place ss i) name)
@@ -67,21 +68,21 @@ abbrev pub entry_declaration : Entry → Option Declaration
 entry_declaration e = option_and_then (λ v. option_map (λ s. variable_declaration e.item e.token s v) (scope_in e.space)) e.variable
 
 -- The declaration that is the entry with a number.
-abbrev pub declaration_at : List Summary → ℕ → Option Declaration
+abbrev pub declaration_at : List Outline → ℕ → Option Declaration
 declaration_at ss number = option_and_then entry_declaration (slice_get (entries ss) number)
 
 -- The first state with a name in the state set that item k begins, by the number of its item.
-abbrev pub state_in : List Summary → ℕ → List ℕ → Option ℕ
+abbrev pub state_in : List Outline → ℕ → List ℕ → Option ℕ
 state_in ss k name = option_and_then (λ number. option_map (λ e. e.item) (slice_get (entries ss) number)) (number_in (entries ss) (space.States k) name)
 
 -- The first state with a name in the state set in which an item stands.
-abbrev pub state_of : List Summary → ℕ → List ℕ → Option ℕ
+abbrev pub state_of : List Outline → ℕ → List ℕ → Option ℕ
 state_of ss i name = option_and_then (λ k. state_in ss k name) (place ss i)
 
 -- The state set in which an item stands has a state of the name.
-abbrev pub has_target : List Summary → ℕ → List ℕ → Bool
+abbrev pub has_target : List Outline → ℕ → List ℕ → Bool
 has_target ss i name = option_map_or (λ k. is_some (number_in (entries ss) (space.States k) name)) (place ss i) false
 
 -- All findings of links.
-abbrev pub faults_of : List Summary → List LinkFault
-faults_of ss = order_faults ss ++ name_faults ss ++ clause_faults ss
+abbrev pub faults_of : LinkedItems → List LinkFault
+faults_of l = order_faults l ++ name_faults l ++ clause_faults l.outlines

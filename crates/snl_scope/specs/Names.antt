@@ -1,5 +1,5 @@
 -- The names that items bring into spaces of names, and those that stand twice in one.
-use Rattle.std.specs.Prelude.{ℕ, zero, suc, Bool, true, false, ◌&&◌, if◌then◌else◌, List, [], ◌∷◌, ◌++◌, map, length, slice_get, nat_eq, bytes_eq, position, Option, None, Some, is_some, option_to_list}
+use Rattle.std.specs.Prelude.{ℕ, zero, suc, Bool, true, false, ◌&&◌, if◌then◌else◌, List, [], ◌∷◌, ◌++◌, filter, map, length, not, slice_get, nat_eq, bytes_eq, position, Option, None, Some, is_some, option_to_list}
 use Rattle.std.specs.Option.{option_map_or, option_or}
 use Rattle.snl_scope.specs.declared.codes.Code.{Code}
 use Rattle.snl_scope.specs.declared.codes.Code.TheVariants.{E07, E08, E09}
@@ -7,9 +7,13 @@ use Rattle.snl_scope.specs.declared.facts.LinkFault.{LinkFault}
 use Rattle.snl_scope.specs.declared.spaces.Space.{Space}
 use Rattle.snl_scope.specs.declared.spaces.Space.TheVariants as space
 use Rattle.snl_scope.specs.declared.summary.Declared.{Declared}
-use Rattle.snl_scope.specs.declared.summary.Summary.{Summary}
+use Rattle.snl_scope.specs.declared.summary.ItemKind.{ItemKind}
+use Rattle.snl_scope.specs.declared.summary.Outline.{Outline}
+use Rattle.snl_scope.specs.declared.summary.Role.{Role}
+use Rattle.snl_scope.specs.declared.summary.Role.TheVariants as role
 use Rattle.snl_scope.specs.declared.summary.Variable.{Variable}
-use Rattle.snl_scope.specs.Order.{is_faulty, is_state, state_name}
+use Rattle.snl_scope.specs.LinkedItems.{LinkedItems}
+use Rattle.snl_scope.specs.Order.{is_faulty, state_name}
 use Rattle.snl_scope.specs.Places.{begins_set, place}
 
 -- A name that an item brings into a space. `code` is what it gives where an earlier one has the name, if anything;
@@ -28,8 +32,12 @@ scope_at None = space.Program
 scope_at (Some k) = space.StateSet k
 
 -- The scope that an item declares in: a state its own, any other the one that it stands in.
-abbrev pub scope_of : List Summary → ℕ → Summary → Space
-scope_of ss i s = if is_state s.kind then space.State i else scope_at (place ss i)
+abbrev pub has_own_scope : Role → Bool
+has_own_scope role.State = true
+has_own_scope _ = false
+
+abbrev pub scope_of : List Outline → ℕ → Outline → Space
+scope_of ss i s = if has_own_scope s.role then space.State i else scope_at (place ss i)
 
 -- What a second declaration in a scope gives. Those of a state are found with the state.
 abbrev pub scope_code : Space → Option Code
@@ -44,30 +52,26 @@ abbrev pub named_entry : Space → ℕ → Option Code → List ℕ → Entry
 named_entry names i code name = record { space = names; name = name; item = i; token = 1; code = code; variable = None }
 
 -- The name of the state set that an item begins.
-abbrev pub set_name : Summary → Option (List ℕ)
-set_name s = if begins_set s.kind then s.second else None
+abbrev pub set_name : Outline → Option (List ℕ)
+set_name s = if begins_set s.role then s.second else None
 
-abbrev pub set_entries : ℕ → Summary → List Entry
+abbrev pub set_entries : ℕ → Outline → List Entry
 set_entries i s = map (named_entry space.Sets i (Some E08)) (option_to_list (set_name s))
 
--- A faulty state has its name too, but gives no finding of its own.
-abbrev pub state_code : Summary → Option Code
-state_code s = if is_faulty s.kind then None else Some E09
-
--- A state in a state set; one at program level is in none.
-abbrev pub state_entries : Option ℕ → ℕ → Summary → List Entry
+-- A state in a state set, sound or faulty; one at program level is in none.
+abbrev pub state_entries : Option ℕ → ℕ → Outline → List Entry
 state_entries None i s = []
-state_entries (Some k) i s = map (named_entry (space.States k) i (state_code s)) (option_to_list (state_name s))
+state_entries (Some k) i s = map (named_entry (space.States k) i (Some E09)) (option_to_list (state_name s))
 
 -- The entries of item i, and of all items in order.
-abbrev pub entries_of : List Summary → ℕ → Summary → List Entry
+abbrev pub entries_of : List Outline → ℕ → Outline → List Entry
 entries_of ss i s = set_entries i s ++ state_entries (place ss i) i s ++ map (declared_entry (scope_of ss i s) i) s.declares
 
-abbrev pub entries_before : List Summary → ℕ → List Entry
+abbrev pub entries_before : List Outline → ℕ → List Entry
 entries_before ss zero = []
 entries_before ss (suc n) = entries_before ss n ++ option_map_or (entries_of ss n) (slice_get ss n) []
 
-abbrev pub entries : List Summary → List Entry
+abbrev pub entries : List Outline → List Entry
 entries ss = entries_before ss (length ss)
 
 -- One space.
@@ -104,7 +108,11 @@ abbrev pub repetitions : List Entry → List Entry → List LinkFault
 repetitions earlier [] = []
 repetitions earlier (e ∷ es) = repetition earlier e ++ repetitions (earlier ++ e ∷ []) es
 
+-- A faulty state has its name, but gives no finding of its own: what is found at an item is told if it isn't faulty.
+abbrev pub told_by : List ItemKind → LinkFault → Bool
+told_by ks f = not (option_map_or is_faulty (slice_get ks f.item) false)
+
 -- E07, E08 and E09: each second or later declaration of a name in the scope of the program or of a state set, state set
 -- of a name, and state of a name in its state set.
-abbrev pub name_faults : List Summary → List LinkFault
-name_faults ss = repetitions [] (entries ss)
+abbrev pub name_faults : LinkedItems → List LinkFault
+name_faults l = filter (told_by l.kinds) (repetitions [] (entries l.outlines))

@@ -7,8 +7,9 @@ use Rattle.snl_scope.specs.declared.summary.ItemKind.{ItemKind}
 use Rattle.snl_scope.specs.declared.summary.ItemKind.TheVariants as kind
 use Rattle.snl_scope.specs.declared.summary.Opening.{Opening}
 use Rattle.snl_scope.specs.declared.summary.Opening.TheVariants as opening
-use Rattle.snl_scope.specs.declared.summary.Summary.{Summary}
+use Rattle.snl_scope.specs.declared.summary.Outline.{Outline}
 use Rattle.snl_scope.specs.Below.{any_below, all_below}
+use Rattle.snl_scope.specs.LinkedItems.{LinkedItems, kind_is}
 use Rattle.snl_scope.specs.Places.{item_is, is_set_begin, is_set_end, place, stands_in}
 
 -- The item begins with the word, faulty or not.
@@ -24,17 +25,17 @@ abbrev pub is_state_word : Opening → Bool
 is_state_word opening.State = true
 is_state_word _ = false
 
-abbrev pub is_program_item : List Summary → ℕ → Bool
+abbrev pub is_program_item : List Outline → ℕ → Bool
 is_program_item ss i = item_is (λ s. is_program_word s.opening) ss i
 
-abbrev pub is_ss_item : List Summary → ℕ → Bool
+abbrev pub is_ss_item : List Outline → ℕ → Bool
 is_ss_item ss i = item_is (λ s. is_ss_word s.opening) ss i
 
 -- The name of the state that an item is: it begins with `state NAME`, and it may be faulty.
-abbrev pub state_name : Summary → Option (List ℕ)
+abbrev pub state_name : Outline → Option (List ℕ)
 state_name s = if is_state_word s.opening then s.second else None
 
-abbrev pub is_named_state : List Summary → ℕ → Bool
+abbrev pub is_named_state : List Outline → ℕ → Bool
 is_named_state ss i = item_is (λ s. is_some (state_name s)) ss i
 
 abbrev pub is_faulty : ItemKind → Bool
@@ -72,20 +73,20 @@ phase_of begun kind.StructDef = part_phase begun
 phase_of begun _ = None
 
 -- An item of phase 2, 3 or 4 stands at program level before item i.
-abbrev pub has_begun : List Summary → ℕ → Bool
-has_begun ss i = any_below (λ j. item_is (λ s. is_main s.kind) ss j && is_none (place ss j)) i
+abbrev pub has_begun : LinkedItems → ℕ → Bool
+has_begun l i = any_below (λ j. kind_is is_main l j && is_none (place l.outlines j)) i
 
 -- The phase of an item. One in a state set has none.
-abbrev pub phase : List Summary → ℕ → Option ℕ
-phase ss i = if is_none (place ss i) then option_and_then (λ s. phase_of (has_begun ss i) s.kind) (slice_get ss i) else None
+abbrev pub phase : LinkedItems → ℕ → Option ℕ
+phase l i = if is_none (place l.outlines i) then option_and_then (phase_of (has_begun l i)) (slice_get l.kinds i) else None
 
 abbrev pub exceeds : Option ℕ → Option ℕ → Bool
 exceeds (Some a) (Some b) = nat_lt b a
 exceeds _ _ = false
 
 -- The item has a phase, and an earlier one has a greater phase.
-abbrev pub is_late : List Summary → ℕ → Bool
-is_late ss i = any_below (λ j. exceeds (phase ss j) (phase ss i)) i
+abbrev pub is_late : LinkedItems → ℕ → Bool
+is_late l i = any_below (λ j. exceeds (phase l j) (phase l i)) i
 
 -- What may not stand in a state set.
 abbrev pub is_barred_in_sets : ItemKind → Bool
@@ -98,35 +99,35 @@ is_barred_in_sets kind.StructDef = true
 is_barred_in_sets _ = false
 
 -- A state at program level, or an item that may not stand in the state set that it stands in.
-abbrev pub is_barred : List Summary → ℕ → Bool
-is_barred ss i = item_is (λ s. if is_none (place ss i) then is_state s.kind else is_barred_in_sets s.kind) ss i
+abbrev pub is_barred : LinkedItems → ℕ → Bool
+is_barred l i = kind_is (λ k. if is_none (place l.outlines i) then is_state k else is_barred_in_sets k) l i
 
 -- The second or a later item that begins with `program`.
-abbrev pub is_later_program : List Summary → ℕ → Bool
+abbrev pub is_later_program : List Outline → ℕ → Bool
 is_later_program ss i = is_program_item ss i && any_below (is_program_item ss) i
 
 -- E03. A second or later header is out of place by another rule.
-abbrev pub is_misplaced : List Summary → ℕ → Bool
-is_misplaced ss i = (is_late ss i || is_barred ss i) && not (is_later_program ss i)
+abbrev pub is_misplaced : LinkedItems → ℕ → Bool
+is_misplaced l i = (is_late l i || is_barred l i) && not (is_later_program l.outlines i)
 
 -- The `}` item that stands in a state set closes it.
-abbrev pub is_closed : List Summary → ℕ → Bool
+abbrev pub is_closed : List Outline → ℕ → Bool
 is_closed ss k = any_below (λ j. is_set_end ss j && stands_in ss k j) (length ss)
 
 -- E04: a state set that no `}` item closes, and a `}` item that closes none.
-abbrev pub is_unmatched : List Summary → ℕ → Bool
+abbrev pub is_unmatched : List Outline → ℕ → Bool
 is_unmatched ss i = (is_set_begin ss i && not (is_closed ss i)) || (is_set_end ss i && is_none (place ss i))
 
 -- E05: a second or later header; a faulty one has its own code.
-abbrev pub is_repeated_header : List Summary → ℕ → Bool
-is_repeated_header ss i = item_is (λ s. not (is_faulty s.kind)) ss i && is_later_program ss i
+abbrev pub is_repeated_header : LinkedItems → ℕ → Bool
+is_repeated_header l i = kind_is (λ k. not (is_faulty k)) l i && is_later_program l.outlines i
 
 -- A state stands in the state set that item k begins.
-abbrev pub has_state : List Summary → ℕ → Bool
+abbrev pub has_state : List Outline → ℕ → Bool
 has_state ss k = any_below (λ j. is_named_state ss j && stands_in ss k j) (length ss)
 
 -- E06: a state set in which no state stands.
-abbrev pub is_stateless : List Summary → ℕ → Bool
+abbrev pub is_stateless : List Outline → ℕ → Bool
 is_stateless ss i = is_set_begin ss i && not (has_state ss i)
 
 -- A finding at the first token of an item. What an item should have given stands behind the last item.
@@ -142,20 +143,20 @@ at_items_where code test n = map (at_item code) (all_below test n)
 abbrev pub if_missing : Code → (ℕ → Bool) → ℕ → List LinkFault
 if_missing code test n = found_if (not (any_below test n)) code n
 
-abbrev pub misplaced_items : List Summary → List LinkFault
-misplaced_items ss = at_items_where E03 (is_misplaced ss) (length ss)
+abbrev pub misplaced_items : LinkedItems → List LinkFault
+misplaced_items l = at_items_where E03 (is_misplaced l) (length l.outlines)
 
-abbrev pub unmatched_braces : List Summary → List LinkFault
+abbrev pub unmatched_braces : List Outline → List LinkFault
 unmatched_braces ss = at_items_where E04 (is_unmatched ss) (length ss)
 
 -- Several items begin with `program`, or none does.
-abbrev pub header_faults : List Summary → List LinkFault
-header_faults ss = at_items_where E05 (is_repeated_header ss) (length ss) ++ if_missing E05 (is_program_item ss) (length ss)
+abbrev pub header_faults : LinkedItems → List LinkFault
+header_faults l = at_items_where E05 (is_repeated_header l) (length l.outlines) ++ if_missing E05 (is_program_item l.outlines) (length l.outlines)
 
 -- A state set has no state, or no item begins with `ss`.
-abbrev pub missing_states : List Summary → List LinkFault
+abbrev pub missing_states : List Outline → List LinkFault
 missing_states ss = at_items_where E06 (is_stateless ss) (length ss) ++ if_missing E06 (is_ss_item ss) (length ss)
 
 -- What is found of the order of items.
-abbrev pub order_faults : List Summary → List LinkFault
-order_faults ss = misplaced_items ss ++ unmatched_braces ss ++ header_faults ss ++ missing_states ss
+abbrev pub order_faults : LinkedItems → List LinkFault
+order_faults l = misplaced_items l ++ unmatched_braces l.outlines ++ header_faults l ++ missing_states l.outlines

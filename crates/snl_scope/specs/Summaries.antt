@@ -1,5 +1,5 @@
 -- The summary of an item, from its tokens and its tree; a faulty item has none.
-use Rattle.std.specs.Prelude.{ℕ, List, [], ◌∷◌, ◌++◌, map, slice_get, Option, Some, None, codes, if◌then◌else◌}
+use Rattle.std.specs.Prelude.{ℕ, Bool, true, ◌||◌, List, [], ◌∷◌, ◌++◌, length, map, nat_lt, slice_get, Option, Some, None, codes, if◌then◌else◌}
 use Rattle.std.specs.List.{list_any}
 use Rattle.std.specs.Str.{bytes_eq}
 use Rattle.snl_lex.specs.declared.piece.Class.{Class}
@@ -11,6 +11,9 @@ use Rattle.snl_scope.specs.declared.summary.ItemKind.{ItemKind}
 use Rattle.snl_scope.specs.declared.summary.ItemKind.TheVariants as kinds
 use Rattle.snl_scope.specs.declared.summary.Opening.{Opening}
 use Rattle.snl_scope.specs.declared.summary.Opening.TheVariants as openings
+use Rattle.snl_scope.specs.declared.summary.Outline.{Outline}
+use Rattle.snl_scope.specs.declared.summary.Role.{Role}
+use Rattle.snl_scope.specs.declared.summary.Role.TheVariants as roles
 use Rattle.snl_scope.specs.declared.summary.Summary.{Summary}
 use Rattle.snl_scope.specs.Summaries.Clauses.{clauses_in}
 use Rattle.snl_scope.specs.Summaries.Declares.{declared_in}
@@ -87,14 +90,32 @@ once_behind found (name ∷ names) = once_behind (with_new found name) names
 abbrev pub once : List (List ℕ) → List (List ℕ)
 once names = once_behind [] names
 
--- The summary of the item that consists of these tokens of the text and has this tree.
-abbrev pub summary_in : List ℕ → List Piece → Option Item → Summary
-summary_in text tokens tree = record {
+-- What an item of a kind is to the others, where it is known whether it has declarations or clauses. Only a state that has
+-- some is told from other items: a plain one is the same to them while it is faulty.
+abbrev pub role_of : ItemKind → Bool → Role
+role_of kinds.SsBegin has_some = roles.SetBegin
+role_of kinds.SsEnd has_some = roles.SetEnd
+role_of kinds.State true = roles.State
+role_of _ has_some = roles.Other
+
+abbrev pub role_in : List ℕ → List Piece → Option Item → Role
+role_in text tokens tree = role_of (kind_of tree) (nat_lt 0 (length (declared_in text tokens tree)) || nat_lt 0 (length (clauses_in text tokens tree)))
+
+-- What the item that consists of these tokens of the text and has this tree says to the others.
+abbrev pub outline_in : List ℕ → List Piece → Option Item → Outline
+outline_in text tokens tree = record {
   declares = declared_in text tokens tree;
   clauses = clauses_in text tokens tree;
+  second = second_in text tokens;
+  role = role_in text tokens tree;
+  opening = opening_in text tokens;
+}
+
+-- The summary of the item.
+abbrev pub summary_in : List ℕ → List Piece → Option Item → Summary
+summary_in text tokens tree = record {
+  kind = kind_of tree;
+  outline = outline_in text tokens tree;
   uses = once (map (bytes_at text tokens) (used_in tree));
   targets = map (mention_at text tokens) (targets_in tree);
-  second = second_in text tokens;
-  kind = kind_of tree;
-  opening = opening_in text tokens;
 }

@@ -3,23 +3,26 @@ use Rattle.std.specs.Prelude.{◌≡◌, ℕ, zero, suc, ◌<◌, ◌≤◌, Boo
 use Rattle.std.specs.Map.{lookup}
 use Rattle.std.specs.Option.{option_map_or}
 use Rattle.snl_scope.specs.declared.facts.LinkFault.{LinkFault}
-use Rattle.snl_scope.specs.declared.order.Before.{Before}
-use Rattle.snl_scope.specs.declared.order.Member.{Member}
-use Rattle.snl_scope.specs.declared.order.Member.TheVariants as member
+use Rattle.snl_scope.specs.declared.heads.Head.{Head}
+use Rattle.snl_scope.specs.declared.phases.Before.{Before}
+use Rattle.snl_scope.specs.declared.heads.Member.{Member}
+use Rattle.snl_scope.specs.declared.heads.Member.TheVariants as member
 use Rattle.snl_scope.specs.declared.spaces.Key.{Key}
 use Rattle.snl_scope.specs.declared.spaces.Space.{Space}
 use Rattle.snl_scope.specs.declared.summary.ItemKind.{ItemKind}
-use Rattle.snl_scope.specs.declared.summary.Summary.{Summary}
+use Rattle.snl_scope.specs.declared.summary.Opening.{Opening}
+use Rattle.snl_scope.specs.declared.summary.Outline.{Outline}
 use Rattle.snl_scope.specs.declared.tables.Named.{Named}
 use Rattle.snl_scope.specs.declared.tables.Standing.{Standing}
 use Rattle.snl_scope.specs.Below.{all_below, any_below}
 use Rattle.snl_scope.specs.Flags.{declares_flag, is_first_at}
+use Rattle.snl_scope.specs.LinkedItems.{LinkedItems}
 use Rattle.snl_scope.specs.Names.{Entry, number_in, repetitions, same_space}
-use Rattle.snl_scope.specs.Order.{has_begun, is_barred_in_sets, is_main, is_program_item, is_program_word, is_state, phase, phase_of, state_name}
+use Rattle.snl_scope.specs.Order.{has_begun, is_barred_in_sets, is_main, is_program_item, is_program_word, is_state, is_state_word, phase, phase_of, state_name}
 use Rattle.snl_scope.specs.Places.{ends_set, item_is, place, stands_in}
 
 -- The places of the first n items.
-pub record Placed (places : List (Option ℕ)) (ss : List Summary) (n : ℕ) : Type 0 where
+pub record Placed (places : List (Option ℕ)) (ss : List Outline) (n : ℕ) : Type 0 where
   pub len : length places ≡ n
   pub each : (i : ℕ) → i < n → slice_get places i ≡ Some (place ss i)
 
@@ -28,13 +31,13 @@ abbrev pub with_phase : Option ℕ → ℕ → ℕ
 with_phase None greatest = greatest
 with_phase (Some p) greatest = if nat_lt greatest p then p else greatest
 
-abbrev pub greatest_before : List Summary → ℕ → ℕ
-greatest_before ss zero = 0
-greatest_before ss (suc n) = with_phase (phase ss n) (greatest_before ss n)
+abbrev pub greatest_before : LinkedItems → ℕ → ℕ
+greatest_before l zero = 0
+greatest_before l (suc n) = with_phase (phase l n) (greatest_before l n)
 
 -- What the items before item i say to it.
-abbrev pub before : List Summary → ℕ → Before
-before ss i = record { greatest = greatest_before ss i; begun = has_begun ss i; has_program = any_below (is_program_item ss) i }
+abbrev pub before : LinkedItems → ℕ → Before
+before l i = record { greatest = greatest_before l i; begun = has_begun l i; has_program = any_below (is_program_item l.outlines) i }
 
 abbrev pub phase_in : Bool → Option ℕ → ItemKind → Option ℕ
 phase_in begun None k = phase_of begun k
@@ -49,27 +52,37 @@ abbrev pub barred_at : Option ℕ → ItemKind → Bool
 barred_at None k = is_state k
 barred_at (Some _) k = is_barred_in_sets k
 
-abbrev pub later_program : Before → Summary → Bool
-later_program b s = is_program_word s.opening && b.has_program
+abbrev pub later_program : Before → Opening → Bool
+later_program b o = is_program_word o && b.has_program
 
-abbrev pub misplaced_behind : Before → Option ℕ → Summary → Bool
-misplaced_behind b p s = (is_below (phase_in b.begun p s.kind) b.greatest || barred_at p s.kind) && not (later_program b s)
+-- An item of a kind is out of place behind them, by its place and the word that it begins with.
+abbrev pub misplaced_behind : Before → Option ℕ → ItemKind → Opening → Bool
+misplaced_behind b p k o = (is_below (phase_in b.begun p k) b.greatest || barred_at p k) && not (later_program b o)
 
--- And what they say together with item i, which is the summary.
-abbrev pub and_item : Before → Option ℕ → Summary → Before
-and_item b p s = record {
-  greatest = with_phase (phase_in b.begun p s.kind) b.greatest;
-  begun = (is_main s.kind && is_none p) || b.begun;
-  has_program = is_program_word s.opening || b.has_program;
+-- And what they say together with such an item.
+abbrev pub and_item : Before → Option ℕ → ItemKind → Opening → Before
+and_item b p k o = record {
+  greatest = with_phase (phase_in b.begun p k) b.greatest;
+  begun = (is_main k && is_none p) || b.begun;
+  has_program = is_program_word o || b.has_program;
 }
 
+-- What the order of items asks of an outline.
+abbrev pub head_of : Outline → Head
+head_of s = record { role = s.role; opening = s.opening; is_named = is_some s.second }
+
 -- The item is what the members of a state set are searched for.
-abbrev pub is_member : Member → Summary → Bool
-is_member member.End s = ends_set s.kind
+abbrev pub is_member : Member → Outline → Bool
+is_member member.End s = ends_set s.role
 is_member member.State s = is_some (state_name s)
 
+-- The same, told of its head.
+abbrev pub heads_member : Member → Head → Bool
+heads_member member.End h = ends_set h.role
+heads_member member.State h = is_state_word h.opening && h.is_named
+
 -- Whether a member that passes the test stands in each state set, as far as the first n items tell.
-pub record Marked (test : Summary → Bool) (marks : List Bool) (ss : List Summary) (n : ℕ) : Type 0 where
+pub record Marked (test : Outline → Bool) (marks : List Bool) (ss : List Outline) (n : ℕ) : Type 0 where
   pub len : length marks ≡ length ss
   pub each : (k : ℕ) → k < length ss → get_or marks k false ≡ any_below (λ j. item_is test ss j && stands_in ss k j) n
 

@@ -3,7 +3,7 @@
 
 ghost use Rattle.std.specs.Prelude.{◌≡◌, suc, IfOk, List, nat_eq, option_map, position};
 ghost use Rattle.std.specs.List.Sorted.{IsStrictlyIncreasing};
-ghost use Rattle.snl_scope.specs.declared.summary.Summary.{Summary};
+ghost use Rattle.snl_scope.specs.declared.summary.Outline.{Outline};
 ghost use Rattle.snl_scope.specs.Flags.{declares_flag, flags_of};
 ghost use Rattle.snl_scope.specs.Names.{entries};
 ghost use Rattle.snl_scope.specs.Tables.{Follows, flag_stands};
@@ -36,7 +36,7 @@ fn flag_stands(standings: &[Standing], number: usize) -> bool
 /// The numbers of the entries that are event flags. The tables list the first of each name in its space, in the order of
 /// the text.
 pub(crate) fn flags_of(alloc: Global, tables: &Tables) -> Result<Vec<usize>, OutOfMemory>
-    ensures { IfOk result (λ flags. (ss : List Summary)
+    ensures { IfOk result (λ flags. (ss : List Outline)
         → Follows tables.now.names tables.now.first.entries tables.now.standings.items tables.now.faults.items (entries ss)
         → flags.items ≡ flags_of ss) }
 {

@@ -1,57 +1,63 @@
 //! The links of items: their summaries come in, and what names mean to each item goes out.
+//! All but the findings goes by the outlines alone, so links stay where no outline changes; other kinds can be put in place.
 
-ghost use Rattle.std.specs.Prelude.{◌≡◌, ◌++◌, map, IfOk, option_and_then, option_map};
+ghost use Rattle.std.specs.Prelude.{◌≡◌, map, IfOk, option_and_then, option_map};
 ghost use Rattle.snl_scope.specs.Linked.{base_of, entry_fact, level_of, scope_in, variable_declaration, variable_fact};
-ghost use Rattle.snl_scope.specs.Order.{order_faults};
+ghost use Rattle.snl_scope.specs.LinkedItems.{linked_items};
 
-use crate::assigned::assigned_in;
 use crate::claims::{Claims, Purpose};
 use crate::facts::{Assigned, Base, ClauseLink, Declaration, Fact, Level, LinkFault, Scope};
-use crate::flags::{flag_number, flags_of};
-use crate::order::add_order_faults;
-use crate::origin::Origin;
-use crate::places::places_of;
-use crate::resolved::resolved_clauses;
+use crate::findings::all_faults;
+use crate::flags::flag_number;
+use crate::linked_items::{kinds_of, outlines_of};
+use crate::linking::{LinkedClauses, LinkedNames, linked_clauses, linked_names};
 use crate::scopes::Scopes;
-use crate::soundness::{JudgedClauses, judged_clauses};
 use crate::spaces::Space;
-use crate::summary::{Nature, Summary};
-use crate::tables::{Standing, Tables, tables_of};
+use crate::summary::{ItemKind, Nature, Summary};
+use crate::tables::Standing;
 use indexmap::IndexMap;
 use snl_cut::OutOfMemory;
 use std::alloc::Global;
 use std::marker::Model;
 
-/// What names mean among the items of a text, which contracts see as the list of their summaries.
+/// What names mean among the items of a text, which contracts see as their outlines and kinds. Links of the same outlines
+/// and kinds are the same value, and give the same answers.
 #[derive(Drop)]
 pub struct Links {
     scopes: Scopes,
+    kinds: Vec<ItemKind>,
     clauses: Vec<ClauseLink>,
     claims: Claims,
     assigned: IndexMap<usize, Assigned>,
     flags: Vec<usize>,
+    /// The names that came again, those of faulty states among them.
+    repeated: Vec<LinkFault>,
+    at_clauses: Vec<LinkFault>,
     faults: Vec<LinkFault>,
 }
 
 impl Model for Links {
-    ghost use Rattle.std.specs.Prelude.{List, ◌≡◌};
+    ghost use Rattle.std.specs.Prelude.{◌≡◌, [], length};
     ghost use Rattle.std.specs.List.{zip};
-    ghost use Rattle.snl_scope.specs.declared.summary.Summary.{Summary};
+    ghost use Rattle.snl_scope.specs.LinkedItems.{LinkedItems};
     ghost use Rattle.snl_scope.specs.Claims.{Claimed};
-    ghost use Rattle.snl_scope.specs.Clauses.{clause_links, clauses_of, soundness};
+    ghost use Rattle.snl_scope.specs.Clauses.{clause_faults, clause_links, clauses_of, soundness};
     ghost use Rattle.snl_scope.specs.Flags.{flags_of};
     ghost use Rattle.snl_scope.specs.Linked.{faults_of};
+    ghost use Rattle.snl_scope.specs.Names.{entries, repetitions};
     ghost use Rattle.snl_scope.specs.Resolved.{Assigns};
 
-    ghost Value = { List Summary };
+    ghost Value = { LinkedItems };
 
-    ghost view = { λ a. a.scopes };
+    ghost view = { λ a. record { outlines = a.scopes; kinds = a.kinds.items } };
 
     ghost invariant = { λ a. (a.clauses.items ≡ clause_links a.scopes)
         × Assigns a.assigned.entries (clauses_of a.scopes)
         × (a.flags.items ≡ flags_of a.scopes)
-        × (a.faults.items ≡ faults_of a.scopes)
-        × Claimed a.claims (zip (clauses_of a.scopes) (soundness a.scopes)) };
+        × (a.faults.items ≡ faults_of (record { outlines = a.scopes; kinds = a.kinds.items }))
+        × Claimed a.claims (zip (clauses_of a.scopes) (soundness a.scopes))
+        × (a.repeated.items ≡ repetitions [] (entries a.scopes))
+        × (a.at_clauses.items ≡ clause_faults a.scopes) };
 }
 
 impl Links {
@@ -65,14 +71,14 @@ impl Links {
 
     /// The state set in which an item stands, by the number of its `ss NAME {` item, or None at program level.
     pub fn place(&self, item: usize) -> Option<usize>
-        ensures { result ≡ place self.now item }
+        ensures { result ≡ place self.now.outlines item }
     {
         self.scopes.place(item)
     }
 
     // To what the declaration with a number is assigned.
     fn assigned_to(&self, number: usize) -> Assigned
-        ensures { result ≡ assigned_by (clauses_of self.now) number }
+        ensures { result ≡ assigned_by (clauses_of self.now.outlines) number }
     {
         match self.assigned.get(&number) {
             Some(assigned) => *assigned,
@@ -82,7 +88,7 @@ impl Links {
 
     // What is known of the declaration with a number.
     fn known_at(&self, number: usize) -> Option<Fact>
-        ensures { result ≡ fact_at self.now number }
+        ensures { result ≡ fact_at self.now.outlines number }
     {
         let standing = self.scopes.standing(number)?;
         known_of(standing, self.assigned_to(number))
@@ -90,7 +96,7 @@ impl Links {
 
     /// What a name means to an item, by the scopes outside it.
     pub fn fact(&self, item: usize, name: &[u8]) -> Option<Fact>
-        ensures { result ≡ fact_of self.now item name.now }
+        ensures { result ≡ fact_of self.now.outlines item name.now }
     {
         if item < self.scopes.places.len() {
             let number = self.scopes.resolve(self.place(item), name)?;
@@ -103,42 +109,42 @@ impl Links {
     /// The number of the declaration that a name outside the blocks of an item means. A state sees its own declarations
     /// first.
     pub fn declaration(&self, item: usize, name: &[u8]) -> Option<usize>
-        ensures { result ≡ resolve_in self.now item name.now }
+        ensures { result ≡ resolve_in self.now.outlines item name.now }
     {
         self.scopes.resolve_in(item, name)
     }
 
     /// The declaration with a number. Names of state sets and states have numbers too, and are no declarations.
     pub fn declared(&self, declaration: usize) -> Option<Declaration>
-        ensures { result ≡ declaration_at self.now declaration }
+        ensures { result ≡ declaration_at self.now.outlines declaration }
     {
         declaration_of(self.scopes.standing(declaration)?)
     }
 
     /// How many numbers of declarations there are, those of the names of state sets and states among them.
     pub fn declarations(&self) -> usize
-        ensures { result ≡ length (entries self.now) }
+        ensures { result ≡ length (entries self.now.outlines) }
     {
         self.scopes.count()
     }
 
     /// The event flags, by the numbers of their declarations, in the order of the text.
     pub fn flags(&self) -> &[usize]
-        ensures { result.now ≡ flags.flags_of self.now }
+        ensures { result.now ≡ flags.flags_of self.now.outlines }
     {
         self.flags.as_slice()
     }
 
     /// The number of an event flag among all, from 1 on, or None where the declaration is none of them.
     pub fn flag_number(&self, declaration: usize) -> Option<usize>
-        ensures { result ≡ flags.flag_number self.now declaration }
+        ensures { result ≡ flags.flag_number self.now.outlines declaration }
     {
         flag_number(self.flags(), declaration)
     }
 
     /// Whether the state set in which an item stands has a state of the name.
     pub fn has_target(&self, item: usize, name: &[u8]) -> bool
-        ensures { result ≡ has_target self.now item name.now }
+        ensures { result ≡ has_target self.now.outlines item name.now }
     {
         match self.place(item) {
             Some(set) => self.scopes.number_in(Space::States(set), name).is_some(),
@@ -148,14 +154,14 @@ impl Links {
 
     /// The first state of the name in the state set in which an item stands, by the number of its item.
     pub fn state(&self, item: usize, name: &[u8]) -> Option<usize>
-        ensures { result ≡ state_of self.now item name.now }
+        ensures { result ≡ state_of self.now.outlines item name.now }
     {
         self.scopes.state_in(self.place(item)?, name)
     }
 
     /// The clauses of all items, in the order of the text.
     pub fn clauses(&self) -> &[ClauseLink]
-        ensures { result.now ≡ clause_links self.now }
+        ensures { result.now ≡ clause_links self.now.outlines }
     {
         self.clauses.as_slice()
     }
@@ -163,7 +169,7 @@ impl Links {
     /// Whether a sound `monitor` speaks of a channel of the declaration with a number: that of an element, or of the whole
     /// variable.
     pub fn is_monitored(&self, variable: usize, element: Option<u64>) -> bool
-        ensures { result ≡ is_monitored self.now variable element }
+        ensures { result ≡ is_monitored self.now.outlines variable element }
     {
         self.claims
             .first_clause(Purpose::Monitor, variable, element)
@@ -173,7 +179,7 @@ impl Links {
     /// The first sound `sync` or `syncq` that speaks of a channel of the declaration with a number, by its number among the
     /// clauses.
     pub fn sync_number(&self, variable: usize, element: Option<u64>) -> Option<usize>
-        ensures { result ≡ sync_number self.now variable element }
+        ensures { result ≡ sync_number self.now.outlines variable element }
     {
         self.claims.first_clause(Purpose::Sync, variable, element)
     }
@@ -183,6 +189,34 @@ impl Links {
         ensures { result.now ≡ faults_of self.now }
     {
         self.faults.as_slice()
+    }
+
+    /// All findings where the items have the same outlines and these kinds: a state that became faulty, for one, gives none
+    /// of its own. `set_kinds` puts both in place.
+    pub fn order_faults_for(
+        &self,
+        alloc: Global,
+        kinds: &[ItemKind],
+    ) -> Result<Vec<LinkFault>, OutOfMemory>
+        requires { length kinds.now ≡ length self.now.outlines }
+        ensures { IfOk result (λ faults. faults.items ≡ faults_of (record { outlines = self.now.outlines; kinds = kinds.now })) }
+    {
+        all_faults(
+            alloc,
+            &self.scopes,
+            kinds,
+            self.repeated.as_slice(),
+            self.at_clauses.as_slice(),
+        )
+    }
+
+    /// Puts other kinds in place, with the findings that `order_faults_for` answered for them. It takes no memory.
+    pub fn set_kinds(&mut self, kinds: Vec<ItemKind>, faults: Vec<LinkFault>)
+        requires { faults.items ≡ faults_of (record { outlines = self.old.outlines; kinds = kinds.items }) }
+        ensures { self.new ≡ record { outlines = self.old.outlines; kinds = kinds.items } }
+    {
+        self.kinds = kinds;
+        self.faults = faults;
     }
 }
 
@@ -243,56 +277,33 @@ fn declaration_of(standing: Standing) -> Option<Declaration>
     })
 }
 
-fn origin_of(summaries: &[&Summary]) -> Origin
-    ensures { result.summaries ≡ map (λ s. s.now) summaries.now }
-{
-    let mut origin = Origin::new();
-    for summary in summaries {
-        origin = origin.then(summary);
-    }
-    origin
-}
-
 /// What names mean among the items that these summaries tell of.
 pub fn link(alloc: Global, summaries: &[&Summary]) -> Result<Links, OutOfMemory>
-    ensures { IfOk result (λ l. l ≡ map (λ s. s.now) summaries.now) }
+    ensures { IfOk result (λ l. l ≡ linked_items (map (λ s. s.now) summaries.now)) }
 {
-    let places = places_of(alloc, summaries)?;
-    let mut faults = Vec::new(alloc);
-    add_order_faults(alloc, summaries, &places, &mut faults)?;
-    let tables = tables_of(alloc, summaries, &places)?;
-    let flags = flags_of(alloc, &tables)?;
-    let Tables {
-        names,
-        first,
-        standings,
-        faults: mut repeated,
-    } = tables;
-    if faults.append(&mut repeated).is_err() {
-        return Err(OutOfMemory);
-    }
-    let scopes = Scopes {
-        places,
-        names,
-        first,
-        standings,
-        origin: origin_of(summaries),
-    };
-    let resolved = resolved_clauses(alloc, &scopes, summaries)?;
-    let assigned = assigned_in(alloc, &resolved)?;
-    let JudgedClauses { links, claims } = judged_clauses(
-        alloc,
-        &scopes,
-        &assigned,
-        &resolved,
-        &mut faults,
-    )?;
+    let kinds = kinds_of(alloc, summaries)?;
+    let outlines = outlines_of(alloc, summaries)?;
+    let LinkedNames {
+        scopes,
+        flags,
+        repeated,
+    } = linked_names(alloc, &outlines)?;
+    let LinkedClauses {
+        clauses,
+        claims,
+        assigned,
+        faults: at_clauses,
+    } = linked_clauses(alloc, &scopes, &outlines)?;
+    let faults = all_faults(alloc, &scopes, &kinds, &repeated, &at_clauses)?;
     Ok(Links {
         scopes,
-        clauses: links,
+        kinds,
+        clauses,
         claims,
         assigned,
         flags,
+        repeated,
+        at_clauses,
         faults,
     })
 }

@@ -1,10 +1,10 @@
 //! The laws of findings that are made once. A function here does nothing: its contract is the law.
 
 ghost use Rattle.snl_lex.specs.declared.piece.Piece.{Piece};
-ghost use Rattle.snl_scope.specs.declared.summary.Summary.{Summary};
+ghost use Rattle.snl_scope.specs.LinkedItems.{LinkedItems};
 ghost use Rattle.snl_scope.specs.Linked.{faults_of};
 ghost use Rattle.snl_scope.specs.Once.{AreFoundOnce, TokensRise};
-ghost use Rattle.snl_scope.specs.Summaries.{summary_in};
+ghost use Rattle.snl_scope.specs.Summaries.{outline_in};
 ghost use Rattle.snl_syntax.specs.Reading.Items.{item_of};
 ghost use Rattle.snl_syntax.specs.Parsing.{kinds_in};
 ghost use Rattle.snl_syntax.specs.declared.tree.item.Item.{Item};
@@ -12,17 +12,17 @@ ghost use Rattle.std.specs.Prelude.{◌≡◌, ℕ, All, List, Some};
 
 use snl_syntax::{item_read, item_spelled};
 
-/// In the summary of an item, no two declarations stand at one token, nor do the variables of two clauses, nor the flags
+/// In the outline of an item, no two declarations stand at one token, nor do the variables of two clauses, nor the flags
 /// of two. A faulty item has none of them.
 pub fn tokens_declared_once()
-    ensures tree { (text : List ℕ) (tokens : List Piece) (t : Item) → item_of (kinds_in text tokens) ≡ Some t → TokensRise (summary_in text tokens (Some t)) }
-    ensures faulty { (text : List ℕ) (tokens : List Piece) → TokensRise (summary_in text tokens None) }
+    ensures tree { (text : List ℕ) (tokens : List Piece) (t : Item) → item_of (kinds_in text tokens) ≡ Some t → TokensRise (outline_in text tokens (Some t)) }
+    ensures faulty { (text : List ℕ) (tokens : List Piece) → TokensRise (outline_in text tokens None) }
 {
     item_read();
     item_spelled();
 }
 
-/// Where the tokens of each summary rise, no finding of the links comes twice: no two have the same item, token and code.
+/// Where the tokens of each outline rise, no finding of the links comes twice: no two have the same item, token and code.
 pub fn each_fault_once()
-    ensures { (ss : List Summary) → All TokensRise ss → AreFoundOnce (faults_of ss) }
+    ensures { (l : LinkedItems) → All TokensRise l.outlines → AreFoundOnce (faults_of l) }
 {}

@@ -1,14 +1,14 @@
 // The list that something was built from. It exists only in proofs, and takes no memory.
 ghost use Rattle.std.specs.Prelude.{◌≡◌, [], ◌∷◌, ◌++◌, List};
 ghost use base.Fml.{ftrue};
-ghost use Rattle.snl_scope.specs.declared.summary.Summary.{Summary};
+ghost use Rattle.snl_scope.specs.declared.summary.Outline.{Outline};
 
-use crate::summary::Summary;
+use crate::summary::Outline;
 use std::marker::Model;
 
 #[derive(Drop)]
 pub(crate) struct Origin {
-    ghost summaries: { List Summary },
+    ghost outlines: { List Outline },
 }
 
 impl Model for Origin {
@@ -17,14 +17,14 @@ impl Model for Origin {
 
 impl Origin {
     pub(crate) fn new() -> Origin
-        ensures { result.summaries ≡ [] }
+        ensures { result.outlines ≡ [] }
     {
         Origin {}
     }
 
     #[inline(always)]
-    pub(crate) fn then(&self, _summary: &Summary) -> Origin
-        ensures { result.summaries ≡ self.now.summaries ++ _summary.now ∷ [] }
+    pub(crate) fn then(&self, _outline: &Outline) -> Origin
+        ensures { result.outlines ≡ self.now.outlines ++ _outline.now ∷ [] }
     {
         Origin {}
     }

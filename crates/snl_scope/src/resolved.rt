@@ -1,4 +1,4 @@
-//! What the names in clauses resolve to: the tables of all items and their summaries come in, each clause goes out with the
+//! What the names in clauses resolve to: the tables of all items and their outlines come in, each clause goes out with the
 //! numbers of its variable and its flag.
 
 ghost use Rattle.std.specs.Prelude.{◌≡◌, ◌++◌, map, IfOk, OnOk, option_and_then};
@@ -6,7 +6,7 @@ ghost use Rattle.snl_scope.specs.Clauses.{clauses_of, linked_clause, resolve_in}
 ghost use Rattle.snl_scope.specs.Resolved.{linked};
 
 use crate::scopes::Scopes;
-use crate::summary::{Mention, Summary, VariableClause};
+use crate::summary::{Mention, Outline, VariableClause};
 use snl_cut::OutOfMemory;
 use std::alloc::Global;
 
@@ -59,15 +59,15 @@ fn add_clauses<'a>(
 pub(crate) fn resolved_clauses<'a>(
     alloc: Global,
     scopes: &Scopes,
-    summaries: &'a [&'a Summary],
+    outlines: &'a [&'a Outline],
 ) -> Result<Vec<Resolved<'a>>, OutOfMemory>
-    requires { scopes.now ≡ map (λ s. s.now) summaries.now }
+    requires { scopes.now ≡ map (λ s. s.now) outlines.now }
     ensures { IfOk result (λ found. map linked found.items ≡ clauses_of scopes.now) }
 {
     let mut found = Vec::new(alloc);
-    for item in 0..summaries.len() {
-        let summary = summaries[item];
-        add_clauses(scopes, item, summary.clauses.as_slice(), &mut found)?;
+    for item in 0..outlines.len() {
+        let outline = outlines[item];
+        add_clauses(scopes, item, outline.clauses.as_slice(), &mut found)?;
     }
     Ok(found)
 }

@@ -2,6 +2,7 @@
 
 ghost use Rattle.std.specs.Prelude.{◌≡◌};
 
+use crate::heads::Head;
 use crate::names::Names;
 use crate::origin::Origin;
 use crate::spaces::{Key, Space};
@@ -10,10 +11,11 @@ use crate::tables::{Standing, number_in};
 use indexmap::IndexMap;
 use std::marker::Model;
 
-/// The finished tables of all items, which contracts see as the list of their summaries.
+/// The finished tables of all items, which contracts see as the list of their outlines.
 #[derive(Drop)]
 pub(crate) struct Scopes {
     pub places: Vec<Option<usize>>,
+    pub heads: Vec<Head>,
     pub names: Names,
     pub first: IndexMap<Key, usize>,
     pub standings: Vec<Standing>,
@@ -21,17 +23,18 @@ pub(crate) struct Scopes {
 }
 
 impl Model for Scopes {
-    ghost use Rattle.std.specs.Prelude.{List, length, ◌≡◌};
-    ghost use Rattle.snl_scope.specs.declared.summary.Summary.{Summary};
+    ghost use Rattle.std.specs.Prelude.{List, length, map, ◌≡◌};
+    ghost use Rattle.snl_scope.specs.declared.summary.Outline.{Outline};
     ghost use Rattle.snl_scope.specs.Names.{entries};
-    ghost use Rattle.snl_scope.specs.Tables.{Placed, Tabled};
+    ghost use Rattle.snl_scope.specs.Tables.{Placed, Tabled, head_of};
 
-    ghost Value = { List Summary };
+    ghost Value = { List Outline };
 
-    ghost view = { λ a. a.origin.summaries };
+    ghost view = { λ a. a.origin.outlines };
 
-    ghost invariant = { λ a. Placed a.places.items a.origin.summaries (length a.origin.summaries)
-        × Tabled a.names a.first.entries a.standings.items (entries a.origin.summaries) };
+    ghost invariant = { λ a. Placed a.places.items a.origin.outlines (length a.origin.outlines)
+        × (a.heads.items ≡ map head_of a.origin.outlines)
+        × Tabled a.names a.first.entries a.standings.items (entries a.origin.outlines) };
 }
 
 impl Scopes {
@@ -39,8 +42,8 @@ impl Scopes {
     ghost use Rattle.snl_scope.specs.Linked.{state_in};
     ghost use Rattle.snl_scope.specs.Names.{entries, number_in, resolve};
     ghost use Rattle.snl_scope.specs.Places.{place};
-    ghost use Rattle.snl_scope.specs.Tables.{standing_of};
-    ghost use Rattle.std.specs.Prelude.{length, option_map, slice_get};
+    ghost use Rattle.snl_scope.specs.Tables.{head_of, standing_of};
+    ghost use Rattle.std.specs.Prelude.{Some, ◌<◌, length, map, option_map, slice_get};
 
     /// How many numbers there are.
     pub(crate) fn count(&self) -> usize
@@ -57,6 +60,21 @@ impl Scopes {
             Some(place) => *place,
             None => None,
         }
+    }
+
+    /// How many items there are.
+    pub(crate) fn item_count(&self) -> usize
+        ensures { result ≡ length self.now }
+    {
+        self.heads.len()
+    }
+
+    /// What the outline of an item says of the order of items.
+    pub(crate) fn head(&self, item: usize) -> Head
+        requires { item < length self.now }
+        ensures { slice_get (map head_of self.now) item ≡ Some result }
+    {
+        self.heads[item]
     }
 
     /// The number of the first that stands under a name in a space.

@@ -1,7 +1,7 @@
 //! The summary of an item: its tokens and its tree come in, what it says to the other items goes out.
 //! It knows nothing of the other items.
 
-ghost use Rattle.snl_scope.specs.Summaries.{kind_of, kind_of_tree, opening_by_word, opening_in, second_in, summary_in};
+ghost use Rattle.snl_scope.specs.Summaries.{kind_of, kind_of_tree, opening_by_word, opening_in, role_of, second_in, summary_in};
 ghost use Rattle.snl_scope.specs.Summaries.Tokens.{IsSource, mention_at};
 ghost use Rattle.std.specs.Prelude.{◌≡◌, IfOk, map, option_copied};
 
@@ -10,7 +10,7 @@ use crate::declarations::declared_in;
 use crate::distinct::names_once;
 use crate::name::Name;
 use crate::source::Source;
-use crate::summary::{ItemKind, Mention, Opening, Summary};
+use crate::summary::{ItemKind, Mention, Opening, Outline, Role, Summary};
 use crate::targets::targets_in;
 use crate::uses_of::uses_in;
 use snl_cut::OutOfMemory;
@@ -55,6 +55,18 @@ fn kind_of(tree: Option<&Item>) -> ItemKind
     match tree {
         None => ItemKind::Faulty,
         Some(tree) => kind_of_tree(tree),
+    }
+}
+
+// What an item of a kind is to the others, where it is known whether it has declarations or clauses.
+fn role_of(kind: ItemKind, has_some: bool) -> Role
+    ensures { result ≡ role_of kind has_some }
+{
+    match kind {
+        ItemKind::SsBegin => Role::SetBegin,
+        ItemKind::SsEnd => Role::SetEnd,
+        ItemKind::State => if has_some { Role::State } else { Role::Other },
+        _ => Role::Other,
     }
 }
 
@@ -137,13 +149,19 @@ pub fn summary_of(
     let uses = names_once(&source, &used)?;
     let named = targets_in(alloc, tree)?;
     let targets = mentions(&source, &named)?;
-    Ok(Summary {
+    let kind = kind_of(tree);
+    let has_some = 0 < declares.len() || 0 < clauses.len();
+    let outline = Outline {
         declares,
         clauses,
+        second: second_of(&source)?,
+        role: role_of(kind, has_some),
+        opening: opening_of(&source),
+    };
+    Ok(Summary {
+        kind,
+        outline,
         uses,
         targets,
-        second: second_of(&source)?,
-        kind: kind_of(tree),
-        opening: opening_of(&source),
     })
 }

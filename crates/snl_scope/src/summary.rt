@@ -37,6 +37,18 @@ pub enum Opening {
     Other,
 }
 
+/// What an item is to the others, faulty or not.
+#[derive(Clone, Copy, Debug, PartialEq, Eq)]
+pub enum Role {
+    /// `ss NAME {`
+    SetBegin,
+    /// `}`
+    SetEnd,
+    /// A state with declarations or clauses, which are in the state's own scope. A state without any is as any other item.
+    State,
+    Other,
+}
+
 /// What a declared name stands for.
 #[derive(Clone, Copy, Debug, PartialEq, Eq)]
 pub enum Nature {
@@ -111,16 +123,23 @@ pub struct VariableClause {
 
 /// What an item says to the others.
 #[derive(Drop)]
-pub struct Summary {
+pub struct Outline {
     /// The names that it declares outside its blocks. Those of a state are in the state's own scope.
     pub declares: Items<Declared>,
     pub clauses: Items<VariableClause>,
+    /// The second token, if that is a name; it has the number 1.
+    pub second: Option<Name>,
+    pub role: Role,
+    pub opening: Opening,
+}
+
+/// What an item is, what it says to the others, and what it asks of them.
+#[derive(Drop)]
+pub struct Summary {
+    pub kind: ItemKind,
+    pub outline: Outline,
     /// Each name that it uses as an expression, once, in the order of first use.
     pub uses: Items<Name>,
     /// The states that its transitions name.
     pub targets: Items<Mention>,
-    /// The second token, if that is a name; it has the number 1.
-    pub second: Option<Name>,
-    pub kind: ItemKind,
-    pub opening: Opening,
 }

@@ -1,10 +1,10 @@
 //! The names of all spaces, with where each stands first.
 
 ghost use Rattle.std.specs.Prelude.{◌≡◌, ◌++◌, ◌∷◌, [], List, OnOk, IfOk, Option, if◌then◌else◌, is_some, length, map, option_copied};
-ghost use Rattle.snl_scope.specs.Names.{Entry, declared_entry, entries, entries_of, repetition_at, scope_at, scope_code, scope_of, set_entries, set_name, state_code, state_entries};
-ghost use Rattle.snl_scope.specs.Order.{is_faulty, is_state};
+ghost use Rattle.snl_scope.specs.Names.{Entry, declared_entry, entries, entries_of, has_own_scope, repetition_at, scope_at, scope_code, scope_of, set_entries, set_name, state_entries};
+ghost use Rattle.snl_scope.specs.Order.{state_name};
 ghost use Rattle.snl_scope.specs.Places as Places;
-ghost use Rattle.snl_scope.specs.declared.summary.Summary.{Summary};
+ghost use Rattle.snl_scope.specs.declared.summary.Outline.{Outline};
 ghost use Rattle.snl_scope.specs.declared.codes.Code.{Code};
 ghost use Rattle.snl_scope.specs.declared.spaces.Space.{Space};
 ghost use Rattle.snl_scope.specs.Tables.{Follows, Placed, entry_of, number_by, standing_of};
@@ -12,9 +12,8 @@ ghost use Rattle.snl_scope.specs.Tables.{Follows, Placed, entry_of, number_by, s
 use crate::codes::Code;
 use crate::facts::LinkFault;
 use crate::names::Names;
-use crate::order::state_name;
 use crate::spaces::{Key, Space};
-use crate::summary::{Declared, ItemKind, Summary, Variable};
+use crate::summary::{Declared, Opening, Outline, Role, Variable};
 use indexmap::IndexMap;
 use snl_cut::OutOfMemory;
 use std::alloc::Global;
@@ -99,11 +98,11 @@ fn scope_at(place: Option<usize>) -> Space
 }
 
 // The scope that an item declares in.
-fn scope_of(kind: ItemKind, item: usize, place: Option<usize>) -> Space
-    ensures { result ≡ (if is_state kind then Space.State item else scope_at place) }
+fn scope_of(role: Role, item: usize, place: Option<usize>) -> Space
+    ensures { result ≡ (if has_own_scope role then Space.State item else scope_at place) }
 {
-    match kind {
-        ItemKind::State => Space::State(item),
+    match role {
+        Role::State => Space::State(item),
         _ => scope_at(place),
     }
 }
@@ -118,21 +117,22 @@ fn scope_code(scope: Space) -> Option<Code>
     }
 }
 
-fn set_name(summary: &Summary) -> Option<&[u8]>
-    ensures { option_copied result ≡ set_name summary.now }
+fn set_name(outline: &Outline) -> Option<&[u8]>
+    ensures { option_copied result ≡ set_name outline.now }
 {
-    match summary.kind {
-        ItemKind::SsBegin => summary.second.as_ref().map(|name| name.bytes()),
+    match outline.role {
+        Role::SetBegin => outline.second.as_ref().map(|name| name.bytes()),
         _ => None,
     }
 }
 
-fn state_code(kind: ItemKind) -> Option<Code>
-    ensures { result ≡ (if is_faulty kind then None else Some Code.E09) }
+// The name of the state that an item is, faulty or not.
+fn state_name(outline: &Outline) -> Option<&[u8]>
+    ensures { option_copied result ≡ state_name outline.now }
 {
-    match kind {
-        ItemKind::Faulty => None,
-        _ => Some(Code::E09),
+    match outline.opening {
+        Opening::State => outline.second.as_ref().map(|name| name.bytes()),
+        _ => None,
     }
 }
 
@@ -169,12 +169,12 @@ impl Tables {
     }
 
     // Adds the name of the state set that an item begins.
-    fn add_set(&mut self, alloc: Global, item: usize, summary: &Summary) -> Result<(), OutOfMemory>
+    fn add_set(&mut self, alloc: Global, item: usize, outline: &Outline) -> Result<(), OutOfMemory>
         ensures { OnOk result ((es : List Entry)
             → Follows self.old.names self.old.first.entries self.old.standings.items self.old.faults.items es
-            → Follows self.new.names self.new.first.entries self.new.standings.items self.new.faults.items (es ++ set_entries item summary.now)) }
+            → Follows self.new.names self.new.first.entries self.new.standings.items self.new.faults.items (es ++ set_entries item outline.now)) }
     {
-        match set_name(summary) {
+        match set_name(outline) {
             None => Ok(()),
             Some(name) => self.add(
                 alloc,
@@ -196,13 +196,13 @@ impl Tables {
         alloc: Global,
         place: Option<usize>,
         item: usize,
-        summary: &Summary,
+        outline: &Outline,
     ) -> Result<(), OutOfMemory>
         ensures { OnOk result ((es : List Entry)
             → Follows self.old.names self.old.first.entries self.old.standings.items self.old.faults.items es
-            → Follows self.new.names self.new.first.entries self.new.standings.items self.new.faults.items (es ++ state_entries place item summary.now)) }
+            → Follows self.new.names self.new.first.entries self.new.standings.items self.new.faults.items (es ++ state_entries place item outline.now)) }
     {
-        match (place, state_name(summary)) {
+        match (place, state_name(outline)) {
             (Some(set), Some(name)) => self.add(
                 alloc,
                 Named {
@@ -210,7 +210,7 @@ impl Tables {
                     name,
                     item,
                     token: 1,
-                    code: state_code(summary.kind),
+                    code: Some(Code::E09),
                     variable: None,
                 },
             ),
@@ -251,16 +251,16 @@ impl Tables {
         alloc: Global,
         place: Option<usize>,
         item: usize,
-        summary: &Summary,
+        outline: &Outline,
     ) -> Result<(), OutOfMemory>
-        ensures { OnOk result ((ss : List Summary) → place ≡ Places.place ss item → (es : List Entry)
+        ensures { OnOk result ((ss : List Outline) → place ≡ Places.place ss item → (es : List Entry)
             → Follows self.old.names self.old.first.entries self.old.standings.items self.old.faults.items es
-            → Follows self.new.names self.new.first.entries self.new.standings.items self.new.faults.items (es ++ entries_of ss item summary.now)) }
+            → Follows self.new.names self.new.first.entries self.new.standings.items self.new.faults.items (es ++ entries_of ss item outline.now)) }
     {
-        self.add_set(alloc, item, summary)?;
-        self.add_state(alloc, place, item, summary)?;
-        let scope = scope_of(summary.kind, item, place);
-        self.add_declared(alloc, scope, item, summary.declares.as_slice())?;
+        self.add_set(alloc, item, outline)?;
+        self.add_state(alloc, place, item, outline)?;
+        let scope = scope_of(outline.role, item, place);
+        self.add_declared(alloc, scope, item, outline.declares.as_slice())?;
         Ok(())
     }
 }
@@ -268,16 +268,16 @@ impl Tables {
 /// The tables of all items.
 pub(crate) fn tables_of(
     alloc: Global,
-    summaries: &[&Summary],
+    outlines: &[&Outline],
     places: &[Option<usize>],
 ) -> Result<Tables, OutOfMemory>
-    requires { Placed places.now (map (λ s. s.now) summaries.now) (length summaries.now) }
-    ensures { IfOk result (λ t. Follows t.names t.first.entries t.standings.items t.faults.items (entries (map (λ s. s.now) summaries.now))) }
+    requires { Placed places.now (map (λ s. s.now) outlines.now) (length outlines.now) }
+    ensures { IfOk result (λ t. Follows t.names t.first.entries t.standings.items t.faults.items (entries (map (λ s. s.now) outlines.now))) }
 {
     let mut tables = Tables::new(alloc);
-    for item in 0..summaries.len() {
-        let summary = summaries[item];
-        tables.add_item(alloc, places[item], item, summary)?;
+    for item in 0..outlines.len() {
+        let outline = outlines[item];
+        tables.add_item(alloc, places[item], item, outline)?;
     }
     Ok(tables)
 }

@@ -3,7 +3,7 @@ use Rattle.std.specs.Prelude.{ℕ, ◌+◌, ◌^◌, ◌<◌, List, [], map, fla
 use Rattle.std.specs.List.{enumerate_from}
 use Rattle.snl_lex.specs.declared.piece.Piece.{Piece}
 use Rattle.snl_syntax.specs.declared.tree.item.Item.{Item}
-use Rattle.snl_scope.specs.declared.summary.Summary.{Summary}
+use Rattle.snl_scope.specs.declared.summary.Outline.{Outline}
 use Rattle.snl_scope.specs.Summaries.Tokens.{bytes_at}
 use Rattle.snl_check.specs.declared.findings.Checked.{Checked}
 use Rattle.snl_check.specs.declared.findings.ItemFault.{ItemFault}
@@ -11,11 +11,11 @@ use Rattle.snl_check.specs.declared.wake.WakeUse.{WakeUse}
 use Rattle.snl_check.specs.Found.{faults_in}
 use Rattle.snl_check.specs.Outlook.{is_in_set, known_of, leads_to}
 use Rattle.snl_session.specs.declared.findings.Finding.{Finding}
-use Rattle.snl_session.specs.Linked.{finding_at, summaries_of}
+use Rattle.snl_session.specs.Linked.{finding_at, outlines_of}
 use Rattle.snl_session.specs.Program.{ProgramItem}
 
 -- What is found in item i. A faulty item has no tree, and is checked no further.
-abbrev pub faults_of_item : List ℕ → List Summary → ℕ → List Piece → Option Item → List ItemFault
+abbrev pub faults_of_item : List ℕ → List Outline → ℕ → List Piece → Option Item → List ItemFault
 faults_of_item text ss i tokens None = []
 faults_of_item text ss i tokens (Some tree) = faults_in (bytes_at text tokens) tree (is_in_set ss i) (known_of ss i) (leads_to ss i)
 
@@ -31,12 +31,12 @@ at_own_token tokens fault = moved fault.byte (finding_at fault.code (slice_get t
 abbrev pub HasOffset : List Piece → ItemFault → Type 0
 HasOffset tokens fault = (at_own_token tokens fault).offset < 2 ^ 64
 
-abbrev pub found_in_item : List ℕ → List Summary → ℕ × ProgramItem → List Finding
+abbrev pub found_in_item : List ℕ → List Outline → ℕ × ProgramItem → List Finding
 found_in_item text ss (i, x) = map (at_own_token x.tokens) (faults_of_item text ss i x.tokens x.tree)
 
 -- What is found in the items of a text.
 abbrev pub checked_faults : List ℕ → List ProgramItem → List Finding
-checked_faults text xs = flat_map (found_in_item text (summaries_of text xs)) (enumerate_from 0 xs)
+checked_faults text xs = flat_map (found_in_item text (outlines_of text xs)) (enumerate_from 0 xs)
 
 -- What the check of an item has told of its conditions. A faulty item has none.
 abbrev pub uses_kept : Option Checked → List WakeUse

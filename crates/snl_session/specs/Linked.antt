@@ -6,7 +6,7 @@ use Rattle.snl_scope.specs.declared.codes.Code.TheVariants.{E01, E02, E03, E04, 
 use Rattle.snl_scope.specs.declared.facts.LinkFault.{LinkFault}
 use Rattle.snl_scope.specs.Linked as links
 use Rattle.snl_session.specs.declared.findings.Finding.{Finding}
-pub use Rattle.snl_check.specs.Items.{summaries_of}
+pub use Rattle.snl_check.specs.Items.{linked_of, outlines_of, summaries_of}
 use Rattle.snl_session.specs.Program.{ProgramItem}
 
 -- A finding with this code quotes the token at which it stands.
@@ -41,4 +41,4 @@ placed xs fault = finding_at fault.code (token_of xs fault.item fault.token)
 
 -- What is found by the links of the items of a text.
 abbrev pub linked_faults : List ℕ → List ProgramItem → List Finding
-linked_faults text xs = map (placed xs) (links.faults_of (summaries_of text xs))
+linked_faults text xs = map (placed xs) (links.faults_of (linked_of text xs))

@@ -3,24 +3,24 @@ use Rattle.std.specs.Prelude.{ℕ, Bool, true, List, [], ◌∷◌, Option, Some
 use Rattle.std.specs.List.{enumerate_from, filter_map}
 use Rattle.snl_lex.specs.declared.piece.Piece.{Piece}
 use Rattle.snl_syntax.specs.declared.tree.item.Item.{Item}
-use Rattle.snl_scope.specs.declared.summary.Summary.{Summary}
+use Rattle.snl_scope.specs.declared.summary.Outline.{Outline}
 use Rattle.snl_scope.specs.Summaries.Tokens.{bytes_at}
 use Rattle.snl_check.specs.Options.{warning_setting}
 use Rattle.snl_check.specs.Outlook.{is_in_set}
-use Rattle.snl_session.specs.Linked.{summaries_of}
+use Rattle.snl_session.specs.Linked.{outlines_of}
 use Rattle.snl_session.specs.Program.{ProgramItem}
 
 -- What item i says of warnings. A faulty item has no tree, and says nothing.
-abbrev pub setting_in : List ℕ → List Summary → ℕ → List Piece → Option Item → Option Bool
+abbrev pub setting_in : List ℕ → List Outline → ℕ → List Piece → Option Item → Option Bool
 setting_in text ss i tokens None = None
 setting_in text ss i tokens (Some tree) = warning_setting (bytes_at text tokens) (is_in_set ss i) tree
 
-abbrev pub setting_of_item : List ℕ → List Summary → ℕ × ProgramItem → Option Bool
+abbrev pub setting_of_item : List ℕ → List Outline → ℕ × ProgramItem → Option Bool
 setting_of_item text ss (i, x) = setting_in text ss i x.tokens x.tree
 
 -- What the items say of warnings, in the order of the text.
 abbrev pub warning_settings : List ℕ → List ProgramItem → List Bool
-warning_settings text xs = filter_map (setting_of_item text (summaries_of text xs)) (enumerate_from 0 xs)
+warning_settings text xs = filter_map (setting_of_item text (outlines_of text xs)) (enumerate_from 0 xs)
 
 -- The last of the settings, or what holds without any.
 abbrev pub last_or : Bool → List Bool → Bool

@@ -7,7 +7,7 @@ ghost use Rattle.std.specs.Prelude.{◌≡◌, ◌++◌, All, IfOk, OnOk, map};
 ghost use Rattle.snl_lex.specs.Pieces.{LiesIn};
 ghost use Rattle.snl_check.specs.Conditions.{uses_in_item};
 ghost use Rattle.snl_session.specs.Checked.{HasOffset, at_own_token, checked_faults, found_in_item, uses_kept};
-ghost use Rattle.snl_session.specs.Linked.{summaries_of};
+ghost use Rattle.snl_session.specs.Linked.{outlines_of};
 ghost use Rattle.snl_session.specs.Parts.{IsPart, part_of};
 
 use crate::findings::Finding;
@@ -59,7 +59,7 @@ fn add_item(
     found: &mut Vec<Finding>,
 ) -> Result<Option<Checked>, OutOfMemory>
     requires { All (LiesIn text.now) own.now }
-    ensures found { OnOk result (found.new.items ≡ found.old.items ++ found_in_item text.now links.now (item, record { tokens = own.now; tree = tree.now })) }
+    ensures found { OnOk result (found.new.items ≡ found.old.items ++ found_in_item text.now links.now.outlines (item, record { tokens = own.now; tree = tree.now })) }
     ensures uses { IfOk result (λ checked. uses_kept checked ≡ uses_in_item text.now (record { tokens = own.now; tree = tree.now })) }
 {
     let Some(tree) = tree else {
@@ -81,7 +81,7 @@ pub fn add_checked_faults(
 ) -> Result<Vec<Option<Checked>>, OutOfMemory>
     requires tokens { All (LiesIn text.now) tokens.now }
     requires parts { All (IsPart tokens.now) parts.now }
-    requires links { links.now ≡ summaries_of text.now (map (part_of tokens.now) parts.now) }
+    requires links { links.now.outlines ≡ outlines_of text.now (map (part_of tokens.now) parts.now) }
     ensures found { OnOk result (found.new.items ≡ found.old.items ++ checked_faults text.now (map (part_of tokens.now) parts.now)) }
     ensures uses { IfOk result (λ checked. map uses_kept checked.items ≡ map (uses_in_item text.now) (map (part_of tokens.now) parts.now)) }
 {

@@ -7,13 +7,13 @@ ghost use Rattle.std.specs.List.Sorted.{IsNonDecreasing};
 ghost use Rattle.snl_lex.specs.Lines.{line_at};
 ghost use Rattle.snl_lex.specs.Pieces.{LiesIn, pieces_of};
 ghost use Rattle.snl_session.specs.Diagnostics.{diagnostic, is_error, on_line, shown_of};
-ghost use Rattle.snl_session.specs.Linked.{linked_faults, summaries_of};
+ghost use Rattle.snl_session.specs.Linked.{linked_faults, outlines_of};
 ghost use Rattle.snl_session.specs.Parts.{IsPart, part_of};
 
 use crate::findings::{Diagnostic, Finding};
 use crate::linked::add_placed;
 use crate::program::Part;
-use crate::summaries::{link_all, summaries_of};
+use crate::summaries::links_of;
 use crate::warnings::shows_warnings;
 use snl_cut::OutOfMemory;
 use snl_lex::{Line, Piece, lines_of};
@@ -31,7 +31,7 @@ pub fn withhold(
 )
     requires tokens { All (LiesIn text.now) tokens.now }
     requires parts { All (IsPart tokens.now) parts.now }
-    requires links { links.now ≡ summaries_of text.now (map (part_of tokens.now) parts.now) }
+    requires links { links.now.outlines ≡ outlines_of text.now (map (part_of tokens.now) parts.now) }
     ensures { found.new.items ≡ shown_of text.now (map (part_of tokens.now) parts.now) found.old.items }
 {
     if !shows_warnings(alloc, text, tokens, parts, links) {
@@ -49,11 +49,10 @@ pub fn add_linked_faults(
 ) -> Result<Links, OutOfMemory>
     requires tokens { All (LiesIn text.now) tokens.now }
     requires parts { All (IsPart tokens.now) parts.now }
-    ensures links { IfOk result (λ links. links ≡ summaries_of text.now (map (part_of tokens.now) parts.now)) }
+    ensures links { IfOk result (λ links. links.outlines ≡ outlines_of text.now (map (part_of tokens.now) parts.now)) }
     ensures found { OnOk result (found.new.items ≡ found.old.items ++ linked_faults text.now (map (part_of tokens.now) parts.now)) }
 {
-    let summaries = summaries_of(alloc, text, tokens, parts)?;
-    let links = link_all(alloc, &summaries)?;
+    let links = links_of(alloc, text, tokens, parts)?;
     add_placed(tokens, parts, links.faults(), found)?;
     Ok(links)
 }

@@ -3,8 +3,8 @@
 ghost use Rattle.std.specs.Prelude.{ℕ, List};
 ghost use Rattle.snl_scope.specs.Linked.{faults_of};
 ghost use Rattle.snl_scope.specs.Once.{AreFoundOnce};
+ghost use Rattle.snl_session.specs.Linked.{linked_of};
 ghost use Rattle.snl_check.specs.Spans.{TablesHaveBytes, TablesLieIn};
-ghost use Rattle.snl_session.specs.Linked.{summaries_of};
 ghost use Rattle.snl_session.specs.Program.{items_of};
 ghost use Rattle.snl_session.specs.Tables.{tables_in};
 
@@ -14,7 +14,7 @@ use snl_scope::{each_fault_once, tokens_declared_once};
 
 /// By the links of a text's items nothing is found twice: no two findings have the same item, token and code.
 pub fn linked_once()
-    ensures { (text : List ℕ) → AreFoundOnce (faults_of (summaries_of text (items_of text))) }
+    ensures { (text : List ℕ) → AreFoundOnce (faults_of (linked_of text (items_of text))) }
 {
     tokens_declared_once();
     each_fault_once();

@@ -6,7 +6,7 @@ ghost use Rattle.std.specs.Prelude.{◌≡◌, IfOk, length, map, option_copied}
 ghost use Rattle.snl_lex.specs.Pieces.{pieces_of, tokens_of};
 ghost use Rattle.snl_check.specs.Collected.{uses_told};
 ghost use Rattle.snl_check.specs.Conditions.{uses_in_item};
-ghost use Rattle.snl_check.specs.Items.{IsCutUp, program_items, summaries_of};
+ghost use Rattle.snl_check.specs.Items.{IsCutUp, outlines_of, program_items};
 ghost use Rattle.snl_check.specs.Tables.{tables_of};
 ghost use Rattle.snl_session.specs.Checked.{uses_kept};
 ghost use Rattle.snl_session.specs.Parts.{part_of};
@@ -59,7 +59,7 @@ pub fn tables_of(
     requires tokens { tokens.now ≡ tokens_of text.now }
     requires cut { IsCutUp text.now tokens.now ends.now (length parts.now) }
     requires items { program_items tokens.now ends.now (map (λ part. part.tree) parts.now) ≡ map (part_of tokens.now) parts.now }
-    requires links { links.now ≡ summaries_of text.now (map (part_of tokens.now) parts.now) }
+    requires links { links.now.outlines ≡ outlines_of text.now (map (part_of tokens.now) parts.now) }
     requires checked { map uses_kept checked.now ≡ map (uses_in_item text.now) (map (part_of tokens.now) parts.now) }
     ensures { IfOk result (λ t. t ≡ tables_of text.now (map (part_of tokens.now) parts.now)) }
 {

@@ -4,7 +4,7 @@
 
 ghost use Rattle.std.specs.Prelude.{◌≡◌, All, map};
 ghost use Rattle.snl_lex.specs.Pieces.{LiesIn};
-ghost use Rattle.snl_session.specs.Linked.{summaries_of};
+ghost use Rattle.snl_session.specs.Linked.{outlines_of};
 ghost use Rattle.snl_session.specs.Parts.{IsPart, part_of};
 ghost use Rattle.snl_session.specs.Warnings.{setting_in, shows_warnings};
 
@@ -18,7 +18,7 @@ use std::alloc::Global;
 // What an item says of warnings.
 fn setting_in(source: &Source, tree: &Option<Item>, links: &Links, item: usize) -> Option<bool>
     requires { All (LiesIn source.now.text.now) source.now.tokens.now }
-    ensures { result ≡ setting_in source.now.text.now links.now item source.now.tokens.now tree.now }
+    ensures { result ≡ setting_in source.now.text.now links.now.outlines item source.now.tokens.now tree.now }
 {
     match tree {
         Some(tree) => warning_setting(source, tree, links, item),
@@ -36,7 +36,7 @@ pub fn shows_warnings(
 ) -> bool
     requires tokens { All (LiesIn text.now) tokens.now }
     requires parts { All (IsPart tokens.now) parts.now }
-    requires links { links.now ≡ summaries_of text.now (map (part_of tokens.now) parts.now) }
+    requires links { links.now.outlines ≡ outlines_of text.now (map (part_of tokens.now) parts.now) }
     ensures { result ≡ shows_warnings text.now (map (part_of tokens.now) parts.now) }
 {
     let mut shown = true;

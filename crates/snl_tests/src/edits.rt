@@ -28,7 +28,7 @@ fn spliced(
     Ok(now)
 }
 
-fn edited(
+pub fn edited(
     alloc: Global,
     text: &[u8],
     start: usize,

@@ -14,6 +14,8 @@ mod expressions;
 #[cfg(test)]
 mod items;
 #[cfg(test)]
+mod kept;
+#[cfg(test)]
 mod lines;
 #[cfg(test)]
 mod marks;

@@ -4,4 +4,4 @@ use Rattle.snl_check.proofs.members.end_of.Given as goal
 
 -- the items so far stand in the set
 abbrev pub invariant-loop-item : goal.invariant-loop-item
-invariant-loop-item l = (j : ℕ) → l.set < j → j < l.item → stands_in l.links l.set j ≡ true
+invariant-loop-item l = (j : ℕ) → l.set < j → j < l.item → stands_in l.links.outlines l.set j ≡ true

@@ -1,6 +1,5 @@
 use Rattle.std.proofs.Common.{is_some, not, ap, sym, ◌∙◌, arith}
 use Rattle.snl_check.specs.Collected.{items_in}
-use Rattle.snl_check.specs.Members.{is_faulty_item}
 use Rattle.snl_check.proofs.Items.{count_in}
 use Rattle.snl_check.proofs.Linked.{faulty_is, turned}
 use Rattle.snl_check.proofs.Sets.{copied_some}
@@ -11,5 +10,4 @@ returns c =
     let program = c.args.listing.now.program in
     let xs = items_in program in
     turned _ _ c.is_none.ensures ∙ ap not (sym (copied_some c.tree.result) ∙ ap is_some c.tree.ensures)
-    ∙ sym (faulty_is program.text.now xs c.args.item (omega (arith, c.requires.item, count_in program c.requires.linked.listing.program)))
-    ∙ ap (λ ss. is_faulty_item ss c.args.item) (sym c.requires.linked.summaries)
+    ∙ sym (faulty_is xs c.args.item (omega (arith, c.requires.item, count_in program c.requires.linked.listing.program)))

@@ -13,7 +13,7 @@ pub returns : goal.returns
 returns c =
     let program = c.args.listing.now.program in
     let xs = items_in program in
-    let ss = c.args.listing.now.links.now in
+    let ss = c.args.listing.now.links.now.outlines in
     let kept = filter_map (target_number ss c.args.states.now c.args.state) in
     let source = c.source-source.result in
     let tokens = c.deref-token-items.result.now in
@@ -24,4 +24,4 @@ returns c =
     ∙ ap (λ l. kept (map (mention_at source.text.now source.tokens.now) l)) (c.deref-token-items.ensures.value ∙ c.in_ok-targets.ensures ∙ ap targets_in c.tree.ensures)
     ∙ ap (λ t. kept (map (mention_at t source.tokens.now) (targets_in (tree_in xs c.args.state)))) c.source-source.ensures.text
     ∙ ap (λ ts. kept (map (mention_at program.text.now ts) (targets_in (tree_in xs c.args.state)))) c.source-source.ensures.tokens
-    ∙ sym (targets_at program.text.now xs ss c.args.states.now c.args.state c.requires.linked.summaries)
+    ∙ sym (targets_at program.text.now xs ss c.args.states.now c.args.state)

@@ -10,4 +10,4 @@ returns c =
     let p = c.args.listing.now.program in
     let xs = items_in p in
     let all : c.loop-item.item ≡ length xs = omega (arith, count_in p c.requires.program, c.loop-item.auto.item-end, c.loop-item-test.false) in
-    c.loop-item.invariant ∙ ap (gathered (setting_at p.text.now xs c.args.listing.now.links.now)) all
+    c.loop-item.invariant ∙ ap (gathered (setting_at p.text.now xs c.args.listing.now.links.now.outlines)) all

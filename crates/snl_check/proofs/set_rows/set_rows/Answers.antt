@@ -9,7 +9,7 @@ use Rattle.snl_check.proofs.set_rows.set_rows.Goals as goal
 pub returns : goal.returns
 returns c =
     let listing = c.args.outline.now.listing in
-    let ss = listing.links.now in
-    let count : length listing.program.trees.now ≡ length ss = counted listing.program ss c.requires.linked.listing.program c.requires.linked.summaries in
+    let ss = listing.links.now.outlines in
+    let count : length listing.program.trees.now ≡ length ss = counted listing.program ss c.requires.linked.listing.program c.requires.linked.outlines in
     let at_end : c.loop-item.item ≡ length ss = omega (arith, c.loop-item-test.false, c.loop-item.auto.item-end, count) in
     c.loop-item.invariant ∙ ap (λ n. map (set_row listing.program.text.now (items_in listing.program) ss) (all_below (is_set_begin ss) n)) at_end

@@ -7,5 +7,5 @@ use Rattle.snl_check.proofs.state_rows.destinations.Given as goal
 -- those of the members so far and those of the rest are all
 abbrev pub invariant-loop-member : goal.invariant-loop-member
 invariant-loop-member l =
-    let led = destinations_in_member l.listing.program.text.now (items_in l.listing.program) l.listing.links.now l.item in
+    let led = destinations_in_member l.listing.program.text.now (items_in l.listing.program) l.listing.links.now.outlines l.item in
     l.destinations.items ++ flat_map led (drop l.member-index l.members) ≡ flat_map led l.members

@@ -15,11 +15,11 @@ use Rattle.snl_check.proofs.state_rows.state_rows.Goals as goal
 pub mark_of-mark-requires-clause-state : goal.mark_of-mark-requires-clause-state
 mark_of-mark-requires-clause-state c =
     let listing = c.args.outline.now.listing in
-    let ss = listing.links.now in
+    let ss = listing.links.now.outlines in
     let n = c.loop-number.number in
     let states = c.deref-state-items.result.now in
     let is : states ≡ states_in ss c.args.set = c.deref-state-items.ensures.value ∙ c.in_ok-members.ensures.states in
-    let count : length listing.program.trees.now ≡ length ss = counted listing.program ss c.requires.outline.linked.listing.program c.requires.outline.linked.summaries in
+    let count : length listing.program.trees.now ≡ length ss = counted listing.program ss c.requires.outline.linked.listing.program c.requires.outline.linked.outlines in
     let within : get_or states n 0 < length ss =
     subst (λ l. get_or l n 0 < length ss) (sym is) (within_below (λ j. is_named_state ss j && stands_in ss c.args.set j) (length ss) n 0 (subst (λ l. n < length l) is c.loop-number-test.true)) in
     omega (arith, within, count)
@@ -27,11 +27,11 @@ mark_of-mark-requires-clause-state c =
 pub state_row-requires-clause-item : goal.state_row-requires-clause-item
 state_row-requires-clause-item c =
     let listing = c.args.outline.now.listing in
-    let ss = listing.links.now in
+    let ss = listing.links.now.outlines in
     let n = c.loop-number.number in
     let states = c.deref-state-items.result.now in
     let is : states ≡ states_in ss c.args.set = c.deref-state-items.ensures.value ∙ c.in_ok-members.ensures.states in
-    let count : length listing.program.trees.now ≡ length ss = counted listing.program ss c.requires.outline.linked.listing.program c.requires.outline.linked.summaries in
+    let count : length listing.program.trees.now ≡ length ss = counted listing.program ss c.requires.outline.linked.listing.program c.requires.outline.linked.outlines in
     let within : get_or states n 0 < length ss =
     subst (λ l. get_or l n 0 < length ss) (sym is) (within_below (λ j. is_named_state ss j && stands_in ss c.args.set j) (length ss) n 0 (subst (λ l. n < length l) is c.loop-number-test.true)) in
     omega (arith, within, count)
@@ -41,7 +41,7 @@ loop-number-preserved c =
     let listing = c.args.outline.now.listing in
     let text = listing.program.text.now in
     let xs = items_in listing.program in
-    let ss = listing.links.now in
+    let ss = listing.links.now.outlines in
     let k = c.args.set in
     let n = c.loop-number.number in
     let states = c.deref-state-items.result.now in
@@ -55,7 +55,7 @@ loop-number-preserved c =
     ∙ ap (λ r. so_far ++ r ∷ []) (
     c.in_ok-state_row.ensures
     ∙ ap (λ m. state_row text xs ss m item) (c.mark_of-mark.ensures
-    ∙ marks_alike (is_faulty_item ss item) (is_repeated ss item) c.in_ok-members.members.has_faulty (has_faulty ss k) _ (is_reached_in ss k n) c.in_ok-members.ensures.faulty
+    ∙ marks_alike (is_faulty_item xs item) (is_repeated ss item) c.in_ok-members.members.has_faulty (has_faulty xs ss k) _ (is_reached_in text xs ss k n) c.in_ok-members.ensures.faulty
     (λ clear. ap (λ l. get_or l n false) c.deref.ensures.value ∙ c.in_ok-reached.ensures clear n here))
     ∙ ap (λ j. row (j, item)) zero)
     ∙ sym (enumerated_more row 0 states n item (slice_get-get_or states n 0 c.loop-number-test.true))

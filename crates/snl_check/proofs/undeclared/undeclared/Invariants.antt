@@ -9,5 +9,5 @@ use Rattle.snl_check.proofs.undeclared.undeclared.Given as goal
 abbrev pub invariant-loop-number : goal.invariant-loop-number
 invariant-loop-number l =
     l.firsts.items
-    ++ firsts_behind (bytes_at l.source.text.now l.source.tokens.now) l.names (filter (is_undeclared (bytes_at l.source.text.now l.source.tokens.now) (known_of l.view.links.now l.view.item)) (drop l.number-index l.free))
-    ≡ undeclared (bytes_at l.source.text.now l.source.tokens.now) (known_of l.view.links.now l.view.item) l.free
+    ++ firsts_behind (bytes_at l.source.text.now l.source.tokens.now) l.names (filter (is_undeclared (bytes_at l.source.text.now l.source.tokens.now) (known_of l.view.links.now.outlines l.view.item)) (drop l.number-index l.free))
+    ≡ undeclared (bytes_at l.source.text.now l.source.tokens.now) (known_of l.view.links.now.outlines l.view.item) l.free

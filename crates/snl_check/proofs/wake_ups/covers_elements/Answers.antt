@@ -9,4 +9,4 @@ pub returns : goal.returns
 returns c =
     let listing = c.args.outline.now.listing in
     c.is_some.ensures ∙ ap is_some (c.number.ensures ∙ c.requires.numbered.each (record { variable = c.args.variable; which = which.Any }))
-    ∙ sym (any-position (is_element_of c.args.variable None) (assigned_channels listing.program.text.now (items_in listing.program) listing.links.now))
+    ∙ sym (any-position (is_element_of c.args.variable None) (assigned_channels listing.program.text.now (items_in listing.program) listing.links.now.outlines))

@@ -10,6 +10,6 @@ abbrev pub invariant-loop-used : goal.invariant-loop-used
 invariant-loop-used l =
     let text = l.outline.listing.program.text.now in
     let xs = items_in l.outline.listing.program in
-    let ss = l.outline.listing.links.now in
+    let ss = l.outline.listing.links.now.outlines in
     let meant = wake_up text xs ss (assigned_channels text xs ss) l.item in
     l.wake.items ++ filter_map meant (drop l.used-index l.uses) ≡ filter_map meant l.uses

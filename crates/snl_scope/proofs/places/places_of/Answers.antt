@@ -7,16 +7,16 @@ use Rattle.snl_scope.proofs.places.places_of.Goals as goal
 
 pub loop-item-preserved : goal.loop-item-preserved
 loop-item-preserved c =
-    let ss = map (λ s. s.now) c.args.summaries.now in
+    let ss = map (λ s. s.now) c.args.outlines.now in
     let i = c.loop-item.item in
-    let s = c.index-summaries-item.result.now in
+    let s = c.index-outlines-item.result.now in
     let known = c.loop-item.invariant in
-    let at : slice_get ss i ≡ Some s = get-map (λ s. s.now) c.args.summaries.now i c.index-summaries-item.result (omega (arith, c.loop-item-test.true)) c.index-summaries-item.is in
-    let here : c.place_in.result ≡ place ss i = c.place_in.ensures ∙ ap (λ o. if begins_set s.kind then None else o) known.opened ∙ sym (place_here ss i s at) in
+    let at : slice_get ss i ≡ Some s = get-map (λ s. s.now) c.args.outlines.now i c.index-outlines-item.result (omega (arith, c.loop-item-test.true)) c.index-outlines-item.is in
+    let here : c.place_in.result ≡ place ss i = c.place_in.ensures ∙ ap (λ o. if begins_set s.role then None else o) known.opened ∙ sym (place_here ss i s at) in
     record {
       placed = subst (λ ps. Placed ps ss (i + 1)) (sym c.in_ok-push.ensures.items) (placed-push c.loop-item.places.items ss i c.place_in.result known.placed here);
       opened =
-          c.open_behind-outer.ensures ∙ ap (λ o. if begins_set s.kind then Some i else (if ends_set s.kind then None else o)) known.opened
+          c.open_behind-outer.ensures ∙ ap (λ o. if begins_set s.role then Some i else (if ends_set s.role then None else o)) known.opened
           ∙ sym (open_step ss i s at) ∙ sym (ap (open_before ss) (add-one i));
       within = omega (arith, c.loop-item-test.true);
     }

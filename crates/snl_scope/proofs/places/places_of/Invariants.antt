@@ -6,9 +6,9 @@ use Rattle.snl_scope.proofs.places.places_of.Given as goal
 -- the places and the open state set are those of the items so far
 abbrev pub invariant-loop-item : goal.invariant-loop-item
 invariant-loop-item l =
-    let ss = map (λ s. s.now) l.summaries in
+    let ss = map (λ s. s.now) l.outlines in
     record {
       placed : Placed l.places.items ss l.item;
       opened : l.outer ≡ open_before ss l.item;
-      within : l.item ≤ length l.summaries;
+      within : l.item ≤ length l.outlines;
     }

@@ -7,5 +7,5 @@ use Rattle.snl_scope.proofs.resolved.resolved_clauses.Given as goal
 abbrev pub invariant-loop-item : goal.invariant-loop-item
 invariant-loop-item l = record {
   found : map linked l.found.items ≡ clauses_before l.scopes l.item;
-  within : l.item ≤ length l.summaries;
+  within : l.item ≤ length l.outlines;
 }

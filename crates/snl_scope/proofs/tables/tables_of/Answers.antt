@@ -9,10 +9,10 @@ use Rattle.snl_scope.proofs.tables.tables_of.Goals as goal
 
 pub loop-item-preserved : goal.loop-item-preserved
 loop-item-preserved c =
-    let ss = map (λ s. s.now) c.args.summaries.now in
+    let ss = map (λ s. s.now) c.args.outlines.now in
     let i = c.loop-item.item in
-    let s = c.index-summaries-item.result.now in
-    let at : slice_get ss i ≡ Some s = get-map (λ s. s.now) c.args.summaries.now i c.index-summaries-item.result (omega (arith, c.loop-item-test.true)) c.index-summaries-item.is in
+    let s = c.index-outlines-item.result.now in
+    let at : slice_get ss i ≡ Some s = get-map (λ s. s.now) c.args.outlines.now i c.index-outlines-item.result (omega (arith, c.loop-item-test.true)) c.index-outlines-item.is in
     let here : get_or c.args.places.now i None ≡ place ss i = get-or c.args.places.now i None (place ss i) (c.requires.each i (omega (arith, c.loop-item-test.true))) in
     let new = c.add_item.new.self in
     let Q : List Entry → Type 0 = λ l. Follows new.names new.first.entries new.standings.items new.faults.items l in
@@ -24,8 +24,8 @@ loop-item-preserved c =
 
 pub returns : goal.returns
 returns c =
-    let ss = map (λ s. s.now) c.args.summaries.now in
+    let ss = map (λ s. s.now) c.args.outlines.now in
     let t = c.loop-item.tables in
     let Q : List Entry → Type 0 = λ l. Follows t.names t.first.entries t.standings.items t.faults.items l in
-    let all : c.loop-item.item ≡ length ss = omega (arith, length-map c.args.summaries.now (λ s. s.now), c.loop-item.invariant.within, c.loop-item-test.false) in
+    let all : c.loop-item.item ≡ length ss = omega (arith, length-map c.args.outlines.now (λ s. s.now), c.loop-item.invariant.within, c.loop-item-test.false) in
     subst Q (ap (entries_before ss) all) c.loop-item.invariant.follows

@@ -6,6 +6,6 @@ use Rattle.snl_scope.proofs.tables.tables_of.Given as goal
 -- the tables follow the entries of the items so far
 abbrev pub invariant-loop-item : goal.invariant-loop-item
 invariant-loop-item l = record {
-  follows : Follows l.tables.names l.tables.first.entries l.tables.standings.items l.tables.faults.items (entries_before (map (λ s. s.now) l.summaries) l.item);
-  within : l.item ≤ length l.summaries;
+  follows : Follows l.tables.names l.tables.first.entries l.tables.standings.items l.tables.faults.items (entries_before (map (λ s. s.now) l.outlines) l.item);
+  within : l.item ≤ length l.outlines;
 }

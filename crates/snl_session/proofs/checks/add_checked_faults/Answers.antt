@@ -16,7 +16,7 @@ loop-item-preserved c =
     let xs = map item parts in
     let first = c.index-parts-item.result in
     let uses = uses_in_item c.args.text.now in
-    let found = found_in_item c.args.text.now c.args.links.now in
+    let found = found_in_item c.args.text.now c.args.links.now.outlines in
     let here : drop i xs ≡ item first ∷ drop (i + 1) xs =
     drop-map item i parts
     ∙ ap (map item) (drop_here parts i first c.loop-item-test.true c.index-parts-item.is)

@@ -9,6 +9,6 @@ abbrev pub invariant-loop-item : goal.invariant-loop-item
 invariant-loop-item l =
     let xs = map (part_of l.tokens) l.parts in
     record {
-      found : l.found.items ++ flat_map (found_in_item l.text l.links) (enumerate_from l.item (drop l.item xs)) ≡ l.initial.found.items ++ checked_faults l.text xs;
+      found : l.found.items ++ flat_map (found_in_item l.text l.links.outlines) (enumerate_from l.item (drop l.item xs)) ≡ l.initial.found.items ++ checked_faults l.text xs;
       uses : map uses_kept l.checked.items ≡ map (uses_in_item l.text) (map (part_of l.tokens) (take l.item l.parts));
     }

@@ -18,7 +18,7 @@ loop-item-preserved c =
     let item = part_of c.args.tokens.now in
     let xs = map item c.args.parts.now in
     let first = c.index-parts-item.result in
-    let setting = setting_of_item c.args.text.now c.args.links.now in
+    let setting = setting_of_item c.args.text.now c.args.links.now.outlines in
     let rest = filter_map setting (enumerate_from (i + 1) (drop (i + 1) xs)) in
     let shown : c.match-setting_in.shown ≡ unwrap_or (setting (i, item first)) c.loop-item.shown =
     elim c.match-setting_in.branch [

@@ -8,4 +8,4 @@ use Rattle.snl_session.proofs.warnings.shows_warnings.Given as goal
 abbrev pub invariant-loop-item : goal.invariant-loop-item
 invariant-loop-item l =
     let xs = map (part_of l.tokens) l.parts in
-    last_or l.shown (filter_map (setting_of_item l.text l.links) (enumerate_from l.item (drop l.item xs))) ≡ shows_warnings l.text xs
+    last_or l.shown (filter_map (setting_of_item l.text l.links.outlines) (enumerate_from l.item (drop l.item xs))) ≡ shows_warnings l.text xs

@@ -9,10 +9,10 @@ pub returns-in-Some : goal.returns-in-Some
 returns-in-Some c =
     let ss = c.self.inside.scopes in
     ap (λ o. unwrap_or o Unassigned) (c.in-Some.ensures.value ∙ c.self.invariant.1.each c.args.number) ∙ assigned-first (clauses_of ss) c.args.number
-    ∙ ap (λ l. assigned_by (clauses_of l) c.args.number) c.self.view_is
+    ∙ ap (λ l. assigned_by (clauses_of l.outlines) c.args.number) c.self.view_is
 
 pub returns-in-None : goal.returns-in-None
 returns-in-None c =
     let ss = c.self.inside.scopes in
     ap (λ o. unwrap_or o Unassigned) (c.in-None.ensures.value ∙ c.self.invariant.1.each c.args.number) ∙ assigned-first (clauses_of ss) c.args.number
-    ∙ ap (λ l. assigned_by (clauses_of l) c.args.number) c.self.view_is
+    ∙ ap (λ l. assigned_by (clauses_of l.outlines) c.args.number) c.self.view_is

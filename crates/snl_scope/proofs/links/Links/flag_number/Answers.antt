@@ -7,5 +7,5 @@ use Rattle.snl_scope.proofs.links.Links.flag_number.Goals as goal
 
 pub flag_number-requires : goal.flag_number-requires
 flag_number-requires c =
-    let es = entries c.args.self.now in
+    let es = entries c.args.self.now.outlines in
     subst IsStrictlyIncreasing (sym c.flags.ensures) (all_below-rises (is_flag es) (length es))

@@ -1,0 +1,39 @@
+use Rattle.std.proofs.Common.{◌≡◌, ℕ, ◌≤◌, List, arith, sym, ap, ◌∙◌, subst}
+use Rattle.std.specs.List.Sorted.{IsNonDecreasing}
+use Rattle.snl_lex.specs.LineList.{line_ends}
+use Rattle.snl_lex.proofs.Changes.{edit_lengths}
+use Rattle.snl_lex.proofs.LineEnds.{behind_above, behind_under, below, below_more, edited_ends, ends_order}
+use Rattle.snl_lex.proofs.line_list.replace_ends.Goals as goal
+
+pub places_before-front-requires : goal.places_before-front-requires
+places_before-front-requires c = subst IsNonDecreasing (sym (c.deref.ensures.value ∙ c.requires.ends)) (ends_order c.args.edit.now.old.now)
+
+pub places_before-back-requires : goal.places_before-back-requires
+places_before-back-requires c = subst IsNonDecreasing (sym (c.deref-2.ensures.value ∙ c.requires.ends)) (ends_order c.args.edit.now.old.now)
+
+pub replace_and_shift-requires-clause-range : goal.replace_and_shift-requires-clause-range
+replace_and_shift-requires-clause-range c =
+    let e = c.args.edit.now in
+    let front : c.places_before-front.result ≡ below e.start (line_ends e.old.now) = c.places_before-front.ensures.count ∙ ap (below e.start) (c.deref.ensures.value ∙ c.requires.ends) in
+    let back : c.places_before-back.result ≡ below e.old_stop (line_ends e.old.now) = c.places_before-back.ensures.count ∙ ap (below e.old_stop) (c.deref-2.ensures.value ∙ c.requires.ends) in
+    omega (arith, front, back, below_more e.start e.old_stop (line_ends e.old.now) e.edit.old_order)
+
+pub replace_and_shift-requires-clause-behind : goal.replace_and_shift-requires-clause-behind
+replace_and_shift-requires-clause-behind c =
+    let e = c.args.edit.now in
+    let back : c.places_before-back.result ≡ below e.old_stop (line_ends e.old.now) = c.places_before-back.ensures.count ∙ ap (below e.old_stop) (c.deref-2.ensures.value ∙ c.requires.ends) in
+    rw (back, c.requires.ends) (behind_above e.old.now e.old_stop e.edit.old_inside)
+
+pub replace_and_shift-requires-clause-fits : goal.replace_and_shift-requires-clause-fits
+replace_and_shift-requires-clause-fits c = λ i lt.
+    let e = c.args.edit.now in
+    let back : c.places_before-back.result ≡ below e.old_stop (line_ends e.old.now) = c.places_before-back.ensures.count ∙ ap (below e.old_stop) (c.deref-2.ensures.value ∙ c.requires.ends) in
+    let under = behind_under e.old.now e.old_stop e.edit.old_inside i (rw (back, c.requires.ends) at lt) in
+    rw (back, c.requires.ends) (omega (arith, under, edit_lengths e.old.now e.text.now e.start e.old_stop e.new_stop e.edit, e.edit.old_inside, e.edit.new_inside, e.short.0, e.short.1))
+
+pub returns : goal.returns
+returns c =
+    let e = c.args.edit.now in
+    let front : c.places_before-front.result ≡ below e.start (line_ends e.old.now) = c.places_before-front.ensures.count ∙ ap (below e.start) (c.deref.ensures.value ∙ c.requires.ends) in
+    let back : c.places_before-back.result ≡ below e.old_stop (line_ends e.old.now) = c.places_before-back.ensures.count ∙ ap (below e.old_stop) (c.deref-2.ensures.value ∙ c.requires.ends) in
+    rw (c.replace_and_shift.ensures, front, back, c.requires.ends, c.requires.made) (edited_ends e.old.now e.text.now e.start e.old_stop e.new_stop e.edit)

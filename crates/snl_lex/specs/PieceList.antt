@@ -1,0 +1,38 @@
+-- The pieces of a text as two lists: where each ends, and its class. What an edit makes of them, and what it keeps.
+use Rattle.std.specs.Prelude.{◌≡◌, ℕ, ◌+◌, ◌-◌, ◌≤◌, List, ◌++◌, length, map, take, drop, filter}
+use Rattle.snl_cut.specs.Cut.{IsRecut, last_end}
+use Rattle.snl_lex.specs.declared.piece.Class.{Class}
+use Rattle.snl_lex.specs.declared.piece.Piece.{Piece}
+use Rattle.snl_lex.specs.Pieces.{bytes_at, is_token, moved_piece, piece_end, piece_length, pieces_of}
+
+-- Where the pieces of a text end.
+abbrev pub piece_ends : List ℕ → List ℕ
+piece_ends text = map piece_end (pieces_of text)
+
+-- The classes of the pieces of a text.
+abbrev pub piece_kinds : List ℕ → List Class
+piece_kinds text = map (λ p. p.kind) (pieces_of text)
+
+-- A piece as it is spelled: its class and its bytes.
+abbrev pub spelling : List ℕ → Piece → Class × List ℕ
+spelling text p = (p.kind, bytes_at text p)
+
+-- Pieces as they are spelled, and those of them that are tokens.
+abbrev pub spelled : List ℕ → List Piece → List (Class × List ℕ)
+spelled text pieces = map (spelling text) pieces
+
+abbrev pub tokens_spelled : List ℕ → List Piece → List (Class × List ℕ)
+tokens_spelled text pieces = spelled text (filter is_token pieces)
+
+-- The last pieces of a text, so many.
+abbrev pub last_pieces : List ℕ → ℕ → List Piece
+last_pieces text back = drop (length (pieces_of text) - back) (pieces_of text)
+
+-- An edit keeps so many pieces at the front and, from a place of the old text on, so many at the back. It makes those between: their ends and classes are listed.
+pub record IsChange (old : List ℕ) (text : List ℕ) (start : ℕ) (old_stop : ℕ) (new_stop : ℕ) (front : ℕ) (made : List Piece) (back : ℕ) (kept_from : ℕ) (made_ends : List ℕ) (made_kinds : List Class) : Type 0 where
+  pub order : front + back ≤ length (pieces_of old)
+  pub recut : IsRecut piece_length old (piece_ends old) text start old_stop new_stop front (map piece_end made) back
+  pub pieces : pieces_of text ≡ (take front (pieces_of old) ++ made) ++ map (moved_piece old_stop new_stop) (last_pieces old back)
+  pub from : kept_from ≡ last_end 0 (take (length (piece_ends old) - back) (piece_ends old))
+  pub ends : made_ends ≡ map piece_end made
+  pub kinds : made_kinds ≡ map (λ p. p.kind) made

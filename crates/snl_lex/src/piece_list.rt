@@ -1,0 +1,130 @@
+//! The pieces of a text as two lists, which an edit changes in place: where each piece ends, and its class.
+//! In: pieces; after an edit both texts. Out: the lists, those of the new text after a change that can't fail.
+
+ghost use Rattle.snl_cut.specs.Cut.{Counted, IsEdit, after_ticks};
+ghost use Rattle.snl_lex.specs.PieceList.{IsChange, piece_ends, piece_kinds};
+ghost use Rattle.snl_lex.specs.Pieces.{piece_end};
+ghost use Rattle.std.specs.Prelude.{◌≡◌, ◌+◌, ◌^◌, ◌<◌, ◌≤◌, All, IfOk, OnOk, length, map, vec_capacity, vec_len};
+
+use crate::cut::{end_by, relex_by};
+use crate::piece::{Class, Piece};
+use snl_cut::{Count, Narrow, OutOfMemory};
+use snl_lists::{replace, replace_and_shift};
+use std::alloc::Global;
+
+/// Where the pieces of a text end, and their classes. Offsets have four bytes each, so the text is shorter than 4 GiB.
+#[derive(Drop)]
+pub struct PieceList {
+    pub ends: Vec<u32>,
+    pub kinds: Vec<Class>,
+}
+
+/// An edit of a text: in the new one, other bytes stand from `start` up to `new_stop` than in the old one up to `old_stop`.
+#[derive(Clone, Copy)]
+pub struct TextEdit<'a> {
+    pub old: &'a [u8],
+    pub text: &'a [u8],
+    pub start: usize,
+    pub old_stop: usize,
+    pub new_stop: usize,
+    ghost edit: { IsEdit old.now text.now start old_stop new_stop },
+    ghost short: { (length old.now < 2 ^ 32) × (length text.now < 2 ^ 32) },
+}
+
+/// What an edit makes of the pieces: so many are kept at the front, the made ones follow, also as lists, and so many are kept at the back, from `kept_from` of the old text on.
+#[derive(Drop)]
+pub struct PieceChange {
+    pub kept_front: usize,
+    pub made: Vec<Piece>,
+    pub list: PieceList,
+    pub kept_back: usize,
+    pub kept_from: usize,
+}
+
+impl PieceList {
+    /// The only error is want of memory.
+    pub fn of(alloc: Global, pieces: &[Piece]) -> Result<PieceList, OutOfMemory>
+        requires short { All (λ p. piece_end p < 2 ^ 32) pieces.now }
+        ensures ends { IfOk result (λ l. l.ends.items ≡ map piece_end pieces.now) }
+        ensures kinds { IfOk result (λ l. l.kinds.items ≡ map (λ p. p.kind) pieces.now) }
+    {
+        let mut ends = Vec::new(alloc);
+        let mut kinds = Vec::new(alloc);
+        for piece in pieces {
+            ends.push((piece.start + piece.len) as u32)?;
+            kinds.push(piece.kind)?;
+        }
+        Ok(PieceList { ends, kinds })
+    }
+
+    /// What an edit makes of the pieces of the old text, of which this is the list. Each made piece is one tick. The only error is want of memory.
+    pub fn change(
+        &self,
+        alloc: Global,
+        edit: &TextEdit,
+        work: &mut Count,
+    ) -> Result<PieceChange, OutOfMemory>
+        requires { self.now.ends.items ≡ piece_ends edit.now.old.now }
+        ensures change { IfOk
+            result
+            (λ r. IsChange edit.now.old.now edit.now.text.now edit.now.start edit.now.old_stop edit.now.new_stop r.kept_front r.made.items r.kept_back r.kept_from r.list.ends.items r.list.kinds.items) }
+        ensures ticks { IfOk result (λ r. work.new ≡ after_ticks work.old (length r.made.items)) }
+        ensures counted { Counted work.old work.new }
+    {
+        let old = Narrow { ends: &self.ends };
+        let relexed = relex_by(
+            alloc,
+            edit.old,
+            &old,
+            edit.text,
+            edit.start,
+            edit.old_stop,
+            edit.new_stop,
+            work,
+        )?;
+        let kept_from = end_by(&old, self.ends.len() - relexed.kept_back);
+        let list = PieceList::of(alloc, &relexed.made)?;
+        Ok(PieceChange {
+            kept_front: relexed.kept_front,
+            made: relexed.made,
+            list,
+            kept_back: relexed.kept_back,
+            kept_from,
+        })
+    }
+
+    /// Makes room for so many pieces more. An error leaves the lists as they were.
+    pub fn reserve(&mut self, made: usize) -> Result<(), OutOfMemory>
+        ensures ends { self.new.ends.items ≡ self.old.ends.items }
+        ensures kinds { self.new.kinds.items ≡ self.old.kinds.items }
+        ensures ends_room { OnOk result (vec_len self.new.ends + made ≤ vec_capacity self.new.ends) }
+        ensures kinds_room { OnOk result (vec_len self.new.kinds + made ≤ vec_capacity self.new.kinds) }
+    {
+        self.ends.reserve(made)?;
+        self.kinds.reserve(made)?;
+        Ok(())
+    }
+
+    /// Makes the list of the old text's pieces that of the new one's. There is room for the made pieces, so it can't fail.
+    pub fn commit(&mut self, edit: &TextEdit, change: &PieceChange)
+        requires ends { self.old.ends.items ≡ piece_ends edit.now.old.now }
+        requires kinds { self.old.kinds.items ≡ piece_kinds edit.now.old.now }
+        requires change { IsChange edit.now.old.now edit.now.text.now edit.now.start edit.now.old_stop edit.now.new_stop change.now.kept_front change.now.made.items change.now.kept_back change.now.kept_from change.now.list.ends.items change.now.list.kinds.items }
+        requires ends_room { vec_len self.old.ends + vec_len change.now.made ≤ vec_capacity self.old.ends }
+        requires kinds_room { vec_len self.old.kinds + vec_len change.now.made ≤ vec_capacity self.old.kinds }
+        ensures ends { self.new.ends.items ≡ piece_ends edit.now.text.now }
+        ensures kinds { self.new.kinds.items ≡ piece_kinds edit.now.text.now }
+    {
+        let front = change.kept_front;
+        let back = self.ends.len() - change.kept_back;
+        replace_and_shift(
+            &mut self.ends,
+            front,
+            back,
+            &change.list.ends,
+            edit.old_stop as u32,
+            edit.new_stop as u32,
+        );
+        replace(&mut self.kinds, front, back, &change.list.kinds);
+    }
+}

@@ -1,0 +1,135 @@
+//! Two texts of as many items: whether each item says the same to the others in both, what it sees of the others, and the
+//! findings where the kinds of the second are put into the links of the first.
+
+ghost use Rattle.std.specs.Prelude.{◌≡◌, IfOk, length};
+
+use crate::reading::summaries;
+use snl_reading::links_of;
+use snl_scope::{ItemKind, Links, Summary, same_outline, same_view};
+use std::alloc::Global;
+use std::test::Fail;
+
+/// Two texts, whether their outlines are the same, and of each item whether it sees the same: a letter each, y or n.
+type Row = (&'static [u8], &'static [u8], bool, &'static [u8]);
+
+static EDITS: [Row; 9] = [
+    // A plain state turns faulty.
+    (
+        b"program p ss a { state i { when () { } state i } }",
+        b"program p ss a { state i { when @ () { } state i } }",
+        true,
+        b"yyyy",
+    ),
+    // A second state of a name turns faulty: it gives no finding, and still has its name.
+    (
+        b"program p ss a { state i { } state i { } }",
+        b"program p ss a { state i { } state i { @ } }",
+        true,
+        b"yyyyy",
+    ),
+    // An option that is out of place turns faulty.
+    (
+        b"program p ss a { option +a; state i { } }",
+        b"program p ss a { option @; state i { } }",
+        true,
+        b"yyyyy",
+    ),
+    // A state with a declaration of its own turns faulty.
+    (
+        b"program p ss a { state i { int a; when () { } state i } }",
+        b"program p ss a { state i { int a; when @ () { } state i } }",
+        false,
+        b"yyyy",
+    ),
+    // A token comes before a declaration: findings at it move.
+    (
+        b"program p int a, b; ss s { state i { when (b) { } state i } }",
+        b"program p int * a, b; ss s { state i { when (b) { } state i } }",
+        false,
+        b"yyyyy",
+    ),
+    // A variable gets another name, or another length.
+    (
+        b"program p int a; ss s { state i { when (a) { } state i } }",
+        b"program p int b; ss s { state i { when (a) { } state i } }",
+        false,
+        b"yyyny",
+    ),
+    (
+        b"program p int a[2]; ss s { state i { when (a) { } state i } }",
+        b"program p int a[3]; ss s { state i { when (a) { } state i } }",
+        false,
+        b"yyyny",
+    ),
+    // A state gets another name, and another state leads to it.
+    (
+        b"program p ss s { state i { when () { } state j } state j { } }",
+        b"program p ss s { state i { when () { } state j } state k { } }",
+        false,
+        b"yynyy",
+    ),
+    // A state set loses its begin.
+    (
+        b"program p ss s { state i { } }",
+        b"program p ss @ { state i { } }",
+        false,
+        b"yynn",
+    ),
+];
+
+fn kinds_of(alloc: Global, summaries: &[Summary]) -> Result<Vec<ItemKind>, Fail>
+    ensures { IfOk result (λ kinds. length kinds.items ≡ length summaries.now) }
+{
+    let mut kinds = Vec::new(alloc);
+    for summary in summaries {
+        kinds.push(summary.kind)?;
+    }
+    Ok(kinds)
+}
+
+fn all_alike(ones: &[Summary], others: &[Summary]) -> bool {
+    ones.len() == others.len()
+        && ones
+            .iter()
+            .zip(others)
+            .all(|(one, other)| same_outline(&one.outline, &other.outline))
+}
+
+// For each item whether it sees the same by both links.
+fn views(alloc: Global, old: &Links, new: &Links, summaries: &[Summary]) -> Result<Vec<u8>, Fail> {
+    let mut letters = Vec::new(alloc);
+    for (item, summary) in summaries.iter().enumerate() {
+        let sees = same_view(old, item, new, item, summary);
+        letters.push(if sees { b'y' } else { b'n' })?;
+    }
+    Ok(letters)
+}
+
+// The links of some items with the kinds of other ones.
+fn links_with(alloc: Global, outlines: &[Summary], kinds: &[Summary]) -> Result<Links, Fail> {
+    let mut links = links_of(alloc, outlines)?;
+    if outlines.len() == kinds.len() {
+        let kinds = kinds_of(alloc, kinds)?;
+        let faults = links.order_faults_for(alloc, &kinds)?;
+        links.set_kinds(kinds, faults);
+    }
+    Ok(links)
+}
+
+#[test]
+fn what_an_edit_leaves_as_it_was(rt: HostRuntime) -> Result<(), Fail> {
+    let alloc = rt.alloc();
+    for (old_text, new_text, wanted, wanted_views) in &EDITS {
+        let old = summaries(alloc, old_text)?;
+        let new = summaries(alloc, new_text)?;
+        assert_eq!(rt; all_alike(&old, &new), *wanted, "{old_text:?}");
+        let links = links_of(alloc, &new)?;
+        let letters = views(alloc, &links_of(alloc, &old)?, &links, &old)?;
+        assert_eq!(rt; letters.as_slice(), *wanted_views, "{old_text:?}");
+        if *wanted {
+            let kept = links_with(alloc, &old, &new)?;
+            assert_eq!(rt; kept.faults(), links.faults(), "{old_text:?}");
+        }
+    }
+    Ok(())
+}

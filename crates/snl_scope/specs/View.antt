@@ -1,0 +1,76 @@
+-- What an item sees of the others: its check goes by nothing else of them.
+use Rattle.std.specs.Prelude.{ℕ, Bool, true, false, ◌&&◌, List, map, nat_eq, Option, None, Some, is_some}
+use Rattle.std.specs.List.{list_all}
+use Rattle.snl_scope.specs.declared.facts.Assigned.{Assigned}
+use Rattle.snl_scope.specs.declared.facts.Assigned.TheVariants as assigned
+use Rattle.snl_scope.specs.declared.facts.Base.{Base}
+use Rattle.snl_scope.specs.declared.facts.Base.TheVariants as base
+use Rattle.snl_scope.specs.declared.facts.Fact.{Fact}
+use Rattle.snl_scope.specs.declared.facts.Level.{Level}
+use Rattle.snl_scope.specs.declared.facts.Level.TheVariants as level
+use Rattle.snl_scope.specs.declared.summary.Dims.{Dims}
+use Rattle.snl_scope.specs.declared.summary.Dims.TheVariants as dims
+use Rattle.snl_scope.specs.declared.summary.Outline.{Outline}
+use Rattle.snl_scope.specs.declared.summary.Summary.{Summary}
+use Rattle.snl_scope.specs.Linked.{fact_of, has_target}
+use Rattle.snl_scope.specs.Places.{place}
+
+-- Whether it stands in a state set, what is known of each name that it uses, and of each of its targets whether that is a
+-- state of its set.
+pub record View : Type 0 where
+  pub in_set : Bool
+  pub facts : List (Option Fact)
+  pub leads : List Bool
+
+-- By the outlines of all items, its number among them, and its summary.
+abbrev pub view : List Outline → ℕ → Summary → View
+view ss i s = record {
+  in_set = is_some (place ss i);
+  facts = map (λ name. fact_of ss i name) s.uses;
+  leads = map (λ t. has_target ss i t.name) s.targets;
+}
+
+abbrev pub same_bool : Bool → Bool → Bool
+same_bool true true = true
+same_bool false false = true
+same_bool _ _ = false
+
+abbrev pub same_dims : Dims → Dims → Bool
+same_dims dims.Plain dims.Plain = true
+same_dims (dims.Known a) (dims.Known b) = nat_eq a b
+same_dims dims.Unknown dims.Unknown = true
+same_dims _ _ = false
+
+abbrev pub same_level : Level → Level → Bool
+same_level level.Program level.Program = true
+same_level level.StateSet level.StateSet = true
+same_level _ _ = false
+
+abbrev pub same_base : Base → Base → Bool
+same_base base.EventFlag base.EventFlag = true
+same_base base.Foreign base.Foreign = true
+same_base base.Function base.Function = true
+same_base base.Other base.Other = true
+same_base _ _ = false
+
+abbrev pub same_assigned : Assigned → Assigned → Bool
+same_assigned assigned.Unassigned assigned.Unassigned = true
+same_assigned assigned.Whole assigned.Whole = true
+same_assigned assigned.Elements assigned.Elements = true
+same_assigned _ _ = false
+
+abbrev pub same_facts : Fact → Fact → Bool
+same_facts a b = same_dims a.dims b.dims && same_level a.level b.level && same_base a.base b.base && same_assigned a.assigned b.assigned
+
+-- The same is known of a name.
+abbrev pub same_known : Option Fact → Option Fact → Bool
+same_known None None = true
+same_known (Some a) (Some b) = same_facts a b
+same_known _ _ = false
+
+-- Item i among some items sees what item j sees among others, both with this summary.
+abbrev pub same_view : List Outline → ℕ → List Outline → ℕ → Summary → Bool
+same_view ss i ts j s =
+    same_bool (is_some (place ss i)) (is_some (place ts j))
+    && list_all (λ name. same_known (fact_of ss i name) (fact_of ts j name)) s.uses
+    && list_all (λ t. same_bool (has_target ss i t.name) (has_target ts j t.name)) s.targets

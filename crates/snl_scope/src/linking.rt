@@ -1,0 +1,113 @@
+//! What links are made of that goes by the outlines alone: names first, then clauses.
+
+ghost use Rattle.std.specs.Prelude.{◌≡◌, [], IfOk, map};
+ghost use Rattle.std.specs.List.{zip};
+ghost use Rattle.snl_scope.specs.Claims.{Claimed};
+ghost use Rattle.snl_scope.specs.Clauses.{clause_faults, clause_links, clauses_of, soundness};
+ghost use Rattle.snl_scope.specs.Flags.{flags_of};
+ghost use Rattle.snl_scope.specs.Names.{entries, repetitions};
+ghost use Rattle.snl_scope.specs.Resolved.{Assigns};
+
+use crate::assigned::assigned_in;
+use crate::claims::Claims;
+use crate::facts::{Assigned, ClauseLink, LinkFault};
+use crate::flags::flags_of;
+use crate::heads::heads_of;
+use crate::origin::Origin;
+use crate::places::places_of;
+use crate::resolved::resolved_clauses;
+use crate::scopes::Scopes;
+use crate::soundness::{JudgedClauses, judged_clauses};
+use crate::summary::Outline;
+use crate::tables::{Tables, tables_of};
+use indexmap::IndexMap;
+use snl_cut::OutOfMemory;
+use std::alloc::Global;
+
+/// The finished tables of names, the event flags among them, and the names that came again.
+#[derive(Drop)]
+pub(crate) struct LinkedNames {
+    pub scopes: Scopes,
+    pub flags: Vec<usize>,
+    pub repeated: Vec<LinkFault>,
+}
+
+/// The clauses of all items, what they claim and assign, and what is found at them.
+#[derive(Drop)]
+pub(crate) struct LinkedClauses {
+    pub clauses: Vec<ClauseLink>,
+    pub claims: Claims,
+    pub assigned: IndexMap<usize, Assigned>,
+    pub faults: Vec<LinkFault>,
+}
+
+fn origin_of(outlines: &[&Outline]) -> Origin
+    ensures { result.outlines ≡ map (λ s. s.now) outlines.now }
+{
+    let mut origin = Origin::new();
+    for outline in outlines {
+        origin = origin.then(outline);
+    }
+    origin
+}
+
+/// What the names of all items mean.
+pub(crate) fn linked_names(alloc: Global, outlines: &[&Outline]) -> Result<LinkedNames, OutOfMemory>
+    ensures scopes { IfOk result (λ names. names.scopes ≡ map (λ s. s.now) outlines.now) }
+    ensures flags { IfOk result (λ names. names.flags.items ≡ flags_of (map (λ s. s.now) outlines.now)) }
+    ensures repeated { IfOk result (λ names. names.repeated.items ≡ repetitions [] (entries (map (λ s. s.now) outlines.now))) }
+{
+    let places = places_of(alloc, outlines)?;
+    let heads = heads_of(alloc, outlines)?;
+    let tables = tables_of(alloc, outlines, &places)?;
+    let flags = flags_of(alloc, &tables)?;
+    let Tables {
+        names,
+        first,
+        standings,
+        faults: repeated,
+    } = tables;
+    let scopes = Scopes {
+        places,
+        heads,
+        names,
+        first,
+        standings,
+        origin: origin_of(outlines),
+    };
+    Ok(LinkedNames {
+        scopes,
+        flags,
+        repeated,
+    })
+}
+
+/// What the clauses of all items say.
+pub(crate) fn linked_clauses(
+    alloc: Global,
+    scopes: &Scopes,
+    outlines: &[&Outline],
+) -> Result<LinkedClauses, OutOfMemory>
+    requires { scopes.now ≡ map (λ s. s.now) outlines.now }
+    ensures clauses { IfOk result (λ made. made.clauses.items ≡ clause_links scopes.now) }
+    ensures claims { IfOk result (λ made. Claimed made.claims (zip (clauses_of scopes.now) (soundness scopes.now))) }
+    ensures assigned { IfOk result (λ made. Assigns made.assigned.entries (clauses_of scopes.now)) }
+    ensures found { IfOk result (λ made. made.faults.items ≡ clause_faults scopes.now) }
+{
+    let resolved = resolved_clauses(alloc, scopes, outlines)?;
+    let assigned = assigned_in(alloc, &resolved)?;
+    let mut faults = Vec::new(alloc);
+    let JudgedClauses { links, claims } = judged_clauses(
+        alloc,
+        scopes,
+        &assigned,
+        &resolved,
+        &mut faults,
+    )?;
+    Ok(LinkedClauses {
+        clauses: links,
+        claims,
+        assigned,
+        faults,
+    })
+}

@@ -1,0 +1,144 @@
+//! Lists of pieces and of lines that edits change in place: each time they are those made anew.
+
+ghost use Rattle.snl_cut.specs.Cut.{IsEdit};
+ghost use Rattle.snl_lex.specs.LineList.{IsLineList};
+ghost use Rattle.snl_lex.specs.PieceList.{piece_ends, piece_kinds};
+ghost use Rattle.std.specs.Prelude.{◌≡◌, ◌<◌, ◌≤◌, ◌^◌, ◌×◌, IfOk, length};
+
+use crate::edits::edited;
+use snl_cut::Count;
+use snl_lex::{LineList, PieceList, TextEdit, lex, line_of};
+use std::alloc::Global;
+use std::process::Abort;
+use std::test::Fail;
+
+// The lists of a text.
+#[derive(Drop)]
+struct Lists {
+    pieces: PieceList,
+    lines: LineList,
+}
+
+fn lists_of(alloc: Global, text: &[u8]) -> Result<Lists, Fail>
+    requires { length text.now < 2 ^ 32 }
+    ensures ends { IfOk result (λ l. l.pieces.ends.items ≡ piece_ends text.now) }
+    ensures kinds { IfOk result (λ l. l.pieces.kinds.items ≡ piece_kinds text.now) }
+    ensures lines { IfOk result (λ l. IsLineList text.now l.lines.ends.items l.lines.markers.items l.lines.naming.items) }
+{
+    let pieces = lex(alloc, text, &mut Count::new())?;
+    Ok(Lists {
+        pieces: PieceList::of(alloc, &pieces)?,
+        lines: LineList::of(alloc, text, &pieces)?,
+    })
+}
+
+// Changes the lists of the old text to those of the new one.
+fn change(alloc: Global, lists: &mut Lists, edit: &TextEdit) -> Result<(), Fail>
+    requires ends { lists.old.pieces.ends.items ≡ piece_ends edit.now.old.now }
+    requires kinds { lists.old.pieces.kinds.items ≡ piece_kinds edit.now.old.now }
+    requires lines { IsLineList edit.now.old.now lists.old.lines.ends.items lists.old.lines.markers.items lists.old.lines.naming.items }
+    ensures { IfOk result (λ _. IsLineList edit.now.text.now lists.new.lines.ends.items lists.new.lines.markers.items lists.new.lines.naming.items) }
+{
+    let change = lists.pieces.change(alloc, edit, &mut Count::new())?;
+    let made = LineList::made(alloc, edit, &change)?;
+    lists.pieces.reserve(change.made.len())?;
+    lists.lines.reserve(&made)?;
+    lists.pieces.commit(edit, &change);
+    lists.lines.commit(edit, &change, &made);
+    Ok(())
+}
+
+// An edit of a text: other bytes for those from one offset up to another.
+static EDITS: [(&[u8], usize, usize, &[u8]); 18] = [
+    // typing
+    (b"", 0, 0, b"int x;\n"),
+    (b"int x;\nint y;\n", 5, 5, b"y"),
+    (b"int x;\nint y;\n", 3, 3, b"\n"),
+    (b"a = \"b\";\nc\n", 5, 5, b"\\"),
+    (b"a = \"b\";\nc\n", 6, 7, b""),
+    (b"a /* b */ c\n/* d */\n", 2, 3, b""),
+    (b"a / b */ c\n/* d */\n", 3, 3, b"*"),
+    // markers
+    (b"# 10 \"a.st\"\nx\n# 20\ny\n", 0, 0, b"\n"),
+    (b"# 10 \"a.st\"\nx\n# 20\ny\n", 2, 3, b""),
+    (b"# 10 \"a.st\"\nx\n# 20\ny\n", 11, 12, b""),
+    (b"# 10 \"a.st\"\nx\n# 20\ny\n", 12, 13, b"# 5 \"b.st\"\nz"),
+    (b"# 10 \"a.st\"\nx\n# 20 \"b\"\ny\n", 0, 12, b""),
+    (b"x\n# 20 \"b\"\ny\n# 30\nz", 3, 6, b"line 4000"),
+    (b"x\n# 20 \"b\"\ny\n# 30\nz", 0, 1, b"/*"),
+    // pasting and cutting
+    (
+        b"int x;\n",
+        7,
+        7,
+        b"# 3 \"c.st\"\nss a {\nstate b {\n}\n}\n",
+    ),
+    (b"ss a {\nstate b {\n}\n}\n# 4\n", 0, 25, b""),
+    (b"%{ a\n}%\n# 7\nb\n", 0, 1, b""),
+    (b"a\n\n\nb\n# 9\nc\nd", 1, 4, b" "),
+];
+
+fn check(
+    rt: &impl Abort,
+    alloc: Global,
+    text: &[u8],
+    start: usize,
+    stop: usize,
+    new: &[u8],
+) -> Result<(), Fail> {
+    assert!(rt; start <= stop && stop <= text.len() && text.len() < 1000 && new.len() < 1000);
+    let now = edited(alloc, text, start, stop, new)?;
+    assert!(rt; now.len() < 2000);
+    let edit = TextEdit {
+        old: text,
+        text: &now,
+        start,
+        old_stop: stop,
+        new_stop: start + new.len(),
+    };
+    let mut kept = lists_of(alloc, text)?;
+    change(alloc, &mut kept, &edit)?;
+    let anew = lists_of(alloc, &now)?;
+    assert_eq!(rt;
+        kept.pieces.ends.as_slice(),
+        anew.pieces.ends.as_slice(),
+        "{now:?}"
+    );
+    assert_eq!(rt;
+        kept.pieces.kinds.as_slice(),
+        anew.pieces.kinds.as_slice(),
+        "{now:?}"
+    );
+    assert_eq!(rt;
+        kept.lines.ends.as_slice(),
+        anew.lines.ends.as_slice(),
+        "{now:?}"
+    );
+    assert_eq!(rt;
+        kept.lines.markers.as_slice(),
+        anew.lines.markers.as_slice(),
+        "{now:?}"
+    );
+    assert_eq!(rt;
+        kept.lines.naming.as_slice(),
+        anew.lines.naming.as_slice(),
+        "{now:?}"
+    );
+    let pieces = lex(alloc, &now, &mut Count::new())?;
+    for offset in 0..now.len() + 2 {
+        assert_eq!(rt;
+            kept.lines.line_by(&now, offset),
+            line_of(&now, &pieces, offset),
+            "{now:?} at {offset}"
+        );
+    }
+    Ok(())
+}
+
+#[test]
+fn lists_after_an_edit_are_those_made_anew(rt: HostRuntime) -> Result<(), Fail> {
+    for (text, start, stop, new) in &EDITS {
+        check(&rt, rt.alloc(), text, *start, *stop, new)?;
+    }
+    Ok(())
+}
