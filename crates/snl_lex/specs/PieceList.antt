@@ -1,7 +1,8 @@
 -- The pieces of a text as two lists: where each ends, and its class. What an edit makes of them, and what it keeps.
-use Rattle.std.specs.Prelude.{◌≡◌, ℕ, ◌+◌, ◌-◌, ◌≤◌, List, ◌++◌, length, map, take, drop, filter}
+use Rattle.std.specs.Prelude.{◌≡◌, ℕ, ◌+◌, ◌-◌, ◌≤◌, List, ◌++◌, length, map, take, drop, filter, get_or}
 use Rattle.snl_cut.specs.Cut.{IsRecut, last_end}
 use Rattle.snl_lex.specs.declared.piece.Class.{Class}
+use Rattle.snl_lex.specs.declared.piece.Class.TheVariants.{White}
 use Rattle.snl_lex.specs.declared.piece.Piece.{Piece}
 use Rattle.snl_lex.specs.Pieces.{bytes_at, is_token, moved_piece, piece_end, piece_length, pieces_of}
 
@@ -12,6 +13,10 @@ piece_ends text = map piece_end (pieces_of text)
 -- The classes of the pieces of a text.
 abbrev pub piece_kinds : List ℕ → List Class
 piece_kinds text = map (λ p. p.kind) (pieces_of text)
+
+-- The piece with a number, by the ends and the classes of the pieces of a text.
+abbrev pub piece_in : List ℕ → List Class → ℕ → Piece
+piece_in ends kinds n = record { kind = get_or kinds n White; start = last_end 0 (take n ends); len = get_or ends n 0 - last_end 0 (take n ends) }
 
 -- A piece as it is spelled: its class and its bytes.
 abbrev pub spelling : List ℕ → Piece → Class × List ℕ

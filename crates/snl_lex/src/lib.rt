@@ -12,6 +12,7 @@ mod lines_along;
 mod numbers;
 mod piece;
 mod piece_list;
+mod piece_numbers;
 mod scan;
 mod words;
 

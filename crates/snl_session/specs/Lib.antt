@@ -2,6 +2,8 @@ pub mod Checked
 pub mod Diagnostics
 pub mod Edit
 pub mod Faults
+pub mod Fresh
+pub mod Kept
 pub mod Linked
 pub mod Listing
 pub mod Order

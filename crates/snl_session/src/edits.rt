@@ -17,7 +17,8 @@ pub enum Refused {
     Memory,
 }
 
-/// What an edit cost: pieces cut, items parsed and items checked anew. All are 0 as long as nothing is kept between edits.
+/// What an edit cost: pieces cut, items parsed and items checked anew. The pieces are counted; items are still made anew at each
+/// edit, and their numbers are 0.
 #[derive(Clone, Copy, Debug, PartialEq, Eq)]
 pub struct Work {
     pub lexed: u64,

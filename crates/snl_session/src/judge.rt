@@ -15,8 +15,8 @@ use crate::program::{Program, program_of};
 use crate::tables::tables_of;
 use crate::walked::add_walked_faults;
 use snl_check::{Tables, tokens_among};
-use snl_cut::{Count, OutOfMemory};
-use snl_lex::{Piece, lex};
+use snl_cut::OutOfMemory;
+use snl_lex::{Piece, text_in_pieces};
 use std::alloc::Global;
 
 /// What a text is judged to say: its diagnostics and its tables.
@@ -73,17 +73,18 @@ fn told_in(alloc: Global, text: &[u8], pieces: &[Piece]) -> Result<Told, OutOfMe
     Ok(told)
 }
 
-/// The diagnostics and the tables of a text.
+/// The diagnostics and the tables of a text that has these pieces.
 #[tactic(auto, unfolding(crate::specs::Diagnostics::diagnostics_of))]
-pub fn judge(alloc: Global, text: &[u8]) -> Result<Judgement, OutOfMemory>
+pub fn judge(alloc: Global, text: &[u8], pieces: &[Piece]) -> Result<Judgement, OutOfMemory>
+    requires pieces { pieces.now ≡ pieces_of text.now }
     ensures diagnostics { IfOk result (λ j. j.diagnostics.items ≡ diagnostics_of text.now) }
     ensures tables { IfOk result (λ j. j.tables ≡ tables_in text.now) }
 {
-    let pieces = lex(alloc, text, &mut Count::new())?;
-    let Told { mut shown, tables } = told_in(alloc, text, &pieces)?;
+    text_in_pieces();
+    let Told { mut shown, tables } = told_in(alloc, text, pieces)?;
     sort(&mut shown)?;
     Ok(Judgement {
-        diagnostics: on_lines(alloc, text, &pieces, &shown)?,
+        diagnostics: on_lines(alloc, text, pieces, &shown)?,
         tables,
     })
 }

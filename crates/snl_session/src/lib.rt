@@ -12,6 +12,7 @@ mod judge;
 mod laws;
 mod linked;
 mod order;
+mod plan;
 mod program;
 mod sessions;
 mod summaries;

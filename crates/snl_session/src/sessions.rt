@@ -8,8 +8,10 @@ use crate::edits::{Refused, Work};
 use crate::findings::Diagnostic;
 use crate::judge::{Judgement, judge};
 use crate::laws::rows_have_bytes;
+use crate::plan::{Plan, plan_of};
 use snl_check::Tables;
-use snl_cut::OutOfMemory;
+use snl_cut::{Count, OutOfMemory};
+use snl_lex::{PieceList, TextEdit, lex};
 use snl_listing::{Lister, listing};
 use std::alloc::Global;
 use std::marker::Model;
@@ -21,20 +23,20 @@ const LIMIT: usize = 1_048_576;
 #[derive(Drop)]
 pub struct Session {
     text: Vec<u8>,
+    pieces: PieceList,
     found: Vec<Diagnostic>,
     tables: Tables,
 }
 
 impl Model for Session {
-    ghost use Rattle.std.specs.Prelude.{◌≡◌, ℕ, ◌≤◌, List, length};
-    ghost use Rattle.snl_session.specs.Diagnostics.{diagnostics_of};
-    ghost use Rattle.snl_session.specs.Tables.{tables_in};
+    ghost use Rattle.std.specs.Prelude.{ℕ, List};
+    ghost use Rattle.snl_session.specs.Kept.{IsKept};
 
     ghost Value = { List ℕ };
 
     ghost view = { λ s. s.text.items };
 
-    ghost invariant = { λ s. (length s.text.items ≤ 1048576) × (s.found.items ≡ diagnostics_of s.text.items) × (s.tables ≡ tables_in s.text.items) };
+    ghost invariant = { λ s. IsKept s.text.items s.pieces.ends.items s.pieces.kinds.items s.found.items s.tables };
 }
 
 impl Session {
@@ -42,6 +44,7 @@ impl Session {
     ghost use Rattle.std.specs.List.Sorted.{IsSortedBy};
     ghost use Rattle.snl_check.specs.Spans.{TablesHaveBytes, TablesLieIn};
     ghost use Rattle.snl_session.specs.Edit.{limit, refusal_of, spliced};
+    ghost use Rattle.snl_session.specs.Fresh.{fresh_pieces};
     ghost use Rattle.snl_listing.specs.Lister.{IsFor};
     ghost use Rattle.snl_session.specs.Listing.{listing_text};
     ghost use Rattle.snl_session.specs.Tables.{tables_in};
@@ -55,9 +58,10 @@ impl Session {
         Session::over(alloc, text).map_err(|_| Refused::Memory)
     }
 
-    /// Puts other bytes in the place of those from `start` up to `stop`. An `Err` changes nothing.
+    /// Puts other bytes in the place of those from `start` up to `stop`, and tells what that cost. An `Err` changes nothing.
     pub fn edit(&mut self, start: usize, stop: usize, new: &[u8]) -> Result<Work, Refused>
         ensures ok { OnOk result (self.new ≡ spliced self.old start stop new.now) }
+        ensures lexed { IfOk result (λ work. work.lexed ≡ fresh_pieces self.old start stop new.now) }
         ensures refused { MatchOption (refusal_of self.old start stop (length new.now))
             (IsOkUnless result Refused.Memory) (λ e. IsErrOf result e) }
         ensures err { OnErr result (self.new ≡ self.old) }
@@ -65,13 +69,7 @@ impl Session {
         if let Some(refused) = self.refusal(start, stop, new.len()) {
             return Err(refused);
         }
-        let next = self.edited(start, stop, new).map_err(|_| Refused::Memory)?;
-        *self = next;
-        Ok(Work {
-            lexed: 0,
-            parsed: 0,
-            checked: 0,
-        })
+        self.replace(start, stop, new).map_err(|_| Refused::Memory)
     }
 
     /// The text.
@@ -145,35 +143,57 @@ impl Session {
         None
     }
 
-    // The session after an edit that is not refused. All that takes memory is done here.
-    fn edited(&self, start: usize, stop: usize, new: &[u8]) -> Result<Session, OutOfMemory>
-        requires { refusal_of self.now start stop (length new.now) ≡ None }
-        ensures { IfOk result (λ s. s ≡ spliced self.now start stop new.now) }
+    // Makes an edit that nothing but want of memory can refuse: first all that takes memory, then the change.
+    fn replace(&mut self, start: usize, stop: usize, new: &[u8]) -> Result<Work, OutOfMemory>
+        requires { refusal_of self.old start stop (length new.now) ≡ None }
+        ensures ok { OnOk result (self.new ≡ spliced self.old start stop new.now) }
+        ensures lexed { IfOk result (λ work. work.lexed ≡ fresh_pieces self.old start stop new.now) }
+        ensures err { OnErr result (self.new ≡ self.old) }
     {
         let alloc = *self.text.allocator();
         let text = joined(alloc, &self.text[..start], new, &self.text[stop..])?;
-        Session::over(alloc, text)
+        let edit = TextEdit {
+            old: &self.text,
+            text: &text,
+            start,
+            old_stop: stop,
+            new_stop: start + new.len(),
+        };
+        let Plan {
+            change,
+            diagnostics,
+            tables,
+            work,
+        } = plan_of(alloc, &self.pieces, &edit)?;
+        self.pieces.reserve(change.made.len())?;
+        self.pieces.commit(&edit, &change);
+        self.found = diagnostics;
+        self.tables = tables;
+        self.text = text;
+        Ok(work)
     }
 
     // A session over this text.
-    #[tactic(auto, unfolding(crate::specs::Diagnostics::diagnostics_of))]
     fn over(alloc: Global, text: Vec<u8>) -> Result<Session, OutOfMemory>
-        requires { length text.items ≤ 1048576 }
+        requires { length text.items ≤ limit }
         ensures { IfOk result (λ s. s ≡ text.items) }
     {
+        let pieces = lex(alloc, &text, &mut Count::new())?;
         let Judgement {
             diagnostics,
             tables,
-        } = judge(alloc, &text)?;
+        } = judge(alloc, &text, &pieces)?;
+        let pieces = PieceList::of(alloc, &pieces)?;
         Ok(Session {
             text,
+            pieces,
             found: diagnostics,
             tables,
         })
     }
 }
 
-// Three parts, one behind another.
+// Three parts, one after another.
 fn joined(alloc: Global, front: &[u8], middle: &[u8], back: &[u8]) -> Result<Vec<u8>, OutOfMemory>
     ensures { IfOk result (λ v. v.items ≡ front.now ++ middle.now ++ back.now) }
 {
