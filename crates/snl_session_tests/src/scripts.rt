@@ -36,7 +36,7 @@ pub static PARTS: [&[u8]; 24] = [
 ];
 
 /// Edits in turn. The places of each are those in the text before it.
-pub static SCRIPTS: [&[Edit]; 109] = [
+pub static SCRIPTS: [&[Edit]; 110] = [
     // white space at the front, at the end and between tokens
     &[(0, 0, b"\n")],
     &[(177, 177, b"\n\t\n")],
@@ -176,11 +176,16 @@ pub static SCRIPTS: [&[Edit]; 109] = [
         (32, 39, b"{\"a\", \"b\"}"),
     ],
     &[(14, 15, b"*x = 1, x")],
-    &[(51, 52, b"g")],
+    &[(56, 57, b"g")],
+    &[(56, 57, b"*f")],
     &[(58, 58, b" int f;")],
     &[(78, 78, b" int x; assign x;")],
     // clauses
-    &[(48, 48, b" monitor x;")],
+    &[
+        (48, 48, b" monitor x;"),
+        (37, 37, b" assign x;"),
+        (92, 92, b" syncq x;"),
+    ],
     &[(59, 63, b"syncq"), (67, 71, b"20")],
     &[(24, 25, b"x[2]")],
     &[(29, 36, b"{}")],
@@ -195,12 +200,12 @@ pub static SCRIPTS: [&[Edit]; 109] = [
     // statements
     &[(118, 118, b"state s1; ")],
     &[(118, 118, b"while (delay(x)) { break; } ")],
-    &[(124, 125, b"(x)"), (97, 98, b"x")],
+    &[(124, 125, b"(x)"), (103, 104, b"x")],
     // functions and blocks
     &[(72, 72, b"int g(int x) { int x; return y; }\n")],
     &[
         (177, 177, b"exit { pvPut(y); }\n"),
         (72, 72, b"entry { int y; }\n"),
     ],
-    &[(152, 152, b"entry { continue; } ")],
+    &[(152, 152, b"entry { state s1; continue; } ")],
 ];
