@@ -11,7 +11,7 @@ use Rattle.snl_session.specs.Tables.{tables_in}
 pub record IsKept (text ends : List ℕ) (kinds : List Class) (found : List Diagnostic) (tables : Tables) : Type 0 where
   pub short : length text ≤ limit
   -- where the pieces end, and their classes
-  pub ends : ends ≡ piece_ends text
-  pub kinds : kinds ≡ piece_kinds text
-  pub found : found ≡ diagnostics_of text
-  pub tables : tables ≡ tables_in text
+  pub of_ends : ends ≡ piece_ends text
+  pub of_kinds : kinds ≡ piece_kinds text
+  pub of_found : found ≡ diagnostics_of text
+  pub of_tables : tables ≡ tables_in text
