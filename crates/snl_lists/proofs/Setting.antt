@@ -6,7 +6,7 @@ use Rattle.std.proofs.lemmas.List.Sums.{sum_by-set}
 use Rattle.std.proofs.lemmas.Bool.{cases_lt}
 use Rattle.slab.specs.Slab.{Slab, ContainsKey, Updates, get, slab_len, with_value}
 use Rattle.snl_lists.specs.Keyed.{AreStored, Differs, IsDistinct, IsKeyed, values_of}
-use Rattle.snl_lists.proofs.Storing.{same_values, still}
+use Rattle.snl_lists.proofs.Storing.{as_many, same_values, still}
 
 -- a slot that has a value is one of the slots
 slot_there : {T : Type 0} (slots : List (Option T)) (key : ℕ) → IsSome (get_or slots key None) → key < length slots
@@ -77,6 +77,9 @@ stored_there {T} old new value key k u h = elim (cases_lt k key) [
 stored_still : {T : Type 0} (old new : Slab T) (value : T) (key : ℕ) (keys : List ℕ) → Updates old new key (Some value) → AreStored old keys → AreStored new keys
 stored_still old new value key [] u all = tt
 stored_still old new value key (k ∷ ks) u all = (stored_there old new value key k u all.0, stored_still old new value key ks u all.1)
+
+pub number_there : {T : Type 0} (kept : Slab T) (keys : List ℕ) (values : List T) (n : ℕ) → AreStored kept keys → values_of kept keys ≡ values → n < length values → n < length keys
+number_there kept keys values n all e inside = omega (arith, inside, ap length e, as_many kept keys all)
 
 module _ {T : Type 0} (kept : Slab T) (keys : List ℕ) (is : IsKeyed kept keys) (n key : ℕ) (inside : n < length keys) (at : key ≡ get_or keys n 0) (value : T) where
   has : ContainsKey kept key

@@ -171,7 +171,6 @@ impl<T: Drop> Ordered<T> {
         ensures values { self.new.values ≡ slice_set self.old.values number value }
         ensures room { self.new.room ≡ self.old.room }
     {
-        let key = self.keys[number];
-        write(&mut self.kept, key, value);
+        write(&mut self.kept, self.keys[number], value);
     }
 }

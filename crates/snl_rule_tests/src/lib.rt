@@ -22,8 +22,6 @@ mod reading;
 #[cfg(test)]
 mod summaries;
 #[cfg(test)]
-mod tables;
-#[cfg(test)]
 mod walks;
 #[cfg(test)]
 mod words;

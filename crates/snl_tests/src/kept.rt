@@ -3,7 +3,7 @@
 ghost use Rattle.snl_cut.specs.Cut.{IsEdit};
 ghost use Rattle.snl_lex.specs.LineList.{IsLineList};
 ghost use Rattle.snl_lex.specs.PieceList.{piece_ends, piece_kinds};
-ghost use Rattle.std.specs.Prelude.{◌≡◌, ◌<◌, ◌≤◌, ◌^◌, ◌×◌, IfOk, length};
+ghost use Rattle.std.specs.Prelude.{◌≡◌, ◌<◌, ◌≤◌, ◌^◌, IfOk, length};
 
 use crate::edits::edited;
 use snl_cut::Count;

@@ -18,6 +18,8 @@ mod kept;
 #[cfg(test)]
 mod lines;
 #[cfg(test)]
+mod lists;
+#[cfg(test)]
 mod marks;
 #[cfg(test)]
 mod nesting;
