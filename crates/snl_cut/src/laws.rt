@@ -1,7 +1,7 @@
 //! Laws of the cut, for every front. A function here does nothing: its contract is the law.
 
-ghost use Rattle.snl_cut.specs.Cut.{EachFirst, IsCut, IsEdit, IsRecut, ends_of, fresh_ends, in_a_row, joined, meet_of, members, members_kept};
-ghost use Rattle.std.specs.Prelude.{◌≡◌, List, ℕ};
+ghost use Rattle.snl_cut.specs.Cut.{EachFirst, IsCut, IsEdit, IsRecut, Rises, ends_of, fresh_ends, in_a_row, joined, last_end, meet_of, members, members_kept};
+ghost use Rattle.std.specs.Prelude.{◌≡◌, ◌<◌, ◌≤◌, List, length, slice_index, ℕ};
 
 use crate::trait_front::Front;
 
@@ -12,6 +12,14 @@ pub fn one_cut<F: Front>()
     ensures only { (units : List F.Unit) (ends : List ℕ) → IsCut F.first_of units ends → ends ≡ ends_of F.first_of units }
     ensures joins { (units : List F.Unit) → in_a_row (members units 0 (ends_of F.first_of units)) ≡ units }
     ensures by_front { (units : List F.Unit) → EachFirst F.first_of (members units 0 (ends_of F.first_of units)) }
+{}
+
+/// The ends of a cut rise to the end of the list, and there are no more of them than units.
+pub fn ends_in_order<F: Front>()
+    ensures rise { (units : List F.Unit) → Rises 0 (ends_of F.first_of units) }
+    ensures last { (units : List F.Unit) → last_end 0 (ends_of F.first_of units) ≡ length units }
+    ensures within { (units : List F.Unit) (i : ℕ) → i < length (ends_of F.first_of units) → slice_index (ends_of F.first_of units) i ≤ length units }
+    ensures few { (units : List F.Unit) → length (ends_of F.first_of units) ≤ length units }
 {}
 
 /// What is kept and made of a cut is the cut made anew.

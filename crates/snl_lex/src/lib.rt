@@ -17,10 +17,11 @@ mod scan;
 mod words;
 
 pub use cut::{Bytes, Relexed, lex, relex, relex_by};
-pub use laws::{first_piece_reaches, kept_as_spelled, text_in_pieces};
+pub use laws::{first_piece_reaches, kept_as_spelled, pieces_as_listed, text_in_pieces};
 pub use line_list::{LineList, Marker};
 pub use lines::{Line, line_of};
 pub use lines_along::lines_of;
+pub use listed_tokens::tokens_among;
 pub use numbers::int_value;
 pub use piece::{Class, Piece};
 pub use piece_list::{PieceChange, PieceList, TextEdit};

@@ -66,6 +66,15 @@ fn add_tokens(pieces: &[Piece], tokens: &mut Vec<Piece>) -> Result<(), OutOfMemo
     Ok(())
 }
 
+/// Those of the pieces that are tokens. The only error is want of memory.
+pub fn tokens_among(alloc: Global, pieces: &[Piece]) -> Result<Vec<Piece>, OutOfMemory>
+    ensures { IfOk result (λ tokens. tokens.items ≡ filter is_token pieces.now) }
+{
+    let mut tokens = Vec::new(alloc);
+    add_tokens(pieces, &mut tokens)?;
+    Ok(tokens)
+}
+
 impl PieceList {
     /// The tokens among the pieces from one number up to another. The only error is want of memory.
     pub fn tokens_between(

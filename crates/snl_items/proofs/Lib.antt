@@ -1,0 +1,5 @@
+pub mod Parts
+pub mod Counts
+pub mod Alike
+pub mod TokenParts
+pub mod TokenPlaces
