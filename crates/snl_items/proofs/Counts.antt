@@ -15,10 +15,10 @@ is_below m n h = grind (arith, nat_tests)
 not_below : (m n : ℕ) → n ≤ m → nat_lt m n ≡ false
 not_below m n h = grind (arith, nat_tests)
 
-below_yes : (e place : ℕ) (es : List ℕ) → e < place → ends_below place (e ∷ es) ≡ suc (ends_below place es)
+pub below_yes : (e place : ℕ) (es : List ℕ) → e < place → ends_below place (e ∷ es) ≡ suc (ends_below place es)
 below_yes e place es h = ap (λ (t : Bool). cond t (suc (ends_below place es)) 0) (is_below e place h)
 
-below_no : (e place : ℕ) (es : List ℕ) → place ≤ e → ends_below place (e ∷ es) ≡ 0
+pub below_no : (e place : ℕ) (es : List ℕ) → place ≤ e → ends_below place (e ∷ es) ≡ 0
 below_no e place es h = ap (λ (t : Bool). cond t (suc (ends_below place es)) 0) (not_below e place h)
 
 -- A piece that doesn't pass, and one that does, if it is a token.

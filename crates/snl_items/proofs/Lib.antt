@@ -3,3 +3,5 @@ pub mod Counts
 pub mod Alike
 pub mod TokenParts
 pub mod TokenPlaces
+pub mod EndPlaces
+pub mod ItemParts

@@ -1,6 +1,7 @@
 -- A list of three parts, the middle one of which is replaced.
-use Rattle.std.proofs.Common.{◌≡◌, ℕ, ◌+◌, ◌-◌, ◌≤◌, List, ◌++◌, length, take, drop, refl, sym, ap, ap₂, ◌∙◌, append_assoc, arith, length-append}
+use Rattle.std.proofs.Common.{◌≡◌, ℕ, ◌+◌, ◌-◌, ◌≤◌, List, ◌++◌, length, take, drop, All, refl, sym, ap, ap₂, ◌∙◌, append_assoc, arith, length-append}
 use Rattle.std.proofs.lemmas.List.{drop_at, take_at, drop-drop, drop-take, take-append-drop, take-take}
+use Rattle.std.proofs.lemmas.List.Elements.{All-drop, All-same, All-take}
 use Rattle.snl_cut.specs.Cut.{IsEdit}
 
 module _ {X : Type 0} (front middle back : List X) where
@@ -40,3 +41,9 @@ in_parts {X} xs a b le =
     let there : a + (b - a) ≡ b = omega arith in
     sym (ap (λ (l : List X). take a xs ++ (take (b - a) (drop a xs) ++ l)) (sym (drop-drop (b - a) a xs ∙ ap (λ (n : ℕ). drop n xs) there))
     ∙ ap (λ (l : List X). take a xs ++ l) (take-append-drop (b - a) (drop a xs)) ∙ take-append-drop a xs)
+
+-- What holds of all holds of the part in the middle.
+pub all_middle : {X : Type 0} (P : X → Type 0) (xs ys zs all : List X) → all ≡ (xs ++ ys) ++ zs → All P all → All P ys
+all_middle {X} P xs ys zs all e h =
+    let part : take (length ys) (drop (length xs) all) ≡ ys = ap (λ (l : List X). take (length ys) (drop (length xs) l)) (e ∙ append_assoc xs ys zs) ∙ middle_part xs ys zs (length xs) (length ys) refl refl in
+    All-same P ys (take (length ys) (drop (length xs) all)) (sym part) (All-take P (length ys) (drop (length xs) all) (All-drop P (length xs) all h))

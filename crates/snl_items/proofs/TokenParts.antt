@@ -1,7 +1,7 @@
 -- What an edit of a text makes of its tokens.
 use Rattle.std.proofs.Common.{◌≡◌, ℕ, ◌+◌, ◌-◌, ◌≤◌, Bool, true, false, cond, List, [], ◌∷◌, ◌++◌, length, map, filter, take, drop, IsTrue, All, refl, sym, ap, ap₂, ◌∙◌, subst, append_assoc, arith, length-append}
 use Rattle.std.proofs.lemmas.List.{length-map, length-take-le, map-append, take-map, take_at, take-append-drop}
-use Rattle.std.proofs.lemmas.List.Elements.{All-drop, All-filter, All-same, All-take, filter-append}
+use Rattle.std.proofs.lemmas.List.Elements.{All-drop, All-filter, All-take, filter-append}
 use Rattle.snl_cut.specs.Cut.{IsEdit, IsRecut, Rises, ends_below, last_end, meet_of}
 use Rattle.snl_lex.specs.declared.piece.Class.{Class}
 use Rattle.snl_lex.specs.declared.piece.Piece.{Piece}
@@ -13,7 +13,7 @@ use Rattle.snl_items.specs.declared.tokens.TokenEdit.{TokenEdit}
 use Rattle.snl_items.specs.Items.{mark_in, marks_of, spellings}
 use Rattle.snl_items.specs.Fresh.{beginning_before, ending_before, replaced_alike, spelled_alike, token_edit_between}
 use Rattle.snl_items.specs.Changes.{IsTokenChange}
-use Rattle.snl_items.proofs.Parts.{first_part, in_parts, last_part, middle_part, parts_edited, parts_replaced}
+use Rattle.snl_items.proofs.Parts.{all_middle, first_part, in_parts, last_part, middle_part, parts_edited, parts_replaced}
 use Rattle.snl_items.proofs.Counts.{beginning, ending}
 use Rattle.snl_items.proofs.Alike.{told_alike}
 
@@ -26,10 +26,10 @@ tokens_moved b c (p ∷ ps) =
     step (is_token p)
 
 -- The mark of a token goes by its spelling.
-abbrev mark_by : Class × List ℕ → Mark
+abbrev pub mark_by : Class × List ℕ → Mark
 mark_by s = mark_of s.0 s.1
 
-marks_by : (text : List ℕ) (ts : List Piece) → map (mark_in text) ts ≡ map mark_by (spelled text ts)
+pub marks_by : (text : List ℕ) (ts : List Piece) → map (mark_in text) ts ≡ map mark_by (spelled text ts)
 marks_by text [] = refl
 marks_by text (t ∷ ts) = ap (λ (l : List Mark). mark_in text t ∷ l) (marks_by text ts)
 
@@ -93,8 +93,8 @@ module _ (old text : List ℕ) (start b c front : ℕ) (made : List Piece) (back
       tokens_are =
           new_tokens
           ∙ sym (ap₂ (λ (x y : List Piece). x ++ (fresh ++ map (moved_piece b c) y))
-            (ap (take edit.start) old_tokens ∙ first_part at_front replaced at_back edit.start (sym starts))
-            (ap (drop edit.old_stop) old_tokens ∙ last_part at_front replaced at_back edit.old_stop (sym old_stops)))
+          (ap (take edit.start) old_tokens ∙ first_part at_front replaced at_back edit.start (sym starts))
+          (ap (drop edit.old_stop) old_tokens ∙ last_part at_front replaced at_back edit.old_stop (sym old_stops)))
 
       front_long : length (spelled old at_front) ≡ edit.start
       front_long = length-map at_front (spelling old) ∙ sym starts
@@ -163,9 +163,7 @@ module _ (old text : List ℕ) (start b c front : ℕ) (made : List Piece) (back
 
 -- Parts of pieces that lie in a text lie in it.
 pub made_lie : (text : List ℕ) (xs ys zs ps : List Piece) → ps ≡ (xs ++ ys) ++ zs → All (LiesIn text) ps → All (LiesIn text) (filter is_token ys)
-made_lie text xs ys zs ps e h =
-    let part : take (length ys) (drop (length xs) ps) ≡ ys = ap (λ (l : List Piece). take (length ys) (drop (length xs) l)) (e ∙ append_assoc xs ys zs) ∙ middle_part xs ys zs (length xs) (length ys) refl refl in
-    All-filter is_token (LiesIn text) ys (All-same (LiesIn text) ys (take (length ys) (drop (length xs) ps)) (sym part) (All-take (LiesIn text) (length ys) (drop (length xs) ps) (All-drop (LiesIn text) (length xs) ps h)))
+made_lie text xs ys zs ps e h = All-filter is_token (LiesIn text) ys (all_middle (LiesIn text) xs ys zs ps e h)
 
 pub between_lie : (text : List ℕ) (ps : List Piece) (a b : ℕ) → All (LiesIn text) ps → All (LiesIn text) (filter is_token (pieces_between ps a b))
 between_lie text ps a b h = All-filter is_token (LiesIn text) (pieces_between ps a b) (All-take (LiesIn text) (b - a) (drop a ps) (All-drop (LiesIn text) a ps h))

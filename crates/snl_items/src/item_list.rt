@@ -6,13 +6,14 @@ ghost use Rattle.snl_items.specs.Items.{item_ends, marks_of};
 ghost use Rattle.snl_lex.specs.Pieces.{tokens_of};
 ghost use Rattle.std.specs.Prelude.{◌≡◌, ◌+◌, ◌-◌, ◌^◌, ◌<◌, ◌≤◌, ◌++◌, All, IfOk, OnOk, drop, false, length, take, vec_capacity, vec_len};
 
+use crate::laws::few_tokens;
 use crate::spelled::Spelling;
 use crate::tokens::{TokenChange, TokenEdit, marks_of};
 use snl_cut::{
     Count, Narrow, OutOfMemory, cut_all, ends_in_order, made_are_fresh, members_stay, one_cut,
     recut_by, recut_is_cut,
 };
-use snl_lex::{Bytes, Piece, TextEdit, text_in_pieces};
+use snl_lex::{Piece, TextEdit, text_in_pieces};
 use snl_lists::{replace, replace_and_shift};
 use snl_syntax::{Mark, Tokens};
 use std::alloc::Global;
@@ -72,7 +73,7 @@ impl ItemList {
         ensures ends { IfOk result (λ l. l.ends.items ≡ item_ends text.now) }
     {
         text_in_pieces();
-        ends_in_order::<Bytes>();
+        few_tokens();
         ends_in_order::<Tokens>();
         let marks = marks_of(alloc, text, tokens)?;
         let ends = cut_all(alloc, &Tokens, &marks, &mut Count::new())?;
@@ -99,6 +100,7 @@ impl ItemList {
         members_stay::<Tokens, Spelling>();
         made_are_fresh::<Tokens>();
         one_cut::<Tokens>();
+        few_tokens();
         ends_in_order::<Tokens>();
         let marks = edited(alloc, &self.marks, tokens.edit, &tokens.marks)?;
         let cut = recut_by(
@@ -167,8 +169,7 @@ impl ItemList {
         ensures marks { self.new.marks.items ≡ marks_of edit.now.text.now }
         ensures ends { self.new.ends.items ≡ item_ends edit.now.text.now }
     {
-        text_in_pieces();
-        ends_in_order::<Bytes>();
+        few_tokens();
         ends_in_order::<Tokens>();
         let back = self.ends.len() - items.kept_back;
         replace_and_shift(
