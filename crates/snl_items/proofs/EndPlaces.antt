@@ -1,9 +1,9 @@
 -- Where items end, among numbers that rise.
-use Rattle.std.proofs.Common.{◌≡◌, ℕ, zero, suc, ◌+◌, ◌-◌, ◌<◌, ◌≤◌, ◌^◌, inl, inr, All, List, [], ◌∷◌, ◌++◌, length, map, take, drop, get_or, refl, sym, ap, ◌∙◌, arith, length-drop}
+use Rattle.std.proofs.Common.{◌≡◌, ℕ, zero, suc, ◌+◌, ◌<◌, ◌≤◌, ◌^◌, inl, inr, All, List, [], ◌∷◌, ◌++◌, length, take, drop, get_or, sym, arith, length-drop}
 use Rattle.std.proofs.lemmas.Bool.{cases_lt}
 use Rattle.std.proofs.lemmas.List.{get_or-drop}
 use Rattle.std.proofs.lemmas.List.Elements.{All-from_get_or}
-use Rattle.snl_cut.specs.Cut.{IsEdit, IsRecut, Rises, ends_below, last_end}
+use Rattle.snl_cut.specs.Cut.{Rises, ends_below, last_end}
 use Rattle.snl_items.proofs.Counts.{below_no, below_yes}
 use Rattle.snl_items.proofs.Parts.{all_middle}
 
@@ -12,11 +12,11 @@ rises_first from [] i r lt = absurd (omega arith)
 rises_first from (e ∷ es) zero r lt = r.0
 rises_first from (e ∷ es) (suc i) r lt = omega (arith, r.0, rises_first e es i r.1 (omega arith))
 
--- The ends from one number on are behind the one before them.
-pub ends_behind : (from : ℕ) (ends : List ℕ) (k i : ℕ) → Rises from ends → i < length (drop k ends) → last_end from (take k ends) < get_or (drop k ends) i 0
-ends_behind from ends zero i r lt = rises_first from ends i r lt
-ends_behind from [] (suc k) i r lt = absurd (omega arith)
-ends_behind from (e ∷ es) (suc k) i r lt = ends_behind e es k i r.1 lt
+-- The ends from one number on are greater than the one before them.
+pub ends_above : (from : ℕ) (ends : List ℕ) (k i : ℕ) → Rises from ends → i < length (drop k ends) → last_end from (take k ends) < get_or (drop k ends) i 0
+ends_above from ends zero i r lt = rises_first from ends i r lt
+ends_above from [] (suc k) i r lt = absurd (omega arith)
+ends_above from (e ∷ es) (suc k) i r lt = ends_above e es k i r.1 lt
 
 -- A bound of all ends, also of those from one number on.
 pub dropped_within : (ends : List ℕ) (limit k i : ℕ) → ((j : ℕ) → j < length ends → get_or ends j 0 ≤ limit) → i < length (drop k ends) → get_or (drop k ends) i 0 ≤ limit

@@ -1,9 +1,8 @@
 -- What an edit of a text makes of its items.
-use Rattle.std.proofs.Common.{◌≡◌, ℕ, zero, suc, ◌+◌, ◌-◌, ◌<◌, ◌≤◌, Bool, true, false, List, [], ◌∷◌, ◌++◌, length, map, take, drop, if◌then◌else◌, refl, sym, ap, ap₂, ◌∙◌, subst, arith, length-drop}
-use Rattle.std.proofs.lemmas.List.{append-nil, drop_all, length-map, take_all}
-use Rattle.snl_cut.specs.Cut.{IsEdit, IsRecut, ends_below, ends_of, fresh_ends, joined, last_end, members, moved}
+use Rattle.std.proofs.Common.{◌≡◌, ℕ, suc, ◌+◌, ◌-◌, ◌≤◌, Bool, true, false, List, [], ◌∷◌, ◌++◌, length, map, take, drop, if◌then◌else◌, refl, sym, ap, ap₂, ◌∙◌, subst, arith}
+use Rattle.std.proofs.lemmas.List.{append-nil, drop_all, take_all}
+use Rattle.snl_cut.specs.Cut.{IsRecut, ends_of, fresh_ends, joined, last_end, members, moved}
 use Rattle.snl_lex.specs.declared.piece.Class.{Class}
-use Rattle.snl_lex.specs.PieceList.{spelled}
 use Rattle.snl_lex.specs.Pieces.{tokens_of}
 use Rattle.snl_syntax.specs.declared.marks.Mark.{Mark}
 use Rattle.snl_syntax.specs.Items.{item}
@@ -70,7 +69,7 @@ module _ (old text : List ℕ) (start b c : ℕ) (edit : TokenEdit) (made_tokens
           ends = same_ends ∙ sym (ap₂ (λ (x y : List ℕ). (x ++ []) ++ y) (take_all n ends (omega arith)) (none_moved ends (length ends) (omega arith)) ∙ append-nil (ends ++ []) ∙ append-nil ends);
           items = ap₂ (λ (s : List (Class × List ℕ)) (es : List ℕ). members s 0 es) same_spellings same_ends
               ∙ sym (ap₂ (λ (x y : List (List (Class × List ℕ))). x ++ y) (take_all n olds (omega arith)) (drop_all (length ends - 0) olds (omega arith)) ∙ append-nil olds);
-          behind = omega (arith, ap (last_end 0) whole, last, is.of_marks.old_inside);
+          after = omega (arith, ap (last_end 0) whole, last, is.of_marks.old_inside);
         }
 
   -- Else they are cut again.
@@ -87,5 +86,5 @@ module _ (old text : List ℕ) (start b c : ℕ) (edit : TokenEdit) (made_tokens
           fresh = made_is ∙ ap (λ (u : Bool). let l : List ℕ = if u then [] else fresh_ends item (marks_of old) (marks_of text) edit.start edit.old_stop edit.new_stop in l) (sym other) ∙ fresh_by old text start b c edit t is.edit_is is.same_is;
           ends = sym joined_is;
           items = items_are;
-          behind = omega (arith, recut.from);
+          after = omega (arith, recut.from);
         }

@@ -1,6 +1,6 @@
 -- A list of three parts, the middle one of which is replaced.
 use Rattle.std.proofs.Common.{◌≡◌, ℕ, ◌+◌, ◌-◌, ◌≤◌, List, ◌++◌, length, take, drop, All, refl, sym, ap, ap₂, ◌∙◌, append_assoc, arith, length-append}
-use Rattle.std.proofs.lemmas.List.{drop_at, take_at, drop-drop, drop-take, take-append-drop, take-take}
+use Rattle.std.proofs.lemmas.List.{drop_at, take_at, drop-drop, take-append-drop}
 use Rattle.std.proofs.lemmas.List.Elements.{All-drop, All-same, All-take}
 use Rattle.snl_cut.specs.Cut.{IsEdit}
 

@@ -1,20 +1,19 @@
 -- What an edit of a text makes of its tokens.
-use Rattle.std.proofs.Common.{◌≡◌, ℕ, ◌+◌, ◌-◌, ◌≤◌, Bool, true, false, cond, List, [], ◌∷◌, ◌++◌, length, map, filter, take, drop, IsTrue, All, refl, sym, ap, ap₂, ◌∙◌, subst, append_assoc, arith, length-append}
-use Rattle.std.proofs.lemmas.List.{length-map, length-take-le, map-append, take-map, take_at, take-append-drop}
+use Rattle.std.proofs.Common.{◌≡◌, ℕ, ◌+◌, ◌-◌, ◌≤◌, Bool, true, false, cond, List, [], ◌∷◌, ◌++◌, length, map, filter, take, drop, IsTrue, All, refl, sym, ap, ap₂, ◌∙◌, subst, append_assoc, arith}
+use Rattle.std.proofs.lemmas.List.{length-map, map-append}
 use Rattle.std.proofs.lemmas.List.Elements.{All-drop, All-filter, All-take, filter-append}
-use Rattle.snl_cut.specs.Cut.{IsEdit, IsRecut, Rises, ends_below, last_end, meet_of}
+use Rattle.snl_cut.specs.Cut.{IsEdit}
 use Rattle.snl_lex.specs.declared.piece.Class.{Class}
 use Rattle.snl_lex.specs.declared.piece.Piece.{Piece}
-use Rattle.snl_lex.specs.PieceList.{IsChange, last_pieces, listed_pieces, piece_ends, piece_kinds, pieces_between, spelled, spelling, tokens_spelled}
-use Rattle.snl_lex.specs.Pieces.{LiesIn, is_token, moved_piece, piece_end, piece_length, pieces_of, tokens_of}
+use Rattle.snl_lex.specs.PieceList.{IsChange, last_pieces, pieces_between, spelled, spelling, tokens_spelled}
+use Rattle.snl_lex.specs.Pieces.{LiesIn, is_token, moved_piece, pieces_of, tokens_of}
 use Rattle.snl_syntax.specs.declared.marks.Mark.{Mark}
 use Rattle.snl_syntax.specs.Marks.{mark_of}
 use Rattle.snl_items.specs.declared.tokens.TokenEdit.{TokenEdit}
 use Rattle.snl_items.specs.Items.{mark_in, marks_of, spellings}
-use Rattle.snl_items.specs.Fresh.{beginning_before, ending_before, replaced_alike, spelled_alike, token_edit_between}
+use Rattle.snl_items.specs.Fresh.{replaced_alike, spelled_alike, token_edit_between}
 use Rattle.snl_items.specs.Changes.{IsTokenChange}
 use Rattle.snl_items.proofs.Parts.{all_middle, first_part, in_parts, last_part, middle_part, parts_edited, parts_replaced}
-use Rattle.snl_items.proofs.Counts.{beginning, ending}
 use Rattle.snl_items.proofs.Alike.{told_alike}
 
 tokens_moved : (b c : ℕ) (ps : List Piece) → filter is_token (map (moved_piece b c) ps) ≡ map (moved_piece b c) (filter is_token ps)

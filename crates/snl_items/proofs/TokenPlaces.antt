@@ -1,8 +1,8 @@
 -- The edit of the tokens that an edit of a text is, by how many of them there are in each part.
-use Rattle.std.proofs.Common.{◌≡◌, ℕ, ◌+◌, ◌-◌, ◌≤◌, List, ◌++◌, length, map, filter, count_by, nat_lt, take, drop, refl, sym, ap, ap₂, ◌∙◌, subst, arith, length-append}
-use Rattle.std.proofs.lemmas.List.{drop-take, length-map, length-take-le, map-append, take-map, take_at, take-append-drop, take-take}
+use Rattle.std.proofs.Common.{◌≡◌, ℕ, ◌+◌, ◌-◌, ◌≤◌, List, ◌++◌, length, map, filter, count_by, nat_lt, take, drop, refl, sym, ap, ap₂, ◌∙◌, arith, length-append}
+use Rattle.std.proofs.lemmas.List.{drop-take, length-map, map-append, take-map, take_at, take-append-drop, take-take}
 use Rattle.std.proofs.lemmas.List.Elements.{filter-append}
-use Rattle.snl_cut.specs.Cut.{IsRecut, Rises, ends_below, ends_of, last_end, meet_of}
+use Rattle.snl_cut.specs.Cut.{IsRecut, Rises, ends_of, last_end, meet_of}
 use Rattle.snl_lex.specs.declared.piece.Class.{Class}
 use Rattle.snl_lex.specs.declared.piece.Piece.{Piece}
 use Rattle.snl_lex.specs.PieceList.{IsChange, last_pieces, listed_pieces, piece_ends, piece_kinds, pieces_between}

@@ -27,5 +27,5 @@ pub record IsItemChange (old text : List ℕ) (start old_stop new_stop : ℕ) (e
   pub ends : item_ends text ≡ joined (item_ends old) edit.old_stop edit.new_stop front made back
   -- the kept items have the tokens that they had
   pub items : spelled_items text ≡ take front (spelled_items old) ++ (members (spellings text) (last_end 0 (take front (item_ends old))) made ++ drop (length (item_ends old) - back) (spelled_items old))
-  -- the items that are kept at the back begin behind the edit
-  pub behind : edit.old_stop ≤ last_end 0 (take (length (item_ends old) - back) (item_ends old))
+  -- the items that are kept at the back begin after the edit
+  pub after : edit.old_stop ≤ last_end 0 (take (length (item_ends old) - back) (item_ends old))

@@ -5,9 +5,7 @@ use Rattle.std.specs.Cmp.Lexicographic.{pointwise}
 use Rattle.snl_cut.specs.Cut.{fresh_ends, meet_of}
 use Rattle.snl_lex.specs.declared.piece.Class.{Class}
 use Rattle.snl_lex.specs.declared.piece.Class.TheVariants.{White, Comment, Marker, CCode, Name, Word, Int, Float, Text, CharLit, Punct, Bad}
-use Rattle.snl_lex.specs.declared.piece.Piece.{Piece}
 use Rattle.snl_lex.specs.Pieces.{piece_end, piece_length, tokens_of}
-use Rattle.snl_lex.specs.PieceList.{pieces_between}
 use Rattle.snl_syntax.specs.Items.{item}
 use Rattle.snl_items.specs.declared.tokens.TokenEdit.{TokenEdit}
 use Rattle.snl_items.specs.Items.{marks_of, spellings}
@@ -20,7 +18,7 @@ abbrev pub beginning_before : List ℕ → ℕ → ℕ
 beginning_before text place = count_by (λ p. nat_lt p.start place) (tokens_of text)
 
 -- The edit as one of tokens: those of the old text that end before `start` are kept, and so are those of both texts that begin at the
--- pieces' meeting point or behind it.
+-- pieces' meeting point or after it.
 unfoldable pub token_edit_between : (old text : List ℕ) (start old_stop new_stop : ℕ) → TokenEdit
 token_edit_between old text start old_stop new_stop =
     let meet = meet_of piece_length old text old_stop new_stop in

@@ -9,6 +9,7 @@ use snl_lex::{Class, Piece, token_text};
 use std::marker::Model;
 
 /// A token as it is spelled: its class and its bytes.
+#[derive(Drop)]
 pub struct Spelling<'a> {
     kind: Class,
     bytes: &'a [u8],
@@ -20,13 +21,22 @@ impl<'a> Model for Spelling<'a> {
     ghost view = { λ s. (s.kind, s.bytes.now) };
 }
 
-// Whether a token of one text is spelled as a token of another.
-fn is_spelled_as(old_text: &[u8], old: Piece, text: &[u8], token: Piece) -> bool
-    requires old { LiesIn old_text.now old }
-    requires new { LiesIn text.now token }
-    ensures { IsTrue result ↔ (spelling old_text.now old ≡ spelling text.now token) }
-{
-    old.kind == token.kind && token_text(old_text, old) == token_text(text, token)
+impl<'a> Spelling<'a> {
+    fn of(text: &'a [u8], token: Piece) -> Spelling<'a>
+        requires { LiesIn text.now token }
+        ensures { result ≡ spelling text.now token }
+    {
+        Spelling {
+            kind: token.kind,
+            bytes: token_text(text, token),
+        }
+    }
+
+    fn is_like(&self, other: &Spelling) -> bool
+        ensures { IsTrue result ↔ (self.now ≡ other.now) }
+    {
+        self.kind == other.kind && self.bytes == other.bytes
+    }
 }
 
 // Whether the tokens of one text are as many as those of another, and spelled as these.
@@ -39,7 +49,8 @@ pub fn are_spelled_alike(old_text: &[u8], old: &[Piece], text: &[u8], tokens: &[
         return false;
     }
     for number in 0..old.len() {
-        if !is_spelled_as(old_text, old[number], text, tokens[number]) {
+        let was = Spelling::of(old_text, old[number]);
+        if !was.is_like(&Spelling::of(text, tokens[number])) {
             return false;
         }
     }

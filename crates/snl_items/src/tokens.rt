@@ -80,12 +80,13 @@ impl TokenChange {
         ends_in_order::<Bytes>();
         text_in_pieces();
         pieces_as_listed();
+        let front = change.kept_front;
         let back = pieces.ends.len() - change.kept_back;
-        let replaced = pieces.tokens_between(alloc, change.kept_front, back)?;
+        let replaced = pieces.tokens_between(alloc, front, back)?;
         let made = tokens_among(alloc, &change.made)?;
         let marks = marks_of(alloc, edit.text, &made)?;
         let same = are_spelled_alike(edit.old, &replaced, edit.text, &made);
-        let start = count_tokens(&pieces.kinds[..change.kept_front]);
+        let start = count_tokens(&pieces.kinds[..front]);
         Ok(TokenChange {
             edit: TokenEdit {
                 start,

@@ -56,6 +56,29 @@ between_more ps from n d le lt =
 pub between_none : (ps : List Piece) (from : ℕ) → pieces_between ps from from ≡ []
 between_none ps from = let none : from - from ≡ 0 = omega arith in ap (λ (m : ℕ). take m (drop from ps)) none
 
+same_piece : (k : Class) (s t m n : ℕ) → s ≡ t → m ≡ n → let p : Piece = record { kind = k; start = s; len = m } in let q : Piece = record { kind = k; start = t; len = n } in p ≡ q
+same_piece k s t m n h i = ap₂ (λ (a b : ℕ). let p : Piece = record { kind = k; start = a; len = b } in p) h i
+
+-- One piece more, by its end, its class and where it begins.
+pub listed_more : (ends : List ℕ) (kinds : List Class) (from n : ℕ) (end : ℕ) (kind : Class) (start : ℕ)
+    → from ≤ n → n < length ends → n < length kinds → end ≡ get_or ends n 0 → kind ≡ get_or kinds n kind → start ≡ last_end 0 (take n ends)
+    → pieces_between (listed_pieces 0 ends kinds) from (n + 1) ≡ pieces_between (listed_pieces 0 ends kinds) from n ++ record { kind = kind; start = start; len = end - start } ∷ []
+listed_more ends kinds from n end kind start le lt lt_kinds end_is kind_is start_is =
+    let ps : List Piece = listed_pieces 0 ends kinds in
+    let p : Piece = record { kind = kind; start = start; len = end - start } in
+    let first : ℕ = last_end 0 (take n ends) in
+    let long : get_or ends n 0 - first ≡ end - start = omega arith in
+    let there : get_or ps n p ≡ p =
+    listed_at 0 ends kinds n kind p lt lt_kinds
+    ∙ ap (λ (k : Class). let q : Piece = record { kind = k; start = first; len = get_or ends n 0 - first } in q) (sym kind_is)
+    ∙ same_piece kind first start (get_or ends n 0 - first) (end - start) (sym start_is) long in
+    between_more ps from n p le (listed_length 0 ends kinds (suc n) (omega arith) (omega arith)) ∙ ap (λ (q : Piece). pieces_between ps from n ++ q ∷ []) there
+
+-- The same piece, moved.
+pub pushed_piece : (kind : Class) (start end b c s m : ℕ) → s ≡ start - b → m ≡ end - start
+    → let p : Piece = record { kind = kind; start = s + c; len = m } in p ≡ moved_piece b c (record { kind = kind; start = start; len = end - start })
+pushed_piece kind start end b c s m s_is m_is = same_piece kind (s + c) ((start - b) + c) m (end - start) (ap (λ (k : ℕ). k + c) s_is) m_is
+
 -- The moved tokens of pieces and one more.
 pub tokens_and_one : (b c : ℕ) (ps : List Piece) (p : Piece)
     → map (moved_piece b c) (filter is_token (ps ++ p ∷ [])) ≡ map (moved_piece b c) (filter is_token ps) ++ cond (is_token p) (moved_piece b c p ∷ []) []

@@ -9,6 +9,7 @@ mod laws;
 mod line_list;
 mod lines;
 mod lines_along;
+mod listed_pieces;
 mod listed_tokens;
 mod numbers;
 mod piece;

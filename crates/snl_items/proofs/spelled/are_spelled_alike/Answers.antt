@@ -1,4 +1,4 @@
-use Rattle.std.proofs.Common.{◌≡◌, ℕ, zero, suc, ◌<◌, ◌≤◌, false, List, [], ◌∷◌, length, drop, get_or, ap, arith, IsTrue}
+use Rattle.std.proofs.Common.{◌≡◌, ℕ, zero, suc, ◌<◌, ◌≤◌, List, [], ◌∷◌, length, drop, get_or, sym, ap, ◌∙◌, arith}
 use Rattle.snl_lex.specs.declared.piece.Class.{Class}
 use Rattle.snl_lex.specs.declared.piece.Piece.{Piece}
 use Rattle.snl_lex.specs.PieceList.{spelled, spelling}
@@ -11,8 +11,9 @@ alike_at old text (x ∷ xs) [] n d e lt le = absurd (omega arith)
 alike_at old text (x ∷ xs) (y ∷ ys) zero d e lt le = ap (λ (l : List (Class × List ℕ)). get_or l 0 (spelling old x)) e
 alike_at old text (x ∷ xs) (y ∷ ys) (suc n) d e lt le = alike_at old text xs ys n d (ap (λ (l : List (Class × List ℕ)). drop 1 l) e) (omega arith) (omega arith)
 
-pub returns-then-not-is_spelled_as : goal.returns-then-not-is_spelled_as
-returns-then-not-is_spelled_as c = (
+pub returns-then-not-is_like : goal.returns-then-not-is_like
+returns-then-not-is_like c = (
   λ h. cc,
-  λ e. c.if-not-is_spelled_as.ensures.1 (alike_at c.args.old_text.now c.args.text.now c.args.old.now c.args.tokens.now c.loop-number.number _ e c.loop-number-test.true (omega arith)),
+  λ e. c.if-not-is_like.ensures.1
+      (c.of-was.ensures ∙ alike_at c.args.old_text.now c.args.text.now c.args.old.now c.args.tokens.now c.loop-number.number _ e c.loop-number-test.true (omega arith) ∙ sym c.of.ensures),
 )

@@ -6,15 +6,9 @@ use Rattle.snl_lex.specs.declared.piece.Piece.{Piece}
 use Rattle.snl_lex.specs.PieceList.{listed_pieces, pieces_between, is_token_class}
 use Rattle.snl_lex.specs.Pieces.{is_token, moved_piece}
 use Rattle.snl_lex.proofs.Members.{last_taken}
-use Rattle.snl_lex.proofs.Listed.{between_more, between_none, listed_at, listed_length, tokens_and_one}
+use Rattle.snl_lex.proofs.Listed.{between_none, listed_more, pushed_piece, tokens_and_one}
 use Rattle.snl_lex.proofs.listed_tokens.add_listed_tokens.Goals as goal
 use Rattle.snl_lex.proofs.listed_tokens.add_listed_tokens.Goals.{then-is_token+in_ok-push, else-is_token}
-
-piece : Class → ℕ → ℕ → Piece
-piece kind start len = record { kind = kind; start = start; len = len }
-
-same_piece : (k l : Class) (s t m n : ℕ) → k ≡ l → s ≡ t → m ≡ n → piece k s m ≡ piece l t n
-same_piece k l s t m n h i j = cc
 
 -- One piece more: its token, if it is one, is added.
 one_more : (ends : List ℕ) (kinds : List Class) (from n b c : ℕ) (end : ℕ) (kind : Class) (start : ℕ) (before : List Piece)
@@ -22,18 +16,12 @@ one_more : (ends : List ℕ) (kinds : List Class) (from n b c : ℕ) (end : ℕ)
     → (t : Bool) (s m : ℕ) → t ≡ is_token_class kind → s ≡ start - b → m ≡ end - start
     → (before ++ map (moved_piece b c) (filter is_token (pieces_between (listed_pieces 0 ends kinds) from n))) ++ cond t (record { kind = kind; start = s + c; len = m } ∷ []) []
     ≡ before ++ map (moved_piece b c) (filter is_token (pieces_between (listed_pieces 0 ends kinds) from (n + 1)))
-unfolding piece
 one_more ends kinds from n b c end kind start before le lt lt_kinds end_is kind_is start_is t s m t_is s_is m_is =
     let ps : List Piece = listed_pieces 0 ends kinds in
     let old : List Piece = before ++ map (moved_piece b c) (filter is_token (pieces_between ps from n)) in
     let p : Piece = record { kind = kind; start = start; len = end - start } in
-    let first : ℕ = last_end 0 (take n ends) in
-    let long : get_or ends n 0 - first ≡ end - start = omega arith in
-    let there : get_or ps n p ≡ p = listed_at 0 ends kinds n kind p lt lt_kinds ∙ same_piece (get_or kinds n kind) kind first start (get_or ends n 0 - first) (end - start) (sym kind_is) (sym start_is) long in
-    let more : pieces_between ps from (n + 1) ≡ pieces_between ps from n ++ p ∷ [] =
-    between_more ps from n p le (listed_length 0 ends kinds (suc n) (omega arith) (omega arith)) ∙ ap (λ (q : Piece). pieces_between ps from n ++ q ∷ []) there in
-    let pushed : piece kind (s + c) m ≡ moved_piece b c p = same_piece kind kind (s + c) ((start - b) + c) m (end - start) refl (ap (λ (k : ℕ). k + c) s_is) m_is in
-    ap₂ (λ (u : Bool) (q : Piece). old ++ cond u (q ∷ []) []) t_is pushed
+    let more : pieces_between ps from (n + 1) ≡ pieces_between ps from n ++ p ∷ [] = listed_more ends kinds from n end kind start le lt lt_kinds end_is kind_is start_is in
+    ap₂ (λ (u : Bool) (q : Piece). old ++ cond u (q ∷ []) []) t_is (pushed_piece kind start end b c s m s_is m_is)
     ∙ append_assoc before (map (moved_piece b c) (filter is_token (pieces_between ps from n))) (cond (is_token_class kind) (moved_piece b c p ∷ []) [])
     ∙ ap (λ (l : List Piece). before ++ l) (sym (tokens_and_one b c (pieces_between ps from n) p) ∙ ap (λ (l : List Piece). map (moved_piece b c) (filter is_token l)) (sym more))
 

@@ -1,4 +1,4 @@
-use Rattle.std.proofs.Common.{◌≡◌, ℕ, List, length, sym, subst, ap, ◌∙◌, arith}
+use Rattle.std.proofs.Common.{◌≡◌, ℕ, List, length, sym, subst, ap, arith}
 use Rattle.snl_items.specs.Items.{item_ends, marks_of}
 use Rattle.snl_items.specs.Changes.{IsItemChange}
 use Rattle.snl_items.proofs.ItemParts.{same_change}

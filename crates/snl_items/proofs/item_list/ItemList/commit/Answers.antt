@@ -1,6 +1,6 @@
-use Rattle.std.proofs.Common.{◌≡◌, ℕ, ◌+◌, ◌-◌, ◌<◌, ◌≤◌, List, length, drop, take, ap, arith, length-drop}
+use Rattle.std.proofs.Common.{◌≡◌, ℕ, ◌-◌, List, length, ap, arith, length-drop}
 use Rattle.snl_items.specs.Items.{item_ends, marks_of}
-use Rattle.snl_items.proofs.EndPlaces.{dropped_within, ends_behind}
+use Rattle.snl_items.proofs.EndPlaces.{dropped_within, ends_above}
 use Rattle.snl_items.proofs.item_list.ItemList.commit.Goals as goal
 
 pub overflow_cast-tokens : goal.overflow_cast-tokens
@@ -18,7 +18,7 @@ replace_and_shift-requires-clause-behind c =
     let old : List ℕ = c.args.edit.now.old.now in
     let ends : List ℕ = item_ends old in
     let many : c.len.result ≡ length ends = omega (arith, c.len.ensures, c.args.self.now.ends.ok, ap length c.requires.ends) in
-    rw (many, c.requires.ends) (λ i lt. omega (arith, c.requires.items.behind, ends_behind 0 ends (length ends - c.args.items.now.kept_back) i (c.ends_in_order.ensures.rise (marks_of old)) lt))
+    rw (many, c.requires.ends) (λ i lt. omega (arith, c.requires.items.after, ends_above 0 ends (length ends - c.args.items.now.kept_back) i (c.ends_in_order.ensures.rise (marks_of old)) lt))
 
 pub replace_and_shift-requires-clause-fits : goal.replace_and_shift-requires-clause-fits
 replace_and_shift-requires-clause-fits c =

@@ -1,7 +1,6 @@
-use Rattle.std.proofs.Common.{◌≡◌, ℕ, ◌+◌, ◌≤◌, ◌<◌, ◌^◌, All, List, length, map, get_or, sym, subst, ap, ◌∙◌, arith}
+use Rattle.std.proofs.Common.{◌≡◌, ℕ, ◌<◌, ◌^◌, List, length, map, ap, ◌∙◌, arith}
 use Rattle.std.proofs.lemmas.List.Elements.{All-filter, All-same}
 use Rattle.snl_cut.specs.Cut.{ends_of}
-use Rattle.snl_lex.specs.declared.piece.Piece.{Piece}
 use Rattle.snl_lex.specs.Pieces.{LiesIn, is_token, pieces_of, tokens_of}
 use Rattle.snl_syntax.specs.Items.{item}
 use Rattle.snl_items.specs.Items.{item_ends, mark_in, marks_of}

@@ -1,6 +1,6 @@
-use Rattle.std.proofs.Common.{◌≡◌, ℕ, ◌+◌, ◌-◌, ◌<◌, ◌^◌, All, List, ◌++◌, length, take, drop, sym, subst, ap, ap₂, ◌∙◌, arith}
+use Rattle.std.proofs.Common.{◌≡◌, ℕ, ◌-◌, ◌<◌, ◌^◌, List, ◌++◌, length, take, drop, sym, subst, ap₂, ◌∙◌, arith}
 use Rattle.std.proofs.lemmas.List.Elements.{All-same}
-use Rattle.snl_cut.specs.Cut.{IsRecut, ends_of, joined, moved}
+use Rattle.snl_cut.specs.Cut.{IsRecut, moved}
 use Rattle.snl_syntax.specs.declared.marks.Mark.{Mark}
 use Rattle.snl_syntax.specs.Items.{item}
 use Rattle.snl_items.specs.Items.{item_ends, marks_of, spellings}

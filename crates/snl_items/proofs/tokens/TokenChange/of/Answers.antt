@@ -1,10 +1,9 @@
-use Rattle.std.proofs.Common.{◌≡◌, ℕ, ◌+◌, ◌-◌, All, List, ◌++◌, filter, length, map, count_by, take, sym, subst, ap, ◌∙◌, arith}
+use Rattle.std.proofs.Common.{◌≡◌, ℕ, ◌+◌, ◌-◌, All, List, filter, length, map, count_by, take, sym, subst, ap, ◌∙◌, arith}
 use Rattle.std.proofs.lemmas.List.{length-map, take-map}
 use Rattle.std.proofs.lemmas.List.Elements.{All-same}
 use Rattle.snl_cut.specs.Cut.{IsRecut, Rises, ends_of}
-use Rattle.snl_lex.specs.declared.piece.Class.{Class}
 use Rattle.snl_lex.specs.declared.piece.Piece.{Piece}
-use Rattle.snl_lex.specs.PieceList.{is_token_class, last_pieces, piece_ends, piece_kinds, pieces_between, spelled}
+use Rattle.snl_lex.specs.PieceList.{is_token_class, last_pieces, piece_ends, pieces_between, spelled}
 use Rattle.snl_lex.specs.Pieces.{LiesIn, is_token, moved_piece, piece_end, piece_length, pieces_of}
 use Rattle.snl_items.specs.declared.tokens.TokenEdit.{TokenEdit}
 use Rattle.snl_items.specs.Items.{mark_in}
