@@ -1,5 +1,5 @@
 -- What an edit of a text makes fresh: how many pieces, and which items.
--- In the new text other bytes stand from `start` up to `new_stop` than in the old one up to `old_stop`.
+-- An edit puts the bytes of the new text from `start` up to `new_stop` in the place of those of the old one from `start` up to `old_stop`.
 use Rattle.std.specs.Prelude.{ℕ, ◌+◌, ◌-◌, ◌&&◌, Bool, nat_eq, nat_lt, if◌then◌else◌, List, [], ◌++◌, length, take, drop, count_by, bytes_eq}
 use Rattle.std.specs.Cmp.Lexicographic.{pointwise}
 use Rattle.snl_cut.specs.Cut.{fresh_ends, meet_of}

@@ -1,7 +1,7 @@
-use Rattle.std.proofs.Common.{◌≡◌, ℕ, ◌+◌, ◌-◌, ◌≤◌, List, ◌++◌, length, map, take, drop, refl, sym, ap, ap₂, ◌∙◌, arith}
+use Rattle.std.proofs.Common.{◌≡◌, ℕ, ◌-◌, List, ◌++◌, length, map, take, drop, sym, ap, ap₂, ◌∙◌, arith}
 use Rattle.std.proofs.lemmas.List.{length-drop, length-map, take_all}
 use Rattle.snl_lex.specs.declared.piece.Piece.{Piece}
-use Rattle.snl_lex.specs.PieceList.{last_pieces, listed_pieces, piece_ends, pieces_between}
+use Rattle.snl_lex.specs.PieceList.{listed_pieces, pieces_between}
 use Rattle.snl_lex.specs.Pieces.{moved_piece, piece_end, pieces_of}
 use Rattle.snl_lex.proofs.Listed.{listed_are, not_moved}
 use Rattle.snl_lex.proofs.piece_list.PieceList.pieces_after.Goals as goal

@@ -1,9 +1,9 @@
-use Rattle.std.proofs.Common.{◌≡◌, ℕ, ◌+◌, ◌-◌, ◌≤◌, List, ◌++◌, filter, length, map, take, drop, refl, sym, ap, ap₂, ◌∙◌, arith}
+use Rattle.std.proofs.Common.{◌≡◌, ℕ, ◌-◌, ◌≤◌, List, ◌++◌, filter, length, map, take, drop, sym, ap, ap₂, ◌∙◌, arith}
 use Rattle.std.proofs.lemmas.List.{length-drop, length-map, take_all}
 use Rattle.std.proofs.lemmas.List.Elements.{filter-append}
 use Rattle.snl_lex.specs.declared.piece.Piece.{Piece}
-use Rattle.snl_lex.specs.PieceList.{last_pieces, listed_pieces, piece_ends, pieces_between}
-use Rattle.snl_lex.specs.Pieces.{is_token, moved_piece, piece_end, pieces_of, tokens_of}
+use Rattle.snl_lex.specs.PieceList.{listed_pieces, pieces_between}
+use Rattle.snl_lex.specs.Pieces.{is_token, moved_piece, piece_end, pieces_of}
 use Rattle.snl_lex.proofs.Listed.{listed_are, not_moved, tokens_moved}
 use Rattle.snl_lex.proofs.piece_list.PieceList.tokens_after.Goals as goal
 
