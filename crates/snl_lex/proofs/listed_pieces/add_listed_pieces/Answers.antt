@@ -1,0 +1,52 @@
+use Rattle.std.proofs.Common.{◌≡◌, ℕ, suc, ◌+◌, ◌-◌, ◌<◌, ◌≤◌, List, [], ◌∷◌, ◌++◌, length, take, map, get_or, sym, ap, ◌∙◌, arith, append_assoc}
+use Rattle.std.proofs.lemmas.List.{append-nil, get_or_read, map-append}
+use Rattle.snl_cut.specs.Cut.{last_end}
+use Rattle.snl_lex.specs.declared.piece.Class.{Class}
+use Rattle.snl_lex.specs.declared.piece.Piece.{Piece}
+use Rattle.snl_lex.specs.PieceList.{listed_pieces, pieces_between}
+use Rattle.snl_lex.specs.Pieces.{moved_piece}
+use Rattle.snl_lex.proofs.Members.{last_taken}
+use Rattle.snl_lex.proofs.Listed.{between_none, listed_more, pushed_piece}
+use Rattle.snl_lex.proofs.listed_pieces.add_listed_pieces.Goals as goal
+
+-- One piece more is added.
+one_more : (ends : List ℕ) (kinds : List Class) (from n b c : ℕ) (end : ℕ) (kind : Class) (start : ℕ) (before : List Piece)
+    → from ≤ n → n < length ends → n < length kinds → end ≡ get_or ends n 0 → kind ≡ get_or kinds n kind → start ≡ last_end 0 (take n ends)
+    → (s m : ℕ) → s ≡ start - b → m ≡ end - start
+    → (before ++ map (moved_piece b c) (pieces_between (listed_pieces 0 ends kinds) from n)) ++ record { kind = kind; start = s + c; len = m } ∷ []
+    ≡ before ++ map (moved_piece b c) (pieces_between (listed_pieces 0 ends kinds) from (n + 1))
+one_more ends kinds from n b c end kind start before le lt lt_kinds end_is kind_is start_is s m s_is m_is =
+    let ps : List Piece = listed_pieces 0 ends kinds in
+    let p : Piece = record { kind = kind; start = start; len = end - start } in
+    let more : pieces_between ps from (n + 1) ≡ pieces_between ps from n ++ p ∷ [] = listed_more ends kinds from n end kind start le lt lt_kinds end_is kind_is start_is in
+    ap (λ (q : Piece). (before ++ map (moved_piece b c) (pieces_between ps from n)) ++ q ∷ []) (pushed_piece kind start end b c s m s_is m_is)
+    ∙ append_assoc before (map (moved_piece b c) (pieces_between ps from n)) (moved_piece b c p ∷ [])
+    ∙ ap (λ (l : List Piece). before ++ l) (sym (map-append (moved_piece b c) (pieces_between ps from n) (p ∷ [])) ∙ ap (map (moved_piece b c)) (sym more))
+
+pub loop-number-init : goal.loop-number-init
+loop-number-init c =
+    let before : List Piece = c.args.pieces.now.items in
+    let ps : List Piece = listed_pieces 0 c.args.list.now.ends.items c.args.list.now.kinds.items in
+    record {
+      begun = c.start_at-start.ensures;
+      added = sym (ap (λ (l : List Piece). before ++ map (moved_piece c.args.old_stop c.args.new_stop) l) (between_none ps c.args.from) ∙ append-nil before);
+    }
+
+pub loop-number-preserved : goal.loop-number-preserved
+loop-number-preserved c =
+    let ends : List ℕ = c.args.list.now.ends.items in
+    let kinds : List Class = c.args.list.now.kinds.items in
+    let n : ℕ = c.loop-number.number in
+    let lt : n < length ends = omega (arith, c.args.list.now.ends.ok) in
+    let lt_kinds : n < length kinds = omega (arith, c.args.list.now.kinds.ok) in
+    let end_is : c.index-end.result.now ≡ get_or ends n 0 = get_or_read ends n _ lt c.index-end.ensures 0 in
+    let taken : suc n ≡ n + 1 = omega arith in
+    record {
+      begun = end_is ∙ sym (last_taken 0 ends n lt) ∙ ap (λ (m : ℕ). last_end 0 (take m ends)) taken;
+      added =
+          c.in_ok-push.ensures.items
+          ∙ ap (λ (l : List Piece). l ++ record { kind = c.index.result.now; start = c.saturating_sub.result + c.args.new_stop; len = c.saturating_sub-in-loop-number.result } ∷ []) c.loop-number.invariant.added
+          ∙ one_more ends kinds c.args.from n c.args.old_stop c.args.new_stop c.index-end.result.now c.index.result.now c.loop-number.start c.args.pieces.now.items
+          c.loop-number.auto.number lt lt_kinds end_is c.index.ensures c.loop-number.invariant.begun
+          c.saturating_sub.result c.saturating_sub-in-loop-number.result c.saturating_sub.ensures c.saturating_sub-in-loop-number.ensures;
+    }
