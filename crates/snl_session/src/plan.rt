@@ -2,10 +2,9 @@
 //! It changes nothing.
 #![tactic(auto)]
 
-ghost use Rattle.std.specs.Prelude.{◌≡◌, IfOk, length};
-ghost use Rattle.snl_cut.specs.Cut.{fresh_ends};
+ghost use Rattle.std.specs.Prelude.{◌≡◌, IfOk};
+ghost use Rattle.snl_items.specs.Fresh.{fresh_pieces_between};
 ghost use Rattle.snl_lex.specs.PieceList.{IsChange, piece_ends, piece_kinds};
-ghost use Rattle.snl_lex.specs.Pieces.{piece_length};
 ghost use Rattle.snl_session.specs.Diagnostics.{diagnostics_of};
 ghost use Rattle.snl_session.specs.Tables.{tables_in};
 
@@ -13,8 +12,9 @@ use crate::edits::Work;
 use crate::findings::Diagnostic;
 use crate::judge::{Judgement, judge};
 use snl_check::Tables;
-use snl_cut::{Count, OutOfMemory, made_are_fresh};
-use snl_lex::{Bytes, PieceChange, PieceList, TextEdit};
+use snl_cut::{Count, OutOfMemory};
+use snl_items::pieces_are_fresh;
+use snl_lex::{PieceChange, PieceList, TextEdit};
 use std::alloc::Global;
 
 /// What an edit makes of the pieces, what the new text is judged to say, and the cost.
@@ -37,9 +37,9 @@ pub fn plan_of(alloc: Global, pieces: &PieceList, edit: &TextEdit) -> Result<Pla
     ensures tables { IfOk result (λ p. p.tables ≡ tables_in edit.now.text.now) }
     ensures lexed { IfOk
         result
-        (λ p. p.work.lexed ≡ length (fresh_ends piece_length edit.now.old.now edit.now.text.now edit.now.start edit.now.old_stop edit.now.new_stop)) }
+        (λ p. p.work.lexed ≡ fresh_pieces_between edit.now.old.now edit.now.text.now edit.now.start edit.now.old_stop edit.now.new_stop) }
 {
-    made_are_fresh::<Bytes>();
+    pieces_are_fresh();
     let mut lexed = Count::new();
     let change = pieces.change(alloc, edit, &mut lexed)?;
     let made_anew = pieces.pieces_after(alloc, edit, &change)?;
