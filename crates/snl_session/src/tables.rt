@@ -9,7 +9,7 @@ ghost use Rattle.snl_check.specs.Conditions.{uses_in_item};
 ghost use Rattle.snl_check.specs.Items.{IsCutUp, outlines_of, program_items};
 ghost use Rattle.snl_check.specs.Tables.{tables_of};
 ghost use Rattle.snl_session.specs.Checked.{uses_kept};
-ghost use Rattle.snl_session.specs.Parts.{part_of};
+ghost use Rattle.snl_session.specs.Parts.{part_of, tree_of_part};
 
 use crate::program::Part;
 use snl_check::{Checked, Tables, tables_by_tokens};
@@ -20,12 +20,12 @@ use snl_syntax::tree::item::Item;
 use std::alloc::Global;
 
 // The trees of the items. A faulty one has none.
-fn trees_of(alloc: Global, parts: &[Part]) -> Result<Vec<Option<&Item>>, OutOfMemory>
-    ensures { IfOk result (λ trees. map option_copied trees.items ≡ map (λ part. part.tree) parts.now) }
+fn trees_of<'a>(alloc: Global, parts: &[Part<'a>]) -> Result<Vec<Option<&'a Item>>, OutOfMemory>
+    ensures { IfOk result (λ trees. map option_copied trees.items ≡ map tree_of_part parts.now) }
 {
     let mut trees = Vec::new(alloc);
     for part in parts {
-        trees.push(part.tree.as_ref())?;
+        trees.push(part.entry.parsed.tree())?;
     }
     Ok(trees)
 }
@@ -58,7 +58,7 @@ pub fn tables_of(
     requires pieces { pieces.now ≡ pieces_of text.now }
     requires tokens { tokens.now ≡ tokens_of text.now }
     requires cut { IsCutUp text.now tokens.now ends.now (length parts.now) }
-    requires items { program_items tokens.now ends.now (map (λ part. part.tree) parts.now) ≡ map (part_of tokens.now) parts.now }
+    requires items { program_items tokens.now ends.now (map tree_of_part parts.now) ≡ map (part_of tokens.now) parts.now }
     requires links { links.now.outlines ≡ outlines_of text.now (map (part_of tokens.now) parts.now) }
     requires checked { map uses_kept checked.now ≡ map (uses_in_item text.now) (map (part_of tokens.now) parts.now) }
     ensures { IfOk result (λ t. t ≡ tables_of text.now (map (part_of tokens.now) parts.now)) }
