@@ -4,11 +4,12 @@ use snl_session::{Refused, Session, Work};
 use std::alloc::Global;
 use std::test::Fail;
 
-// An edit, and the lines and codes of what is found after it.
+// An edit, how many pieces it makes anew, and the lines and codes of what is found after it.
 struct Step {
     start: usize,
     stop: usize,
     new: &'static [u8],
+    lexed: u64,
     found: &'static [(usize, &'static str)],
 }
 
@@ -17,6 +18,7 @@ static STEPS: [Step; 9] = [
         start: 0,
         stop: 0,
         new: b"program p\nint x;\nassign x to \"dev:x\";\nmonitor x;\nevflag f;\nsync x to f;\nss a {\nstate s1 {\nwhen (efTest(f) && x > 3) {\npvPut(x);\n} state s2\n}\nstate s2 {\nwhen () { } state s1\n}\n}\n",
+        lexed: 105,
         found: &[],
     },
     // another state set begins before the second state
@@ -24,12 +26,14 @@ static STEPS: [Step; 9] = [
         start: 141,
         stop: 141,
         new: b"} ss b {\n",
+        lexed: 9,
         found: &[(11, "E10"), (15, "E10")],
     },
     Step {
         start: 141,
         stop: 150,
         new: b"",
+        lexed: 1,
         found: &[],
     },
     // a comment that isn't closed takes the second state
@@ -37,6 +41,7 @@ static STEPS: [Step; 9] = [
         start: 141,
         stop: 141,
         new: b"/*",
+        lexed: 2,
         found: &[(7, "E04"), (11, "E10"), (13, "E01")],
     },
     // the comment goes, and the second state has another name
@@ -44,6 +49,7 @@ static STEPS: [Step; 9] = [
         start: 141,
         stop: 151,
         new: b"state s2x",
+        lexed: 24,
         found: &[(11, "E10"), (13, "W02")],
     },
     // a comment of lines before it
@@ -51,6 +57,7 @@ static STEPS: [Step; 9] = [
         start: 90,
         stop: 90,
         new: b"/*\n\n\n*/",
+        lexed: 2,
         found: &[(14, "E10"), (16, "W02")],
     },
     // an option that turns warnings off
@@ -58,12 +65,14 @@ static STEPS: [Step; 9] = [
         start: 10,
         stop: 10,
         new: b"option -w;\n",
+        lexed: 7,
         found: &[(15, "E10")],
     },
     Step {
         start: 10,
         stop: 21,
         new: b"",
+        lexed: 1,
         found: &[(14, "E10"), (16, "W02")],
     },
     // nothing is left
@@ -71,6 +80,7 @@ static STEPS: [Step; 9] = [
         start: 0,
         stop: 185,
         new: b"",
+        lexed: 0,
         found: &[(1, "E05"), (1, "E06")],
     },
 ];
@@ -88,15 +98,16 @@ fn found_in(alloc: Global, session: &Session) -> Result<Vec<(usize, &'static str
 fn judges_the_text_anew_after_each_edit(rt: HostRuntime) -> Result<(), Fail> {
     let mut session = Session::new(rt.alloc())?;
     for step in &STEPS {
-        session.edit(step.start, step.stop, step.new)?;
+        let work = session.edit(step.start, step.stop, step.new)?;
+        assert_eq!(rt; work.lexed, step.lexed, "at {}", step.start);
         let found = found_in(rt.alloc(), &session)?;
         assert_eq!(rt; found.as_slice(), step.found, "at {}", step.start);
     }
     Ok(())
 }
 
-const NO_WORK: Work = Work {
-    lexed: 0,
+const ONE_PIECE: Work = Work {
+    lexed: 1,
     parsed: 0,
     checked: 0,
 };
@@ -108,13 +119,37 @@ static ANSWERS: [(usize, usize, usize, Result<Work, Refused>, usize); 10] = [
     // the range is tested before the size
     (0, 1, 1_048_577, Err(Refused::Range), 0),
     (0, 0, 1_048_577, Err(Refused::Size), 0),
-    (0, 0, 50, Ok(NO_WORK), 50),
+    (0, 0, 50, Ok(ONE_PIECE), 50),
     (50, 51, 0, Err(Refused::Range), 50),
     (50, 50, 1_048_575, Err(Refused::Size), 50),
-    (50, 50, 1_048_526, Ok(NO_WORK), 1_048_576),
+    (50, 50, 1_048_526, Ok(ONE_PIECE), 1_048_576),
     (1_048_576, 1_048_576, 1, Err(Refused::Size), 1_048_576),
-    (50, 1_048_576, 0, Ok(NO_WORK), 50),
+    (50, 1_048_576, 0, Ok(ONE_PIECE), 50),
 ];
+
+// An edit of the first step's text, and how many pieces it makes anew.
+static PIECES: [(usize, usize, &[u8], u64); 5] = [
+    // the name of a state
+    (149, 149, b"x", 1),
+    // a comment is opened over the rest
+    (10, 10, b"/*", 2),
+    // the same text again
+    (10, 16, b"int x;", 5),
+    // nothing is changed, at the first byte of a name
+    (30, 30, b"", 1),
+    (0, 177, b"", 0),
+];
+
+#[test]
+fn makes_fresh_pieces_alone(rt: HostRuntime) -> Result<(), Fail> {
+    for (start, stop, new, lexed) in &PIECES {
+        let mut session = Session::new(rt.alloc())?;
+        session.edit(0, 0, STEPS[0].new)?;
+        let work = session.edit(*start, *stop, new)?;
+        assert_eq!(rt; work.lexed, *lexed, "from {start} to {stop}");
+    }
+    Ok(())
+}
 
 #[test]
 fn refuses_in_order_and_changes_nothing(rt: HostRuntime) -> Result<(), Fail> {
