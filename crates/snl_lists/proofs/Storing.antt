@@ -56,7 +56,7 @@ fresh_differs : {T : Type 0} (kept : Slab T) (key : ℕ) (ks : List ℕ) → get
 fresh_differs kept key [] free h = tt
 fresh_differs kept key (k ∷ ks) free h = ((λ same. is_some_not_none (get kept k) h.0 (ap (get kept) same ∙ free)), fresh_differs kept key ks free h.1)
 
-still : {T : Type 0} (old new : Slab T) (key : ℕ) (slot : Option T) (ks : List ℕ) → Updates old new key slot → Differs key ks → map (get new) ks ≡ map (get old) ks
+pub still : {T : Type 0} (old new : Slab T) (key : ℕ) (slot : Option T) (ks : List ℕ) → Updates old new key slot → Differs key ks → map (get new) ks ≡ map (get old) ks
 still old new key slot [] u d = refl
 still {T} old new key slot (k ∷ ks) u d = ap₂ (λ (o : Option T) (os : List (Option T)). o ∷ os) (u.others k d.0) (still old new key slot ks u d.1)
 

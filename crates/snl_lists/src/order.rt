@@ -1,8 +1,8 @@
 //! Values in an order, under keys that stay: a part of them is replaced, and no other moves. It knows nothing of what they are.
 
-ghost use Rattle.std.specs.Prelude.{◌≡◌, ℕ, ◌+◌, ◌-◌, ◌^◌, ◌<◌, ◌≤◌, ◌++◌, [], IfOk, OnOk, length, take, drop, vec_len, vec_capacity, slice_get};
+ghost use Rattle.std.specs.Prelude.{◌≡◌, ℕ, ◌+◌, ◌-◌, ◌^◌, ◌<◌, ◌≤◌, ◌++◌, [], IfOk, OnOk, length, take, drop, vec_len, vec_capacity, slice_get, slice_set};
 ghost use Rattle.std.specs.Option.{option_copied};
-ghost use Rattle.slab.specs.Slab.{HasRoomFor};
+ghost use Rattle.slab.specs.Slab.{ContainsKey, HasRoomFor, with_value};
 ghost use Rattle.snl_lists.specs.Keyed.{IsKeyed, KeepsOthers, Stores, Turned};
 
 use slab::Slab;
@@ -107,6 +107,16 @@ fn replace_in<T: Drop>(
     turn(keys, start, stop, behind);
 }
 
+// Puts another value under a key that has one.
+fn write<T: Drop>(kept: &mut Slab<T>, key: usize, value: T)
+    requires { ContainsKey kept.old key }
+    ensures { kept.new ≡ with_value kept.old key value }
+{
+    if let Some(slot) = kept.get_mut(key) {
+        *slot = value;
+    }
+}
+
 impl<T> Ordered<T> {
     pub fn new(alloc: Global) -> Ordered<T>
         ensures { result.values ≡ [] }
@@ -153,5 +163,15 @@ impl<T: Drop> Ordered<T> {
         ensures { self.new.values ≡ take start self.old.values ++ (items.items ++ drop stop self.old.values) }
     {
         replace_in(&mut self.kept, &mut self.keys, start, stop, items);
+    }
+
+    /// Puts another value in the place of the one with this number. No memory is asked for.
+    pub fn set(&mut self, number: usize, value: T)
+        requires { number < length self.old.values }
+        ensures values { self.new.values ≡ slice_set self.old.values number value }
+        ensures room { self.new.room ≡ self.old.room }
+    {
+        let key = self.keys[number];
+        write(&mut self.kept, key, value);
     }
 }

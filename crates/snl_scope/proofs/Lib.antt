@@ -27,3 +27,5 @@ pub mod Overlaps
 pub mod SpokenChannels
 pub mod Judging
 pub mod Views
+pub mod AlikeTokens
+pub mod SpelledAlike

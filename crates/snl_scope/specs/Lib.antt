@@ -15,3 +15,4 @@ pub mod Resolved
 pub mod Summaries
 pub mod Once
 pub mod NamedTokens
+pub mod SpelledTokens

@@ -28,6 +28,7 @@ mod scopes;
 mod soundness;
 mod source;
 mod spaces;
+mod spelling_laws;
 mod summarize;
 mod summary;
 mod summary_laws;
@@ -46,6 +47,7 @@ pub use links::{Links, link};
 pub use name::Name;
 pub use once_laws::{each_fault_once, tokens_declared_once};
 pub use source::Source;
+pub use spelling_laws::same_spelling_same_summary;
 pub use summarize::summary_of;
 pub use summary::{
     ClauseKind, Coverage, Declared, Dims, ItemKind, Mention, Nature, Opening, Outline, Role,

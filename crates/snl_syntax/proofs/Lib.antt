@@ -53,4 +53,5 @@ pub mod StateSpells
 pub mod ItemSpells
 pub mod OneItem
 pub mod Faults
-pub mod Parsed
+pub mod ParserAnswers
+pub mod Outcomes

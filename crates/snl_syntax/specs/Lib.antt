@@ -12,3 +12,4 @@ pub mod Parsing
 pub mod Marks
 pub mod NestsStatement
 pub mod Spelling
+pub mod Outcome

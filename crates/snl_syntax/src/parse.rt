@@ -3,6 +3,7 @@
 ghost use Rattle.std.specs.Prelude.{◌≡◌, ◌<◌, All, IfOk, None, Some, min, position, length};
 ghost use Rattle.snl_cut.specs.Cut.{ticked};
 ghost use Rattle.snl_syntax.specs.Grammar.Items.{IsItem, IsOnlyItem, MakeNoItem};
+ghost use Rattle.snl_syntax.specs.Outcome.{parsed_in};
 ghost use Rattle.snl_syntax.specs.Parsing.{IfNoItem, LiesIn, bad_in, is_bad, kinds_in};
 ghost use Rattle.snl_syntax.specs.Reading.Items.{fault_of, item_of};
 ghost use Rattle.snl_syntax.specs.Spelling.Base.{Matches};
@@ -13,10 +14,11 @@ ghost use Rattle.snl_syntax.specs.Viability.{IsFaultAt};
 use crate::fault::ParseFault;
 use crate::item::item_in;
 use crate::kind::Kind;
+use crate::outcome::Parsed;
 use crate::stop::Stop;
 use crate::token_kind::kind;
 use crate::tree::item::Item;
-use snl_cut::Count;
+use snl_cut::{Count, OutOfMemory};
 use snl_lex::{Class, Piece};
 use std::alloc::{AllocError, Global};
 
@@ -100,5 +102,25 @@ pub fn parse_item(
     match first_bad(tokens) {
         Some(at) => Err(ParseFault::BadPiece { at }),
         None => read_item(alloc, text, tokens),
+    }
+}
+
+/// What the parser makes of the item that consists of these tokens: `parse_item` with want of memory as the only error.
+pub fn parsed(
+    alloc: Global,
+    text: &[u8],
+    tokens: &[Piece],
+    work: &mut Count,
+) -> Result<Parsed, OutOfMemory>
+    requires some { 0 < length tokens.now }
+    requires within { All (LiesIn text.now) tokens.now }
+    ensures ticks { work.new ≡ ticked work.old }
+    ensures outcome { IfOk result (λ p. p ≡ parsed_in text.now tokens.now) }
+{
+    match parse_item(alloc, text, tokens, work) {
+        Ok(tree) => Ok(Parsed::Sound(tree)),
+        Err(ParseFault::OutOfMemory) => Err(OutOfMemory),
+        Err(ParseFault::BadPiece { at }) => Ok(Parsed::BadToken(at)),
+        Err(ParseFault::NoItem { at }) => Ok(Parsed::NoItem(at)),
     }
 }

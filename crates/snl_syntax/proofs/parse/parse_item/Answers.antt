@@ -1,5 +1,5 @@
 use Rattle.snl_syntax.specs.Parsing.{kinds_in}
-use Rattle.snl_syntax.proofs.Parsed.{answer_found, answer_spelled, answer_only, answer_none, answer_fault, some_kinds}
+use Rattle.snl_syntax.proofs.ParserAnswers.{answer_found, answer_spelled, answer_only, answer_none, answer_fault, some_kinds}
 use Rattle.snl_syntax.proofs.parse.parse_item.Goals as goal
 
 pub returns-in-None-clause-found : goal.returns-in-None-clause-found
