@@ -2,7 +2,7 @@
 use Rattle.std.specs.Prelude.{ℕ, List, map}
 use Rattle.snl_lex.specs.declared.piece.Class.{Class}
 use Rattle.snl_items.specs.Items.{spelled_items}
-use Rattle.snl_scope.specs.Spelled.{summary_by}
+use Rattle.snl_scope.specs.SpelledTokens.{summary_by}
 use Rattle.snl_syntax.specs.Outcome.{parsed_by, sound_tree}
 use Rattle.snl_session.specs.declared.entries.Entry.{Entry}
 
