@@ -1,18 +1,25 @@
 //! Times what is done with the items of a text of 1 MiB: the cut of its tokens into items, the trees, the summaries, the links,
-//! what each item asks of them, and the checks.
+//! what each item asks of them, the checks, and the tables.
 //! In: the template of the text, on standard input (the file stdin). Out: what there is in the text, on standard output; the best times, in microseconds, on standard error.
 #![tactic(auto)]
 
-ghost use Rattle.snl_lex.specs.Pieces.{LiesIn};
-ghost use Rattle.std.specs.Prelude.{All};
+ghost use Rattle.std.specs.Prelude.{◌≡◌, All, length, map};
+ghost use Rattle.snl_lex.specs.Pieces.{LiesIn, pieces_of, tokens_of};
+ghost use Rattle.snl_scope.specs.LinkedItems.{linked_items};
+ghost use Rattle.snl_check.specs.Conditions.{uses_in_item};
+ghost use Rattle.snl_check.specs.Items.{EndsWithin, program_items, summaries_of};
+ghost use Rattle.snl_reading.specs.Kept.{uses_kept};
 
 mod linked;
 mod stop;
 mod text;
 
 use linked::{checked, views_of};
+use snl_check::Checked;
 use snl_lex::Piece;
-use snl_reading::{ends_of, links_of, marks_of, summaries_of, tokens_of, trees_of};
+use snl_reading::{
+    checks_of, ends_of, links_of, pieces_of, summaries_of, tables_of, tokens_of, trees_of,
+};
 use snl_scope::{Links, Summary};
 use snl_syntax::tree::item::Item;
 use std::alloc::Global;
@@ -38,7 +45,7 @@ fn time_cut(rt: &impl Clock, alloc: Global, text: &[u8], tokens: &[Piece]) -> Re
     let mut best = u64::MAX;
     for _ in 0..TURNS {
         let begin = Instant::now(rt)?;
-        let ends = ends_of(alloc, &marks_of(alloc, text, tokens)?)?;
+        let ends = ends_of(alloc, text, tokens)?;
         best = best.min(micros(rt, begin)?);
         drop(ends);
     }
@@ -77,7 +84,9 @@ fn time_summaries(
     ends: &[usize],
     trees: &[Option<Item>],
 ) -> Result<u64, Stop>
-    requires { All (LiesIn text.now) tokens.now }
+    requires within { All (LiesIn text.now) tokens.now }
+    requires ends { EndsWithin 0 ends.now (length tokens.now) }
+    requires each { length trees.now ≡ length ends.now }
 {
     let mut best = u64::MAX;
     for _ in 0..TURNS {
@@ -135,6 +144,34 @@ fn time_checks(
     Ok((best, found))
 }
 
+// The best time of making all tables.
+fn time_tables(
+    rt: &impl Clock,
+    alloc: Global,
+    text: &[u8],
+    pieces: &[Piece],
+    ends: &[usize],
+    trees: &[Option<Item>],
+    links: &Links,
+    checked: &[Option<Checked>],
+) -> Result<u64, Stop>
+    requires pieces { pieces.now ≡ pieces_of text.now }
+    requires within { All (LiesIn text.now) (tokens_of text.now) }
+    requires ends { EndsWithin 0 ends.now (length (tokens_of text.now)) }
+    requires each { length trees.now ≡ length ends.now }
+    requires links { links.now ≡ linked_items (summaries_of text.now (program_items (tokens_of text.now) ends.now trees.now)) }
+    requires checked { map uses_kept checked.now ≡ map (uses_in_item text.now) (program_items (tokens_of text.now) ends.now trees.now) }
+{
+    let mut best = u64::MAX;
+    for _ in 0..TURNS {
+        let begin = Instant::now(rt)?;
+        let tables = tables_of(alloc, text, pieces, ends, trees, links, checked)?;
+        best = best.min(micros(rt, begin)?);
+        drop(tables);
+    }
+    Ok(best)
+}
+
 // Times what is done with the trees, and says how many items there are.
 fn measure_trees<R: Clock + Print + Eprint>(
     rt: &R,
@@ -170,7 +207,9 @@ fn measure_links<R: Clock + Print + Eprint>(
     summaries: &[Summary],
     links: &Links,
 ) -> Result<(), Stop>
-    requires { All (LiesIn text.now) tokens.now }
+    requires within { All (LiesIn text.now) tokens.now }
+    requires ends { EndsWithin 0 ends.now (length tokens.now) }
+    requires each { length trees.now ≡ length ends.now }
 {
     let summarized = time_summaries(rt, alloc, text, tokens, ends, trees)?;
     let linked = time_links(rt, alloc, summaries)?;
@@ -186,6 +225,29 @@ fn measure_links<R: Clock + Print + Eprint>(
     Ok(())
 }
 
+// Times the tables.
+fn measure_tables<R: Clock + Eprint>(
+    rt: &R,
+    alloc: Global,
+    text: &[u8],
+    tokens: &[Piece],
+    ends: &[usize],
+    trees: &[Option<Item>],
+    links: &Links,
+) -> Result<(), Stop>
+    requires tokens { tokens.now ≡ tokens_of text.now }
+    requires within { All (LiesIn text.now) tokens.now }
+    requires ends { EndsWithin 0 ends.now (length tokens.now) }
+    requires each { length trees.now ≡ length ends.now }
+    requires links { links.now ≡ linked_items (summaries_of text.now (program_items tokens.now ends.now trees.now)) }
+{
+    let pieces = pieces_of(alloc, text)?;
+    let checked = checks_of(alloc, text, tokens, ends, trees, links)?;
+    let tables = time_tables(rt, alloc, text, &pieces, ends, trees, links, &checked)?;
+    eprintln!(rt; "tables {tables} us")?;
+    Ok(())
+}
+
 fn measure_summaries<R: Clock + Print + Eprint>(
     rt: &R,
     alloc: Global,
@@ -194,11 +256,15 @@ fn measure_summaries<R: Clock + Print + Eprint>(
     ends: &[usize],
     trees: &[Option<Item>],
 ) -> Result<(), Stop>
-    requires { All (LiesIn text.now) tokens.now }
+    requires tokens { tokens.now ≡ tokens_of text.now }
+    requires within { All (LiesIn text.now) tokens.now }
+    requires ends { EndsWithin 0 ends.now (length tokens.now) }
+    requires each { length trees.now ≡ length ends.now }
 {
     let summaries = summaries_of(alloc, text, tokens, ends, trees)?;
     let links = links_of(alloc, &summaries)?;
-    measure_links(rt, alloc, text, tokens, ends, trees, &summaries, &links)
+    measure_links(rt, alloc, text, tokens, ends, trees, &summaries, &links)?;
+    measure_tables(rt, alloc, text, tokens, ends, trees, &links)
 }
 
 fn measure_items<R: Clock + Print + Eprint>(
@@ -207,9 +273,10 @@ fn measure_items<R: Clock + Print + Eprint>(
     text: &[u8],
     tokens: &[Piece],
 ) -> Result<(), Stop>
-    requires { All (LiesIn text.now) tokens.now }
+    requires tokens { tokens.now ≡ tokens_of text.now }
+    requires within { All (LiesIn text.now) tokens.now }
 {
-    let ends = ends_of(alloc, &marks_of(alloc, text, tokens)?)?;
+    let ends = ends_of(alloc, text, tokens)?;
     let trees = trees_of(alloc, text, tokens, &ends)?;
     measure_trees(rt, alloc, text, tokens, &ends, &trees)?;
     measure_summaries(rt, alloc, text, tokens, &ends, &trees)

@@ -21,6 +21,10 @@ use Rattle.snl_check.proofs.Items.{count_in}
 use Rattle.std.proofs.lemmas.List.{length-map}
 use Rattle.snl_check.proofs.Sets.{get_here}
 
+-- the outline of an item
+pub outline_at : (text : List ℕ) (xs : List ProgramItem) (i : ℕ) → slice_get (outlines_of text xs) i ≡ option_map (outline_of_item text) (slice_get xs i)
+outline_at text xs i = slice_get-map (outline_of_item text) xs i
+
 -- an item is faulty that has no tree
 pub faulty_is : (xs : List ProgramItem) (i : ℕ) → i < length xs → is_faulty_item xs i ≡ is_none (tree_in xs i)
 faulty_is xs i lt =

@@ -1,5 +1,5 @@
 -- What holds of each token that an item names holds of each span in rows; so these lie in the text, and each has a byte.
-use Rattle.std.proofs.Common.{◌≡◌, ℕ, zero, suc, ◌+◌, ◌<◌, ◌≤◌, ◌&&◌, Bool, true, false, not, List, [], ◌∷◌, ◌++◌, length, map, slice_get, All, Option, Some, None, IfSome, is_some, if◌then◌else◌, refl, ap, sym, subst, ◌∙◌, arith}
+use Rattle.std.proofs.Common.{◌≡◌, ℕ, zero, suc, ◌+◌, ◌<◌, ◌≤◌, ◌&&◌, ◌||◌, Bool, true, false, not, List, [], ◌∷◌, ◌++◌, length, map, nat_lt, slice_get, All, Option, Some, None, IfSome, is_some, if◌then◌else◌, refl, ap, sym, subst, ◌∙◌, arith}
 use Rattle.std.specs.List.{AllByRecursion, cons_option, enumerate_from, filter_map, flat_map, zip}
 use Rattle.std.specs.Option.{option_and_then, option_map, option_map_or, option_or, option_to_list}
 use Rattle.std.proofs.lemmas.Bool.{false≢true}
@@ -15,23 +15,23 @@ use Rattle.snl_syntax.specs.declared.tree.state.Target.{Target}
 use Rattle.snl_syntax.specs.declared.tree.state.Target.TheVariants as target
 use Rattle.snl_syntax.specs.Parsing as parsing
 use Rattle.snl_scope.specs.declared.codes.Code.{Code}
-use Rattle.snl_scope.specs.declared.codes.Code.TheVariants.{E08}
+use Rattle.snl_scope.specs.declared.codes.Code.TheVariants.{E08, E09}
 use Rattle.snl_scope.specs.declared.facts.ClauseLink.{ClauseLink}
 use Rattle.snl_scope.specs.declared.facts.Declaration.{Declaration}
 use Rattle.snl_scope.specs.declared.facts.Scope.{Scope}
 use Rattle.snl_scope.specs.declared.spaces.Space.{Space}
 use Rattle.snl_scope.specs.declared.spaces.Space.TheVariants as space
 use Rattle.snl_scope.specs.declared.summary.Declared.{Declared}
-use Rattle.snl_scope.specs.declared.summary.Summary.{Summary}
+use Rattle.snl_scope.specs.declared.summary.Outline.{Outline}
 use Rattle.snl_scope.specs.Below.{all_below, last_below}
 use Rattle.snl_scope.specs.Clauses.{clause_links}
 use Rattle.snl_scope.specs.Flags.{flags_of}
 use Rattle.snl_scope.specs.Linked.{declaration_at, entry_declaration, scope_in}
 use Rattle.snl_scope.specs.NamedTokens.{NamesItsTokens, own_name}
-use Rattle.snl_scope.specs.Names.{Entry, declared_entry, entries, entries_before, entries_of, named_entry, scope_at, scope_of, set_entries, set_name, state_code, state_entries}
-use Rattle.snl_scope.specs.Order.{is_named_state, is_state, is_state_word, state_name}
+use Rattle.snl_scope.specs.Names.{Entry, declared_entry, entries, entries_before, entries_of, named_entry, scope_at, has_own_scope, scope_of, set_entries, set_name, state_entries}
+use Rattle.snl_scope.specs.Order.{is_named_state, is_state_word, state_name}
 use Rattle.snl_scope.specs.Places.{begins_set, ends_between, is_set_begin, item_is, open_before, place, stands_in}
-use Rattle.snl_scope.specs.Summaries.{kind_of, name_if, opening_in, second_in}
+use Rattle.snl_scope.specs.Summaries.{kind_of, name_if, opening_in, role_in, role_of, second_in}
 use Rattle.snl_scope.specs.Summaries.Clauses as summary
 use Rattle.snl_scope.specs.Summaries.Declares.{declared_in, declared_in_tree}
 use Rattle.snl_scope.specs.Summaries.Targets.{named_by_block, named_by_target, targets_in_tree, targets_of_member}
@@ -41,13 +41,13 @@ use Rattle.snl_tables.specs.declared.rows.ScopeName.TheVariants as named
 use Rattle.snl_tables.specs.declared.rows.Span.{Span}
 use Rattle.snl_check.specs.Channels.{AssignedChannel, assigned_channel, assigned_channels, channels_in, channels_of_clause, channels_on}
 use Rattle.snl_check.specs.Clauses.{ItemClause, clauses_in_tree, item_clause, item_clauses, item_clauses_before, item_clauses_if, told_clauses}
-use Rattle.snl_check.specs.Items.{ProgramItem, header_name, item_name, named_by, program_name, span_at, span_of, summaries_of, summary_of_item, tokens_in, tree_in}
+use Rattle.snl_check.specs.Items.{ProgramItem, header_name, item_name, named_by, program_name, span_at, span_of, outline_of_item, outlines_of, tokens_in, tree_in}
 use Rattle.snl_check.specs.Members.{states_in}
 use Rattle.snl_check.specs.Spans.{AreRead, HasByte, InChannel, InDestination, InFlag, InNamed, InScope, InSet, InState, InTables, LiesIn, TablesHaveBytes, TablesLieIn}
 use Rattle.snl_check.specs.States.{destination, destinations_in_member, jumps_in_member, members_in, named_state, numbered_row, set_row}
 use Rattle.snl_check.specs.Tables.{channel_row, flag_row, flag_row_at, scope_name, tables_of}
 use Rattle.snl_check.proofs.Each.{each_back, each_front, each_image, each_join}
-use Rattle.snl_check.proofs.Linked.{summary_at}
+use Rattle.snl_check.proofs.Linked.{outline_at}
 use Rattle.snl_check.proofs.SameClauses.{tree_alike}
 use Rattle.snl_check.proofs.Sets.{get_here}
 
@@ -117,8 +117,8 @@ last_passes test (suc n) k h = by (test n) refl (last_passes test n k) h
     by true e before is = let same : n ≡ k = cc in subst (λ m. test m ≡ true) same e
     by false e before is = before is
 
-place_begins : (ss : List Summary) (i k : ℕ) → place ss i ≡ Some k → is_set_begin ss k ≡ true
-place_begins ss i k = by (item_is (λ s. not (begins_set s.kind)) ss i)
+place_begins : (ss : List Outline) (i k : ℕ) → place ss i ≡ Some k → is_set_begin ss k ≡ true
+place_begins ss i k = by (item_is (λ s. not (begins_set s.role)) ss i)
   where
     by : (b : Bool) → (if b then open_before ss i else None) ≡ Some k → is_set_begin ss k ≡ true
     by true e = and_front (is_set_begin ss k) (not (ends_between ss k i)) (last_passes (λ k. is_set_begin ss k && not (ends_between ss k i)) i k e)
@@ -151,8 +151,8 @@ module _ (P : Span → Type 0) where
   program_holds (x ∷ xs) h = or_holds (header_name x) (program_name xs) (header_holds x (h 0)) (program_holds xs (λ item. h (suc item)))
 
 module _ (P : Span → Type 0) (text : List ℕ) (xs : List ProgramItem) (names : NamesHold P text xs) where
-  abbrev ss : List Summary
-  ss = summaries_of text xs
+  abbrev ss : List Outline
+  ss = outlines_of text xs
 
   tree_is : (item : ℕ) (x : ProgramItem) (t : Item) → slice_get xs item ≡ Some x → x.tree ≡ Some t → tree_in xs item ≡ Some t
   tree_is item x t at is = ap (option_and_then (λ (x : ProgramItem). x.tree)) at ∙ is
@@ -160,28 +160,34 @@ module _ (P : Span → Type 0) (text : List ℕ) (xs : List ProgramItem) (names 
   tokens_are : (item : ℕ) (x : ProgramItem) → slice_get xs item ≡ Some x → tokens_in xs item ≡ x.tokens
   tokens_are item x at = ap (λ (o : Option ProgramItem). option_map_or (λ x. x.tokens) o []) at
 
-  -- what a test of an item's summary says of the item
-  tested : (test : Summary → Bool) (item : ℕ) → item_is test ss item ≡ true → (x : ProgramItem) × (slice_get xs item ≡ Some x) × (test (summary_of_item text x) ≡ true)
-  tested test item h = by (slice_get xs item) refl (ap (λ (o : Option Summary). option_map_or test o false) (sym (summary_at text xs item)) ∙ h)
+  -- an item has declarations or clauses
+  abbrev has_some : ProgramItem → Bool
+  has_some x = nat_lt 0 (length (declared_in text x.tokens x.tree)) || nat_lt 0 (length (summary.clauses_in text x.tokens x.tree))
+
+  -- what a test of an item's outline says of the item
+  tested : (test : Outline → Bool) (item : ℕ) → item_is test ss item ≡ true → (x : ProgramItem) × (slice_get xs item ≡ Some x) × (test (outline_of_item text x) ≡ true)
+  tested test item h = by (slice_get xs item) refl (ap (λ (o : Option Outline). option_map_or test o false) (sym (outline_at text xs item)) ∙ h)
     where
-      by : (o : Option ProgramItem) → slice_get xs item ≡ o → option_map_or test (option_map (summary_of_item text) o) false ≡ true → (x : ProgramItem) × (slice_get xs item ≡ Some x) × (test (summary_of_item text x) ≡ true)
+      by : (o : Option ProgramItem) → slice_get xs item ≡ o → option_map_or test (option_map (outline_of_item text) o) false ≡ true → (x : ProgramItem) × (slice_get xs item ≡ Some x) × (test (outline_of_item text x) ≡ true)
       by None at e = absurd (false≢true e)
       by (Some x) at e = (x, at, e)
 
   -- the name of a state set, and of a state
   set_holds : (k : ℕ) → is_set_begin ss k ≡ true → P (item_name xs k)
-  set_holds k h = let found = tested (λ s. begins_set s.kind) k h in by found.0 found.1 found.0.tree refl found.2
+  set_holds k h = let found = tested (λ s. begins_set s.role) k h in by found.0 found.1 found.0.tree refl (has_some found.0) found.2
     where
-      by : (x : ProgramItem) → slice_get xs k ≡ Some x → (o : Option Item) → x.tree ≡ o → begins_set (kind_of o) ≡ true → P (item_name xs k)
-      by x at (Some (items.SsBegin name)) is e = (names.own k (items.SsBegin name) (tree_is k x (items.SsBegin name) at is)).0
-      by x at o is e = absurd (false≢true e)
+      by : (x : ProgramItem) → slice_get xs k ≡ Some x → (o : Option Item) → x.tree ≡ o → (b : Bool) → begins_set (role_of (kind_of o) b) ≡ true → P (item_name xs k)
+      by x at (Some (items.SsBegin name)) is b e = (names.own k (items.SsBegin name) (tree_is k x (items.SsBegin name) at is)).0
+      by x at (Some (items.StateBlock name ms)) is true e = absurd (false≢true e)
+      by x at (Some (items.StateBlock name ms)) is false e = absurd (false≢true e)
+      by x at o is b e = absurd (false≢true e)
 
-  state_holds : (x : ProgramItem) (j : ℕ) → slice_get xs j ≡ Some x → is_state (kind_of x.tree) ≡ true → P (item_name xs j)
-  state_holds x j at = by x.tree refl
+  state_holds : (x : ProgramItem) (j : ℕ) → slice_get xs j ≡ Some x → has_own_scope (role_in text x.tokens x.tree) ≡ true → P (item_name xs j)
+  state_holds x j at = by x.tree refl (has_some x)
     where
-      by : (o : Option Item) → x.tree ≡ o → is_state (kind_of o) ≡ true → P (item_name xs j)
-      by (Some (items.StateBlock name ms)) is e = (names.own j (items.StateBlock name ms) (tree_is j x (items.StateBlock name ms) at is)).0
-      by o is e = absurd (false≢true e)
+      by : (o : Option Item) → x.tree ≡ o → (b : Bool) → has_own_scope (role_of (kind_of o) b) ≡ true → P (item_name xs j)
+      by (Some (items.StateBlock name ms)) is b e = (names.own j (items.StateBlock name ms) (tree_is j x (items.StateBlock name ms) at is)).0
+      by o is b e = absurd (false≢true e)
 
   named_state_holds : (j : ℕ) → is_named_state ss j ≡ true → P (item_name xs j)
   named_state_holds j h =
@@ -222,10 +228,10 @@ module _ (P : Span → Type 0) (text : List ℕ) (xs : List ProgramItem) (names 
       by None h = tt
       by (Some k) h = h
 
-  scope_holds : (i : ℕ) (x : ProgramItem) → slice_get xs i ≡ Some x → IfSome (scope_in (scope_of ss i (summary_of_item text x))) ScopeHolds
-  scope_holds i x at = by (is_state (kind_of x.tree)) refl
+  scope_holds : (i : ℕ) (x : ProgramItem) → slice_get xs i ≡ Some x → IfSome (scope_in (scope_of ss i (outline_of_item text x))) ScopeHolds
+  scope_holds i x at = by (has_own_scope (role_in text x.tokens x.tree)) refl
     where
-      by : (b : Bool) → is_state (kind_of x.tree) ≡ b → IfSome (scope_in (if b then space.State i else scope_at (place ss i))) ScopeHolds
+      by : (b : Bool) → has_own_scope (role_in text x.tokens x.tree) ≡ b → IfSome (scope_in (if b then space.State i else scope_at (place ss i))) ScopeHolds
       by true e = (place_holds i, state_holds x i at e)
       by false e = scope_at_holds i
 
@@ -238,13 +244,13 @@ module _ (P : Span → Type 0) (text : List ℕ) (xs : List ProgramItem) (names 
   names_hold s i code None = tt
   names_hold s i code (Some name) = (tt, tt)
 
-  states_hold : (o : Option ℕ) (i : ℕ) (s : Summary) → AllByRecursion EntryHolds (state_entries o i s)
+  states_hold : (o : Option ℕ) (i : ℕ) (s : Outline) → AllByRecursion EntryHolds (state_entries o i s)
   states_hold None i s = tt
-  states_hold (Some k) i s = names_hold (space.States k) i (state_code s) (state_name s)
+  states_hold (Some k) i s = names_hold (space.States k) i (Some E09) (state_name s)
 
-  item_entries_hold : (i : ℕ) (x : ProgramItem) → slice_get xs i ≡ Some x → AllByRecursion EntryHolds (entries_of ss i (summary_of_item text x))
+  item_entries_hold : (i : ℕ) (x : ProgramItem) → slice_get xs i ≡ Some x → AllByRecursion EntryHolds (entries_of ss i (outline_of_item text x))
   item_entries_hold i x at =
-      let s = summary_of_item text x in
+      let s = outline_of_item text x in
       let declared = map (declared_entry (scope_of ss i s) i) s.declares in
       each_join EntryHolds (set_entries i s ++ state_entries (place ss i) i s) declared
       (each_join EntryHolds (set_entries i s) (state_entries (place ss i) i s) (names_hold space.Sets i (Some E08) (set_name s)) (states_hold (place ss i) i s))
@@ -257,9 +263,9 @@ module _ (P : Span → Type 0) (text : List ℕ) (xs : List ProgramItem) (names 
   entries_hold zero = tt
   entries_hold (suc n) =
       each_join EntryHolds (entries_before ss n) (option_map_or (entries_of ss n) (slice_get ss n) []) (entries_hold n)
-      (subst (λ o. AllByRecursion EntryHolds (option_map_or (entries_of ss n) o [])) (sym (summary_at text xs n)) (by (slice_get xs n) refl))
+      (subst (λ o. AllByRecursion EntryHolds (option_map_or (entries_of ss n) o [])) (sym (outline_at text xs n)) (by (slice_get xs n) refl))
     where
-      by : (o : Option ProgramItem) → slice_get xs n ≡ o → AllByRecursion EntryHolds (option_map_or (entries_of ss n) (option_map (summary_of_item text) o) [])
+      by : (o : Option ProgramItem) → slice_get xs n ≡ o → AllByRecursion EntryHolds (option_map_or (entries_of ss n) (option_map (outline_of_item text) o) [])
       by None at = tt
       by (Some x) at = item_entries_hold n x at
 

@@ -12,14 +12,14 @@ ghost use Rattle.snl_check.specs.Members.{states_in};
 ghost use Rattle.snl_check.specs.Reach.{AreStates, IsReached, is_reached};
 ghost use Rattle.snl_check.specs.States.{mark_of};
 ghost use Rattle.snl_check.specs.Unreached.{IsUnreached};
-ghost use Rattle.snl_scope.specs.declared.summary.Summary.{Summary};
+ghost use Rattle.snl_scope.specs.declared.summary.Outline.{Outline};
 ghost use Rattle.snl_tables.specs.declared.rows.StateMark.TheVariants.{Unreached};
 ghost use Rattle.snl_check.specs.Spans.{AreRead, TablesHaveBytes, TablesLieIn};
 ghost use Rattle.snl_check.specs.Tables.{tables_of};
 ghost use Rattle.snl_check.specs.Wake.{wake_uses};
 ghost use Rattle.snl_check.specs.WakeSets.{HasChannels, HasFlags};
 ghost use Rattle.snl_check.specs.Clauses.{item_clauses, summarized};
-ghost use Rattle.snl_check.specs.Items.{ProgramItem, outlines_of, summaries_of, tokens_in};
+ghost use Rattle.snl_check.specs.Items.{ProgramItem, outlines_of, tokens_in};
 
 use snl_scope::names_are_tokens;
 
@@ -65,5 +65,6 @@ pub fn walks_of_few_steps()
 /// A state is marked as not reached exactly where no walk leads to it, it is sound and the first of its name, and no item of its
 /// set is faulty.
 pub fn unreached_without_a_walk()
-    ensures { (ss : List Summary) (k number j : ℕ) → number < length (states_in ss k) → (mark_of ss k number j ≡ Unreached) ↔ IsUnreached ss k number j }
+    ensures { (text : List ℕ) (xs : List ProgramItem) (ss : List Outline) (k number j : ℕ) → number < length (states_in ss k)
+        → (mark_of text xs ss k number j ≡ Unreached) ↔ IsUnreached text xs ss k number j }
 {}

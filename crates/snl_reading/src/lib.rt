@@ -1,35 +1,38 @@
-//! From the bytes of a text to its tokens, items, summaries and links, for tests and for programs that measure. There is no
-//! code of the product here.
+//! From the bytes of a text to its tokens, items, summaries, links and tables, for tests and for programs that measure. There
+//! is no code of the product here.
 #![tactic(auto)]
 
 ghost use Rattle.std.specs.Prelude.{◌≡◌, All, IfOk, length};
-ghost use Rattle.snl_cut.specs.Cut.{IsCut};
-ghost use Rattle.snl_lex.specs.Pieces.{LiesIn};
+ghost use Rattle.snl_lex.specs.Pieces.{LiesIn, pieces_of, tokens_of};
 ghost use Rattle.snl_scope.specs.LinkedItems.{linked_items};
-ghost use Rattle.snl_syntax.specs.Items.{item};
+ghost use Rattle.snl_check.specs.Items.{EndsWithin, program_items, summaries_of};
 
+mod told;
+
+use snl_check::tokens_among;
 use snl_cut::{Count, OutOfMemory, cut_all};
-use snl_lex::{Class, Piece, lex};
+use snl_lex::{Piece, lex};
 use snl_scope::{Links, Summary, link, summary_of};
 use snl_syntax::tree::item::Item;
 use snl_syntax::{Mark, ParseFault, Tokens, mark, parse_item};
 use std::alloc::Global;
+pub use told::{checks_of, tables_of};
 
-fn is_token(piece: &Piece) -> bool {
-    !matches!(piece.kind, Class::White | Class::Comment | Class::Marker)
+/// The pieces of a text.
+pub fn pieces_of(alloc: Global, text: &[u8]) -> Result<Vec<Piece>, OutOfMemory>
+    ensures pieces { IfOk result (λ pieces. pieces.items ≡ pieces_of text.now) }
+    ensures within { IfOk result (λ pieces. All (LiesIn text.now) pieces.items) }
+{
+    lex(alloc, text, &mut Count::new())
 }
 
 /// The tokens of a text.
 pub fn tokens_of(alloc: Global, text: &[u8]) -> Result<Vec<Piece>, OutOfMemory>
-    ensures { IfOk result (λ tokens. All (LiesIn text.now) tokens.items) }
+    ensures tokens { IfOk result (λ tokens. tokens.items ≡ tokens_of text.now) }
+    ensures within { IfOk result (λ tokens. All (LiesIn text.now) tokens.items) }
 {
-    let pieces = lex(alloc, text, &mut Count::new())?;
-    let mut tokens = Vec::new(alloc);
-    for piece in &pieces {
-        if is_token(piece) {
-            tokens.push(*piece)?;
-        }
-    }
+    let pieces = pieces_of(alloc, text)?;
+    let tokens = tokens_among(alloc, &pieces)?;
     Ok(tokens)
 }
 
@@ -45,11 +48,14 @@ pub fn marks_of(alloc: Global, text: &[u8], tokens: &[Piece]) -> Result<Vec<Mark
     Ok(marks)
 }
 
-/// The numbers of the marks at which items end.
-pub fn ends_of(alloc: Global, marks: &[Mark]) -> Result<Vec<usize>, OutOfMemory>
-    ensures { IfOk result (λ ends. IsCut item marks.now ends.items) }
+/// The number of the token after each item of a text.
+pub fn ends_of(alloc: Global, text: &[u8], tokens: &[Piece]) -> Result<Vec<usize>, OutOfMemory>
+    requires { All (LiesIn text.now) tokens.now }
+    ensures { IfOk result (λ ends. EndsWithin 0 ends.items (length tokens.now)) }
 {
-    cut_all(alloc, &Tokens, marks, &mut Count::new())
+    let marks = marks_of(alloc, text, tokens)?;
+    let ends = cut_all(alloc, &Tokens, &marks, &mut Count::new())?;
+    Ok(ends)
 }
 
 // The tree of an item, which a faulty one has not.
@@ -100,14 +106,16 @@ pub fn summaries_of(
     ends: &[usize],
     trees: &[Option<Item>],
 ) -> Result<Vec<Summary>, OutOfMemory>
-    requires { All (LiesIn text.now) tokens.now }
+    requires tokens { All (LiesIn text.now) tokens.now }
+    requires ends { EndsWithin 0 ends.now (length tokens.now) }
+    requires each { length trees.now ≡ length ends.now }
+    ensures { IfOk result (λ summaries. summaries.items ≡ summaries_of text.now (program_items tokens.now ends.now trees.now)) }
 {
     let mut summaries = Vec::new(alloc);
     let mut start = 0;
     for (item, end) in ends.iter().enumerate() {
-        let own = tokens.get(start..*end).unwrap_or(&[]);
-        let tree = trees.get(item).and_then(|tree| tree.as_ref());
-        summaries.push(summary_of(alloc, text, own, tree)?)?;
+        let own = &tokens[start..*end];
+        summaries.push(summary_of(alloc, text, own, trees[item].as_ref())?)?;
         start = *end;
     }
     Ok(summaries)

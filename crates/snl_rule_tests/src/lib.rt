@@ -22,6 +22,8 @@ mod reading;
 #[cfg(test)]
 mod summaries;
 #[cfg(test)]
+mod tables;
+#[cfg(test)]
 mod walks;
 #[cfg(test)]
 mod words;

@@ -4,8 +4,8 @@ ghost use Rattle.std.specs.Prelude.{All, IfOk};
 ghost use Rattle.snl_lex.specs.Pieces.{LiesIn};
 
 use snl_lex::Piece;
-use snl_reading::{ends_of, links_of, marks_of, summaries_of, tokens_of, trees_of};
-use snl_scope::{Links, Summary};
+use snl_reading::{ends_of, links_of, summaries_of, tokens_of, trees_of};
+use snl_scope::{Links, Summary, summary_of};
 use snl_syntax::tree::item::Item;
 use std::alloc::Global;
 use std::test::Fail;
@@ -13,8 +13,7 @@ use std::test::Fail;
 /// The summaries of the items of a text.
 pub fn summaries(alloc: Global, text: &[u8]) -> Result<Vec<Summary>, Fail> {
     let tokens = tokens_of(alloc, text)?;
-    let marks = marks_of(alloc, text, &tokens)?;
-    let ends = ends_of(alloc, &marks)?;
+    let ends = ends_of(alloc, text, &tokens)?;
     let trees = trees_of(alloc, text, &tokens, &ends)?;
     Ok(summaries_of(alloc, text, &tokens, &ends, &trees)?)
 }
@@ -27,10 +26,9 @@ pub fn links(alloc: Global, text: &[u8]) -> Result<Links, Fail> {
 /// The summary of a text that is taken as one item, also where it isn't one.
 pub fn summary(alloc: Global, text: &[u8]) -> Result<Summary, Fail> {
     let tokens = tokens_of(alloc, text)?;
-    let ends = [tokens.len()];
-    let trees = trees_of(alloc, text, &tokens, &ends)?;
-    let mut summaries = summaries_of(alloc, text, &tokens, &ends, &trees)?;
-    Ok(summaries.pop().ok_or("no summary")?)
+    let trees = trees_of(alloc, text, &tokens, &[tokens.len()])?;
+    let tree = trees.first().and_then(|tree| tree.as_ref());
+    Ok(summary_of(alloc, text, &tokens, tree)?)
 }
 
 /// The last item of a text, whose tokens are those of the text from `start` on, and what names mean in it.
@@ -48,8 +46,7 @@ pub fn last_item(alloc: Global, text: &[u8]) -> Result<LastItem, Fail>
     ensures { IfOk result (λ last. All (LiesIn text.now) last.tokens.items) }
 {
     let tokens = tokens_of(alloc, text)?;
-    let marks = marks_of(alloc, text, &tokens)?;
-    let ends = ends_of(alloc, &marks)?;
+    let ends = ends_of(alloc, text, &tokens)?;
     let mut trees = trees_of(alloc, text, &tokens, &ends)?;
     let summaries = summaries_of(alloc, text, &tokens, &ends, &trees)?;
     let number = ends.len().saturating_sub(1);

@@ -3,10 +3,16 @@
 #![tactic(auto)]
 
 #[cfg(test)]
+mod edited;
+#[cfg(test)]
 mod edits;
 #[cfg(test)]
 mod listings;
 #[cfg(test)]
 mod places;
+#[cfg(test)]
+mod same_rows;
+#[cfg(test)]
+mod scripts;
 #[cfg(test)]
 mod tables;

@@ -1,6 +1,7 @@
 use Rattle.std.proofs.Common.{◌≡◌, ◌<◌, ◌↔◌, ℕ, Bool, true, false, not, if◌then◌else◌, List, length, refl, sym, subst}
 use Rattle.std.proofs.lemmas.List.{length-map}
-use Rattle.snl_scope.specs.declared.summary.Summary.{Summary}
+use Rattle.snl_scope.specs.declared.summary.Outline.{Outline}
+use Rattle.snl_check.specs.Items.{ProgramItem}
 use Rattle.snl_check.specs.Members.{has_faulty, is_faulty_item, is_first_state, states_in, target_numbers, targets_among}
 use Rattle.snl_check.specs.Reach.{IsReached, is_reached}
 use Rattle.snl_check.specs.States.{is_reached_in, is_repeated, mark_of}
@@ -45,14 +46,14 @@ false_unless : (b : Bool) → (b ≡ true → ⊥) → b ≡ false
 false_unless true h = absurd (h refl)
 false_unless false h = refl
 
-module _ (ss : List Summary) (k number j : ℕ) (l : number < length (states_in ss k)) where
-  walks : (is_reached_in ss k number ≡ true) ↔ IsReached (targets_among ss (states_in ss k)) number
-  walks = few_steps (targets_among ss (states_in ss k)) (targets_are_states ss (states_in ss k)) number
-      (subst (λ n. number < n) (sym (length-map (states_in ss k) (target_numbers ss (states_in ss k)))) l)
+module _ (text : List ℕ) (xs : List ProgramItem) (ss : List Outline) (k number j : ℕ) (l : number < length (states_in ss k)) where
+  walks : (is_reached_in text xs ss k number ≡ true) ↔ IsReached (targets_among text xs ss (states_in ss k)) number
+  walks = few_steps (targets_among text xs ss (states_in ss k)) (targets_are_states text xs ss (states_in ss k)) number
+      (subst (λ n. number < n) (sym (length-map (states_in ss k) (target_numbers text xs ss (states_in ss k)))) l)
 
-  without_walk : mark_of ss k number j ≡ Unreached → IsUnreached ss k number j
+  without_walk : mark_of text xs ss k number j ≡ Unreached → IsUnreached text xs ss k number j
   without_walk e =
-      let none = none_holds (is_faulty_item ss j) (is_repeated ss j) (has_faulty ss k) (is_reached_in ss k number) e in
+      let none = none_holds (is_faulty_item xs j) (is_repeated ss j) (has_faulty xs ss k) (is_reached_in text xs ss k number) e in
       record {
         sound = none.0;
         first = not_false (is_first_state ss j) none.1;
@@ -60,10 +61,10 @@ module _ (ss : List Summary) (k number j : ℕ) (l : number < length (states_in 
         no_walk = λ walk. never (walks.1 walk) none.3;
       }
 
-  unreached : IsUnreached ss k number j → mark_of ss k number j ≡ Unreached
+  unreached : IsUnreached text xs ss k number j → mark_of text xs ss k number j ≡ Unreached
   unreached is =
-      last_where (is_faulty_item ss j) (is_repeated ss j) (has_faulty ss k) (is_reached_in ss k number)
-      is.sound (not_true (is_first_state ss j) is.first) is.known (false_unless (is_reached_in ss k number) (λ reached. is.no_walk (walks.0 reached)))
+      last_where (is_faulty_item xs j) (is_repeated ss j) (has_faulty xs ss k) (is_reached_in text xs ss k number)
+      is.sound (not_true (is_first_state ss j) is.first) is.known (false_unless (is_reached_in text xs ss k number) (λ reached. is.no_walk (walks.0 reached)))
 
 pub returns : goal.returns
-returns c = λ ss k number j l. (without_walk ss k number j l, unreached ss k number j l)
+returns c = λ text xs ss k number j l. (without_walk text xs ss k number j l, unreached text xs ss k number j l)
