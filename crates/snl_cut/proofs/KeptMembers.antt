@@ -48,23 +48,24 @@ rises_behind from es zero r = r
 rises_behind from [] (suc k) r = tt
 rises_behind from (e ∷ es) (suc k) r = rises_behind e es k r.1
 
-pub kept_members : {X : Type 0} (first : List X → ℕ) → IsFront first → (old units : List X) (ends : List ℕ) (start b c front : ℕ) (made : List ℕ) (back : ℕ)
-    → IsEdit old units start b c → IsCut first old ends → IsRecut first old ends units start b c front made back
-    → members units 0 (joined ends b c front made back) ≡ members_kept old ends units front made back
-kept_members {X} first within old units ends start b c front made back edit cut is =
+-- The lists beside the units are edited as these are, and cut by their ends.
+pub kept_members : {X Y : Type 0} (first : List X → ℕ) → IsFront first → (old units : List X) (ends : List ℕ) (beside beside_new : List Y) (start b c front : ℕ) (made : List ℕ) (back : ℕ)
+    → IsEdit beside beside_new start b c → IsCut first old ends → IsRecut first old ends units start b c front made back
+    → members beside_new 0 (joined ends b c front made back) ≡ members_kept beside ends beside_new front made back
+kept_members {X} {Y} first within old units ends beside beside_new start b c front made back edit cut is =
     let head : List ℕ = take front ends in
     let count : ℕ = length ends - back in
     let tail : List ℕ = drop count ends in
     let rises : Rises 0 ends = walks_rise first within old 0 ends (length old) cut in
-    let head_same : members units 0 head ≡ take front (members old 0 ends) =
-    members_before old units start 0 head edit.before (rises_take 0 ends front rises) (early ends start front (last_end 0 head) is.kept refl) ∙ members_taken old 0 ends front in
+    let head_same : members beside_new 0 head ≡ take front (members beside 0 ends) =
+    members_before beside beside_new start 0 head edit.before (rises_take 0 ends front rises) (early ends start front (last_end 0 head) is.kept refl) ∙ members_taken beside 0 ends front in
     let meet_new : c + (is.meet - c) ≡ is.meet = omega (arith, is.meets.behind) in
     let meet_old : b + (is.meet - c) ≡ last_end 0 (take count ends) = omega (arith, is.from) in
     let tail_rises : Rises (b + (is.meet - c)) tail = subst (λ (n : ℕ). Rises n tail) (sym meet_old) (rises_behind 0 ends count rises) in
-    let tail_moved : members units (c + (is.meet - c)) (moved b c tail) ≡ members old (b + (is.meet - c)) tail = members_behind old units b c (is.meet - c) tail edit.behind tail_rises in
-    let tail_same : members units (last_end 0 (head ++ made)) (moved b c tail) ≡ drop count (members old 0 ends) =
-    ap (λ (n : ℕ). members units n (moved b c tail)) (is.led ∙ sym meet_new) ∙ tail_moved ∙ ap (λ (n : ℕ). members old n tail) meet_old ∙ members_dropped old 0 ends count in
-    members_joined units 0 (head ++ made) (moved b c tail)
-    ∙ ap₂ (λ (x y : List (List X)). x ++ y) (members_joined units 0 head made) tail_same
-    ∙ append_assoc (members units 0 head) (members units (last_end 0 head) made) (drop count (members old 0 ends))
-    ∙ ap (λ (x : List (List X)). x ++ (members units (last_end 0 head) made ++ drop count (members old 0 ends))) head_same
+    let tail_moved : members beside_new (c + (is.meet - c)) (moved b c tail) ≡ members beside (b + (is.meet - c)) tail = members_behind beside beside_new b c (is.meet - c) tail edit.behind tail_rises in
+    let tail_same : members beside_new (last_end 0 (head ++ made)) (moved b c tail) ≡ drop count (members beside 0 ends) =
+    ap (λ (n : ℕ). members beside_new n (moved b c tail)) (is.led ∙ sym meet_new) ∙ tail_moved ∙ ap (λ (n : ℕ). members beside n tail) meet_old ∙ members_dropped beside 0 ends count in
+    members_joined beside_new 0 (head ++ made) (moved b c tail)
+    ∙ ap₂ (λ (x y : List (List Y)). x ++ y) (members_joined beside_new 0 head made) tail_same
+    ∙ append_assoc (members beside_new 0 head) (members beside_new (last_end 0 head) made) (drop count (members beside 0 ends))
+    ∙ ap (λ (x : List (List Y)). x ++ (members beside_new (last_end 0 head) made ++ drop count (members beside 0 ends))) head_same

@@ -1,8 +1,8 @@
 -- The pieces of a text as two lists: where each ends, and its class. What an edit makes of them, and what it keeps.
-use Rattle.std.specs.Prelude.{◌≡◌, ℕ, ◌+◌, ◌-◌, ◌≤◌, List, ◌++◌, length, map, take, drop, filter, get_or}
+use Rattle.std.specs.Prelude.{◌≡◌, ℕ, ◌+◌, ◌-◌, ◌≤◌, Bool, true, false, List, [], ◌∷◌, ◌++◌, length, map, take, drop, filter, get_or}
 use Rattle.snl_cut.specs.Cut.{IsRecut, last_end}
 use Rattle.snl_lex.specs.declared.piece.Class.{Class}
-use Rattle.snl_lex.specs.declared.piece.Class.TheVariants.{White}
+use Rattle.snl_lex.specs.declared.piece.Class.TheVariants.{White, Comment, Marker, CCode, Name, Word, Int, Float, Text, CharLit, Punct, Bad}
 use Rattle.snl_lex.specs.declared.piece.Piece.{Piece}
 use Rattle.snl_lex.specs.Pieces.{bytes_at, is_token, moved_piece, piece_end, piece_length, pieces_of}
 
@@ -17,6 +17,20 @@ piece_kinds text = map (λ p. p.kind) (pieces_of text)
 -- The piece with a number, by the ends and the classes of the pieces of a text.
 abbrev pub piece_in : List ℕ → List Class → ℕ → Piece
 piece_in ends kinds n = record { kind = get_or kinds n White; start = last_end 0 (take n ends); len = get_or ends n 0 - last_end 0 (take n ends) }
+
+-- Pieces of this class are tokens.
+abbrev pub is_token_class : Class → Bool
+is_token_class kind = elim kind [ White ↦ false | Comment ↦ false | Marker ↦ false | _ ↦ true ]
+
+-- The pieces that two lists say, the first of which begins at a place.
+abbrev pub listed_pieces : ℕ → List ℕ → List Class → List Piece
+listed_pieces from [] kinds = []
+listed_pieces from (e ∷ ends) [] = []
+listed_pieces from (e ∷ ends) (k ∷ kinds) = record { kind = k; start = from; len = e - from } ∷ listed_pieces e ends kinds
+
+-- The pieces from one number up to another.
+abbrev pub pieces_between : List Piece → ℕ → ℕ → List Piece
+pieces_between pieces from stop = take (stop - from) (drop from pieces)
 
 -- A piece as it is spelled: its class and its bytes.
 abbrev pub spelling : List ℕ → Piece → Class × List ℕ

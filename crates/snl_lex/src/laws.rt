@@ -1,7 +1,7 @@
 //! The laws of the pieces of a text. A function here does nothing: its contract is the law.
 
 ghost use Rattle.snl_cut.specs.Cut.{IsCut, IsEdit, IsRecut};
-ghost use Rattle.snl_lex.specs.PieceList.{last_pieces, piece_ends, spelled, tokens_spelled};
+ghost use Rattle.snl_lex.specs.PieceList.{last_pieces, listed_pieces, piece_ends, piece_kinds, spelled, tokens_spelled};
 ghost use Rattle.snl_lex.specs.Pieces.{HasOwnBytes, LiesIn, bytes_at, first_piece, moved_piece, piece_end, piece_length, pieces_of};
 ghost use Rattle.snl_lex.specs.Alphabet.{is_digit, is_in_line, is_letter, is_stray, is_white, is_word_byte};
 ghost use Rattle.snl_lex.specs.Classes.{HasItsClass};
@@ -20,6 +20,11 @@ pub fn text_in_pieces()
     ensures inside { (text : List ℕ) → All (LiesIn text) (pieces_of text) }
     ensures class { (text : List ℕ) → All (HasItsClass text) (pieces_of text) }
     ensures own_bytes { (text : List ℕ) → All (HasOwnBytes text) (pieces_of text) }
+{}
+
+/// The pieces of any text are those that their ends and classes say: each begins where the one before it ends.
+pub fn pieces_as_listed()
+    ensures { (text : List ℕ) → listed_pieces 0 (piece_ends text) (piece_kinds text) ≡ pieces_of text }
 {}
 
 /// What an edit keeps of the pieces has in the new text the bytes that it had: the pieces at the front in their place, and those

@@ -1,0 +1,42 @@
+-- Where items end, among numbers that rise.
+use Rattle.std.proofs.Common.{◌≡◌, ℕ, zero, suc, ◌+◌, ◌-◌, ◌<◌, ◌≤◌, ◌^◌, inl, inr, All, List, [], ◌∷◌, ◌++◌, length, map, take, drop, get_or, refl, sym, ap, ◌∙◌, arith, length-drop}
+use Rattle.std.proofs.lemmas.Bool.{cases_lt}
+use Rattle.std.proofs.lemmas.List.{get_or-drop}
+use Rattle.std.proofs.lemmas.List.Elements.{All-from_get_or}
+use Rattle.snl_cut.specs.Cut.{IsEdit, IsRecut, Rises, ends_below, last_end}
+use Rattle.snl_items.proofs.Counts.{below_no, below_yes}
+use Rattle.snl_items.proofs.Parts.{all_middle}
+
+rises_first : (from : ℕ) (ends : List ℕ) (i : ℕ) → Rises from ends → i < length ends → from < get_or ends i 0
+rises_first from [] i r lt = absurd (omega arith)
+rises_first from (e ∷ es) zero r lt = r.0
+rises_first from (e ∷ es) (suc i) r lt = omega (arith, r.0, rises_first e es i r.1 (omega arith))
+
+-- The ends from one number on are behind the one before them.
+pub ends_behind : (from : ℕ) (ends : List ℕ) (k i : ℕ) → Rises from ends → i < length (drop k ends) → last_end from (take k ends) < get_or (drop k ends) i 0
+ends_behind from ends zero i r lt = rises_first from ends i r lt
+ends_behind from [] (suc k) i r lt = absurd (omega arith)
+ends_behind from (e ∷ es) (suc k) i r lt = ends_behind e es k i r.1 lt
+
+-- A bound of all ends, also of those from one number on.
+pub dropped_within : (ends : List ℕ) (limit k i : ℕ) → ((j : ℕ) → j < length ends → get_or ends j 0 ≤ limit) → i < length (drop k ends) → get_or (drop k ends) i 0 ≤ limit
+dropped_within ends limit k i h lt =
+    let there : get_or (drop k ends) i 0 ≡ get_or ends (k + i) 0 = get_or-drop k ends i 0 in
+    omega (arith, there, h (k + i) (omega (arith, length-drop k ends)))
+
+-- Made ends are among all.
+pub made_within : (front made back all : List ℕ) (limit : ℕ) → (front ++ made) ++ back ≡ all → ((j : ℕ) → j < length all → get_or all j 0 ≤ limit) → limit < 2 ^ 32 → All (λ e. e < 2 ^ 32) made
+made_within front made back all limit e h small =
+    all_middle (λ e. e < 2 ^ 32) front made back all (sym e) (All-from_get_or (λ e. e < 2 ^ 32) all 0 (λ i lt. omega (arith, h i lt)))
+
+pub all_within : (ends : List ℕ) (limit : ℕ) → ((j : ℕ) → j < length ends → get_or ends j 0 ≤ limit) → limit < 2 ^ 32 → All (λ e. e < 2 ^ 32) ends
+all_within ends limit h small = All-from_get_or (λ e. e < 2 ^ 32) ends 0 (λ i lt. omega (arith, h i lt))
+
+-- Fewer ends are below a lesser place.
+pub below_more : (low high : ℕ) (ends : List ℕ) → low ≤ high → ends_below low ends ≤ ends_below high ends
+below_more low high [] le = omega arith
+below_more low high (e ∷ es) le =
+    elim (cases_lt e low) [
+      | inl less ↦ omega (arith, below_yes e low es less, below_yes e high es (omega arith), below_more low high es le)
+      | inr more ↦ omega (arith, below_no e low es more)
+    ]

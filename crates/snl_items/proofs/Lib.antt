@@ -1,0 +1,7 @@
+pub mod Parts
+pub mod Counts
+pub mod Alike
+pub mod TokenParts
+pub mod TokenPlaces
+pub mod EndPlaces
+pub mod ItemParts

@@ -1,0 +1,78 @@
+-- What an edit of a text makes fresh: how many pieces, and which items.
+-- In the new text other bytes stand from `start` up to `new_stop` than in the old one up to `old_stop`.
+use Rattle.std.specs.Prelude.{ℕ, ◌+◌, ◌-◌, ◌&&◌, Bool, nat_eq, nat_lt, if◌then◌else◌, List, [], ◌++◌, length, take, drop, count_by, bytes_eq}
+use Rattle.std.specs.Cmp.Lexicographic.{pointwise}
+use Rattle.snl_cut.specs.Cut.{fresh_ends, meet_of}
+use Rattle.snl_lex.specs.declared.piece.Class.{Class}
+use Rattle.snl_lex.specs.declared.piece.Class.TheVariants.{White, Comment, Marker, CCode, Name, Word, Int, Float, Text, CharLit, Punct, Bad}
+use Rattle.snl_lex.specs.declared.piece.Piece.{Piece}
+use Rattle.snl_lex.specs.Pieces.{piece_end, piece_length, tokens_of}
+use Rattle.snl_lex.specs.PieceList.{pieces_between}
+use Rattle.snl_syntax.specs.Items.{item}
+use Rattle.snl_items.specs.declared.tokens.TokenEdit.{TokenEdit}
+use Rattle.snl_items.specs.Items.{marks_of, spellings}
+
+-- How many tokens of a text end before a place, and how many begin before it.
+abbrev pub ending_before : List ℕ → ℕ → ℕ
+ending_before text place = count_by (λ p. nat_lt (piece_end p) place) (tokens_of text)
+
+abbrev pub beginning_before : List ℕ → ℕ → ℕ
+beginning_before text place = count_by (λ p. nat_lt p.start place) (tokens_of text)
+
+-- The edit as one of tokens: those of the old text that end before `start` are kept, and so are those of both texts that begin at the
+-- pieces' meeting point or behind it.
+unfoldable pub token_edit_between : (old text : List ℕ) (start old_stop new_stop : ℕ) → TokenEdit
+token_edit_between old text start old_stop new_stop =
+    let meet = meet_of piece_length old text old_stop new_stop in
+    record { start = ending_before old start; old_stop = beginning_before old ((meet - new_stop) + old_stop); new_stop = beginning_before text meet }
+
+-- Each class by a number of its own.
+abbrev pub class_number : Class → ℕ
+class_number White = 0
+class_number Comment = 1
+class_number Marker = 2
+class_number CCode = 3
+class_number Name = 4
+class_number Word = 5
+class_number Int = 6
+class_number Float = 7
+class_number Text = 8
+class_number CharLit = 9
+class_number Punct = 10
+class_number Bad = 11
+
+-- Two tokens have one class and the same bytes.
+abbrev pub same_spelling : Class × List ℕ → Class × List ℕ → Bool
+same_spelling s t = nat_eq (class_number s.0) (class_number t.0) && bytes_eq s.1 t.1
+
+-- As many tokens, spelled alike one by one.
+abbrev pub spelled_alike : List (Class × List ℕ) → List (Class × List ℕ) → Bool
+spelled_alike = pointwise same_spelling
+
+-- The old tokens that an edit of tokens replaces are spelled as the new ones.
+abbrev pub replaced_alike : (old text : List ℕ) → TokenEdit → Bool
+replaced_alike old text e =
+    spelled_alike (take (e.old_stop - e.start) (drop e.start (spellings old))) (take (e.new_stop - e.start) (drop e.start (spellings text)))
+
+-- How many pieces of the new text are fresh.
+unfoldable pub fresh_pieces_between : (old text : List ℕ) (start old_stop new_stop : ℕ) → ℕ
+fresh_pieces_between old text start old_stop new_stop = length (fresh_ends piece_length old text start old_stop new_stop)
+
+-- The ends of the fresh items of the new text, as numbers of tokens. Where the replaced tokens are spelled as before, there is none.
+unfoldable pub fresh_items_between : (old text : List ℕ) (start old_stop new_stop : ℕ) → List ℕ
+fresh_items_between old text start old_stop new_stop =
+    let e = token_edit_between old text start old_stop new_stop in
+    if replaced_alike old text e then [] else fresh_ends item (marks_of old) (marks_of text) e.start e.old_stop e.new_stop
+
+-- The same of an edit of one text, which puts other bytes in the place of those from `start` up to `stop`.
+abbrev pub spliced : (text : List ℕ) (start stop : ℕ) (new : List ℕ) → List ℕ
+spliced text start stop new = take start text ++ new ++ drop stop text
+
+abbrev pub token_edit : (text : List ℕ) (start stop : ℕ) (new : List ℕ) → TokenEdit
+token_edit text start stop new = token_edit_between text (spliced text start stop new) start stop (start + length new)
+
+abbrev pub fresh_pieces : (text : List ℕ) (start stop : ℕ) (new : List ℕ) → ℕ
+fresh_pieces text start stop new = fresh_pieces_between text (spliced text start stop new) start stop (start + length new)
+
+abbrev pub fresh_items : (text : List ℕ) (start stop : ℕ) (new : List ℕ) → List ℕ
+fresh_items text start stop new = fresh_items_between text (spliced text start stop new) start stop (start + length new)

@@ -1,0 +1,3 @@
+pub mod Items
+pub mod Fresh
+pub mod Changes

@@ -1,0 +1,190 @@
+//! The items of a text as two lists, which an edit changes in place: what each token is to the cut, and where each item ends.
+//! In: tokens; after an edit what it makes of them. Out: the lists, those of the new text after a change that can't fail.
+
+ghost use Rattle.snl_items.specs.Changes.{IsItemChange, IsTokenChange};
+ghost use Rattle.snl_items.specs.Items.{item_ends, marks_of};
+ghost use Rattle.snl_lex.specs.Pieces.{tokens_of};
+ghost use Rattle.std.specs.Prelude.{◌≡◌, ◌+◌, ◌-◌, ◌^◌, ◌<◌, ◌≤◌, ◌++◌, All, IfOk, OnOk, drop, false, length, take, vec_capacity, vec_len};
+
+use crate::laws::few_tokens;
+use crate::spelled::Spelling;
+use crate::tokens::{TokenChange, TokenEdit, marks_of};
+use snl_cut::{
+    Count, Narrow, OutOfMemory, cut_all, ends_in_order, made_are_fresh, members_stay, one_cut,
+    recut_by, recut_is_cut,
+};
+use snl_lex::{Piece, TextEdit, text_in_pieces};
+use snl_lists::{replace, replace_and_shift};
+use snl_syntax::{Mark, Tokens};
+use std::alloc::Global;
+
+/// What the tokens of a text are to the cut into items, and where the items end, as numbers of tokens of four bytes each.
+#[derive(Drop)]
+pub struct ItemList {
+    pub marks: Vec<Mark>,
+    pub ends: Vec<u32>,
+}
+
+/// What an edit makes of the items: so many are kept at the front, those between end at these tokens, and so many are kept at
+/// the back.
+#[derive(Drop)]
+pub struct ItemChange {
+    pub kept_front: usize,
+    pub made: Vec<u32>,
+    pub kept_back: usize,
+}
+
+// Each of these ends in four bytes.
+fn narrowed(alloc: Global, ends: &[usize]) -> Result<Vec<u32>, OutOfMemory>
+    requires { All (λ e. e < 2 ^ 32) ends.now }
+    ensures { IfOk result (λ r. r.items ≡ ends.now) }
+{
+    let mut narrow = Vec::new(alloc);
+    for end in ends {
+        narrow.push(*end as u32)?;
+    }
+    Ok(narrow)
+}
+
+// The list with other marks in the place of those that an edit replaces.
+fn edited(
+    alloc: Global,
+    old: &[Mark],
+    edit: TokenEdit,
+    made: &[Mark],
+) -> Result<Vec<Mark>, OutOfMemory>
+    requires start { edit.start ≤ length old.now }
+    requires stop { edit.old_stop ≤ length old.now }
+    ensures { IfOk result (λ r. r.items ≡ take edit.start old.now ++ (made.now ++ drop edit.old_stop old.now)) }
+{
+    let mut marks = Vec::new(alloc);
+    marks.extend_from_slice(&old[..edit.start])?;
+    marks.extend_from_slice(made)?;
+    marks.extend_from_slice(&old[edit.old_stop..])?;
+    Ok(marks)
+}
+
+impl ItemList {
+    /// The items that the tokens of a text are cut into. The only error is want of memory.
+    pub fn of(alloc: Global, text: &[u8], tokens: &[Piece]) -> Result<ItemList, OutOfMemory>
+        requires tokens { tokens.now ≡ tokens_of text.now }
+        requires short { length text.now < 2 ^ 32 }
+        ensures marks { IfOk result (λ l. l.marks.items ≡ marks_of text.now) }
+        ensures ends { IfOk result (λ l. l.ends.items ≡ item_ends text.now) }
+    {
+        text_in_pieces();
+        few_tokens();
+        ends_in_order::<Tokens>();
+        let marks = marks_of(alloc, text, tokens)?;
+        let ends = cut_all(alloc, &Tokens, &marks, &mut Count::new())?;
+        let ends = narrowed(alloc, &ends)?;
+        Ok(ItemList { marks, ends })
+    }
+
+    // What an edit makes of the items, where other tokens are spelled in the place of some.
+    fn recut(
+        &self,
+        alloc: Global,
+        edit: &TextEdit,
+        tokens: &TokenChange,
+    ) -> Result<ItemChange, OutOfMemory>
+        requires marks { self.now.marks.items ≡ marks_of edit.now.old.now }
+        requires ends { self.now.ends.items ≡ item_ends edit.now.old.now }
+        requires tokens { IsTokenChange edit.now.old.now edit.now.text.now edit.now.start edit.now.old_stop edit.now.new_stop tokens.now.edit tokens.now.made.items tokens.now.marks.items tokens.now.same }
+        requires other { tokens.now.same ≡ false }
+        ensures { IfOk
+            result
+            (λ r. IsItemChange edit.now.old.now edit.now.text.now edit.now.start edit.now.old_stop edit.now.new_stop tokens.now.edit r.kept_front r.made.items r.kept_back) }
+    {
+        recut_is_cut::<Tokens>();
+        members_stay::<Tokens, Spelling>();
+        made_are_fresh::<Tokens>();
+        one_cut::<Tokens>();
+        few_tokens();
+        ends_in_order::<Tokens>();
+        let marks = edited(alloc, &self.marks, tokens.edit, &tokens.marks)?;
+        let cut = recut_by(
+            alloc,
+            &Tokens,
+            &self.marks,
+            &Narrow { ends: &self.ends },
+            &marks,
+            tokens.edit.start,
+            tokens.edit.old_stop,
+            tokens.edit.new_stop,
+            &mut Count::new(),
+        )?;
+        Ok(ItemChange {
+            kept_front: cut.kept_front,
+            made: narrowed(alloc, &cut.made)?,
+            kept_back: cut.kept_back,
+        })
+    }
+
+    /// What an edit makes of the items of the old text, of which this is the list. The only error is want of memory.
+    pub fn change(
+        &self,
+        alloc: Global,
+        edit: &TextEdit,
+        tokens: &TokenChange,
+    ) -> Result<ItemChange, OutOfMemory>
+        requires marks { self.now.marks.items ≡ marks_of edit.now.old.now }
+        requires ends { self.now.ends.items ≡ item_ends edit.now.old.now }
+        requires tokens { IsTokenChange edit.now.old.now edit.now.text.now edit.now.start edit.now.old_stop edit.now.new_stop tokens.now.edit tokens.now.made.items tokens.now.marks.items tokens.now.same }
+        ensures { IfOk
+            result
+            (λ r. IsItemChange edit.now.old.now edit.now.text.now edit.now.start edit.now.old_stop edit.now.new_stop tokens.now.edit r.kept_front r.made.items r.kept_back) }
+    {
+        if tokens.same {
+            ends_in_order::<Tokens>();
+            return Ok(ItemChange {
+                kept_front: self.ends.len(),
+                made: Vec::new(alloc),
+                kept_back: 0,
+            });
+        }
+        self.recut(alloc, edit, tokens)
+    }
+
+    /// Makes room for so many tokens and items more. An error leaves the lists as they were.
+    pub fn reserve(&mut self, tokens: usize, items: usize) -> Result<(), OutOfMemory>
+        ensures marks { self.new.marks.items ≡ self.old.marks.items }
+        ensures ends { self.new.ends.items ≡ self.old.ends.items }
+        ensures marks_room { OnOk result (vec_len self.new.marks + tokens ≤ vec_capacity self.new.marks) }
+        ensures ends_room { OnOk result (vec_len self.new.ends + items ≤ vec_capacity self.new.ends) }
+    {
+        self.marks.reserve(tokens)?;
+        self.ends.reserve(items)?;
+        Ok(())
+    }
+
+    /// Makes the list of the old text's items that of the new one's. There is room for what is made, so it can't fail.
+    pub fn commit(&mut self, edit: &TextEdit, tokens: &TokenChange, items: &ItemChange)
+        requires marks { self.old.marks.items ≡ marks_of edit.now.old.now }
+        requires ends { self.old.ends.items ≡ item_ends edit.now.old.now }
+        requires tokens { IsTokenChange edit.now.old.now edit.now.text.now edit.now.start edit.now.old_stop edit.now.new_stop tokens.now.edit tokens.now.made.items tokens.now.marks.items tokens.now.same }
+        requires items { IsItemChange edit.now.old.now edit.now.text.now edit.now.start edit.now.old_stop edit.now.new_stop tokens.now.edit items.now.kept_front items.now.made.items items.now.kept_back }
+        requires marks_room { vec_len self.old.marks + vec_len tokens.now.marks ≤ vec_capacity self.old.marks }
+        requires ends_room { vec_len self.old.ends + vec_len items.now.made ≤ vec_capacity self.old.ends }
+        ensures marks { self.new.marks.items ≡ marks_of edit.now.text.now }
+        ensures ends { self.new.ends.items ≡ item_ends edit.now.text.now }
+    {
+        few_tokens();
+        ends_in_order::<Tokens>();
+        let back = self.ends.len() - items.kept_back;
+        replace_and_shift(
+            &mut self.ends,
+            items.kept_front,
+            back,
+            &items.made,
+            tokens.edit.old_stop as u32,
+            tokens.edit.new_stop as u32,
+        );
+        replace(
+            &mut self.marks,
+            tokens.edit.start,
+            tokens.edit.old_stop,
+            &tokens.marks,
+        );
+    }
+}

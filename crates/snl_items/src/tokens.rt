@@ -1,0 +1,100 @@
+//! What an edit of a text makes of its tokens.
+//! In: the list of the old pieces and what the edit makes of them. Out: which tokens are replaced, and by which.
+
+ghost use Rattle.snl_items.specs.Changes.{IsTokenChange};
+ghost use Rattle.snl_items.specs.Items.{mark_in};
+ghost use Rattle.snl_lex.specs.PieceList.{IsChange, is_token_class, piece_ends, piece_kinds};
+ghost use Rattle.snl_lex.specs.Pieces.{LiesIn};
+ghost use Rattle.std.specs.Prelude.{◌≡◌, All, IfOk, count_by, map};
+
+use crate::spelled::are_spelled_alike;
+use snl_cut::{OutOfMemory, ends_in_order, meets_where_sought, one_cut};
+use snl_lex::{
+    Bytes, Class, Piece, PieceChange, PieceList, TextEdit, kept_as_spelled, pieces_as_listed,
+    text_in_pieces, tokens_among,
+};
+use snl_syntax::{Mark, mark};
+use std::alloc::Global;
+
+/// An edit of a list of tokens: those from `start` up to `old_stop` became those from `start` up to `new_stop`.
+#[derive(Clone, Copy, Debug, PartialEq, Eq)]
+pub struct TokenEdit {
+    pub start: usize,
+    pub old_stop: usize,
+    pub new_stop: usize,
+}
+
+/// What an edit of a text makes of its tokens: which are replaced, those that are made and their marks, and whether these are
+/// spelled as the replaced ones, so that nothing changes for the items.
+#[derive(Drop)]
+pub struct TokenChange {
+    pub edit: TokenEdit,
+    pub made: Vec<Piece>,
+    pub marks: Vec<Mark>,
+    pub same: bool,
+}
+
+// How many of the pieces of these classes are tokens.
+fn count_tokens(kinds: &[Class]) -> usize
+    ensures { result ≡ count_by is_token_class kinds.now }
+{
+    let mut count = 0;
+    for kind in kinds {
+        if kind.is_token() {
+            count += 1;
+        }
+    }
+    count
+}
+
+/// What the tokens are to the cut into items.
+pub fn marks_of(alloc: Global, text: &[u8], tokens: &[Piece]) -> Result<Vec<Mark>, OutOfMemory>
+    requires { All (LiesIn text.now) tokens.now }
+    ensures { IfOk result (λ marks. marks.items ≡ map (mark_in text.now) tokens.now) }
+{
+    let mut marks = Vec::new(alloc);
+    for piece in tokens {
+        marks.push(mark(text, *piece))?;
+    }
+    Ok(marks)
+}
+
+impl TokenChange {
+    /// What an edit makes of the tokens of a text, the pieces of which are listed. The only error is want of memory.
+    pub fn of(
+        alloc: Global,
+        pieces: &PieceList,
+        edit: &TextEdit,
+        change: &PieceChange,
+    ) -> Result<TokenChange, OutOfMemory>
+        requires ends { pieces.now.ends.items ≡ piece_ends edit.now.old.now }
+        requires kinds { pieces.now.kinds.items ≡ piece_kinds edit.now.old.now }
+        requires change { IsChange edit.now.old.now edit.now.text.now edit.now.start edit.now.old_stop edit.now.new_stop change.now.kept_front change.now.made.items change.now.kept_back change.now.kept_from change.now.list.ends.items change.now.list.kinds.items }
+        ensures { IfOk
+            result
+            (λ r. IsTokenChange edit.now.old.now edit.now.text.now edit.now.start edit.now.old_stop edit.now.new_stop r.edit r.made.items r.marks.items r.same) }
+    {
+        kept_as_spelled();
+        meets_where_sought::<Bytes>();
+        one_cut::<Bytes>();
+        ends_in_order::<Bytes>();
+        text_in_pieces();
+        pieces_as_listed();
+        let back = pieces.ends.len() - change.kept_back;
+        let replaced = pieces.tokens_between(alloc, change.kept_front, back)?;
+        let made = tokens_among(alloc, &change.made)?;
+        let marks = marks_of(alloc, edit.text, &made)?;
+        let same = are_spelled_alike(edit.old, &replaced, edit.text, &made);
+        let start = count_tokens(&pieces.kinds[..change.kept_front]);
+        Ok(TokenChange {
+            edit: TokenEdit {
+                start,
+                old_stop: start + replaced.len(),
+                new_stop: start + made.len(),
+            },
+            made,
+            marks,
+            same,
+        })
+    }
+}

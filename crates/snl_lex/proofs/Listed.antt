@@ -1,0 +1,84 @@
+-- The pieces of a text, as two lists say them.
+use Rattle.std.proofs.Common.{◌≡◌, ℕ, zero, suc, ◌+◌, ◌-◌, ◌<◌, ◌≤◌, Bool, true, false, cond, List, [], ◌∷◌, ◌++◌, length, take, drop, map, filter, get_or, refl, sym, ap, ap₂, ◌∙◌, subst, arith, append_assoc}
+use Rattle.std.proofs.lemmas.List.{append-nil, length-map, map-append, take_more, get_or-drop, get_or_default, length-drop, take_rest}
+use Rattle.std.proofs.lemmas.List.Elements.{filter-append}
+use Rattle.snl_cut.specs.Cut.{last_end}
+use Rattle.snl_lex.specs.declared.piece.Class.{Class}
+use Rattle.snl_lex.specs.declared.piece.Piece.{Piece}
+use Rattle.snl_lex.specs.PieceList.{listed_pieces, piece_ends, piece_kinds, pieces_between}
+use Rattle.snl_lex.specs.Pieces.{is_token, moved_piece, piece_at, piece_end, piece_length, pieces_of}
+use Rattle.snl_lex.proofs.Members.{Leads, end_at, pieces_lead}
+
+-- A piece of a text by its end.
+by_end : (text : List ℕ) (from : ℕ) (p : Piece) → p ≡ piece_at text from → record { kind = p.kind; start = from; len = piece_end p - from } ≡ p
+unfolding piece_at
+by_end text from p e =
+    let starts : p.start ≡ from = ap (λ (q : Piece). q.start) e in
+    let long : piece_end p - from ≡ p.len = omega arith in
+    ap₂ (λ (s n : ℕ). let q : Piece = record { kind = p.kind; start = s; len = n } in q) (sym starts) long
+
+listed : (text : List ℕ) (from : ℕ) (ps : List Piece) (to : ℕ) → Leads text from ps to → listed_pieces from (map piece_end ps) (map (λ p. p.kind) ps) ≡ ps
+listed text from [] to h = refl
+listed text from (p ∷ ps) to h =
+    let next : piece_end p ≡ from + piece_length (drop from text) = ap piece_end h.1 ∙ end_at text from in
+    let rest : listed_pieces (piece_end p) (map piece_end ps) (map (λ q. q.kind) ps) ≡ ps =
+    listed text (piece_end p) ps to (subst (λ (n : ℕ). Leads text n ps to) (sym next) h.2) in
+    ap₂ (λ (q : Piece) (l : List Piece). q ∷ l) (by_end text from p h.1) rest
+
+-- The lists of a text say its pieces.
+pub listed_are : (text ends : List ℕ) (kinds : List Class) → ends ≡ piece_ends text → kinds ≡ piece_kinds text → listed_pieces 0 ends kinds ≡ pieces_of text
+listed_are text ends kinds e k =
+    ap₂ (λ (es : List ℕ) (ks : List Class). listed_pieces 0 es ks) e k ∙ listed text 0 (pieces_of text) (length text) (pieces_lead text)
+
+pub listed_at : (from : ℕ) (ends : List ℕ) (kinds : List Class) (n : ℕ) (k : Class) (d : Piece) → n < length ends → n < length kinds
+    → get_or (listed_pieces from ends kinds) n d ≡ record { kind = get_or kinds n k; start = last_end from (take n ends); len = get_or ends n 0 - last_end from (take n ends) }
+listed_at from [] kinds n k d h i = absurd (omega arith)
+listed_at from (e ∷ ends) [] n k d h i = absurd (omega arith)
+listed_at from (e ∷ ends) (x ∷ kinds) zero k d h i = refl
+listed_at from (e ∷ ends) (x ∷ kinds) (suc n) k d h i = listed_at e ends kinds n k d (omega arith) (omega arith)
+
+pub listed_length : (from : ℕ) (ends : List ℕ) (kinds : List Class) (n : ℕ) → n ≤ length ends → n ≤ length kinds → n ≤ length (listed_pieces from ends kinds)
+listed_length from ends kinds zero h i = omega arith
+listed_length from [] kinds (suc n) h i = absurd (omega arith)
+listed_length from (e ∷ ends) [] (suc n) h i = absurd (omega arith)
+listed_length from (e ∷ ends) (x ∷ kinds) (suc n) h i = omega (arith, listed_length e ends kinds n (omega arith) (omega arith))
+
+-- One piece more.
+pub between_more : (ps : List Piece) (from n : ℕ) (d : Piece) → from ≤ n → n < length ps
+    → pieces_between ps from (n + 1) ≡ pieces_between ps from n ++ get_or ps n d ∷ []
+between_more ps from n d le lt =
+    let count : (n + 1) - from ≡ (n - from) + 1 = omega arith in
+    let there : from + (n - from) ≡ n = omega arith in
+    ap (λ (m : ℕ). take m (drop from ps)) count
+    ∙ take_more (drop from ps) (n - from) d (omega (arith, length-drop from ps))
+    ∙ ap (λ (q : Piece). take (n - from) (drop from ps) ++ q ∷ []) (get_or-drop from ps (n - from) d ∙ ap (λ (m : ℕ). get_or ps m d) there)
+
+pub between_none : (ps : List Piece) (from : ℕ) → pieces_between ps from from ≡ []
+between_none ps from = let none : from - from ≡ 0 = omega arith in ap (λ (m : ℕ). take m (drop from ps)) none
+
+-- The moved tokens of pieces and one more.
+pub tokens_and_one : (b c : ℕ) (ps : List Piece) (p : Piece)
+    → map (moved_piece b c) (filter is_token (ps ++ p ∷ [])) ≡ map (moved_piece b c) (filter is_token ps) ++ cond (is_token p) (moved_piece b c p ∷ []) []
+tokens_and_one b c ps p =
+    let one : (t : Bool) → map (moved_piece b c) (cond t (p ∷ []) []) ≡ cond t (moved_piece b c p ∷ []) [] = elim [ true ↦ refl | false ↦ refl ] in
+    ap (map (moved_piece b c)) (filter-append is_token ps (p ∷ []))
+    ∙ map-append (moved_piece b c) (filter is_token ps) (filter is_token (p ∷ []))
+    ∙ ap (λ (l : List Piece). map (moved_piece b c) (filter is_token ps) ++ l) (one (is_token p))
+
+not_moved_one : (p : Piece) → moved_piece 0 0 p ≡ p
+not_moved_one p =
+    let same : (p.start - 0) + 0 ≡ p.start = omega arith in
+    ap (λ (s : ℕ). let q : Piece = record { kind = p.kind; start = s; len = p.len } in q) same
+
+pub not_moved : (ps : List Piece) → map (moved_piece 0 0) ps ≡ ps
+not_moved [] = refl
+not_moved (p ∷ ps) = ap₂ (λ (q : Piece) (l : List Piece). q ∷ l) (not_moved_one p) (not_moved ps)
+
+-- Tokens stay tokens where they are moved.
+pub tokens_moved : (b c : ℕ) (ps : List Piece) → filter is_token (map (moved_piece b c) ps) ≡ map (moved_piece b c) (filter is_token ps)
+tokens_moved b c [] = refl
+tokens_moved b c (p ∷ ps) =
+    let rest = tokens_moved b c ps in
+    let step : (t : Bool) → cond t (moved_piece b c p ∷ filter is_token (map (moved_piece b c) ps)) (filter is_token (map (moved_piece b c) ps)) ≡ map (moved_piece b c) (cond t (p ∷ filter is_token ps) (filter is_token ps)) =
+    elim [ true ↦ ap (λ (l : List Piece). moved_piece b c p ∷ l) rest | false ↦ rest ] in
+    step (is_token p)

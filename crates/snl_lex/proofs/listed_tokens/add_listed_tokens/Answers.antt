@@ -1,0 +1,72 @@
+use Rattle.std.proofs.Common.{◌≡◌, ℕ, suc, ◌+◌, ◌-◌, ◌<◌, ◌≤◌, Bool, true, false, cond, List, [], ◌∷◌, ◌++◌, length, take, map, filter, get_or, refl, sym, ap, ap₂, ◌∙◌, arith, add-one, append_assoc}
+use Rattle.std.proofs.lemmas.List.{append-nil, get_or_read}
+use Rattle.snl_cut.specs.Cut.{last_end}
+use Rattle.snl_lex.specs.declared.piece.Class.{Class}
+use Rattle.snl_lex.specs.declared.piece.Piece.{Piece}
+use Rattle.snl_lex.specs.PieceList.{listed_pieces, pieces_between, is_token_class}
+use Rattle.snl_lex.specs.Pieces.{is_token, moved_piece}
+use Rattle.snl_lex.proofs.Members.{last_taken}
+use Rattle.snl_lex.proofs.Listed.{between_more, between_none, listed_at, listed_length, tokens_and_one}
+use Rattle.snl_lex.proofs.listed_tokens.add_listed_tokens.Goals as goal
+use Rattle.snl_lex.proofs.listed_tokens.add_listed_tokens.Goals.{then-is_token+in_ok-push, else-is_token}
+
+piece : Class → ℕ → ℕ → Piece
+piece kind start len = record { kind = kind; start = start; len = len }
+
+same_piece : (k l : Class) (s t m n : ℕ) → k ≡ l → s ≡ t → m ≡ n → piece k s m ≡ piece l t n
+same_piece k l s t m n h i j = cc
+
+-- One piece more: its token, if it is one, is added.
+one_more : (ends : List ℕ) (kinds : List Class) (from n b c : ℕ) (end : ℕ) (kind : Class) (start : ℕ) (before : List Piece)
+    → from ≤ n → n < length ends → n < length kinds → end ≡ get_or ends n 0 → kind ≡ get_or kinds n kind → start ≡ last_end 0 (take n ends)
+    → (t : Bool) (s m : ℕ) → t ≡ is_token_class kind → s ≡ start - b → m ≡ end - start
+    → (before ++ map (moved_piece b c) (filter is_token (pieces_between (listed_pieces 0 ends kinds) from n))) ++ cond t (record { kind = kind; start = s + c; len = m } ∷ []) []
+    ≡ before ++ map (moved_piece b c) (filter is_token (pieces_between (listed_pieces 0 ends kinds) from (n + 1)))
+unfolding piece
+one_more ends kinds from n b c end kind start before le lt lt_kinds end_is kind_is start_is t s m t_is s_is m_is =
+    let ps : List Piece = listed_pieces 0 ends kinds in
+    let old : List Piece = before ++ map (moved_piece b c) (filter is_token (pieces_between ps from n)) in
+    let p : Piece = record { kind = kind; start = start; len = end - start } in
+    let first : ℕ = last_end 0 (take n ends) in
+    let long : get_or ends n 0 - first ≡ end - start = omega arith in
+    let there : get_or ps n p ≡ p = listed_at 0 ends kinds n kind p lt lt_kinds ∙ same_piece (get_or kinds n kind) kind first start (get_or ends n 0 - first) (end - start) (sym kind_is) (sym start_is) long in
+    let more : pieces_between ps from (n + 1) ≡ pieces_between ps from n ++ p ∷ [] =
+    between_more ps from n p le (listed_length 0 ends kinds (suc n) (omega arith) (omega arith)) ∙ ap (λ (q : Piece). pieces_between ps from n ++ q ∷ []) there in
+    let pushed : piece kind (s + c) m ≡ moved_piece b c p = same_piece kind kind (s + c) ((start - b) + c) m (end - start) refl (ap (λ (k : ℕ). k + c) s_is) m_is in
+    ap₂ (λ (u : Bool) (q : Piece). old ++ cond u (q ∷ []) []) t_is pushed
+    ∙ append_assoc before (map (moved_piece b c) (filter is_token (pieces_between ps from n))) (cond (is_token_class kind) (moved_piece b c p ∷ []) [])
+    ∙ ap (λ (l : List Piece). before ++ l) (sym (tokens_and_one b c (pieces_between ps from n) p) ∙ ap (λ (l : List Piece). map (moved_piece b c) (filter is_token l)) (sym more))
+
+pub loop-number-init : goal.loop-number-init
+loop-number-init c =
+    let before : List Piece = c.args.tokens.now.items in
+    let ps : List Piece = listed_pieces 0 c.args.list.now.ends.items c.args.list.now.kinds.items in
+    record {
+      begun = c.start_at-start.ensures;
+      added = sym (ap (λ (l : List Piece). before ++ map (moved_piece c.args.old_stop c.args.new_stop) (filter is_token l)) (between_none ps c.args.from) ∙ append-nil before);
+    }
+
+pub loop-number-preserved : goal.loop-number-preserved
+loop-number-preserved c =
+    let ends : List ℕ = c.args.list.now.ends.items in
+    let kinds : List Class = c.args.list.now.kinds.items in
+    let n : ℕ = c.loop-number.number in
+    let lt : n < length ends = omega (arith, c.args.list.now.ends.ok) in
+    let lt_kinds : n < length kinds = omega (arith, c.args.list.now.kinds.ok) in
+    let end_is : c.index-end.result.now ≡ get_or ends n 0 = get_or_read ends n _ lt c.index-end.ensures 0 in
+    let taken : suc n ≡ n + 1 = omega arith in
+    let next = one_more ends kinds c.args.from n c.args.old_stop c.args.new_stop c.index-end.result.now c.index-kind.result.now c.loop-number.start c.args.tokens.now.items
+    c.loop-number.auto.number lt lt_kinds end_is c.index-kind.ensures c.loop-number.invariant.begun in
+    record {
+      begun = end_is ∙ sym (last_taken 0 ends n lt) ∙ ap (λ (m : ℕ). last_end 0 (take m ends)) taken;
+      added =
+          elim c.if-is_token.branch [
+            | then-is_token+in_ok-push w ↦
+                ap (λ v. v.items) w.tokens-is ∙ w.in_ok-push.ensures.items
+                ∙ ap (λ (l : List Piece). l ++ record { kind = c.index-kind.result.now; start = w.saturating_sub.result + c.args.new_stop; len = w.saturating_sub-then-is_token.result } ∷ []) c.loop-number.invariant.added
+                ∙ next true w.saturating_sub.result w.saturating_sub-then-is_token.result w.if-is_token.ensures w.saturating_sub.ensures w.saturating_sub-then-is_token.ensures
+            | else-is_token w ↦
+                ap (λ v. v.items) w.tokens-is ∙ c.loop-number.invariant.added ∙ sym (append-nil _)
+                ∙ next false (c.loop-number.start - c.args.old_stop) (c.index-end.result.now - c.loop-number.start) w.if-is_token.ensures refl refl
+          ];
+    }

@@ -1,0 +1,128 @@
+//! The tokens of a text, from the list of its pieces.
+//! In: the list; after an edit also what is made of the pieces. Out: tokens, each with its place.
+
+ghost use Rattle.snl_cut.specs.Cut.{last_end};
+ghost use Rattle.snl_lex.specs.PieceList.{IsChange, listed_pieces, piece_ends, piece_kinds, pieces_between};
+ghost use Rattle.snl_lex.specs.Pieces.{is_token, moved_piece, pieces_of, tokens_of};
+ghost use Rattle.std.specs.Prelude.{◌≡◌, ℕ, List, ◌+◌, ◌-◌, ◌^◌, ◌<◌, ◌≤◌, ◌++◌, IfOk, OnOk, filter, length, map, take, vec_len};
+
+use crate::piece::Piece;
+use crate::piece_list::{PieceChange, PieceList, TextEdit};
+use snl_cut::OutOfMemory;
+use std::alloc::Global;
+
+// Where the piece with this number begins.
+fn start_at(list: &PieceList, number: usize) -> u32
+    requires { number ≤ vec_len list.now.ends }
+    ensures { result ≡ last_end 0 (take number list.now.ends.items) }
+{
+    if number == 0 {
+        0
+    } else {
+        list.ends[number - 1]
+    }
+}
+
+// Adds those of the pieces from one number up to another that are tokens, moved as the bytes from `old_stop` on are moved to `new_stop`.
+fn add_listed_tokens(
+    list: &PieceList,
+    from: usize,
+    stop: usize,
+    old_stop: usize,
+    new_stop: usize,
+    tokens: &mut Vec<Piece>,
+) -> Result<(), OutOfMemory>
+    requires order { from ≤ stop }
+    requires ends { stop ≤ vec_len list.now.ends }
+    requires kinds { stop ≤ vec_len list.now.kinds }
+    requires fits { new_stop < 2 ^ 32 }
+    ensures { OnOk result (tokens.new.items ≡ tokens.old.items ++ map (moved_piece old_stop new_stop) (filter is_token (pieces_between (listed_pieces 0 list.now.ends.items list.now.kinds.items) from stop))) }
+{
+    let mut start = start_at(list, from);
+    for number in from..stop {
+        let end = list.ends[number];
+        let kind = list.kinds[number];
+        if kind.is_token() {
+            tokens.push(Piece {
+                kind,
+                start: (start as usize).saturating_sub(old_stop) + new_stop,
+                len: end.saturating_sub(start) as usize,
+            })?;
+        }
+        start = end;
+    }
+    Ok(())
+}
+
+// Adds those of the pieces that are tokens.
+fn add_tokens(pieces: &[Piece], tokens: &mut Vec<Piece>) -> Result<(), OutOfMemory>
+    ensures { OnOk result (tokens.new.items ≡ tokens.old.items ++ filter is_token pieces.now) }
+{
+    for piece in pieces {
+        if piece.kind.is_token() {
+            tokens.push(*piece)?;
+        }
+    }
+    Ok(())
+}
+
+/// Those of the pieces that are tokens. The only error is want of memory.
+pub fn tokens_among(alloc: Global, pieces: &[Piece]) -> Result<Vec<Piece>, OutOfMemory>
+    ensures { IfOk result (λ tokens. tokens.items ≡ filter is_token pieces.now) }
+{
+    let mut tokens = Vec::new(alloc);
+    add_tokens(pieces, &mut tokens)?;
+    Ok(tokens)
+}
+
+impl PieceList {
+    /// The tokens among the pieces from one number up to another. The only error is want of memory.
+    pub fn tokens_between(
+        &self,
+        alloc: Global,
+        from: usize,
+        stop: usize,
+    ) -> Result<Vec<Piece>, OutOfMemory>
+        requires order { from ≤ stop }
+        requires ends { stop ≤ vec_len self.now.ends }
+        requires kinds { stop ≤ vec_len self.now.kinds }
+        ensures { IfOk
+            result
+            (λ tokens. (text : List ℕ) → self.now.ends.items ≡ piece_ends text → self.now.kinds.items ≡ piece_kinds text → tokens.items ≡ filter is_token (pieces_between (pieces_of text) from stop)) }
+    {
+        let mut tokens = Vec::new(alloc);
+        add_listed_tokens(self, from, stop, 0, 0, &mut tokens)?;
+        Ok(tokens)
+    }
+
+    /// The tokens of the text of which this is the list. The only error is want of memory.
+    pub fn tokens(&self, alloc: Global) -> Result<Vec<Piece>, OutOfMemory>
+        requires { vec_len self.now.ends ≡ vec_len self.now.kinds }
+        ensures { IfOk
+            result
+            (λ tokens. (text : List ℕ) → self.now.ends.items ≡ piece_ends text → self.now.kinds.items ≡ piece_kinds text → tokens.items ≡ tokens_of text) }
+    {
+        self.tokens_between(alloc, 0, self.ends.len())
+    }
+
+    /// The tokens of the new text of an edit, where this is the list of the old one's pieces. The only error is want of memory.
+    pub fn tokens_after(
+        &self,
+        alloc: Global,
+        edit: &TextEdit,
+        change: &PieceChange,
+    ) -> Result<Vec<Piece>, OutOfMemory>
+        requires ends { self.now.ends.items ≡ piece_ends edit.now.old.now }
+        requires kinds { self.now.kinds.items ≡ piece_kinds edit.now.old.now }
+        requires change { IsChange edit.now.old.now edit.now.text.now edit.now.start edit.now.old_stop edit.now.new_stop change.now.kept_front change.now.made.items change.now.kept_back change.now.kept_from change.now.list.ends.items change.now.list.kinds.items }
+        ensures { IfOk result (λ tokens. tokens.items ≡ tokens_of edit.now.text.now) }
+    {
+        let count = self.ends.len();
+        let back = count - change.kept_back;
+        let mut tokens = Vec::new(alloc);
+        add_listed_tokens(self, 0, change.kept_front, 0, 0, &mut tokens)?;
+        add_tokens(&change.made, &mut tokens)?;
+        add_listed_tokens(self, back, count, edit.old_stop, edit.new_stop, &mut tokens)?;
+        Ok(tokens)
+    }
+}
