@@ -2,6 +2,7 @@ pub mod Ends
 pub mod Offsets
 pub mod Rising
 pub mod Faults
+pub mod Members
 pub mod Ranks
 pub mod Sorting
 pub mod Steps

@@ -1,6 +1,6 @@
 //! What a session keeps of an item: what the parser made of it, and what it says to the others.
-//! In: tokens of a text, and where its items end among them. Out: an entry for each item. It goes by the spelling of the item's
-//! tokens alone, so an edit elsewhere leaves it as it is.
+//! In: tokens of a text, and where its items end among them. Out: an entry for each item, which goes by the spelling of its tokens
+//! alone, so that an edit elsewhere leaves it as it is.
 #![tactic(auto)]
 
 ghost use Rattle.std.specs.Prelude.{◌≡◌, ◌-◌, ◌<◌, ◌≤◌, ◌++◌, All, IfOk, OnOk, drop, length, map, take};

@@ -3,28 +3,29 @@
 #![tactic(auto)]
 
 ghost use Rattle.std.specs.Prelude.{◌≡◌, IfOk, length};
-ghost use Rattle.snl_items.specs.Changes.{IsItemChange, IsTokenChange};
+ghost use Rattle.snl_cut.specs.Cut.{Counted, after_ticks};
 ghost use Rattle.snl_items.specs.Fresh.{fresh_items_between, fresh_pieces_between};
-ghost use Rattle.snl_items.specs.Items.{item_ends, marks_of};
-ghost use Rattle.snl_lex.specs.PieceList.{IsChange, piece_ends, piece_kinds};
+ghost use Rattle.snl_lex.specs.Pieces.{pieces_of, tokens_of};
 ghost use Rattle.snl_session.specs.Diagnostics.{diagnostics_of};
-ghost use Rattle.snl_session.specs.Entries.{entries_of};
+ghost use Rattle.snl_session.specs.Kept.{IsListed};
+ghost use Rattle.snl_session.specs.Planned.{AreEntriesMade, IsChanged};
 ghost use Rattle.snl_session.specs.Tables.{tables_in};
 
 use crate::edits::Work;
 use crate::entries::{Entry, entries_after, entries_along};
 use crate::findings::Diagnostic;
-use crate::judge::{Judgement, KeptText, judge};
+use crate::judge::{Judgement, judge};
+use crate::program::{CutText, items_end_in_order};
 use snl_check::Tables;
 use snl_cut::{Count, OutOfMemory};
 use snl_items::{ItemChange, ItemList, TokenChange, pieces_are_fresh};
-use snl_lex::{PieceChange, PieceList, TextEdit};
+use snl_lex::{Piece, PieceChange, PieceList, TextEdit, text_in_pieces, tokens_among};
 use snl_lists::Ordered;
 use std::alloc::Global;
 
-/// What a session keeps of a text beside the text.
+/// The lists that a session keeps of its text.
 #[derive(Clone, Copy)]
-pub struct Kept<'a> {
+pub struct Lists<'a> {
     pub pieces: &'a PieceList,
     pub items: &'a ItemList,
     pub entries: &'a Ordered<Entry>,
@@ -36,67 +37,151 @@ pub struct Changes {
     pub pieces: PieceChange,
     pub tokens: TokenChange,
     pub items: ItemChange,
-    pub made: Vec<Entry>,
 }
 
-/// The changes that an edit makes, what the new text is judged to say, and the cost.
+// What is made of the new text: what is kept of the fresh items, and what the text is judged to say.
+#[derive(Drop)]
+struct Anew {
+    made: Vec<Entry>,
+    judgement: Judgement,
+}
+
+/// The changes that an edit makes, what is kept of the fresh items, what the new text is judged to say, and the cost.
 #[derive(Drop)]
 pub struct Plan {
     pub changes: Changes,
+    pub made: Vec<Entry>,
     pub diagnostics: Vec<Diagnostic>,
     pub tables: Tables,
     pub work: Work,
 }
 
-// The items that an edit makes, each parsed once, from all tokens of the new text.
-fn made_items(
-    alloc: Global,
-    text: &[u8],
-    tokens: &[Piece],
-    items: &ItemList,
-    change: &ItemChange,
-    work: &mut Count,
-) -> Result<Vec<Entry>, OutOfMemory>
-{
-    let from = items.start_of(change.kept_front);
-    entries_along(alloc, text, tokens, from, &change.made, work)
-}
-
-// What an edit makes of the pieces, the tokens and the items.
+// What an edit makes of the pieces, the tokens and the items. Each made piece is one tick.
 fn changes_of(
     alloc: Global,
-    kept: Kept,
+    lists: &Lists,
     edit: &TextEdit,
-    lexed: &mut Count,
-    parsed: &mut Count,
+    work: &mut Count,
 ) -> Result<Changes, OutOfMemory>
+    requires lists { IsListed edit.now.old.now lists.now.pieces.now.ends.items lists.now.pieces.now.kinds.items lists.now.items.now.marks.items lists.now.items.now.ends.items lists.now.entries.now.values }
+    ensures changes { IfOk result (IsChanged edit.now.old.now edit.now.text.now edit.now.start edit.now.old_stop edit.now.new_stop) }
+    ensures ticks { IfOk result (λ c. work.new ≡ after_ticks work.old (length c.pieces.made.items)) }
 {
-    let pieces = kept.pieces.change(alloc, edit, lexed)?;
-    let tokens = TokenChange::of(alloc, kept.pieces, edit, &pieces)?;
-    let items = kept.items.change(alloc, edit, &tokens)?;
-    let all = kept.pieces.tokens_after(alloc, edit, &pieces)?;
-    let made = made_items(alloc, edit.text, &all, kept.items, &items, parsed)?;
-    Ok(Changes { pieces, tokens, items, made })
+    let pieces = lists.pieces.change(alloc, edit, work)?;
+    let tokens = TokenChange::of(alloc, lists.pieces, edit, &pieces)?;
+    let items = lists.items.change(alloc, edit, &tokens)?;
+    Ok(Changes {
+        pieces,
+        tokens,
+        items,
+    })
 }
 
-// What the new text is judged to say.
-fn judge_after(alloc: Global, kept: Kept, edit: &TextEdit, changes: &Changes) -> Result<Judgement, OutOfMemory>
+// What is kept of the fresh items, among all tokens of the new text. Each is parsed once.
+fn made_entries(
+    alloc: Global,
+    lists: &Lists,
+    edit: &TextEdit,
+    changes: &Changes,
+    tokens: &[Piece],
+    work: &mut Count,
+) -> Result<Vec<Entry>, OutOfMemory>
+    requires lists { IsListed edit.now.old.now lists.now.pieces.now.ends.items lists.now.pieces.now.kinds.items lists.now.items.now.marks.items lists.now.items.now.ends.items lists.now.entries.now.values }
+    requires changes { IsChanged edit.now.old.now edit.now.text.now edit.now.start edit.now.old_stop edit.now.new_stop changes.now }
+    requires tokens { tokens.now ≡ tokens_of edit.now.text.now }
+    ensures made { IfOk result (λ es. AreEntriesMade edit.now.old.now edit.now.text.now changes.now.items.kept_front es.items changes.now.items.kept_back) }
+    ensures ticks { IfOk result (λ es. work.new ≡ after_ticks work.old (length changes.now.items.made.items)) }
 {
-    let pieces = kept.pieces.pieces_after(alloc, edit, &changes.pieces)?;
+    text_in_pieces();
+    items_end_in_order();
+    let from = lists.items.start_of(changes.items.kept_front);
+    let ends = &changes.items.made;
+    let made = entries_along(alloc, edit.text, tokens, from, ends, work)?;
+    Ok(made)
+}
+
+// What the new text is judged to say, by its pieces and tokens and what is kept of the fresh items.
+fn judge_after(
+    alloc: Global,
+    lists: &Lists,
+    edit: &TextEdit,
+    changes: &Changes,
+    pieces: &[Piece],
+    tokens: &[Piece],
+    made: &[Entry],
+) -> Result<Judgement, OutOfMemory>
+    requires lists { IsListed edit.now.old.now lists.now.pieces.now.ends.items lists.now.pieces.now.kinds.items lists.now.items.now.marks.items lists.now.items.now.ends.items lists.now.entries.now.values }
+    requires changes { IsChanged edit.now.old.now edit.now.text.now edit.now.start edit.now.old_stop edit.now.new_stop changes.now }
+    requires pieces { pieces.now ≡ pieces_of edit.now.text.now }
+    requires tokens { tokens.now ≡ tokens_of edit.now.text.now }
+    requires made { AreEntriesMade edit.now.old.now edit.now.text.now changes.now.items.kept_front made.now changes.now.items.kept_back }
+    ensures diagnostics { IfOk result (λ j. j.diagnostics.items ≡ diagnostics_of edit.now.text.now) }
+    ensures tables { IfOk result (λ j. j.tables ≡ tables_in edit.now.text.now) }
+{
+    let Changes {
+        tokens: replaced,
+        items,
+        ..
+    } = changes;
+    let ends = lists.items.ends_after(alloc, edit, replaced, items)?;
+    let back = lists.entries.len() - items.kept_back;
+    let entries = entries_after(alloc, lists.entries, items.kept_front, made, back)?;
+    let cut = CutText {
+        text: edit.text,
+        pieces,
+        tokens,
+        ends: &ends,
+        entries: &entries,
+    };
+    let judgement = judge(alloc, &cut)?;
+    Ok(judgement)
+}
+
+// What is made of the new text, with these changes. Each item that is parsed is one tick.
+fn made_anew(
+    alloc: Global,
+    lists: &Lists,
+    edit: &TextEdit,
+    changes: &Changes,
+    work: &mut Count,
+) -> Result<Anew, OutOfMemory>
+    requires lists { IsListed edit.now.old.now lists.now.pieces.now.ends.items lists.now.pieces.now.kinds.items lists.now.items.now.marks.items lists.now.items.now.ends.items lists.now.entries.now.values }
+    requires changes { IsChanged edit.now.old.now edit.now.text.now edit.now.start edit.now.old_stop edit.now.new_stop changes.now }
+    ensures made { IfOk result (λ a. AreEntriesMade edit.now.old.now edit.now.text.now changes.now.items.kept_front a.made.items changes.now.items.kept_back) }
+    ensures diagnostics { IfOk result (λ a. a.judgement.diagnostics.items ≡ diagnostics_of edit.now.text.now) }
+    ensures tables { IfOk result (λ a. a.judgement.tables ≡ tables_in edit.now.text.now) }
+    ensures ticks { IfOk result (λ a. work.new ≡ after_ticks work.old (length changes.now.items.made.items)) }
+{
+    let pieces = lists.pieces.pieces_after(alloc, edit, &changes.pieces)?;
     let tokens = tokens_among(alloc, &pieces)?;
-    let ends = kept.items.ends_after(alloc, &changes.tokens, &changes.items)?;
-    let back = kept.entries.len() - changes.items.kept_back;
-    let entries = entries_after(alloc, kept.entries, changes.items.kept_front, &changes.made, back)?;
-    judge(alloc, &KeptText { text: edit.text, pieces: &pieces, tokens: &tokens, ends: &ends, entries: &entries })
+    let made = made_entries(alloc, lists, edit, changes, &tokens, work)?;
+    let judgement = judge_after(alloc, lists, edit, changes, &pieces, &tokens, &made)?;
+    Ok(Anew { made, judgement })
 }
 
-/// The plan of an edit of a text of which this is kept.
-pub fn plan_of(alloc: Global, kept: Kept, edit: &TextEdit) -> Result<Plan, OutOfMemory>
+/// The plan of an edit of the text that has these lists.
+pub fn plan_of(alloc: Global, lists: &Lists, edit: &TextEdit) -> Result<Plan, OutOfMemory>
+    requires lists { IsListed edit.now.old.now lists.now.pieces.now.ends.items lists.now.pieces.now.kinds.items lists.now.items.now.marks.items lists.now.items.now.ends.items lists.now.entries.now.values }
+    ensures changes { IfOk result (λ p. IsChanged edit.now.old.now edit.now.text.now edit.now.start edit.now.old_stop edit.now.new_stop p.changes) }
+    ensures made { IfOk result (λ p. AreEntriesMade edit.now.old.now edit.now.text.now p.changes.items.kept_front p.made.items p.changes.items.kept_back) }
+    ensures diagnostics { IfOk result (λ p. p.diagnostics.items ≡ diagnostics_of edit.now.text.now) }
+    ensures tables { IfOk result (λ p. p.tables ≡ tables_in edit.now.text.now) }
+    ensures lexed { IfOk result (λ p. p.work.lexed ≡ fresh_pieces_between edit.now.old.now edit.now.text.now edit.now.start edit.now.old_stop edit.now.new_stop) }
+    ensures parsed { IfOk result (λ p. p.work.parsed ≡ length (fresh_items_between edit.now.old.now edit.now.text.now edit.now.start edit.now.old_stop edit.now.new_stop)) }
 {
     pieces_are_fresh();
     let (mut lexed, mut parsed) = (Count::new(), Count::new());
-    let changes = changes_of(alloc, kept, edit, &mut lexed, &mut parsed)?;
-    let Judgement { diagnostics, tables } = judge_after(alloc, kept, edit, &changes)?;
-    let work = Work { lexed: lexed.ticks(), parsed: parsed.ticks(), checked: 0 };
-    Ok(Plan { changes, diagnostics, tables, work })
+    let changes = changes_of(alloc, lists, edit, &mut lexed)?;
+    let Anew { made, judgement } = made_anew(alloc, lists, edit, &changes, &mut parsed)?;
+    Ok(Plan {
+        changes,
+        made,
+        diagnostics: judgement.diagnostics,
+        tables: judgement.tables,
+        work: Work {
+            lexed: lexed.ticks(),
+            parsed: parsed.ticks(),
+            checked: 0,
+        },
+    })
 }

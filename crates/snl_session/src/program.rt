@@ -3,24 +3,39 @@
 //! It knows nothing of what the trees mean.
 #![tactic(auto)]
 
-ghost use Rattle.std.specs.Prelude.{◌≡◌, ◌<◌, ◌≤◌, ◌++◌, All, IfOk, OnOk, length, map};
+ghost use Rattle.std.specs.Prelude.{◌≡◌, ◌<◌, ◌≤◌, ◌++◌, All, IfOk, List, OnOk, length, map, ℕ};
 ghost use Rattle.std.specs.List.{filter_map};
 ghost use Rattle.snl_cut.specs.Cut.{members};
+ghost use Rattle.snl_items.specs.Items.{item_ends};
 ghost use Rattle.snl_lex.specs.PieceList.{spelled};
-ghost use Rattle.snl_lex.specs.Pieces.{LiesIn};
+ghost use Rattle.snl_lex.specs.Pieces.{LiesIn, pieces_of, tokens_of};
 ghost use Rattle.snl_syntax.specs.Outcome.{BlamesWithin};
-ghost use Rattle.snl_session.specs.Entries.{entry_by};
-ghost use Rattle.snl_session.specs.Faults.{at_token, fault_at, fault_in};
-ghost use Rattle.snl_session.specs.Parts.{EndsWithin, IsPart, part_of, tokens_of_part};
+ghost use Rattle.snl_session.specs.Entries.{entries_of, entry_by};
+ghost use Rattle.snl_session.specs.Faults.{at_token, fault_at, faults_of};
+ghost use Rattle.snl_session.specs.Parts.{EndsWithin, IsPart, part_of};
 ghost use Rattle.snl_session.specs.Program.{program_item};
 
 use crate::entries::Entry;
 use crate::findings::Finding;
-use snl_cut::OutOfMemory;
+use snl_cut::{OutOfMemory, one_cut};
 use snl_lex::Piece;
-use snl_scope::Code;
-use snl_syntax::Parsed;
+use snl_scope::{Code, same_spelling_same_summary};
+use snl_syntax::{Parsed, Tokens, outcome_told, same_spelling_same_tree};
 use std::alloc::Global;
+
+/// A text as it is cut: its pieces, its tokens, where its items end among these, and what is kept of each item.
+#[derive(Clone, Copy)]
+pub struct CutText<'a> {
+    pub text: &'a [u8],
+    pub pieces: &'a [Piece],
+    pub tokens: &'a [Piece],
+    pub ends: &'a [u32],
+    pub entries: &'a [&'a Entry],
+    ghost pieces_are: { pieces.now ≡ pieces_of text.now },
+    ghost tokens_are: { tokens.now ≡ tokens_of text.now },
+    ghost ends_are: { ends.now ≡ item_ends text.now },
+    ghost entries_are: { map (λ e. e.now) entries.now ≡ entries_of text.now },
+}
 
 /// An item of a text: which of the text's tokens are its own, and what is kept of it.
 #[derive(Clone, Copy)]
@@ -30,12 +45,19 @@ pub struct Part<'a> {
     pub entry: &'a Entry,
 }
 
+/// The items of a text end one after another, each among its tokens.
+pub fn items_end_in_order()
+    ensures { (text : List ℕ) → EndsWithin 0 (item_ends text) (length (tokens_of text)) }
+{
+    one_cut::<Tokens>();
+}
+
 /// The items that end at these tokens.
 pub fn parts_along<'a>(
     alloc: Global,
     text: &[u8],
     tokens: &[Piece],
-    ends: &[usize],
+    ends: &[u32],
     entries: &[&'a Entry],
 ) -> Result<Vec<Part<'a>>, OutOfMemory>
     requires ends { EndsWithin 0 ends.now (length tokens.now) }
@@ -43,15 +65,15 @@ pub fn parts_along<'a>(
     ensures items { IfOk result (λ parts. map (part_of tokens.now) parts.items ≡ map (program_item text.now) (members tokens.now 0 ends.now)) }
     ensures inside { IfOk result (λ parts. All (IsPart text.now tokens.now) parts.items) }
 {
+    outcome_told();
+    same_spelling_same_tree();
+    same_spelling_same_summary();
     let mut parts = Vec::new(alloc);
     let mut start = 0;
-    for (i, stop) in ends.iter().enumerate() {
-        let stop = *stop;
-        parts.push(Part {
-            start,
-            stop,
-            entry: entries[i],
-        })?;
+    for (number, end) in ends.iter().enumerate() {
+        let stop = *end as usize;
+        let entry = entries[number];
+        parts.push(Part { start, stop, entry })?;
         start = stop;
     }
     Ok(parts)
@@ -87,10 +109,10 @@ pub fn add_faults(
     parts: &[Part],
     found: &mut Vec<Finding>,
 ) -> Result<(), OutOfMemory>
-    requires within { All (LiesIn text.now) tokens.now }
     requires parts { All (IsPart text.now tokens.now) parts.now }
-    ensures { OnOk result (found.new.items ≡ found.old.items ++ filter_map (fault_in text.now) (map (tokens_of_part tokens.now) parts.now)) }
+    ensures { OnOk result (found.new.items ≡ found.old.items ++ faults_of text.now (map (part_of tokens.now) parts.now)) }
 {
+    outcome_told();
     for part in parts {
         let own = &tokens[part.start..part.stop];
         if let Some(fault) = fault_at(own, &part.entry.parsed) {

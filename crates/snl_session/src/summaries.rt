@@ -9,7 +9,7 @@ ghost use Rattle.snl_session.specs.Parts.{IsPart, part_of};
 use crate::program::Part;
 use snl_cut::OutOfMemory;
 use snl_lex::Piece;
-use snl_scope::{Links, Summary, link, same_spelling_same_summary};
+use snl_scope::{Links, Summary, link};
 use std::alloc::Global;
 
 // The summary of each item.
@@ -22,7 +22,6 @@ fn summaries_of<'a>(
     requires parts { All (IsPart text.now tokens.now) parts.now }
     ensures { IfOk result (λ v. map (λ s. s.now) v.items ≡ summaries_of text.now (map (part_of tokens.now) parts.now)) }
 {
-    same_spelling_same_summary();
     let mut summaries = Vec::new(alloc);
     for part in parts {
         summaries.push(&part.entry.summary)?;

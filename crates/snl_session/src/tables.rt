@@ -44,13 +44,24 @@ fn checks_of(
     Ok(checks)
 }
 
+// The same ends, as the machine counts.
+fn widened(alloc: Global, ends: &[u32]) -> Result<Vec<usize>, OutOfMemory>
+    ensures { IfOk result (λ w. w.items ≡ ends.now) }
+{
+    let mut wide = Vec::new(alloc);
+    for end in ends {
+        wide.push(*end as usize)?;
+    }
+    Ok(wide)
+}
+
 /// The tables of a program. `ends` has, for each item, the number of the token after it.
 pub fn tables_of(
     alloc: Global,
     text: &[u8],
     pieces: &[Piece],
     tokens: &[Piece],
-    ends: &[usize],
+    ends: &[u32],
     parts: &[Part],
     links: &Links,
     checked: &[Option<Checked>],
@@ -63,8 +74,9 @@ pub fn tables_of(
     requires checked { map uses_kept checked.now ≡ map (uses_in_item text.now) (map (part_of tokens.now) parts.now) }
     ensures { IfOk result (λ t. t ≡ tables_of text.now (map (part_of tokens.now) parts.now)) }
 {
+    let ends = widened(alloc, ends)?;
     let trees = trees_of(alloc, parts)?;
     let checks = checks_of(alloc, checked)?;
-    let tables = tables_by_tokens(alloc, text, pieces, tokens, ends, &trees, links, &checks)?;
+    let tables = tables_by_tokens(alloc, text, pieces, tokens, &ends, &trees, links, &checks)?;
     Ok(tables)
 }
