@@ -8,10 +8,7 @@ use Rattle.snl_check.specs.Items.{ProgramItem, program_items}
 use Rattle.snl_session.specs.declared.program.Part.{Part}
 use Rattle.snl_session.specs.Parts.{part_of, tree_of_part}
 use Rattle.snl_session.specs.Program.{program_item, tree_in}
-
-members_count : {X : Type 0} (units : List X) (from : ℕ) (ends : List ℕ) → length (members units from ends) ≡ length ends
-members_count units from [] = refl
-members_count units from (e ∷ es) = ap suc (members_count units e es)
+use Rattle.snl_session.proofs.Members.{members_count}
 
 -- each of these lists of tokens beside its tree
 beside : (text : List ℕ) (ms : List (List Piece)) → map (λ p. record { tokens = p.0; tree = p.1 }) (zip ms (map (tree_in text) ms)) ≡ map (program_item text) ms

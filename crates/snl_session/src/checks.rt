@@ -60,8 +60,8 @@ fn add_item(
     found: &mut Vec<Finding>,
 ) -> Result<Option<Checked>, OutOfMemory>
     requires { All (LiesIn text.now) own.now }
-    ensures found { OnOk result (found.new.items ≡ found.old.items ++ found_in_item text.now links.now.outlines (item, record { tokens = own.now; tree = option_copied tree })) }
-    ensures uses { IfOk result (λ checked. uses_kept checked ≡ uses_in_item text.now (record { tokens = own.now; tree = option_copied tree })) }
+    ensures found { OnOk result (found.new.items ≡ found.old.items ++ found_in_item text.now links.now.outlines (item, record { tokens = own.now; tree = option_copied tree.entry })) }
+    ensures uses { IfOk result (λ checked. uses_kept checked ≡ uses_in_item text.now (record { tokens = own.now; tree = option_copied tree.entry })) }
 {
     let Some(tree) = tree else {
         return Ok(None);

@@ -3,7 +3,7 @@
 #![tactic(auto)]
 
 ghost use Rattle.std.specs.Prelude.{◌≡◌, IfOk, length};
-ghost use Rattle.snl_cut.specs.Cut.{Counted, after_ticks};
+ghost use Rattle.snl_cut.specs.Cut.{after_ticks};
 ghost use Rattle.snl_items.specs.Fresh.{fresh_items_between, fresh_pieces_between};
 ghost use Rattle.snl_lex.specs.Pieces.{pieces_of, tokens_of};
 ghost use Rattle.snl_session.specs.Diagnostics.{diagnostics_of};
@@ -15,21 +15,13 @@ use crate::edits::Work;
 use crate::entries::{Entry, entries_after, entries_along};
 use crate::findings::Diagnostic;
 use crate::judge::{Judgement, judge};
+use crate::lists::Lists;
 use crate::program::{CutText, items_end_in_order};
 use snl_check::Tables;
 use snl_cut::{Count, OutOfMemory};
-use snl_items::{ItemChange, ItemList, TokenChange, pieces_are_fresh};
-use snl_lex::{Piece, PieceChange, PieceList, TextEdit, text_in_pieces, tokens_among};
-use snl_lists::Ordered;
+use snl_items::{ItemChange, TokenChange, pieces_are_fresh};
+use snl_lex::{Piece, PieceChange, TextEdit, text_in_pieces, tokens_among};
 use std::alloc::Global;
-
-/// The lists that a session keeps of its text.
-#[derive(Clone, Copy)]
-pub struct Lists<'a> {
-    pub pieces: &'a PieceList,
-    pub items: &'a ItemList,
-    pub entries: &'a Ordered<Entry>,
-}
 
 /// What an edit makes of the pieces, the tokens and the items.
 #[derive(Drop)]
@@ -63,12 +55,12 @@ fn changes_of(
     edit: &TextEdit,
     work: &mut Count,
 ) -> Result<Changes, OutOfMemory>
-    requires lists { IsListed edit.now.old.now lists.now.pieces.now.ends.items lists.now.pieces.now.kinds.items lists.now.items.now.marks.items lists.now.items.now.ends.items lists.now.entries.now.values }
+    requires lists { IsListed edit.now.old.now lists.now }
     ensures changes { IfOk result (IsChanged edit.now.old.now edit.now.text.now edit.now.start edit.now.old_stop edit.now.new_stop) }
     ensures ticks { IfOk result (λ c. work.new ≡ after_ticks work.old (length c.pieces.made.items)) }
 {
     let pieces = lists.pieces.change(alloc, edit, work)?;
-    let tokens = TokenChange::of(alloc, lists.pieces, edit, &pieces)?;
+    let tokens = TokenChange::of(alloc, &lists.pieces, edit, &pieces)?;
     let items = lists.items.change(alloc, edit, &tokens)?;
     Ok(Changes {
         pieces,
@@ -86,7 +78,7 @@ fn made_entries(
     tokens: &[Piece],
     work: &mut Count,
 ) -> Result<Vec<Entry>, OutOfMemory>
-    requires lists { IsListed edit.now.old.now lists.now.pieces.now.ends.items lists.now.pieces.now.kinds.items lists.now.items.now.marks.items lists.now.items.now.ends.items lists.now.entries.now.values }
+    requires lists { IsListed edit.now.old.now lists.now }
     requires changes { IsChanged edit.now.old.now edit.now.text.now edit.now.start edit.now.old_stop edit.now.new_stop changes.now }
     requires tokens { tokens.now ≡ tokens_of edit.now.text.now }
     ensures made { IfOk result (λ es. AreEntriesMade edit.now.old.now edit.now.text.now changes.now.items.kept_front es.items changes.now.items.kept_back) }
@@ -110,7 +102,7 @@ fn judge_after(
     tokens: &[Piece],
     made: &[Entry],
 ) -> Result<Judgement, OutOfMemory>
-    requires lists { IsListed edit.now.old.now lists.now.pieces.now.ends.items lists.now.pieces.now.kinds.items lists.now.items.now.marks.items lists.now.items.now.ends.items lists.now.entries.now.values }
+    requires lists { IsListed edit.now.old.now lists.now }
     requires changes { IsChanged edit.now.old.now edit.now.text.now edit.now.start edit.now.old_stop edit.now.new_stop changes.now }
     requires pieces { pieces.now ≡ pieces_of edit.now.text.now }
     requires tokens { tokens.now ≡ tokens_of edit.now.text.now }
@@ -125,7 +117,7 @@ fn judge_after(
     } = changes;
     let ends = lists.items.ends_after(alloc, edit, replaced, items)?;
     let back = lists.entries.len() - items.kept_back;
-    let entries = entries_after(alloc, lists.entries, items.kept_front, made, back)?;
+    let entries = entries_after(alloc, &lists.entries, items.kept_front, made, back)?;
     let cut = CutText {
         text: edit.text,
         pieces,
@@ -145,7 +137,7 @@ fn made_anew(
     changes: &Changes,
     work: &mut Count,
 ) -> Result<Anew, OutOfMemory>
-    requires lists { IsListed edit.now.old.now lists.now.pieces.now.ends.items lists.now.pieces.now.kinds.items lists.now.items.now.marks.items lists.now.items.now.ends.items lists.now.entries.now.values }
+    requires lists { IsListed edit.now.old.now lists.now }
     requires changes { IsChanged edit.now.old.now edit.now.text.now edit.now.start edit.now.old_stop edit.now.new_stop changes.now }
     ensures made { IfOk result (λ a. AreEntriesMade edit.now.old.now edit.now.text.now changes.now.items.kept_front a.made.items changes.now.items.kept_back) }
     ensures diagnostics { IfOk result (λ a. a.judgement.diagnostics.items ≡ diagnostics_of edit.now.text.now) }
@@ -161,7 +153,7 @@ fn made_anew(
 
 /// The plan of an edit of the text that has these lists.
 pub fn plan_of(alloc: Global, lists: &Lists, edit: &TextEdit) -> Result<Plan, OutOfMemory>
-    requires lists { IsListed edit.now.old.now lists.now.pieces.now.ends.items lists.now.pieces.now.kinds.items lists.now.items.now.marks.items lists.now.items.now.ends.items lists.now.entries.now.values }
+    requires lists { IsListed edit.now.old.now lists.now }
     ensures changes { IfOk result (λ p. IsChanged edit.now.old.now edit.now.text.now edit.now.start edit.now.old_stop edit.now.new_stop p.changes) }
     ensures made { IfOk result (λ p. AreEntriesMade edit.now.old.now edit.now.text.now p.changes.items.kept_front p.made.items p.changes.items.kept_back) }
     ensures diagnostics { IfOk result (λ p. p.diagnostics.items ≡ diagnostics_of edit.now.text.now) }

@@ -5,11 +5,11 @@
 ghost use Rattle.std.specs.Prelude.{◌≡◌, ℕ, ◌+◌, ◌≤◌, [], ◌++◌, List, length, IfOk, OnOk, OnErr, IsErrOf, IsOkUnless, MatchOption, None, string_bytes};
 
 use crate::edits::{Refused, Work};
-use crate::entries::Entry;
 use crate::findings::Diagnostic;
 use crate::judge::judge;
 use crate::laws::rows_have_bytes;
-use crate::plan::{Lists, Plan, plan_of};
+use crate::lists::Lists;
+use crate::plan::{Plan, plan_of};
 use crate::program::CutText;
 use snl_check::Tables;
 use snl_cut::OutOfMemory;
@@ -27,9 +27,7 @@ const LIMIT: usize = 1_048_576;
 #[derive(Drop)]
 pub struct Session {
     text: Vec<u8>,
-    pieces: PieceList,
-    items: ItemList,
-    entries: Ordered<Entry>,
+    lists: Lists,
     found: Vec<Diagnostic>,
     tables: Tables,
 }
@@ -42,10 +40,7 @@ impl Model for Session {
 
     ghost view = { λ s. s.text.items };
 
-    ghost invariant = { λ s.
-      IsListed s.text.items s.pieces.ends.items s.pieces.kinds.items s.items.marks.items s.items.ends.items s.entries.values
-      × IsJudged s.text.items s.found.items s.tables
-    };
+    ghost invariant = { λ s. IsListed s.text.items s.lists × IsJudged s.text.items s.found.items s.tables };
 }
 
 impl Session {
@@ -169,26 +164,16 @@ impl Session {
             old_stop: stop,
             new_stop: start + new.len(),
         };
-        let lists = Lists {
-            pieces: &self.pieces,
-            items: &self.items,
-            entries: &self.entries,
-        };
+        let plan = plan_of(alloc, &self.lists, &edit)?;
+        self.lists.reserve(&plan.changes, plan.made.len())?;
         let Plan {
             changes,
             made,
             diagnostics,
             tables,
             work,
-        } = plan_of(alloc, &lists, &edit)?;
-        self.pieces.reserve(changes.pieces.made.len())?;
-        self.items
-            .reserve(changes.tokens.marks.len(), changes.items.made.len())?;
-        self.entries.reserve(made.len())?;
-        let back = self.entries.len() - changes.items.kept_back;
-        self.pieces.commit(&edit, &changes.pieces);
-        self.items.commit(&edit, &changes.tokens, &changes.items);
-        self.entries.replace(changes.items.kept_front, back, made);
+        } = plan;
+        self.lists.commit(&edit, &changes, made);
         self.found = diagnostics;
         self.tables = tables;
         self.text = text;
@@ -207,8 +192,7 @@ impl Session {
             entries: &[],
         };
         let judgement = judge(alloc, &cut)?;
-        Ok(Session {
-            text: Vec::new(alloc),
+        let lists = Lists {
             pieces: PieceList {
                 ends: Vec::new(alloc),
                 kinds: Vec::new(alloc),
@@ -218,6 +202,10 @@ impl Session {
                 ends: Vec::new(alloc),
             },
             entries: Ordered::new(alloc),
+        };
+        Ok(Session {
+            text: Vec::new(alloc),
+            lists,
             found: judgement.diagnostics,
             tables: judgement.tables,
         })

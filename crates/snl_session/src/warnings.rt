@@ -17,14 +17,9 @@ use snl_syntax::tree::item::Item;
 use std::alloc::Global;
 
 // What an item says of warnings.
-fn setting_in(
-    source: &Source,
-    tree: Option<&Item>,
-    links: &Links,
-    item: usize,
-) -> Option<bool>
+fn setting_in(source: &Source, tree: Option<&Item>, links: &Links, item: usize) -> Option<bool>
     requires { All (LiesIn source.now.text.now) source.now.tokens.now }
-    ensures { result ≡ setting_in source.now.text.now links.now.outlines item source.now.tokens.now (option_copied tree) }
+    ensures { result ≡ setting_in source.now.text.now links.now.outlines item source.now.tokens.now (option_copied tree.entry) }
 {
     match tree {
         Some(tree) => warning_setting(source, tree, links, item),
