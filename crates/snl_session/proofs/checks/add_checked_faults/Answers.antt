@@ -37,13 +37,13 @@ loop-item-preserved c =
           _ _ _
           (ap (enumerate_from i) here)
           (c.in_ok-kept.ensures.found
-          ∙ ap (λ t. c.loop-item.found.items ++ found (i, item_with t)) c.tree.ensures
+          ∙ ap (λ t. c.loop-item.found.items ++ found (i, item_with t)) c.tree-tree.ensures
           ∙ ap (λ l. c.loop-item.found.items ++ l) (sym (append-nil (found (i, item first)))))
           c.loop-item.invariant.found;
       uses =
           ap (map uses_kept) c.in_ok-push.ensures.items ∙ map-append uses_kept c.loop-item.checked.items (c.in_ok-kept.kept ∷ [])
           ∙ ap (λ l. l ++ uses_kept c.in_ok-kept.kept ∷ []) c.loop-item.invariant.uses
-          ∙ ap (λ u. map uses (map item (take i parts)) ++ u ∷ []) (c.in_ok-kept.ensures.uses ∙ ap (λ t. uses (item_with t)) c.tree.ensures)
+          ∙ ap (λ u. map uses (map item (take i parts)) ++ u ∷ []) (c.in_ok-kept.ensures.uses ∙ ap (λ t. uses (item_with t)) c.tree-tree.ensures)
           ∙ sym (map-append uses (map item (take i parts)) (item first ∷ []))
           ∙ ap (map uses) (sym (map-append item (take i parts) (first ∷ [])))
           ∙ ap (λ l. map uses (map item l)) (sym (take_more parts i first (drop_here parts i first c.loop-item-test.true c.index-parts-item.is)));

@@ -1,4 +1,4 @@
-use Rattle.std.proofs.Common.{arith, ◌≡◌, ℕ, zero, suc, ◌+◌, ◌-◌, ◌<◌, ◌≤◌, ◌++◌, ◌∷◌, [], ⊥, List, length, map, take, drop, get_or, Option, Some, None, ap, sym, ◌∙◌, append_assoc, length-drop, option_copied, Bor}
+use Rattle.std.proofs.Common.{arith, ◌≡◌, ℕ, zero, suc, ◌+◌, ◌-◌, ◌<◌, ◌≤◌, ◌++◌, ◌∷◌, [], List, length, map, take, drop, get_or, Option, Some, None, ap, sym, ◌∙◌, append_assoc, length-drop, option_copied, Bor}
 use Rattle.std.specs.List.{slice_get}
 use Rattle.std.proofs.lemmas.List.{get_or-drop, map-append}
 use Rattle.std.proofs.lemmas.Option.{slice_get-get_or}
