@@ -1,6 +1,7 @@
 //! The items of a text as two lists, which an edit changes in place: what each token is to the cut, and where each item ends.
 //! In: tokens; after an edit what it makes of them. Out: the lists, those of the new text after a change that can't fail.
 
+ghost use Rattle.snl_cut.specs.Cut.{last_end};
 ghost use Rattle.snl_items.specs.Changes.{IsItemChange, IsTokenChange};
 ghost use Rattle.snl_items.specs.Items.{item_ends, marks_of};
 ghost use Rattle.snl_lex.specs.Pieces.{tokens_of};
@@ -62,6 +63,32 @@ fn edited(
     marks.extend_from_slice(made)?;
     marks.extend_from_slice(&old[edit.old_stop..])?;
     Ok(marks)
+}
+
+// Makes the ends of the old text's items those of the new one's. There is room for those that are made.
+fn change_ends(
+    ends: &mut Vec<u32>,
+    edit: &TextEdit,
+    tokens: &TokenChange,
+    items: &ItemChange,
+)
+    requires ends { ends.old.items ≡ item_ends edit.now.old.now }
+    requires tokens { IsTokenChange edit.now.old.now edit.now.text.now edit.now.start edit.now.old_stop edit.now.new_stop tokens.now.edit tokens.now.made.items tokens.now.marks.items tokens.now.same }
+    requires items { IsItemChange edit.now.old.now edit.now.text.now edit.now.start edit.now.old_stop edit.now.new_stop tokens.now.edit items.now.kept_front items.now.made.items items.now.kept_back }
+    requires room { vec_len ends.old + vec_len items.now.made ≤ vec_capacity ends.old }
+    ensures { ends.new.items ≡ item_ends edit.now.text.now }
+{
+    few_tokens();
+    ends_in_order::<Tokens>();
+    let back = ends.len() - items.kept_back;
+    replace_and_shift(
+        ends,
+        items.kept_front,
+        back,
+        &items.made,
+        tokens.edit.old_stop as u32,
+        tokens.edit.new_stop as u32,
+    );
 }
 
 impl ItemList {
@@ -146,6 +173,38 @@ impl ItemList {
         self.recut(alloc, edit, tokens)
     }
 
+    /// Where the items of the new text end, where this is the list of the old one's. The only error is want of memory.
+    pub fn ends_after(
+        &self,
+        alloc: Global,
+        edit: &TextEdit,
+        tokens: &TokenChange,
+        items: &ItemChange,
+    ) -> Result<Vec<u32>, OutOfMemory>
+        requires ends { self.now.ends.items ≡ item_ends edit.now.old.now }
+        requires tokens { IsTokenChange edit.now.old.now edit.now.text.now edit.now.start edit.now.old_stop edit.now.new_stop tokens.now.edit tokens.now.made.items tokens.now.marks.items tokens.now.same }
+        requires items { IsItemChange edit.now.old.now edit.now.text.now edit.now.start edit.now.old_stop edit.now.new_stop tokens.now.edit items.now.kept_front items.now.made.items items.now.kept_back }
+        ensures { IfOk result (λ r. r.items ≡ item_ends edit.now.text.now) }
+    {
+        let mut ends = Vec::new(alloc);
+        ends.extend_from_slice(&self.ends)?;
+        ends.reserve(items.made.len())?;
+        change_ends(&mut ends, edit, tokens, items);
+        Ok(ends)
+    }
+
+    /// The number of the token with which the item with a number begins.
+    pub fn start_of(&self, number: usize) -> usize
+        requires { number ≤ length self.now.ends.items }
+        ensures { result ≡ last_end 0 (take number self.now.ends.items) }
+    {
+        if number == 0 {
+            0
+        } else {
+            self.ends[number - 1] as usize
+        }
+    }
+
     /// Makes room for so many tokens and items more. An error leaves the lists as they were.
     pub fn reserve(&mut self, tokens: usize, items: usize) -> Result<(), OutOfMemory>
         ensures marks { self.new.marks.items ≡ self.old.marks.items }
@@ -169,17 +228,7 @@ impl ItemList {
         ensures marks { self.new.marks.items ≡ marks_of edit.now.text.now }
         ensures ends { self.new.ends.items ≡ item_ends edit.now.text.now }
     {
-        few_tokens();
-        ends_in_order::<Tokens>();
-        let back = self.ends.len() - items.kept_back;
-        replace_and_shift(
-            &mut self.ends,
-            items.kept_front,
-            back,
-            &items.made,
-            tokens.edit.old_stop as u32,
-            tokens.edit.new_stop as u32,
-        );
+        change_ends(&mut self.ends, edit, tokens, items);
         replace(
             &mut self.marks,
             tokens.edit.start,

@@ -1,10 +1,12 @@
-pub mod Counts
 pub mod Ends
 pub mod Offsets
+pub mod Parts
 pub mod Rising
 pub mod Faults
+pub mod Members
 pub mod Ranks
 pub mod Sorting
 pub mod Steps
+pub mod Ticks
 pub mod Trees
 pub mod TextSpans

@@ -2,17 +2,17 @@
 use Rattle.std.proofs.Common.{◌≡◌, ℕ, zero, suc, ◌-◌, Bool, true, false, if◌then◌else◌, List, [], ◌∷◌, All, drop, map, None, Some}
 use Rattle.std.specs.List.{list_any}
 use Rattle.std.proofs.lemmas.List.Elements.{All-drop, All-filter, All-nil, All-take}
-use Rattle.snl_cut.specs.Cut.{ends_of, members}
+use Rattle.snl_cut.specs.Cut.{members}
 use Rattle.snl_lex.specs.declared.piece.Piece.{Piece}
 use Rattle.snl_lex.specs.Pieces.{LiesIn, is_token, pieces_of, tokens_of}
 use Rattle.snl_syntax.specs.declared.tree.item.Item.{Item}
-use Rattle.snl_syntax.specs.Items.{item}
 use Rattle.snl_syntax.specs.Parsing.{is_bad, kinds_in}
 use Rattle.snl_syntax.specs.Reading.Items.{item_of}
 use Rattle.snl_scope.specs.Summaries.Tokens.{IsSource}
 use Rattle.snl_check.specs.Items as items
 use Rattle.snl_check.specs.Spans.{AreRead}
-use Rattle.snl_session.specs.Program.{item_tokens, items_of, mark_in, program_item, tree_in}
+use Rattle.snl_items.specs.Items.{item_ends}
+use Rattle.snl_session.specs.Program.{item_tokens, items_of, program_item, tree_in}
 
 -- what holds of each token holds of each of an item
 module _ (text : List ℕ) (P : Piece → Type 0) (tokens : List Piece) (each : All P tokens) where
@@ -37,7 +37,7 @@ read_trees text (m ∷ ms) (suc i) t is = read_trees text ms i t is
 module _ (text : List ℕ) (inside : All (LiesIn text) (pieces_of text)) where
   each_item : (i : ℕ) → All (LiesIn text) (items.tokens_in (items_of text) i)
   unfolding item_tokens
-  each_item = in_item text (LiesIn text) (tokens_of text) (All-filter is_token (LiesIn text) (pieces_of text) inside) 0 (ends_of item (map (mark_in text) (tokens_of text)))
+  each_item = in_item text (LiesIn text) (tokens_of text) (All-filter is_token (LiesIn text) (pieces_of text) inside) 0 (item_ends text)
 
   pub tokens_lie : (i : ℕ) → IsSource text (items.tokens_in (items_of text) i)
   tokens_lie i = λ n d within. (each_item i n d within).1

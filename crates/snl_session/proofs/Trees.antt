@@ -6,21 +6,18 @@ use Rattle.snl_cut.specs.Cut.{members}
 use Rattle.snl_lex.specs.declared.piece.Piece.{Piece}
 use Rattle.snl_check.specs.Items.{ProgramItem, program_items}
 use Rattle.snl_session.specs.declared.program.Part.{Part}
-use Rattle.snl_session.specs.Parts.{part_of}
+use Rattle.snl_session.specs.Parts.{part_of, tree_of_part}
 use Rattle.snl_session.specs.Program.{program_item, tree_in}
-
-members_count : {X : Type 0} (units : List X) (from : ℕ) (ends : List ℕ) → length (members units from ends) ≡ length ends
-members_count units from [] = refl
-members_count units from (e ∷ es) = ap suc (members_count units e es)
+use Rattle.snl_session.proofs.Members.{members_count}
 
 -- each of these lists of tokens beside its tree
 beside : (text : List ℕ) (ms : List (List Piece)) → map (λ p. record { tokens = p.0; tree = p.1 }) (zip ms (map (tree_in text) ms)) ≡ map (program_item text) ms
 beside text [] = refl
 beside text (m ∷ ms) = ap (λ xs. program_item text m ∷ xs) (beside text ms)
 
-trees_of_parts : (tokens : List Piece) (parts : List Part) → map (λ (x : ProgramItem). x.tree) (map (part_of tokens) parts) ≡ map (λ (part : Part). part.tree) parts
+trees_of_parts : (tokens : List Piece) (parts : List Part) → map (λ (x : ProgramItem). x.tree) (map (part_of tokens) parts) ≡ map tree_of_part parts
 trees_of_parts tokens [] = refl
-trees_of_parts tokens (part ∷ parts) = ap (λ ts. part.tree ∷ ts) (trees_of_parts tokens parts)
+trees_of_parts tokens (part ∷ parts) = ap (λ ts. tree_of_part part ∷ ts) (trees_of_parts tokens parts)
 
 trees_of_items : (text : List ℕ) (ms : List (List Piece)) → map (λ (x : ProgramItem). x.tree) (map (program_item text) ms) ≡ map (tree_in text) ms
 trees_of_items text [] = refl
@@ -34,7 +31,7 @@ module _ (text : List ℕ) (tokens : List Piece) (ends : List ℕ) (parts : List
   parts_count = sym (length-map parts (part_of tokens)) ∙ ap length same ∙ length-map (members tokens 0 ends) (program_item text) ∙ members_count tokens 0 ends
 
   -- and the ends and their trees give the items
-  pub trees_give : program_items tokens ends (map (λ (part : Part). part.tree) parts) ≡ map (program_item text) (members tokens 0 ends)
+  pub trees_give : program_items tokens ends (map tree_of_part parts) ≡ map (program_item text) (members tokens 0 ends)
   trees_give =
       ap (program_items tokens ends) (sym (trees_of_parts tokens parts) ∙ ap (map (λ (x : ProgramItem). x.tree)) same ∙ trees_of_items text (members tokens 0 ends))
       ∙ beside text (members tokens 0 ends)

@@ -18,7 +18,7 @@ use Rattle.snl_session.specs.Warnings.{shows_warnings}
 -- What is found in a text: at its faulty items, by the links of its items, in each item by itself, and by the walks of its
 -- state sets.
 unfoldable pub found : List ℕ → List Finding
-found text = faults_of text ++ linked_faults text (items_of text) ++ checked_faults text (items_of text) ++ walked_faults text (items_of text)
+found text = faults_of text (items_of text) ++ linked_faults text (items_of text) ++ checked_faults text (items_of text) ++ walked_faults text (items_of text)
 
 -- What of it is shown: no warnings, where they are turned off.
 abbrev pub shown_of : List ℕ → List ProgramItem → List Finding → List Finding

@@ -1,5 +1,6 @@
 -- An edit of a text by a range of bytes: when it is refused, and the text that it gives.
-use Rattle.std.specs.Prelude.{ℕ, ◌+◌, ◌-◌, ◌||◌, ◌++◌, nat_lt, if◌then◌else◌, List, length, take, drop, Option, Some, None}
+use Rattle.std.specs.Prelude.{ℕ, ◌+◌, ◌-◌, ◌||◌, nat_lt, if◌then◌else◌, List, length, Option, Some, None}
+pub use Rattle.snl_items.specs.Fresh.{spliced}
 use Rattle.snl_session.specs.declared.edits.Refused.{Refused}
 use Rattle.snl_session.specs.declared.edits.Refused.TheVariants.{Range, Size}
 
@@ -13,7 +14,3 @@ refusal_of text start stop added =
     if nat_lt stop start || nat_lt (length text) stop then Some Range
     else if nat_lt limit (length text - (stop - start) + added) then Some Size
     else None
-
--- The text with other bytes in the place of those from start up to stop.
-abbrev pub spliced : List ℕ → ℕ → ℕ → List ℕ → List ℕ
-spliced text start stop new = take start text ++ new ++ drop stop text

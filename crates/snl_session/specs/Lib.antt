@@ -1,13 +1,14 @@
 pub mod Checked
 pub mod Diagnostics
 pub mod Edit
+pub mod Entries
 pub mod Faults
-pub mod Fresh
 pub mod Kept
 pub mod Linked
 pub mod Listing
 pub mod Order
 pub mod Parts
+pub mod Planned
 pub mod Program
 pub mod Tables
 pub mod Warnings

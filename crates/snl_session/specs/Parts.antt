@@ -1,18 +1,31 @@
--- The items of a text as the code keeps them: the number of an item's first token, that of the token behind it, and its tree.
-use Rattle.std.specs.Prelude.{ℕ, ◌-◌, ◌≤◌, List, length, take, drop}
+-- The items of a text as the code looks at them: the number of an item's first token, that of the token after it, and what is kept
+-- of the item.
+use Rattle.std.specs.Prelude.{◌≡◌, ℕ, ◌-◌, ◌<◌, ◌≤◌, List, length, take, drop, Option}
 use Rattle.snl_lex.specs.declared.piece.Piece.{Piece}
+use Rattle.snl_syntax.specs.Outcome.{parsed_in, sound_tree}
+use Rattle.snl_syntax.specs.declared.tree.item.Item.{Item}
+use Rattle.snl_scope.specs.Summaries.{summary_in}
 pub use Rattle.snl_check.specs.Items.{EndsWithin}
 use Rattle.snl_session.specs.declared.program.Part.{Part}
 use Rattle.snl_session.specs.Program.{ProgramItem}
-
--- The part is one of these tokens.
-abbrev pub IsPart : List Piece → Part → Type 0
-IsPart tokens part = (part.start ≤ part.stop) × (part.stop ≤ length tokens)
 
 -- The tokens from one number up to another.
 abbrev pub tokens_between : List Piece → ℕ → ℕ → List Piece
 tokens_between tokens start stop = take (stop - start) (drop start tokens)
 
+abbrev pub tokens_of_part : List Piece → Part → List Piece
+tokens_of_part tokens part = tokens_between tokens part.start part.stop
+
+abbrev pub tree_of_part : Part → Option Item
+tree_of_part part = sound_tree part.entry.now.parsed
+
+-- The part is some of these tokens, and what is kept of it is what these say.
+pub record IsPart (text : List ℕ) (tokens : List Piece) (part : Part) : Type 0 where
+  pub some : part.start < part.stop
+  pub inside : part.stop ≤ length tokens
+  pub parsed : part.entry.now.parsed ≡ parsed_in text (tokens_of_part tokens part)
+  pub summary : part.entry.now.summary ≡ summary_in text (tokens_of_part tokens part) (tree_of_part part)
+
 -- The item that a part of the tokens is.
 abbrev pub part_of : List Piece → Part → ProgramItem
-part_of tokens part = record { tokens = tokens_between tokens part.start part.stop; tree = part.tree }
+part_of tokens part = record { tokens = tokens_of_part tokens part; tree = tree_of_part part }

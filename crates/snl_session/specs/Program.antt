@@ -1,24 +1,18 @@
 -- The items of a text: its tokens, cut into items, and the tree of each.
 use Rattle.std.specs.Prelude.{ℕ, if◌then◌else◌, List, map, Option, None}
 use Rattle.std.specs.List.{list_any}
-use Rattle.snl_cut.specs.Cut.{ends_of, members}
+use Rattle.snl_cut.specs.Cut.{members}
 use Rattle.snl_lex.specs.declared.piece.Piece.{Piece}
-use Rattle.snl_lex.specs.Pieces.{bytes_at, tokens_of}
-use Rattle.snl_syntax.specs.declared.marks.Mark.{Mark}
+use Rattle.snl_lex.specs.Pieces.{tokens_of}
 use Rattle.snl_syntax.specs.declared.tree.item.Item.{Item}
-use Rattle.snl_syntax.specs.Items.{item}
-use Rattle.snl_syntax.specs.Marks.{mark_of}
 use Rattle.snl_syntax.specs.Parsing.{is_bad, kinds_in}
 use Rattle.snl_syntax.specs.Reading.Items.{item_of}
+use Rattle.snl_items.specs.Items.{item_ends}
 pub use Rattle.snl_check.specs.Items.{ProgramItem}
-
--- What a token is to the cut into items.
-abbrev pub mark_in : List ℕ → Piece → Mark
-mark_in text p = mark_of p.kind (bytes_at text p)
 
 -- The tokens of a text, item by item.
 unfoldable pub item_tokens : List ℕ → List (List Piece)
-item_tokens text = members (tokens_of text) 0 (ends_of item (map (mark_in text) (tokens_of text)))
+item_tokens text = members (tokens_of text) 0 (item_ends text)
 
 -- The tree of an item. An item is faulty if it holds a Bad token, or if the grammar has no tree for its tokens.
 abbrev pub tree_in : List ℕ → List Piece → Option Item

@@ -4,6 +4,7 @@
 #![tactic(auto)]
 
 ghost use Rattle.std.specs.Prelude.{◌≡◌, ◌++◌, All, IfOk, OnOk, map};
+ghost use Rattle.std.specs.Option.{option_copied};
 ghost use Rattle.snl_lex.specs.Pieces.{LiesIn};
 ghost use Rattle.snl_check.specs.Conditions.{uses_in_item};
 ghost use Rattle.snl_session.specs.Checked.{HasOffset, at_own_token, checked_faults, found_in_item, uses_kept};
@@ -52,15 +53,15 @@ fn add_item(
     alloc: Global,
     text: &[u8],
     own: &[Piece],
-    tree: &Option<Item>,
+    tree: Option<&Item>,
     links: &Links,
     item: usize,
     work: &mut Count,
     found: &mut Vec<Finding>,
 ) -> Result<Option<Checked>, OutOfMemory>
     requires { All (LiesIn text.now) own.now }
-    ensures found { OnOk result (found.new.items ≡ found.old.items ++ found_in_item text.now links.now.outlines (item, record { tokens = own.now; tree = tree.now })) }
-    ensures uses { IfOk result (λ checked. uses_kept checked ≡ uses_in_item text.now (record { tokens = own.now; tree = tree.now })) }
+    ensures found { OnOk result (found.new.items ≡ found.old.items ++ found_in_item text.now links.now.outlines (item, record { tokens = own.now; tree = option_copied tree.entry })) }
+    ensures uses { IfOk result (λ checked. uses_kept checked ≡ uses_in_item text.now (record { tokens = own.now; tree = option_copied tree.entry })) }
 {
     let Some(tree) = tree else {
         return Ok(None);
@@ -80,7 +81,7 @@ pub fn add_checked_faults(
     found: &mut Vec<Finding>,
 ) -> Result<Vec<Option<Checked>>, OutOfMemory>
     requires tokens { All (LiesIn text.now) tokens.now }
-    requires parts { All (IsPart tokens.now) parts.now }
+    requires parts { All (IsPart text.now tokens.now) parts.now }
     requires links { links.now.outlines ≡ outlines_of text.now (map (part_of tokens.now) parts.now) }
     ensures found { OnOk result (found.new.items ≡ found.old.items ++ checked_faults text.now (map (part_of tokens.now) parts.now)) }
     ensures uses { IfOk result (λ checked. map uses_kept checked.items ≡ map (uses_in_item text.now) (map (part_of tokens.now) parts.now)) }
@@ -89,7 +90,8 @@ pub fn add_checked_faults(
     let mut checked = Vec::with_capacity(alloc, parts.len()).map_err(|_| OutOfMemory)?;
     for (item, part) in parts.iter().enumerate() {
         let own = &tokens[part.start..part.stop];
-        let kept = add_item(alloc, text, own, &part.tree, links, item, &mut work, found)?;
+        let tree = part.entry.parsed.tree();
+        let kept = add_item(alloc, text, own, tree, links, item, &mut work, found)?;
         checked.push(kept)?;
     }
     Ok(checked)

@@ -30,7 +30,7 @@ pub fn withhold(
     found: &mut Vec<Finding>,
 )
     requires tokens { All (LiesIn text.now) tokens.now }
-    requires parts { All (IsPart tokens.now) parts.now }
+    requires parts { All (IsPart text.now tokens.now) parts.now }
     requires links { links.now.outlines ≡ outlines_of text.now (map (part_of tokens.now) parts.now) }
     ensures { found.new.items ≡ shown_of text.now (map (part_of tokens.now) parts.now) found.old.items }
 {
@@ -48,12 +48,12 @@ pub fn add_linked_faults(
     found: &mut Vec<Finding>,
 ) -> Result<Links, OutOfMemory>
     requires tokens { All (LiesIn text.now) tokens.now }
-    requires parts { All (IsPart tokens.now) parts.now }
+    requires parts { All (IsPart text.now tokens.now) parts.now }
     ensures links { IfOk result (λ links. links.outlines ≡ outlines_of text.now (map (part_of tokens.now) parts.now)) }
     ensures found { OnOk result (found.new.items ≡ found.old.items ++ linked_faults text.now (map (part_of tokens.now) parts.now)) }
 {
     let links = links_of(alloc, text, tokens, parts)?;
-    add_placed(tokens, parts, links.faults(), found)?;
+    add_placed(text, tokens, parts, links.faults(), found)?;
     Ok(links)
 }
 

@@ -17,8 +17,8 @@ pub enum Refused {
     Memory,
 }
 
-/// What an edit cost: pieces cut, items parsed and items checked anew. The pieces are counted; items are still made anew at each
-/// edit, and their numbers are 0.
+/// What an edit cost: pieces cut, items parsed and items checked anew. All items are still checked anew at each edit, and this
+/// number is 0.
 #[derive(Clone, Copy, Debug, PartialEq, Eq)]
 pub struct Work {
     pub lexed: u64,

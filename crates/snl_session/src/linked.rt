@@ -57,8 +57,14 @@ pub fn finding_at(code: Code, token: Option<Piece>) -> Finding
 }
 
 // The token of an item by the number of the item and its own number in it.
-fn token_of(tokens: &[Piece], parts: &[Part], item: usize, number: usize) -> Option<Piece>
-    requires { All (IsPart tokens.now) parts.now }
+fn token_of(
+    text: &[u8],
+    tokens: &[Piece],
+    parts: &[Part],
+    item: usize,
+    number: usize,
+) -> Option<Piece>
+    requires { All (IsPart text.now tokens.now) parts.now }
     ensures { result ≡ token_of (map (part_of tokens.now) parts.now) item number }
 {
     match parts.get(item) {
@@ -69,16 +75,17 @@ fn token_of(tokens: &[Piece], parts: &[Part], item: usize, number: usize) -> Opt
 
 /// Adds findings of links, at their tokens.
 pub fn add_placed(
+    text: &[u8],
     tokens: &[Piece],
     parts: &[Part],
     faults: &[LinkFault],
     found: &mut Vec<Finding>,
 ) -> Result<(), OutOfMemory>
-    requires { All (IsPart tokens.now) parts.now }
+    requires { All (IsPart text.now tokens.now) parts.now }
     ensures { OnOk result (found.new.items ≡ found.old.items ++ map (placed (map (part_of tokens.now) parts.now)) faults.now) }
 {
     for fault in faults {
-        let token = token_of(tokens, parts, fault.item, fault.token);
+        let token = token_of(text, tokens, parts, fault.item, fault.token);
         found.push(finding_at(fault.code, token))?;
     }
     Ok(())

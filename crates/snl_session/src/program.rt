@@ -1,50 +1,82 @@
-//! The items of a text: its tokens come in, the tree of each item and the finding at each faulty one go out.
+//! The items of a text: its tokens, where its items end among them and what is kept of each come in, the parts of the text go out,
+//! and the finding at each faulty item.
 //! It knows nothing of what the trees mean.
 #![tactic(auto)]
 
-ghost use Rattle.std.specs.Prelude.{◌≡◌, ◌<◌, ◌≤◌, ◌++◌, All, IfOk, MatchResult, None, OnOk, Some, length, map, option_to_list};
+ghost use Rattle.std.specs.Prelude.{◌≡◌, ◌<◌, ◌≤◌, ◌++◌, All, IfOk, List, OnOk, length, map, ℕ};
 ghost use Rattle.std.specs.List.{filter_map};
 ghost use Rattle.snl_cut.specs.Cut.{members};
-ghost use Rattle.snl_lex.specs.Pieces.{LiesIn, tokens_of};
-ghost use Rattle.snl_check.specs.Items.{IsCutUp, program_items};
-ghost use Rattle.snl_session.specs.Faults.{at_token, fault_in, faults_of};
-ghost use Rattle.snl_session.specs.Parts.{EndsWithin, IsPart, part_of, tokens_between};
-ghost use Rattle.snl_session.specs.Program.{items_of, mark_in, program_item, tree_in};
+ghost use Rattle.snl_items.specs.Items.{item_ends};
+ghost use Rattle.snl_lex.specs.PieceList.{spelled};
+ghost use Rattle.snl_lex.specs.Pieces.{LiesIn, pieces_of, tokens_of};
+ghost use Rattle.snl_syntax.specs.Outcome.{BlamesWithin};
+ghost use Rattle.snl_session.specs.Entries.{entries_of, entry_by};
+ghost use Rattle.snl_session.specs.Faults.{at_token, fault_at, faults_of};
+ghost use Rattle.snl_session.specs.Parts.{EndsWithin, IsPart, part_of};
+ghost use Rattle.snl_session.specs.Program.{program_item};
 
+use crate::entries::Entry;
 use crate::findings::Finding;
-use snl_cut::{Count, OutOfMemory, cut_all};
+use snl_cut::{OutOfMemory, one_cut};
 use snl_lex::Piece;
-use snl_scope::Code;
-use snl_syntax::tree::item::Item;
-use snl_syntax::{Mark, ParseFault, Tokens, mark, parse_item};
+use snl_scope::{Code, same_spelling_same_summary};
+use snl_syntax::{Parsed, Tokens, outcome_told, same_spelling_same_tree};
 use std::alloc::Global;
 
-/// An item of a text: which of the text's tokens are its own, and its tree, unless it is faulty.
-#[derive(Drop)]
-pub struct Part {
+/// A text as it is cut: its pieces, its tokens, where its items end among these, and what is kept of each item.
+#[derive(Clone, Copy)]
+pub struct CutText<'a> {
+    pub text: &'a [u8],
+    pub pieces: &'a [Piece],
+    pub tokens: &'a [Piece],
+    pub ends: &'a [u32],
+    pub entries: &'a [&'a Entry],
+    ghost pieces_are: { pieces.now ≡ pieces_of text.now },
+    ghost tokens_are: { tokens.now ≡ tokens_of text.now },
+    ghost ends_are: { ends.now ≡ item_ends text.now },
+    ghost entries_are: { map (λ e. e.now) entries.now ≡ entries_of text.now },
+}
+
+/// An item of a text: which of the text's tokens are its own, and what is kept of it.
+#[derive(Clone, Copy)]
+pub struct Part<'a> {
     pub start: usize,
     pub stop: usize,
-    pub tree: Option<Item>,
+    pub entry: &'a Entry,
 }
 
-/// The items of a text, the number of the token behind each, and what is found at the faulty ones.
-#[derive(Drop)]
-pub struct Program {
-    pub parts: Vec<Part>,
-    pub ends: Vec<usize>,
-    pub faults: Vec<Finding>,
-}
-
-// What the tokens are to the cut into items.
-fn marks_of(alloc: Global, text: &[u8], tokens: &[Piece]) -> Result<Vec<Mark>, OutOfMemory>
-    requires { All (LiesIn text.now) tokens.now }
-    ensures { IfOk result (λ marks. marks.items ≡ map (mark_in text.now) tokens.now) }
+/// The items of a text end one after another, each among its tokens.
+pub fn items_end_in_order()
+    ensures { (text : List ℕ) → EndsWithin 0 (item_ends text) (length (tokens_of text)) }
 {
-    let mut marks = Vec::new(alloc);
-    for piece in tokens {
-        marks.push(mark(text, *piece))?;
+    one_cut::<Tokens>();
+}
+
+/// The items that end at these tokens.
+pub fn parts_along<'a>(
+    alloc: Global,
+    text: &[u8],
+    tokens: &[Piece],
+    ends: &[u32],
+    entries: &[&'a Entry],
+) -> Result<Vec<Part<'a>>, OutOfMemory>
+    requires ends { EndsWithin 0 ends.now (length tokens.now) }
+    requires entries { map (λ e. e.now) entries.now ≡ map entry_by (members (spelled text.now tokens.now) 0 ends.now) }
+    ensures items { IfOk result (λ parts. map (part_of tokens.now) parts.items ≡ map (program_item text.now) (members tokens.now 0 ends.now)) }
+    ensures inside { IfOk result (λ parts. All (IsPart text.now tokens.now) parts.items) }
+{
+    outcome_told();
+    same_spelling_same_tree();
+    same_spelling_same_summary();
+    let mut parts = Vec::new(alloc);
+    let mut start = 0;
+    for (number, end) in ends.iter().enumerate() {
+        let stop = *end as usize;
+        let entry = entries[number];
+        parts.push(Part { start, stop, entry })?;
+        start = stop;
     }
-    Ok(marks)
+    Ok(parts)
 }
 
 // A finding at a token, which it does not quote.
@@ -58,95 +90,34 @@ fn at_token(code: Code, token: Piece) -> Finding
     }
 }
 
-// The tree of an item with these tokens, or what is found at it.
-fn parsed(
-    alloc: Global,
-    text: &[u8],
-    tokens: &[Piece],
-    work: &mut Count,
-) -> Result<Result<Item, Finding>, OutOfMemory>
-    requires some { 0 < length tokens.now }
-    requires within { All (LiesIn text.now) tokens.now }
-    ensures { IfOk result (λ r. MatchResult r
-        (λ tree. (tree_in text.now tokens.now ≡ Some tree) × (fault_in text.now tokens.now ≡ None))
-        (λ fault. (tree_in text.now tokens.now ≡ None) × (fault_in text.now tokens.now ≡ Some fault))) }
+// What is found at an item with these tokens, as the parser left it.
+fn fault_at(tokens: &[Piece], parsed: &Parsed) -> Option<Finding>
+    requires { BlamesWithin (length tokens.now) parsed.now }
+    ensures { result ≡ fault_at tokens.now parsed.now }
 {
-    match parse_item(alloc, text, tokens, work) {
-        Ok(tree) => Ok(Ok(tree)),
-        Err(ParseFault::OutOfMemory) => Err(OutOfMemory),
-        Err(ParseFault::BadPiece { at }) => Ok(Err(at_token(Code::E01, tokens[at]))),
-        Err(ParseFault::NoItem { at }) => Ok(Err(at_token(Code::E02, tokens[at]))),
+    match parsed {
+        Parsed::Sound(_) => None,
+        Parsed::BadToken(at) => Some(at_token(Code::E01, tokens[*at])),
+        Parsed::NoItem(at) => Some(at_token(Code::E02, tokens[*at])),
     }
 }
 
-// The next item, which has the tokens from one number up to another. Where it is faulty, adds what is found at it.
-fn next_part(
-    alloc: Global,
+/// Adds what is found at the faulty ones of these items.
+pub fn add_faults(
     text: &[u8],
     tokens: &[Piece],
-    start: usize,
-    stop: usize,
-    faults: &mut Vec<Finding>,
-    work: &mut Count,
-) -> Result<Part, OutOfMemory>
-    requires some { start < stop }
-    requires inside { stop ≤ length tokens.now }
-    requires within { All (LiesIn text.now) tokens.now }
-    ensures item { IfOk result (λ part. part_of tokens.now part ≡ program_item text.now (tokens_between tokens.now start stop)) }
-    ensures inside { IfOk result (λ part. IsPart tokens.now part) }
-    ensures faults { OnOk result (faults.new.items ≡ faults.old.items ++ option_to_list (fault_in text.now (tokens_between tokens.now start stop))) }
+    parts: &[Part],
+    found: &mut Vec<Finding>,
+) -> Result<(), OutOfMemory>
+    requires parts { All (IsPart text.now tokens.now) parts.now }
+    ensures { OnOk result (found.new.items ≡ found.old.items ++ faults_of text.now (map (part_of tokens.now) parts.now)) }
 {
-    let tree = match parsed(alloc, text, &tokens[start..stop], work)? {
-        Ok(tree) => Some(tree),
-        Err(fault) => {
-            faults.push(fault)?;
-            None
+    outcome_told();
+    for part in parts {
+        let own = &tokens[part.start..part.stop];
+        if let Some(fault) = fault_at(own, &part.entry.parsed) {
+            found.push(fault)?;
         }
-    };
-    Ok(Part { start, stop, tree })
-}
-
-// The items that end at these tokens, and what is found at the faulty ones.
-fn parts_along(
-    alloc: Global,
-    text: &[u8],
-    tokens: &[Piece],
-    ends: Vec<usize>,
-) -> Result<Program, OutOfMemory>
-    requires ends { EndsWithin 0 ends.items (length tokens.now) }
-    requires within { All (LiesIn text.now) tokens.now }
-    ensures parts { IfOk result (λ p. map (part_of tokens.now) p.parts.items ≡ map (program_item text.now) (members tokens.now 0 ends.items)) }
-    ensures ends { IfOk result (λ p. p.ends.items ≡ ends.items) }
-    ensures inside { IfOk result (λ p. All (IsPart tokens.now) p.parts.items) }
-    ensures faults { IfOk result (λ p. p.faults.items ≡ filter_map (fault_in text.now) (members tokens.now 0 ends.items)) }
-{
-    let mut parts = Vec::new(alloc);
-    let mut faults = Vec::new(alloc);
-    let mut work = Count::new();
-    let mut start = 0;
-    for stop in &ends {
-        let part = next_part(alloc, text, tokens, start, *stop, &mut faults, &mut work)?;
-        parts.push(part)?;
-        start = *stop;
     }
-    Ok(Program {
-        parts,
-        ends,
-        faults,
-    })
-}
-
-/// The items that the tokens of a text are cut into, and what is found at the faulty ones.
-pub fn program_of(alloc: Global, text: &[u8], tokens: &[Piece]) -> Result<Program, OutOfMemory>
-    requires tokens { tokens.now ≡ tokens_of text.now }
-    requires within { All (LiesIn text.now) tokens.now }
-    ensures parts { IfOk result (λ p. map (part_of tokens.now) p.parts.items ≡ items_of text.now) }
-    ensures cut { IfOk result (λ p. IsCutUp text.now tokens.now p.ends.items (length p.parts.items)) }
-    ensures trees { IfOk result (λ p. program_items tokens.now p.ends.items (map (λ part. part.tree) p.parts.items) ≡ map (part_of tokens.now) p.parts.items) }
-    ensures inside { IfOk result (λ p. All (IsPart tokens.now) p.parts.items) }
-    ensures faults { IfOk result (λ p. p.faults.items ≡ faults_of text.now) }
-{
-    let marks = marks_of(alloc, text, tokens)?;
-    let ends = cut_all(alloc, &Tokens, &marks, &mut Count::new())?;
-    parts_along(alloc, text, tokens, ends)
+    Ok(())
 }

@@ -6,13 +6,17 @@ ghost use Rattle.std.specs.Prelude.{◌≡◌, ℕ, ◌+◌, ◌≤◌, [], ◌+
 
 use crate::edits::{Refused, Work};
 use crate::findings::Diagnostic;
-use crate::judge::{Judgement, judge};
+use crate::judge::judge;
 use crate::laws::rows_have_bytes;
+use crate::lists::Lists;
 use crate::plan::{Plan, plan_of};
+use crate::program::CutText;
 use snl_check::Tables;
-use snl_cut::{Count, OutOfMemory};
-use snl_lex::{PieceList, TextEdit, lex};
+use snl_cut::OutOfMemory;
+use snl_items::ItemList;
+use snl_lex::{PieceList, TextEdit};
 use snl_listing::{Lister, listing};
+use snl_lists::Ordered;
 use std::alloc::Global;
 use std::marker::Model;
 
@@ -23,20 +27,20 @@ const LIMIT: usize = 1_048_576;
 #[derive(Drop)]
 pub struct Session {
     text: Vec<u8>,
-    pieces: PieceList,
+    lists: Lists,
     found: Vec<Diagnostic>,
     tables: Tables,
 }
 
 impl Model for Session {
     ghost use Rattle.std.specs.Prelude.{ℕ, List};
-    ghost use Rattle.snl_session.specs.Kept.{IsKept};
+    ghost use Rattle.snl_session.specs.Kept.{IsJudged, IsListed};
 
     ghost Value = { List ℕ };
 
     ghost view = { λ s. s.text.items };
 
-    ghost invariant = { λ s. IsKept s.text.items s.pieces.ends.items s.pieces.kinds.items s.found.items s.tables };
+    ghost invariant = { λ s. IsListed s.text.items s.lists × IsJudged s.text.items s.found.items s.tables };
 }
 
 impl Session {
@@ -44,7 +48,7 @@ impl Session {
     ghost use Rattle.std.specs.List.Sorted.{IsSortedBy};
     ghost use Rattle.snl_check.specs.Spans.{TablesHaveBytes, TablesLieIn};
     ghost use Rattle.snl_session.specs.Edit.{limit, refusal_of, spliced};
-    ghost use Rattle.snl_session.specs.Fresh.{fresh_pieces};
+    ghost use Rattle.snl_items.specs.Fresh.{fresh_items, fresh_pieces};
     ghost use Rattle.snl_listing.specs.Lister.{IsFor};
     ghost use Rattle.snl_session.specs.Listing.{listing_text};
     ghost use Rattle.snl_session.specs.Tables.{tables_in};
@@ -54,14 +58,14 @@ impl Session {
         ensures ok { IfOk result (λ s. s ≡ []) }
         ensures refused { IsOkUnless result Refused.Memory }
     {
-        let text = Vec::new(alloc);
-        Session::over(alloc, text).map_err(|_| Refused::Memory)
+        Session::empty(alloc).map_err(|_| Refused::Memory)
     }
 
     /// Puts other bytes in the place of those from `start` up to `stop`, and tells what that cost. An `Err` changes nothing.
     pub fn edit(&mut self, start: usize, stop: usize, new: &[u8]) -> Result<Work, Refused>
         ensures ok { OnOk result (self.new ≡ spliced self.old start stop new.now) }
         ensures lexed { IfOk result (λ work. work.lexed ≡ fresh_pieces self.old start stop new.now) }
+        ensures parsed { IfOk result (λ work. work.parsed ≡ length (fresh_items self.old start stop new.now)) }
         ensures refused { MatchOption (refusal_of self.old start stop (length new.now))
             (IsOkUnless result Refused.Memory) (λ e. IsErrOf result e) }
         ensures err { OnErr result (self.new ≡ self.old) }
@@ -148,6 +152,7 @@ impl Session {
         requires { refusal_of self.old start stop (length new.now) ≡ None }
         ensures ok { OnOk result (self.new ≡ spliced self.old start stop new.now) }
         ensures lexed { IfOk result (λ work. work.lexed ≡ fresh_pieces self.old start stop new.now) }
+        ensures parsed { IfOk result (λ work. work.parsed ≡ length (fresh_items self.old start stop new.now)) }
         ensures err { OnErr result (self.new ≡ self.old) }
     {
         let alloc = *self.text.allocator();
@@ -159,36 +164,50 @@ impl Session {
             old_stop: stop,
             new_stop: start + new.len(),
         };
+        let plan = plan_of(alloc, &self.lists, &edit)?;
+        self.lists.reserve(&plan.changes, plan.made.len())?;
         let Plan {
-            change,
+            changes,
+            made,
             diagnostics,
             tables,
             work,
-        } = plan_of(alloc, &self.pieces, &edit)?;
-        self.pieces.reserve(change.made.len())?;
-        self.pieces.commit(&edit, &change);
+        } = plan;
+        self.lists.commit(&edit, &changes, made);
         self.found = diagnostics;
         self.tables = tables;
         self.text = text;
         Ok(work)
     }
 
-    // A session over this text.
-    fn over(alloc: Global, text: Vec<u8>) -> Result<Session, OutOfMemory>
-        requires { length text.items ≤ limit }
-        ensures { IfOk result (λ s. s ≡ text.items) }
+    // A session over the empty text, which has no pieces and no items.
+    fn empty(alloc: Global) -> Result<Session, OutOfMemory>
+        ensures { IfOk result (λ s. s ≡ []) }
     {
-        let pieces = lex(alloc, &text, &mut Count::new())?;
-        let Judgement {
-            diagnostics,
-            tables,
-        } = judge(alloc, &text, &pieces)?;
-        let pieces = PieceList::of(alloc, &pieces)?;
+        let cut = CutText {
+            text: &[],
+            pieces: &[],
+            tokens: &[],
+            ends: &[],
+            entries: &[],
+        };
+        let judgement = judge(alloc, &cut)?;
+        let lists = Lists {
+            pieces: PieceList {
+                ends: Vec::new(alloc),
+                kinds: Vec::new(alloc),
+            },
+            items: ItemList {
+                marks: Vec::new(alloc),
+                ends: Vec::new(alloc),
+            },
+            entries: Ordered::new(alloc),
+        };
         Ok(Session {
-            text,
-            pieces,
-            found: diagnostics,
-            tables,
+            text: Vec::new(alloc),
+            lists,
+            found: judgement.diagnostics,
+            tables: judgement.tables,
         })
     }
 }

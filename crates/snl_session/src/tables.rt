@@ -9,7 +9,7 @@ ghost use Rattle.snl_check.specs.Conditions.{uses_in_item};
 ghost use Rattle.snl_check.specs.Items.{IsCutUp, outlines_of, program_items};
 ghost use Rattle.snl_check.specs.Tables.{tables_of};
 ghost use Rattle.snl_session.specs.Checked.{uses_kept};
-ghost use Rattle.snl_session.specs.Parts.{part_of};
+ghost use Rattle.snl_session.specs.Parts.{part_of, tree_of_part};
 
 use crate::program::Part;
 use snl_check::{Checked, Tables, tables_by_tokens};
@@ -20,12 +20,12 @@ use snl_syntax::tree::item::Item;
 use std::alloc::Global;
 
 // The trees of the items. A faulty one has none.
-fn trees_of(alloc: Global, parts: &[Part]) -> Result<Vec<Option<&Item>>, OutOfMemory>
-    ensures { IfOk result (λ trees. map option_copied trees.items ≡ map (λ part. part.tree) parts.now) }
+fn trees_of<'a>(alloc: Global, parts: &[Part<'a>]) -> Result<Vec<Option<&'a Item>>, OutOfMemory>
+    ensures { IfOk result (λ trees. map option_copied trees.items ≡ map tree_of_part parts.now) }
 {
     let mut trees = Vec::new(alloc);
     for part in parts {
-        trees.push(part.tree.as_ref())?;
+        trees.push(part.entry.parsed.tree())?;
     }
     Ok(trees)
 }
@@ -44,13 +44,24 @@ fn checks_of(
     Ok(checks)
 }
 
+// The same ends, as the machine counts.
+fn widened(alloc: Global, ends: &[u32]) -> Result<Vec<usize>, OutOfMemory>
+    ensures { IfOk result (λ w. w.items ≡ ends.now) }
+{
+    let mut wide = Vec::new(alloc);
+    for end in ends {
+        wide.push(*end as usize)?;
+    }
+    Ok(wide)
+}
+
 /// The tables of a program. `ends` has, for each item, the number of the token after it.
 pub fn tables_of(
     alloc: Global,
     text: &[u8],
     pieces: &[Piece],
     tokens: &[Piece],
-    ends: &[usize],
+    ends: &[u32],
     parts: &[Part],
     links: &Links,
     checked: &[Option<Checked>],
@@ -58,13 +69,14 @@ pub fn tables_of(
     requires pieces { pieces.now ≡ pieces_of text.now }
     requires tokens { tokens.now ≡ tokens_of text.now }
     requires cut { IsCutUp text.now tokens.now ends.now (length parts.now) }
-    requires items { program_items tokens.now ends.now (map (λ part. part.tree) parts.now) ≡ map (part_of tokens.now) parts.now }
+    requires items { program_items tokens.now ends.now (map tree_of_part parts.now) ≡ map (part_of tokens.now) parts.now }
     requires links { links.now.outlines ≡ outlines_of text.now (map (part_of tokens.now) parts.now) }
     requires checked { map uses_kept checked.now ≡ map (uses_in_item text.now) (map (part_of tokens.now) parts.now) }
     ensures { IfOk result (λ t. t ≡ tables_of text.now (map (part_of tokens.now) parts.now)) }
 {
+    let ends = widened(alloc, ends)?;
     let trees = trees_of(alloc, parts)?;
     let checks = checks_of(alloc, checked)?;
-    let tables = tables_by_tokens(alloc, text, pieces, tokens, ends, &trees, links, &checks)?;
+    let tables = tables_by_tokens(alloc, text, pieces, tokens, &ends, &trees, links, &checks)?;
     Ok(tables)
 }

@@ -3,6 +3,7 @@
 #![tactic(auto)]
 
 ghost use Rattle.std.specs.Prelude.{◌≡◌, All, map};
+ghost use Rattle.std.specs.Option.{option_copied};
 ghost use Rattle.snl_lex.specs.Pieces.{LiesIn};
 ghost use Rattle.snl_session.specs.Linked.{outlines_of};
 ghost use Rattle.snl_session.specs.Parts.{IsPart, part_of};
@@ -16,9 +17,9 @@ use snl_syntax::tree::item::Item;
 use std::alloc::Global;
 
 // What an item says of warnings.
-fn setting_in(source: &Source, tree: &Option<Item>, links: &Links, item: usize) -> Option<bool>
+fn setting_in(source: &Source, tree: Option<&Item>, links: &Links, item: usize) -> Option<bool>
     requires { All (LiesIn source.now.text.now) source.now.tokens.now }
-    ensures { result ≡ setting_in source.now.text.now links.now.outlines item source.now.tokens.now tree.now }
+    ensures { result ≡ setting_in source.now.text.now links.now.outlines item source.now.tokens.now (option_copied tree.entry) }
 {
     match tree {
         Some(tree) => warning_setting(source, tree, links, item),
@@ -35,7 +36,7 @@ pub fn shows_warnings(
     links: &Links,
 ) -> bool
     requires tokens { All (LiesIn text.now) tokens.now }
-    requires parts { All (IsPart tokens.now) parts.now }
+    requires parts { All (IsPart text.now tokens.now) parts.now }
     requires links { links.now.outlines ≡ outlines_of text.now (map (part_of tokens.now) parts.now) }
     ensures { result ≡ shows_warnings text.now (map (part_of tokens.now) parts.now) }
 {
@@ -46,7 +47,7 @@ pub fn shows_warnings(
             tokens: &tokens[part.start..part.stop],
             alloc,
         };
-        if let Some(setting) = setting_in(&source, &part.tree, links, item) {
+        if let Some(setting) = setting_in(&source, part.entry.parsed.tree(), links, item) {
             shown = setting;
         }
     }

@@ -4,12 +4,13 @@ use snl_session::{Refused, Session, Work};
 use std::alloc::Global;
 use std::test::Fail;
 
-// An edit, how many pieces it makes anew, and the lines and codes of what is found after it.
+// An edit, how many pieces and items it makes anew, and the lines and codes of what is found after it.
 struct Step {
     start: usize,
     stop: usize,
     new: &'static [u8],
     lexed: u64,
+    parsed: u64,
     found: &'static [(usize, &'static str)],
 }
 
@@ -19,6 +20,7 @@ static STEPS: [Step; 9] = [
         stop: 0,
         new: b"program p\nint x;\nassign x to \"dev:x\";\nmonitor x;\nevflag f;\nsync x to f;\nss a {\nstate s1 {\nwhen (efTest(f) && x > 3) {\npvPut(x);\n} state s2\n}\nstate s2 {\nwhen () { } state s1\n}\n}\n",
         lexed: 105,
+        parsed: 10,
         found: &[],
     },
     // another state set begins before the second state
@@ -27,6 +29,7 @@ static STEPS: [Step; 9] = [
         stop: 141,
         new: b"} ss b {\n",
         lexed: 9,
+        parsed: 3,
         found: &[(11, "E10"), (15, "E10")],
     },
     Step {
@@ -34,6 +37,7 @@ static STEPS: [Step; 9] = [
         stop: 150,
         new: b"",
         lexed: 1,
+        parsed: 1,
         found: &[],
     },
     // a comment that isn't closed takes the second state
@@ -42,6 +46,7 @@ static STEPS: [Step; 9] = [
         stop: 141,
         new: b"/*",
         lexed: 2,
+        parsed: 2,
         found: &[(7, "E04"), (11, "E10"), (13, "E01")],
     },
     // the comment goes, and the second state has another name
@@ -50,6 +55,7 @@ static STEPS: [Step; 9] = [
         stop: 151,
         new: b"state s2x",
         lexed: 24,
+        parsed: 3,
         found: &[(11, "E10"), (13, "W02")],
     },
     // a comment of lines before it
@@ -58,6 +64,7 @@ static STEPS: [Step; 9] = [
         stop: 90,
         new: b"/*\n\n\n*/",
         lexed: 2,
+        parsed: 0,
         found: &[(14, "E10"), (16, "W02")],
     },
     // an option that turns warnings off
@@ -66,6 +73,7 @@ static STEPS: [Step; 9] = [
         stop: 10,
         new: b"option -w;\n",
         lexed: 7,
+        parsed: 2,
         found: &[(15, "E10")],
     },
     Step {
@@ -73,6 +81,7 @@ static STEPS: [Step; 9] = [
         stop: 21,
         new: b"",
         lexed: 1,
+        parsed: 1,
         found: &[(14, "E10"), (16, "W02")],
     },
     // nothing is left
@@ -81,6 +90,7 @@ static STEPS: [Step; 9] = [
         stop: 185,
         new: b"",
         lexed: 0,
+        parsed: 0,
         found: &[(1, "E05"), (1, "E06")],
     },
 ];
@@ -100,6 +110,7 @@ fn judges_the_text_anew_after_each_edit(rt: HostRuntime) -> Result<(), Fail> {
     for step in &STEPS {
         let work = session.edit(step.start, step.stop, step.new)?;
         assert_eq!(rt; work.lexed, step.lexed, "at {}", step.start);
+        assert_eq!(rt; work.parsed, step.parsed, "at {}", step.start);
         let found = found_in(rt.alloc(), &session)?;
         assert_eq!(rt; found.as_slice(), step.found, "at {}", step.start);
     }
@@ -127,26 +138,31 @@ static ANSWERS: [(usize, usize, usize, Result<Work, Refused>, usize); 10] = [
     (50, 1_048_576, 0, Ok(ONE_PIECE), 50),
 ];
 
-// An edit of the first step's text, and how many pieces it makes anew.
-static PIECES: [(usize, usize, &[u8], u64); 5] = [
+// An edit of the first step's text, and how many pieces and items it makes anew.
+static FRESH: [(usize, usize, &[u8], u64, u64); 7] = [
     // the name of a state
-    (149, 149, b"x", 1),
-    // a comment is opened over the rest
-    (10, 10, b"/*", 2),
+    (149, 149, b"x", 1, 1),
+    // a comment is opened over the rest: the header ends where it begins
+    (10, 10, b"/*", 2, 2),
+    // a comment inside a state
+    (90, 90, b"/*\n\n\n*/", 2, 0),
     // the same text again
-    (10, 16, b"int x;", 5),
+    (10, 16, b"int x;", 5, 0),
+    // an item is taken away
+    (17, 38, b"", 1, 1),
     // nothing is changed, at the first byte of a name
-    (30, 30, b"", 1),
-    (0, 177, b"", 0),
+    (30, 30, b"", 1, 0),
+    (0, 177, b"", 0, 0),
 ];
 
 #[test]
-fn makes_fresh_pieces_alone(rt: HostRuntime) -> Result<(), Fail> {
-    for (start, stop, new, lexed) in &PIECES {
+fn makes_fresh_pieces_and_items_alone(rt: HostRuntime) -> Result<(), Fail> {
+    for (start, stop, new, lexed, parsed) in &FRESH {
         let mut session = Session::new(rt.alloc())?;
         session.edit(0, 0, STEPS[0].new)?;
         let work = session.edit(*start, *stop, new)?;
         assert_eq!(rt; work.lexed, *lexed, "from {start} to {stop}");
+        assert_eq!(rt; work.parsed, *parsed, "from {start} to {stop}");
     }
     Ok(())
 }

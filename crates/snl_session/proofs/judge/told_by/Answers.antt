@@ -1,36 +1,97 @@
-use Rattle.std.proofs.Common.{◌≡◌, ℕ, List, ◌++◌, map, ap, append_assoc, ◌∙◌}
+use Rattle.std.proofs.Common.{◌≡◌, ℕ, List, ◌++◌, length, map, ap, sym, subst, ◌∙◌, append_assoc}
+use Rattle.std.specs.List.{All}
+use Rattle.std.proofs.lemmas.List.Elements.{All-filter}
+use Rattle.snl_cut.specs.Cut.{members}
+use Rattle.snl_lex.specs.declared.piece.Piece.{Piece}
+use Rattle.snl_lex.specs.Pieces.{LiesIn, is_token, pieces_of, tokens_of}
+use Rattle.snl_items.specs.Items.{item_ends}
+use Rattle.snl_tables.specs.declared.rows.Tables.{Tables}
 use Rattle.snl_check.specs.Tables.{tables_of}
 use Rattle.snl_session.specs.declared.findings.Finding.{Finding}
 use Rattle.snl_session.specs.Checked.{checked_faults}
 use Rattle.snl_session.specs.Diagnostics.{found, shown, shown_of}
 use Rattle.snl_session.specs.Faults.{faults_of}
 use Rattle.snl_session.specs.Linked.{linked_faults}
-use Rattle.snl_session.specs.Parts.{part_of}
-use Rattle.snl_session.specs.Program.{ProgramItem, items_of}
-use Rattle.snl_session.specs.Tables.{walked_faults, walked_in}
+use Rattle.snl_session.specs.Parts.{EndsWithin, part_of}
+use Rattle.snl_session.specs.Program.{ProgramItem, item_tokens, items_of, program_item}
+use Rattle.snl_session.specs.Tables.{tables_in, walked_faults, walked_in}
+use Rattle.snl_session.proofs.Trees.{parts_count, trees_give}
 use Rattle.snl_session.proofs.judge.told_by.Goals as goal
 
 regroup : (a b c d : List Finding) → ((a ++ b) ++ c) ++ d ≡ a ++ b ++ c ++ d
 regroup a b c d = simp append_assoc
 
 -- what is shown of the findings of these items is what is shown of the text
-same_shown : (text : List ℕ) (xs : List ProgramItem) (faults all : List Finding) → xs ≡ items_of text → faults ≡ faults_of text →
-    all ≡ shown_of text xs (((faults ++ linked_faults text xs) ++ checked_faults text xs) ++ walked_faults text xs) → all ≡ shown text
+same_shown : (text : List ℕ) (xs : List ProgramItem) (all : List Finding) → xs ≡ items_of text →
+    all ≡ shown_of text xs (((faults_of text xs ++ linked_faults text xs) ++ checked_faults text xs) ++ walked_faults text xs) → all ≡ shown text
 unfolding found shown
-same_shown text xs faults all items at_faulty is =
+same_shown text xs all items is =
     is
-    ∙ ap (shown_of text xs) (regroup faults (linked_faults text xs) (checked_faults text xs) (walked_faults text xs))
-    ∙ ap (λ fs. shown_of text xs (fs ++ linked_faults text xs ++ checked_faults text xs ++ walked_faults text xs)) at_faulty
-    ∙ ap (λ ys. shown_of text ys (faults_of text ++ linked_faults text ys ++ checked_faults text ys ++ walked_faults text ys)) items
+    ∙ ap (shown_of text xs) (regroup (faults_of text xs) (linked_faults text xs) (checked_faults text xs) (walked_faults text xs))
+    ∙ ap (λ ys. shown_of text ys (faults_of text ys ++ linked_faults text ys ++ checked_faults text ys ++ walked_faults text ys)) items
+
+-- the items along the ends are those of the text
+same_items : (text : List ℕ) (tokens : List Piece) (ends : List ℕ) (xs : List ProgramItem) → tokens ≡ tokens_of text → ends ≡ item_ends text
+    → xs ≡ map (program_item text) (members tokens 0 ends) → xs ≡ items_of text
+unfolding item_tokens
+same_items text tokens ends xs all cut is =
+    is
+    ∙ ap (λ ts. map (program_item text) (members ts 0 ends)) all
+    ∙ ap (λ es. map (program_item text) (members (tokens_of text) 0 es)) cut
 
 pub returns-clause-shown : goal.returns-clause-shown
 returns-clause-shown c =
-    let text = c.args.text.now in
-    let xs = map (part_of c.args.tokens.now) c.as_slice-items.result.now in
-    let faults = c.in_ok-parts.field-0.faults.items in
-    let items : xs ≡ items_of text = ap (map (part_of c.args.tokens.now)) c.as_slice-items.ensures.value ∙ c.in_ok-parts.ensures.parts in
-    same_shown text xs faults c.withhold.new.found.items items c.in_ok-parts.ensures.faults
+    let cut = c.args.cut.now in
+    let text = cut.text.now in
+    let xs = map (part_of cut.tokens.now) c.args.parts.now in
+    let items : xs ≡ items_of text = same_items text cut.tokens.now cut.ends.now xs cut.tokens_are cut.ends_are c.requires.items in
+    same_shown text xs c.withhold.new.found.items items
     (c.withhold.ensures
     ∙ ap (shown_of text xs) (c.in_ok-add_walked_faults.ensures
     ∙ ap (λ t. c.add_checked_faults.new.found.items ++ walked_in t) c.in_ok-tables.ensures
-    ∙ ap (λ l. l ++ walked_faults text xs) (c.in_ok-checked.ensures.found ∙ ap (λ l. l ++ checked_faults text xs) c.in_ok-links.ensures.found)))
+    ∙ ap (λ l. l ++ walked_faults text xs) (c.in_ok-checked.ensures.found ∙ ap (λ l. l ++ checked_faults text xs) (c.in_ok-links.ensures.found ∙ ap (λ l. l ++ linked_faults text xs) (c.in_ok-add_faults.ensures ∙ ap (λ l. l ++ faults_of text xs) c.new-shown.ensures.items)))))
+
+-- the tokens of a text lie in it
+tokens_lie : (text : List ℕ) (tokens : List Piece) → tokens ≡ tokens_of text → All (LiesIn text) (pieces_of text) → All (LiesIn text) tokens
+tokens_lie text tokens all inside = subst (All (LiesIn text)) (sym all) (All-filter is_token (LiesIn text) (pieces_of text) inside)
+
+pub add_linked_faults-requires-clause-tokens : goal.add_linked_faults-requires-clause-tokens
+add_linked_faults-requires-clause-tokens c =
+    let cut = c.args.cut.now in
+    tokens_lie cut.text.now cut.tokens.now cut.tokens_are (c.text_in_pieces.ensures.inside cut.text.now)
+
+pub add_checked_faults-requires-clause-tokens : goal.add_checked_faults-requires-clause-tokens
+add_checked_faults-requires-clause-tokens c =
+    let cut = c.args.cut.now in
+    tokens_lie cut.text.now cut.tokens.now cut.tokens_are (c.text_in_pieces.ensures.inside cut.text.now)
+
+pub withhold-requires-clause-tokens : goal.withhold-requires-clause-tokens
+withhold-requires-clause-tokens c =
+    let cut = c.args.cut.now in
+    tokens_lie cut.text.now cut.tokens.now cut.tokens_are (c.text_in_pieces.ensures.inside cut.text.now)
+
+pub tables_of-requires-clause-cut : goal.tables_of-requires-clause-cut
+tables_of-requires-clause-cut c =
+    let cut = c.args.cut.now in
+    let text = cut.text.now in
+    let lie = tokens_lie text cut.tokens.now cut.tokens_are (c.text_in_pieces.ensures.inside text) in
+    record {
+      source = λ k d below. (lie k d below).1;
+      within = subst (λ ts. EndsWithin 0 cut.ends.now (length ts)) (sym cut.tokens_are) (subst (λ es. EndsWithin 0 es (length (tokens_of text))) (sym cut.ends_are) (c.items_end_in_order.ensures text));
+      each = parts_count text cut.tokens.now cut.ends.now c.args.parts.now c.requires.items;
+    }
+
+pub tables_of-requires-clause-items : goal.tables_of-requires-clause-items
+tables_of-requires-clause-items c =
+    let cut = c.args.cut.now in
+    trees_give cut.text.now cut.tokens.now cut.ends.now c.args.parts.now c.requires.items ∙ sym c.requires.items
+
+same_tables : (text : List ℕ) (xs : List ProgramItem) (all : Tables) → xs ≡ items_of text → all ≡ tables_of text xs → all ≡ tables_in text
+unfolding tables_in
+same_tables text xs all items is = is ∙ ap (tables_of text) items
+
+pub returns-clause-tables : goal.returns-clause-tables
+returns-clause-tables c =
+    let cut = c.args.cut.now in
+    let xs = map (part_of cut.tokens.now) c.args.parts.now in
+    same_tables cut.text.now xs c.in_ok-tables.tables (same_items cut.text.now cut.tokens.now cut.ends.now xs cut.tokens_are cut.ends_are c.requires.items) c.in_ok-tables.ensures

@@ -6,4 +6,4 @@ use Rattle.snl_session.proofs.sessions.Session.diagnostics.Goals as goal
 
 pub returns-clause-sorted : goal.returns-clause-sorted
 returns-clause-sorted c =
-    subst (IsSortedBy stands_before) (sym (c.as_slice.ensures.value ∙ c.self.invariant.of_found)) (diagnostics_sorted c.self.inside.text.items)
+    subst (IsSortedBy stands_before) (sym (c.as_slice.ensures.value ∙ c.self.invariant.1.found)) (diagnostics_sorted c.self.inside.text.items)

@@ -1,7 +1,7 @@
-use Rattle.std.proofs.Common.{◌≡◌, ℕ, ◌-◌, List, length, ap, arith, length-drop}
+use Rattle.std.proofs.Common.{◌≡◌, ℕ, ◌+◌, ◌-◌, ◌<◌, ◌≤◌, List, length, drop, take, ap, arith, length-drop}
 use Rattle.snl_items.specs.Items.{item_ends, marks_of}
 use Rattle.snl_items.proofs.EndPlaces.{dropped_within, ends_above}
-use Rattle.snl_items.proofs.item_list.ItemList.commit.Goals as goal
+use Rattle.snl_items.proofs.item_list.change_ends.Goals as goal
 
 pub overflow_cast-tokens : goal.overflow_cast-tokens
 overflow_cast-tokens c =
@@ -17,7 +17,7 @@ pub replace_and_shift-requires-clause-behind : goal.replace_and_shift-requires-c
 replace_and_shift-requires-clause-behind c =
     let old : List ℕ = c.args.edit.now.old.now in
     let ends : List ℕ = item_ends old in
-    let many : c.len.result ≡ length ends = omega (arith, c.len.ensures, c.args.self.now.ends.ok, ap length c.requires.ends) in
+    let many : c.len.result ≡ length ends = omega (arith, c.len.ensures, c.args.ends.now.ok, ap length c.requires.ends) in
     rw (many, c.requires.ends) (λ i lt. omega (arith, c.requires.items.after, ends_above 0 ends (length ends - c.args.items.now.kept_back) i (c.ends_in_order.ensures.rise (marks_of old)) lt))
 
 pub replace_and_shift-requires-clause-fits : goal.replace_and_shift-requires-clause-fits
@@ -26,7 +26,7 @@ replace_and_shift-requires-clause-fits c =
     let old : List ℕ = edit.old.now in
     let ends : List ℕ = item_ends old in
     let is = c.requires.tokens.of_marks in
-    let many : c.len.result ≡ length ends = omega (arith, c.len.ensures, c.args.self.now.ends.ok, ap length c.requires.ends) in
+    let many : c.len.result ≡ length ends = omega (arith, c.len.ensures, c.args.ends.now.ok, ap length c.requires.ends) in
     let rest = ap length is.behind in
     rw (many, c.requires.ends) (λ i lt.
     omega (

@@ -1,0 +1,116 @@
+//! What a session keeps of an item: what the parser made of it, and what it says to the others.
+//! In: tokens of a text, and where its items end among them. Out: an entry for each item, which goes by the spelling of its tokens
+//! alone, so that an edit elsewhere leaves it as it is.
+#![tactic(auto)]
+
+ghost use Rattle.std.specs.Prelude.{◌≡◌, ◌-◌, ◌<◌, ◌≤◌, ◌++◌, All, IfOk, OnOk, drop, length, map, take};
+ghost use Rattle.snl_cut.specs.Cut.{after_ticks, members, ticked};
+ghost use Rattle.snl_lex.specs.PieceList.{spelled};
+ghost use Rattle.snl_lex.specs.Pieces.{LiesIn};
+ghost use Rattle.snl_session.specs.Entries.{entry_by};
+ghost use Rattle.snl_session.specs.Parts.{EndsWithin};
+
+use snl_cut::{Count, OutOfMemory};
+use snl_lex::Piece;
+use snl_lists::Ordered;
+use snl_scope::{Summary, same_spelling_same_summary, summary_of};
+use snl_syntax::{Parsed, parsed, same_spelling_same_tree};
+use std::alloc::Global;
+
+/// An item as it is kept.
+#[derive(Drop)]
+pub struct Entry {
+    pub parsed: Parsed,
+    pub summary: Summary,
+}
+
+// The entry of the item that consists of these tokens. It is parsed once.
+fn entry_of(
+    alloc: Global,
+    text: &[u8],
+    tokens: &[Piece],
+    work: &mut Count,
+) -> Result<Entry, OutOfMemory>
+    requires some { 0 < length tokens.now }
+    requires within { All (LiesIn text.now) tokens.now }
+    ensures entry { IfOk result (λ e. e ≡ entry_by (spelled text.now tokens.now)) }
+    ensures ticks { work.new ≡ ticked work.old }
+{
+    same_spelling_same_tree();
+    same_spelling_same_summary();
+    let parsed = parsed(alloc, text, tokens, work)?;
+    let summary = summary_of(alloc, text, tokens, parsed.tree())?;
+    Ok(Entry { parsed, summary })
+}
+
+/// The entries of the items that end at these tokens, the first of which begins at token `from`. Each is parsed once.
+pub fn entries_along(
+    alloc: Global,
+    text: &[u8],
+    tokens: &[Piece],
+    from: usize,
+    ends: &[u32],
+    work: &mut Count,
+) -> Result<Vec<Entry>, OutOfMemory>
+    requires ends { EndsWithin from ends.now (length tokens.now) }
+    requires within { All (LiesIn text.now) tokens.now }
+    ensures entries { IfOk result (λ es. es.items ≡ map entry_by (members (spelled text.now tokens.now) from ends.now)) }
+    ensures ticks { IfOk result (λ es. work.new ≡ after_ticks work.old (length ends.now)) }
+{
+    let mut entries = Vec::new(alloc);
+    let mut start = from;
+    for end in ends {
+        let stop = *end as usize;
+        entries.push(entry_of(alloc, text, &tokens[start..stop], work)?)?;
+        start = stop;
+    }
+    Ok(entries)
+}
+
+// Adds the entries from one number up to another.
+fn add_kept<'a>(
+    kept: &'a Ordered<Entry>,
+    from: usize,
+    to: usize,
+    entries: &mut Vec<&'a Entry>,
+) -> Result<(), OutOfMemory>
+    requires order { from ≤ to }
+    requires inside { to ≤ length kept.now.values }
+    ensures { OnOk result (map (λ e. e.now) entries.new.items ≡ map (λ e. e.now) entries.old.items ++ take (to - from) (drop from kept.now.values)) }
+{
+    for number in from..to {
+        if let Some(entry) = kept.get(number) {
+            entries.push(entry)?;
+        }
+    }
+    Ok(())
+}
+
+// Adds entries that were made.
+fn add_made<'a>(made: &'a [Entry], entries: &mut Vec<&'a Entry>) -> Result<(), OutOfMemory>
+    ensures { OnOk result (map (λ e. e.now) entries.new.items ≡ map (λ e. e.now) entries.old.items ++ made.now) }
+{
+    for entry in made {
+        entries.push(entry)?;
+    }
+    Ok(())
+}
+
+/// The entries of all items after an edit: so many that are kept at the front, those that were made, and those from another number on.
+pub fn entries_after<'a>(
+    alloc: Global,
+    kept: &'a Ordered<Entry>,
+    front: usize,
+    made: &'a [Entry],
+    back: usize,
+) -> Result<Vec<&'a Entry>, OutOfMemory>
+    requires order { front ≤ back }
+    requires inside { back ≤ length kept.now.values }
+    ensures { IfOk result (λ es. map (λ e. e.now) es.items ≡ take front kept.now.values ++ (made.now ++ drop back kept.now.values)) }
+{
+    let mut entries = Vec::new(alloc);
+    add_kept(kept, 0, front, &mut entries)?;
+    add_made(made, &mut entries)?;
+    add_kept(kept, back, kept.len(), &mut entries)?;
+    Ok(entries)
+}
