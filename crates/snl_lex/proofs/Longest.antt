@@ -1,19 +1,17 @@
 -- Runs are the longest, a closing mark is the first one, and a mark is the longest one.
-use Rattle.std.proofs.Common.{◌≡◌, ◌==◌, ℕ, zero, suc, ◌+◌, ◌-◌, ◌<◌, ◌≤◌, ◌⊎◌, inl, inr, Bool, true, false, not, cond, ◌&&◌, ◌||◌, List, [], ◌∷◌, ◌++◌, length, take, drop, get_or, Option, Some, None, refl, sym, ap, ap₂, ◌∙◌, subst, arith, length-drop}
+use Rattle.std.proofs.Common.{◌≡◌, ◌==◌, ℕ, zero, suc, ◌+◌, ◌-◌, ◌<◌, ◌≤◌, inl, inr, Bool, true, false, not, cond, ◌&&◌, ◌||◌, List, [], ◌∷◌, length, take, drop, Option, Some, None, refl, sym, ap, ap₂, ◌∙◌, subst, arith}
 use Rattle.std.specs.Prelude.{slice_index, codes, if◌then◌else◌}
 use Rattle.std.specs.Option.{option_map}
-use Rattle.std.specs.List.{list_all, list_any}
-use Rattle.std.specs.Str.{bytes_eq}
+use Rattle.std.specs.List.{list_all}
 use Rattle.std.proofs.lemmas.Bool.{or_left}
 use Rattle.std.proofs.lemmas.Bool.Decides.{nat_tests}
 use Rattle.std.proofs.lemmas.List.{drop-drop}
-use Rattle.std.proofs.lemmas.List.Folds.{list_any-append}
 use Rattle.snl_lex.specs.declared.alphabet.Start.{Start}
 use Rattle.snl_lex.specs.declared.alphabet.Start.TheVariants.{Blank, Letter, Digit, Dot, Hash, Slash, Percent, Quote, Apostrophe, Sign, Stray}
 use Rattle.snl_lex.specs.declared.piece.Class.{Class}
 use Rattle.snl_lex.specs.declared.piece.Class.TheVariants.{White, Comment, Marker, CCode, Name, Word, Bad}
 use Rattle.snl_lex.specs.Alphabet.{is_digit, is_in_line, is_letter, is_mark, is_stray, is_white, is_word_byte, start_of}
-use Rattle.snl_lex.specs.Longest.{ClosesFirst, IsFirstClose, IsLongestRun, IsRunOf}
+use Rattle.snl_lex.specs.Longest.{ClosesFirst, IsLongestRun, IsRunOf}
 use Rattle.snl_lex.specs.Pieces.{closed_by, closed_piece, first_piece, piece_by, run_piece}
 use Rattle.snl_lex.specs.Runs.{begins, close_of, run_of}
 use Rattle.snl_lex.specs.Words.{is_word}

@@ -1,5 +1,5 @@
 -- A mark is the longest of those that the text begins with.
-use Rattle.std.proofs.Common.{◌≡◌, ◌==◌, ℕ, zero, suc, ◌+◌, ◌-◌, ◌<◌, ◌≤◌, ◌⊎◌, inl, inr, Bool, true, false, cond, ◌&&◌, ◌||◌, List, [], ◌∷◌, ◌++◌, length, take, drop, get_or, Option, Some, None, is_some, refl, sym, ap, ◌∙◌, subst, arith}
+use Rattle.std.proofs.Common.{◌≡◌, ◌==◌, ℕ, suc, ◌+◌, ◌<◌, ◌≤◌, ◌⊎◌, inl, inr, Bool, true, false, cond, ◌&&◌, ◌||◌, List, [], ◌∷◌, ◌++◌, length, take, drop, get_or, Option, Some, None, is_some, refl, sym, ap, ◌∙◌, subst, arith}
 use Rattle.std.specs.Prelude.{slice_index}
 use Rattle.std.specs.List.{list_all, list_any}
 use Rattle.std.specs.Str.{bytes_eq}
@@ -9,8 +9,8 @@ use Rattle.std.proofs.lemmas.List.Folds.{list_any-append}
 use Rattle.snl_lex.specs.declared.alphabet.Start.{Start}
 use Rattle.snl_lex.specs.declared.alphabet.Start.TheVariants.{Blank, Letter, Digit, Dot, Hash, Slash, Percent, Quote, Apostrophe, Sign, Stray}
 use Rattle.snl_lex.specs.declared.piece.Class.{Class}
-use Rattle.snl_lex.specs.declared.piece.Class.TheVariants.{White, Comment, Marker, CCode, Name, Word, Int, Float, Text, CharLit, Punct, Bad}
-use Rattle.snl_lex.specs.Alphabet.{is_digit, is_in_line, is_letter, is_mark, is_stray, is_white, is_word_byte, marks_of_1, marks_of_2, marks_of_3, start_of}
+use Rattle.snl_lex.specs.declared.piece.Class.TheVariants.{Comment, CCode, Name, Word, Int, Float, Text, CharLit, Punct, Bad}
+use Rattle.snl_lex.specs.Alphabet.{is_digit, is_in_line, is_letter, is_mark, is_white, is_word_byte, marks_of_1, marks_of_2, marks_of_3, start_of}
 use Rattle.snl_lex.specs.Local.{piece_front}
 use Rattle.snl_lex.specs.Longest.{IsLongestMark}
 use Rattle.snl_lex.specs.Numbers.{int_value_of, is_float, number_class, number_joins}

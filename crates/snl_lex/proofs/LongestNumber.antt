@@ -1,16 +1,16 @@
 -- A number is the longest number run that the text begins with.
-use Rattle.std.proofs.Common.{◌≡◌, ◌==◌, ℕ, zero, suc, ◌+◌, ◌-◌, ◌<◌, ◌≤◌, ◌⊎◌, inl, inr, Bool, true, false, cond, ◌&&◌, ◌||◌, List, [], ◌∷◌, ◌++◌, length, take, drop, get_or, refl, sym, ap, ap₂, ◌∙◌, subst, arith, append_assoc, length-append}
+use Rattle.std.proofs.Common.{◌≡◌, ◌==◌, ℕ, suc, ◌+◌, ◌-◌, ◌<◌, ◌≤◌, ◌⊎◌, inl, inr, Bool, true, false, cond, ◌&&◌, ◌||◌, List, [], ◌∷◌, ◌++◌, length, take, refl, sym, ap, ap₂, ◌∙◌, subst, arith, append_assoc, length-append}
 use Rattle.std.specs.Prelude.{slice_index}
 use Rattle.std.specs.List.{list_all}
 use Rattle.std.proofs.lemmas.Bool.Decides.{nat_tests}
-use Rattle.std.proofs.lemmas.List.{append-nil, get_or-append-add}
+use Rattle.std.proofs.lemmas.List.{get_or-append-add}
 use Rattle.std.proofs.Math.Seq.{get_or-append_seam, take-append_seam}
 use Rattle.snl_lex.specs.declared.alphabet.Start.{Start}
 use Rattle.snl_lex.specs.declared.alphabet.Start.TheVariants.{Blank, Letter, Digit, Dot}
 use Rattle.snl_lex.specs.declared.piece.Class.{Class}
 use Rattle.snl_lex.specs.Alphabet.{is_digit, is_letter, is_plain, is_white, is_word_byte, start_of}
 use Rattle.snl_lex.specs.Local.{run_by_inside}
-use Rattle.snl_lex.specs.Longest.{IsLongestNumber, IsNumberRun, goes_on}
+use Rattle.snl_lex.specs.Longest.{IsLongestNumber, goes_on}
 use Rattle.snl_lex.specs.Numbers.{awaits_sign, is_power, is_sign, number_class, number_joins}
 use Rattle.snl_lex.specs.Pieces.{first_piece, mark_piece, number_piece, piece_by}
 use Rattle.snl_lex.specs.Runs.{run_by}

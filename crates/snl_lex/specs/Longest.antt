@@ -1,5 +1,5 @@
 -- What the first piece of a text reaches: the longest run, the first closing mark, the longest mark.
-use Rattle.std.specs.Prelude.{◌≡◌, ℕ, ◌+◌, ◌-◌, ◌<◌, ◌≤◌, ◌⊎◌, ◌==◌, Bool, true, ◌&&◌, ◌||◌, List, [], ◌∷◌, length, slice_index, take, drop}
+use Rattle.std.specs.Prelude.{◌≡◌, ℕ, zero, suc, ◌+◌, ◌-◌, ◌<◌, ◌≤◌, ◌⊎◌, ◌==◌, Bool, true, false, not, ◌&&◌, ◌||◌, List, [], ◌∷◌, length, slice_index, take, drop}
 use Rattle.std.specs.List.{list_all}
 use Rattle.snl_lex.specs.declared.piece.Class.{Class}
 use Rattle.snl_lex.specs.declared.piece.Class.TheVariants.{Bad}
@@ -55,3 +55,23 @@ pub record IsLongestNumber (text : List ℕ) (len : ℕ) : Type 0 where
   pub inside : len ≤ length text
   pub run : IsNumberRun text len
   pub longest : (n : ℕ) → n ≤ length text → IsNumberRun text n → n ≤ len
+
+-- The byte with a number is taken by a backslash directly before it. A backslash that is taken itself takes nothing.
+abbrev pub is_taken_at : List ℕ → ℕ → Bool
+is_taken_at text zero = false
+is_taken_at text (suc n) = slice_index text n == 92 && not (is_taken_at text n)
+
+-- The byte with a number stops a string: a quote as the first one, or a line's end, that no backslash takes.
+abbrev pub stops_string : ℕ → List ℕ → ℕ → Bool
+stops_string quote text n = not (is_taken_at text n) && (slice_index text n == quote || slice_index text n == 10)
+
+-- After its quote a string goes on up to the first byte that stops it, or to the end of the text.
+pub record IsFirstStop (quote : ℕ) (text : List ℕ) (place : ℕ) : Type 0 where
+  pub after : 1 ≤ place
+  pub first : (n : ℕ) → 1 ≤ n → n < place → stops_string quote text n ≡ false
+  pub stops : (place ≡ length text) ⊎ (stops_string quote text place ≡ true)
+
+-- With a quote at its first stop, a string is of the class and ends with that quote; without, it is faulty and ends before the stop.
+abbrev pub IsString : Class → ℕ → List ℕ → Class × ℕ → Type 0
+IsString kind quote text piece =
+    (place : ℕ) × (IsFirstStop quote text place × (((slice_index text place ≡ quote) × (piece.0 ≡ kind) × (piece.1 ≡ 1 + place)) ⊎ ((slice_index text place ≡ quote → ⊥) × (piece.0 ≡ Bad) × (piece.1 ≡ place))))

@@ -1,6 +1,7 @@
 use Rattle.snl_lex.proofs.Longest.{code_first, comment_first, line_code_first, line_comment_first, marker_first, name_first, stray_first, white_first}
 use Rattle.snl_lex.proofs.LongestMark.{mark_first}
 use Rattle.snl_lex.proofs.LongestNumber.{number_first}
+use Rattle.snl_lex.proofs.LongestString.{character_first, text_first}
 use Rattle.snl_lex.proofs.laws.first_piece_reaches.Goals as goal
 
 pub returns-clause-white : goal.returns-clause-white
@@ -32,3 +33,9 @@ returns-clause-mark c = mark_first
 
 pub returns-clause-number : goal.returns-clause-number
 returns-clause-number c = number_first
+
+pub returns-clause-string : goal.returns-clause-string
+returns-clause-string c = text_first
+
+pub returns-clause-character : goal.returns-clause-character
+returns-clause-character c = character_first

@@ -1,4 +1,4 @@
-use Rattle.std.proofs.Common.{◌≡◌, ℕ, suc, ◌-◌, List, take, Option, None, nat_lt, count_by, sym, ap, ◌∙◌, arith}
+use Rattle.std.proofs.Common.{◌≡◌, ℕ, suc, ◌-◌, List, take, None, nat_lt, count_by, sym, ap, ◌∙◌, arith}
 use Rattle.snl_lex.specs.declared.line_list.Marker.{Marker}
 use Rattle.snl_lex.specs.Lines.{last_of}
 use Rattle.snl_lex.proofs.Halving.{filter_taken, last_taken}

@@ -1,4 +1,4 @@
-use Rattle.std.proofs.Common.{ℕ, List, None, ◌<◌, arith, get_or, length}
+use Rattle.std.proofs.Common.{ℕ, None, ◌<◌, arith, get_or, length}
 use Rattle.std.proofs.lemmas.List.{get_or_default}
 use Rattle.std.proofs.lemmas.List.Edits.{map_over_more}
 use Rattle.snl_lex.specs.declared.line_list.Marker.{Marker}

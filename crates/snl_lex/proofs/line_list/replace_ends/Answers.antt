@@ -1,4 +1,4 @@
-use Rattle.std.proofs.Common.{◌≡◌, ℕ, ◌≤◌, List, arith, sym, ap, ◌∙◌, subst}
+use Rattle.std.proofs.Common.{◌≡◌, arith, sym, ap, ◌∙◌, subst}
 use Rattle.std.specs.List.Sorted.{IsNonDecreasing}
 use Rattle.snl_lex.specs.LineList.{line_ends}
 use Rattle.snl_lex.proofs.Changes.{edit_lengths}

@@ -1,4 +1,4 @@
-use Rattle.std.proofs.Common.{◌≡◌, ◌&&◌, ℕ, Bool, List, is_some, arith, sym, ap, ◌∙◌, subst}
+use Rattle.std.proofs.Common.{◌&&◌, ℕ, Bool, List, is_some, arith, sym, ap, ◌∙◌, subst}
 use Rattle.std.specs.Prelude.{All}
 use Rattle.std.specs.List.Sorted.{IsNonDecreasingBy}
 use Rattle.snl_lex.specs.declared.line_list.Marker.{Marker}
