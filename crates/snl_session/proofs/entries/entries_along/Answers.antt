@@ -1,4 +1,4 @@
-use Rattle.std.proofs.Common.{◌≡◌, ◌+◌, ◌-◌, ◌++◌, ◌∷◌, [], length, map, take, drop, get_or, ap, sym, subst, ◌∙◌, append_assoc, add-one}
+use Rattle.std.proofs.Common.{◌+◌, ◌++◌, ◌∷◌, [], length, map, drop, get_or, ap, sym, subst, ◌∙◌, append_assoc, add-one}
 use Rattle.snl_cut.specs.Cut.{after_ticks, members, ticked}
 use Rattle.snl_lex.specs.PieceList.{spelled}
 use Rattle.snl_session.specs.Entries.{entry_by}

@@ -1,4 +1,4 @@
-use Rattle.std.proofs.Common.{arith, ◌≡◌, ◌^◌, ◌<◌, length, ap, sym, ◌∙◌}
+use Rattle.std.proofs.Common.{arith, ◌^◌, ◌<◌, length, ap, ◌∙◌}
 use Rattle.snl_cut.specs.Cut.{after_ticks}
 use Rattle.snl_session.proofs.Ticks.{exact_ticks}
 use Rattle.snl_session.proofs.plan.plan_of.Goals as goal

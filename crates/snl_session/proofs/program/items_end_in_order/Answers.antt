@@ -1,4 +1,4 @@
-use Rattle.std.proofs.Common.{◌≡◌, length, map, subst}
+use Rattle.std.proofs.Common.{length, subst}
 use Rattle.std.proofs.lemmas.List.{length-map}
 use Rattle.snl_lex.specs.Pieces.{tokens_of}
 use Rattle.snl_syntax.specs.Items.{item}
