@@ -66,12 +66,7 @@ fn edited(
 }
 
 // Makes the ends of the old text's items those of the new one's. There is room for those that are made.
-fn change_ends(
-    ends: &mut Vec<u32>,
-    edit: &TextEdit,
-    tokens: &TokenChange,
-    items: &ItemChange,
-)
+fn change_ends(ends: &mut Vec<u32>, edit: &TextEdit, tokens: &TokenChange, items: &ItemChange)
     requires ends { ends.old.items ≡ item_ends edit.now.old.now }
     requires tokens { IsTokenChange edit.now.old.now edit.now.text.now edit.now.start edit.now.old_stop edit.now.new_stop tokens.now.edit tokens.now.made.items tokens.now.marks.items tokens.now.same }
     requires items { IsItemChange edit.now.old.now edit.now.text.now edit.now.start edit.now.old_stop edit.now.new_stop tokens.now.edit items.now.kept_front items.now.made.items items.now.kept_back }
