@@ -7,6 +7,7 @@ use crate::reading::summaries;
 use snl_reading::links_of;
 use snl_scope::{ItemKind, Links, Summary, same_outline, same_view};
 use std::alloc::Global;
+use std::process::Abort;
 use std::test::Fail;
 
 /// Two texts, whether their outlines are the same, and of each item whether it sees the same: a letter each, y or n.
@@ -116,20 +117,55 @@ fn links_with(alloc: Global, outlines: &[Summary], kinds: &[Summary]) -> Result<
     Ok(links)
 }
 
+fn expect_findings(
+    rt: &impl Abort,
+    alloc: Global,
+    old: &[Summary],
+    new: &[Summary],
+    links: &Links,
+) -> Result<(), Fail> {
+    let kept = links_with(alloc, old, new)?;
+    assert_eq!(rt; kept.faults(), links.faults());
+    Ok(())
+}
+
+fn expect_views(
+    rt: &impl Abort,
+    alloc: Global,
+    old: &[Summary],
+    links: &Links,
+    wanted: &[u8],
+) -> Result<(), Fail> {
+    let old_links = links_of(alloc, old)?;
+    let letters = views(alloc, &old_links, links, old)?;
+    assert_eq!(rt; letters.as_slice(), wanted);
+    Ok(())
+}
+
+fn expect_row(
+    rt: &impl Abort,
+    alloc: Global,
+    old: &[Summary],
+    new: &[Summary],
+    wanted: bool,
+    wanted_views: &[u8],
+) -> Result<(), Fail> {
+    assert_eq!(rt; all_alike(old, new), wanted);
+    let links = links_of(alloc, new)?;
+    expect_views(rt, alloc, old, &links, wanted_views)?;
+    if wanted {
+        expect_findings(rt, alloc, old, new, &links)?;
+    }
+    Ok(())
+}
+
 #[test]
 fn what_an_edit_leaves_as_it_was(rt: HostRuntime) -> Result<(), Fail> {
     let alloc = rt.alloc();
     for (old_text, new_text, wanted, wanted_views) in &EDITS {
         let old = summaries(alloc, old_text)?;
         let new = summaries(alloc, new_text)?;
-        assert_eq!(rt; all_alike(&old, &new), *wanted, "{old_text:?}");
-        let links = links_of(alloc, &new)?;
-        let letters = views(alloc, &links_of(alloc, &old)?, &links, &old)?;
-        assert_eq!(rt; letters.as_slice(), *wanted_views, "{old_text:?}");
-        if *wanted {
-            let kept = links_with(alloc, &old, &new)?;
-            assert_eq!(rt; kept.faults(), links.faults(), "{old_text:?}");
-        }
+        expect_row(&rt, alloc, &old, &new, *wanted, wanted_views)?;
     }
     Ok(())
 }
