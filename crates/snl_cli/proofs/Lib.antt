@@ -3,3 +3,4 @@ pub mod RunLemmas
 pub mod SaidLemmas
 pub mod ScriptLemmas
 pub mod ListingLemmas
+pub mod StartLemmas

@@ -3,6 +3,7 @@ use Rattle.std.specs.Prelude.{◌≡◌, ℕ, ◌+◌, ◌≤◌, ◌<◌, List,
 use Rattle.std.specs.Bool.{OnTrue}
 use Rattle.std.specs.Io.KnownBytes.{Appends, Consumes, IsAtEnd, Keeps, prepend_known}
 use Rattle.snl_session.specs.declared.edits.Refused.{Refused}
+use Rattle.snl_session.specs.declared.edits.Refused.TheVariants as refused
 use Rattle.snl_session.specs.Edit.{limit, refusal_of, spliced}
 use Rattle.snl_cli.specs.declared.faults.RunFault.{RunFault}
 use Rattle.snl_cli.specs.declared.faults.RunFault.TheVariants.{Read, Write, Script, Memory, TooManyTurns, Source}
@@ -70,6 +71,11 @@ pub record IsEdited (old new : List ℕ) (start stop : ℕ) (added : List ℕ) (
   pub fair : OnTrue starved (refusal_of old start stop (length added) ≡ None)
   pub refused_is : refused ≡ refused_for old start stop added starved
   pub text_is : new ≡ edited refused old (spliced old start stop added)
+
+-- Why a run cannot begin whose source was refused.
+abbrev pub start_fault : Refused → RunFault
+start_fault refused.Memory = Memory
+start_fault _ = Source
 
 -- A session over a source cannot begin for want of memory, or as the source is too large.
 abbrev pub NoStart : List ℕ → RunFault → Type 0

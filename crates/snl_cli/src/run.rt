@@ -7,7 +7,7 @@ ghost use Rattle.std.specs.Prelude.{◌≡◌, ◌≢◌, ℕ, ◌+◌, ◌==◌
 ghost use Rattle.std.specs.Io.KnownBytes.{Keeps};
 ghost use Rattle.snl_session.specs.Edit.{limit, refusal_of, spliced};
 ghost use Rattle.snl_cli.specs.Front.{request_of};
-ghost use Rattle.snl_cli.specs.Run.{Answered, IsEdited, NoStart, Ran, is_read_fault, is_write_fault};
+ghost use Rattle.snl_cli.specs.Run.{Answered, IsEdited, NoStart, Ran, is_read_fault, is_write_fault, start_fault};
 ghost use Rattle.snl_cli.specs.Transcript.{status_of};
 ghost use Rattle.snl_cli.specs.Watched.{calls_of, failed_of, inner_of};
 
@@ -56,17 +56,34 @@ fn status(session: &Session) -> Status
     }
 }
 
+/// Why a run cannot begin whose source was refused.
+fn start_fault(refused: Refused) -> RunFault
+    ensures { result ≡ start_fault refused }
+{
+    match refused {
+        Refused::Memory => RunFault::Memory,
+        Refused::Range | Refused::Size => RunFault::Source,
+    }
+}
+
+/// A session over the empty text.
+fn empty(alloc: Global) -> Result<Session, RunFault>
+    ensures ok { IfOk result (λ session. session ≡ []) }
+    ensures err { IfErr result (λ fault. fault ≡ RunFault.Memory) }
+{
+    Session::new(alloc).map_err(|_| RunFault::Memory)
+}
+
 /// A session over a source.
 fn begin(alloc: Global, source: &[u8]) -> Result<Session, RunFault>
     ensures ok { IfOk result (λ session. session ≡ source.now) }
     ensures fits { OnOk result (length source.now ≤ limit) }
     ensures err { IfErr result (NoStart source.now) }
 {
-    let mut session = Session::new(alloc).map_err(|_| RunFault::Memory)?;
+    let mut session = empty(alloc)?;
     match edit(&mut session, 0, 0, source) {
         None => Ok(session),
-        Some(Refused::Memory) => Err(RunFault::Memory),
-        Some(_) => Err(RunFault::Source),
+        Some(refused) => Err(start_fault(refused)),
     }
 }
 
