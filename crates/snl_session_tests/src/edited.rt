@@ -140,26 +140,43 @@ fn take_back(
     Ok(())
 }
 
-// Makes the edits of each script and takes them back, with refused ones between.
-fn make_and_take_back(rt: &impl Abort, alloc: Global, is_typed: bool) -> Result<(), Fail> {
-    let mut edited = Edited::begin(alloc)?;
+// Makes the edits of a script and takes them back, with refused ones between.
+fn make_and_take_back(
+    rt: &impl Abort,
+    alloc: Global,
+    edited: &mut Edited,
+    script: &[Edit],
+    is_typed: bool,
+) -> Result<(), Fail> {
+    let undos = make(rt, alloc, edited, script, is_typed)?;
+    edited.refuse(rt, alloc)?;
+    take_back(rt, alloc, edited, &undos)?;
+    assert_eq!(rt; edited.session.text(), PROGRAM);
+    Ok(())
+}
+
+fn make_all(
+    rt: &impl Abort,
+    alloc: Global,
+    edited: &mut Edited,
+    is_typed: bool,
+) -> Result<(), Fail> {
     for script in &SCRIPTS {
-        let undos = make(rt, alloc, &mut edited, script, is_typed)?;
-        edited.refuse(rt, alloc)?;
-        take_back(rt, alloc, &mut edited, &undos)?;
-        assert_eq!(rt; edited.session.text(), PROGRAM);
+        make_and_take_back(rt, alloc, edited, script, is_typed)?;
     }
     Ok(())
 }
 
 #[test]
 fn pasted_edits_and_the_text_at_once(rt: HostRuntime) -> Result<(), Fail> {
-    make_and_take_back(&rt, rt.alloc(), false)
+    let mut edited = Edited::begin(rt.alloc())?;
+    make_all(&rt, rt.alloc(), &mut edited, false)
 }
 
 #[test]
 fn typed_edits_and_the_text_at_once(rt: HostRuntime) -> Result<(), Fail> {
-    make_and_take_back(&rt, rt.alloc(), true)
+    let mut edited = Edited::begin(rt.alloc())?;
+    make_all(&rt, rt.alloc(), &mut edited, true)
 }
 
 // Numbers that follow one another by a linear congruence: 48,271 times the last one, modulo 2,147,483,647.
