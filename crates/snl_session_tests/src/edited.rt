@@ -1,8 +1,8 @@
 //! Sessions that take many edits, held after each of them against a session that gets the same text in one.
 
 use crate::same_rows::expect_same_tables;
-use crate::scripts::{Edit, PARTS, PROGRAM, SCRIPTS};
-use snl_session::{Refused, Session};
+use crate::scripts::{PARTS, PROGRAM};
+use snl_session::Session;
 use std::alloc::Global;
 use std::process::Abort;
 use std::test::Fail;
@@ -65,118 +65,6 @@ impl Edited {
         self.text = text;
         self.expect_as_new(rt, alloc)
     }
-
-    // Makes an edit as it is typed: the old bytes are taken away from the last one on, then each new one is put in.
-    fn edit_by_letters(
-        &mut self,
-        rt: &impl Abort,
-        alloc: Global,
-        start: usize,
-        stop: usize,
-        new: &[u8],
-    ) -> Result<(), Fail> {
-        for last in (start..stop).rev() {
-            self.edit(rt, alloc, last, last.saturating_add(1), b"")?;
-        }
-        for (number, letter) in new.iter().enumerate() {
-            let place = start.saturating_add(number);
-            self.edit(rt, alloc, place, place, &[*letter])?;
-        }
-        Ok(())
-    }
-
-    // Asks for edits out of the text, and compares.
-    fn refuse(&mut self, rt: &impl Abort, alloc: Global) -> Result<(), Fail> {
-        let after = self.text.len().saturating_add(1);
-        for (start, stop) in [(1, 0), (0, after), (after, after), (0, usize::MAX)] {
-            assert_eq!(rt; self.session.edit(start, stop, b"}"), Err(Refused::Range));
-        }
-        self.expect_as_new(rt, alloc)
-    }
-}
-
-// An edit that takes back another one.
-#[derive(Drop)]
-struct Undo {
-    start: usize,
-    stop: usize,
-    old: Vec<u8>,
-}
-
-// Makes the edits of a script, and answers those that take them back.
-fn make(
-    rt: &impl Abort,
-    alloc: Global,
-    edited: &mut Edited,
-    script: &[Edit],
-    is_typed: bool,
-) -> Result<Vec<Undo>, Fail> {
-    let mut undos = Vec::new(alloc);
-    for (start, stop, new) in script {
-        undos.push(Undo {
-            start: *start,
-            stop: start.saturating_add(new.len()),
-            old: Vec::from_slice(alloc, part(&edited.text, *start, *stop))?,
-        })?;
-        if is_typed {
-            edited.edit_by_letters(rt, alloc, *start, *stop, new)?;
-        } else {
-            edited.edit(rt, alloc, *start, *stop, new)?;
-        }
-    }
-    Ok(undos)
-}
-
-// Takes edits back, the last one first.
-fn take_back(
-    rt: &impl Abort,
-    alloc: Global,
-    edited: &mut Edited,
-    undos: &[Undo],
-) -> Result<(), Fail> {
-    for undo in undos.iter().rev() {
-        edited.edit(rt, alloc, undo.start, undo.stop, &undo.old)?;
-    }
-    Ok(())
-}
-
-// Makes the edits of a script and takes them back, with refused ones between.
-fn make_and_take_back(
-    rt: &impl Abort,
-    alloc: Global,
-    edited: &mut Edited,
-    script: &[Edit],
-    is_typed: bool,
-) -> Result<(), Fail> {
-    let undos = make(rt, alloc, edited, script, is_typed)?;
-    edited.refuse(rt, alloc)?;
-    take_back(rt, alloc, edited, &undos)?;
-    assert_eq!(rt; edited.session.text(), PROGRAM);
-    Ok(())
-}
-
-fn make_all(
-    rt: &impl Abort,
-    alloc: Global,
-    edited: &mut Edited,
-    is_typed: bool,
-) -> Result<(), Fail> {
-    for script in &SCRIPTS {
-        make_and_take_back(rt, alloc, edited, script, is_typed)?;
-    }
-    Ok(())
-}
-
-#[test]
-fn pasted_edits_and_the_text_at_once(rt: HostRuntime) -> Result<(), Fail> {
-    let mut edited = Edited::begin(rt.alloc())?;
-    make_all(&rt, rt.alloc(), &mut edited, false)
-}
-
-#[test]
-fn typed_edits_and_the_text_at_once(rt: HostRuntime) -> Result<(), Fail> {
-    let mut edited = Edited::begin(rt.alloc())?;
-    make_all(&rt, rt.alloc(), &mut edited, true)
 }
 
 // Numbers that follow one another by a linear congruence: 48,271 times the last one, modulo 2,147,483,647.
