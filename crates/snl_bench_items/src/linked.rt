@@ -1,16 +1,13 @@
-//! What items say to each other: summaries, or tokens, ends and trees, come in; how much the links and the checks answer goes
-//! out.
+//! What items say to each other: summaries, or items, come in; how much the links and the checks answer goes out.
 #![tactic(auto)]
 
-ghost use Rattle.snl_lex.specs.Pieces.{LiesIn};
+ghost use Rattle.snl_reading.specs.ItemsRead.{ReadFrom};
 ghost use Rattle.std.specs.Prelude.{All};
 
-use crate::stop::Stop;
 use snl_check::check_item;
 use snl_cut::Count;
-use snl_lex::Piece;
+use snl_reading::{ReadItem, Stop};
 use snl_scope::{Links, Summary};
-use snl_syntax::tree::item::Item;
 use std::alloc::Global;
 
 // How much the links answer of what an item asks: its place, each name that it uses, and each target.
@@ -39,26 +36,16 @@ pub fn views_of(links: &Links, summaries: &[Summary]) -> usize {
 }
 
 /// How much is found in the items by themselves.
-pub fn checked(
-    alloc: Global,
-    text: &[u8],
-    tokens: &[Piece],
-    ends: &[usize],
-    trees: &[Option<Item>],
-    links: &Links,
-) -> Result<usize, Stop>
-    requires { All (LiesIn text.now) tokens.now }
+pub fn checked(alloc: Global, text: &[u8], items: &[ReadItem], links: &Links) -> Result<usize, Stop>
+    requires { All (ReadFrom text.now) items.now }
 {
     let mut work = Count::new();
     let mut found: usize = 0;
-    let mut start = 0;
-    for (item, end) in ends.iter().enumerate() {
-        let own = tokens.get(start..*end).unwrap_or(&[]);
-        if let Some(Some(tree)) = trees.get(item) {
-            let checked = check_item(alloc, text, own, tree, links, item, &mut work)?;
+    for (number, item) in items.iter().enumerate() {
+        if let Some(tree) = item.tree {
+            let checked = check_item(alloc, text, item.tokens, tree, links, number, &mut work)?;
             found = found.wrapping_add(checked.faults.as_slice().len());
         }
-        start = *end;
     }
     Ok(found)
 }

@@ -3,33 +3,31 @@
 //! In: the template of the text, on standard input (the file stdin). Out: what there is in the text, on standard output; the best times, in microseconds, on standard error.
 #![tactic(auto)]
 
+ghost use Rattle.snl_check.specs.Items.{EndsWithin};
 ghost use Rattle.snl_lex.specs.Pieces.{LiesIn};
-ghost use Rattle.std.specs.Prelude.{All};
+ghost use Rattle.snl_reading.specs.ItemsRead.{ReadFrom};
+ghost use Rattle.std.specs.Prelude.{All, length};
 
 mod linked;
-mod stop;
 mod text;
 
 use linked::{checked, views_of};
 use snl_lex::Piece;
-use snl_reading::{ends_of, links_of, marks_of, summaries_of, tokens_of, trees_of};
+use snl_reading::{
+    ReadItem, Stop, ends_of, items_of, links_of, marks_of, micros, summaries_of, tokens_of,
+    trees_of,
+};
 use snl_scope::{Links, Summary};
 use snl_syntax::tree::item::Item;
 use std::alloc::Global;
 use std::io::{self, Read};
 use std::rt::Clock;
 use std::time::Instant;
-use stop::Stop;
 use text::text_of;
 
 const SIZE: usize = 1_048_576;
 
 const TURNS: usize = 30;
-
-fn micros(rt: &impl Clock, begin: Instant) -> Result<u64, Stop> {
-    let passed = begin.elapsed(rt)?.as_micros();
-    Ok(u64::try_from(passed).unwrap_or(u64::MAX))
-}
 
 // The best time of the cut into items, in microseconds.
 fn time_cut(rt: &impl Clock, alloc: Global, text: &[u8], tokens: &[Piece]) -> Result<u64, Stop>
@@ -73,16 +71,14 @@ fn time_summaries(
     rt: &impl Clock,
     alloc: Global,
     text: &[u8],
-    tokens: &[Piece],
-    ends: &[usize],
-    trees: &[Option<Item>],
+    items: &[ReadItem],
 ) -> Result<u64, Stop>
-    requires { All (LiesIn text.now) tokens.now }
+    requires { All (ReadFrom text.now) items.now }
 {
     let mut best = u64::MAX;
     for _ in 0..TURNS {
         let begin = Instant::now(rt)?;
-        let summaries = summaries_of(alloc, text, tokens, ends, trees)?;
+        let summaries = summaries_of(alloc, text, items)?;
         best = best.min(micros(rt, begin)?);
         drop(summaries);
     }
@@ -118,18 +114,16 @@ fn time_checks(
     rt: &impl Clock,
     alloc: Global,
     text: &[u8],
-    tokens: &[Piece],
-    ends: &[usize],
-    trees: &[Option<Item>],
+    items: &[ReadItem],
     links: &Links,
 ) -> Result<(u64, usize), Stop>
-    requires { All (LiesIn text.now) tokens.now }
+    requires { All (ReadFrom text.now) items.now }
 {
     let mut best = u64::MAX;
     let mut found = 0;
     for _ in 0..TURNS {
         let begin = Instant::now(rt)?;
-        found = checked(alloc, text, tokens, ends, trees, links)?;
+        found = checked(alloc, text, items, links)?;
         best = best.min(micros(rt, begin)?);
     }
     Ok((best, found))
@@ -164,18 +158,16 @@ fn measure_links<R: Clock + Print + Eprint>(
     rt: &R,
     alloc: Global,
     text: &[u8],
-    tokens: &[Piece],
-    ends: &[usize],
-    trees: &[Option<Item>],
+    items: &[ReadItem],
     summaries: &[Summary],
     links: &Links,
 ) -> Result<(), Stop>
-    requires { All (LiesIn text.now) tokens.now }
+    requires { All (ReadFrom text.now) items.now }
 {
-    let summarized = time_summaries(rt, alloc, text, tokens, ends, trees)?;
+    let summarized = time_summaries(rt, alloc, text, items)?;
     let linked = time_links(rt, alloc, summaries)?;
     let (viewed, answers) = time_views(rt, links, summaries)?;
-    let (checked, found) = time_checks(rt, alloc, text, tokens, ends, trees, links)?;
+    let (checked, found) = time_checks(rt, alloc, text, items, links)?;
     println!(rt;
         "by links {} by checks {found} answers {answers}",
         links.faults().len()
@@ -186,39 +178,41 @@ fn measure_links<R: Clock + Print + Eprint>(
     Ok(())
 }
 
-fn measure_summaries<R: Clock + Print + Eprint>(
+fn measure_items<R: Clock + Print + Eprint>(
+    rt: &R,
+    alloc: Global,
+    text: &[u8],
+    items: &[ReadItem],
+) -> Result<(), Stop>
+    requires { All (ReadFrom text.now) items.now }
+{
+    let summaries = summaries_of(alloc, text, items)?;
+    let links = links_of(alloc, &summaries)?;
+    measure_links(rt, alloc, text, items, &summaries, &links)
+}
+
+fn measure_tokens<R: Clock + Print + Eprint>(
     rt: &R,
     alloc: Global,
     text: &[u8],
     tokens: &[Piece],
     ends: &[usize],
-    trees: &[Option<Item>],
 ) -> Result<(), Stop>
-    requires { All (LiesIn text.now) tokens.now }
+    requires inside { All (LiesIn text.now) tokens.now }
+    requires ends { EndsWithin 0 ends.now (length tokens.now) }
 {
-    let summaries = summaries_of(alloc, text, tokens, ends, trees)?;
-    let links = links_of(alloc, &summaries)?;
-    measure_links(rt, alloc, text, tokens, ends, trees, &summaries, &links)
-}
-
-fn measure_items<R: Clock + Print + Eprint>(
-    rt: &R,
-    alloc: Global,
-    text: &[u8],
-    tokens: &[Piece],
-) -> Result<(), Stop>
-    requires { All (LiesIn text.now) tokens.now }
-{
-    let ends = ends_of(alloc, &marks_of(alloc, text, tokens)?)?;
-    let trees = trees_of(alloc, text, tokens, &ends)?;
-    measure_trees(rt, alloc, text, tokens, &ends, &trees)?;
-    measure_summaries(rt, alloc, text, tokens, &ends, &trees)
+    let trees = trees_of(alloc, text, tokens, ends)?;
+    measure_trees(rt, alloc, text, tokens, ends, &trees)?;
+    let items = items_of(alloc, tokens, ends, &trees)?;
+    measure_items(rt, alloc, text, &items)
 }
 
 fn measure<R: Clock + Print + Eprint>(rt: &R, alloc: Global, template: &[u8]) -> Result<(), Stop> {
     let text = text_of(alloc, template, SIZE)?;
     let tokens = tokens_of(alloc, &text)?;
-    measure_items(rt, alloc, &text, &tokens)
+    let marks = marks_of(alloc, &text, &tokens)?;
+    let ends = ends_of(alloc, &marks)?;
+    measure_tokens(rt, alloc, &text, &tokens, &ends)
 }
 
 fn main(rt: HostRuntime) -> io::Result<()> {

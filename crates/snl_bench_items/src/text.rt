@@ -1,7 +1,7 @@
 //! The text that is measured: a program of declarations, clauses, state sets and functions, each with names of its own.
 //! In: a template and a size. Out: a text of about that many bytes.
 
-use crate::stop::Stop;
+use snl_reading::Stop;
 use std::alloc::Global;
 
 // How many bytes a section has, its declarations and its state set together.

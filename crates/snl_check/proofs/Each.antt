@@ -1,10 +1,10 @@
 -- What holds of each element of a list.
-use Rattle.std.proofs.Common.{◌≡◌, ℕ, Bool, true, false, cond, List, [], ◌∷◌, ◌++◌, map, filter, ap, ◌∙◌, inl, inr, refl, subst, sym}
+use Rattle.std.proofs.Common.{◌≡◌, ℕ, Bool, true, false, cond, List, [], ◌∷◌, ◌++◌, map, inl, inr, refl, subst, sym}
 use Rattle.std.specs.List.{AllByRecursion, list_any}
 use Rattle.std.specs.Str.{bytes_eq}
 use Rattle.std.proofs.lemmas.Bool.{or_cases}
 use Rattle.std.proofs.lemmas.Slice.Eq.{bytes_eq-Decides}
-use Rattle.snl_scope.specs.Summaries.{once, once_behind, with_new}
+use Rattle.snl_walk.specs.Once.{once, once_after, with_new}
 
 pub each_front : {X : Type 0} (P : X → Type 0) (xs ys : List X) → AllByRecursion P (xs ++ ys) → AllByRecursion P xs
 each_front P [] ys h = tt
@@ -18,15 +18,14 @@ pub each_join : {X : Type 0} (P : X → Type 0) (xs ys : List X) → AllByRecurs
 each_join P [] ys f b = b
 each_join P (x ∷ xs) ys f b = (f.0, each_join P xs ys f.1 b)
 
-pub each_kept : {X : Type 0} (P : X → Type 0) (p : X → Bool) (xs : List X) → AllByRecursion P xs → AllByRecursion P (filter p xs)
-each_kept P p [] h = tt
-each_kept P p (x ∷ xs) h =
-    elim (p x) as (λ b. AllByRecursion P (cond b (x ∷ filter p xs) (filter p xs))) [ true ↦ (h.0, each_kept P p xs h.1) | false ↦ each_kept P p xs h.1 ]
+pub each_weaker : {X : Type 0} (P Q : X → Type 0) → ((x : X) → P x → Q x) → (xs : List X) → AllByRecursion P xs → AllByRecursion Q xs
+each_weaker P Q f [] h = tt
+each_weaker P Q f (x ∷ xs) h = (f x h.0, each_weaker P Q f xs h.1)
 
--- two tests that agree on each element keep the same ones
-pub kept_alike : {X : Type 0} (p q : X → Bool) (xs : List X) → AllByRecursion (λ n. p n ≡ q n) xs → filter p xs ≡ filter q xs
-kept_alike p q [] h = refl
-kept_alike p q (x ∷ xs) h = ap (λ b. cond b (x ∷ filter p xs) (filter p xs)) h.0 ∙ ap (λ l. cond (q x) (x ∷ l) l) (kept_alike p q xs h.1)
+-- what holds of what is made of each
+pub each_of : {X Y : Type 0} (P : Y → Type 0) (f : X → Y) (xs : List X) → AllByRecursion (λ x. P (f x)) xs → AllByRecursion P (map f xs)
+each_of P f [] h = tt
+each_of P f (x ∷ xs) h = (h.0, each_of P f xs h.1)
 
 -- what holds of the images
 pub each_image : {X Y : Type 0} (P : Y → Type 0) (f : X → Y) (xs : List X) → AllByRecursion P (map f xs) → AllByRecursion (λ x. P (f x)) xs
@@ -45,13 +44,13 @@ taken : (P : List ℕ → Type 0) (name : List ℕ) (names : List (List ℕ)) (b
 taken P name names true is h = (h, each_among P name names is h)
 taken P name names false is h = (each_front P names (name ∷ []) h, (each_back P names (name ∷ []) h).0)
 
-each_once_behind : (P : List ℕ → Type 0) (found names : List (List ℕ)) → AllByRecursion P (once_behind found names) → AllByRecursion P found × AllByRecursion P names
-each_once_behind P found [] h = (h, tt)
-each_once_behind P found (n ∷ ns) h =
-    let rest = each_once_behind P (with_new found n) ns h in
+each_once_after : (P : List ℕ → Type 0) (found names : List (List ℕ)) → AllByRecursion P (once_after found names) → AllByRecursion P found × AllByRecursion P names
+each_once_after P found [] h = (h, tt)
+each_once_after P found (n ∷ ns) h =
+    let rest = each_once_after P (with_new found n) ns h in
     let here = taken P n found (list_any (bytes_eq n) found) refl rest.0 in
     (here.0, (here.1, rest.1))
 
 -- what holds of each different name holds of each name
 pub each_once : (P : List ℕ → Type 0) (names : List (List ℕ)) → AllByRecursion P (once names) → AllByRecursion P names
-each_once P names h = (each_once_behind P [] names h).1
+each_once P names h = (each_once_after P [] names h).1

@@ -3,23 +3,25 @@ use Rattle.std.proofs.Common.{◌≡◌, ℕ, ◌<◌, Bool, true, false, not, L
 use Rattle.std.specs.List.{filter_map}
 use Rattle.std.specs.Option.{is_none, option_and_then, option_map, option_map_or, unwrap_or}
 use Rattle.std.proofs.lemmas.Option.{slice_get-map}
+use Rattle.snl_lex.specs.declared.piece.Piece.{Piece}
 use Rattle.snl_syntax.specs.declared.tree.item.Item.{Item}
-use Rattle.snl_syntax.specs.declared.tree.item.Item.TheVariants as items
 use Rattle.snl_scope.specs.declared.summary.Outline.{Outline}
-use Rattle.snl_scope.specs.Order.{is_faulty}
-use Rattle.snl_scope.specs.Summaries.{kind_of}
-use Rattle.snl_scope.specs.Summaries.Targets.{targets_in}
+use Rattle.snl_scope.specs.Summaries.{occurrences_in}
 use Rattle.snl_scope.specs.Summaries.Tokens.{mention_at}
+use Rattle.snl_walk.specs.declared.used.TargetUse.{TargetUse}
+use Rattle.snl_walk.specs.Items.{occurrences}
+use Rattle.snl_walk.specs.Tokens.{bytes_at}
+use Rattle.snl_walk.specs.Uses.{targets}
 use Rattle.snl_check.specs.declared.findings.Checked.{Checked}
 use Rattle.snl_check.specs.declared.program.Program.{Program}
-use Rattle.snl_check.specs.declared.wake.WakeUse.{WakeUse}
-use Rattle.snl_check.specs.Collected.{IsProgram, items_in, uses_told}
-use Rattle.snl_check.specs.Conditions.{uses_in, uses_in_item}
+use Rattle.snl_check.specs.Collected.{IsProgram, items_in}
 use Rattle.snl_check.specs.Items.{ProgramItem, outlines_of, outline_of_item, summary_of_item, tokens_in, tree_in}
 use Rattle.snl_check.specs.Members.{is_faulty_item, target_number, target_numbers}
+use Rattle.snl_check.specs.Told.{Told, nothing, told_by, told_in, told_in_item, told_seen}
 use Rattle.snl_check.proofs.Items.{count_in}
 use Rattle.std.proofs.lemmas.List.{length-map}
 use Rattle.snl_check.proofs.Sets.{get_here}
+use Rattle.snl_check.proofs.Targets.{uses_at_targets}
 
 -- the outline of an item
 pub outline_at : (text : List ℕ) (xs : List ProgramItem) (i : ℕ) → slice_get (outlines_of text xs) i ≡ option_map (outline_of_item text) (slice_get xs i)
@@ -44,21 +46,26 @@ counted p ss is linked = sym (ap length linked ∙ length-map (items_in p) (outl
 
 -- the targets of an item
 pub targets_at : (text : List ℕ) (xs : List ProgramItem) (ss : List Outline) (states : List ℕ) (i : ℕ) →
-    target_numbers text xs ss states i ≡ filter_map (target_number ss states i) (map (mention_at text (tokens_in xs i)) (targets_in (tree_in xs i)))
+    target_numbers text xs ss states i ≡ filter_map (target_number ss states i) (map (mention_at text (tokens_in xs i)) (map (λ (u : TargetUse). u.token) (told_in text xs i).target_uses))
 targets_at text xs ss states i = by (slice_get xs i)
   where
-    by : (o : Option ProgramItem) → option_map_or (λ (x : ProgramItem). filter_map (target_number ss states i) (summary_of_item text x).targets) o []
-        ≡ filter_map (target_number ss states i) (map (mention_at text (option_map_or (λ (x : ProgramItem). x.tokens) o [])) (targets_in (option_and_then (λ (x : ProgramItem). x.tree) o)))
-    by None = refl
-    by (Some x) = refl
+    by_tree : (tokens : List Piece) (t : Option Item) → filter_map (target_number ss states i) (map (mention_at text tokens) (targets (occurrences_in (bytes_at text tokens) t)))
+        ≡ filter_map (target_number ss states i) (map (mention_at text tokens) (map (λ (u : TargetUse). u.token) (option_map_or (told_by (bytes_at text tokens)) t nothing).target_uses))
+    by_tree tokens None = refl
+    by_tree tokens (Some t) = ap (λ l. filter_map (target_number ss states i) (map (mention_at text tokens) l)) (sym (uses_at_targets false (occurrences (bytes_at text tokens) t)))
 
--- what the check of an item has told of its conditions
-pub uses_at : (text : List ℕ) (xs : List ProgramItem) (checked : List (Option (Bor Checked))) (i : ℕ) → map uses_told checked ≡ map (uses_in_item text) xs →
-    option_map_or uses_told (slice_get checked i) [] ≡ uses_in text xs i
-uses_at text xs checked i same =
-    or_by uses_told (slice_get checked i) ∙ ap (λ o. unwrap_or o []) (sym (slice_get-map uses_told checked i) ∙ ap (λ l. slice_get l i) same ∙ slice_get-map (uses_in_item text) xs i)
-    ∙ sym (or_by (uses_in_item text) (slice_get xs i))
+    by : (o : Option ProgramItem) → option_map_or (λ (x : ProgramItem). filter_map (target_number ss states i) (summary_of_item text x).targets) o []
+        ≡ filter_map (target_number ss states i) (map (mention_at text (option_map_or (λ (x : ProgramItem). x.tokens) o [])) (map (λ (u : TargetUse). u.token) (option_map_or (told_in_item text) o nothing).target_uses))
+    by None = refl
+    by (Some x) = by_tree x.tokens x.tree
+
+-- what the check of an item has told
+pub told_at : (text : List ℕ) (xs : List ProgramItem) (checked : List (Option (Bor Checked))) (i : ℕ) → map told_seen checked ≡ map (told_in_item text) xs →
+    option_map_or told_seen (slice_get checked i) nothing ≡ told_in text xs i
+told_at text xs checked i same =
+    or_by told_seen (slice_get checked i) ∙ ap (λ o. unwrap_or o nothing) (sym (slice_get-map told_seen checked i) ∙ ap (λ l. slice_get l i) same ∙ slice_get-map (told_in_item text) xs i)
+    ∙ sym (or_by (told_in_item text) (slice_get xs i))
   where
-    or_by : {X : Type 0} (f : X → List WakeUse) (o : Option X) → option_map_or f o [] ≡ unwrap_or (option_map f o) []
+    or_by : {X : Type 0} (f : X → Told) (o : Option X) → option_map_or f o nothing ≡ unwrap_or (option_map f o) nothing
     or_by f None = refl
     or_by f (Some x) = refl

@@ -9,7 +9,6 @@ use Rattle.std.proofs.lemmas.Bool.Decides.{Decides-eqb}
 use Rattle.std.specs.Map.{lookup}
 use Rattle.std.specs.Option.{option_map_or, option_or}
 use Rattle.snl_scope.specs.Below.{all_below}
-use Rattle.snl_scope.proofs.Numbering.{position-push}
 use Rattle.snl_check.specs.declared.channel_numbers.Key.{Key}
 use Rattle.snl_check.specs.declared.channel_numbers.Which.{Which}
 use Rattle.snl_check.specs.declared.channel_numbers.Which.TheVariants as which
@@ -17,6 +16,7 @@ use Rattle.snl_check.specs.contracts.channel_numbers.KeyPartialEq.TheImpl as key
 use Rattle.snl_check.specs.contracts.channel_numbers.WhichPartialEq.TheImpl as which_eq
 use Rattle.snl_check.specs.Channels.{AssignedChannel, channels_of, element_number, is_channel_of, is_element, is_element_of, is_on, variables_before}
 use Rattle.snl_check.specs.Numbered.{Adds, Numbered, element_in, is_key_of, same_key, same_which}
+use Rattle.snl_check.proofs.Positions.{position_push}
 use Rattle.snl_check.proofs.Sets.{false_if}
 
 -- the table is read by the test that the code derives
@@ -124,7 +124,7 @@ numbered_more cs c before after number last f a =
       each = λ k.
           a.each k ∙ ap (λ o. option_or o (if is_key_of c k then Some number else None)) (f.each k)
           ∙ ap (λ n. option_or (element_number cs k.variable (element_in k.which)) (if is_key_of c k then Some n else None)) last
-          ∙ sym (position-push (is_element_of k.variable (element_in k.which)) cs c);
+          ∙ sym (position_push (is_element_of k.variable (element_in k.which)) cs c);
     }
 
 -- the keys of a channel of an element

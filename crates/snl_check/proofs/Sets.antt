@@ -1,18 +1,19 @@
 -- The items of a state set stand one behind another; its states, and what is found in it.
 use Rattle.std.proofs.Common.{◌≡◌, ◌⊎◌, ◌&&◌, ◌||◌, ℕ, zero, suc, ◌+◌, ◌-◌, ◌<◌, ◌≤◌, Bool, true, false, not, List, [], ◌∷◌, ◌++◌, length, length-append, get_or, map, nat_eq, nat_lt, slice_get, All, Option, Some, None, inl, inr, refl, sym, ap, subst, ◌∙◌, add-one, arith, if◌then◌else◌, option_copied, is_some, Bor}
-use Rattle.std.specs.List.{cons_option, filter_map}
+use Rattle.std.specs.List.{cons_option, filter, filter_map, range_with_len}
+use Rattle.std.specs.List.Sorted.{IsStrictlyIncreasing}
 use Rattle.std.specs.Option.{option_map_or}
 use Rattle.std.proofs.lemmas.Bool.{cases_lt, eqb-true, false≢true}
 use Rattle.std.proofs.Math.Seq.{get_or-append_seam}
 use Rattle.std.proofs.lemmas.List.{append-nil, get_or_append_left, length-map, map-append}
 use Rattle.std.proofs.lemmas.List.Elements.{All-append, All-map, All-nil, All-push}
 use Rattle.std.proofs.lemmas.List.Quantifiers.{position-Some}
+use Rattle.std.proofs.lemmas.List.FromFn.{filter_of_map_range_with_len_more, get_or-map-range_with_len, length-map-range_with_len}
+use Rattle.std.proofs.lemmas.List.Kept.{IsStrictlyIncreasing-filter}
 use borrow.Author.Tests.{eq-eqb, le-ltb, lt-ltb}
 use Rattle.snl_scope.specs.declared.summary.Outline.{Outline}
 use Rattle.snl_scope.specs.Below.{all_below, any_below}
 use Rattle.snl_scope.specs.Places.{begins_set, ends_set, item_is, open_before, place, stands_in}
-use Rattle.snl_scope.proofs.OpenSets.{open_step, place_here, place_within}
-use Rattle.snl_scope.proofs.Searches.{any_below-none}
 use Rattle.snl_check.specs.Items.{ProgramItem, summary_of_item}
 use Rattle.snl_check.specs.Reach.{AreStates}
 use Rattle.snl_check.specs.Members.{number_among, target_number, target_numbers, targets_among}
@@ -34,7 +35,20 @@ pub false_if : (b : Bool) → (b ≡ true → ⊥) → b ≡ false
 false_if true h = absurd (h refl)
 false_if false h = refl
 
-module _ (ss : List Outline) (k : ℕ) where
+-- what a test of an item says of its number
+pub is_within : (test : Outline → Bool) (ss : List Outline) (i : ℕ) → item_is test ss i ≡ true → i < length ss
+is_within test [] i h = absurd (false≢true h)
+is_within test (s ∷ ss) zero h = omega arith
+is_within test (s ∷ ss) (suc i) h = let l = is_within test ss i h in omega (arith, l)
+
+-- the law of the state sets that items are in
+pub record SetsOpenInTurn : Type 0 where
+  pub opened : (ss : List Outline) (i : ℕ) (s : Outline) → slice_get ss i ≡ Some s
+      → open_before ss (suc i) ≡ (if begins_set s.role then Some i else (if ends_set s.role then None else open_before ss i))
+  pub placed : (ss : List Outline) (i : ℕ) (s : Outline) → slice_get ss i ≡ Some s → place ss i ≡ (if begins_set s.role then None else open_before ss i)
+  pub within : (ss : List Outline) (i k : ℕ) → place ss i ≡ Some k → k < i
+
+module _ (law : SetsOpenInTurn) (ss : List Outline) (k : ℕ) where
   stands_from : (j : ℕ) → stands_in ss k j ≡ true → place ss j ≡ Some k
   stands_from j = by (place ss j)
     where
@@ -47,7 +61,7 @@ module _ (ss : List Outline) (k : ℕ) where
 
   -- an item stands in the set that the next one stands in
   step_back : (j : ℕ) (s : Outline) → slice_get ss j ≡ Some s → k < j → place ss (suc j) ≡ Some k → place ss j ≡ Some k
-  step_back j s at l h = by (begins_set s.role) (ends_set s.role) refl (sym (open_step ss j s at) ∙ opened (item_is (λ s. not (begins_set s.role)) ss (suc j)) h)
+  step_back j s at l h = by (begins_set s.role) (ends_set s.role) refl (sym (law.opened ss j s at) ∙ opened (item_is (λ s. not (begins_set s.role)) ss (suc j)) h)
     where
       opened : (b : Bool) → (if b then open_before ss (suc j) else None) ≡ Some k → open_before ss (suc j) ≡ Some k
       opened true e = e
@@ -56,7 +70,7 @@ module _ (ss : List Outline) (k : ℕ) where
       by : (b e : Bool) → begins_set s.role ≡ b → (if b then Some j else (if e then None else open_before ss j)) ≡ Some k → place ss j ≡ Some k
       by true e is o = let same : j ≡ k = cc in absurd (omega (arith, same, l))
       by false true is o = absurd cc
-      by false false is o = place_here ss j s at ∙ ap (λ b. if b then None else open_before ss j) is ∙ o
+      by false false is o = law.placed ss j s at ∙ ap (λ b. if b then None else open_before ss j) is ∙ o
 
   back : (d i : ℕ) → k < i → i + d < length ss → place ss (i + d) ≡ Some k → place ss i ≡ Some k
   back zero i l within h = let same : i + 0 ≡ i = omega arith in subst (λ n. place ss n ≡ Some k) same h
@@ -73,7 +87,7 @@ module _ (ss : List Outline) (k : ℕ) where
       stands_is i (back (j - i) i l (omega (arith, le, within)) (subst (λ n. place ss n ≡ Some k) (sym same) (stands_from j h)))
 
   none_before : (j : ℕ) → j ≤ k → stands_in ss k j ≡ false
-  none_before j l = false_if (stands_in ss k j) (λ h. let less = place_within ss j k (stands_from j h) in omega (arith, l, less))
+  none_before j l = false_if (stands_in ss k j) (λ h. let less = law.within ss j k (stands_from j h) in omega (arith, l, less))
 
   -- behind the item that ends the set no item stands in it
   none_behind : (i : ℕ) → k < i → (i ≡ length ss) ⊎ (stands_in ss k i ≡ false) → (j : ℕ) → i ≤ j → j < length ss → stands_in ss k j ≡ false
@@ -92,6 +106,10 @@ module _ (ss : List Outline) (k : ℕ) where
       ]
 
 -- searches that pass over numbers
+any_none : (p : ℕ → Bool) (n : ℕ) → ((j : ℕ) → j < n → p j ≡ false) → any_below p n ≡ false
+any_none p zero h = refl
+any_none p (suc n) h = ap (λ b. b || any_below p n) (h n (omega arith)) ∙ any_none p n (λ j l. h j (omega (arith, l)))
+
 pub all_none : (p : ℕ → Bool) (n : ℕ) → ((j : ℕ) → j < n → p j ≡ false) → all_below p n ≡ []
 all_none p zero h = refl
 all_none p (suc n) h = ap (λ l. l ++ (if p n then n ∷ [] else [])) (all_none p n (λ j l. h j (omega (arith, l)))) ∙ ap (λ b. if b then n ∷ [] else []) (h n (omega arith))
@@ -109,6 +127,21 @@ any_past p i (suc d) h =
     let same : i + suc d ≡ suc (i + d) = omega arith in
     ap (any_below p) same ∙ ap (λ b. b || any_below p (i + d)) (h (i + d) (omega arith) (omega arith)) ∙ any_past p i d (λ j l m. h j l (omega (arith, m)))
 
+-- the numbers below one that pass a test rise
+abbrev numbers : ℕ → List ℕ
+numbers n = map (λ k. k) (range_with_len 0 n)
+
+all_below_filter : (p : ℕ → Bool) (n : ℕ) → all_below p n ≡ filter p (numbers n)
+all_below_filter p zero = refl
+all_below_filter p (suc n) =
+    ap (λ l. l ++ (if p n then n ∷ [] else [])) (all_below_filter p n)
+    ∙ sym (filter_of_map_range_with_len_more p (λ k. k) 0 n n (omega arith)) ∙ ap (λ m. filter p (numbers m)) (add-one n)
+
+pub all_below_rises : (p : ℕ → Bool) (n : ℕ) → IsStrictlyIncreasing (all_below p n)
+all_below_rises p n =
+    subst IsStrictlyIncreasing (sym (all_below_filter p n)) (IsStrictlyIncreasing-filter p (numbers n) (λ k h.
+    omega (arith, h, length-map-range_with_len (λ k. k) 0 n, get_or-map-range_with_len (λ k. k) 0 n k k 0, get_or-map-range_with_len (λ k. k) 0 n (k + 1) (k + 1) 0)))
+
 -- the members of a set, of which the items from `from` up to `end` are all
 module _ (ss : List Outline) (k : ℕ) (test : ℕ → Bool) (end : ℕ) (some : k < end) (within : end ≤ length ss)
     (items : (j : ℕ) → j < length ss → stands_in ss k j ≡ (nat_lt k j && nat_lt j end)) where
@@ -120,7 +153,7 @@ module _ (ss : List Outline) (k : ℕ) (test : ℕ → Bool) (end : ℕ) (some :
   members_none = all_none (λ j. test j && stands_in ss k j) (k + 1) (λ j l. outside j (omega (arith, l, some, within)) (inl (omega (arith, l))))
 
   pub members_no_one : any_below (λ j. test j && stands_in ss k j) (k + 1) ≡ false
-  members_no_one = any_below-none (λ j. test j && stands_in ss k j) (k + 1) (λ j l. outside j (omega (arith, l, some, within)) (inl (omega (arith, l))))
+  members_no_one = any_none (λ j. test j && stands_in ss k j) (k + 1) (λ j l. outside j (omega (arith, l, some, within)) (inl (omega (arith, l))))
 
   -- an item of the set
   here : (i : ℕ) → k < i → i < end → (test i && stands_in ss k i) ≡ test i

@@ -34,8 +34,13 @@ use Rattle.snl_scope.specs.Places.{begins_set, ends_between, is_set_begin, item_
 use Rattle.snl_scope.specs.Summaries.{kind_of, name_if, opening_in, role_in, role_of, second_in}
 use Rattle.snl_scope.specs.Summaries.Clauses as summary
 use Rattle.snl_scope.specs.Summaries.Declares.{declared_in, declared_in_tree}
-use Rattle.snl_scope.specs.Summaries.Targets.{named_by_block, named_by_target, targets_in_tree, targets_of_member}
-use Rattle.snl_scope.specs.Summaries.Tokens.{IsSource}
+use Rattle.snl_walk.specs.Declares.{declared_by_state}
+use Rattle.snl_walk.specs.Expressions.{names_if}
+use Rattle.snl_walk.specs.Items.{found_in_member, found_in_target, in_transition, occurrences}
+use Rattle.snl_walk.specs.Scopes.{Names, seen, under_names}
+use Rattle.snl_walk.specs.Statements.{found_in_block}
+use Rattle.snl_walk.specs.Tokens.{IsSource, bytes_at}
+use Rattle.snl_walk.specs.Uses.{target_uses_after, targets}
 use Rattle.snl_tables.specs.declared.rows.FlagRow.{FlagRow}
 use Rattle.snl_tables.specs.declared.rows.ScopeName.TheVariants as named
 use Rattle.snl_tables.specs.declared.rows.Span.{Span}
@@ -44,26 +49,20 @@ use Rattle.snl_check.specs.Clauses.{ItemClause, clauses_in_tree, item_clause, it
 use Rattle.snl_check.specs.Items.{ProgramItem, header_name, item_name, named_by, program_name, span_at, span_of, outline_of_item, outlines_of, tokens_in, tree_in}
 use Rattle.snl_check.specs.Members.{states_in}
 use Rattle.snl_check.specs.Spans.{AreRead, HasByte, InChannel, InDestination, InFlag, InNamed, InScope, InSet, InState, InTables, LiesIn, TablesHaveBytes, TablesLieIn}
-use Rattle.snl_check.specs.States.{destination, destinations_in_member, jumps_in_member, members_in, named_state, numbered_row, set_row}
+use Rattle.snl_check.specs.States.{destination, destinations_in_member, gotos_in, item_at, members_in, named_state, numbered_row, set_row}
 use Rattle.snl_check.specs.Tables.{channel_row, flag_row, flag_row_at, scope_name, tables_of}
-use Rattle.snl_check.proofs.Each.{each_back, each_front, each_image, each_join}
+use Rattle.snl_check.specs.Told.{by_statements, nothing, told_by}
+use Rattle.snl_check.proofs.Each.{each_image, each_join, each_of, each_weaker}
 use Rattle.snl_check.proofs.Linked.{outline_at}
 use Rattle.snl_check.proofs.SameClauses.{tree_alike}
 use Rattle.snl_check.proofs.Sets.{get_here}
+use Rattle.snl_check.proofs.Targets.{each_by_statements, targets_in_back, targets_in_front, uses_at_targets}
 
 -- ---- each element of a list that is made from another
 
-each_of : {X Y : Type 0} (P : Y → Type 0) (f : X → Y) (xs : List X) → AllByRecursion (λ x. P (f x)) xs → AllByRecursion P (map f xs)
-each_of P f [] h = tt
-each_of P f (x ∷ xs) h = (h.0, each_of P f xs h.1)
-
-each_all : {X : Type 0} (P : X → Type 0) (xs : List X) → ((x : X) → P x) → AllByRecursion P xs
+pub each_all : {X : Type 0} (P : X → Type 0) (xs : List X) → ((x : X) → P x) → AllByRecursion P xs
 each_all P [] h = tt
 each_all P (x ∷ xs) h = (h x, each_all P xs h)
-
-each_weaker : {X : Type 0} (P Q : X → Type 0) (xs : List X) → ((x : X) → P x → Q x) → AllByRecursion P xs → AllByRecursion Q xs
-each_weaker P Q [] f h = tt
-each_weaker P Q (x ∷ xs) f h = (f x h.0, each_weaker P Q xs f h.1)
 
 each_kept : {X Y : Type 0} (P : Y → Type 0) (f : X → Option Y) (xs : List X) → ((x : X) (y : Y) → f x ≡ Some y → P y) → AllByRecursion P (filter_map f xs)
 each_kept P f [] h = tt
@@ -73,11 +72,11 @@ each_kept {Y = Y} P f (x ∷ xs) h = by (f x) refl (each_kept P f xs h)
     by None e rest = rest
     by (Some y) e rest = (h x y e, rest)
 
-each_flat : {X Y : Type 0} (P : X → Type 0) (Q : Y → Type 0) (f : X → List Y) (xs : List X) → ((x : X) → P x → AllByRecursion Q (f x)) → AllByRecursion P xs → AllByRecursion Q (flat_map f xs)
+pub each_flat : {X Y : Type 0} (P : X → Type 0) (Q : Y → Type 0) (f : X → List Y) (xs : List X) → ((x : X) → P x → AllByRecursion Q (f x)) → AllByRecursion P xs → AllByRecursion Q (flat_map f xs)
 each_flat P Q f [] h each = tt
 each_flat P Q f (x ∷ xs) h each = each_join Q (f x) (flat_map f xs) (h x each.0) (each_flat P Q f xs h each.1)
 
-each_beside : {X Y : Type 0} (P : X → Type 0) (xs : List X) (ys : List Y) → AllByRecursion P xs → AllByRecursion (λ (p : X × Y). P p.0) (zip xs ys)
+pub each_beside : {X Y : Type 0} (P : X → Type 0) (xs : List X) (ys : List Y) → AllByRecursion P xs → AllByRecursion (λ (p : X × Y). P p.0) (zip xs ys)
 each_beside P [] ys h = tt
 each_beside P (x ∷ xs) [] h = tt
 each_beside P (x ∷ xs) (y ∷ ys) h = (h.0, each_beside P xs ys h.1)
@@ -86,7 +85,7 @@ each_counted : {Y : Type 0} (P : Y → Type 0) (f : ℕ × ℕ → Y) (n : ℕ) 
 each_counted P f n [] h = tt
 each_counted P f n (j ∷ js) h = (h.0 n, each_counted P f (n + 1) js h.1)
 
-each_below : (P : ℕ → Type 0) (test : ℕ → Bool) (n : ℕ) → ((k : ℕ) → test k ≡ true → P k) → AllByRecursion P (all_below test n)
+pub each_below : (P : ℕ → Type 0) (test : ℕ → Bool) (n : ℕ) → ((k : ℕ) → test k ≡ true → P k) → AllByRecursion P (all_below test n)
 each_below P test zero h = tt
 each_below P test (suc n) h = each_join P (all_below test n) (if test n then n ∷ [] else []) (each_below P test n h) (by (test n) refl)
   where
@@ -94,18 +93,18 @@ each_below P test (suc n) h = each_join P (all_below test n) (if test n then n �
     by true e = (h n e, tt)
     by false e = tt
 
-each_got : {X : Type 0} (P : X → Type 0) (xs : List X) (n : ℕ) → AllByRecursion P xs → IfSome (slice_get xs n) P
+pub each_got : {X : Type 0} (P : X → Type 0) (xs : List X) (n : ℕ) → AllByRecursion P xs → IfSome (slice_get xs n) P
 each_got P [] n h = tt
 each_got P (x ∷ xs) zero h = h.0
 each_got P (x ∷ xs) (suc n) h = each_got P xs n h.1
 
 -- ---- tests
 
-and_front : (a b : Bool) → (a && b) ≡ true → a ≡ true
+pub and_front : (a b : Bool) → (a && b) ≡ true → a ≡ true
 and_front true b h = refl
 and_front false b h = absurd (false≢true h)
 
-some_if : {X : Type 0} (b : Bool) (o : Option X) → is_some (if b then o else None) ≡ true → is_some o ≡ true
+pub some_if : {X : Type 0} (b : Bool) (o : Option X) → is_some (if b then o else None) ≡ true → is_some o ≡ true
 some_if true o h = h
 some_if false o h = absurd (false≢true h)
 
@@ -117,12 +116,23 @@ last_passes test (suc n) k h = by (test n) refl (last_passes test n k) h
     by true e before is = let same : n ≡ k = cc in subst (λ m. test m ≡ true) same e
     by false e before is = before is
 
-place_begins : (ss : List Outline) (i k : ℕ) → place ss i ≡ Some k → is_set_begin ss k ≡ true
+pub place_begins : (ss : List Outline) (i k : ℕ) → place ss i ≡ Some k → is_set_begin ss k ≡ true
 place_begins ss i k = by (item_is (λ s. not (begins_set s.role)) ss i)
   where
     by : (b : Bool) → (if b then open_before ss i else None) ≡ Some k → is_set_begin ss k ≡ true
     by true e = and_front (is_set_begin ss k) (not (ends_between ss k i)) (last_passes (λ k. is_set_begin ss k && not (ends_between ss k i)) i k e)
     by false e = absurd cc
+
+-- what a test of an item's outline says of the item
+pub tested : (text : List ℕ) (xs : List ProgramItem) (test : Outline → Bool) (item : ℕ) → item_is test (outlines_of text xs) item ≡ true → (x : ProgramItem) × (slice_get xs item ≡ Some x) × (test (outline_of_item text x) ≡ true)
+tested text xs test item h = by (slice_get xs item) refl (ap (λ (o : Option Outline). option_map_or test o false) (sym (outline_at text xs item)) ∙ h)
+  where
+    by : (o : Option ProgramItem) → slice_get xs item ≡ o → option_map_or test (option_map (outline_of_item text) o) false ≡ true → (x : ProgramItem) × (slice_get xs item ≡ Some x) × (test (outline_of_item text x) ≡ true)
+    by None at e = absurd (false≢true e)
+    by (Some x) at e = (x, at, e)
+
+pub tokens_are : (xs : List ProgramItem) (item : ℕ) (x : ProgramItem) → slice_get xs item ≡ Some x → tokens_in xs item ≡ x.tokens
+tokens_are xs item x at = ap (λ (o : Option ProgramItem). option_map_or (λ x. x.tokens) o []) at
 
 -- ---- what holds of the tokens that items name
 
@@ -131,7 +141,7 @@ record NamesHold (P : Span → Type 0) (text : List ℕ) (xs : List ProgramItem)
   second : (item : ℕ) → is_some (second_in text (tokens_in xs item)) ≡ true → P (span_at xs item 1)
   declared : (item : ℕ) (t : Item) → tree_in xs item ≡ Some t → AllByRecursion (λ d. P (span_at xs item d.token)) (declared_in_tree text (tokens_in xs item) t)
   variables : (item : ℕ) (t : Item) → tree_in xs item ≡ Some t → AllByRecursion (λ c. P (span_at xs item c.variable.token)) (summary.clauses_in_tree text (tokens_in xs item) t)
-  targets : (item : ℕ) (t : Item) → tree_in xs item ≡ Some t → AllByRecursion (λ n. P (span_at xs item n)) (targets_in_tree t)
+  targets : (item : ℕ) (t : Item) → tree_in xs item ≡ Some t → AllByRecursion (λ n. P (span_at xs item n)) (targets (occurrences (bytes_at text (tokens_in xs item)) t))
 
 -- the name of the program
 module _ (P : Span → Type 0) where
@@ -157,24 +167,13 @@ module _ (P : Span → Type 0) (text : List ℕ) (xs : List ProgramItem) (names 
   tree_is : (item : ℕ) (x : ProgramItem) (t : Item) → slice_get xs item ≡ Some x → x.tree ≡ Some t → tree_in xs item ≡ Some t
   tree_is item x t at is = ap (option_and_then (λ (x : ProgramItem). x.tree)) at ∙ is
 
-  tokens_are : (item : ℕ) (x : ProgramItem) → slice_get xs item ≡ Some x → tokens_in xs item ≡ x.tokens
-  tokens_are item x at = ap (λ (o : Option ProgramItem). option_map_or (λ x. x.tokens) o []) at
-
   -- an item has declarations or clauses
   abbrev has_some : ProgramItem → Bool
   has_some x = nat_lt 0 (length (declared_in text x.tokens x.tree)) || nat_lt 0 (length (summary.clauses_in text x.tokens x.tree))
 
-  -- what a test of an item's outline says of the item
-  tested : (test : Outline → Bool) (item : ℕ) → item_is test ss item ≡ true → (x : ProgramItem) × (slice_get xs item ≡ Some x) × (test (outline_of_item text x) ≡ true)
-  tested test item h = by (slice_get xs item) refl (ap (λ (o : Option Outline). option_map_or test o false) (sym (outline_at text xs item)) ∙ h)
-    where
-      by : (o : Option ProgramItem) → slice_get xs item ≡ o → option_map_or test (option_map (outline_of_item text) o) false ≡ true → (x : ProgramItem) × (slice_get xs item ≡ Some x) × (test (outline_of_item text x) ≡ true)
-      by None at e = absurd (false≢true e)
-      by (Some x) at e = (x, at, e)
-
   -- the name of a state set, and of a state
   set_holds : (k : ℕ) → is_set_begin ss k ≡ true → P (item_name xs k)
-  set_holds k h = let found = tested (λ s. begins_set s.role) k h in by found.0 found.1 found.0.tree refl (has_some found.0) found.2
+  set_holds k h = let found = tested text xs (λ s. begins_set s.role) k h in by found.0 found.1 found.0.tree refl (has_some found.0) found.2
     where
       by : (x : ProgramItem) → slice_get xs k ≡ Some x → (o : Option Item) → x.tree ≡ o → (b : Bool) → begins_set (role_of (kind_of o) b) ≡ true → P (item_name xs k)
       by x at (Some (items.SsBegin name)) is b e = (names.own k (items.SsBegin name) (tree_is k x (items.SsBegin name) at is)).0
@@ -191,10 +190,10 @@ module _ (P : Span → Type 0) (text : List ℕ) (xs : List ProgramItem) (names 
 
   named_state_holds : (j : ℕ) → is_named_state ss j ≡ true → P (item_name xs j)
   named_state_holds j h =
-      let found = tested (λ s. is_some (state_name s)) j h in
+      let found = tested text xs (λ s. is_some (state_name s)) j h in
       let x = found.0 in
       let second : is_some (second_in text x.tokens) ≡ true = some_if (is_state_word (opening_in text x.tokens)) (second_in text x.tokens) found.2 in
-      names.second j (subst (λ tokens. is_some (second_in text tokens) ≡ true) (sym (tokens_are j x found.1)) second)
+      names.second j (subst (λ tokens. is_some (second_in text tokens) ≡ true) (sym (tokens_are xs j x found.1)) second)
 
   place_holds : (i : ℕ) → IfSome (option_map (item_name xs) (place ss i)) P
   place_holds i = by (place ss i) refl
@@ -255,9 +254,9 @@ module _ (P : Span → Type 0) (text : List ℕ) (xs : List ProgramItem) (names 
       each_join EntryHolds (set_entries i s ++ state_entries (place ss i) i s) declared
       (each_join EntryHolds (set_entries i s) (state_entries (place ss i) i s) (names_hold space.Sets i (Some E08) (set_name s)) (states_hold (place ss i) i s))
       (each_of EntryHolds (declared_entry (scope_of ss i s) i) s.declares
-      (each_weaker (λ d. P (span_at xs i d.token)) (λ d. EntryHolds (declared_entry (scope_of ss i s) i d)) s.declares
-      (λ d p. entry_holds (scope_of ss i s) i d (scope_holds i x at) p)
-      (declared_hold i x.tokens x.tree (tokens_are i x at) (ap (option_and_then (λ (x : ProgramItem). x.tree)) at))))
+      (each_weaker (λ d. P (span_at xs i d.token)) (λ d. EntryHolds (declared_entry (scope_of ss i s) i d))
+      (λ d p. entry_holds (scope_of ss i s) i d (scope_holds i x at) p) s.declares
+      (declared_hold i x.tokens x.tree (tokens_are xs i x at) (ap (option_and_then (λ (x : ProgramItem). x.tree)) at))))
 
   entries_hold : (n : ℕ) → AllByRecursion EntryHolds (entries_before ss n)
   entries_hold zero = tt
@@ -333,38 +332,48 @@ module _ (P : Span → Type 0) (text : List ℕ) (xs : List ProgramItem) (names 
     abbrev TokenHolds : ℕ → Type 0
     TokenHolds n = P (span_at xs item n)
 
-    destination_holds : (t : Target) → AllByRecursion TokenHolds (named_by_target t) → InDestination P (destination text xs ss item t)
+    abbrev bytes : ℕ → List ℕ
+    bytes = bytes_at text (tokens_in xs item)
+
+    destination_holds : (t : Target) → AllByRecursion TokenHolds (targets (found_in_target t)) → InDestination P (destination text (tokens_in xs item) ss item t)
     destination_holds (target.State name) h = h.0
     destination_holds target.Exit h = tt
 
-    transition_holds : (m : StateMember) → AllByRecursion TokenHolds (targets_of_member m) → AllByRecursion (InDestination P) (destinations_in_member text xs ss item m)
-    transition_holds (members.When t) h = (destination_holds t.target (each_back TokenHolds (named_by_block t.block) (named_by_target t.target) h), tt)
-    transition_holds m h = tt
+    module _ (visible : Names) where
+      destinations_hold : (m : StateMember) → AllByRecursion TokenHolds (targets (found_in_member bytes visible m)) → AllByRecursion (InDestination P) (destinations_in_member text (tokens_in xs item) ss item m)
+      destinations_hold (members.When t) h =
+          (destination_holds t.target (targets_in_back TokenHolds (map (seen bytes visible true) (names_if t.condition) ++ found_in_block bytes t.block visible in_transition) (found_in_target t.target) h), tt)
+      destinations_hold m h = tt
 
-    jumps_hold : (m : StateMember) → AllByRecursion TokenHolds (targets_of_member m) → AllByRecursion TokenHolds (jumps_in_member m)
-    jumps_hold (members.When t) h = each_front TokenHolds (named_by_block t.block) (named_by_target t.target) h
-    jumps_hold m h = tt
+      of_members : (ms : List StateMember) → AllByRecursion TokenHolds (targets (flat_map (found_in_member bytes visible) ms)) →
+          AllByRecursion (InDestination P) (flat_map (destinations_in_member text (tokens_in xs item) ss item) ms)
+      of_members [] h = tt
+      of_members (m ∷ ms) h =
+          let found = found_in_member bytes visible m in
+          let rest = flat_map (found_in_member bytes visible) ms in
+          each_join (InDestination P) (destinations_in_member text (tokens_in xs item) ss item m) (flat_map (destinations_in_member text (tokens_in xs item) ss item) ms)
+          (destinations_hold m (targets_in_front TokenHolds found rest h)) (of_members ms (targets_in_back TokenHolds found rest h))
 
-    of_members : {Y : Type 0} (Q : Y → Type 0) (f : StateMember → List Y) → ((m : StateMember) → AllByRecursion TokenHolds (targets_of_member m) → AllByRecursion Q (f m)) →
-        (ms : List StateMember) → AllByRecursion TokenHolds (flat_map targets_of_member ms) → AllByRecursion Q (flat_map f ms)
-    of_members Q f each [] h = tt
-    of_members Q f each (m ∷ ms) h =
-        let rest = flat_map targets_of_member ms in
-        each_join Q (f m) (flat_map f ms) (each m (each_front TokenHolds (targets_of_member m) rest h)) (of_members Q f each ms (each_back TokenHolds (targets_of_member m) rest h))
+    tree_holds : (o : Option Item) → tree_in xs item ≡ o → AllByRecursion (InDestination P) (flat_map (destinations_in_member text (tokens_in xs item) ss item) (members_in o))
+    unfolding occurrences
+    tree_holds (Some (items.StateBlock name ms)) is = of_members (under_names bytes (declared_by_state bytes ms)) ms (names.targets item (items.StateBlock name ms) is)
+    tree_holds o is = tt
 
-    members_hold : (o : Option Item) → tree_in xs item ≡ o → AllByRecursion TokenHolds (flat_map targets_of_member (members_in o))
-    members_hold (Some (items.StateBlock name ms)) is = names.targets item (items.StateBlock name ms) is
-    members_hold o is = tt
+    gotos_hold : AllByRecursion TokenHolds (gotos_in text (item_at xs item))
+    gotos_hold = by (tree_in xs item) refl
+      where
+        by : (o : Option Item) → tree_in xs item ≡ o → AllByRecursion TokenHolds (by_statements (option_map_or (told_by bytes) o nothing).target_uses)
+        by None is = tt
+        by (Some t) is =
+            let os = occurrences bytes t in
+            each_by_statements TokenHolds (target_uses_after false os) (subst (AllByRecursion TokenHolds) (sym (uses_at_targets false os)) (names.targets item t is))
 
   state_row_holds : (k number j : ℕ) → P (item_name xs j) → InState P (numbered_row text xs ss k (number, j))
-  state_row_holds k number j h =
-      let ms = members_in (tree_in xs j) in
-      let held = members_hold j (tree_in xs j) refl in
-      record {
-        name = h;
-        transitions = of_members j (InDestination P) (destinations_in_member text xs ss j) (transition_holds j) ms held;
-        gotos = each_of (InNamed P) (named_state text xs ss j) (flat_map jumps_in_member ms) (of_members j (TokenHolds j) jumps_in_member (jumps_hold j) ms held);
-      }
+  state_row_holds k number j h = record {
+    name = h;
+    transitions = tree_holds j (tree_in xs j) refl;
+    gotos = each_of (InNamed P) (named_state text (tokens_in xs j) ss j) (gotos_in text (item_at xs j)) (gotos_hold j);
+  }
 
   set_row_holds : (k : ℕ) → is_set_begin ss k ≡ true → InSet P (set_row text xs ss k)
   set_row_holds k h = record {
@@ -379,7 +388,7 @@ module _ (P : Span → Type 0) (text : List ℕ) (xs : List ProgramItem) (names 
   tables_hold = record {
     program = program_holds P xs names.own;
     flags = each_kept (InFlag P) (flag_row_at xs ss) (flags_of ss) flag_holds;
-    channels = each_of (InChannel P) (channel_row text xs ss) (assigned_channels text xs ss) (each_weaker ChannelHolds (λ c. InChannel P (channel_row text xs ss c)) (assigned_channels text xs ss) channel_holds channels_hold);
+    channels = each_of (InChannel P) (channel_row text xs ss) (assigned_channels text xs ss) (each_weaker ChannelHolds (λ c. InChannel P (channel_row text xs ss c)) channel_holds (assigned_channels text xs ss) channels_hold);
     sets = each_of (InSet P) (set_row text xs ss) (all_below (is_set_begin ss) (length ss)) (each_below (λ k. InSet P (set_row text xs ss k)) (is_set_begin ss) (length ss) set_row_holds);
   }
 
@@ -401,7 +410,7 @@ tables_lie text xs h = tables_hold (LiesIn text) text xs (record {
   second = λ item is. lies item 1;
   declared = λ item t is. each_all (λ d. LiesIn text (span_at xs item d.token)) (declared_in_tree text (tokens_in xs item) t) (λ d. lies item d.token);
   variables = λ item t is. each_all (λ c. LiesIn text (span_at xs item c.variable.token)) (summary.clauses_in_tree text (tokens_in xs item) t) (λ c. lies item c.variable.token);
-  targets = λ item t is. each_all (λ n. LiesIn text (span_at xs item n)) (targets_in_tree t) (lies item);
+  targets = λ item t is. each_all (λ n. LiesIn text (span_at xs item n)) (targets (occurrences (bytes_at text (tokens_in xs item)) t)) (lies item);
 })
   where
     lies : (item number : ℕ) → LiesIn text (span_at xs item number)
@@ -415,7 +424,7 @@ token_has_byte ts n h within =
     let p = here.0 in
     subst (λ o. HasByte (span_of o)) (sym here.1) (subst (λ (q : Piece). 1 ≤ q.len) (get_or_from_slice_get ts n p p here.1) (h n p within))
 
-second_there : (text : List ℕ) (ts : List Piece) → is_some (second_in text ts) ≡ true → 1 < length ts
+pub second_there : (text : List ℕ) (ts : List Piece) → is_some (second_in text ts) ≡ true → 1 < length ts
 second_there text ts = by (slice_get ts 1) refl
   where
     by : (o : Option Piece) → slice_get ts 1 ≡ o → is_some (name_if text o) ≡ true → 1 < length ts
@@ -424,11 +433,11 @@ second_there text ts = by (slice_get ts 1) refl
 
 pub have_bytes : (text : List ℕ) (xs : List ProgramItem) → AreRead text xs → ((item : ℕ) (t : Item) → tree_in xs item ≡ Some t → NamesItsTokens text (tokens_in xs item) t) → TablesHaveBytes (tables_of text xs)
 have_bytes text xs read named = tables_hold HasByte text xs (record {
-  own = λ item t is. each_weaker (λ n. n < length (tokens_in xs item)) (λ n. HasByte (span_at xs item n)) (own_name t) (has item) (named item t is).own;
+  own = λ item t is. each_weaker (λ n. n < length (tokens_in xs item)) (λ n. HasByte (span_at xs item n)) (has item) (own_name t) (named item t is).own;
   second = λ item is. has item 1 (second_there text (tokens_in xs item) is);
-  declared = λ item t is. each_weaker (λ d. d.token < length (tokens_in xs item)) (λ d. HasByte (span_at xs item d.token)) (declared_in_tree text (tokens_in xs item) t) (λ d. has item d.token) (named item t is).declared;
-  variables = λ item t is. each_weaker (λ c. c.variable.token < length (tokens_in xs item)) (λ c. HasByte (span_at xs item c.variable.token)) (summary.clauses_in_tree text (tokens_in xs item) t) (λ c. has item c.variable.token) (named item t is).variables;
-  targets = λ item t is. each_weaker (λ n. n < length (tokens_in xs item)) (λ n. HasByte (span_at xs item n)) (targets_in_tree t) (has item) (named item t is).targets;
+  declared = λ item t is. each_weaker (λ d. d.token < length (tokens_in xs item)) (λ d. HasByte (span_at xs item d.token)) (λ d. has item d.token) (declared_in_tree text (tokens_in xs item) t) (named item t is).declared;
+  variables = λ item t is. each_weaker (λ c. c.variable.token < length (tokens_in xs item)) (λ c. HasByte (span_at xs item c.variable.token)) (λ c. has item c.variable.token) (summary.clauses_in_tree text (tokens_in xs item) t) (named item t is).variables;
+  targets = λ item t is. each_weaker (λ n. n < length (tokens_in xs item)) (λ n. HasByte (span_at xs item n)) (has item) (targets (occurrences (bytes_at text (tokens_in xs item)) t)) (named item t is).targets;
 })
   where
     has : (item number : ℕ) → number < length (tokens_in xs item) → HasByte (span_at xs item number)

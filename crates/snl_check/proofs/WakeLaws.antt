@@ -13,9 +13,9 @@ use Rattle.snl_scope.specs.Clauses.{resolve_in}
 use Rattle.snl_scope.specs.Flags.{flag_number}
 use Rattle.snl_scope.specs.Names.{Entry, entries, has_name, number_in, resolve}
 use Rattle.snl_scope.specs.Places.{place}
-use Rattle.snl_scope.specs.Summaries.Tokens.{bytes_at}
+use Rattle.snl_walk.specs.Tokens.{bytes_at}
 use Rattle.snl_tables.specs.declared.rows.WakeUp.TheVariants as wake
-use Rattle.snl_check.specs.declared.wake.WakeUse.{WakeUse}
+use Rattle.snl_walk.specs.declared.used.WakeUse.{WakeUse}
 use Rattle.snl_check.specs.Channels.{AssignedChannel, assigned_channels, covers_elements, element_number, is_channel_of, is_on, variables_before}
 use Rattle.snl_check.specs.Conditions.{by_flag, on_declaration, on_variable, uses_in, wake_up}
 use Rattle.snl_check.specs.Items.{ProgramItem, outlines_of, tokens_in}

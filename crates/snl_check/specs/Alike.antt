@@ -5,7 +5,7 @@ use Rattle.std.specs.List.{All}
 use Rattle.snl_lex.specs.declared.piece.Piece.{Piece}
 use Rattle.snl_syntax.specs.declared.tree.item.Item.{Item}
 use Rattle.snl_scope.specs.Summaries.{summary_in}
-use Rattle.snl_scope.specs.Summaries.Tokens.{bytes_at}
+use Rattle.snl_walk.specs.Tokens.{bytes_at}
 
 -- The tokens have the same bytes, wherever they stand in their texts.
 abbrev pub SameTokens : List ℕ → List Piece → List ℕ → List Piece → Type 0

@@ -10,7 +10,7 @@ use Rattle.snl_syntax.specs.declared.tree.clause.Clause.TheVariants as clauses
 use Rattle.snl_scope.specs.declared.facts.ClauseLink.{ClauseLink}
 use Rattle.snl_scope.specs.declared.summary.Outline.{Outline}
 use Rattle.snl_scope.specs.Below.{all_below}
-use Rattle.snl_scope.specs.Summaries.Tokens.{bytes_at, value_at}
+use Rattle.snl_walk.specs.Tokens.{bytes_at, value_at}
 use Rattle.snl_check.specs.Clauses.{ItemClause, told_clauses}
 use Rattle.snl_check.specs.Items.{ProgramItem, tokens_in}
 

@@ -1,21 +1,18 @@
 -- What the code has collected of a text, as what it is in the text.
-use Rattle.std.specs.Prelude.{◌≡◌, ◌<◌, ℕ, List, [], map, length, slice_get, Option, None, Some, option_copied}
-use denote.Ref.{Bor}
+use Rattle.std.specs.Prelude.{◌≡◌, List, map, length, option_copied}
+use Rattle.snl_lex.specs.LineList.{IsLineList}
 use Rattle.snl_scope.specs.declared.facts.ClauseLink.{ClauseLink}
 use Rattle.snl_check.specs.declared.channels.AssignedChannel.{AssignedChannel}
-use Rattle.snl_check.specs.declared.findings.Checked.{Checked}
 use Rattle.snl_check.specs.declared.item_clauses.Placed.{Placed}
 use Rattle.snl_check.specs.declared.item_clauses.ToldClause.{ToldClause}
 use Rattle.snl_check.specs.declared.listing.Listing.{Listing}
 use Rattle.snl_check.specs.declared.outline.Outline.{Outline}
 use Rattle.snl_check.specs.declared.program.Program.{Program}
-use Rattle.snl_check.specs.declared.wake.WakeUse.{WakeUse}
 use Rattle.snl_check.specs.Channels as channels
 use Rattle.snl_check.specs.Clauses.{ItemClause, told_clauses}
-use Rattle.snl_check.specs.Conditions.{uses_in_item}
 use Rattle.snl_check.specs.Items.{IsCutUp, ProgramItem, program_items, outlines_of}
 use Rattle.snl_check.specs.Numbered.{Numbered}
-use Rattle.snl_check.specs.States.{line_of_item}
+use Rattle.snl_check.specs.Told.{told_in_item, told_seen}
 
 abbrev pub items_in : Program → List ProgramItem
 items_in p = program_items p.tokens.now p.ends.now (map option_copied p.trees.now)
@@ -42,14 +39,9 @@ pub record IsLinked (l : Listing) : Type 0 where
 abbrev pub assigned : AssignedChannel → channels.AssignedChannel
 assigned c = record { item = c.item; token = c.token; variable = c.variable; element = c.element; strings = c.strings.now }
 
--- What the check of an item has told of its conditions.
-abbrev pub uses_told : Option (Bor Checked) → List WakeUse
-uses_told None = []
-uses_told (Some c) = c.now.wake_uses
-
 -- What the rows of states are made from.
 pub record IsOutline (o : Outline) : Type 0 where
   pub linked : IsLinked o.listing
-  pub lines : (i : ℕ) → i < length o.listing.program.trees.now → slice_get o.lines.now i ≡ Some (line_of_item o.listing.program.text.now (items_in o.listing.program) i)
-  pub checked : map uses_told o.checked.now ≡ map (uses_in_item o.listing.program.text.now) (items_in o.listing.program)
+  pub lines : IsLineList o.listing.program.text.now o.lines.now.ends.items o.lines.now.markers.items o.lines.now.naming.items
+  pub checked : map told_seen o.checked.now ≡ map (told_in_item o.listing.program.text.now) (items_in o.listing.program)
   pub numbered : Numbered o.numbers.now (channels.assigned_channels o.listing.program.text.now (items_in o.listing.program) o.listing.links.now.outlines)

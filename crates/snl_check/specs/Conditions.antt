@@ -1,25 +1,20 @@
 -- What the conditions of a state mean: the event flags and channels on a change of which it wakes up.
-use Rattle.std.specs.Prelude.{ℕ, if◌then◌else◌, List, [], slice_get, Option, None, Some, option_and_then, option_map}
+use Rattle.std.specs.Prelude.{ℕ, if◌then◌else◌, List, Option, None, Some, option_and_then, option_map}
 use Rattle.std.specs.List.{filter_map}
-use Rattle.std.specs.Option.{option_map_or}
 use Rattle.snl_scope.specs.declared.summary.Outline.{Outline}
 use Rattle.snl_scope.specs.Clauses.{resolve_in}
 use Rattle.snl_scope.specs.Flags.{flag_number}
-use Rattle.snl_scope.specs.Summaries.Tokens.{bytes_at}
+use Rattle.snl_walk.specs.Tokens.{bytes_at}
 use Rattle.snl_tables.specs.declared.rows.WakeUp.{WakeUp}
 use Rattle.snl_tables.specs.declared.rows.WakeUp.TheVariants as wake
-use Rattle.snl_check.specs.declared.wake.WakeUse.{WakeUse}
+use Rattle.snl_walk.specs.declared.used.WakeUse.{WakeUse}
 use Rattle.snl_check.specs.Channels.{AssignedChannel, covers_elements, element_number}
 use Rattle.snl_check.specs.Items.{ProgramItem, tokens_in}
-use Rattle.snl_check.specs.Wake.{wake_uses}
+use Rattle.snl_check.specs.Told.{told_in}
 
--- The uses of names in the conditions of an item. A faulty one has none.
-abbrev pub uses_in_item : List ℕ → ProgramItem → List WakeUse
-uses_in_item text x = option_map_or (wake_uses (bytes_at text x.tokens)) x.tree []
-
--- Those of the item with a number.
+-- The uses of names in the conditions of an item.
 abbrev pub uses_in : List ℕ → List ProgramItem → ℕ → List WakeUse
-uses_in text xs item = option_map_or (uses_in_item text) (slice_get xs item) []
+uses_in text xs item = (told_in text xs item).wake_uses
 
 -- A variable with a subscript means the channel of that element, where elements are assigned; any other mention means all its
 -- channels.

@@ -11,7 +11,7 @@ use Rattle.snl_scope.specs.declared.summary.Outline.{Outline}
 use Rattle.snl_scope.specs.declared.summary.Summary.{Summary}
 use Rattle.snl_scope.specs.LinkedItems.{LinkedItems}
 use Rattle.snl_scope.specs.Summaries.{kind_of, outline_in, summary_in}
-use Rattle.snl_scope.specs.Summaries.Tokens.{IsSource}
+use Rattle.snl_walk.specs.Tokens.{IsSource}
 use Rattle.snl_tables.specs.declared.rows.Span.{Span}
 
 -- An item of a text: its tokens, and its tree, which a faulty one has not.

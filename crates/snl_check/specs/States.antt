@@ -1,7 +1,8 @@
 -- The rows of state sets and of their states.
-use Rattle.std.specs.Prelude.{ℕ, Bool, not, if◌then◌else◌, List, [], ◌∷◌, map, length, Option, Some}
+use Rattle.std.specs.Prelude.{ℕ, Bool, not, if◌then◌else◌, List, [], ◌∷◌, map, length, slice_get, Option, Some}
 use Rattle.std.specs.List.{enumerate_from, flat_map}
 use Rattle.snl_lex.specs.declared.lines.Line.{Line}
+use Rattle.snl_lex.specs.declared.piece.Piece.{Piece}
 use Rattle.snl_lex.specs.Lines.{line_at}
 use Rattle.snl_syntax.specs.declared.tree.item.Item.{Item}
 use Rattle.snl_syntax.specs.declared.tree.item.Item.TheVariants as items
@@ -13,47 +14,59 @@ use Rattle.snl_scope.specs.declared.summary.Outline.{Outline}
 use Rattle.snl_scope.specs.Below.{all_below}
 use Rattle.snl_scope.specs.Linked.{has_target}
 use Rattle.snl_scope.specs.Places.{is_set_begin}
-use Rattle.snl_scope.specs.Summaries.Targets.{named_by_block}
-use Rattle.snl_scope.specs.Summaries.Tokens.{bytes_at}
+use Rattle.snl_walk.specs.Tokens.{bytes_at}
 use Rattle.snl_tables.specs.declared.rows.Destination.{Destination}
 use Rattle.snl_tables.specs.declared.rows.Destination.TheVariants as destinations
 use Rattle.snl_tables.specs.declared.rows.NamedState.{NamedState}
 use Rattle.snl_tables.specs.declared.rows.SetRow.{SetRow}
+use Rattle.snl_tables.specs.declared.rows.StateBody.{StateBody}
 use Rattle.snl_tables.specs.declared.rows.StateMark.{StateMark}
 use Rattle.snl_tables.specs.declared.rows.StateMark.TheVariants as mark
 use Rattle.snl_tables.specs.declared.rows.StateRow.{StateRow}
 use Rattle.snl_check.specs.Channels.{assigned_channels}
 use Rattle.snl_check.specs.Conditions.{uses_in, wake_ups}
-use Rattle.snl_check.specs.Items.{ProgramItem, item_name, item_start, span_at, tokens_in, tree_in}
+use Rattle.snl_check.specs.Items.{ProgramItem, item_name, item_start, span_of, tokens_in, tree_in}
 use Rattle.snl_check.specs.Members.{has_faulty, is_faulty_item, is_first_state, states_in, targets_among}
 use Rattle.snl_check.specs.Reach.{is_reached}
 use Rattle.snl_check.specs.Settings.{state_options}
+use Rattle.snl_check.specs.Told.{by_statements, told_in_item}
 
 -- The members of a state. A faulty one has none.
 abbrev pub members_in : Option Item → List StateMember
 members_in (Some (items.StateBlock name ms)) = ms
 members_in _ = []
 
--- A state that an item names at a token, with whether the state set of the item has one of the name.
-abbrev pub named_state : List ℕ → List ProgramItem → List Outline → ℕ → ℕ → NamedState
-named_state text xs ss item token = record {
-  name = span_at xs item token;
-  is_known = has_target ss item (bytes_at text (tokens_in xs item) token);
+-- A state that an item names at one of its tokens, with whether the state set of the item has one of the name.
+abbrev pub named_state : List ℕ → List Piece → List Outline → ℕ → ℕ → NamedState
+named_state text tokens ss item token = record {
+  name = span_of (slice_get tokens token);
+  is_known = has_target ss item (bytes_at text tokens token);
 }
 
 -- Where a transition leads.
-abbrev pub destination : List ℕ → List ProgramItem → List Outline → ℕ → Target → Destination
-destination text xs ss item (target.State name) = destinations.State (named_state text xs ss item name)
-destination text xs ss item target.Exit = destinations.Exit
+abbrev pub destination : List ℕ → List Piece → List Outline → ℕ → Target → Destination
+destination text tokens ss item (target.State name) = destinations.State (named_state text tokens ss item name)
+destination text tokens ss item target.Exit = destinations.Exit
 
-abbrev pub destinations_in_member : List ℕ → List ProgramItem → List Outline → ℕ → StateMember → List Destination
-destinations_in_member text xs ss item (members.When t) = destination text xs ss item t.target ∷ []
-destinations_in_member text xs ss item _ = []
+abbrev pub destinations_in_member : List ℕ → List Piece → List Outline → ℕ → StateMember → List Destination
+destinations_in_member text tokens ss item (members.When t) = destination text tokens ss item t.target ∷ []
+destinations_in_member text tokens ss item _ = []
 
 -- The states that statements `state NAME;` in the blocks of transitions name.
-abbrev pub jumps_in_member : StateMember → List ℕ
-jumps_in_member (members.When t) = named_by_block t.block
-jumps_in_member _ = []
+abbrev pub gotos_in : List ℕ → ProgramItem → List ℕ
+gotos_in text x = by_statements (told_in_item text x).target_uses
+
+-- The body of the row of an item, which has this number: what goes by the item's own tokens and tree, and by the states of its set.
+abbrev pub state_body : List ℕ → List Outline → ℕ → ProgramItem → StateBody
+state_body text ss item x = record {
+  options = state_options (bytes_at text x.tokens) (members_in x.tree);
+  transitions = flat_map (destinations_in_member text x.tokens ss item) (members_in x.tree);
+  gotos = map (named_state text x.tokens ss item) (gotos_in text x);
+}
+
+-- The item with a number; one without tokens and tree, where there is no such item.
+abbrev pub item_at : List ProgramItem → ℕ → ProgramItem
+item_at xs item = record { tokens = tokens_in xs item; tree = tree_in xs item }
 
 -- The line of an item is that of its first token.
 abbrev pub line_of_item : List ℕ → List ProgramItem → ℕ → Line
@@ -82,9 +95,9 @@ state_row text xs ss m item = record {
   name = item_name xs item;
   line = line_of_item text xs item;
   mark = m;
-  options = state_options (bytes_at text (tokens_in xs item)) (members_in (tree_in xs item));
-  transitions = flat_map (destinations_in_member text xs ss item) (members_in (tree_in xs item));
-  gotos = map (named_state text xs ss item) (flat_map jumps_in_member (members_in (tree_in xs item)));
+  options = (state_body text ss item (item_at xs item)).options;
+  transitions = (state_body text ss item (item_at xs item)).transitions;
+  gotos = (state_body text ss item (item_at xs item)).gotos;
   wake = wake_ups text xs ss (assigned_channels text xs ss) item (uses_in text xs item);
 }
 

@@ -15,7 +15,7 @@ use Rattle.snl_scope.specs.Flags.{flag_number, flags_of}
 use Rattle.snl_scope.specs.Linked.{declaration_at}
 use Rattle.snl_scope.specs.Names.{entries}
 use Rattle.snl_scope.specs.Places.{place}
-use Rattle.snl_scope.specs.Summaries.Tokens.{value_at}
+use Rattle.snl_walk.specs.Tokens.{value_at}
 use Rattle.snl_tables.specs.declared.rows.ChannelRow.{ChannelRow}
 use Rattle.snl_tables.specs.declared.rows.FlagRow.{FlagRow}
 use Rattle.snl_tables.specs.declared.rows.Queue.{Queue}

@@ -6,10 +6,10 @@ use Rattle.std.specs.Option.{is_none, option_map_or}
 use Rattle.snl_scope.specs.declared.summary.Outline.{Outline}
 use Rattle.snl_scope.specs.Clauses.{resolve_in}
 use Rattle.snl_scope.specs.Flags.{flag_number}
-use Rattle.snl_scope.specs.Summaries.Tokens.{bytes_at}
+use Rattle.snl_walk.specs.Tokens.{bytes_at}
 use Rattle.snl_tables.specs.declared.rows.WakeUp.{WakeUp}
 pub use Rattle.snl_tables.specs.WakeSets.{covers_channel, covers_flag}
-use Rattle.snl_check.specs.declared.wake.WakeUse.{WakeUse}
+use Rattle.snl_walk.specs.declared.used.WakeUse.{WakeUse}
 use Rattle.snl_check.specs.Channels.{AssignedChannel, assigned_channels, covers_elements, element_number, is_channel_of}
 use Rattle.snl_check.specs.Conditions.{uses_in, wake_ups}
 use Rattle.snl_check.specs.Items.{ProgramItem, outlines_of, tokens_in}

@@ -1,11 +1,12 @@
 //! Names of channels: the strings of a clause come in, what is between their quotes goes out, joined.
 
 ghost use Rattle.std.specs.Prelude.{◌≡◌, IfOk};
-ghost use Rattle.snl_scope.specs.Summaries.Tokens.{IsSource};
+ghost use Rattle.snl_walk.specs.Tokens.{IsSource};
 ghost use Rattle.snl_check.specs.Channels.{between_quotes, joined};
 
 use snl_cut::OutOfMemory;
-use snl_scope::{Name, Source};
+use snl_scope::Name;
+use snl_walk::Source;
 
 // The bytes between the quotes of a string.
 fn between_quotes(string: &[u8]) -> &[u8]

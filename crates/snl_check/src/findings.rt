@@ -1,7 +1,7 @@
 //! What a check of an item gives.
 
-use crate::wake::WakeUse;
 use snl_scope::Code;
+use snl_walk::{TargetUse, WakeUse};
 use sqlite_items::Items;
 
 /// A finding at a token of an item, which is told by its number in the item.
@@ -19,4 +19,6 @@ pub struct Checked {
     pub faults: Items<ItemFault>,
     /// The uses of names in its conditions, in the order of the text.
     pub wake_uses: Items<WakeUse>,
+    /// The names of the states that it leads to, in the order of the text.
+    pub target_uses: Items<TargetUse>,
 }

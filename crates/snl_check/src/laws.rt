@@ -1,27 +1,39 @@
-//! Laws of what is found in items, of their clauses, of wake-up sets, of spans and of walks. A function here does nothing: its contract is the law.
+//! Laws of what is found in items, of their clauses, of wake-up sets, of spans, of tables that an edit shifts and of walks.
+//! A function here does nothing: its contract is the law.
 
-ghost use Rattle.std.specs.Prelude.{◌≡◌, ◌<◌, ◌↔◌, ℕ, Bool, true, List, Option, length, map};
+ghost use Rattle.std.specs.Prelude.{◌≡◌, ◌≢◌, ◌<◌, ◌∷◌, ◌++◌, ◌↔◌, ℕ, All, Bool, true, List, Option, Some, length, map, slice_get};
+ghost use Rattle.std.specs.List.{AllPairs};
 ghost use Rattle.snl_lex.specs.declared.piece.Piece.{Piece};
+ghost use Rattle.snl_lex.specs.declared.shift.Shift.{Shift};
 ghost use Rattle.snl_syntax.specs.declared.tree.item.Item.{Item};
+ghost use Rattle.snl_syntax.specs.Parsing.{kinds_in};
+ghost use Rattle.snl_syntax.specs.Reading.Items.{item_of};
 ghost use Rattle.snl_scope.specs.declared.facts.Fact.{Fact};
 ghost use Rattle.snl_scope.specs.Clauses.{clauses_of};
-ghost use Rattle.snl_scope.specs.Summaries.Tokens.{IsSource, bytes_at};
+ghost use Rattle.snl_scope.specs.Places.{place};
+ghost use Rattle.snl_walk.specs.Tokens.{IsSource, bytes_at};
 ghost use Rattle.snl_check.specs.Alike.{Agree, SameTokens, target_names, used_names};
-ghost use Rattle.snl_check.specs.Found.{faults_in};
+ghost use Rattle.snl_check.specs.Found.{StandsIn, faults_in};
 ghost use Rattle.snl_check.specs.Members.{states_in};
 ghost use Rattle.snl_check.specs.Reach.{AreStates, IsReached, is_reached};
-ghost use Rattle.snl_check.specs.States.{mark_of};
+ghost use Rattle.snl_check.specs.States.{mark_of, state_body};
 ghost use Rattle.snl_check.specs.Unreached.{IsUnreached};
 ghost use Rattle.snl_scope.specs.declared.summary.Outline.{Outline};
+ghost use Rattle.snl_tables.specs.Shifted.{shifted_tables, with_body};
 ghost use Rattle.snl_tables.specs.declared.rows.StateMark.TheVariants.{Unreached};
+ghost use Rattle.snl_check.specs.Shifted.{KeepsItems, shifted_item};
+ghost use Rattle.snl_check.specs.ShiftedAround.{ReplacesOne, ReplacesState, SaysAlikeAt, set_number, state_number};
 ghost use Rattle.snl_check.specs.Spans.{AreRead, TablesHaveBytes, TablesLieIn};
 ghost use Rattle.snl_check.specs.Tables.{tables_of};
-ghost use Rattle.snl_check.specs.Wake.{wake_uses};
+ghost use Rattle.snl_check.specs.Told.{told_by};
 ghost use Rattle.snl_check.specs.WakeSets.{HasChannels, HasFlags};
 ghost use Rattle.snl_check.specs.Clauses.{item_clauses, summarized};
 ghost use Rattle.snl_check.specs.Items.{ProgramItem, outlines_of, tokens_in};
 
-use snl_scope::names_are_tokens;
+use snl_scope::{names_are_tokens, same_spelling_same_summary};
+use snl_walk::{
+    each_finding_once, findings_stand_at_tokens, option_letters_rise, same_answers_same_findings,
+};
 
 /// The clauses of items, as trees, are those that the summaries of the items have, one by one in the order of the text.
 pub fn same_clauses()
@@ -30,15 +42,40 @@ pub fn same_clauses()
 {}
 
 /// The same is found in an item of the same tokens and tree, wherever it stands, where the same is known of each name that it
-/// uses, and of each of its targets; and its conditions use the same names.
+/// uses, and of each of its targets; and it tells the tables the same.
 pub fn equal_views()
     ensures faults { (text moved : List ℕ) (tokens shifted : List Piece) (tree : Item) (in_set : Bool) (fact other : List ℕ → Option Fact) (target another : List ℕ → Bool)
         → SameTokens text tokens moved shifted
         → Agree fact other (used_names text tokens tree)
         → Agree target another (target_names text tokens tree)
         → faults_in (bytes_at text tokens) tree in_set fact target ≡ faults_in (bytes_at moved shifted) tree in_set other another }
-    ensures wake_uses { (text moved : List ℕ) (tokens shifted : List Piece) (tree : Item)
-        → SameTokens text tokens moved shifted → wake_uses (bytes_at text tokens) tree ≡ wake_uses (bytes_at moved shifted) tree }
+    ensures told { (text moved : List ℕ) (tokens shifted : List Piece) (tree : Item)
+        → SameTokens text tokens moved shifted → told_by (bytes_at text tokens) tree ≡ told_by (bytes_at moved shifted) tree }
+{
+    same_answers_same_findings();
+}
+
+/// In an item whose tree is read of its tokens, no two findings have the same token, byte and code, whatever the other items say.
+pub fn each_item_finding_once()
+    ensures { (bytes : ℕ → List ℕ) (in_set : Bool) (fact : List ℕ → Option Fact) (target : List ℕ → Bool) (text : List ℕ) (tokens : List Piece) (tree : Item)
+        → item_of (kinds_in text tokens) ≡ Some tree → AllPairs (λ a b. a ≢ b) (faults_in bytes tree in_set fact target) }
+{
+    each_finding_once();
+    option_letters_rise();
+}
+
+/// In an item whose tree is read of its tokens, each finding is at one of these tokens.
+pub fn faults_stand_at_tokens()
+    ensures { (bytes : ℕ → List ℕ) (in_set : Bool) (fact : List ℕ → Option Fact) (target : List ℕ → Bool) (text : List ℕ) (tokens : List Piece) (tree : Item)
+        → item_of (kinds_in text tokens) ≡ Some tree → All (λ f. f.token < length tokens) (faults_in bytes tree in_set fact target) }
+{
+    findings_stand_at_tokens();
+    option_letters_rise();
+}
+
+/// Each finding of an item is at a byte of its token, or at the token's end.
+pub fn faults_stand_in_tokens()
+    ensures { (bytes : ℕ → List ℕ) (tree : Item) (in_set : Bool) (fact : List ℕ → Option Fact) (target : List ℕ → Bool) → All (StandsIn bytes) (faults_in bytes tree in_set fact target) }
 {}
 
 /// An event flag or a channel is in the wake-up set that the row of a state has exactly where a use of a name in the state's
@@ -67,4 +104,31 @@ pub fn walks_of_few_steps()
 pub fn unreached_without_a_walk()
     ensures { (text : List ℕ) (xs : List ProgramItem) (ss : List Outline) (k number j : ℕ) → number < length (states_in ss k)
         → (mark_of text xs ss k number j ≡ Unreached) ↔ IsUnreached text xs ss k number j }
+{}
+
+/// Where an edit keeps the bytes of all tokens, and shifts the line of each item as it shifts the item's second token, the tables
+/// of the new text are those of the old one, shifted.
+pub fn tables_shift()
+    ensures { (old text : List ℕ) (s : Shift) (xs : List ProgramItem) → 0 < s.start → AreRead old xs → KeepsItems old text s xs
+        → tables_of text (map (shifted_item s) xs) ≡ shifted_tables s (tables_of old xs) }
+{
+    names_are_tokens();
+    same_spelling_same_summary();
+}
+
+/// Where an edit changes no more than the inside of a state that declares nothing and has no clauses, and the state says to the others
+/// and in its conditions what it said, the rows are shifted, but for the body of its own.
+pub fn tables_shift_inside_a_state()
+    ensures { (old text : List ℕ) (s : Shift) (xs ys : List ProgramItem) (j set : ℕ) (y : ProgramItem) → 0 < s.start → AreRead old xs → ReplacesOne old text s xs ys j
+        → place (outlines_of old xs) j ≡ Some set → slice_get ys j ≡ Some y → SaysAlikeAt old text xs ys j
+        → tables_of text ys ≡ with_body (shifted_tables s (tables_of old xs)) (set_number (outlines_of old xs) set) (state_number (outlines_of old xs) set j) (state_body text (outlines_of old xs) j y) }
+{
+    names_are_tokens();
+    same_spelling_same_summary();
+}
+
+/// One item between others that are kept is the one that is replaced.
+pub fn one_state_between()
+    ensures { (old text : List ℕ) (s : Shift) (x y : ProgramItem) (front back : List ProgramItem) → KeepsItems old text s front → KeepsItems old text s back → ReplacesState old text s x y
+        → ReplacesOne old text s (front ++ (x ∷ back)) (map (shifted_item s) front ++ (y ∷ map (shifted_item s) back)) (length front) }
 {}

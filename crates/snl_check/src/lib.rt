@@ -2,27 +2,19 @@
 //! out; and the tables of a text, from its items and their links. It knows no edits, and not how names are found.
 #![tactic(auto)]
 
-mod arguments;
-mod arguments_of;
-mod calls;
+mod body;
 mod channel_names;
 mod channel_numbers;
 mod channel_rows;
 mod channels;
 mod check;
-mod declares;
-mod delays;
-mod event_flags;
+mod conditions;
+mod fault_laws;
 mod findings;
 mod flag_rows;
 mod item_clauses;
-mod item_lines;
-mod judged;
-mod jumps;
 mod laws;
 mod listing;
-mod loops;
-mod meanings;
 mod members;
 mod option_rows;
 mod options;
@@ -30,31 +22,28 @@ mod outline;
 mod program;
 mod reaching;
 mod room;
-mod scopes;
 mod set_rows;
-mod state_changes;
 mod state_rows;
 mod syncs;
 mod tables_of;
-mod tokens;
-mod undeclared;
-mod unknown_targets;
 mod view;
-mod wake;
 mod wake_ups;
 
+pub use body::state_body;
 pub use check::check_item;
+pub use conditions::wakes_alike;
+pub use fault_laws::{faults_have_item_codes, outer_names_left_to_links};
 pub use findings::{Checked, ItemFault};
 pub use laws::{
-    equal_views, same_clauses, spans_lie_in_text, unreached_without_a_walk, wake_up_sets,
-    walks_of_few_steps,
+    each_item_finding_once, equal_views, faults_stand_at_tokens, faults_stand_in_tokens,
+    one_state_between, same_clauses, spans_lie_in_text, tables_shift, tables_shift_inside_a_state,
+    unreached_without_a_walk, wake_up_sets, walks_of_few_steps,
 };
 pub use options::warning_setting;
 pub use reaching::reach;
 pub use snl_tables::{
     ChannelRow, Destination, FlagRow, NamedState, OptionRow, Queue, ScopeName, SetRow, Span,
-    StateMark, StateRow, Synced, Tables, WakeUp,
+    StateBody, StateMark, StateRow, Synced, Tables, WakeUp,
 };
+pub use snl_walk::{TargetUse, WakeUse};
 pub use tables_of::{tables, tables_by_tokens};
-pub use tokens::tokens_among;
-pub use wake::{WakeUse, wake_uses};

@@ -8,17 +8,17 @@ ghost use Rattle.snl_scope.specs.Linked.{state_of};
 ghost use Rattle.snl_scope.specs.Order.{is_state_word, state_name};
 ghost use Rattle.snl_scope.specs.Places.{stands_in};
 ghost use Rattle.snl_scope.specs.Summaries.{opening_by_word, outline_in};
-ghost use Rattle.snl_scope.specs.Summaries.Tokens.{IsSource};
-ghost use Rattle.snl_check.specs.Collected.{IsLinked, items_in};
+ghost use Rattle.snl_walk.specs.Tokens.{IsSource};
+ghost use Rattle.snl_check.specs.Collected.{IsLinked, IsOutline, items_in};
 ghost use Rattle.snl_check.specs.Members.{has_faulty, is_faulty_item, is_first_state, name_of_state, number_among, states_in, target_numbers, targets_among};
 ghost use Rattle.snl_check.specs.Reach.{target_lists};
 
 use crate::listing::Listing;
+use crate::outline::Outline;
 use crate::room::with_room;
 use snl_cut::OutOfMemory;
 use snl_lex::{Class, Piece, token_text};
-use snl_scope::Links;
-use snl_scope::targets::targets_in;
+use snl_scope::{Links, sets_open_in_turn};
 
 /// What is in a state set: its states, by the numbers of their items, and whether an item is faulty.
 #[derive(Drop)]
@@ -91,6 +91,7 @@ fn end_of(links: &Links, set: usize, count: usize) -> usize
     ensures some { set < result }
     ensures items { (j : ℕ) → j < count → stands_in links.now.outlines set j ≡ (nat_lt set j && nat_lt j result) }
 {
+    sets_open_in_turn();
     for item in set + 1..count {
         if !stands_in(links, set, item) {
             return item;
@@ -141,20 +142,20 @@ fn target_number(links: &Links, states: &[usize], state: usize, name: &[u8]) -> 
 
 // The targets of a state, by their numbers among the states of its set.
 fn target_numbers(
-    listing: &Listing,
+    outline: &Outline,
     states: &[usize],
     state: usize,
 ) -> Result<Vec<usize>, OutOfMemory>
-    requires linked { IsLinked listing.now }
+    requires outline { IsOutline outline.now }
     requires rising { IsStrictlyIncreasing states.now }
-    ensures { IfOk result (λ v. v.items ≡ target_numbers listing.now.program.text.now (items_in listing.now.program) listing.now.links.now.outlines states.now state) }
+    ensures { IfOk result (λ v. v.items ≡ target_numbers outline.now.listing.program.text.now (items_in outline.now.listing.program) outline.now.listing.links.now.outlines states.now state) }
 {
-    let source = listing.program.source(state);
-    let targets = targets_in(source.alloc, listing.program.tree(state))?;
+    let source = outline.listing.program.source(state);
+    let targets = outline.target_uses(state);
     let mut numbers = with_room(source.alloc, targets.len())?;
-    for token in &targets {
-        let name = source.bytes(*token);
-        if let Some(number) = target_number(listing.links, states, state, name) {
+    for target in targets {
+        let name = source.bytes(target.token);
+        if let Some(number) = target_number(outline.listing.links, states, state, name) {
             numbers.push(number)?;
         }
     }
@@ -163,16 +164,16 @@ fn target_numbers(
 
 /// The targets of each state of a set.
 pub(crate) fn targets_among(
-    listing: &Listing,
+    outline: &Outline,
     states: &[usize],
 ) -> Result<Vec<Vec<usize>>, OutOfMemory>
-    requires linked { IsLinked listing.now }
+    requires outline { IsOutline outline.now }
     requires rising { IsStrictlyIncreasing states.now }
-    ensures { IfOk result (λ v. target_lists v.items ≡ targets_among listing.now.program.text.now (items_in listing.now.program) listing.now.links.now.outlines states.now) }
+    ensures { IfOk result (λ v. target_lists v.items ≡ targets_among outline.now.listing.program.text.now (items_in outline.now.listing.program) outline.now.listing.links.now.outlines states.now) }
 {
-    let mut targets = with_room(listing.program.alloc, states.len())?;
+    let mut targets = with_room(outline.listing.program.alloc, states.len())?;
     for state in states {
-        targets.push(target_numbers(listing, states, *state)?)?;
+        targets.push(target_numbers(outline, states, *state)?)?;
     }
     Ok(targets)
 }

@@ -2,7 +2,7 @@
 
 ghost use Rattle.std.specs.Prelude.{◌≡◌, ◌++◌, IfOk, OnOk, map, option_map};
 ghost use Rattle.std.specs.List.{flat_map};
-ghost use Rattle.snl_scope.specs.Summaries.Tokens.{IsSource, bytes_at};
+ghost use Rattle.snl_walk.specs.Tokens.{IsSource, bytes_at};
 ghost use Rattle.snl_check.specs.Collected.{IsListing, items_in};
 ghost use Rattle.snl_check.specs.SettingTrees.{told};
 ghost use Rattle.snl_check.specs.Settings.{last_setting, option_rows, program_options, program_settings, setting_at, setting_of, settings_in_member, state_options};
@@ -11,11 +11,11 @@ use crate::listing::Listing;
 use crate::options::is_on;
 use crate::view::View;
 use snl_cut::OutOfMemory;
-use snl_scope::Source;
 use snl_syntax::tree::clause::OptionLine;
 use snl_syntax::tree::item::Item;
 use snl_syntax::tree::state::StateMember;
 use snl_tables::OptionRow;
+use snl_walk::Source;
 use std::alloc::Global;
 
 /// The letters of a program's options, by rising bytes.

@@ -3,17 +3,18 @@
 
 ghost use Rattle.std.specs.Prelude.{◌≡◌, ◌++◌, OnOk};
 ghost use Rattle.std.specs.List.{flat_map};
-ghost use Rattle.snl_scope.specs.Summaries.Tokens.{IsSource, bytes_at};
+ghost use Rattle.snl_walk.specs.Tokens.{IsSource, bytes_at};
 ghost use Rattle.snl_check.specs.Options.{is_on, unknown_in_member, unknown_letters, unknown_options, warning_setting};
 ghost use Rattle.snl_check.specs.Outlook.{is_in_set};
 
 use crate::findings::ItemFault;
 use crate::view::View;
 use snl_cut::OutOfMemory;
-use snl_scope::{Code, Links, Source};
+use snl_scope::{Code, Links};
 use snl_syntax::tree::clause::{OptionLine, OptionSign};
 use snl_syntax::tree::item::Item;
 use snl_syntax::tree::state::StateMember;
+use snl_walk::Source;
 
 /// The options of a program.
 const PROGRAM_LETTERS: &[u8] = b"acdeilmrswW";

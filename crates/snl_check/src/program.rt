@@ -4,9 +4,9 @@ ghost use Rattle.std.specs.Prelude.{◌≡◌, option_copied};
 ghost use Rattle.snl_check.specs.Items as items;
 
 use snl_lex::Piece;
-use snl_scope::Source;
 use snl_syntax::tree::item::Item;
 use snl_tables::Span;
+use snl_walk::Source;
 use std::alloc::Global;
 
 /// The tokens of a text, the number of the token behind each item, and the trees of the items. A faulty item has no tree.
@@ -19,8 +19,8 @@ pub(crate) struct Program<'a> {
     pub alloc: Global,
 }
 
-// Where a token stands.
-fn span_of(token: Option<&Piece>) -> Span
+/// Where a token is.
+pub(crate) fn span_of(token: Option<&Piece>) -> Span
     ensures { result ≡ items.span_of (option_copied token.entry) }
 {
     match token {
@@ -34,7 +34,7 @@ fn span_of(token: Option<&Piece>) -> Span
 
 impl<'a> Program<'a> {
     ghost use Rattle.std.specs.Prelude.{◌<◌, ◌≤◌, length, option_and_then, slice_get, slice_index};
-    ghost use Rattle.snl_scope.specs.Summaries.Tokens.{IsSource};
+    ghost use Rattle.snl_walk.specs.Tokens.{IsSource};
     ghost use Rattle.snl_check.specs.Collected.{IsProgram, items_in};
     ghost use Rattle.snl_check.specs.Items.{header_name, program_name, span_at, start_of, tokens_in, tree_in};
 

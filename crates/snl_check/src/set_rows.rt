@@ -10,8 +10,7 @@ use crate::outline::Outline;
 use crate::state_rows::state_rows;
 use snl_cut::OutOfMemory;
 use snl_syntax::tree::item::Item;
-use snl_tables::SetRow;
-use sqlite_items::Items;
+use snl_tables::{Rows, SetRow};
 
 // Whether an item begins a state set.
 fn begins_set(listing: &Listing, item: usize) -> bool
@@ -30,7 +29,7 @@ fn set_row(outline: &Outline, set: usize) -> Result<SetRow, OutOfMemory>
     Ok(SetRow {
         name: outline.listing.item_name(set),
         line: outline.line(set),
-        states: Items::from_vec(state_rows(outline, set)?),
+        states: Rows::from_vec(state_rows(outline, set)?),
     })
 }
 

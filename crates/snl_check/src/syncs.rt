@@ -2,15 +2,16 @@
 
 ghost use Rattle.std.specs.Prelude.{◌≡◌, option_and_then};
 ghost use Rattle.snl_scope.specs.Flags.{flag_number};
-ghost use Rattle.snl_scope.specs.Summaries.Tokens.{IsSource};
+ghost use Rattle.snl_walk.specs.Tokens.{IsSource};
 ghost use Rattle.snl_check.specs.Collected.{IsListing, items_in, told};
 ghost use Rattle.snl_check.specs.Tables as tables;
 
 use crate::item_clauses::ToldClause;
 use crate::listing::Listing;
-use snl_scope::{Links, Source};
+use snl_scope::Links;
 use snl_syntax::tree::clause::Clause;
 use snl_tables::{Queue, Synced};
+use snl_walk::Source;
 
 // The queue of a `syncq`.
 fn queue_of(source: &Source, length: Option<usize>) -> Queue

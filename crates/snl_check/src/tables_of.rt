@@ -2,11 +2,12 @@
 //! change of the text.
 
 ghost use Rattle.std.specs.Prelude.{◌≡◌, IfOk, length, map, option_copied};
+ghost use Rattle.snl_lex.specs.LineList.{IsLineList};
 ghost use Rattle.snl_lex.specs.Pieces.{pieces_of, tokens_of};
-ghost use Rattle.snl_check.specs.Collected.{IsLinked, items_in, uses_told};
-ghost use Rattle.snl_check.specs.Conditions.{uses_in_item};
+ghost use Rattle.snl_check.specs.Collected.{IsLinked, items_in};
 ghost use Rattle.snl_check.specs.Items.{IsCutUp, program_items, outlines_of};
 ghost use Rattle.snl_check.specs.Tables.{tables_by, tables_of};
+ghost use Rattle.snl_check.specs.Told.{told_in_item, told_seen};
 
 use crate::channel_numbers::numbers_of;
 use crate::channel_rows::{channel_rows, variables};
@@ -14,40 +15,36 @@ use crate::channels::assigned_channels;
 use crate::findings::Checked;
 use crate::flag_rows::flag_rows;
 use crate::item_clauses::told_clauses;
-use crate::item_lines::item_lines;
 use crate::listing::Listing;
 use crate::option_rows::program_options;
 use crate::outline::Outline;
 use crate::program::Program;
 use crate::set_rows::set_rows;
-use crate::tokens::tokens_among;
 use snl_cut::OutOfMemory;
-use snl_lex::Piece;
+use snl_lex::{LineList, Piece, tokens_among};
 use snl_scope::Links;
 use snl_syntax::tree::item::Item;
-use snl_tables::Tables;
+use snl_tables::{Rows, Tables};
 use sqlite_items::Items;
 use std::alloc::Global;
 
 // The rows of all tables.
 fn rows_of(
     listing: &Listing,
-    pieces: &[Piece],
+    lines: &LineList,
     checked: &[Option<&Checked>],
 ) -> Result<Tables, OutOfMemory>
     requires linked { IsLinked listing.now }
-    requires pieces { pieces.now ≡ pieces_of listing.now.program.text.now }
-    requires tokens { listing.now.program.tokens.now ≡ tokens_of listing.now.program.text.now }
-    requires checked { map uses_told checked.now ≡ map (uses_in_item listing.now.program.text.now) (items_in listing.now.program) }
+    requires lines { IsLineList listing.now.program.text.now lines.now.ends.items lines.now.markers.items lines.now.naming.items }
+    requires checked { map told_seen checked.now ≡ map (told_in_item listing.now.program.text.now) (items_in listing.now.program) }
     ensures { IfOk result (λ t. t ≡ tables_by listing.now.program.text.now (items_in listing.now.program) listing.now.links.now.outlines) }
 {
     let alloc = listing.program.alloc;
-    let lines = item_lines(&listing.program, pieces)?;
     let channels = assigned_channels(listing)?;
     let numbers = numbers_of(alloc, &channels)?;
     let outline = Outline {
         listing: *listing,
-        lines: &lines,
+        lines,
         checked,
         numbers: &numbers,
     };
@@ -55,30 +52,30 @@ fn rows_of(
     Ok(Tables {
         program: listing.program.name(),
         options: Items::from_vec(program_options(listing)?),
-        flags: Items::from_vec(flag_rows(listing)?),
-        channels: Items::from_vec(channel_rows(listing, &channels)?),
+        flags: Rows::from_vec(flag_rows(listing)?),
+        channels: Rows::from_vec(channel_rows(listing, &channels)?),
         variables: Items::from_vec(variables),
-        sets: Items::from_vec(set_rows(&outline)?),
+        sets: Rows::from_vec(set_rows(&outline)?),
     })
 }
 
-/// The tables of a text, by its pieces and the tokens among them. `ends` has, for each item, the number of the token after
+/// The tables of a text, by its lines and its tokens. `ends` has, for each item, the number of the token after
 /// it; a faulty item has no tree. `checked` has what the check gave of each item that isn't faulty.
 pub fn tables_by_tokens(
     alloc: Global,
     text: &[u8],
-    pieces: &[Piece],
+    lines: &LineList,
     tokens: &[Piece],
     ends: &[usize],
     items: &[Option<&Item>],
     links: &Links,
     checked: &[Option<&Checked>],
 ) -> Result<Tables, OutOfMemory>
-    requires pieces { pieces.now ≡ pieces_of text.now }
+    requires lines { IsLineList text.now lines.now.ends.items lines.now.markers.items lines.now.naming.items }
     requires tokens { tokens.now ≡ tokens_of text.now }
     requires cut { IsCutUp text.now tokens.now ends.now (length items.now) }
     requires links { links.now.outlines ≡ outlines_of text.now (program_items tokens.now ends.now (map option_copied items.now)) }
-    requires checked { map uses_told checked.now ≡ map (uses_in_item text.now) (program_items tokens.now ends.now (map option_copied items.now)) }
+    requires checked { map told_seen checked.now ≡ map (told_in_item text.now) (program_items tokens.now ends.now (map option_copied items.now)) }
     ensures { IfOk result (λ t. t ≡ tables_of text.now (program_items tokens.now ends.now (map option_copied items.now))) }
 {
     let program = Program {
@@ -94,7 +91,7 @@ pub fn tables_by_tokens(
         clauses: &clauses,
         links,
     };
-    let tables = rows_of(&listing, pieces, checked)?;
+    let tables = rows_of(&listing, lines, checked)?;
     Ok(tables)
 }
 
@@ -112,10 +109,11 @@ pub fn tables(
     requires pieces { pieces.now ≡ pieces_of text.now }
     requires cut { IsCutUp text.now (tokens_of text.now) ends.now (length items.now) }
     requires links { links.now.outlines ≡ outlines_of text.now (program_items (tokens_of text.now) ends.now (map option_copied items.now)) }
-    requires checked { map uses_told checked.now ≡ map (uses_in_item text.now) (program_items (tokens_of text.now) ends.now (map option_copied items.now)) }
+    requires checked { map told_seen checked.now ≡ map (told_in_item text.now) (program_items (tokens_of text.now) ends.now (map option_copied items.now)) }
     ensures { IfOk result (λ t. t ≡ tables_of text.now (program_items (tokens_of text.now) ends.now (map option_copied items.now))) }
 {
+    let lines = LineList::of(alloc, text, pieces)?;
     let tokens = tokens_among(alloc, pieces)?;
-    let tables = tables_by_tokens(alloc, text, pieces, &tokens, ends, items, links, checked)?;
+    let tables = tables_by_tokens(alloc, text, &lines, &tokens, ends, items, links, checked)?;
     Ok(tables)
 }

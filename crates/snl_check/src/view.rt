@@ -1,8 +1,41 @@
 //! What an item sees of the other items.
 
 ghost use Rattle.std.specs.Prelude.{◌≡◌};
+ghost use Rattle.snl_check.specs.Outlook.{is_assigned, is_foreign, may_be_flag, outer_of};
 
-use snl_scope::{Fact, Links};
+use snl_scope::{Assigned, Base, Fact, Links};
+use snl_walk::{Outer, Outlook};
+
+fn is_foreign(base: Base) -> bool
+    ensures { result ≡ is_foreign base }
+{
+    matches!(base, Base::Foreign)
+}
+
+fn may_be_flag(base: Base) -> bool
+    ensures { result ≡ may_be_flag base }
+{
+    matches!(base, Base::EventFlag | Base::Foreign)
+}
+
+fn is_assigned(assigned: Assigned) -> bool
+    ensures { result ≡ is_assigned assigned }
+{
+    match assigned {
+        Assigned::Unassigned => false,
+        Assigned::Whole | Assigned::Elements => true,
+    }
+}
+
+// What a name passes for of which this is known.
+fn outer_of(fact: Fact) -> Outer
+    ensures { result ≡ outer_of fact }
+{
+    Outer {
+        flag: may_be_flag(fact.base),
+        channel: is_assigned(fact.assigned) || is_foreign(fact.base),
+    }
+}
 
 /// What an item sees of the other items: the item is told by its number among those that are linked.
 #[derive(Clone, Copy)]
@@ -22,19 +55,38 @@ impl View<'_> {
         self.links.place(self.item).is_some()
     }
 
-    /// What a name means by the scopes outside the item.
+    // What a name means by the scopes outside the item.
     #[tactic(auto, unfolding(crate::specs::Outlook::known_of))]
-    pub(crate) fn fact(&self, name: &[u8]) -> Option<Fact>
+    fn fact(&self, name: &[u8]) -> Option<Fact>
         ensures { result ≡ known_of self.now.links.now.outlines self.now.item name.now }
     {
         self.links.fact(self.item, name)
     }
 
-    /// Whether the item's state set has a state of the name.
+    // Whether the item's state set has a state of the name.
     #[tactic(auto, unfolding(crate::specs::Outlook::leads_to))]
-    pub(crate) fn leads_to(&self, name: &[u8]) -> bool
+    fn leads_to(&self, name: &[u8]) -> bool
         ensures { result ≡ leads_to self.now.links.now.outlines self.now.item name.now }
     {
         self.links.has_target(self.item, name)
+    }
+}
+
+impl Outlook for View<'_> {
+    ghost use Rattle.snl_check.specs.Outlook.{is_in_set, known_of, leads_to, misses_by, outer_by};
+
+    ghost outer_of = { λ v. outer_by (known_of v.links.now.outlines v.item) };
+
+    ghost misses = { λ v. misses_by (is_in_set v.links.now.outlines v.item) (leads_to v.links.now.outlines v.item) };
+
+    fn outer(&self, name: &[u8]) -> Option<Outer> {
+        match self.fact(name) {
+            Some(fact) => Some(outer_of(fact)),
+            None => None,
+        }
+    }
+
+    fn misses_state(&self, name: &[u8]) -> bool {
+        self.is_in_set() && !self.leads_to(name)
     }
 }

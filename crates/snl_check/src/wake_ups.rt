@@ -9,9 +9,9 @@ ghost use Rattle.snl_check.specs.Conditions as conditions;
 use crate::channel_numbers::{Key, Which};
 use crate::outline::Outline;
 use crate::room::with_room;
-use crate::wake::WakeUse;
 use snl_cut::OutOfMemory;
 use snl_tables::WakeUp;
+use snl_walk::WakeUse;
 
 // Whether elements of a variable are assigned.
 fn covers_elements(outline: &Outline, variable: usize) -> bool

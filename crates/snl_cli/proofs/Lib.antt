@@ -3,4 +3,4 @@ pub mod RunLemmas
 pub mod SaidLemmas
 pub mod ScriptLemmas
 pub mod ListingLemmas
-pub mod StartLemmas
+pub mod DocumentLemmas

@@ -10,14 +10,15 @@ use Rattle.snl_cli.specs.declared.faults.RunFault.TheVariants.{Read, Write, Scri
 use Rattle.snl_cli.specs.declared.faults.Status.{Status}
 use Rattle.snl_cli.specs.declared.script.Command.{Command}
 use Rattle.snl_cli.specs.declared.script.Heading.{Heading}
-use Rattle.snl_cli.specs.declared.script.Heading.TheVariants.{Check, List as Listing, Edit}
+use Rattle.snl_cli.specs.declared.script.Heading.TheVariants.{Check, List as Listing, Work, Edit}
 use Rattle.snl_cli.specs.Ahead.{Gains}
 use Rattle.snl_cli.specs.Faults.{fault_of_read}
 use Rattle.snl_cli.specs.Front.{IsWhole, request_of, unfinished}
 use Rattle.snl_cli.specs.Run.{IsMalformed, NoStart, Ran, Told, ToldPart}
 use Rattle.snl_cli.specs.Said.{AppendsPart}
 use Rattle.snl_cli.specs.Script.{Request, Next, Unknown, Then, closed, headed, heading_of, lined, next_of, words_of}
-use Rattle.snl_cli.specs.Transcript.{Begins, HoldsNone, IsFair, MayStarve, Turn, after, reply, status_of, text_after, transcript}
+use Rattle.snl_cli.specs.Transcript.{Begins, HoldsNone, IsFair, MayStarve, Turn, after, reply, status_of, transcript, version_after}
+use Rattle.snl_cli.specs.Version.{Version, first_version}
 use Rattle.snl_cli.proofs.SaidLemmas.{Appends-none, Appends-on, Appends-same, AppendsPart-after, AppendsPart-same}
 use Rattle.snl_cli.proofs.ScriptLemmas.{place_grows}
 
@@ -43,6 +44,7 @@ headed-grows : (heading : Option Heading) (bytes more behind : List ℕ) (next :
 headed-grows None bytes more behind next h = cc
 headed-grows (Some Check) bytes more behind next h = cc
 headed-grows (Some Listing) bytes more behind next h = cc
+headed-grows (Some Work) bytes more behind next h = cc
 headed-grows (Some (Edit start stop len)) bytes more behind next h =
     let room : len ≤ length bytes = edit-room _ len bytes behind next h in
     rw (take-append-le len bytes more room, drop-append-le len bytes more room) (closed-grows _ (drop len bytes) more behind next h)
@@ -83,18 +85,18 @@ pub Begins-on : (bytes : List ℕ) (turns : List Turn) (rest behind : List ℕ) 
 Begins-on bytes [] rest behind turn h e = (behind, ap next_of (sym h) ∙ e, refl)
 Begins-on bytes (t ∷ ts) rest behind turn h e = (h.0, h.1, Begins-on h.0 ts rest behind turn h.2 e)
 
-pub transcript-on : (text : List ℕ) (turns : List Turn) (turn : Turn) → transcript text (turns ++ turn ∷ []) ≡ transcript text turns ++ reply (text_after text turns) turn.request turn.starved
-transcript-on text [] turn = append-nil _
-transcript-on text (t ∷ ts) turn =
-    ap (λ l. reply text t.request t.starved ++ l) (transcript-on (after text t.request t.starved) ts turn) ∙ sym (append_assoc (reply text t.request t.starved) (transcript (after text t.request t.starved) ts) _)
+pub transcript-on : (first : Version) (turns : List Turn) (turn : Turn) → transcript first (turns ++ turn ∷ []) ≡ transcript first turns ++ reply (version_after first turns) turn.request turn.starved
+transcript-on first [] turn = append-nil _
+transcript-on first (t ∷ ts) turn =
+    ap (λ l. reply first t.request t.starved ++ l) (transcript-on (after first t.request t.starved) ts turn) ∙ sym (append_assoc (reply first t.request t.starved) (transcript (after first t.request t.starved) ts) _)
 
-pub text_after-on : (text : List ℕ) (turns : List Turn) (turn : Turn) → text_after text (turns ++ turn ∷ []) ≡ after (text_after text turns) turn.request turn.starved
-text_after-on text [] turn = refl
-text_after-on text (t ∷ ts) turn = text_after-on (after text t.request t.starved) ts turn
+pub version_after-on : (first : Version) (turns : List Turn) (turn : Turn) → version_after first (turns ++ turn ∷ []) ≡ after (version_after first turns) turn.request turn.starved
+version_after-on first [] turn = refl
+version_after-on first (t ∷ ts) turn = version_after-on (after first t.request t.starved) ts turn
 
-pub IsFair-on : (text : List ℕ) (turns : List Turn) (turn : Turn) → IsFair text turns → OnTrue turn.starved (MayStarve (text_after text turns) turn.request) → IsFair text (turns ++ turn ∷ [])
-IsFair-on text [] turn h f = (f, tt)
-IsFair-on text (t ∷ ts) turn h f = (h.0, IsFair-on (after text t.request t.starved) ts turn h.1 f)
+pub IsFair-on : (first : Version) (turns : List Turn) (turn : Turn) → IsFair first turns → OnTrue turn.starved (MayStarve (version_after first turns).text turn.request) → IsFair first (turns ++ turn ∷ [])
+IsFair-on first [] turn h f = (f, tt)
+IsFair-on first (t ∷ ts) turn h f = (h.0, IsFair-on (after first t.request t.starved) ts turn h.1 f)
 
 -- ---- reading
 
@@ -114,12 +116,12 @@ Keeps-same (Some x) = refl
 
 -- ---- how far a run came
 
--- the rest is what is ahead, the text the session's, and each read gave 1 to 4,096 bytes
-abbrev pub At : (ahead text : List ℕ) (offset calls : ℕ) → (read rest last : List ℕ) → Type 0
-At ahead text offset calls read rest last = (rest ≡ ahead) × (last ≡ text) × (offset + length rest ≡ length read) × (length read ≤ 4096 * calls) × (calls ≤ length read)
+-- the rest is what is ahead, the last version the document's, and each read gave 1 to 4,096 bytes
+abbrev pub At : (ahead : List ℕ) (version : Version) (offset calls : ℕ) → (read rest : List ℕ) (last : Version) → Type 0
+At ahead version offset calls read rest last = (rest ≡ ahead) × (last ≡ version) × (offset + length rest ≡ length read) × (length read ≤ 4096 * calls) × (calls ≤ length read)
 
-pub Told-start : (script out : Option (List ℕ)) (source ahead : List ℕ) (calls : ℕ) → ahead ≡ [] → calls ≡ 0 → Told script script out out source (At ahead source 0 calls)
-Told-start script out source ahead calls e none = record {
+pub Told-start : (script out : Option (List ℕ)) (first : Version) (ahead : List ℕ) (calls : ℕ) → ahead ≡ [] → calls ≡ 0 → Told script script out out first (At ahead first 0 calls)
+Told-start script out first ahead calls e none = record {
   read = [];
   turns = [];
   rest = [];
@@ -130,8 +132,8 @@ Told-start script out source ahead calls e none = record {
   ends = (sym e, refl, refl, omega arith, omega arith);
 }
 
-pub Told-ends : (before behind old new : Option (List ℕ)) (source : List ℕ) (P Q : (read rest text : List ℕ) → Type 0) → Told before behind old new source P → ((read rest text : List ℕ) → P read rest text → Q read rest text) → Told before behind old new source Q
-Told-ends before behind old new source P Q t f = record {
+pub Told-ends : (before behind old new : Option (List ℕ)) (first : Version) (P Q : (read rest : List ℕ) (last : Version) → Type 0) → Told before behind old new first P → ((read rest : List ℕ) (last : Version) → P read rest last → Q read rest last) → Told before behind old new first Q
+Told-ends before behind old new first P Q t f = record {
   read = t.read;
   turns = t.turns;
   rest = t.rest;
@@ -139,12 +141,12 @@ Told-ends before behind old new source P Q t f = record {
   begins = t.begins;
   fair = t.fair;
   written = t.written;
-  ends = f t.read t.rest (text_after source t.turns) t.ends;
+  ends = f t.read t.rest (version_after first t.turns) t.ends;
 }
 
 -- bytes came
-pub Told-gains : (before mid behind old new : Option (List ℕ)) (source ahead next text : List ℕ) (offset calls more : ℕ) → Told before mid old new source (At ahead text offset calls) → Gains ahead next mid behind → calls ≤ more → length next ≤ length ahead + 4096 * (more - calls) → more + length ahead ≤ calls + length next → Told before behind old new source (At next text offset more)
-Told-gains before mid behind old new source ahead next text offset calls more t g rises few some =
+pub Told-gains : (before mid behind old new : Option (List ℕ)) (first : Version) (ahead next : List ℕ) (version : Version) (offset calls more : ℕ) → Told before mid old new first (At ahead version offset calls) → Gains ahead next mid behind → calls ≤ more → length next ≤ length ahead + 4096 * (more - calls) → more + length ahead ≤ calls + length next → Told before behind old new first (At next version offset more)
+Told-gains before mid behind old new first ahead next version offset calls more t g rises few some =
     let read_size : length (t.read ++ g.gained) ≡ length t.read + length g.gained = length-append t.read g.gained in
     let rest_size : length (t.rest ++ g.gained) ≡ length t.rest + length g.gained = length-append t.rest g.gained in
     let next_size : length next ≡ length ahead + length g.gained = ap length g.there ∙ length-append ahead g.gained in
@@ -168,11 +170,11 @@ whole-next : (bytes : List ℕ) (command : Command) (len : ℕ) → IsWhole byte
 whole-next bytes command len w = ap next_of (sym (append-nil bytes)) ∙ w.next [] ∙ ap (Then (request_of command)) (append-nil (drop len bytes))
 
 -- a command was carried out, and its answer written
-pub Told-on : (before behind old mid new : Option (List ℕ)) (source ahead next bytes text last : List ℕ) (offset calls len : ℕ) (command : Command) (starved : Bool) → Told before behind old mid source (At ahead text offset calls) → bytes ≡ ahead → IsWhole bytes command len → next ≡ drop len ahead → OnTrue starved (MayStarve text (request_of command)) → last ≡ after text (request_of command) starved → Appends mid new (reply text (request_of command) starved) → Told before behind old new source (At next last (offset + len) calls)
-Told-on before behind old mid new source ahead next bytes text last offset calls len command starved t is whole next_is fair last_is written =
+pub Told-on : (before behind old mid new : Option (List ℕ)) (first : Version) (ahead next bytes : List ℕ) (version last : Version) (offset calls len : ℕ) (command : Command) (starved : Bool) → Told before behind old mid first (At ahead version offset calls) → bytes ≡ ahead → IsWhole bytes command len → next ≡ drop len ahead → OnTrue starved (MayStarve version.text (request_of command)) → last ≡ after version (request_of command) starved → Appends mid new (reply version (request_of command) starved) → Told before behind old new first (At next last (offset + len) calls)
+Told-on before behind old mid new first ahead next bytes version last offset calls len command starved t is whole next_is fair last_is written =
     let turn : Turn = record { request = request_of command; starved = starved } in
     let here : next_of t.rest ≡ Then (request_of command) next = ap next_of (t.ends.0 ∙ sym is) ∙ whole-next bytes command len whole ∙ ap (λ (l : List ℕ). Then (request_of command) l) (ap (drop len) is ∙ sym next_is) in
-    let text_is : text_after source t.turns ≡ text = t.ends.1 in
+    let version_is : version_after first t.turns ≡ version = t.ends.1 in
     let behind_size : length next ≡ length ahead - len = ap length next_is ∙ length-drop len ahead in
     let same : length t.rest ≡ length ahead = ap length t.ends.0 in
     let size : length bytes ≡ length ahead = ap length is in
@@ -184,25 +186,25 @@ Told-on before behind old mid new source ahead next bytes text last offset calls
       rest = next;
       is_read = t.is_read;
       begins = Begins-on t.read t.turns t.rest next turn t.begins here;
-      fair = IsFair-on source t.turns turn t.fair (subst (λ (x : List ℕ). OnTrue starved (MayStarve x (request_of command))) (sym text_is) fair);
-      written = Appends-same old new _ _ (ap (λ (x : List ℕ). transcript source t.turns ++ reply x (request_of command) starved) (sym text_is) ∙ sym (transcript-on source t.turns turn)) (Appends-on old mid new _ _ t.written written);
-      ends = (refl, text_after-on source t.turns turn ∙ ap (λ (x : List ℕ). after x (request_of command) starved) text_is ∙ sym last_is, omega arith, t.ends.3, t.ends.4);
+      fair = IsFair-on first t.turns turn t.fair (subst (λ (x : Version). OnTrue starved (MayStarve x.text (request_of command))) (sym version_is) fair);
+      written = Appends-same old new _ _ (ap (λ (x : Version). transcript first t.turns ++ reply x (request_of command) starved) (sym version_is) ∙ sym (transcript-on first t.turns turn)) (Appends-on old mid new _ _ t.written written);
+      ends = (refl, version_after-on first t.turns turn ∙ ap (λ (x : Version). after x (request_of command) starved) version_is ∙ sym last_is, omega arith, t.ends.3, t.ends.4);
     }
 
 -- a command was carried out, and a part of its answer written
-pub ToldPart-on : (before behind old mid new : Option (List ℕ)) (source ahead bytes text : List ℕ) (offset calls len : ℕ) (command : Command) (starved : Bool) → Told before behind old mid source (At ahead text offset calls) → bytes ≡ ahead → IsWhole bytes command len → OnTrue starved (MayStarve text (request_of command)) → AppendsPart mid new (reply text (request_of command) starved) → ToldPart before behind old new source
-ToldPart-on before behind old mid new source ahead bytes text offset calls len command starved t is whole fair written =
+pub ToldPart-on : (before behind old mid new : Option (List ℕ)) (first : Version) (ahead bytes : List ℕ) (version : Version) (offset calls len : ℕ) (command : Command) (starved : Bool) → Told before behind old mid first (At ahead version offset calls) → bytes ≡ ahead → IsWhole bytes command len → OnTrue starved (MayStarve version.text (request_of command)) → AppendsPart mid new (reply version (request_of command) starved) → ToldPart before behind old new first
+ToldPart-on before behind old mid new first ahead bytes version offset calls len command starved t is whole fair written =
     let turn : Turn = record { request = request_of command; starved = starved } in
     let here : next_of t.rest ≡ Then (request_of command) (drop len bytes) = ap next_of (t.ends.0 ∙ sym is) ∙ whole-next bytes command len whole in
-    let text_is : text_after source t.turns ≡ text = t.ends.1 in
+    let version_is : version_after first t.turns ≡ version = t.ends.1 in
     record {
       read = t.read;
       turns = t.turns ++ turn ∷ [];
       rest = drop len bytes;
       is_read = t.is_read;
       begins = Begins-on t.read t.turns t.rest (drop len bytes) turn t.begins here;
-      fair = IsFair-on source t.turns turn t.fair (subst (λ (x : List ℕ). OnTrue starved (MayStarve x (request_of command))) (sym text_is) fair);
-      written = AppendsPart-same old new _ _ (ap (λ (x : List ℕ). transcript source t.turns ++ reply x (request_of command) starved) (sym text_is) ∙ sym (transcript-on source t.turns turn)) (AppendsPart-after old mid new _ _ t.written written);
+      fair = IsFair-on first t.turns turn t.fair (subst (λ (x : Version). OnTrue starved (MayStarve x.text (request_of command))) (sym version_is) fair);
+      written = AppendsPart-same old new _ _ (ap (λ (x : Version). transcript first t.turns ++ reply x (request_of command) starved) (sym version_is) ∙ sym (transcript-on first t.turns turn)) (AppendsPart-after old mid new _ _ t.written written);
     }
 
 -- ---- the ends of a run
@@ -219,9 +221,9 @@ malformed-always bytes None h = tt
 malformed-always bytes (Some more) h = h more
 
 -- no command can stand ahead
-pub Told-malformed : (before behind old new : Option (List ℕ)) (source ahead bytes text : List ℕ) (offset calls : ℕ) → Told before behind old new source (At ahead text offset calls) → bytes ≡ ahead → ((more : List ℕ) → next_of (bytes ++ more) ≡ Unknown) → Ran (Err (Script offset)) before behind old new source
-Told-malformed before behind old new source ahead bytes text offset calls t is h =
-    Told-ends before behind old new source (At ahead text offset calls) _ t (λ read rest last a.
+pub Told-malformed : (before behind old new : Option (List ℕ)) (first : Version) (ahead bytes : List ℕ) (version : Version) (offset calls : ℕ) → Told before behind old new first (At ahead version offset calls) → bytes ≡ ahead → ((more : List ℕ) → next_of (bytes ++ more) ≡ Unknown) → Ran (Err (Script offset)) before behind old new first
+Told-malformed before behind old new first ahead bytes version offset calls t is h =
+    Told-ends before behind old new first (At ahead version offset calls) _ t (λ read rest last a.
     let same : bytes ≡ rest = is ∙ sym a.0 in
     let unknown : (more : List ℕ) → next_of (rest ++ more) ≡ Unknown = subst (λ (l : List ℕ). (more : List ℕ) → next_of (l ++ more) ≡ Unknown) same h in
     (a.2, none-malformed rest unknown, malformed-always rest behind unknown))
@@ -231,25 +233,25 @@ ends-malformed : (bytes : List ℕ) (left : Option (List ℕ)) → next_of bytes
 ends-malformed bytes None h e = tt
 ends-malformed bytes (Some more) h e = ap (λ (l : List ℕ). next_of (bytes ++ l)) e ∙ ap next_of (append-nil bytes) ∙ h
 
-pub Ran-end : (result : Result Status RunFault) (before behind old new : Option (List ℕ)) (source ahead text : List ℕ) (offset calls : ℕ) → Told before behind old new source (At ahead text offset calls) → IsAtEnd behind → next_of ahead ≡ unfinished ahead → (ahead ≡ [] → result ≡ Ok (status_of text)) → (ahead ≢ [] → result ≡ Err (Script offset)) → Ran result before behind old new source
-Ran-end result before behind old new source [] text offset calls t e short ok err = rw (ok refl) (Told-ends before behind old new source (At [] text offset calls) _ t (λ read rest last a. (a.0, e, ap status_of (sym a.1))))
-Ran-end result before behind old new source (b ∷ bytes) text offset calls t e short ok err =
-    rw (err (λ x. cc)) (Told-ends before behind old new source (At (b ∷ bytes) text offset calls) _ t (λ read rest last a.
+pub Ran-end : (result : Result Status RunFault) (before behind old new : Option (List ℕ)) (first : Version) (ahead : List ℕ) (version : Version) (offset calls : ℕ) → Told before behind old new first (At ahead version offset calls) → IsAtEnd behind → next_of ahead ≡ unfinished ahead → (ahead ≡ [] → result ≡ Ok (status_of version.text)) → (ahead ≢ [] → result ≡ Err (Script offset)) → Ran result before behind old new first
+Ran-end result before behind old new first [] version offset calls t e short ok err = rw (ok refl) (Told-ends before behind old new first (At [] version offset calls) _ t (λ read rest last a. (a.0, e, ap (λ (v : Version). status_of v.text) (sym a.1))))
+Ran-end result before behind old new first (b ∷ bytes) version offset calls t e short ok err =
+    rw (err (λ x. cc)) (Told-ends before behind old new first (At (b ∷ bytes) version offset calls) _ t (λ read rest last a.
     let unknown : next_of rest ≡ Unknown = ap next_of a.0 ∙ short in
     (a.2, subst HoldsNone (sym a.0) (none-unfinished (b ∷ bytes) short), ends-malformed rest behind unknown e)))
 
 -- no more bytes can be read
-pub Ran-read : (fault : ReadFault) (result : Result Status RunFault) (before behind old new : Option (List ℕ)) (source ahead text : List ℕ) (offset calls : ℕ) → result ≡ Err (fault_of_read fault) → Told before behind old new source (At ahead text offset calls) → next_of ahead ≡ unfinished ahead → (fault ≡ reading.TooManyTurns → 16777216 ≤ calls) → Ran result before behind old new source
-Ran-read reading.Read result before behind old new source ahead text offset calls is t short many = rw is (Told-ends before behind old new source (At ahead text offset calls) _ t (λ read rest last a. subst HoldsNone (sym a.0) (none-unfinished ahead short)))
-Ran-read reading.Memory result before behind old new source ahead text offset calls is t short many = rw is (Told-ends before behind old new source (At ahead text offset calls) _ t (λ read rest last a. subst HoldsNone (sym a.0) (none-unfinished ahead short)))
-Ran-read reading.TooManyTurns result before behind old new source ahead text offset calls is t short many =
+pub Ran-read : (fault : ReadFault) (result : Result Status RunFault) (before behind old new : Option (List ℕ)) (first : Version) (ahead : List ℕ) (version : Version) (offset calls : ℕ) → result ≡ Err (fault_of_read fault) → Told before behind old new first (At ahead version offset calls) → next_of ahead ≡ unfinished ahead → (fault ≡ reading.TooManyTurns → 16777216 ≤ calls) → Ran result before behind old new first
+Ran-read reading.Read result before behind old new first ahead version offset calls is t short many = rw is (Told-ends before behind old new first (At ahead version offset calls) _ t (λ read rest last a. subst HoldsNone (sym a.0) (none-unfinished ahead short)))
+Ran-read reading.Memory result before behind old new first ahead version offset calls is t short many = rw is (Told-ends before behind old new first (At ahead version offset calls) _ t (λ read rest last a. subst HoldsNone (sym a.0) (none-unfinished ahead short)))
+Ran-read reading.TooManyTurns result before behind old new first ahead version offset calls is t short many =
     let lots : 16777216 ≤ calls = many refl in
-    rw is (Told-ends before behind old new source (At ahead text offset calls) _ t (λ read rest last a. (subst HoldsNone (sym a.0) (none-unfinished ahead short), omega (arith, a.4))))
+    rw is (Told-ends before behind old new first (At ahead version offset calls) _ t (λ read rest last a. (subst HoldsNone (sym a.0) (none-unfinished ahead short), omega (arith, a.4))))
 
 -- no session could begin
-pub Ran-nothing : (fault : RunFault) (result : Result Status RunFault) (script out : Option (List ℕ)) (source : List ℕ) → result ≡ Err fault → NoStart source fault → Ran result script script out out source
+pub Ran-nothing : (fault : RunFault) (result : Result Status RunFault) (script out : Option (List ℕ)) (source : List ℕ) → result ≡ Err fault → NoStart source fault → Ran result script script out out (first_version source)
 Ran-nothing Source result script out source is h = rw is (Keeps-same script, Keeps-same out, h)
-Ran-nothing Memory result script out source is h = rw is (Told-ends script script out out source (At [] source 0 0) _ (Told-start script out source [] 0 refl refl) (λ read rest last a. subst HoldsNone (sym a.0) (none-unfinished [] refl)))
+Ran-nothing Memory result script out source is h = rw is (Told-ends script script out out (first_version source) (At [] (first_version source) 0 0) _ (Told-start script out (first_version source) [] 0 refl refl) (λ read rest last a. subst HoldsNone (sym a.0) (none-unfinished [] refl)))
 Ran-nothing Read result script out source is h = absurd h
 Ran-nothing Write result script out source is h = absurd h
 Ran-nothing (Script at) result script out source is h = absurd h

@@ -4,6 +4,7 @@ use Rattle.std.specs.Char.{digit_char}
 use Rattle.std.specs.List.{concat}
 use Rattle.snl_session.specs.declared.edits.Refused.{Refused}
 use Rattle.snl_session.specs.declared.edits.Refused.TheVariants.{Range, Size, Memory}
+use Rattle.snl_session.specs.declared.edits.Work.{Work}
 use Rattle.snl_session.specs.declared.findings.Diagnostic.{Diagnostic}
 use Rattle.snl_session.specs.Listing.{listing_text}
 use Rattle.snl_session.specs.Diagnostics.{diagnostics_of, errors_of, message_of, name_of, warnings_of}
@@ -61,3 +62,7 @@ edit_text (Some refused) = refusal_text refused
 abbrev pub list_text : (text : List ℕ) → (starved : Bool) → List ℕ
 list_text text true = codes "refused memory\n"
 list_text text false = listing_text text ++ codes "end\n"
+
+-- The answer to `work`: `work lexed L parsed P checked C`.
+abbrev pub work_text : Work → List ℕ
+work_text work = concat (codes "work lexed " ∷ decimal work.lexed ∷ codes " parsed " ∷ decimal work.parsed ∷ codes " checked " ∷ decimal work.checked ∷ codes "\n" ∷ [])

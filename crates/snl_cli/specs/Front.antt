@@ -1,16 +1,17 @@
 -- What is known of a command by the bytes that are there.
 use Rattle.std.specs.Prelude.{◌≡◌, ℕ, ◌+◌, ◌-◌, ◌≤◌, List, [], ◌∷◌, ◌++◌, length, drop, Option, Some, None}
 use Rattle.snl_cli.specs.declared.script.Command.{Command}
-use Rattle.snl_cli.specs.declared.script.Command.TheVariants.{Check, List as Listing, Edit}
+use Rattle.snl_cli.specs.declared.script.Command.TheVariants.{Check, List as Listing, Work, Edit}
 use Rattle.snl_cli.specs.declared.script.Front.{Front}
 use Rattle.snl_cli.specs.declared.script.Front.TheVariants.{Short, Malformed, Whole}
 use denote.Ref.{Bor}
-use Rattle.snl_cli.specs.Script.{Request, Checks, Lists, Edits, Next, Ends, Unknown, Then, next_of, words_of}
+use Rattle.snl_cli.specs.Script.{Request, Checks, Lists, Works, Edits, Next, Ends, Unknown, Then, next_of, words_of}
 
 -- The command, with its bytes.
 abbrev pub request_of : Command → Request
 request_of Check = Checks
 request_of Listing = Lists
+request_of Work = Works
 request_of (Edit start stop new) = Edits start stop new.now
 
 -- What bytes are that end before a command does.

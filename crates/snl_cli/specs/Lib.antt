@@ -10,4 +10,5 @@ pub mod Said
 pub mod SaidLaws
 pub mod Script
 pub mod Transcript
+pub mod Version
 pub mod Watched

@@ -4,51 +4,52 @@ use Rattle.std.specs.Bool.{OnTrue}
 use Rattle.std.specs.Io.KnownBytes.{Appends, Consumes, IsAtEnd, Keeps, prepend_known}
 use Rattle.snl_session.specs.declared.edits.Refused.{Refused}
 use Rattle.snl_session.specs.declared.edits.Refused.TheVariants as refused
-use Rattle.snl_session.specs.Edit.{limit, refusal_of, spliced}
+use Rattle.snl_session.specs.Edit.{limit, refusal_of}
 use Rattle.snl_cli.specs.declared.faults.RunFault.{RunFault}
 use Rattle.snl_cli.specs.declared.faults.RunFault.TheVariants.{Read, Write, Script, Memory, TooManyTurns, Source}
 use Rattle.snl_cli.specs.declared.faults.Status.{Status}
 use Rattle.snl_cli.specs.Said.{AppendsPart, Written}
 use Rattle.snl_cli.specs.Script.{Request, Unknown, next_of}
-use Rattle.snl_cli.specs.Transcript.{Begins, HoldsNone, IsFair, MayStarve, Turn, after, edited, refused_for, reply, status_of, text_after, transcript}
+use Rattle.snl_cli.specs.Transcript.{Begins, HoldsNone, IsFair, MayStarve, Turn, after, edited, refused_for, reply, status_of, transcript, version_after}
+use Rattle.snl_cli.specs.Version.{Version, next_version}
 
--- The bytes that were read are some commands and a rest, and the transcript of these commands was written.
-pub record Told (before behind old new : Option (List ℕ)) (source : List ℕ) (Ends : (read rest text : List ℕ) → Type 0) : Type 0 where
+-- The bytes that were read are some commands and a rest, and the transcript of these commands was written, from this first version on.
+pub record Told (before behind old new : Option (List ℕ)) (first : Version) (Ends : (read rest : List ℕ) (last : Version) → Type 0) : Type 0 where
   pub read : List ℕ
   pub turns : List Turn
   pub rest : List ℕ
   pub is_read : Consumes before behind read
   pub begins : Begins read turns rest
-  pub fair : IsFair source turns
-  pub written : Appends old new (transcript source turns)
-  pub ends : Ends read rest (text_after source turns)
+  pub fair : IsFair first turns
+  pub written : Appends old new (transcript first turns)
+  pub ends : Ends read rest (version_after first turns)
 
 -- The bytes that were read are some commands and a rest, and a front of the transcript of these commands was written.
-pub record ToldPart (before behind old new : Option (List ℕ)) (source : List ℕ) : Type 0 where
+pub record ToldPart (before behind old new : Option (List ℕ)) (first : Version) : Type 0 where
   pub read : List ℕ
   pub turns : List Turn
   pub rest : List ℕ
   pub is_read : Consumes before behind read
   pub begins : Begins read turns rest
-  pub fair : IsFair source turns
-  pub written : AppendsPart old new (transcript source turns)
+  pub fair : IsFair first turns
+  pub written : AppendsPart old new (transcript first turns)
 
 -- The script neither ends behind these bytes nor has a well-formed command there, whatever is left of it.
 abbrev pub IsMalformed : (rest : List ℕ) → (left : Option (List ℕ)) → Type 0
 IsMalformed rest left = IfSome (prepend_known rest left) (λ bytes. next_of bytes ≡ Unknown)
 
--- What is known of a run over a source, by its end: what is left of the script, and what the writer holds.
+-- What is known of a run from a version on, by its end: what is left of the script, and what the writer holds.
 --   the script is whole commands and nothing else, and the status is that of the last text;
 --   at a fault of the script, of reading, of memory and of too many reads, the commands are all that stand whole among the bytes read;
 --   at a fault of writing a front of the transcript was written, and where the source is too large, nothing was read or written.
-abbrev pub Ran : Result Status RunFault → (before behind old new : Option (List ℕ)) → (source : List ℕ) → Type 0
-Ran (Ok status) before behind old new source = Told before behind old new source (λ read rest text. (rest ≡ []) × IsAtEnd behind × (status ≡ status_of text))
-Ran (Err (Script at)) before behind old new source = Told before behind old new source (λ read rest text. (at + length rest ≡ length read) × HoldsNone rest × IsMalformed rest behind)
-Ran (Err Read) before behind old new source = Told before behind old new source (λ read rest text. HoldsNone rest)
-Ran (Err Memory) before behind old new source = Told before behind old new source (λ read rest text. HoldsNone rest)
-Ran (Err TooManyTurns) before behind old new source = Told before behind old new source (λ read rest text. HoldsNone rest × (16777216 ≤ length read))
-Ran (Err Write) before behind old new source = ToldPart before behind old new source
-Ran (Err Source) before behind old new source = Keeps before behind × Keeps old new × (limit < length source)
+abbrev pub Ran : Result Status RunFault → (before behind old new : Option (List ℕ)) → (first : Version) → Type 0
+Ran (Ok status) before behind old new first = Told before behind old new first (λ read rest last. (rest ≡ []) × IsAtEnd behind × (status ≡ status_of last.text))
+Ran (Err (Script at)) before behind old new first = Told before behind old new first (λ read rest last. (at + length rest ≡ length read) × HoldsNone rest × IsMalformed rest behind)
+Ran (Err Read) before behind old new first = Told before behind old new first (λ read rest last. HoldsNone rest)
+Ran (Err Memory) before behind old new first = Told before behind old new first (λ read rest last. HoldsNone rest)
+Ran (Err TooManyTurns) before behind old new first = Told before behind old new first (λ read rest last. HoldsNone rest × (16777216 ≤ length read))
+Ran (Err Write) before behind old new first = ToldPart before behind old new first
+Ran (Err Source) before behind old new first = Keeps before behind × Keeps old new × (limit < length first.text)
 
 abbrev pub is_read_fault : Result Status RunFault → Bool
 is_read_fault (Err Read) = true
@@ -58,19 +59,19 @@ abbrev pub is_write_fault : Result Status RunFault → Bool
 is_write_fault (Err Write) = true
 is_write_fault _ = false
 
--- A command was carried out on a text, and its answer written as far as the writer took it.
-pub record Answered {T E : Type 0} (result : Result T E) (text next : List ℕ) (request : Request) (old new : Option (List ℕ)) : Type 0 where
+-- A command was carried out on a version, and its answer written as far as the writer took it.
+pub record Answered {T E : Type 0} (result : Result T E) (version next : Version) (request : Request) (old new : Option (List ℕ)) : Type 0 where
   pub starved : Bool
-  pub fair : OnTrue starved (MayStarve text request)
-  pub text_is : next ≡ after text request starved
-  pub written : Written result old new (reply text request starved)
+  pub fair : OnTrue starved (MayStarve version.text request)
+  pub next_is : next ≡ after version request starved
+  pub written : Written result old new (reply version request starved)
 
 -- An edit was made, or refused and nothing changed.
-pub record IsEdited (old new : List ℕ) (start stop : ℕ) (added : List ℕ) (refused : Option Refused) : Type 0 where
+pub record IsEdited (old new : Version) (start stop : ℕ) (added : List ℕ) (refused : Option Refused) : Type 0 where
   pub starved : Bool
-  pub fair : OnTrue starved (refusal_of old start stop (length added) ≡ None)
-  pub refused_is : refused ≡ refused_for old start stop added starved
-  pub text_is : new ≡ edited refused old (spliced old start stop added)
+  pub fair : OnTrue starved (refusal_of old.text start stop (length added) ≡ None)
+  pub refused_is : refused ≡ refused_for old.text start stop added starved
+  pub version_is : new ≡ edited refused old (next_version old.text start stop added)
 
 -- Why a run cannot begin whose source was refused.
 abbrev pub start_fault : Refused → RunFault

@@ -5,12 +5,13 @@ use Rattle.std.specs.List.{list_all, slice_split}
 use Rattle.std.specs.Str.{bytes_eq}
 use Rattle.std.specs.Str.Parse.{digits_value}
 use Rattle.snl_cli.specs.declared.script.Heading.{Heading}
-use Rattle.snl_cli.specs.declared.script.Heading.TheVariants.{Check, List as Listing, Edit}
+use Rattle.snl_cli.specs.declared.script.Heading.TheVariants.{Check, List as Listing, Work, Edit}
 
 -- A command, with the bytes that an edit puts in.
 pub data Request : Type 0 where
   Checks : Request
   Lists : Request
+  Works : Request
   Edits : (start stop : ℕ) (new : List ℕ) → Request
 
 -- What the bytes of a script begin with: there are none, or no well-formed command stands whole at their front, or a command and what is behind it.
@@ -52,6 +53,7 @@ heading_of [] = None
 heading_of (word ∷ words) =
     if bytes_eq word (codes "check") then lone Check words
     else if bytes_eq word (codes "list") then lone Listing words
+    else if bytes_eq word (codes "work") then lone Work words
     else if bytes_eq word (codes "edit") then edit_of words
     else None
 
@@ -65,6 +67,7 @@ abbrev pub headed : Option Heading → List ℕ → Next
 headed None behind = Unknown
 headed (Some Check) behind = Then Checks behind
 headed (Some Listing) behind = Then Lists behind
+headed (Some Work) behind = Then Works behind
 headed (Some (Edit start stop len)) behind = closed (Edits start stop (take len behind)) (drop len behind)
 
 -- A command's line has at most 80 bytes without its LF.

@@ -1,18 +1,18 @@
 //! The answers to commands, as bytes.
-//! In: a session, or what became of an edit. Out: the answer's bytes, said to a page and its writer.
+//! In: a session, what became of an edit, or what it cost. Out: the answer's bytes, said to a page and its writer.
 //! Takes no memory. Knows nothing of scripts.
 #![tactic(auto)]
 
 ghost use Rattle.std.specs.Prelude.{◌≡◌, ℕ, ◌+◌, ◌==◌, ◌<◌, ◌||◌, [], ◌++◌, List, length, take, flat_map, is_err, OnOk};
 ghost use Rattle.std.specs.Char.{digit_char};
-ghost use Rattle.snl_cli.specs.Answers.{edit_text, escaped, file_text, finding_text, line_text, name_text, part_of, quoted, report_of, sum_text};
+ghost use Rattle.snl_cli.specs.Answers.{edit_text, escaped, file_text, finding_text, line_text, name_text, part_of, quoted, report_of, sum_text, work_text};
 ghost use Rattle.snl_cli.specs.Said.{Said, Written};
 ghost use Rattle.snl_cli.specs.Watched.{failed_of, inner_of};
 
 use crate::page::{Page, WriteFault, write_out};
 use crate::watched::Watched;
 use itoa::Buffer;
-use snl_session::{Diagnostic, Refused, Session};
+use snl_session::{Diagnostic, Refused, Session, Work};
 use std::io::Write;
 
 /// So many bytes of a text from an offset on, or those that there are.
@@ -193,4 +193,37 @@ pub fn tell_edit<W: Write>(out: &mut Watched<W>, refused: Option<Refused>) -> Re
         Some(Refused::Size) => write_out(out, b"refused size\n"),
         Some(Refused::Memory) => write_out(out, b"refused memory\n"),
     }
+}
+
+/// Says what an edit cost.
+fn put_work<W: Write>(page: &mut Page, out: &mut Watched<W>, work: Work) -> Result<(), WriteFault>
+    ensures said { Said result (W.contents (inner_of out.old)) (W.contents (inner_of out.new)) page.new (page.old ++ work_text work) }
+    ensures failed { failed_of out.new ≡ (failed_of out.old || is_err result) }
+{
+    let (mut first, mut second, mut third) = (Buffer::new(), Buffer::new(), Buffer::new());
+    let lexed = first.format(work.lexed).as_bytes();
+    let parsed = second.format(work.parsed).as_bytes();
+    let checked = third.format(work.checked).as_bytes();
+    page.put_all(
+        out,
+        &[
+            b"work lexed ",
+            lexed,
+            b" parsed ",
+            parsed,
+            b" checked ",
+            checked,
+            b"\n",
+        ],
+    )
+}
+
+/// Writes what an edit cost.
+pub fn tell_work<W: Write>(out: &mut Watched<W>, work: Work) -> Result<(), WriteFault>
+    ensures written { Written result (W.contents (inner_of out.old)) (W.contents (inner_of out.new)) (work_text work) }
+    ensures failed { failed_of out.new ≡ (failed_of out.old || is_err result) }
+{
+    let mut page = Page::new();
+    put_work(&mut page, out, work)?;
+    page.finish(out)
 }

@@ -1,12 +1,16 @@
 //! The script engine and the program: the script comes on standard input, the answers go to standard output.
-//! `watched` counts calls, `file` reads the source, `ahead` the script, `script` tells commands, `answers` and `page` write, `run` joins them.
+//! `watched` counts calls, `file` reads the source, `ahead` the script, `script` tells commands, `document` is edited, `answers` and `page` write,
+//! and `run` joins them.
 //! The program's status is 0 where the last text has no errors, 1 where it has some, and 2 at a fault, which it names on standard error.
 #![tactic(auto)]
 
 pub mod ahead;
 pub mod answers;
+pub mod document;
 #[cfg(test)]
 mod fakes;
+#[cfg(test)]
+mod fault_tests;
 pub mod faults;
 pub mod file;
 #[cfg(test)]

@@ -20,6 +20,8 @@ const CHECK: &[u8] = b"check";
 
 const LIST: &[u8] = b"list";
 
+const WORK: &[u8] = b"work";
+
 const EDIT: &[u8] = b"edit";
 
 /// What a command's line says.
@@ -27,6 +29,7 @@ const EDIT: &[u8] = b"edit";
 pub enum Heading {
     Check,
     List,
+    Work,
     /// `len` bytes and an LF follow the line.
     Edit {
         start: usize,
@@ -42,6 +45,8 @@ pub enum Command<'a> {
     Check,
     /// Say the listing.
     List,
+    /// Say what the last edit that was made cost.
+    Work,
     /// The bytes from `start` up to `stop` become `new`.
     Edit {
         start: usize,
@@ -126,6 +131,9 @@ fn heading_in(line: &[u8]) -> Option<Heading>
     if word == LIST {
         return lone(Heading::List, words);
     }
+    if word == WORK {
+        return lone(Heading::Work, words);
+    }
     if word == EDIT { edit_in(words?) } else { None }
 }
 
@@ -153,6 +161,10 @@ fn front_behind(heading: Option<Heading>, line: usize, behind: &[u8]) -> Front<'
         },
         Some(Heading::List) => Front::Whole {
             command: Command::List,
+            length: line,
+        },
+        Some(Heading::Work) => Front::Whole {
+            command: Command::Work,
             length: line,
         },
         Some(Heading::Edit { start, stop, len }) => match behind.get(len) {

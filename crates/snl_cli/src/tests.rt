@@ -1,5 +1,5 @@
 //! Runs of scripts: what they write and how they end.
-//! In: scripts, from readers that give few bytes a call and fail. Out: the answers, to writers that take few and fail.
+//! In: scripts, from readers that give few bytes a call. Out: the answers.
 
 use crate::fakes::{Asking, Endless, Failure, Pieces, Takes, Telling};
 use crate::faults::{RunFault, Status};
@@ -11,7 +11,7 @@ use std::process::Abort;
 use std::test::Fail;
 
 /// More calls than any script here takes.
-const MANY: u64 = 10_000_000;
+pub const MANY: u64 = 10_000_000;
 
 /// One state, whose target is none.
 const FIRST: &[u8] = b"edit 0 0 50\nprogram p ss a { state i { when () { } state j } }\ncheck\n";
@@ -22,7 +22,8 @@ const FIRST_SAID: &[u8] = b"ok\n1: E10 unknown state 'j'\nerrors 1 warnings 0\n"
 const EMPTY_SAID: &[u8] =
     b"1: E05 one program header is required\n1: E06 state set or state is missing\nerrors 2 warnings 0\n";
 
-fn expect_run(
+/// Runs a script that is read in pieces of a few thousand bytes.
+pub fn expect_run(
     rt: &(impl Abort + AllocGlobal),
     script: &[u8],
     end: Result<Status, RunFault>,
@@ -62,7 +63,7 @@ fn goes_on_after_a_refused_edit(rt: HostRuntime) {
 }
 
 // Scripts with a place where no command is: its offset, and what was written before.
-static NO_COMMANDS: [(&[u8], usize, &[u8]); 18] = [
+static NO_COMMANDS: [(&[u8], usize, &[u8]); 22] = [
     (b"edit 0 0 10\nabcdef", 0, b""),
     (b"check\nedit 0 0 5\nab", 6, EMPTY_SAID),
     (b"check", 0, b""),
@@ -72,7 +73,11 @@ static NO_COMMANDS: [(&[u8], usize, &[u8]); 18] = [
     (b"\n", 0, b""),
     (b"list", 0, b""),
     (b"lists\n", 0, b""),
-    (b"work\n", 0, b""),
+    (b"work", 0, b""),
+    (b"work \n", 0, b""),
+    (b"work 1\n", 0, b""),
+    (b"works\n", 0, b""),
+    (b"Work\n", 0, b""),
     (b"edit 0 0\n\n", 0, b""),
     (b"edit 0 0 0 \n\n", 0, b""),
     (b"edit 0  0 0\n\n", 0, b""),
@@ -96,17 +101,28 @@ fn breaks_off_where_no_command_is(rt: HostRuntime) {
 }
 
 // Scripts of one command that is one just about, with its answer.
-static JUST_COMMANDS: [(&[u8], &[u8]); 3] = [
+static JUST_COMMANDS: [(&[u8], &[u8]); 4] = [
     (b"edit 0000000000000000000 0 0\n\n", b"ok\n"),
     (b"edit 9999999999999999999 0 0\n\n", b"refused range\n"),
     (b"list\n", b"program -\nend\n"),
+    (b"work\n", b"work lexed 0 parsed 0 checked 0\n"),
 ];
 
 #[test]
-fn takes_numbers_of_19_digits_and_lists(rt: HostRuntime) {
+fn takes_numbers_of_19_digits_and_lone_words(rt: HostRuntime) {
     for (script, said) in &JUST_COMMANDS {
         expect_run(&rt, script, Ok(Status::Errors), said);
     }
+}
+
+#[test]
+fn tells_what_the_last_edit_that_was_made_cost(rt: HostRuntime) {
+    expect_run(
+        &rt,
+        b"edit 0 0 1\n \nwork\nedit 0 9 0\n\nwork\nedit 1 1 5\n/*c*/\nwork\nwork\n",
+        Ok(Status::Errors),
+        b"ok\nwork lexed 1 parsed 0 checked 0\nrefused range\nwork lexed 1 parsed 0 checked 0\nok\nwork lexed 2 parsed 0 checked 0\nwork lexed 2 parsed 0 checked 0\n",
+    );
 }
 
 #[test]
@@ -115,7 +131,10 @@ fn refuses_what_is_too_large(rt: HostRuntime) -> Result<(), Fail> {
     script.resize(2_097_169, b' ')?;
     script.push(b'\n')?;
     expect_run(&rt, &script, Ok(Status::Errors), b"refused size\n");
-    expect_run(&rt, b"edit 0 0 2097153\n", Err(RunFault::Script(0)), b"");
+    let mut script = Vec::from_slice(rt.alloc(), b"edit 0 0 2097153\n")?;
+    script.resize(2_097_170, b' ')?;
+    script.push(b'\n')?;
+    expect_run(&rt, &script, Err(RunFault::Script(0)), b"");
     let source = vec![in rt.alloc(); b' '; 1_048_577]?;
     let mut empty = Watched::new(Pieces::new(b"", 1, MANY));
     let mut out = Watched::new(Vec::new(rt.alloc()));
@@ -153,53 +172,6 @@ fn reads_in_any_pieces(rt: HostRuntime) {
         );
         assert!(rt; !script.failed() && !out.failed());
         assert_eq!(rt; out.inner().as_slice(), FIRST_SAID, "in pieces of {most}");
-    }
-}
-
-/// What the whole commands among so many bytes of the first script are answered.
-fn said_by(read: u64) -> &'static [u8] {
-    if read < 63 {
-        b""
-    } else if read < 69 {
-        b"ok\n"
-    } else {
-        FIRST_SAID
-    }
-}
-
-#[test]
-fn breaks_off_where_a_read_fails(rt: HostRuntime) {
-    for calls in 0..70 {
-        let mut script = Watched::new(Pieces::new(FIRST, 1, calls));
-        let mut out = Watched::new(Vec::new(rt.alloc()));
-        assert_eq!(rt;
-            run(rt.alloc(), b"", &mut script, &mut out),
-            Err(RunFault::Read)
-        );
-        assert!(rt; script.failed() && !out.failed());
-        assert_eq!(rt; script.calls(), calls + 1);
-        assert_eq!(rt; out.inner().as_slice(), said_by(calls));
-    }
-}
-
-fn expect_write_fault(rt: &(impl Abort + AllocGlobal), calls: u64, failure: Failure) {
-    let mut script = Watched::new(Pieces::new(FIRST, 5, MANY));
-    let taken = Takes::new(Vec::new(rt.alloc()), 1, calls, failure);
-    let mut out = Watched::new(taken);
-    assert_eq!(rt;
-        run(rt.alloc(), b"", &mut script, &mut out),
-        Err(RunFault::Write)
-    );
-    assert!(rt; out.failed() && !script.failed());
-    assert_eq!(rt; out.calls(), calls.saturating_add(1));
-    assert!(rt; FIRST_SAID.starts_with(out.inner().taken()));
-}
-
-#[test]
-fn breaks_off_where_a_write_fails(rt: HostRuntime) {
-    for calls in 0..48 {
-        expect_write_fault(&rt, calls, Failure::Error);
-        expect_write_fault(&rt, calls, Failure::TakesNothing);
     }
 }
 

@@ -1,6 +1,6 @@
 -- What an edit of a text makes of its items.
-use Rattle.std.proofs.Common.{◌≡◌, ℕ, suc, ◌+◌, ◌-◌, ◌≤◌, Bool, true, false, List, [], ◌∷◌, ◌++◌, length, map, take, drop, if◌then◌else◌, refl, sym, ap, ap₂, ◌∙◌, subst, arith}
-use Rattle.std.proofs.lemmas.List.{append-nil, drop_all, take_all}
+use Rattle.std.proofs.Common.{◌≡◌, ℕ, suc, ◌+◌, ◌-◌, ◌≤◌, Bool, true, false, List, [], ◌∷◌, ◌++◌, length, map, take, drop, if◌then◌else◌, inl, inr, refl, sym, ap, ap₂, ◌∙◌, subst, arith, length-drop}
+use Rattle.std.proofs.lemmas.List.{append-nil, drop_all, length-take-le, take_all}
 use Rattle.snl_cut.specs.Cut.{IsRecut, ends_of, fresh_ends, joined, last_end, members, moved}
 use Rattle.snl_lex.specs.declared.piece.Class.{Class}
 use Rattle.snl_lex.specs.Pieces.{tokens_of}
@@ -42,16 +42,35 @@ module _ (old text : List ℕ) (start b c : ℕ) (edit : TokenEdit) (made_tokens
     middle =
         (alike_Decides (take (edit.old_stop - edit.start) (drop edit.start (spellings old))) (take (edit.new_stop - edit.start) (drop edit.start (spellings text)))).0 (sym is.same_is ∙ alike)
 
-    same_spellings : spellings text ≡ spellings old
+    -- as many as before
+    as_many : edit.old_stop ≡ edit.new_stop
+    as_many =
+        omega (
+          arith,
+          is.of_spellings.old_order,
+          is.of_spellings.new_order,
+          is.of_spellings.old_inside,
+          is.of_spellings.new_inside,
+          ap length middle,
+          length-take-le (edit.old_stop - edit.start) (drop edit.start (spellings old)) (omega (arith, is.of_spellings.old_inside, length-drop edit.start (spellings old))),
+          length-take-le (edit.new_stop - edit.start) (drop edit.start (spellings text)) (omega (arith, is.of_spellings.new_inside, length-drop edit.start (spellings text))),
+        )
+
+    pub same_spellings : spellings text ≡ spellings old
     same_spellings =
         in_parts (spellings text) edit.start edit.new_stop is.of_spellings.new_order
         ∙ ap₂ (λ (x y : List (Class × List ℕ)). x ++ y) (sym is.of_spellings.before) (ap₂ (λ (x y : List (Class × List ℕ)). x ++ y) (sym middle) (sym is.of_spellings.behind))
         ∙ sym (in_parts (spellings old) edit.start edit.old_stop is.of_spellings.old_order)
 
+    -- so no item is fresh
+    pub none_fresh : fresh_items_between old text start b c ≡ []
+    none_fresh =
+        sym (ap (λ (u : Bool). let l : List ℕ = if u then [] else fresh_ends item (marks_of old) (marks_of text) edit.start edit.old_stop edit.new_stop in l) (sym alike) ∙ fresh_by old text start b c edit t is.edit_is is.same_is)
+
     same_marks : marks_of text ≡ marks_of old
     same_marks = marks_by text (tokens_of text) ∙ ap (map mark_by) same_spellings ∙ sym (marks_by old (tokens_of old))
 
-    same_ends : item_ends text ≡ item_ends old
+    pub same_ends : item_ends text ≡ item_ends old
     same_ends = ap (ends_of item) same_marks
 
     none_moved : (ends : List ℕ) (n : ℕ) → length ends ≤ n → moved edit.old_stop edit.new_stop (drop (n - 0) ends) ≡ []
@@ -65,11 +84,15 @@ module _ (old text : List ℕ) (start b c : ℕ) (edit : TokenEdit) (made_tokens
         let whole : take (length ends - 0) ends ≡ ends = take_all (length ends - 0) ends (omega arith) in
         record {
           order = omega arith;
-          fresh = ap (λ (u : Bool). let l : List ℕ = if u then [] else fresh_ends item (marks_of old) (marks_of text) edit.start edit.old_stop edit.new_stop in l) (sym alike) ∙ fresh_by old text start b c edit t is.edit_is is.same_is;
+          before = inr (many, refl);
+          fresh = sym none_fresh;
           ends = same_ends ∙ sym (ap₂ (λ (x y : List ℕ). (x ++ []) ++ y) (take_all n ends (omega arith)) (none_moved ends (length ends) (omega arith)) ∙ append-nil (ends ++ []) ∙ append-nil ends);
           items = ap₂ (λ (s : List (Class × List ℕ)) (es : List ℕ). members s 0 es) same_spellings same_ends
               ∙ sym (ap₂ (λ (x y : List (List (Class × List ℕ))). x ++ y) (take_all n olds (omega arith)) (drop_all (length ends - 0) olds (omega arith)) ∙ append-nil olds);
           after = omega (arith, ap (last_end 0) whole, last, is.of_marks.old_inside);
+          led =
+              let first : last_end 0 (take n ends ++ []) ≡ last_end 0 ends = ap (last_end 0) (append-nil (take n ends) ∙ take_all n ends (omega arith)) in
+              omega (arith, first, ap (last_end 0) whole, last, is.of_marks.old_inside, as_many);
         }
 
   -- Else they are cut again.
@@ -83,8 +106,10 @@ module _ (old text : List ℕ) (start b c : ℕ) (edit : TokenEdit) (made_tokens
         let place : ℕ = (recut.meet - edit.new_stop) + edit.old_stop in
         record {
           order = omega (arith, recut.kept, recut.kept_back, below_more edit.start (suc place) (item_ends old) (omega (arith, is.of_marks.old_order)));
+          before = inl recut.kept;
           fresh = made_is ∙ ap (λ (u : Bool). let l : List ℕ = if u then [] else fresh_ends item (marks_of old) (marks_of text) edit.start edit.old_stop edit.new_stop in l) (sym other) ∙ fresh_by old text start b c edit t is.edit_is is.same_is;
           ends = sym joined_is;
           items = items_are;
           after = omega (arith, recut.from);
+          led = omega (arith, recut.led, recut.from, recut.meets.behind);
         }

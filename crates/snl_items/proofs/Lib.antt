@@ -5,3 +5,5 @@ pub mod TokenParts
 pub mod TokenPlaces
 pub mod EndPlaces
 pub mod ItemParts
+pub mod OwnParts
+mod ShiftedTokens

@@ -58,7 +58,7 @@ module _ (old text : List ℕ) (start b c front : ℕ) (made : List Piece) (back
   ordered : front ≤ kept_count
   ordered = omega (arith, is.order)
 
-  old_tokens : tokens_of old ≡ at_front ++ (replaced ++ at_back)
+  pub old_tokens : tokens_of old ≡ at_front ++ (replaced ++ at_back)
   old_tokens = ap (filter is_token) (in_parts (pieces_of old) front kept_count ordered) ∙ filter_three (take front (pieces_of old)) (pieces_between (pieces_of old) front kept_count) (last_pieces old back)
 
   made_tokens : tokens_of text ≡ at_front ++ (fresh ++ filter is_token (map (moved_piece b c) (last_pieces old back)))
@@ -66,7 +66,7 @@ module _ (old text : List ℕ) (start b c front : ℕ) (made : List Piece) (back
       ap (filter is_token) (is.pieces ∙ append_assoc (take front (pieces_of old)) made (map (moved_piece b c) (last_pieces old back)))
       ∙ filter_three (take front (pieces_of old)) made (map (moved_piece b c) (last_pieces old back))
 
-  new_tokens : tokens_of text ≡ at_front ++ (fresh ++ map (moved_piece b c) at_back)
+  pub new_tokens : tokens_of text ≡ at_front ++ (fresh ++ map (moved_piece b c) at_back)
   new_tokens = made_tokens ∙ ap (λ (l : List Piece). at_front ++ (fresh ++ l)) (tokens_moved b c (last_pieces old back))
 
   old_spelled : spellings old ≡ spelled old at_front ++ (spelled old replaced ++ spelled old at_back)

@@ -12,7 +12,7 @@ use Rattle.snl_items.specs.Fresh.{beginning_before, ending_before, token_edit_be
 use Rattle.snl_items.proofs.Counts.{beginning, ending}
 
 -- Pieces up to one number, and from there up to another.
-tokens_upto : (ps : List Piece) (a b : ℕ) → a ≤ b → length (filter is_token (take b ps)) ≡ length (filter is_token (take a ps)) + length (filter is_token (pieces_between ps a b))
+pub tokens_upto : (ps : List Piece) (a b : ℕ) → a ≤ b → length (filter is_token (take b ps)) ≡ length (filter is_token (take a ps)) + length (filter is_token (pieces_between ps a b))
 tokens_upto ps a b le =
     let there : a + (b - a) ≡ b = omega arith in
     let parts : take b ps ≡ take a ps ++ pieces_between ps a b =

@@ -1,3 +1,4 @@
 pub mod Items
 pub mod Fresh
 pub mod Changes
+pub mod OwnTokens

@@ -6,9 +6,13 @@
 
 mod item_list;
 mod laws;
+mod own_tokens;
+mod shifted;
 mod spelled;
 mod tokens;
 
 pub use item_list::{ItemChange, ItemList};
-pub use laws::pieces_are_fresh;
+pub use laws::{pieces_are_fresh, tokens_around_stay};
+pub use own_tokens::{own_tokens_after, own_tokens_before};
+pub use shifted::Shifted;
 pub use tokens::{TokenChange, TokenEdit};

@@ -1,12 +1,13 @@
 //! What an edit of a text makes of its tokens.
 //! In: the list of the old pieces and what the edit makes of them. Out: which tokens are replaced, and by which.
 
-ghost use Rattle.snl_items.specs.Changes.{IsTokenChange};
+ghost use Rattle.snl_items.specs.Changes.{AreShifted, IsTokenChange};
 ghost use Rattle.snl_items.specs.Items.{mark_in};
 ghost use Rattle.snl_lex.specs.PieceList.{IsChange, is_token_class, piece_ends, piece_kinds};
 ghost use Rattle.snl_lex.specs.Pieces.{LiesIn};
-ghost use Rattle.std.specs.Prelude.{◌≡◌, All, IfOk, count_by, map};
+ghost use Rattle.std.specs.Prelude.{◌≡◌, All, IfOk, IfSome, count_by, map};
 
+use crate::shifted::{Shifted, shifted_from};
 use crate::spelled::are_spelled_alike;
 use snl_cut::{OutOfMemory, ends_in_order, meets_where_sought, one_cut};
 use snl_lex::{
@@ -25,13 +26,15 @@ pub struct TokenEdit {
 }
 
 /// What an edit of a text makes of its tokens: which are replaced, those that are made and their marks, and whether these are
-/// spelled as the replaced ones, so that nothing changes for the items.
+/// spelled as the replaced ones, so that nothing changes for the items; and whether moreover the edit leaves all tokens of the text
+/// at their places, or shifted.
 #[derive(Drop)]
 pub struct TokenChange {
     pub edit: TokenEdit,
     pub made: Vec<Piece>,
     pub marks: Vec<Mark>,
     pub same: bool,
+    pub shifted: Option<Shifted>,
 }
 
 // How many of the pieces of these classes are tokens.
@@ -70,9 +73,12 @@ impl TokenChange {
         requires ends { pieces.now.ends.items ≡ piece_ends edit.now.old.now }
         requires kinds { pieces.now.kinds.items ≡ piece_kinds edit.now.old.now }
         requires change { IsChange edit.now.old.now edit.now.text.now edit.now.start edit.now.old_stop edit.now.new_stop change.now.kept_front change.now.made.items change.now.kept_back change.now.kept_from change.now.list.ends.items change.now.list.kinds.items }
-        ensures { IfOk
+        ensures change { IfOk
             result
             (λ r. IsTokenChange edit.now.old.now edit.now.text.now edit.now.start edit.now.old_stop edit.now.new_stop r.edit r.made.items r.marks.items r.same) }
+        ensures shifted { IfOk
+            result
+            (λ r. IfSome r.shifted (λ t. AreShifted edit.now.old.now edit.now.text.now edit.now.start edit.now.old_stop edit.now.new_stop t.by t.before)) }
     {
         kept_as_spelled();
         meets_where_sought::<Bytes>();
@@ -85,8 +91,9 @@ impl TokenChange {
         let replaced = pieces.tokens_between(alloc, front, back)?;
         let made = tokens_among(alloc, &change.made)?;
         let marks = marks_of(alloc, edit.text, &made)?;
-        let same = are_spelled_alike(edit.old, &replaced, edit.text, &made);
+        let alike = are_spelled_alike(edit.old, &replaced, edit.text, &made);
         let start = count_tokens(&pieces.kinds[..front]);
+        let shifted = shifted_from(edit, alike, start, &replaced, &made);
         Ok(TokenChange {
             edit: TokenEdit {
                 start,
@@ -95,7 +102,8 @@ impl TokenChange {
             },
             made,
             marks,
-            same,
+            same: alike,
+            shifted,
         })
     }
 }

@@ -6,9 +6,8 @@ use Rattle.std.proofs.lemmas.Bool.Decides.{nat_tests}
 use Rattle.snl_lex.specs.declared.line_list.Marker.{Marker}
 use Rattle.snl_lex.specs.declared.lines.Line.{Line}
 use Rattle.snl_lex.specs.declared.piece.Piece.{Piece}
-use Rattle.snl_lex.specs.LineList.{ends_before, last_before, line_begin, line_ends, marker_of, naming_markers, number_behind, setting_markers}
+use Rattle.snl_lex.specs.LineList.{ends_before, last_before, line_begin, line_ends, marker_of, names, naming_markers, number_behind, numbers, setting_markers}
 use Rattle.snl_lex.specs.Lines.{file_by, has_line_between, last_that, line_at, marker_number, names_file, number_by, sets_line}
-use Rattle.snl_lex.specs.LinesAlong.{names, numbers}
 use Rattle.snl_lex.specs.Pieces.{bytes_at, piece_end, pieces_of}
 use Rattle.snl_lex.proofs.Along.{names_is, sets_is}
 use Rattle.snl_lex.proofs.Halving.{lt_no}

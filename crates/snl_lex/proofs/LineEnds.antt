@@ -191,7 +191,7 @@ under_one : (at : ℕ) (bs : List ℕ) (k d : ℕ) → ((j e : ℕ) → j < leng
 under_one at bs zero d again lt = omega arith
 under_one at bs (suc k) d again lt = omega (arith, again k d (omega (arith, lt)))
 
-ends_under : (at : ℕ) (bs : List ℕ) (k d : ℕ) → k < length (line_ends_from at bs) → get_or (line_ends_from at bs) k d < at + length bs
+pub ends_under : (at : ℕ) (bs : List ℕ) (k d : ℕ) → k < length (line_ends_from at bs) → get_or (line_ends_from at bs) k d < at + length bs
 ends_under at [] k d = λ lt. absurd (omega (arith, lt))
 ends_under at (b ∷ bs) k d =
     let l : List ℕ = line_ends_from (suc at) bs in

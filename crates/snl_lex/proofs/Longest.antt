@@ -14,7 +14,7 @@ use Rattle.snl_lex.specs.Alphabet.{is_digit, is_in_line, is_letter, is_mark, is_
 use Rattle.snl_lex.specs.Longest.{ClosesFirst, IsLongestRun, IsRunOf}
 use Rattle.snl_lex.specs.Pieces.{closed_by, closed_piece, first_piece, piece_by, run_piece}
 use Rattle.snl_lex.specs.Runs.{begins, close_of, run_of}
-use Rattle.snl_lex.specs.Words.{is_word}
+use Rattle.snl_lex.specs.Kinds.{is_word}
 use Rattle.snl_lex.proofs.Members.{split}
 
 true_false : true ≡ false → ⊥

@@ -10,13 +10,13 @@ use Rattle.snl_lex.specs.declared.alphabet.Start.{Start}
 use Rattle.snl_lex.specs.declared.alphabet.Start.TheVariants.{Blank, Letter, Digit, Dot, Hash, Slash, Percent, Quote, Apostrophe, Sign, Stray}
 use Rattle.snl_lex.specs.declared.piece.Class.{Class}
 use Rattle.snl_lex.specs.declared.piece.Class.TheVariants.{Comment, CCode, Name, Word, Int, Float, Text, CharLit, Punct, Bad}
-use Rattle.snl_lex.specs.Alphabet.{is_digit, is_in_line, is_letter, is_mark, is_white, is_word_byte, marks_of_1, marks_of_2, marks_of_3, start_of}
+use Rattle.snl_lex.specs.Alphabet.{is_digit, is_in_line, is_letter, is_mark, is_white, is_word_byte, start_of}
+use Rattle.snl_lex.specs.Kinds.{has, is_word, punctuators_of_1, punctuators_of_2, punctuators_of_3, spellings}
 use Rattle.snl_lex.specs.Local.{piece_front}
 use Rattle.snl_lex.specs.Longest.{IsLongestMark}
 use Rattle.snl_lex.specs.Numbers.{int_value_of, is_float, number_class, number_joins}
 use Rattle.snl_lex.specs.Pieces.{closed_by, closed_piece, first_piece, longest_mark, mark_piece, piece_by, run_piece, string_joins}
 use Rattle.snl_lex.specs.Runs.{close_of, run_by, run_of}
-use Rattle.snl_lex.specs.Words.{is_word}
 
 true_false : true ≡ false → ⊥
 true_false h = cc
@@ -58,32 +58,32 @@ any_length k s (m ∷ ms) h e =
       | inr later ↦ any_length k s ms (second (length m == k) (list_all (λ n. length n == k) ms) h) later
     ]
 
-mark_parts : (s : List ℕ) → is_mark s ≡ (list_any (bytes_eq s) marks_of_1 || (list_any (bytes_eq s) marks_of_2 || list_any (bytes_eq s) marks_of_3))
+mark_parts : (s : List ℕ) → is_mark s ≡ (has punctuators_of_1 s || (has punctuators_of_2 s || has punctuators_of_3 s))
 unfolding is_mark
 mark_parts s =
-    list_any-append (bytes_eq s) marks_of_1 (marks_of_2 ++ marks_of_3)
-    ∙ ap (λ (b : Bool). list_any (bytes_eq s) marks_of_1 || b) (list_any-append (bytes_eq s) marks_of_2 marks_of_3)
+    list_any-append (bytes_eq s) (spellings punctuators_of_1) (spellings punctuators_of_2 ++ spellings punctuators_of_3)
+    ∙ ap (λ (b : Bool). has punctuators_of_1 s || b) (list_any-append (bytes_eq s) (spellings punctuators_of_2) (spellings punctuators_of_3))
 
 -- A mark has one byte, or is one of those of two, or of three.
-mark_sizes : (s : List ℕ) → is_mark s ≡ true → (length s ≡ 1) ⊎ (((length s ≡ 2) × (list_any (bytes_eq s) marks_of_2 ≡ true)) ⊎ ((length s ≡ 3) × (list_any (bytes_eq s) marks_of_3 ≡ true)))
+mark_sizes : (s : List ℕ) → is_mark s ≡ true → (length s ≡ 1) ⊎ (((length s ≡ 2) × (has punctuators_of_2 s ≡ true)) ⊎ ((length s ≡ 3) × (has punctuators_of_3 s ≡ true)))
 mark_sizes s h =
-    let one : Bool = list_any (bytes_eq s) marks_of_1 in
-    let two : Bool = list_any (bytes_eq s) marks_of_2 in
-    let three : Bool = list_any (bytes_eq s) marks_of_3 in
+    let one : Bool = has punctuators_of_1 s in
+    let two : Bool = has punctuators_of_2 s in
+    let three : Bool = has punctuators_of_3 s in
     elim (one_of one (two || three) (sym (mark_parts s) ∙ h)) [
-      | inl a ↦ inl (any_length 1 s marks_of_1 refl a)
+      | inl a ↦ inl (any_length 1 s (spellings punctuators_of_1) refl a)
       | inr more ↦
           elim (one_of two three more) [
-            | inl b ↦ inr (inl (any_length 2 s marks_of_2 refl b, b))
-            | inr c ↦ inr (inr (any_length 3 s marks_of_3 refl c, c))
+            | inl b ↦ inr (inl (any_length 2 s (spellings punctuators_of_2) refl b, b))
+            | inr c ↦ inr (inr (any_length 3 s (spellings punctuators_of_3) refl c, c))
           ]
     ]
 
 abbrev two : ℕ → ℕ → Bool
-two a b = list_any (bytes_eq (a ∷ b ∷ [])) marks_of_2
+two a b = has punctuators_of_2 (a ∷ b ∷ [])
 
 abbrev three : ℕ → ℕ → ℕ → Bool
-three a b c = list_any (bytes_eq (a ∷ b ∷ c ∷ [])) marks_of_3
+three a b c = has punctuators_of_3 (a ∷ b ∷ c ∷ [])
 
 abbrev sized : Bool → Bool → ℕ
 sized p q = cond p 3 (cond q 2 1)
@@ -107,27 +107,27 @@ three_mark x [] le h = absurd (omega (arith, le))
 three_mark x (y ∷ []) le h = absurd (omega (arith, le))
 three_mark x (y ∷ z ∷ r) le h =
     let s : List ℕ = x ∷ y ∷ z ∷ [] in
-    mark_parts s ∙ or_right (list_any (bytes_eq s) marks_of_1) (list_any (bytes_eq s) marks_of_2 || list_any (bytes_eq s) marks_of_3) (or_right (list_any (bytes_eq s) marks_of_2) (list_any (bytes_eq s) marks_of_3) h)
+    mark_parts s ∙ or_right (has punctuators_of_1 s) (has punctuators_of_2 s || has punctuators_of_3 s) (or_right (has punctuators_of_2 s) (has punctuators_of_3 s) h)
 
 two_mark : (x : ℕ) (xs : List ℕ) → 2 ≤ suc (length xs) → two x (get_or xs 0 0) ≡ true → is_mark (take 2 (x ∷ xs)) ≡ true
 two_mark x [] le h = absurd (omega (arith, le))
 two_mark x (y ∷ r) le h =
     let s : List ℕ = x ∷ y ∷ [] in
-    mark_parts s ∙ or_right (list_any (bytes_eq s) marks_of_1) (list_any (bytes_eq s) marks_of_2 || list_any (bytes_eq s) marks_of_3) (or_left (list_any (bytes_eq s) marks_of_2) (list_any (bytes_eq s) marks_of_3) h)
+    mark_parts s ∙ or_right (has punctuators_of_1 s) (has punctuators_of_2 s || has punctuators_of_3 s) (or_left (has punctuators_of_2 s) (has punctuators_of_3 s) h)
 
 mark_there : (x : ℕ) (xs : List ℕ) (p q : Bool) → three x (get_or xs 0 0) (get_or xs 1 0) ≡ p → two x (get_or xs 0 0) ≡ q → is_mark (x ∷ []) ≡ true → sized p q ≤ suc (length xs) → is_mark (take (sized p q) (x ∷ xs)) ≡ true
 mark_there x xs true q h k m le = three_mark x xs le h
 mark_there x xs false true h k m le = two_mark x xs le k
 mark_there x xs false false h k m le = m
 
-two_told : (x : ℕ) (xs : List ℕ) (n : ℕ) → n ≡ 2 → n ≤ suc (length xs) → list_any (bytes_eq (take n (x ∷ xs))) marks_of_2 ≡ true → two x (get_or xs 0 0) ≡ true
+two_told : (x : ℕ) (xs : List ℕ) (n : ℕ) → n ≡ 2 → n ≤ suc (length xs) → has punctuators_of_2 (take n (x ∷ xs)) ≡ true → two x (get_or xs 0 0) ≡ true
 two_told x [] n e le h = absurd (omega (arith, e, le))
-two_told x (y ∷ r) n e le h = sym (ap (λ (m : ℕ). list_any (bytes_eq (take m (x ∷ y ∷ r))) marks_of_2) e) ∙ h
+two_told x (y ∷ r) n e le h = sym (ap (λ (m : ℕ). has punctuators_of_2 (take m (x ∷ y ∷ r))) e) ∙ h
 
-three_told : (x : ℕ) (xs : List ℕ) (n : ℕ) → n ≡ 3 → n ≤ suc (length xs) → list_any (bytes_eq (take n (x ∷ xs))) marks_of_3 ≡ true → three x (get_or xs 0 0) (get_or xs 1 0) ≡ true
+three_told : (x : ℕ) (xs : List ℕ) (n : ℕ) → n ≡ 3 → n ≤ suc (length xs) → has punctuators_of_3 (take n (x ∷ xs)) ≡ true → three x (get_or xs 0 0) (get_or xs 1 0) ≡ true
 three_told x [] n e le h = absurd (omega (arith, e, le))
 three_told x (y ∷ []) n e le h = absurd (omega (arith, e, le))
-three_told x (y ∷ z ∷ r) n e le h = sym (ap (λ (m : ℕ). list_any (bytes_eq (take m (x ∷ y ∷ z ∷ r))) marks_of_3) e) ∙ h
+three_told x (y ∷ z ∷ r) n e le h = sym (ap (λ (m : ℕ). has punctuators_of_3 (take m (x ∷ y ∷ z ∷ r))) e) ∙ h
 
 no_longer : (x : ℕ) (xs : List ℕ) (n : ℕ) → n ≤ suc (length xs) → is_mark (take n (x ∷ xs)) ≡ true → n ≤ sized (three x (get_or xs 0 0) (get_or xs 1 0)) (two x (get_or xs 0 0))
 no_longer x xs n le h =

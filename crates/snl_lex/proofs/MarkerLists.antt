@@ -330,16 +330,16 @@ last_told {X} t s f q found (p ∷ ps) h =
     let here : P (t p) = elim (t p) as P [ true ↦ elim (q (f p)) as Q [ true ↦ on (Some p) | false ↦ on found ] | false ↦ on found ] in
     here ∙ ap (λ (b : Bool). option_map f (last_or found (cond b (p ∷ S) S))) (sym (h p))
 
--- ---- a list with other markers in a place
+-- ---- a list with other members in a place
 
-pub split_there : (xs made : List Marker) (start stop : ℕ) → start ≤ length xs
+pub split_there : {X : Type 0} (xs made : List X) (start stop : ℕ) → start ≤ length xs
     → (take (start + length made) (take start xs ++ (made ++ drop stop xs)) ≡ take start xs ++ made) × (drop (start + length made) (take start xs ++ (made ++ drop stop xs)) ≡ drop stop xs)
-split_there xs made start stop h =
-    let front : List Marker = take start xs ++ made in
+split_there {X} xs made start stop h =
+    let front : List X = take start xs ++ made in
     let long : start + length made ≡ length front = omega (arith, length-append (take start xs) made, length-take-le start xs h) in
     let two : take start xs ++ (made ++ drop stop xs) ≡ front ++ drop stop xs = sym (append_assoc (take start xs) made (drop stop xs)) in (
-      ap₂ (λ (n : ℕ) (l : List Marker). take n l) long two ∙ take-append_seam front (drop stop xs),
-      ap₂ (λ (n : ℕ) (l : List Marker). drop n l) long two ∙ drop-append_seam front (drop stop xs),
+      ap₂ (λ (n : ℕ) (l : List X). take n l) long two ∙ take-append_seam front (drop stop xs),
+      ap₂ (λ (n : ℕ) (l : List X). drop n l) long two ∙ drop-append_seam front (drop stop xs),
     )
 
 pub short_behind : (ms : List Marker) (k : ℕ) → All IsShort ms → All IsShort (drop k ms)

@@ -12,7 +12,7 @@ use Rattle.snl_lex.specs.declared.piece.Class.TheVariants.{White, Comment, Marke
 use Rattle.snl_lex.specs.declared.piece.Piece.{Piece}
 use Rattle.snl_lex.specs.Alphabet.{is_white, is_letter, is_digit, is_word_byte, is_in_line, is_mark, is_stray, start_of}
 use Rattle.snl_lex.specs.Runs.{run_of, run_by, close_of}
-use Rattle.snl_lex.specs.Words.{is_word}
+use Rattle.snl_lex.specs.Kinds.{is_word}
 use Rattle.snl_lex.specs.Numbers.{awaits_sign, is_float, is_number_byte, is_sign, int_value_of, number_class, number_joins}
 use Rattle.snl_lex.specs.Pieces.{HasOwnBytes, bytes_at, class_byte, closed_by, closed_piece, dot_piece, first_piece, longest_mark, mark_piece, name_piece, number_piece, percent_piece, piece_at, piece_by, piece_length, run_piece, slash_piece, string_joins, string_piece}
 use Rattle.snl_lex.proofs.Members.{Leads}

@@ -1,14 +1,13 @@
--- What single bytes are, what a piece begins with, and the marks.
+-- What single bytes are, and what a piece begins with.
 -- In: a byte, or the bytes of a mark. Out: tests, and what the first byte says of a piece.
-use Rattle.std.specs.Prelude.{ℕ, Bool, not, ◌&&◌, ◌||◌, ◌==◌, nat_le, List, [], ◌∷◌, ◌++◌, codes, if◌then◌else◌}
-use Rattle.std.specs.List.{list_any}
-use Rattle.std.specs.Str.{bytes_eq}
+use Rattle.std.specs.Prelude.{ℕ, Bool, not, ◌&&◌, ◌||◌, ◌==◌, nat_le, List, [], ◌∷◌, if◌then◌else◌}
 use Rattle.snl_lex.specs.declared.alphabet.Base.{Base}
 use Rattle.snl_lex.specs.declared.alphabet.Base.TheVariants.{Octal, Decimal, Hexadecimal}
 use Rattle.snl_lex.specs.declared.alphabet.Set.{Set}
 use Rattle.snl_lex.specs.declared.alphabet.Set.TheVariants.{Blanks, NameBytes, LineBytes, Strays, Gaps, Plains, Digits}
 use Rattle.snl_lex.specs.declared.alphabet.Start.{Start}
 use Rattle.snl_lex.specs.declared.alphabet.Start.TheVariants.{Blank, Letter, Digit, Dot, Hash, Slash, Percent, Quote, Apostrophe, Sign, Stray}
+use Rattle.snl_lex.specs.Kinds.{has, punctuators}
 
 -- Space, tab, LF, VT, FF and CR.
 unfoldable pub is_white : ℕ → Bool
@@ -39,22 +38,9 @@ is_hexadecimal_digit b = is_digit b || (nat_le 97 b && nat_le b 102) || (nat_le 
 unfoldable pub is_in_line : ℕ → Bool
 is_in_line b = not (b == 10)
 
--- The marks of one byte, of two and of three.
-abbrev pub marks_of_1 : List (List ℕ)
-marks_of_1 = codes "{" ∷ codes "}" ∷ codes "(" ∷ codes ")" ∷ codes "[" ∷ codes "]" ∷ codes ";" ∷ codes "," ∷ codes "." ∷ codes "!" ∷ codes "~" ∷ codes "+" ∷ codes "-" ∷ codes "*" ∷ codes "/" ∷ codes "%" ∷ codes "&" ∷ codes "|" ∷ codes "^" ∷ codes "<" ∷ codes ">" ∷ codes "=" ∷ codes "?" ∷ codes ":" ∷ []
-
-abbrev pub marks_of_2 : List (List ℕ)
-marks_of_2 = codes "->" ∷ codes "++" ∷ codes "--" ∷ codes "&&" ∷ codes "||" ∷ codes "<<" ∷ codes ">>" ∷ codes "<=" ∷ codes ">=" ∷ codes "==" ∷ codes "!=" ∷ codes "+=" ∷ codes "-=" ∷ codes "*=" ∷ codes "/=" ∷ codes "%=" ∷ codes "&=" ∷ codes "|=" ∷ codes "^=" ∷ []
-
-abbrev pub marks_of_3 : List (List ℕ)
-marks_of_3 = codes "<<=" ∷ codes ">>=" ∷ []
-
--- All marks.
-abbrev pub marks : List (List ℕ)
-marks = marks_of_1 ++ (marks_of_2 ++ marks_of_3)
-
+-- The bytes spell one of the marks, the punctuators of the table.
 unfoldable pub is_mark : List ℕ → Bool
-is_mark bytes = list_any (bytes_eq bytes) marks
+is_mark bytes = has punctuators bytes
 
 -- A byte that begins no class: neither white, nor a letter, a digit, a quote, `#` or a mark.
 unfoldable pub is_stray : ℕ → Bool

@@ -1,10 +1,9 @@
 -- The lines of a text as lists: its line ends, and the markers that set a line.
-use Rattle.std.specs.Prelude.{◌≡◌, ℕ, suc, ◌+◌, ◌-◌, ◌^◌, ◌<◌, ◌==◌, Bool, List, [], ◌∷◌, ◌++◌, take, drop, map, filter, nat_lt, count_by, slice_index, Option, Some, None, IfSome, unwrap_or, if◌then◌else◌}
+use Rattle.std.specs.Prelude.{◌≡◌, ℕ, suc, ◌+◌, ◌-◌, ◌^◌, ◌<◌, ◌==◌, ◌&&◌, Bool, is_some, List, [], ◌∷◌, ◌++◌, take, drop, map, filter, nat_lt, count_by, slice_index, Option, Some, None, IfSome, unwrap_or, if◌then◌else◌}
 use Rattle.std.specs.Option.{option_map}
 use Rattle.snl_lex.specs.declared.line_list.Marker.{Marker}
 use Rattle.snl_lex.specs.declared.piece.Piece.{Piece}
-use Rattle.snl_lex.specs.Lines.{file_by, last_of, marker_number, part_of}
-use Rattle.snl_lex.specs.LinesAlong.{names, numbers}
+use Rattle.snl_lex.specs.Lines.{file_by, is_marker, last_of, marker_file, marker_number, part_of}
 use Rattle.snl_lex.specs.Pieces.{bytes_at, piece_end, pieces_of}
 
 -- Where the line ends (LF) stand among bytes of which the first one stands at a place.
@@ -19,6 +18,14 @@ line_ends text = line_ends_from 0 text
 -- Those from one offset up to another.
 abbrev pub line_ends_in : List ℕ → ℕ → ℕ → List ℕ
 line_ends_in text from to = line_ends_from from (part_of text from to)
+
+-- The piece is a marker that sets a line, wherever the offset stands.
+abbrev pub numbers : List ℕ → Piece → Bool
+numbers text p = is_marker p.kind && is_some (marker_number (bytes_at text p))
+
+-- The same, and it names a file.
+abbrev pub names : List ℕ → Piece → Bool
+names text p = numbers text p && is_some (marker_file (bytes_at text p))
 
 -- A marker: where it ends, the number that it sets, and where the file stands that it names.
 abbrev pub marker_of : List ℕ → Piece → Marker

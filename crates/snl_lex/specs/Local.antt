@@ -2,8 +2,6 @@
 -- and its class and length depend on its own bytes and the one behind it alone.
 use Rattle.std.specs.Prelude.{◌≡◌, ℕ, zero, suc, ◌+◌, ◌-◌, ◌<◌, ◌≤◌, ◌==◌, Bool, true, false, cond, ◌&&◌, List, [], ◌∷◌, length, take, drop, slice_index, Option, Some, None, refl}
 use Rattle.std.specs.Option.{option_map}
-use Rattle.std.specs.List.{list_any}
-use Rattle.std.specs.Str.{bytes_eq}
 use Rattle.std.proofs.Common.{sym, ap, ◌∙◌, subst, arith, get_or, eqb, eqb-true, length-drop, add-one, ◌⊎◌, inl, inr}
 use Rattle.std.proofs.lemmas.List.{get_or-take, get_or_past, take-take, drop-take, length-take}
 use Rattle.std.proofs.lemmas.Bool.Decides.{nat_tests}
@@ -12,9 +10,9 @@ use Rattle.snl_lex.specs.declared.piece.Class.{Class}
 use Rattle.snl_lex.specs.declared.piece.Class.TheVariants.{White, Comment, Marker, CCode, Name, Word, Text, CharLit, Punct, Bad}
 use Rattle.snl_lex.specs.declared.alphabet.Start.{Start}
 use Rattle.snl_lex.specs.declared.alphabet.Start.TheVariants.{Blank, Letter, Digit, Dot, Hash, Slash, Percent, Quote, Apostrophe, Sign, Stray}
-use Rattle.snl_lex.specs.Alphabet.{is_white, is_digit, is_word_byte, is_in_line, is_stray, marks_of_2, marks_of_3, start_of}
+use Rattle.snl_lex.specs.Alphabet.{is_white, is_digit, is_word_byte, is_in_line, is_stray, start_of}
 use Rattle.snl_lex.specs.Runs.{run_of, run_by, begins, close_of}
-use Rattle.snl_lex.specs.Words.{is_word}
+use Rattle.snl_lex.specs.Kinds.{has, is_word, punctuators_of_2, punctuators_of_3}
 use Rattle.snl_lex.specs.Numbers.{number_joins, number_class}
 use Rattle.snl_lex.specs.Pieces.{run_piece, name_piece, number_piece, closed_by, closed_piece, string_joins, string_piece, longest_mark, mark_piece, slash_piece, percent_piece, piece_by, first_piece, piece_length}
 
@@ -258,10 +256,10 @@ string_inside kind quote x pos xs =
 
 -- Marks.
 abbrev two : ℕ → ℕ → Bool
-two a b = list_any (bytes_eq (a ∷ b ∷ [])) marks_of_2
+two a b = has punctuators_of_2 (a ∷ b ∷ [])
 
 abbrev three : ℕ → ℕ → ℕ → Bool
-three a b c = list_any (bytes_eq (a ∷ b ∷ c ∷ [])) marks_of_3
+three a b c = has punctuators_of_3 (a ∷ b ∷ c ∷ [])
 
 abbrev longest : ℕ → ℕ → ℕ → ℕ
 longest a b c = cond (three a b c) 3 (cond (two a b) 2 1)

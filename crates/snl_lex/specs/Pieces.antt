@@ -1,16 +1,15 @@
 -- The pieces of a text, and its tokens.
 -- In: a text, as the list of its bytes. Out: the class and length of its first piece; all pieces from the left; those that are tokens.
 use Rattle.std.specs.Prelude.{ℕ, zero, suc, ◌+◌, ◌-◌, ◌≤◌, Bool, true, false, not, ◌||◌, ◌==◌, nat_lt, List, [], ◌∷◌, length, take, drop, filter, slice_index, IsTrue, Option, Some, None, if◌then◌else◌}
-use Rattle.std.specs.List.{list_any, list_all}
-use Rattle.std.specs.Str.{bytes_eq}
+use Rattle.std.specs.List.{list_all}
 use Rattle.snl_lex.specs.declared.piece.Class.{Class}
 use Rattle.snl_lex.specs.declared.piece.Class.TheVariants.{White, Comment, Marker, CCode, Name, Word, Int, Float, Text, CharLit, Punct, Bad}
 use Rattle.snl_lex.specs.declared.piece.Piece.{Piece}
 use Rattle.snl_lex.specs.declared.alphabet.Start.{Start}
 use Rattle.snl_lex.specs.declared.alphabet.Start.TheVariants.{Blank, Letter, Digit, Dot, Hash, Slash, Percent, Quote, Apostrophe, Sign, Stray}
-use Rattle.snl_lex.specs.Alphabet.{is_white, is_digit, is_word_byte, is_in_line, is_stray, marks_of_2, marks_of_3, start_of}
+use Rattle.snl_lex.specs.Alphabet.{is_white, is_digit, is_word_byte, is_in_line, is_stray, start_of}
 use Rattle.snl_lex.specs.Runs.{run_of, run_by, close_of}
-use Rattle.snl_lex.specs.Words.{is_word}
+use Rattle.snl_lex.specs.Kinds.{has, is_word, punctuators_of_2, punctuators_of_3}
 use Rattle.snl_lex.specs.Numbers.{number_joins, number_class, is_number_byte}
 
 -- The first byte, and the run of bytes behind it that pass the test.
@@ -59,7 +58,7 @@ longest_mark u =
     let a = slice_index u 0 in
     let b = slice_index u 1 in
     let c = slice_index u 2 in
-    if list_any (bytes_eq (a ∷ b ∷ c ∷ [])) marks_of_3 then 3 else (if list_any (bytes_eq (a ∷ b ∷ [])) marks_of_2 then 2 else 1)
+    if has punctuators_of_3 (a ∷ b ∷ c ∷ []) then 3 else (if has punctuators_of_2 (a ∷ b ∷ []) then 2 else 1)
 
 abbrev pub mark_piece : List ℕ → Class × ℕ
 mark_piece u = (Punct, longest_mark u)

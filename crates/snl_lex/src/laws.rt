@@ -2,14 +2,15 @@
 
 ghost use Rattle.snl_cut.specs.Cut.{IsCut, IsEdit, IsRecut};
 ghost use Rattle.snl_lex.specs.PieceList.{last_pieces, listed_pieces, piece_ends, piece_kinds, spelled, tokens_spelled};
-ghost use Rattle.snl_lex.specs.Pieces.{HasOwnBytes, LiesIn, bytes_at, first_piece, moved_piece, piece_end, piece_length, pieces_of};
+ghost use Rattle.snl_lex.specs.Pieces.{HasOwnBytes, LiesIn, bytes_at, first_piece, is_token, moved_piece, piece_end, piece_length, pieces_of};
 ghost use Rattle.snl_lex.specs.Alphabet.{is_digit, is_in_line, is_letter, is_stray, is_white, is_word_byte};
 ghost use Rattle.snl_lex.specs.Classes.{HasItsClass};
 ghost use Rattle.snl_lex.specs.Longest.{ClosesFirst, IsLongestMark, IsLongestNumber, IsLongestRun, IsRunOf, IsString};
 ghost use Rattle.snl_lex.specs.Numbers.{number_class};
-ghost use Rattle.snl_lex.specs.Words.{is_word};
+ghost use Rattle.snl_lex.specs.Kinds.{is_word, kind_of, look_up, punctuators, words};
 ghost use Rattle.std.specs.Prelude.{◌≡◌, ℕ, ◌<◌, ◌⊎◌, true, List, All, codes, if◌then◌else◌, length, map, slice_index, take};
 ghost use Rattle.std.specs.List.{flat_map};
+ghost use Rattle.snl_lex.specs.declared.kind.Kind.TheVariants as kind;
 ghost use Rattle.snl_lex.specs.declared.piece.Class.TheVariants.{White, Comment, Marker, CCode, Name, Word, Text, CharLit, Punct, Bad};
 
 /// The pieces of any text are its cut: joined they are the text, each lies in it and has a byte, and each has the class that
@@ -63,4 +64,13 @@ pub fn first_piece_reaches()
     ensures string { (text : List ℕ) → slice_index text 0 ≡ 34 → IsString Text 34 text (first_piece text) }
     ensures character { (text : List ℕ) → slice_index text 0 ≡ 39 → IsString CharLit 39 text (first_piece text) }
     ensures stray { (text : List ℕ) → 0 < length text → is_stray (slice_index text 0) ≡ true → IsRunOf Bad is_stray text (first_piece text) }
+{}
+
+/// The lexer and the grammar have one table of words and punctuators: each word and each punctuator of a text is in it, and no name
+/// is a word of it. So a token is faulty to the grammar only where its piece is.
+pub fn tokens_have_kinds()
+    ensures words { (text : List ℕ) → All (λ p. p.kind ≡ Word → look_up words (bytes_at text p) ≡ kind.Bad → ⊥) (pieces_of text) }
+    ensures punctuators { (text : List ℕ) → All (λ p. p.kind ≡ Punct → look_up punctuators (bytes_at text p) ≡ kind.Bad → ⊥) (pieces_of text) }
+    ensures names { (text : List ℕ) → All (λ p. p.kind ≡ Name → look_up words (bytes_at text p) ≡ kind.Bad) (pieces_of text) }
+    ensures faulty { (text : List ℕ) → All (λ p. is_token p ≡ true → kind_of p.kind (bytes_at text p) ≡ kind.Bad → p.kind ≡ Bad) (pieces_of text) }
 {}

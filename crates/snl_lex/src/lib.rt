@@ -1,31 +1,37 @@
-//! The lexical layer: bytes come in, pieces go out. It knows nothing of grammar.
+//! The lexical layer: bytes come in, pieces go out, and what each is to the grammar. It knows nothing of the grammar itself.
 #![tactic(auto)]
 
 ghost use Rattle.std.specs.Prelude.{◌≡◌, ◌+◌, ◌≤◌, drop, length, take};
 
 mod alphabet;
 mod cut;
+mod kind;
 mod laws;
 mod line_list;
 mod lines;
-mod lines_along;
-mod listed_pieces;
 mod listed_tokens;
 mod numbers;
 mod piece;
 mod piece_list;
+mod punctuator;
 mod scan;
-mod words;
+mod shift;
+mod token_kind;
+mod word;
 
 pub use cut::{Bytes, Relexed, lex, relex, relex_by};
-pub use laws::{first_piece_reaches, kept_as_spelled, pieces_as_listed, text_in_pieces};
+pub use kind::Kind;
+pub use laws::{
+    first_piece_reaches, kept_as_spelled, pieces_as_listed, text_in_pieces, tokens_have_kinds,
+};
 pub use line_list::{LineList, Marker};
 pub use lines::{Line, line_of};
-pub use lines_along::lines_of;
 pub use listed_tokens::tokens_among;
 pub use numbers::int_value;
 pub use piece::{Class, Piece};
 pub use piece_list::{PieceChange, PieceList, TextEdit};
+pub use shift::{Shift, lines_shift};
+pub use token_kind::kind_of;
 
 /// The bytes of a piece.
 pub fn token_text(text: &[u8], piece: Piece) -> &[u8]

@@ -1,20 +1,19 @@
 //! The lines of a text as lists, which an edit changes in place: its line ends, and the markers that set a line.
 //! In: a text and its pieces; after an edit both texts. Out: the lists, and by them the line of an offset.
 
-ghost use Rattle.snl_lex.specs.LineList.{IsLineList, IsLinePart, IsShort, last_before, line_begin, line_ends, line_ends_in, marked, marker_of, moved_marker, number_behind, replaced_markers};
-ghost use Rattle.snl_lex.specs.Lines.{line_at};
-ghost use Rattle.snl_lex.specs.LinesAlong.{names, numbers};
+ghost use Rattle.snl_lex.specs.LineList.{IsLineList, IsLinePart, IsShort, last_before, line_begin, line_ends, line_ends_in, marked, marker_of, moved_marker, names, number_behind, numbers, replaced_markers};
+ghost use Rattle.snl_lex.specs.Lines.{line_at, marker_number};
 ghost use Rattle.snl_lex.specs.PieceList.{IsChange};
-ghost use Rattle.snl_lex.specs.Pieces.{LiesIn, pieces_of};
+ghost use Rattle.snl_lex.specs.Pieces.{LiesIn, bytes_at, pieces_of};
+ghost use Rattle.snl_lists.specs.Moves.{moved, replaced_and_moved};
 ghost use Rattle.std.specs.List.Sorted.{IsNonDecreasing, IsNonDecreasingBy};
-ghost use Rattle.std.specs.Prelude.{◌≡◌, ◌+◌, ◌^◌, ◌<◌, ◌≤◌, ◌++◌, [], ◌∷◌, All, IfOk, OnOk, None, Some, count_by, drop, if◌then◌else◌, length, map, take, nat_lt, vec_capacity, vec_len};
+ghost use Rattle.std.specs.Prelude.{◌≡◌, ℕ, ◌+◌, ◌-◌, ◌^◌, ◌<◌, ◌≤◌, ◌++◌, [], ◌∷◌, All, IfOk, IfSome, OnOk, None, Some, count_by, drop, if◌then◌else◌, is_some, length, map, take, nat_lt, slice_index, vec_capacity, vec_len};
 
-use crate::lines::{Line, marker_file};
-use crate::lines_along::number_in;
-use crate::piece::Piece;
+use crate::lines::{Line, marker_file, marker_number};
+use crate::piece::{Class, Piece};
 use crate::piece_list::{PieceChange, TextEdit};
 use snl_cut::OutOfMemory;
-use snl_lists::{replace, replace_and_shift};
+use snl_lists::replace;
 use std::alloc::Global;
 
 /// A line marker: where it ends, the number of the line behind it, and first byte and length of the name of its file, if it has one.
@@ -28,18 +27,18 @@ pub struct Marker {
 /// The offsets of the line ends of a text or of a part of it, the line markers among its pieces that set a line, and those of them that name a file.
 #[derive(Drop)]
 pub struct LineList {
-    pub ends: Vec<u32>,
+    pub ends: Vec<usize>,
     pub markers: Vec<Marker>,
     pub naming: Vec<Marker>,
 }
 
 // How many places stand before a place.
-fn places_before(places: &[u32], place: usize) -> usize
+fn places_before(places: &[usize], place: usize) -> usize
     requires { IsNonDecreasing places.now }
     ensures count { result ≡ count_by (λ e. nat_lt e place) places.now }
     ensures inside { result ≤ length places.now }
 {
-    places.partition_point(|end| (*end as usize) < place)
+    places.partition_point(|end| *end < place)
 }
 
 // Moves the markers from one number on.
@@ -75,19 +74,16 @@ fn last_before(markers: &[Marker], place: usize) -> Option<Marker>
 }
 
 // Where the line begins before which so many lines end.
-fn line_begin(ends: &[u32], count: usize) -> usize
-    requires { count ≤ length ends.now }
+fn line_begin(ends: &[usize], count: usize) -> usize
+    requires count { count ≤ length ends.now }
+    requires below { (i : ℕ) → i < length ends.now → slice_index ends.now i + 1 < 2 ^ 64 }
     ensures { result ≡ line_begin ends.now count }
 {
-    if count == 0 {
-        0
-    } else {
-        ends[count - 1] as usize + 1
-    }
+    if count == 0 { 0 } else { ends[count - 1] + 1 }
 }
 
 // The number of an offset's line by the last marker that counts, and so many line ends before it.
-fn number_behind(ends: &[u32], count: usize, last: Option<Marker>) -> usize
+fn number_behind(ends: &[usize], count: usize, last: Option<Marker>) -> usize
     requires order { IsNonDecreasing ends.now }
     requires count { count ≤ length ends.now }
     ensures { result ≡ number_behind ends.now count last }
@@ -102,14 +98,18 @@ fn number_behind(ends: &[u32], count: usize, last: Option<Marker>) -> usize
 }
 
 // The line ends from one offset up to another.
-fn line_ends_in(alloc: Global, text: &[u8], from: usize, to: usize) -> Result<Vec<u32>, OutOfMemory>
+fn line_ends_in(
+    alloc: Global,
+    text: &[u8],
+    from: usize,
+    to: usize,
+) -> Result<Vec<usize>, OutOfMemory>
     requires order { from ≤ to }
     requires inside { to ≤ length text.now }
-    requires short { length text.now < 2 ^ 32 }
     ensures { IfOk result (λ ends. ends.items ≡ line_ends_in text.now from to) }
 {
     let mut ends = Vec::new(alloc);
-    let mut at = from as u32;
+    let mut at = from;
     for byte in &text[from..to] {
         if *byte == b'\n' {
             ends.push(at)?;
@@ -117,6 +117,22 @@ fn line_ends_in(alloc: Global, text: &[u8], from: usize, to: usize) -> Result<Ve
         at += 1;
     }
     Ok(ends)
+}
+
+// The number that a piece sets, if it is a marker that sets one.
+fn number_in(text: &[u8], piece: Piece) -> Option<usize>
+    requires { LiesIn text.now piece }
+    ensures some { is_some result ≡ numbers text.now piece }
+    ensures number { IfSome result (λ n. marker_number (bytes_at text.now piece) ≡ Some n) }
+    ensures small { IfSome result (λ n. n ≤ 2147483647) }
+{
+    if piece.kind != Class::Marker {
+        return None;
+    }
+    match marker_number(&text[piece.start..piece.start + piece.len]) {
+        Some(number) => Some(number as usize),
+        None => None,
+    }
 }
 
 // A piece as a marker, if it is one that sets a line.
@@ -214,7 +230,6 @@ fn list_marker(
 impl LineList {
     /// The lines of a text.
     pub fn of(alloc: Global, text: &[u8], pieces: &[Piece]) -> Result<LineList, OutOfMemory>
-        requires short { length text.now < 2 ^ 32 }
         requires pieces { pieces.now ≡ pieces_of text.now }
         ensures { IfOk result (λ l. IsLineList text.now l.ends.items l.markers.items l.naming.items) }
     {
@@ -231,7 +246,6 @@ impl LineList {
     ) -> Result<LineList, OutOfMemory>
         requires order { from ≤ to }
         requires inside { to ≤ length text.now }
-        requires short { length text.now < 2 ^ 32 }
         requires pieces { All (LiesIn text.now) pieces.now }
         ensures { IfOk result (λ l. IsLinePart text.now from to pieces.now l.ends.items l.markers.items l.naming.items) }
     {
@@ -274,6 +288,43 @@ impl LineList {
                 None => None,
             },
         }
+    }
+
+    // The same lists once more.
+    fn copied(&self, alloc: Global) -> Result<LineList, OutOfMemory>
+        ensures ends { IfOk result (λ l. l.ends.items ≡ self.now.ends.items) }
+        ensures markers { IfOk result (λ l. l.markers.items ≡ self.now.markers.items) }
+        ensures naming { IfOk result (λ l. l.naming.items ≡ self.now.naming.items) }
+    {
+        let mut ends = Vec::new(alloc);
+        ends.extend_from_slice(&self.ends)?;
+        let mut markers = Vec::new(alloc);
+        markers.extend_from_slice(&self.markers)?;
+        let mut naming = Vec::new(alloc);
+        naming.extend_from_slice(&self.naming)?;
+        Ok(LineList {
+            ends,
+            markers,
+            naming,
+        })
+    }
+
+    /// The lines of the new text of an edit, where these are the old one's. The only error is want of memory.
+    pub fn after(
+        &self,
+        alloc: Global,
+        edit: &TextEdit,
+        change: &PieceChange,
+    ) -> Result<LineList, OutOfMemory>
+        requires lines { IsLineList edit.now.old.now self.now.ends.items self.now.markers.items self.now.naming.items }
+        requires change { IsChange edit.now.old.now edit.now.text.now edit.now.start edit.now.old_stop edit.now.new_stop change.now.kept_front change.now.made.items change.now.kept_back change.now.kept_from change.now.list.ends.items change.now.list.kinds.items }
+        ensures { IfOk result (λ l. IsLineList edit.now.text.now l.ends.items l.markers.items l.naming.items) }
+    {
+        let made = LineList::made(alloc, edit, change)?;
+        let mut lines = self.copied(alloc)?;
+        lines.reserve(&made)?;
+        lines.commit(edit, change, &made);
+        Ok(lines)
     }
 
     /// Makes room for so many line ends and markers more. An error leaves the lists as they were.
@@ -323,8 +374,49 @@ impl LineList {
     }
 }
 
+// Moves places, as the bytes from `old_stop` on are moved to `new_stop`.
+fn move_places(places: &mut [usize], old_stop: usize, new_stop: usize)
+    requires behind { (i : ℕ) → i < length places.old → old_stop ≤ slice_index places.old i }
+    requires fits { (i : ℕ) → i < length places.old → (slice_index places.old i - old_stop) + new_stop < 2 ^ 32 }
+    ensures { places.new ≡ moved old_stop new_stop places.old }
+{
+    for place in places {
+        *place = *place - old_stop + new_stop;
+    }
+}
+
+// Moves the places from one number on.
+fn move_places_from(places: &mut Vec<usize>, from: usize, old_stop: usize, new_stop: usize)
+    requires from { from ≤ vec_len places.old }
+    requires behind { (i : ℕ) → i < length (drop from places.old.items) → old_stop ≤ slice_index (drop from places.old.items) i }
+    requires fits { (i : ℕ) → i < length (drop from places.old.items) → (slice_index (drop from places.old.items) i - old_stop) + new_stop < 2 ^ 32 }
+    ensures { places.new.items ≡ take from places.old.items ++ moved old_stop new_stop (drop from places.old.items) }
+{
+    move_places(&mut places[from..], old_stop, new_stop);
+}
+
+// Puts other places in the place of those from `start` up to `stop`, and moves those after them. There is room for them.
+fn replace_places(
+    places: &mut Vec<usize>,
+    start: usize,
+    stop: usize,
+    made: &[usize],
+    old_stop: usize,
+    new_stop: usize,
+)
+    requires range { start ≤ stop }
+    requires within { stop ≤ vec_len places.old }
+    requires room { vec_len places.old + length made.now ≤ vec_capacity places.old }
+    requires behind { (i : ℕ) → i < length (drop stop places.old.items) → old_stop ≤ slice_index (drop stop places.old.items) i }
+    requires fits { (i : ℕ) → i < length (drop stop places.old.items) → (slice_index (drop stop places.old.items) i - old_stop) + new_stop < 2 ^ 32 }
+    ensures { places.new.items ≡ replaced_and_moved places.old.items start stop made.now old_stop new_stop }
+{
+    replace(places, start, stop, made);
+    move_places_from(places, start + made.len(), old_stop, new_stop);
+}
+
 // Makes the old text's line ends those of the new one. There is room for them.
-fn replace_ends(ends: &mut Vec<u32>, edit: &TextEdit, made: &[u32])
+fn replace_ends(ends: &mut Vec<usize>, edit: &TextEdit, made: &[usize])
     requires ends { ends.old.items ≡ line_ends edit.now.old.now }
     requires made { made.now ≡ line_ends_in edit.now.text.now edit.now.start edit.now.new_stop }
     requires room { vec_len ends.old + length made.now ≤ vec_capacity ends.old }
@@ -332,6 +424,6 @@ fn replace_ends(ends: &mut Vec<u32>, edit: &TextEdit, made: &[u32])
 {
     let front = places_before(ends, edit.start);
     let back = places_before(ends, edit.old_stop);
-    let (old_stop, new_stop) = (edit.old_stop as u32, edit.new_stop as u32);
-    replace_and_shift(ends, front, back, made, old_stop, new_stop);
+    let (old_stop, new_stop) = (edit.old_stop, edit.new_stop);
+    replace_places(ends, front, back, made, old_stop, new_stop);
 }

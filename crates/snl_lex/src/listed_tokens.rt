@@ -1,15 +1,27 @@
 //! The tokens of a text, from the list of its pieces.
 //! In: the list; after an edit also what is made of the pieces. Out: tokens, each with its place.
 
+ghost use Rattle.snl_cut.specs.Cut.{last_end};
 ghost use Rattle.snl_lex.specs.PieceList.{IsChange, listed_pieces, piece_ends, piece_kinds, pieces_between};
 ghost use Rattle.snl_lex.specs.Pieces.{is_token, moved_piece, pieces_of, tokens_of};
-ghost use Rattle.std.specs.Prelude.{◌≡◌, ℕ, List, ◌^◌, ◌<◌, ◌≤◌, ◌++◌, IfOk, OnOk, filter, map, vec_len};
+ghost use Rattle.std.specs.Prelude.{◌≡◌, ℕ, List, ◌^◌, ◌<◌, ◌≤◌, ◌++◌, IfOk, OnOk, filter, map, take, vec_len};
 
-use crate::listed_pieces::start_at;
 use crate::piece::Piece;
 use crate::piece_list::{PieceChange, PieceList, TextEdit};
 use snl_cut::OutOfMemory;
 use std::alloc::Global;
+
+// Where the piece with this number begins.
+fn start_at(list: &PieceList, number: usize) -> u32
+    requires { number ≤ vec_len list.now.ends }
+    ensures { result ≡ last_end 0 (take number list.now.ends.items) }
+{
+    if number == 0 {
+        0
+    } else {
+        list.ends[number - 1]
+    }
+}
 
 // Adds those of the pieces from one number up to another that are tokens, moved as the bytes from `old_stop` on are moved to `new_stop`.
 fn add_listed_tokens(

@@ -2,9 +2,12 @@
 //! In: pieces; after an edit both texts. Out: the lists, those of the new text after a change that can't fail.
 
 ghost use Rattle.snl_cut.specs.Cut.{Counted, IsEdit, after_ticks};
+ghost use Rattle.snl_lex.specs.Lines.{is_marker};
 ghost use Rattle.snl_lex.specs.PieceList.{IsChange, piece_ends, piece_kinds};
 ghost use Rattle.snl_lex.specs.Pieces.{piece_end};
-ghost use Rattle.std.specs.Prelude.{◌≡◌, ◌+◌, ◌^◌, ◌<◌, ◌≤◌, All, IfOk, OnOk, length, map, vec_capacity, vec_len};
+ghost use Rattle.snl_lex.specs.Shift.{marker_count};
+ghost use Rattle.snl_lists.specs.Moves.{replaced};
+ghost use Rattle.std.specs.Prelude.{◌≡◌, ◌+◌, ◌^◌, ◌<◌, ◌≤◌, All, IfOk, OnOk, count_by, length, map, vec_capacity, vec_len};
 
 use crate::cut::{end_by, relex_by};
 use crate::piece::{Class, Piece};
@@ -12,11 +15,13 @@ use snl_cut::{Count, Narrow, OutOfMemory};
 use snl_lists::{replace, replace_and_shift};
 use std::alloc::Global;
 
-/// Where the pieces of a text end, and their classes. Offsets have four bytes each, so the text is shorter than 4 GiB.
+/// Where the pieces of a text end, their classes, and how many of them are line markers. Offsets have four bytes each, so the text
+/// is shorter than 4 GiB.
 #[derive(Drop)]
 pub struct PieceList {
     pub ends: Vec<u32>,
     pub kinds: Vec<Class>,
+    pub markers: usize,
 }
 
 /// An edit of a text: in the new one, other bytes stand from `start` up to `new_stop` than in the old one up to `old_stop`.
@@ -41,12 +46,41 @@ pub struct PieceChange {
     pub kept_from: usize,
 }
 
+// How many of these classes are line markers.
+fn count_markers(kinds: &[Class]) -> usize
+    ensures { result ≡ count_by is_marker kinds.now }
+{
+    kinds.iter().filter(|kind| kind.is_marker()).count()
+}
+
+// Puts other classes in the place of those from `start` up to `stop`, and tells how many line markers there are then. There were
+// so many.
+fn replace_kinds(
+    kinds: &mut Vec<Class>,
+    markers: usize,
+    start: usize,
+    stop: usize,
+    made: &[Class],
+) -> usize
+    requires range { start ≤ stop }
+    requires within { stop ≤ vec_len kinds.old }
+    requires room { vec_len kinds.old + length made.now ≤ vec_capacity kinds.old }
+    requires markers { markers ≡ count_by is_marker kinds.old.items }
+    ensures kinds { kinds.new.items ≡ replaced kinds.old.items start stop made.now }
+    ensures markers { result ≡ count_by is_marker kinds.new.items }
+{
+    let gone = count_markers(&kinds[start..stop]);
+    replace(kinds, start, stop, made);
+    markers - gone + count_markers(made)
+}
+
 impl PieceList {
     /// The only error is want of memory.
     pub fn of(alloc: Global, pieces: &[Piece]) -> Result<PieceList, OutOfMemory>
         requires short { All (λ p. piece_end p < 2 ^ 32) pieces.now }
         ensures ends { IfOk result (λ l. l.ends.items ≡ map piece_end pieces.now) }
         ensures kinds { IfOk result (λ l. l.kinds.items ≡ map (λ p. p.kind) pieces.now) }
+        ensures markers { IfOk result (λ l. l.markers ≡ count_by is_marker l.kinds.items) }
     {
         let mut ends = Vec::new(alloc);
         let mut kinds = Vec::new(alloc);
@@ -54,7 +88,12 @@ impl PieceList {
             ends.push((piece.start + piece.len) as u32)?;
             kinds.push(piece.kind)?;
         }
-        Ok(PieceList { ends, kinds })
+        let markers = count_markers(&kinds);
+        Ok(PieceList {
+            ends,
+            kinds,
+            markers,
+        })
     }
 
     /// What an edit makes of the pieces of the old text, of which this is the list. Each made piece is one tick. The only error is want of memory.
@@ -97,6 +136,7 @@ impl PieceList {
     pub fn reserve(&mut self, made: usize) -> Result<(), OutOfMemory>
         ensures ends { self.new.ends.items ≡ self.old.ends.items }
         ensures kinds { self.new.kinds.items ≡ self.old.kinds.items }
+        ensures markers { self.new.markers ≡ self.old.markers }
         ensures ends_room { OnOk result (vec_len self.new.ends + made ≤ vec_capacity self.new.ends) }
         ensures kinds_room { OnOk result (vec_len self.new.kinds + made ≤ vec_capacity self.new.kinds) }
     {
@@ -109,11 +149,13 @@ impl PieceList {
     pub fn commit(&mut self, edit: &TextEdit, change: &PieceChange)
         requires ends { self.old.ends.items ≡ piece_ends edit.now.old.now }
         requires kinds { self.old.kinds.items ≡ piece_kinds edit.now.old.now }
+        requires markers { self.old.markers ≡ marker_count edit.now.old.now }
         requires change { IsChange edit.now.old.now edit.now.text.now edit.now.start edit.now.old_stop edit.now.new_stop change.now.kept_front change.now.made.items change.now.kept_back change.now.kept_from change.now.list.ends.items change.now.list.kinds.items }
         requires ends_room { vec_len self.old.ends + vec_len change.now.made ≤ vec_capacity self.old.ends }
         requires kinds_room { vec_len self.old.kinds + vec_len change.now.made ≤ vec_capacity self.old.kinds }
         ensures ends { self.new.ends.items ≡ piece_ends edit.now.text.now }
         ensures kinds { self.new.kinds.items ≡ piece_kinds edit.now.text.now }
+        ensures markers { self.new.markers ≡ marker_count edit.now.text.now }
     {
         let front = change.kept_front;
         let back = self.ends.len() - change.kept_back;
@@ -125,6 +167,12 @@ impl PieceList {
             edit.old_stop as u32,
             edit.new_stop as u32,
         );
-        replace(&mut self.kinds, front, back, &change.list.kinds);
+        self.markers = replace_kinds(
+            &mut self.kinds,
+            self.markers,
+            front,
+            back,
+            &change.list.kinds,
+        );
     }
 }

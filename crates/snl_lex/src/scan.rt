@@ -2,17 +2,16 @@
 //! In: bytes. Out: the class and length of the piece that they begin with.
 //! It looks at no byte further than one behind the piece.
 
-ghost use Rattle.snl_lex.specs.Alphabet.{is_in, marks_of_2, marks_of_3};
+ghost use Rattle.snl_lex.specs.Alphabet.{is_in};
+ghost use Rattle.snl_lex.specs.Kinds.{has, punctuators_of_2, punctuators_of_3};
 ghost use Rattle.snl_lex.specs.Pieces.{closed_piece, dot_piece, first_piece, longest_mark, mark_piece, name_piece, number_piece, percent_piece, run_piece, slash_piece, string_joins, string_piece};
 ghost use Rattle.snl_lex.specs.Runs.{close_of, run_by};
-ghost use Rattle.std.specs.List.{list_any};
-ghost use Rattle.std.specs.Str.{bytes_eq};
 ghost use Rattle.std.specs.Prelude.{◌≡◌, ◌+◌, ◌<◌, ◌≤◌, IfSome, [], ◌∷◌, drop, length, take};
 
 use crate::alphabet::{Set, Start, byte_at, is_digit, run_end, start_of};
 use crate::numbers::{number_class, number_end};
 use crate::piece::Class;
-use crate::words::is_word;
+use crate::word::is_word;
 
 // The first byte, and the run of bytes of the set behind it.
 fn run_piece(rest: &[u8], kind: Class, set: Set) -> (Class, usize)
@@ -97,7 +96,7 @@ fn string_piece(rest: &[u8], kind: Class, quote: u8) -> (Class, usize)
 }
 
 fn is_mark_of_two(a: u8, b: u8) -> bool
-    ensures { result ≡ list_any (bytes_eq (a ∷ b ∷ [])) marks_of_2 }
+    ensures { result ≡ has punctuators_of_2 (a ∷ b ∷ []) }
 {
     match b {
         b'=' => matches!(
@@ -111,7 +110,7 @@ fn is_mark_of_two(a: u8, b: u8) -> bool
 }
 
 fn is_mark_of_three(a: u8, b: u8, c: u8) -> bool
-    ensures { result ≡ list_any (bytes_eq (a ∷ b ∷ c ∷ [])) marks_of_3 }
+    ensures { result ≡ has punctuators_of_3 (a ∷ b ∷ c ∷ []) }
 {
     c == b'=' && a == b && (a == b'<' || a == b'>')
 }

@@ -4,8 +4,7 @@ ghost use Rattle.std.specs.Prelude.{All};
 ghost use Rattle.snl_lex.specs.Pieces.{LiesIn};
 
 use crate::reading::{LastItem, last_item};
-use snl_check::wake_uses;
-use snl_scope::Source;
+use snl_walk::{Source, occurrences, wake_uses};
 use std::alloc::Global;
 use std::test::Fail;
 
@@ -19,10 +18,11 @@ fn uses_of(alloc: Global, text: &[u8], last: &LastItem) -> Result<Vec<u8>, Fail>
         tokens,
         alloc,
     };
+    let found = occurrences(&source, &last.tree)?;
     let mut words = Vec::new(alloc);
-    for found in &wake_uses(&source, &last.tree)? {
-        words.extend_from_slice(source.bytes(found.token))?;
-        if let Some(value) = found.subscript {
+    for used in &wake_uses(&source, &found)? {
+        words.extend_from_slice(source.bytes(used.token))?;
+        if let Some(value) = used.subscript {
             words.extend_from_slice(format!(in alloc; "[{value}]")?.as_bytes())?;
         }
         words.push(b' ')?;

@@ -8,7 +8,7 @@ use crate::words::add_word;
 use snl_check::{ItemFault, check_item, warning_setting};
 use snl_cut::Count;
 use snl_lex::Piece;
-use snl_scope::Source;
+use snl_walk::Source;
 use std::alloc::Global;
 use std::process::Abort;
 use std::test::Fail;
@@ -90,7 +90,7 @@ static STATES: [Row; 3] = [
     ),
     (
         b"state i { option +tz; entry { state i; } when (delay(1)) { efSet(y); pvPut(y); break; delay(2); } state z }",
-        b"E18:state E19:break E20:y E21:y W03:delay W04:z ",
+        b"E18:state E20:y E21:y E19:break W03:delay W04:z ",
     ),
 ];
 
@@ -208,7 +208,7 @@ static ARGUMENTS: [Row; 7] = [
     ),
     (
         b"int f(int y, evflag g) { efSet(y); pvPut(y); efSet(g); pvPut(g); { int g; evflag y; efSet(y); efSet(g); pvPut(g); } }",
-        b"E17:y E20:g E21:g E20:y ",
+        b"E20:y E17:y E20:g E21:g ",
     ),
     (
         b"state i { foreign y; int x; assign x to \"c\"; evflag g; int g; entry { efSet(y); pvPut(y); pvPut(x); efSet(x); efSet(g); pvPut(g); } }",

@@ -1,4 +1,4 @@
-//! Tests of the rules on names and on what is inside items, from the bytes of a text on. There is no code of the product here.
+//! Tests of the rules on names, on what is inside items and on tables, from the bytes of a text on. There is no code of the product here.
 //!
 //! Tables hold texts and the answers that the language's rules give, as words.
 #![tactic(auto)]
@@ -21,6 +21,8 @@ mod questions;
 mod reading;
 #[cfg(test)]
 mod summaries;
+#[cfg(test)]
+mod tables;
 #[cfg(test)]
 mod walks;
 #[cfg(test)]

@@ -29,7 +29,8 @@ use Rattle.snl_scope.specs.declared.summary.Variable.{Variable}
 use Rattle.snl_scope.specs.declared.summary.VariableClause.{VariableClause}
 use Rattle.snl_scope.specs.Summaries.Clauses.{clause_of, clause_on, clauses_in, clauses_in_tree, clauses_of_member, covered_by_channel, covered_by_subscript, element, flag_at}
 use Rattle.snl_scope.specs.Summaries.Declares.{declared_at, declared_by_declaration, declared_by_declarator, declared_by_foreign, declared_by_function, declared_by_member, declared_if_body, declared_in, declared_in_tree, dims_by, dims_by_integer, dims_of, foreign_name, function_name, known_value, lone_integer, nature_of, variable_of}
-use Rattle.snl_scope.specs.Summaries.Tokens.{bytes_at, mention_at, value_at}
+use Rattle.snl_scope.specs.Summaries.Tokens.{mention_at}
+use Rattle.snl_walk.specs.Tokens.{bytes_at, value_at}
 
 module _ (text moved : List ℕ) (tokens shifted : List Piece) (same : (n : ℕ) → bytes_at text tokens n ≡ bytes_at moved shifted n) where
   same_value : (n : ℕ) → value_at text tokens n ≡ value_at moved shifted n

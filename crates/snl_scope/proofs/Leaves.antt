@@ -1,7 +1,7 @@
 -- The leaves of what a tree spells: their numbers rise, since each is the number of its token.
 use Rattle.std.proofs.Common.{◌≡◌, ℕ, suc, ◌<◌, ◌≤◌, List, [], ◌∷◌, ◌++◌, map, Some, sym, subst, arith}
 use Rattle.std.specs.List.{AllByRecursion as Each, flat_map}
-use Rattle.snl_syntax.specs.declared.kind.Kind.{Kind}
+use Rattle.snl_lex.specs.declared.kind.Kind.{Kind}
 use Rattle.snl_syntax.specs.Spelling.Base.{Matches, Spelled, behind, between, joined, leaf, word}
 use Rattle.snl_syntax.specs.Tokens.{ahead, numbered}
 use Rattle.snl_scope.proofs.Pairs.{EachTwo, each_weaker}

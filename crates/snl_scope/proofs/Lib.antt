@@ -11,15 +11,13 @@ pub mod Entries
 pub mod Pairs
 pub mod Leaves
 pub mod Mentioned
+pub mod SomeTokens
 pub mod NamedTokens
 pub mod Families
 pub mod OnceOrder
 pub mod OnceNames
 pub mod OnceClauses
 pub mod Once
-pub mod Operands
-pub mod Branches
-pub mod Kept
 pub mod Firsts
 pub mod Assigning
 pub mod FirstClaims
@@ -29,3 +27,6 @@ pub mod Judging
 pub mod Views
 pub mod AlikeTokens
 pub mod SpelledAlike
+pub mod FaultPlaces
+pub mod SsWords
+pub mod SpokenTokens

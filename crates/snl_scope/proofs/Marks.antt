@@ -20,9 +20,6 @@ module _ (test : Outline → Bool) (ss : List Outline) where
   abbrev members : ℕ → ℕ → Bool
   members k j = item_is test ss j && stands_in ss k j
 
-  pub marked-none : (marks : List Bool) → length marks ≡ length ss → ((k : ℕ) → get_or marks k false ≡ false) → Marked test marks ss 0
-  marked-none marks len none = record { len = len; each = λ k l. none k }
-
   module _ (i : ℕ) (is : Bool) (told : item_is test ss i ≡ is) where
     -- one more mark
     put : (marks : List Bool) (p k : ℕ) → p < length marks → get_or (set marks p true) k false ≡ (nat_eq k p || get_or marks k false)

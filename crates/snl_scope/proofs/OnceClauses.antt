@@ -18,19 +18,19 @@ use Rattle.snl_scope.proofs.Families.{Differ, differ_by_rank, rank}
 use Rattle.snl_scope.proofs.Pairs.{EachTwo, across_append, each-append, each-map, each_at, each_by, each_front, each_rear, each_weaker, two-map, two_both, two_from_rising, two_parts, two_rear, two_unmap, two_weaker}
 
 -- What is found at the variable of a clause, and at its flag.
-record AtVariable (c : LinkedClause) (f : LinkFault) : Type 0 where
-  item : f.item ≡ c.item
-  token : f.token ≡ c.clause.variable.token
-  code : rank f.code ≡ 10
+pub record AtVariable (c : LinkedClause) (f : LinkFault) : Type 0 where
+  pub item : f.item ≡ c.item
+  pub token : f.token ≡ c.clause.variable.token
+  pub code : rank f.code ≡ 10
 
-record AtFlag (c : LinkedClause) (f : LinkFault) : Type 0 where
-  item : f.item ≡ c.item
-  flag : Mention
-  token : f.token ≡ flag.token
-  named : c.clause.flag ≡ Some flag
-  code : rank f.code ≡ 11
+pub record AtFlag (c : LinkedClause) (f : LinkFault) : Type 0 where
+  pub item : f.item ≡ c.item
+  pub flag : Mention
+  pub token : f.token ≡ flag.token
+  pub named : c.clause.flag ≡ Some flag
+  pub code : rank f.code ≡ 11
 
-abbrev AtClause : LinkedClause → LinkFault → Type 0
+abbrev pub AtClause : LinkedClause → LinkFault → Type 0
 AtClause c f = AtVariable c f ⊎ AtFlag c f
 
 -- Two clauses name their variables at different places, and their flags.
@@ -106,7 +106,7 @@ module _ (es : List Entry) (cs : List LinkedClause) where
         (at_variable sound).0 (at_variable sound).1 at_flag.0 at_flag.1
 
   -- what holds of all that is found at clauses
-  behind_each : (P : LinkFault → Type 0) (sound ds : List LinkedClause) → Each (λ c. (f : LinkFault) → AtClause c f → P f) ds → Each P (found_behind es cs sound ds)
+  pub behind_each : (P : LinkFault → Type 0) (sound ds : List LinkedClause) → Each (λ c. (f : LinkFault) → AtClause c f → P f) ds → Each P (found_behind es cs sound ds)
   behind_each P sound [] h = tt
   behind_each P sound (d ∷ ds) h =
       each-append P (found_at es cs sound d) (found_behind es cs (with_clause es cs sound d) ds) (each_weaker (AtClause d) P h.0 (found_at es cs sound d) (found_each d sound)) (behind_each P (with_clause es cs sound d) ds h.1)
@@ -126,7 +126,7 @@ FlagsRise c d = (m n : Mention) → c.flag ≡ Some m → d.flag ≡ Some n → 
 each_flag : (P : ℕ → Type 0) (c : VariableClause) → Each P (tokens_of_flag c) → (n : Mention) → c.flag ≡ Some n → P n.token
 each_flag P c h n e = (subst (λ o. Each P (map (λ m. m.token) (option_to_list o))) e h).0
 
-each_flags : (P : ℕ → Type 0) (cs : List VariableClause) → Each P (flat_map tokens_of_flag cs) → Each (λ c. (n : Mention) → c.flag ≡ Some n → P n.token) cs
+pub each_flags : (P : ℕ → Type 0) (cs : List VariableClause) → Each P (flat_map tokens_of_flag cs) → Each (λ c. (n : Mention) → c.flag ≡ Some n → P n.token) cs
 each_flags P [] h = tt
 each_flags P (c ∷ cs) h =
     (each_flag P c (each_front P (tokens_of_flag c) (flat_map tokens_of_flag cs) h), each_flags P cs (each_rear P (tokens_of_flag c) (flat_map tokens_of_flag cs) h))

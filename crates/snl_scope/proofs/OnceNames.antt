@@ -17,10 +17,10 @@ use Rattle.snl_scope.proofs.Families.{Differ, differ_by_item, differ_by_rank, di
 use Rattle.snl_scope.proofs.Pairs.{EachTwo, each-append, each-map, each_at, each_by, each_weaker, two-map, two_from_rising, two_parts, two_unmap, two_weaker}
 
 -- What an entry gives: its item, its token and its code.
-record Gives (e : Entry) (f : LinkFault) : Type 0 where
-  item : f.item ≡ e.item
-  token : f.token ≡ e.token
-  code : e.code ≡ Some f.code
+pub record Gives (e : Entry) (f : LinkFault) : Type 0 where
+  pub item : f.item ≡ e.item
+  pub token : f.token ≡ e.token
+  pub code : e.code ≡ Some f.code
 
 -- Two entries do not give the same.
 abbrev GiveApart : Entry → Entry → Type 0
@@ -38,7 +38,7 @@ given : (earlier : List Entry) (e : Entry) → Each (Gives e) (repetition earlie
 given earlier e = given_if (is_some (number_in earlier e.space e.name)) e
 
 -- what holds of all that the entries give
-repeated_each : (P : LinkFault → Type 0) (earlier es : List Entry) → Each (λ e. (f : LinkFault) → Gives e f → P f) es → Each P (repetitions earlier es)
+pub repeated_each : (P : LinkFault → Type 0) (earlier es : List Entry) → Each (λ e. (f : LinkFault) → Gives e f → P f) es → Each P (repetitions earlier es)
 repeated_each P earlier [] h = tt
 repeated_each P earlier (e ∷ es) h =
     each-append P (repetition earlier e) (repetitions (earlier ++ e ∷ []) es) (each_weaker (Gives e) P h.0 (repetition earlier e) (given earlier e).0) (repeated_each P (earlier ++ e ∷ []) es h.1)
@@ -134,7 +134,7 @@ record IsBefore (n : ℕ) (e : Entry) : Type 0 where
 
 -- what holds of all, holds of those that pass a test
 module _ (p : LinkFault → Bool) where
-  each-filter : (P : LinkFault → Type 0) (xs : List LinkFault) → Each P xs → Each P (filter p xs)
+  pub each-filter : (P : LinkFault → Type 0) (xs : List LinkFault) → Each P xs → Each P (filter p xs)
   each-filter P [] h = tt
   each-filter P (x ∷ xs) h = by (p x) h.0 (each-filter P xs h.1)
     where

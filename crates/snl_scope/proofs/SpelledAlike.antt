@@ -12,10 +12,11 @@ use Rattle.snl_scope.specs.declared.summary.Mention.{Mention}
 use Rattle.snl_scope.specs.declared.summary.Opening.{Opening}
 use Rattle.snl_scope.specs.declared.summary.Opening.TheVariants as openings
 use Rattle.snl_scope.specs.SpelledTokens.{bytes_by, bytes_if_spelled, pieces_from, summary_by, text_of}
-use Rattle.snl_scope.specs.Summaries.{kind_of, name_by, name_if, once, opening_by, opening_if, opening_in, outline_in, role_in, role_of, second_in, summary_in}
-use Rattle.snl_scope.specs.Summaries.Targets.{targets_in}
-use Rattle.snl_scope.specs.Summaries.Tokens.{bytes_at, bytes_if, mention_at}
-use Rattle.snl_scope.specs.Summaries.Uses.{used_in}
+use Rattle.snl_scope.specs.Summaries.{kind_of, name_by, name_if, occurrences_in, opening_by, opening_if, opening_in, outline_in, role_in, role_of, second_in, summary_in}
+use Rattle.snl_scope.specs.Summaries.Tokens.{mention_at}
+use Rattle.snl_walk.specs.Once.{once}
+use Rattle.snl_walk.specs.Tokens.{bytes_at, bytes_if}
+use Rattle.snl_walk.specs.Uses.{targets, uses}
 use Rattle.snl_scope.proofs.AlikeTokens.{same_clauses, same_declares, same_mention}
 
 -- ---- the bytes, and the two tokens that an outline goes by
@@ -52,6 +53,13 @@ name_spelled text (Some p) = refl
 second_told : (text : List ℕ) (tokens : List Piece) → second_in text tokens ≡ name_by_token (slice_get (spelled text tokens) 1)
 second_told text tokens = name_spelled text (slice_get tokens 1) ∙ ap name_by_token (sym (slice_get-map (spelling text) tokens 1))
 
+-- the names that an item uses, and the tokens of its targets
+abbrev used_by : (ℕ → List ℕ) → Option Item → List (List ℕ)
+used_by bytes tree = once (map bytes (uses (occurrences_in bytes tree)))
+
+abbrev target_tokens : (ℕ → List ℕ) → Option Item → List ℕ
+target_tokens bytes tree = targets (occurrences_in bytes tree)
+
 module _ (text moved : List ℕ) (tokens shifted : List Piece) (alike : spelled text tokens ≡ spelled moved shifted) where
   pub same_bytes : bytes_at text tokens ≡ bytes_at moved shifted
   same_bytes = bytes_told text tokens ∙ ap bytes_by alike ∙ sym (bytes_told moved shifted)
@@ -75,12 +83,15 @@ module _ (text moved : List ℕ) (tokens shifted : List Piece) (alike : spelled 
       let second = same_second in
       cc
 
+  same_targets : (tree : Option Item) → map (mention_at text tokens) (target_tokens (bytes_at text tokens) tree) ≡ map (mention_at moved shifted) (target_tokens (bytes_at moved shifted) tree)
+  same_targets tree =
+      ap₂ (λ (f : ℕ → Mention) ns. map f ns) (fun_ext (same_mention text moved tokens shifted each)) (ap (λ (f : ℕ → List ℕ). target_tokens f tree) same_bytes)
+
   pub same_summary : (tree : Option Item) → summary_in text tokens tree ≡ summary_in moved shifted tree
   same_summary tree =
       let outline = same_outline tree in
-      let uses : once (map (bytes_at text tokens) (used_in tree)) ≡ once (map (bytes_at moved shifted) (used_in tree)) = ap (λ (f : ℕ → List ℕ). once (map f (used_in tree))) same_bytes in
-      let targets : map (mention_at text tokens) (targets_in tree) ≡ map (mention_at moved shifted) (targets_in tree) =
-      ap (λ (f : ℕ → Mention). map f (targets_in tree)) (fun_ext (same_mention text moved tokens shifted each)) in
+      let used : used_by (bytes_at text tokens) tree ≡ used_by (bytes_at moved shifted) tree = ap (λ (f : ℕ → List ℕ). used_by f tree) same_bytes in
+      let led_to = same_targets tree in
       cc
 
 -- ---- tokens that stand alone are spelled as they are

@@ -15,7 +15,7 @@ use Rattle.snl_scope.specs.declared.summary.Outline.{Outline}
 use Rattle.snl_scope.specs.declared.summary.Summary.{Summary}
 use Rattle.snl_scope.specs.Linked.{fact_of, has_target}
 use Rattle.snl_scope.specs.Places.{place}
-use Rattle.snl_scope.specs.View.{View, same_assigned, same_base, same_bool, same_dims, same_facts, same_known, same_level, same_view, view}
+use Rattle.snl_scope.specs.View.{same_assigned, same_base, same_bool, same_dims, same_facts, same_known, same_level, same_view, view}
 
 both : (a b : Bool) → (a && b) ≡ true → (a ≡ true) × (b ≡ true)
 both true b h = (refl, h)

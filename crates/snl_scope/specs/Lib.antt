@@ -14,5 +14,6 @@ pub mod Tables
 pub mod Resolved
 pub mod Summaries
 pub mod Once
+pub mod FaultPlaces
 pub mod NamedTokens
 pub mod SpelledTokens

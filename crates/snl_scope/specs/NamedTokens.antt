@@ -1,12 +1,15 @@
 -- The tokens that the tree of an item names: each is one of the item's tokens.
-use Rattle.std.specs.Prelude.{ℕ, ◌<◌, List, [], ◌∷◌, length}
+use Rattle.std.specs.Prelude.{ℕ, ◌<◌, List, [], ◌∷◌, length, map}
 use Rattle.std.specs.List.{AllByRecursion}
 use Rattle.snl_lex.specs.declared.piece.Piece.{Piece}
 use Rattle.snl_syntax.specs.declared.tree.item.Item.{Item}
 use Rattle.snl_syntax.specs.declared.tree.item.Item.TheVariants as items
+use Rattle.snl_scope.specs.declared.summary.Summary.{Summary}
 use Rattle.snl_scope.specs.Summaries.Clauses.{clauses_in_tree}
 use Rattle.snl_scope.specs.Summaries.Declares.{declared_in_tree}
-use Rattle.snl_scope.specs.Summaries.Targets.{targets_in_tree}
+use Rattle.snl_walk.specs.Items.{occurrences}
+use Rattle.snl_walk.specs.Tokens.{bytes_at}
+use Rattle.snl_walk.specs.Uses.{targets}
 
 -- The token that names an item, if it has a name of its own: that of a state set and of a state is the second one.
 abbrev pub own_name : Item → List ℕ
@@ -20,4 +23,8 @@ pub record NamesItsTokens (text : List ℕ) (tokens : List Piece) (t : Item) : T
   pub own : AllByRecursion (λ number. number < length tokens) (own_name t)
   pub declared : AllByRecursion (λ d. d.token < length tokens) (declared_in_tree text tokens t)
   pub variables : AllByRecursion (λ c. c.variable.token < length tokens) (clauses_in_tree text tokens t)
-  pub targets : AllByRecursion (λ number. number < length tokens) (targets_in_tree t)
+  pub targets : AllByRecursion (λ number. number < length tokens) (targets (occurrences (bytes_at text tokens) t))
+
+-- The tokens of the names of states that a summary has as targets.
+abbrev pub target_tokens : Summary → List ℕ
+target_tokens s = map (λ m. m.token) s.targets

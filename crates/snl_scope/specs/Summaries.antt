@@ -1,6 +1,5 @@
 -- The summary of an item, from its tokens and its tree; a faulty item has none.
-use Rattle.std.specs.Prelude.{ℕ, Bool, true, ◌||◌, List, [], ◌∷◌, ◌++◌, length, map, nat_lt, slice_get, Option, Some, None, codes, if◌then◌else◌}
-use Rattle.std.specs.List.{list_any}
+use Rattle.std.specs.Prelude.{ℕ, Bool, true, ◌||◌, List, [], length, map, nat_lt, slice_get, Option, Some, None, codes, if◌then◌else◌}
 use Rattle.std.specs.Str.{bytes_eq}
 use Rattle.snl_lex.specs.declared.piece.Class.{Class}
 use Rattle.snl_lex.specs.declared.piece.Class.TheVariants as class
@@ -17,15 +16,15 @@ use Rattle.snl_scope.specs.declared.summary.Role.TheVariants as roles
 use Rattle.snl_scope.specs.declared.summary.Summary.{Summary}
 use Rattle.snl_scope.specs.Summaries.Clauses.{clauses_in}
 use Rattle.snl_scope.specs.Summaries.Declares.{declared_in}
-use Rattle.snl_scope.specs.Summaries.Targets.{targets_in}
-use Rattle.snl_scope.specs.Summaries.Tokens.{bytes_at, bytes_of, mention_at}
-use Rattle.snl_scope.specs.Summaries.Uses.{used_in}
+use Rattle.snl_scope.specs.Summaries.Tokens.{mention_at}
+use Rattle.snl_walk.specs.declared.occurrence.Occurrence.{Occurrence}
+use Rattle.snl_walk.specs.Items.{occurrences}
+use Rattle.snl_walk.specs.Once.{once}
+use Rattle.snl_walk.specs.Tokens.{bytes_at, bytes_of}
+use Rattle.snl_walk.specs.Uses.{targets, uses}
 pub mod Tokens
-pub mod Expressions
-pub mod Uses
 pub mod Declares
 pub mod Clauses
-pub mod Targets
 
 -- What an item is.
 abbrev pub kind_of_tree : Item → ItemKind
@@ -77,19 +76,6 @@ name_if text (Some piece) = name_by piece.kind (bytes_of text piece)
 abbrev pub second_in : List ℕ → List Piece → Option (List ℕ)
 second_in text tokens = name_if text (slice_get tokens 1)
 
--- The names found so far, and one more where it isn't among them.
-abbrev pub with_new : List (List ℕ) → List ℕ → List (List ℕ)
-with_new found name = if list_any (bytes_eq name) found then found else found ++ name ∷ []
-
--- Behind names found, each further name once, where it comes first.
-abbrev pub once_behind : List (List ℕ) → List (List ℕ) → List (List ℕ)
-once_behind found [] = found
-once_behind found (name ∷ names) = once_behind (with_new found name) names
-
--- Each name once, where it comes first.
-abbrev pub once : List (List ℕ) → List (List ℕ)
-once names = once_behind [] names
-
 -- What an item of a kind is to the others, where it is known whether it has declarations or clauses. Only a state that has
 -- some is told from other items: a plain one is the same to them while it is faulty.
 abbrev pub role_of : ItemKind → Bool → Role
@@ -111,11 +97,16 @@ outline_in text tokens tree = record {
   opening = opening_in text tokens;
 }
 
+-- What is found in an item, by the bytes of its tokens; in a faulty one nothing is.
+abbrev pub occurrences_in : (ℕ → List ℕ) → Option Item → List Occurrence
+occurrences_in bytes None = []
+occurrences_in bytes (Some tree) = occurrences bytes tree
+
 -- The summary of the item.
 abbrev pub summary_in : List ℕ → List Piece → Option Item → Summary
 summary_in text tokens tree = record {
   kind = kind_of tree;
   outline = outline_in text tokens tree;
-  uses = once (map (bytes_at text tokens) (used_in tree));
-  targets = map (mention_at text tokens) (targets_in tree);
+  uses = once (map (bytes_at text tokens) (uses (occurrences_in (bytes_at text tokens) tree)));
+  targets = map (mention_at text tokens) (targets (occurrences_in (bytes_at text tokens) tree));
 }

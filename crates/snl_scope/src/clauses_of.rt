@@ -1,16 +1,17 @@
 //! The clauses on variables that an item has: its tree comes in, each clause with what it covers goes out.
 
 ghost use Rattle.snl_scope.specs.Summaries.Clauses.{clause_of, clause_on, clauses_in, clauses_of_member, covered_by_channel, covered_by_subscript, element, flag_at};
-ghost use Rattle.snl_scope.specs.Summaries.Tokens.{IsSource};
+ghost use Rattle.snl_walk.specs.Tokens.{IsSource};
 ghost use Rattle.std.specs.Prelude.{◌≡◌, ◌++◌, IfOk, OnOk, option_copied, option_map};
 ghost use Rattle.std.specs.List.{flat_map};
 
-use crate::source::Source;
 use crate::summary::{ClauseKind, Coverage, Mention, VariableClause};
+use crate::token_names::mention_at;
 use snl_cut::OutOfMemory;
 use snl_syntax::tree::clause::{Channel, Clause, Flag};
 use snl_syntax::tree::item::Item;
 use snl_syntax::tree::state::StateMember;
+use snl_walk::Source;
 
 // The element that a subscript means.
 fn element(source: &Source, subscript: usize) -> Coverage
@@ -55,7 +56,7 @@ fn flag_of(source: &Source, flag: Option<Flag>) -> Result<Option<Mention>, OutOf
 {
     match flag {
         None => Ok(None),
-        Some(flag) => Ok(Some(source.mention(flag.name)?)),
+        Some(flag) => Ok(Some(mention_at(source, flag.name)?)),
     }
 }
 
@@ -70,7 +71,7 @@ fn clause_on(
     ensures { IfOk result (λ c. c ≡ clause_on source.now.text.now source.now.tokens.now kind name coverage flag) }
 {
     Ok(VariableClause {
-        variable: source.mention(name)?,
+        variable: mention_at(source, name)?,
         flag: flag_of(source, flag)?,
         coverage,
         kind,

@@ -1,18 +1,19 @@
 //! The names that an item declares outside its blocks: its tree comes in, each name with what a declaration says of it goes out.
 
 ghost use Rattle.snl_scope.specs.Summaries.Declares.{declared_at, declared_by_declaration, declared_by_declarator, declared_by_foreign, declared_by_function, declared_by_member, declared_in, declared_in_tree, dims_by_integer, dims_of, foreign_name, function_name, lone_integer, nature_of};
-ghost use Rattle.snl_scope.specs.Summaries.Tokens.{IsSource};
+ghost use Rattle.snl_walk.specs.Tokens.{IsSource};
 ghost use Rattle.std.specs.Prelude.{◌≡◌, ◌++◌, ◌∷◌, [], IfOk, OnOk, option_copied};
 ghost use Rattle.std.specs.List.{flat_map};
 
-use crate::source::Source;
 use crate::summary::{Declared, Dims, Nature, Variable};
+use crate::token_names::name_at;
 use snl_cut::OutOfMemory;
 use snl_syntax::tree::declaration::{Declaration, Declarator};
 use snl_syntax::tree::expression::Expr;
 use snl_syntax::tree::item::{Function, Item};
 use snl_syntax::tree::state::StateMember;
 use snl_syntax::tree::types::Base;
+use snl_walk::Source;
 
 // What names of a declaration with this base stand for.
 fn nature_of(base: Base) -> Nature
@@ -73,7 +74,7 @@ fn declared_at(source: &Source, variable: Variable, number: usize) -> Result<Dec
     ensures { IfOk result (λ d. d ≡ declared_at source.now.text.now source.now.tokens.now variable number) }
 {
     Ok(Declared {
-        name: source.name(number)?,
+        name: name_at(source, number)?,
         token: number,
         variable,
     })

@@ -8,7 +8,6 @@ mod claims;
 mod clauses_of;
 mod codes;
 mod declarations;
-mod distinct;
 mod facts;
 mod findings;
 mod flags;
@@ -22,31 +21,31 @@ mod once_laws;
 mod order;
 mod origin;
 mod phases;
+mod place_laws;
 mod places;
 mod resolved;
 mod scopes;
 mod soundness;
-mod source;
 mod spaces;
 mod spelling_laws;
 mod summarize;
 mod summary;
 mod summary_laws;
 mod tables;
-pub mod targets;
 mod token_laws;
-pub mod uses;
-pub mod uses_of;
+mod token_names;
 mod view;
 
 pub use alike::same_outline;
 pub use codes::Code;
-pub use distinct::NameSet;
 pub use facts::{Assigned, Base, ClauseLink, Declaration, Fact, Level, LinkFault, Scope};
 pub use links::{Links, link};
 pub use name::Name;
-pub use once_laws::{each_fault_once, tokens_declared_once};
-pub use source::Source;
+pub use once_laws::{
+    each_fault_once, faults_have_places, outlines_speak_of_tokens, tokens_declared_once,
+};
+pub use place_laws::sets_open_in_turn;
+pub use snl_walk::Source;
 pub use spelling_laws::same_spelling_same_summary;
 pub use summarize::summary_of;
 pub use summary::{
@@ -54,5 +53,5 @@ pub use summary::{
     Summary, Variable, VariableClause,
 };
 pub use summary_laws::{names_kept_once, plain_state_outline};
-pub use token_laws::names_are_tokens;
-pub use view::same_view;
+pub use token_laws::{names_are_tokens, targets_rise};
+pub use view::{same_view, views_told_apart};

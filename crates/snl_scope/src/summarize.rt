@@ -1,21 +1,22 @@
 //! The summary of an item: its tokens and its tree come in, what it says to the other items goes out.
 //! It knows nothing of the other items.
 
-ghost use Rattle.snl_scope.specs.Summaries.{kind_of, kind_of_tree, opening_by_word, opening_in, role_of, second_in, summary_in};
-ghost use Rattle.snl_scope.specs.Summaries.Tokens.{IsSource, mention_at};
+ghost use Rattle.snl_scope.specs.Summaries.{kind_of, kind_of_tree, occurrences_in, opening_by_word, opening_in, role_of, second_in, summary_in};
+ghost use Rattle.snl_scope.specs.Summaries.Tokens.{mention_at};
+ghost use Rattle.snl_walk.specs.Once.{once};
+ghost use Rattle.snl_walk.specs.Tokens.{IsSource, bytes_at};
+ghost use Rattle.snl_walk.specs.Uses.{targets, uses};
 ghost use Rattle.std.specs.Prelude.{◌≡◌, IfOk, map, option_copied};
 
 use crate::clauses_of::clauses_in;
 use crate::declarations::declared_in;
-use crate::distinct::names_once;
 use crate::name::Name;
-use crate::source::Source;
 use crate::summary::{ItemKind, Mention, Opening, Outline, Role, Summary};
-use crate::targets::targets_in;
-use crate::uses_of::uses_in;
+use crate::token_names::{mentions, names_once};
 use snl_cut::OutOfMemory;
 use snl_lex::{Class, Piece, token_text};
 use snl_syntax::tree::item::Item;
+use snl_walk::{Occurrence, Source, occurrences, targets, uses};
 use sqlite_items::Items;
 use std::alloc::Global;
 
@@ -115,16 +116,31 @@ fn second_of(source: &Source) -> Result<Option<Name>, OutOfMemory>
     }
 }
 
-// The names at tokens.
-fn mentions(source: &Source, numbers: &[usize]) -> Result<Items<Mention>, OutOfMemory>
+// What is found in the item; in a faulty one nothing is.
+fn occurrences_in(source: &Source, tree: Option<&Item>) -> Result<Vec<Occurrence>, OutOfMemory>
     requires { IsSource source.now.text.now source.now.tokens.now }
-    ensures { IfOk result (λ m. m ≡ map (mention_at source.now.text.now source.now.tokens.now) numbers.now) }
+    ensures { IfOk result (λ v. v.items ≡ occurrences_in (bytes_at source.now.text.now source.now.tokens.now) (option_copied tree.entry)) }
 {
-    let mut mentions = Vec::new(source.alloc);
-    for number in numbers {
-        mentions.push(source.mention(*number)?)?;
+    match tree {
+        Some(tree) => occurrences(source, tree),
+        None => Ok(Vec::new(source.alloc)),
     }
-    Ok(Items::from_vec(mentions))
+}
+
+// The names that the item uses, each once.
+fn used_names(source: &Source, found: &[Occurrence]) -> Result<Items<Name>, OutOfMemory>
+    requires { IsSource source.now.text.now source.now.tokens.now }
+    ensures { IfOk result (λ names. names ≡ once (map (bytes_at source.now.text.now source.now.tokens.now) (uses found.now))) }
+{
+    names_once(source, &uses(source.alloc, found)?)
+}
+
+// The states that the item leads to.
+fn target_names(source: &Source, found: &[Occurrence]) -> Result<Items<Mention>, OutOfMemory>
+    requires { IsSource source.now.text.now source.now.tokens.now }
+    ensures { IfOk result (λ m. m ≡ map (mention_at source.now.text.now source.now.tokens.now) (targets found.now)) }
+{
+    mentions(source, &targets(source.alloc, found)?)
 }
 
 /// The summary of the item that consists of these tokens, of which each lies in the text. `tree` is the item's tree; an item
@@ -145,10 +161,9 @@ pub fn summary_of(
     };
     let declares = Items::from_vec(declared_in(&source, tree)?);
     let clauses = Items::from_vec(clauses_in(&source, tree)?);
-    let used = uses_in(alloc, tree)?;
-    let uses = names_once(&source, &used)?;
-    let named = targets_in(alloc, tree)?;
-    let targets = mentions(&source, &named)?;
+    let found = occurrences_in(&source, tree)?;
+    let uses = used_names(&source, &found)?;
+    let targets = target_names(&source, &found)?;
     let kind = kind_of(tree);
     let has_some = 0 < declares.len() || 0 < clauses.len();
     let outline = Outline {

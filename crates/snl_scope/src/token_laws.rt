@@ -1,13 +1,16 @@
-//! The law of the tokens that trees name. A function here does nothing: its contract is the law.
+//! The laws of the tokens that trees and summaries name. A function here does nothing: its contract is the law.
 
 ghost use Rattle.snl_lex.specs.declared.piece.Piece.{Piece};
-ghost use Rattle.snl_scope.specs.NamedTokens.{NamesItsTokens};
+ghost use Rattle.snl_scope.specs.NamedTokens.{NamesItsTokens, target_tokens};
+ghost use Rattle.snl_scope.specs.Summaries.{summary_in};
 ghost use Rattle.snl_syntax.specs.Reading.Items.{item_of};
 ghost use Rattle.snl_syntax.specs.Parsing.{kinds_in};
 ghost use Rattle.snl_syntax.specs.declared.tree.item.Item.{Item};
-ghost use Rattle.std.specs.Prelude.{◌≡◌, ℕ, List, Some};
+ghost use Rattle.std.specs.Prelude.{◌≡◌, ◌<◌, ℕ, All, List, Some, length};
+ghost use Rattle.std.specs.List.Sorted.{IsStrictlyIncreasing};
 
 use snl_syntax::{item_read, item_spelled};
+use snl_walk::tokens_rise;
 
 /// The tree that is read of tokens names none but these tokens.
 pub fn names_are_tokens()
@@ -15,4 +18,13 @@ pub fn names_are_tokens()
 {
     item_read();
     item_spelled();
+    tokens_rise();
+}
+
+/// The targets in the summary of an item are at tokens of the item, each at a later one than the target before it.
+pub fn targets_rise()
+    ensures rise { (text : List ℕ) (tokens : List Piece) (t : Item) → item_of (kinds_in text tokens) ≡ Some t → IsStrictlyIncreasing (target_tokens (summary_in text tokens (Some t))) }
+    ensures own { (text : List ℕ) (tokens : List Piece) (t : Item) → item_of (kinds_in text tokens) ≡ Some t → All (λ n. n < length tokens) (target_tokens (summary_in text tokens (Some t))) }
+{
+    tokens_rise();
 }

@@ -1,9 +1,11 @@
 //! Whether an item sees of the others by some links what it sees by other ones. It is asked after an edit that made links
 //! anew, of the items that were kept, and takes no memory.
 
-ghost use Rattle.std.specs.Prelude.{◌≡◌, ◌↔◌, IsTrue};
+ghost use Rattle.std.specs.Prelude.{◌≡◌, ◌↔◌, IsTrue, List, ℕ};
 ghost use Rattle.std.specs.List.{list_all};
 ghost use Rattle.snl_scope.specs.Linked.{fact_of, has_target};
+ghost use Rattle.snl_scope.specs.declared.summary.Outline.{Outline};
+ghost use Rattle.snl_scope.specs.declared.summary.Summary.{Summary};
 ghost use Rattle.snl_scope.specs.View.{same_assigned, same_base, same_bool, same_dims, same_facts, same_known, same_level, same_view, view};
 
 use crate::facts::{Assigned, Base, Fact, Level};
@@ -135,3 +137,8 @@ pub fn same_view(
     };
     sees_the_same(before, after, summary)
 }
+
+/// Views are told to be the same exactly where they are equal. A function here does nothing: its contract is the law.
+pub fn views_told_apart()
+    ensures { (ss : List Outline) (i : ℕ) (ts : List Outline) (j : ℕ) (s : Summary) → IsTrue (same_view ss i ts j s) ↔ (view ss i s ≡ view ts j s) }
+{}

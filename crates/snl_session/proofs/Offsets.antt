@@ -1,5 +1,5 @@
 -- A finding that stands in a token of a text stands in the text.
-use Rattle.std.proofs.Common.{arith, ℕ, zero, suc, ◌+◌, ◌^◌, ◌<◌, ◌≤◌, All, List, [], ◌∷◌, length, drop, get_or}
+use Rattle.std.proofs.Common.{arith, inl, inr, ℕ, zero, suc, ◌+◌, ◌^◌, ◌<◌, ◌≤◌, All, List, [], ◌∷◌, length, drop, get_or}
 use Rattle.std.specs.List.{AllByRecursion, slice_get}
 use Rattle.std.proofs.lemmas.List.{length-take}
 use Rattle.std.proofs.lemmas.List.Elements.{recursion_from_All}
@@ -20,7 +20,8 @@ in_text text (p ∷ ps) code (suc n) byte h w = in_text text ps code n byte h.1 
 
 stands : (text : List ℕ) (tokens : List Piece) (fault : ItemFault) → AllByRecursion (LiesIn text) tokens → StandsIn (bytes_at text tokens) fault → (at_own_token tokens fault).offset ≤ length text
 unfolding bytes_at
-stands text tokens fault h w = in_text text tokens fault.code fault.token fault.byte h w
+stands text tokens fault h (inl w) = in_text text tokens fault.code fault.token fault.byte h (omega arith)
+stands text tokens fault h (inr w) = in_text text tokens fault.code fault.token fault.byte h (omega arith)
 
 pub have_offsets : (text : List ℕ) (tokens : List Piece) (faults : List ItemFault) → length text < 2 ^ 64 → All (LiesIn text) tokens → All (StandsIn (bytes_at text tokens)) faults →
     All (HasOffset tokens) faults

@@ -29,6 +29,7 @@ module _ (text : List ℕ) (tokens : List Piece) (part : Part) (some : part.star
   is_part = record {
     some = some;
     inside = inside;
+    entry = is;
     parsed = entry_parsed text (tokens_of_part tokens part) part.entry.now is by_spelling;
     summary = entry_summary text (tokens_of_part tokens part) part.entry.now is summary;
   }

@@ -18,7 +18,7 @@ use Rattle.snl_session.specs.declared.findings.Finding.{Finding}
 use Rattle.snl_scope.specs.Codes.{name_of}
 use Rattle.snl_session.specs.Diagnostics.{diagnostic, diagnostics_of, shown, stands_before}
 use Rattle.snl_session.specs.Order.{goes_before, in_order, order_of, put_in_order}
-use Rattle.snl_session.proofs.Sorting.{all_put, all_sorted, put, sorted_is}
+use Rattle.snl_session.proofs.Sorting.{all_put, all_sorted, put, same_put, sorted_is, total, total_all}
 
 order_total : IsTotalOrder order_of
 order_total =
@@ -39,7 +39,7 @@ ties x y h k =
     ] in
     go (order_of x y) (order_of y x) (order_total.antisymm x y) h k
 
-both_tie : (r s : Ordering) → ordering_then r s ≡ Equal → (r ≡ Equal) × (s ≡ Equal)
+pub both_tie : (r s : Ordering) → ordering_then r s ≡ Equal → (r ≡ Equal) × (s ≡ Equal)
 both_tie Less s h = cc
 both_tie Equal s h = (refl, h)
 both_tie Greater s h = cc
@@ -78,7 +78,7 @@ found_by_name W03 = refl
 found_by_name W04 = refl
 found_by_name W05 = refl
 
-one_code : (c d : Code) → name_of c ≡ name_of d → c ≡ d
+pub one_code : (c d : Code) → name_of c ≡ name_of d → c ≡ d
 one_code c d h =
     let e : Some c ≡ Some d = sym (found_by_name c) ∙ ap code_named h ∙ found_by_name d in
     cc
@@ -89,22 +89,41 @@ one_finding a b h k m =
     let code : a ≡ record { offset = b.offset; code = b.code; subject = a.subject } = offset ∙ ap (λ c. record { offset = b.offset; code = c; subject = a.subject }) k in
     code ∙ ap (λ n. record { offset = b.offset; code = b.code; subject = n }) m
 
-pub same_finding : (x y : Finding) → goes_before x y ≡ false → goes_before y x ≡ false → x ≡ y
-same_finding x y h k =
-    let offsets = both_tie (nat_cmp x.offset y.offset) (ordering_then (slice_cmp nat_cmp (name_of x.code) (name_of y.code)) (nat_cmp x.subject y.subject)) (ties x y h k) in
+-- findings that tie are one, and each ties with itself
+pub one_that_ties : (x y : Finding) → order_of x y ≡ Equal → x ≡ y
+one_that_ties x y h =
+    let offsets = both_tie (nat_cmp x.offset y.offset) (ordering_then (slice_cmp nat_cmp (name_of x.code) (name_of y.code)) (nat_cmp x.subject y.subject)) h in
     let names = both_tie (slice_cmp nat_cmp (name_of x.code) (name_of y.code)) (nat_cmp x.subject y.subject) offsets.1 in
     one_finding x y
     (nat_cmp-IsAntisymmetric x.offset y.offset offsets.0)
     (one_code x.code y.code (slice_cmp-IsAntisymmetric nat_cmp-IsAntisymmetric (name_of x.code) (name_of y.code) names.0))
     (nat_cmp-IsAntisymmetric x.subject y.subject names.1)
 
+pub ties_itself : (x : Finding) → order_of x x ≡ Equal
+ties_itself x = by (order_of x x) (order_total.antisymm x x)
+  where
+    by : (r : Ordering) → r ≡ ordering_reverse r → r ≡ Equal
+    by Less e = cc
+    by Equal e = refl
+    by Greater e = cc
+
+pub same_finding : (x y : Finding) → goes_before x y ≡ false → goes_before y x ≡ false → x ≡ y
+same_finding x y h k = one_that_ties x y (ties x y h k)
+
 put_is : (x : Finding) (ys : List Finding) → put goes_before ranks same_finding x ys ≡ put_in_order x ys
 put_is x [] = refl
 put_is x (y ∷ ys) = ap (λ l. cond (goes_before y x) (y ∷ l) (x ∷ y ∷ ys)) (put_is x ys)
 
-all_put_is : (xs : List Finding) → all_put goes_before ranks same_finding xs ≡ in_order xs
+pub all_put_is : (xs : List Finding) → all_put goes_before ranks same_finding xs ≡ in_order xs
 all_put_is [] = refl
 all_put_is (x ∷ xs) = ap (put goes_before ranks same_finding x) (all_put_is xs) ∙ put_is x (in_order xs)
+
+-- findings in order have the elements that they had, and those with the same elements are in one order
+pub total_in_order : (f : Finding → ℕ) (xs : List Finding) → total f (in_order xs) ≡ total f xs
+total_in_order f xs = ap (total f) (sym (all_put_is xs)) ∙ total_all goes_before ranks same_finding f xs
+
+pub one_order : (xs ys : List Finding) → ((f : Finding → ℕ) → total f xs ≡ total f ys) → in_order xs ≡ in_order ys
+one_order xs ys sums = sym (all_put_is xs) ∙ same_put goes_before ranks same_finding xs ys sums ∙ all_put_is ys
 
 -- findings that are sorted are those in order
 pub sorted_in_order : (xs ys : List Finding) → IsPermutation xs ys → IsSortedBy goes_before ys → ys ≡ in_order xs
@@ -127,26 +146,9 @@ offsets_rise xs up = λ i j d order within.
     no_less y.offset x.offset (nat_cmp y.offset x.offset) _ refl (sorted_far goes_before ranks xs up i j some order inside) in
     omega (arith, rises, get_or-map (λ z. z.offset) xs i some d first, get_or-map (λ z. z.offset) xs j some d inside)
 
-in_order_sorted : (xs : List Finding) → IsSortedBy goes_before (in_order xs)
-in_order_sorted xs = subst (IsSortedBy goes_before) (all_put_is xs) (all_sorted goes_before ranks same_finding xs)
-
-no_sooner : (r s t : Ordering) → is_lt (ordering_then r (ordering_then s t)) ≡ false → is_lt (ordering_then r s) ≡ false
+pub no_sooner : (r s t : Ordering) → is_lt (ordering_then r (ordering_then s t)) ≡ false → is_lt (ordering_then r s) ≡ false
 no_sooner Less s t h = h
 no_sooner Equal Less t h = h
 no_sooner Equal Equal t h = refl
 no_sooner Equal Greater t h = refl
 no_sooner Greater s t h = refl
-
--- the diagnostics of a text are sorted
-pub diagnostics_sorted : (text : List ℕ) → IsSortedBy stands_before (diagnostics_of text)
-unfolding diagnostics_of
-diagnostics_sorted text = λ k d low within.
-    let xs = in_order (shown text) in
-    let some : Finding = record { offset = 0; code = E01; subject = 0 } in
-    let inside : k + 1 < length xs = omega (arith, within, length-map xs (diagnostic text)) in
-    let first : k < length xs = omega arith in
-    let y = get_or xs (k + 1) some in
-    let x = get_or xs k some in
-    ap (λ z. stands_before z (get_or (map (diagnostic text) xs) k d)) (get_or-map (diagnostic text) xs (k + 1) some d inside)
-    ∙ ap (λ z. stands_before (diagnostic text y) z) (get_or-map (diagnostic text) xs k some d first)
-    ∙ no_sooner (nat_cmp y.offset x.offset) (slice_cmp nat_cmp (name_of y.code) (name_of x.code)) (nat_cmp y.subject x.subject) (in_order_sorted (shown text) k some low inside)

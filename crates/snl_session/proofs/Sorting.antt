@@ -31,7 +31,7 @@ module _ {X : Type 0} (lt : X → X → Bool) (order : IsStrictWeakOrder lt) (sa
   abbrev NoneBefore : X → List X → Type 0
   NoneBefore x ys = AllByRecursion (λ y. lt y x ≡ false) ys
 
-  abbrev Ordered : List X → Type 0
+  abbrev pub Ordered : List X → Type 0
   Ordered [] = Unit {0}
   Ordered (x ∷ xs) = NoneBefore x xs × Ordered xs
 
@@ -72,7 +72,7 @@ module _ {X : Type 0} (lt : X → X → Bool) (order : IsStrictWeakOrder lt) (sa
         | false ↦ refl
       ]
 
-  total_all : (f : X → ℕ) (xs : List X) → total f (all_put xs) ≡ total f xs
+  pub total_all : (f : X → ℕ) (xs : List X) → total f (all_put xs) ≡ total f xs
   total_all f [] = refl
   total_all f (x ∷ xs) = total_put f x (all_put xs) ∙ ap (λ n. f x + n) (total_all f xs)
 
@@ -137,3 +137,7 @@ module _ {X : Type 0} (lt : X → X → Bool) (order : IsStrictWeakOrder lt) (sa
 
   pub sorted_is : (xs ys : List X) → ((f : X → ℕ) → sum_by f ys ≡ sum_by f xs) → IsSortedBy lt ys → ys ≡ all_put xs
   sorted_is xs ys sums up = unique ys (all_put xs) (ordered_sorted ys up) (ordered_all xs) (λ f. total_is f ys ∙ sums f ∙ sym (total_is f xs) ∙ sym (total_all f xs))
+
+  -- and lists with the same elements are in one order
+  pub same_put : (xs ys : List X) → ((f : X → ℕ) → total f xs ≡ total f ys) → all_put xs ≡ all_put ys
+  same_put xs ys sums = unique (all_put xs) (all_put ys) (ordered_all xs) (ordered_all ys) (λ f. total_all f xs ∙ sums f ∙ sym (total_all f ys))

@@ -22,7 +22,7 @@ module _ (text : List ℕ) (P : Piece → Type 0) (tokens : List Piece) (each : 
   in_item from (e ∷ es) (suc i) = in_item e es i
 
 -- a tree is the one that is read
-read_tree : (text : List ℕ) (ts : List Piece) (t : Item) → tree_in text ts ≡ Some t → item_of (kinds_in text ts) ≡ Some t
+pub read_tree : (text : List ℕ) (ts : List Piece) (t : Item) → tree_in text ts ≡ Some t → item_of (kinds_in text ts) ≡ Some t
 read_tree text ts t = by (list_any is_bad ts)
   where
     by : (b : Bool) → (if b then None else item_of (kinds_in text ts)) ≡ Some t → item_of (kinds_in text ts) ≡ Some t

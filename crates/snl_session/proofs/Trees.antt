@@ -4,10 +4,12 @@ use Rattle.std.specs.List.{zip}
 use Rattle.std.proofs.lemmas.List.{length-map}
 use Rattle.snl_cut.specs.Cut.{members}
 use Rattle.snl_lex.specs.declared.piece.Piece.{Piece}
+use Rattle.snl_lex.specs.Pieces.{tokens_of}
+use Rattle.snl_items.specs.Items.{item_ends}
 use Rattle.snl_check.specs.Items.{ProgramItem, program_items}
 use Rattle.snl_session.specs.declared.program.Part.{Part}
 use Rattle.snl_session.specs.Parts.{part_of, tree_of_part}
-use Rattle.snl_session.specs.Program.{program_item, tree_in}
+use Rattle.snl_session.specs.Program.{item_tokens, items_of, program_item, tree_in}
 use Rattle.snl_session.proofs.Members.{members_count}
 
 -- each of these lists of tokens beside its tree
@@ -35,3 +37,12 @@ module _ (text : List ℕ) (tokens : List Piece) (ends : List ℕ) (parts : List
   trees_give =
       ap (program_items tokens ends) (sym (trees_of_parts tokens parts) ∙ ap (map (λ (x : ProgramItem). x.tree)) same ∙ trees_of_items text (members tokens 0 ends))
       ∙ beside text (members tokens 0 ends)
+
+-- the items along the ends are those of the text
+pub same_items : (text : List ℕ) (tokens : List Piece) (ends : List ℕ) (xs : List ProgramItem) → tokens ≡ tokens_of text → ends ≡ item_ends text
+    → xs ≡ map (program_item text) (members tokens 0 ends) → xs ≡ items_of text
+unfolding item_tokens
+same_items text tokens ends xs all cut is =
+    is
+    ∙ ap (λ ts. map (program_item text) (members ts 0 ends)) all
+    ∙ ap (λ es. map (program_item text) (members (tokens_of text) 0 es)) cut

@@ -21,8 +21,11 @@ unfoldable pub found : List ℕ → List Finding
 found text = faults_of text (items_of text) ++ linked_faults text (items_of text) ++ checked_faults text (items_of text) ++ walked_faults text (items_of text)
 
 -- What of it is shown: no warnings, where they are turned off.
+abbrev pub shown_if : Bool → List Finding → List Finding
+shown_if warns found = if warns then found else filter (λ x. is_error x.code) found
+
 abbrev pub shown_of : List ℕ → List ProgramItem → List Finding → List Finding
-shown_of text xs found = if shows_warnings text xs then found else filter (λ x. is_error x.code) found
+shown_of text xs found = shown_if (shows_warnings text xs) found
 
 unfoldable pub shown : List ℕ → List Finding
 shown text = shown_of text (items_of text) (found text)

@@ -1,18 +1,106 @@
 -- What an edit makes of what a session keeps of its text.
-use Rattle.std.specs.Prelude.{◌≡◌, ℕ, ◌-◌, List, ◌++◌, length, take, drop}
+use Rattle.std.specs.Prelude.{◌≡◌, ℕ, ◌-◌, IfSome, List, ◌++◌, length, take, drop, Option, Some, None}
+use Rattle.snl_lex.specs.LineList.{IsLineList}
 use Rattle.snl_lex.specs.PieceList.{IsChange}
-use Rattle.snl_items.specs.Changes.{IsItemChange, IsTokenChange}
+use Rattle.snl_items.specs.Changes.{AreShifted, IsItemChange, IsTokenChange}
+use Rattle.snl_items.specs.Fresh.{fresh_items_between, fresh_pieces_between}
+use Rattle.snl_scope.specs.LinkedItems.{LinkedItems}
+use Rattle.snl_tables.specs.Shifted.{shifted_tables, with_body}
+use Rattle.snl_session.specs.declared.edits.Work.{Work}
 use Rattle.snl_session.specs.declared.entries.Entry.{Entry}
+use Rattle.snl_session.specs.declared.inside.StateWay.{StateWay}
+use Rattle.snl_session.specs.declared.lists.Lists.{Lists}
+use Rattle.snl_session.specs.declared.lists.Rechecked.{Rechecked}
+use Rattle.snl_session.specs.declared.lists.Remade.{Remade}
 use Rattle.snl_session.specs.declared.plan.Changes.{Changes}
+use Rattle.snl_session.specs.declared.shift.ShortWay.{ShortWay}
+use Rattle.snl_session.specs.declared.plan.WholeWay.{WholeWay}
+use Rattle.snl_session.specs.declared.ways.Plan.{Plan}
+use Rattle.snl_session.specs.declared.ways.Plan.TheVariants as plan
+use Rattle.snl_session.specs.Checks.{links_in}
+use Rattle.snl_session.specs.Diagnostics.{diagnostics_of}
 use Rattle.snl_session.specs.Entries.{entries_of}
+use Rattle.snl_session.specs.Kept.{HasRoomFor, HasRoomForPlaces}
+use Rattle.snl_session.specs.Rechecked.{AreChecksMade}
+use Rattle.snl_session.specs.Shifted.{IsShifted}
+use Rattle.snl_session.specs.Stirred.{stirred_between}
+use Rattle.snl_session.specs.Tables.{tables_in}
+use Rattle.snl_session.specs.Warnings.{warns_in}
 
 -- What an edit makes of the pieces, the tokens and the items of a text.
 pub record IsChanged (old text : List ℕ) (start old_stop new_stop : ℕ) (c : Changes) : Type 0 where
   pub pieces : IsChange old text start old_stop new_stop c.pieces.kept_front c.pieces.made.items c.pieces.kept_back c.pieces.kept_from c.pieces.list.ends.items c.pieces.list.kinds.items
   pub tokens : IsTokenChange old text start old_stop new_stop c.tokens.edit c.tokens.made.items c.tokens.marks.items c.tokens.same
+  -- if the edit leaves all tokens, it shifts them
+  pub shifted : IfSome c.tokens.shifted (λ t. AreShifted old text start old_stop new_stop t.by t.before)
   pub items : IsItemChange old text start old_stop new_stop c.tokens.edit c.items.kept_front c.items.made.items c.items.kept_back
 
 -- What is kept of the items of the new text: so much of the old ones at the front, what was made, and so much of the old ones at the back.
 abbrev pub AreEntriesMade : (old text : List ℕ) (front : ℕ) (made : List Entry) (back : ℕ) → Type 0
 AreEntriesMade old text front made back =
     entries_of text ≡ take front (entries_of old) ++ (made ++ drop (length (entries_of old) - back) (entries_of old))
+
+-- The links of the new text, where others are made; else those of the old one.
+abbrev pub AreLinks : (old text : List ℕ) → Option LinkedItems → Type 0
+AreLinks old text None = links_in text ≡ links_in old
+AreLinks old text (Some l) = l ≡ links_in text
+
+-- The links of the new text, and the checks that are made.
+pub record IsRechecked (old text : List ℕ) (front back : ℕ) (r : Rechecked) : Type 0 where
+  pub links : r.links ≡ links_in text
+  pub checks : AreChecksMade old text front r.vacant.items back r.made.items
+
+-- What is made of all that is kept of the items.
+pub record IsRemade (old text : List ℕ) (front back : ℕ) (r : Remade) : Type 0 where
+  pub entries : AreEntriesMade old text front r.made.items back
+  pub links : AreLinks old text r.links
+  pub checks : AreChecksMade old text front r.vacant.items back r.checks.items
+  pub warns : r.warns ≡ warns_in text
+
+-- What an edit cost: the pieces that are fresh, the items that are, and those that are stirred.
+pub record IsCost (old text : List ℕ) (start old_stop new_stop : ℕ) (work : Work) : Type 0 where
+  pub lexed : work.lexed ≡ fresh_pieces_between old text start old_stop new_stop
+  pub parsed : work.parsed ≡ length (fresh_items_between old text start old_stop new_stop)
+  pub checked : work.checked ≡ stirred_between old text start old_stop new_stop
+
+-- The edit shifts all that the text says.
+pub record IsShortWay (old text : List ℕ) (start old_stop new_stop : ℕ) (way : ShortWay) : Type 0 where
+  pub changes : IsChanged old text start old_stop new_stop way.changes
+  pub lines : IsLineList text way.lines.ends.items way.lines.markers.items way.lines.naming.items
+  pub shifted : IsShifted old text start old_stop new_stop way.shift
+  pub cost : IsCost old text start old_stop new_stop way.work
+
+-- What the text says is made anew.
+pub record IsWholeWay (old text : List ℕ) (start old_stop new_stop : ℕ) (way : WholeWay) : Type 0 where
+  pub changes : IsChanged old text start old_stop new_stop way.changes
+  pub lines : IsLineList text way.lines.ends.items way.lines.markers.items way.lines.naming.items
+  pub remade : IsRemade old text way.changes.items.kept_front way.changes.items.kept_back way.remade
+  pub diagnostics : way.diagnostics.items ≡ diagnostics_of text
+  pub tables : way.tables ≡ tables_in text
+  pub cost : IsCost old text start old_stop new_stop way.work
+
+-- An edit inside one state that says to the other items what it said: the rows are shifted, but for the body of its own.
+pub record IsStateWay (old text : List ℕ) (start old_stop new_stop : ℕ) (way : StateWay) : Type 0 where
+  pub changes : IsChanged old text start old_stop new_stop way.changes
+  pub lines : IsLineList text way.lines.ends.items way.lines.markers.items way.lines.naming.items
+  pub remade : IsRemade old text way.changes.items.kept_front way.changes.items.kept_back way.remade
+  pub diagnostics : way.diagnostics.items ≡ diagnostics_of text
+  pub tables : tables_in text ≡ with_body (shifted_tables way.shift (tables_in old)) way.row.set way.row.state way.body
+  pub cost : IsCost old text start old_stop new_stop way.work
+
+-- The plan of an edit is one of the three.
+abbrev pub IsPlan : (old text : List ℕ) (start old_stop new_stop : ℕ) → Plan → Type 0
+IsPlan old text start old_stop new_stop (plan.Short way) = IsShortWay old text start old_stop new_stop way
+IsPlan old text start old_stop new_stop (plan.State way) = IsStateWay old text start old_stop new_stop way
+IsPlan old text start old_stop new_stop (plan.Whole way) = IsWholeWay old text start old_stop new_stop way
+
+-- There is room for what it makes.
+abbrev pub HasRoom : Lists → Plan → Type 0
+HasRoom l (plan.Short way) = HasRoomForPlaces l way.changes
+HasRoom l (plan.State way) = HasRoomFor l way.changes way.remade
+HasRoom l (plan.Whole way) = HasRoomFor l way.changes way.remade
+
+abbrev pub work_of : Plan → Work
+work_of (plan.Short way) = way.work
+work_of (plan.State way) = way.work
+work_of (plan.Whole way) = way.work

@@ -8,7 +8,7 @@ use Rattle.snl_scope.specs.Summaries.Tokens.{bytes_at}
 use Rattle.snl_check.specs.Options.{warning_setting}
 use Rattle.snl_check.specs.Outlook.{is_in_set}
 use Rattle.snl_session.specs.Linked.{outlines_of}
-use Rattle.snl_session.specs.Program.{ProgramItem}
+use Rattle.snl_session.specs.Program.{ProgramItem, items_of}
 
 -- What item i says of warnings. A faulty item has no tree, and says nothing.
 abbrev pub setting_in : List ℕ → List Outline → ℕ → List Piece → Option Item → Option Bool
@@ -30,3 +30,6 @@ last_or default (setting ∷ settings) = last_or setting settings
 -- Warnings are shown, unless the last setting of them says that they are off.
 abbrev pub shows_warnings : List ℕ → List ProgramItem → Bool
 shows_warnings text xs = last_or true (warning_settings text xs)
+
+abbrev pub warns_in : List ℕ → Bool
+warns_in text = shows_warnings text (items_of text)

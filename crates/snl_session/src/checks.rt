@@ -1,25 +1,19 @@
-//! What is found in each item by itself: the items of a program and their links come in, findings at offsets go out, and what the
-//! check of each item gave.
+//! What is found in each item by itself: the items of a program and what the check of each gave come in, findings at offsets go out.
 //! It knows nothing of the rules.
 #![tactic(auto)]
 
-ghost use Rattle.std.specs.Prelude.{◌≡◌, ◌++◌, All, IfOk, OnOk, map};
-ghost use Rattle.std.specs.Option.{option_copied};
+ghost use Rattle.std.specs.Prelude.{◌≡◌, ◌++◌, All, OnOk, map};
 ghost use Rattle.snl_lex.specs.Pieces.{LiesIn};
-ghost use Rattle.snl_check.specs.Conditions.{uses_in_item};
-ghost use Rattle.snl_session.specs.Checked.{HasOffset, at_own_token, checked_faults, found_in_item, uses_kept};
-ghost use Rattle.snl_session.specs.Linked.{outlines_of};
+ghost use Rattle.snl_session.specs.Checked.{HasOffset, at_own_token, checked_faults, faults_kept};
+ghost use Rattle.snl_session.specs.Checks.{checks_over};
 ghost use Rattle.snl_session.specs.Parts.{IsPart, part_of};
 
 use crate::findings::Finding;
 use crate::linked::finding_at;
 use crate::program::Part;
-use snl_check::{Checked, ItemFault, check_item};
-use snl_cut::{Count, OutOfMemory};
+use snl_check::{Checked, ItemFault, faults_stand_in_tokens};
+use snl_cut::OutOfMemory;
 use snl_lex::Piece;
-use snl_scope::Links;
-use snl_syntax::tree::item::Item;
-use std::alloc::Global;
 
 // A finding of an item, at its byte in its token.
 fn at_own_token(own: &[Piece], fault: ItemFault) -> Finding
@@ -48,51 +42,38 @@ fn add_at_tokens(
     Ok(())
 }
 
-// Adds what is found in an item.
-fn add_item(
-    alloc: Global,
-    text: &[u8],
+/// Adds what the check of an item has found.
+pub fn add_item(
     own: &[Piece],
-    tree: Option<&Item>,
-    links: &Links,
-    item: usize,
-    work: &mut Count,
+    check: &Option<Checked>,
     found: &mut Vec<Finding>,
-) -> Result<Option<Checked>, OutOfMemory>
-    requires { All (LiesIn text.now) own.now }
-    ensures found { OnOk result (found.new.items ≡ found.old.items ++ found_in_item text.now links.now.outlines (item, record { tokens = own.now; tree = option_copied tree.entry })) }
-    ensures uses { IfOk result (λ checked. uses_kept checked ≡ uses_in_item text.now (record { tokens = own.now; tree = option_copied tree.entry })) }
+) -> Result<(), OutOfMemory>
+    requires { All (HasOffset own.now) (faults_kept check.now) }
+    ensures { OnOk result (found.new.items ≡ found.old.items ++ map (at_own_token own.now) (faults_kept check.now)) }
 {
-    let Some(tree) = tree else {
-        return Ok(None);
-    };
-    let checked = check_item(alloc, text, own, tree, links, item, work)?;
-    add_at_tokens(own, checked.faults.as_slice(), found)?;
-    Ok(Some(checked))
+    if let Some(checked) = check {
+        add_at_tokens(own, checked.faults.as_slice(), found)?;
+    }
+    Ok(())
 }
 
-/// Adds what is found in each item by itself, and gives what the check of each gave that isn't faulty.
+/// Adds what is found in each item by itself, as the check of each gave it.
 pub fn add_checked_faults(
-    alloc: Global,
     text: &[u8],
     tokens: &[Piece],
     parts: &[Part],
-    links: &Links,
+    checks: &[&Option<Checked>],
     found: &mut Vec<Finding>,
-) -> Result<Vec<Option<Checked>>, OutOfMemory>
+) -> Result<(), OutOfMemory>
     requires tokens { All (LiesIn text.now) tokens.now }
     requires parts { All (IsPart text.now tokens.now) parts.now }
-    requires links { links.now.outlines ≡ outlines_of text.now (map (part_of tokens.now) parts.now) }
-    ensures found { OnOk result (found.new.items ≡ found.old.items ++ checked_faults text.now (map (part_of tokens.now) parts.now)) }
-    ensures uses { IfOk result (λ checked. map uses_kept checked.items ≡ map (uses_in_item text.now) (map (part_of tokens.now) parts.now)) }
+    requires checks { map (λ c. c.now) checks.now ≡ checks_over text.now (map (part_of tokens.now) parts.now) }
+    ensures { OnOk result (found.new.items ≡ found.old.items ++ checked_faults text.now (map (part_of tokens.now) parts.now)) }
 {
-    let mut work = Count::new();
-    let mut checked = Vec::with_capacity(alloc, parts.len()).map_err(|_| OutOfMemory)?;
+    faults_stand_in_tokens();
     for (item, part) in parts.iter().enumerate() {
         let own = &tokens[part.start..part.stop];
-        let tree = part.entry.parsed.tree();
-        let kept = add_item(alloc, text, own, tree, links, item, &mut work, found)?;
-        checked.push(kept)?;
+        add_item(own, checks[item], found)?;
     }
-    Ok(checked)
+    Ok(())
 }

@@ -3,7 +3,7 @@
 //! alone, so that an edit elsewhere leaves it as it is.
 #![tactic(auto)]
 
-ghost use Rattle.std.specs.Prelude.{◌≡◌, ◌-◌, ◌<◌, ◌≤◌, ◌++◌, All, IfOk, OnOk, drop, length, map, take};
+ghost use Rattle.std.specs.Prelude.{◌≡◌, ◌<◌, All, IfOk, length, map};
 ghost use Rattle.snl_cut.specs.Cut.{after_ticks, members, ticked};
 ghost use Rattle.snl_lex.specs.PieceList.{spelled};
 ghost use Rattle.snl_lex.specs.Pieces.{LiesIn};
@@ -12,7 +12,6 @@ ghost use Rattle.snl_session.specs.Parts.{EndsWithin};
 
 use snl_cut::{Count, OutOfMemory};
 use snl_lex::Piece;
-use snl_lists::Ordered;
 use snl_scope::{Summary, same_spelling_same_summary, summary_of};
 use snl_syntax::{Parsed, parsed, same_spelling_same_tree};
 use std::alloc::Global;
@@ -24,8 +23,8 @@ pub struct Entry {
     pub summary: Summary,
 }
 
-// The entry of the item that consists of these tokens. It is parsed once.
-fn entry_of(
+/// The entry of the item that consists of these tokens. It is parsed once.
+pub fn entry_of(
     alloc: Global,
     text: &[u8],
     tokens: &[Piece],
@@ -64,53 +63,5 @@ pub fn entries_along(
         entries.push(entry_of(alloc, text, &tokens[start..stop], work)?)?;
         start = stop;
     }
-    Ok(entries)
-}
-
-// Adds the entries from one number up to another.
-fn add_kept<'a>(
-    kept: &'a Ordered<Entry>,
-    from: usize,
-    to: usize,
-    entries: &mut Vec<&'a Entry>,
-) -> Result<(), OutOfMemory>
-    requires order { from ≤ to }
-    requires inside { to ≤ length kept.now.values }
-    ensures { OnOk result (map (λ e. e.now) entries.new.items ≡ map (λ e. e.now) entries.old.items ++ take (to - from) (drop from kept.now.values)) }
-{
-    for number in from..to {
-        if let Some(entry) = kept.get(number) {
-            entries.push(entry)?;
-        }
-    }
-    Ok(())
-}
-
-// Adds entries that were made.
-fn add_made<'a>(made: &'a [Entry], entries: &mut Vec<&'a Entry>) -> Result<(), OutOfMemory>
-    ensures { OnOk result (map (λ e. e.now) entries.new.items ≡ map (λ e. e.now) entries.old.items ++ made.now) }
-{
-    for entry in made {
-        entries.push(entry)?;
-    }
-    Ok(())
-}
-
-/// The entries of all items after an edit: so many that are kept at the front, those that were made, and those from another number on.
-pub fn entries_after<'a>(
-    alloc: Global,
-    kept: &'a Ordered<Entry>,
-    front: usize,
-    made: &'a [Entry],
-    back: usize,
-) -> Result<Vec<&'a Entry>, OutOfMemory>
-    requires order { front ≤ back }
-    requires inside { back ≤ length kept.now.values }
-    ensures { IfOk result (λ es. map (λ e. e.now) es.items ≡ take front kept.now.values ++ (made.now ++ drop back kept.now.values)) }
-{
-    let mut entries = Vec::new(alloc);
-    add_kept(kept, 0, front, &mut entries)?;
-    add_made(made, &mut entries)?;
-    add_kept(kept, back, kept.len(), &mut entries)?;
     Ok(entries)
 }

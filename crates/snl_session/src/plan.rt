@@ -1,26 +1,27 @@
-//! The plan of an edit: what is kept of the old text and both texts come in, all that takes memory is made.
-//! It changes nothing.
+//! The plan of an edit that makes anew what the text says: what is kept of the old text and both texts come in, all that takes memory
+//! is made, and then taken over.
 #![tactic(auto)]
 
 ghost use Rattle.std.specs.Prelude.{◌≡◌, IfOk, length};
 ghost use Rattle.snl_cut.specs.Cut.{after_ticks};
 ghost use Rattle.snl_items.specs.Fresh.{fresh_items_between, fresh_pieces_between};
-ghost use Rattle.snl_lex.specs.Pieces.{pieces_of, tokens_of};
+ghost use Rattle.snl_lex.specs.LineList.{IsLineList};
+ghost use Rattle.snl_lex.specs.Pieces.{tokens_of};
 ghost use Rattle.snl_session.specs.Diagnostics.{diagnostics_of};
-ghost use Rattle.snl_session.specs.Kept.{IsListed};
-ghost use Rattle.snl_session.specs.Planned.{AreEntriesMade, IsChanged};
+ghost use Rattle.snl_session.specs.Kept.{HasRoomFor, IsListed};
+ghost use Rattle.snl_session.specs.Planned.{AreEntriesMade, IsChanged, IsWholeWay};
 ghost use Rattle.snl_session.specs.Tables.{tables_in};
 
 use crate::edits::Work;
-use crate::entries::{Entry, entries_after, entries_along};
+use crate::entries::{Entry, entries_along};
 use crate::findings::Diagnostic;
-use crate::judge::{Judgement, judge};
-use crate::lists::Lists;
-use crate::program::{CutText, items_end_in_order};
+use crate::lists::{Lists, Remade};
+use crate::program::items_end_in_order;
+use crate::rejudge::rejudge;
 use snl_check::Tables;
 use snl_cut::{Count, OutOfMemory};
-use snl_items::{ItemChange, TokenChange, pieces_are_fresh};
-use snl_lex::{Piece, PieceChange, TextEdit, text_in_pieces, tokens_among};
+use snl_items::{ItemChange, TokenChange};
+use snl_lex::{LineList, Piece, PieceChange, TextEdit, text_in_pieces};
 use std::alloc::Global;
 
 /// What an edit makes of the pieces, the tokens and the items.
@@ -31,25 +32,20 @@ pub struct Changes {
     pub items: ItemChange,
 }
 
-// What is made of the new text: what is kept of the fresh items, and what the text is judged to say.
+/// The changes that an edit makes, the lines of the new text, what is made of all that is kept of the items, what the new text is
+/// judged to say, and the cost.
 #[derive(Drop)]
-struct Anew {
-    made: Vec<Entry>,
-    judgement: Judgement,
-}
-
-/// The changes that an edit makes, what is kept of the fresh items, what the new text is judged to say, and the cost.
-#[derive(Drop)]
-pub struct Plan {
+pub struct WholeWay {
     pub changes: Changes,
-    pub made: Vec<Entry>,
+    pub lines: LineList,
+    pub remade: Remade,
     pub diagnostics: Vec<Diagnostic>,
     pub tables: Tables,
     pub work: Work,
 }
 
-// What an edit makes of the pieces, the tokens and the items. Each made piece is one tick.
-fn changes_of(
+/// What an edit makes of the pieces, the tokens and the items. Each made piece is one tick.
+pub fn changes_of(
     alloc: Global,
     lists: &Lists,
     edit: &TextEdit,
@@ -69,8 +65,8 @@ fn changes_of(
     })
 }
 
-// What is kept of the fresh items, among all tokens of the new text. Each is parsed once.
-fn made_entries(
+/// What is kept of the fresh items, among all tokens of the new text. Each is parsed once.
+pub fn made_entries(
     alloc: Global,
     lists: &Lists,
     edit: &TextEdit,
@@ -92,88 +88,86 @@ fn made_entries(
     Ok(made)
 }
 
-// What the new text is judged to say, by its pieces and tokens and what is kept of the fresh items.
-fn judge_after(
+/// The plan of an edit of the text that has these lists, by what it makes of them, the lines and the tokens of the new text and what is
+/// kept of the fresh items, where so many pieces are made and so many items are parsed.
+pub fn whole_way(
     alloc: Global,
     lists: &Lists,
     edit: &TextEdit,
-    changes: &Changes,
-    pieces: &[Piece],
+    changes: Changes,
+    lines: LineList,
     tokens: &[Piece],
-    made: &[Entry],
-) -> Result<Judgement, OutOfMemory>
+    made: Vec<Entry>,
+    lexed: u64,
+    parsed: u64,
+) -> Result<WholeWay, OutOfMemory>
     requires lists { IsListed edit.now.old.now lists.now }
-    requires changes { IsChanged edit.now.old.now edit.now.text.now edit.now.start edit.now.old_stop edit.now.new_stop changes.now }
-    requires pieces { pieces.now ≡ pieces_of edit.now.text.now }
+    requires changes { IsChanged edit.now.old.now edit.now.text.now edit.now.start edit.now.old_stop edit.now.new_stop changes }
+    requires lines { IsLineList edit.now.text.now lines.ends.items lines.markers.items lines.naming.items }
     requires tokens { tokens.now ≡ tokens_of edit.now.text.now }
-    requires made { AreEntriesMade edit.now.old.now edit.now.text.now changes.now.items.kept_front made.now changes.now.items.kept_back }
-    ensures diagnostics { IfOk result (λ j. j.diagnostics.items ≡ diagnostics_of edit.now.text.now) }
-    ensures tables { IfOk result (λ j. j.tables ≡ tables_in edit.now.text.now) }
+    requires made { AreEntriesMade edit.now.old.now edit.now.text.now changes.items.kept_front made.items changes.items.kept_back }
+    requires lexed { lexed ≡ fresh_pieces_between edit.now.old.now edit.now.text.now edit.now.start edit.now.old_stop edit.now.new_stop }
+    requires parsed { parsed ≡ length (fresh_items_between edit.now.old.now edit.now.text.now edit.now.start edit.now.old_stop edit.now.new_stop) }
+    ensures { IfOk result (IsWholeWay edit.now.old.now edit.now.text.now edit.now.start edit.now.old_stop edit.now.new_stop) }
 {
-    let Changes {
-        tokens: replaced,
-        items,
-        ..
-    } = changes;
-    let ends = lists.items.ends_after(alloc, edit, replaced, items)?;
-    let back = lists.entries.len() - items.kept_back;
-    let entries = entries_after(alloc, &lists.entries, items.kept_front, made, back)?;
-    let cut = CutText {
-        text: edit.text,
-        pieces,
+    let mut checked = Count::new();
+    let rejudged = rejudge(
+        alloc,
+        lists,
+        edit,
+        &changes,
+        &lines,
         tokens,
-        ends: &ends,
-        entries: &entries,
-    };
-    let judgement = judge(alloc, &cut)?;
-    Ok(judgement)
-}
-
-// What is made of the new text, with these changes. Each item that is parsed is one tick.
-fn made_anew(
-    alloc: Global,
-    lists: &Lists,
-    edit: &TextEdit,
-    changes: &Changes,
-    work: &mut Count,
-) -> Result<Anew, OutOfMemory>
-    requires lists { IsListed edit.now.old.now lists.now }
-    requires changes { IsChanged edit.now.old.now edit.now.text.now edit.now.start edit.now.old_stop edit.now.new_stop changes.now }
-    ensures made { IfOk result (λ a. AreEntriesMade edit.now.old.now edit.now.text.now changes.now.items.kept_front a.made.items changes.now.items.kept_back) }
-    ensures diagnostics { IfOk result (λ a. a.judgement.diagnostics.items ≡ diagnostics_of edit.now.text.now) }
-    ensures tables { IfOk result (λ a. a.judgement.tables ≡ tables_in edit.now.text.now) }
-    ensures ticks { IfOk result (λ a. work.new ≡ after_ticks work.old (length changes.now.items.made.items)) }
-{
-    let pieces = lists.pieces.pieces_after(alloc, edit, &changes.pieces)?;
-    let tokens = tokens_among(alloc, &pieces)?;
-    let made = made_entries(alloc, lists, edit, changes, &tokens, work)?;
-    let judgement = judge_after(alloc, lists, edit, changes, &pieces, &tokens, &made)?;
-    Ok(Anew { made, judgement })
-}
-
-/// The plan of an edit of the text that has these lists.
-pub fn plan_of(alloc: Global, lists: &Lists, edit: &TextEdit) -> Result<Plan, OutOfMemory>
-    requires lists { IsListed edit.now.old.now lists.now }
-    ensures changes { IfOk result (λ p. IsChanged edit.now.old.now edit.now.text.now edit.now.start edit.now.old_stop edit.now.new_stop p.changes) }
-    ensures made { IfOk result (λ p. AreEntriesMade edit.now.old.now edit.now.text.now p.changes.items.kept_front p.made.items p.changes.items.kept_back) }
-    ensures diagnostics { IfOk result (λ p. p.diagnostics.items ≡ diagnostics_of edit.now.text.now) }
-    ensures tables { IfOk result (λ p. p.tables ≡ tables_in edit.now.text.now) }
-    ensures lexed { IfOk result (λ p. p.work.lexed ≡ fresh_pieces_between edit.now.old.now edit.now.text.now edit.now.start edit.now.old_stop edit.now.new_stop) }
-    ensures parsed { IfOk result (λ p. p.work.parsed ≡ length (fresh_items_between edit.now.old.now edit.now.text.now edit.now.start edit.now.old_stop edit.now.new_stop)) }
-{
-    pieces_are_fresh();
-    let (mut lexed, mut parsed) = (Count::new(), Count::new());
-    let changes = changes_of(alloc, lists, edit, &mut lexed)?;
-    let Anew { made, judgement } = made_anew(alloc, lists, edit, &changes, &mut parsed)?;
-    Ok(Plan {
+        &made,
+        &mut checked,
+    )?;
+    Ok(WholeWay {
         changes,
-        made,
-        diagnostics: judgement.diagnostics,
-        tables: judgement.tables,
+        lines,
+        remade: Remade {
+            made,
+            links: Some(rejudged.rechecked.links),
+            vacant: rejudged.rechecked.vacant,
+            checks: rejudged.rechecked.made,
+            warns: rejudged.judgement.warns,
+        },
+        diagnostics: rejudged.judgement.diagnostics,
+        tables: rejudged.judgement.tables,
         work: Work {
-            lexed: lexed.ticks(),
-            parsed: parsed.ticks(),
-            checked: 0,
+            lexed,
+            parsed,
+            checked: checked.ticks(),
         },
     })
+}
+
+impl WholeWay {
+    /// Makes the lists of the old text those of the new one, and gives what the new text says. There is room for what is made, so it
+    /// can't fail.
+    pub fn commit(
+        self,
+        edit: &TextEdit,
+        lists: &mut Lists,
+        found: &mut Vec<Diagnostic>,
+        tables: &mut Tables,
+    )
+        requires way { IsWholeWay edit.now.old.now edit.now.text.now edit.now.start edit.now.old_stop edit.now.new_stop self }
+        requires lists { IsListed edit.now.old.now lists.old }
+        requires room { HasRoomFor lists.old self.changes self.remade }
+        ensures lists { IsListed edit.now.text.now lists.new }
+        ensures found { found.new.items ≡ diagnostics_of edit.now.text.now }
+        ensures tables { tables.new ≡ tables_in edit.now.text.now }
+    {
+        let WholeWay {
+            changes,
+            lines,
+            remade,
+            diagnostics,
+            tables: rows,
+            work: _,
+        } = self;
+        lists.commit(edit, &changes, lines, remade);
+        *found = diagnostics;
+        *tables = rows;
+    }
 }

@@ -7,8 +7,9 @@ ghost use Rattle.std.specs.Prelude.{◌≡◌, ◌<◌, ◌≤◌, ◌++◌, All
 ghost use Rattle.std.specs.List.{filter_map};
 ghost use Rattle.snl_cut.specs.Cut.{members};
 ghost use Rattle.snl_items.specs.Items.{item_ends};
+ghost use Rattle.snl_lex.specs.LineList.{IsLineList};
 ghost use Rattle.snl_lex.specs.PieceList.{spelled};
-ghost use Rattle.snl_lex.specs.Pieces.{LiesIn, pieces_of, tokens_of};
+ghost use Rattle.snl_lex.specs.Pieces.{LiesIn, tokens_of};
 ghost use Rattle.snl_syntax.specs.Outcome.{BlamesWithin};
 ghost use Rattle.snl_session.specs.Entries.{entries_of, entry_by};
 ghost use Rattle.snl_session.specs.Faults.{at_token, fault_at, faults_of};
@@ -18,20 +19,20 @@ ghost use Rattle.snl_session.specs.Program.{program_item};
 use crate::entries::Entry;
 use crate::findings::Finding;
 use snl_cut::{OutOfMemory, one_cut};
-use snl_lex::Piece;
+use snl_lex::{LineList, Piece};
 use snl_scope::{Code, same_spelling_same_summary};
 use snl_syntax::{Parsed, Tokens, outcome_told, same_spelling_same_tree};
 use std::alloc::Global;
 
-/// A text as it is cut: its pieces, its tokens, where its items end among these, and what is kept of each item.
+/// A text as it is cut: its lines, its tokens, where its items end among these, and what is kept of each item.
 #[derive(Clone, Copy)]
 pub struct CutText<'a> {
     pub text: &'a [u8],
-    pub pieces: &'a [Piece],
+    pub lines: &'a LineList,
     pub tokens: &'a [Piece],
     pub ends: &'a [u32],
     pub entries: &'a [&'a Entry],
-    ghost pieces_are: { pieces.now ≡ pieces_of text.now },
+    ghost lines_are: { IsLineList text.now lines.now.ends.items lines.now.markers.items lines.now.naming.items },
     ghost tokens_are: { tokens.now ≡ tokens_of text.now },
     ghost ends_are: { ends.now ≡ item_ends text.now },
     ghost entries_are: { map (λ e. e.now) entries.now ≡ entries_of text.now },
@@ -90,8 +91,8 @@ fn at_token(code: Code, token: Piece) -> Finding
     }
 }
 
-// What is found at an item with these tokens, as the parser left it.
-fn fault_at(tokens: &[Piece], parsed: &Parsed) -> Option<Finding>
+/// What is found at an item with these tokens, as the parser left it.
+pub fn fault_at(tokens: &[Piece], parsed: &Parsed) -> Option<Finding>
     requires { BlamesWithin (length tokens.now) parsed.now }
     ensures { result ≡ fault_at tokens.now parsed.now }
 {

@@ -2,21 +2,24 @@
 //! An edit has three steps: the test of its range and size, all that takes memory, and the change, which cannot fail.
 #![tactic(auto)]
 
-ghost use Rattle.std.specs.Prelude.{◌≡◌, ℕ, ◌+◌, ◌≤◌, [], ◌++◌, List, length, IfOk, OnOk, OnErr, IsErrOf, IsOkUnless, MatchOption, None, string_bytes};
+ghost use Rattle.std.specs.Prelude.{◌≡◌, ℕ, ◌+◌, ◌≤◌, [], List, length, IfOk, OnOk, OnErr, IsErrOf, IsOkUnless, MatchOption, None, string_bytes, true};
+ghost use Rattle.snl_session.specs.Edit.{spliced};
 
 use crate::edits::{Refused, Work};
 use crate::findings::Diagnostic;
 use crate::judge::judge;
 use crate::laws::rows_have_bytes;
 use crate::lists::Lists;
-use crate::plan::{Plan, plan_of};
+use crate::once_laws::found_once;
 use crate::program::CutText;
+use crate::ways::plan_of;
 use snl_check::Tables;
 use snl_cut::OutOfMemory;
 use snl_items::ItemList;
-use snl_lex::{PieceList, TextEdit};
+use snl_lex::{LineList, PieceList, TextEdit};
 use snl_listing::{Lister, listing};
 use snl_lists::Ordered;
+use snl_scope::link;
 use std::alloc::Global;
 use std::marker::Model;
 
@@ -24,12 +27,23 @@ use std::marker::Model;
 const LIMIT: usize = 1_048_576;
 
 /// A text, its diagnostics and its tables. Its value is the text: all that it answers is what the text alone defines.
-#[derive(Drop)]
 pub struct Session {
     text: Vec<u8>,
     lists: Lists,
     found: Vec<Diagnostic>,
     tables: Tables,
+}
+
+// By hand, so that whoever holds a session need not know what is in it to let it go.
+impl Drop for Session {
+    fn drop(self) {
+        let Session {
+            text: _,
+            lists: _,
+            found: _,
+            tables: _,
+        } = self;
+    }
 }
 
 impl Model for Session {
@@ -45,12 +59,13 @@ impl Model for Session {
 
 impl Session {
     ghost use Rattle.snl_session.specs.Diagnostics.{diagnostics_of, errors_of, stands_before, warnings_of};
-    ghost use Rattle.std.specs.List.Sorted.{IsSortedBy};
+    ghost use Rattle.std.specs.List.{AllPairs};
     ghost use Rattle.snl_check.specs.Spans.{TablesHaveBytes, TablesLieIn};
-    ghost use Rattle.snl_session.specs.Edit.{limit, refusal_of, spliced};
+    ghost use Rattle.snl_session.specs.Edit.{limit, refusal_of};
     ghost use Rattle.snl_items.specs.Fresh.{fresh_items, fresh_pieces};
     ghost use Rattle.snl_listing.specs.Lister.{IsFor};
     ghost use Rattle.snl_session.specs.Listing.{listing_text};
+    ghost use Rattle.snl_session.specs.Stirred.{stirred};
     ghost use Rattle.snl_session.specs.Tables.{tables_in};
 
     /// A session over the empty text. The only refusal is that of memory.
@@ -66,6 +81,7 @@ impl Session {
         ensures ok { OnOk result (self.new ≡ spliced self.old start stop new.now) }
         ensures lexed { IfOk result (λ work. work.lexed ≡ fresh_pieces self.old start stop new.now) }
         ensures parsed { IfOk result (λ work. work.parsed ≡ length (fresh_items self.old start stop new.now)) }
+        ensures checked { IfOk result (λ work. work.checked ≡ stirred self.old start stop new.now) }
         ensures refused { MatchOption (refusal_of self.old start stop (length new.now))
             (IsOkUnless result Refused.Memory) (λ e. IsErrOf result e) }
         ensures err { OnErr result (self.new ≡ self.old) }
@@ -84,11 +100,12 @@ impl Session {
         self.text.as_slice()
     }
 
-    /// The diagnostics of the text, sorted by offset and then by code.
+    /// The diagnostics of the text. They rise by offset, and at one offset by code: no two have one offset and one code.
     pub fn diagnostics(&self) -> &[Diagnostic]
         ensures of_text { result.now ≡ diagnostics_of self.now }
-        ensures sorted { IsSortedBy stands_before result.now }
+        ensures rising { AllPairs (λ x y. stands_before x y ≡ true) result.now }
     {
+        found_once();
         self.found.as_slice()
     }
 
@@ -153,10 +170,11 @@ impl Session {
         ensures ok { OnOk result (self.new ≡ spliced self.old start stop new.now) }
         ensures lexed { IfOk result (λ work. work.lexed ≡ fresh_pieces self.old start stop new.now) }
         ensures parsed { IfOk result (λ work. work.parsed ≡ length (fresh_items self.old start stop new.now)) }
+        ensures checked { IfOk result (λ work. work.checked ≡ stirred self.old start stop new.now) }
         ensures err { OnErr result (self.new ≡ self.old) }
     {
         let alloc = *self.text.allocator();
-        let text = joined(alloc, &self.text[..start], new, &self.text[stop..])?;
+        let text = spliced(alloc, &self.text, start, stop, new)?;
         let edit = TextEdit {
             old: &self.text,
             text: &text,
@@ -164,18 +182,10 @@ impl Session {
             old_stop: stop,
             new_stop: start + new.len(),
         };
-        let plan = plan_of(alloc, &self.lists, &edit)?;
-        self.lists.reserve(&plan.changes, plan.made.len())?;
-        let Plan {
-            changes,
-            made,
-            diagnostics,
-            tables,
-            work,
-        } = plan;
-        self.lists.commit(&edit, &changes, made);
-        self.found = diagnostics;
-        self.tables = tables;
+        let plan = plan_of(alloc, &self.lists, &self.found, &edit)?;
+        let plan = plan.with_room_in(&mut self.lists)?;
+        let work = plan.work();
+        plan.commit(&edit, &mut self.lists, &mut self.found, &mut self.tables);
         self.text = text;
         Ok(work)
     }
@@ -184,24 +194,31 @@ impl Session {
     fn empty(alloc: Global) -> Result<Session, OutOfMemory>
         ensures { IfOk result (λ s. s ≡ []) }
     {
+        let lines = LineList::of(alloc, &[], &[])?;
         let cut = CutText {
             text: &[],
-            pieces: &[],
+            lines: &lines,
             tokens: &[],
             ends: &[],
             entries: &[],
         };
-        let judgement = judge(alloc, &cut)?;
+        let links = link(alloc, &[])?;
+        let judgement = judge(alloc, &cut, &[], &links, &[])?;
         let lists = Lists {
             pieces: PieceList {
                 ends: Vec::new(alloc),
                 kinds: Vec::new(alloc),
+                markers: 0,
             },
+            lines,
             items: ItemList {
                 marks: Vec::new(alloc),
                 ends: Vec::new(alloc),
             },
             entries: Ordered::new(alloc),
+            links,
+            checks: Ordered::new(alloc),
+            warns: judgement.warns,
         };
         Ok(Session {
             text: Vec::new(alloc),
@@ -212,12 +229,21 @@ impl Session {
     }
 }
 
-// Three parts, one after another.
-fn joined(alloc: Global, front: &[u8], middle: &[u8], back: &[u8]) -> Result<Vec<u8>, OutOfMemory>
-    ensures { IfOk result (λ v. v.items ≡ front.now ++ middle.now ++ back.now) }
+// A text with other bytes in the place of those from `start` up to `stop`.
+fn spliced(
+    alloc: Global,
+    old: &[u8],
+    start: usize,
+    stop: usize,
+    new: &[u8],
+) -> Result<Vec<u8>, OutOfMemory>
+    requires order { start ≤ stop }
+    requires inside { stop ≤ length old.now }
+    ensures { IfOk result (λ v. v.items ≡ spliced old.now start stop new.now) }
 {
-    let mut text = Vec::from_slice(alloc, front).map_err(|_| OutOfMemory)?;
-    text.extend_from_slice(middle).map_err(|_| OutOfMemory)?;
-    text.extend_from_slice(back).map_err(|_| OutOfMemory)?;
+    let mut text = Vec::from_slice(alloc, &old[..start]).map_err(|_| OutOfMemory)?;
+    text.extend_from_slice(new).map_err(|_| OutOfMemory)?;
+    text.extend_from_slice(&old[stop..])
+        .map_err(|_| OutOfMemory)?;
     Ok(text)
 }

@@ -3,18 +3,18 @@
 #![tactic(auto)]
 
 ghost use Rattle.std.specs.Prelude.{◌≡◌, IfOk, length, map, option_copied};
-ghost use Rattle.snl_lex.specs.Pieces.{pieces_of, tokens_of};
-ghost use Rattle.snl_check.specs.Collected.{uses_told};
-ghost use Rattle.snl_check.specs.Conditions.{uses_in_item};
+ghost use Rattle.snl_lex.specs.LineList.{IsLineList};
+ghost use Rattle.snl_lex.specs.Pieces.{tokens_of};
 ghost use Rattle.snl_check.specs.Items.{IsCutUp, outlines_of, program_items};
 ghost use Rattle.snl_check.specs.Tables.{tables_of};
-ghost use Rattle.snl_session.specs.Checked.{uses_kept};
+ghost use Rattle.snl_check.specs.Told.{told_kept, told_seen};
+ghost use Rattle.snl_session.specs.Checks.{checks_over};
 ghost use Rattle.snl_session.specs.Parts.{part_of, tree_of_part};
 
 use crate::program::Part;
 use snl_check::{Checked, Tables, tables_by_tokens};
 use snl_cut::OutOfMemory;
-use snl_lex::Piece;
+use snl_lex::{LineList, Piece};
 use snl_scope::Links;
 use snl_syntax::tree::item::Item;
 use std::alloc::Global;
@@ -30,18 +30,18 @@ fn trees_of<'a>(alloc: Global, parts: &[Part<'a>]) -> Result<Vec<Option<&'a Item
     Ok(trees)
 }
 
-// What the check of each item gave.
-fn checks_of(
+// What the check of each item gave, if it isn't faulty.
+fn told_checks<'a>(
     alloc: Global,
-    checked: &[Option<Checked>],
-) -> Result<Vec<Option<&Checked>>, OutOfMemory>
-    ensures { IfOk result (λ checks. map uses_told checks.items ≡ map uses_kept checked.now) }
+    checks: &[&'a Option<Checked>],
+) -> Result<Vec<Option<&'a Checked>>, OutOfMemory>
+    ensures { IfOk result (λ told. map told_seen told.items ≡ map told_kept (map (λ c. c.now) checks.now)) }
 {
-    let mut checks = Vec::new(alloc);
-    for item in checked {
-        checks.push(item.as_ref())?;
+    let mut told = Vec::new(alloc);
+    for check in checks {
+        told.push(check.as_ref())?;
     }
-    Ok(checks)
+    Ok(told)
 }
 
 // The same ends, as the machine counts.
@@ -59,24 +59,24 @@ fn widened(alloc: Global, ends: &[u32]) -> Result<Vec<usize>, OutOfMemory>
 pub fn tables_of(
     alloc: Global,
     text: &[u8],
-    pieces: &[Piece],
+    lines: &LineList,
     tokens: &[Piece],
     ends: &[u32],
     parts: &[Part],
     links: &Links,
-    checked: &[Option<Checked>],
+    checks: &[&Option<Checked>],
 ) -> Result<Tables, OutOfMemory>
-    requires pieces { pieces.now ≡ pieces_of text.now }
+    requires lines { IsLineList text.now lines.now.ends.items lines.now.markers.items lines.now.naming.items }
     requires tokens { tokens.now ≡ tokens_of text.now }
     requires cut { IsCutUp text.now tokens.now ends.now (length parts.now) }
     requires items { program_items tokens.now ends.now (map tree_of_part parts.now) ≡ map (part_of tokens.now) parts.now }
     requires links { links.now.outlines ≡ outlines_of text.now (map (part_of tokens.now) parts.now) }
-    requires checked { map uses_kept checked.now ≡ map (uses_in_item text.now) (map (part_of tokens.now) parts.now) }
+    requires checks { map (λ c. c.now) checks.now ≡ checks_over text.now (map (part_of tokens.now) parts.now) }
     ensures { IfOk result (λ t. t ≡ tables_of text.now (map (part_of tokens.now) parts.now)) }
 {
     let ends = widened(alloc, ends)?;
     let trees = trees_of(alloc, parts)?;
-    let checks = checks_of(alloc, checked)?;
-    let tables = tables_by_tokens(alloc, text, pieces, tokens, &ends, &trees, links, &checks)?;
+    let told = told_checks(alloc, checks)?;
+    let tables = tables_by_tokens(alloc, text, lines, tokens, &ends, &trees, links, &told)?;
     Ok(tables)
 }

@@ -4,13 +4,14 @@ use snl_session::{Refused, Session, Work};
 use std::alloc::Global;
 use std::test::Fail;
 
-// An edit, how many pieces and items it makes anew, and the lines and codes of what is found after it.
+// An edit, how many pieces and items it makes anew and how many items it checks, and the lines and codes of what is found after it.
 struct Step {
     start: usize,
     stop: usize,
     new: &'static [u8],
     lexed: u64,
     parsed: u64,
+    checked: u64,
     found: &'static [(usize, &'static str)],
 }
 
@@ -21,6 +22,7 @@ static STEPS: [Step; 9] = [
         new: b"program p\nint x;\nassign x to \"dev:x\";\nmonitor x;\nevflag f;\nsync x to f;\nss a {\nstate s1 {\nwhen (efTest(f) && x > 3) {\npvPut(x);\n} state s2\n}\nstate s2 {\nwhen () { } state s1\n}\n}\n",
         lexed: 105,
         parsed: 10,
+        checked: 10,
         found: &[],
     },
     // another state set begins before the second state
@@ -30,6 +32,7 @@ static STEPS: [Step; 9] = [
         new: b"} ss b {\n",
         lexed: 9,
         parsed: 3,
+        checked: 4,
         found: &[(11, "E10"), (15, "E10")],
     },
     Step {
@@ -38,6 +41,7 @@ static STEPS: [Step; 9] = [
         new: b"",
         lexed: 1,
         parsed: 1,
+        checked: 2,
         found: &[],
     },
     // a comment that isn't closed takes the second state
@@ -47,6 +51,7 @@ static STEPS: [Step; 9] = [
         new: b"/*",
         lexed: 2,
         parsed: 2,
+        checked: 1,
         found: &[(7, "E04"), (11, "E10"), (13, "E01")],
     },
     // the comment goes, and the second state has another name
@@ -56,6 +61,7 @@ static STEPS: [Step; 9] = [
         new: b"state s2x",
         lexed: 24,
         parsed: 3,
+        checked: 3,
         found: &[(11, "E10"), (13, "W02")],
     },
     // a comment of lines before it
@@ -65,6 +71,7 @@ static STEPS: [Step; 9] = [
         new: b"/*\n\n\n*/",
         lexed: 2,
         parsed: 0,
+        checked: 0,
         found: &[(14, "E10"), (16, "W02")],
     },
     // an option that turns warnings off
@@ -74,6 +81,7 @@ static STEPS: [Step; 9] = [
         new: b"option -w;\n",
         lexed: 7,
         parsed: 2,
+        checked: 2,
         found: &[(15, "E10")],
     },
     Step {
@@ -82,6 +90,7 @@ static STEPS: [Step; 9] = [
         new: b"",
         lexed: 1,
         parsed: 1,
+        checked: 1,
         found: &[(14, "E10"), (16, "W02")],
     },
     // nothing is left
@@ -91,6 +100,7 @@ static STEPS: [Step; 9] = [
         new: b"",
         lexed: 0,
         parsed: 0,
+        checked: 0,
         found: &[(1, "E05"), (1, "E06")],
     },
 ];
@@ -111,6 +121,7 @@ fn judges_the_text_anew_after_each_edit(rt: HostRuntime) -> Result<(), Fail> {
         let work = session.edit(step.start, step.stop, step.new)?;
         assert_eq!(rt; work.lexed, step.lexed, "at {}", step.start);
         assert_eq!(rt; work.parsed, step.parsed, "at {}", step.start);
+        assert_eq!(rt; work.checked, step.checked, "at {}", step.start);
         let found = found_in(rt.alloc(), &session)?;
         assert_eq!(rt; found.as_slice(), step.found, "at {}", step.start);
     }
@@ -138,31 +149,32 @@ static ANSWERS: [(usize, usize, usize, Result<Work, Refused>, usize); 10] = [
     (50, 1_048_576, 0, Ok(ONE_PIECE), 50),
 ];
 
-// An edit of the first step's text, and how many pieces and items it makes anew.
-static FRESH: [(usize, usize, &[u8], u64, u64); 7] = [
-    // the name of a state
-    (149, 149, b"x", 1, 1),
+// An edit of the first step's text, how many pieces and items it makes anew, and how many items it checks.
+static FRESH: [(usize, usize, &[u8], u64, u64, u64); 7] = [
+    // the name of a state, to which another one leads
+    (149, 149, b"x", 1, 1, 2),
     // a comment is opened over the rest: the header ends where it begins
-    (10, 10, b"/*", 2, 2),
+    (10, 10, b"/*", 2, 2, 1),
     // a comment inside a state
-    (90, 90, b"/*\n\n\n*/", 2, 0),
+    (90, 90, b"/*\n\n\n*/", 2, 0, 0),
     // the same text again
-    (10, 16, b"int x;", 5, 0),
-    // an item is taken away
-    (17, 38, b"", 1, 1),
+    (10, 16, b"int x;", 5, 0, 0),
+    // an assignment is taken away: the state that uses the variable is checked again
+    (17, 38, b"", 1, 1, 2),
     // nothing is changed, at the first byte of a name
-    (30, 30, b"", 1, 0),
-    (0, 177, b"", 0, 0),
+    (30, 30, b"", 1, 0, 0),
+    (0, 177, b"", 0, 0, 0),
 ];
 
 #[test]
-fn makes_fresh_pieces_and_items_alone(rt: HostRuntime) -> Result<(), Fail> {
-    for (start, stop, new, lexed, parsed) in &FRESH {
+fn makes_and_checks_what_changed_alone(rt: HostRuntime) -> Result<(), Fail> {
+    for (start, stop, new, lexed, parsed, checked) in &FRESH {
         let mut session = Session::new(rt.alloc())?;
         session.edit(0, 0, STEPS[0].new)?;
         let work = session.edit(*start, *stop, new)?;
         assert_eq!(rt; work.lexed, *lexed, "from {start} to {stop}");
         assert_eq!(rt; work.parsed, *parsed, "from {start} to {stop}");
+        assert_eq!(rt; work.checked, *checked, "from {start} to {stop}");
     }
     Ok(())
 }

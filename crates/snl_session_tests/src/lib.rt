@@ -1,9 +1,7 @@
 //! Tests of the session's public calls. There is no code of the product here. What is found in whole texts is tested on the
-//! built program, by the cases of tests/cases.
+//! built program, by the cases of tests/cases; what long lists of edits lead to, by snl_fixed_edits and snl_random_edits.
 #![tactic(auto)]
 
-#[cfg(test)]
-mod edited;
 #[cfg(test)]
 mod edits;
 #[cfg(test)]
@@ -11,8 +9,6 @@ mod listings;
 #[cfg(test)]
 mod places;
 #[cfg(test)]
-mod same_rows;
-#[cfg(test)]
-mod scripts;
+mod shifted;
 #[cfg(test)]
 mod tables;

@@ -1,7 +1,7 @@
 -- The tokens from a place on.
 use Rattle.std.proofs.Common.{◌≡◌, ℕ, suc, ◌+◌, ◌-◌, ◌<◌, ◌≤◌, true, false, List, [], ◌∷◌, length, get_or, drop, Some, None, Ok, Err, refl, ap, ◌∙◌, add-one, drop-cons, length-drop}
 use Rattle.std.proofs.lemmas.List.{drop_all}
-use Rattle.snl_syntax.specs.declared.kind.Kind.{Kind}
+use Rattle.snl_lex.specs.declared.kind.Kind.{Kind}
 use Rattle.snl_syntax.specs.Tokens.{numbered, ahead, same}
 use Rattle.snl_syntax.specs.Steps.{kind_at, expect, accept}
 

@@ -1,6 +1,6 @@
 -- The token that a reader of whole items blames.
 use Rattle.std.proofs.Common.{◌≡◌, ℕ, ◌-◌, min, List, length, Err, ap, ◌∙◌, arith}
-use Rattle.snl_syntax.specs.declared.kind.Kind.{Kind}
+use Rattle.snl_lex.specs.declared.kind.Kind.{Kind}
 use Rattle.snl_syntax.specs.Tokens.{ahead}
 use Rattle.snl_syntax.specs.Reading.Items.{levels, whole_item, blamed_in, fault_of}
 use Rattle.snl_syntax.proofs.Ahead.{length-ahead}

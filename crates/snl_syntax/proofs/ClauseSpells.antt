@@ -1,6 +1,6 @@
 -- Clauses on variables, options, and foreign names spell their tokens.
 use Rattle.std.proofs.Common.{Bool, true, false, List, refl}
-use Rattle.snl_syntax.specs.declared.kind.Kind.TheVariants as kind
+use Rattle.snl_lex.specs.declared.kind.Kind.TheVariants as kind
 use Rattle.snl_syntax.specs.declared.tree.clause.OptionSign.{OptionSign}
 use Rattle.snl_syntax.specs.declared.tree.clause.OptionSign.TheVariants as signs
 use Rattle.snl_syntax.specs.Tokens.{Seat}

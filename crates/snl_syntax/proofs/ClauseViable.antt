@@ -1,7 +1,7 @@
 -- Clauses, options and foreign names: what was read is in the grammar, and what was read before a blamed token can be completed.
 use Rattle.std.proofs.Common.{◌≡◌, ℕ, Bool, true, false, List, [], ◌∷◌, Option, Some, refl, ap, subst, ◌∙◌}
-use Rattle.snl_syntax.specs.declared.kind.Kind.{Kind}
-use Rattle.snl_syntax.specs.declared.kind.Kind.TheVariants as kind
+use Rattle.snl_lex.specs.declared.kind.Kind.{Kind}
+use Rattle.snl_lex.specs.declared.kind.Kind.TheVariants as kind
 use Rattle.snl_syntax.specs.declared.tree.clause.Channel.{Channel}
 use Rattle.snl_syntax.specs.declared.tree.clause.Channel.TheVariants as channels
 use Rattle.snl_syntax.specs.declared.tree.clause.Flag.{Flag}

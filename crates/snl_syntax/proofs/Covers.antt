@@ -1,13 +1,13 @@
 -- The tokens from one place to another are those that a tree spells.
 use Rattle.std.proofs.Common.{◌≡◌, ℕ, zero, suc, true, false, List, [], ◌∷◌, ◌++◌, map, Some, None, refl, sym, ap, subst, ◌∙◌, append_assoc}
 use Rattle.std.proofs.lemmas.List.{append-nil}
-use Rattle.snl_syntax.specs.declared.kind.Kind.{Kind}
+use Rattle.snl_lex.specs.declared.kind.Kind.{Kind}
 use Rattle.snl_syntax.specs.Tokens.{Seat}
 use Rattle.snl_syntax.specs.Grammar.Base.{Each, First, Leaf, Perhaps, Within}
 use Rattle.snl_syntax.specs.Grammar.Types.{Written}
 use Rattle.snl_syntax.specs.Grammar.Expressions.{IsBehindComma, AreCommas}
 use Rattle.snl_syntax.specs.Spelling.Base.{Spelled, word, leaf, written, perhaps, joined, behind, commas, Matches}
-use Rattle.snl_syntax.specs.declared.kind.Kind.TheVariants as kind
+use Rattle.snl_lex.specs.declared.kind.Kind.TheVariants as kind
 
 pub record Covers (spelled : List Spelled) (k rest : List Seat) : Type 0 where
   pub front : List Seat

@@ -1,7 +1,7 @@
 -- Parameters, functions and structs are read again.
 use Rattle.std.proofs.Common.{◌≡◌, ℕ, zero, suc, Bool, true, false, List, [], ◌∷◌, Option, Some, None, Ok, refl, sym, ap, subst}
-use Rattle.snl_syntax.specs.declared.kind.Kind.{Kind}
-use Rattle.snl_syntax.specs.declared.kind.Kind.TheVariants as kind
+use Rattle.snl_lex.specs.declared.kind.Kind.{Kind}
+use Rattle.snl_lex.specs.declared.kind.Kind.TheVariants as kind
 use Rattle.snl_syntax.specs.declared.tree.expression.Expr.{Expr}
 use Rattle.snl_syntax.specs.declared.tree.declaration.Declaration.{Declaration}
 use Rattle.snl_syntax.specs.declared.tree.declaration.Parameter.{Parameter}

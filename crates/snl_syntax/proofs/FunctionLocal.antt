@@ -1,7 +1,7 @@
 -- Readers of functions and structs look no further than one token ahead, where the reader of blocks doesn't.
 use Rattle.std.proofs.Common.{◌-◌, ℕ, zero, suc, Bool, false, List, [], Option, Some, None}
-use Rattle.snl_syntax.specs.declared.kind.Kind.{Kind}
-use Rattle.snl_syntax.specs.declared.kind.Kind.TheVariants as kind
+use Rattle.snl_lex.specs.declared.kind.Kind.{Kind}
+use Rattle.snl_lex.specs.declared.kind.Kind.TheVariants as kind
 use Rattle.snl_syntax.specs.declared.tree.types.Base.{Base}
 use Rattle.snl_syntax.specs.declared.tree.types.Base.TheVariants as bases
 use Rattle.snl_syntax.specs.declared.tree.types.QualifiedType.{QualifiedType}

@@ -1,6 +1,6 @@
 -- Functions, structs, and the items that begin with a type spell their tokens.
 use Rattle.std.proofs.Common.{ℕ, zero, suc, List, [], ◌∷◌, map, Some, None, refl}
-use Rattle.snl_syntax.specs.declared.kind.Kind.TheVariants as kind
+use Rattle.snl_lex.specs.declared.kind.Kind.TheVariants as kind
 use Rattle.snl_syntax.specs.declared.tree.expression.Expr.{Expr}
 use Rattle.snl_syntax.specs.declared.tree.declaration.Declaration.{Declaration}
 use Rattle.snl_syntax.specs.declared.tree.declaration.Parameter.{Parameter}

@@ -16,7 +16,6 @@ pub mod TierAgain
 pub mod SingleAgain
 mod Headers
 mod PlainItems
-mod Spellings
 mod StateSets
 pub mod Depths
 pub mod DeclarationLocal

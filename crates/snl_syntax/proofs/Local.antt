@@ -2,7 +2,7 @@
 use Rattle.std.proofs.Common.{◌≡◌, ℕ, zero, suc, ◌+◌, ◌<◌, ◌≤◌, Bool, true, false, cond, List, [], ◌∷◌, ◌++◌, length, Option, Some, None, Ok, Err, refl, sym, ap, ◌∙◌, append_assoc, inl, inr, ◌⊎◌, arith}
 use Rattle.std.specs.Prelude.{option_to_list}
 use Rattle.std.proofs.lemmas.List.{append_cancel_right, length-append}
-use Rattle.snl_syntax.specs.declared.kind.Kind.{Kind}
+use Rattle.snl_lex.specs.declared.kind.Kind.{Kind}
 use Rattle.snl_syntax.specs.declared.stop.Step.{Step}
 use Rattle.snl_syntax.specs.declared.stop.Step.TheVariants as steps
 use Rattle.snl_syntax.specs.Tokens.{Seat, same}

@@ -1,6 +1,6 @@
 -- The item that is read is in the grammar, and no other consists of the same tokens.
 use Rattle.std.proofs.Common.{◌≡◌, ℕ, suc, List, [], ◌++◌, Some, None, Ok, Err, refl, sym, ap, subst, ◌∙◌}
-use Rattle.snl_syntax.specs.declared.kind.Kind.{Kind}
+use Rattle.snl_lex.specs.declared.kind.Kind.{Kind}
 use Rattle.snl_syntax.specs.declared.tree.item.Item.{Item}
 use Rattle.snl_syntax.specs.Tokens.{Seat, ahead}
 use Rattle.snl_syntax.specs.Steps.{Outcome}

@@ -1,6 +1,6 @@
 -- One tier of binary operators, beside the code that counts tiers down.
 use Rattle.std.proofs.Common.{◌≡◌, ℕ, suc, ◌-◌, ◌<◌, List, [], Ok, Err, refl, ap, subst, ◌∙◌, arith}
-use Rattle.snl_syntax.specs.declared.kind.Kind.{Kind}
+use Rattle.snl_lex.specs.declared.kind.Kind.{Kind}
 use Rattle.snl_syntax.specs.declared.operator.Binary.{Binary}
 use Rattle.snl_syntax.specs.declared.stop.Stop.{Stop}
 use Rattle.snl_syntax.specs.declared.stop.Stop.TheVariants as stops

@@ -1,7 +1,7 @@
 -- A list that is read element after element, beside a loop that counts up.
 use Rattle.std.proofs.Common.{◌≡◌, ℕ, suc, ◌+◌, ◌-◌, ◌<◌, ◌≤◌, List, [], ◌∷◌, ◌++◌, length, Option, Some, None, Ok, Err, refl, sym, ap, ◌∙◌, arith}
 use Rattle.std.specs.Prelude.{option_to_list}
-use Rattle.snl_syntax.specs.declared.kind.Kind.{Kind}
+use Rattle.snl_lex.specs.declared.kind.Kind.{Kind}
 use Rattle.snl_syntax.specs.declared.stop.Stop.{Stop}
 use Rattle.snl_syntax.specs.declared.stop.Stop.TheVariants as stops
 use Rattle.snl_syntax.specs.declared.stop.Step.{Step}

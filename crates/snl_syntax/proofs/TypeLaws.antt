@@ -1,7 +1,7 @@
 -- The laws of types and of their names: no look ahead, completion, reading again.
 use Rattle.std.proofs.Common.{◌≡◌, ℕ, Bool, true, false, List, [], ◌∷◌, Option, Some, None, Ok, refl, sym, ap, subst, ◌∙◌}
-use Rattle.snl_syntax.specs.declared.kind.Kind.{Kind}
-use Rattle.snl_syntax.specs.declared.kind.Kind.TheVariants as kind
+use Rattle.snl_lex.specs.declared.kind.Kind.{Kind}
+use Rattle.snl_lex.specs.declared.kind.Kind.TheVariants as kind
 use Rattle.snl_syntax.specs.declared.tree.types.Integer.{Integer}
 use Rattle.snl_syntax.specs.declared.tree.types.Integer.TheVariants as integers
 use Rattle.snl_syntax.specs.declared.tree.types.Base.{Base}

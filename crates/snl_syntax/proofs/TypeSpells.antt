@@ -2,7 +2,7 @@
 use Rattle.snl_syntax.specs.declared.tree.types.Integer.TheVariants as integers
 use Rattle.snl_syntax.specs.declared.tree.types.Base.TheVariants as bases
 use Rattle.snl_syntax.specs.declared.tree.types.Pointer.TheVariants as pointers
-use Rattle.snl_syntax.specs.declared.kind.Kind.TheVariants as kind
+use Rattle.snl_lex.specs.declared.kind.Kind.TheVariants as kind
 use Rattle.snl_syntax.specs.Grammar.Base.{Each}
 use Rattle.snl_syntax.specs.Grammar.Types.{IsInteger, IsBase, IsType, IsPointer, IsTypeName}
 use Rattle.snl_syntax.specs.Spelling.Types.{spell_integer, spell_base, spell_type, spell_pointer, spell_stars, spell_type_name}

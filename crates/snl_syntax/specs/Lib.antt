@@ -7,7 +7,6 @@ pub mod Viability
 pub mod Nests
 pub mod Items
 pub mod ItemLaws
-pub mod Kinds
 pub mod Parsing
 pub mod Marks
 pub mod NestsStatement

@@ -1,11 +1,11 @@
 -- What a token is to the cut into items, by its class and its bytes.
 use Rattle.std.specs.Prelude.{ℕ, List}
 use Rattle.snl_lex.specs.declared.piece.Class.{Class}
-use Rattle.snl_syntax.specs.declared.kind.Kind.{Kind}
-use Rattle.snl_syntax.specs.declared.kind.Kind.TheVariants as kind
+use Rattle.snl_lex.specs.declared.kind.Kind.{Kind}
+use Rattle.snl_lex.specs.declared.kind.Kind.TheVariants as kind
 use Rattle.snl_syntax.specs.declared.marks.Mark.{Mark}
 use Rattle.snl_syntax.specs.declared.marks.Mark.TheVariants as mark
-use Rattle.snl_syntax.specs.Kinds.{kind_of}
+use Rattle.snl_lex.specs.Kinds.{kind_of}
 
 -- The words and marks that begin, end or nest an item, names, texts and C code; the cut tells all others not apart.
 abbrev pub mark_of_kind : Kind → Mark

@@ -1,7 +1,7 @@
 -- The operators of expressions: their marks, and how tightly those between operands bind.
 use Rattle.std.specs.Prelude.{ℕ, Option, Some, None}
-use Rattle.snl_syntax.specs.declared.kind.Kind.{Kind}
-use Rattle.snl_syntax.specs.declared.kind.Kind.TheVariants as kind
+use Rattle.snl_lex.specs.declared.kind.Kind.{Kind}
+use Rattle.snl_lex.specs.declared.kind.Kind.TheVariants as kind
 use Rattle.snl_syntax.specs.declared.operator.Binary.{Binary}
 use Rattle.snl_syntax.specs.declared.operator.Binary.TheVariants as binaries
 use Rattle.snl_syntax.specs.declared.operator.Assignment.{Assignment}

@@ -2,11 +2,11 @@
 use Rattle.std.specs.Prelude.{ℕ, ◌<◌, Bool, List, map, position, Option, Some, None}
 use Rattle.snl_lex.specs.declared.piece.Class.{Class}
 use Rattle.snl_lex.specs.declared.piece.Piece.{Piece}
-use Rattle.snl_syntax.specs.declared.kind.Kind.{Kind}
+use Rattle.snl_lex.specs.declared.kind.Kind.{Kind}
 use Rattle.snl_syntax.specs.declared.outcome.Parsed.{Parsed}
 use Rattle.snl_syntax.specs.declared.outcome.Parsed.TheVariants as parsed
 use Rattle.snl_syntax.specs.declared.tree.item.Item.{Item}
-use Rattle.snl_syntax.specs.Kinds.{kind_of}
+use Rattle.snl_lex.specs.Kinds.{kind_of}
 use Rattle.snl_syntax.specs.Parsing.{is_bad, is_bad_class, kinds_in}
 use Rattle.snl_syntax.specs.Reading.Items.{fault_of, item_of}
 

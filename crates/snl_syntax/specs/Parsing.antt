@@ -3,11 +3,11 @@ use Rattle.std.specs.Prelude.{ℕ, ◌+◌, ◌≤◌, Bool, true, false, List, 
 use Rattle.snl_lex.specs.declared.piece.Class.{Class}
 use Rattle.snl_lex.specs.declared.piece.Class.TheVariants as class
 use Rattle.snl_lex.specs.declared.piece.Piece.{Piece}
-use Rattle.snl_syntax.specs.declared.kind.Kind.{Kind}
+use Rattle.snl_lex.specs.declared.kind.Kind.{Kind}
 use Rattle.snl_syntax.specs.declared.tree.item.Item.{Item}
 use Rattle.snl_syntax.specs.declared.fault.ParseFault.{ParseFault}
 use Rattle.snl_syntax.specs.declared.fault.ParseFault.TheVariants as faults
-use Rattle.snl_syntax.specs.Kinds.{kind_of}
+use Rattle.snl_lex.specs.Kinds.{kind_of}
 
 -- whether a piece is a faulty token
 abbrev pub is_bad_class : Class → Bool

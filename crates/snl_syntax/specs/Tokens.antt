@@ -1,7 +1,7 @@
 -- The tokens of an item as readers see them: what each is to the grammar, and its number.
 use Rattle.std.specs.Prelude.{ℕ, suc, ◌==◌, Bool, List, [], ◌∷◌, drop}
-use Rattle.snl_syntax.specs.declared.kind.Kind.{Kind}
-use Rattle.snl_syntax.specs.declared.kind.Kind.TheVariants as kind
+use Rattle.snl_lex.specs.declared.kind.Kind.{Kind}
+use Rattle.snl_lex.specs.declared.kind.Kind.TheVariants as kind
 
 -- a token's kind, and its number in the item
 abbrev pub Seat : Type 0

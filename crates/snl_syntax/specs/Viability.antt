@@ -1,6 +1,6 @@
 -- With which tokens an item can begin, and which token is at fault where none consists of a list of tokens.
 use Rattle.std.specs.Prelude.{◌≡◌, ℕ, suc, ◌<◌, ◌≤◌, ◌⊎◌, List, [], ◌++◌, length, take}
-use Rattle.snl_syntax.specs.declared.kind.Kind.{Kind}
+use Rattle.snl_lex.specs.declared.kind.Kind.{Kind}
 use Rattle.snl_syntax.specs.declared.tree.item.Item.{Item}
 use Rattle.snl_syntax.specs.Tokens.{ahead}
 use Rattle.snl_syntax.specs.Grammar.Items.{IsItemWithin}

@@ -6,14 +6,14 @@ ghost use Rattle.snl_syntax.specs.Reading.Expressions as exprs;
 ghost use Rattle.snl_syntax.specs.Steps as read;
 ghost use Rattle.snl_syntax.specs.Steps.{Reads};
 ghost use Rattle.snl_syntax.specs.Tokens.{ahead};
-ghost use Rattle.snl_syntax.specs.declared.kind.Kind.TheVariants as kind;
+ghost use Rattle.snl_lex.specs.declared.kind.Kind.TheVariants as kind;
 ghost use Rattle.snl_syntax.specs.declared.tree.clause.OptionSign.TheVariants as signs;
 
 use crate::expression::{ended, texts};
-use crate::kind::Kind;
 use crate::stop::{Step, Stop};
 use crate::token_steps::{accept, expect, kind_at, turns};
 use crate::tree::clause::{Channel, Clause, Flag, OptionLine, OptionSign};
+use snl_lex::Kind;
 use sqlite_items::Items;
 use std::alloc::Global;
 

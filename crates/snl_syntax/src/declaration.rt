@@ -8,13 +8,13 @@ ghost use Rattle.snl_syntax.specs.Steps.{Reads};
 ghost use Rattle.snl_syntax.specs.Tokens.{ahead};
 
 use crate::expression::{assignx, ended, expr};
-use crate::kind::Kind;
 use crate::stop::{Step, Stop};
 use crate::token_steps::{expect, kind_at, turns};
 use crate::tree::declaration::{Declaration, Declarator, Init};
 use crate::tree::expression::Expr;
 use crate::tree::types::{Pointer, QualifiedType};
 use crate::types::{stars, type_of};
+use snl_lex::Kind;
 use sqlite_items::Items;
 use std::alloc::Global;
 

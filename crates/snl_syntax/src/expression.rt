@@ -6,11 +6,10 @@ ghost use Rattle.snl_syntax.specs.Reading.Expressions as spec;
 ghost use Rattle.snl_syntax.specs.Steps as read;
 ghost use Rattle.snl_syntax.specs.Steps.{Reads};
 ghost use Rattle.snl_syntax.specs.Tokens.{ahead};
-ghost use Rattle.snl_syntax.specs.declared.kind.Kind.TheVariants as kind;
+ghost use Rattle.snl_lex.specs.declared.kind.Kind.TheVariants as kind;
 ghost use Rattle.snl_syntax.specs.declared.tree.expression.Expr.TheVariants as tree;
 ghost use Rattle.snl_syntax.specs.declared.tree.expression.Suffix.TheVariants as suffixes;
 
-use crate::kind::Kind;
 use crate::operator::{
     Assignment, Binary, Sign, assignment_mark, assignment_of, binary_mark, binary_of, sign_mark,
     tier,
@@ -20,6 +19,7 @@ use crate::token_steps::{expect, kind_at, turns};
 use crate::tree::expression::{Expr, Prefix, Suffix};
 use crate::tree::types::TypeName;
 use crate::types::{begins_type, type_name};
+use snl_lex::Kind;
 use sqlite_items::{Boxed, Items};
 use std::alloc::{AllocError, Global};
 

@@ -10,7 +10,6 @@ ghost use Rattle.snl_syntax.specs.Tokens.{ahead};
 ghost use Rattle.snl_syntax.specs.declared.tree.statement.Member as trees;
 
 use crate::declaration::{declaration, declaration_from, lengths};
-use crate::kind::Kind;
 use crate::stop::Stop;
 use crate::token_steps::{accept, expect, kind_at, turns};
 use crate::tree::declaration::Parameter;
@@ -18,6 +17,7 @@ use crate::tree::item::{Function, Item, StructMember};
 use crate::tree::statement::Member;
 use crate::tree::types::{Base, Pointer, QualifiedType};
 use crate::types::{stars, type_of};
+use snl_lex::Kind;
 use sqlite_items::Items;
 use std::alloc::Global;
 

@@ -3,7 +3,7 @@
 ghost use Rattle.snl_syntax.specs.Grammar.Items.{IsItem};
 ghost use Rattle.snl_syntax.specs.Reading.Items.{fault_of, item_of};
 ghost use Rattle.snl_syntax.specs.Viability.{IsFaultAt, IsViable};
-ghost use Rattle.snl_syntax.specs.declared.kind.Kind.{Kind};
+ghost use Rattle.snl_lex.specs.declared.kind.Kind.{Kind};
 ghost use Rattle.snl_syntax.specs.declared.tree.item.Item.{Item};
 ghost use Rattle.std.specs.Prelude.{◌≡◌, ℕ, ◌<◌, ◌≤◌, List, None, Some, length};
 

@@ -6,19 +6,19 @@ ghost use Rattle.snl_syntax.specs.Reading.Statements as statements;
 ghost use Rattle.snl_syntax.specs.Steps as read;
 ghost use Rattle.snl_syntax.specs.Steps.{Reads};
 ghost use Rattle.snl_syntax.specs.Tokens.{ahead};
-ghost use Rattle.snl_syntax.specs.declared.kind.Kind.TheVariants as kind;
+ghost use Rattle.snl_lex.specs.declared.kind.Kind.TheVariants as kind;
 ghost use Rattle.snl_syntax.specs.declared.tree.item.Item.TheVariants as items;
 
 use crate::clause::{clause, foreign, option_line};
 use crate::expression::texts;
 use crate::function::{Blocks, typed_item};
-use crate::kind::Kind;
 use crate::state::{entry_block, exit_block, state_members};
 use crate::statement::block;
 use crate::stop::Stop;
 use crate::token_steps::{expect, kind_at};
 use crate::tree::item::Item;
 use crate::tree::statement::Member;
+use snl_lex::Kind;
 use sqlite_items::Items;
 use std::alloc::Global;
 

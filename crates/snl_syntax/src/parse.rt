@@ -13,13 +13,11 @@ ghost use Rattle.snl_syntax.specs.Viability.{IsFaultAt};
 
 use crate::fault::ParseFault;
 use crate::item::item_in;
-use crate::kind::Kind;
 use crate::outcome::Parsed;
 use crate::stop::Stop;
-use crate::token_kind::kind;
 use crate::tree::item::Item;
 use snl_cut::{Count, OutOfMemory};
-use snl_lex::{Class, Piece};
+use snl_lex::{Class, Kind, Piece, kind_of};
 use std::alloc::{AllocError, Global};
 
 fn is_bad(piece: &Piece) -> bool
@@ -41,7 +39,7 @@ fn kinds_of(alloc: Global, text: &[u8], tokens: &[Piece]) -> Result<Vec<Kind>, A
 {
     let mut kinds = Vec::new(alloc);
     for piece in tokens {
-        kinds.push(kind(text, *piece))?;
+        kinds.push(kind_of(text, *piece))?;
     }
     Ok(kinds)
 }

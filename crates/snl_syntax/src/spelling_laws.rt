@@ -4,7 +4,7 @@ ghost use Rattle.snl_syntax.specs.Grammar.Items.{IsItem};
 ghost use Rattle.snl_syntax.specs.Spelling.Base.{Matches};
 ghost use Rattle.snl_syntax.specs.Spelling.Items.{spell_item};
 ghost use Rattle.snl_syntax.specs.Tokens.{ahead};
-ghost use Rattle.snl_syntax.specs.declared.kind.Kind.{Kind};
+ghost use Rattle.snl_lex.specs.declared.kind.Kind.{Kind};
 ghost use Rattle.snl_syntax.specs.declared.tree.item.Item.{Item};
 ghost use Rattle.std.specs.Prelude.{List};
 

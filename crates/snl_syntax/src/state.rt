@@ -6,16 +6,16 @@ ghost use Rattle.snl_syntax.specs.Reading.Statements as statements;
 ghost use Rattle.snl_syntax.specs.Steps as read;
 ghost use Rattle.snl_syntax.specs.Steps.{Reads};
 ghost use Rattle.snl_syntax.specs.Tokens.{ahead};
-ghost use Rattle.snl_syntax.specs.declared.kind.Kind.TheVariants as kind;
+ghost use Rattle.snl_lex.specs.declared.kind.Kind.TheVariants as kind;
 
 use crate::clause::{clause, foreign, option_line};
 use crate::declaration::declaration;
-use crate::kind::Kind;
 use crate::statement::{before_paren, block};
 use crate::stop::Stop;
 use crate::token_steps::{expect, kind_at, turns};
 use crate::tree::state::{StateMember, Target, Transition};
 use crate::tree::statement::Member;
+use snl_lex::Kind;
 use sqlite_items::Items;
 use std::alloc::Global;
 

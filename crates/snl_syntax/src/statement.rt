@@ -7,17 +7,17 @@ ghost use Rattle.snl_syntax.specs.Reading.Statements as spec;
 ghost use Rattle.snl_syntax.specs.Steps as read;
 ghost use Rattle.snl_syntax.specs.Steps.{Reads};
 ghost use Rattle.snl_syntax.specs.Tokens.{ahead};
-ghost use Rattle.snl_syntax.specs.declared.kind.Kind.TheVariants as kind;
+ghost use Rattle.snl_lex.specs.declared.kind.Kind.TheVariants as kind;
 ghost use Rattle.snl_syntax.specs.declared.tree.statement.Stmt.TheVariants as tree;
 
 use crate::declaration::declaration;
 use crate::expression::{ended, expr};
-use crate::kind::Kind;
 use crate::stop::{Step, Stop};
 use crate::token_steps::{expect, kind_at, turns};
 use crate::tree::expression::Expr;
 use crate::tree::statement::{ForHead, Member, Stmt};
 use crate::types::begins_type;
+use snl_lex::Kind;
 use sqlite_items::{Boxed, Items};
 use std::alloc::{AllocError, Global};
 

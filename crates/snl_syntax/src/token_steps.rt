@@ -6,8 +6,8 @@ ghost use Rattle.snl_syntax.specs.Tokens.{ahead};
 ghost use Rattle.snl_syntax.specs.Steps as read;
 ghost use Rattle.snl_syntax.specs.Steps.{Reads, ReadsToken};
 
-use crate::kind::Kind;
 use crate::stop::Stop;
+use snl_lex::Kind;
 
 fn code(kind: Kind) -> u8
     ensures { result ≡ spec.code kind }

@@ -1,17 +1,17 @@
 //! Reads types and names of types.
 
 ghost use Rattle.std.specs.Prelude.{◌≡◌, [], suc, length};
-ghost use Rattle.snl_syntax.specs.declared.kind.Kind.TheVariants as kind;
+ghost use Rattle.snl_lex.specs.declared.kind.Kind.TheVariants as kind;
 ghost use Rattle.snl_syntax.specs.declared.tree.types.Base.TheVariants as bases;
 ghost use Rattle.snl_syntax.specs.Tokens.{ahead};
 ghost use Rattle.snl_syntax.specs.Steps as read;
 ghost use Rattle.snl_syntax.specs.Steps.{Reads};
 ghost use Rattle.snl_syntax.specs.Reading.Types as spec;
 
-use crate::kind::Kind;
 use crate::stop::Stop;
 use crate::token_steps::{accept, expect, kind_at, turns};
 use crate::tree::types::{Base, Integer, Pointer, QualifiedType, TypeName};
+use snl_lex::Kind;
 use sqlite_items::Items;
 use std::alloc::Global;
 

@@ -2,13 +2,17 @@
 //! state. It knows no rules: who makes the rows, and who prints them, are other crates.
 #![tactic(auto)]
 
+mod change;
 mod number_set;
+mod row_list;
 mod rows;
+mod shift;
 mod wake_sets;
 
 pub use number_set::NumberSet;
+pub use row_list::Rows;
 pub use rows::{
     ChannelRow, Destination, FlagRow, NamedState, OptionRow, Queue, ScopeName, SetRow, Span,
-    StateMark, StateRow, Synced, Tables, WakeUp,
+    StateBody, StateMark, StateRow, Synced, Tables, WakeUp,
 };
 pub use wake_sets::{WakeMarks, wake_channels, wake_flags};

@@ -1,6 +1,7 @@
 //! The rows of the tables of a text. A name is told by the bytes where it is written, so that a row is small however long the
 //! name is.
 
+use crate::row_list::Rows;
 use snl_lex::Line;
 use snl_scope::Name;
 use sqlite_items::Items;
@@ -115,12 +116,21 @@ pub struct StateRow {
     /// The options of the state, by rising letters.
     pub options: Items<OptionRow>,
     /// The transitions in the order of the text, numbered from 0.
-    pub transitions: Items<Destination>,
+    pub transitions: Rows<Destination>,
     /// The states that statements in its transitions name.
-    pub gotos: Items<NamedState>,
+    pub gotos: Rows<NamedState>,
     /// What the names in its conditions mean, in the order of the text, those left out that mean no event flag and no
     /// variable. Its wake-up set is all of these, each once.
     pub wake: Items<WakeUp>,
+}
+
+/// What the body of a state says: its options, where its transitions lead and which states statements name, as its row has them.
+/// That of a faulty state says nothing.
+#[derive(Drop)]
+pub struct StateBody {
+    pub options: Items<OptionRow>,
+    pub transitions: Rows<Destination>,
+    pub gotos: Rows<NamedState>,
 }
 
 /// A state set, and its states in the order of the text.
@@ -129,7 +139,7 @@ pub struct SetRow {
     pub name: Span,
     /// That of the item's first token.
     pub line: Line,
-    pub states: Items<StateRow>,
+    pub states: Rows<StateRow>,
 }
 
 /// The tables of a text.
@@ -139,10 +149,10 @@ pub struct Tables {
     pub program: Option<Span>,
     /// The options of the program, by rising letters.
     pub options: Items<OptionRow>,
-    pub flags: Items<FlagRow>,
-    pub channels: Items<ChannelRow>,
+    pub flags: Rows<FlagRow>,
+    pub channels: Rows<ChannelRow>,
     /// The channels of each variable, rising, by the number of the variable's declaration: one list for all states that
     /// wake up on it. Most declarations have none.
     pub variables: Items<Items<usize>>,
-    pub sets: Items<SetRow>,
+    pub sets: Rows<SetRow>,
 }

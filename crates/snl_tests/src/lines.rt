@@ -1,7 +1,7 @@
 //! Texts with the lines and files of offsets in them, told from the rules of line markers.
 
 use snl_cut::Count;
-use snl_lex::{Line, lex, line_of, lines_of};
+use snl_lex::{Line, LineList, lex, line_of};
 use std::test::Fail;
 
 // A text, an offset, the number of its line, and where the name of its file stands.
@@ -52,8 +52,12 @@ fn tells_the_line_of_an_offset(rt: HostRuntime) -> Result<(), Fail> {
             wanted,
             "{text:?} at {offset}"
         );
-        let lines = lines_of(rt.alloc(), text, &pieces, &[0, *offset])?;
-        assert_eq!(rt; lines.last().copied(), Some(wanted), "{text:?} to {offset}");
+        let lines = LineList::of(rt.alloc(), text, &pieces)?;
+        assert_eq!(rt;
+            lines.line_by(text, *offset),
+            wanted,
+            "{text:?} by lists at {offset}"
+        );
     }
     Ok(())
 }

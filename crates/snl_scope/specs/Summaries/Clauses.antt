@@ -17,7 +17,8 @@ use Rattle.snl_scope.specs.declared.summary.Coverage.{Coverage}
 use Rattle.snl_scope.specs.declared.summary.Coverage.TheVariants as coverage
 use Rattle.snl_scope.specs.declared.summary.Mention.{Mention}
 use Rattle.snl_scope.specs.declared.summary.VariableClause.{VariableClause}
-use Rattle.snl_scope.specs.Summaries.Tokens.{mention_at, value_at}
+use Rattle.snl_scope.specs.Summaries.Tokens.{mention_at}
+use Rattle.snl_walk.specs.Tokens.{value_at}
 
 -- The element that a subscript means: the value of its integer, which has one.
 abbrev pub element : List ℕ → List Piece → ℕ → Coverage

@@ -21,7 +21,7 @@ use Rattle.snl_scope.specs.declared.summary.Dims.TheVariants as dims
 use Rattle.snl_scope.specs.declared.summary.Nature.{Nature}
 use Rattle.snl_scope.specs.declared.summary.Nature.TheVariants as natures
 use Rattle.snl_scope.specs.declared.summary.Variable.{Variable}
-use Rattle.snl_scope.specs.Summaries.Tokens.{bytes_at, value_at}
+use Rattle.snl_walk.specs.Tokens.{bytes_at, value_at}
 
 -- The base of a declaration says what its names stand for.
 abbrev pub nature_of : Base → Nature

@@ -1,29 +1,9 @@
--- What the tokens of an item say, by their numbers in it.
-use Rattle.std.specs.Prelude.{ℕ, List, [], take, drop, slice_get, All, Option, Some, None}
+-- The names that stand at tokens of an item, by their numbers in it.
+use Rattle.std.specs.Prelude.{ℕ, List}
 use Rattle.snl_lex.specs.declared.piece.Piece.{Piece}
-use Rattle.snl_lex.specs.Numbers.{int_value_of}
-use Rattle.snl_syntax.specs.Parsing.{LiesIn}
 use Rattle.snl_scope.specs.declared.summary.Mention.{Mention}
-
--- Each token lies in the text.
-abbrev pub IsSource : List ℕ → List Piece → Type 0
-IsSource text tokens = All (LiesIn text) tokens
-
--- The bytes of a token.
-abbrev pub bytes_of : List ℕ → Piece → List ℕ
-bytes_of text piece = take piece.len (drop piece.start text)
-
-abbrev pub bytes_if : List ℕ → Option Piece → List ℕ
-bytes_if text None = []
-bytes_if text (Some piece) = bytes_of text piece
-
--- The bytes of the token with this number; none, where there is no such token.
-unfoldable pub bytes_at : List ℕ → List Piece → ℕ → List ℕ
-bytes_at text tokens number = bytes_if text (slice_get tokens number)
-
--- The value of the integer with this number.
-abbrev pub value_at : List ℕ → List Piece → ℕ → Option ℕ
-value_at text tokens number = int_value_of (bytes_at text tokens number)
+pub use Rattle.snl_walk.specs.Tokens.{IsSource, bytes_if}
+unfoldable pub use Rattle.snl_walk.specs.Tokens.{bytes_at}
 
 -- The name that stands at the token with this number.
 abbrev pub mention_at : List ℕ → List Piece → ℕ → Mention

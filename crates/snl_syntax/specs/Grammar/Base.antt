@@ -1,6 +1,6 @@
 -- What the productions of the grammar are made of. Each word takes the tokens from its first on, and those behind its last.
 use Rattle.std.specs.Prelude.{◌≡◌, ℕ, zero, suc, ◌≤◌, List, [], ◌∷◌, Option, Some, None}
-use Rattle.snl_syntax.specs.declared.kind.Kind.{Kind}
+use Rattle.snl_lex.specs.declared.kind.Kind.{Kind}
 use Rattle.snl_syntax.specs.Tokens.{Seat}
 
 -- one after the other

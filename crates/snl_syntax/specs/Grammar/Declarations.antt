@@ -1,6 +1,6 @@
 -- Declarations. Inner says what an expression without commas is one level deeper, and Value what stands behind `=`.
 use Rattle.std.specs.Prelude.{◌≡◌, ℕ, zero, suc, Bool, false, List, [], ◌∷◌, Option}
-use Rattle.snl_syntax.specs.declared.kind.Kind.TheVariants as kind
+use Rattle.snl_lex.specs.declared.kind.Kind.TheVariants as kind
 use Rattle.snl_syntax.specs.declared.tree.expression.Expr.{Expr}
 use Rattle.snl_syntax.specs.declared.tree.declaration.Init.{Init}
 use Rattle.snl_syntax.specs.declared.tree.declaration.Init.TheVariants as inits

@@ -1,7 +1,7 @@
 -- Items, and which item all tokens of a list make.
 use Rattle.std.specs.Prelude.{◌≡◌, ℕ, suc, List, [], Option}
-use Rattle.snl_syntax.specs.declared.kind.Kind.{Kind}
-use Rattle.snl_syntax.specs.declared.kind.Kind.TheVariants as kind
+use Rattle.snl_lex.specs.declared.kind.Kind.{Kind}
+use Rattle.snl_lex.specs.declared.kind.Kind.TheVariants as kind
 use Rattle.snl_syntax.specs.declared.tree.statement.Member.{Member}
 use Rattle.snl_syntax.specs.declared.tree.clause.Clause.{Clause}
 use Rattle.snl_syntax.specs.declared.tree.clause.OptionLine.{OptionLine}

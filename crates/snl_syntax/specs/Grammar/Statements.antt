@@ -1,8 +1,8 @@
 -- Statements and blocks. Inside says what an expression is one level deeper, Outside what it is at a statement's own level, Head what the brackets of a `for` are, Declared what a declaration is one level deeper, and Inner what a statement is there.
 -- A statement that stands before an `else` doesn't end with an `if` that has none: it is closed. The flag `closed` is handed on to what a statement ends with.
 use Rattle.std.specs.Prelude.{◌≡◌, ◌++◌, ℕ, zero, suc, Bool, true, false, List, [], ◌∷◌, Option, Some, None}
-use Rattle.snl_syntax.specs.declared.kind.Kind.{Kind}
-use Rattle.snl_syntax.specs.declared.kind.Kind.TheVariants as kind
+use Rattle.snl_lex.specs.declared.kind.Kind.{Kind}
+use Rattle.snl_lex.specs.declared.kind.Kind.TheVariants as kind
 use Rattle.snl_syntax.specs.declared.tree.expression.Expr.{Expr}
 use Rattle.snl_syntax.specs.declared.tree.declaration.Declaration.{Declaration}
 use Rattle.snl_syntax.specs.declared.tree.statement.ForHead.{ForHead}

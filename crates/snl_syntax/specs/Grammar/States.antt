@@ -1,7 +1,7 @@
 -- States and their members. Inside says what an expression is within the brackets of `when`, Declared what a declaration is where the members stand, and Block what a block is there.
 use Rattle.std.specs.Prelude.{◌≡◌, ℕ, List}
-use Rattle.snl_syntax.specs.declared.kind.Kind.{Kind}
-use Rattle.snl_syntax.specs.declared.kind.Kind.TheVariants as kind
+use Rattle.snl_lex.specs.declared.kind.Kind.{Kind}
+use Rattle.snl_lex.specs.declared.kind.Kind.TheVariants as kind
 use Rattle.snl_syntax.specs.declared.tree.expression.Expr.{Expr}
 use Rattle.snl_syntax.specs.declared.tree.declaration.Declaration.{Declaration}
 use Rattle.snl_syntax.specs.declared.tree.statement.Member.{Member}

@@ -1,7 +1,7 @@
 -- Types, and names of types.
 use Rattle.std.specs.Prelude.{◌≡◌, Bool, true, false, List, [], ◌∷◌}
-use Rattle.snl_syntax.specs.declared.kind.Kind.{Kind}
-use Rattle.snl_syntax.specs.declared.kind.Kind.TheVariants as kind
+use Rattle.snl_lex.specs.declared.kind.Kind.{Kind}
+use Rattle.snl_lex.specs.declared.kind.Kind.TheVariants as kind
 use Rattle.snl_syntax.specs.declared.tree.types.Integer.{Integer}
 use Rattle.snl_syntax.specs.declared.tree.types.Integer.TheVariants as integers
 use Rattle.snl_syntax.specs.declared.tree.types.Base.{Base}

@@ -4,8 +4,8 @@
 --   Behind a value in braces `,` is taken first; then `}` ends the list, and any other token begins a further value.
 --   A declaration and a function begin alike, with a type, stars and a name. So what follows these is read by `declaration_from`, and what follows the type by `declaration_of`.
 use Rattle.std.specs.Prelude.{ℕ, zero, suc, Bool, true, false, List, [], ◌∷◌, Option, Some, None}
-use Rattle.snl_syntax.specs.declared.kind.Kind.{Kind}
-use Rattle.snl_syntax.specs.declared.kind.Kind.TheVariants as kind
+use Rattle.snl_lex.specs.declared.kind.Kind.{Kind}
+use Rattle.snl_lex.specs.declared.kind.Kind.TheVariants as kind
 use Rattle.snl_syntax.specs.declared.stop.Step.{Step}
 use Rattle.snl_syntax.specs.declared.stop.Step.TheVariants as steps
 use Rattle.snl_syntax.specs.declared.tree.types.QualifiedType.{QualifiedType}

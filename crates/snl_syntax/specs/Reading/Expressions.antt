@@ -3,8 +3,8 @@
 --   A `(` is taken first; then a token that begins a type makes a cast, and any other an operand in brackets.
 --   What may be assigned to is an operand with what stands before and behind it alone; so this is read first, and then an operator that assigns makes it one, and any other token lets the tiers of binary operators go on from it.
 use Rattle.std.specs.Prelude.{ℕ, zero, suc, ◌==◌, Bool, true, false, List, [], ◌∷◌, Option, Some, None, if◌then◌else◌}
-use Rattle.snl_syntax.specs.declared.kind.Kind.{Kind}
-use Rattle.snl_syntax.specs.declared.kind.Kind.TheVariants as kind
+use Rattle.snl_lex.specs.declared.kind.Kind.{Kind}
+use Rattle.snl_lex.specs.declared.kind.Kind.TheVariants as kind
 use Rattle.snl_syntax.specs.declared.operator.Binary.{Binary}
 use Rattle.snl_syntax.specs.declared.operator.Assignment.{Assignment}
 use Rattle.snl_syntax.specs.declared.operator.Sign.{Sign}

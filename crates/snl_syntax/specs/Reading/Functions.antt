@@ -6,8 +6,8 @@
 --   An item's `struct` and a name are taken first: then `{` begins the struct's members, any other token makes them a type.
 --   Among a struct's members `}` ends them, CCODE is one, and any other token begins a declaration.
 use Rattle.std.specs.Prelude.{ℕ, zero, suc, ◌-◌, Bool, false, List, [], Option, Some, None}
-use Rattle.snl_syntax.specs.declared.kind.Kind.{Kind}
-use Rattle.snl_syntax.specs.declared.kind.Kind.TheVariants as kind
+use Rattle.snl_lex.specs.declared.kind.Kind.{Kind}
+use Rattle.snl_lex.specs.declared.kind.Kind.TheVariants as kind
 use Rattle.snl_syntax.specs.declared.tree.types.Base.{Base}
 use Rattle.snl_syntax.specs.declared.tree.types.Base.TheVariants as bases
 use Rattle.snl_syntax.specs.declared.tree.types.QualifiedType.{QualifiedType}

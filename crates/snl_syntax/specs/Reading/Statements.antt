@@ -5,8 +5,8 @@
 --   Behind the body of an `if`, `else` is taken first; then `if` goes on with the chain, and any other token begins the body that ends it. So an `else` belongs to the nearest `if`.
 --   Behind `return` and in the brackets of `for`, the mark that ends a part means that it is empty; any other token begins an expression.
 use Rattle.std.specs.Prelude.{ℕ, zero, suc, Bool, true, false, List, [], Option, Some, None}
-use Rattle.snl_syntax.specs.declared.kind.Kind.{Kind}
-use Rattle.snl_syntax.specs.declared.kind.Kind.TheVariants as kind
+use Rattle.snl_lex.specs.declared.kind.Kind.{Kind}
+use Rattle.snl_lex.specs.declared.kind.Kind.TheVariants as kind
 use Rattle.snl_syntax.specs.declared.stop.Step.{Step}
 use Rattle.snl_syntax.specs.declared.stop.Step.TheVariants as steps
 use Rattle.snl_syntax.specs.declared.tree.expression.Expr.{Expr}

@@ -3,8 +3,8 @@
 --   In the brackets of `when` a `)` means that nothing is written; any other token begins an expression.
 --   Behind the block of `when`, `state` and `exit` say where the transition leads.
 use Rattle.std.specs.Prelude.{ℕ, ◌-◌, List, [], Option, Some, None}
-use Rattle.snl_syntax.specs.declared.kind.Kind.{Kind}
-use Rattle.snl_syntax.specs.declared.kind.Kind.TheVariants as kind
+use Rattle.snl_lex.specs.declared.kind.Kind.{Kind}
+use Rattle.snl_lex.specs.declared.kind.Kind.TheVariants as kind
 use Rattle.snl_syntax.specs.declared.tree.statement.Member.{Member}
 use Rattle.snl_syntax.specs.declared.tree.state.Target.{Target}
 use Rattle.snl_syntax.specs.declared.tree.state.Target.TheVariants as targets

@@ -1,6 +1,6 @@
 -- What clauses on variables, options, and foreign names spell.
 use Rattle.std.specs.Prelude.{ℕ, Bool, true, false, List, [], ◌++◌, map}
-use Rattle.snl_syntax.specs.declared.kind.Kind.TheVariants as kind
+use Rattle.snl_lex.specs.declared.kind.Kind.TheVariants as kind
 use Rattle.snl_syntax.specs.declared.tree.clause.Channel.{Channel}
 use Rattle.snl_syntax.specs.declared.tree.clause.Channel.TheVariants as channels
 use Rattle.snl_syntax.specs.declared.tree.clause.Flag.{Flag}

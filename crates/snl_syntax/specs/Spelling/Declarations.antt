@@ -1,6 +1,6 @@
 -- What declarations and initialisers spell.
 use Rattle.std.specs.Prelude.{List, ◌++◌, map, Option}
-use Rattle.snl_syntax.specs.declared.kind.Kind.TheVariants as kind
+use Rattle.snl_lex.specs.declared.kind.Kind.TheVariants as kind
 use Rattle.snl_syntax.specs.declared.tree.expression.Expr.{Expr}
 use Rattle.snl_syntax.specs.declared.tree.declaration.Init.{Init}
 use Rattle.snl_syntax.specs.declared.tree.declaration.Init.TheOpen.{Init-F}

@@ -1,6 +1,6 @@
 -- What functions and structs spell.
 use Rattle.std.specs.Prelude.{ℕ, List, ◌++◌, map, Option, Some, None}
-use Rattle.snl_syntax.specs.declared.kind.Kind.TheVariants as kind
+use Rattle.snl_lex.specs.declared.kind.Kind.TheVariants as kind
 use Rattle.snl_syntax.specs.declared.tree.declaration.Parameter.{Parameter}
 use Rattle.snl_syntax.specs.declared.tree.statement.Member.{Member}
 use Rattle.snl_syntax.specs.declared.tree.item.Function.{Function}

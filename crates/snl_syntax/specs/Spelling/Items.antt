@@ -1,6 +1,6 @@
 -- What an item spells.
 use Rattle.std.specs.Prelude.{ℕ, List, ◌++◌}
-use Rattle.snl_syntax.specs.declared.kind.Kind.TheVariants as kind
+use Rattle.snl_lex.specs.declared.kind.Kind.TheVariants as kind
 use Rattle.snl_syntax.specs.declared.tree.item.Item.{Item}
 use Rattle.snl_syntax.specs.declared.tree.item.Item.TheVariants as items
 use Rattle.snl_syntax.specs.Spelling.Base.{Spelled, word, leaf, perhaps, in_parens}

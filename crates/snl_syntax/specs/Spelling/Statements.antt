@@ -1,6 +1,6 @@
 -- What statements and blocks spell.
 use Rattle.std.specs.Prelude.{List, ◌++◌, map}
-use Rattle.snl_syntax.specs.declared.kind.Kind.TheVariants as kind
+use Rattle.snl_lex.specs.declared.kind.Kind.TheVariants as kind
 use Rattle.snl_syntax.specs.declared.tree.expression.Expr.{Expr}
 use Rattle.snl_syntax.specs.declared.tree.statement.ForHead.{ForHead}
 use Rattle.snl_syntax.specs.declared.tree.statement.Member.{Member}

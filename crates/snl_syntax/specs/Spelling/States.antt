@@ -1,6 +1,6 @@
 -- What states and their members spell.
 use Rattle.std.specs.Prelude.{ℕ, List, ◌++◌, map}
-use Rattle.snl_syntax.specs.declared.kind.Kind.TheVariants as kind
+use Rattle.snl_lex.specs.declared.kind.Kind.TheVariants as kind
 use Rattle.snl_syntax.specs.declared.tree.state.Target.{Target}
 use Rattle.snl_syntax.specs.declared.tree.state.Target.TheVariants as targets
 use Rattle.snl_syntax.specs.declared.tree.state.Transition.{Transition}

@@ -1,6 +1,6 @@
 -- What types, and names of types, spell.
 use Rattle.std.specs.Prelude.{List, ◌++◌, map}
-use Rattle.snl_syntax.specs.declared.kind.Kind.TheVariants as kind
+use Rattle.snl_lex.specs.declared.kind.Kind.TheVariants as kind
 use Rattle.snl_syntax.specs.declared.tree.types.Integer.{Integer}
 use Rattle.snl_syntax.specs.declared.tree.types.Integer.TheVariants as integers
 use Rattle.snl_syntax.specs.declared.tree.types.Base.{Base}

@@ -1,6 +1,6 @@
 use Rattle.std.proofs.Common.{◌≡◌, All, arith, subst, sym}
 use Rattle.std.proofs.lemmas.Grind.{common_steps}
-use Rattle.snl_scope.specs.Summaries.Tokens.{bytes_at}
+use Rattle.snl_walk.specs.Tokens.{bytes_at}
 use Rattle.snl_check.specs.Found.{StandsIn, faults_in}
 use Rattle.snl_check.specs.Outlook.{is_in_set, known_of, leads_to}
 use Rattle.snl_check.proofs.Within.{faults_within}

@@ -14,9 +14,9 @@ loop-item-preserved c =
 
 pub returns-then-not-stands_in-clause-items : goal.returns-then-not-stands_in-clause-items
 returns-then-not-stands_in-clause-items c =
-    λ j l. stand_within c.args.links.now.outlines c.args.set c.loop-item.item (omega (arith, c.loop-item.auto.item)) c.loop-item.invariant (inr (sym c.stands_in.ensures ∙ c.if-not-stands_in.true)) j (omega (arith, l, c.requires.count))
+    λ j l. stand_within (record { opened = c.sets_open_in_turn.ensures.opened; placed = c.sets_open_in_turn.ensures.placed; within = c.sets_open_in_turn.ensures.within }) c.args.links.now.outlines c.args.set c.loop-item.item (omega (arith, c.loop-item.auto.item)) c.loop-item.invariant (inr (sym c.stands_in.ensures ∙ c.if-not-stands_in.true)) j (omega (arith, l, c.requires.count))
 
 pub returns-clause-items : goal.returns-clause-items
 returns-clause-items c =
     let i = c.loop-item.item in
-    λ j l. stand_within c.args.links.now.outlines c.args.set c.args.count (omega (arith, c.requires.set)) (λ k m n. c.loop-item.invariant k m (omega (arith, n, c.loop-item-test.false))) (inl c.requires.count) j (omega (arith, l, c.requires.count))
+    λ j l. stand_within (record { opened = c.sets_open_in_turn.ensures.opened; placed = c.sets_open_in_turn.ensures.placed; within = c.sets_open_in_turn.ensures.within }) c.args.links.now.outlines c.args.set c.args.count (omega (arith, c.requires.set)) (λ k m n. c.loop-item.invariant k m (omega (arith, n, c.loop-item-test.false))) (inl c.requires.count) j (omega (arith, l, c.requires.count))

@@ -1,6 +1,6 @@
 use Rattle.std.proofs.Common.{◌≡◌, ◌++◌, drop, map}
 use Rattle.std.specs.List.{flat_map}
-use Rattle.snl_scope.specs.Summaries.Tokens.{bytes_at}
+use Rattle.snl_walk.specs.Tokens.{bytes_at}
 use Rattle.snl_check.specs.SettingTrees.{told}
 use Rattle.snl_check.specs.Settings.{settings_in_member}
 use Rattle.snl_check.proofs.option_rows.add_settings.Given as goal

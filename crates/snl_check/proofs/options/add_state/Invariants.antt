@@ -1,6 +1,6 @@
 use Rattle.std.proofs.Common.{◌≡◌, ◌++◌, drop}
 use Rattle.std.specs.List.{flat_map}
-use Rattle.snl_scope.specs.Summaries.Tokens.{bytes_at}
+use Rattle.snl_walk.specs.Tokens.{bytes_at}
 use Rattle.snl_check.specs.Options.{unknown_in_member}
 use Rattle.snl_check.proofs.options.add_state.Given as goal
 

@@ -18,7 +18,7 @@ pub commands-preserved-in-Whole : goal.commands-preserved-in-Whole
 commands-preserved-in-Whole g c =
     let a = c.in_ok-answer-in-Whole.ensures.answered in
     record {
-      told = Told-on _ _ _ _ _ _ _ _ _ _ _ _ _ c.in-Whole.length c.in-Whole.command a.starved c.commands.invariant.told c.bytes.ensures c.in-Whole.ensures c.skip.ensures a.fair a.text_is a.written;
+      told = Told-on _ _ _ _ _ _ _ _ _ _ _ _ _ c.in-Whole.length c.in-Whole.command a.starved c.commands.invariant.told c.bytes.ensures c.in-Whole.ensures c.skip.ensures a.fair a.next_is a.written;
       few = c.commands.invariant.few;
       readable = c.commands.invariant.readable;
       writable = search rules;

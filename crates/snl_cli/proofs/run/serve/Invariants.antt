@@ -9,8 +9,8 @@ invariant-commands g l =
     let remaining = g.R.Read.remaining in
     let contents = g.W.Write.contents in
     record {
-      told : Told (remaining (inner_of l.initial.script)) (remaining (inner_of l.script)) (contents (inner_of l.initial.out)) (contents (inner_of l.out)) l.initial.session
-          (λ read rest text. (rest ≡ l.ahead) × (text ≡ l.session) × (l.offset + length rest ≡ length read) × (length read ≤ 4096 * calls_of l.script) × (calls_of l.script ≤ length read));
+      told : Told (remaining (inner_of l.initial.script)) (remaining (inner_of l.script)) (contents (inner_of l.initial.out)) (contents (inner_of l.out)) l.initial.document
+          (λ read rest last. (rest ≡ l.ahead) × (last ≡ l.document) × (l.offset + length rest ≡ length read) × (length read ≤ 4096 * calls_of l.script) × (calls_of l.script ≤ length read));
       few : calls_of l.script ≤ 16777216;
       readable : failed_of l.script ≡ false;
       writable : failed_of l.out ≡ false;

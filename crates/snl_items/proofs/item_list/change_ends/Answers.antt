@@ -1,4 +1,4 @@
-use Rattle.std.proofs.Common.{◌≡◌, ℕ, ◌+◌, ◌-◌, ◌<◌, ◌≤◌, List, length, drop, take, ap, arith, length-drop}
+use Rattle.std.proofs.Common.{◌≡◌, ℕ, ◌-◌, List, length, ap, arith, length-drop}
 use Rattle.snl_items.specs.Items.{item_ends, marks_of}
 use Rattle.snl_items.proofs.EndPlaces.{dropped_within, ends_above}
 use Rattle.snl_items.proofs.item_list.change_ends.Goals as goal

@@ -11,21 +11,21 @@ places_before-front-requires c = subst IsNonDecreasing (sym (c.deref.ensures.val
 pub places_before-back-requires : goal.places_before-back-requires
 places_before-back-requires c = subst IsNonDecreasing (sym (c.deref-2.ensures.value ∙ c.requires.ends)) (ends_order c.args.edit.now.old.now)
 
-pub replace_and_shift-requires-clause-range : goal.replace_and_shift-requires-clause-range
-replace_and_shift-requires-clause-range c =
+pub replace_places-requires-clause-range : goal.replace_places-requires-clause-range
+replace_places-requires-clause-range c =
     let e = c.args.edit.now in
     let front : c.places_before-front.result ≡ below e.start (line_ends e.old.now) = c.places_before-front.ensures.count ∙ ap (below e.start) (c.deref.ensures.value ∙ c.requires.ends) in
     let back : c.places_before-back.result ≡ below e.old_stop (line_ends e.old.now) = c.places_before-back.ensures.count ∙ ap (below e.old_stop) (c.deref-2.ensures.value ∙ c.requires.ends) in
     omega (arith, front, back, below_more e.start e.old_stop (line_ends e.old.now) e.edit.old_order)
 
-pub replace_and_shift-requires-clause-behind : goal.replace_and_shift-requires-clause-behind
-replace_and_shift-requires-clause-behind c =
+pub replace_places-requires-clause-behind : goal.replace_places-requires-clause-behind
+replace_places-requires-clause-behind c =
     let e = c.args.edit.now in
     let back : c.places_before-back.result ≡ below e.old_stop (line_ends e.old.now) = c.places_before-back.ensures.count ∙ ap (below e.old_stop) (c.deref-2.ensures.value ∙ c.requires.ends) in
     rw (back, c.requires.ends) (behind_above e.old.now e.old_stop e.edit.old_inside)
 
-pub replace_and_shift-requires-clause-fits : goal.replace_and_shift-requires-clause-fits
-replace_and_shift-requires-clause-fits c = λ i lt.
+pub replace_places-requires-clause-fits : goal.replace_places-requires-clause-fits
+replace_places-requires-clause-fits c = λ i lt.
     let e = c.args.edit.now in
     let back : c.places_before-back.result ≡ below e.old_stop (line_ends e.old.now) = c.places_before-back.ensures.count ∙ ap (below e.old_stop) (c.deref-2.ensures.value ∙ c.requires.ends) in
     let under = behind_under e.old.now e.old_stop e.edit.old_inside i (rw (back, c.requires.ends) at lt) in
@@ -36,4 +36,4 @@ returns c =
     let e = c.args.edit.now in
     let front : c.places_before-front.result ≡ below e.start (line_ends e.old.now) = c.places_before-front.ensures.count ∙ ap (below e.start) (c.deref.ensures.value ∙ c.requires.ends) in
     let back : c.places_before-back.result ≡ below e.old_stop (line_ends e.old.now) = c.places_before-back.ensures.count ∙ ap (below e.old_stop) (c.deref-2.ensures.value ∙ c.requires.ends) in
-    rw (c.replace_and_shift.ensures, front, back, c.requires.ends, c.requires.made) (edited_ends e.old.now e.text.now e.start e.old_stop e.new_stop e.edit)
+    rw (c.replace_places.ensures, front, back, c.requires.ends, c.requires.made) (edited_ends e.old.now e.text.now e.start e.old_stop e.new_stop e.edit)

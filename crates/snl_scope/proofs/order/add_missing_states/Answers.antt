@@ -1,4 +1,4 @@
-use Rattle.std.proofs.Common.{◌≡◌, ◌<◌, ◌||◌, length, ap, ◌∙◌, arith}
+use Rattle.std.proofs.Common.{◌<◌, ◌||◌, length, ap, ◌∙◌, arith}
 use Rattle.snl_scope.specs.declared.codes.Code.TheVariants.{E06}
 use Rattle.snl_scope.specs.declared.heads.Member.TheVariants as member
 use Rattle.snl_scope.specs.Order.{is_ss_word, is_stateless}

@@ -1,5 +1,5 @@
 use Rattle.std.proofs.Common.{◌≡◌, ◌+◌, ◌<◌, length, subst, sym, ap, ◌∙◌, arith}
-use Rattle.snl_scope.specs.Places.{item_is, place}
+use Rattle.snl_scope.specs.Places.{item_is}
 use Rattle.snl_scope.specs.Tables.{Marked, is_member, set_of, with_mark}
 use Rattle.snl_scope.proofs.Marks.{if_some, marked-push, set_within}
 use Rattle.snl_scope.proofs.OrderSteps.{member_here}

@@ -1,5 +1,5 @@
 use Rattle.std.proofs.Common.{[]}
-use Rattle.snl_scope.proofs.Firsts.{once_apart, once_behind-push, once_same}
+use Rattle.snl_scope.proofs.Firsts.{once_apart, once_after-push, once_same}
 use Rattle.snl_scope.proofs.summary_laws.names_kept_once.Goals as goal
 
 pub returns-clause-same : goal.returns-clause-same
@@ -9,4 +9,4 @@ pub returns-clause-apart : goal.returns-clause-apart
 returns-clause-apart c = once_apart
 
 pub returns-clause-ordered : goal.returns-clause-ordered
-returns-clause-ordered c = once_behind-push []
+returns-clause-ordered c = once_after-push []

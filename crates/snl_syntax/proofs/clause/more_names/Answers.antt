@@ -2,7 +2,7 @@ use Rattle.std.proofs.Common.{refl, Ok, ap, ◌∙◌}
 use Rattle.std.proofs.lemmas.Result.{err_from_is_err_and}
 use Rattle.snl_syntax.specs.Tokens.{ahead}
 use Rattle.snl_syntax.specs.Steps.{many, expect}
-use Rattle.snl_syntax.specs.declared.kind.Kind.TheVariants as kind
+use Rattle.snl_lex.specs.declared.kind.Kind.TheVariants as kind
 use Rattle.snl_syntax.specs.Reading.Expressions.{next_comma}
 use Rattle.snl_syntax.proofs.Turns.{turns_begin, turn_err, turn_end, turn_more, turns_over}
 use Rattle.snl_syntax.proofs.clause.more_names.Goals as goal

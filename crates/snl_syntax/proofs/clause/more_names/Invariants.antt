@@ -1,7 +1,7 @@
 use Rattle.std.proofs.Common.{◌≡◌, ◌-◌}
 use Rattle.snl_syntax.specs.Tokens.{ahead}
 use Rattle.snl_syntax.specs.Steps.{many, many_within, expect}
-use Rattle.snl_syntax.specs.declared.kind.Kind.TheVariants as kind
+use Rattle.snl_lex.specs.declared.kind.Kind.TheVariants as kind
 use Rattle.snl_syntax.specs.Reading.Expressions.{next_comma}
 use Rattle.snl_syntax.proofs.clause.more_names.Given as goal
 

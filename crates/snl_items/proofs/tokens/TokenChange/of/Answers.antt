@@ -8,6 +8,7 @@ use Rattle.snl_lex.specs.Pieces.{LiesIn, is_token, moved_piece, piece_end, piece
 use Rattle.snl_items.specs.declared.tokens.TokenEdit.{TokenEdit}
 use Rattle.snl_items.specs.Items.{mark_in}
 use Rattle.snl_items.proofs.Counts.{by_class}
+use Rattle.snl_items.proofs.ShiftedTokens.{shifted_told}
 use Rattle.snl_items.proofs.TokenParts.{between_lie, made_lie, token_change}
 use Rattle.snl_items.proofs.TokenPlaces.{edit_is}
 use Rattle.snl_items.proofs.tokens.TokenChange.of.Goals as goal
@@ -22,8 +23,8 @@ marks_of-requires c =
     made_lie edit.text.now (take change.kept_front ps) change.made.items (map (moved_piece edit.old_stop edit.new_stop) (last_pieces edit.old.now change.kept_back)) (pieces_of edit.text.now) is.pieces (c.text_in_pieces.ensures.inside edit.text.now) in
     All-same (LiesIn edit.text.now) c.deref-2.result.now (filter is_token change.made.items) (c.deref-2.ensures.value ∙ c.in_ok-made.ensures ∙ ap (filter is_token) c.deref.ensures.value) lie
 
-pub are_spelled_alike-same-requires-clause-new : goal.are_spelled_alike-same-requires-clause-new
-are_spelled_alike-same-requires-clause-new c =
+pub are_spelled_alike-alike-requires-clause-new : goal.are_spelled_alike-alike-requires-clause-new
+are_spelled_alike-alike-requires-clause-new c =
     let edit = c.args.edit.now in
     let change = c.args.change.now in
     let is = c.requires.change in
@@ -32,8 +33,8 @@ are_spelled_alike-same-requires-clause-new c =
     made_lie edit.text.now (take change.kept_front ps) change.made.items (map (moved_piece edit.old_stop edit.new_stop) (last_pieces edit.old.now change.kept_back)) (pieces_of edit.text.now) is.pieces (c.text_in_pieces.ensures.inside edit.text.now) in
     All-same (LiesIn edit.text.now) c.deref-4.result.now (filter is_token change.made.items) (c.deref-4.ensures.value ∙ c.in_ok-made.ensures ∙ ap (filter is_token) c.deref.ensures.value) lie
 
-pub are_spelled_alike-same-requires-clause-old : goal.are_spelled_alike-same-requires-clause-old
-are_spelled_alike-same-requires-clause-old c =
+pub are_spelled_alike-alike-requires-clause-old : goal.are_spelled_alike-alike-requires-clause-old
+are_spelled_alike-alike-requires-clause-old c =
     let edit = c.args.edit.now in
     let l = c.args.pieces.now in
     let ps : List Piece = pieces_of edit.old.now in
@@ -42,8 +43,8 @@ are_spelled_alike-same-requires-clause-old c =
     All-same (LiesIn edit.old.now) c.deref-3.result.now (filter is_token (pieces_between ps from stop)) (c.deref-3.ensures.value ∙ c.in_ok-replaced.ensures edit.old.now c.requires.ends c.requires.kinds)
     (between_lie edit.old.now ps from stop (c.text_in_pieces.ensures.inside edit.old.now))
 
-pub returns : goal.returns
-returns c =
+pub returns-clause-change : goal.returns-clause-change
+returns-clause-change c =
     let edit = c.args.edit.now in
     let change = c.args.change.now in
     let is = c.requires.change in
@@ -80,7 +81,39 @@ returns c =
     let e : TokenEdit = record { start = c.count_tokens-start.result; old_stop = c.count_tokens-start.result + c.len-2.result; new_stop = c.count_tokens-start.result + c.len-3.result } in
     token_change old text start b d front made back change.kept_from change.list.ends.items change.list.kinds.items is front_same back_same e starts old_stops new_stops
     (edit_is old text start b d front made back change.kept_from change.list.ends.items change.list.kinds.items is old_ends old_rises new_rises (c.pieces_as_listed.ensures old) (c.pieces_as_listed.ensures text) recut meets e starts old_stops new_stops)
-    c.in_ok-made.made.items c.in_ok-marks.marks.items c.are_spelled_alike-same.result made_is
+    c.in_ok-made.made.items c.in_ok-marks.marks.items c.are_spelled_alike-alike.result made_is
     (c.in_ok-marks.ensures ∙ ap (map (mark_in text)) c.deref-2.ensures.value)
-    (λ h. sym old_same ∙ c.are_spelled_alike-same.ensures.0 h ∙ new_same)
-    (λ h. c.are_spelled_alike-same.ensures.1 (old_same ∙ h ∙ sym new_same))
+    (λ h. sym old_same ∙ c.are_spelled_alike-alike.ensures.0 h ∙ new_same)
+    (λ h. c.are_spelled_alike-alike.ensures.1 (old_same ∙ h ∙ sym new_same))
+
+pub shifted_from-shifted-requires-clause-inside : goal.shifted_from-shifted-requires-clause-inside
+shifted_from-shifted-requires-clause-inside c =
+    let edit = c.args.edit.now in
+    let ps : List Piece = pieces_of edit.old.now in
+    let from : ℕ = c.args.change.now.kept_front in
+    let stop : ℕ = c.len.result - c.args.change.now.kept_back in
+    All-same (LiesIn edit.old.now) c.deref-6.result.now (filter is_token (pieces_between ps from stop)) (c.deref-6.ensures.value ∙ c.in_ok-replaced.ensures edit.old.now c.requires.ends c.requires.kinds)
+    (between_lie edit.old.now ps from stop (c.text_in_pieces.ensures.inside edit.old.now))
+
+pub returns-clause-shifted : goal.returns-clause-shifted
+returns-clause-shifted c =
+    let edit = c.args.edit.now in
+    let change = c.args.change.now in
+    let is = c.requires.change in
+    let old : List ℕ = edit.old.now in
+    let text : List ℕ = edit.text.now in
+    let front : ℕ = change.kept_front in
+    let back : ℕ = change.kept_back in
+    let ps : List Piece = pieces_of old in
+    let many : c.len.result ≡ length ps = omega (arith, c.len.ensures, c.args.pieces.now.ends.ok, ap length c.requires.ends, length-map ps piece_end) in
+    let old_ends : piece_ends old ≡ ends_of piece_length old = c.one_cut.ensures.only old (piece_ends old) (c.text_in_pieces.ensures.cut old) in
+    let old_rises : Rises 0 (piece_ends old) = subst (Rises 0) (sym old_ends) (c.ends_in_order.ensures.rise old) in
+    let starts : c.count_tokens-start.result ≡ length (filter is_token (take front ps)) =
+    c.count_tokens-start.ensures ∙ ap (count_by is_token_class) (ap (take front) (c.deref-5.ensures.value ∙ c.requires.kinds) ∙ take-map (λ p. p.kind) front ps) ∙ by_class (take front ps) in
+    shifted_told old text edit.start edit.old_stop edit.new_stop front change.made.items back change.kept_from change.list.ends.items change.list.kinds.items is
+    old_rises (c.pieces_as_listed.ensures old) (c.text_in_pieces.ensures.inside old)
+    (omega (arith, edit.edit.old_order)) (omega (arith, edit.edit.new_inside, edit.short))
+    _ _ _ _ (returns-clause-change c) c.count_tokens-start.result c.deref-6.result.now c.deref-7.result.now starts
+    (c.deref-6.ensures.value ∙ c.in_ok-replaced.ensures old c.requires.ends c.requires.kinds ∙ ap (λ (n : ℕ). filter is_token (pieces_between ps front (n - back))) many)
+    (c.deref-7.ensures.value ∙ c.in_ok-made.ensures ∙ ap (filter is_token) c.deref.ensures.value)
+    c.shifted_from-shifted.result c.shifted_from-shifted.ensures

@@ -3,9 +3,8 @@ use Rattle.std.specs.Prelude.{All}
 use Rattle.std.specs.List.Sorted.{IsNonDecreasingBy}
 use Rattle.snl_lex.specs.declared.line_list.Marker.{Marker}
 use Rattle.snl_lex.specs.declared.piece.Class.{Class}
-use Rattle.snl_lex.specs.LineList.{IsShort, replaced_markers}
+use Rattle.snl_lex.specs.LineList.{IsShort, names, numbers, replaced_markers}
 use Rattle.snl_lex.specs.Lines.{is_marker, marker_file, marker_number}
-use Rattle.snl_lex.specs.LinesAlong.{names, numbers}
 use Rattle.snl_lex.proofs.MarkerLists.{from_inside, markers_order, markers_short, new_markers}
 use Rattle.snl_lex.proofs.line_list.LineList.commit.Goals as goal
 

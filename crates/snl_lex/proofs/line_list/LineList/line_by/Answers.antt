@@ -1,9 +1,9 @@
-use Rattle.std.proofs.Common.{Some, None, sym, ◌∙◌, subst}
+use Rattle.std.proofs.Common.{◌+◌, ◌^◌, ◌<◌, ℕ, List, Some, None, arith, length, slice_index, sym, ◌∙◌, subst}
 use Rattle.std.specs.List.Sorted.{IsNonDecreasing, IsNonDecreasingBy}
 use Rattle.snl_lex.specs.declared.line_list.Marker.{Marker}
-use Rattle.snl_lex.specs.LinesAlong.{names, numbers}
+use Rattle.snl_lex.specs.LineList.{names, numbers}
 use Rattle.snl_lex.proofs.LineBy.{line_told}
-use Rattle.snl_lex.proofs.LineEnds.{ends_order}
+use Rattle.snl_lex.proofs.LineEnds.{ends_order, ends_under}
 use Rattle.snl_lex.proofs.MarkerLists.{markers_order}
 use Rattle.snl_lex.proofs.line_list.LineList.line_by.Goals as goal
 
@@ -12,6 +12,12 @@ places_before-count-requires c = subst IsNonDecreasing (sym (c.deref.ensures.val
 
 pub number_behind-requires-clause-order : goal.number_behind-requires-clause-order
 number_behind-requires-clause-order c = subst IsNonDecreasing (sym (c.deref-3.ensures.value ∙ c.requires.at_ends)) (ends_order c.args.text.now)
+
+pub line_begin-begin-requires-clause-below : goal.line_begin-begin-requires-clause-below
+line_begin-begin-requires-clause-below c =
+    let text = c.args.text.now in
+    subst (λ (es : List ℕ). (i : ℕ) → i < length es → slice_index es i + 1 < 2 ^ 64) (sym (c.deref-2.ensures.value ∙ c.requires.at_ends))
+    (λ i lt. omega (arith, ends_under 0 text i 0 lt))
 
 pub last_before-requires : goal.last_before-requires
 last_before-requires c =

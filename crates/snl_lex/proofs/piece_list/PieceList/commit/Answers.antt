@@ -1,4 +1,5 @@
-use Rattle.std.proofs.Common.{◌≡◌, length, arith, ap}
+use Rattle.std.proofs.Common.{◌≡◌, length, count_by, arith, ap, ◌∙◌}
+use Rattle.snl_lex.specs.Lines.{is_marker}
 use Rattle.snl_lex.specs.PieceList.{piece_ends}
 use Rattle.snl_lex.proofs.Changes.{back_above, back_under, edit_lengths, new_ends, new_kinds}
 use Rattle.snl_lex.proofs.piece_list.PieceList.commit.Goals as goal
@@ -23,4 +24,7 @@ returns-clause-ends c =
 pub returns-clause-kinds : goal.returns-clause-kinds
 returns-clause-kinds c =
     let many : c.len.result ≡ length (piece_ends c.args.edit.now.old.now) = omega (arith, c.len.ensures, c.args.self.now.ends.ok, ap length c.requires.ends) in
-    rw (c.replace.ensures, c.deref-2.ensures.value, many, c.requires.kinds) (new_kinds _ _ _ _ _ _ _ _ _ _ _ c.requires.change)
+    rw (c.replace_kinds-self.ensures.kinds, c.deref-2.ensures.value, many, c.requires.kinds) (new_kinds _ _ _ _ _ _ _ _ _ _ _ c.requires.change)
+
+pub returns-clause-markers : goal.returns-clause-markers
+returns-clause-markers c = c.replace_kinds-self.ensures.markers ∙ ap (count_by is_marker) (returns-clause-kinds c)

@@ -1,9 +1,8 @@
-use Rattle.std.proofs.Common.{sym, subst, ◌∙◌}
-use Rattle.std.specs.List.Sorted.{IsSortedBy}
+use Rattle.std.proofs.Common.{◌≡◌, true, sym, subst, ◌∙◌}
+use Rattle.std.specs.List.{AllPairs}
 use Rattle.snl_session.specs.Diagnostics.{stands_before}
-use Rattle.snl_session.proofs.Ranks.{diagnostics_sorted}
 use Rattle.snl_session.proofs.sessions.Session.diagnostics.Goals as goal
 
-pub returns-clause-sorted : goal.returns-clause-sorted
-returns-clause-sorted c =
-    subst (IsSortedBy stands_before) (sym (c.as_slice.ensures.value ∙ c.self.invariant.1.found)) (diagnostics_sorted c.self.inside.text.items)
+pub returns-clause-rising : goal.returns-clause-rising
+returns-clause-rising c =
+    subst (AllPairs (λ x y. stands_before x y ≡ true)) (sym (c.as_slice.ensures.value ∙ c.self.invariant.1.found)) (c.found_once.ensures.rising c.self.inside.text.items)

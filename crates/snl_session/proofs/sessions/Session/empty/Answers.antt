@@ -1,10 +1,16 @@
-use Rattle.std.proofs.Common.{◌≡◌, ℕ, List, [], filter, map, refl, ap}
+use Rattle.std.proofs.Common.{arith, ◌≡◌, ℕ, List, [], count_by, filter, map, refl, ap, sym, subst, ◌∙◌}
 use Rattle.snl_cut.specs.Cut.{ends_of, members}
 use Rattle.snl_lex.specs.declared.piece.Piece.{Piece}
-use Rattle.snl_lex.specs.Pieces.{is_token, pieces_of, tokens_of}
+use Rattle.snl_lex.specs.Lines.{is_marker}
+use Rattle.snl_lex.specs.Pieces.{is_token, piece_end, pieces_of, tokens_of}
 use Rattle.snl_syntax.specs.Items.{item}
 use Rattle.snl_items.specs.Items.{item_ends, mark_in, spellings}
+use Rattle.snl_session.specs.Checks.{checks_from, checks_of, outlines_in}
+use Rattle.snl_session.specs.declared.lists.Lists.{Lists}
+use Rattle.snl_session.specs.Kept.{IsJudged, IsListed}
 use Rattle.snl_session.specs.Entries.{entries_of, entry_by}
+use Rattle.snl_session.specs.Linked.{linked_of}
+use Rattle.snl_session.specs.Program.{item_tokens, items_of, program_item}
 use Rattle.snl_session.proofs.sessions.Session.empty.Goals as goal
 
 -- the empty text has no pieces, and so on
@@ -15,11 +21,47 @@ no_pieces = refl
 no_tokens : [] ≡ tokens_of []
 no_tokens = ap (filter is_token) no_pieces
 
-no_items : [] ≡ item_ends []
-no_items = ap (λ (ts : List Piece). ends_of item (map (mark_in []) ts)) no_tokens
+no_ends : [] ≡ item_ends []
+no_ends = ap (λ (ts : List Piece). ends_of item (map (mark_in []) ts)) no_tokens
+
+no_items : [] ≡ items_of []
+unfolding item_tokens
+no_items = ap (λ (es : List ℕ). map (program_item []) (members (tokens_of []) 0 es)) no_ends
 
 no_entries : [] ≡ entries_of []
-no_entries = ap (λ (es : List ℕ). map entry_by (members (spellings []) 0 es)) no_items
+no_entries = ap (λ (es : List ℕ). map entry_by (members (spellings []) 0 es)) no_ends
+
+no_checks : [] ≡ checks_of []
+no_checks = ap (λ (es : List ℕ). checks_from (outlines_in []) 0 (members (spellings []) 0 es)) no_ends
+
+pub of-requires : goal.of-requires
+of-requires c = record { pieces = no_pieces }
 
 pub invariant_of-cut : goal.invariant_of-cut
-invariant_of-cut c = record { pieces_are = no_pieces; tokens_are = no_tokens; ends_are = no_items; entries_are = no_entries }
+invariant_of-cut c = record { lines_are = c.in_ok-lines.ensures; tokens_are = no_tokens; ends_are = no_ends; entries_are = no_entries }
+
+pub judge-requires-clause-links : goal.judge-requires-clause-links
+judge-requires-clause-links c = c.in_ok-links.ensures ∙ ap (linked_of []) no_items
+
+pub judge-requires-clause-checks : goal.judge-requires-clause-checks
+judge-requires-clause-checks c = no_checks
+
+pub invariant_of-result : goal.invariant_of-result
+invariant_of-result c =
+    let judgement = c.in_ok-judgement.judgement in
+    let lists : Lists = record { pieces = record { ends = c.new.result; kinds = c.new-2.result; markers = 0 }; lines = c.in_ok-lines.lines; items = record { marks = c.new-3.result; ends = c.new-4.result }; entries = c.new-5.result; links = c.in_ok-links.links; checks = c.new-6.result; warns = judgement.warns } in
+    subst (λ (text : List ℕ). IsListed text lists × IsJudged text judgement.diagnostics.items judgement.tables) (sym c.new-7.ensures.items) (
+      record {
+        ends = c.new.ensures.items ∙ ap (map piece_end) no_pieces;
+        kinds = c.new-2.ensures.items ∙ ap (map (λ (p : Piece). p.kind)) no_pieces;
+        markers = ap (λ (ps : List Piece). count_by is_marker (map (λ (p : Piece). p.kind) ps)) no_pieces;
+        lines = c.in_ok-lines.ensures;
+        marks = c.new-3.ensures.items ∙ ap (map (mark_in [])) no_tokens;
+        items = c.new-4.ensures.items ∙ no_ends;
+        entries = c.new-5.ensures ∙ no_entries;
+        links = c.in_ok-links.ensures ∙ ap (linked_of []) no_items;
+        checks = c.new-6.ensures ∙ no_checks;
+        warns = c.in_ok-judgement.ensures.warns;
+      },
+      record { short = omega arith; found = c.in_ok-judgement.ensures.diagnostics; tables = c.in_ok-judgement.ensures.tables },
+    )

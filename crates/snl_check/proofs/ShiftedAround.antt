@@ -1,0 +1,509 @@
+-- The tables of a text after an edit inside one state: all other items keep their tokens.
+use Rattle.std.proofs.Common.{◌≡◌, ◌≢◌, ℕ, zero, suc, ◌+◌, ◌<◌, ◌&&◌, ◌||◌, Bool, true, false, List, [], ◌∷◌, ◌++◌, length, map, slice_get, nat_eq, Option, Some, None, inl, inr, if◌then◌else◌, refl, sym, subst, ap, ap₂, ◌∙◌, arith, is_some, nat_lt, IfSome}
+use Rattle.std.specs.List.{AllByRecursion, enumerate_from, filter_map, flat_map}
+use Rattle.std.specs.Option.{is_none, option_and_then, option_map, option_map_or, option_to_list}
+use Rattle.std.proofs.lemmas.Bool.{cases_eq, eq-eqb, eqb-true, false≢true}
+use Rattle.std.proofs.lemmas.List.{length-append, length-map}
+use Rattle.std.proofs.lemmas.Option.{slice_get-map}
+use Rattle.snl_lex.specs.declared.piece.Piece.{Piece}
+use Rattle.snl_lex.specs.declared.shift.Shift.{Shift}
+use Rattle.snl_lex.specs.Lines.{line_at}
+use Rattle.snl_lex.specs.Shift.{shifted_line}
+use Rattle.snl_syntax.specs.declared.tree.clause.Clause.{Clause}
+use Rattle.snl_syntax.specs.declared.tree.clause.Clause.TheVariants as clauses
+use Rattle.snl_syntax.specs.declared.tree.item.Item.{Item}
+use Rattle.snl_syntax.specs.declared.tree.item.Item.TheVariants as items
+use Rattle.snl_syntax.specs.declared.tree.state.StateMember.{StateMember}
+use Rattle.snl_syntax.specs.declared.tree.state.StateMember.TheVariants as members
+use Rattle.snl_scope.specs.declared.facts.ClauseLink.{ClauseLink}
+use Rattle.snl_scope.specs.declared.facts.Declaration.{Declaration}
+use Rattle.snl_scope.specs.declared.facts.Scope.{Scope}
+use Rattle.snl_scope.specs.declared.codes.Code.{Code}
+use Rattle.snl_scope.specs.declared.codes.Code.TheVariants.{E08, E09}
+use Rattle.snl_scope.specs.declared.spaces.Space.{Space}
+use Rattle.snl_scope.specs.declared.spaces.Space.TheVariants as space
+use Rattle.snl_scope.specs.declared.summary.Declared.{Declared}
+use Rattle.snl_scope.specs.declared.summary.ItemKind.{ItemKind}
+use Rattle.snl_scope.specs.declared.summary.ItemKind.TheVariants as kinds
+use Rattle.snl_scope.specs.declared.summary.Mention.{Mention}
+use Rattle.snl_scope.specs.declared.summary.Outline.{Outline}
+use Rattle.snl_scope.specs.Below.{all_below}
+use Rattle.snl_scope.specs.Clauses.{clause_links, resolve_in}
+use Rattle.snl_scope.specs.Flags.{flags_of}
+use Rattle.snl_scope.specs.Linked.{declaration_at, entry_declaration, scope_in, state_of, variable_declaration}
+use Rattle.snl_scope.specs.Names.{Entry, declared_entry, named_entry, entries, entries_before, entries_of, scope_of, set_entries, set_name, state_entries}
+use Rattle.snl_scope.specs.Order.{is_named_state, state_name}
+use Rattle.snl_scope.specs.Places.{begins_set, is_set_begin, place, stands_in}
+use Rattle.snl_scope.specs.Summaries.{kind_of, role_of}
+use Rattle.snl_scope.specs.Summaries.Clauses as summary
+use Rattle.snl_scope.specs.Summaries.Declares.{declared_in}
+use Rattle.snl_walk.specs.Tokens.{bytes_at}
+use Rattle.snl_tables.specs.declared.rows.SetRow.{SetRow}
+use Rattle.snl_tables.specs.declared.rows.StateBody.{StateBody}
+use Rattle.snl_tables.specs.declared.rows.StateRow.{StateRow}
+use Rattle.snl_tables.specs.declared.rows.WakeUp.{WakeUp}
+use Rattle.snl_tables.specs.Shifted.{changed_at, shifted_flag, shifted_set, shifted_span, shifted_state, shifted_tables, with_body, with_body_in, with_own_body}
+use Rattle.snl_check.specs.Channels.{AssignedChannel, assigned_channel, assigned_channels, channels_in, channels_of_clause, channels_on}
+use Rattle.snl_check.specs.Clauses.{ItemClause, clause_in_member, clauses_in_tree, item_clause, item_clauses, item_clauses_before, item_clauses_if, told_clauses}
+use Rattle.snl_check.specs.Conditions.{on_declaration, uses_in, wake_ups}
+use Rattle.snl_check.specs.Items.{ProgramItem, header_name, named_by, span_of, item_name, outline_of_item, outlines_of, summary_of_item, tokens_in, tree_in}
+use Rattle.snl_check.specs.Members.{is_faulty_item, number_among, states_in, target_number, target_numbers}
+use Rattle.snl_check.specs.Outlook.{is_in_set}
+use Rattle.snl_check.specs.Settings.{LetterSetting, setting_at, setting_in_tree}
+use Rattle.snl_check.specs.Shifted.{KeepsItem, KeepsItems, shifted_item, start_at}
+use Rattle.snl_check.specs.ShiftedAround.{ReplacesOne, ReplacesState, SaysAlike, SaysAlikeAt, is_state_or_faulty, set_number, state_number, used_by, wakes_of}
+use Rattle.snl_check.specs.Spans.{AreRead}
+use Rattle.snl_check.specs.States.{item_at, line_of_item, numbered_row, set_row, set_rows, state_body, state_rows}
+use Rattle.snl_check.specs.Tables.{flag_row_at, tables_by, tables_of}
+use Rattle.snl_check.specs.Told.{nothing, told_in_item}
+use Rattle.snl_check.proofs.Each.{each_join, each_of, each_weaker}
+use Rattle.snl_check.proofs.Linked.{outline_at}
+use Rattle.snl_check.proofs.Sets.{false_if, get_here, is_within}
+use Rattle.snl_check.proofs.ShiftedItems.{IsKept, faulty_stays, header_at, header_at_shifts, span_at_shifts, tree_stays}
+use Rattle.snl_check.proofs.ShiftedClauses.{HasBytes, flag_shifts, setting_stays}
+use Rattle.snl_check.proofs.ShiftedStates.{has_faulty_stays, targets_stay}
+use Rattle.snl_check.proofs.ShiftedRows.{Parts, and_back, and_both, and_none, each_under, kept_map, map_twice, numbered_changed, parts_at, row_changed, same_by_gets, same_either}
+use Rattle.snl_check.proofs.ShiftedTables.{IsLineKept, IsRowKept, MarksStay, RestStays, SpellingLaws, item_kept, outline_stays, same_channels, same_mark, set_line, set_named, set_shifts, state_line, state_shifts, tables_but_sets}
+use Rattle.snl_check.proofs.SpanLaws.{and_front, each_all, each_below, place_begins, each_beside, each_flat, each_got, tested, tokens_are}
+
+-- ---- what a state is not
+
+no_header : (x : ProgramItem) → is_state_or_faulty (kind_of x.tree) ≡ true → header_name x ≡ None
+no_header x h = by x.tree h
+  where
+    by : (o : Option Item) → is_state_or_faulty (kind_of o) ≡ true → option_map (λ number. span_of (slice_get x.tokens number)) (named_by o) ≡ None
+    by (Some (items.Header name parameters)) e = absurd (false≢true e)
+    by o e = refl
+
+no_setting : (bytes : ℕ → List ℕ) (o : Option Item) → is_state_or_faulty (kind_of o) ≡ true → option_and_then (setting_in_tree bytes) o ≡ None
+no_setting bytes (Some (items.OptionLine line)) e = absurd (false≢true e)
+no_setting bytes o e = refl
+
+no_set : (kind : ItemKind) (b : Bool) → is_state_or_faulty kind ≡ true → begins_set (role_of kind b) ≡ true → ⊥
+no_set kinds.SsBegin b e h = false≢true e
+no_set kinds.State true e h = false≢true h
+no_set kinds.State false e h = false≢true h
+no_set kind b e h = false≢true h
+
+module _ (text : List ℕ) (tokens : List Piece) where
+  no_members : (ms : List StateMember) → flat_map (summary.clauses_of_member text tokens) ms ≡ [] → flat_map clause_in_member ms ≡ []
+  no_members [] e = refl
+  no_members (members.Clause c ∷ ms) e = absurd cc
+  no_members (m ∷ ms) e = no_members ms e
+
+  no_clauses : (i : ℕ) (o : Option Item) → is_state_or_faulty (kind_of o) ≡ true → summary.clauses_in text tokens o ≡ [] → item_clauses_if i o ≡ []
+  no_clauses i (Some (items.StateBlock name ms)) h e = ap (map (item_clause i)) (no_members ms e)
+  no_clauses i None h e = refl
+  no_clauses i o h e = absurd (false≢true h)
+
+-- ---- the items but one are kept
+
+module _ (laws : SpellingLaws) (old text : List ℕ) (s : Shift) (xs ys : List ProgramItem) (j : ℕ) (before : 0 < s.start) (read : AreRead old xs) (rep : ReplacesOne old text s xs ys j) where
+  abbrev ss : List Outline
+  ss = outlines_of old xs
+
+  was : (x : ProgramItem) × (slice_get xs j ≡ Some x)
+  was = get_here xs j rep.there
+
+  is : (y : ProgramItem) × (slice_get ys j ≡ Some y)
+  is = get_here ys j (omega (arith, rep.there, rep.count))
+
+  replaced : ReplacesState old text s was.0 is.0
+  replaced = rep.replaced was.0 is.0 was.1 is.1
+
+  everywhere : (P : ℕ → Type 0) → P j → ((i : ℕ) → i ≢ j → P i) → (i : ℕ) → P i
+  everywhere P here apart i = elim (cases_eq i j) [ inl same ↦ subst P (sym same) here | inr other ↦ apart i other ]
+
+  kept : (i : ℕ) → i ≢ j → IsKept old text s xs ys i
+  kept i apart = item_kept old text s xs ys i (rep.others i apart) (λ x at. rep.kept i x apart at)
+
+  tree_at : (zs : List ProgramItem) (z : ProgramItem) → slice_get zs j ≡ Some z → tree_in zs j ≡ z.tree
+  tree_at zs z at = ap (λ (o : Option ProgramItem). option_and_then (λ (x : ProgramItem). x.tree) o) at
+
+  headers : (i : ℕ) → header_at ys i ≡ option_map (shifted_span s) (header_at xs i)
+  headers =
+      everywhere (λ i. header_at ys i ≡ option_map (shifted_span s) (header_at xs i))
+      (ap (option_and_then header_name) is.1 ∙ no_header is.0 replaced.is_state
+      ∙ sym (ap (option_map (shifted_span s)) (ap (option_and_then header_name) was.1 ∙ no_header was.0 replaced.was_state)))
+      (λ i apart. header_at_shifts old text s xs ys i before (kept i apart))
+
+  names : (i : ℕ) → item_name ys i ≡ shifted_span s (item_name xs i)
+  names =
+      everywhere (λ i. item_name ys i ≡ shifted_span s (item_name xs i))
+      (ap (λ (ts : List Piece). span_of (slice_get ts 1)) (tokens_are ys j is.0 is.1) ∙ replaced.name
+      ∙ sym (ap (λ (ts : List Piece). shifted_span s (span_of (slice_get ts 1))) (tokens_are xs j was.0 was.1)))
+      (λ i apart. span_at_shifts old text s xs ys i (kept i apart) before 1)
+
+  sets_nothing : (bytes : List ℕ) (zs : List ProgramItem) (z : ProgramItem) → slice_get zs j ≡ Some z → is_state_or_faulty (kind_of z.tree) ≡ true → setting_at bytes zs ss j ≡ None
+  sets_nothing bytes zs z at state =
+      ap (λ (o : Option LetterSetting). if is_in_set ss j then None else o)
+      (ap (option_and_then (setting_in_tree (bytes_at bytes (tokens_in zs j)))) (tree_at zs z at) ∙ no_setting (bytes_at bytes (tokens_in zs j)) z.tree state)
+      ∙ same_either (is_in_set ss j) None
+
+  settings : (i : ℕ) → setting_at text ys ss i ≡ setting_at old xs ss i
+  settings =
+      everywhere (λ i. setting_at text ys ss i ≡ setting_at old xs ss i)
+      (sets_nothing text ys is.0 is.1 replaced.is_state ∙ sym (sets_nothing old xs was.0 was.1 replaced.was_state))
+      (λ i apart. setting_stays old text s xs ys ss i (kept i apart))
+
+  -- ---- clauses and channels
+
+  no_old_clause : item_clauses_if j (tree_in xs j) ≡ []
+  no_old_clause = ap (item_clauses_if j) (tree_at xs was.0 was.1) ∙ no_clauses old was.0.tokens j was.0.tree replaced.was_state replaced.no_clause
+
+  no_new_clause : item_clauses_if j (tree_in ys j) ≡ []
+  no_new_clause =
+      ap (item_clauses_if j) (tree_at ys is.0 is.1)
+      ∙ no_clauses text is.0.tokens j is.0.tree replaced.is_state (ap (λ (o : Outline). o.clauses) replaced.outline ∙ replaced.no_clause)
+
+  same_clauses : (i : ℕ) → item_clauses_if i (tree_in ys i) ≡ item_clauses_if i (tree_in xs i)
+  same_clauses =
+      everywhere (λ i. item_clauses_if i (tree_in ys i) ≡ item_clauses_if i (tree_in xs i)) (no_new_clause ∙ sym no_old_clause)
+      (λ i apart. ap (item_clauses_if i) (tree_stays old text s xs ys i (kept i apart)))
+
+  of_item : (i : ℕ) → i ≢ j → (o : Option Item) → AllByRecursion (λ (c : ItemClause). c.item ≢ j) (item_clauses_if i o)
+  of_item i apart None = tt
+  of_item i apart (Some tree) = each_of (λ (c : ItemClause). c.item ≢ j) (item_clause i) (clauses_in_tree tree) (each_all (λ (c : Clause). i ≢ j) (clauses_in_tree tree) (λ c. apart))
+
+  clauses_apart : (n : ℕ) → AllByRecursion (λ (c : ItemClause). c.item ≢ j) (item_clauses_before xs n)
+  clauses_apart zero = tt
+  clauses_apart (suc n) =
+      each_join (λ (c : ItemClause). c.item ≢ j) (item_clauses_before xs n) (item_clauses_if n (tree_in xs n)) (clauses_apart n)
+      (everywhere (λ i. AllByRecursion (λ (c : ItemClause). c.item ≢ j) (item_clauses_if i (tree_in xs i)))
+      (subst (λ cs. AllByRecursion (λ (c : ItemClause). c.item ≢ j) cs) (sym no_old_clause) tt) (λ i apart. of_item i apart (tree_in xs i)) n)
+
+  told_apart : AllByRecursion (λ (p : ItemClause × ClauseLink). p.0.item ≢ j) (told_clauses xs ss)
+  told_apart = each_beside (λ (c : ItemClause). c.item ≢ j) (item_clauses xs) (clause_links ss) (clauses_apart (length xs))
+
+  abbrev IsOfKept : AssignedChannel → Type 0
+  IsOfKept c = IsKept old text s xs ys c.item
+
+  channels_kept : (p : ItemClause × ClauseLink) → p.0.item ≢ j → AllByRecursion IsOfKept (channels_of_clause old xs p)
+  channels_kept p apart = by p.1.is_sound
+    where
+      on : (o : Option ℕ) (c : Clause) → AllByRecursion IsOfKept (channels_on old xs p.0.item o c)
+      on (Some v) (clauses.Assign name channel) =
+          let named = channels_in old (tokens_in xs p.0.item) channel in
+          each_of IsOfKept (assigned_channel p.0.item name v) named (each_all (λ n. IsKept old text s xs ys p.0.item) named (λ n. kept p.0.item apart))
+      on _ _ = tt
+
+      by : (b : Bool) → AllByRecursion IsOfKept (if b then channels_on old xs p.0.item p.1.variable p.0.clause else [])
+      by true = on p.1.variable p.0.clause
+      by false = tt
+
+  -- ---- declarations
+
+  abbrev IsApart : Entry → Type 0
+  IsApart e = IfSome (entry_declaration e) (λ (d : Declaration). d.item ≢ j)
+
+  declares_apart : (n : ℕ) → n ≢ j → (o : Outline) → AllByRecursion IsApart (map (declared_entry (scope_of ss n o) n) o.declares)
+  declares_apart n apart o =
+      each_of IsApart (declared_entry (scope_of ss n o) n) o.declares (each_all (λ d. IsApart (declared_entry (scope_of ss n o) n d)) o.declares (λ d. by d (scope_in (scope_of ss n o))))
+    where
+      by : (d : Declared) (c : Option Scope) → IfSome (option_map (λ c. variable_declaration n d.token c d.variable) c) (λ (d : Declaration). d.item ≢ j)
+      by d None = tt
+      by d (Some c) = apart
+
+  declares_at : (n : ℕ) (o : Outline) → slice_get ss n ≡ Some o → AllByRecursion IsApart (map (declared_entry (scope_of ss n o) n) o.declares)
+  declares_at =
+      everywhere (λ n. (o : Outline) → slice_get ss n ≡ Some o → AllByRecursion IsApart (map (declared_entry (scope_of ss n o) n) o.declares))
+      (λ o at.
+      let told : slice_get ss j ≡ Some (outline_of_item old was.0) = outline_at old xs j ∙ ap (option_map (outline_of_item old)) was.1 in
+      let same : o ≡ outline_of_item old was.0 = cc in
+      let none : o.declares ≡ [] = ap (λ (o : Outline). o.declares) same ∙ replaced.no_declaration in
+      subst (λ ds. AllByRecursion IsApart (map (declared_entry (scope_of ss j o) j) ds)) (sym none) tt)
+      (λ n apart o at. declares_apart n apart o)
+
+  entries_apart : (n : ℕ) → AllByRecursion IsApart (entries_before ss n)
+  entries_apart zero = tt
+  entries_apart (suc n) = each_join IsApart (entries_before ss n) (option_map_or (entries_of ss n) (slice_get ss n) []) (entries_apart n) (by (slice_get ss n) refl)
+    where
+      named : (space : Space) (code : Option Code) (words : List (List ℕ)) → AllByRecursion IsApart (map (named_entry space n code) words)
+      named space code words = each_of IsApart (named_entry space n code) words (each_all (λ name. IsApart (named_entry space n code name)) words (λ name. tt))
+
+      states : (p : Option ℕ) (o : Outline) → AllByRecursion IsApart (state_entries p n o)
+      states None o = tt
+      states (Some k) o = named (space.States k) (Some E09) (option_to_list (state_name o))
+
+      by : (o : Option Outline) → slice_get ss n ≡ o → AllByRecursion IsApart (option_map_or (entries_of ss n) o [])
+      by None e = tt
+      by (Some o) e =
+          each_join IsApart (set_entries n o ++ state_entries (place ss n) n o) (map (declared_entry (scope_of ss n o) n) o.declares)
+          (each_join IsApart (set_entries n o) (state_entries (place ss n) n o) (named space.Sets (Some E08) (option_to_list (set_name o))) (states (place ss n) o))
+          (declares_at n o e)
+
+  declared_apart : (number : ℕ) (d : Declaration) → declaration_at ss number ≡ Some d → d.item ≢ j
+  declared_apart number d h = by (slice_get (entries ss) number) (each_got IsApart (entries ss) number (entries_apart (length ss))) h
+    where
+      by : (o : Option Entry) → IfSome o IsApart → option_and_then entry_declaration o ≡ Some d → d.item ≢ j
+      by None q e = absurd cc
+      by (Some entry) q e = subst (λ o. IfSome o (λ (d : Declaration). d.item ≢ j)) e q
+
+  rest_stays : RestStays old text s xs ys ss
+  rest_stays = record {
+    count = rep.count;
+    headers = headers;
+    names = names;
+    settings = λ i l. settings i;
+    flags = each_all (λ number. flag_row_at ys ss number ≡ option_map (shifted_flag s) (flag_row_at xs ss number)) (flags_of ss)
+        (λ number. flag_shifts s xs ys ss names number (λ d e. span_at_shifts old text s xs ys d.item (kept d.item (declared_apart number d e)) before d.token));
+    clauses = same_clauses;
+    told = each_weaker (λ (p : ItemClause × ClauseLink). p.0.item ≢ j) (HasBytes old text xs ys) (λ p apart. (kept p.0.item apart).bytes) (told_clauses xs ss) told_apart;
+    channels = each_flat (λ (p : ItemClause × ClauseLink). p.0.item ≢ j) IsOfKept (channels_of_clause old xs) (told_clauses xs ss) channels_kept told_apart;
+  }
+
+  -- ---- outlines and marks
+
+  outlines_stay : outlines_of text ys ≡ ss
+  outlines_stay = same_by_gets (outlines_of text ys) ss (everywhere (λ i. slice_get (outlines_of text ys) i ≡ slice_get ss i) here other)
+    where
+      here : slice_get (outlines_of text ys) j ≡ slice_get ss j
+      here =
+          outline_at text ys j ∙ ap (option_map (outline_of_item text)) is.1 ∙ ap Some replaced.outline
+          ∙ sym (outline_at old xs j ∙ ap (option_map (outline_of_item old)) was.1)
+
+      by : (i : ℕ) → i ≢ j → (o : Option ProgramItem) → slice_get xs i ≡ o → option_map (outline_of_item text) (option_map (shifted_item s) o) ≡ option_map (outline_of_item old) o
+      by i apart None at = refl
+      by i apart (Some x) at = ap Some (outline_stays laws old text s x (rep.kept i x apart at))
+
+      other : (i : ℕ) → i ≢ j → slice_get (outlines_of text ys) i ≡ slice_get ss i
+      other i apart =
+          outline_at text ys i ∙ ap (option_map (outline_of_item text)) (rep.others i apart) ∙ by i apart (slice_get xs i) refl ∙ sym (outline_at old xs i)
+
+  -- ---- rows
+
+  same : assigned_channels text ys ss ≡ assigned_channels old xs ss
+  same = same_channels old text s xs ys ss before rest_stays
+
+  row_kept : (i : ℕ) → i ≢ j → is_named_state ss i ≡ true → IsRowKept old text s xs ys i
+  row_kept i apart is = record { item = kept i apart; line = state_line old text s xs ys i (rep.others i apart) (λ x at. rep.kept i x apart at) is }
+
+  set_apart : (k : ℕ) → is_set_begin ss k ≡ true → k ≢ j
+  set_apart k is same =
+      let found = tested old xs (λ s. begins_set s.role) k is in
+      let here : Some found.0 ≡ Some was.0 = sym found.1 ∙ ap (slice_get xs) same ∙ was.1 in
+      let item : found.0 ≡ was.0 = cc in
+      let state : is_state_or_faulty (kind_of found.0.tree) ≡ true = ap (λ (x : ProgramItem). is_state_or_faulty (kind_of x.tree)) item ∙ replaced.was_state in
+      no_set (kind_of found.0.tree) (nat_lt 0 (length (declared_in old found.0.tokens found.0.tree)) || nat_lt 0 (length (summary.clauses_in old found.0.tokens found.0.tree))) state found.2
+
+  line_of_set : (k : ℕ) → is_set_begin ss k ≡ true → IsLineKept old text s xs ys k
+  line_of_set k is =
+      set_line old text s xs ys k (rep.others k (set_apart k is)) (λ x at. rep.kept k x (set_apart k is) at) (set_named laws old xs read k is) is
+
+  abbrev is_state_in : ℕ → ℕ → Bool
+  is_state_in k i = is_named_state ss i && stands_in ss k i
+
+  targets_told : (bytes : List ℕ) (zs : List ProgramItem) (z : ProgramItem) → slice_get zs j ≡ Some z → (states : List ℕ) →
+      target_numbers bytes zs ss states j ≡ filter_map (λ name. number_among states (state_of ss j name)) (map (λ (m : Mention). m.name) (summary_of_item bytes z).targets)
+  targets_told bytes zs z at states =
+      ap (λ (o : Option ProgramItem). option_map_or (λ (x : ProgramItem). filter_map (target_number ss states j) (summary_of_item bytes x).targets) o []) at
+      ∙ kept_map (λ (m : Mention). m.name) (λ name. number_among states (state_of ss j name)) (summary_of_item bytes z).targets
+
+  -- ---- the rows of sets that the state isn't in
+
+  states_apart : (k : ℕ) → (stands_in ss k j ≡ true → ⊥) → AllByRecursion (λ i. i ≢ j) (states_in ss k)
+  states_apart k out =
+      each_below (λ i. i ≢ j) (is_state_in k) (length ss)
+      (λ i in_set here. out (subst (λ m. stands_in ss k m ≡ true) here (and_back (is_named_state ss i) (stands_in ss k i) in_set)))
+
+  marks_outside : (k : ℕ) → (stands_in ss k j ≡ true → ⊥) → MarksStay old text xs ys ss k
+  marks_outside k out = record {
+    some_faulty = has_faulty_stays old text s xs ys ss k
+        (everywhere (λ i. (is_faulty_item ys i && stands_in ss k i) ≡ (is_faulty_item xs i && stands_in ss k i))
+        (and_none (is_faulty_item ys j) (is_faulty_item xs j) (stands_in ss k j) (false_if (stands_in ss k j) out))
+        (λ i apart. ap (λ b. b && stands_in ss k i) (faulty_stays old text s xs ys i (kept i apart))));
+    targets = each_weaker (λ i. i ≢ j) (λ i. target_numbers text ys ss (states_in ss k) i ≡ target_numbers old xs ss (states_in ss k) i)
+        (λ i apart. targets_stay old text s xs ys ss i (kept i apart) before (states_in ss k)) (states_in ss k) (states_apart k out);
+  }
+
+  set_shift : (k : ℕ) → is_set_begin ss k ≡ true → (stands_in ss k j ≡ true → ⊥) → set_row text ys ss k ≡ shifted_set s (set_row old xs ss k)
+  set_shift k is out =
+      set_shifts old text s xs ys ss before same k (marks_outside k out) (names k) (line_of_set k is)
+      (each_below (IsRowKept old text s xs ys) (is_state_in k) (length ss)
+      (λ i in_set. row_kept i (λ here. out (subst (λ m. stands_in ss k m ≡ true) here (and_back (is_named_state ss i) (stands_in ss k i) in_set))) (and_front (is_named_state ss i) (stands_in ss k i) in_set)))
+
+  -- ---- the row of its set
+
+  module _ (set : ℕ) (stands : place ss j ≡ Some set) where
+    abbrev number : ℕ
+    number = state_number ss set j
+
+    stands_here : stands_in ss set j ≡ true
+    stands_here = ap (λ o. option_map_or (nat_eq set) o false) stands ∙ eq-eqb set set refl
+
+    other_set : (k : ℕ) → k ≢ set → stands_in ss k j ≡ true → ⊥
+    other_set k apart h = apart (eqb-true k set (sym (ap (λ o. option_map_or (nat_eq k) o false) stands) ∙ h))
+
+    inside : j < length ss
+    inside = let count = length-map xs (outline_of_item old) in omega (arith, count, rep.there)
+
+    named_here : is_named_state ss j ≡ true
+    named_here =
+        ap (λ (o : Option Outline). option_map_or (λ s. is_some (state_name s)) o false) (outline_at old xs j ∙ ap (option_map (outline_of_item old)) was.1) ∙ replaced.named
+
+    state_parts : Parts (λ i. IsRowKept old text s xs ys i) (is_state_in set) (length ss) j
+    state_parts =
+        parts_at (λ i. IsRowKept old text s xs ys i) (is_state_in set) (length ss) j inside (and_both (is_named_state ss j) (stands_in ss set j) named_here stands_here)
+        (λ i l m is. row_kept i (λ same. omega (arith, same, l)) (and_front (is_named_state ss i) (stands_in ss set i) is))
+
+    set_begins : is_set_begin ss set ≡ true
+    set_begins = place_begins ss j set stands
+
+    set_around : (states : List StateRow) → state_rows text ys ss set ≡ states → set_row text ys ss set ≡ record (shifted_set s (set_row old xs ss set)) { states = states }
+    unfolding IsLineKept
+    set_around states is =
+        let name = names set in
+        let line = line_of_set set set_begins in
+        cc
+
+    set_inside : set < length ss
+    set_inside = is_within (λ s. begins_set s.role) ss set set_begins
+
+    set_parts : Parts (λ k. set_row text ys ss k ≡ shifted_set s (set_row old xs ss k)) (is_set_begin ss) (length ss) set
+    set_parts =
+        parts_at (λ k. set_row text ys ss k ≡ shifted_set s (set_row old xs ss k)) (is_set_begin ss) (length ss) set set_inside set_begins
+        (λ k l m is. set_shift k is (other_set k (λ same. omega (arith, same, l))))
+
+    sets_around : (c : SetRow → SetRow) → set_row text ys ss set ≡ c (shifted_set s (set_row old xs ss set)) → set_rows text ys ss ≡ changed_at c (set_number ss set) (map (shifted_set s) (set_rows old xs ss))
+    sets_around c here =
+        let front = all_below (is_set_begin ss) set in
+        ap (map (set_row text ys ss)) set_parts.whole
+        ∙ row_changed (set_row text ys ss) (λ k. shifted_set s (set_row old xs ss k)) c front set set_parts.behind
+        (each_under (λ k. set_row text ys ss k ≡ shifted_set s (set_row old xs ss k)) (is_set_begin ss) set (λ k l is. set_shift k is (other_set k (λ same. omega (arith, same, l)))))
+        here set_parts.each
+        ∙ ap (changed_at c (set_number ss set))
+        (map_twice (shifted_set s) (set_row old xs ss) (front ++ (set ∷ set_parts.behind))
+        ∙ ap (λ (l : List ℕ). map (shifted_set s) (map (set_row old xs ss) l)) (sym set_parts.whole))
+
+    tables_if : (sets : List SetRow) → set_rows text ys ss ≡ sets → tables_of text ys ≡ record (shifted_tables s (tables_of old xs)) { sets = sets }
+    tables_if sets is = ap (tables_by text ys) outlines_stay ∙ tables_but_sets old text s xs ys ss before rest_stays sets is
+
+    -- ---- where the state says what it said
+
+    module _ (y : ProgramItem) (here : slice_get ys j ≡ Some y) (says : SaysAlikeAt old text xs ys j) where
+      alike : SaysAlike old text was.0 y
+      alike = says was.0 y was.1 here
+
+      faulty_is : (zs : List ProgramItem) (z : ProgramItem) → slice_get zs j ≡ Some z → is_faulty_item zs j ≡ is_none z.tree
+      faulty_is zs z at = ap (λ (o : Option ProgramItem). option_map_or (λ (x : ProgramItem). is_none x.tree) o false) at
+
+      faulty : (i : ℕ) → is_faulty_item ys i ≡ is_faulty_item xs i
+      faulty =
+          everywhere (λ i. is_faulty_item ys i ≡ is_faulty_item xs i) (faulty_is ys y here ∙ alike.sound ∙ sym (faulty_is xs was.0 was.1))
+          (λ i apart. faulty_stays old text s xs ys i (kept i apart))
+
+      marks_stay : MarksStay old text xs ys ss set
+      marks_stay =
+          let name = λ (name : List ℕ). number_among (states_in ss set) (state_of ss j name) in
+          record {
+            some_faulty = has_faulty_stays old text s xs ys ss set (λ i. ap (λ b. b && stands_in ss set i) (faulty i));
+            targets = each_all (λ i. target_numbers text ys ss (states_in ss set) i ≡ target_numbers old xs ss (states_in ss set) i) (states_in ss set)
+                (everywhere (λ i. target_numbers text ys ss (states_in ss set) i ≡ target_numbers old xs ss (states_in ss set) i)
+                (targets_told text ys y here (states_in ss set) ∙ ap (filter_map name) alike.targets ∙ sym (targets_told old xs was.0 was.1 (states_in ss set)))
+                (λ i apart. targets_stay old text s xs ys ss i (kept i apart) before (states_in ss set)));
+          }
+
+      -- what wakes it, by what its conditions say
+      meant : List AssignedChannel → List ℕ × Option ℕ → Option WakeUp
+      meant cs said = option_and_then (on_declaration ss cs said.1) (resolve_in ss j said.0)
+
+      wakes_are : (bytes : List ℕ) (zs : List ProgramItem) (z : ProgramItem) → slice_get zs j ≡ Some z → (cs : List AssignedChannel) →
+          wake_ups bytes zs ss cs j (uses_in bytes zs j) ≡ filter_map (meant cs) (wakes_of bytes z)
+      unfolding meant
+      wakes_are bytes zs z at cs =
+          ap (λ (o : Option ProgramItem). filter_map (λ used. option_and_then (on_declaration ss cs used.subscript) (resolve_in ss j (bytes_at bytes (option_map_or (λ (x : ProgramItem). x.tokens) o []) used.token))) (option_map_or (told_in_item bytes) o nothing).wake_uses) at
+          ∙ kept_map (used_by (bytes_at bytes z.tokens)) (meant cs) (told_in_item bytes z).wake_uses
+
+      wakes_stay : wake_ups text ys ss (assigned_channels text ys ss) j (uses_in text ys j) ≡ wake_ups old xs ss (assigned_channels old xs ss) j (uses_in old xs j)
+      wakes_stay =
+          wakes_are text ys y here (assigned_channels text ys ss)
+          ∙ ap₂ (λ (cs : List AssignedChannel) (uses : List (List ℕ × Option ℕ)). filter_map (meant cs) uses) same alike.wakes
+          ∙ sym (wakes_are old xs was.0 was.1 (assigned_channels old xs ss))
+
+      line_here : line_of_item text ys j ≡ shifted_line s (item_name xs j).start (line_of_item old xs j)
+      line_here =
+          ap (λ (ts : List Piece). line_at text (start_at ts 0)) (tokens_are ys j is.0 is.1) ∙ replaced.line
+          ∙ sym (ap (λ (ts : List Piece). shifted_line s (start_at ts 1) (line_at old (start_at ts 0))) (tokens_are xs j was.0 was.1))
+
+      item_here : item_at ys j ≡ y
+      item_here =
+          let item : Option ProgramItem → ProgramItem = λ o. record { tokens = option_map_or (λ (x : ProgramItem). x.tokens) o []; tree = option_and_then (λ (x : ProgramItem). x.tree) o } in
+          ap item here
+
+      abbrev body : StateBody
+      body = state_body text ss j y
+
+      row_here : numbered_row text ys ss set (number, j) ≡ with_own_body body (shifted_state s (numbered_row old xs ss set (number, j)))
+      row_here =
+          let name = names j in
+          let line = line_here in
+          let mark = same_mark old text s xs ys ss before same set marks_stay number j (faulty j) in
+          let options = ap (λ (x : ProgramItem). (state_body text ss j x).options) item_here in
+          let transitions = ap (λ (x : ProgramItem). (state_body text ss j x).transitions) item_here in
+          let gotos = ap (λ (x : ProgramItem). (state_body text ss j x).gotos) item_here in
+          let wake = wakes_stay in
+          cc
+
+      abbrev shifted_row : ℕ × ℕ → StateRow
+      shifted_row p = shifted_state s (numbered_row old xs ss set p)
+
+      abbrev IsShifted : ℕ → Type 0
+      IsShifted i = (n : ℕ) → numbered_row text ys ss set (n, i) ≡ shifted_row (n, i)
+
+      shifts : (i : ℕ) → IsRowKept old text s xs ys i → IsShifted i
+      shifts = state_shifts old text s xs ys ss before same set marks_stay
+
+      states_around : state_rows text ys ss set ≡ changed_at (with_own_body body) number (map (shifted_state s) (state_rows old xs ss set))
+      states_around =
+          let front = all_below (is_state_in set) j in
+          let zero : number ≡ 0 + number = omega arith in
+          ap (λ (l : List ℕ). map (numbered_row text ys ss set) (enumerate_from 0 l)) state_parts.whole
+          ∙ numbered_changed (numbered_row text ys ss set) shifted_row (with_own_body body) 0 front j state_parts.behind
+          (each_under IsShifted (is_state_in set) j (λ i l is. shifts i (row_kept i (λ same. omega (arith, same, l)) (and_front (is_named_state ss i) (stands_in ss set i) is))))
+          (subst (λ n. numbered_row text ys ss set (n, j) ≡ with_own_body body (shifted_row (n, j))) zero row_here)
+          (each_weaker (IsRowKept old text s xs ys) IsShifted shifts state_parts.behind state_parts.each)
+          ∙ ap (λ (l : List ℕ). changed_at (with_own_body body) number (map shifted_row (enumerate_from 0 l))) (sym state_parts.whole)
+          ∙ ap (changed_at (with_own_body body) number) (map_twice (shifted_state s) (numbered_row old xs ss set) (enumerate_from 0 (states_in ss set)))
+
+      pub tables_inside : tables_of text ys ≡ with_body (shifted_tables s (tables_of old xs)) (set_number ss set) number body
+      tables_inside =
+          let states = changed_at (with_own_body body) number (map (shifted_state s) (state_rows old xs ss set)) in
+          tables_if (changed_at (with_body_in number body) (set_number ss set) (map (shifted_set s) (set_rows old xs ss)))
+          (sets_around (with_body_in number body) (set_around states states_around))
+
+-- ---- one item between others
+
+module _ (old text : List ℕ) (s : Shift) (x y : ProgramItem) where
+  at_seam : (z : ProgramItem) (front back : List ProgramItem) → slice_get (front ++ (z ∷ back)) (length front) ≡ Some z
+  at_seam z [] back = refl
+  at_seam z (a ∷ front) back = at_seam z front back
+
+  others : (front back : List ProgramItem) (i : ℕ) → i ≢ length front →
+      slice_get (map (shifted_item s) front ++ (y ∷ map (shifted_item s) back)) i ≡ option_map (shifted_item s) (slice_get (front ++ (x ∷ back)) i)
+  others [] back zero apart = absurd (apart refl)
+  others [] back (suc i) apart = slice_get-map (shifted_item s) back i
+  others (a ∷ front) back zero apart = refl
+  others (a ∷ front) back (suc i) apart = others front back i (λ e. apart (ap suc e))
+
+  keeps_others : (front back : List ProgramItem) → KeepsItems old text s front → KeepsItems old text s back → (i : ℕ) (z : ProgramItem) → i ≢ length front →
+      slice_get (front ++ (x ∷ back)) i ≡ Some z → KeepsItem old text s z
+  keeps_others [] back f b zero z apart at = absurd (apart refl)
+  keeps_others [] back f b (suc i) z apart at = b i z at
+  keeps_others (a ∷ front) back f b zero z apart at = f 0 z at
+  keeps_others (a ∷ front) back f b (suc i) z apart at = keeps_others front back (λ n. f (suc n)) b i z (λ e. apart (ap suc e)) at
+
+  pub one_between : (front back : List ProgramItem) → KeepsItems old text s front → KeepsItems old text s back → ReplacesState old text s x y →
+      ReplacesOne old text s (front ++ (x ∷ back)) (map (shifted_item s) front ++ (y ∷ map (shifted_item s) back)) (length front)
+  one_between front back f b replaces = record {
+    count = simp (length-append, length-map);
+    there = omega (arith, length-append front (x ∷ back));
+    others = others front back;
+    kept = λ i z apart at. keeps_others front back f b i z apart at;
+    replaced = λ a c at_a at_c.
+        let was : Some x ≡ Some a = sym (at_seam x front back) ∙ at_a in
+        let place : length (map (shifted_item s) front) ≡ length front = length-map front (shifted_item s) in
+        let is : Some y ≡ Some c = sym (at_seam y (map (shifted_item s) front) (map (shifted_item s) back)) ∙ ap (slice_get (map (shifted_item s) front ++ (y ∷ map (shifted_item s) back))) place ∙ at_c in
+        let old_item : x ≡ a = cc in
+        let new_item : y ≡ c = cc in
+        subst (λ z. ReplacesState old text s z c) old_item (subst (λ z. ReplacesState old text s x z) new_item replaces);
+  }

@@ -1,0 +1,104 @@
+-- Lists of rows of which one is changed, and the numbers before and behind one.
+use Rattle.std.proofs.Common.{◌≡◌, ℕ, zero, suc, ◌+◌, ◌<◌, ◌&&◌, Bool, true, false, List, [], ◌∷◌, ◌++◌, length, map, slice_get, Option, inl, inr, if◌then◌else◌, refl, sym, subst, ap, ap₂, ◌∙◌, arith, append_assoc}
+use Rattle.std.specs.List.{AllByRecursion, cons_option, enumerate_from, filter_map}
+use Rattle.std.proofs.lemmas.Bool.{cases_eq, false≢true}
+use Rattle.snl_scope.specs.Below.{all_below}
+use Rattle.snl_tables.specs.Shifted.{changed_at}
+use Rattle.snl_check.proofs.Each.{each_join}
+use Rattle.snl_check.proofs.ShiftLists.{map_same}
+
+-- ---- numbers below another: those before a number that passes, it, and those behind it
+
+pub each_under : (P : ℕ → Type 0) (p : ℕ → Bool) (n : ℕ) → ((i : ℕ) → i < n → p i ≡ true → P i) → AllByRecursion P (all_below p n)
+each_under P p zero h = tt
+each_under P p (suc n) h =
+    each_join P (all_below p n) (if p n then n ∷ [] else []) (each_under P p n (λ i l. h i (omega (arith, l)))) (by (p n) refl)
+  where
+    by : (b : Bool) → p n ≡ b → AllByRecursion P (if b then n ∷ [] else [])
+    by true e = (h n (omega arith) e, tt)
+    by false e = tt
+
+pub record Parts (P : ℕ → Type 0) (p : ℕ → Bool) (n k : ℕ) : Type 0 where
+  pub behind : List ℕ
+  pub whole : all_below p n ≡ all_below p k ++ (k ∷ behind)
+  pub each : AllByRecursion P behind
+
+pub parts_at : (P : ℕ → Type 0) (p : ℕ → Bool) (n k : ℕ) → k < n → p k ≡ true → ((i : ℕ) → k < i → i < n → p i ≡ true → P i) → Parts P p n k
+parts_at P p zero k l is h = absurd (omega (arith, l))
+parts_at P p (suc n) k l is h =
+    elim (cases_eq k n) [
+      | inl same ↦ record {
+        behind = [];
+        whole = ap (λ m. all_below p n ++ (if p m then m ∷ [] else [])) (sym same) ∙ ap (λ b. all_below p n ++ (if b then k ∷ [] else [])) is ∙ ap (λ m. all_below p m ++ k ∷ []) (sym same);
+        each = tt;
+      }
+      | inr apart ↦
+          let before : Parts P p n k = parts_at P p n k (omega (arith, l, apart)) is (λ i m o. h i m (omega (arith, o))) in
+          record {
+            behind = before.behind ++ (if p n then n ∷ [] else []);
+            whole = ap (λ xs. xs ++ (if p n then n ∷ [] else [])) before.whole ∙ append_assoc (all_below p k) (k ∷ before.behind) (if p n then n ∷ [] else []);
+            each = each_join P before.behind (if p n then n ∷ [] else []) before.each (by (p n) refl (omega (arith, l, apart)));
+          }
+    ]
+  where
+    by : (b : Bool) → p n ≡ b → k < n → AllByRecursion P (if b then n ∷ [] else [])
+    by true e m = (h n m (omega arith) e, tt)
+    by false e m = tt
+
+-- ---- lists of rows of which one is changed
+
+pub row_changed : {Y : Type 0} (f g : ℕ → Y) (c : Y → Y) (before : List ℕ) (k : ℕ) (behind : List ℕ) →
+    AllByRecursion (λ i. f i ≡ g i) before → f k ≡ c (g k) → AllByRecursion (λ i. f i ≡ g i) behind →
+    map f (before ++ (k ∷ behind)) ≡ changed_at c (length before) (map g (before ++ (k ∷ behind)))
+row_changed {Y = Y} f g c [] k behind b e a = ap₂ (λ (y : Y) (ys : List Y). y ∷ ys) e (map_same f g behind a)
+row_changed {Y = Y} f g c (x ∷ xs) k behind b e a = ap₂ (λ (y : Y) (ys : List Y). y ∷ ys) b.0 (row_changed f g c xs k behind b.1 e a)
+
+numbered_same : {Y : Type 0} (f g : ℕ × ℕ → Y) (n : ℕ) (js : List ℕ) → AllByRecursion (λ j. (i : ℕ) → f (i, j) ≡ g (i, j)) js → map f (enumerate_from n js) ≡ map g (enumerate_from n js)
+numbered_same f g n [] h = refl
+numbered_same {Y = Y} f g n (j ∷ js) h = ap₂ (λ (y : Y) (ys : List Y). y ∷ ys) (h.0 n) (numbered_same f g (n + 1) js h.1)
+
+pub numbered_changed : {Y : Type 0} (f g : ℕ × ℕ → Y) (c : Y → Y) (n : ℕ) (before : List ℕ) (k : ℕ) (behind : List ℕ) →
+    AllByRecursion (λ j. (i : ℕ) → f (i, j) ≡ g (i, j)) before → f (n + length before, k) ≡ c (g (n + length before, k)) → AllByRecursion (λ j. (i : ℕ) → f (i, j) ≡ g (i, j)) behind →
+    map f (enumerate_from n (before ++ (k ∷ behind))) ≡ changed_at c (length before) (map g (enumerate_from n (before ++ (k ∷ behind))))
+numbered_changed {Y = Y} f g c n [] k behind b e a =
+    let here : n + 0 ≡ n = omega arith in
+    ap₂ (λ (y : Y) (ys : List Y). y ∷ ys) (subst (λ (m : ℕ). f (m, k) ≡ c (g (m, k))) here e) (numbered_same f g (n + 1) behind a)
+numbered_changed {Y = Y} f g c n (x ∷ xs) k behind b e a =
+    let here : n + suc (length xs) ≡ (n + 1) + length xs = omega arith in
+    ap₂ (λ (y : Y) (ys : List Y). y ∷ ys) (b.0 n) (numbered_changed f g c (n + 1) xs k behind b.1 (subst (λ (m : ℕ). f (m, k) ≡ c (g (m, k))) here e) a)
+
+pub map_twice : {X Y Z : Type 0} (g : Y → Z) (f : X → Y) (xs : List X) → map (λ x. g (f x)) xs ≡ map g (map f xs)
+map_twice g f [] = refl
+map_twice {Z = Z} g f (x ∷ xs) = ap (λ (zs : List Z). g (f x) ∷ zs) (map_twice g f xs)
+
+pub same_by_gets : {X : Type 0} (xs ys : List X) → ((i : ℕ) → slice_get xs i ≡ slice_get ys i) → xs ≡ ys
+same_by_gets [] [] h = refl
+same_by_gets [] (y ∷ ys) h = let none = h 0 in absurd cc
+same_by_gets (x ∷ xs) [] h = let none = h 0 in absurd cc
+same_by_gets {X = X} (x ∷ xs) (y ∷ ys) h =
+    let some = h 0 in
+    let first : x ≡ y = cc in
+    ap₂ (λ (z : X) (zs : List X). z ∷ zs) first (same_by_gets xs ys (λ i. h (suc i)))
+
+pub kept_map : {X Y Z : Type 0} (f : X → Y) (h : Y → Option Z) (xs : List X) → filter_map (λ x. h (f x)) xs ≡ filter_map h (map f xs)
+kept_map f h [] = refl
+kept_map f h (x ∷ xs) = ap (cons_option (h (f x))) (kept_map f h xs)
+
+pub and_none : (a b c : Bool) → c ≡ false → (a && c) ≡ (b && c)
+and_none a b true h = absurd (false≢true (sym h))
+and_none true true false h = refl
+and_none true false false h = refl
+and_none false true false h = refl
+and_none false false false h = refl
+
+pub and_both : (a b : Bool) → a ≡ true → b ≡ true → (a && b) ≡ true
+and_both true b e f = f
+and_both false b e f = absurd (false≢true e)
+
+pub and_back : (a b : Bool) → (a && b) ≡ true → b ≡ true
+and_back true b h = h
+and_back false b h = absurd (false≢true h)
+
+pub same_either : {X : Type 0} (b : Bool) (o : X) → (if b then o else o) ≡ o
+same_either true o = refl
+same_either false o = refl

@@ -1,0 +1,8 @@
+use Rattle.snl_walk.specs.Items.{occurrences}
+use Rattle.snl_walk.specs.Rules.{findings}
+use Rattle.snl_check.specs.Outlook.{misses_by, outer_by}
+use Rattle.snl_check.proofs.LeftToLinks.{item_codes}
+use Rattle.snl_check.proofs.fault_laws.faults_have_item_codes.Goals as goal
+
+pub returns : goal.returns
+returns c = λ bytes tree in_set fact target. item_codes bytes in_set tree (findings bytes (outer_by fact) (misses_by in_set target) (occurrences bytes tree))

@@ -1,0 +1,69 @@
+-- The items of a text after an edit inside one state, which says what it said; and where the row of a state is in the tables.
+use Rattle.std.specs.Prelude.{◌≡◌, ◌≢◌, ℕ, ◌<◌, ◌&&◌, Bool, true, false, is_some, is_none, List, [], map, length, slice_get, Option, Some, option_map}
+use Rattle.snl_lex.specs.declared.shift.Shift.{Shift}
+use Rattle.snl_lex.specs.Lines.{line_at}
+use Rattle.snl_lex.specs.Shift.{shifted_line}
+use Rattle.snl_scope.specs.declared.summary.ItemKind.{ItemKind}
+use Rattle.snl_scope.specs.declared.summary.ItemKind.TheVariants as kinds
+use Rattle.snl_scope.specs.declared.summary.Outline.{Outline}
+use Rattle.snl_scope.specs.Below.{all_below}
+use Rattle.snl_scope.specs.Order.{is_named_state, state_name}
+use Rattle.snl_scope.specs.Places.{is_set_begin, stands_in}
+use Rattle.snl_scope.specs.Summaries.{kind_of}
+use Rattle.snl_walk.specs.declared.used.WakeUse.{WakeUse}
+use Rattle.snl_walk.specs.Tokens.{bytes_at}
+use Rattle.snl_tables.specs.Shifted.{shifted_span}
+use Rattle.snl_check.specs.Items.{ProgramItem, outline_of_item, span_of, summary_of_item}
+use Rattle.snl_check.specs.Shifted.{KeepsItem, shifted_item, start_at}
+use Rattle.snl_check.specs.Told.{told_in_item}
+
+-- How many state sets begin before item k, and how many of the states of the set that item k begins are before item j.
+abbrev pub set_number : List Outline → ℕ → ℕ
+set_number ss k = length (all_below (is_set_begin ss) k)
+
+abbrev pub state_number : List Outline → ℕ → ℕ → ℕ
+state_number ss k j = length (all_below (λ i. is_named_state ss i && stands_in ss k i) j)
+
+-- A state, or an item without a tree.
+abbrev pub is_state_or_faulty : ItemKind → Bool
+is_state_or_faulty kinds.State = true
+is_state_or_faulty kinds.Faulty = true
+is_state_or_faulty _ = false
+
+-- A state in the place of another, each of them sound or faulty: it says to the others what that one said, its name and no declaration
+-- and no clause among it, and its name and its line are what they were, shifted.
+pub record ReplacesState (old text : List ℕ) (s : Shift) (x y : ProgramItem) : Type 0 where
+  pub was_state : is_state_or_faulty (kind_of x.tree) ≡ true
+  pub is_state : is_state_or_faulty (kind_of y.tree) ≡ true
+  pub outline : outline_of_item text y ≡ outline_of_item old x
+  pub named : is_some (state_name (outline_of_item old x)) ≡ true
+  pub no_declaration : (outline_of_item old x).declares ≡ []
+  pub no_clause : (outline_of_item old x).clauses ≡ []
+  pub name : span_of (slice_get y.tokens 1) ≡ shifted_span s (span_of (slice_get x.tokens 1))
+  pub line : line_at text (start_at y.tokens 0) ≡ shifted_line s (start_at x.tokens 1) (line_at old (start_at x.tokens 0))
+
+-- The items after an edit, `ys`, are those before it, shifted, but for item j, which is a state in the place of another.
+pub record ReplacesOne (old text : List ℕ) (s : Shift) (xs ys : List ProgramItem) (j : ℕ) : Type 0 where
+  pub count : length ys ≡ length xs
+  pub there : j < length xs
+  pub others : (i : ℕ) → i ≢ j → slice_get ys i ≡ option_map (shifted_item s) (slice_get xs i)
+  pub kept : (i : ℕ) (x : ProgramItem) → i ≢ j → slice_get xs i ≡ Some x → KeepsItem old text s x
+  pub replaced : (x y : ProgramItem) → slice_get xs j ≡ Some x → slice_get ys j ≡ Some y → ReplacesState old text s x y
+
+-- A use in a condition, by what it says: the name, and the subscript where that is an integer alone.
+abbrev pub used_by : (ℕ → List ℕ) → WakeUse → List ℕ × Option ℕ
+used_by bytes u = (bytes u.token, u.subscript)
+
+-- What the conditions of an item say, use by use.
+abbrev pub wakes_of : List ℕ → ProgramItem → List (List ℕ × Option ℕ)
+wakes_of text x = map (used_by (bytes_at text x.tokens)) (told_in_item text x).wake_uses
+
+-- The new state leads where the old one led, its conditions say the same, and it is sound where that one was: so all states of the
+-- set have the marks that they had, and its row has the wake-up set that it had.
+pub record SaysAlike (old text : List ℕ) (x y : ProgramItem) : Type 0 where
+  pub sound : is_none y.tree ≡ is_none x.tree
+  pub targets : map (λ m. m.name) (summary_of_item text y).targets ≡ map (λ m. m.name) (summary_of_item old x).targets
+  pub wakes : wakes_of text y ≡ wakes_of old x
+
+abbrev pub SaysAlikeAt : (old text : List ℕ) (xs ys : List ProgramItem) → ℕ → Type 0
+SaysAlikeAt old text xs ys j = (x y : ProgramItem) → slice_get xs j ≡ Some x → slice_get ys j ≡ Some y → SaysAlike old text x y

@@ -1,0 +1,113 @@
+-- What is made of an edit inside one state that says to the other items what it said.
+use Rattle.std.specs.Prelude.{◌≡◌, ℕ, ◌+◌, ◌<◌, ◌≤◌, Bool, true, List, [], length, map, take, count_by, slice_get, Option, Some, None, is_some}
+use Rattle.snl_cut.specs.Cut.{last_end}
+use Rattle.snl_lex.specs.declared.piece.Piece.{Piece}
+use Rattle.snl_lex.specs.declared.shift.Shift.{Shift}
+use Rattle.snl_lex.specs.Lines.{is_marker}
+use Rattle.snl_lex.specs.Shift.{marker_count}
+use Rattle.snl_items.specs.Items.{item_ends}
+use Rattle.snl_syntax.specs.Outcome.{sound_tree}
+use Rattle.snl_scope.specs.Linked.{faults_of}
+use Rattle.snl_scope.specs.Order.{state_name}
+use Rattle.snl_scope.specs.Places.{place}
+use Rattle.snl_scope.specs.Summaries.Tokens.{bytes_at}
+use Rattle.snl_scope.specs.declared.summary.Outline.{Outline}
+use Rattle.snl_tables.specs.Shifted.{shifted_tables, with_body}
+use Rattle.snl_check.specs.declared.findings.Checked.{Checked}
+use Rattle.snl_check.specs.ShiftedAround.{is_state_or_faulty, set_number, state_number, used_by, wakes_of}
+use Rattle.snl_check.specs.States.{state_body}
+use Rattle.snl_session.specs.declared.entries.Entry.{Entry}
+use Rattle.snl_session.specs.declared.findings.Diagnostic.{Diagnostic}
+use Rattle.snl_session.specs.declared.findings.Finding.{Finding}
+use Rattle.snl_session.specs.declared.inside.Inside.{Inside}
+use Rattle.snl_session.specs.declared.inside.Was.{Was}
+use Rattle.snl_session.specs.declared.one_item.OwnTokens.{OwnTokens}
+use Rattle.snl_session.specs.declared.plan.Changes.{Changes}
+use Rattle.snl_session.specs.Checks.{checks_of, links_in, outlines_in}
+use Rattle.snl_session.specs.Diagnostics.{diagnostic, diagnostics_of, shown, shown_if}
+use Rattle.snl_session.specs.Entries.{entries_of}
+use Rattle.snl_session.specs.OneState.{SparesInside, own_findings, own_shown, own_tokens}
+use Rattle.snl_session.specs.Order.{in_order}
+use Rattle.snl_session.specs.OwnFindings.{found_around}
+use Rattle.snl_session.specs.Program.{ProgramItem, items_of, program_item}
+use Rattle.snl_session.specs.Rechecked.{AreChecksMade, made_at, nones}
+use Rattle.snl_session.specs.Shifted.{finding_of}
+use Rattle.snl_session.specs.Stirred.{stirred_between}
+use Rattle.snl_session.specs.Tables.{tables_in}
+use Rattle.snl_session.specs.Warnings.{warns_in}
+
+-- What the items say to each other, as it is kept.
+abbrev pub outlines_kept : List Entry → List Outline
+outlines_kept entries = map (λ e. e.summary.outline) entries
+
+-- An edit makes one item in the place of one, whose first two tokens are before the edit. Neither text has line markers.
+pub record IsOneItem (old : List ℕ) (c : Changes) : Type 0 where
+  pub no_marker : marker_count old ≡ 0
+  pub no_marker_made : count_by is_marker c.pieces.list.kinds.items ≡ 0
+  pub one_made : length c.items.made.items ≡ 1
+  pub one_gone : c.items.kept_front + 1 + c.items.kept_back ≡ length (item_ends old)
+  pub head : last_end 0 (take c.items.kept_front (item_ends old)) + 2 ≤ c.tokens.edit.start
+
+-- A state with a name in the place of another, each sound or faulty as the other: it says to the other items what that one said, and
+-- it declares nothing and has no clauses.
+pub record SaysTheSame (x e : Entry) : Type 0 where
+  pub outline : e.summary.outline ≡ x.summary.outline
+  pub kind : e.summary.kind ≡ x.summary.kind
+  pub is_state : is_state_or_faulty x.summary.kind ≡ true
+  pub named : is_some (state_name x.summary.outline) ≡ true
+  pub no_declaration : x.summary.outline.declares ≡ []
+  pub no_clause : x.summary.outline.clauses ≡ []
+
+-- What the conditions of an item say, use by use, as its check told it.
+abbrev pub wakes_told : (ℕ → List ℕ) → Option Checked → List (List ℕ × Option ℕ)
+wakes_told bytes None = []
+wakes_told bytes (Some c) = map (used_by bytes) c.wake_uses
+
+-- It leads to states of the same names, and says in its conditions what that one said, of which this is the check.
+pub record AreAlike (old text : List ℕ) (was is : List Piece) (x e : Entry) (check : Option Checked) : Type 0 where
+  pub targets : map (λ m. m.name) e.summary.targets ≡ map (λ m. m.name) x.summary.targets
+  pub wakes : wakes_of text (record { tokens = is; tree = sound_tree e.parsed }) ≡ wakes_told (bytes_at old was) check
+
+-- The item with a number.
+abbrev pub own_item : List ℕ → ℕ → ProgramItem
+own_item text i = program_item text (own_tokens text i)
+
+-- What a text says after an edit inside the state that is item i, in a set: what it said, shifted, but for what is found at the state itself and the body of
+-- its row.
+pub record IsAfterState (old text : List ℕ) (s : Shift) (i set : ℕ) : Type 0 where
+  pub links : links_in text ≡ links_in old
+  pub warns : warns_in text ≡ warns_in old
+  pub found : found_around s (own_shown old (items_of old) i (own_item old i)) (own_shown text (items_of text) i (own_item text i)) (map finding_of (diagnostics_of old)) ≡ in_order (shown text)
+  pub tables : tables_in text ≡ with_body (shifted_tables s (tables_in old)) (set_number (outlines_in old) set) (state_number (outlines_in old) set i) (state_body text (outlines_in old) i (own_item text i))
+
+-- What is made of the state, besides what is kept of it: its check, the diagnostics of the new text, and the rows.
+pub record IsMadeInside (old text : List ℕ) (start old_stop new_stop : ℕ) (c : Changes) (i : Inside) : Type 0 where
+  pub links : links_in text ≡ links_in old
+  pub warns : warns_in text ≡ warns_in old
+  pub checks : AreChecksMade old text c.items.kept_front (nones c.items.made.items) c.items.kept_back (made_at c.items.kept_front i.check)
+  pub stirred : stirred_between old text start old_stop new_stop ≡ length (made_at c.items.kept_front i.check)
+  pub diagnostics : i.diagnostics.items ≡ diagnostics_of text
+  pub tables : tables_in text ≡ with_body (shifted_tables i.shift (tables_in old)) i.row.set i.row.state i.body
+
+-- The state that an edit replaces, by the number of its item.
+pub record IsWas (old : List ℕ) (item : ℕ) (w : Was) : Type 0 where
+  pub set : place (outlines_in old) item ≡ Some w.set
+  pub entry : slice_get (entries_of old) item ≡ Some w.entry.now
+  pub check : slice_get (checks_of old) item ≡ Some w.check.now
+
+-- The state in its place says to the other items and in its conditions what that one said; and the links find nothing past its first two tokens.
+pub record SaysWhatItSaid (old text : List ℕ) (item : ℕ) (own : OwnTokens) (w : Was) (e : Entry) : Type 0 where
+  pub same : SaysTheSame w.entry.now e
+  pub alike : AreAlike old text own.was.items own.is.items w.entry.now e w.check.now
+  pub spared : SparesInside item (faults_of (links_in old))
+
+-- These are the tokens of an item before and after an edit.
+pub record AreOwnTokens (old text : List ℕ) (item : ℕ) (own : OwnTokens) : Type 0 where
+  pub was : own.was.items ≡ own_tokens old item
+  pub is : own.is.items ≡ own_tokens text item
+
+-- The diagnostics of the new text: what was found at the state is taken out, what is found at it comes in, the others are shifted.
+abbrev pub diagnostics_by : (old text : List ℕ) → List Outline → Bool → Shift → ℕ → OwnTokens → List Finding → List Diagnostic
+diagnostics_by old text ss warns s item own found =
+    map (diagnostic text)
+    (found_around s (shown_if warns (own_findings old ss item (program_item old own.was.items))) (shown_if warns (own_findings text ss item (program_item text own.is.items))) found)

@@ -1,0 +1,404 @@
+//! The plan of an edit inside one state that says to the other items what it said: its row, its findings and what is kept of it are
+//! made anew, all else stays or is shifted. What is kept of the old text and both texts come in; what is made goes out.
+#![tactic(auto)]
+
+ghost use Rattle.std.specs.Prelude.{◌≡◌, ◌<◌, [], ◌∷◌, ℕ, All, IfOk, IfSome, IsTrue, List, length, map};
+ghost use Rattle.snl_cut.specs.Cut.{after_ticks};
+ghost use Rattle.snl_lex.specs.LineList.{IsLineList};
+ghost use Rattle.snl_lex.specs.PieceList.{spelled};
+ghost use Rattle.snl_lex.specs.Pieces.{LiesIn};
+ghost use Rattle.snl_scope.specs.declared.summary.Outline.{Outline};
+ghost use Rattle.snl_check.specs.States.{state_body};
+ghost use Rattle.snl_session.specs.Checks.{check_by};
+ghost use Rattle.snl_session.specs.Diagnostics.{diagnostic, diagnostics_of, shown_if};
+ghost use Rattle.snl_session.specs.Entries.{entry_by};
+ghost use Rattle.snl_session.specs.Inside.{AreOwnTokens, IsMadeInside, IsOneItem, IsWas, SaysWhatItSaid, diagnostics_by};
+ghost use Rattle.snl_session.specs.Kept.{HasRoomFor, IsListed};
+ghost use Rattle.snl_session.specs.OneState.{own_findings};
+ghost use Rattle.snl_session.specs.OwnFindings.{IsOwnCheck, found_around};
+ghost use Rattle.snl_session.specs.Planned.{AreEntriesMade, IsChanged, IsCost, IsStateWay};
+ghost use Rattle.snl_session.specs.Program.{program_item};
+ghost use Rattle.snl_session.specs.Rechecked.{made_at};
+ghost use Rattle.snl_session.specs.Shifted.{finding_of};
+ghost use Rattle.snl_session.specs.Warnings.{warns_in};
+ghost use Rattle.snl_session.specs.Tables.{tables_in};
+
+use crate::alike::{found_little, says_alike, says_the_same, spares_inside};
+use crate::diagnose::{keep_shown, on_lines};
+use crate::edits::Work;
+use crate::entries::Entry;
+use crate::findings::{Diagnostic, Finding};
+use crate::inside_laws::edit_inside_a_state;
+use crate::lists::{Lists, Remade};
+use crate::numbers::{RowPlace, row_of};
+use crate::one_item::OwnTokens;
+use crate::own_findings::{findings_around, own_findings};
+use crate::plan::Changes;
+use crate::program::items_end_in_order;
+use crate::recheck::{add_made, vacant_for};
+use crate::state_laws::one_state_replaced;
+use snl_check::{Checked, StateBody, Tables, check_item, state_body};
+use snl_cut::{Count, OutOfMemory};
+use snl_lex::{LineList, Piece, Shift, TextEdit, text_in_pieces};
+use snl_scope::{Links, same_spelling_same_summary};
+use snl_syntax::{outcome_told, same_spelling_same_tree};
+use std::alloc::Global;
+
+/// The changes that an edit inside one state makes, the lines of the new text, what is made of all that is kept of the items, the
+/// diagnostics, how the rows are shifted, where the state has its row and what its body says, and the cost.
+#[derive(Drop)]
+pub struct StateWay {
+    pub changes: Changes,
+    pub lines: LineList,
+    pub remade: Remade,
+    pub diagnostics: Vec<Diagnostic>,
+    pub shift: Shift,
+    pub row: RowPlace,
+    pub body: StateBody,
+    pub work: Work,
+}
+
+/// The state that an edit replaces: the number of its set, what is kept of it, and its check, if it is sound.
+#[derive(Clone, Copy)]
+pub struct Was<'a> {
+    pub set: usize,
+    pub entry: &'a Entry,
+    pub check: &'a Option<Checked>,
+}
+
+/// What an edit makes of a state, besides what is kept of it: its check, if it is sound, the diagnostics of the new text, how the rows of the other items are
+/// shifted, where the state has its row and what its body says.
+#[derive(Drop)]
+pub struct Inside {
+    pub check: Option<Checked>,
+    pub diagnostics: Vec<Diagnostic>,
+    pub shift: Shift,
+    pub row: RowPlace,
+    pub body: StateBody,
+}
+
+// The check of the state that is made, if it is sound. It is one tick then.
+fn own_check(
+    alloc: Global,
+    text: &[u8],
+    own: &[Piece],
+    entry: &Entry,
+    links: &Links,
+    item: usize,
+    work: &mut Count,
+) -> Result<Option<Checked>, OutOfMemory>
+    requires within { All (LiesIn text.now) own.now }
+    requires entry { entry.now ≡ entry_by (spelled text.now own.now) }
+    ensures check { IfOk result (λ c. c ≡ check_by links.now.outlines item (spelled text.now own.now)) }
+    ensures ticks { IfOk result (λ c. work.new ≡ after_ticks work.old (length (made_at item c))) }
+{
+    same_spelling_same_summary();
+    match entry.parsed.tree() {
+        Some(tree) => {
+            let checked = check_item(alloc, text, own, tree, links, item, work)?;
+            Ok(Some(checked))
+        }
+        None => Ok(None),
+    }
+}
+
+// What is found at a state, as far as it is shown.
+fn own_shown(
+    alloc: Global,
+    text: &[u8],
+    own: &[Piece],
+    entry: &Entry,
+    check: &Option<Checked>,
+    warns: bool,
+) -> Result<Vec<Finding>, OutOfMemory>
+    requires some { 0 < length own.now }
+    requires within { All (LiesIn text.now) own.now }
+    requires entry { entry.now ≡ entry_by (spelled text.now own.now) }
+    requires check { IsOwnCheck text.now own.now check.now }
+    ensures { IfOk result (λ v. (ss : List Outline) (i : ℕ) → check.now ≡ check_by ss i (spelled text.now own.now) → v.items ≡ shown_if warns (own_findings text.now ss i (program_item text.now own.now))) }
+{
+    let mut found = own_findings(alloc, text, own, &entry.parsed, check)?;
+    keep_shown(warns, &mut found);
+    Ok(found)
+}
+
+// The diagnostics of the new text: what was found at the state goes, what is found at it comes, the others are shifted.
+fn diagnostics_around(
+    alloc: Global,
+    found: &[Diagnostic],
+    text: &[u8],
+    lines: &LineList,
+    shift: Shift,
+    gone: &[Finding],
+    come: &[Finding],
+) -> Result<Vec<Diagnostic>, OutOfMemory>
+    requires lines { IsLineList text.now lines.now.ends.items lines.now.markers.items lines.now.naming.items }
+    ensures { IfOk result (λ v. v.items ≡ map (diagnostic text.now) (found_around shift gone.now come.now (map finding_of found.now))) }
+{
+    let findings = findings_around(alloc, found, shift, gone, come)?;
+    on_lines(alloc, text, lines, &findings)
+}
+
+// The diagnostics of the new text, by what is found at the state before the edit and after it.
+fn own_diagnostics(
+    alloc: Global,
+    lists: &Lists,
+    found: &[Diagnostic],
+    edit: &TextEdit,
+    lines: &LineList,
+    shift: Shift,
+    own: &OwnTokens,
+    item: usize,
+    was: Was,
+    made: &Entry,
+    check: &Option<Checked>,
+) -> Result<Vec<Diagnostic>, OutOfMemory>
+    requires lines { IsLineList edit.now.text.now lines.now.ends.items lines.now.markers.items lines.now.naming.items }
+    requires was_some { 0 < length own.now.was.items }
+    requires was_within { All (LiesIn edit.now.old.now) own.now.was.items }
+    requires was_spelled { was.entry.now ≡ entry_by (spelled edit.now.old.now own.now.was.items) }
+    requires was_checked { was.check.now ≡ check_by lists.now.links.outlines item (spelled edit.now.old.now own.now.was.items) }
+    requires some { 0 < length own.now.is.items }
+    requires within { All (LiesIn edit.now.text.now) own.now.is.items }
+    requires spelled { made.now ≡ entry_by (spelled edit.now.text.now own.now.is.items) }
+    requires checked { check.now ≡ check_by lists.now.links.outlines item (spelled edit.now.text.now own.now.is.items) }
+    ensures { IfOk result (λ v. v.items ≡ diagnostics_by edit.now.old.now edit.now.text.now lists.now.links.outlines lists.now.warns shift item own.now (map finding_of found.now)) }
+{
+    let gone = own_shown(alloc, edit.old, &own.was, was.entry, was.check, lists.warns)?;
+    let come = own_shown(alloc, edit.text, &own.is, made, check, lists.warns)?;
+    diagnostics_around(alloc, found, edit.text, lines, shift, &gone, &come)
+}
+
+// The body of the row of the state that is made, by what its check told.
+fn own_body(
+    alloc: Global,
+    text: &[u8],
+    own: &[Piece],
+    entry: &Entry,
+    links: &Links,
+    item: usize,
+    check: &Option<Checked>,
+) -> Result<StateBody, OutOfMemory>
+    requires within { All (LiesIn text.now) own.now }
+    requires entry { entry.now ≡ entry_by (spelled text.now own.now) }
+    requires check { check.now ≡ check_by links.now.outlines item (spelled text.now own.now) }
+    ensures { IfOk result (λ b. b ≡ state_body text.now links.now.outlines item (program_item text.now own.now)) }
+{
+    outcome_told();
+    same_spelling_same_tree();
+    same_spelling_same_summary();
+    let tree = entry.parsed.tree();
+    match check {
+        Some(checked) => {
+            let targets = checked.target_uses.as_slice();
+            state_body(alloc, text, own, tree, links, item, targets)
+        }
+        None => state_body(alloc, text, own, tree, links, item, &[]),
+    }
+}
+
+// What an edit makes of a state that says what the one before it said.
+fn made_inside(
+    alloc: Global,
+    lists: &Lists,
+    found: &[Diagnostic],
+    edit: &TextEdit,
+    changes: &Changes,
+    lines: &LineList,
+    own: &OwnTokens,
+    was: Was,
+    made: &Entry,
+    work: &mut Count,
+) -> Result<Inside, OutOfMemory>
+    requires lists { IsListed edit.now.old.now lists.now }
+    requires found { found.now ≡ diagnostics_of edit.now.old.now }
+    requires changes { IsChanged edit.now.old.now edit.now.text.now edit.now.start edit.now.old_stop edit.now.new_stop changes.now }
+    requires lines { IsLineList edit.now.text.now lines.now.ends.items lines.now.markers.items lines.now.naming.items }
+    requires one { IsOneItem edit.now.old.now changes.now }
+    requires own { AreOwnTokens edit.now.old.now edit.now.text.now changes.now.items.kept_front own.now }
+    requires was { IsWas edit.now.old.now changes.now.items.kept_front was }
+    requires made { made.now ≡ entry_by (spelled edit.now.text.now own.now.is.items) }
+    requires alone { AreEntriesMade edit.now.old.now edit.now.text.now changes.now.items.kept_front (made.now ∷ []) changes.now.items.kept_back }
+    requires says { SaysWhatItSaid edit.now.old.now edit.now.text.now changes.now.items.kept_front own.now was made.now }
+    ensures inside { IfOk result (IsMadeInside edit.now.old.now edit.now.text.now edit.now.start edit.now.old_stop edit.now.new_stop changes.now) }
+    ensures ticks { IfOk result (λ i. work.new ≡ after_ticks work.old (length (made_at changes.now.items.kept_front i.check))) }
+{
+    edit_inside_a_state();
+    one_state_replaced();
+    text_in_pieces();
+    items_end_in_order();
+    outcome_told();
+    same_spelling_same_tree();
+    same_spelling_same_summary();
+    let item = changes.items.kept_front;
+    let shift = Shift::of(edit);
+    let check = own_check(alloc, edit.text, &own.is, made, &lists.links, item, work)?;
+    let diagnostics = own_diagnostics(
+        alloc, lists, found, edit, lines, shift, own, item, was, made, &check,
+    )?;
+    let body = own_body(alloc, edit.text, &own.is, made, &lists.links, item, &check)?;
+    let row = row_of(&lists.entries, &lists.links, was.set, item);
+    Ok(Inside {
+        check,
+        diagnostics,
+        shift,
+        row,
+        body,
+    })
+}
+
+// The state that an item of a text was, if it is in a set.
+fn state_that_was<'a>(lists: &'a Lists, text: &[u8], item: usize) -> Option<Was<'a>>
+    requires lists { IsListed text.now lists.now }
+    ensures { IfSome result (IsWas text.now item) }
+{
+    Some(Was {
+        set: lists.links.place(item)?,
+        entry: lists.entries.get(item)?,
+        check: lists.checks.get(item)?,
+    })
+}
+
+// Whether a state says what the one before it said, and little was found at that one.
+fn says_what_it_said(
+    alloc: Global,
+    lists: &Lists,
+    edit: &TextEdit,
+    own: &OwnTokens,
+    item: usize,
+    was: Was,
+    made: &Entry,
+) -> Result<bool, OutOfMemory>
+    requires lists { IsListed edit.now.old.now lists.now }
+    requires own { AreOwnTokens edit.now.old.now edit.now.text.now item own.now }
+    ensures { IfOk result (λ says. IsTrue says → SaysWhatItSaid edit.now.old.now edit.now.text.now item own.now was.entry made.now) }
+{
+    text_in_pieces();
+    let may = says_the_same(was.entry, made)
+        && spares_inside(&lists.links, item)
+        && found_little(was.check);
+    if may {
+        says_alike(alloc, edit, own, was.entry, was.check, made)
+    } else {
+        Ok(false)
+    }
+}
+
+/// What an edit makes of the state in the place of which it makes this one, if it says to the other items and in its conditions what
+/// that one said.
+pub fn inside_of(
+    alloc: Global,
+    lists: &Lists,
+    found: &[Diagnostic],
+    edit: &TextEdit,
+    changes: &Changes,
+    lines: &LineList,
+    own: &OwnTokens,
+    made: &Entry,
+    work: &mut Count,
+) -> Result<Option<Inside>, OutOfMemory>
+    requires lists { IsListed edit.now.old.now lists.now }
+    requires found { found.now ≡ diagnostics_of edit.now.old.now }
+    requires changes { IsChanged edit.now.old.now edit.now.text.now edit.now.start edit.now.old_stop edit.now.new_stop changes.now }
+    requires lines { IsLineList edit.now.text.now lines.now.ends.items lines.now.markers.items lines.now.naming.items }
+    requires one { IsOneItem edit.now.old.now changes.now }
+    requires own { AreOwnTokens edit.now.old.now edit.now.text.now changes.now.items.kept_front own.now }
+    requires made { made.now ≡ entry_by (spelled edit.now.text.now own.now.is.items) }
+    requires alone { AreEntriesMade edit.now.old.now edit.now.text.now changes.now.items.kept_front (made.now ∷ []) changes.now.items.kept_back }
+    ensures inside { IfOk result (λ o. IfSome o (IsMadeInside edit.now.old.now edit.now.text.now edit.now.start edit.now.old_stop edit.now.new_stop changes.now)) }
+    ensures ticks { IfOk result (λ o. IfSome o (λ i. work.new ≡ after_ticks work.old (length (made_at changes.now.items.kept_front i.check)))) }
+{
+    let item = changes.items.kept_front;
+    let Some(was) = state_that_was(lists, edit.old, item) else {
+        return Ok(None);
+    };
+    if !says_what_it_said(alloc, lists, edit, own, item, was, made)? {
+        return Ok(None);
+    }
+    let inside = made_inside(
+        alloc, lists, found, edit, changes, lines, own, was, made, work,
+    )?;
+    Ok(Some(inside))
+}
+
+/// The plan of an edit inside one state, by what it makes of that, and what it cost.
+pub fn state_way(
+    alloc: Global,
+    lists: &Lists,
+    edit: &TextEdit,
+    changes: Changes,
+    lines: LineList,
+    made: Vec<Entry>,
+    inside: Inside,
+    work: Work,
+) -> Result<StateWay, OutOfMemory>
+    requires warns { lists.now.warns ≡ warns_in edit.now.old.now }
+    requires changes { IsChanged edit.now.old.now edit.now.text.now edit.now.start edit.now.old_stop edit.now.new_stop changes }
+    requires lines { IsLineList edit.now.text.now lines.ends.items lines.markers.items lines.naming.items }
+    requires made { AreEntriesMade edit.now.old.now edit.now.text.now changes.items.kept_front made.items changes.items.kept_back }
+    requires inside { IsMadeInside edit.now.old.now edit.now.text.now edit.now.start edit.now.old_stop edit.now.new_stop changes inside }
+    requires cost { IsCost edit.now.old.now edit.now.text.now edit.now.start edit.now.old_stop edit.now.new_stop work }
+    ensures { IfOk result (IsStateWay edit.now.old.now edit.now.text.now edit.now.start edit.now.old_stop edit.now.new_stop) }
+{
+    let Inside {
+        check,
+        diagnostics,
+        shift,
+        row,
+        body,
+    } = inside;
+    let vacant = vacant_for(alloc, &changes.items.made)?;
+    let mut checks = Vec::new(alloc);
+    add_made(changes.items.kept_front, check, &mut checks)?;
+    Ok(StateWay {
+        changes,
+        lines,
+        remade: Remade {
+            made,
+            links: None,
+            vacant,
+            checks,
+            warns: lists.warns,
+        },
+        diagnostics,
+        shift,
+        row,
+        body,
+        work,
+    })
+}
+
+impl StateWay {
+    /// Makes the lists of the old text those of the new one, and gives what the new text says. There is room for what is made, so it
+    /// can't fail.
+    pub fn commit(
+        self,
+        edit: &TextEdit,
+        lists: &mut Lists,
+        found: &mut Vec<Diagnostic>,
+        tables: &mut Tables,
+    )
+        requires way { IsStateWay edit.now.old.now edit.now.text.now edit.now.start edit.now.old_stop edit.now.new_stop self }
+        requires lists { IsListed edit.now.old.now lists.old }
+        requires tables { tables.old ≡ tables_in edit.now.old.now }
+        requires room { HasRoomFor lists.old self.changes self.remade }
+        ensures lists { IsListed edit.now.text.now lists.new }
+        ensures found { found.new.items ≡ diagnostics_of edit.now.text.now }
+        ensures tables { tables.new ≡ tables_in edit.now.text.now }
+    {
+        let StateWay {
+            changes,
+            lines,
+            remade,
+            diagnostics,
+            shift,
+            row,
+            body,
+            work: _,
+        } = self;
+        lists.commit(edit, &changes, lines, remade);
+        *found = diagnostics;
+        tables.shift(shift);
+        tables.set_body(row.set, row.state, body);
+    }
+}

@@ -1,7 +1,0 @@
-use Rattle.std.proofs.Common.{sym, ◌∙◌, refl}
-use Rattle.snl_syntax.specs.Kinds.{punctuators_of_1, punctuators_of_2, punctuators_of_3}
-use Rattle.snl_syntax.proofs.Spellings.{among}
-use Rattle.snl_syntax.proofs.punctuator.punctuator_kind.Goals as goal
-
-pub returns-in-2 : goal.returns-in-2
-returns-in-2 c = c.punctuator_of_two.ensures ∙ sym (among c.args.bytes.now 2 punctuators_of_1 punctuators_of_2 punctuators_of_3 c.in-2.is refl refl)

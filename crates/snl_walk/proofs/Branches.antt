@@ -1,0 +1,33 @@
+-- What is found in a choice or a loop: the fold at a variant.
+use Rattle.std.proofs.Common.{◌≡◌, ℕ, List, ◌++◌, Option, Some, None, ap, sym, ◌∙◌}
+use Rattle.snl_syntax.specs.declared.tree.expression.Expr.{Expr}
+use Rattle.snl_syntax.specs.declared.tree.statement.ForHead.{ForHead}
+use Rattle.snl_syntax.specs.declared.tree.statement.Member.TheOpen.{Stmt-F}
+use Rattle.snl_syntax.specs.declared.tree.statement.Member.TheFolds.{fold-roll-Stmt}
+use Rattle.snl_syntax.specs.declared.tree.statement.Stmt.{Stmt}
+use Rattle.snl_syntax.specs.declared.tree.statement.Stmt.TheVariants as tree
+use Rattle.snl_walk.specs.declared.occurrence.Occurrence.{Occurrence}
+use Rattle.snl_walk.specs.declared.occurrence.Place.{Place}
+use Rattle.snl_walk.specs.Scopes.{Names}
+use Rattle.snl_walk.specs.Statements.{Content, Found, arms_of, found_in_branches, found_in_expr, found_in_head, found_in_stmt, in_loop, last_of, member_step, stmt_step}
+
+-- what is found in a statement at a place
+abbrev pub in_place : (ℕ → List ℕ) → Names → Place → Stmt → List Occurrence
+in_place bytes visible place s = found_in_stmt bytes s visible place
+
+pub found-If : (bytes : ℕ → List ℕ) (visible : Names) (place : Place) (arms : List (Expr × Stmt)) (last : Option Stmt) →
+    in_place bytes visible place (tree.If arms last) ≡ found_in_branches bytes (arms_of bytes arms) (last_of bytes last) visible place
+found-If bytes visible place arms None =
+    ap (in_place bytes visible place) (sym (tree.rolls-If arms None)) ∙ ap (λ (f : Found). f visible place) (fold-roll-Stmt Content Found (member_step bytes) (stmt_step bytes) (Stmt-F.If arms None))
+found-If bytes visible place arms (Some last) =
+    ap (in_place bytes visible place) (sym (tree.rolls-If arms (Some last))) ∙ ap (λ (f : Found). f visible place) (fold-roll-Stmt Content Found (member_step bytes) (stmt_step bytes) (Stmt-F.If arms (Some last)))
+
+pub found-While : (bytes : ℕ → List ℕ) (visible : Names) (place : Place) (e : Expr) (body : Stmt) →
+    in_place bytes visible place (tree.While e body) ≡ found_in_expr bytes visible e ++ in_place bytes visible (in_loop place) body
+found-While bytes visible place e body =
+    ap (in_place bytes visible place) (sym (tree.rolls-While e body)) ∙ ap (λ (f : Found). f visible place) (fold-roll-Stmt Content Found (member_step bytes) (stmt_step bytes) (Stmt-F.While e body))
+
+pub found-For : (bytes : ℕ → List ℕ) (visible : Names) (place : Place) (head : ForHead) (body : Stmt) →
+    in_place bytes visible place (tree.For head body) ≡ found_in_head bytes visible head ++ in_place bytes visible (in_loop place) body
+found-For bytes visible place head body =
+    ap (in_place bytes visible place) (sym (tree.rolls-For head body)) ∙ ap (λ (f : Found). f visible place) (fold-roll-Stmt Content Found (member_step bytes) (stmt_step bytes) (Stmt-F.For head body))

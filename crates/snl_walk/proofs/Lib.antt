@@ -1,0 +1,12 @@
+pub mod Kept
+pub mod Tables
+pub mod Operands
+pub mod Branches
+pub mod Pairs
+pub mod Leaves
+pub mod ExpressionLeaves
+pub mod StatementLeaves
+pub mod ItemLeaves
+pub mod OptionLeaves
+pub mod FindingsOnce
+pub mod Outlooks

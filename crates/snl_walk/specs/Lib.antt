@@ -1,0 +1,14 @@
+pub mod Tokens
+pub mod Once
+pub mod Calls
+pub mod Scopes
+pub mod Stack
+pub mod Expressions
+pub mod Declares
+pub mod Statements
+pub mod Items
+pub mod Uses
+pub mod Options
+pub mod Passing
+pub mod Undeclared
+pub mod Rules

@@ -1,0 +1,287 @@
+//! What is found in an item: its tree comes in, its occurrences go out, in the order of the text.
+
+ghost use Rattle.std.specs.Prelude.{◌≡◌, ◌++◌, [], false, IfOk, OnOk, map};
+ghost use Rattle.std.specs.List.{flat_map};
+ghost use Rattle.snl_walk.specs.Tokens.{IsSource, bytes_at};
+ghost use Rattle.snl_walk.specs.Items.{found_in_function, found_in_member, found_in_named, found_in_parameter, found_in_state, found_in_struct_member, found_in_target, found_in_transition, found_with_body, in_transition, occurrences, outside};
+ghost use Rattle.snl_walk.specs.Declares.{declared_by_parameter};
+ghost use Rattle.snl_walk.specs.Scopes.{under_names};
+ghost use Rattle.snl_walk.specs.Statements.{declaration_at};
+
+use crate::declares::{declared_by_parameters, declared_by_state};
+use crate::expressions::{add_lengths, add_optional};
+use crate::occurrence::{Occurrence, Place, What};
+use crate::source::Source;
+use crate::statements::{add_block, add_declaration, declaration_at, enter};
+use crate::visible::Visible;
+use snl_cut::OutOfMemory;
+use snl_syntax::tree::declaration::Parameter;
+use snl_syntax::tree::item::{Function, Item, StructMember};
+use snl_syntax::tree::state::{StateMember, Target, Transition};
+use snl_syntax::tree::statement::Member;
+
+// The place of a block at entry or exit, or of a function.
+fn outside() -> Place
+    ensures { result ≡ outside }
+{
+    Place {
+        in_loop: false,
+        in_transition: false,
+    }
+}
+
+fn in_transition() -> Place
+    ensures { result ≡ in_transition }
+{
+    Place {
+        in_loop: false,
+        in_transition: true,
+    }
+}
+
+fn add_target(target: Target, found: &mut Vec<Occurrence>) -> Result<(), OutOfMemory>
+    ensures { OnOk result (found.new.items ≡ found.old.items ++ found_in_target target) }
+{
+    if let Target::State(name) = target {
+        found.push(Occurrence {
+            token: name,
+            what: What::Target,
+            means: None,
+        })?;
+    }
+    Ok(())
+}
+
+fn add_transition<'a>(
+    source: &Source<'a>,
+    names: &mut Visible<'a>,
+    transition: &Transition,
+    found: &mut Vec<Occurrence>,
+) -> Result<(), OutOfMemory>
+    requires { IsSource source.now.text.now source.now.tokens.now }
+    ensures found { OnOk result (found.new.items ≡ found.old.items ++ found_in_transition (bytes_at source.now.text.now source.now.tokens.now) names.old transition.now) }
+    ensures names { OnOk result (names.new ≡ names.old) }
+{
+    add_optional(source, names, true, &transition.condition, found)?;
+    add_block(
+        source,
+        names,
+        in_transition(),
+        transition.block.as_slice(),
+        found,
+    )?;
+    add_target(transition.target, found)
+}
+
+fn add_names(
+    source: &Source,
+    names: &Visible,
+    tokens: &[usize],
+    found: &mut Vec<Occurrence>,
+) -> Result<(), OutOfMemory>
+    requires { IsSource source.now.text.now source.now.tokens.now }
+    ensures { OnOk result (found.new.items ≡ found.old.items ++ map (declaration_at (bytes_at source.now.text.now source.now.tokens.now) names.now false) tokens.now) }
+{
+    for token in tokens {
+        found.push(declaration_at(source, names, false, *token))?;
+    }
+    Ok(())
+}
+
+fn add_member<'a>(
+    source: &Source<'a>,
+    names: &mut Visible<'a>,
+    member: &StateMember,
+    found: &mut Vec<Occurrence>,
+) -> Result<(), OutOfMemory>
+    requires { IsSource source.now.text.now source.now.tokens.now }
+    ensures found { OnOk result (found.new.items ≡ found.old.items ++ found_in_member (bytes_at source.now.text.now source.now.tokens.now) names.old member.now) }
+    ensures names { OnOk result (names.new ≡ names.old) }
+{
+    match member {
+        StateMember::Declaration(declaration) => {
+            add_declaration(source, names, false, declaration, found)
+        }
+        StateMember::Foreign(tokens) => add_names(source, names, tokens.as_slice(), found),
+        StateMember::Entry(block) => add_block(source, names, outside(), block.as_slice(), found),
+        StateMember::Exit(block) => add_block(source, names, outside(), block.as_slice(), found),
+        StateMember::When(transition) => add_transition(source, names, transition, found),
+        StateMember::Clause(_)
+        | StateMember::OptionLine(_)
+        | StateMember::Empty
+        | StateMember::CBlock(_) => Ok(()),
+    }
+}
+
+fn add_state(
+    source: &Source,
+    members: &[StateMember],
+    found: &mut Vec<Occurrence>,
+) -> Result<(), OutOfMemory>
+    requires { IsSource source.now.text.now source.now.tokens.now }
+    ensures { OnOk result (found.new.items ≡ found.old.items ++ found_in_state (bytes_at source.now.text.now source.now.tokens.now) members.now) }
+{
+    let mut names = Visible::new(source.alloc);
+    enter(source, &declared_by_state(source, members)?, &mut names)?;
+    for member in members {
+        add_member(source, &mut names, member, found)?;
+    }
+    Ok(())
+}
+
+fn add_prototype(
+    source: &Source,
+    parameters: &[Parameter],
+    found: &mut Vec<Occurrence>,
+) -> Result<(), OutOfMemory>
+    requires { IsSource source.now.text.now source.now.tokens.now }
+    ensures { OnOk result (found.new.items ≡ found.old.items ++ flat_map (found_in_parameter (bytes_at source.now.text.now source.now.tokens.now) []) parameters.now) }
+{
+    let names = Visible::new(source.alloc);
+    for parameter in parameters {
+        add_lengths(source, &names, parameter.lengths.as_slice(), found)?;
+    }
+    Ok(())
+}
+
+fn add_parameter(
+    source: &Source,
+    names: &Visible,
+    parameter: &Parameter,
+    found: &mut Vec<Occurrence>,
+) -> Result<(), OutOfMemory>
+    requires { IsSource source.now.text.now source.now.tokens.now }
+    ensures { OnOk result (found.new.items ≡ found.old.items ++ found_in_named (bytes_at source.now.text.now source.now.tokens.now) names.now parameter.now) }
+{
+    if let Some(token) = parameter.name {
+        found.push(declaration_at(source, names, false, token))?;
+    }
+    add_lengths(source, names, parameter.lengths.as_slice(), found)
+}
+
+fn add_parameters(
+    source: &Source,
+    names: &Visible,
+    parameters: &[Parameter],
+    found: &mut Vec<Occurrence>,
+) -> Result<(), OutOfMemory>
+    requires { IsSource source.now.text.now source.now.tokens.now }
+    ensures { OnOk result (found.new.items ≡ found.old.items ++ flat_map (found_in_named (bytes_at source.now.text.now source.now.tokens.now) names.now) parameters.now) }
+{
+    for parameter in parameters {
+        add_parameter(source, names, parameter, found)?;
+    }
+    Ok(())
+}
+
+// The names of the parameters of a function with a body.
+fn names_of_parameters<'a>(
+    source: &Source<'a>,
+    parameters: &[Parameter],
+) -> Result<Visible<'a>, OutOfMemory>
+    requires { IsSource source.now.text.now source.now.tokens.now }
+    ensures { IfOk result (λ names. names ≡ under_names (bytes_at source.now.text.now source.now.tokens.now) (flat_map declared_by_parameter parameters.now)) }
+{
+    let mut names = Visible::new(source.alloc);
+    enter(
+        source,
+        &declared_by_parameters(source, parameters)?,
+        &mut names,
+    )?;
+    Ok(names)
+}
+
+fn add_with_body(
+    source: &Source,
+    parameters: &[Parameter],
+    block: &[Member],
+    found: &mut Vec<Occurrence>,
+) -> Result<(), OutOfMemory>
+    requires { IsSource source.now.text.now source.now.tokens.now }
+    ensures { OnOk result (found.new.items ≡ found.old.items ++ found_with_body (bytes_at source.now.text.now source.now.tokens.now) parameters.now block.now) }
+{
+    let mut names = names_of_parameters(source, parameters)?;
+    add_parameters(source, &names, parameters, found)?;
+    add_block(source, &mut names, outside(), block, found)
+}
+
+fn add_function(
+    source: &Source,
+    function: &Function,
+    found: &mut Vec<Occurrence>,
+) -> Result<(), OutOfMemory>
+    requires { IsSource source.now.text.now source.now.tokens.now }
+    ensures { OnOk result (found.new.items ≡ found.old.items ++ found_in_function (bytes_at source.now.text.now source.now.tokens.now) function.now.parameters function.now.body) }
+{
+    match &function.body {
+        Some(block) => {
+            add_with_body(
+                source,
+                function.parameters.as_slice(),
+                block.as_slice(),
+                found,
+            )
+        }
+        None => add_prototype(source, function.parameters.as_slice(), found),
+    }
+}
+
+fn add_struct(
+    source: &Source,
+    members: &[StructMember],
+    found: &mut Vec<Occurrence>,
+) -> Result<(), OutOfMemory>
+    requires { IsSource source.now.text.now source.now.tokens.now }
+    ensures { OnOk result (found.new.items ≡ found.old.items ++ flat_map (found_in_struct_member (bytes_at source.now.text.now source.now.tokens.now)) members.now) }
+{
+    let names = Visible::new(source.alloc);
+    for member in members {
+        match member {
+            StructMember::Declaration(declaration) => {
+                add_declaration(source, &names, false, declaration, found)?;
+            }
+            StructMember::CBlock(_) => {}
+        }
+    }
+    Ok(())
+}
+
+/// What is found in an item, in the order of its text.
+#[tactic(auto, unfolding(crate::specs::Items::occurrences))]
+pub fn occurrences(source: &Source, tree: &Item) -> Result<Vec<Occurrence>, OutOfMemory>
+    requires { IsSource source.now.text.now source.now.tokens.now }
+    ensures { IfOk result (λ v. v.items ≡ occurrences (bytes_at source.now.text.now source.now.tokens.now) tree.now) }
+{
+    let mut found = Vec::new(source.alloc);
+    let mut names = Visible::new(source.alloc);
+    match tree {
+        Item::Definition(declaration) => {
+            add_declaration(source, &names, false, declaration, &mut found)?;
+        }
+        Item::Entry(block) => {
+            add_block(source, &mut names, outside(), block.as_slice(), &mut found)?;
+        }
+        Item::Exit(block) => {
+            add_block(source, &mut names, outside(), block.as_slice(), &mut found)?;
+        }
+        Item::StateBlock { name: _, members } => {
+            add_state(source, members.as_slice(), &mut found)?;
+        }
+        Item::Function(function) => add_function(source, function, &mut found)?,
+        Item::StructDef { name: _, members } => {
+            add_struct(source, members.as_slice(), &mut found)?;
+        }
+        Item::Header {
+            name: _,
+            parameters: _,
+        }
+        | Item::Foreign(_)
+        | Item::Clause(_)
+        | Item::OptionLine(_)
+        | Item::SsBegin { name: _ }
+        | Item::SsEnd
+        | Item::CBlock(_)
+        | Item::Empty => {}
+    }
+    Ok(found)
+}

@@ -1,0 +1,239 @@
+//! The rules on what is inside an item: its occurrences come in, what is found wrong at them goes out, in the order of the text.
+
+ghost use Rattle.std.specs.Prelude.{◌≡◌, ◌++◌, IfOk, OnOk, map};
+ghost use Rattle.std.specs.List.{flat_map};
+ghost use Rattle.snl_walk.specs.Passing.{lacks_channel, lacks_flag, passes};
+ghost use Rattle.snl_walk.specs.Rules.{asks_channel, asks_flag, finding, findings, found_wrong, is_nothing, is_repeated, rules_at, rules_at_call, rules_at_name, rules_at_use, when};
+ghost use Rattle.snl_walk.specs.Tokens.{IsSource, bytes_at};
+
+use crate::occurrence::{Asked, Follows, Local, Manner, Occurrence, What};
+use crate::outlook::{Outer, Outlook};
+use crate::source::Source;
+use crate::undeclared::undeclared;
+use crate::used::is_call;
+use snl_cut::OutOfMemory;
+
+/// A rule on what is inside an item (docs/LANGUAGE.md).
+#[derive(Clone, Copy, Debug, PartialEq, Eq)]
+pub enum Rule {
+    /// E07: its scope declares the name before.
+    RepeatedDeclaration,
+    /// E10: the state set has no such state.
+    UnknownState,
+    /// E17: an event flag that is declared wrongly.
+    WrongFlag,
+    /// E18: a change of the state outside the block of a transition.
+    StrayChange,
+    /// E19: `break` or `continue` in no loop.
+    StrayJump,
+    /// E20: an argument that is no event flag.
+    NoEventFlag,
+    /// E21: an argument to which nothing is assigned.
+    NoChannel,
+    /// W01: nothing declares the name.
+    Undeclared,
+    /// W03: `delay` outside a condition.
+    StrayDelay,
+}
+
+/// A rule that is broken, and the token at which it is.
+#[derive(Clone, Copy, Debug, PartialEq, Eq)]
+pub struct Finding {
+    pub token: usize,
+    pub rule: Rule,
+}
+
+fn is_repeated(token: usize, means: Option<Local>) -> bool
+    ensures { result ≡ is_repeated token means }
+{
+    match means {
+        Some(first) => first.token != token,
+        None => false,
+    }
+}
+
+fn is_nothing(follows: Follows) -> bool
+    ensures { result ≡ is_nothing follows }
+{
+    matches!(follows, Follows::Nothing)
+}
+
+fn asks_flag(asked: Asked) -> bool
+    ensures { result ≡ asks_flag asked }
+{
+    matches!(asked, Asked::EventFlag)
+}
+
+fn asks_channel(asked: Asked) -> bool
+    ensures { result ≡ asks_channel asked }
+{
+    matches!(asked, Asked::Channel)
+}
+
+/// What a name passes for, which may resolve to a declaration in the item.
+pub(crate) fn passes<O: Outlook>(outlook: &O, name: &[u8], means: Option<Local>) -> Option<Outer>
+    ensures { result ≡ passes (O.outer_of outlook.now) name.now means }
+{
+    match means {
+        Some(local) => Some(Outer {
+            flag: local.flag,
+            channel: local.channel,
+        }),
+        None => outlook.outer(name),
+    }
+}
+
+fn lacks_flag(passes: Option<Outer>) -> bool
+    ensures { result ≡ lacks_flag passes }
+{
+    match passes {
+        Some(outer) => !outer.flag,
+        None => false,
+    }
+}
+
+fn lacks_channel(passes: Option<Outer>) -> bool
+    ensures { result ≡ lacks_channel passes }
+{
+    match passes {
+        Some(outer) => !outer.channel,
+        None => false,
+    }
+}
+
+// Adds a finding at a token, where there is one.
+fn add_when(
+    holds: bool,
+    token: usize,
+    rule: Rule,
+    findings: &mut Vec<Finding>,
+) -> Result<(), OutOfMemory>
+    ensures { OnOk result (findings.new.items ≡ findings.old.items ++ map (finding token) (when holds rule)) }
+{
+    if holds {
+        findings.push(Finding { token, rule })?;
+    }
+    Ok(())
+}
+
+// Adds what is found wrong at a name that is called.
+fn add_at_call(
+    token: usize,
+    name: &[u8],
+    manner: Manner,
+    findings: &mut Vec<Finding>,
+) -> Result<(), OutOfMemory>
+    ensures { OnOk result (findings.new.items ≡ findings.old.items ++ map (finding token) (rules_at_call name.now manner)) }
+{
+    let delays = !manner.in_condition && name == b"delay".as_slice();
+    add_when(delays, token, Rule::StrayDelay, findings)
+}
+
+// Adds what is found wrong at a name that is used, and passes for something or is declared by nothing.
+fn add_at_use(
+    token: usize,
+    passes: Option<Outer>,
+    manner: Manner,
+    findings: &mut Vec<Finding>,
+) -> Result<(), OutOfMemory>
+    ensures { OnOk result (findings.new.items ≡ findings.old.items ++ map (finding token) (rules_at_use passes manner)) }
+{
+    let no_flag = asks_flag(manner.asked) && is_nothing(manner.follows) && lacks_flag(passes);
+    let no_channel = asks_channel(manner.asked) && lacks_channel(passes);
+    add_when(no_flag, token, Rule::NoEventFlag, findings)?;
+    add_when(no_channel, token, Rule::NoChannel, findings)
+}
+
+// Adds what is found wrong at a name in an expression.
+fn add_at_name(
+    token: usize,
+    name: &[u8],
+    passes: Option<Outer>,
+    manner: Manner,
+    findings: &mut Vec<Finding>,
+) -> Result<(), OutOfMemory>
+    ensures { OnOk result (findings.new.items ≡ findings.old.items ++ map (finding token) (rules_at_name name.now passes manner)) }
+{
+    if is_call(manner.follows) {
+        add_at_call(token, name, manner, findings)
+    } else {
+        add_at_use(token, passes, manner, findings)
+    }
+}
+
+// Adds what is found wrong at an occurrence, where this is at its token.
+fn add_at<O: Outlook>(
+    outlook: &O,
+    name: &[u8],
+    occurrence: Occurrence,
+    findings: &mut Vec<Finding>,
+) -> Result<(), OutOfMemory>
+    ensures { OnOk result (findings.new.items ≡ findings.old.items ++ map (finding occurrence.token) (rules_at (O.outer_of outlook.now) (O.misses outlook.now) name.now occurrence occurrence.what)) }
+{
+    let token = occurrence.token;
+    match occurrence.what {
+        What::Declaration { is_wrong } => {
+            let is_repeated = is_repeated(token, occurrence.means);
+            add_when(is_repeated, token, Rule::RepeatedDeclaration, findings)?;
+            add_when(is_wrong, token, Rule::WrongFlag, findings)
+        }
+        What::Change { in_transition } => {
+            add_when(!in_transition, token, Rule::StrayChange, findings)
+        }
+        What::Jump { in_loop } => add_when(!in_loop, token, Rule::StrayJump, findings),
+        What::Target => {
+            let is_missing = outlook.misses_state(name);
+            add_when(is_missing, token, Rule::UnknownState, findings)
+        }
+        What::Name(manner) => {
+            let passes = passes(outlook, name, occurrence.means);
+            add_at_name(token, name, passes, manner, findings)
+        }
+    }
+}
+
+// Adds what is found wrong at each occurrence by itself.
+fn add_each<O: Outlook>(
+    source: &Source,
+    outlook: &O,
+    found: &[Occurrence],
+    findings: &mut Vec<Finding>,
+) -> Result<(), OutOfMemory>
+    requires { IsSource source.now.text.now source.now.tokens.now }
+    ensures { OnOk result (findings.new.items ≡ findings.old.items ++ flat_map (found_wrong (bytes_at source.now.text.now source.now.tokens.now) (O.outer_of outlook.now) (O.misses outlook.now)) found.now) }
+{
+    for occurrence in found {
+        let name = source.bytes(occurrence.token);
+        add_at(outlook, name, *occurrence, findings)?;
+    }
+    Ok(())
+}
+
+fn add_undeclared(tokens: &[usize], findings: &mut Vec<Finding>) -> Result<(), OutOfMemory>
+    ensures { OnOk result (findings.new.items ≡ findings.old.items ++ map (λ n. finding n Rule.Undeclared) tokens.now) }
+{
+    for token in tokens {
+        findings.push(Finding {
+            token: *token,
+            rule: Rule::Undeclared,
+        })?;
+    }
+    Ok(())
+}
+
+/// What is found wrong at the occurrences of an item, where the other items say this of its names: what is wrong at each by
+/// itself, in the order of the text, and then the first use of each name that nothing declares.
+#[tactic(auto, unfolding(crate::specs::Rules::findings))]
+pub fn findings<O: Outlook>(
+    source: &Source,
+    outlook: &O,
+    found: &[Occurrence],
+) -> Result<Vec<Finding>, OutOfMemory>
+    requires { IsSource source.now.text.now source.now.tokens.now }
+    ensures { IfOk result (λ v. v.items ≡ findings (bytes_at source.now.text.now source.now.tokens.now) (O.outer_of outlook.now) (O.misses outlook.now) found.now) }
+{
+    let mut findings = Vec::new(source.alloc);
+    add_each(source, outlook, found, &mut findings)?;
+    add_undeclared(&undeclared(source, outlook, found)?, &mut findings)?;
+    Ok(findings)
+}

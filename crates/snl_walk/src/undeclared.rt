@@ -1,0 +1,65 @@
+//! Names that nothing declares.
+
+ghost use Rattle.std.specs.Prelude.{◌≡◌, IfOk};
+ghost use Rattle.snl_walk.specs.Undeclared.{is_built_in, is_channel_constant, is_constant, is_undeclared, undeclared};
+ghost use Rattle.snl_walk.specs.Tokens.{IsSource, bytes_at};
+
+use crate::name_set::NameSet;
+use crate::occurrence::Occurrence;
+use crate::outlook::Outlook;
+use crate::rules::passes;
+use crate::source::Source;
+use crate::used::is_use;
+use snl_cut::OutOfMemory;
+
+fn is_constant(name: &[u8]) -> bool
+    ensures { result ≡ is_constant name.now }
+{
+    name == b"TRUE".as_slice()
+        || name == b"FALSE".as_slice()
+        || name == b"SYNC".as_slice()
+        || name == b"ASYNC".as_slice()
+        || name == b"NOEVFLAG".as_slice()
+}
+
+fn is_channel_constant(name: &[u8]) -> bool
+    ensures { result ≡ is_channel_constant name.now }
+{
+    name.starts_with(b"pvStat") || name.starts_with(b"pvSevr")
+}
+
+fn is_built_in(name: &[u8]) -> bool
+    ensures { result ≡ is_built_in name.now }
+{
+    is_constant(name) || is_channel_constant(name)
+}
+
+fn is_undeclared<O: Outlook>(outlook: &O, name: &[u8], occurrence: Occurrence) -> bool
+    ensures { result ≡ is_undeclared (O.outer_of outlook.now) name.now occurrence }
+{
+    is_use(occurrence.what)
+        && passes(outlook, name, occurrence.means).is_none()
+        && !is_built_in(name)
+}
+
+/// The first use of each name that nothing declares, in the item or outside.
+pub(crate) fn undeclared<O: Outlook>(
+    source: &Source,
+    outlook: &O,
+    found: &[Occurrence],
+) -> Result<Vec<usize>, OutOfMemory>
+    requires { IsSource source.now.text.now source.now.tokens.now }
+    ensures { IfOk result (λ v. v.items ≡ undeclared (bytes_at source.now.text.now source.now.tokens.now) (O.outer_of outlook.now) found.now) }
+{
+    let mut names = NameSet::new(source.alloc);
+    let mut firsts = Vec::new(source.alloc);
+    for occurrence in found {
+        let name = source.bytes(occurrence.token);
+        if is_undeclared(outlook, name, *occurrence) {
+            if names.add(name)? {
+                firsts.push(occurrence.token)?;
+            }
+        }
+    }
+    Ok(firsts)
+}
