@@ -3,6 +3,7 @@
 ghost use Rattle.snl_cut.specs.Cut.{IsEdit};
 ghost use Rattle.snl_lex.specs.LineList.{IsLineList};
 ghost use Rattle.snl_lex.specs.PieceList.{piece_ends, piece_kinds};
+ghost use Rattle.snl_lex.specs.Shift.{marker_count};
 ghost use Rattle.std.specs.Prelude.{◌≡◌, ◌<◌, ◌≤◌, ◌^◌, IfOk, length};
 
 use crate::edits::edited;
@@ -23,6 +24,7 @@ fn lists_of(alloc: Global, text: &[u8]) -> Result<Lists, Fail>
     requires { length text.now < 2 ^ 32 }
     ensures ends { IfOk result (λ l. l.pieces.ends.items ≡ piece_ends text.now) }
     ensures kinds { IfOk result (λ l. l.pieces.kinds.items ≡ piece_kinds text.now) }
+    ensures markers { IfOk result (λ l. l.pieces.markers ≡ marker_count text.now) }
     ensures lines { IfOk result (λ l. IsLineList text.now l.lines.ends.items l.lines.markers.items l.lines.naming.items) }
 {
     let pieces = lex(alloc, text, &mut Count::new())?;
@@ -36,6 +38,7 @@ fn lists_of(alloc: Global, text: &[u8]) -> Result<Lists, Fail>
 fn change(alloc: Global, lists: &mut Lists, edit: &TextEdit) -> Result<(), Fail>
     requires ends { lists.old.pieces.ends.items ≡ piece_ends edit.now.old.now }
     requires kinds { lists.old.pieces.kinds.items ≡ piece_kinds edit.now.old.now }
+    requires markers { lists.old.pieces.markers ≡ marker_count edit.now.old.now }
     requires lines { IsLineList edit.now.old.now lists.old.lines.ends.items lists.old.lines.markers.items lists.old.lines.naming.items }
     ensures { IfOk result (λ _. IsLineList edit.now.text.now lists.new.lines.ends.items lists.new.lines.markers.items lists.new.lines.naming.items) }
 {
