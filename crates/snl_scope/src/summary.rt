@@ -122,7 +122,6 @@ pub struct VariableClause {
 }
 
 /// What an item says to the others.
-#[derive(Drop)]
 pub struct Outline {
     /// The names that it declares outside its blocks. Those of a state are in the state's own scope.
     pub declares: Items<Declared>,
@@ -134,7 +133,6 @@ pub struct Outline {
 }
 
 /// What an item is, what it says to the others, and what it asks of them.
-#[derive(Drop)]
 pub struct Summary {
     pub kind: ItemKind,
     pub outline: Outline,
@@ -142,4 +140,28 @@ pub struct Summary {
     pub uses: Items<Name>,
     /// The states that its transitions name.
     pub targets: Items<Mention>,
+}
+
+// By hand, so that whoever holds a summary need not know what is in its lists to let it go.
+impl Drop for Outline {
+    fn drop(self) {
+        let Outline {
+            declares: _,
+            clauses: _,
+            second: _,
+            role: _,
+            opening: _,
+        } = self;
+    }
+}
+
+impl Drop for Summary {
+    fn drop(self) {
+        let Summary {
+            kind: _,
+            outline: _,
+            uses: _,
+            targets: _,
+        } = self;
+    }
 }

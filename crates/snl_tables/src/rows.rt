@@ -143,7 +143,6 @@ pub struct SetRow {
 }
 
 /// The tables of a text.
-#[derive(Drop)]
 pub struct Tables {
     /// The name of the program.
     pub program: Option<Span>,
@@ -155,4 +154,18 @@ pub struct Tables {
     /// wake up on it. Most declarations have none.
     pub variables: Items<Items<usize>>,
     pub sets: Rows<SetRow>,
+}
+
+// By hand, so that whoever holds tables need not know what is in their rows to let them go.
+impl Drop for Tables {
+    fn drop(self) {
+        let Tables {
+            program: _,
+            options: _,
+            flags: _,
+            channels: _,
+            variables: _,
+            sets: _,
+        } = self;
+    }
 }

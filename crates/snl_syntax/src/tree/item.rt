@@ -24,7 +24,6 @@ pub enum StructMember {
 }
 
 /// One item of a text. A text of joined strings is the list of their numbers.
-#[derive(Drop)]
 pub enum Item {
     Header {
         name: usize,
@@ -51,4 +50,35 @@ pub enum Item {
     },
     CBlock(usize),
     Empty,
+}
+
+// By hand, so that whoever holds an item need not know what is in its tree to let it go.
+impl Drop for Item {
+    fn drop(self) {
+        match self {
+            Item::Header {
+                name: _,
+                parameters: _,
+            } => {}
+            Item::Definition(_) => {}
+            Item::Foreign(_) => {}
+            Item::Clause(_) => {}
+            Item::OptionLine(_) => {}
+            Item::Entry(_) => {}
+            Item::Exit(_) => {}
+            Item::SsBegin { name: _ } => {}
+            Item::SsEnd => {}
+            Item::StateBlock {
+                name: _,
+                members: _,
+            } => {}
+            Item::Function(_) => {}
+            Item::StructDef {
+                name: _,
+                members: _,
+            } => {}
+            Item::CBlock(_) => {}
+            Item::Empty => {}
+        }
+    }
 }
