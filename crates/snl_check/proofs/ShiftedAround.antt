@@ -51,7 +51,7 @@ use Rattle.snl_check.specs.Members.{is_faulty_item, number_among, states_in, tar
 use Rattle.snl_check.specs.Outlook.{is_in_set}
 use Rattle.snl_check.specs.Settings.{LetterSetting, setting_at, setting_in_tree}
 use Rattle.snl_check.specs.Shifted.{KeepsItem, KeepsItems, shifted_item, start_at}
-use Rattle.snl_check.specs.ShiftedAround.{ReplacesOne, ReplacesState, SaysAlike, SaysAlikeAt, is_state_or_faulty, set_number, state_number, used_by, wakes_of}
+use Rattle.snl_check.specs.ShiftedAround.{IsPlacedAt, ReplacesOne, ReplacesState, SaysAlike, SaysAlikeAt, is_state_or_faulty, set_number, state_number, used_by, wakes_of}
 use Rattle.snl_check.specs.Spans.{AreRead}
 use Rattle.snl_check.specs.States.{item_at, line_of_item, numbered_row, set_row, set_rows, state_body, state_rows}
 use Rattle.snl_check.specs.Tables.{flag_row_at, tables_by, tables_of}
@@ -193,51 +193,64 @@ module _ (laws : SpellingLaws) (old text : List ℕ) (s : Shift) (xs ys : List P
 
   -- ---- declarations
 
-  abbrev IsApart : Entry → Type 0
-  IsApart e = IfSome (entry_declaration e) (λ (d : Declaration). d.item ≢ j)
+  -- the name that an item declares is where it was, shifted
+  abbrev IsPlaced : ℕ → ℕ → Type 0
+  IsPlaced item token = span_of (slice_get (tokens_in ys item) token) ≡ shifted_span s (span_of (slice_get (tokens_in xs item) token))
 
-  declares_apart : (n : ℕ) → n ≢ j → (o : Outline) → AllByRecursion IsApart (map (declared_entry (scope_of ss n o) n) o.declares)
-  declares_apart n apart o =
-      each_of IsApart (declared_entry (scope_of ss n o) n) o.declares (each_all (λ d. IsApart (declared_entry (scope_of ss n o) n d)) o.declares (λ d. by d (scope_in (scope_of ss n o))))
+  abbrev IsKeptName : Entry → Type 0
+  IsKeptName e = IfSome (entry_declaration e) (λ (d : Declaration). IsPlaced d.item d.token)
+
+  placed_apart : (item : ℕ) → item ≢ j → (token : ℕ) → IsPlaced item token
+  placed_apart item apart token = span_at_shifts old text s xs ys item (kept item apart) before token
+
+  placed_here : (token : ℕ) → IsPlacedAt s was.0 is.0 token → IsPlaced j token
+  placed_here token placed =
+      ap (λ (ts : List Piece). span_of (slice_get ts token)) (tokens_are ys j is.0 is.1) ∙ placed
+      ∙ sym (ap (λ (ts : List Piece). shifted_span s (span_of (slice_get ts token))) (tokens_are xs j was.0 was.1))
+
+  declares_placed : (n : ℕ) (o : Outline) → AllByRecursion (λ d. IsPlaced n d.token) o.declares → AllByRecursion IsKeptName (map (declared_entry (scope_of ss n o) n) o.declares)
+  declares_placed n o placed =
+      each_of IsKeptName (declared_entry (scope_of ss n o) n) o.declares
+      (each_weaker (λ d. IsPlaced n d.token) (λ d. IsKeptName (declared_entry (scope_of ss n o) n d)) (λ d there. by d there (scope_in (scope_of ss n o))) o.declares placed)
     where
-      by : (d : Declared) (c : Option Scope) → IfSome (option_map (λ c. variable_declaration n d.token c d.variable) c) (λ (d : Declaration). d.item ≢ j)
-      by d None = tt
-      by d (Some c) = apart
+      by : (d : Declared) → IsPlaced n d.token → (c : Option Scope) → IfSome (option_map (λ c. variable_declaration n d.token c d.variable) c) (λ (d : Declaration). IsPlaced d.item d.token)
+      by d there None = tt
+      by d there (Some c) = there
 
-  declares_at : (n : ℕ) (o : Outline) → slice_get ss n ≡ Some o → AllByRecursion IsApart (map (declared_entry (scope_of ss n o) n) o.declares)
+  declares_at : (n : ℕ) (o : Outline) → slice_get ss n ≡ Some o → AllByRecursion (λ d. IsPlaced n d.token) o.declares
   declares_at =
-      everywhere (λ n. (o : Outline) → slice_get ss n ≡ Some o → AllByRecursion IsApart (map (declared_entry (scope_of ss n o) n) o.declares))
+      everywhere (λ n. (o : Outline) → slice_get ss n ≡ Some o → AllByRecursion (λ d. IsPlaced n d.token) o.declares)
       (λ o at.
       let told : slice_get ss j ≡ Some (outline_of_item old was.0) = outline_at old xs j ∙ ap (option_map (outline_of_item old)) was.1 in
-      let same : o ≡ outline_of_item old was.0 = cc in
-      let none : o.declares ≡ [] = ap (λ (o : Outline). o.declares) same ∙ replaced.no_declaration in
-      subst (λ ds. AllByRecursion IsApart (map (declared_entry (scope_of ss j o) j) ds)) (sym none) tt)
-      (λ n apart o at. declares_apart n apart o)
+      let same : outline_of_item old was.0 ≡ o = cc in
+      each_weaker (λ d. IsPlacedAt s was.0 is.0 d.token) (λ d. IsPlaced j d.token) (λ d. placed_here d.token) o.declares
+      (subst (λ (o : Outline). AllByRecursion (λ d. IsPlacedAt s was.0 is.0 d.token) o.declares) same replaced.declared))
+      (λ n apart o at. each_all (λ d. IsPlaced n d.token) o.declares (λ d. placed_apart n apart d.token))
 
-  entries_apart : (n : ℕ) → AllByRecursion IsApart (entries_before ss n)
-  entries_apart zero = tt
-  entries_apart (suc n) = each_join IsApart (entries_before ss n) (option_map_or (entries_of ss n) (slice_get ss n) []) (entries_apart n) (by (slice_get ss n) refl)
+  entries_placed : (n : ℕ) → AllByRecursion IsKeptName (entries_before ss n)
+  entries_placed zero = tt
+  entries_placed (suc n) = each_join IsKeptName (entries_before ss n) (option_map_or (entries_of ss n) (slice_get ss n) []) (entries_placed n) (by (slice_get ss n) refl)
     where
-      named : (space : Space) (code : Option Code) (words : List (List ℕ)) → AllByRecursion IsApart (map (named_entry space n code) words)
-      named space code words = each_of IsApart (named_entry space n code) words (each_all (λ name. IsApart (named_entry space n code name)) words (λ name. tt))
+      named : (space : Space) (code : Option Code) (words : List (List ℕ)) → AllByRecursion IsKeptName (map (named_entry space n code) words)
+      named space code words = each_of IsKeptName (named_entry space n code) words (each_all (λ name. IsKeptName (named_entry space n code name)) words (λ name. tt))
 
-      states : (p : Option ℕ) (o : Outline) → AllByRecursion IsApart (state_entries p n o)
+      states : (p : Option ℕ) (o : Outline) → AllByRecursion IsKeptName (state_entries p n o)
       states None o = tt
       states (Some k) o = named (space.States k) (Some E09) (option_to_list (state_name o))
 
-      by : (o : Option Outline) → slice_get ss n ≡ o → AllByRecursion IsApart (option_map_or (entries_of ss n) o [])
+      by : (o : Option Outline) → slice_get ss n ≡ o → AllByRecursion IsKeptName (option_map_or (entries_of ss n) o [])
       by None e = tt
       by (Some o) e =
-          each_join IsApart (set_entries n o ++ state_entries (place ss n) n o) (map (declared_entry (scope_of ss n o) n) o.declares)
-          (each_join IsApart (set_entries n o) (state_entries (place ss n) n o) (named space.Sets (Some E08) (option_to_list (set_name o))) (states (place ss n) o))
-          (declares_at n o e)
+          each_join IsKeptName (set_entries n o ++ state_entries (place ss n) n o) (map (declared_entry (scope_of ss n o) n) o.declares)
+          (each_join IsKeptName (set_entries n o) (state_entries (place ss n) n o) (named space.Sets (Some E08) (option_to_list (set_name o))) (states (place ss n) o))
+          (declares_placed n o (declares_at n o e))
 
-  declared_apart : (number : ℕ) (d : Declaration) → declaration_at ss number ≡ Some d → d.item ≢ j
-  declared_apart number d h = by (slice_get (entries ss) number) (each_got IsApart (entries ss) number (entries_apart (length ss))) h
+  declared_placed : (number : ℕ) (d : Declaration) → declaration_at ss number ≡ Some d → IsPlaced d.item d.token
+  declared_placed number d h = by (slice_get (entries ss) number) (each_got IsKeptName (entries ss) number (entries_placed (length ss))) h
     where
-      by : (o : Option Entry) → IfSome o IsApart → option_and_then entry_declaration o ≡ Some d → d.item ≢ j
+      by : (o : Option Entry) → IfSome o IsKeptName → option_and_then entry_declaration o ≡ Some d → IsPlaced d.item d.token
       by None q e = absurd cc
-      by (Some entry) q e = subst (λ o. IfSome o (λ (d : Declaration). d.item ≢ j)) e q
+      by (Some entry) q e = subst (λ o. IfSome o (λ (d : Declaration). IsPlaced d.item d.token)) e q
 
   rest_stays : RestStays old text s xs ys ss
   rest_stays = record {
@@ -246,7 +259,7 @@ module _ (laws : SpellingLaws) (old text : List ℕ) (s : Shift) (xs ys : List P
     names = names;
     settings = λ i l. settings i;
     flags = each_all (λ number. flag_row_at ys ss number ≡ option_map (shifted_flag s) (flag_row_at xs ss number)) (flags_of ss)
-        (λ number. flag_shifts s xs ys ss names number (λ d e. span_at_shifts old text s xs ys d.item (kept d.item (declared_apart number d e)) before d.token));
+        (λ number. flag_shifts s xs ys ss names number (declared_placed number));
     clauses = same_clauses;
     told = each_weaker (λ (p : ItemClause × ClauseLink). p.0.item ≢ j) (HasBytes old text xs ys) (λ p apart. (kept p.0.item apart).bytes) (told_clauses xs ss) told_apart;
     channels = each_flat (λ (p : ItemClause × ClauseLink). p.0.item ≢ j) IsOfKept (channels_of_clause old xs) (told_clauses xs ss) channels_kept told_apart;

@@ -1,5 +1,6 @@
 -- The items of a text after an edit inside one state, which says what it said; and where the row of a state is in the tables.
 use Rattle.std.specs.Prelude.{◌≡◌, ◌≢◌, ℕ, ◌<◌, ◌&&◌, Bool, true, false, is_some, is_none, List, [], map, length, slice_get, Option, Some, option_map}
+use Rattle.std.specs.List.{AllByRecursion}
 use Rattle.snl_lex.specs.declared.shift.Shift.{Shift}
 use Rattle.snl_lex.specs.Lines.{line_at}
 use Rattle.snl_lex.specs.Shift.{shifted_line}
@@ -30,16 +31,20 @@ is_state_or_faulty kinds.State = true
 is_state_or_faulty kinds.Faulty = true
 is_state_or_faulty _ = false
 
--- A state in the place of another, each of them sound or faulty: it says to the others what that one said, its name and no declaration
--- and no clause among it, and its name and its line are what they were, shifted.
+-- A token of an item is where it was, shifted.
+abbrev pub IsPlacedAt : Shift → (x y : ProgramItem) → ℕ → Type 0
+IsPlacedAt s x y n = span_of (slice_get y.tokens n) ≡ shifted_span s (span_of (slice_get x.tokens n))
+
+-- A state in the place of another, each of them sound or faulty: it says to the others what that one said, its name and no clause
+-- among it, and its name, the names that it declares and its line are what they were, shifted.
 pub record ReplacesState (old text : List ℕ) (s : Shift) (x y : ProgramItem) : Type 0 where
   pub was_state : is_state_or_faulty (kind_of x.tree) ≡ true
   pub is_state : is_state_or_faulty (kind_of y.tree) ≡ true
   pub outline : outline_of_item text y ≡ outline_of_item old x
   pub named : is_some (state_name (outline_of_item old x)) ≡ true
-  pub no_declaration : (outline_of_item old x).declares ≡ []
+  pub declared : AllByRecursion (λ d. IsPlacedAt s x y d.token) (outline_of_item old x).declares
   pub no_clause : (outline_of_item old x).clauses ≡ []
-  pub name : span_of (slice_get y.tokens 1) ≡ shifted_span s (span_of (slice_get x.tokens 1))
+  pub name : IsPlacedAt s x y 1
   pub line : line_at text (start_at y.tokens 0) ≡ shifted_line s (start_at x.tokens 1) (line_at old (start_at x.tokens 0))
 
 -- The items after an edit, `ys`, are those before it, shifted, but for item j, which is a state in the place of another.

@@ -116,7 +116,7 @@ pub fn tables_shift()
     same_spelling_same_summary();
 }
 
-/// Where an edit changes no more than the inside of a state that declares nothing and has no clauses, and the state says to the others
+/// Where an edit changes no more than the inside of a state after the names that it declares, it has no clauses, and it says to the others
 /// and in its conditions what it said, the rows are shifted, but for the body of its own.
 pub fn tables_shift_inside_a_state()
     ensures { (old text : List ℕ) (s : Shift) (xs ys : List ProgramItem) (j set : ℕ) (y : ProgramItem) → 0 < s.start → AreRead old xs → ReplacesOne old text s xs ys j

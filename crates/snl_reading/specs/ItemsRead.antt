@@ -5,13 +5,17 @@ use Rattle.snl_syntax.specs.declared.tree.item.Item.{Item}
 use Rattle.snl_check.specs.Items.{IsCutUp, ProgramItem, program_items}
 use Rattle.snl_reading.specs.declared.items.ReadItem.{ReadItem}
 
+-- The tree of an item. A faulty one has none.
+abbrev pub tree_read : ReadItem → Option Item
+tree_read x = option_copied x.tree
+
 abbrev pub item_read : ReadItem → ProgramItem
-item_read x = record { tokens = x.tokens.now; tree = option_copied x.tree }
+item_read x = record { tokens = x.tokens.now; tree = tree_read x }
 
 abbrev pub items_read : List ReadItem → List ProgramItem
 items_read xs = map item_read xs
 
--- The trees of items. A faulty one has none.
+-- The trees of items.
 abbrev pub trees_of_items : List ProgramItem → List (Option Item)
 trees_of_items xs = map (λ x. x.tree) xs
 
