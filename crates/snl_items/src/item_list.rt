@@ -58,7 +58,8 @@ fn edited(
     requires stop { edit.old_stop ≤ length old.now }
     ensures { IfOk result (λ r. r.items ≡ take edit.start old.now ++ (made.now ++ drop edit.old_stop old.now)) }
 {
-    let mut marks = Vec::new(alloc);
+    let room = old.len().saturating_add(made.len());
+    let mut marks = Vec::with_capacity(alloc, room)?;
     marks.extend_from_slice(&old[..edit.start])?;
     marks.extend_from_slice(made)?;
     marks.extend_from_slice(&old[edit.old_stop..])?;

@@ -31,7 +31,7 @@ use Rattle.snl_session.specs.Checks.{check_by, checks_from, checks_of, links_in,
 use Rattle.snl_session.specs.Diagnostics.{diagnostic, diagnostics_of, shown, shown_if}
 use Rattle.snl_session.specs.Entries.{entries_of, entry_by}
 use Rattle.snl_session.specs.Inside.{AreOwnTokens, IsAfterState, IsOneItem, IsWas, SaysWhatItSaid, diagnostics_by, outlines_kept, own_item, wakes_told}
-use Rattle.snl_session.specs.OneState.{IsInside, own_findings, own_shown, own_tokens}
+use Rattle.snl_session.specs.OneState.{IsInside, own_findings, own_head, own_shown, own_tokens}
 use Rattle.snl_session.specs.OwnFindings.{found_around}
 use Rattle.snl_session.specs.Planned.{AreEntriesMade, IsChanged}
 use Rattle.snl_session.specs.Program.{ProgramItem, item_tokens, items_of, program_item, tree_in}
@@ -85,7 +85,7 @@ check_got text k c lt got =
 pub is_inside : (old text : List ℕ) (start old_stop new_stop : ℕ) (c : Changes) (s : Shift) (own : OwnTokens) (w : Was) (e : Entry)
     → IsChanged old text start old_stop new_stop c → IsEdit old text start old_stop new_stop → IsShiftOf old text start old_stop new_stop s → length old < 2 ^ 32 → length text < 2 ^ 32
     → IsOneItem old c → IsWas old c.items.kept_front w → AreEntriesMade old text c.items.kept_front (e ∷ []) c.items.kept_back
-    → SaysWhatItSaid old text c.items.kept_front own w e → IsInside old text start old_stop new_stop c s w.entry.now e
+    → SaysWhatItSaid old text (own_head old c) c.items.kept_front own w e → IsInside old text start old_stop new_stop c s w.entry.now e
 is_inside old text start old_stop new_stop c s own w e changed edit by old_short short one was made says = record {
   changed = changed;
   edit = edit;
@@ -103,7 +103,7 @@ is_inside old text start old_stop new_stop c s own w e changed edit by old_short
   kind = says.same.kind;
   is_state = says.same.is_state;
   named = says.same.named;
-  no_declaration = says.same.no_declaration;
+  declared = says.same.declared;
   no_clause = says.same.no_clause;
 }
 
@@ -124,9 +124,9 @@ module _ (tree_told : (text : List ℕ) (tokens : List Piece) → sound_tree (pa
   kept_outlines text = ap (λ (l : List (List (Class × List ℕ))). outlines_kept (map entry_by l)) (sym (spelled_text text)) ∙ kept_along text (item_tokens text)
 
   -- the state says to the others and in its conditions what it said
-  pub says_alike : (old text : List ℕ) (k : ℕ) (own : OwnTokens) (w : Was) (e : Entry) → k < length (item_ends old) → IsWas old k w → AreOwnTokens old text k own → e ≡ entry_by (spelled text own.is.items)
-      → SaysWhatItSaid old text k own w e → SaysAlike old text (own_item old k) (own_item text k)
-  says_alike old text k own w e there was own_are made says =
+  pub says_alike : (old text : List ℕ) (head k : ℕ) (own : OwnTokens) (w : Was) (e : Entry) → k < length (item_ends old) → IsWas old k w → AreOwnTokens old text k own → e ≡ entry_by (spelled text own.is.items)
+      → SaysWhatItSaid old text head k own w e → SaysAlike old text (own_item old k) (own_item text k)
+  says_alike old text head k own w e there was own_are made says =
       let made_is : e ≡ entry_by (spelled text (own_tokens text k)) = made ∙ ap (λ (ts : List Piece). entry_by (spelled text ts)) own_are.is in
       let x_is : w.entry.now ≡ entry_by (spelled old (own_tokens old k)) = entry_got old k w.entry.now there was.entry in
       let summary = summary_is tree_told by_spelling summary_told bytes_told text (own_tokens text k) e made_is in

@@ -5,6 +5,7 @@ pub mod InsideMade
 pub mod InsideTables
 pub mod InsideTold
 pub mod KeptChecks
+pub mod KeptOutlines
 pub mod MadeChecks
 pub mod MemberParts
 pub mod Members

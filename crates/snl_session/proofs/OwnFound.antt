@@ -54,7 +54,7 @@ says_nothing text ss i x h = by x.tree h
     by (Some (items.OptionLine line)) h = absurd cc
     by (Some tree) h = refl
 
-module _ (old text : List ℕ) (s : Shift) (front back : List ProgramItem) (x y : ProgramItem) (is : ReplacesInside old text s front x y back)
+module _ (old text : List ℕ) (s : Shift) (head : ℕ) (front back : List ProgramItem) (x y : ProgramItem) (is : ReplacesInside old text s head front x y back)
     -- what the laws of the layers below say
     (by_spelling : (text : List ℕ) (tokens : List Piece) → parsed_in text tokens ≡ parsed_by (spelled text tokens))
     (bytes_same : (text moved : List ℕ) (tokens shifted : List Piece) → spelled text tokens ≡ spelled moved shifted → bytes_at text tokens ≡ bytes_at moved shifted)
@@ -102,13 +102,13 @@ module _ (old text : List ℕ) (s : Shift) (front back : List ProgramItem) (x y 
       by (Some z) = refl
 
   -- by the links
-  token_around : (ps : List ProgramItem) (i k : ℕ) → (i ≡ length ps → k < 2) → token_of (map si ps ++ (y ∷ map si back)) i k ≡ option_map (shifted_piece s) (token_of (ps ++ (x ∷ back)) i k)
-  token_around [] zero k low = is.head k (low refl)
+  token_around : (ps : List ProgramItem) (i k : ℕ) → (i ≡ length ps → k < head) → token_of (map si ps ++ (y ∷ map si back)) i k ≡ option_map (shifted_piece s) (token_of (ps ++ (x ∷ back)) i k)
+  token_around [] zero k low = is.stays k (low refl)
   token_around [] (suc i) k low = token_shifts s is.shift.some_before back i k
   token_around (a ∷ ps) zero k low = slice_get-map (shifted_piece s) a.tokens k
   token_around (a ∷ ps) (suc i) k low = token_around ps i k (λ e. low (ap suc e))
 
-  placed_around : (faults : List LinkFault) → AllByRecursion (λ (f : LinkFault). f.item ≡ n → f.token < 2) faults
+  placed_around : (faults : List LinkFault) → AllByRecursion (λ (f : LinkFault). f.item ≡ n → f.token < head) faults
       → map (placed (map si front ++ (y ∷ map si back))) faults ≡ map sh (map (placed (front ++ (x ∷ back))) faults)
   placed_around [] h = refl
   placed_around (f ∷ fs) h =
@@ -116,11 +116,11 @@ module _ (old text : List ℕ) (s : Shift) (front back : List ProgramItem) (x y 
       (ap (finding_at f.code) (token_around front f.item f.token h.0) ∙ finding_shifts s is.shift.some_before f.code (token_of (front ++ (x ∷ back)) f.item f.token))
       (placed_around fs h.1)
 
-  linked_around : SparesInside n (links.faults_of (links_in old)) → linked_faults text (items_of text) ≡ map sh (linked_faults old (items_of old))
+  linked_around : SparesInside head n (links.faults_of (links_in old)) → linked_faults text (items_of text) ≡ map sh (linked_faults old (items_of old))
   linked_around spares =
       let faults : List LinkFault = links.faults_of (links_in old) in
       ap₂ (λ (zs : List ProgramItem) (l : LinkedItems). map (placed zs) (links.faults_of l)) is.items_are is.links
-      ∙ placed_around faults (recursion_from_All (λ (f : LinkFault). f.item ≡ n → f.token < 2) faults spares)
+      ∙ placed_around faults (recursion_from_All (λ (f : LinkFault). f.item ≡ n → f.token < head) faults spares)
       ∙ ap (λ (zs : List ProgramItem). map sh (map (placed zs) faults)) (sym is.items_were)
 
   -- what is found, but for that at the state itself
@@ -185,7 +185,7 @@ module _ (old text : List ℕ) (s : Shift) (front back : List ProgramItem) (x y 
       let own = ap (λ (ts : List Outline). total f (found_in_item text ts (n, y))) outlines_are in
       omega (arith, all, before, behind, own)
 
-  module _ (spares : SparesInside n (links.faults_of (links_in old))) (walks : walked_in (tables_in text) ≡ map sh (walked_in (tables_in old))) where
+  module _ (spares : SparesInside head n (links.faults_of (links_in old))) (walks : walked_in (tables_in text) ≡ map sh (walked_in (tables_in old))) where
     walks_are : walked_faults text (items_of text) ≡ map sh (walked_faults old (items_of old))
     unfolding tables_in
     walks_are = walks
@@ -217,7 +217,7 @@ module _ (old text : List ℕ) (s : Shift) (front back : List ProgramItem) (x y 
         ∙ settings_around 0 front (stay front is.front_stays)
         ∙ ap (λ (zs : List ProgramItem). filter_map (setting_of_item old ss) (enumerate_from 0 zs)) (sym is.items_were))
 
-    module _ (spares : SparesInside n (links.faults_of (links_in old))) (walks : walked_in (tables_in text) ≡ map sh (walked_in (tables_in old))) where
+    module _ (spares : SparesInside head n (links.faults_of (links_in old))) (walks : walked_in (tables_in text) ≡ map sh (walked_in (tables_in old))) where
       abbrev b : Bool
       b = shows_warnings old (items_of old)
 

@@ -1,5 +1,5 @@
 -- What a text says after an edit inside one state that says to the others what it said.
-use Rattle.std.proofs.Common.{◌≡◌, ◌↔◌, ℕ, suc, ◌+◌, ◌<◌, ◌≤◌, inl, inr, All, true, IsTrue, List, [], ◌∷◌, ◌++◌, length, map, take, drop, slice_get, Option, None, Some, is_some, option_map, refl, sym, ap, ap₂, ◌∙◌, subst, arith, length-append}
+use Rattle.std.proofs.Common.{◌≡◌, ◌↔◌, ℕ, suc, ◌+◌, ◌<◌, ◌≤◌, inl, inr, All, true, IsTrue, List, [], ◌∷◌, ◌++◌, length, map, take, drop, get_or, slice_get, Option, None, Some, is_some, option_map, refl, sym, ap, ap₂, ◌∙◌, subst, arith, length-append}
 use Rattle.std.specs.List.{AllByRecursion}
 use Rattle.std.proofs.lemmas.List.{length-map, map-append}
 use Rattle.std.proofs.lemmas.List.Elements.{All-drop, All-filter, All-take, recursion_from_All}
@@ -29,14 +29,14 @@ use Rattle.snl_tables.specs.declared.rows.Span.{Span}
 use Rattle.snl_tables.specs.Shifted.{shifted_span}
 use Rattle.snl_check.specs.Items.{outline_of_item, span_of}
 use Rattle.snl_check.specs.Shifted.{KeepsItem, shifted_item, shifted_tokens, start_at}
-use Rattle.snl_check.specs.ShiftedAround.{ReplacesOne, ReplacesState, is_state_or_faulty}
+use Rattle.snl_check.specs.ShiftedAround.{IsPlacedAt, ReplacesOne, ReplacesState, is_state_or_faulty}
 use Rattle.snl_session.specs.declared.entries.Entry.{Entry}
 use Rattle.snl_session.specs.declared.plan.Changes.{Changes}
 use Rattle.snl_session.specs.declared.recheck.MadeCheck.{MadeCheck}
 use Rattle.snl_session.specs.Checks.{check_by, links_in, outlines_in}
 use Rattle.snl_session.specs.Entries.{entry_by}
 use Rattle.snl_session.specs.Linked.{outlines_of}
-use Rattle.snl_session.specs.OneState.{IsInside, IsLeft, IsOneState, ReplacesInside, StaysItem, own_check, own_tokens}
+use Rattle.snl_session.specs.OneState.{DeclaresInHead, IsInside, IsLeft, IsOneState, ReplacesInside, StaysItem, own_check, own_head, own_tokens}
 use Rattle.snl_session.specs.Program.{ProgramItem, item_tokens, items_of, program_item, tree_in}
 use Rattle.snl_session.specs.Rechecked.{AreChecksMade, kept_of, made_at, made_checks, nones}
 use Rattle.snl_session.specs.Stirred.{stirred_between}
@@ -259,12 +259,18 @@ module _ (old text : List ℕ) (start old_stop new_stop : ℕ) (c : Changes) (s 
       (λ m same there. keeps_one m same (all_behind old text s order line_of m there)) back_tokens alike_at_back
       (back_each old text start old_stop new_stop c s past (IsBehind old text s order line_of) starts_after))
 
-  -- ---- the first two tokens of the one that is replaced
+  -- ---- the tokens before the edit of the one that is replaced
 
-  head : (n : ℕ) → n < 2 → slice_get is_own n ≡ option_map (shifted_piece s) (slice_get was_own n)
+  abbrev many : ℕ
+  many = own_head old c
+
+  two : (n : ℕ) → n < 2 → n < many
+  two n lt = omega (arith, is.head)
+
+  head : (n : ℕ) → n < many → slice_get is_own n ≡ option_map (shifted_piece s) (slice_get was_own n)
   head = head_shifts old text start old_stop new_stop c s past
 
-  of_head : (P : Piece → Type 0) → All P before → (n : ℕ) (p : Piece) → n < 2 → slice_get was_own n ≡ Some p → P p
+  of_head : (P : Piece → Type 0) → All P before → (n : ℕ) (p : Piece) → n < many → slice_get was_own n ≡ Some p → P p
   of_head P h n p lt there =
       got P before (last_end 0 (take k (item_ends old)) + n) p (recursion_from_All P before h) (head_before old text start old_stop new_stop c s past n p lt there)
 
@@ -277,15 +283,23 @@ module _ (old text : List ℕ) (start old_stop new_stop : ℕ) (c : Changes) (s 
     where
       by : (o : Option Piece) → slice_get was_own n ≡ o → (span_of o).start < s.start
       by None there = shift.some_before
-      by (Some p) there = of_head (IsInFront old text s order line_of) starts_before n p lt there
+      by (Some p) there = of_head (IsInFront old text s order line_of) starts_before n p (two n lt) there
 
   line_is : line_at text (start_at is_own 0) ≡ shifted_line s (start_at was_own 1) (line_at old (start_at was_own 0))
   line_is =
       let line : Line = line_at old (start_at was_own 0) in
-      ap (λ (o : Span). line_at text o.start) (ap span_of (head 0 (omega arith)) ∙ name_at (slice_get was_own 0))
+      ap (λ (o : Span). line_at text o.start) (ap span_of (head 0 (two 0 (omega arith))) ∙ name_at (slice_get was_own 0))
       ∙ line_of (start_at was_own 0) (inl (head_begins 0 (omega arith)))
       ∙ in_front old text s order line_of line (start_at was_own 0) (head_begins 0 (omega arith))
       ∙ sym (in_front old text s order line_of line (start_at was_own 1) (head_begins 1 (omega arith)))
+
+  placed : (n : ℕ) → n < many → IsPlacedAt s (program_item old was_own) (program_item text is_own) n
+  placed n lt = ap span_of (head n lt) ∙ name_at (slice_get was_own n)
+
+  declared_placed : AllByRecursion (λ d. IsPlacedAt s (program_item old was_own) (program_item text is_own) d.token) (summary_in old was_own (tree_in old was_own)).outline.declares
+  declared_placed =
+      recursion_from_All (λ d. IsPlacedAt s (program_item old was_own) (program_item text is_own) d.token) (summary_in old was_own (tree_in old was_own)).outline.declares
+      (λ n d lt. placed (get_or (summary_in old was_own (tree_in old was_own)).outline.declares n d).token (subst (DeclaresInHead many) (sym outline_was) is.declared n d lt))
 
   replaces : ReplacesState old text s (program_item old was_own) (program_item text is_own)
   replaces = record {
@@ -293,13 +307,13 @@ module _ (old text : List ℕ) (start old_stop new_stop : ℕ) (c : Changes) (s 
     is_state = ap is_state_or_faulty (ap (λ (y : Summary). y.kind) summary_is ∙ is.kind) ∙ is.is_state;
     outline = outline_same;
     named = ap (λ (o : Outline). is_some (state_name o)) outline_was ∙ is.named;
-    no_declaration = ap (λ (o : Outline). o.declares) outline_was ∙ is.no_declaration;
+    declared = declared_placed;
     no_clause = ap (λ (o : Outline). o.clauses) outline_was ∙ is.no_clause;
-    name = ap span_of (head 1 (omega arith)) ∙ name_at (slice_get was_own 1);
+    name = placed 1 (two 1 (omega arith));
     line = line_is;
   }
 
-  replaces_inside : ReplacesInside old text s front (program_item old was_own) (program_item text is_own) back
+  replaces_inside : ReplacesInside old text s many front (program_item old was_own) (program_item text is_own) back
   replaces_inside = record {
     shift = shift;
     items_were = items_were;
@@ -307,8 +321,8 @@ module _ (old text : List ℕ) (start old_stop new_stop : ℕ) (c : Changes) (s 
     links = links_same;
     front_stays = front_stays;
     back_stays = back_stays;
-    head = head;
-    head_left = λ n p lt there. of_head (IsLeft old s) left_before n p lt there;
+    stays = head;
+    left = λ n p lt there. of_head (IsLeft old s) left_before n p lt there;
   }
 
   -- ---- the items as the tables see them

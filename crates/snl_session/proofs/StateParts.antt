@@ -184,27 +184,27 @@ module _ (old text : List ℕ) (start old_stop new_stop : ℕ) (c : Changes) (s 
       all_members
       ∙ ap (λ (m : List Piece). map (shifted_tokens s) (take k (members (tokens_of old) 0 (item_ends old))) ++ (m ∷ map (shifted_tokens s) (drop (suc k) (members (tokens_of old) 0 (item_ends old))))) (sym is_own)
 
-  -- ---- its first two tokens
+  -- ---- its tokens before the edit
 
-  was_head : (n : ℕ) → n < 2 → slice_get (own_tokens old k) n ≡ slice_get before (first + n)
+  was_head : (n : ℕ) → n < edit.start - first → slice_get (own_tokens old k) n ≡ slice_get before (first + n)
   was_head n lt =
       ap (λ (l : List Piece). slice_get l n) was_own
       ∙ get_taken (was_end - first) n (drop first (tokens_of old)) (omega (arith, is.head, ends_after, is.tokens.of_spellings.old_order))
       ∙ get_dropped first n (tokens_of old)
       ∙ sym (get_taken edit.start (first + n) (tokens_of old) (omega (arith, is.head)))
 
-  is_head : (n : ℕ) → n < 2 → slice_get (own_tokens text k) n ≡ slice_get (take edit.start (tokens_of text)) (first + n)
+  is_head : (n : ℕ) → n < edit.start - first → slice_get (own_tokens text k) n ≡ slice_get (take edit.start (tokens_of text)) (first + n)
   is_head n lt =
       ap (λ (l : List Piece). slice_get l n) is_own
       ∙ get_taken (is_end - first) n (drop first (tokens_of text)) (omega (arith, is.head, end_moves, is.tokens.of_spellings.new_order))
       ∙ get_dropped first n (tokens_of text)
       ∙ sym (get_taken edit.start (first + n) (tokens_of text) (omega (arith, is.head)))
 
-  pub head_shifts : (n : ℕ) → n < 2 → slice_get (own_tokens text k) n ≡ option_map (shifted_piece s) (slice_get (own_tokens old k) n)
+  pub head_shifts : (n : ℕ) → n < edit.start - first → slice_get (own_tokens text k) n ≡ option_map (shifted_piece s) (slice_get (own_tokens old k) n)
   head_shifts n lt =
       is_head n lt ∙ ap (λ (l : List Piece). slice_get l (first + n)) units_before ∙ slice_get-map (shifted_piece s) before (first + n) ∙ ap (option_map (shifted_piece s)) (sym (was_head n lt))
 
-  pub head_before : (n : ℕ) (p : Piece) → n < 2 → slice_get (own_tokens old k) n ≡ Some p → slice_get before (first + n) ≡ Some p
+  pub head_before : (n : ℕ) (p : Piece) → n < edit.start - first → slice_get (own_tokens old k) n ≡ Some p → slice_get before (first + n) ≡ Some p
   head_before n p lt there = sym (was_head n lt) ∙ there
 
   -- ---- what holds of each token before the edit and after it

@@ -26,7 +26,7 @@ use Rattle.snl_session.specs.declared.plan.Changes.{Changes}
 use Rattle.snl_session.specs.Checks.{checks_of, links_in, outlines_in}
 use Rattle.snl_session.specs.Diagnostics.{diagnostic, diagnostics_of, shown, shown_if}
 use Rattle.snl_session.specs.Entries.{entries_of}
-use Rattle.snl_session.specs.OneState.{SparesInside, own_findings, own_shown, own_tokens}
+use Rattle.snl_session.specs.OneState.{DeclaresInHead, SparesInside, own_findings, own_shown, own_tokens}
 use Rattle.snl_session.specs.Order.{in_order}
 use Rattle.snl_session.specs.OwnFindings.{found_around}
 use Rattle.snl_session.specs.Program.{ProgramItem, items_of, program_item}
@@ -48,14 +48,14 @@ pub record IsOneItem (old : List ℕ) (c : Changes) : Type 0 where
   pub one_gone : c.items.kept_front + 1 + c.items.kept_back ≡ length (item_ends old)
   pub head : last_end 0 (take c.items.kept_front (item_ends old)) + 2 ≤ c.tokens.edit.start
 
--- A state with a name in the place of another, each sound or faulty as the other: it says to the other items what that one said, and
--- it declares nothing and has no clauses.
-pub record SaysTheSame (x e : Entry) : Type 0 where
+-- A state with a name in the place of another, each sound or faulty as the other: it says to the other items what that one said, what it
+-- declares is among its first `head` tokens, and it has no clauses.
+pub record SaysTheSame (head : ℕ) (x e : Entry) : Type 0 where
   pub outline : e.summary.outline ≡ x.summary.outline
   pub kind : e.summary.kind ≡ x.summary.kind
   pub is_state : is_state_or_faulty x.summary.kind ≡ true
   pub named : is_some (state_name x.summary.outline) ≡ true
-  pub no_declaration : x.summary.outline.declares ≡ []
+  pub declared : DeclaresInHead head x.summary.outline
   pub no_clause : x.summary.outline.clauses ≡ []
 
 -- What the conditions of an item say, use by use, as its check told it.
@@ -95,11 +95,12 @@ pub record IsWas (old : List ℕ) (item : ℕ) (w : Was) : Type 0 where
   pub entry : slice_get (entries_of old) item ≡ Some w.entry.now
   pub check : slice_get (checks_of old) item ≡ Some w.check.now
 
--- The state in its place says to the other items and in its conditions what that one said; and the links find nothing past its first two tokens.
-pub record SaysWhatItSaid (old text : List ℕ) (item : ℕ) (own : OwnTokens) (w : Was) (e : Entry) : Type 0 where
-  pub same : SaysTheSame w.entry.now e
+-- The state in its place says to the other items and in its conditions what that one said; what it declares, and what the links find in it, is among its
+-- first `head` tokens.
+pub record SaysWhatItSaid (old text : List ℕ) (head item : ℕ) (own : OwnTokens) (w : Was) (e : Entry) : Type 0 where
+  pub same : SaysTheSame head w.entry.now e
   pub alike : AreAlike old text own.was.items own.is.items w.entry.now e w.check.now
-  pub spared : SparesInside item (faults_of (links_in old))
+  pub spared : SparesInside head item (faults_of (links_in old))
 
 -- These are the tokens of an item before and after an edit.
 pub record AreOwnTokens (old text : List ℕ) (item : ℕ) (own : OwnTokens) : Type 0 where

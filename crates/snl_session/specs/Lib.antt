@@ -15,6 +15,7 @@ pub mod Parts
 pub mod Planned
 pub mod Program
 pub mod Rechecked
+pub mod Relinked
 pub mod Shifted
 pub mod Stirred
 pub mod Tables

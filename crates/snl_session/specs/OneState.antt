@@ -40,16 +40,16 @@ pub record StaysItem (old text : List ℕ) (s : Shift) (x : ProgramItem) : Type 
   pub left : AllByRecursion (IsLeft old s) x.tokens
 
 -- The items of a text before and after an edit inside one of them, which is between `front` and `back`: the others are shifted, and so
--- are the first two tokens of that one.
-pub record ReplacesInside (old text : List ℕ) (s : Shift) (front : List ProgramItem) (x y : ProgramItem) (back : List ProgramItem) : Type 0 where
+-- are the first `head` tokens of that one.
+pub record ReplacesInside (old text : List ℕ) (s : Shift) (head : ℕ) (front : List ProgramItem) (x y : ProgramItem) (back : List ProgramItem) : Type 0 where
   pub shift : IsShift old text s
   pub items_were : items_of old ≡ front ++ (x ∷ back)
   pub items_are : items_of text ≡ map (shifted_item s) front ++ (y ∷ map (shifted_item s) back)
   pub links : links_in text ≡ links_in old
   pub front_stays : AllByRecursion (StaysItem old text s) front
   pub back_stays : AllByRecursion (StaysItem old text s) back
-  pub head : (n : ℕ) → n < 2 → slice_get y.tokens n ≡ option_map (shifted_piece s) (slice_get x.tokens n)
-  pub head_left : (n : ℕ) (p : Piece) → n < 2 → slice_get x.tokens n ≡ Some p → IsLeft old s p
+  pub stays : (n : ℕ) → n < head → slice_get y.tokens n ≡ option_map (shifted_piece s) (slice_get x.tokens n)
+  pub left : (n : ℕ) (p : Piece) → n < head → slice_get x.tokens n ≡ Some p → IsLeft old s p
 
 -- What is found at an item itself: where it is faulty, and by its check.
 abbrev pub own_findings : List ℕ → List Outline → ℕ → ProgramItem → List Finding
@@ -59,9 +59,21 @@ own_findings text ss i x = cons_option (fault_in text x) (found_in_item text ss 
 abbrev pub own_shown : List ℕ → List ProgramItem → ℕ → ProgramItem → List Finding
 own_shown text xs i x = shown_of text xs (own_findings text (outlines_in text) i x)
 
--- The links find nothing in an item past its first two tokens.
-abbrev pub SparesInside : ℕ → List LinkFault → Type 0
-SparesInside item faults = All (λ f. f.item ≡ item → f.token < 2) faults
+-- The links find nothing in an item past its first `head` tokens.
+abbrev pub SparesInside : ℕ → ℕ → List LinkFault → Type 0
+SparesInside head item faults = All (λ f. f.item ≡ item → f.token < head) faults
+
+-- The number of the first token of the item with a number; the one after that item begins where it ends.
+abbrev pub own_start : List ℕ → ℕ → ℕ
+own_start text i = last_end 0 (take i (item_ends text))
+
+-- How many tokens of the item in the place of which an edit makes another are before those that the edit replaces.
+abbrev pub own_head : List ℕ → Changes → ℕ
+own_head old c = c.tokens.edit.start - own_start old c.items.kept_front
+
+-- All names that an item declares are among its first `head` tokens.
+abbrev pub DeclaresInHead : ℕ → Outline → Type 0
+DeclaresInHead head o = All (λ d. d.token < head) o.declares
 
 -- What is known, by tests, of an edit inside one state: `x` is what was kept of the state, `e` what is made of it.
 pub record IsInside (old text : List ℕ) (start old_stop new_stop : ℕ) (c : Changes) (s : Shift) (x e : Entry) : Type 0 where
@@ -79,17 +91,13 @@ pub record IsInside (old text : List ℕ) (start old_stop new_stop : ℕ) (c : C
   pub head : last_end 0 (take c.items.kept_front (item_ends old)) + 2 ≤ c.tokens.edit.start
   pub was : slice_get (entries_of old) c.items.kept_front ≡ Some x
   pub made : AreEntriesMade old text c.items.kept_front (e ∷ []) c.items.kept_back
-  -- a state with a name in the place of another, each sound or faulty as the other: it says to the other items what that one said, and it declares nothing and has no clauses
+  -- a state with a name in the place of another, each sound or faulty as the other: it says to the other items what that one said; what it declares is before the edit, and it has no clauses
   pub outline : e.summary.outline ≡ x.summary.outline
   pub kind : e.summary.kind ≡ x.summary.kind
   pub is_state : is_state_or_faulty x.summary.kind ≡ true
   pub named : is_some (state_name x.summary.outline) ≡ true
-  pub no_declaration : x.summary.outline.declares ≡ []
+  pub declared : DeclaresInHead (own_head old c) x.summary.outline
   pub no_clause : x.summary.outline.clauses ≡ []
-
--- The number of the first token of the item with a number; the one after that item begins where it ends.
-abbrev pub own_start : List ℕ → ℕ → ℕ
-own_start text i = last_end 0 (take i (item_ends text))
 
 -- The tokens of the item with a number.
 abbrev pub own_tokens : List ℕ → ℕ → List Piece
@@ -104,7 +112,7 @@ pub record IsOneState (old text : List ℕ) (start old_stop new_stop : ℕ) (c :
   pub front : List ProgramItem
   pub back : List ProgramItem
   pub number : length front ≡ c.items.kept_front
-  pub inside : ReplacesInside old text s front (program_item old (own_tokens old c.items.kept_front)) (program_item text (own_tokens text c.items.kept_front)) back
+  pub inside : ReplacesInside old text s (own_head old c) front (program_item old (own_tokens old c.items.kept_front)) (program_item text (own_tokens text c.items.kept_front)) back
   pub one : ReplacesOne old text s (items_of old) (items_of text) c.items.kept_front
   -- the edit of the tokens is among its own
   pub first : own_start old c.items.kept_front ≤ c.tokens.edit.start

@@ -1,10 +1,9 @@
 -- What an edit makes of what a session keeps of its text.
-use Rattle.std.specs.Prelude.{◌≡◌, ℕ, ◌-◌, IfSome, List, ◌++◌, length, take, drop, Option, Some, None}
+use Rattle.std.specs.Prelude.{◌≡◌, ℕ, ◌-◌, IfSome, List, ◌++◌, length, take, drop}
 use Rattle.snl_lex.specs.LineList.{IsLineList}
 use Rattle.snl_lex.specs.PieceList.{IsChange}
 use Rattle.snl_items.specs.Changes.{AreShifted, IsItemChange, IsTokenChange}
 use Rattle.snl_items.specs.Fresh.{fresh_items_between, fresh_pieces_between}
-use Rattle.snl_scope.specs.LinkedItems.{LinkedItems}
 use Rattle.snl_tables.specs.Shifted.{shifted_tables, with_body}
 use Rattle.snl_session.specs.declared.edits.Work.{Work}
 use Rattle.snl_session.specs.declared.entries.Entry.{Entry}
@@ -22,6 +21,7 @@ use Rattle.snl_session.specs.Diagnostics.{diagnostics_of}
 use Rattle.snl_session.specs.Entries.{entries_of}
 use Rattle.snl_session.specs.Kept.{HasRoomFor, HasRoomForPlaces}
 use Rattle.snl_session.specs.Rechecked.{AreChecksMade}
+use Rattle.snl_session.specs.Relinked.{AreLinks}
 use Rattle.snl_session.specs.Shifted.{IsShifted}
 use Rattle.snl_session.specs.Stirred.{stirred_between}
 use Rattle.snl_session.specs.Tables.{tables_in}
@@ -40,14 +40,9 @@ abbrev pub AreEntriesMade : (old text : List ℕ) (front : ℕ) (made : List Ent
 AreEntriesMade old text front made back =
     entries_of text ≡ take front (entries_of old) ++ (made ++ drop (length (entries_of old) - back) (entries_of old))
 
--- The links of the new text, where others are made; else those of the old one.
-abbrev pub AreLinks : (old text : List ℕ) → Option LinkedItems → Type 0
-AreLinks old text None = links_in text ≡ links_in old
-AreLinks old text (Some l) = l ≡ links_in text
-
--- The links of the new text, and the checks that are made.
+-- What is made of the links, and the checks that are made.
 pub record IsRechecked (old text : List ℕ) (front back : ℕ) (r : Rechecked) : Type 0 where
-  pub links : r.links ≡ links_in text
+  pub links : AreLinks old text r.links
   pub checks : AreChecksMade old text front r.vacant.items back r.made.items
 
 -- What is made of all that is kept of the items.

@@ -7,7 +7,7 @@ ghost use Rattle.snl_lex.specs.Pieces.{LiesIn};
 ghost use Rattle.snl_scope.specs.Linked.{faults_of};
 ghost use Rattle.snl_check.specs.ShiftedAround.{is_state_or_faulty};
 ghost use Rattle.snl_session.specs.Inside.{AreAlike, SaysTheSame};
-ghost use Rattle.snl_session.specs.OneState.{SparesInside};
+ghost use Rattle.snl_session.specs.OneState.{DeclaresInHead, SparesInside};
 
 use crate::entries::Entry;
 use crate::numbers::is_named;
@@ -15,7 +15,7 @@ use crate::one_item::OwnTokens;
 use snl_check::{Checked, wakes_alike};
 use snl_cut::OutOfMemory;
 use snl_lex::TextEdit;
-use snl_scope::{ItemKind, Links, Mention, same_outline};
+use snl_scope::{ItemKind, Links, Mention, Outline, same_outline};
 use std::alloc::Global;
 
 fn is_state_or_faulty(kind: ItemKind) -> bool
@@ -24,27 +24,39 @@ fn is_state_or_faulty(kind: ItemKind) -> bool
     matches!(kind, ItemKind::State | ItemKind::Faulty)
 }
 
-/// Whether a state is in the place of one that said the same to the other items: it declares nothing and has no clauses.
-pub fn says_the_same(was: &Entry, is: &Entry) -> bool
-    ensures { IsTrue result → SaysTheSame was.now is.now }
+// Whether all names that an item declares are among so many of its first tokens.
+fn declares_in_head(outline: &Outline, head: usize) -> bool
+    ensures { IsTrue result → DeclaresInHead head outline.now }
+{
+    outline
+        .declares
+        .as_slice()
+        .iter()
+        .all(|declared| declared.token < head)
+}
+
+/// Whether a state is in the place of one that said the same to the other items: what it declares is among so many of its first tokens, and it
+/// has no clauses.
+pub fn says_the_same(was: &Entry, is: &Entry, head: usize) -> bool
+    ensures { IsTrue result → SaysTheSame head was.now is.now }
 {
     let (was, is) = (&was.summary, &is.summary);
     same_outline(&is.outline, &was.outline)
         && is.kind == was.kind
         && is_state_or_faulty(was.kind)
         && is_named(&was.outline)
-        && was.outline.declares.is_empty()
+        && declares_in_head(&was.outline, head)
         && was.outline.clauses.is_empty()
 }
 
-/// Whether the links find nothing in an item past its first two tokens.
-pub fn spares_inside(links: &Links, item: usize) -> bool
-    ensures { IsTrue result → SparesInside item (faults_of links.now) }
+/// Whether the links find nothing in an item past so many of its first tokens.
+pub fn spares_inside(links: &Links, item: usize, head: usize) -> bool
+    ensures { IsTrue result → SparesInside head item (faults_of links.now) }
 {
     links
         .faults()
         .iter()
-        .all(|fault| fault.item != item || fault.token < 2)
+        .all(|fault| fault.item != item || fault.token < head)
 }
 
 // Whether two names are the same.

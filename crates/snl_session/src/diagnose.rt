@@ -4,6 +4,7 @@
 
 ghost use Rattle.std.specs.Prelude.{◌≡◌, ◌++◌, All, IfOk, OnOk, map};
 ghost use Rattle.snl_lex.specs.LineList.{IsLineList};
+ghost use Rattle.snl_scope.specs.Linked.{faults_of};
 ghost use Rattle.snl_session.specs.Diagnostics.{diagnostic, on_line, shown_if};
 ghost use Rattle.snl_session.specs.Linked.{linked_faults, linked_of};
 ghost use Rattle.snl_session.specs.Parts.{IsPart, part_of};
@@ -13,7 +14,7 @@ use crate::linked::add_placed;
 use crate::program::Part;
 use snl_cut::OutOfMemory;
 use snl_lex::{Line, LineList, Piece};
-use snl_scope::Links;
+use snl_scope::LinkFault;
 use std::alloc::Global;
 
 /// Takes the warnings out, unless they are shown.
@@ -30,14 +31,14 @@ pub fn add_linked_faults(
     text: &[u8],
     tokens: &[Piece],
     parts: &[Part],
-    links: &Links,
+    faults: &[LinkFault],
     found: &mut Vec<Finding>,
 ) -> Result<(), OutOfMemory>
     requires parts { All (IsPart text.now tokens.now) parts.now }
-    requires links { links.now ≡ linked_of text.now (map (part_of tokens.now) parts.now) }
+    requires faults { faults.now ≡ faults_of (linked_of text.now (map (part_of tokens.now) parts.now)) }
     ensures { OnOk result (found.new.items ≡ found.old.items ++ linked_faults text.now (map (part_of tokens.now) parts.now)) }
 {
-    add_placed(text, tokens, parts, links.faults(), found)
+    add_placed(text, tokens, parts, faults, found)
 }
 
 fn on_line(finding: Finding, line: Line) -> Diagnostic

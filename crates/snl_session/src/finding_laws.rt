@@ -22,8 +22,8 @@ use snl_syntax::same_spelling_same_tree;
 
 /// After an edit inside one state the findings of the other items are shifted, and warnings are shown if they were.
 pub fn findings_around_a_state()
-    ensures found { (old text : List ℕ) (s : Shift) (front back : List ProgramItem) (x y : ProgramItem) → ReplacesInside old text s front x y back → SparesInside (length front) (faults_of (links_in old)) → is_state_or_faulty (kind_of x.tree) ≡ true → is_state_or_faulty (kind_of y.tree) ≡ true → walked_in (tables_in text) ≡ map (shifted_finding s) (walked_in (tables_in old)) → found_around s (own_shown old (items_of old) (length front) x) (own_shown text (items_of text) (length front) y) (in_order (shown old)) ≡ in_order (shown text) }
-    ensures warnings { (old text : List ℕ) (s : Shift) (front back : List ProgramItem) (x y : ProgramItem) → ReplacesInside old text s front x y back → is_state_or_faulty (kind_of x.tree) ≡ true → is_state_or_faulty (kind_of y.tree) ≡ true → shows_warnings text (items_of text) ≡ shows_warnings old (items_of old) }
+    ensures found { (old text : List ℕ) (s : Shift) (head : ℕ) (front back : List ProgramItem) (x y : ProgramItem) → ReplacesInside old text s head front x y back → SparesInside head (length front) (faults_of (links_in old)) → is_state_or_faulty (kind_of x.tree) ≡ true → is_state_or_faulty (kind_of y.tree) ≡ true → walked_in (tables_in text) ≡ map (shifted_finding s) (walked_in (tables_in old)) → found_around s (own_shown old (items_of old) (length front) x) (own_shown text (items_of text) (length front) y) (in_order (shown old)) ≡ in_order (shown text) }
+    ensures warnings { (old text : List ℕ) (s : Shift) (head : ℕ) (front back : List ProgramItem) (x y : ProgramItem) → ReplacesInside old text s head front x y back → is_state_or_faulty (kind_of x.tree) ≡ true → is_state_or_faulty (kind_of y.tree) ≡ true → shows_warnings text (items_of text) ≡ shows_warnings old (items_of old) }
 {
     same_spelling_same_tree();
     same_spelling_same_summary();

@@ -14,7 +14,7 @@ ghost use Rattle.snl_session.specs.Diagnostics.{diagnostic, diagnostics_of, show
 ghost use Rattle.snl_session.specs.Entries.{entry_by};
 ghost use Rattle.snl_session.specs.Inside.{AreOwnTokens, IsMadeInside, IsOneItem, IsWas, SaysWhatItSaid, diagnostics_by};
 ghost use Rattle.snl_session.specs.Kept.{HasRoomFor, IsListed};
-ghost use Rattle.snl_session.specs.OneState.{own_findings};
+ghost use Rattle.snl_session.specs.OneState.{own_findings, own_head};
 ghost use Rattle.snl_session.specs.OwnFindings.{IsOwnCheck, found_around};
 ghost use Rattle.snl_session.specs.Planned.{AreEntriesMade, IsChanged, IsCost, IsStateWay};
 ghost use Rattle.snl_session.specs.Program.{program_item};
@@ -36,6 +36,7 @@ use crate::own_findings::{findings_around, own_findings};
 use crate::plan::Changes;
 use crate::program::items_end_in_order;
 use crate::recheck::{add_made, vacant_for};
+use crate::relink::NewLinks;
 use crate::state_laws::one_state_replaced;
 use snl_check::{Checked, StateBody, Tables, check_item, state_body};
 use snl_cut::{Count, OutOfMemory};
@@ -219,7 +220,7 @@ fn made_inside(
     requires was { IsWas edit.now.old.now changes.now.items.kept_front was }
     requires made { made.now ≡ entry_by (spelled edit.now.text.now own.now.is.items) }
     requires alone { AreEntriesMade edit.now.old.now edit.now.text.now changes.now.items.kept_front (made.now ∷ []) changes.now.items.kept_back }
-    requires says { SaysWhatItSaid edit.now.old.now edit.now.text.now changes.now.items.kept_front own.now was made.now }
+    requires says { SaysWhatItSaid edit.now.old.now edit.now.text.now (own_head edit.now.old.now changes.now) changes.now.items.kept_front own.now was made.now }
     ensures inside { IfOk result (IsMadeInside edit.now.old.now edit.now.text.now edit.now.start edit.now.old_stop edit.now.new_stop changes.now) }
     ensures ticks { IfOk result (λ i. work.new ≡ after_ticks work.old (length (made_at changes.now.items.kept_front i.check))) }
 {
@@ -259,23 +260,34 @@ fn state_that_was<'a>(lists: &'a Lists, text: &[u8], item: usize) -> Option<Was<
     })
 }
 
-// Whether a state says what the one before it said, and little was found at that one.
+// How many tokens of the item in the place of which an edit makes another are before those that it replaces.
+fn own_head(lists: &Lists, edit: &TextEdit, changes: &Changes) -> usize
+    requires lists { IsListed edit.now.old.now lists.now }
+    requires one { IsOneItem edit.now.old.now changes.now }
+    ensures { result ≡ own_head edit.now.old.now changes.now }
+{
+    let first = lists.items.start_of(changes.items.kept_front);
+    changes.tokens.edit.start.saturating_sub(first)
+}
+
+// Whether a state says what the one before it said, of which so many tokens are before the edit, and little was found at that one.
 fn says_what_it_said(
     alloc: Global,
     lists: &Lists,
     edit: &TextEdit,
     own: &OwnTokens,
     item: usize,
+    head: usize,
     was: Was,
     made: &Entry,
 ) -> Result<bool, OutOfMemory>
     requires lists { IsListed edit.now.old.now lists.now }
     requires own { AreOwnTokens edit.now.old.now edit.now.text.now item own.now }
-    ensures { IfOk result (λ says. IsTrue says → SaysWhatItSaid edit.now.old.now edit.now.text.now item own.now was.entry made.now) }
+    ensures { IfOk result (λ says. IsTrue says → SaysWhatItSaid edit.now.old.now edit.now.text.now head item own.now was.entry made.now) }
 {
     text_in_pieces();
-    let may = says_the_same(was.entry, made)
-        && spares_inside(&lists.links, item)
+    let may = says_the_same(was.entry, made, head)
+        && spares_inside(&lists.links, item, head)
         && found_little(was.check);
     if may {
         says_alike(alloc, edit, own, was.entry, was.check, made)
@@ -312,7 +324,8 @@ pub fn inside_of(
     let Some(was) = state_that_was(lists, edit.old, item) else {
         return Ok(None);
     };
-    if !says_what_it_said(alloc, lists, edit, own, item, was, made)? {
+    let head = own_head(lists, edit, changes);
+    if !says_what_it_said(alloc, lists, edit, own, item, head, was, made)? {
         return Ok(None);
     }
     let inside = made_inside(
@@ -355,7 +368,7 @@ pub fn state_way(
         lines,
         remade: Remade {
             made,
-            links: None,
+            links: NewLinks::Same,
             vacant,
             checks,
             warns: lists.warns,

@@ -9,7 +9,7 @@ ghost use Rattle.snl_session.specs.declared.entries.Entry.{Entry};
 ghost use Rattle.snl_session.specs.declared.plan.Changes.{Changes};
 ghost use Rattle.snl_session.specs.Checks.{links_in, outlines_in};
 ghost use Rattle.snl_session.specs.Inside.{IsAfterState, own_item};
-ghost use Rattle.snl_session.specs.OneState.{IsInside, SparesInside};
+ghost use Rattle.snl_session.specs.OneState.{IsInside, SparesInside, own_head};
 
 use crate::finding_laws::{diagnostics_are_found, findings_around_a_state};
 use crate::state_laws::one_state_replaced;
@@ -21,7 +21,7 @@ pub fn edit_inside_a_state()
     ensures { (old text : List ℕ) (start old_stop new_stop : ℕ) (c : Changes) (s : Shift) (x e : Entry) (set : ℕ)
         → IsInside old text start old_stop new_stop c s x e
         → SaysAlike old text (own_item old c.items.kept_front) (own_item text c.items.kept_front)
-        → SparesInside c.items.kept_front (faults_of (links_in old))
+        → SparesInside (own_head old c) c.items.kept_front (faults_of (links_in old))
         → place (outlines_in old) c.items.kept_front ≡ Some set
         → IsAfterState old text s c.items.kept_front set }
 {

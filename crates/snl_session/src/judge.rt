@@ -5,9 +5,10 @@
 
 ghost use Rattle.std.specs.Prelude.{◌≡◌, All, IfOk, map};
 ghost use Rattle.snl_cut.specs.Cut.{members};
-ghost use Rattle.snl_session.specs.Checks.{checks_of, checks_over, links_in};
+ghost use Rattle.snl_scope.specs.Linked.{faults_of};
+ghost use Rattle.snl_session.specs.Checks.{checks_of, checks_over, links_in, outlines_in};
 ghost use Rattle.snl_session.specs.Diagnostics.{diagnostics_of, shown};
-ghost use Rattle.snl_session.specs.Linked.{linked_of};
+ghost use Rattle.snl_session.specs.Linked.{linked_of, outlines_of};
 ghost use Rattle.snl_session.specs.Parts.{IsPart, part_of};
 ghost use Rattle.snl_session.specs.Program.{program_item};
 ghost use Rattle.snl_session.specs.Tables.{tables_in};
@@ -24,7 +25,7 @@ use crate::warnings::shows_warnings;
 use snl_check::{Checked, Tables};
 use snl_cut::OutOfMemory;
 use snl_lex::text_in_pieces;
-use snl_scope::{Links, same_spelling_same_summary};
+use snl_scope::{LinkFault, Links, same_spelling_same_summary};
 use snl_syntax::{outcome_told, same_spelling_same_tree};
 use std::alloc::Global;
 
@@ -51,11 +52,13 @@ fn told_by(
     cut: &CutText,
     parts: &[Part],
     links: &Links,
+    faults: &[LinkFault],
     checks: &[&Option<Checked>],
 ) -> Result<Told, OutOfMemory>
     requires items { map (part_of cut.now.tokens.now) parts.now ≡ map (program_item cut.now.text.now) (members cut.now.tokens.now 0 cut.now.ends.now) }
     requires parts { All (IsPart cut.now.text.now cut.now.tokens.now) parts.now }
-    requires links { links.now ≡ linked_of cut.now.text.now (map (part_of cut.now.tokens.now) parts.now) }
+    requires links { links.now.outlines ≡ outlines_of cut.now.text.now (map (part_of cut.now.tokens.now) parts.now) }
+    requires faults { faults.now ≡ faults_of (linked_of cut.now.text.now (map (part_of cut.now.tokens.now) parts.now)) }
     requires checks { map (λ c. c.now) checks.now ≡ checks_over cut.now.text.now (map (part_of cut.now.tokens.now) parts.now) }
     ensures shown { IfOk result (λ t. t.shown.items ≡ shown cut.now.text.now) }
     ensures tables { IfOk result (λ t. t.tables ≡ tables_in cut.now.text.now) }
@@ -72,7 +75,7 @@ fn told_by(
     } = *cut;
     let mut shown = Vec::new(alloc);
     add_faults(text, tokens, parts, &mut shown)?;
-    add_linked_faults(text, tokens, parts, links, &mut shown)?;
+    add_linked_faults(text, tokens, parts, faults, &mut shown)?;
     add_checked_faults(text, tokens, parts, checks, &mut shown)?;
     let tables = tables_of(alloc, text, lines, tokens, ends, parts, links, checks)?;
     add_walked_faults(&tables, &mut shown)?;
@@ -91,11 +94,13 @@ fn told_in(
     cut: &CutText,
     parts: &[Part],
     links: &Links,
+    faults: &[LinkFault],
     checks: &[&Option<Checked>],
 ) -> Result<Told, OutOfMemory>
     requires items { map (part_of cut.now.tokens.now) parts.now ≡ map (program_item cut.now.text.now) (members cut.now.tokens.now 0 cut.now.ends.now) }
     requires parts { All (IsPart cut.now.text.now cut.now.tokens.now) parts.now }
-    requires links { links.now ≡ links_in cut.now.text.now }
+    requires links { links.now.outlines ≡ outlines_in cut.now.text.now }
+    requires faults { faults.now ≡ faults_of (links_in cut.now.text.now) }
     requires checks { map (λ c. c.now) checks.now ≡ checks_of cut.now.text.now }
     ensures shown { IfOk result (λ t. t.shown.items ≡ shown cut.now.text.now) }
     ensures tables { IfOk result (λ t. t.tables ≡ tables_in cut.now.text.now) }
@@ -104,7 +109,7 @@ fn told_in(
     outcome_told();
     same_spelling_same_tree();
     same_spelling_same_summary();
-    told_by(alloc, cut, parts, links, checks)
+    told_by(alloc, cut, parts, links, faults, checks)
 }
 
 /// The diagnostics and the tables of a text that has these items, links and checks.
@@ -114,11 +119,13 @@ pub fn judge(
     cut: &CutText,
     parts: &[Part],
     links: &Links,
+    faults: &[LinkFault],
     checks: &[&Option<Checked>],
 ) -> Result<Judgement, OutOfMemory>
     requires items { map (part_of cut.now.tokens.now) parts.now ≡ map (program_item cut.now.text.now) (members cut.now.tokens.now 0 cut.now.ends.now) }
     requires parts { All (IsPart cut.now.text.now cut.now.tokens.now) parts.now }
-    requires links { links.now ≡ links_in cut.now.text.now }
+    requires links { links.now.outlines ≡ outlines_in cut.now.text.now }
+    requires faults { faults.now ≡ faults_of (links_in cut.now.text.now) }
     requires checks { map (λ c. c.now) checks.now ≡ checks_of cut.now.text.now }
     ensures diagnostics { IfOk result (λ j. j.diagnostics.items ≡ diagnostics_of cut.now.text.now) }
     ensures tables { IfOk result (λ j. j.tables ≡ tables_in cut.now.text.now) }
@@ -128,7 +135,7 @@ pub fn judge(
         mut shown,
         tables,
         warns,
-    } = told_in(alloc, cut, parts, links, checks)?;
+    } = told_in(alloc, cut, parts, links, faults, checks)?;
     sort(&mut shown)?;
     Ok(Judgement {
         diagnostics: on_lines(alloc, cut.text, cut.lines, &shown)?,

@@ -6,7 +6,7 @@
 //! Private below it: `ways` plans an edit, `plan` makes all that the whole way needs memory for, `shift` tells the short one
 //! and goes it, `one_item`, `alike`, `own_findings`, `numbers` and `inside` tell and go that of one state, and `lists` takes over
 //! what is made; `entries` parses items and sums them up, `program` has the items of a text with what is kept of each, `summaries`
-//! links them, `recheck` checks those that are to be checked, `linked`, `checks` and `walked` tell what is found by the links, in
+//! links them, `relink` tells what an edit makes of the links, `recheck` checks those that are to be checked, `linked`, `checks` and `walked` tell what is found by the links, in
 //! each item and by the walks of state sets, `order` sorts what is found, `warnings` says whether those are shown, `diagnose`
 //! tells lines, `tables` has the tables made, `judge` does both, and `rejudge` does it after an edit, by what is kept. It knows
 //! nothing of scripts, of files or of how a diagnostic is printed.
@@ -34,6 +34,7 @@ mod plan;
 mod program;
 mod recheck;
 mod rejudge;
+mod relink;
 mod sessions;
 mod shift;
 mod shift_laws;

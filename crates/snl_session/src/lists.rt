@@ -3,7 +3,6 @@
 #![tactic(auto)]
 
 ghost use Rattle.std.specs.Prelude.{◌≡◌, OnOk};
-ghost use Rattle.std.specs.Option.{unwrap_or};
 ghost use Rattle.snl_lex.specs.LineList.{IsLineList};
 ghost use Rattle.snl_session.specs.Kept.{ArePlaces, HasRoomFor, HasRoomForPlaces, IsListed, SameItems, SameLists};
 ghost use Rattle.snl_session.specs.Planned.{IsChanged, IsRemade};
@@ -11,6 +10,7 @@ ghost use Rattle.snl_session.specs.Planned.{IsChanged, IsRemade};
 use crate::entries::Entry;
 use crate::plan::Changes;
 use crate::recheck::{MadeCheck, put};
+use crate::relink::NewLinks;
 use snl_check::Checked;
 use snl_cut::OutOfMemory;
 use snl_items::ItemList;
@@ -31,32 +31,23 @@ pub struct Lists {
     pub warns: bool,
 }
 
-/// What an edit makes of the links and the checks: the links, places for the checks of the items that are made, and the checks.
+/// What an edit makes of the links and the checks: what becomes of the links, places for the checks of the items that are made, and the checks.
 #[derive(Drop)]
 pub struct Rechecked {
-    pub links: Links,
+    pub links: NewLinks,
     pub vacant: Vec<Option<Checked>>,
     pub made: Vec<MadeCheck>,
 }
 
-/// What an edit makes of all that is kept of the items: what is kept of those that are made, the links, if they are others, places
+/// What an edit makes of all that is kept of the items: what is kept of those that are made, what becomes of the links, places
 /// for the checks of the items that are made, the checks, and whether warnings are shown.
 #[derive(Drop)]
 pub struct Remade {
     pub made: Vec<Entry>,
-    pub links: Option<Links>,
+    pub links: NewLinks,
     pub vacant: Vec<Option<Checked>>,
     pub checks: Vec<MadeCheck>,
     pub warns: bool,
-}
-
-// Puts other links in the place of these, if there are others. The old ones are let go here, apart from all else.
-fn renew(links: &mut Links, new: Option<Links>)
-    ensures { links.new ≡ unwrap_or new links.old }
-{
-    if let Some(new) = new {
-        *links = new;
-    }
 }
 
 // Puts other lines in the place of these, which are let go here, apart from all else.
@@ -123,7 +114,7 @@ impl Lists {
         let back = self.entries.len() - changes.items.kept_back;
         self.commit_places(edit, changes, lines);
         self.entries.replace(changes.items.kept_front, back, made);
-        renew(&mut self.links, links);
+        links.put_in(&mut self.links);
         self.checks.replace(changes.items.kept_front, back, vacant);
         put(&mut self.checks, checks);
         self.warns = warns;

@@ -1,7 +1,7 @@
 //! Where a state has its row: what is kept of the items and their links come in, the number of its set and its own number go out.
 #![tactic(auto)]
 
-ghost use Rattle.std.specs.Prelude.{◌≡◌, ◌<◌, ◌≤◌, length, map};
+ghost use Rattle.std.specs.Prelude.{◌≡◌, ◌&&◌};
 ghost use Rattle.snl_scope.specs.Order.{is_named_state, state_name};
 ghost use Rattle.snl_scope.specs.Places.{begins_set, is_set_begin, stands_in};
 ghost use Rattle.snl_check.specs.ShiftedAround.{set_number, state_number};
@@ -65,6 +65,14 @@ fn stands_in(links: &Links, set: usize, item: usize) -> bool
     links.place(item) == Some(set)
 }
 
+// Whether an item is a state of a set, with a name. Where it is comes first: that is at hand.
+fn is_state_of(entries: &Ordered<Entry>, links: &Links, set: usize, item: usize) -> bool
+    requires outlines { links.now.outlines ≡ outlines_kept entries.now.values }
+    ensures { result ≡ (is_named_state links.now.outlines item && stands_in links.now.outlines set item) }
+{
+    stands_in(links, set, item) && is_named_state(entries, item)
+}
+
 // How many states of a set are before an item.
 fn state_number(entries: &Ordered<Entry>, links: &Links, set: usize, item: usize) -> usize
     requires outlines { links.now.outlines ≡ outlines_kept entries.now.values }
@@ -72,7 +80,7 @@ fn state_number(entries: &Ordered<Entry>, links: &Links, set: usize, item: usize
 {
     let mut count = 0;
     for number in 0..item {
-        if is_named_state(entries, number) && stands_in(links, set, number) {
+        if is_state_of(entries, links, set, number) {
             count += 1;
         }
     }

@@ -126,7 +126,7 @@ pub fn whole_way(
         lines,
         remade: Remade {
             made,
-            links: Some(rejudged.rechecked.links),
+            links: rejudged.rechecked.links,
             vacant: rejudged.rechecked.vacant,
             checks: rejudged.rechecked.made,
             warns: rejudged.judgement.warns,

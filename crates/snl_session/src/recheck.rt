@@ -2,7 +2,7 @@
 //! items that are to be checked anew go out. It knows nothing of the rules.
 #![tactic(auto)]
 
-ghost use Rattle.std.specs.Prelude.{◌≡◌, ◌+◌, ◌-◌, ◌^◌, ◌<◌, ◌≤◌, ◌++◌, All, IfOk, OnOk, drop, length, map, take};
+ghost use Rattle.std.specs.Prelude.{◌≡◌, ◌+◌, ◌-◌, ◌^◌, ◌<◌, ◌≤◌, ◌++◌, All, IfOk, IsTrue, OnOk, drop, length, map, take};
 ghost use Rattle.snl_cut.specs.Cut.{after_ticks};
 ghost use Rattle.snl_lex.specs.PieceList.{spelled};
 ghost use Rattle.snl_lex.specs.Pieces.{LiesIn};
@@ -17,7 +17,7 @@ use snl_check::{Checked, check_item};
 use snl_cut::{Count, OutOfMemory};
 use snl_lex::Piece;
 use snl_lists::Ordered;
-use snl_scope::{Links, Summary, same_spelling_same_summary, same_view};
+use snl_scope::{Links, Summary, same_spelling_same_summary, same_view, views_told_apart};
 use std::alloc::Global;
 
 /// Which items of the new text are kept: those before `front`, with their numbers, and those from `stop` on, with the numbers from
@@ -29,11 +29,12 @@ pub struct KeptItems {
     pub back: usize,
 }
 
-/// What names mean before an edit and after it, and which items are kept.
+/// What names mean before an edit and after it, whether that is known to be the same, and which items are kept.
 #[derive(Clone, Copy)]
 pub struct Relinked<'a> {
     pub before: &'a Links,
     pub after: &'a Links,
+    pub keeps_names: bool,
     pub kept: KeptItems,
 }
 
@@ -63,11 +64,16 @@ impl KeptItems {
 
 // Whether an item sees of the others what it saw before the edit. A fresh one saw nothing.
 fn sees_as_before(relinked: Relinked, item: usize, summary: &Summary) -> bool
-    requires { (item - relinked.kept.stop) + relinked.kept.back < 2 ^ 64 }
+    requires few { (item - relinked.kept.stop) + relinked.kept.back < 2 ^ 64 }
+    requires names { IsTrue relinked.keeps_names → relinked.before.now.outlines ≡ relinked.after.now.outlines }
     ensures { result ≡ sees_as_before relinked.entry.before.now.outlines (number_before relinked.entry.kept item) relinked.entry.after.now.outlines item summary.now }
 {
+    views_told_apart();
     match relinked.kept.number_before(item) {
-        Some(number) => same_view(relinked.before, number, relinked.after, item, summary),
+        Some(number) => {
+            relinked.keeps_names && number == item
+                || same_view(relinked.before, number, relinked.after, item, summary)
+        }
         None => false,
     }
 }
@@ -85,6 +91,7 @@ fn check_anew(
     requires within { All (LiesIn text.now) own.now }
     requires entry { entry.now ≡ entry_by (spelled text.now own.now) }
     requires few { (item - relinked.kept.stop) + relinked.kept.back < 2 ^ 64 }
+    requires names { IsTrue relinked.keeps_names → relinked.before.now.outlines ≡ relinked.after.now.outlines }
     ensures made { IfOk result (λ c. made_at item c ≡ made_for relinked.entry.before.now.outlines relinked.entry.after.now.outlines relinked.entry.kept (item, spelled text.now own.now)) }
     ensures ticks { IfOk result (λ c. work.new ≡ after_ticks work.old (length (made_at item c))) }
 {
@@ -128,6 +135,7 @@ pub fn recheck(
     requires tokens { All (LiesIn text.now) tokens.now }
     requires parts { All (IsPart text.now tokens.now) parts.now }
     requires few { (length parts.now - relinked.kept.stop) + relinked.kept.back < 2 ^ 64 }
+    requires names { IsTrue relinked.keeps_names → relinked.before.now.outlines ≡ relinked.after.now.outlines }
     ensures made { IfOk result (λ made. made.items ≡ made_checks relinked.entry.before.now.outlines relinked.entry.after.now.outlines relinked.entry.kept (map (spelled_part text.now tokens.now) parts.now)) }
     ensures ticks { IfOk result (λ made. work.new ≡ after_ticks work.old (length made.items)) }
 {

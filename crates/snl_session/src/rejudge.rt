@@ -22,7 +22,7 @@ use crate::lists::{Lists, Rechecked};
 use crate::plan::Changes;
 use crate::program::{CutText, Part, items_end_in_order, parts_along};
 use crate::recheck::{KeptItems, Relinked, checks_in, recheck, vacant_for};
-use crate::summaries::links_of;
+use crate::relink::relink;
 use crate::values::values_after;
 use snl_check::equal_views;
 use snl_cut::{Count, OutOfMemory, ends_in_order};
@@ -60,6 +60,7 @@ fn recheck_after(
     changes: &Changes,
     tokens: &[Piece],
     parts: &[Part],
+    made: &[Entry],
     work: &mut Count,
 ) -> Result<Rechecked, OutOfMemory>
     requires lists { IsListed edit.now.old.now lists.now }
@@ -67,6 +68,7 @@ fn recheck_after(
     requires tokens { tokens.now ≡ tokens_of edit.now.text.now }
     requires items { map (part_of tokens.now) parts.now ≡ items_of edit.now.text.now }
     requires parts { All (IsPart edit.now.text.now tokens.now) parts.now }
+    requires made { AreEntriesMade edit.now.old.now edit.now.text.now changes.now.items.kept_front made.now changes.now.items.kept_back }
     ensures rechecked { IfOk result (IsRechecked edit.now.old.now edit.now.text.now changes.now.items.kept_front changes.now.items.kept_back) }
     ensures stirred { IfOk result (λ r. length r.made.items ≡ stirred_between edit.now.old.now edit.now.text.now edit.now.start edit.now.old_stop edit.now.new_stop) }
     ensures ticks { IfOk result (λ r. work.new ≡ after_ticks work.old (length r.made.items)) }
@@ -77,11 +79,12 @@ fn recheck_after(
     equal_views();
     same_spelling_same_summary();
     let kept = kept_items(lists.checks.len(), &changes.items, parts.len());
-    let links = links_of(alloc, edit.text, tokens, parts)?;
+    let links = relink(alloc, lists, edit, changes, tokens, parts, made)?;
     let vacant = vacant_for(alloc, &changes.items.made)?;
     let relinked = Relinked {
         before: &lists.links,
-        after: &links,
+        after: links.after(&lists.links),
+        keeps_names: links.keeps_names(),
         kept,
     };
     let made = recheck(alloc, edit.text, tokens, parts, relinked, work)?;
@@ -121,7 +124,9 @@ fn judge_after(
         back,
         &rechecked.made,
     )?;
-    judge(alloc, cut, parts, &rechecked.links, &checks)
+    let links = rechecked.links.after(&lists.links);
+    let faults = rechecked.links.faults(&lists.links);
+    judge(alloc, cut, parts, links, faults, &checks)
 }
 
 // The same of the new text as it is cut. Each check that is made is one tick.
@@ -131,11 +136,13 @@ fn rejudge_cut(
     edit: &TextEdit,
     changes: &Changes,
     cut: &CutText,
+    made: &[Entry],
     work: &mut Count,
 ) -> Result<Rejudged, OutOfMemory>
     requires lists { IsListed edit.now.old.now lists.now }
     requires changes { IsChanged edit.now.old.now edit.now.text.now edit.now.start edit.now.old_stop edit.now.new_stop changes.now }
     requires text { cut.now.text.now ≡ edit.now.text.now }
+    requires made { AreEntriesMade edit.now.old.now edit.now.text.now changes.now.items.kept_front made.now changes.now.items.kept_back }
     ensures diagnostics { IfOk result (λ r. r.judgement.diagnostics.items ≡ diagnostics_of edit.now.text.now) }
     ensures tables { IfOk result (λ r. r.judgement.tables ≡ tables_in edit.now.text.now) }
     ensures warns { IfOk result (λ r. r.judgement.warns ≡ warns_in edit.now.text.now) }
@@ -145,7 +152,7 @@ fn rejudge_cut(
 {
     items_end_in_order();
     let parts = parts_along(alloc, cut.text, cut.tokens, cut.ends, cut.entries)?;
-    let rechecked = recheck_after(alloc, lists, edit, changes, cut.tokens, &parts, work)?;
+    let rechecked = recheck_after(alloc, lists, edit, changes, cut.tokens, &parts, made, work)?;
     let judgement = judge_after(alloc, lists, edit, changes, cut, &parts, &rechecked)?;
     Ok(Rejudged {
         judgement,
@@ -191,5 +198,5 @@ pub fn rejudge(
         ends: &ends,
         entries: &entries,
     };
-    rejudge_cut(alloc, lists, edit, changes, &cut, work)
+    rejudge_cut(alloc, lists, edit, changes, &cut, made, work)
 }

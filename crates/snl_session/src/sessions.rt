@@ -203,7 +203,7 @@ impl Session {
             entries: &[],
         };
         let links = link(alloc, &[])?;
-        let judgement = judge(alloc, &cut, &[], &links, &[])?;
+        let judgement = judge(alloc, &cut, &[], &links, links.faults(), &[])?;
         let lists = Lists {
             pieces: PieceList {
                 ends: Vec::new(alloc),
@@ -241,9 +241,10 @@ fn spliced(
     requires inside { stop ≤ length old.now }
     ensures { IfOk result (λ v. v.items ≡ spliced old.now start stop new.now) }
 {
-    let mut text = Vec::from_slice(alloc, &old[..start]).map_err(|_| OutOfMemory)?;
-    text.extend_from_slice(new).map_err(|_| OutOfMemory)?;
-    text.extend_from_slice(&old[stop..])
-        .map_err(|_| OutOfMemory)?;
+    let room = (old.len() - stop + start).saturating_add(new.len());
+    let mut text = Vec::with_capacity(alloc, room)?;
+    text.extend_from_slice(&old[..start])?;
+    text.extend_from_slice(new)?;
+    text.extend_from_slice(&old[stop..])?;
     Ok(text)
 }

@@ -9,7 +9,7 @@ ghost use Rattle.snl_session.specs.Parts.{IsPart, part_of};
 use crate::program::Part;
 use snl_cut::OutOfMemory;
 use snl_lex::Piece;
-use snl_scope::{Links, Summary, link};
+use snl_scope::{ItemKind, Links, Summary, link};
 use std::alloc::Global;
 
 // The summary of each item.
@@ -43,4 +43,21 @@ pub fn links_of(
     let summaries = summaries_of(alloc, text, tokens, parts)?;
     let links = link(alloc, &summaries)?;
     Ok(links)
+}
+
+/// What each item of a program is.
+pub fn kinds_of(
+    alloc: Global,
+    text: &[u8],
+    tokens: &[Piece],
+    parts: &[Part],
+) -> Result<Vec<ItemKind>, OutOfMemory>
+    requires parts { All (IsPart text.now tokens.now) parts.now }
+    ensures { IfOk result (λ v. v.items ≡ (linked_of text.now (map (part_of tokens.now) parts.now)).kinds) }
+{
+    let mut kinds = Vec::new(alloc);
+    for part in parts {
+        kinds.push(part.entry.summary.kind)?;
+    }
+    Ok(kinds)
 }

@@ -12,7 +12,7 @@ use Rattle.snl_check.specs.States.{state_body}
 use Rattle.snl_session.specs.Checks.{check_by, outlines_in}
 use Rattle.snl_session.specs.Entries.{entry_by}
 use Rattle.snl_session.specs.Inside.{IsAfterState, outlines_kept, own_item}
-use Rattle.snl_session.specs.OneState.{own_check, own_tokens}
+use Rattle.snl_session.specs.OneState.{own_check, own_head, own_tokens}
 use Rattle.snl_session.specs.Program.{program_item}
 use Rattle.snl_session.specs.Rechecked.{AreChecksMade, made_at, nones}
 use Rattle.snl_session.specs.Tables.{tables_in}
@@ -90,7 +90,7 @@ returns-clause-inside c =
     let there = is_there old changes c.requires.one in
     let inside = is_inside old text edit.start edit.old_stop edit.new_stop changes s own c.args.was c.args.made.now c.requires.changes edit.edit by edit.short.0 edit.short.1 c.requires.one c.requires.was c.requires.alone c.requires.says in
     let state = c.one_state_replaced.ensures old text edit.start edit.old_stop edit.new_stop changes s c.args.was.entry.now c.args.made.now inside in
-    let alike = says_alike c.outcome_told.ensures.tree c.same_spelling_same_tree.ensures.by_spelling c.same_spelling_same_summary.ensures.summary_by_spelling c.same_spelling_same_summary.ensures.bytes_by_spelling old text k own c.args.was c.args.made.now there c.requires.was c.requires.own c.requires.made c.requires.says in
+    let alike = says_alike c.outcome_told.ensures.tree c.same_spelling_same_tree.ensures.by_spelling c.same_spelling_same_summary.ensures.summary_by_spelling c.same_spelling_same_summary.ensures.bytes_by_spelling old text (own_head old changes) k own c.args.was c.args.made.now there c.requires.was c.requires.own c.requires.made c.requires.says in
     let after : IsAfterState old text s k c.args.was.set = c.edit_inside_a_state.ensures old text edit.start edit.old_stop edit.new_stop changes s c.args.was.entry.now c.args.made.now c.args.was.set inside alike c.requires.says.spared c.requires.was.set in
     let outlines : links.outlines ≡ outlines_in old = ap (λ l. l.outlines) c.requires.lists.links in
     let tokens : c.deref.result.now ≡ own_tokens text k = c.deref.ensures.value ∙ c.requires.own.is in

@@ -8,7 +8,7 @@ use Rattle.snl_session.specs.declared.findings.Finding.{Finding}
 use Rattle.snl_session.specs.Checks.{links_in}
 use Rattle.snl_session.specs.Diagnostics.{shown}
 use Rattle.snl_session.specs.Inside.{own_item}
-use Rattle.snl_session.specs.OneState.{SparesInside, own_shown}
+use Rattle.snl_session.specs.OneState.{SparesInside, own_head, own_shown}
 use Rattle.snl_session.specs.Order.{in_order}
 use Rattle.snl_session.specs.OwnFindings.{found_around}
 use Rattle.snl_session.specs.Program.{ProgramItem, items_of}
@@ -47,12 +47,13 @@ returns c = λ old text start old_stop new_stop changes s x e set inside alike s
     let walked : walked_in (tables_in text) ≡ map (shifted_finding s) (walked_in (tables_in old)) =
     ap walked_in tables ∙ walked_stay (shifted_tables s (tables_in old)) _ _ _ ∙ walked_shift s (tables_in old) in
     let replaced = one.one.replaced was is got_was got_is in
-    let spared : SparesInside (length one.front) (faults_of (links_in old)) = subst (λ (n : ℕ). SparesInside n (faults_of (links_in old))) (sym one.number) spares in
+    let head : ℕ = own_head old changes in
+    let spared : SparesInside head (length one.front) (faults_of (links_in old)) = subst (λ (n : ℕ). SparesInside head n (faults_of (links_in old))) (sym one.number) spares in
     record {
       links = one.inside.links;
-      warns = c.findings_around_a_state.ensures.warnings old text s one.front one.back was is one.inside replaced.was_state replaced.is_state;
+      warns = c.findings_around_a_state.ensures.warnings old text s head one.front one.back was is one.inside replaced.was_state replaced.is_state;
       found = ap (found_around s (own_shown old (items_of old) j was) (own_shown text (items_of text) j is)) (c.diagnostics_are_found.ensures old)
           ∙ subst (λ (n : ℕ). found_around s (own_shown old (items_of old) n was) (own_shown text (items_of text) n is) (in_order (shown old)) ≡ in_order (shown text)) one.number
-          (c.findings_around_a_state.ensures.found old text s one.front one.back was is one.inside spared replaced.was_state replaced.is_state walked);
+          (c.findings_around_a_state.ensures.found old text s head one.front one.back was is one.inside spared replaced.was_state replaced.is_state walked);
       tables = tables;
     }

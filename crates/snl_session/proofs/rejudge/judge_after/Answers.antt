@@ -1,8 +1,11 @@
 use Rattle.std.proofs.Common.{arith, ◌≡◌, ℕ, ◌-◌, ◌++◌, List, length, map, take, drop, IfOk, Option, Bor, ap, sym, subst, ◌∙◌}
+use Rattle.snl_scope.specs.Linked.{faults_of}
+use Rattle.snl_scope.specs.LinkedItems.{LinkedItems}
 use Rattle.snl_check.specs.declared.findings.Checked.{Checked}
 use Rattle.snl_session.specs.declared.recheck.MadeCheck.{MadeCheck}
-use Rattle.snl_session.specs.Checks.{checks_of, links_in}
+use Rattle.snl_session.specs.Checks.{checks_of, links_in, outlines_in}
 use Rattle.snl_session.specs.Rechecked.{AreChecksMade, put}
+use Rattle.snl_session.specs.Relinked.{HasFaults, links_now}
 use Rattle.snl_session.specs.Warnings.{warns_in}
 use Rattle.snl_session.proofs.MadeChecks.{count_of_checks}
 use Rattle.snl_session.proofs.rejudge.judge_after.Goals as goal
@@ -18,7 +21,23 @@ checks_in-requires-clause-order c =
     omega (arith, c.len.ensures, ap length c.requires.lists.checks, count_of_checks old, c.requires.changes.items.order)
 
 pub judge-requires-clause-links : goal.judge-requires-clause-links
-judge-requires-clause-links c = c.requires.rechecked.links ∙ ap links_in (sym c.requires.text)
+judge-requires-clause-links c =
+    let links = c.args.rechecked.now.links in
+    c.after-links.ensures
+    ∙ ap (λ (l : LinkedItems). (links_now l links).outlines) c.requires.lists.links
+    ∙ ap (λ (l : LinkedItems). l.outlines) c.requires.rechecked.links.are
+    ∙ ap outlines_in (sym c.requires.text)
+
+pub faults-faults-requires : goal.faults-faults-requires
+faults-faults-requires c = subst (λ (l : LinkedItems). HasFaults l c.args.rechecked.now.links) (sym c.requires.lists.links) c.requires.rechecked.links.faults
+
+pub judge-requires-clause-faults : goal.judge-requires-clause-faults
+judge-requires-clause-faults c =
+    let links = c.args.rechecked.now.links in
+    c.faults-faults.ensures
+    ∙ ap (λ (l : LinkedItems). faults_of (links_now l links)) c.requires.lists.links
+    ∙ ap faults_of c.requires.rechecked.links.are
+    ∙ ap (λ (t : List ℕ). faults_of (links_in t)) (sym c.requires.text)
 
 -- the checks that are looked at are those of the text
 all_checks : (old text : List ℕ) (front back : ℕ) (values vacant checks : List (Option Checked)) (made : List MadeCheck) (n : ℕ) → values ≡ checks_of old → n ≡ length values - back

@@ -5,6 +5,7 @@ use Rattle.snl_cut.specs.Cut.{ends_below, last_end}
 use Rattle.snl_lex.specs.declared.piece.Piece.{Piece}
 use Rattle.snl_lex.specs.Pieces.{LiesIn, is_token, pieces_of}
 use Rattle.snl_items.specs.Items.{item_ends, marks_of, spelled_items}
+use Rattle.snl_scope.specs.LinkedItems.{LinkedItems}
 use Rattle.snl_scope.specs.declared.summary.Outline.{Outline}
 use Rattle.snl_check.specs.declared.findings.Checked.{Checked}
 use Rattle.snl_session.specs.declared.program.Part.{Part}
@@ -12,8 +13,8 @@ use Rattle.snl_session.specs.declared.recheck.KeptItems.{KeptItems}
 use Rattle.snl_session.specs.declared.recheck.MadeCheck.{MadeCheck}
 use Rattle.snl_session.specs.Parts.{spelled_part}
 use Rattle.snl_session.specs.Checks.{outlines_in}
-use Rattle.snl_session.specs.Linked.{linked_of, outlines_of}
 use Rattle.snl_session.specs.Rechecked.{AreChecksMade, kept_of, made_checks, nones}
+use Rattle.snl_session.specs.Relinked.{links_now}
 use Rattle.snl_session.proofs.FreshNumbers.{count}
 use Rattle.snl_session.proofs.KeptChecks.{check_stays}
 use Rattle.snl_session.proofs.MadeChecks.{checks_made, count_of_checks, made_are_stirred, stirred_told}
@@ -75,14 +76,16 @@ returns c =
     let from = last_end 0 (take items.kept_front (item_ends old)) in
     let before = ends_below edit.start (item_ends old) in
     let rise = c.ends_in_order.ensures.rise (marks_of text) in
-    let made_is = made_for_text old text c.args.tokens.now c.args.parts.now c.args.lists.now.links.outlines c.in_ok-links.links.outlines c.kept_items-kept.result c.len.result items.kept_front made items.kept_back c.in_ok-made.made.items
-    c.in_ok-made.ensures.made (ap (λ l. l.outlines) c.requires.lists.links) (c.in_ok-links.ensures.outlines ∙ ap (outlines_of text) c.requires.items) c.kept_items-kept.ensures (c.len.ensures ∙ ap length c.requires.lists.checks ∙ count_of_checks old)
+    let links = c.in_ok-links.ensures in
+    let after : c.after.result.now.outlines ≡ outlines_in text = c.after.ensures ∙ ap (λ (l : LinkedItems). (links_now l c.in_ok-links.links).outlines) c.requires.lists.links ∙ ap (λ (l : LinkedItems). l.outlines) links.are in
+    let made_is = made_for_text old text c.args.tokens.now c.args.parts.now c.args.lists.now.links.outlines c.after.result.now.outlines c.kept_items-kept.result c.len.result items.kept_front made items.kept_back c.in_ok-made.made.items
+    c.in_ok-made.ensures.made (ap (λ l. l.outlines) c.requires.lists.links) after c.kept_items-kept.ensures (c.len.ensures ∙ ap length c.requires.lists.checks ∙ count_of_checks old)
     (spelled_parts text c.args.tokens.now c.args.parts.now c.requires.items) in
     let stays = check_stays c.views_told_apart.ensures c.equal_views.ensures.faults c.same_spelling_same_summary.ensures.bytes_by_spelling c.same_spelling_same_summary.ensures.alone (outlines_in old) (outlines_in text) in
     let vacant : c.in_ok-vacant.vacant.items ≡ nones made = c.in_ok-vacant.ensures ∙ ap nones c.deref.ensures.value in
     record {
       rechecked = record {
-        links = c.in_ok-links.ensures.links ∙ ap (linked_of text) c.requires.items;
+        links = links;
         checks = subst (λ (v : List (Option Checked)). AreChecksMade old text items.kept_front v items.kept_back c.in_ok-made.made.items) (sym vacant)
             (subst (λ (m : List MadeCheck). AreChecksMade old text items.kept_front (nones made) items.kept_back m) (sym made_is)
             (checks_made old text edit.old_stop edit.new_stop items.kept_front from made items.kept_back before change.order change.ends rise change.before change.items stays));

@@ -1,11 +1,11 @@
-use Rattle.std.proofs.Common.{arith, ◌≡◌, ℕ, ◌-◌, ◌++◌, List, length, take, drop, Option, Some, None, ap, sym, ◌∙◌}
-use Rattle.std.specs.Option.{unwrap_or}
+use Rattle.std.proofs.Common.{arith, ◌≡◌, ℕ, ◌-◌, ◌++◌, List, length, take, drop, Option, ap, sym, subst, ◌∙◌}
 use Rattle.snl_scope.specs.LinkedItems.{LinkedItems}
 use Rattle.snl_check.specs.declared.findings.Checked.{Checked}
+use Rattle.snl_session.specs.declared.relink.NewLinks.{NewLinks}
 use Rattle.snl_session.specs.Checks.{checks_of, links_in}
 use Rattle.snl_session.specs.Entries.{entries_of}
-use Rattle.snl_session.specs.Planned.{AreLinks}
 use Rattle.snl_session.specs.Rechecked.{put}
+use Rattle.snl_session.specs.Relinked.{AreLinks, HasFaults, links_now}
 use Rattle.snl_session.proofs.MadeChecks.{count_of_checks}
 use Rattle.snl_session.proofs.Members.{entries_count}
 use Rattle.snl_session.proofs.lists.Lists.commit.Goals as goal
@@ -35,10 +35,15 @@ replaced : {X : Type 0} (values olds made : List X) (front back n : ℕ) → val
 replaced {X} values olds made front back n is n_is =
     ap (λ (l : List X). take front l ++ (made ++ drop (n - back) l)) is ∙ ap (λ (k : ℕ). take front olds ++ (made ++ drop (k - back) olds)) n_is
 
--- the links are others, or stay
-links_renewed : (old text : List ℕ) (new : Option LinkedItems) (links : LinkedItems) → links ≡ links_in old → AreLinks old text new → unwrap_or new links ≡ links_in text
-links_renewed old text None links are same = are ∙ sym same
-links_renewed old text (Some l) links are is = is
+-- the links after the edit are those of the new text
+links_renewed : (old text : List ℕ) (new : NewLinks) (links : LinkedItems) → links ≡ links_in old → AreLinks old text new → links_now links new ≡ links_in text
+links_renewed old text new links are made = ap (λ (l : LinkedItems). links_now l new) are ∙ made.are
+
+pub put_in-requires : goal.put_in-requires
+put_in-requires c =
+    let old = c.args.edit.now.old.now in
+    let links = c.args.remade.links in
+    subst (λ (l : LinkedItems). HasFaults l links) (sym (c.commit_places.ensures.items.links ∙ c.requires.lists.links)) c.requires.remade.links.faults
 
 pub returns : goal.returns
 returns c =
@@ -59,7 +64,7 @@ returns c =
       entries = c.replace.ensures
           ∙ replaced c.commit_places.new.self.entries.values (entries_of old) remade.made.items items.kept_front items.kept_back c.len.result (ap (λ l. l.values) kept.entries ∙ c.requires.lists.entries) many
           ∙ sym c.requires.remade.entries;
-      links = c.renew.ensures ∙ links_renewed old c.args.edit.now.text.now remade.links c.commit_places.new.self.links (kept.links ∙ c.requires.lists.links) c.requires.remade.links;
+      links = c.put_in.ensures ∙ links_renewed old c.args.edit.now.text.now remade.links c.commit_places.new.self.links (kept.links ∙ c.requires.lists.links) c.requires.remade.links;
       checks = c.put.ensures
           ∙ ap (λ (l : List (Option Checked)). put l remade.checks.items)
           (c.replace-2.ensures ∙ replaced c.commit_places.new.self.checks.values (checks_of old) remade.vacant.items items.kept_front items.kept_back c.len.result (ap (λ l. l.values) kept.checks ∙ c.requires.lists.checks) same)

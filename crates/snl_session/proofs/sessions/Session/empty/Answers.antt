@@ -5,6 +5,8 @@ use Rattle.snl_lex.specs.Lines.{is_marker}
 use Rattle.snl_lex.specs.Pieces.{is_token, piece_end, pieces_of, tokens_of}
 use Rattle.snl_syntax.specs.Items.{item}
 use Rattle.snl_items.specs.Items.{item_ends, mark_in, spellings}
+use Rattle.snl_scope.specs.Linked.{faults_of}
+use Rattle.snl_scope.specs.LinkedItems.{LinkedItems}
 use Rattle.snl_session.specs.Checks.{checks_from, checks_of, outlines_in}
 use Rattle.snl_session.specs.declared.lists.Lists.{Lists}
 use Rattle.snl_session.specs.Kept.{IsJudged, IsListed}
@@ -41,7 +43,10 @@ pub invariant_of-cut : goal.invariant_of-cut
 invariant_of-cut c = record { lines_are = c.in_ok-lines.ensures; tokens_are = no_tokens; ends_are = no_ends; entries_are = no_entries }
 
 pub judge-requires-clause-links : goal.judge-requires-clause-links
-judge-requires-clause-links c = c.in_ok-links.ensures ∙ ap (linked_of []) no_items
+judge-requires-clause-links c = ap (λ (l : LinkedItems). l.outlines) (c.in_ok-links.ensures ∙ ap (linked_of []) no_items)
+
+pub judge-requires-clause-faults : goal.judge-requires-clause-faults
+judge-requires-clause-faults c = c.faults.ensures ∙ ap faults_of (c.in_ok-links.ensures ∙ ap (linked_of []) no_items)
 
 pub judge-requires-clause-checks : goal.judge-requires-clause-checks
 judge-requires-clause-checks c = no_checks
