@@ -1,6 +1,5 @@
 -- What is made of an edit inside one state, from what is kept of the text and what is known by tests.
-use Rattle.std.proofs.Common.{◌≡◌, ℕ, zero, suc, ◌+◌, ◌-◌, ◌^◌, ◌<◌, ◌≤◌, All, Bool, List, [], ◌∷◌, length, map, take, drop, slice_get, Option, Some, None, is_none, option_map, refl, sym, ap, ap₂, ◌∙◌, subst, arith, add-one}
-use Rattle.std.specs.List.{enumerate_from}
+use Rattle.std.proofs.Common.{◌≡◌, ℕ, zero, suc, ◌+◌, ◌-◌, ◌^◌, ◌<◌, Bool, List, [], ◌∷◌, length, map, take, drop, slice_get, Option, Some, option_map, refl, sym, ap, ap₂, ◌∙◌, arith, add-one}
 use Rattle.std.proofs.lemmas.List.{length-take-le}
 use Rattle.std.proofs.lemmas.Option.{slice_get-map}
 use Rattle.snl_cut.specs.Cut.{IsEdit, last_end, members}
@@ -19,7 +18,7 @@ use Rattle.snl_scope.specs.Summaries.Tokens.{bytes_at}
 use Rattle.snl_scope.specs.declared.summary.Outline.{Outline}
 use Rattle.snl_scope.specs.declared.summary.Summary.{Summary}
 use Rattle.snl_check.specs.declared.findings.Checked.{Checked}
-use Rattle.snl_check.specs.Items.{outline_of_item, outlines_of}
+use Rattle.snl_check.specs.Items.{outlines_of}
 use Rattle.snl_check.specs.ShiftedAround.{SaysAlike, wakes_of}
 use Rattle.snl_session.specs.declared.entries.Entry.{Entry}
 use Rattle.snl_session.specs.declared.findings.Diagnostic.{Diagnostic}
@@ -27,8 +26,8 @@ use Rattle.snl_session.specs.declared.findings.Finding.{Finding}
 use Rattle.snl_session.specs.declared.inside.Was.{Was}
 use Rattle.snl_session.specs.declared.one_item.OwnTokens.{OwnTokens}
 use Rattle.snl_session.specs.declared.plan.Changes.{Changes}
-use Rattle.snl_session.specs.Checks.{check_by, checks_from, checks_of, links_in, outlines_in}
-use Rattle.snl_session.specs.Diagnostics.{diagnostic, diagnostics_of, shown, shown_if}
+use Rattle.snl_session.specs.Checks.{check_by, checks_from, checks_of, outlines_in}
+use Rattle.snl_session.specs.Diagnostics.{diagnostic, diagnostics_of, shown_if}
 use Rattle.snl_session.specs.Entries.{entries_of, entry_by}
 use Rattle.snl_session.specs.Inside.{AreOwnTokens, IsAfterState, IsOneItem, IsWas, SaysWhatItSaid, diagnostics_by, outlines_kept, own_item, wakes_told}
 use Rattle.snl_session.specs.OneState.{IsInside, own_findings, own_head, own_shown, own_tokens}

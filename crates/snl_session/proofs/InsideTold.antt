@@ -1,6 +1,5 @@
 -- What is kept of a state and of its check is what its tokens say.
-use Rattle.std.proofs.Common.{◌≡◌, ℕ, Bool, true, false, List, [], map, Option, None, Some, is_none, option_map, refl, sym, ap, ap₂, ◌∙◌}
-use Rattle.snl_lex.specs.declared.piece.Class.{Class}
+use Rattle.std.proofs.Common.{◌≡◌, ℕ, false, List, map, Option, None, Some, is_none, option_map, refl, sym, ap, ap₂, ◌∙◌}
 use Rattle.snl_lex.specs.declared.piece.Piece.{Piece}
 use Rattle.snl_lex.specs.PieceList.{spelled}
 use Rattle.snl_syntax.specs.Outcome.{parsed_by, parsed_in, sound_tree}
@@ -10,9 +9,7 @@ use Rattle.snl_scope.specs.Order.{is_faulty}
 use Rattle.snl_scope.specs.SpelledTokens.{bytes_by, summary_by}
 use Rattle.snl_scope.specs.Summaries.{kind_of, kind_of_tree, summary_in}
 use Rattle.snl_scope.specs.Summaries.Tokens.{bytes_at}
-use Rattle.snl_scope.specs.declared.summary.ItemKind.{ItemKind}
 use Rattle.snl_scope.specs.declared.summary.Outline.{Outline}
-use Rattle.snl_scope.specs.declared.summary.Summary.{Summary}
 use Rattle.snl_check.specs.declared.findings.Checked.{Checked}
 use Rattle.snl_check.specs.Items.{summary_of_item}
 use Rattle.snl_check.specs.ShiftedAround.{used_by, wakes_of}

@@ -1,5 +1,5 @@
 -- What is found at faulty items and what is found in items: no offset and code occur twice in either.
-use Rattle.std.proofs.Common.{◌≡◌, ◌≢◌, ◌⊎◌, ℕ, zero, suc, ◌+◌, ◌<◌, ◌≤◌, Bool, true, false, All, List, [], ◌∷◌, ◌++◌, length, map, take, drop, slice_get, length-take, Option, None, Some, IfSome, inl, inr, refl, sym, ap, subst, ◌∙◌, arith}
+use Rattle.std.proofs.Common.{◌≡◌, ◌≢◌, ◌⊎◌, ℕ, zero, suc, ◌+◌, ◌<◌, ◌≤◌, Bool, true, false, All, List, [], ◌∷◌, length, map, take, drop, slice_get, length-take, Option, None, Some, IfSome, inl, inr, refl, sym, ap, subst, ◌∙◌, arith}
 use Rattle.std.specs.List.{AllByRecursion as Each, AllPairs, Contains, cons_option, enumerate_from, filter_map}
 use Rattle.std.specs.Option.{option_map}
 use Rattle.std.proofs.lemmas.Bool.{cases_lt, false≢true}
@@ -20,7 +20,6 @@ use Rattle.snl_scope.specs.Names.{has_own_scope}
 use Rattle.snl_scope.specs.Once.{declared_tokens}
 use Rattle.snl_scope.specs.Summaries.{outline_in}
 use Rattle.snl_scope.specs.Summaries.Tokens.{bytes_at, bytes_if}
-use Rattle.snl_check.specs.declared.findings.Checked.{Checked}
 use Rattle.snl_check.specs.declared.findings.ItemFault.{ItemFault}
 use Rattle.snl_check.specs.FaultCodes.{LeavesToLinks, is_item_code}
 use Rattle.snl_check.specs.Found.{StandsIn, faults_in}
@@ -28,13 +27,13 @@ use Rattle.snl_check.specs.Items.{outline_of_item}
 use Rattle.snl_check.specs.Outlook.{is_in_set, known_of, leads_to}
 use Rattle.snl_session.specs.declared.findings.Finding.{Finding}
 use Rattle.snl_session.specs.Checked.{at_own_token, checked_faults, faults_kept, found_in_item}
-use Rattle.snl_session.specs.Checks.{check_of_item, checked_by}
-use Rattle.snl_session.specs.Faults.{at_number, at_token, fault_at, fault_in, faults_of}
+use Rattle.snl_session.specs.Checks.{checked_by}
+use Rattle.snl_session.specs.Faults.{at_token, fault_at, fault_in, faults_of}
 use Rattle.snl_session.specs.Linked.{finding_at, outlines_of}
 use Rattle.snl_session.specs.OnceFound.{DifferInPlace}
 use Rattle.snl_session.specs.Program.{ProgramItem}
-use Rattle.snl_session.proofs.OnceTokens.{AllBefore, AreApart, Before, InARow, IsIn}
-use Rattle.snl_session.proofs.OnceTwo.{EachTwo, each_both, each_flat, each_got, each_map, each_numbered, each_weaker, numbered, two_flat, two_from_pairs, two_got, two_map, two_numbered, two_weaker, two_with}
+use Rattle.snl_session.proofs.OnceTokens.{AllBefore, AreApart, Before, InARow}
+use Rattle.snl_session.proofs.OnceTwo.{EachTwo, each_both, each_flat, each_got, each_map, each_numbered, each_weaker, numbered, two_flat, two_from_pairs, two_got, two_map, two_numbered, two_with}
 
 -- A finding is at a byte of one of the tokens.
 pub record InTokens (tokens : List Piece) (f : Finding) : Type 0 where

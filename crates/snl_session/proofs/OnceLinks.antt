@@ -1,8 +1,8 @@
 -- What is found by the links of a text's items: no offset and code occur twice in it, nor in it and in what is found in items.
-use Rattle.std.proofs.Common.{◌≡◌, ◌≢◌, ◌⊎◌, ℕ, zero, suc, ◌+◌, ◌<◌, ◌≤◌, Bool, true, false, All, List, [], ◌∷◌, length, map, slice_get, Option, None, Some, IfSome, option_map, inl, inr, refl, sym, ap, subst, ◌∙◌, arith}
+use Rattle.std.proofs.Common.{◌≡◌, ◌≢◌, ◌⊎◌, ℕ, zero, suc, ◌<◌, true, All, List, [], ◌∷◌, length, map, slice_get, Option, None, Some, IfSome, option_map, inl, inr, refl, sym, ap, subst, ◌∙◌, arith}
 use Rattle.std.specs.Prelude.{option_and_then}
 use Rattle.std.specs.Option.{option_map_or}
-use Rattle.std.specs.List.{AllByRecursion as Each, AllPairs, Contains}
+use Rattle.std.specs.List.{AllByRecursion as Each, Contains}
 use Rattle.std.proofs.lemmas.Bool.{false≢true}
 use Rattle.std.proofs.lemmas.List.Elements.{recursion_from_All}
 use Rattle.snl_lex.specs.declared.piece.Piece.{Piece}
@@ -19,7 +19,6 @@ use Rattle.snl_scope.specs.Linked as links
 use Rattle.snl_scope.specs.LinkedItems.{LinkedItems}
 use Rattle.snl_scope.specs.Names.{has_own_scope}
 use Rattle.snl_scope.specs.Once.{AreFoundOnce, declared_tokens}
-use Rattle.snl_scope.specs.Order.{is_program_word, is_ss_word}
 use Rattle.snl_scope.specs.Summaries.{outline_in}
 use Rattle.snl_check.specs.FaultCodes.{is_item_code}
 use Rattle.snl_check.specs.Items.{outline_of_item, tokens_in}
@@ -27,9 +26,9 @@ use Rattle.snl_session.specs.declared.findings.Finding.{Finding}
 use Rattle.snl_session.specs.Linked.{finding_at, linked_faults, linked_of, outlines_of, placed, token_of}
 use Rattle.snl_session.specs.OnceFound.{DifferInPlace}
 use Rattle.snl_session.specs.Program.{ProgramItem}
-use Rattle.snl_session.proofs.OnceItems.{IsMade, IsMadeIn, there}
+use Rattle.snl_session.proofs.OnceItems.{IsMade, there}
 use Rattle.snl_session.proofs.OnceTokens.{AreApart, InARow, IsIn, one_item, one_token, same_item}
-use Rattle.snl_session.proofs.OnceTwo.{EachTwo, each_both, each_got, each_map, each_weaker, two_from_pairs, two_map, two_with}
+use Rattle.snl_session.proofs.OnceTwo.{EachTwo, each_got, each_map, each_weaker, two_from_pairs, two_map, two_with}
 
 pub get_mapped : {A B : Type 0} (f : A → B) (xs : List A) (i : ℕ) → slice_get (map f xs) i ≡ option_map f (slice_get xs i)
 get_mapped f [] i = refl

@@ -1,5 +1,5 @@
 -- The tokens of a text's items are one after another: of two at one offset each is the other.
-use Rattle.std.proofs.Common.{◌≡◌, ℕ, zero, suc, ◌+◌, ◌-◌, ◌<◌, ◌≤◌, All, List, [], ◌∷◌, length, map, take, drop, slice_get, Option, None, Some, inl, inr, refl, sym, ap, subst, ◌∙◌, arith}
+use Rattle.std.proofs.Common.{◌≡◌, ℕ, ◌+◌, ◌-◌, ◌<◌, ◌≤◌, All, List, [], ◌∷◌, length, take, drop, slice_get, Some, inl, inr, sym, ap, subst, ◌∙◌, arith}
 use Rattle.std.specs.List.{AllByRecursion as Each}
 use Rattle.std.proofs.lemmas.Bool.{cases_lt}
 use Rattle.std.proofs.lemmas.List.{drop-drop, length-drop, length-take-le}
@@ -15,7 +15,7 @@ use Rattle.snl_syntax.specs.Reading.Items.{item_of}
 use Rattle.snl_items.specs.Items.{item_ends}
 use Rattle.snl_session.specs.Parts.{EndsWithin}
 use Rattle.snl_session.specs.Program.{ProgramItem, item_tokens, items_of, program_item}
-use Rattle.snl_session.proofs.OnceTwo.{EachTwo, each_both, each_by, each_drop, each_filter, each_got, each_map, each_take, each_weaker, two_drop, two_filter, two_got, two_map, two_split, two_take}
+use Rattle.snl_session.proofs.OnceTwo.{EachTwo, each_by, each_drop, each_filter, each_got, each_map, each_take, each_weaker, two_drop, two_filter, two_got, two_map, two_split, two_take}
 use Rattle.snl_session.proofs.TextSpans.{read_tree}
 
 -- One token ends before another begins.

@@ -1,8 +1,8 @@
 -- States that are not reached are found at different offsets: each is named in an item of its own.
-use Rattle.std.proofs.Common.{◌≡◌, ◌≢◌, ◌⊎◌, ℕ, zero, suc, ◌+◌, ◌<◌, ◌≤◌, Bool, true, false, ◌&&◌, nat_eq, List, [], ◌∷◌, ◌++◌, length, map, slice_get, Option, None, Some, is_some, option_map, inl, inr, refl, sym, ap, subst, ◌∙◌, arith, if◌then◌else◌}
+use Rattle.std.proofs.Common.{◌≡◌, ℕ, zero, suc, ◌<◌, Bool, true, false, ◌&&◌, nat_eq, List, [], ◌∷◌, ◌++◌, length, map, slice_get, Option, None, Some, is_some, option_map, refl, sym, ap, subst, ◌∙◌, arith, if◌then◌else◌}
 use Rattle.std.specs.List.{AllByRecursion as Each, enumerate_from, flat_map}
 use Rattle.std.specs.Option.{option_map_or}
-use Rattle.std.proofs.lemmas.Bool.{cases_lt, eqb-true, false≢true}
+use Rattle.std.proofs.lemmas.Bool.{eqb-true, false≢true}
 use Rattle.snl_lex.specs.declared.piece.Piece.{Piece}
 use Rattle.snl_lex.specs.Pieces.{LiesIn}
 use Rattle.snl_scope.specs.declared.codes.Code.TheVariants.{W02}
@@ -11,13 +11,10 @@ use Rattle.snl_scope.specs.Below.{all_below}
 use Rattle.snl_scope.specs.Order.{is_named_state, is_state_word, state_name}
 use Rattle.snl_scope.specs.Places.{is_set_begin, place, stands_in}
 use Rattle.snl_scope.specs.Summaries.{second_in}
-use Rattle.snl_tables.specs.declared.rows.SetRow.{SetRow}
-use Rattle.snl_tables.specs.declared.rows.StateMark.{StateMark}
 use Rattle.snl_tables.specs.declared.rows.StateRow.{StateRow}
-use Rattle.snl_check.specs.Items.{item_name, outline_of_item, span_of, tokens_in}
+use Rattle.snl_check.specs.Items.{item_name, outline_of_item, span_of}
 use Rattle.snl_check.specs.Members.{states_in}
-use Rattle.snl_check.specs.States.{numbered_row, set_row, set_rows, state_rows}
-use Rattle.snl_check.specs.Tables.{tables_of}
+use Rattle.snl_check.specs.States.{numbered_row, set_row}
 use Rattle.snl_session.specs.declared.findings.Finding.{Finding}
 use Rattle.snl_session.specs.Linked.{outlines_of}
 use Rattle.snl_session.specs.OnceFound.{DifferInPlace}
@@ -25,7 +22,7 @@ use Rattle.snl_session.specs.Program.{ProgramItem}
 use Rattle.snl_session.specs.Tables.{at_state, found_at_state, found_in_set, is_unreached, walked_faults}
 use Rattle.snl_session.proofs.OnceLinks.{get_mapped}
 use Rattle.snl_session.proofs.OnceTokens.{AreApart, InARow, IsIn, one_item}
-use Rattle.snl_session.proofs.OnceTwo.{EachTwo, each_append, each_both, each_flat, each_got, each_map, each_numbered, each_weaker, two_append, two_flat, two_numbered, two_with}
+use Rattle.snl_session.proofs.OnceTwo.{EachTwo, each_append, each_flat, each_got, each_numbered, each_weaker, two_append, two_flat, two_numbered, two_with}
 
 flat_of_map : {A B C : Type 0} (F : B → List C) (g : A → B) (xs : List A) → flat_map F (map g xs) ≡ flat_map (λ x. F (g x)) xs
 flat_of_map F g [] = refl

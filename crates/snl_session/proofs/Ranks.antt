@@ -1,5 +1,5 @@
 -- The order of findings is total, and only equal ones tie in it.
-use Rattle.std.proofs.Common.{arith, ◌≡◌, ℕ, ◌+◌, ◌<◌, ◌≤◌, subst, length, get_or, map, true, false, cond, List, [], ◌∷◌, Option, Some, refl, ap, sym, ◌∙◌}
+use Rattle.std.proofs.Common.{arith, ◌≡◌, ℕ, ◌<◌, ◌≤◌, length, get_or, map, true, false, cond, List, [], ◌∷◌, Option, Some, refl, ap, sym, ◌∙◌}
 use Rattle.std.specs.Cmp.{IsStrictWeakOrder, IsTotalOrder}
 use Rattle.std.specs.Cmp.Lexicographic.{slice_cmp}
 use Rattle.std.specs.FinMap.{nat_cmp-IsAntisymmetric, slice_cmp-IsAntisymmetric}
@@ -16,9 +16,8 @@ use Rattle.snl_scope.specs.declared.codes.Code.{Code}
 use Rattle.snl_scope.specs.declared.codes.Code.TheVariants.{E01, E02, E03, E04, E05, E06, E07, E08, E09, E10, E11, E12, E13, E14, E15, E16, E17, E18, E19, E20, E21, E22, W01, W02, W03, W04, W05}
 use Rattle.snl_session.specs.declared.findings.Finding.{Finding}
 use Rattle.snl_scope.specs.Codes.{name_of}
-use Rattle.snl_session.specs.Diagnostics.{diagnostic, diagnostics_of, shown, stands_before}
 use Rattle.snl_session.specs.Order.{goes_before, in_order, order_of, put_in_order}
-use Rattle.snl_session.proofs.Sorting.{all_put, all_sorted, put, same_put, sorted_is, total, total_all}
+use Rattle.snl_session.proofs.Sorting.{all_put, put, same_put, sorted_is, total, total_all}
 
 order_total : IsTotalOrder order_of
 order_total =

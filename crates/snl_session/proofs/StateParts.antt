@@ -22,7 +22,7 @@ use Rattle.snl_session.specs.OneState.{own_tokens}
 use Rattle.snl_session.specs.Planned.{AreEntriesMade}
 use Rattle.snl_session.specs.Program.{item_tokens}
 use Rattle.snl_session.proofs.KeptChecks.{agreed}
-use Rattle.snl_session.proofs.MemberParts.{element_at, get_dropped, get_taken, in_last_members, in_members, last_of_more, members_append, members_at_back, members_drop, members_in_front, members_map, members_parts, members_take, one_end, rises_drop, rises_take, same_parts}
+use Rattle.snl_session.proofs.MemberParts.{element_at, get_dropped, get_taken, in_last_members, in_members, last_of_more, members_append, members_at_back, members_drop, members_in_front, members_map, members_parts, members_take, rises_drop, rises_take, same_parts}
 use Rattle.snl_session.proofs.Members.{entries_count, members_count}
 use Rattle.snl_session.proofs.OneItem as one_item
 use Rattle.snl_session.proofs.SpelledItems.{spelled_text}

@@ -1,5 +1,5 @@
 -- What is made of an edit inside one state that says to the other items what it said.
-use Rattle.std.specs.Prelude.{◌≡◌, ℕ, ◌+◌, ◌<◌, ◌≤◌, Bool, true, List, [], length, map, take, count_by, slice_get, Option, Some, None, is_some}
+use Rattle.std.specs.Prelude.{◌≡◌, ℕ, ◌+◌, ◌≤◌, Bool, true, List, [], length, map, take, count_by, slice_get, Option, Some, None, is_some}
 use Rattle.snl_cut.specs.Cut.{last_end}
 use Rattle.snl_lex.specs.declared.piece.Piece.{Piece}
 use Rattle.snl_lex.specs.declared.shift.Shift.{Shift}

@@ -1,5 +1,5 @@
 -- No offset and code occur twice in what is found in a text.
-use Rattle.std.specs.Prelude.{◌≡◌, ℕ, List}
+use Rattle.std.specs.Prelude.{◌≡◌, List}
 use Rattle.std.specs.List.{AllPairs}
 use Rattle.snl_session.specs.declared.findings.Finding.{Finding}
 

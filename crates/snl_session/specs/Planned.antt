@@ -16,7 +16,6 @@ use Rattle.snl_session.specs.declared.shift.ShortWay.{ShortWay}
 use Rattle.snl_session.specs.declared.plan.WholeWay.{WholeWay}
 use Rattle.snl_session.specs.declared.ways.Plan.{Plan}
 use Rattle.snl_session.specs.declared.ways.Plan.TheVariants as plan
-use Rattle.snl_session.specs.Checks.{links_in}
 use Rattle.snl_session.specs.Diagnostics.{diagnostics_of}
 use Rattle.snl_session.specs.Entries.{entries_of}
 use Rattle.snl_session.specs.Kept.{HasRoomFor, HasRoomForPlaces}

@@ -4,7 +4,6 @@ use Rattle.snl_scope.specs.Linked.{faults_of}
 use Rattle.snl_tables.specs.Shifted.{shifted_tables}
 use Rattle.snl_check.specs.Shifted.{shifted_item}
 use Rattle.snl_check.specs.ShiftedAround.{SaysAlike, SaysAlikeAt}
-use Rattle.snl_session.specs.declared.findings.Finding.{Finding}
 use Rattle.snl_session.specs.Checks.{links_in}
 use Rattle.snl_session.specs.Diagnostics.{shown}
 use Rattle.snl_session.specs.Inside.{own_item}

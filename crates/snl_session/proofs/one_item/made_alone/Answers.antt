@@ -1,4 +1,4 @@
-use Rattle.std.proofs.Common.{◌≡◌, ℕ, All, List, [], ◌∷◌, take, sym, ap, subst, ◌∙◌}
+use Rattle.std.proofs.Common.{◌≡◌, All, List, [], ◌∷◌, take, sym, ap, subst, ◌∙◌}
 use Rattle.snl_cut.specs.Cut.{last_end}
 use Rattle.snl_lex.specs.declared.piece.Piece.{Piece}
 use Rattle.snl_lex.specs.PieceList.{spelled}
@@ -9,7 +9,7 @@ use Rattle.snl_session.specs.Entries.{entry_by}
 use Rattle.snl_session.specs.OneState.{own_tokens}
 use Rattle.snl_session.specs.Planned.{AreEntriesMade}
 use Rattle.snl_session.proofs.Members.{entries_made}
-use Rattle.snl_session.proofs.OneItem.{one_member, own_lie, own_some, still_there}
+use Rattle.snl_session.proofs.OneItem.{one_member, own_lie}
 use Rattle.snl_session.proofs.one_item.made_alone.Goals as goal
 
 pub entry_of-requires-clause-within : goal.entry_of-requires-clause-within

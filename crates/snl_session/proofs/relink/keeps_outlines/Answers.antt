@@ -1,5 +1,4 @@
-use Rattle.std.proofs.Common.{arith, ◌≡◌, ℕ, ◌-◌, ◌++◌, List, length, take, drop, IsTrue, ap, sym, ◌∙◌}
-use Rattle.snl_scope.specs.declared.summary.Outline.{Outline}
+use Rattle.std.proofs.Common.{arith, ◌≡◌, ℕ, ◌-◌, ◌++◌, List, length, take, drop, ap, sym, ◌∙◌}
 use Rattle.snl_session.specs.declared.entries.Entry.{Entry}
 use Rattle.snl_session.specs.Checks.{outlines_in}
 use Rattle.snl_session.specs.Entries.{entries_of}
