@@ -2,6 +2,7 @@
 use Rattle.std.specs.Prelude.{◌≡◌, ℕ, ◌-◌, IfSome, List, ◌++◌, length, take, drop}
 use Rattle.snl_lex.specs.LineList.{IsLineList}
 use Rattle.snl_lex.specs.PieceList.{IsChange}
+use Rattle.snl_items.specs.declared.item_list.ItemChange.{ItemChange}
 use Rattle.snl_items.specs.Changes.{AreShifted, IsItemChange, IsTokenChange}
 use Rattle.snl_items.specs.Fresh.{fresh_items_between, fresh_pieces_between}
 use Rattle.snl_tables.specs.Shifted.{shifted_tables, with_body}
@@ -11,6 +12,7 @@ use Rattle.snl_session.specs.declared.inside.StateWay.{StateWay}
 use Rattle.snl_session.specs.declared.lists.Lists.{Lists}
 use Rattle.snl_session.specs.declared.lists.Rechecked.{Rechecked}
 use Rattle.snl_session.specs.declared.lists.Remade.{Remade}
+use Rattle.snl_session.specs.declared.plan.Anew.{Anew}
 use Rattle.snl_session.specs.declared.plan.Changes.{Changes}
 use Rattle.snl_session.specs.declared.shift.ShortWay.{ShortWay}
 use Rattle.snl_session.specs.declared.plan.WholeWay.{WholeWay}
@@ -63,6 +65,13 @@ pub record IsShortWay (old text : List ℕ) (start old_stop new_stop : ℕ) (way
   pub lines : IsLineList text way.lines.ends.items way.lines.markers.items way.lines.naming.items
   pub shifted : IsShifted old text start old_stop new_stop way.shift
   pub cost : IsCost old text start old_stop new_stop way.work
+
+-- What is made anew of a text, where an edit makes so much of the items.
+pub record IsAnew (old text : List ℕ) (start old_stop new_stop : ℕ) (items : ItemChange) (anew : Anew) : Type 0 where
+  pub remade : IsRemade old text items.kept_front items.kept_back anew.remade
+  pub diagnostics : anew.diagnostics.items ≡ diagnostics_of text
+  pub tables : anew.tables ≡ tables_in text
+  pub cost : IsCost old text start old_stop new_stop anew.work
 
 -- What the text says is made anew.
 pub record IsWholeWay (old text : List ℕ) (start old_stop new_stop : ℕ) (way : WholeWay) : Type 0 where

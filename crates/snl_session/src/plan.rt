@@ -9,7 +9,7 @@ ghost use Rattle.snl_lex.specs.LineList.{IsLineList};
 ghost use Rattle.snl_lex.specs.Pieces.{tokens_of};
 ghost use Rattle.snl_session.specs.Diagnostics.{diagnostics_of};
 ghost use Rattle.snl_session.specs.Kept.{HasRoomFor, IsListed};
-ghost use Rattle.snl_session.specs.Planned.{AreEntriesMade, IsChanged, IsWholeWay};
+ghost use Rattle.snl_session.specs.Planned.{AreEntriesMade, IsAnew, IsChanged, IsWholeWay};
 ghost use Rattle.snl_session.specs.Tables.{tables_in};
 
 use crate::edits::Work;
@@ -30,6 +30,15 @@ pub struct Changes {
     pub pieces: PieceChange,
     pub tokens: TokenChange,
     pub items: ItemChange,
+}
+
+/// What an edit makes anew: what is made of all that is kept of the items, what the new text is judged to say, and the cost.
+#[derive(Drop)]
+pub struct Anew {
+    pub remade: Remade,
+    pub diagnostics: Vec<Diagnostic>,
+    pub tables: Tables,
+    pub work: Work,
 }
 
 /// The changes that an edit makes, the lines of the new text, what is made of all that is kept of the items, what the new text is
@@ -88,42 +97,40 @@ pub fn made_entries(
     Ok(made)
 }
 
-/// The plan of an edit of the text that has these lists, by what it makes of them, the lines and the tokens of the new text and what is
-/// kept of the fresh items, where so many pieces are made and so many items are parsed.
-pub fn whole_way(
+/// What is made anew of the text that has these lists, by its lines, its tokens and what is kept of the fresh items, where so many pieces are
+/// made and so many items are parsed.
+pub fn anew_by(
     alloc: Global,
     lists: &Lists,
     edit: &TextEdit,
-    changes: Changes,
-    lines: LineList,
+    changes: &Changes,
+    lines: &LineList,
     tokens: &[Piece],
     made: Vec<Entry>,
     lexed: u64,
     parsed: u64,
-) -> Result<WholeWay, OutOfMemory>
+) -> Result<Anew, OutOfMemory>
     requires lists { IsListed edit.now.old.now lists.now }
-    requires changes { IsChanged edit.now.old.now edit.now.text.now edit.now.start edit.now.old_stop edit.now.new_stop changes }
-    requires lines { IsLineList edit.now.text.now lines.ends.items lines.markers.items lines.naming.items }
+    requires changes { IsChanged edit.now.old.now edit.now.text.now edit.now.start edit.now.old_stop edit.now.new_stop changes.now }
+    requires lines { IsLineList edit.now.text.now lines.now.ends.items lines.now.markers.items lines.now.naming.items }
     requires tokens { tokens.now ≡ tokens_of edit.now.text.now }
-    requires made { AreEntriesMade edit.now.old.now edit.now.text.now changes.items.kept_front made.items changes.items.kept_back }
+    requires made { AreEntriesMade edit.now.old.now edit.now.text.now changes.now.items.kept_front made.items changes.now.items.kept_back }
     requires lexed { lexed ≡ fresh_pieces_between edit.now.old.now edit.now.text.now edit.now.start edit.now.old_stop edit.now.new_stop }
     requires parsed { parsed ≡ length (fresh_items_between edit.now.old.now edit.now.text.now edit.now.start edit.now.old_stop edit.now.new_stop) }
-    ensures { IfOk result (IsWholeWay edit.now.old.now edit.now.text.now edit.now.start edit.now.old_stop edit.now.new_stop) }
+    ensures { IfOk result (IsAnew edit.now.old.now edit.now.text.now edit.now.start edit.now.old_stop edit.now.new_stop changes.now.items) }
 {
     let mut checked = Count::new();
     let rejudged = rejudge(
         alloc,
         lists,
         edit,
-        &changes,
-        &lines,
+        changes,
+        lines,
         tokens,
         &made,
         &mut checked,
     )?;
-    Ok(WholeWay {
-        changes,
-        lines,
+    Ok(Anew {
         remade: Remade {
             made,
             links: rejudged.rechecked.links,
@@ -139,6 +146,31 @@ pub fn whole_way(
             checked: checked.ticks(),
         },
     })
+}
+
+/// The plan of an edit that makes so much anew.
+pub fn whole_way(changes: Changes, lines: LineList, anew: Anew) -> WholeWay
+    ensures changes { result.changes ≡ changes }
+    ensures lines { result.lines ≡ lines }
+    ensures remade { result.remade ≡ anew.remade }
+    ensures diagnostics { result.diagnostics ≡ anew.diagnostics }
+    ensures tables { result.tables ≡ anew.tables }
+    ensures work { result.work ≡ anew.work }
+{
+    let Anew {
+        remade,
+        diagnostics,
+        tables,
+        work,
+    } = anew;
+    WholeWay {
+        changes,
+        lines,
+        remade,
+        diagnostics,
+        tables,
+        work,
+    }
 }
 
 impl WholeWay {

@@ -2,13 +2,14 @@
 //! where it changes the inside of a state that says to the others what it said; and the whole one, where all is made anew. What is kept of the old text and both texts come in; then what is kept of the new one is put in its place.
 #![tactic(auto)]
 
-ghost use Rattle.std.specs.Prelude.{◌≡◌, IfOk, OnOk, length};
+ghost use Rattle.std.specs.Prelude.{◌≡◌, IfOk, IsTrue, OnOk, length};
 ghost use Rattle.snl_session.specs.Diagnostics.{diagnostics_of};
 ghost use Rattle.snl_session.specs.Kept.{IsListed, SameLists};
 ghost use Rattle.snl_session.specs.Inside.{IsOneItem};
-ghost use Rattle.snl_session.specs.Planned.{AreEntriesMade, HasRoom, IsChanged, IsPlan, IsWholeWay, work_of};
+ghost use Rattle.snl_session.specs.Planned.{AreEntriesMade, HasRoom, IsAnew, IsChanged, IsPlan, IsWholeWay, work_of};
 ghost use Rattle.snl_items.specs.Fresh.{fresh_items_between, fresh_pieces_between};
 ghost use Rattle.snl_lex.specs.LineList.{IsLineList};
+ghost use Rattle.snl_lex.specs.Pieces.{tokens_of};
 ghost use Rattle.snl_session.specs.Tables.{tables_in};
 
 use crate::edits::Work;
@@ -17,12 +18,12 @@ use crate::findings::Diagnostic;
 use crate::inside::{StateWay, inside_of, state_way};
 use crate::lists::Lists;
 use crate::one_item::{made_alone, own_tokens, replaces_one};
-use crate::plan::{Changes, WholeWay, changes_of, made_entries, whole_way};
+use crate::plan::{Anew, Changes, WholeWay, anew_by, changes_of, made_entries, whole_way};
 use crate::shift::{ShortWay, shift_of, short_way};
 use snl_check::Tables;
 use snl_cut::{Count, OutOfMemory};
 use snl_items::pieces_are_fresh;
-use snl_lex::{LineList, TextEdit};
+use snl_lex::{LineList, Piece, TextEdit};
 use std::alloc::Global;
 
 /// What an edit makes that takes memory.
@@ -31,6 +32,63 @@ pub enum Plan {
     Short(ShortWay),
     State(StateWay),
     Whole(WholeWay),
+}
+
+// Whether an edit replaces all tokens, as the first one of a text does: then those that it makes are all tokens of the new text.
+fn replaces_all(lists: &Lists, edit: &TextEdit, changes: &Changes) -> bool
+    requires lists { IsListed edit.now.old.now lists.now }
+    requires changes { IsChanged edit.now.old.now edit.now.text.now edit.now.start edit.now.old_stop edit.now.new_stop changes.now }
+    ensures { IsTrue result → changes.now.tokens.made.items ≡ tokens_of edit.now.text.now }
+{
+    changes.tokens.edit.start == 0 && changes.tokens.edit.old_stop == lists.items.marks.len()
+}
+
+// What an edit makes anew, whatever items it makes, by the tokens of the new text.
+fn anew_of_many(
+    alloc: Global,
+    lists: &Lists,
+    edit: &TextEdit,
+    changes: &Changes,
+    lines: &LineList,
+    tokens: &[Piece],
+    lexed: u64,
+) -> Result<Anew, OutOfMemory>
+    requires lists { IsListed edit.now.old.now lists.now }
+    requires changes { IsChanged edit.now.old.now edit.now.text.now edit.now.start edit.now.old_stop edit.now.new_stop changes.now }
+    requires lines { IsLineList edit.now.text.now lines.now.ends.items lines.now.markers.items lines.now.naming.items }
+    requires tokens { tokens.now ≡ tokens_of edit.now.text.now }
+    requires lexed { lexed ≡ fresh_pieces_between edit.now.old.now edit.now.text.now edit.now.start edit.now.old_stop edit.now.new_stop }
+    ensures { IfOk result (IsAnew edit.now.old.now edit.now.text.now edit.now.start edit.now.old_stop edit.now.new_stop changes.now.items) }
+{
+    let mut parsed = Count::new();
+    let made = made_entries(alloc, lists, edit, changes, tokens, &mut parsed)?;
+    let parsed = parsed.ticks();
+    anew_by(
+        alloc, lists, edit, changes, lines, tokens, made, lexed, parsed,
+    )
+}
+
+// The same by the lists. Where the edit makes all tokens, they are at hand.
+fn anew_among_all(
+    alloc: Global,
+    lists: &Lists,
+    edit: &TextEdit,
+    changes: &Changes,
+    lines: &LineList,
+    lexed: u64,
+) -> Result<Anew, OutOfMemory>
+    requires lists { IsListed edit.now.old.now lists.now }
+    requires changes { IsChanged edit.now.old.now edit.now.text.now edit.now.start edit.now.old_stop edit.now.new_stop changes.now }
+    requires lines { IsLineList edit.now.text.now lines.now.ends.items lines.now.markers.items lines.now.naming.items }
+    requires lexed { lexed ≡ fresh_pieces_between edit.now.old.now edit.now.text.now edit.now.start edit.now.old_stop edit.now.new_stop }
+    ensures { IfOk result (IsAnew edit.now.old.now edit.now.text.now edit.now.start edit.now.old_stop edit.now.new_stop changes.now.items) }
+{
+    if replaces_all(lists, edit, changes) {
+        let tokens = &changes.tokens.made;
+        return anew_of_many(alloc, lists, edit, changes, lines, tokens, lexed);
+    }
+    let tokens = lists.pieces.tokens_after(alloc, edit, &changes.pieces)?;
+    anew_of_many(alloc, lists, edit, changes, lines, &tokens, lexed)
 }
 
 // The whole way of an edit, whatever items it makes.
@@ -48,14 +106,8 @@ fn way_of_many(
     requires lexed { lexed ≡ fresh_pieces_between edit.now.old.now edit.now.text.now edit.now.start edit.now.old_stop edit.now.new_stop }
     ensures { IfOk result (IsWholeWay edit.now.old.now edit.now.text.now edit.now.start edit.now.old_stop edit.now.new_stop) }
 {
-    let tokens = lists.pieces.tokens_after(alloc, edit, &changes.pieces)?;
-    let mut parsed = Count::new();
-    let made = made_entries(alloc, lists, edit, &changes, &tokens, &mut parsed)?;
-    let parsed = parsed.ticks();
-    let way = whole_way(
-        alloc, lists, edit, changes, lines, &tokens, made, lexed, parsed,
-    )?;
-    Ok(way)
+    let anew = anew_among_all(alloc, lists, edit, &changes, &lines, lexed)?;
+    Ok(whole_way(changes, lines, anew))
 }
 
 // The whole way of an edit that makes one item.
@@ -78,10 +130,10 @@ fn way_of_one(
     ensures { IfOk result (IsWholeWay edit.now.old.now edit.now.text.now edit.now.start edit.now.old_stop edit.now.new_stop) }
 {
     let tokens = lists.pieces.tokens_after(alloc, edit, &changes.pieces)?;
-    let way = whole_way(
-        alloc, lists, edit, changes, lines, &tokens, made, lexed, parsed,
+    let anew = anew_by(
+        alloc, lists, edit, &changes, &lines, &tokens, made, lexed, parsed,
     )?;
-    Ok(way)
+    Ok(whole_way(changes, lines, anew))
 }
 
 // The plan of an edit that makes one item in the place of one. The item is parsed once.

@@ -1,7 +1,7 @@
 use Rattle.std.proofs.Common.{arith, ◌^◌, ◌<◌, length, ap, ◌∙◌}
 use Rattle.snl_cut.specs.Cut.{after_ticks}
 use Rattle.snl_session.proofs.Ticks.{exact_ticks}
-use Rattle.snl_session.proofs.plan.whole_way.Goals as goal
+use Rattle.snl_session.proofs.plan.anew_by.Goals as goal
 
 pub returns : goal.returns
 returns c =
@@ -9,8 +9,6 @@ returns c =
     let checked = c.in_ok-rejudged.rejudged.rechecked.made in
     let few_checked : length checked.items < 2 ^ 64 = omega (arith, checked.ok, checked.small) in
     record {
-      changes = c.requires.changes;
-      lines = c.requires.lines;
       remade = record {
         entries = c.requires.made;
         links = judged.rechecked.links;
