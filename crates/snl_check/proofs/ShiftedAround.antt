@@ -51,13 +51,14 @@ use Rattle.snl_check.specs.Members.{is_faulty_item, number_among, states_in, tar
 use Rattle.snl_check.specs.Outlook.{is_in_set}
 use Rattle.snl_check.specs.Settings.{LetterSetting, setting_at, setting_in_tree}
 use Rattle.snl_check.specs.Shifted.{KeepsItem, KeepsItems, shifted_item, start_at}
-use Rattle.snl_check.specs.ShiftedAround.{IsPlacedAt, ReplacesOne, ReplacesState, SaysAlike, SaysAlikeAt, is_state_or_faulty, set_number, state_number, used_by, wakes_of}
+use Rattle.snl_check.specs.ShiftedAround.{IsPlacedAt, IsSoundAsItWas, ReplacesOne, ReplacesItem, SaysAlike, SaysAlikeAt, is_plain, set_number, state_number, used_by, wakes_of}
 use Rattle.snl_check.specs.Spans.{AreRead}
 use Rattle.snl_check.specs.States.{item_at, line_of_item, numbered_row, set_row, set_rows, state_body, state_rows}
 use Rattle.snl_check.specs.Tables.{flag_row_at, tables_by, tables_of}
 use Rattle.snl_check.specs.Told.{nothing, told_in_item}
 use Rattle.snl_check.proofs.Each.{each_join, each_of, each_weaker}
 use Rattle.snl_check.proofs.Linked.{outline_at}
+use Rattle.snl_check.proofs.ShiftLists.{map_shift}
 use Rattle.snl_check.proofs.Sets.{false_if, get_here, is_within}
 use Rattle.snl_check.proofs.ShiftedItems.{IsKept, faulty_stays, header_at, header_at_shifts, span_at_shifts, tree_stays}
 use Rattle.snl_check.proofs.ShiftedClauses.{HasBytes, flag_shifts, setting_stays}
@@ -66,20 +67,20 @@ use Rattle.snl_check.proofs.ShiftedRows.{Parts, and_back, and_both, and_none, ea
 use Rattle.snl_check.proofs.ShiftedTables.{IsLineKept, IsRowKept, MarksStay, RestStays, SpellingLaws, item_kept, outline_stays, same_channels, same_mark, set_line, set_named, set_shifts, state_line, state_shifts, tables_but_sets}
 use Rattle.snl_check.proofs.SpanLaws.{and_front, each_all, each_below, place_begins, each_beside, each_flat, each_got, tested, tokens_are}
 
--- ---- what a state is not
+-- ---- what a plain item is not
 
-no_header : (x : ProgramItem) → is_state_or_faulty (kind_of x.tree) ≡ true → header_name x ≡ None
+no_header : (x : ProgramItem) → is_plain (kind_of x.tree) ≡ true → header_name x ≡ None
 no_header x h = by x.tree h
   where
-    by : (o : Option Item) → is_state_or_faulty (kind_of o) ≡ true → option_map (λ number. span_of (slice_get x.tokens number)) (named_by o) ≡ None
+    by : (o : Option Item) → is_plain (kind_of o) ≡ true → option_map (λ number. span_of (slice_get x.tokens number)) (named_by o) ≡ None
     by (Some (items.Header name parameters)) e = absurd (false≢true e)
     by o e = refl
 
-no_setting : (bytes : ℕ → List ℕ) (o : Option Item) → is_state_or_faulty (kind_of o) ≡ true → option_and_then (setting_in_tree bytes) o ≡ None
+no_setting : (bytes : ℕ → List ℕ) (o : Option Item) → is_plain (kind_of o) ≡ true → option_and_then (setting_in_tree bytes) o ≡ None
 no_setting bytes (Some (items.OptionLine line)) e = absurd (false≢true e)
 no_setting bytes o e = refl
 
-no_set : (kind : ItemKind) (b : Bool) → is_state_or_faulty kind ≡ true → begins_set (role_of kind b) ≡ true → ⊥
+no_set : (kind : ItemKind) (b : Bool) → is_plain kind ≡ true → begins_set (role_of kind b) ≡ true → ⊥
 no_set kinds.SsBegin b e h = false≢true e
 no_set kinds.State true e h = false≢true h
 no_set kinds.State false e h = false≢true h
@@ -91,10 +92,10 @@ module _ (text : List ℕ) (tokens : List Piece) where
   no_members (members.Clause c ∷ ms) e = absurd cc
   no_members (m ∷ ms) e = no_members ms e
 
-  no_clauses : (i : ℕ) (o : Option Item) → is_state_or_faulty (kind_of o) ≡ true → summary.clauses_in text tokens o ≡ [] → item_clauses_if i o ≡ []
+  no_clauses : (i : ℕ) (o : Option Item) → is_plain (kind_of o) ≡ true → summary.clauses_in text tokens o ≡ [] → item_clauses_if i o ≡ []
   no_clauses i (Some (items.StateBlock name ms)) h e = ap (map (item_clause i)) (no_members ms e)
-  no_clauses i None h e = refl
-  no_clauses i o h e = absurd (false≢true h)
+  no_clauses i (Some (items.Clause c)) h e = absurd (false≢true h)
+  no_clauses i o h e = refl
 
 -- ---- the items but one are kept
 
@@ -108,7 +109,7 @@ module _ (laws : SpellingLaws) (old text : List ℕ) (s : Shift) (xs ys : List P
   is : (y : ProgramItem) × (slice_get ys j ≡ Some y)
   is = get_here ys j (omega (arith, rep.there, rep.count))
 
-  replaced : ReplacesState old text s was.0 is.0
+  replaced : ReplacesItem old text s was.0 is.0
   replaced = rep.replaced was.0 is.0 was.1 is.1
 
   everywhere : (P : ℕ → Type 0) → P j → ((i : ℕ) → i ≢ j → P i) → (i : ℕ) → P i
@@ -123,8 +124,8 @@ module _ (laws : SpellingLaws) (old text : List ℕ) (s : Shift) (xs ys : List P
   headers : (i : ℕ) → header_at ys i ≡ option_map (shifted_span s) (header_at xs i)
   headers =
       everywhere (λ i. header_at ys i ≡ option_map (shifted_span s) (header_at xs i))
-      (ap (option_and_then header_name) is.1 ∙ no_header is.0 replaced.is_state
-      ∙ sym (ap (option_map (shifted_span s)) (ap (option_and_then header_name) was.1 ∙ no_header was.0 replaced.was_state)))
+      (ap (option_and_then header_name) is.1 ∙ no_header is.0 replaced.is_plain_now
+      ∙ sym (ap (option_map (shifted_span s)) (ap (option_and_then header_name) was.1 ∙ no_header was.0 replaced.was_plain)))
       (λ i apart. header_at_shifts old text s xs ys i before (kept i apart))
 
   names : (i : ℕ) → item_name ys i ≡ shifted_span s (item_name xs i)
@@ -134,7 +135,7 @@ module _ (laws : SpellingLaws) (old text : List ℕ) (s : Shift) (xs ys : List P
       ∙ sym (ap (λ (ts : List Piece). shifted_span s (span_of (slice_get ts 1))) (tokens_are xs j was.0 was.1)))
       (λ i apart. span_at_shifts old text s xs ys i (kept i apart) before 1)
 
-  sets_nothing : (bytes : List ℕ) (zs : List ProgramItem) (z : ProgramItem) → slice_get zs j ≡ Some z → is_state_or_faulty (kind_of z.tree) ≡ true → setting_at bytes zs ss j ≡ None
+  sets_nothing : (bytes : List ℕ) (zs : List ProgramItem) (z : ProgramItem) → slice_get zs j ≡ Some z → is_plain (kind_of z.tree) ≡ true → setting_at bytes zs ss j ≡ None
   sets_nothing bytes zs z at state =
       ap (λ (o : Option LetterSetting). if is_in_set ss j then None else o)
       (ap (option_and_then (setting_in_tree (bytes_at bytes (tokens_in zs j)))) (tree_at zs z at) ∙ no_setting (bytes_at bytes (tokens_in zs j)) z.tree state)
@@ -143,18 +144,18 @@ module _ (laws : SpellingLaws) (old text : List ℕ) (s : Shift) (xs ys : List P
   settings : (i : ℕ) → setting_at text ys ss i ≡ setting_at old xs ss i
   settings =
       everywhere (λ i. setting_at text ys ss i ≡ setting_at old xs ss i)
-      (sets_nothing text ys is.0 is.1 replaced.is_state ∙ sym (sets_nothing old xs was.0 was.1 replaced.was_state))
+      (sets_nothing text ys is.0 is.1 replaced.is_plain_now ∙ sym (sets_nothing old xs was.0 was.1 replaced.was_plain))
       (λ i apart. setting_stays old text s xs ys ss i (kept i apart))
 
   -- ---- clauses and channels
 
   no_old_clause : item_clauses_if j (tree_in xs j) ≡ []
-  no_old_clause = ap (item_clauses_if j) (tree_at xs was.0 was.1) ∙ no_clauses old was.0.tokens j was.0.tree replaced.was_state replaced.no_clause
+  no_old_clause = ap (item_clauses_if j) (tree_at xs was.0 was.1) ∙ no_clauses old was.0.tokens j was.0.tree replaced.was_plain replaced.no_clause
 
   no_new_clause : item_clauses_if j (tree_in ys j) ≡ []
   no_new_clause =
       ap (item_clauses_if j) (tree_at ys is.0 is.1)
-      ∙ no_clauses text is.0.tokens j is.0.tree replaced.is_state (ap (λ (o : Outline). o.clauses) replaced.outline ∙ replaced.no_clause)
+      ∙ no_clauses text is.0.tokens j is.0.tree replaced.is_plain_now (ap (λ (o : Outline). o.clauses) replaced.outline ∙ replaced.no_clause)
 
   same_clauses : (i : ℕ) → item_clauses_if i (tree_in ys i) ≡ item_clauses_if i (tree_in xs i)
   same_clauses =
@@ -296,7 +297,7 @@ module _ (laws : SpellingLaws) (old text : List ℕ) (s : Shift) (xs ys : List P
       let found = tested old xs (λ s. begins_set s.role) k is in
       let here : Some found.0 ≡ Some was.0 = sym found.1 ∙ ap (slice_get xs) same ∙ was.1 in
       let item : found.0 ≡ was.0 = cc in
-      let state : is_state_or_faulty (kind_of found.0.tree) ≡ true = ap (λ (x : ProgramItem). is_state_or_faulty (kind_of x.tree)) item ∙ replaced.was_state in
+      let state : is_plain (kind_of found.0.tree) ≡ true = ap (λ (x : ProgramItem). is_plain (kind_of x.tree)) item ∙ replaced.was_plain in
       no_set (kind_of found.0.tree) (nat_lt 0 (length (declared_in old found.0.tokens found.0.tree)) || nat_lt 0 (length (summary.clauses_in old found.0.tokens found.0.tree))) state found.2
 
   line_of_set : (k : ℕ) → is_set_begin ss k ≡ true → IsLineKept old text s xs ys k
@@ -337,7 +338,7 @@ module _ (laws : SpellingLaws) (old text : List ℕ) (s : Shift) (xs ys : List P
 
   -- ---- the row of its set
 
-  module _ (set : ℕ) (stands : place ss j ≡ Some set) where
+  module _ (set : ℕ) (stands : place ss j ≡ Some set) (named_here : is_named_state ss j ≡ true) where
     abbrev number : ℕ
     number = state_number ss set j
 
@@ -349,10 +350,6 @@ module _ (laws : SpellingLaws) (old text : List ℕ) (s : Shift) (xs ys : List P
 
     inside : j < length ss
     inside = let count = length-map xs (outline_of_item old) in omega (arith, count, rep.there)
-
-    named_here : is_named_state ss j ≡ true
-    named_here =
-        ap (λ (o : Option Outline). option_map_or (λ s. is_some (state_name s)) o false) (outline_at old xs j ∙ ap (option_map (outline_of_item old)) was.1) ∙ replaced.named
 
     state_parts : Parts (λ i. IsRowKept old text s xs ys i) (is_state_in set) (length ss) j
     state_parts =
@@ -484,6 +481,44 @@ module _ (laws : SpellingLaws) (old text : List ℕ) (s : Shift) (xs ys : List P
           tables_if (changed_at (with_body_in number body) (set_number ss set) (map (shifted_set s) (set_rows old xs ss)))
           (sets_around (with_body_in number body) (set_around states states_around))
 
+  -- ---- where the item is no state with a name
+
+  module _ (unnamed : is_named_state ss j ≡ false) (sound : IsSoundAsItWas xs ys j) where
+    faulty_at : (zs : List ProgramItem) (z : ProgramItem) → slice_get zs j ≡ Some z → is_faulty_item zs j ≡ is_none z.tree
+    faulty_at zs z at = ap (λ (o : Option ProgramItem). option_map_or (λ (x : ProgramItem). is_none x.tree) o false) at
+
+    still_faulty : (i : ℕ) → is_faulty_item ys i ≡ is_faulty_item xs i
+    still_faulty =
+        everywhere (λ i. is_faulty_item ys i ≡ is_faulty_item xs i) (faulty_at ys is.0 is.1 ∙ sound was.0 is.0 was.1 is.1 ∙ sym (faulty_at xs was.0 was.1))
+        (λ i apart. faulty_stays old text s xs ys i (kept i apart))
+
+    elsewhere : (i : ℕ) → is_named_state ss i ≡ true → i ≢ j
+    elsewhere i named here = false≢true (sym unnamed ∙ subst (λ m. is_named_state ss m ≡ true) here named)
+
+    states_elsewhere : (k : ℕ) → AllByRecursion (λ i. i ≢ j) (states_in ss k)
+    states_elsewhere k = each_below (λ i. i ≢ j) (is_state_in k) (length ss) (λ i in_set. elsewhere i (and_front (is_named_state ss i) (stands_in ss k i) in_set))
+
+    marks_all : (k : ℕ) → MarksStay old text xs ys ss k
+    marks_all k = record {
+      some_faulty = has_faulty_stays old text s xs ys ss k (λ i. ap (λ b. b && stands_in ss k i) (still_faulty i));
+      targets = each_weaker (λ i. i ≢ j) (λ i. target_numbers text ys ss (states_in ss k) i ≡ target_numbers old xs ss (states_in ss k) i)
+          (λ i apart. targets_stay old text s xs ys ss i (kept i apart) before (states_in ss k)) (states_in ss k) (states_elsewhere k);
+    }
+
+    set_stays : (k : ℕ) → is_set_begin ss k ≡ true → set_row text ys ss k ≡ shifted_set s (set_row old xs ss k)
+    set_stays k begins =
+        set_shifts old text s xs ys ss before same k (marks_all k) (names k) (line_of_set k begins)
+        (each_below (IsRowKept old text s xs ys) (is_state_in k) (length ss)
+        (λ i in_set. let named : is_named_state ss i ≡ true = and_front (is_named_state ss i) (stands_in ss k i) in_set in row_kept i (elsewhere i named) named))
+
+    sets_stay : set_rows text ys ss ≡ map (shifted_set s) (set_rows old xs ss)
+    sets_stay =
+        map_shift (shifted_set s) (set_row old xs ss) (set_row text ys ss) (all_below (is_set_begin ss) (length ss))
+        (each_below (λ k. set_row text ys ss k ≡ shifted_set s (set_row old xs ss k)) (is_set_begin ss) (length ss) set_stays)
+
+    pub tables_around : tables_of text ys ≡ shifted_tables s (tables_of old xs)
+    tables_around = ap (tables_by text ys) outlines_stay ∙ tables_but_sets old text s xs ys ss before rest_stays (map (shifted_set s) (set_rows old xs ss)) sets_stay
+
 -- ---- one item between others
 
 module _ (old text : List ℕ) (s : Shift) (x y : ProgramItem) where
@@ -505,7 +540,7 @@ module _ (old text : List ℕ) (s : Shift) (x y : ProgramItem) where
   keeps_others (a ∷ front) back f b zero z apart at = f 0 z at
   keeps_others (a ∷ front) back f b (suc i) z apart at = keeps_others front back (λ n. f (suc n)) b i z (λ e. apart (ap suc e)) at
 
-  pub one_between : (front back : List ProgramItem) → KeepsItems old text s front → KeepsItems old text s back → ReplacesState old text s x y →
+  pub one_between : (front back : List ProgramItem) → KeepsItems old text s front → KeepsItems old text s back → ReplacesItem old text s x y →
       ReplacesOne old text s (front ++ (x ∷ back)) (map (shifted_item s) front ++ (y ∷ map (shifted_item s) back)) (length front)
   one_between front back f b replaces = record {
     count = simp (length-append, length-map);
@@ -518,5 +553,5 @@ module _ (old text : List ℕ) (s : Shift) (x y : ProgramItem) where
         let is : Some y ≡ Some c = sym (at_seam y (map (shifted_item s) front) (map (shifted_item s) back)) ∙ ap (slice_get (map (shifted_item s) front ++ (y ∷ map (shifted_item s) back))) place ∙ at_c in
         let old_item : x ≡ a = cc in
         let new_item : y ≡ c = cc in
-        subst (λ z. ReplacesState old text s z c) old_item (subst (λ z. ReplacesState old text s x z) new_item replaces);
+        subst (λ z. ReplacesItem old text s z c) old_item (subst (λ z. ReplacesItem old text s x z) new_item replaces);
   }

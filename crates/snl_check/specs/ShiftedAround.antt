@@ -1,4 +1,4 @@
--- The items of a text after an edit inside one state, which says what it said; and where the row of a state is in the tables.
+-- The items of a text after an edit inside one of them, which says what it said; and where the row of a state is in the tables.
 use Rattle.std.specs.Prelude.{◌≡◌, ◌≢◌, ℕ, ◌<◌, ◌&&◌, Bool, true, false, is_some, is_none, List, [], map, length, slice_get, Option, Some, option_map}
 use Rattle.std.specs.List.{AllByRecursion}
 use Rattle.snl_lex.specs.declared.shift.Shift.{Shift}
@@ -25,35 +25,40 @@ set_number ss k = length (all_below (is_set_begin ss) k)
 abbrev pub state_number : List Outline → ℕ → ℕ → ℕ
 state_number ss k j = length (all_below (λ i. is_named_state ss i && stands_in ss k i) j)
 
--- A state, or an item without a tree.
-abbrev pub is_state_or_faulty : ItemKind → Bool
-is_state_or_faulty kinds.State = true
-is_state_or_faulty kinds.Faulty = true
-is_state_or_faulty _ = false
+-- What is inside an item of this kind is in no row, but in that of a state.
+abbrev pub is_plain : ItemKind → Bool
+is_plain kinds.Header = false
+is_plain kinds.SsBegin = false
+is_plain kinds.Clause = false
+is_plain kinds.OptionLine = false
+is_plain _ = true
 
 -- A token of an item is where it was, shifted.
 abbrev pub IsPlacedAt : Shift → (x y : ProgramItem) → ℕ → Type 0
 IsPlacedAt s x y n = span_of (slice_get y.tokens n) ≡ shifted_span s (span_of (slice_get x.tokens n))
 
--- A state in the place of another, each of them sound or faulty: it says to the others what that one said, its name and no clause
--- among it, and its name, the names that it declares and its line are what they were, shifted.
-pub record ReplacesState (old text : List ℕ) (s : Shift) (x y : ProgramItem) : Type 0 where
-  pub was_state : is_state_or_faulty (kind_of x.tree) ≡ true
-  pub is_state : is_state_or_faulty (kind_of y.tree) ≡ true
+-- An item in the place of another, each of them plain: it says to the others what that one said, no clause among it, and its second
+-- token, the names that it declares and its line are what they were, shifted.
+pub record ReplacesItem (old text : List ℕ) (s : Shift) (x y : ProgramItem) : Type 0 where
+  pub was_plain : is_plain (kind_of x.tree) ≡ true
+  pub is_plain_now : is_plain (kind_of y.tree) ≡ true
   pub outline : outline_of_item text y ≡ outline_of_item old x
-  pub named : is_some (state_name (outline_of_item old x)) ≡ true
   pub declared : AllByRecursion (λ d. IsPlacedAt s x y d.token) (outline_of_item old x).declares
   pub no_clause : (outline_of_item old x).clauses ≡ []
   pub name : IsPlacedAt s x y 1
   pub line : line_at text (start_at y.tokens 0) ≡ shifted_line s (start_at x.tokens 1) (line_at old (start_at x.tokens 0))
 
--- The items after an edit, `ys`, are those before it, shifted, but for item j, which is a state in the place of another.
+-- The items after an edit, `ys`, are those before it, shifted, but for item j, which is in the place of another.
 pub record ReplacesOne (old text : List ℕ) (s : Shift) (xs ys : List ProgramItem) (j : ℕ) : Type 0 where
   pub count : length ys ≡ length xs
   pub there : j < length xs
   pub others : (i : ℕ) → i ≢ j → slice_get ys i ≡ option_map (shifted_item s) (slice_get xs i)
   pub kept : (i : ℕ) (x : ProgramItem) → i ≢ j → slice_get xs i ≡ Some x → KeepsItem old text s x
-  pub replaced : (x y : ProgramItem) → slice_get xs j ≡ Some x → slice_get ys j ≡ Some y → ReplacesState old text s x y
+  pub replaced : (x y : ProgramItem) → slice_get xs j ≡ Some x → slice_get ys j ≡ Some y → ReplacesItem old text s x y
+
+-- Item j is sound where it was.
+abbrev pub IsSoundAsItWas : (xs ys : List ProgramItem) → ℕ → Type 0
+IsSoundAsItWas xs ys j = (x y : ProgramItem) → slice_get xs j ≡ Some x → slice_get ys j ≡ Some y → is_none y.tree ≡ is_none x.tree
 
 -- A use in a condition, by what it says: the name, and the subscript where that is an integer alone.
 abbrev pub used_by : (ℕ → List ℕ) → WakeUse → List ℕ × Option ℕ

@@ -1,7 +1,7 @@
 //! Laws of what is found in items, of their clauses, of wake-up sets, of spans, of tables that an edit shifts and of walks.
 //! A function here does nothing: its contract is the law.
 
-ghost use Rattle.std.specs.Prelude.{◌≡◌, ◌≢◌, ◌<◌, ◌∷◌, ◌++◌, ◌↔◌, ℕ, All, Bool, true, List, Option, Some, length, map, slice_get};
+ghost use Rattle.std.specs.Prelude.{◌≡◌, ◌≢◌, ◌<◌, ◌∷◌, ◌++◌, ◌↔◌, ℕ, All, Bool, false, true, List, Option, Some, length, map, slice_get};
 ghost use Rattle.std.specs.List.{AllPairs};
 ghost use Rattle.snl_lex.specs.declared.piece.Piece.{Piece};
 ghost use Rattle.snl_lex.specs.declared.shift.Shift.{Shift};
@@ -10,6 +10,7 @@ ghost use Rattle.snl_syntax.specs.Parsing.{kinds_in};
 ghost use Rattle.snl_syntax.specs.Reading.Items.{item_of};
 ghost use Rattle.snl_scope.specs.declared.facts.Fact.{Fact};
 ghost use Rattle.snl_scope.specs.Clauses.{clauses_of};
+ghost use Rattle.snl_scope.specs.Order.{is_named_state};
 ghost use Rattle.snl_scope.specs.Places.{place};
 ghost use Rattle.snl_walk.specs.Tokens.{IsSource, bytes_at};
 ghost use Rattle.snl_check.specs.Alike.{Agree, SameTokens, target_names, used_names};
@@ -22,7 +23,7 @@ ghost use Rattle.snl_scope.specs.declared.summary.Outline.{Outline};
 ghost use Rattle.snl_tables.specs.Shifted.{shifted_tables, with_body};
 ghost use Rattle.snl_tables.specs.declared.rows.StateMark.TheVariants.{Unreached};
 ghost use Rattle.snl_check.specs.Shifted.{KeepsItems, shifted_item};
-ghost use Rattle.snl_check.specs.ShiftedAround.{ReplacesOne, ReplacesState, SaysAlikeAt, set_number, state_number};
+ghost use Rattle.snl_check.specs.ShiftedAround.{IsSoundAsItWas, ReplacesItem, ReplacesOne, SaysAlikeAt, set_number, state_number};
 ghost use Rattle.snl_check.specs.Spans.{AreRead, TablesHaveBytes, TablesLieIn};
 ghost use Rattle.snl_check.specs.Tables.{tables_of};
 ghost use Rattle.snl_check.specs.Told.{told_by};
@@ -120,8 +121,19 @@ pub fn tables_shift()
 /// and in its conditions what it said, the rows are shifted, but for the body of its own.
 pub fn tables_shift_inside_a_state()
     ensures { (old text : List ℕ) (s : Shift) (xs ys : List ProgramItem) (j set : ℕ) (y : ProgramItem) → 0 < s.start → AreRead old xs → ReplacesOne old text s xs ys j
-        → place (outlines_of old xs) j ≡ Some set → slice_get ys j ≡ Some y → SaysAlikeAt old text xs ys j
+        → place (outlines_of old xs) j ≡ Some set → is_named_state (outlines_of old xs) j ≡ true → slice_get ys j ≡ Some y → SaysAlikeAt old text xs ys j
         → tables_of text ys ≡ with_body (shifted_tables s (tables_of old xs)) (set_number (outlines_of old xs) set) (state_number (outlines_of old xs) set j) (state_body text (outlines_of old xs) j y) }
+{
+    names_are_tokens();
+    same_spelling_same_summary();
+}
+
+/// Where an edit changes no more than the inside of an item that is no state with a name, after the names that it declares, and the item
+/// is plain, has no clauses, says to the others what it said and is sound or faulty as it was, the rows are shifted.
+pub fn tables_shift_around_an_item()
+    ensures { (old text : List ℕ) (s : Shift) (xs ys : List ProgramItem) (j : ℕ) → 0 < s.start → AreRead old xs → ReplacesOne old text s xs ys j
+        → is_named_state (outlines_of old xs) j ≡ false → IsSoundAsItWas xs ys j
+        → tables_of text ys ≡ shifted_tables s (tables_of old xs) }
 {
     names_are_tokens();
     same_spelling_same_summary();
@@ -129,6 +141,6 @@ pub fn tables_shift_inside_a_state()
 
 /// One item between others that are kept is the one that is replaced.
 pub fn one_state_between()
-    ensures { (old text : List ℕ) (s : Shift) (x y : ProgramItem) (front back : List ProgramItem) → KeepsItems old text s front → KeepsItems old text s back → ReplacesState old text s x y
+    ensures { (old text : List ℕ) (s : Shift) (x y : ProgramItem) (front back : List ProgramItem) → KeepsItems old text s front → KeepsItems old text s back → ReplacesItem old text s x y
         → ReplacesOne old text s (front ++ (x ∷ back)) (map (shifted_item s) front ++ (y ∷ map (shifted_item s) back)) (length front) }
 {}

@@ -36,8 +36,8 @@ pub use fault_laws::{faults_have_item_codes, outer_names_left_to_links};
 pub use findings::{Checked, ItemFault};
 pub use laws::{
     each_item_finding_once, equal_views, faults_stand_at_tokens, faults_stand_in_tokens,
-    one_state_between, same_clauses, spans_lie_in_text, tables_shift, tables_shift_inside_a_state,
-    unreached_without_a_walk, wake_up_sets, walks_of_few_steps,
+    one_state_between, same_clauses, spans_lie_in_text, tables_shift, tables_shift_around_an_item,
+    tables_shift_inside_a_state, unreached_without_a_walk, wake_up_sets, walks_of_few_steps,
 };
 pub use options::warning_setting;
 pub use reaching::reach;

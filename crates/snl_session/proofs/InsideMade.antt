@@ -1,5 +1,5 @@
 -- What is made of an edit inside one state, from what is kept of the text and what is known by tests.
-use Rattle.std.proofs.Common.{◌≡◌, ℕ, zero, suc, ◌+◌, ◌-◌, ◌^◌, ◌<◌, Bool, List, [], ◌∷◌, length, map, take, drop, slice_get, Option, Some, option_map, refl, sym, ap, ap₂, ◌∙◌, arith, add-one}
+use Rattle.std.proofs.Common.{◌≡◌, ℕ, zero, suc, ◌+◌, ◌-◌, ◌^◌, ◌<◌, Bool, false, List, [], ◌∷◌, length, map, take, drop, slice_get, Option, Some, None, is_some, option_map, refl, sym, ap, ap₂, ◌∙◌, arith, add-one}
 use Rattle.std.proofs.lemmas.List.{length-take-le}
 use Rattle.std.proofs.lemmas.Option.{slice_get-map}
 use Rattle.snl_cut.specs.Cut.{IsEdit, last_end, members}
@@ -12,14 +12,18 @@ use Rattle.snl_items.specs.Changes.{IsShiftOf}
 use Rattle.snl_items.specs.Items.{item_ends, spelled_items}
 use Rattle.snl_syntax.specs.Outcome.{parsed_by, parsed_in, sound_tree}
 use Rattle.snl_syntax.specs.declared.tree.item.Item.{Item}
+use Rattle.snl_scope.specs.Order.{state_name}
 use Rattle.snl_scope.specs.SpelledTokens.{bytes_by, summary_by}
 use Rattle.snl_scope.specs.Summaries.{summary_in}
 use Rattle.snl_scope.specs.Summaries.Tokens.{bytes_at}
 use Rattle.snl_scope.specs.declared.summary.Outline.{Outline}
 use Rattle.snl_scope.specs.declared.summary.Summary.{Summary}
+use Rattle.snl_tables.specs.declared.rows.Tables.{Tables}
+use Rattle.snl_tables.specs.Shifted.{shifted_tables, with_body}
 use Rattle.snl_check.specs.declared.findings.Checked.{Checked}
 use Rattle.snl_check.specs.Items.{outlines_of}
-use Rattle.snl_check.specs.ShiftedAround.{SaysAlike, wakes_of}
+use Rattle.snl_check.specs.ShiftedAround.{SaysAlike, set_number, state_number, wakes_of}
+use Rattle.snl_check.specs.States.{state_body}
 use Rattle.snl_session.specs.declared.entries.Entry.{Entry}
 use Rattle.snl_session.specs.declared.findings.Diagnostic.{Diagnostic}
 use Rattle.snl_session.specs.declared.findings.Finding.{Finding}
@@ -29,12 +33,14 @@ use Rattle.snl_session.specs.declared.plan.Changes.{Changes}
 use Rattle.snl_session.specs.Checks.{check_by, checks_from, checks_of, outlines_in}
 use Rattle.snl_session.specs.Diagnostics.{diagnostic, diagnostics_of, shown_if}
 use Rattle.snl_session.specs.Entries.{entries_of, entry_by}
-use Rattle.snl_session.specs.Inside.{AreOwnTokens, IsAfterState, IsOneItem, IsWas, SaysWhatItSaid, diagnostics_by, outlines_kept, own_item, wakes_told}
+use Rattle.snl_session.specs.Inside.{AreOwnTokens, FitsRow, IsAfterInside, IsOneItem, IsStateAlike, IsWas, SaysWhatItSaid, diagnostics_by, outlines_kept, own_item, wakes_told}
 use Rattle.snl_session.specs.OneState.{IsInside, own_findings, own_head, own_shown, own_tokens}
 use Rattle.snl_session.specs.OwnFindings.{found_around}
+use Rattle.snl_session.specs.OwnRows.{row_told, with_row}
 use Rattle.snl_session.specs.Planned.{AreEntriesMade, IsChanged}
 use Rattle.snl_session.specs.Program.{ProgramItem, item_tokens, items_of, program_item, tree_in}
 use Rattle.snl_session.specs.Shifted.{finding_of}
+use Rattle.snl_session.specs.Tables.{tables_in}
 use Rattle.snl_session.specs.Warnings.{warns_in}
 use Rattle.snl_session.proofs.InsideTold.{same_sound, summary_is, tree_is, wakes_are}
 use Rattle.snl_session.proofs.MemberParts.{element_at, members_parts}
@@ -81,11 +87,11 @@ check_got text k c lt got =
 
 -- ---- an edit inside one state
 
-pub is_inside : (old text : List ℕ) (start old_stop new_stop : ℕ) (c : Changes) (s : Shift) (own : OwnTokens) (w : Was) (e : Entry)
+pub is_inside : (old text : List ℕ) (start old_stop new_stop : ℕ) (c : Changes) (s : Shift) (w : Was) (e : Entry)
     → IsChanged old text start old_stop new_stop c → IsEdit old text start old_stop new_stop → IsShiftOf old text start old_stop new_stop s → length old < 2 ^ 32 → length text < 2 ^ 32
     → IsOneItem old c → IsWas old c.items.kept_front w → AreEntriesMade old text c.items.kept_front (e ∷ []) c.items.kept_back
-    → SaysWhatItSaid old text (own_head old c) c.items.kept_front own w e → IsInside old text start old_stop new_stop c s w.entry.now e
-is_inside old text start old_stop new_stop c s own w e changed edit by old_short short one was made says = record {
+    → SaysWhatItSaid old (own_head old c) c.items.kept_front w e → IsInside old text start old_stop new_stop c s w.entry.now e
+is_inside old text start old_stop new_stop c s w e changed edit by old_short short one was made says = record {
   changed = changed;
   edit = edit;
   by = by;
@@ -100,8 +106,7 @@ is_inside old text start old_stop new_stop c s own w e changed edit by old_short
   made = made;
   outline = says.same.outline;
   kind = says.same.kind;
-  is_state = says.same.is_state;
-  named = says.same.named;
+  plain = says.same.plain;
   declared = says.same.declared;
   no_clause = says.same.no_clause;
 }
@@ -123,9 +128,9 @@ module _ (tree_told : (text : List ℕ) (tokens : List Piece) → sound_tree (pa
   kept_outlines text = ap (λ (l : List (List (Class × List ℕ))). outlines_kept (map entry_by l)) (sym (spelled_text text)) ∙ kept_along text (item_tokens text)
 
   -- the state says to the others and in its conditions what it said
-  pub says_alike : (old text : List ℕ) (head k : ℕ) (own : OwnTokens) (w : Was) (e : Entry) → k < length (item_ends old) → IsWas old k w → AreOwnTokens old text k own → e ≡ entry_by (spelled text own.is.items)
-      → SaysWhatItSaid old text head k own w e → SaysAlike old text (own_item old k) (own_item text k)
-  says_alike old text head k own w e there was own_are made says =
+  pub says_alike : (old text : List ℕ) (head k set : ℕ) (own : OwnTokens) (w : Was) (e : Entry) → k < length (item_ends old) → IsWas old k w → AreOwnTokens old text k own → e ≡ entry_by (spelled text own.is.items)
+      → SaysWhatItSaid old head k w e → IsStateAlike old text k own w e set → SaysAlike old text (own_item old k) (own_item text k)
+  says_alike old text head k set own w e there was own_are made says alike =
       let made_is : e ≡ entry_by (spelled text (own_tokens text k)) = made ∙ ap (λ (ts : List Piece). entry_by (spelled text ts)) own_are.is in
       let x_is : w.entry.now ≡ entry_by (spelled old (own_tokens old k)) = entry_got old k w.entry.now there was.entry in
       let summary = summary_is tree_told by_spelling summary_told bytes_told text (own_tokens text k) e made_is in
@@ -134,18 +139,18 @@ module _ (tree_told : (text : List ℕ) (tokens : List Piece) → sound_tree (pa
       let check : w.check.now ≡ check_by (outlines_in old) k (spelled old (own_tokens old k)) = check_got old k w.check.now there was.check in
       record {
         sound = same_sound (own_item old k).tree (own_item text k).tree (sym (ap (λ (y : Summary). y.kind) summary) ∙ says.same.kind ∙ ap (λ (y : Summary). y.kind) summary_was);
-        targets = ap (λ (y : Summary). map (λ m. m.name) y.targets) (sym summary) ∙ says.alike.targets ∙ ap (λ (y : Summary). map (λ m. m.name) y.targets) summary_was;
+        targets = ap (λ (y : Summary). map (λ m. m.name) y.targets) (sym summary) ∙ alike.alike.targets ∙ ap (λ (y : Summary). map (λ m. m.name) y.targets) summary_was;
         wakes = ap₂ (λ (ts : List Piece) (t : Option Item). let y : ProgramItem = record { tokens = ts; tree = t } in wakes_of text y) (sym own_are.is) (sym tree)
-            ∙ says.alike.wakes
+            ∙ alike.alike.wakes
             ∙ ap₂ (λ (ts : List Piece) (c : Option Checked). wakes_told (bytes_at old ts) c) own_are.was check
             ∙ wakes_are tree_told by_spelling summary_told bytes_told (outlines_in old) k old (own_tokens old k);
       }
 
 -- the diagnostics of the new text
-pub diagnostics_after : (old text : List ℕ) (s : Shift) (k set : ℕ) (own : OwnTokens) (ss : List Outline) (warns : Bool) (found : List Diagnostic) → IsAfterState old text s k set → AreOwnTokens old text k own
+pub diagnostics_after : (old text : List ℕ) (s : Shift) (k : ℕ) (rows : Tables) (own : OwnTokens) (ss : List Outline) (warns : Bool) (found : List Diagnostic) → IsAfterInside old text s k rows → AreOwnTokens old text k own
     → ss ≡ outlines_in old → warns ≡ warns_in old → found ≡ diagnostics_of old → diagnostics_by old text ss warns s k own (map finding_of found) ≡ diagnostics_of text
 unfolding diagnostics_of
-diagnostics_after old text s k set own ss warns found after own_are ss_is warns_is found_is =
+diagnostics_after old text s k rows own ss warns found after own_are ss_is warns_is found_is =
     let come : shown_if warns (own_findings text ss k (program_item text own.is.items)) ≡ own_shown text (items_of text) k (own_item text k) =
     ap₂ (λ (w : Bool) (ts : List Piece). shown_if w (own_findings text ss k (program_item text ts))) (warns_is ∙ sym after.warns) own_are.is
     ∙ ap (λ (os : List Outline). shown_if (warns_in text) (own_findings text os k (own_item text k))) (ss_is ∙ sym (ap (λ l. l.outlines) after.links)) in
@@ -156,3 +161,12 @@ diagnostics_after old text s k set own ss warns found after own_are ss_is warns_
     (ap₂ (λ (g c : List Finding). found_around s g c (map finding_of found)) gone come
     ∙ ap (λ (d : List Diagnostic). found_around s (own_shown old (items_of old) k (own_item old k)) (own_shown text (items_of text) k (own_item text k)) (map finding_of d)) found_is
     ∙ after.found)
+
+-- the text after the edit, with the row of the item, if it has one
+pub after_any : (old text : List ℕ) (s : Shift) (k : ℕ) (own : OwnTokens) (w : Was) (e : Entry) (set : Option ℕ) → FitsRow old text k own w e set
+    → ((n : ℕ) → IsStateAlike old text k own w e n
+    → IsAfterInside old text s k (with_body (shifted_tables s (tables_in old)) (set_number (outlines_in old) n) (state_number (outlines_in old) n k) (state_body text (outlines_in old) k (own_item text k))))
+    → (is_some (state_name w.entry.now.summary.outline) ≡ false → IsAfterInside old text s k (shifted_tables s (tables_in old)))
+    → IsAfterInside old text s k (with_row (shifted_tables s (tables_in old)) (row_told text (outlines_in old) k (own_item text k) set))
+after_any old text s k own w e None fits of_state of_other = of_other fits
+after_any old text s k own w e (Some n) fits of_state of_other = of_state n fits

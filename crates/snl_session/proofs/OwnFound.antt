@@ -18,7 +18,7 @@ use Rattle.snl_scope.specs.LinkedItems.{LinkedItems}
 use Rattle.snl_scope.specs.Summaries.{kind_of}
 use Rattle.snl_scope.specs.Summaries.Tokens.{bytes_at}
 use Rattle.snl_check.specs.Shifted.{shifted_item, shifted_tokens}
-use Rattle.snl_check.specs.ShiftedAround.{is_state_or_faulty}
+use Rattle.snl_check.specs.ShiftedAround.{is_plain}
 use Rattle.snl_session.specs.declared.findings.Finding.{Finding}
 use Rattle.snl_session.specs.Checked.{checked_faults, found_in_item}
 use Rattle.snl_session.specs.Checks.{checked_by, links_in, outlines_in}
@@ -46,10 +46,10 @@ total_pairs : (f : Finding → ℕ) (a b c d e g : List Finding) → total f ((a
 total_pairs f a b c d e g = omega (arith, total_four f (a ++ b) c (d ++ e) g, total_append f a b, total_append f d e)
 
 -- a state says nothing of warnings, and neither does a faulty item
-says_nothing : (text : List ℕ) (ss : List Outline) (i : ℕ) (x : ProgramItem) → is_state_or_faulty (kind_of x.tree) ≡ true → setting_of_item text ss (i, x) ≡ None
+says_nothing : (text : List ℕ) (ss : List Outline) (i : ℕ) (x : ProgramItem) → is_plain (kind_of x.tree) ≡ true → setting_of_item text ss (i, x) ≡ None
 says_nothing text ss i x h = by x.tree h
   where
-    by : (tree : Option Item) → is_state_or_faulty (kind_of tree) ≡ true → setting_in text ss i x.tokens tree ≡ None
+    by : (tree : Option Item) → is_plain (kind_of tree) ≡ true → setting_in text ss i x.tokens tree ≡ None
     by None h = refl
     by (Some (items.OptionLine line)) h = absurd cc
     by (Some tree) h = refl
@@ -201,11 +201,11 @@ module _ (old text : List ℕ) (s : Shift) (head : ℕ) (front back : List Progr
         omega (arith, whole, rest, own, linked, walked, faults_are f, checks_are f)
 
   -- what items say of warnings
-  module _ (was_state : is_state_or_faulty (kind_of x.tree) ≡ true) (is_state : is_state_or_faulty (kind_of y.tree) ≡ true) where
+  module _ (was_plain : is_plain (kind_of x.tree) ≡ true) (is_state : is_plain (kind_of y.tree) ≡ true) where
     settings_around : (k : ℕ) (ps : List ProgramItem) → AllByRecursion Stays ps
         → filter_map (setting_of_item text ss) (enumerate_from k (map si ps ++ (y ∷ map si back))) ≡ filter_map (setting_of_item old ss) (enumerate_from k (ps ++ (x ∷ back)))
     settings_around k [] h =
-        ap₂ (λ (o : Option Bool) (l : List Bool). cons_option o l) (says_nothing text ss k y is_state ∙ sym (says_nothing old ss k x was_state))
+        ap₂ (λ (o : Option Bool) (l : List Bool). cons_option o l) (says_nothing text ss k y is_state ∙ sym (says_nothing old ss k x was_plain))
         (settings_stay s is.shift.some_before old order fits text each_inside ss (k + 1) back (stay back is.back_stays))
     settings_around k (p ∷ ps) h =
         ap₂ (λ (o : Option Bool) (l : List Bool). cons_option o l) (setting_stays s is.shift.some_before old order fits text each_inside ss k p.tokens p.tree h.0.0) (settings_around (k + 1) ps h.1)

@@ -29,7 +29,7 @@ use Rattle.snl_tables.specs.declared.rows.Span.{Span}
 use Rattle.snl_tables.specs.Shifted.{shifted_span}
 use Rattle.snl_check.specs.Items.{outline_of_item, span_of}
 use Rattle.snl_check.specs.Shifted.{KeepsItem, shifted_item, shifted_tokens, start_at}
-use Rattle.snl_check.specs.ShiftedAround.{IsPlacedAt, ReplacesOne, ReplacesState, is_state_or_faulty}
+use Rattle.snl_check.specs.ShiftedAround.{IsPlacedAt, ReplacesOne, ReplacesItem, is_plain}
 use Rattle.snl_session.specs.declared.entries.Entry.{Entry}
 use Rattle.snl_session.specs.declared.plan.Changes.{Changes}
 use Rattle.snl_session.specs.declared.recheck.MadeCheck.{MadeCheck}
@@ -301,12 +301,11 @@ module _ (old text : List ℕ) (start old_stop new_stop : ℕ) (c : Changes) (s 
       recursion_from_All (λ d. IsPlacedAt s (program_item old was_own) (program_item text is_own) d.token) (summary_in old was_own (tree_in old was_own)).outline.declares
       (λ n d lt. placed (get_or (summary_in old was_own (tree_in old was_own)).outline.declares n d).token (subst (DeclaresInHead many) (sym outline_was) is.declared n d lt))
 
-  replaces : ReplacesState old text s (program_item old was_own) (program_item text is_own)
+  replaces : ReplacesItem old text s (program_item old was_own) (program_item text is_own)
   replaces = record {
-    was_state = ap is_state_or_faulty (ap (λ (y : Summary). y.kind) summary_was) ∙ is.is_state;
-    is_state = ap is_state_or_faulty (ap (λ (y : Summary). y.kind) summary_is ∙ is.kind) ∙ is.is_state;
+    was_plain = ap is_plain (ap (λ (y : Summary). y.kind) summary_was) ∙ is.plain;
+    is_plain_now = ap is_plain (ap (λ (y : Summary). y.kind) summary_is ∙ is.kind) ∙ is.plain;
     outline = outline_same;
-    named = ap (λ (o : Outline). is_some (state_name o)) outline_was ∙ is.named;
     declared = declared_placed;
     no_clause = ap (λ (o : Outline). o.clauses) outline_was ∙ is.no_clause;
     name = placed 1 (two 1 (omega arith));
@@ -351,8 +350,8 @@ module _ (old text : List ℕ) (start old_stop new_stop : ℕ) (c : Changes) (s 
         others = λ i ne. others_mapped (shifted_item s) front px py back i (λ q. ne (q ∙ number));
         kept = λ i z ne there. got_other (KeepsItem old text s) front px back i z front_keeps back_keeps (λ q. ne (q ∙ number)) there;
         replaced = λ a b was_a is_b.
-            this (λ (z : ProgramItem). ReplacesState old text s z b) px a (slice_get (front ++ (px ∷ back)) k) (element_at front px back k number) was_a
-            (this (λ (z : ProgramItem). ReplacesState old text s px z) py b (slice_get (map (shifted_item s) front ++ (py ∷ map (shifted_item s) back)) k)
+            this (λ (z : ProgramItem). ReplacesItem old text s z b) px a (slice_get (front ++ (px ∷ back)) k) (element_at front px back k number) was_a
+            (this (λ (z : ProgramItem). ReplacesItem old text s px z) py b (slice_get (map (shifted_item s) front ++ (py ∷ map (shifted_item s) back)) k)
             (element_at (map (shifted_item s) front) py (map (shifted_item s) back) k many) is_b replaces);
       }
 
@@ -401,6 +400,8 @@ module _ (old text : List ℕ) (start old_stop new_stop : ℕ) (c : Changes) (s 
     stop = stops_after old text start old_stop new_stop c s past;
     within = omega (arith, lasts old, taken_to_last 0 (k + 1) (item_ends old) (rises old));
     own_now = own_now old text start old_stop new_stop c s past;
+    outline_was = outline_was;
+    kind_same = kind_same;
     was_spelled = was_spelled;
     spelled_so = spelled_so;
     checks = checks_are;

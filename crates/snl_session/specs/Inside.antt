@@ -1,5 +1,5 @@
--- What is made of an edit inside one state that says to the other items what it said.
-use Rattle.std.specs.Prelude.{◌≡◌, ℕ, ◌+◌, ◌≤◌, Bool, true, List, [], length, map, take, count_by, slice_get, Option, Some, None, is_some}
+-- What is made of an edit inside one item that says to the others what it said.
+use Rattle.std.specs.Prelude.{◌≡◌, ℕ, ◌+◌, ◌≤◌, Bool, true, false, List, [], length, map, take, count_by, slice_get, Option, Some, None, is_some}
 use Rattle.snl_cut.specs.Cut.{last_end}
 use Rattle.snl_lex.specs.declared.piece.Piece.{Piece}
 use Rattle.snl_lex.specs.declared.shift.Shift.{Shift}
@@ -12,10 +12,10 @@ use Rattle.snl_scope.specs.Order.{state_name}
 use Rattle.snl_scope.specs.Places.{place}
 use Rattle.snl_scope.specs.Summaries.Tokens.{bytes_at}
 use Rattle.snl_scope.specs.declared.summary.Outline.{Outline}
-use Rattle.snl_tables.specs.Shifted.{shifted_tables, with_body}
+use Rattle.snl_tables.specs.declared.rows.Tables.{Tables}
+use Rattle.snl_tables.specs.Shifted.{shifted_tables}
 use Rattle.snl_check.specs.declared.findings.Checked.{Checked}
-use Rattle.snl_check.specs.ShiftedAround.{is_state_or_faulty, set_number, state_number, used_by, wakes_of}
-use Rattle.snl_check.specs.States.{state_body}
+use Rattle.snl_check.specs.ShiftedAround.{is_plain, used_by, wakes_of}
 use Rattle.snl_session.specs.declared.entries.Entry.{Entry}
 use Rattle.snl_session.specs.declared.findings.Diagnostic.{Diagnostic}
 use Rattle.snl_session.specs.declared.findings.Finding.{Finding}
@@ -29,6 +29,7 @@ use Rattle.snl_session.specs.Entries.{entries_of}
 use Rattle.snl_session.specs.OneState.{DeclaresInHead, SparesInside, own_findings, own_shown, own_tokens}
 use Rattle.snl_session.specs.Order.{in_order}
 use Rattle.snl_session.specs.OwnFindings.{found_around}
+use Rattle.snl_session.specs.OwnRows.{with_row}
 use Rattle.snl_session.specs.Program.{ProgramItem, items_of, program_item}
 use Rattle.snl_session.specs.Rechecked.{AreChecksMade, made_at, nones}
 use Rattle.snl_session.specs.Shifted.{finding_of}
@@ -48,13 +49,12 @@ pub record IsOneItem (old : List ℕ) (c : Changes) : Type 0 where
   pub one_gone : c.items.kept_front + 1 + c.items.kept_back ≡ length (item_ends old)
   pub head : last_end 0 (take c.items.kept_front (item_ends old)) + 2 ≤ c.tokens.edit.start
 
--- A state with a name in the place of another, each sound or faulty as the other: it says to the other items what that one said, what it
+-- A plain item in the place of another, each sound or faulty as the other: it says to the other items what that one said, what it
 -- declares is among its first `head` tokens, and it has no clauses.
 pub record SaysTheSame (head : ℕ) (x e : Entry) : Type 0 where
   pub outline : e.summary.outline ≡ x.summary.outline
   pub kind : e.summary.kind ≡ x.summary.kind
-  pub is_state : is_state_or_faulty x.summary.kind ≡ true
-  pub named : is_some (state_name x.summary.outline) ≡ true
+  pub plain : is_plain x.summary.kind ≡ true
   pub declared : DeclaresInHead head x.summary.outline
   pub no_clause : x.summary.outline.clauses ≡ []
 
@@ -72,35 +72,43 @@ pub record AreAlike (old text : List ℕ) (was is : List Piece) (x e : Entry) (c
 abbrev pub own_item : List ℕ → ℕ → ProgramItem
 own_item text i = program_item text (own_tokens text i)
 
--- What a text says after an edit inside the state that is item i, in a set: what it said, shifted, but for what is found at the state itself and the body of
--- its row.
-pub record IsAfterState (old text : List ℕ) (s : Shift) (i set : ℕ) : Type 0 where
+-- What a text says after an edit inside item i: what it said, shifted, but for what is found at the item itself; and these are its rows.
+pub record IsAfterInside (old text : List ℕ) (s : Shift) (i : ℕ) (rows : Tables) : Type 0 where
   pub links : links_in text ≡ links_in old
   pub warns : warns_in text ≡ warns_in old
   pub found : found_around s (own_shown old (items_of old) i (own_item old i)) (own_shown text (items_of text) i (own_item text i)) (map finding_of (diagnostics_of old)) ≡ in_order (shown text)
-  pub tables : tables_in text ≡ with_body (shifted_tables s (tables_in old)) (set_number (outlines_in old) set) (state_number (outlines_in old) set i) (state_body text (outlines_in old) i (own_item text i))
+  pub tables : tables_in text ≡ rows
 
--- What is made of the state, besides what is kept of it: its check, the diagnostics of the new text, and the rows.
+-- What is made of the item, besides what is kept of it: its check, the diagnostics of the new text, and the rows.
 pub record IsMadeInside (old text : List ℕ) (start old_stop new_stop : ℕ) (c : Changes) (i : Inside) : Type 0 where
   pub links : links_in text ≡ links_in old
   pub warns : warns_in text ≡ warns_in old
   pub checks : AreChecksMade old text c.items.kept_front (nones c.items.made.items) c.items.kept_back (made_at c.items.kept_front i.check)
   pub stirred : stirred_between old text start old_stop new_stop ≡ length (made_at c.items.kept_front i.check)
   pub diagnostics : i.diagnostics.items ≡ diagnostics_of text
-  pub tables : tables_in text ≡ with_body (shifted_tables i.shift (tables_in old)) i.row.set i.row.state i.body
+  pub tables : tables_in text ≡ with_row (shifted_tables i.shift (tables_in old)) i.row
 
--- The state that an edit replaces, by the number of its item.
+-- The item that an edit replaces, by its number.
 pub record IsWas (old : List ℕ) (item : ℕ) (w : Was) : Type 0 where
-  pub set : place (outlines_in old) item ≡ Some w.set
   pub entry : slice_get (entries_of old) item ≡ Some w.entry.now
   pub check : slice_get (checks_of old) item ≡ Some w.check.now
 
--- The state in its place says to the other items and in its conditions what that one said; what it declares, and what the links find in it, is among its
--- first `head` tokens.
-pub record SaysWhatItSaid (old text : List ℕ) (head item : ℕ) (own : OwnTokens) (w : Was) (e : Entry) : Type 0 where
+-- The item in its place says to the others what that one said; what it declares, and what the links find in it, is among its first `head`
+-- tokens.
+pub record SaysWhatItSaid (old : List ℕ) (head item : ℕ) (w : Was) (e : Entry) : Type 0 where
   pub same : SaysTheSame head w.entry.now e
-  pub alike : AreAlike old text own.was.items own.is.items w.entry.now e w.check.now
   pub spared : SparesInside head item (faults_of (links_in old))
+
+-- A state with a name, in this set, leads where the one before it led, and says in its conditions what that one said.
+pub record IsStateAlike (old text : List ℕ) (item : ℕ) (own : OwnTokens) (w : Was) (e : Entry) (set : ℕ) : Type 0 where
+  pub named : is_some (state_name w.entry.now.summary.outline) ≡ true
+  pub alike : AreAlike old text own.was.items own.is.items w.entry.now e w.check.now
+  pub placed : place (outlines_in old) item ≡ Some set
+
+-- An item with a row is such a state; else it is no state with a name.
+abbrev pub FitsRow : (old text : List ℕ) → ℕ → OwnTokens → Was → Entry → Option ℕ → Type 0
+FitsRow old text item own w e None = is_some (state_name w.entry.now.summary.outline) ≡ false
+FitsRow old text item own w e (Some set) = IsStateAlike old text item own w e set
 
 -- These are the tokens of an item before and after an edit.
 pub record AreOwnTokens (old text : List ℕ) (item : ℕ) (own : OwnTokens) : Type 0 where

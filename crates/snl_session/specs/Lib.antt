@@ -11,6 +11,7 @@ pub mod Listing
 pub mod OneState
 pub mod Order
 pub mod OwnFindings
+pub mod OwnRows
 pub mod Parts
 pub mod Planned
 pub mod Program

@@ -1,5 +1,5 @@
--- What a text says after an edit inside one state that says to the other items what it said.
-use Rattle.std.specs.Prelude.{◌≡◌, ℕ, ◌+◌, ◌-◌, ◌^◌, ◌<◌, ◌≤◌, ◌⊎◌, All, true, List, [], ◌∷◌, ◌++◌, length, map, take, count_by, slice_get, Option, Some, option_map, is_some}
+-- What a text says after an edit inside one item that says to the others what it said.
+use Rattle.std.specs.Prelude.{◌≡◌, ℕ, ◌+◌, ◌-◌, ◌^◌, ◌<◌, ◌≤◌, ◌⊎◌, All, true, List, [], ◌∷◌, ◌++◌, length, map, take, count_by, slice_get, Option, Some, option_map}
 use Rattle.std.specs.List.{AllByRecursion, cons_option}
 use Rattle.snl_cut.specs.Cut.{IsEdit, last_end}
 use Rattle.snl_lex.specs.declared.piece.Piece.{Piece}
@@ -10,12 +10,13 @@ use Rattle.snl_lex.specs.Pieces.{LiesIn, piece_end, tokens_of}
 use Rattle.snl_lex.specs.Shift.{IsShift, marker_count, shifted_piece}
 use Rattle.snl_items.specs.Changes.{IsShiftOf}
 use Rattle.snl_items.specs.Items.{item_ends}
-use Rattle.snl_scope.specs.Order.{state_name}
+use Rattle.snl_scope.specs.Summaries.{kind_of}
 use Rattle.snl_scope.specs.declared.facts.LinkFault.{LinkFault}
 use Rattle.snl_scope.specs.declared.summary.Outline.{Outline}
 use Rattle.snl_check.specs.declared.findings.Checked.{Checked}
+use Rattle.snl_check.specs.Items.{outline_of_item}
 use Rattle.snl_check.specs.Shifted.{shifted_item, shifted_tokens}
-use Rattle.snl_check.specs.ShiftedAround.{ReplacesOne, is_state_or_faulty}
+use Rattle.snl_check.specs.ShiftedAround.{ReplacesOne, is_plain}
 use Rattle.snl_session.specs.declared.entries.Entry.{Entry}
 use Rattle.snl_session.specs.declared.findings.Finding.{Finding}
 use Rattle.snl_session.specs.declared.plan.Changes.{Changes}
@@ -75,7 +76,7 @@ own_head old c = c.tokens.edit.start - own_start old c.items.kept_front
 abbrev pub DeclaresInHead : ℕ → Outline → Type 0
 DeclaresInHead head o = All (λ d. d.token < head) o.declares
 
--- What is known, by tests, of an edit inside one state: `x` is what was kept of the state, `e` what is made of it.
+-- What is known, by tests, of an edit inside one item: `x` is what was kept of the item, `e` what is made of it.
 pub record IsInside (old text : List ℕ) (start old_stop new_stop : ℕ) (c : Changes) (s : Shift) (x e : Entry) : Type 0 where
   pub changed : IsChanged old text start old_stop new_stop c
   pub edit : IsEdit old text start old_stop new_stop
@@ -91,11 +92,10 @@ pub record IsInside (old text : List ℕ) (start old_stop new_stop : ℕ) (c : C
   pub head : last_end 0 (take c.items.kept_front (item_ends old)) + 2 ≤ c.tokens.edit.start
   pub was : slice_get (entries_of old) c.items.kept_front ≡ Some x
   pub made : AreEntriesMade old text c.items.kept_front (e ∷ []) c.items.kept_back
-  -- a state with a name in the place of another, each sound or faulty as the other: it says to the other items what that one said; what it declares is before the edit, and it has no clauses
+  -- a plain item in the place of another, each sound or faulty as the other: it says to the other items what that one said; what it declares is before the edit, and it has no clauses
   pub outline : e.summary.outline ≡ x.summary.outline
   pub kind : e.summary.kind ≡ x.summary.kind
-  pub is_state : is_state_or_faulty x.summary.kind ≡ true
-  pub named : is_some (state_name x.summary.outline) ≡ true
+  pub plain : is_plain x.summary.kind ≡ true
   pub declared : DeclaresInHead (own_head old c) x.summary.outline
   pub no_clause : x.summary.outline.clauses ≡ []
 
@@ -120,6 +120,8 @@ pub record IsOneState (old text : List ℕ) (start old_stop new_stop : ℕ) (c :
   pub within : own_start old (c.items.kept_front + 1) ≤ length (tokens_of old)
   pub own_now : own_tokens text c.items.kept_front
       ≡ tokens_between (tokens_of text) (own_start old c.items.kept_front) ((own_start old (c.items.kept_front + 1) - c.tokens.edit.old_stop) + c.tokens.edit.new_stop)
+  pub outline_was : outline_of_item old (program_item old (own_tokens old c.items.kept_front)) ≡ x.summary.outline
+  pub kind_same : kind_of (program_item text (own_tokens text c.items.kept_front)).tree ≡ kind_of (program_item old (own_tokens old c.items.kept_front)).tree
   pub was_spelled : x ≡ entry_by (spelled old (own_tokens old c.items.kept_front))
   pub spelled_so : e ≡ entry_by (spelled text (own_tokens text c.items.kept_front))
   pub checks : AreChecksMade old text c.items.kept_front (nones c.items.made.items) c.items.kept_back (made_at c.items.kept_front (own_check old text c.items.kept_front))

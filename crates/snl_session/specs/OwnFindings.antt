@@ -1,4 +1,4 @@
--- What is found after an edit inside one state: the findings of that state are taken out, the others are shifted, and what is now found at it comes in.
+-- What is found after an edit inside one item: the findings of that item are taken out, the others are shifted, and what is now found at it comes in.
 use Rattle.std.specs.Prelude.{◌≡◌, ℕ, Bool, if◌then◌else◌, List, [], ◌∷◌, ◌++◌, map, Option}
 use Rattle.std.specs.Ordering.{is_eq}
 use Rattle.snl_lex.specs.declared.piece.Piece.{Piece}

@@ -5,7 +5,7 @@ use Rattle.snl_lex.specs.PieceList.{IsChange}
 use Rattle.snl_items.specs.declared.item_list.ItemChange.{ItemChange}
 use Rattle.snl_items.specs.Changes.{AreShifted, IsItemChange, IsTokenChange}
 use Rattle.snl_items.specs.Fresh.{fresh_items_between, fresh_pieces_between}
-use Rattle.snl_tables.specs.Shifted.{shifted_tables, with_body}
+use Rattle.snl_tables.specs.Shifted.{shifted_tables}
 use Rattle.snl_session.specs.declared.edits.Work.{Work}
 use Rattle.snl_session.specs.declared.entries.Entry.{Entry}
 use Rattle.snl_session.specs.declared.inside.StateWay.{StateWay}
@@ -21,6 +21,7 @@ use Rattle.snl_session.specs.declared.ways.Plan.TheVariants as plan
 use Rattle.snl_session.specs.Diagnostics.{diagnostics_of}
 use Rattle.snl_session.specs.Entries.{entries_of}
 use Rattle.snl_session.specs.Kept.{HasRoomFor, HasRoomForPlaces}
+use Rattle.snl_session.specs.OwnRows.{with_row}
 use Rattle.snl_session.specs.Rechecked.{AreChecksMade}
 use Rattle.snl_session.specs.Relinked.{AreLinks}
 use Rattle.snl_session.specs.Shifted.{IsShifted}
@@ -82,13 +83,13 @@ pub record IsWholeWay (old text : List ℕ) (start old_stop new_stop : ℕ) (way
   pub tables : way.tables ≡ tables_in text
   pub cost : IsCost old text start old_stop new_stop way.work
 
--- An edit inside one state that says to the other items what it said: the rows are shifted, but for the body of its own.
+-- An edit inside one item that says to the others what it said: the rows are shifted, but for the body of its own, if it is a state.
 pub record IsStateWay (old text : List ℕ) (start old_stop new_stop : ℕ) (way : StateWay) : Type 0 where
   pub changes : IsChanged old text start old_stop new_stop way.changes
   pub lines : IsLineList text way.lines.ends.items way.lines.markers.items way.lines.naming.items
   pub remade : IsRemade old text way.changes.items.kept_front way.changes.items.kept_back way.remade
   pub diagnostics : way.diagnostics.items ≡ diagnostics_of text
-  pub tables : tables_in text ≡ with_body (shifted_tables way.shift (tables_in old)) way.row.set way.row.state way.body
+  pub tables : tables_in text ≡ with_row (shifted_tables way.shift (tables_in old)) way.row
   pub cost : IsCost old text start old_stop new_stop way.work
 
 -- The plan of an edit is one of the three.

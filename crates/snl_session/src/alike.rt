@@ -1,16 +1,15 @@
-//! Whether a state in the place of another says what that one said, to the other items and in its conditions.
+//! Whether an item in the place of another says what that one said, to the other items and, if it is a state, in its conditions.
 //! In: what is kept of the two, and their tokens. Out: yes or no.
 #![tactic(auto)]
 
 ghost use Rattle.std.specs.Prelude.{◌≡◌, ◌↔◌, All, IfOk, IsTrue, map};
 ghost use Rattle.snl_lex.specs.Pieces.{LiesIn};
 ghost use Rattle.snl_scope.specs.Linked.{faults_of};
-ghost use Rattle.snl_check.specs.ShiftedAround.{is_state_or_faulty};
+ghost use Rattle.snl_check.specs.ShiftedAround.{is_plain};
 ghost use Rattle.snl_session.specs.Inside.{AreAlike, SaysTheSame};
 ghost use Rattle.snl_session.specs.OneState.{DeclaresInHead, SparesInside};
 
 use crate::entries::Entry;
-use crate::numbers::is_named;
 use crate::one_item::OwnTokens;
 use snl_check::{Checked, wakes_alike};
 use snl_cut::OutOfMemory;
@@ -18,10 +17,13 @@ use snl_lex::TextEdit;
 use snl_scope::{ItemKind, Links, Mention, Outline, same_outline};
 use std::alloc::Global;
 
-fn is_state_or_faulty(kind: ItemKind) -> bool
-    ensures { result ≡ is_state_or_faulty kind }
+fn is_plain(kind: ItemKind) -> bool
+    ensures { result ≡ is_plain kind }
 {
-    matches!(kind, ItemKind::State | ItemKind::Faulty)
+    !matches!(
+        kind,
+        ItemKind::Header | ItemKind::SsBegin | ItemKind::Clause | ItemKind::OptionLine
+    )
 }
 
 // Whether all names that an item declares are among so many of its first tokens.
@@ -35,7 +37,7 @@ fn declares_in_head(outline: &Outline, head: usize) -> bool
         .all(|declared| declared.token < head)
 }
 
-/// Whether a state is in the place of one that said the same to the other items: what it declares is among so many of its first tokens, and it
+/// Whether an item is in the place of one that said the same to the others, and both are plain: what it declares is among so many of its first tokens, and it
 /// has no clauses.
 pub fn says_the_same(was: &Entry, is: &Entry, head: usize) -> bool
     ensures { IsTrue result → SaysTheSame head was.now is.now }
@@ -43,8 +45,7 @@ pub fn says_the_same(was: &Entry, is: &Entry, head: usize) -> bool
     let (was, is) = (&was.summary, &is.summary);
     same_outline(&is.outline, &was.outline)
         && is.kind == was.kind
-        && is_state_or_faulty(was.kind)
-        && is_named(&was.outline)
+        && is_plain(was.kind)
         && declares_in_head(&was.outline, head)
         && was.outline.clauses.is_empty()
 }
@@ -81,7 +82,7 @@ fn same_names(ones: &[Mention], others: &[Mention]) -> bool
     true
 }
 
-// The most findings of a state, above which it isn't worth the search for each among the diagnostics.
+// The most findings of an item, above which it isn't worth the search for each among the diagnostics.
 const FEW: usize = 16;
 
 /// Whether the check of an item found little.

@@ -1,11 +1,11 @@
-//! What is found after an edit inside one state. A function here does nothing: its contract is the law.
+//! What is found after an edit inside one item. A function here does nothing: its contract is the law.
 
 ghost use Rattle.std.specs.Prelude.{◌≡◌, ℕ, List, true, length, map};
 ghost use Rattle.snl_lex.specs.declared.shift.Shift.{Shift};
 ghost use Rattle.snl_scope.specs.Linked.{faults_of};
 ghost use Rattle.snl_scope.specs.Summaries.{kind_of};
 ghost use Rattle.snl_check.specs.Items.{ProgramItem};
-ghost use Rattle.snl_check.specs.ShiftedAround.{is_state_or_faulty};
+ghost use Rattle.snl_check.specs.ShiftedAround.{is_plain};
 ghost use Rattle.snl_session.specs.Checks.{links_in};
 ghost use Rattle.snl_session.specs.Diagnostics.{diagnostics_of, shown};
 ghost use Rattle.snl_session.specs.OneState.{ReplacesInside, SparesInside, own_shown};
@@ -20,10 +20,10 @@ use snl_check::faults_stand_in_tokens;
 use snl_scope::same_spelling_same_summary;
 use snl_syntax::same_spelling_same_tree;
 
-/// After an edit inside one state the findings of the other items are shifted, and warnings are shown if they were.
+/// After an edit inside one plain item the findings of the other items are shifted, and warnings are shown if they were.
 pub fn findings_around_a_state()
-    ensures found { (old text : List ℕ) (s : Shift) (head : ℕ) (front back : List ProgramItem) (x y : ProgramItem) → ReplacesInside old text s head front x y back → SparesInside head (length front) (faults_of (links_in old)) → is_state_or_faulty (kind_of x.tree) ≡ true → is_state_or_faulty (kind_of y.tree) ≡ true → walked_in (tables_in text) ≡ map (shifted_finding s) (walked_in (tables_in old)) → found_around s (own_shown old (items_of old) (length front) x) (own_shown text (items_of text) (length front) y) (in_order (shown old)) ≡ in_order (shown text) }
-    ensures warnings { (old text : List ℕ) (s : Shift) (head : ℕ) (front back : List ProgramItem) (x y : ProgramItem) → ReplacesInside old text s head front x y back → is_state_or_faulty (kind_of x.tree) ≡ true → is_state_or_faulty (kind_of y.tree) ≡ true → shows_warnings text (items_of text) ≡ shows_warnings old (items_of old) }
+    ensures found { (old text : List ℕ) (s : Shift) (head : ℕ) (front back : List ProgramItem) (x y : ProgramItem) → ReplacesInside old text s head front x y back → SparesInside head (length front) (faults_of (links_in old)) → is_plain (kind_of x.tree) ≡ true → is_plain (kind_of y.tree) ≡ true → walked_in (tables_in text) ≡ map (shifted_finding s) (walked_in (tables_in old)) → found_around s (own_shown old (items_of old) (length front) x) (own_shown text (items_of text) (length front) y) (in_order (shown old)) ≡ in_order (shown text) }
+    ensures warnings { (old text : List ℕ) (s : Shift) (head : ℕ) (front back : List ProgramItem) (x y : ProgramItem) → ReplacesInside old text s head front x y back → is_plain (kind_of x.tree) ≡ true → is_plain (kind_of y.tree) ≡ true → shows_warnings text (items_of text) ≡ shows_warnings old (items_of old) }
 {
     same_spelling_same_tree();
     same_spelling_same_summary();

@@ -1,4 +1,4 @@
-//! The plan of an edit inside one state that says to the other items what it said: its row, its findings and what is kept of it are
+//! The plan of an edit inside one item that says to the others what it said: its findings, its row, if it is a state, and what is kept of it are
 //! made anew, all else stays or is shifted. What is kept of the old text and both texts come in; what is made goes out.
 #![tactic(auto)]
 
@@ -12,10 +12,11 @@ ghost use Rattle.snl_check.specs.States.{state_body};
 ghost use Rattle.snl_session.specs.Checks.{check_by};
 ghost use Rattle.snl_session.specs.Diagnostics.{diagnostic, diagnostics_of, shown_if};
 ghost use Rattle.snl_session.specs.Entries.{entry_by};
-ghost use Rattle.snl_session.specs.Inside.{AreOwnTokens, IsMadeInside, IsOneItem, IsWas, SaysWhatItSaid, diagnostics_by};
+ghost use Rattle.snl_session.specs.Inside.{AreOwnTokens, FitsRow, IsMadeInside, IsOneItem, IsWas, SaysWhatItSaid, diagnostics_by, outlines_kept};
 ghost use Rattle.snl_session.specs.Kept.{HasRoomFor, IsListed};
 ghost use Rattle.snl_session.specs.OneState.{own_findings, own_head};
 ghost use Rattle.snl_session.specs.OwnFindings.{IsOwnCheck, found_around};
+ghost use Rattle.snl_session.specs.OwnRows.{row_told, with_row};
 ghost use Rattle.snl_session.specs.Planned.{AreEntriesMade, IsChanged, IsCost, IsStateWay};
 ghost use Rattle.snl_session.specs.Program.{program_item};
 ghost use Rattle.snl_session.specs.Rechecked.{made_at};
@@ -28,9 +29,9 @@ use crate::diagnose::{keep_shown, on_lines};
 use crate::edits::Work;
 use crate::entries::Entry;
 use crate::findings::{Diagnostic, Finding};
-use crate::inside_laws::edit_inside_a_state;
+use crate::inside_laws::{edit_around_an_item, edit_inside_a_state};
 use crate::lists::{Lists, Remade};
-use crate::numbers::{RowPlace, row_of};
+use crate::numbers::{RowPlace, is_named, row_of};
 use crate::one_item::OwnTokens;
 use crate::own_findings::{findings_around, own_findings};
 use crate::plan::Changes;
@@ -45,8 +46,8 @@ use snl_scope::{Links, same_spelling_same_summary};
 use snl_syntax::{outcome_told, same_spelling_same_tree};
 use std::alloc::Global;
 
-/// The changes that an edit inside one state makes, the lines of the new text, what is made of all that is kept of the items, the
-/// diagnostics, how the rows are shifted, where the state has its row and what its body says, and the cost.
+/// The changes that an edit inside one item makes, the lines of the new text, what is made of all that is kept of the items, the
+/// diagnostics, how the rows are shifted, its own row, and the cost.
 #[derive(Drop)]
 pub struct StateWay {
     pub changes: Changes,
@@ -54,27 +55,31 @@ pub struct StateWay {
     pub remade: Remade,
     pub diagnostics: Vec<Diagnostic>,
     pub shift: Shift,
-    pub row: RowPlace,
-    pub body: StateBody,
+    pub row: Option<OwnRow>,
     pub work: Work,
 }
 
-/// The state that an edit replaces: the number of its set, what is kept of it, and its check, if it is sound.
+/// The item that an edit replaces: what is kept of it, and its check, if it is sound.
 #[derive(Clone, Copy)]
 pub struct Was<'a> {
-    pub set: usize,
     pub entry: &'a Entry,
     pub check: &'a Option<Checked>,
 }
 
-/// What an edit makes of a state, besides what is kept of it: its check, if it is sound, the diagnostics of the new text, how the rows of the other items are
-/// shifted, where the state has its row and what its body says.
+/// What an edit makes of an item, besides what is kept of it: its check, if it is sound, the diagnostics of the new text, how the rows of the other items are
+/// shifted, and its own row.
 #[derive(Drop)]
 pub struct Inside {
     pub check: Option<Checked>,
     pub diagnostics: Vec<Diagnostic>,
     pub shift: Shift,
-    pub row: RowPlace,
+    pub row: Option<OwnRow>,
+}
+
+/// The row of a state: where it is, and what its body says.
+#[derive(Drop)]
+pub struct OwnRow {
+    pub place: RowPlace,
     pub body: StateBody,
 }
 
@@ -198,7 +203,32 @@ fn own_body(
     }
 }
 
-// What an edit makes of a state that says what the one before it said.
+// The row of the item that is made, if it is a state in this set.
+fn own_row(
+    alloc: Global,
+    lists: &Lists,
+    text: &[u8],
+    own: &[Piece],
+    entry: &Entry,
+    item: usize,
+    set: Option<usize>,
+    check: &Option<Checked>,
+) -> Result<Option<OwnRow>, OutOfMemory>
+    requires outlines { lists.now.links.outlines ≡ outlines_kept lists.now.entries.values }
+    requires within { All (LiesIn text.now) own.now }
+    requires entry { entry.now ≡ entry_by (spelled text.now own.now) }
+    requires check { check.now ≡ check_by lists.now.links.outlines item (spelled text.now own.now) }
+    ensures { IfOk result (λ r. r ≡ row_told text.now lists.now.links.outlines item (program_item text.now own.now) set) }
+{
+    let Some(set) = set else {
+        return Ok(None);
+    };
+    let body = own_body(alloc, text, own, entry, &lists.links, item, check)?;
+    let place = row_of(&lists.entries, &lists.links, set, item);
+    Ok(Some(OwnRow { place, body }))
+}
+
+// What an edit makes of an item that says what the one before it said, and of its row, if it is a state in this set.
 fn made_inside(
     alloc: Global,
     lists: &Lists,
@@ -209,6 +239,7 @@ fn made_inside(
     own: &OwnTokens,
     was: Was,
     made: &Entry,
+    set: Option<usize>,
     work: &mut Count,
 ) -> Result<Inside, OutOfMemory>
     requires lists { IsListed edit.now.old.now lists.now }
@@ -220,11 +251,13 @@ fn made_inside(
     requires was { IsWas edit.now.old.now changes.now.items.kept_front was }
     requires made { made.now ≡ entry_by (spelled edit.now.text.now own.now.is.items) }
     requires alone { AreEntriesMade edit.now.old.now edit.now.text.now changes.now.items.kept_front (made.now ∷ []) changes.now.items.kept_back }
-    requires says { SaysWhatItSaid edit.now.old.now edit.now.text.now (own_head edit.now.old.now changes.now) changes.now.items.kept_front own.now was made.now }
+    requires says { SaysWhatItSaid edit.now.old.now (own_head edit.now.old.now changes.now) changes.now.items.kept_front was made.now }
+    requires row { FitsRow edit.now.old.now edit.now.text.now changes.now.items.kept_front own.now was made.now set }
     ensures inside { IfOk result (IsMadeInside edit.now.old.now edit.now.text.now edit.now.start edit.now.old_stop edit.now.new_stop changes.now) }
     ensures ticks { IfOk result (λ i. work.new ≡ after_ticks work.old (length (made_at changes.now.items.kept_front i.check))) }
 {
     edit_inside_a_state();
+    edit_around_an_item();
     one_state_replaced();
     text_in_pieces();
     items_end_in_order();
@@ -237,24 +270,21 @@ fn made_inside(
     let diagnostics = own_diagnostics(
         alloc, lists, found, edit, lines, shift, own, item, was, made, &check,
     )?;
-    let body = own_body(alloc, edit.text, &own.is, made, &lists.links, item, &check)?;
-    let row = row_of(&lists.entries, &lists.links, was.set, item);
+    let row = own_row(alloc, lists, edit.text, &own.is, made, item, set, &check)?;
     Ok(Inside {
         check,
         diagnostics,
         shift,
         row,
-        body,
     })
 }
 
-// The state that an item of a text was, if it is in a set.
-fn state_that_was<'a>(lists: &'a Lists, text: &[u8], item: usize) -> Option<Was<'a>>
+// What is kept of an item of a text.
+fn item_that_was<'a>(lists: &'a Lists, text: &[u8], item: usize) -> Option<Was<'a>>
     requires lists { IsListed text.now lists.now }
     ensures { IfSome result (IsWas text.now item) }
 {
     Some(Was {
-        set: lists.links.place(item)?,
         entry: lists.entries.get(item)?,
         check: lists.checks.get(item)?,
     })
@@ -270,34 +300,54 @@ fn own_head(lists: &Lists, edit: &TextEdit, changes: &Changes) -> usize
     changes.tokens.edit.start.saturating_sub(first)
 }
 
-// Whether a state says what the one before it said, of which so many tokens are before the edit, and little was found at that one.
+// Whether an item says to the others what the one before it said, of which so many tokens are before the edit, and little was found at that one.
 fn says_what_it_said(
+    lists: &Lists,
+    text: &[u8],
+    item: usize,
+    head: usize,
+    was: Was,
+    made: &Entry,
+) -> bool
+    requires lists { IsListed text.now lists.now }
+    ensures { IsTrue result → SaysWhatItSaid text.now head item was.entry made.now }
+{
+    says_the_same(was.entry, made, head)
+        && spares_inside(&lists.links, item, head)
+        && found_little(was.check)
+}
+
+// The set in which an item is a state, if it is one with a name: none, or one in which it leads where it led, and says in its conditions
+// what it said.
+fn set_of_row(
     alloc: Global,
     lists: &Lists,
     edit: &TextEdit,
     own: &OwnTokens,
     item: usize,
-    head: usize,
     was: Was,
     made: &Entry,
-) -> Result<bool, OutOfMemory>
+) -> Result<Option<Option<usize>>, OutOfMemory>
     requires lists { IsListed edit.now.old.now lists.now }
     requires own { AreOwnTokens edit.now.old.now edit.now.text.now item own.now }
-    ensures { IfOk result (λ says. IsTrue says → SaysWhatItSaid edit.now.old.now edit.now.text.now head item own.now was.entry made.now) }
+    ensures { IfOk result (λ o. IfSome o (FitsRow edit.now.old.now edit.now.text.now item own.now was.entry made.now)) }
 {
     text_in_pieces();
-    let may = says_the_same(was.entry, made, head)
-        && spares_inside(&lists.links, item, head)
-        && found_little(was.check);
-    if may {
-        says_alike(alloc, edit, own, was.entry, was.check, made)
+    if !is_named(&was.entry.summary.outline) {
+        return Ok(Some(None));
+    }
+    let Some(set) = lists.links.place(item) else {
+        return Ok(None);
+    };
+    if says_alike(alloc, edit, own, was.entry, was.check, made)? {
+        Ok(Some(Some(set)))
     } else {
-        Ok(false)
+        Ok(None)
     }
 }
 
-/// What an edit makes of the state in the place of which it makes this one, if it says to the other items and in its conditions what
-/// that one said.
+/// What an edit makes of the item in the place of which it makes this one, if it says to the others what that one said, and, if it is a
+/// state with a name, in its conditions too.
 pub fn inside_of(
     alloc: Global,
     lists: &Lists,
@@ -321,20 +371,23 @@ pub fn inside_of(
     ensures ticks { IfOk result (λ o. IfSome o (λ i. work.new ≡ after_ticks work.old (length (made_at changes.now.items.kept_front i.check)))) }
 {
     let item = changes.items.kept_front;
-    let Some(was) = state_that_was(lists, edit.old, item) else {
+    let Some(was) = item_that_was(lists, edit.old, item) else {
         return Ok(None);
     };
     let head = own_head(lists, edit, changes);
-    if !says_what_it_said(alloc, lists, edit, own, item, head, was, made)? {
+    if !says_what_it_said(lists, edit.old, item, head, was, made) {
         return Ok(None);
     }
+    let Some(set) = set_of_row(alloc, lists, edit, own, item, was, made)? else {
+        return Ok(None);
+    };
     let inside = made_inside(
-        alloc, lists, found, edit, changes, lines, own, was, made, work,
+        alloc, lists, found, edit, changes, lines, own, was, made, set, work,
     )?;
     Ok(Some(inside))
 }
 
-/// The plan of an edit inside one state, by what it makes of that, and what it cost.
+/// The plan of an edit inside one item, by what it makes of that, and what it cost.
 pub fn state_way(
     alloc: Global,
     lists: &Lists,
@@ -358,7 +411,6 @@ pub fn state_way(
         diagnostics,
         shift,
         row,
-        body,
     } = inside;
     let vacant = vacant_for(alloc, &changes.items.made)?;
     let mut checks = Vec::new(alloc);
@@ -376,9 +428,18 @@ pub fn state_way(
         diagnostics,
         shift,
         row,
-        body,
         work,
     })
+}
+
+// Puts the body of a row in place, if there is one.
+fn put_row(row: Option<OwnRow>, tables: &mut Tables)
+    ensures { tables.new ≡ with_row tables.old row }
+{
+    if let Some(row) = row {
+        let OwnRow { place, body } = row;
+        tables.set_body(place.set, place.state, body);
+    }
 }
 
 impl StateWay {
@@ -406,12 +467,11 @@ impl StateWay {
             diagnostics,
             shift,
             row,
-            body,
             work: _,
         } = self;
         lists.commit(edit, &changes, lines, remade);
         *found = diagnostics;
         tables.shift(shift);
-        tables.set_body(row.set, row.state, body);
+        put_row(row, tables);
     }
 }

@@ -2,9 +2,9 @@
 //! Whatever edits led to a text, these are those that the text alone defines. An edit makes the fresh pieces, parses the fresh
 //! items and checks these and the items that see the others in another way, and no more; the links, the diagnostics and the tables
 //! are made anew, unless the edit leaves all tokens, lines and findings as they are, at their places or shifted: then these are
-//! shifted in place; or unless it is inside one state that says what it said: then all is shifted but for that state.
+//! shifted in place; or unless it is inside one item that says what it said: then all is shifted but for that item.
 //! Private below it: `ways` plans an edit, `plan` makes all that the whole way needs memory for, `shift` tells the short one
-//! and goes it, `one_item`, `alike`, `own_findings`, `numbers` and `inside` tell and go that of one state, and `lists` takes over
+//! and goes it, `one_item`, `alike`, `own_findings`, `numbers` and `inside` tell and go that of one item, and `lists` takes over
 //! what is made; `entries` parses items and sums them up, `program` has the items of a text with what is kept of each, `summaries`
 //! links them, `relink` tells what an edit makes of the links, `recheck` checks those that are to be checked, `linked`, `checks` and `walked` tell what is found by the links, in
 //! each item and by the walks of state sets, `order` sorts what is found, `warnings` says whether those are shown, `diagnose`

@@ -1,4 +1,4 @@
-//! What is found after an edit inside one state: what is found at the state itself before the edit and after it and the diagnostics
+//! What is found after an edit inside one item: what is found at the item itself before the edit and after it and the diagnostics
 //! before it come in, the findings after it go out. It knows nothing of how the items are told apart, nor of lines.
 #![tactic(auto)]
 
@@ -130,7 +130,7 @@ fn add_all(come: &[Finding], found: &mut Vec<Finding>) -> Result<(), OutOfMemory
     Ok(())
 }
 
-/// The findings after an edit inside one state, in order: the diagnostics before it without what is gone, shifted, and what has come.
+/// The findings after an edit inside one item, in order: the diagnostics before it without what is gone, shifted, and what has come.
 /// Each of those that are gone is looked for, so there should be few.
 pub fn findings_around(
     alloc: Global,

@@ -1,4 +1,4 @@
-//! The law of an edit inside one state that says to the other items what it said. A function here does nothing: its contract is the law.
+//! The law of an edit inside one item that says to the others what it said. A function here does nothing: its contract is the law.
 
 ghost use Rattle.snl_lex.specs.declared.shift.Shift.{Shift};
 ghost use Rattle.snl_session.specs.OneState.{IsInside, IsOneState};

@@ -1,5 +1,5 @@
-//! The plan of an edit, which goes one of three ways: the short one, where the edit shifts all that the text says; that of one state,
-//! where it changes the inside of a state that says to the others what it said; and the whole one, where all is made anew. What is kept of the old text and both texts come in; then what is kept of the new one is put in its place.
+//! The plan of an edit, which goes one of three ways: the short one, where the edit shifts all that the text says; that of one item,
+//! where it changes the inside of an item that says to the others what it said; and the whole one, where all is made anew. What is kept of the old text and both texts come in; then what is kept of the new one is put in its place.
 #![tactic(auto)]
 
 ghost use Rattle.std.specs.Prelude.{◌≡◌, IfOk, IsTrue, OnOk, length};

@@ -5,4 +5,4 @@ use Rattle.snl_check.proofs.laws.tables_shift_inside_a_state.Goals as goal
 pub returns : goal.returns
 returns c =
     let laws : SpellingLaws = record { named = c.names_are_tokens.ensures; summaries = c.same_spelling_same_summary.ensures.summary } in
-    λ old text s xs ys j set y before read rep stands here says. tables_inside laws old text s xs ys j before read rep set stands y here says
+    λ old text s xs ys j set y before read rep stands named here says. tables_inside laws old text s xs ys j before read rep set stands named y here says

@@ -1,7 +1,7 @@
 use Rattle.std.proofs.Common.{All, sym, subst}
 use Rattle.snl_lex.specs.Pieces.{LiesIn}
 use Rattle.snl_session.proofs.OneItem.{own_lie}
-use Rattle.snl_session.proofs.inside.says_what_it_said.Goals as goal
+use Rattle.snl_session.proofs.inside.set_of_row.Goals as goal
 
 pub says_alike-requires-clause-was_within : goal.says_alike-requires-clause-was_within
 says_alike-requires-clause-was_within c =
