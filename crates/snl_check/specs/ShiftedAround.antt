@@ -1,5 +1,5 @@
 -- The items of a text after an edit inside one of them, which says what it said; and where the row of a state is in the tables.
-use Rattle.std.specs.Prelude.{◌≡◌, ◌≢◌, ℕ, ◌<◌, ◌&&◌, Bool, true, false, is_some, is_none, List, [], map, length, slice_get, Option, Some, option_map}
+use Rattle.std.specs.Prelude.{◌≡◌, ◌≢◌, ℕ, ◌<◌, ◌&&◌, Bool, true, false, is_none, List, [], map, length, slice_get, Option, Some, option_map}
 use Rattle.std.specs.List.{AllByRecursion}
 use Rattle.snl_lex.specs.declared.shift.Shift.{Shift}
 use Rattle.snl_lex.specs.Lines.{line_at}
@@ -8,7 +8,7 @@ use Rattle.snl_scope.specs.declared.summary.ItemKind.{ItemKind}
 use Rattle.snl_scope.specs.declared.summary.ItemKind.TheVariants as kinds
 use Rattle.snl_scope.specs.declared.summary.Outline.{Outline}
 use Rattle.snl_scope.specs.Below.{all_below}
-use Rattle.snl_scope.specs.Order.{is_named_state, state_name}
+use Rattle.snl_scope.specs.Order.{is_named_state}
 use Rattle.snl_scope.specs.Places.{is_set_begin, stands_in}
 use Rattle.snl_scope.specs.Summaries.{kind_of}
 use Rattle.snl_walk.specs.declared.used.WakeUse.{WakeUse}

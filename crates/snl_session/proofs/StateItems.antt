@@ -1,5 +1,5 @@
 -- What a text says after an edit inside one state that says to the others what it said.
-use Rattle.std.proofs.Common.{◌≡◌, ◌↔◌, ℕ, suc, ◌+◌, ◌<◌, ◌≤◌, inl, inr, All, true, IsTrue, List, [], ◌∷◌, ◌++◌, length, map, take, drop, get_or, slice_get, Option, None, Some, is_some, option_map, refl, sym, ap, ap₂, ◌∙◌, subst, arith, length-append}
+use Rattle.std.proofs.Common.{◌≡◌, ◌↔◌, ℕ, suc, ◌+◌, ◌<◌, ◌≤◌, inl, inr, All, true, IsTrue, List, [], ◌∷◌, ◌++◌, length, map, take, drop, get_or, slice_get, Option, None, Some, option_map, refl, sym, ap, ap₂, ◌∙◌, subst, arith, length-append}
 use Rattle.std.specs.List.{AllByRecursion}
 use Rattle.std.proofs.lemmas.List.{length-map, map-append}
 use Rattle.std.proofs.lemmas.List.Elements.{All-drop, All-filter, All-take, recursion_from_All}
@@ -17,7 +17,6 @@ use Rattle.snl_syntax.specs.declared.tree.item.Item.{Item}
 use Rattle.snl_items.specs.Changes.{LeavesAround}
 use Rattle.snl_items.specs.Items.{item_ends, spelled_items}
 use Rattle.snl_scope.specs.LinkedItems.{LinkedItems}
-use Rattle.snl_scope.specs.Order.{state_name}
 use Rattle.snl_scope.specs.SpelledTokens.{summary_by}
 use Rattle.snl_scope.specs.Summaries.{kind_of, summary_in}
 use Rattle.snl_scope.specs.Summaries.Tokens.{bytes_at}

@@ -1,8 +1,6 @@
-use Rattle.std.proofs.Common.{arith, ◌≡◌, ℕ, List, [], ◌∷◌, ◌++◌, length, map, take, drop, refl, sym, ap, ap₂, ◌∙◌}
-use Rattle.std.proofs.lemmas.List.{append-nil, drop_all, length-map}
+use Rattle.std.proofs.Common.{arith, ◌≡◌, ℕ, List, [], ◌++◌, length, map, take, drop, sym, ap₂, ◌∙◌}
+use Rattle.std.proofs.lemmas.List.{append-nil, drop_all}
 use Rattle.snl_lex.specs.declared.piece.Piece.{Piece}
-use Rattle.snl_lex.specs.Pieces.{moved_piece, tokens_of}
-use Rattle.snl_items.specs.Items.{mark_in}
 
 -- where all old ones are replaced, the made ones are all
 pub all_made : (f : Piece → Piece) (start stop : ℕ) (olds made news : List Piece) → start ≡ 0 → stop ≡ length olds → news ≡ take start olds ++ (made ++ map f (drop stop olds)) → made ≡ news
