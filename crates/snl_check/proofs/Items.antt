@@ -52,7 +52,7 @@ count_items tokens from (e ∷ ends) (t ∷ trees) same = ap suc (count_items to
 trees_count : (p : Program) → IsProgram p → length (map option_copied p.trees.now) ≡ length p.ends.now
 trees_count p h = simp length-map h.each
 
--- the tokens of an item are those between its ends, and there are none behind the last one
+-- the tokens of an item are those between its ends, and there are none after the last one
 pub own_at : (p : Program) (i : ℕ) → IsProgram p → i < length p.ends.now →
     take (get_or p.ends.now i 0 - start_of 0 p.ends.now i) (drop (start_of 0 p.ends.now i) p.tokens.now) ≡ tokens_in (items_in p) i
 own_at p i h lt = sym (tokens_from p.tokens.now 0 p.ends.now (map option_copied p.trees.now) i (trees_count p h) lt)
@@ -81,7 +81,7 @@ ends_at from (e ∷ ends) to (suc i) h lt =
     let rest = ends_at e ends to i h.2 (omega arith) in
     (omega (arith, rest.0, start_moves from e ends i), rest.1)
 
--- the end before an item stands before its own
+-- the end before an item is before its own
 start_is : (ends : List ℕ) (i : ℕ) → 0 < i → start_of 0 ends i ≡ get_or ends (i - 1) 0
 start_is ends zero some = absurd (omega arith)
 start_is ends (suc i) some =

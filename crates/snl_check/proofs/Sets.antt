@@ -1,4 +1,4 @@
--- The items of a state set stand one behind another; its states, and what is found in it.
+-- The items of a state set follow one another; its states, and what is found in it.
 use Rattle.std.proofs.Common.{◌≡◌, ◌⊎◌, ◌&&◌, ◌||◌, ℕ, zero, suc, ◌+◌, ◌-◌, ◌<◌, ◌≤◌, Bool, true, false, not, List, [], ◌∷◌, ◌++◌, length, length-append, get_or, map, nat_eq, nat_lt, slice_get, All, Option, Some, None, inl, inr, refl, sym, ap, subst, ◌∙◌, add-one, arith, if◌then◌else◌, option_copied, is_some, Bor}
 use Rattle.std.specs.List.{cons_option, filter, filter_map, range_with_len}
 use Rattle.std.specs.List.Sorted.{IsStrictlyIncreasing}
@@ -59,7 +59,7 @@ module _ (law : SetsOpenInTurn) (ss : List Outline) (k : ℕ) where
   stands_is : (j : ℕ) → place ss j ≡ Some k → stands_in ss k j ≡ true
   stands_is j h = ap (λ o. option_map_or (nat_eq k) o false) h ∙ eq-eqb k k refl
 
-  -- an item stands in the set that the next one stands in
+  -- an item is in the set that the next one is in
   step_back : (j : ℕ) (s : Outline) → slice_get ss j ≡ Some s → k < j → place ss (suc j) ≡ Some k → place ss j ≡ Some k
   step_back j s at l h = by (begins_set s.role) (ends_set s.role) refl (sym (law.opened ss j s at) ∙ opened (item_is (λ s. not (begins_set s.role)) ss (suc j)) h)
     where
@@ -89,7 +89,7 @@ module _ (law : SetsOpenInTurn) (ss : List Outline) (k : ℕ) where
   none_before : (j : ℕ) → j ≤ k → stands_in ss k j ≡ false
   none_before j l = false_if (stands_in ss k j) (λ h. let less = law.within ss j k (stands_from j h) in omega (arith, l, less))
 
-  -- behind the item that ends the set no item stands in it
+  -- after the item that ends the set no item is in it
   none_behind : (i : ℕ) → k < i → (i ≡ length ss) ⊎ (stands_in ss k i ≡ false) → (j : ℕ) → i ≤ j → j < length ss → stands_in ss k j ≡ false
   none_behind i l end j le within =
       false_if (stands_in ss k j) (λ h. elim end [ inl all ↦ omega (arith, all, le, within) | inr out ↦ false≢true (sym out ∙ between i j l le within h) ])

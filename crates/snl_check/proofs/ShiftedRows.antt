@@ -1,4 +1,4 @@
--- Lists of rows of which one is changed, and the numbers before and behind one.
+-- Lists of rows of which one is changed, and the numbers before and after one.
 use Rattle.std.proofs.Common.{◌≡◌, ℕ, zero, suc, ◌+◌, ◌<◌, ◌&&◌, Bool, true, false, List, [], ◌∷◌, ◌++◌, length, map, slice_get, Option, inl, inr, if◌then◌else◌, refl, sym, subst, ap, ap₂, ◌∙◌, arith, append_assoc}
 use Rattle.std.specs.List.{AllByRecursion, cons_option, enumerate_from, filter_map}
 use Rattle.std.proofs.lemmas.Bool.{cases_eq, false≢true}
@@ -7,7 +7,7 @@ use Rattle.snl_tables.specs.Shifted.{changed_at}
 use Rattle.snl_check.proofs.Each.{each_join}
 use Rattle.snl_check.proofs.ShiftLists.{map_same}
 
--- ---- numbers below another: those before a number that passes, it, and those behind it
+-- ---- numbers below another: those before a number that passes, it, and those after it
 
 pub each_under : (P : ℕ → Type 0) (p : ℕ → Bool) (n : ℕ) → ((i : ℕ) → i < n → p i ≡ true → P i) → AllByRecursion P (all_below p n)
 each_under P p zero h = tt

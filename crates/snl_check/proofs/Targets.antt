@@ -7,7 +7,7 @@ use Rattle.snl_walk.specs.Uses.{is_target, leads_on, target_use, target_uses_aft
 use Rattle.snl_check.specs.Told.{by_statements}
 use Rattle.snl_check.proofs.Each.{each_back, each_front}
 
--- the uses stand at the targets
+-- the uses are at the targets
 pub uses_at_targets : (led : Bool) (os : List Occurrence) → map (λ u. u.token) (target_uses_after led os) ≡ targets os
 uses_at_targets led [] = refl
 uses_at_targets led (o ∷ os) = by (is_target o.what) (uses_at_targets (leads_on o.what) os)

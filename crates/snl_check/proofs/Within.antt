@@ -1,4 +1,4 @@
--- Each finding of an item stands in its token.
+-- Each finding of an item is in its token.
 use Rattle.std.proofs.Common.{ℕ, ◌+◌, ◌<◌, ◌≤◌, inl, inr, refl, Bool, true, false, cond, List, [], ◌∷◌, length, map, Option, arith}
 use Rattle.std.specs.List.{All, AllByRecursion, enumerate_from, flat_map}
 use Rattle.std.proofs.lemmas.List.Elements.{All-from_recursion}

@@ -1,4 +1,4 @@
--- What is found in an item goes by its tokens, its tree and its view alone: by whether it stands in a state set, by what is
+-- What is found in an item goes by its tokens, its tree and its view alone: by whether it is in a state set, by what is
 -- known of the names that it uses, and by whether its targets are states.
 use Rattle.std.specs.Prelude.{◌≡◌, ℕ, List, map, Some}
 use Rattle.std.specs.List.{All}
@@ -7,7 +7,7 @@ use Rattle.snl_syntax.specs.declared.tree.item.Item.{Item}
 use Rattle.snl_scope.specs.Summaries.{summary_in}
 use Rattle.snl_walk.specs.Tokens.{bytes_at}
 
--- The tokens have the same bytes, wherever they stand in their texts.
+-- The tokens have the same bytes, wherever they are in their texts.
 abbrev pub SameTokens : List ℕ → List Piece → List ℕ → List Piece → Type 0
 SameTokens text tokens moved shifted = (n : ℕ) → bytes_at text tokens n ≡ bytes_at moved shifted n
 

@@ -10,7 +10,7 @@ use Rattle.snl_scope.specs.Linked.{fact_of, has_target}
 use Rattle.snl_scope.specs.Places.{place}
 use Rattle.snl_walk.specs.declared.outlook.Outer.{Outer}
 
--- It stands in a state set.
+-- It is in a state set.
 unfoldable pub is_in_set : List Outline → ℕ → Bool
 is_in_set ss item = is_some (place ss item)
 
@@ -43,6 +43,6 @@ outer_of fact = record { flag = may_be_flag fact.base; channel = is_assigned fac
 abbrev pub outer_by : (List ℕ → Option Fact) → List ℕ → Option Outer
 outer_by fact name = option_map outer_of (fact name)
 
--- An item that stands in no state set misses no state.
+-- An item that is in no state set misses no state.
 abbrev pub misses_by : Bool → (List ℕ → Bool) → List ℕ → Bool
 misses_by in_set target name = in_set && not (target name)

@@ -8,7 +8,7 @@ use sqlite_items::Items;
 #[derive(Clone, Copy, Debug, PartialEq, Eq)]
 pub struct ItemFault {
     pub token: usize,
-    /// The number of the byte in its token at which it stands: that of a letter of an option, else 0.
+    /// The number of the byte in its token at which it is: that of a letter of an option, else 0.
     pub byte: usize,
     pub code: Code,
 }

@@ -42,7 +42,7 @@ pub fn same_clauses()
         → map (summarized text xs) (item_clauses xs) ≡ map (λ c. (c.item, c.clause)) (clauses_of (outlines_of text xs)) }
 {}
 
-/// The same is found in an item of the same tokens and tree, wherever it stands, where the same is known of each name that it
+/// The same is found in an item of the same tokens and tree, wherever it is, where the same is known of each name that it
 /// uses, and of each of its targets; and it tells the tables the same.
 pub fn equal_views()
     ensures faults { (text moved : List ℕ) (tokens shifted : List Piece) (tree : Item) (in_set : Bool) (fact other : List ℕ → Option Fact) (target another : List ℕ → Bool)

@@ -20,7 +20,7 @@ impl<'a> Listing<'a> {
     ghost use Rattle.snl_check.specs.Items.{item_name};
     ghost use Rattle.snl_check.specs.Tables.{scope_name, scope_of_variable};
 
-    /// Where the name of a state set or of a state stands.
+    /// Where the name of a state set or of a state is.
     pub(crate) fn item_name(&self, item: usize) -> Span
         requires { IsListing self.now }
         ensures { result ≡ item_name (items_in self.now.program) item }

@@ -64,7 +64,7 @@ fn add_state(
     Ok(())
 }
 
-/// Adds a finding at each unknown letter of the options of an item. One that stands in a state set and in no state is out of
+/// Adds a finding at each unknown letter of the options of an item. One that is in a state set and in no state is out of
 /// place, and sets nothing.
 pub(crate) fn add_unknown_options(
     source: &Source,
@@ -114,7 +114,7 @@ pub(crate) fn is_on(sign: OptionSign) -> bool
     }
 }
 
-/// Whether an item turns warnings on or off, if it does one of them. One that stands in a state set is out of place, and
+/// Whether an item turns warnings on or off, if it does one of them. One that is in a state set is out of place, and
 /// does neither.
 pub fn warning_setting(source: &Source, tree: &Item, links: &Links, item: usize) -> Option<bool>
     requires { IsSource source.now.text.now source.now.tokens.now }

@@ -1,4 +1,4 @@
-//! The items of a text: the number of an item comes in, its tokens, its tree and where they stand go out. It knows no rules.
+//! The items of a text: the number of an item comes in, its tokens, its tree and where they are go out. It knows no rules.
 
 ghost use Rattle.std.specs.Prelude.{◌≡◌, option_copied};
 ghost use Rattle.snl_check.specs.Items as items;
@@ -9,7 +9,7 @@ use snl_tables::Span;
 use snl_walk::Source;
 use std::alloc::Global;
 
-/// The tokens of a text, the number of the token behind each item, and the trees of the items. A faulty item has no tree.
+/// The tokens of a text, the number of the token after each item, and the trees of the items. A faulty item has no tree.
 #[derive(Clone, Copy)]
 pub(crate) struct Program<'a> {
     pub text: &'a [u8],
@@ -87,7 +87,7 @@ impl<'a> Program<'a> {
         }
     }
 
-    /// Where a token of an item stands.
+    /// Where a token of an item is.
     pub(crate) fn span(&self, item: usize, number: usize) -> Span
         requires { IsProgram self.now }
         ensures { result ≡ span_at (items_in self.now) item number }
@@ -95,7 +95,7 @@ impl<'a> Program<'a> {
         span_of(self.own(item).get(number))
     }
 
-    // Where the name of the program stands, if the item is a header.
+    // Where the name of the program is, if the item is a header.
     fn header(&self, item: usize) -> Option<Span>
         requires { IsProgram self.now }
         ensures { result ≡ option_and_then header_name (slice_get (items_in self.now) item) }
@@ -109,7 +109,7 @@ impl<'a> Program<'a> {
         }
     }
 
-    /// Where the name of the program stands: that of the first header that isn't faulty.
+    /// Where the name of the program is: that of the first header that isn't faulty.
     pub(crate) fn name(&self) -> Option<Span>
         requires { IsProgram self.now }
         ensures { result ≡ program_name (items_in self.now) }

@@ -47,7 +47,7 @@ pub(crate) struct View<'a> {
 impl View<'_> {
     ghost use Rattle.snl_check.specs.Outlook.{is_in_set, known_of, leads_to};
 
-    /// Whether the item stands in a state set.
+    /// Whether the item is in a state set.
     #[tactic(auto, unfolding(crate::specs::Outlook::is_in_set))]
     pub(crate) fn is_in_set(&self) -> bool
         ensures { result ≡ is_in_set self.now.links.now.outlines self.now.item }

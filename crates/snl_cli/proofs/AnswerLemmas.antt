@@ -5,7 +5,7 @@ use Rattle.snl_session.specs.declared.findings.Diagnostic.{Diagnostic}
 use Rattle.snl_session.specs.Diagnostics.{diagnostics_of, errors_of, warnings_of}
 use Rattle.snl_cli.specs.Answers.{line_text, report_of, sum_text}
 
--- the lines and the sum, said behind an empty page, are the report
+-- the lines and the sum, said after an empty page, are the report
 pub report_is : (page text session : List ℕ) (diagnostics : List Diagnostic) (errors warnings : ℕ) → page ≡ [] → text ≡ session → diagnostics ≡ diagnostics_of session → errors ≡ errors_of session → warnings ≡ warnings_of session → (page ++ flat_map (line_text text) diagnostics) ++ sum_text errors warnings ≡ report_of session
 report_is page text session diagnostics errors warnings p t d e w = rw (p, t, d, e, w) refl
 

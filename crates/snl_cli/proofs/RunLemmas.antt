@@ -22,7 +22,7 @@ use Rattle.snl_cli.specs.Version.{Version, first_version}
 use Rattle.snl_cli.proofs.SaidLemmas.{Appends-none, Appends-on, Appends-same, AppendsPart-after, AppendsPart-same}
 use Rattle.snl_cli.proofs.ScriptLemmas.{place_grows}
 
--- ---- a command that stands whole stands whatever follows it
+-- ---- a command that is whole is whatever follows it
 
 closed-grows : (request : Request) (bytes more behind : List ℕ) (next : Request) → closed request bytes ≡ Then next behind → closed request (bytes ++ more) ≡ Then next (behind ++ more)
 closed-grows request [] more behind next h = cc
@@ -75,7 +75,7 @@ next_of-grows (b ∷ bytes) more behind request h = at (position (λ c. c == 10)
             let same : headed (heading_of (words_of (take end ((b ∷ bytes) ++ more)))) (drop (end + 1) ((b ∷ bytes) ++ more)) ≡ headed (heading_of (words_of (take end (b ∷ bytes)))) (drop (end + 1) (b ∷ bytes) ++ more) = ap (λ (l : List ℕ). headed (heading_of (words_of l)) (drop (end + 1) ((b ∷ bytes) ++ more))) front ∙ ap (λ (l : List ℕ). headed (heading_of (words_of (take end (b ∷ bytes)))) l) back in
             found ∙ here ∙ same ∙ headed-grows (heading_of (words_of (take end (b ∷ bytes)))) (drop (end + 1) (b ∷ bytes)) more behind request w
 
--- ---- commands, one behind another
+-- ---- commands, one after another
 
 pub Begins-grows : (bytes more : List ℕ) (turns : List Turn) (rest : List ℕ) → Begins bytes turns rest → Begins (bytes ++ more) turns (rest ++ more)
 Begins-grows bytes more [] rest h = ap (λ l. l ++ more) h
@@ -220,7 +220,7 @@ malformed-always : (bytes : List ℕ) (left : Option (List ℕ)) → ((more : Li
 malformed-always bytes None h = tt
 malformed-always bytes (Some more) h = h more
 
--- no command can stand ahead
+-- no command can be ahead
 pub Told-malformed : (before behind old new : Option (List ℕ)) (first : Version) (ahead bytes : List ℕ) (version : Version) (offset calls : ℕ) → Told before behind old new first (At ahead version offset calls) → bytes ≡ ahead → ((more : List ℕ) → next_of (bytes ++ more) ≡ Unknown) → Ran (Err (Script offset)) before behind old new first
 Told-malformed before behind old new first ahead bytes version offset calls t is h =
     Told-ends before behind old new first (At ahead version offset calls) _ t (λ read rest last a.

@@ -1,4 +1,4 @@
--- One piece said behind another.
+-- One piece said after another.
 use Rattle.std.proofs.Common.{◌≡◌, ◌<◌, ◌+◌, ◌==◌, ◌||◌, ◌&&◌, not, Bool, ℕ, List, [], ◌++◌, length, get_or, take, drop, Option, Some, None, Result, Ok, Err, sym, ap, ◌∙◌, append_assoc, arith}
 use Rattle.std.specs.Prelude.{IsErr}
 use Rattle.std.specs.List.{flat_map}
@@ -48,7 +48,7 @@ Said-err r o n page bytes h p = MatchResult-from_err r (λ _. Says o n page byte
 pub Written-err : {T E : Type 0} (r : Result T E) (o n : Option (List ℕ)) (bytes : List ℕ) → IsErr r → AppendsPart o n bytes → Written r o n bytes
 Written-err r o n bytes h p = MatchResult-from_err r (λ _. Appends o n bytes) (λ _. AppendsPart o n bytes) h (λ _. p)
 
--- all was written behind an empty page
+-- all was written after an empty page
 pub Said-written : {T E : Type 0} (r : Result T E) (o m n : Option (List ℕ)) (page xs ys : List ℕ) → page ≡ [] → Appends o m xs → Written r m n ys → Said r o n page (xs ++ ys)
 Said-written (Ok x) o m n page xs ys e h w = Says-written o n page (xs ++ ys) e (Appends-on o m n xs ys h w)
 Said-written (Err x) o m n page xs ys e h w = AppendsPart-after o m n xs ys h w
@@ -57,7 +57,7 @@ Said-written (Err x) o m n page xs ys e h w = AppendsPart-after o m n xs ys h w
 pub pieces-more : {X : Type 0} (f : X → List ℕ) (page : List ℕ) (xs : List X) (i : ℕ) (d : X) → i < length xs → (page ++ flat_map f (take i xs)) ++ f (get_or xs i d) ≡ page ++ flat_map f (take (i + 1) xs)
 pieces-more {X} f page xs i d h = flat_map_more f page (take i xs) (get_or xs i d) ∙ ap (λ (l : List X). page ++ flat_map f l) (sym (take_more xs i d h))
 
--- the pieces before one, that one, and those behind it
+-- the pieces before one, that one, and those after it
 pub pieces-all : {X : Type 0} (f : X → List ℕ) (page : List ℕ) (xs : List X) (i : ℕ) (d : X) → i < length xs → ((page ++ flat_map f (take i xs)) ++ f (get_or xs i d)) ++ flat_map f (drop (i + 1) xs) ≡ page ++ flat_map f xs
 pieces-all f page xs i d h =
     ap (λ (l : List ℕ). l ++ flat_map f (drop (i + 1) xs)) (pieces-more f page xs i d h) ∙
@@ -68,7 +68,7 @@ pieces-all f page xs i d h =
 pub failed-same : (before after : Bool) (n len : ℕ) → (n ≡ 0 → ⊥) → after ≡ (before || (n == 0 && not (len == 0))) → after ≡ before
 failed-same before after n len some h = grind (arith, nat_tests)
 
--- more was said behind what was said
+-- more was said after what was said
 pub Said-on : {T E : Type 0} (r : Result T E) (o m n : Option (List ℕ)) (p q xs ys zs : List ℕ) → xs ++ ys ≡ zs → Says o m p xs → Said r m n q (p ++ ys) → Said r o n q zs
 Said-on (Ok x) o m n p q xs ys zs e h k = Says-same o n q (xs ++ ys) zs e (Says-on o m n p q xs ys h k)
 Said-on (Err x) o m n p q xs ys zs e h k = AppendsPart-same o n (xs ++ ys) zs e (AppendsPart-on o m n p xs ys h k)

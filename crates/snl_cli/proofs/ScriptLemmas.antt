@@ -77,7 +77,7 @@ feed_inside n bytes more h =
     prefix_len-append (λ c. not (c == 10)) (take n bytes) (drop n bytes ++ more) ∙ grind (arith, nat_tests) in
     ap feed_place (by_front n bytes more) ∙ front
 
--- where there is none in a front, the first is behind it
+-- where there is none in a front, the first is after it
 feed_behind : (n : ℕ) (bytes more : List ℕ) → length (take n bytes) ≤ feed_place (take n bytes) → length (take n bytes) ≤ feed_place (bytes ++ more)
 feed_behind n bytes more h =
     let e : feed_place (bytes ++ more) ≡ feed_place (take n bytes ++ (drop n bytes ++ more)) = ap feed_place (by_front n bytes more) in
@@ -138,7 +138,7 @@ next_of-short n (b ∷ bytes) few h short =
     let none : position (λ c. c == 10) (b ∷ bytes) ≡ None = ap (λ (l : List ℕ). position (λ c. c == 10) l) (sym all) ∙ h in
     ap (λ (o : Option ℕ). lined o (b ∷ bytes)) none
 
--- what stands at the front of the bytes, from what stands behind their line
+-- what is at the front of the bytes, from what comes after their line
 pub IsFront-behind : (n : ℕ) (bytes : List ℕ) (end : ℕ) (heading : Option Heading) (front : Front) → n ≤ 81 → position (λ c. c == 10) (take n bytes) ≡ Some end → heading ≡ heading_of (words_of (take end bytes)) → IsFrontBehind (headed heading) (end + 1) (drop (end + 1) bytes) front → IsFront bytes front
 IsFront-behind n bytes end heading Short few h is f =
     let at = found_place (feed_place (take n bytes)) (length (take n bytes)) end h in

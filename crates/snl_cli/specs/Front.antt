@@ -25,12 +25,12 @@ pub record IsWhole (bytes : List ℕ) (command : Command) (len : ℕ) : Type 0 w
   pub inside : len ≤ length bytes
   pub next : (more : List ℕ) → next_of (bytes ++ more) ≡ Then (request_of command) (drop len bytes ++ more)
 
--- The words behind a word's space, if there is one.
+-- The words after a word's space, if there is one.
 abbrev pub words_behind : Option (Bor (List ℕ)) → List (List ℕ)
 words_behind None = []
 words_behind (Some words) = words_of words.now
 
--- What stands at the front, where `next` tells it by the bytes behind a line, which has this length with its LF.
+-- What is at the front, where `next` tells it by the bytes after a line, which has this length with its LF.
 pub record IsWholeBehind (next : List ℕ → Next) (line : ℕ) (behind : List ℕ) (command : Command) (len : ℕ) : Type 0 where
   pub from : line ≤ len
   pub inside : len ≤ line + length behind
@@ -41,7 +41,7 @@ IsFrontBehind next line behind Short = next behind ≡ Unknown
 IsFrontBehind next line behind Malformed = (more : List ℕ) → next (behind ++ more) ≡ Unknown
 IsFrontBehind next line behind (Whole command len) = IsWholeBehind next line behind command len
 
--- No command stands at the front of the bytes yet, or none can, or one does, whatever follows them.
+-- No command is at the front of the bytes yet, or none can be, or one is, whatever follows them.
 abbrev pub IsFront : List ℕ → Front → Type 0
 IsFront bytes Short = next_of bytes ≡ unfinished bytes
 IsFront bytes Malformed = (more : List ℕ) → next_of (bytes ++ more) ≡ Unknown

@@ -34,13 +34,13 @@ pub record ToldPart (before behind old new : Option (List ℕ)) (first : Version
   pub fair : IsFair first turns
   pub written : AppendsPart old new (transcript first turns)
 
--- The script neither ends behind these bytes nor has a well-formed command there, whatever is left of it.
+-- The script neither ends after these bytes nor has a well-formed command there, whatever is left of it.
 abbrev pub IsMalformed : (rest : List ℕ) → (left : Option (List ℕ)) → Type 0
 IsMalformed rest left = IfSome (prepend_known rest left) (λ bytes. next_of bytes ≡ Unknown)
 
 -- What is known of a run from a version on, by its end: what is left of the script, and what the writer holds.
 --   the script is whole commands and nothing else, and the status is that of the last text;
---   at a fault of the script, of reading, of memory and of too many reads, the commands are all that stand whole among the bytes read;
+--   at a fault of the script, of reading, of memory and of too many reads, the commands are all that are whole among the bytes read;
 --   at a fault of writing a front of the transcript was written, and where the source is too large, nothing was read or written.
 abbrev pub Ran : Result Status RunFault → (before behind old new : Option (List ℕ)) → (first : Version) → Type 0
 Ran (Ok status) before behind old new first = Told before behind old new first (λ read rest last. (rest ≡ []) × IsAtEnd behind × (status ≡ status_of last.text))

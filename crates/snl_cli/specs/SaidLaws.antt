@@ -5,7 +5,7 @@ use Rattle.std.proofs.lemmas.List.{append-nil}
 use Rattle.std.specs.Io.KnownBytes.{Appends}
 use Rattle.snl_cli.specs.Said.{AppendsPart, Says}
 
--- bytes written behind bytes
+-- bytes written after bytes
 pub Appends-on : (o m n : Option (List ℕ)) (xs ys : List ℕ) → Appends o m xs → Appends m n ys → Appends o n (xs ++ ys)
 Appends-on None m n xs ys h k = tt
 Appends-on (Some o) None n xs ys h k = absurd h
@@ -20,7 +20,7 @@ Appends-none (Some o) = sym (append-nil o)
 pub AppendsPart-front : (o n : Option (List ℕ)) (xs ys : List ℕ) → AppendsPart o n xs → AppendsPart o n (xs ++ ys)
 AppendsPart-front o n xs ys p = record { written = p.written; lost = p.lost ++ ys; part = sym (append_assoc p.written p.lost ys) ∙ ap (λ l. l ++ ys) p.part; grown = p.grown }
 
--- nothing was said yet but what stands on the page
+-- nothing was said yet but what is on the page
 pub Says-page : (o : Option (List ℕ)) (page bytes : List ℕ) → page ≡ bytes → Says o o page bytes
 Says-page o page bytes e = record { written = []; all = e; grown = Appends-none o }
 

@@ -1,4 +1,4 @@
--- The commands of a script, as they stand in its bytes.
+-- The commands of a script, as they are in its bytes.
 use Rattle.std.specs.Prelude.{ℕ, ◌+◌, ◌==◌, ◌&&◌, List, [], ◌∷◌, length, take, drop, Bool, Option, Some, None, nat_le, if◌then◌else◌, codes, position}
 use Rattle.std.specs.Char.{is_ascii_digit}
 use Rattle.std.specs.List.{list_all, slice_split}
@@ -14,7 +14,7 @@ pub data Request : Type 0 where
   Works : Request
   Edits : (start stop : ℕ) (new : List ℕ) → Request
 
--- What the bytes of a script begin with: there are none, or no well-formed command stands whole at their front, or a command and what is behind it.
+-- What the bytes of a script begin with: there are none, or no well-formed command is whole at their front, or a command and what is after it.
 pub data Next : Type 0 where
   Ends : Next
   Unknown : Next
@@ -37,12 +37,12 @@ abbrev pub edit_with : (start stop len : Option ℕ) → Option Heading
 edit_with (Some start) (Some stop) (Some len) = if nat_le len 2097152 then Some (Edit start stop len) else None
 edit_with start stop len = None
 
--- `edit START END LEN`, by the words behind the first.
+-- `edit START END LEN`, by the words after the first.
 abbrev pub edit_of : List (List ℕ) → Option Heading
 edit_of (start ∷ stop ∷ len ∷ []) = edit_with (number_of start) (number_of stop) (number_of len)
 edit_of words = None
 
--- A command that has no word behind the first.
+-- A command that has no word after the first.
 abbrev pub lone : Heading → List (List ℕ) → Option Heading
 lone heading [] = Some heading
 lone heading words = None
@@ -57,12 +57,12 @@ heading_of (word ∷ words) =
     else if bytes_eq word (codes "edit") then edit_of words
     else None
 
--- Behind the bytes of an edit stands an LF.
+-- After the bytes of an edit there is an LF.
 abbrev pub closed : Request → List ℕ → Next
 closed request [] = Unknown
 closed request (b ∷ rest) = if b == 10 then Then request rest else Unknown
 
--- The command of a line, and what is behind it.
+-- The command of a line, and what is after it.
 abbrev pub headed : Option Heading → List ℕ → Next
 headed None behind = Unknown
 headed (Some Check) behind = Then Checks behind

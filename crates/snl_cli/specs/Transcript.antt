@@ -66,12 +66,12 @@ abbrev pub version_after : Version → List Turn → Version
 version_after version [] = version
 version_after version (t ∷ ts) = version_after (after version t.request t.starved) ts
 
--- The bytes are these commands, one behind another, and then the rest.
+-- The bytes are these commands, one after another, and then the rest.
 abbrev pub Begins : (bytes : List ℕ) → List Turn → (rest : List ℕ) → Type 0
 Begins bytes [] rest = rest ≡ bytes
 Begins bytes (t ∷ ts) rest = (behind : List ℕ) × (next_of bytes ≡ Then t.request behind) × Begins behind ts rest
 
--- No well-formed command stands whole at the front of the bytes.
+-- No well-formed command is whole at the front of the bytes.
 abbrev pub HoldsNone : List ℕ → Type 0
 HoldsNone bytes = (request : Request) (behind : List ℕ) → next_of bytes ≢ Then request behind
 

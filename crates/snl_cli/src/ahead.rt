@@ -61,7 +61,7 @@ impl Ahead {
         &self.bytes[self.start..]
     }
 
-    /// Leaves bytes at the front behind.
+    /// Skips bytes at the front.
     pub fn skip(&mut self, count: usize)
         requires { count ≤ length self.old }
         ensures { self.new ≡ drop count self.old }

@@ -26,7 +26,7 @@ pub enum RunFault {
     /// A write of the answers failed, or took none of some bytes.
     #[error("write fault")]
     Write,
-    /// No well-formed command stands at this byte of the script, and it does not end there.
+    /// No well-formed command is at this byte of the script, and it does not end there.
     #[error("script fault at byte {0}")]
     Script(usize),
     /// A growth was refused for the session, the source or the script's bytes.

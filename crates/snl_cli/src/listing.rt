@@ -42,7 +42,7 @@ fn put_listing<W: Write>(
     put_to_the_end(&mut paged, session, lister)
 }
 
-// Puts the listing and `end` on an empty page, and writes all that stands on it.
+// Puts the listing and `end` on an empty page, and writes all that is on it.
 fn put_to_the_end<W: Write>(
     paged: &mut Paged<'_, W>,
     session: &Session,

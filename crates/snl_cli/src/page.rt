@@ -61,7 +61,7 @@ impl Page {
         }
     }
 
-    /// Writes what stands on the page, which is empty then.
+    /// Writes what is on the page, which is empty then.
     pub fn finish<W: Write>(&mut self, out: &mut Watched<W>) -> Result<(), WriteFault>
         ensures written { Written result (W.contents (inner_of out.old)) (W.contents (inner_of out.new)) self.old }
         ensures empty { OnOk result (self.new ≡ []) }
@@ -72,7 +72,7 @@ impl Page {
         Ok(())
     }
 
-    /// Puts bytes that fit behind those on the page.
+    /// Puts bytes that fit after those on the page.
     fn keep(&mut self, bytes: &[u8])
         requires { length self.old + length bytes.now ≤ 1024 }
         ensures { self.new ≡ self.old ++ bytes.now }
@@ -82,7 +82,7 @@ impl Page {
         self.length = end;
     }
 
-    /// Says bytes: they stand behind those on the page, of which some may be written first.
+    /// Says bytes: they are after those on the page, of which some may be written first.
     pub fn put<W: Write>(&mut self, out: &mut Watched<W>, bytes: &[u8]) -> Result<(), WriteFault>
         ensures said { Said result (W.contents (inner_of out.old)) (W.contents (inner_of out.new)) self.new (self.old ++ bytes.now) }
         ensures failed { failed_of out.new ≡ (failed_of out.old || is_err result) }
@@ -99,7 +99,7 @@ impl Page {
         write_out(out, bytes)
     }
 
-    /// Says pieces, one behind another.
+    /// Says pieces, one after another.
     pub fn put_all<W: Write>(
         &mut self,
         out: &mut Watched<W>,

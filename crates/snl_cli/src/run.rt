@@ -51,7 +51,7 @@ fn status(session: &Session) -> Status
     }
 }
 
-/// The end of a run whose script ends behind these bytes, which are no command.
+/// The end of a run whose script ends after these bytes, which are no command.
 fn at_end(document: &Document, ahead: &Ahead, offset: usize) -> Result<Status, RunFault>
     ensures ended { ahead.now ≡ [] → result ≡ Ok (status_of document.now.text) }
     ensures malformed { ahead.now ≢ [] → result ≡ Err (RunFault.Script offset) }

@@ -1,5 +1,5 @@
-//! The commands of a script, as they stand in its bytes.
-//! In: the bytes of a script that were read so far. Out: the command at their front, if it stands there whole.
+//! The commands of a script, as they are in its bytes.
+//! In: the bytes of a script that were read so far. Out: the command at their front, if it is there whole.
 //! Knows nothing of readers, sessions and answers.
 #![tactic(auto)]
 
@@ -55,7 +55,7 @@ pub enum Command<'a> {
     },
 }
 
-/// What stands at the front of the bytes that were read so far.
+/// What is at the front of the bytes that were read so far.
 #[derive(Clone, Copy)]
 pub enum Front<'a> {
     /// More bytes must tell.
@@ -72,7 +72,7 @@ fn place_of(byte: u8, bytes: &[u8]) -> Option<usize>
     bytes.iter().position(|b| *b == byte)
 }
 
-/// The first word of some, and what stands behind its space.
+/// The first word of some, and what comes after its space.
 fn first_word(words: &[u8]) -> (&[u8], Option<&[u8]>)
     ensures { words_of words.now ≡ result.0.now ∷ words_behind result.1 }
 {
@@ -137,7 +137,7 @@ fn heading_in(line: &[u8]) -> Option<Heading>
     if word == EDIT { edit_in(words?) } else { None }
 }
 
-/// A command that has no word behind the first.
+/// A command that has no word after the first.
 #[tactic(auto, using(crate::proofs::ScriptLemmas::lone_more))]
 fn lone(heading: Heading, words: Option<&[u8]>) -> Option<Heading>
     ensures { result ≡ lone heading (words_behind words.entry) }
@@ -182,7 +182,7 @@ fn front_behind(heading: Option<Heading>, line: usize, behind: &[u8]) -> Front<'
     }
 }
 
-/// What stands at the front of these bytes of a script.
+/// What is at the front of these bytes of a script.
 pub fn front_of(bytes: &[u8]) -> Front<'_>
     ensures { IsFront bytes.now result }
 {

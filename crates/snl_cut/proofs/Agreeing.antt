@@ -44,7 +44,7 @@ boundary_count {X} first units from (x ∷ xs) (y ∷ ys) place h w =
     let rest : (k : ℕ) × (last_end x (take k xs) ≡ place) = boundary_count first units x xs ys place h.2 (subst (λ (p : ℕ). Walks first units p ys place) same w.2) in
     (suc rest.0, rest.1)
 
--- No boundary stands inside a member.
+-- No boundary is inside a member.
 pub none_inside : {X : Type 0} (first : List X → ℕ) (units : List X) (from : ℕ) (xs ys : List ℕ) (at place : ℕ)
     → Walks first units from xs at → Walks first units from ys place → at < place → at + first (drop at units) ≤ place
 none_inside first units from xs [] at place h w lt = absurd (omega (arith, w, walks_le first units from xs at h))
@@ -66,7 +66,7 @@ also_inside old units a from h lt in_old =
     let e : min a (length old) ≡ min a (length units) = sym (length-take a old) ∙ (ap length h ∙ length-take a units) in
     omega arith
 
--- Members that end before the edit stand in both cuts: a front sees one unit past its answer, and no further.
+-- Members that end before the edit are in both cuts: a front sees one unit past its answer, and no further.
 pub front_same : {X : Type 0} (first : List X → ℕ) → IsFront first → IsLocal first → (old units : List X) (a from : ℕ) (xs : List ℕ) (to : ℕ)
     → take a old ≡ take a units → to < a → Walks first old from xs to → Walks first units from xs to
 front_same first front local old units a from [] to h lt w = w
@@ -76,7 +76,7 @@ front_same first front local old units a from (e ∷ es) to h lt w =
     let same : first (drop from units) ≡ first (drop from old) = local (drop from old) (drop from units) (some_left old from w.0) agree in
     (also_inside old units a from h (omega (arith, w.1)) w.0, w.1 ∙ ap (λ n. from + n) (sym same), front_same first front local old units a e es to h lt w.2)
 
--- The members before the edit stand in the new cut.
+-- The members before the edit are in the new cut.
 pub front_walk : {X : Type 0} (first : List X → ℕ) → IsFront first → IsLocal first → (old units : List X) (ends : List ℕ) (start b c : ℕ)
     → IsEdit old units start b c → IsCut first old ends
     → Walks first units 0 (take (ends_below start ends) ends) (last_end 0 (take (ends_below start ends) ends))
@@ -92,7 +92,7 @@ rest_late : {X : Type 0} (first : List X → ℕ) (old : List X) (ends : List �
 rest_late first old ends start p [] e w lt = absurd (omega (arith, w))
 rest_late first old ends start p (x ∷ xs) e w lt = omega (arith, w.1, below_next start ends x xs e)
 
--- The first member that is made ends at or behind the edit's start.
+-- The first member that is made ends at or after the edit's start.
 pub made_late : {X : Type 0} (first : List X → ℕ) → IsFront first → IsLocal first → (old units : List X) (ends : List ℕ) (start b c : ℕ)
     → IsEdit old units start b c → IsCut first old ends
     → (p : ℕ) → p ≡ last_end 0 (take (ends_below start ends) ends) → p < length units → start ≤ p + first (drop p units)
@@ -136,7 +136,7 @@ same_length old units start b c edit =
     let e : length old - b ≡ length units - c = sym (length-drop b old) ∙ (ap length edit.behind ∙ length-drop c units) in
     omega arith
 
--- The ends of both lists meet, so a place that doesn't meet stands before the end.
+-- The ends of both lists meet, so a place that doesn't meet is before the end.
 pub not_at_end : {X : Type 0} (first : List X → ℕ) (old units : List X) (ends : List ℕ) (start b c at : ℕ)
     → IsEdit old units start b c → IsCut first old ends → at ≤ length units
     → (c ≤ at → (k : ℕ) → last_end 0 (take k ends) ≡ (at - c) + b → ⊥) → at < length units
@@ -149,7 +149,7 @@ not_at_end first old units ends start b c at edit cut inside none =
           absurd (none (omega (arith, edit.new_inside)) (length ends) (whole ∙ place))
     ]
 
--- From a common boundary behind the edit on, the members are the old ones, moved.
+-- From a common boundary after the edit on, the members are the old ones, moved.
 pub shift : {X : Type 0} (first : List X → ℕ) (old units : List X) (b c m : ℕ) (xs : List ℕ) (to : ℕ)
     → drop b old ≡ drop c units → c ≤ length units → Walks first old (b + m) xs to
     → Walks first units (c + m) (moved b c xs) ((to - b) + c)

@@ -57,7 +57,7 @@ last_taken from [] k lt = absurd (omega arith)
 last_taken from (e ∷ es) zero lt = refl
 last_taken from (e ∷ es) (suc k) lt = last_taken e es k (omega arith)
 
--- Where some member ends just at the place, it is the one behind those that end below.
+-- Where some member ends just at the place, it is the one after those that end below.
 pub exact : (place from : ℕ) (ends : List ℕ) (k : ℕ) → Rises from ends → from < place → last_end from (take k ends) ≡ place
     → (ends_below place ends < length ends) × (get_or ends (ends_below place ends) 0 ≡ place)
 exact place from ends zero r lt h = absurd (omega arith)

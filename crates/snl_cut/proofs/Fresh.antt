@@ -23,7 +23,7 @@ fresh_front start meet from [] ys r h = refl
 fresh_front start meet from (e ∷ es) ys r h =
     fresh_early start meet from e (es ++ ys) (omega (arith, rises_last e es r.1)) ∙ fresh_front start meet e es ys r.1 h
 
--- Each of the members from the first that ends at or behind the edit's start up to the meeting point is.
+-- Each of the members from the first that ends at or after the edit's start up to the meeting point is.
 pub fresh_made : {X : Type 0} (first : List X → ℕ) → IsFront first → (units : List X) (start meet from : ℕ) (xs ys : List ℕ)
     → Walks first units from xs meet → (from < length units → start ≤ from + first (drop from units))
     → fresh start meet from (xs ++ ys) ≡ xs ++ fresh start meet meet ys
@@ -35,7 +35,7 @@ fresh_made first front units start meet from (e ∷ es) ys w late =
     let later : e < length units → start ≤ e + first (drop e units) = λ h. omega arith in
     fresh_here start meet from e (es ++ ys) start_le (omega (arith, w.1, some.0)) ∙ ap (λ (l : List ℕ). e ∷ l) (fresh_made first front units start meet e es ys w.2 later)
 
--- None of those that begin at the meeting point or behind it is.
+-- None of those that begin at the meeting point or after it is.
 pub fresh_back : (start meet from : ℕ) (xs : List ℕ) → Rises from xs → meet ≤ from → fresh start meet from xs ≡ []
 fresh_back start meet from [] r h = refl
 fresh_back start meet from (e ∷ es) r h = fresh_late start meet from e es h ∙ fresh_back start meet e es r.1 (omega (arith, r.0))

@@ -1,4 +1,4 @@
--- Ends that rise: none is behind the last one, and there are no more of them than places.
+-- Ends that rise: none is after the last one, and there are no more of them than places.
 use Rattle.std.proofs.Common.{ℕ, zero, suc, ◌+◌, ◌<◌, ◌≤◌, List, [], ◌∷◌, length, get_or, arith}
 use Rattle.snl_cut.specs.Cut.{Rises, last_end}
 use Rattle.snl_cut.proofs.Below.{rises_last}

@@ -30,7 +30,7 @@ members_before {X} old units a from (e ∷ es) h r le =
     let e_le : e ≤ a = omega (arith, rises_last e es r.1, le) in
     ap₂ (λ (m : List X) (ms : List (List X)). m ∷ ms) (sym (part_agrees old units a from (e - from) h (omega (arith, r.0)))) (members_before old units a e es h r.1 le)
 
--- Members behind a place are the same, moved, where the lists agree behind it.
+-- Members after a place are the same, moved, where the lists agree after it.
 members_behind : {X : Type 0} (old units : List X) (b c m : ℕ) (es : List ℕ) → drop b old ≡ drop c units → Rises (b + m) es
     → members units (c + m) (moved b c es) ≡ members old (b + m) es
 members_behind old units b c m [] h r = refl

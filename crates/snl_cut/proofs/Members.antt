@@ -1,4 +1,4 @@
--- The members of a cut, one behind another, are its units, and each is as long as the front says.
+-- The members of a cut, one after another, are its units, and each is as long as the front says.
 use Rattle.std.proofs.Common.{◌≡◌, ℕ, ◌+◌, ◌-◌, List, [], ◌∷◌, ◌++◌, length, drop, take, sym, ap, ◌∙◌, arith}
 use Rattle.std.proofs.lemmas.List.{take-append-drop, drop_all, drop-drop, length-take-le}
 use Rattle.snl_cut.specs.Cut.{IsFront, Walks, members, in_a_row, EachFirst}

@@ -8,7 +8,7 @@ pub walks_on : {X : Type 0} (first : List X → ℕ) (units : List X) (from : �
 walks_on {X} first units from [] mid ys to h k = subst (λ (p : ℕ). Walks first units p ys to) (sym h) k
 walks_on {X} first units from (e ∷ es) mid ys to h k = (h.0, h.1, walks_on first units e es mid ys to h.2 k)
 
--- A walk and the one member that stands where it ends.
+-- A walk and the one member that is where it ends.
 pub walks_push : {X : Type 0} (first : List X → ℕ) (units : List X) (from : ℕ) (xs : List ℕ) (at next : ℕ)
     → Walks first units from xs at → at < length units → next ≡ at + first (drop at units)
     → Walks first units from (xs ++ next ∷ []) next

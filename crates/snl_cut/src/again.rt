@@ -53,7 +53,7 @@ pub fn recut_by<F: Front, E: Ends>(
 /// What is kept and made of the cut of `old_units` for that of `units`, in which the old units from `start` up to
 /// `old_stop` were replaced by those from `start` up to `new_stop`.
 ///
-/// Only the fresh members are made: those that end at or behind `start` and begin before the first boundary, from the
+/// Only the fresh members are made: those that end at or after `start` and begin before the first boundary, from the
 /// edit on, that both cuts have. It looks at the old ends by halving, and copies none of those that are kept.
 pub fn recut<F: Front>(
     alloc: Global,

@@ -5,8 +5,8 @@ ghost use Rattle.std.specs.Prelude.{◌≡◌, ◌<◌, ◌≤◌, List, length,
 
 use crate::trait_front::Front;
 
-/// Each list has one cut and no other. Its members stand one behind another, and each is as long as the front says of
-/// what stands from it on.
+/// Each list has one cut and no other. Its members follow one another, and each is as long as the front says of
+/// what comes from it on.
 pub fn one_cut<F: Front>()
     ensures is_cut { (units : List F.Unit) → IsCut F.first_of units (ends_of F.first_of units) }
     ensures only { (units : List F.Unit) (ends : List ℕ) → IsCut F.first_of units ends → ends ≡ ends_of F.first_of units }
@@ -29,7 +29,7 @@ pub fn recut_is_cut<F: Front>()
         → joined (ends_of F.first_of old) old_stop new_stop front made back ≡ ends_of F.first_of units }
 {}
 
-/// Two recuts in turn give the cut of what stands after both edits.
+/// Two recuts in turn give the cut of what is after both edits.
 pub fn edits_in_turn<F: Front>()
     ensures { (one two three : List F.Unit) (start old_stop new_stop front : ℕ) (made : List ℕ) (back : ℕ)
         (start2 old_stop2 new_stop2 front2 : ℕ) (made2 : List ℕ) (back2 : ℕ)
@@ -47,7 +47,7 @@ pub fn members_stay<F: Front, X>()
         → members beside 0 (ends_of F.first_of units) ≡ members_kept old_beside (ends_of F.first_of old) beside front made back }
 {}
 
-/// Just the fresh members are made: those that end at or behind the edit's start and begin before the meeting point.
+/// Just the fresh members are made: those that end at or after the edit's start and begin before the meeting point.
 pub fn made_are_fresh<F: Front>()
     ensures { (old units : List F.Unit) (start old_stop new_stop front : ℕ) (made : List ℕ) (back : ℕ)
         → IsRecut F.first_of old (ends_of F.first_of old) units start old_stop new_stop front made back

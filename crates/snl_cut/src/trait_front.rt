@@ -5,7 +5,7 @@ ghost use Rattle.std.specs.Prelude.{◌≡◌, ◌<◌, List, length, ℕ};
 
 use crate::work::Count;
 
-/// Tells how long the first member of a list of units is, by the member itself and the one unit behind it.
+/// Tells how long the first member of a list of units is, by the member itself and the one unit after it.
 ///
 /// Each call counts as one piece of work.
 pub trait Front {

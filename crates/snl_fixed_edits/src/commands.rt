@@ -5,7 +5,7 @@ use crate::typed::Typed;
 use anyhow::{Context, Result, bail};
 use std::alloc::Global;
 
-/// The words of a line, and the two texts between backquotes that may stand on it.
+/// The words of a line, and the two texts between backquotes that may be on it.
 #[derive(Drop)]
 pub struct Command<'a> {
     words: &'a str,
@@ -13,7 +13,7 @@ pub struct Command<'a> {
     second: Vec<u8>,
 }
 
-// Where bytes stand first in a text.
+// Where bytes come first in a text.
 fn first_place(text: &[u8], bytes: &[u8]) -> Result<usize> {
     (0..text.len())
         .find(|at| text.get(*at..).unwrap_or(&[]).starts_with(bytes))

@@ -1,4 +1,4 @@
-//! Makes the edits of a list, each of every text that stands before it in the list. After each, what a session answers is held against
+//! Makes the edits of a list, each of every text that is before it in the list. After each, what a session answers is held against
 //! what a new session over the same text does, and what the edit cost against the second count.
 //! In: the list, on standard input. Out: how many edits of each text were made with no difference; else the line of the list at which
 //! something differs. On standard error how much was found.
@@ -6,12 +6,12 @@
 //! The list has a line for each of these; empty lines and those that begin with `#` are for its reader:
 //! - `|` and a line of a text; `text` and bytes of it; `over`, which ends it
 //! - `put PLACE` and bytes, `type PLACE` and bytes that come letter by letter; a place is `front`, `middle` or `end` of the text, or
-//!   `before` or `behind` bytes, where these stand first
+//!   `before` or `behind` bytes, where these come first
 //! - `swap` and bytes, and others that are put in their place; `erase` and bytes that go letter by letter
 //! - `undo` and how many edits are taken back, the last one first; `undo all`
 //! - `edit`, two offsets, and bytes that are put in the place of what is between them
 //!
-//! Bytes stand between backquotes. There `\n` is a line's end, `\x` and two digits a byte, and `\\` a backslash.
+//! Bytes are between backquotes. There `\n` is a line's end, `\x` and two digits a byte, and `\\` a backslash.
 #![tactic(auto)]
 
 mod commands;
@@ -54,7 +54,7 @@ impl Bench {
         Ok(())
     }
 
-    // Adds bytes to the text. Behind edits another text begins.
+    // Adds bytes to the text. After edits another text begins.
     fn add(&mut self, rt: &(impl Print + Eprint), bytes: &[u8]) -> Result<()> {
         if self.is_edited {
             self.clear(rt)?;

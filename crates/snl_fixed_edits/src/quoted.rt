@@ -1,9 +1,9 @@
-//! What stands between backquotes in the list comes in; the bytes that it means go out.
+//! What is between backquotes in the list comes in; the bytes that it means go out.
 
 use anyhow::{Result, bail};
 use std::alloc::Global;
 
-// What stands before the next character.
+// What comes before the next character.
 #[derive(Clone, Copy)]
 enum Open {
     Nothing,

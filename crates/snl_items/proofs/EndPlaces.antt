@@ -41,7 +41,7 @@ below_more low high (e ∷ es) le =
       | inr more ↦ omega (arith, below_no e low es more)
     ]
 
--- Where the item behind the one with a number begins: at that one's end.
+-- Where the item after the one with a number begins: at that one's end.
 pub last_taken : (from : ℕ) (ends : List ℕ) (n : ℕ) → n < length ends → last_end from (take (suc n) ends) ≡ get_or ends n 0
 last_taken from [] n lt = absurd (omega arith)
 last_taken from (e ∷ es) zero lt = refl

@@ -15,12 +15,12 @@ use Rattle.snl_lex.proofs.Along.{count_split, take_split}
 use Rattle.snl_lex.proofs.Halving.{count_cons, count_no, count_parts, count_yes, lt_no, lt_yes}
 use Rattle.snl_lex.proofs.Members.{split}
 
--- Each stands at or behind `at`, and behind the one before it.
+-- Each is at or after `at`, and after the one before it.
 abbrev pub Climbs : ℕ → List ℕ → Type 0
 Climbs at [] = Unit {0}
 Climbs at (e ∷ es) = (at ≤ e) × Climbs (suc e) es
 
--- How many stand before a place.
+-- How many are before a place.
 abbrev pub below : ℕ → List ℕ → ℕ
 below place es = count_by (λ e. nat_lt e place) es
 
@@ -51,7 +51,7 @@ pub below_none : (at place : ℕ) (es : List ℕ) → Climbs at es → place ≤
 below_none at place [] h le = refl
 below_none at place (e ∷ es) h le = count_no (λ x. nat_lt x place) e es (lt_no e place (omega (arith, h.0))) ∙ below_none (suc e) place es h.1 (omega (arith, h.0))
 
--- So many stand before the one with a number, and one more before the place behind it.
+-- So many are before the one with a number, and one more before the place after it.
 pub below_at : (at : ℕ) (es : List ℕ) (k : ℕ) → Climbs at es → k < length es → below (get_or es k 0) es ≡ k
 below_at at [] k h lt = absurd (omega arith)
 below_at at (e ∷ es) zero h lt = count_no (λ x. nat_lt x e) e es (lt_no e e (omega arith)) ∙ below_none (suc e) e es h.1 (omega arith)
@@ -139,7 +139,7 @@ pub any_none : (text : List ℕ) (a place : ℕ) → below place (line_ends text
 any_none text a place h =
     any_counted (λ b. b == 10) (part_of text a place) ∙ lt_no 0 (lines_between text a place) (omega (arith, between_is text a place, h))
 
--- A line ends at or behind `a` and before the place, if the last line end before the place isn't before `a`.
+-- A line ends at or after `a` and before the place, if the last line end before the place isn't before `a`.
 pub any_some : (text : List ℕ) (a place k : ℕ) → below place (line_ends text) ≡ suc k → has_line_between text a place ≡ nat_lt a (suc (get_or (line_ends text) k 0))
 any_some text a place k h =
     let es : List ℕ = line_ends text in

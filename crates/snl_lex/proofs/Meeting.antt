@@ -34,12 +34,12 @@ in_cons start meet from x a es h =
       | false ↦ h
     ]
 
--- A member that ends at or behind the start and begins before the meeting point is fresh.
+-- A member that ends at or after the start and begins before the meeting point is fresh.
 in_fresh : (start meet from : ℕ) (xs : List ℕ) (e : ℕ) (es : List ℕ) → start ≤ e → last_end from xs < meet → In e (fresh start meet from (xs ++ e ∷ es))
 in_fresh start meet from [] e es h k = subst (In e) (sym (taken_in start meet from e es h k)) (inl refl)
 in_fresh start meet from (x ∷ xs) e es h k = in_cons start meet from x e (xs ++ e ∷ es) (in_fresh start meet x xs e es h k)
 
--- No boundary stands inside a member.
+-- No boundary is inside a member.
 inside_none : (text : List ℕ) (from : ℕ) (xs ys : List ℕ) (a b : ℕ) → Walks piece_length text from xs a → Walks piece_length text from ys b → a < b → a + piece_length (drop a text) ≤ b
 inside_none text from xs [] a b h w lt = absurd (omega (arith, w, walk_le text from xs a h))
 inside_none text from [] (y ∷ ys) a b h w lt =
@@ -57,7 +57,7 @@ between text from (x ∷ xs) (y ∷ ys) a b h w le =
     let same : y ≡ x = w.1 ∙ sym h.1 in
     between text x xs ys a b h.2 (subst (λ (p : ℕ). Walks piece_length text p ys b) same w.2) le
 
--- Behind the edit both texts are the same, moved.
+-- After the edit both texts are the same, moved.
 same_rest : (old text : List ℕ) (start b c p : ℕ) → IsEdit old text start b c → c ≤ p → drop ((p - c) + b) old ≡ drop p text
 same_rest old text start b c p edit le =
     let one : b + (p - c) ≡ (p - c) + b = omega arith in
@@ -69,7 +69,7 @@ lengths old text start b c edit =
     let e : length old - b ≡ length text - c = sym (length-drop b old) ∙ (ap length edit.behind ∙ length-drop c text) in
     omega (arith, e, edit.old_inside, edit.new_inside)
 
--- Members of the new text behind the edit are members of the old one.
+-- Members of the new text after the edit are members of the old one.
 moved_back : (old text : List ℕ) (start b c : ℕ) → IsEdit old text start b c → (p : ℕ) (ws : List ℕ) (q : ℕ) → c ≤ p → Walks piece_length text p ws q
     → (vs : List ℕ) × Walks piece_length old ((p - c) + b) vs ((q - c) + b)
 moved_back old text start b c edit p [] q le w = ([], ap (λ (n : ℕ). (n - c) + b) w)
@@ -97,7 +97,7 @@ same_begin text xs ys a b e h k p q inside_a inside_b =
           ]
     ]
 
--- The pieces behind a boundary of the old text, moved.
+-- The pieces after a boundary of the old text, moved.
 moved_along : (old text : List ℕ) (start b c : ℕ) → IsEdit old text start b c → (p q : ℕ) (es : List ℕ) → b ≤ q → p ≡ (q - b) + c → (to : ℕ) → Walks piece_length old q es to
     → pieces_along text p (moved b c es) ≡ map (moved_piece b c) (pieces_along old q es)
 unfolding piece_at

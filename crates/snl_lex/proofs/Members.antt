@@ -9,7 +9,7 @@ use Rattle.snl_lex.specs.Local.{piece_front}
 pub split : (a b : ℕ) → (a < b) ⊎ (b ≤ a)
 split a b = grind (arith, nat_tests)
 
--- The pieces stand one behind another between the two places.
+-- The pieces follow one another between the two places.
 abbrev pub Leads : List ℕ → ℕ → List Piece → ℕ → Type 0
 Leads text from [] to = from ≡ to
 Leads text from (p ∷ ps) to = (from < length text) × (p ≡ piece_at text from) × Leads text (from + piece_length (drop from text)) ps to

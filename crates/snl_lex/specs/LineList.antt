@@ -6,7 +6,7 @@ use Rattle.snl_lex.specs.declared.piece.Piece.{Piece}
 use Rattle.snl_lex.specs.Lines.{file_by, is_marker, last_of, marker_file, marker_number, part_of}
 use Rattle.snl_lex.specs.Pieces.{bytes_at, piece_end, pieces_of}
 
--- Where the line ends (LF) stand among bytes of which the first one stands at a place.
+-- Where the line ends (LF) are among bytes of which the first one is at a place.
 abbrev pub line_ends_from : ℕ → List ℕ → List ℕ
 line_ends_from at [] = []
 line_ends_from at (b ∷ bs) = if b == 10 then at ∷ line_ends_from (suc at) bs else line_ends_from (suc at) bs
@@ -19,7 +19,7 @@ line_ends text = line_ends_from 0 text
 abbrev pub line_ends_in : List ℕ → ℕ → ℕ → List ℕ
 line_ends_in text from to = line_ends_from from (part_of text from to)
 
--- The piece is a marker that sets a line, wherever the offset stands.
+-- The piece is a marker that sets a line, wherever the offset is.
 abbrev pub numbers : List ℕ → Piece → Bool
 numbers text p = is_marker p.kind && is_some (marker_number (bytes_at text p))
 
@@ -27,7 +27,7 @@ numbers text p = is_marker p.kind && is_some (marker_number (bytes_at text p))
 abbrev pub names : List ℕ → Piece → Bool
 names text p = numbers text p && is_some (marker_file (bytes_at text p))
 
--- A marker: where it ends, the number that it sets, and where the file stands that it names.
+-- A marker: where it ends, the number that it sets, and where the file is that it names.
 abbrev pub marker_of : List ℕ → Piece → Marker
 marker_of text p = record { end = piece_end p; number = unwrap_or (marker_number (bytes_at text p)) 0; file = file_by text (Some p) }
 
@@ -76,7 +76,7 @@ abbrev pub moved_marker : ℕ → ℕ → Marker → Marker
 moved_marker old_stop new_stop m =
     record { end = (m.end - old_stop) + new_stop; number = m.number; file = option_map (λ f. ((f.0 - old_stop) + new_stop, f.1)) m.file }
 
--- Other markers in the place of those that end from `start` up to `kept_from`, and those behind moved.
+-- Other markers in the place of those that end from `start` up to `kept_from`, and those after moved.
 abbrev pub replaced_markers : ℕ → ℕ → List Marker → ℕ → ℕ → List Marker → List Marker
 replaced_markers start kept_from made old_stop new_stop ms =
     take (count_by (λ m. nat_lt m.end start) ms) ms ++ (made ++ map (moved_marker old_stop new_stop) (drop (count_by (λ m. nat_lt m.end (kept_from + 1)) ms) ms))

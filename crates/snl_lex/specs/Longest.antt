@@ -18,17 +18,17 @@ pub record IsLongestMark (text : List ℕ) (len : ℕ) : Type 0 where
   pub mark : is_mark (take len text) ≡ true
   pub longest : (n : ℕ) → n ≤ length text → is_mark (take n text) ≡ true → n ≤ len
 
--- The two bytes stand at a place.
+-- The two bytes are at a place.
 abbrev pub StandAt : ℕ → ℕ → List ℕ → ℕ → Type 0
 StandAt a b text place = take 2 (drop place text) ≡ a ∷ b ∷ []
 
--- Behind its first two bytes, the piece goes on up to and with the first `a b`.
+-- After its first two bytes, the piece goes on up to and with the first `a b`.
 pub record IsFirstClose (a : ℕ) (b : ℕ) (text : List ℕ) (len : ℕ) : Type 0 where
   pub behind : 4 ≤ len
   pub closes : StandAt a b text (len - 2)
   pub first : (place : ℕ) → 2 ≤ place → StandAt a b text place → len ≤ place + 2
 
--- No `a b` stands behind the first two bytes.
+-- No `a b` is after the first two bytes.
 abbrev pub IsUnclosed : ℕ → ℕ → List ℕ → Type 0
 IsUnclosed a b text = (place : ℕ) → 2 ≤ place → StandAt a b text place → ⊥
 
@@ -40,13 +40,13 @@ ClosesFirst kind a b text piece = ((piece.0 ≡ kind) × IsFirstClose a b text p
 abbrev pub IsRunOf : Class → (ℕ → Bool) → List ℕ → Class × ℕ → Type 0
 IsRunOf kind passes text piece = (piece.0 ≡ kind) × IsLongestRun passes text piece.1
 
--- The byte with a number goes on a number run: a letter, a digit, `_` or `.`, or a sign directly behind an `e` or `E` before which the run has digits and dots alone.
+-- The byte with a number goes on a number run: a letter, a digit, `_` or `.`, or a sign directly after an `e` or `E` before which the run has digits and dots alone.
 abbrev pub goes_on : List ℕ → ℕ → Bool
 goes_on text n =
     is_word_byte (slice_index text n) || slice_index text n == 46
     || (is_sign (slice_index text n) && (is_power (slice_index text (n - 1)) && list_all is_plain (take (n - 1) text)))
 
--- So many bytes, behind the first, go on a number run.
+-- So many bytes, after the first, go on a number run.
 abbrev pub IsNumberRun : List ℕ → ℕ → Type 0
 IsNumberRun text len = (n : ℕ) → 1 ≤ n → n < len → goes_on text n ≡ true
 

@@ -22,7 +22,7 @@ unfoldable pub awaits_sign : List ℕ → Bool
 awaits_sign [] = false
 awaits_sign (b ∷ before) = is_power b && list_all is_plain before
 
--- A number run goes on with letters, digits, `_` and `.`, and with a sign directly behind an `e` or `E` that only digits and dots come before.
+-- A number run goes on with letters, digits, `_` and `.`, and with a sign directly after an `e` or `E` that only digits and dots come before.
 unfoldable pub number_joins : List ℕ → ℕ → Bool
 number_joins before b = is_word_byte b || b == 46 || (is_sign b && awaits_sign before)
 
@@ -39,7 +39,7 @@ radix Octal = 8
 radix Decimal = 10
 radix Hexadecimal = 16
 
--- What the digits are worth behind others that are worth `value`.
+-- What the digits are worth after others that are worth `value`.
 abbrev pub value_behind : Base → ℕ → List ℕ → ℕ
 value_behind base value [] = value
 value_behind base value (d ∷ ds) = value_behind base (value * radix base + digit_value d) ds
@@ -58,7 +58,7 @@ int_suffixes =
 unfoldable pub is_int_suffix : List ℕ → Bool
 is_int_suffix bytes = list_any (bytes_eq bytes) int_suffixes
 
--- Hexadecimal digits stand behind `0x` or `0X`; else a first `0` says octal.
+-- Hexadecimal digits are after `0x` or `0X`; else a first `0` says octal.
 unfoldable pub base_of : List ℕ → Base
 base_of bytes =
     if slice_index bytes 0 == 48 then (if slice_index bytes 1 == 120 || slice_index bytes 1 == 88 then Hexadecimal else Octal) else Decimal

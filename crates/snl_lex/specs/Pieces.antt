@@ -12,7 +12,7 @@ use Rattle.snl_lex.specs.Runs.{run_of, run_by, close_of}
 use Rattle.snl_lex.specs.Kinds.{has, is_word, punctuators_of_2, punctuators_of_3}
 use Rattle.snl_lex.specs.Numbers.{number_joins, number_class, is_number_byte}
 
--- The first byte, and the run of bytes behind it that pass the test.
+-- The first byte, and the run of bytes after it that pass the test.
 abbrev pub run_piece : Class → (ℕ → Bool) → List ℕ → Class × ℕ
 run_piece kind passes u = (kind, 1 + run_of passes (drop 1 u))
 
@@ -33,11 +33,11 @@ abbrev pub closed_by : Class → ℕ → Option ℕ → Class × ℕ
 closed_by kind total None = (Bad, total)
 closed_by kind total (Some count) = (kind, 2 + count)
 
--- The two bytes at the front, and all up to the first `a b` behind them.
+-- The two bytes at the front, and all up to the first `a b` after them.
 abbrev pub closed_piece : Class → ℕ → ℕ → List ℕ → Class × ℕ
 closed_piece kind a b u = closed_by kind (length u) (close_of a b (drop 2 u))
 
--- A backslash takes the byte behind it; a backslash that is taken doesn't. (The last byte comes first in the list.)
+-- A backslash takes the byte after it; a backslash that is taken doesn't. (The last byte comes first in the list.)
 abbrev pub is_taken : List ℕ → Bool
 is_taken [] = false
 is_taken (b ∷ before) = if b == 92 then not (is_taken before) else false
@@ -116,7 +116,7 @@ pieces_from text at (suc most) =
 unfoldable pub pieces_of : List ℕ → List Piece
 pieces_of text = pieces_from text 0 (length text)
 
--- The pieces that end one behind another at these places.
+-- The pieces that end one after another at these places.
 abbrev pub pieces_along : List ℕ → ℕ → List ℕ → List Piece
 pieces_along text from [] = []
 pieces_along text from (e ∷ ends) = piece_at text from ∷ pieces_along text e ends

@@ -1,6 +1,6 @@
 //! What a byte says of the piece that it begins, and runs of like bytes.
 //! In: bytes. Out: the start that a byte is; where a run ends.
-//! It knows nothing of classes and of what stands before a byte.
+//! It knows nothing of classes and of what comes before a byte.
 
 ghost use Rattle.snl_lex.specs.Alphabet.{is_digit, is_digit_in, is_gap, is_in, is_in_line, is_plain, is_stray, is_white, is_word_byte, start_of};
 ghost use Rattle.snl_lex.specs.Runs.{run_of};
@@ -164,7 +164,7 @@ pub fn byte_at(bytes: &[u8], at: usize) -> u8
     if at < bytes.len() { bytes[at] } else { 0 }
 }
 
-/// The bytes behind so many; none, if there are no more.
+/// The bytes after so many; none, if there are no more.
 pub fn behind(bytes: &[u8], count: usize) -> &[u8]
     ensures { result.now ≡ drop count bytes.now }
 {

@@ -81,7 +81,7 @@ pub struct Relexed {
     pub kept_back: usize,
 }
 
-// The pieces that end one behind another at these places.
+// The pieces that end one after another at these places.
 fn pieces_along(
     alloc: Global,
     text: &[u8],

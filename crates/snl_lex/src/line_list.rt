@@ -16,7 +16,7 @@ use snl_cut::OutOfMemory;
 use snl_lists::replace;
 use std::alloc::Global;
 
-/// A line marker: where it ends, the number of the line behind it, and first byte and length of the name of its file, if it has one.
+/// A line marker: where it ends, the number of the line after it, and first byte and length of the name of its file, if it has one.
 #[derive(Clone, Copy, Debug, PartialEq, Eq, Drop)]
 pub struct Marker {
     pub end: usize,
@@ -32,7 +32,7 @@ pub struct LineList {
     pub naming: Vec<Marker>,
 }
 
-// How many places stand before a place.
+// How many places are before a place.
 fn places_before(places: &[usize], place: usize) -> usize
     requires { IsNonDecreasing places.now }
     ensures count { result ≡ count_by (λ e. nat_lt e place) places.now }
@@ -184,7 +184,7 @@ fn move_all(markers: &mut [Marker], old_stop: usize, new_stop: usize)
     }
 }
 
-// Puts other markers in the place of those that end from `start` up to `kept_from`, and moves those behind. There is room for them.
+// Puts other markers in the place of those that end from `start` up to `kept_from`, and moves those after. There is room for them.
 fn replace_markers(
     markers: &mut Vec<Marker>,
     start: usize,
@@ -274,7 +274,7 @@ impl LineList {
         LineList::part(alloc, edit.text, edit.start, edit.new_stop, &change.made)
     }
 
-    /// The line of an offset, which may be any number; one behind the text counts as its end. It takes no memory, and looks at few places of the lists.
+    /// The line of an offset, which may be any number; one after the text counts as its end. It takes no memory, and looks at few places of the lists.
     pub fn line_by(&self, text: &[u8], offset: usize) -> Line
         requires { IsLineList text.now self.now.ends.items self.now.markers.items self.now.naming.items }
         ensures { result ≡ line_at text.now offset }

@@ -1,6 +1,6 @@
 //! The line and file of an offset, by the line markers before it.
 //! In: a text, its pieces and an offset. Out: the line's number and its file.
-//! It knows nothing of what stands on a line.
+//! It knows nothing of what is on a line.
 
 ghost use Rattle.snl_lex.specs.Lines.{file_by, has_line_between, last_that, line_at, lines_between, marker_file, marker_number, names_file, number_by, number_place, sets_line};
 ghost use Rattle.snl_lex.specs.Pieces.{LiesIn, pieces_of};
@@ -48,7 +48,7 @@ pub fn marker_number(marker: &[u8]) -> Option<u64>
     value_of(&marker[begin..stop], Base::Decimal).filter(|number| *number <= 2_147_483_647)
 }
 
-// Where in a marker its file stands.
+// Where in a marker its file is.
 #[tactic(auto, unfolding(crate::specs::Lines::marker_file))]
 pub fn marker_file(marker: &[u8]) -> Option<(usize, usize)>
     requires { 0 < length marker.now }
@@ -172,7 +172,7 @@ fn file_by(text: &[u8], named: Option<Piece>) -> Option<(usize, usize)>
     }
 }
 
-/// The line of an offset, which may be any number; one behind the text counts as its end. It takes no memory, and goes over all the pieces twice.
+/// The line of an offset, which may be any number; one after the text counts as its end. It takes no memory, and goes over all the pieces twice.
 ///
 /// Line markers are read as this project's profile has them.
 #[tactic(auto, unfolding(crate::specs::Lines::line_at))]

@@ -24,7 +24,7 @@ pub struct PieceList {
     pub markers: usize,
 }
 
-/// An edit of a text: in the new one, other bytes stand from `start` up to `new_stop` than in the old one up to `old_stop`.
+/// An edit of a text: in the new one, other bytes are from `start` up to `new_stop` than in the old one up to `old_stop`.
 #[derive(Clone, Copy)]
 pub struct TextEdit<'a> {
     pub old: &'a [u8],

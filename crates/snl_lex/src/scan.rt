@@ -1,6 +1,6 @@
 //! The first piece of what is left of a text, by what it begins with.
 //! In: bytes. Out: the class and length of the piece that they begin with.
-//! It looks at no byte further than one behind the piece.
+//! It looks at no byte further than one after the piece.
 
 ghost use Rattle.snl_lex.specs.Alphabet.{is_in};
 ghost use Rattle.snl_lex.specs.Kinds.{has, punctuators_of_2, punctuators_of_3};
@@ -13,7 +13,7 @@ use crate::numbers::{number_class, number_end};
 use crate::piece::Class;
 use crate::word::is_word;
 
-// The first byte, and the run of bytes of the set behind it.
+// The first byte, and the run of bytes of the set after it.
 fn run_piece(rest: &[u8], kind: Class, set: Set) -> (Class, usize)
     requires { 0 < length rest.now }
     ensures { result ≡ run_piece kind (is_in set) rest.now }
@@ -68,7 +68,7 @@ fn closed_piece(rest: &[u8], kind: Class, a: u8, b: u8) -> (Class, usize)
     }
 }
 
-/// Where a string's bytes end behind its quote: before the quote that closes it, an LF that no backslash takes, or at the end.
+/// Where a string's bytes end after its quote: before the quote that closes it, an LF that no backslash takes, or at the end.
 pub fn string_end(bytes: &[u8], quote: u8) -> usize
     requires { 0 < length bytes.now }
     ensures end { result ≡ 1 + run_by (string_joins quote) [] (drop 1 bytes.now) }

@@ -76,7 +76,7 @@ mark_text Unknown = codes "unknown"
 mark_text Reached = codes "reached"
 mark_text Unreached = codes "unreached"
 
--- ` ?` is behind a target that is no state of its set.
+-- ` ?` is after a target that is no state of its set.
 abbrev pub target_text : (text : List ℕ) → NamedState → List ℕ
 target_text text target = name_of text target.name ++ (if target.is_known then [] else codes " ?")
 

@@ -84,7 +84,7 @@ not_among k [] d c = absurd (omega (arith, c.1))
 not_among k (j ∷ js) d (zero, inside, is) = d.0 is
 not_among k (j ∷ js) d (suc n, inside, is) = not_among k js d.1 (n, omega arith, is)
 
--- The key behind the last.
+-- The key after the last.
 pub distinct_more : (ks : List ℕ) (k : ℕ) → IsDistinct ks → Differs k ks → IsDistinct (ks ++ k ∷ [])
 distinct_more ks k h d = distinct_both ks (k ∷ []) h (tt, tt) (outside_more k [] ks d (outside_none ks))
 

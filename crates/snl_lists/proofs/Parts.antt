@@ -40,7 +40,7 @@ remove_behind {X} xs made start stop h w m =
     let there : drop (stop - (start + length made)) rest ≡ drop stop xs = drop-drop (stop - (start + length made)) (start + length made) xs ∙ ap (λ n. drop n xs) (omega arith) in
     ap₂ (λ (a b : List X). a ++ b) before (ap (drop stop) as_two ∙ gone ∙ there) ∙ append_assoc (take start xs) made (drop stop xs)
 
--- a list with other items in a place: what stands before their end, and what stands behind it
+-- a list with other items in a place: what comes before their end, and what comes after it
 pub split_there : {X : Type 0} (xs made : List X) (start stop : ℕ) → start ≤ length xs
     → (take (start + length made) (replaced xs start stop made) ≡ take start xs ++ made) × (drop (start + length made) (replaced xs start stop made) ≡ drop stop xs)
 split_there {X} xs made start stop h =

@@ -42,7 +42,7 @@ fn remove_all<T: Drop>(kept: &mut Slab<T>, keys: &[usize])
     }
 }
 
-// Stores these values under keys that were vacant, and lists the keys behind the others. No memory is asked for.
+// Stores these values under keys that were vacant, and lists the keys after the others. No memory is asked for.
 fn store_all<T: Drop>(kept: &mut Slab<T>, keys: &mut Vec<usize>, items: Vec<T>)
     requires keyed { IsKeyed kept.old keys.old.items }
     requires room { 0 < vec_len items → HasRoomFor kept.old (vec_len items) }
@@ -67,7 +67,7 @@ fn remove(keys: &mut Vec<usize>, start: usize, stop: usize)
     keys.truncate(len - (stop - start));
 }
 
-// Puts so many keys, from `start` on, behind all others.
+// Puts so many keys, from `start` on, after all others.
 fn put_behind(keys: &mut Vec<usize>, start: usize, count: usize)
     requires { start + count ≤ vec_len keys.old }
     ensures { keys.new.items ≡ take start keys.old.items ++ (drop count (drop start keys.old.items) ++ take count (drop start keys.old.items)) }
@@ -75,7 +75,7 @@ fn put_behind(keys: &mut Vec<usize>, start: usize, count: usize)
     keys[start..].rotate_left(count);
 }
 
-// Puts what stands from `behind` on in the place of what stands from `start` up to `stop`.
+// Puts what is from `behind` on in the place of what is from `start` up to `stop`.
 fn turn(keys: &mut Vec<usize>, start: usize, stop: usize, behind: usize)
     requires range { start ≤ stop }
     requires within { stop ≤ behind }
@@ -86,7 +86,7 @@ fn turn(keys: &mut Vec<usize>, start: usize, stop: usize, behind: usize)
     put_behind(keys, start, behind - stop);
 }
 
-// Puts other values in the place of those whose keys stand from `start` up to `stop`.
+// Puts other values in the place of those whose keys are from `start` up to `stop`.
 fn replace_in<T: Drop>(
     kept: &mut Slab<T>,
     keys: &mut Vec<usize>,

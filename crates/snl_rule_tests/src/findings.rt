@@ -13,7 +13,7 @@ use std::alloc::Global;
 use std::process::Abort;
 use std::test::Fail;
 
-/// A text, and what is found in its last item: each code, and what stands at its place in its token.
+/// A text, and what is found in its last item: each code, and what is at its place in its token.
 type Row = (&'static [u8], &'static [u8]);
 
 // The tokens of the last item.
@@ -65,10 +65,10 @@ fn found(alloc: Global, text: &[u8]) -> Result<Vec<u8>, Fail> {
     found_in(alloc, text, &last)
 }
 
-// What stands before the items of most tables: a state set that has a state `z`, behind a declaration.
+// What comes before the items of most tables: a state set that has a state `z`, after a declaration.
 static BEFORE: &[u8] = b"int y; ss s { state z { } ";
 
-// Each text behind those parts.
+// Each text after those parts.
 fn expect_found(rt: &impl Abort, alloc: Global, before: &[u8], rows: &[Row]) -> Result<(), Fail> {
     for (text, wanted) in rows {
         let mut whole = Vec::from_slice(alloc, before)?;
@@ -220,7 +220,7 @@ static ARGUMENTS: [Row; 7] = [
     ),
 ];
 
-// Texts of which nothing stands in a state set.
+// Texts of which nothing is in a state set.
 static ALONE: [Row; 5] = [
     (b"option -acdeilmrswW;", b""),
     (b"option +tax0;", b"W04:tax0 W04:x0 W04:0 "),

@@ -4,7 +4,7 @@ use crate::questions::{Question, expect_answers};
 use snl_scope::Code;
 use std::test::Fail;
 
-// A text, and what its links find. What is missing altogether stands behind the last item.
+// A text, and what its links find. What is missing altogether is after the last item.
 static TEXTS: [(&[u8], &[u8]); 4] = [
     (
         b"program p program r ss a { } ss a { state i { } state i { } }",

@@ -20,7 +20,7 @@ pub enum Question {
     Flags,
     /// The number of a declaration among the event flags.
     FlagNumber(usize),
-    /// The state set in which an item stands.
+    /// The state set in which an item is.
     Place(usize),
     /// In which scope an item finds a name.
     Level(usize, &'static [u8]),

@@ -26,7 +26,7 @@ pub fn add_number(alloc: Global, number: Option<usize>, words: &mut Vec<u8>) -> 
     }
 }
 
-/// Adds bytes, and a space behind them.
+/// Adds bytes, and a space after them.
 pub fn add_word(words: &mut Vec<u8>, word: &[u8]) -> Result<(), Fail> {
     words.extend_from_slice(word)?;
     words.push(b' ')?;

@@ -31,7 +31,7 @@ module _ (es : List Entry) (cs : List LinkedClause) where
       ap (λ l. found_at es cs sound c ++ l) (found-push (with_clause es cs sound c) ds d)
       ∙ sym (append_assoc (found_at es cs sound c) (found_behind es cs (with_clause es cs sound c) ds) (found_at es cs (sound_behind es cs (with_clause es cs sound c) ds) d))
 
-  -- clauses with their soundness, behind the sound ones before them
+  -- clauses with their soundness, after the sound ones before them
   abbrev pub judged_behind : List LinkedClause → List LinkedClause → List (LinkedClause × Bool)
   judged_behind sound ds = zip ds (soundness_behind es cs sound ds)
 
@@ -49,7 +49,7 @@ module _ (es : List Entry) (cs : List LinkedClause) where
       by true ps = sym (append_assoc sound (c ∷ []) (sound_among ps))
       by false ps = refl
 
-  -- the links of clauses, behind the sound ones before them
+  -- the links of clauses, after the sound ones before them
   abbrev pub links_behind : List LinkedClause → List LinkedClause → List ClauseLink
   links_behind sound ds = map (λ p. clause_link p.0 p.1) (judged_behind sound ds)
 

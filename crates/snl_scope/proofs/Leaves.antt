@@ -29,7 +29,7 @@ pub leaves_rise : (ns : List ℕ) (xs : List Spelled) (kinds : List Kind) → Ar
 unfolding ahead
 leaves_rise ns xs kinds l h = (numbers_rise l 0 kinds h).1
 
--- of parts that stand one behind the other
+-- of parts that follow one another
 pub no_leaves : (xs : List Spelled) → AreLeaves [] xs
 no_leaves [] = none
 no_leaves (x ∷ xs) = past x (no_leaves xs)
@@ -52,7 +52,7 @@ leaves_before ys (here k n l) = here k n (leaves_before ys l)
 pub one_leaf : (k : Kind) (n : ℕ) → AreLeaves (n ∷ []) (leaf k n)
 one_leaf k n = here k n none
 
--- of what is made of the members of a list, which stand one behind the other
+-- of what is made of the members of a list, which follow one another
 module _ {A B : Type 0} (found : List B → List ℕ) (none_found : found [] ≡ []) (found-append : (bs cs : List B) → found (bs ++ cs) ≡ found bs ++ found cs)
     (f : A → List B) (spell : A → List Spelled) (each : (x : A) → AreLeaves (found (f x)) (spell x)) where
   pub leaves_behind_each : (k : Kind) (xs : List A) → AreLeaves (found (flat_map f xs)) (behind k (map spell xs))

@@ -131,7 +131,7 @@ each_flags P [] h = tt
 each_flags P (c ∷ cs) h =
     (each_flag P c (each_front P (tokens_of_flag c) (flat_map tokens_of_flag cs) h), each_flags P cs (each_rear P (tokens_of_flag c) (flat_map tokens_of_flag cs) h))
 
--- a token that is behind each flag that one clause may have
+-- a token that is after each flag that one clause may have
 abbrev IsBehind : VariableClause → ℕ → Type 0
 IsBehind c b = (m : Mention) → c.flag ≡ Some m → m.token < b
 

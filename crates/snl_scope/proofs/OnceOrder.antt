@@ -49,7 +49,7 @@ module _ (code : Code) where
   once_if true n = ((omega arith, tt), (tt, tt))
   once_if false n = (tt, tt)
 
-  -- also where one stands behind the last item
+  -- also where one is after the last item
   once_or_missing : (test other : ℕ → Bool) (n : ℕ) → EachTwo Differ (at_items_where code test n ++ if_missing code other n)
   once_or_missing test other n =
       let missing : Each (λ f. n ≤ f.item) (if_missing code other n) × EachTwo Differ (if_missing code other n) = once_if (not (any_below other n)) n in

@@ -57,7 +57,7 @@ module _ (ss : List Outline) (i : ℕ) where
       by true = refl
       by false = refl
 
-  -- the state set that an item stands in begins before it
+  -- the state set that an item is in begins before it
   pub place_within : (k : ℕ) → place ss i ≡ Some k → k < i
   place_within k = by (option_map_or (λ s. not (begins_set s.role)) (slice_get ss i) false)
     where

@@ -1,4 +1,4 @@
--- Lemmas on numbers that rise: those below one that pass a test do, and where one stands among them.
+-- Lemmas on numbers that rise: those below one that pass a test do, and where one is among them.
 use Rattle.std.proofs.Common.{◌≡◌, ℕ, zero, suc, ◌+◌, ◌-◌, ◌<◌, ◌≤◌, Bool, true, false, ◌&&◌, cond, List, [], ◌∷◌, ◌++◌, length, map, get_or, None, Some, Result, Ok, Err, nat_eq, nat_lt, refl, sym, ap, subst, ◌∙◌, add-one, arith, if◌then◌else◌}
 use borrow.Author.Tests.{eq-eqb, eqb-false, eqb-true, le-ltb, lt-ltb, ltb-false, ltb-true, ne_eqb}
 use Rattle.std.proofs.lemmas.List.Elements.{filter-append}
@@ -72,7 +72,7 @@ rises-weakly xs r i j l h = by (nat_eq i j) refl
     by true e = let same = eqb-true i j e in omega (arith, ap (slice_index xs) same)
     by false e = let apart = eqb-false i j e in let less = rises-to xs r i j (omega (arith, l, apart)) h in omega (arith, less)
 
--- where a number stands
+-- where a number is
 position-there : (xs : List ℕ) (x i : ℕ) → IsStrictlyIncreasing xs → i < length xs → get_or xs i 0 ≡ x → position (nat_eq x) xs ≡ Some i
 position-there xs x i r l e =
     let first : position_or_len (nat_eq x) xs ≡ i =
@@ -80,7 +80,7 @@ position-there xs x i r l e =
     (λ h. eq-eqb x (get_or xs i 0) (sym e)) in
     ap (λ n. cond (nat_lt n (length xs)) (Some n) None) first ∙ ap (λ b. cond b (Some i) None) (lt-ltb i (length xs) l)
 
--- and that it stands nowhere
+-- and that it is nowhere
 position-nowhere : (xs : List ℕ) (x : ℕ) → ((k : ℕ) → k < length xs → x ≡ get_or xs k 0 → ⊥) → position (nat_eq x) xs ≡ None
 position-nowhere xs x h =
     let all : position_or_len (nat_eq x) xs ≡ length xs =

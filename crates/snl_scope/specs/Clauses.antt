@@ -30,7 +30,7 @@ use Rattle.snl_scope.specs.Places.{place}
 abbrev pub resolve_in : List Outline → ℕ → List ℕ → Option ℕ
 resolve_in ss i name = option_or (number_in (entries ss) (space.State i) name) (resolve (entries ss) (place ss i) name)
 
--- A clause in a text: the item that it stands in, and the numbers of the entries that its variable and its flag resolve to.
+-- A clause in a text: the item that it is in, and the numbers of the entries that its variable and its flag resolve to.
 pub record LinkedClause : Type 0 where
   pub item : ℕ
   pub clause : VariableClause
@@ -143,7 +143,7 @@ is_sound es cs sound c = not (option_map_or is_error (variable_code es cs sound 
 abbrev pub with_clause : List Entry → List LinkedClause → List LinkedClause → LinkedClause → List LinkedClause
 with_clause es cs sound c = if is_sound es cs sound c then sound ++ c ∷ [] else sound
 
--- The sound clauses, behind the sound ones before them.
+-- The sound clauses, after the sound ones before them.
 abbrev pub sound_behind : List Entry → List LinkedClause → List LinkedClause → List LinkedClause → List LinkedClause
 sound_behind es cs sound [] = sound
 sound_behind es cs sound (d ∷ ds) = sound_behind es cs (with_clause es cs sound d) ds
@@ -151,7 +151,7 @@ sound_behind es cs sound (d ∷ ds) = sound_behind es cs (with_clause es cs soun
 abbrev pub sound_clauses : List Outline → List LinkedClause
 sound_clauses ss = sound_behind (entries ss) (clauses_of ss) [] (clauses_of ss)
 
--- Of each clause whether it is sound, behind the sound ones before them.
+-- Of each clause whether it is sound, after the sound ones before them.
 abbrev pub soundness_behind : List Entry → List LinkedClause → List LinkedClause → List LinkedClause → List Bool
 soundness_behind es cs sound [] = []
 soundness_behind es cs sound (d ∷ ds) = is_sound es cs sound d ∷ soundness_behind es cs (with_clause es cs sound d) ds
@@ -188,7 +188,7 @@ found_at_flag es c = if has_wrong_flag es c then map (λ m. at_mention c.item m 
 abbrev pub found_at : List Entry → List LinkedClause → List LinkedClause → LinkedClause → List LinkFault
 found_at es cs sound c = found_at_variable es cs sound c ++ found_at_flag es c
 
--- What is found at clauses, behind the sound ones before them.
+-- What is found at clauses, after the sound ones before them.
 abbrev pub found_behind : List Entry → List LinkedClause → List LinkedClause → List LinkedClause → List LinkFault
 found_behind es cs sound [] = []
 found_behind es cs sound (d ∷ ds) = found_at es cs sound d ++ found_behind es cs (with_clause es cs sound d) ds

@@ -23,7 +23,7 @@ use Rattle.snl_scope.specs.Names.{Entry, entries, number_in, name_faults, resolv
 use Rattle.snl_scope.specs.Order.{order_faults}
 use Rattle.snl_scope.specs.Places.{place}
 
--- The scope in which a declaration stands, as the items see it that can name it.
+-- The scope in which a declaration is, as the items see it that can name it.
 abbrev pub level_of : Space → Level
 level_of (space.StateSet k) = level.StateSet
 level_of _ = level.Program
@@ -75,11 +75,11 @@ declaration_at ss number = option_and_then entry_declaration (slice_get (entries
 abbrev pub state_in : List Outline → ℕ → List ℕ → Option ℕ
 state_in ss k name = option_and_then (λ number. option_map (λ e. e.item) (slice_get (entries ss) number)) (number_in (entries ss) (space.States k) name)
 
--- The first state with a name in the state set in which an item stands.
+-- The first state with a name in the state set in which an item is.
 abbrev pub state_of : List Outline → ℕ → List ℕ → Option ℕ
 state_of ss i name = option_and_then (λ k. state_in ss k name) (place ss i)
 
--- The state set in which an item stands has a state of the name.
+-- The state set in which an item is has a state of the name.
 abbrev pub has_target : List Outline → ℕ → List ℕ → Bool
 has_target ss i name = option_map_or (λ k. is_some (number_in (entries ss) (space.States k) name)) (place ss i) false
 

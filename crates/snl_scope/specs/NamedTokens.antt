@@ -18,7 +18,7 @@ own_name (items.SsBegin name) = 1 ∷ []
 own_name (items.StateBlock name ms) = 1 ∷ []
 own_name _ = []
 
--- The name of the item, the names that it declares, the variables of its clauses and its targets stand at tokens of its own.
+-- The name of the item, the names that it declares, the variables of its clauses and its targets are at tokens of its own.
 pub record NamesItsTokens (text : List ℕ) (tokens : List Piece) (t : Item) : Type 0 where
   pub own : AllByRecursion (λ number. number < length tokens) (own_name t)
   pub declared : AllByRecursion (λ d. d.token < length tokens) (declared_in_tree text tokens t)

@@ -1,4 +1,4 @@
--- The names that items bring into spaces of names, and those that stand twice in one.
+-- The names that items bring into spaces of names, and those that occur twice in one.
 use Rattle.std.specs.Prelude.{ℕ, zero, suc, Bool, true, false, ◌&&◌, if◌then◌else◌, List, [], ◌∷◌, ◌++◌, filter, map, length, not, slice_get, nat_eq, bytes_eq, position, Option, None, Some, is_some, option_to_list}
 use Rattle.std.specs.Option.{option_map_or, option_or}
 use Rattle.snl_scope.specs.declared.codes.Code.{Code}
@@ -26,12 +26,12 @@ pub record Entry : Type 0 where
   pub code : Option Code
   pub variable : Option Variable
 
--- The scope of what stands at a place.
+-- The scope of what is at a place.
 abbrev pub scope_at : Option ℕ → Space
 scope_at None = space.Program
 scope_at (Some k) = space.StateSet k
 
--- The scope that an item declares in: a state its own, any other the one that it stands in.
+-- The scope that an item declares in: a state its own, any other the one that it is in.
 abbrev pub has_own_scope : Role → Bool
 has_own_scope role.State = true
 has_own_scope _ = false
@@ -90,7 +90,7 @@ has_name s name e = same_space s e.space && bytes_eq name e.name
 abbrev pub number_in : List Entry → Space → List ℕ → Option ℕ
 number_in es s name = position (has_name s name) es
 
--- The number of the entry that a name resolves to from where the items of a place stand: the first declaration in the
+-- The number of the entry that a name resolves to from where the items of a place are: the first declaration in the
 -- state set, else the first in the program.
 abbrev pub resolve : List Entry → Option ℕ → List ℕ → Option ℕ
 resolve es None name = number_in es space.Program name
@@ -103,7 +103,7 @@ repetition_at e = map (λ code. record { item = e.item; token = e.token; code = 
 abbrev pub repetition : List Entry → Entry → List LinkFault
 repetition earlier e = if is_some (number_in earlier e.space e.name) then repetition_at e else []
 
--- What is found at entries, behind the earlier ones.
+-- What is found at entries, after the earlier ones.
 abbrev pub repetitions : List Entry → List Entry → List LinkFault
 repetitions earlier [] = []
 repetitions earlier (e ∷ es) = repetition earlier e ++ repetitions (earlier ++ e ∷ []) es

@@ -1,4 +1,4 @@
--- The tokens at which the names of an item stand, and findings of which no two are the same.
+-- The tokens at which the names of an item are, and findings of which no two are the same.
 use Rattle.std.specs.Prelude.{◌≢◌, ℕ, List, map, option_to_list}
 use Rattle.std.specs.List.{AllPairs, flat_map}
 use Rattle.std.specs.List.Sorted.{IsStrictlyIncreasing}
@@ -20,7 +20,7 @@ tokens_of_flag c = map (λ m. m.token) (option_to_list c.flag)
 abbrev pub flag_tokens : Outline → List ℕ
 flag_tokens s = flat_map tokens_of_flag s.clauses
 
--- Each name of one sort stands at a token of its own, behind that of the name before it.
+-- Each name of one sort is at a token of its own, after that of the name before it.
 pub record TokensRise (s : Outline) : Type 0 where
   pub declared : IsStrictlyIncreasing (declared_tokens s)
   pub variables : IsStrictlyIncreasing (variable_tokens s)

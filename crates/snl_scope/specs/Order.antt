@@ -53,11 +53,11 @@ is_main kind.SsBegin = true
 is_main kind.Exit = true
 is_main _ = false
 
--- The phase of a declaration and its like is 1, or 5 behind an item of phase 2, 3 or 4.
+-- The phase of a declaration and its like is 1, or 5 after an item of phase 2, 3 or 4.
 abbrev pub part_phase : Bool → Option ℕ
 part_phase begun = Some (if begun then 5 else 1)
 
--- The phase of an item at program level, where it is known whether an item of phase 2, 3 or 4 stands before it.
+-- The phase of an item at program level, where it is known whether an item of phase 2, 3 or 4 is before it.
 -- States, C code, `}`, the empty item and faulty items have none.
 abbrev pub phase_of : Bool → ItemKind → Option ℕ
 phase_of begun kind.Header = Some 0
@@ -72,7 +72,7 @@ phase_of begun kind.Function = part_phase begun
 phase_of begun kind.StructDef = part_phase begun
 phase_of begun _ = None
 
--- An item of phase 2, 3 or 4 stands at program level before item i.
+-- An item of phase 2, 3 or 4 is at program level before item i.
 abbrev pub has_begun : LinkedItems → ℕ → Bool
 has_begun l i = any_below (λ j. kind_is is_main l j && is_none (place l.outlines j)) i
 
@@ -88,7 +88,7 @@ exceeds _ _ = false
 abbrev pub is_late : LinkedItems → ℕ → Bool
 is_late l i = any_below (λ j. exceeds (phase l j) (phase l i)) i
 
--- What may not stand in a state set.
+-- What may not be in a state set.
 abbrev pub is_barred_in_sets : ItemKind → Bool
 is_barred_in_sets kind.Header = true
 is_barred_in_sets kind.OptionLine = true
@@ -98,7 +98,7 @@ is_barred_in_sets kind.Function = true
 is_barred_in_sets kind.StructDef = true
 is_barred_in_sets _ = false
 
--- A state at program level, or an item that may not stand in the state set that it stands in.
+-- A state at program level, or an item that may not be in the state set that it is in.
 abbrev pub is_barred : LinkedItems → ℕ → Bool
 is_barred l i = kind_is (λ k. if is_none (place l.outlines i) then is_state k else is_barred_in_sets k) l i
 
@@ -110,7 +110,7 @@ is_later_program ss i = is_program_item ss i && any_below (is_program_item ss) i
 abbrev pub is_misplaced : LinkedItems → ℕ → Bool
 is_misplaced l i = (is_late l i || is_barred l i) && not (is_later_program l.outlines i)
 
--- The `}` item that stands in a state set closes it.
+-- The `}` item that is in a state set closes it.
 abbrev pub is_closed : List Outline → ℕ → Bool
 is_closed ss k = any_below (λ j. is_set_end ss j && stands_in ss k j) (length ss)
 
@@ -122,15 +122,15 @@ is_unmatched ss i = (is_set_begin ss i && not (is_closed ss i)) || (is_set_end s
 abbrev pub is_repeated_header : LinkedItems → ℕ → Bool
 is_repeated_header l i = kind_is (λ k. not (is_faulty k)) l i && is_later_program l.outlines i
 
--- A state stands in the state set that item k begins.
+-- A state is in the state set that item k begins.
 abbrev pub has_state : List Outline → ℕ → Bool
 has_state ss k = any_below (λ j. is_named_state ss j && stands_in ss k j) (length ss)
 
--- E06: a state set in which no state stands.
+-- E06: a state set in which no state is.
 abbrev pub is_stateless : List Outline → ℕ → Bool
 is_stateless ss i = is_set_begin ss i && not (has_state ss i)
 
--- A finding at the first token of an item. What an item should have given stands behind the last item.
+-- A finding at the first token of an item. What an item should have given is after the last item.
 abbrev pub at_item : Code → ℕ → LinkFault
 at_item code i = record { item = i; token = 0; code = code }
 

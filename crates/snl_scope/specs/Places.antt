@@ -1,4 +1,4 @@
--- Where the items of a text stand. An item is told by its number among the outlines of all.
+-- Where the items of a text are. An item is told by its number among the outlines of all.
 use Rattle.std.specs.Prelude.{ℕ, Bool, true, false, not, ◌&&◌, if◌then◌else◌, List, slice_get, nat_eq, nat_lt, Option, None}
 use Rattle.std.specs.Option.{option_map_or}
 use Rattle.snl_scope.specs.declared.summary.Outline.{Outline}
@@ -25,7 +25,7 @@ is_set_begin ss i = item_is (λ s. begins_set s.role) ss i
 abbrev pub is_set_end : List Outline → ℕ → Bool
 is_set_end ss i = item_is (λ s. ends_set s.role) ss i
 
--- A `}` item stands between items k and i.
+-- A `}` item is between items k and i.
 abbrev pub ends_between : List Outline → ℕ → ℕ → Bool
 ends_between ss k i = any_below (λ j. nat_lt k j && is_set_end ss j) i
 
@@ -33,11 +33,11 @@ ends_between ss k i = any_below (λ j. nat_lt k j && is_set_end ss j) i
 abbrev pub open_before : List Outline → ℕ → Option ℕ
 open_before ss i = last_below (λ k. is_set_begin ss k && not (ends_between ss k i)) i
 
--- The state set that an item stands in, by the number of its `ss NAME {` item; None is program level, where each
--- `ss NAME {` item itself stands.
+-- The state set that an item is in, by the number of its `ss NAME {` item; None is program level, where each
+-- `ss NAME {` item itself is.
 abbrev pub place : List Outline → ℕ → Option ℕ
 place ss i = if item_is (λ s. not (begins_set s.role)) ss i then open_before ss i else None
 
--- Item i stands in the state set that item k begins.
+-- Item i is in the state set that item k begins.
 abbrev pub stands_in : List Outline → ℕ → ℕ → Bool
 stands_in ss k i = option_map_or (nat_eq k) (place ss i) false

@@ -1,4 +1,4 @@
--- What the tokens of an item say, by how they are spelled alone: wherever they stand, it is the same.
+-- What the tokens of an item say, by how they are spelled alone: wherever they are, it is the same.
 use Rattle.std.specs.Prelude.{ℕ, ◌+◌, List, [], ◌∷◌, length, map, slice_get, Option, Some, None}
 use Rattle.std.specs.List.{concat}
 use Rattle.snl_lex.specs.declared.piece.Class.{Class}
@@ -15,7 +15,7 @@ bytes_if_spelled (Some token) = token.1
 abbrev pub bytes_by : List (Class × List ℕ) → ℕ → List ℕ
 bytes_by tokens number = bytes_if_spelled (slice_get tokens number)
 
--- The text of these tokens alone, one behind the other, and the tokens as pieces of it.
+-- The text of these tokens alone, one after the other, and the tokens as pieces of it.
 abbrev pub text_of : List (Class × List ℕ) → List ℕ
 text_of tokens = concat (map (λ token. token.1) tokens)
 

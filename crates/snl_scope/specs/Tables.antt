@@ -43,7 +43,7 @@ abbrev pub phase_in : Bool → Option ℕ → ItemKind → Option ℕ
 phase_in begun None k = phase_of begun k
 phase_in begun (Some _) k = None
 
--- A phase that a greater one stands before.
+-- A phase that a greater one is before.
 abbrev pub is_below : Option ℕ → ℕ → Bool
 is_below None greatest = false
 is_below (Some p) greatest = nat_lt p greatest
@@ -55,7 +55,7 @@ barred_at (Some _) k = is_barred_in_sets k
 abbrev pub later_program : Before → Opening → Bool
 later_program b o = is_program_word o && b.has_program
 
--- An item of a kind is out of place behind them, by its place and the word that it begins with.
+-- An item of a kind is out of place after them, by its place and the word that it begins with.
 abbrev pub misplaced_behind : Before → Option ℕ → ItemKind → Opening → Bool
 misplaced_behind b p k o = (is_below (phase_in b.begun p k) b.greatest || barred_at p k) && not (later_program b o)
 
@@ -81,12 +81,12 @@ abbrev pub heads_member : Member → Head → Bool
 heads_member member.End h = ends_set h.role
 heads_member member.State h = is_state_word h.opening && h.is_named
 
--- Whether a member that passes the test stands in each state set, as far as the first n items tell.
+-- Whether a member that passes the test is in each state set, as far as the first n items tell.
 pub record Marked (test : Outline → Bool) (marks : List Bool) (ss : List Outline) (n : ℕ) : Type 0 where
   pub len : length marks ≡ length ss
   pub each : (k : ℕ) → k < length ss → get_or marks k false ≡ any_below (λ j. item_is test ss j && stands_in ss k j) n
 
--- The state set that a member stands in, if it is one.
+-- The state set that a member is in, if it is one.
 abbrev pub set_of : Bool → Option ℕ → Option ℕ
 set_of is_member p = if is_member then p else None
 
@@ -106,7 +106,7 @@ same_key a b = same_space a.space b.space && nat_eq a.name b.name
 abbrev pub number_by : List (List ℕ) → List (Key × ℕ) → Space → List ℕ → Option ℕ
 number_by names first s name = option_and_then (λ n. lookup (same_key (record { space = s; name = n })) first) (position (bytes_eq name) names)
 
--- Where an entry stands, and what it declares.
+-- Where an entry is, and what it declares.
 abbrev pub standing_of : Entry → Standing
 standing_of e = record { space = e.space; item = e.item; token = e.token; variable = e.variable }
 
@@ -114,7 +114,7 @@ standing_of e = record { space = e.space; item = e.item; token = e.token; variab
 abbrev pub flag_stands : List Standing → ℕ → Bool
 flag_stands standings number = option_map_or (λ s. declares_flag s.variable) (slice_get standings number) false
 
--- The tables tell of a list of entries the first of each name in a space, and where each stands.
+-- The tables tell of a list of entries the first of each name in a space, and where each is.
 pub record Tabled (names : List (List ℕ)) (first : List (Key × ℕ)) (standings : List Standing) (es : List Entry) : Type 0 where
   pub found : (s : Space) (name : List ℕ) → number_by names first s name ≡ number_in es s name
   pub known : standings ≡ map standing_of es

@@ -38,7 +38,7 @@ fn lone_integer(expr: &Expr) -> Option<usize>
     }
 }
 
-// What a first length says that one integer stands in, if it does.
+// What a first length says that one integer is in, if it does.
 fn dims_by_integer(source: &Source, integer: Option<usize>) -> Dims
     requires { IsSource source.now.text.now source.now.tokens.now }
     ensures { result ≡ dims_by_integer source.now.text.now source.now.tokens.now integer }

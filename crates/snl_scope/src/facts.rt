@@ -36,7 +36,7 @@ pub struct Fact {
     pub assigned: Assigned,
 }
 
-/// The scope that a declaration outside blocks stands in. A state set is told by the number of its `ss NAME {` item, and a
+/// The scope that a declaration outside blocks is in. A state set is told by the number of its `ss NAME {` item, and a
 /// state by that of its own item.
 #[derive(Clone, Copy, Debug, PartialEq, Eq)]
 pub enum Scope {
@@ -45,7 +45,7 @@ pub enum Scope {
     State(usize),
 }
 
-/// A declaration outside blocks: where it stands, the token of its name in the item, and what it says of the name.
+/// A declaration outside blocks: where it is, the token of its name in the item, and what it says of the name.
 #[derive(Clone, Copy, Debug, PartialEq, Eq)]
 pub struct Declaration {
     pub scope: Scope,
@@ -54,7 +54,7 @@ pub struct Declaration {
     pub variable: Variable,
 }
 
-/// A finding at a token of an item. What is missing altogether stands at token 0 behind the last item.
+/// A finding at a token of an item. What is missing altogether is at token 0 after the last item.
 #[derive(Clone, Copy, Debug, PartialEq, Eq)]
 pub struct LinkFault {
     pub item: usize,

@@ -69,7 +69,7 @@ impl Links {
     ghost use Rattle.snl_scope.specs.Places.{place};
     ghost use Rattle.std.specs.Prelude.{length};
 
-    /// The state set in which an item stands, by the number of its `ss NAME {` item, or None at program level.
+    /// The state set in which an item is, by the number of its `ss NAME {` item, or None at program level.
     pub fn place(&self, item: usize) -> Option<usize>
         ensures { result ≡ place self.now.outlines item }
     {
@@ -142,7 +142,7 @@ impl Links {
         flag_number(self.flags(), declaration)
     }
 
-    /// Whether the state set in which an item stands has a state of the name.
+    /// Whether the state set in which an item is has a state of the name.
     pub fn has_target(&self, item: usize, name: &[u8]) -> bool
         ensures { result ≡ has_target self.now.outlines item name.now }
     {
@@ -152,7 +152,7 @@ impl Links {
         }
     }
 
-    /// The first state of the name in the state set in which an item stands, by the number of its item.
+    /// The first state of the name in the state set in which an item is, by the number of its item.
     pub fn state(&self, item: usize, name: &[u8]) -> Option<usize>
         ensures { result ≡ state_of self.now.outlines item name.now }
     {
@@ -240,7 +240,7 @@ fn base_of(nature: Nature) -> Base
     }
 }
 
-// What is known of what stands there, if it is a declaration.
+// What is known of what is there, if it is a declaration.
 fn known_of(standing: Standing, assigned: Assigned) -> Option<Fact>
     ensures { result ≡ option_map (variable_fact assigned standing.space) standing.variable }
 {
@@ -265,7 +265,7 @@ fn scope_in(space: Space) -> Option<Scope>
     }
 }
 
-// The declaration that stands there, if it is one.
+// The declaration that is there, if it is one.
 fn declaration_of(standing: Standing) -> Option<Declaration>
     ensures { result ≡ option_and_then (λ v. option_map (λ s. variable_declaration standing.item standing.token s v) (scope_in standing.space)) standing.variable }
 {

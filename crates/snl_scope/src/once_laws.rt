@@ -13,7 +13,7 @@ ghost use Rattle.std.specs.Prelude.{◌≡◌, ◌<◌, ℕ, All, IfSome, List, 
 
 use snl_syntax::{item_read, item_spelled};
 
-/// In the outline of an item, no two declarations stand at one token, nor do the variables of two clauses, nor the flags
+/// In the outline of an item, no two declarations are at one token, nor are the variables of two clauses, nor the flags
 /// of two. A faulty item has none of them.
 pub fn tokens_declared_once()
     ensures tree { (text : List ℕ) (tokens : List Piece) (t : Item) → item_of (kinds_in text tokens) ≡ Some t → TokensRise (outline_in text tokens (Some t)) }

@@ -77,7 +77,7 @@ fn unmarked(alloc: Global, len: usize) -> Result<Vec<bool>, OutOfMemory>
     }
 }
 
-// The state set that a member stands in, if it is one.
+// The state set that a member is in, if it is one.
 fn set_of(is_member: bool, place: Option<usize>) -> Option<usize>
     ensures { result ≡ set_of is_member place }
 {

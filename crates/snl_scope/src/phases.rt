@@ -85,7 +85,7 @@ fn with_phase(phase: Option<u8>, greatest: u8) -> u8
     }
 }
 
-// A state at program level, or an item that may not stand in a state set.
+// A state at program level, or an item that may not be in a state set.
 fn is_barred(place: Option<usize>, kind: ItemKind) -> bool
     ensures { result ≡ barred_at place kind }
 {

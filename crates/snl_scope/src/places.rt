@@ -1,4 +1,4 @@
-//! The state set that each item stands in.
+//! The state set that each item is in.
 
 ghost use Rattle.std.specs.Prelude.{◌≡◌, ◌<◌, IfOk, Some, None, if◌then◌else◌, length, map};
 ghost use Rattle.snl_scope.specs.Places.{begins_set, ends_set};
@@ -18,7 +18,7 @@ fn place_in(role: Role, outer: Option<usize>) -> Option<usize>
     }
 }
 
-// The state set that is open behind an item.
+// The state set that is open after an item.
 fn open_behind(role: Role, item: usize, outer: Option<usize>) -> Option<usize>
     ensures { result ≡ (if begins_set role then Some item else (if ends_set role then None else outer)) }
 {

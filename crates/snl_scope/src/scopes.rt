@@ -52,7 +52,7 @@ impl Scopes {
         self.standings.len()
     }
 
-    /// The state set in which an item stands, or None at program level.
+    /// The state set in which an item is, or None at program level.
     pub(crate) fn place(&self, item: usize) -> Option<usize>
         ensures { result ≡ place self.now item }
     {
@@ -77,14 +77,14 @@ impl Scopes {
         self.heads[item]
     }
 
-    /// The number of the first that stands under a name in a space.
+    /// The number of the first that is under a name in a space.
     pub(crate) fn number_in(&self, space: Space, name: &[u8]) -> Option<usize>
         ensures { result ≡ number_in (entries self.now) space name.now }
     {
         number_in(&self.names, &self.first, space, name)
     }
 
-    /// What stands there with a number.
+    /// What is there with a number.
     pub(crate) fn standing(&self, number: usize) -> Option<Standing>
         ensures { result ≡ option_map standing_of (slice_get (entries self.now) number) }
     {
@@ -104,7 +104,7 @@ impl Scopes {
         self.number_in(Space::Program, name)
     }
 
-    /// The number of what a name resolves to that stands in an item outside its blocks.
+    /// The number of what a name resolves to that is in an item outside its blocks.
     pub(crate) fn resolve_in(&self, item: usize, name: &[u8]) -> Option<usize>
         ensures { result ≡ resolve_in self.now item name.now }
     {

@@ -1,6 +1,6 @@
 //! Spaces of names.
 
-/// A space of names, in which a name is to stand once. A state set is told by the number of its `ss NAME {` item, and a
+/// A space of names, in which a name is to occur once. A state set is told by the number of its `ss NAME {` item, and a
 /// state by that of its own item.
 #[derive(Clone, Copy, Debug, PartialEq, Eq, Hash)]
 pub(crate) enum Space {

@@ -9,7 +9,7 @@ ghost use Rattle.snl_walk.specs.Tokens.{bytes_at};
 ghost use Rattle.snl_syntax.specs.declared.tree.item.Item.{Item};
 ghost use Rattle.std.specs.Prelude.{◌≡◌, ℕ, List, Option};
 
-/// Tokens that are spelled alike have the same bytes and, with the same tree, the same summary, whichever texts they stand in:
+/// Tokens that are spelled alike have the same bytes and, with the same tree, the same summary, whichever texts they are in:
 /// both go by their spelling alone. Tokens that are a text by themselves are spelled there as they are.
 pub fn same_spelling_same_summary()
     ensures bytes { (text moved : List ℕ) (tokens shifted : List Piece) → spelled text tokens ≡ spelled moved shifted → bytes_at text tokens ≡ bytes_at moved shifted }

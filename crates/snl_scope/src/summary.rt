@@ -86,7 +86,7 @@ pub struct Declared {
     pub variable: Variable,
 }
 
-/// A name that stands at a token.
+/// A name that is at a token.
 #[derive(Drop)]
 pub struct Mention {
     pub name: Name,

@@ -1,4 +1,4 @@
-//! The names of all spaces, with where each stands first.
+//! The names of all spaces, with where each comes first.
 
 ghost use Rattle.std.specs.Prelude.{◌≡◌, ◌++◌, ◌∷◌, [], List, OnOk, IfOk, Option, if◌then◌else◌, is_some, length, map, option_copied};
 ghost use Rattle.snl_scope.specs.Names.{Entry, declared_entry, entries, entries_of, has_own_scope, repetition_at, scope_at, scope_code, scope_of, set_entries, set_name, state_entries};
@@ -30,7 +30,7 @@ pub(crate) struct Named<'a> {
     pub variable: Option<Variable>,
 }
 
-/// Where a name stands that has come, and what a declaration says of it.
+/// Where a name is that has come, and what a declaration says of it.
 #[derive(Clone, Copy, Debug, PartialEq, Eq)]
 pub(crate) struct Standing {
     pub space: Space,
@@ -40,7 +40,7 @@ pub(crate) struct Standing {
 }
 
 /// The names that have come so far: for each name in a space the number of the first that came, for each number where it
-/// stands, and the findings at those that came again.
+/// is, and the findings at those that came again.
 #[derive(Drop)]
 pub(crate) struct Tables {
     pub names: Names,
@@ -87,7 +87,7 @@ fn add_repetition(named: Named, faults: &mut Vec<LinkFault>) -> Result<(), OutOf
     Ok(())
 }
 
-// The scope of what stands at a place.
+// The scope of what is at a place.
 fn scope_at(place: Option<usize>) -> Space
     ensures { result ≡ scope_at place }
 {
@@ -190,7 +190,7 @@ impl Tables {
         }
     }
 
-    // Adds the name of the state that an item is, if it stands in a state set.
+    // Adds the name of the state that an item is, if it is in a state set.
     fn add_state(
         &mut self,
         alloc: Global,

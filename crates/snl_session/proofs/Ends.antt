@@ -1,4 +1,4 @@
--- The ends of a cut stand in order, and none behind the list.
+-- The ends of a cut are in order, and none after the list.
 use Rattle.std.proofs.Common.{arith, ◌≡◌, ℕ, ◌+◌, ◌-◌, ◌<◌, List, [], ◌∷◌, length, drop, length-drop}
 use Rattle.snl_cut.specs.Cut.{IsFront, Walks}
 use Rattle.snl_session.specs.Parts.{EndsWithin}

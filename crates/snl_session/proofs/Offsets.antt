@@ -1,4 +1,4 @@
--- A finding that stands in a token of a text stands in the text.
+-- A finding that is in a token of a text is in the text.
 use Rattle.std.proofs.Common.{arith, inl, inr, ℕ, zero, suc, ◌+◌, ◌^◌, ◌<◌, ◌≤◌, All, List, [], ◌∷◌, length, drop, get_or}
 use Rattle.std.specs.List.{AllByRecursion, slice_get}
 use Rattle.std.proofs.lemmas.List.{length-take}

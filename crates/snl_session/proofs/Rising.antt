@@ -1,4 +1,4 @@
--- In the outlines of a text's items names of one sort stand at different tokens.
+-- In the outlines of a text's items names of one sort are at different tokens.
 use Rattle.std.proofs.Common.{◌≡◌, ℕ, Bool, true, false, if◌then◌else◌, List, [], ◌∷◌, map, Option, None, Some, refl}
 use Rattle.std.specs.List.{list_any}
 use Rattle.std.specs.List.{AllByRecursion as Each}

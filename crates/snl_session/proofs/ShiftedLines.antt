@@ -49,7 +49,7 @@ module _ (old text : List ℕ) (s : Shift) (order : s.start ≤ s.old_stop) (lin
   all_behind (p ∷ []) h some = absurd (omega arith)
   all_behind (p ∷ q ∷ ps) h some = lines p.start (inr h.0) ∙ behind (line_at old p.start) p.start (omega (arith, h.0.0)) ∙ sym (behind (line_at old p.start) q.start (omega (arith, h.1.0.0)))
 
-  -- What is in front and what is behind, from one token on.
+  -- What is in front and what is after, from one token on.
   parted : (from before : ℕ) (ts : List Piece) → AllByRecursion IsInFront (take before ts) → AllByRecursion IsBehind (drop before ts)
       → AllByRecursion IsInFront (take (before - from) (drop from ts)) × AllByRecursion IsBehind (drop (before - from) (drop from ts))
   parted zero before ts h g =

@@ -44,7 +44,7 @@ filter_map_more f xs i x here =
     ∙ filter_map-append f (take i xs) (x ∷ [])
     ∙ ap (λ l. filter_map f (take i xs) ++ l) (cons_option_is (f x) [] ∙ append-nil (option_to_list (f x)))
 
--- and what is found at an item and at those behind it
+-- and what is found at an item and at those after it
 pub filter_map_here : {X Y : Type 0} (f : ℕ × X → Option Y) (xs : List X) (i : ℕ) (x : X) → drop i xs ≡ x ∷ drop (i + 1) xs → filter_map f (enumerate_from i (drop i xs)) ≡ option_to_list (f (i, x)) ++ filter_map f (enumerate_from (i + 1) (drop (i + 1) xs))
 filter_map_here f xs i x here =
     ap (λ l. filter_map f (enumerate_from i l)) here

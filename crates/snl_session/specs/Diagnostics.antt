@@ -41,7 +41,7 @@ diagnostic text x = on_line x (line_at text x.offset)
 unfoldable pub diagnostics_of : List ℕ → List Diagnostic
 diagnostics_of text = map (diagnostic text) (in_order (shown text))
 
--- One diagnostic stands before another: by offset, and at one offset by code, as text.
+-- One diagnostic is before another: by offset, and at one offset by code, as text.
 abbrev pub stands_before : Diagnostic → Diagnostic → Bool
 stands_before x y = is_lt (ordering_then (nat_cmp x.offset y.offset) (slice_cmp nat_cmp (name_of x.code) (name_of y.code)))
 

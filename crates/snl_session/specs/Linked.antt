@@ -9,7 +9,7 @@ use Rattle.snl_session.specs.declared.findings.Finding.{Finding}
 pub use Rattle.snl_check.specs.Items.{linked_of, outlines_of, summaries_of}
 use Rattle.snl_session.specs.Program.{ProgramItem}
 
--- A finding with this code quotes the token at which it stands.
+-- A finding with this code quotes the token at which it is.
 abbrev pub is_quoted : Code → Bool
 is_quoted E01 = false
 is_quoted E02 = false
@@ -26,7 +26,7 @@ abbrev pub quoted_bytes : Code → ℕ → ℕ
 quoted_bytes W04 len = 1
 quoted_bytes code len = if is_quoted code then len else 0
 
--- A finding at a token. One of what is missing altogether has none, and stands at the text's beginning.
+-- A finding at a token. One of what is missing altogether has none, and is at the text's beginning.
 abbrev pub finding_at : Code → Option Piece → Finding
 finding_at code None = record { offset = 0; code = code; subject = 0 }
 finding_at code (Some token) = record { offset = token.start; code = code; subject = quoted_bytes code token.len }

@@ -6,11 +6,11 @@ use std::alloc::Global;
 use std::process::Abort;
 use std::test::Fail;
 
-// Findings of each kind stand in it: at faulty items, by links, in items, inside a token, and at a state that isn't reached.
+// Findings of each kind are in it: at faulty items, by links, in items, inside a token, and at a state that isn't reached.
 static TEXT: &str =
     "/* first */ program p\noption +rz;\nint x; // a flag\nint x;\nint\n y;\nassign x to \"dev:x\";\nmonitor z;\nevflag f; sync x to f;\nstray @ item;\n%%local code\nss a {\nstate s1 {\noption -tq;\nwhen (efTest(f) && x > 3) {\npvPut(x); v = 1;\n} state s2\n}\n\nstate\ts2 { /* none */\nwhen () { } state s4\n}\nstate s3 { when () { } exit }\n}\n/* next */ ss /* b */ b { state t {\nwhen (delay(1)) { } exit } }\n";
 
-// What may stand before the text: nothing, or a line marker.
+// What may come before the text: nothing, or a line marker.
 static FRONTS: [&str; 2] = ["", "# 7 \"a.st\"\n"];
 
 // Edits, each at the first place in the text after these bytes: so many bytes go, and others come.

@@ -104,7 +104,7 @@ module _ (free : ℕ) {A B : Type 0} (step : Reader (Step A B)) (eats : EatsMore
   pub until_last_comes : (o : Option A) (y : B) (rest : List Seat) → Comes free (step k) (steps.Last o y) rest → Comes free (until step found k) (found ++ option_to_list o, y) rest
   until_last_comes o y rest c = comes_at free (until step found k) _ (found ++ option_to_list o, y) rest (until_step step eats found k) (bind_comes free (step k) (again_or found (until step)) (steps.Last o y) rest (found ++ option_to_list o, y) rest c (pure_comes free (found ++ option_to_list o, y) rest))
 
--- ---- what stands one level deeper
+-- ---- what is one level deeper
 
 pub level_comes : (free extra depth : ℕ) {A : Type 0} (p : Reader A) (R : A → List Seat → List Seat → Type 0) (x : A) (k rest : List Seat) → (R x k rest → Comes free (p k) x rest) → Within free extra depth R x k rest → Comes free (within depth p k) x rest
 unfolding within

@@ -1,4 +1,4 @@
--- Lists in braces: elements with commas between, and a comma behind the last or not. What was read is in the grammar, and what was read before a blamed token can be completed.
+-- Lists in braces: elements with commas between, and a comma after the last or not. What was read is in the grammar, and what was read before a blamed token can be completed.
 use Rattle.std.proofs.Common.{◌≡◌, ℕ, Bool, true, false, List, [], ◌∷◌, ◌++◌, Option, Some, None, refl, sym, ap, subst, ◌∙◌}
 use Rattle.std.specs.Prelude.{option_to_list}
 use Rattle.std.proofs.lemmas.List.{append-nil}
@@ -14,7 +14,7 @@ use Rattle.snl_syntax.specs.Grammar.Expressions.{IsBehindComma}
 use Rattle.snl_syntax.specs.Grammar.Declarations.{AreBraced}
 use Rattle.snl_syntax.proofs.Viable.{Makes, Viable, Full, Exists, Both, both, Joint, IsNothing, StepOf, Ends, Whole, seats, bind_viable, bind_full, into_full, lighter, choice_viable, expect_full, pure_full, until_viable}
 
--- ---- what may stand there
+-- ---- what may be there
 
 pub none_perhaps : (free extra : ℕ) {A : Type 0} (R : A → List Seat → List Seat → Type 0) → Viable free extra (pure None) (Perhaps R) (Exists (Perhaps R))
 none_perhaps free extra R = (into_full free extra (pure None) (IsNothing None) (Perhaps R) [] (λ y k rest h. subst (λ z. Perhaps R z k rest) h.0 h.1) (pure_full free extra None)).viable
@@ -43,7 +43,7 @@ module _ (free extra : ℕ) {A : Type 0} (R : A → List Seat → List Seat → 
   abbrev pub AllValues : List Seat → List Seat → Type 0
   AllValues = Whole (IsBehindComma R) IsLast
 
-  -- what stands behind a comma, with the comma before
+  -- what comes after a comma, with the comma before
   abbrev pub Behind : Step A Bool → List Seat → List Seat → Type 0
   Behind s k rest = (n : ℕ) → IsValueStep s ((kind.Comma, n) ∷ k) rest
 
@@ -80,7 +80,7 @@ module _ (free extra : ℕ) {A : Type 0} (R : A → List Seat → List Seat → 
   aim_step : (k rest : List Seat) → Joint (Leaf kind.Comma) (λ _. BehindAim) k rest → AllValues k rest
   aim_step k rest h = subst (λ l. AllValues l rest) (sym h.2) (h.3 h.0)
 
-  -- a comma, and a choice behind it
+  -- a comma, and a choice after it
   pub comma_step : (by : Option Kind → Reader (Step A Bool)) → ((o : Option Kind) → Viable free extra (by o) Behind BehindAim) → Viable free extra (λ k. and_then (expect kind.Comma k) (λ _. λ k. by (kind_at k) k)) IsValueStep AllValues
   comma_step by each = lighter free extra (λ k. and_then (expect kind.Comma k) (λ _. λ k. by (kind_at k) k)) (Both (Leaf kind.Comma) (λ _. Behind)) IsValueStep (Joint (Leaf kind.Comma) (λ _. BehindAim)) AllValues into_step aim_step
       (bind_viable free extra (expect kind.Comma) (λ _. λ k. by (kind_at k) k) (Leaf kind.Comma) (λ _. Behind) (λ _. BehindAim) some (expect_full free extra kind.Comma).viable (λ _. choice_viable free extra by Behind BehindAim each) (λ _. behind_makes))
@@ -100,14 +100,14 @@ module _ (free extra : ℕ) {A : Type 0} (R : A → List Seat → List Seat → 
   ends_exist : (found : List A) (k rest : List Seat) → AllValues k rest → Exists (Ends (IsBehindComma R) IsLast found) k rest
   ends_exist found k rest h = ((found ++ (h.0 ++ option_to_list h.1), h.2), (h.0, h.1, h.3, refl, h.4, h.5))
 
-  -- the elements behind those that were found
+  -- the elements after those that were found
   pub values_full : (step : Reader (Step A Bool)) → Viable free extra step IsValueStep AllValues → (found : List A) → Full free extra (until step found) (Ends (IsBehindComma R) IsLast found) []
   values_full step v found = record {
     viable = lighter free extra (until step found) (Ends (IsBehindComma R) IsLast found) (Ends (IsBehindComma R) IsLast found) AllValues (Exists (Ends (IsBehindComma R) IsLast found)) (λ x k rest h. h) (ends_exist found) (until_viable free extra (IsBehindComma R) IsLast step [] v no_more found);
     makes = λ n rest room. ends_exist found rest rest (no_more n rest room);
   }
 
-  -- a first element, and those behind it
+  -- a first element, and those after it
   pub braced_values : (x : A) (r : List A × Bool) (k m1 m2 rest : List Seat) → R x k m1 → Ends (IsBehindComma R) IsLast (x ∷ []) r m1 m2 → First kind.CloseBrace m2 rest → AreBraced R r.0 r.1 k rest
   braced_values x r k m1 m2 rest e h c =
       let none : h.0 ++ option_to_list h.1 ≡ h.0 = ap (λ (o : Option A). h.0 ++ option_to_list o) h.5.0 ∙ append-nil h.0 in

@@ -1,4 +1,4 @@
--- Lists in braces are read again, and what may stand there.
+-- Lists in braces are read again, and what may be there.
 use Rattle.std.proofs.Common.{ℕ, Bool, true, false, List, [], ◌∷◌, ◌++◌, None, refl, sym, ap, subst, ◌∙◌, append_assoc}
 use Rattle.snl_lex.specs.declared.kind.Kind.{Kind}
 use Rattle.snl_lex.specs.declared.kind.Kind.TheVariants as kind
@@ -22,7 +22,7 @@ module _ (free : ℕ) {A : Type 0} (R : A → List Seat → List Seat → Type 0
     (more : (x : A) (k m : List Seat) → IsBehindComma R x k m → Heads goes_on m → Comes free (step k) (steps.More x) m)
     (trailing : (k m rest : List Seat) → First kind.Comma k m → First kind.CloseBrace m rest → Comes free (step k) (steps.Last None true) m)
     (ends : (k rest : List Seat) → First kind.CloseBrace k rest → Comes free (step k) (steps.Last None false) k) where
-  -- what stands behind an element
+  -- what comes after an element
   pub behind_value : (xs : List A) (b : Bool) (k mid m2 rest : List Seat) → Each (IsBehindComma R) xs k mid → Written kind.Comma b mid m2 → First kind.CloseBrace m2 rest → Heads goes_on k
   behind_value (x ∷ xs) b k mid m2 rest each w c = first_heads kind.Comma goes_on k each.1.mid refl each.1.comma
   behind_value [] true k mid m2 rest each w c = first_heads kind.Comma goes_on k m2 refl (subst (λ l. First kind.Comma l m2) (sym each) w)

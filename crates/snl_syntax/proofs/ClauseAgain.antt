@@ -169,7 +169,7 @@ module _ (free : ℕ) where
   unfolding channel_to
   by_channel_to b x t k mid rest f c = comes_at free (channel_to b k) (channel_to_by b (Some x) k) t rest (ap (λ o. channel_to_by b o k) (kind_first x k mid f)) c
 
-  -- `to`, or what stands behind it
+  -- `to`, or what comes after it
   to_first : (b : Bool) (x : Kind) (k mid m : List Seat) → Written kind.To b k mid → First x mid m → channel_by (Some x) ≡ named_channel → (y : Kind) × (i : List Seat) × First y k i × (channel_by (Some y) ≡ named_channel)
   to_first true x k mid m w f e = (kind.To, mid, w, refl)
   to_first false x k mid m w f e = (x, m, subst (λ l. First x l m) (sym w) f, e)

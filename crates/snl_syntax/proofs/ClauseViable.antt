@@ -126,7 +126,7 @@ module _ (free extra : ℕ) where
   unfolding text_step
   text_step_viable = choice_viable free extra text_step_by (IsValueStep free extra AreTexts texts (kind.Text ∷ []) (texts_full free extra)) (AllValues free extra AreTexts texts (kind.Text ∷ []) (texts_full free extra)) text_step_by_viable
 
-  -- what stands behind "{", where `to` is written or not
+  -- what comes after "{", where `to` is written or not
   abbrev InBraces : Bool → Channel → List Seat → List Seat → Type 0
   InBraces b t k rest = (xs : List (List ℕ)) × (trailing : Bool) × (t ≡ channels.Elements b xs trailing) × AreBraced AreTexts xs trailing k rest
 
@@ -144,7 +144,7 @@ module _ (free extra : ℕ) where
   elements_in_full : (b : Bool) → Full free extra (λ k. elements_by b (kind_at k) k) (InBraces b) (kind.CloseBrace ∷ [])
   elements_in_full b = record { viable = choice_viable free extra (elements_by b) (InBraces b) (Exists (InBraces b)) (elements_by_viable b); makes = λ n rest room. (channels.Elements b [] false, ([], false, refl, (refl, (n, refl)))) }
 
-  -- behind `to`, which is written or not
+  -- after `to`, which is written or not
   abbrev IsChannelTo : Bool → Channel → List Seat → List Seat → Type 0
   IsChannelTo b t mid rest = (k : List Seat) → Written kind.To b k mid → IsChannel t k rest
 
@@ -216,7 +216,7 @@ module _ (free extra : ℕ) where
   unfolding sync
   sync_full = into_full free extra (sync) _ (IsClause) (kind.Sync ∷ kind.Name ∷ kind.Name ∷ kind.Semicolon ∷ []) (into_sync) (bind_full free extra (expect kind.Sync) _ (Leaf kind.Sync) (λ _. Both (Leaf kind.Name) (λ n. Both (Perhaps IsSubscript) (λ s. Both (IsFlag) (λ f. Both (Leaf kind.Semicolon) (λ _. IsNothing (clauses.Sync n s f)))))) (kind.Sync ∷ []) (kind.Name ∷ kind.Name ∷ kind.Semicolon ∷ []) (expect_full free extra kind.Sync) (λ _. bind_full free extra (expect kind.Name) _ (Leaf kind.Name) (λ n. Both (Perhaps IsSubscript) (λ s. Both (IsFlag) (λ f. Both (Leaf kind.Semicolon) (λ _. IsNothing (clauses.Sync n s f))))) (kind.Name ∷ []) (kind.Name ∷ kind.Semicolon ∷ []) (expect_full free extra kind.Name) (λ n. bind_full free extra (subscript_part) _ (Perhaps IsSubscript) (λ s. Both (IsFlag) (λ f. Both (Leaf kind.Semicolon) (λ _. IsNothing (clauses.Sync n s f)))) [] (kind.Name ∷ kind.Semicolon ∷ []) (subscript_part_full) (λ s. bind_full free extra (flag) _ (IsFlag) (λ f. Both (Leaf kind.Semicolon) (λ _. IsNothing (clauses.Sync n s f))) (kind.Name ∷ []) (kind.Semicolon ∷ []) (flag_full) (λ f. bind_full free extra (expect kind.Semicolon) _ (Leaf kind.Semicolon) (λ _. IsNothing (clauses.Sync n s f)) (kind.Semicolon ∷ []) [] (expect_full free extra kind.Semicolon) (λ _. pure_full free extra (clauses.Sync n s f)))))))
 
-  -- behind the word of a syncq
+  -- after the word of a syncq
   abbrev IsRest : Bool → Clause → List Seat → List Seat → Type 0
   IsRest capital t m1 rest = (k : List Seat) → First (syncq_word capital) k m1 → IsClause t k rest
 

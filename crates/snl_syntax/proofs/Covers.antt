@@ -77,7 +77,7 @@ behind_spells : {A : Type 0} (R : A → List Seat → List Seat → Type 0) (spe
 behind_spells R spell spells [] k rest e = nothing_covers e
 behind_spells R spell spells (x ∷ xs) k rest e = word_covers e.1.comma and spells x e.1.mid e.0 e.1.element and behind_spells R spell spells xs e.0 rest e.2
 
--- one element, and those behind commas
+-- one element, and those after commas
 pub commas_cover : {A : Type 0} (R : A → List Seat → List Seat → Type 0) (spell : A → List Spelled) → Spells R spell → (x : A) (xs : List A) (k m rest : List Seat) → R x k m → Each (IsBehindComma R) xs m rest → Covers (commas (map spell (x ∷ xs))) k rest
 commas_cover R spell spells x xs k m rest r e = spells x k m r and behind_spells R spell spells xs m rest e
 

@@ -40,7 +40,7 @@ kind_stops kind.Comma h = omega arith
 kind_stops kind.CloseBrace h = omega arith
 kind_stops _ h = absurd cc
 
--- a comma or a closing brace stands behind a value
+-- a comma or a closing brace is after a value
 value_stops : (k : List Seat) → Heads goes_on k → Stops 12 k
 value_stops [] h = tt
 value_stops (s ∷ k) h = kind_stops s.0 h
@@ -190,7 +190,7 @@ init_again free zero zero t k rest is h = absurd is
 
 -- ---- declarators and declarations
 
--- a comma or a semicolon stands behind a declarator
+-- a comma or a semicolon is after a declarator
 abbrev pub goes_behind : Kind → Bool
 goes_behind kind.Comma = true
 goes_behind kind.Semicolon = true
@@ -234,7 +234,7 @@ module _ (free : ℕ) (Inner : Expr → List Seat → List Seat → Type 0) (Val
   init_lacks None k rest is h = subst (Lacks kind.OpenBracket) (sym is) (heads_lack kind.OpenBracket goes_behind rest refl h)
   init_lacks (Some x) k rest is h = first_lacks kind.Equal kind.OpenBracket k is.mid refl is.equal
 
-  -- what stands behind a declarator's name
+  -- what comes after a declarator's name
   name_lacks : (x : Kind) → same kind.OpenBracket x ≡ false → same kind.Equal x ≡ false → goes_behind x ≡ false → (ls : List (Option Expr)) (t : Option Init) (k mid rest : List Seat) → Each (IsLength Inner) ls k mid → Perhaps (IsBehindEqual Value) t mid rest → Heads goes_behind rest → Lacks x k
   name_lacks x b e g (l ∷ ls) t k mid rest each is h = first_lacks kind.OpenBracket x k each.1.m1 b each.1.opening
   name_lacks x b e g [] (Some v) k mid rest each is h = subst (Lacks x) (sym each) (first_lacks kind.Equal x mid is.mid e is.equal)
@@ -269,7 +269,7 @@ module _ (free : ℕ) (Inner : Expr → List Seat → List Seat → Type 0) (Val
       (many_comes free (next_comma (declarator inner value)) (comma_eats (declarator inner value) (declarator_local inner value li lv)) (IsBehindComma (IsDeclarator Inner Value)) (Heads goes_behind) comma_behind next_declarator (first ∷ []) xs k mid each (first_heads kind.Semicolon goes_behind mid rest refl f) (no_comma free (declarator inner value) mid (first_lacks kind.Semicolon kind.Comma mid rest refl f)))
       (bind_comes free (expect kind.Semicolon mid) _ f.0 rest _ rest (first_comes free kind.Semicolon mid rest f) (pure_comes free _ rest))
 
-  -- a declaration from behind its first name, where no bracket stands
+  -- a declaration after its first name, where no bracket is
   pub declaration_from_comes : (t : QualifiedType) (x : Declarator) (xs : List Declarator) (k m1 m2 mid rest : List Seat) → Each (IsLength Inner) x.lengths k m1 → Perhaps (IsBehindEqual Value) x.init m1 m2 → Each (IsBehindComma (IsDeclarator Inner Value)) xs m2 mid → First kind.Semicolon mid rest → Lacks kind.OpenParen k × Comes free (declaration_from inner value t x.pointers x.name k) (record { of = t; declarators = x ∷ xs }) rest
   unfolding declaration_from
   declaration_from_comes t x xs k m1 m2 mid rest each is more f =

@@ -18,7 +18,7 @@ use Rattle.snl_syntax.proofs.Covers.{Covers, Spells, nothing_covers, word_covers
 use Rattle.snl_syntax.proofs.TypeSpells.{type_spells, stars_spell}
 use Rattle.snl_syntax.proofs.ExpressionSpells.{sequence_spells, assignx_spells}
 
--- elements in braces with a comma behind them or not, and the closing brace
+-- elements in braces with a comma after them or not, and the closing brace
 pub braced_spell : {A : Type 0} (R : A → List Seat → List Seat → Type 0) (spell : A → List Spelled) → Spells R spell → (xs : List A) (trailing : Bool) (k rest : List Seat) → AreBraced R xs trailing k rest
     → (mid : List Seat) × Covers (commas (map spell xs) ++ written kind.Comma trailing) k mid × First kind.CloseBrace mid rest
 braced_spell R spell spells [] trailing k rest are = (k, subst (λ b. Covers (written kind.Comma b) k k) (sym are.0) (nothing_covers refl), are.1)

@@ -32,7 +32,7 @@ make_declaration t ds = record { of = t; declarators = ds }
 -- ---- lengths
 
 module _ (free extra : ℕ) (Inner : Expr → List Seat → List Seat → Type 0) (inner : Reader Expr) (fi : Full free extra inner Inner (kind.Integer ∷ [])) where
-  -- what stands behind "["
+  -- what comes after "["
   abbrev InLength : Option (Option Expr) → List Seat → List Seat → Type 0
   InLength y k rest = (t : Option Expr) × (mid : List Seat) × (y ≡ Some t) × Perhaps (IsSequence Inner) t k mid × First kind.CloseBracket mid rest
 
@@ -87,7 +87,7 @@ module _ (free extra : ℕ) (Inner : Init → List Seat → List Seat → Type 0
   unfolding value_step
   value_step_viable = choice_viable free extra (value_step_by inner) (IsValueStep free extra Inner inner (kind.Integer ∷ []) fi) (AllValues free extra Inner inner (kind.Integer ∷ []) fi) value_step_by_viable
 
-  -- what stands behind "{"
+  -- what comes after "{"
   abbrev InBraces : Init → List Seat → List Seat → Type 0
   InBraces t k rest = (xs : List Init) × (trailing : Bool) × (t ≡ inits.List xs trailing) × AreBraced Inner xs trailing k rest
 
@@ -159,7 +159,7 @@ module _ (free extra : ℕ) (Value : Init → List Seat → List Seat → Type 0
   unfolding init_part
   init_part_full = perhaps_full free extra (IsBehindEqual Value) (init_part_by value) init_part_by_viable
 
--- what stands behind a declarator's name
+-- what comes after a declarator's name
 pub record IsDeclaratorFrom (Inner : Expr → List Seat → List Seat → Type 0) (Value : Init → List Seat → List Seat → Type 0) (ps : List Pointer) (n : ℕ) (t : Declarator) (k rest : List Seat) : Type 0 where
   pub ls : List (Option Expr)
   pub x : Option Init
@@ -168,7 +168,7 @@ pub record IsDeclaratorFrom (Inner : Expr → List Seat → List Seat → Type 0
   pub lengths : Each (IsLength Inner) ls k mid
   pub init : Perhaps (IsBehindEqual Value) x mid rest
 
--- what stands behind a declaration's first declarator
+-- what comes after a declaration's first declarator
 pub record AreMore (Inner : Expr → List Seat → List Seat → Type 0) (Value : Init → List Seat → List Seat → Type 0) (of : QualifiedType) (first : Declarator) (t : Declaration) (k rest : List Seat) : Type 0 where
   pub ds : List Declarator
   pub mid : List Seat
@@ -176,7 +176,7 @@ pub record AreMore (Inner : Expr → List Seat → List Seat → Type 0) (Value 
   pub more : Each (IsBehindComma (IsDeclarator Inner Value)) ds k mid
   pub semicolon : First kind.Semicolon mid rest
 
--- what stands behind a declaration's first name
+-- what comes after a declaration's first name
 abbrev pub IsDeclarationFrom : (Expr → List Seat → List Seat → Type 0) → (Init → List Seat → List Seat → Type 0) → QualifiedType → List Pointer → ℕ → Declaration → List Seat → List Seat → Type 0
 IsDeclarationFrom Inner Value t ps n d k rest = (first : Declarator) × (mid : List Seat) × IsDeclaratorFrom Inner Value ps n first k mid × AreMore Inner Value t first d mid rest
 

@@ -26,7 +26,7 @@ expr_covers level is c = covers_as spell_expr is (fold-roll-Expr (List Spelled) 
 suffix_covers : {t : Suffix} {k rest : List Seat} (level : Suffix-F Expr Suffix) → t ≡ roll-Suffix level → Covers (spell_suffix_step (map-Suffix Expr Suffix (List Spelled) (List Spelled) spell_expr spell_suffix level)) k rest → Covers (spell_suffix t) k rest
 suffix_covers level is c = covers_as spell_suffix is (fold-roll-Suffix (List Spelled) (List Spelled) spell_expr_step spell_suffix_step level) c
 
--- ---- what stands in brackets
+-- ---- what is in brackets
 
 text_spells : Spells (Leaf kind.Text) (leaf kind.Text)
 text_spells n k rest e = leaf_covers e
@@ -41,7 +41,7 @@ module _ (Inner : Expr → List Seat → List Seat → Type 0) (inner_spells : S
   sequence_spells t k rest (one is) = inner_spells t k rest is
   sequence_spells t k rest (several x y ys mid is first more) = expr_covers (Expr-F.Sequence x (y ∷ ys)) is (commas_cover Inner spell_expr inner_spells x (y ∷ ys) k mid rest first more)
 
-  -- the arguments, and the bracket behind them
+  -- the arguments, and the bracket after them
   arguments_spell : (xs : List Expr) (k rest : List Seat) → AreArguments Inner xs k rest → (mid : List Seat) × Covers (commas (map spell_expr xs)) k mid × First kind.CloseParen mid rest
   arguments_spell [] k rest closing = (k, nothing_covers refl, closing)
   arguments_spell (x ∷ xs) k rest are = (are.0, commas_spell Inner spell_expr inner_spells (x ∷ xs) k are.0 are.1, are.2)

@@ -126,7 +126,7 @@ module _ (free extra : ℕ) (Inner : Expr → List Seat → List Seat → Type 0
   unfolding sequence
   sequence_full = into_full free extra (sequence inner) _ (IsSequence Inner) Int into_sequence (bind_full free extra inner _ Inner (λ x. Both (Lists (IsBehindComma Inner) []) (λ ys. IsNothing (sequenced x ys))) Int [] fi (λ x. bind_full free extra (many (next_comma inner) []) _ (Lists (IsBehindComma Inner) []) (λ ys. IsNothing (sequenced x ys)) [] [] (more_commas free extra Inner inner Int fi []) (λ ys. pure_full free extra (sequenced x ys))))
 
-  -- behind the opening bracket
+  -- after the opening bracket
   into_arguments : (ys : List Expr) (k mid rest : List Seat) → AreCommas Inner ys k mid → First kind.CloseParen mid rest → AreArguments Inner ys k rest
   into_arguments [] k mid rest a f = absurd a
   into_arguments (y ∷ ys) k mid rest a f = (mid, a, f)
@@ -221,7 +221,7 @@ module _ (free extra : ℕ) (Inner : Expr → List Seat → List Seat → Type 0
   Operand None y k rest = IsPrimary Inner Names y k rest
   Operand (Some op) y k rest = (mid : List Seat) × (op ≡ prefixes.Sizeof) × First kind.Sizeof k mid × IsPrimary Inner Names y mid rest
 
-  -- one step, behind `sizeof` or not
+  -- one step, after `sizeof` or not
   abbrev IsStep : Bool → Step Prefix Expr → List Seat → List Seat → Type 0
   IsStep b (steps.More op) k rest = IsOperator Names b op k rest
   IsStep b (steps.Last o y) k rest = Operand o y k rest
@@ -246,7 +246,7 @@ module _ (free extra : ℕ) (Inner : Expr → List Seat → List Seat → Type 0
   unfolding plain
   plain_viable b = lighter free extra (plain inner names) _ (IsStep b) _ (Operation b) (into_plain b) (λ k rest h. aim_plain b h.0 k rest h.1) (bind_full free extra atom _ (IsPrimary Inner Names) (λ x. IsNothing (steps.Last None x)) Int [] atom_full (λ x. pure_full free extra (steps.Last None x))).viable
 
-  -- an operator, and the shortest operand behind it
+  -- an operator, and the shortest operand after it
   into_signed : (b : Bool) (op : Sign) (y : Step Prefix Expr) (k rest : List Seat) → Both (Leaf (sign_mark op)) (λ _. IsNothing (steps.More (prefixes.Sign op))) y k rest → IsStep b y k rest
   into_signed b op y k rest (both n m e h) = subst (λ z. IsStep b z k rest) h.0 (sign op refl (first_then (sign_mark op) n k m rest e h.1))
 
@@ -261,7 +261,7 @@ module _ (free extra : ℕ) (Inner : Expr → List Seat → List Seat → Type 0
   unfolding signed
   signed_viable b op = lighter free extra (signed op) _ (IsStep b) _ (Operation b) (into_signed b op) (aim_signed b op) (bind_viable free extra (expect (sign_mark op)) (λ _. pure (steps.More (prefixes.Sign op))) (Leaf (sign_mark op)) (λ _. IsNothing (steps.More (prefixes.Sign op))) (λ _. Operation false) Int (expect_full free extra (sign_mark op)).viable (λ _. pure_never (steps.More (prefixes.Sign op)) (Operation false)) (λ _. step_makes false))
 
-  -- behind "("
+  -- after "("
   abbrev Grouped : Option Prefix → Step Prefix Expr → List Seat → List Seat → Type 0
   Grouped before s k rest = (x : Expr) × (mid : List Seat) × (s ≡ steps.Last before (tree.Group x)) × IsSequence Inner x k mid × First kind.CloseParen mid rest
 
@@ -292,7 +292,7 @@ module _ (free extra : ℕ) (Inner : Expr → List Seat → List Seat → Type 0
   unfolding sizeof_type
   sized_full = into_full free extra (sizeof_type inner names) _ Sized (kind.Int ∷ kind.CloseParen ∷ []) into_sized (bind_full free extra names _ Names (λ x. Both (Leaf kind.CloseParen) (λ _. IsNothing (steps.Last None (tree.SizeofType x)))) (kind.Int ∷ []) (kind.CloseParen ∷ []) fn (λ x. bind_full free extra (expect kind.CloseParen) _ (Leaf kind.CloseParen) (λ _. IsNothing (steps.Last None (tree.SizeofType x))) (kind.CloseParen ∷ []) [] (expect_full free extra kind.CloseParen) (λ _. pure_full free extra (steps.Last None (tree.SizeofType x)))))
 
-  -- what stands behind "(", with the bracket before
+  -- what comes after "(", with the bracket before
   abbrev InBracket : Step Prefix Expr → List Seat → List Seat → Type 0
   InBracket s k rest = (n : ℕ) → IsStep false s ((kind.OpenParen, n) ∷ k) rest
 
@@ -340,7 +340,7 @@ module _ (free extra : ℕ) (Inner : Expr → List Seat → List Seat → Type 0
   unfolding bracket
   bracket_viable = lighter free extra (bracket inner names) _ (IsStep false) _ (Operation false) into_bracket bracket_aim (bind_viable free extra (expect kind.OpenParen) _ (Leaf kind.OpenParen) (λ _. InBracket) (λ _. BracketAim) (kind.Integer ∷ kind.CloseParen ∷ []) (expect_full free extra kind.OpenParen).viable (λ _. choice_viable free extra (λ o. bracketed inner names (begins_type o)) InBracket BracketAim (λ o. bracketed_viable (begins_type o))) (λ _. bracket_makes))
 
-  -- what stands behind "sizeof" "(", and behind "sizeof"
+  -- what comes after "sizeof" "(", and after "sizeof"
   abbrev InSizeof : Bool → Step Prefix Expr → List Seat → List Seat → Type 0
   InSizeof b s k rest = (n i : ℕ) → IsStep b s ((kind.Sizeof, n) ∷ (kind.OpenParen, i) ∷ k) rest
 
@@ -402,7 +402,7 @@ module _ (free extra : ℕ) (Inner : Expr → List Seat → List Seat → Type 0
   unfolding sizeof
   sizeof_viable b = lighter free extra (sizeof inner names) _ (IsStep b) _ (Operation b) (into_size b) (size_aim b) (bind_viable free extra (expect kind.Sizeof) _ (Leaf kind.Sizeof) (λ _. BehindSizeof b) (λ _. BehindAim b) Int (expect_full free extra kind.Sizeof).viable (λ _. choice_viable free extra (sizeof_by inner names) (BehindSizeof b) (BehindAim b) (sizeof_by_viable b)) (λ _. behind_makes b))
 
-  -- directly behind `sizeof` no bracket is met
+  -- directly after `sizeof` no bracket is met
   abbrev closed_by : Option Kind → Reader (Step Prefix Expr)
   closed_by (Some kind.OpenParen) = refuse
   closed_by o = prefix_by inner names o
@@ -439,7 +439,7 @@ module _ (free extra : ℕ) (Inner : Expr → List Seat → List Seat → Type 0
   closed_same (Some kind.OpenParen) h = absurd (h refl)
   closed_same _ h = refl
 
-  -- where a step behind `sizeof` or not may stand
+  -- where a step after `sizeof` or not may be
   abbrev Ready : Bool → List Seat → Type 0
   Ready b k = b ≡ true → kind_at k ≡ Some kind.OpenParen → ⊥
 
@@ -711,7 +711,7 @@ module _ (free extra : ℕ) (Inner : Expr → List Seat → List Seat → Type 0
   abbrev Value : Option (Expr × Assignment) → Expr → List Seat → List Seat → Type 0
   Value o y k rest = (o ≡ None) × IsConditional Inner Names y k rest
 
-  -- what stands behind a prefix expression
+  -- what comes after a prefix expression
   abbrev Behind : Expr → Step (Expr × Assignment) Expr → List Seat → List Seat → Type 0
   Behind x s k rest = (m : List Seat) → IsPrefix Inner Names x m k → StepOf Target Value s m rest
 

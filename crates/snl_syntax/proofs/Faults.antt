@@ -35,7 +35,7 @@ seats-numbered : (n : ℕ) (a : List Kind) → seats n a ≡ numbered n a
 seats-numbered n [] = refl
 seats-numbered n (x ∷ a) = ap (λ (l : List Seat). (x, n) ∷ l) (seats-numbered (suc n) a)
 
--- the first tokens, and those behind them
+-- the first tokens, and those after them
 numbered_front : (n : ℕ) (kinds : List Kind) (front j : List Seat) → numbered n kinds ≡ front ++ j → front ≡ numbered n (take (length front) kinds)
 numbered_front n kinds [] j e = refl
 numbered_front n [] (s ∷ front) j e = absurd cc
@@ -57,7 +57,7 @@ module _ (kinds : List Kind) where
   abbrev k : List Seat
   k = ahead kinds 0
 
-  -- tokens to come behind the first ones
+  -- tokens to come after the first ones
   front_then : (front j : List Seat) (more : List Kind) → k ≡ front ++ j → ahead (take (length front) kinds ++ more) 0 ≡ front ++ numbered (length front) more
   unfolding ahead
   front_then front j more e =

@@ -1,4 +1,4 @@
--- What may stand behind an expression, and what it begins with.
+-- What may come after an expression, and what it begins with.
 use Rattle.std.proofs.Common.{◌≡◌, ℕ, ◌<◌, ◌≤◌, true, false, eqb, List, [], ◌∷◌, Option, Some, None, refl, sym, ap, subst, ◌∙◌, arith}
 use Rattle.std.proofs.lemmas.Bool.{eqb-true, eq-eqb}
 use Rattle.snl_lex.specs.declared.kind.Kind.{Kind}
@@ -15,7 +15,7 @@ use Rattle.snl_syntax.specs.Grammar.Base.{First}
 use Rattle.snl_syntax.proofs.Same.{same_true}
 use Rattle.snl_syntax.proofs.Again.{Lacks, is_false, kind_first}
 
--- The level from which on a token continues an expression before it: 0 behind an operand, 1 to 10 the tiers, 11 a condition, 12 an assignment, 13 a comma.
+-- The level from which on a token continues an expression before it: 0 after an operand, 1 to 10 the tiers, 11 a condition, 12 an assignment, 13 a comma.
 abbrev pub binds : Kind → ℕ
 binds kind.OpenBracket = 0
 binds kind.OpenParen = 0

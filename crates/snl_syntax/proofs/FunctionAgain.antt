@@ -51,7 +51,7 @@ module _ (free : ℕ) {A : Type 0} (R : A → List Seat → List Seat → Type 0
 
 -- ---- a parameter
 
--- a comma or a closing bracket stands behind a parameter
+-- a comma or a closing bracket is after a parameter
 abbrev pub ends_parameter : Kind → Bool
 ends_parameter kind.Comma = true
 ends_parameter kind.CloseParen = true
@@ -151,7 +151,7 @@ module _ (free : ℕ) (Inner : Parameter → List Seat → List Seat → Type 0)
         comes_at free (body block k) (body_by block (Some kind.OpenBrace) k) (Some b) rest (ap (λ o. body_by block o k) (kind_first kind.OpenBrace k f.0 f.1))
         (bind_comes free (block k) _ b rest (Some b) rest (block_again b k rest is) (pure_comes free (Some b) rest))
 
-    -- a function from behind its name
+    -- a function after its name
     pub function_from_comes : (t : Function) (k m1 m2 rest : List Seat) → First kind.OpenParen k m1 → AreParameters Inner t.parameters m1 m2 → IsBody Block t.body m2 rest → Comes free (function_from p block t.of t.pointers t.name k) t rest
     unfolding function_from
     function_from_comes t k m1 m2 rest f is b =
@@ -184,7 +184,7 @@ module _ (free : ℕ) (Inner : Declaration → List Seat → List Seat → Type 
   unfolding next_member
   no_member k rest f = read (ap (λ o. member_by inner o k) (kind_first kind.CloseBrace k rest f))
 
-  -- what stands behind `struct NAME`
+  -- what comes after `struct NAME`
   pub struct_members_comes : (xs : List StructMember) (k m1 m2 m3 rest : List Seat) → First kind.OpenBrace k m1 → Each (IsStructMember Inner) xs m1 m2 → First kind.CloseBrace m2 m3 → First kind.Semicolon m3 rest → Comes free (struct_members inner k) xs rest
   unfolding struct_members
   struct_members_comes xs k m1 m2 m3 rest f each g h =

@@ -39,7 +39,7 @@ parameter_spells free extra (suc depth) t k rest is = parameter_of_spells (IsAss
 parameter_spells free (suc extra) zero t k rest is = parameter_of_spells (IsAssignx free extra zero) (assignx_spells free extra zero) t k rest is.1
 parameter_spells free zero zero t k rest is = absurd is
 
--- the parameters, and the bracket behind them
+-- the parameters, and the bracket after them
 parameters_spell : (Inner : Parameter → List Seat → List Seat → Type 0) → Spells Inner spell_parameter → (xs : List Parameter) (k rest : List Seat) → AreParameters Inner xs k rest → (mid : List Seat) × Covers (commas (map spell_parameter xs)) k mid × First kind.CloseParen mid rest
 parameters_spell Inner inner_spells [] k rest closing = (k, nothing_covers refl, closing)
 parameters_spell Inner inner_spells (x ∷ xs) k rest are = (are.0, commas_spell Inner spell_parameter inner_spells (x ∷ xs) k are.0 are.1, are.2)

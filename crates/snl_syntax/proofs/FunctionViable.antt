@@ -123,7 +123,7 @@ module _ (free extra : ℕ) (Block : List Member → List Seat → List Seat →
   unfolding body
   body_full = record { viable = choice_viable free extra (body_by block) (IsBody Block) (Exists (IsBody Block)) body_by_viable; makes = λ n rest room. (None, (n, refl)) }
 
--- what stands behind a function's name
+-- what comes after a function's name
 pub record IsFunctionFrom (Param : Parameter → List Seat → List Seat → Type 0) (Block : List Member → List Seat → List Seat → Type 0) (t : QualifiedType) (ps : List Pointer) (n : ℕ) (f : Function) (k rest : List Seat) : Type 0 where
   pub xs : List Parameter
   pub b : Option (List Member)
@@ -173,7 +173,7 @@ module _ (free extra : ℕ) (Inner : Declaration → List Seat → List Seat →
   members_full : Full free extra (many (next_member inner) []) (Each (IsStructMember Inner)) []
   members_full = into_full free extra (many (next_member inner) []) (Lists (IsStructMember Inner) []) (Each (IsStructMember Inner)) [] (lists_each (IsStructMember Inner)) (many_full free extra (IsStructMember Inner) (next_member inner) next_member_viable [])
 
-  -- what stands behind `struct NAME`
+  -- what comes after `struct NAME`
   abbrev pub AreMembers : List StructMember → List Seat → List Seat → Type 0
   AreMembers xs k rest = (n : ℕ) (k1 k2 : List Seat) → First kind.Struct k1 k2 → Leaf kind.Name n k2 k → IsStruct Inner n xs k1 rest
 
@@ -184,13 +184,13 @@ module _ (free extra : ℕ) (Inner : Declaration → List Seat → List Seat →
   unfolding struct_members
   struct_members_full = into_full free extra (struct_members inner) _ (AreMembers) (kind.OpenBrace ∷ kind.CloseBrace ∷ kind.Semicolon ∷ []) (into_struct_members) (bind_full free extra (expect kind.OpenBrace) _ (Leaf kind.OpenBrace) (λ _. Both (Each (IsStructMember Inner)) (λ xs. Both (Leaf kind.CloseBrace) (λ _. Both (Leaf kind.Semicolon) (λ _. IsNothing (xs))))) (kind.OpenBrace ∷ []) (kind.CloseBrace ∷ kind.Semicolon ∷ []) (expect_full free extra kind.OpenBrace) (λ _. bind_full free extra (many (next_member inner) []) _ (Each (IsStructMember Inner)) (λ xs. Both (Leaf kind.CloseBrace) (λ _. Both (Leaf kind.Semicolon) (λ _. IsNothing (xs)))) [] (kind.CloseBrace ∷ kind.Semicolon ∷ []) (members_full) (λ xs. bind_full free extra (expect kind.CloseBrace) _ (Leaf kind.CloseBrace) (λ _. Both (Leaf kind.Semicolon) (λ _. IsNothing (xs))) (kind.CloseBrace ∷ []) (kind.Semicolon ∷ []) (expect_full free extra kind.CloseBrace) (λ _. bind_full free extra (expect kind.Semicolon) _ (Leaf kind.Semicolon) (λ _. IsNothing (xs)) (kind.Semicolon ∷ []) [] (expect_full free extra kind.Semicolon) (λ _. pure_full free extra (xs))))))
 
--- ---- items that begin with a type, in so many levels with the one that they stand in
+-- ---- items that begin with a type, in so many levels with the one that they are in
 
 module _ (free extra depth : ℕ) (Block : List Member → List Seat → List Seat → Type 0) (block : Reader (List Member)) (start : List Kind) (fb : Full free extra block Block start) where
   abbrev pub IsTyped : Item → List Seat → List Seat → Type 0
   IsTyped = IsTypedItem (IsDeclarationOf (IsAssignx free extra (depth - 1)) (IsInit free extra depth)) (IsDeclaration free extra (depth - 1)) (IsParameter free extra (depth - 1)) Block
 
-  -- what stands behind a type, stars and a name
+  -- what comes after a type, stars and a name
   abbrev BehindName : QualifiedType → List Pointer → ℕ → Item → List Seat → List Seat → Type 0
   BehindName t ps n y k rest = (k1 k2 k3 : List Seat) → IsType t k1 k2 → Each IsPointer ps k2 k3 → Leaf kind.Name n k3 k → IsTyped y k1 rest
 
@@ -222,7 +222,7 @@ module _ (free extra depth : ℕ) (Block : List Member → List Seat → List Se
   unfolding named_item
   named_item_full t ps n = record { viable = choice_viable free extra (named_by depth block t ps n) (BehindName t ps n) (Exists (BehindName t ps n)) (named_by_viable t ps n); makes = (declaration_item_full t ps n).makes }
 
-  -- what stands behind a type
+  -- what comes after a type
   abbrev BehindType : QualifiedType → Item → List Seat → List Seat → Type 0
   BehindType t y k rest = (k1 : List Seat) → IsType t k1 k → IsTyped y k1 rest
 
@@ -233,7 +233,7 @@ module _ (free extra depth : ℕ) (Block : List Member → List Seat → List Se
   unfolding item_of
   item_of_full t = into_full free extra (item_of depth block t) _ (BehindType t) (kind.Name ∷ kind.Semicolon ∷ []) (into_of t) (bind_full free extra stars _ (Each IsPointer) (λ ps. Both (Leaf kind.Name) (λ n. BehindName t ps n)) [] (kind.Name ∷ kind.Semicolon ∷ []) (stars_full free extra) (λ ps. bind_full free extra (expect kind.Name) _ (Leaf kind.Name) (λ n. BehindName t ps n) (kind.Name ∷ []) (kind.Semicolon ∷ []) (expect_full free extra kind.Name) (λ n. named_item_full t ps n)))
 
-  -- what stands behind `struct NAME`
+  -- what comes after `struct NAME`
   abbrev BehindStruct : ℕ → Item → List Seat → List Seat → Type 0
   BehindStruct n y k rest = (k1 k2 : List Seat) → First kind.Struct k1 k2 → Leaf kind.Name n k2 k → IsTyped y k1 rest
 

@@ -30,7 +30,7 @@ texts_front (y ∷ k) (suc n) all x =
     ap (λ (b : Bool). cond b (begins_texts (take n k ++ x ∷ [])) (is_close_paren y && is_empty (take n k ++ x ∷ []))) text
     ∙ texts_front k n (later y k n all) x
 
--- nothing stands behind the closing parenthesis
+-- nothing is after the closing parenthesis
 texts_closed : (k : List Mark) (n : ℕ) → AllText k n → some_is is_text (slice_get k n) ≡ false → some_is is_close_paren (slice_get k n) ≡ true
     → (x : Mark) → begins_texts (take (suc n) k ++ x ∷ []) ≡ false
 texts_closed [] n all stop close x = cc
@@ -41,7 +41,7 @@ texts_closed (y ∷ k) (suc n) all stop close x =
     ap (λ (b : Bool). cond b (begins_texts (take (suc n) k ++ x ∷ [])) (is_close_paren y && is_empty (take (suc n) k ++ x ∷ []))) text
     ∙ texts_closed k n (later y k n all) stop close x
 
--- `program NAME ( TEXT` stands in front of k
+-- `program NAME ( TEXT` is in front of k
 pub record IsHeader (a : Mark) (b : Mark) (t : Mark) : Type 0 where
   pub name : is_name a ≡ true
   pub paren : is_open_paren b ≡ true
@@ -62,7 +62,7 @@ among a b t k n is all (Some x) here text =
     ∙ ap not (texts_front k n all x)
     ∙ ap (λ (e : Bool). not (cond e true (is_close_paren x && true))) text
 
--- behind the texts it ends, but before a closing parenthesis
+-- after the texts it ends, but before a closing parenthesis
 behind : (a b t : Mark) (k : List Mark) (n : ℕ) → IsHeader a b t → AllText k n → (o : Option Mark) → some_is is_text o ≡ false
     → ends_before (mark.Program ∷ a ∷ b ∷ t ∷ take n k) o ≡ not (some_is is_close_paren o)
 behind a b t k n is all None stop = refl
@@ -72,7 +72,7 @@ behind a b t k n is all (Some x) stop =
     ∙ ap (λ (e : Bool). not (cond e true (is_close_paren x && true))) stop
     ∙ ap not (and-true (is_close_paren x))
 
--- behind the closing parenthesis it ends
+-- after the closing parenthesis it ends
 closed : (a b t : Mark) (k : List Mark) (n : ℕ) → IsHeader a b t → AllText k n → some_is is_text (slice_get k n) ≡ false
     → some_is is_close_paren (slice_get k n) ≡ true → (o : Option Mark) → ends_before (mark.Program ∷ a ∷ b ∷ t ∷ take (suc n) k) o ≡ true
 closed a b t k n is all stop close None = refl
@@ -116,7 +116,7 @@ header_closed a b t k n is all stop close =
           ];
     })
 
--- The rest as the code reads it: how far `program NAME ( TEXT ..` goes is told by what stands at each place.
+-- The rest as the code reads it: how far `program NAME ( TEXT ..` goes is told by what is at each place.
 pub record Begins (u : List Mark) : Type 0 where
   pub program : slice_get u 0 ≡ Some mark.Program
   pub name : some_is is_name (slice_get u 1) ≡ true

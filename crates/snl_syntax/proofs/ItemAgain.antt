@@ -1,4 +1,4 @@
--- Items of the grammar are read again. Behind a header no `(` may follow.
+-- Items of the grammar are read again. After a header no `(` may follow.
 use Rattle.std.proofs.Common.{◌≡◌, ℕ, suc, ◌-◌, true, false, List, [], ◌∷◌, Option, Some, None, Ok, refl, sym, ap, subst}
 use Rattle.snl_lex.specs.declared.kind.Kind.{Kind}
 use Rattle.snl_lex.specs.declared.kind.Kind.TheVariants as kind
@@ -146,7 +146,7 @@ module _ (free extra depth : ℕ) where
   item_comes y k rest (is_state n ms e is) h = known kind.State (items.StateBlock n ms) y k is.m1 rest e is.word (state_comes n ms k rest is)
   item_comes y k rest (is_typed is) h = comes_at free (item (suc (suc depth)) k) _ y rest (by_type k (typed_item_begins free extra (suc (suc depth)) (IsDeclaration free extra (suc depth)) (IsParameter free extra (suc depth)) (IsBlockWithin free extra (suc (suc depth))) y k rest is)) (typed_item_again free extra (suc depth) y k rest is)
 
-  -- an item behind which the tokens end
+  -- an item after which the tokens end
   pub whole_item_comes : (y : Item) (k : List Seat) → I y k [] → Comes free (whole_item (suc (suc depth)) k) y []
   unfolding whole_item ended kind_at
   whole_item_comes y k is = bind_comes free (item (suc (suc depth)) k) ended y [] y [] (item_comes y k [] is tt) (pure_comes free y [])

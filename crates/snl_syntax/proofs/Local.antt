@@ -1,4 +1,4 @@
--- Readers look no further than the token behind what they take, or the one that they blame.
+-- Readers look no further than the token after what they take, or the one that they blame.
 use Rattle.std.proofs.Common.{◌≡◌, ℕ, zero, suc, ◌+◌, ◌<◌, ◌≤◌, Bool, true, false, cond, List, [], ◌∷◌, ◌++◌, length, Option, Some, None, Ok, Err, refl, sym, ap, ◌∙◌, append_assoc, inl, inr, ◌⊎◌, arith}
 use Rattle.std.specs.Prelude.{option_to_list}
 use Rattle.std.proofs.lemmas.List.{append_cancel_right, length-append}
@@ -13,7 +13,7 @@ pub record Local {A : Type 0} (p : Reader A) : Type 0 where
   -- it took a front
   pub took : (k : List Seat) (x : A) (m : List Seat) → p k ≡ Ok (x, m) → (front : List Seat) × (k ≡ front ++ m)
   pub blamed : (k j : List Seat) → p k ≡ Err j → (front : List Seat) × (k ≡ front ++ j)
-  -- and takes it whatever stands past the next token
+  -- and takes it whatever is past the next token
   pub reads : (front : List Seat) (s : Seat) (j more : List Seat) (x : A) → p (front ++ s ∷ j) ≡ Ok (x, s ∷ j) → p (front ++ s ∷ more) ≡ Ok (x, s ∷ more)
   pub fails : (front : List Seat) (s : Seat) (j more : List Seat) → p (front ++ s ∷ j) ≡ Err (s ∷ j) → p (front ++ s ∷ more) ≡ Err (s ∷ more)
 
@@ -48,7 +48,7 @@ reads_on : {A : Type 0} (p : Reader A) → Local p → (f1 f2 : List Seat) (s : 
 reads_on p local f1 [] s j more x e = local.reads f1 s j more x e
 reads_on p local f1 (s' ∷ f2) s j more x e = local.reads f1 s' (f2 ++ s ∷ j) (f2 ++ s ∷ more) x e
 
--- the first reader stops in the same place, whatever stands past s
+-- the first reader stops in the same place, whatever is past s
 first_on : {A : Type 0} (p : Reader A) → Local p → (front f1 f2 : List Seat) (s : Seat) (j more : List Seat) (x : A) (m : List Seat) → front ≡ f1 ++ f2 → m ≡ f2 ++ s ∷ j → p (front ++ s ∷ j) ≡ Ok (x, m) → p (front ++ s ∷ more) ≡ Ok (x, f2 ++ s ∷ more)
 first_on p local front f1 f2 s j more x m w h e =
     let at : (l : List Seat) → front ++ s ∷ l ≡ f1 ++ (f2 ++ s ∷ l) = λ (l : List Seat). ap (λ (q : List Seat). q ++ s ∷ l) w ∙ append_assoc f1 f2 (s ∷ l) in
@@ -202,7 +202,7 @@ expect_blamed x (s ∷ k) j e =
 pub expect_local : (x : Kind) → Local (expect x)
 expect_local x = record { took = expect_took x; blamed = expect_blamed x; reads = expect_reads x; fails = expect_fails x }
 
--- ---- a word that may stand there
+-- ---- a word that may be there
 
 ok_seats : {A : Type 0} (a b : A) (k l : List Seat) → (let p : Outcome A = Ok (a, k) in p ≡ Ok (b, l)) → (a ≡ b) × (k ≡ l)
 ok_seats a b k l e = ok_is a b k l e
@@ -280,11 +280,11 @@ expect_eats x (s ∷ k) n m e =
       | inr h ↦ absurd cc
     ]
 
--- a reader that eats, and any other behind it
+-- a reader that eats, and any other after it
 pub bind_eats : {A B : Type 0} (p : Reader A) (f : A → Reader B) → Eats p → ((x : A) → Local (f x)) → Eats (λ k. and_then (p k) f)
 bind_eats p f eats locals k y m e = bind_ok (p k) f (y, m) e (λ x m' e1 e2. let a = eats k x m' e1 in let b = took_shorter (f x) (locals x) m' y m e2 in omega arith)
 
--- any reader, and one behind it that eats
+-- any reader, and one after it that eats
 pub eats_behind : {A B : Type 0} (p : Reader A) (f : A → Reader B) → Local p → ((x : A) → Eats (f x)) → Eats (λ k. and_then (p k) f)
 eats_behind p f local eats k y m e = bind_ok (p k) f (y, m) e (λ x m' e1 e2. let a = took_shorter p local k x m' e1 in let b = eats x m' y m e2 in omega arith)
 

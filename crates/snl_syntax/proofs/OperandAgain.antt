@@ -1,4 +1,4 @@
--- Operands with what stands before and behind them are read again.
+-- Operands with what comes before and after them are read again.
 use Rattle.std.proofs.Common.{◌≡◌, ℕ, Bool, true, false, List, [], ◌∷◌, ◌++◌, Option, Some, None, Ok, refl, sym, ap, subst, ◌∙◌, append_assoc, arith}
 use Rattle.snl_lex.specs.declared.kind.Kind.{Kind}
 use Rattle.snl_lex.specs.declared.kind.Kind.TheVariants as kind
@@ -64,7 +64,7 @@ signs_open signs.Address = refl
 signs_open signs.Increment = refl
 signs_open signs.Decrement = refl
 
--- a token that is no "(" stands first
+-- a token that is no "(" comes first
 abbrev Opens : List Seat → Type 0
 Opens k = (d : Kind) × (rest : List Seat) × First d k rest × (same d kind.OpenParen ≡ false)
 
@@ -202,7 +202,7 @@ module _ (free : ℕ) (Inner : Expr → List Seat → List Seat → Type 0) (Nam
   no_cast_opens op k m (is_size is f) = (kind.Sizeof, m, f, refl)
   no_cast_opens op k m (is_cast x m1 m2 b is o r g) = absurd cc
 
-  -- `sizeof`, and what goes along behind it
+  -- `sizeof`, and what goes along after it
   size_again : (found ops : List Prefix) (x : Expr) (k m mid rest : List Seat) → First kind.Sizeof k m → AreOperators Names true ops m mid → IsPrimary Inner Names x mid rest → Lacks kind.Text rest → ((l : List Prefix) → Read l ops x m rest) → Read found (prefixes.Sizeof ∷ ops) x k rest
   size_again found [] x k m mid rest f e p h go = size_last found x k m rest f (subst (λ l. IsPrimary Inner Names x l rest) (sym e) p) h
   size_again found (op ∷ ops) x k m mid rest f e p h go = with_more found prefixes.Sizeof (op ∷ ops) x k m rest (size_comes k m f (no_cast_opens op m e.0 e.1)) (go (found ++ prefixes.Sizeof ∷ []))

@@ -117,7 +117,7 @@ last_taken f k zero x here = cc
 last_taken f [] (suc n) x here = cc
 last_taken f (y ∷ k) (suc n) x here = last_taken y k n x here
 
--- Whether it ends behind one more mark
+-- Whether it ends after one more mark
 pub turn : (u : List Mark) (n : ℕ) (x : Mark) (balance : ℕ) (paren : Bool) → some_is is_plain (slice_get u 0) ≡ true → slice_get u n ≡ Some x
     → balance + count_by is_close (take (suc n) u) ≡ count_by is_open (take (suc n) u)
     → paren ≡ is_behind is_close_paren u (greatest_below (raises u) (suc n))
@@ -131,7 +131,7 @@ turn (f ∷ k) n x balance paren plain here so told =
     ∙ ap (λ (m : Mark). plain_ends_at (balance == 0) m (has_body f (take n k)) o) (last_taken f k n x here)
     ∙ ap (λ (b : Bool). plain_ends_at (balance == 0) x (is_body f || b) o) (opened_taken (f ∷ k) (suc n) (omega (arith, within)) ∙ sym told)
 
--- Where a `}` stands next, some brace is open.
+-- Where a `}` comes next, some brace is open.
 room_by : (is_level closes : Bool) → is_level && closes ≡ false → closes ≡ true → is_level ≡ false
 room_by true b h closed = cc
 room_by false b h closed = refl
@@ -154,7 +154,7 @@ room (f ∷ k) (suc n) x balance plain here so unended close =
     let none : balance ≡ 0 → ⊥ = eqb-false balance 0 (sym (level_told (f ∷ take n k) balance so) ∙ off) in
     omega arith
 
--- What is known where n marks are read, and no item ended behind any of them.
+-- What is known where n marks are read, and no item ended after any of them.
 pub record IsRead (u : List Mark) (n : ℕ) (balance : ℕ) (paren : Bool) : Type 0 where
   pub inside : n < length u
   pub small : balance ≤ n
@@ -171,7 +171,7 @@ none_read u some = record {
   unended = λ m low high. absurd (omega arith);
 }
 
--- The mark at n is read; `ended` says whether the item ends behind it.
+-- The mark at n is read; `ended` says whether the item ends after it.
 pub record IsTurn (u : List Mark) (n : ℕ) (balance : ℕ) (paren : Bool) (balance_next : ℕ) (paren_next : Bool) (ended : Bool) : Type 0 where
   pub plain : some_is is_plain (slice_get u 0) ≡ true
   pub read : IsRead u n balance paren
@@ -261,7 +261,7 @@ turn_read {u} {n} {balance} {paren} {balance_next} {paren_next} t off =
           ];
     }
 
--- the item ends behind the mark
+-- the item ends after the mark
 pub turn_is_item : {u : List Mark} {n balance : ℕ} {paren : Bool} {balance_next : ℕ} {paren_next ended : Bool} → IsTurn u n balance paren balance_next paren_next ended
     → ended ≡ true → item u ≡ n + 1
 turn_is_item {u} {n} {balance} {paren} t on =

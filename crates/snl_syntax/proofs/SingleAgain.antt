@@ -112,7 +112,7 @@ module _ (free : ℕ) (Inner : Expr → List Seat → List Seat → Type 0) (Nam
       (bind_comes free (expect kind.Colon is.m2) _ is.colon.0 is.m3 (Some arm) m (first_comes free kind.Colon is.m2 is.m3 is.colon)
       (bind_comes free (operand inner names 10 is.m3) _ arm.1 m (Some arm) m (operand_again free Inner Names inner names local named operand_first 10 arm.1 is.m3 m is.operand h) (pure_comes free (Some arm) m)))))
 
-  -- t is x with what a condition has behind it
+  -- t is x with what a condition has after it
   abbrev Chooses : Expr → Expr → List Seat → List Seat → Type 0
   Chooses x t k rest = (y : Expr) × (arms : List (Expr × Expr)) × (mid : List Seat) × Going 10 x y k mid × Each Arm arms mid rest × (conditional y arms ≡ t)
 
@@ -132,7 +132,7 @@ module _ (free : ℕ) (Inner : Expr → List Seat → List Seat → Type 0) (Nam
       (many_comes free (next_arm inner names) (arm_eats inner names local named) Arm (Stops 10) arm_begins arm_again [] g.1 g.2 rest g.4 (stops_less 10 11 rest (omega arith) h) (no_arm free inner names rest (stops_lacks 11 rest kind.Question h (omega arith))))
       (comes_as free _ (conditional g.0 g.1) t rest g.5 (pure_comes free (conditional g.0 g.1) rest)))
 
-  -- ---- nothing is assigned behind a condition's first operand
+  -- ---- nothing is assigned after a condition's first operand
 
   links_quiet : (n : ℕ) (links : List (Binary × Expr)) (k rest : List Seat) → Each (IsLink (suc n) (IsTier Inner Names n)) links k rest → Quiet rest → Quiet k
   links_quiet n [] k rest e h = subst Quiet (sym e) h

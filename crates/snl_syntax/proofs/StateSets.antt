@@ -6,17 +6,17 @@ use Rattle.snl_syntax.specs.declared.marks.Mark.TheVariants as mark
 use Rattle.snl_syntax.specs.Items.{ends_behind, is_name, is_open, item, some_is}
 use Rattle.snl_syntax.specs.ItemLaws.{least_here, least_next}
 
--- behind `ss` stands no name
+-- after `ss` there is no name
 ends_one : (k : List Mark) → some_is is_name (slice_get k 0) ≡ false → ends_behind (mark.Ss ∷ k) 1 ≡ true
 ends_one [] h = refl
 ends_one (y ∷ k) h = ap (λ (b : Bool). not (b && true)) h
 
--- behind `ss` stands a name
+-- after `ss` there is a name
 on_one : (k : List Mark) → some_is is_name (slice_get k 0) ≡ true → ends_behind (mark.Ss ∷ k) 1 ≡ false
 on_one [] h = cc
 on_one (y ∷ k) h = ap (λ (b : Bool). not (b && true)) h
 
--- behind `ss NAME` stands no brace
+-- after `ss NAME` there is no brace
 ends_two : (k : List Mark) → some_is is_name (slice_get k 0) ≡ true → some_is is_open (slice_get k 1) ≡ false → ends_behind (mark.Ss ∷ k) 2 ≡ true
 ends_two [] h o = cc
 ends_two (y ∷ []) h o = refl

@@ -133,7 +133,7 @@ module _ (free extra depth : ℕ) where
   members_full : Full free extra (many (next_member (suc depth)) []) (Each M) []
   members_full = into_full free extra (many (next_member (suc depth)) []) (Lists M []) (Each M) [] (lists_each M) (many_full free extra M (next_member (suc depth)) member_viable [])
 
-  -- what stands behind `state NAME`
+  -- what comes after `state NAME`
   abbrev pub AreStateMembers : List StateMember → List Seat → List Seat → Type 0
   AreStateMembers ms k rest = (m3 : List Seat) × (m4 : List Seat) × First kind.OpenBrace k m3 × Each M ms m3 m4 × First kind.CloseBrace m4 rest
 

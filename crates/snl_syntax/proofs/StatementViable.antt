@@ -63,7 +63,7 @@ module _ (free extra : ℕ) (R : Expr → List Seat → List Seat → Type 0) (p
   unfolding before_paren
   paren_full = record { viable = choice_viable free extra (paren_by p) (IsBefore kind.CloseParen R) (Exists (IsBefore kind.CloseParen R)) paren_by_viable; makes = (none_full kind.CloseParen).makes }
 
--- ---- what stands in the brackets of a statement
+-- ---- what is in the brackets of a statement
 
 abbrev a_head : Option Expr → Option Expr → Option Expr → ForHead
 a_head a b c = record { first = a; condition = b; step = c }
@@ -105,7 +105,7 @@ module _ (free extra depth : ℕ) where
       (bind_full free extra (expect kind.OpenParen) _ (Leaf kind.OpenParen) (λ _. Parts) (kind.OpenParen ∷ []) (kind.Semicolon ∷ kind.Semicolon ∷ kind.CloseParen ∷ []) (expect_full free extra kind.OpenParen) (λ _.
       level_full free extra depth (for_parts depth) (AreForParts R) (kind.Semicolon ∷ kind.Semicolon ∷ kind.CloseParen ∷ []) parts_full))
 
--- ---- where an `else` stands next, what was read is closed
+-- ---- where an `else` comes next, what was read is closed
 
 pub record Shut {A : Type 0} (p : Reader A) (R : A → List Seat → List Seat → Type 0) : Type 0 where
   pub shuts : (k : List Seat) (x : A) (m : List Seat) → p k ≡ Ok (x, m) → kind_at m ≡ Some kind.Else → (front : List Seat) × (k ≡ front ++ m) × ((after : List Seat) → R x (front ++ after) after)
@@ -271,7 +271,7 @@ module _ (free extra depth : ℕ) (Inner : Place → Bool → Stmt → List Seat
       unfolding block_statement
       block_statement_full = into_full free extra (block_statement depth inner) _ T (kind.OpenBrace ∷ kind.CloseBrace ∷ []) into_statement (bind_full free extra (block_of depth inner) _ Block (λ ts. IsNothing (tree.Block ts)) (kind.OpenBrace ∷ kind.CloseBrace ∷ []) [] block_of_full (λ ts. pure_full free extra (tree.Block ts)))
 
--- ---- what may stand in a place; `at` reads the statements that may stand there
+-- ---- what may be in a place; `at` reads the statements that may be there
 
 abbrev pub allowed : Place → Option Kind → Bool
 allowed p (Some kind.OpenBrace) = may_be_block p
@@ -454,7 +454,7 @@ module _ (free extra depth : ℕ) (Inner : Place → Bool → Stmt → List Seat
   abbrev ends_alone : Expr × Stmt → Stepping
   ends_alone a = steps.Last (Some a) None
 
-  -- what stands behind `else`
+  -- what comes after `else`
   abbrev Branch : Bool → Expr × Stmt → Stepping → List Seat → List Seat → Type 0
   Branch closed a (steps.More b) k rest = (a ≡ b) × (k ≡ rest)
   Branch closed a (steps.Last o None) k rest = ⊥

@@ -15,7 +15,7 @@ use Rattle.snl_syntax.proofs.Again.{Comes, read, comes_at, comes_as, bind_comes,
 use Rattle.snl_syntax.proofs.Follow.{binds, Stops, stops_less, first_stops, binds-mark, binary_none, binary_some}
 
 module _ (free : ℕ) (Inner : Expr → List Seat → List Seat → Type 0) (Names : TypeName → List Seat → List Seat → Type 0) (inner : Reader Expr) (names : Reader TypeName) (local : Local inner) (named : Local names) (prefix_again : (t : Expr) (k rest : List Seat) → IsPrefix Inner Names t k rest → Stops 0 rest → Comes free (prefix inner names k) t rest) where
-  -- t is x with what the tiers up to n have behind it
+  -- t is x with what the tiers up to n have after it
   abbrev pub Goes : ℕ → Expr → Expr → List Seat → List Seat → Type 0
   Goes zero x t k rest = (x ≡ t) × (k ≡ rest)
   Goes (suc n) x t k rest = (y : Expr) × (links : List (Binary × Expr)) × (mid : List Seat) × Goes n x y k mid × Each (IsLink (suc n) (IsTier Inner Names n)) links mid rest × (chained y links ≡ t)

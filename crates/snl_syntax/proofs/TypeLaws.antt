@@ -178,7 +178,7 @@ module _ (free extra : ℕ) where
   unfolding plain_integer
   plain_full = into_full free extra plain_integer _ IsBase (kind.Int ∷ []) into_plain (bind_full free extra integer _ IsInteger (λ i. IsNothing (bases.Integer i)) (kind.Int ∷ []) [] integer_full (λ i. pure_full free extra (bases.Integer i)))
 
-  -- what may stand behind `unsigned`
+  -- what may come after `unsigned`
   abbrev BehindUnsigned : Base → List Seat → List Seat → Type 0
   BehindUnsigned y k rest = (n : ℕ) → IsBase y ((kind.Unsigned, n) ∷ k) rest
 
@@ -454,7 +454,7 @@ written_stops : (b : Bool) (k rest : List Seat) → Written kind.Const b k rest 
 written_stops true k rest f h = first_base_stops kind.Const k rest refl f
 written_stops false k rest e h = subst BaseStops (sym e) h
 
--- where no word stands, the base's first one is no `const`
+-- where no word is, the base's first one is no `const`
 written_free : (free : ℕ) (b : Bool) (k mid : List Seat) → Written kind.Const b k mid → TypeFirst mid → Comes free (accept kind.Const k) b mid
 written_free free b k mid w t = written_comes free kind.Const b k mid w (first_lacks t.0 kind.Const mid t.1 t.4 t.2)
 

@@ -72,7 +72,7 @@ base_start (bases.Struct n) k rest is = struct_name n is.0 refl is.1 is.2
 base_start (bases.Union n) k rest is = another kind.Union is.0 is.1 refl
 base_start (bases.Typename n) k rest is = another kind.Typename is.0 is.1 refl
 
--- ---- an item from behind its type
+-- ---- an item after its type
 
 abbrev qualified : Bool → Base → Bool → QualifiedType
 qualified before b after = record { leading_const = before; base = b; trailing_const = after }
@@ -81,7 +81,7 @@ stars_lack : (x : Kind) → same kind.Star x ≡ false → (ps : List Pointer) (
 stars_lack x e [] k rest each h = subst (Lacks x) (sym each) h
 stars_lack x e (p ∷ ps) k rest each h = let f = pointer_first p k each.0 each.1 in first_lacks kind.Star x k f.0 e f.1
 
--- what stands behind an item's type: it goes on with no type, and begins no members of a struct
+-- what comes after an item's type: it goes on with no type, and begins no members of a struct
 abbrev TypeEnds : List Seat → Type 0
 TypeEnds k = TypeStops k × Lacks kind.OpenBrace k
 
@@ -133,11 +133,11 @@ module _ (free depth : ℕ) (block : Reader (List Member)) where
       behind_struct n after k m m2 mid y rest (subst (λ q. First kind.Struct q m) (sym f) g) l w h
       (subst (λ z. Comes free (item_of depth block (qualified false z after) mid) y rest) e c)
 
-  -- an item is read that begins with a type, if what stands behind it is
+  -- an item is read that begins with a type, if what comes after it is
   behind_type : (t : QualifiedType) (k mid : List Seat) (y : Item) (rest : List Seat) → IsType t k mid → TypeEnds mid → Comes free (item_of depth block t mid) y rest → Comes free (typed_item depth block k) y rest
   behind_type t k mid y rest is h c = by_start t.leading_const t.base t.trailing_const k is.m1 is.m2 mid y rest is.before (base_start t.base is.m1 is.m2 is.base) is.after is h c
 
-  -- an item is read that begins with a type, stars and a name, if what stands behind the name is
+  -- an item is read that begins with a type, stars and a name, if what comes after the name is
   behind_name : (t : QualifiedType) (ps : List Pointer) (n : ℕ) (k m1 m2 mid : List Seat) (y : Item) (rest : List Seat) → IsType t k m1 → Each IsPointer ps m1 m2 → Leaf kind.Name n m2 mid → Comes free (named_item depth block t ps n mid) y rest → Comes free (typed_item depth block k) y rest
   unfolding item_of
   behind_name t ps n k m1 m2 mid y rest is each e c =
@@ -149,7 +149,7 @@ module _ (free depth : ℕ) (block : Reader (List Member)) where
   by_declarator t ps n kind.OpenParen e = absurd cc
   by_declarator t ps n _ e = refl
 
-  -- no bracket stands behind the name of a declarator
+  -- no bracket is after the name of a declarator
   declaration_item_at : (t : QualifiedType) (ps : List Pointer) (n : ℕ) (k : List Seat) → Lacks kind.OpenParen k → named_item depth block t ps n k ≡ declaration_item depth t ps n k
   unfolding named_item kind_at
   declaration_item_at t ps n [] h = refl
@@ -171,7 +171,7 @@ module _ (free depth : ℕ) (block : Reader (List Member)) where
 one_less : (n : ℕ) → n ≡ suc n - 1
 one_less n = omega arith
 
--- ---- definitions, functions and structs, in so many levels with the one that they stand in
+-- ---- definitions, functions and structs, in so many levels with the one that they are in
 
 module _ (free extra depth : ℕ) (Block : List Member → List Seat → List Seat → Type 0) (block : Reader (List Member)) (opens : (b : List Member) (k rest : List Seat) → Block b k rest → (mid : List Seat) × First kind.OpenBrace k mid) (block_again : (b : List Member) (k rest : List Seat) → Block b k rest → Comes free (block k) b rest) where
   abbrev Inside : Expr → List Seat → List Seat → Type 0
@@ -224,7 +224,7 @@ block_opens free extra (suc depth) b k rest is = (is.m1, is.opening)
 block_opens free (suc extra) zero b k rest is = (is.1.m1, is.1.opening)
 block_opens free zero zero b k rest is = absurd is
 
--- An item that begins with a type is read again, whatever stands behind it, where the blocks of functions are.
+-- An item that begins with a type is read again, whatever is after it, where the blocks of functions are.
 pub typed_item_comes : (free extra depth levels : ℕ) (block : Reader (List Member)) → ((b : List Member) (k rest : List Seat) → IsBlockWithin free extra levels b k rest → Comes free (block k) b rest) → (t : Item) (k rest : List Seat) → IsTypedItem (IsDeclaration free extra (suc depth)) (IsDeclaration free extra depth) (IsParameter free extra depth) (IsBlockWithin free extra levels) t k rest → Comes free (typed_item (suc depth) block k) t rest
 typed_item_comes free extra depth levels block again t k rest is = typed_comes free extra depth (IsBlockWithin free extra levels) block (block_opens free extra levels) again t k rest is
 

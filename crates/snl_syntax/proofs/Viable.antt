@@ -39,7 +39,7 @@ module _ (free extra : ℕ) where
   abbrev pub Free : List Seat → Type 0
   Free k = (0 < extra) × AreFree free k
 
-  -- these kinds can stand there, and what is wanted is whole
+  -- these kinds can be there, and what is wanted is whole
   abbrev pub Makes : (List Seat → List Seat → Type 0) → List Kind → Type 0
   Makes G some = (n : ℕ) (rest : List Seat) → Free (seats n some ++ rest) → G (seats n some ++ rest) rest
 
@@ -145,7 +145,7 @@ into_full free extra p R R' some into v = record {
   makes = λ n rest room. let t = v.makes n rest room in (t.0, into t.0 (seats n some ++ rest) rest t.1);
 }
 
--- ---- a token, a word that may stand there, and a value
+-- ---- a token, a word that may be there, and a value
 
 expect_takes : (x : Kind) (k : List Seat) (n : ℕ) (m : List Seat) → expect x k ≡ Ok (n, m) → (front : List Seat) × (k ≡ front ++ m) × ((after : List Seat) → Leaf x n (front ++ after) after)
 unfolding expect
@@ -212,7 +212,7 @@ abbrev pub Next : {A : Type 0} → (A → List Seat → List Seat → Type 0) �
 Next E None k rest = k ≡ rest
 Next E (Some x) k rest = E x k rest
 
--- the elements behind those that were found
+-- the elements after those that were found
 abbrev pub Lists : {A : Type 0} → (A → List Seat → List Seat → Type 0) → List A → List A → List Seat → List Seat → Type 0
 Lists {A} E found all k rest = (xs : List A) × (all ≡ found ++ xs) × Each E xs k rest
 
@@ -258,7 +258,7 @@ abbrev pub StepOf : {A B : Type 0} → (A → List Seat → List Seat → Type 0
 StepOf E L (steps.More x) k rest = E x k rest
 StepOf E L (steps.Last o y) k rest = L o y k rest
 
--- the elements behind those that were found, and what ends them
+-- the elements after those that were found, and what ends them
 abbrev pub Ends : {A B : Type 0} → (A → List Seat → List Seat → Type 0) → (Option A → B → List Seat → List Seat → Type 0) → List A → List A × B → List Seat → List Seat → Type 0
 Ends {A} E L found r k rest = (xs : List A) × (o : Option A) × (mid : List Seat) × (r.0 ≡ found ++ (xs ++ option_to_list o)) × Each E xs k mid × L o r.1 mid rest
 
@@ -316,7 +316,7 @@ module _ (free extra : ℕ) {A B : Type 0} (E : A → List Seat → List Seat �
   unfolding until
   until_viable found = record { takes = λ k x m e. (until_within_viable (suc (length k)) found).takes k x m e; stuck = λ k j e. (until_within_viable (suc (length k)) found).stuck k j e }
 
--- ---- what stands one level deeper
+-- ---- what is one level deeper
 
 none : 0 < 0 → ⊥
 none h = omega (arith, h)

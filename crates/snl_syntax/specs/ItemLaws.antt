@@ -1,4 +1,4 @@
--- The first item of a list is found, and tells no more of the list than the item and the one token behind it.
+-- The first item of a list is found, and tells no more of the list than the item and the one token after it.
 use Rattle.std.specs.Prelude.{◌≡◌, ℕ, zero, suc, ◌+◌, ◌-◌, ◌<◌, ◌≤◌, min, Bool, true, false, cond, List, [], ◌∷◌, length, take, refl}
 use Rattle.std.specs.List.{slice_get}
 use Rattle.std.proofs.Common.{sym, ap, ◌∙◌, inl, inr, arith, subst}
@@ -60,7 +60,7 @@ found_from p low n (suc turns) le h none =
 pub ends_at_end : (u : List Mark) → ends_behind u (length u) ≡ true
 ends_at_end u = ap (ends_before (take (length u) u)) (slice_get_past u (length u) (omega arith))
 
--- the first item is the least prefix behind which it ends
+-- the first item is the least prefix after which it ends
 pub item_found : (u : List Mark) → 0 < length u → (k : ℕ) × (k ≤ length u) × (item u ≡ k) × IsLeast (ends_behind u) 1 k
 item_found u some =
     let turns : ℕ = length u - 1 in
@@ -73,7 +73,7 @@ item_front u some =
     let found = item_found u some in
     (omega (arith, found.2, found.3.above), omega (arith, found.1, found.2))
 
--- a length that is within, behind which it ends and behind no lesser one, is that of the first item
+-- a length that is within, after which it ends and after no lesser one, is that of the first item
 pub item_is : (u : List Mark) (k : ℕ) → k ≤ length u → IsLeast (ends_behind u) 1 k → item u ≡ k
 item_is u k within is = least_is (ends_behind u) 1 (length u) k (omega arith) is
 
@@ -83,7 +83,7 @@ get_taken [] m (suc n) h = refl
 get_taken (x ∷ xs) zero (suc n) h = refl
 get_taken (x ∷ xs) (suc m) (suc n) h = get_taken xs m n (omega arith)
 
--- whether it ends behind m tokens is told by these and the one behind them
+-- whether it ends after m tokens is told by these and the one after them
 pub ends_local : (u v : List Mark) (n m : ℕ) → m < n → take n u ≡ take n v → ends_behind v m ≡ ends_behind u m
 ends_local u v n m h e =
     let front : take m u ≡ take m v = sym (take-take m n u (omega arith)) ∙ ap (take m) e ∙ take-take m n v (omega arith) in

@@ -1,5 +1,5 @@
 -- Where the first item of a list of tokens ends: this project's profile, which on correct text agrees with the manual's grammar.
--- All is said of what stands before a place and of the one token behind it.
+-- All is said of what comes before a place and of the one token after it.
 use Rattle.std.specs.Prelude.{ℕ, zero, suc, ◌+◌, ◌-◌, ◌==◌, Bool, true, false, not, ◌&&◌, ◌||◌, cond, List, [], ◌∷◌, ◌++◌, length, take, Option, Some, None}
 use Rattle.std.specs.List.{count_by, slice_get}
 use Rattle.snl_syntax.specs.declared.marks.Mark.{Mark}
@@ -33,13 +33,13 @@ abbrev pub is_semicolon : Mark → Bool
 is_semicolon mark.Semicolon = true
 is_semicolon _ = false
 
--- the words that begin an item wherever they stand
+-- the words that begin an item wherever they are
 abbrev pub is_head : Mark → Bool
 is_head mark.Ss = true
 is_head mark.Program = true
 is_head _ = false
 
--- the words whose items end behind a block
+-- the words whose items end after a block
 abbrev pub is_body : Mark → Bool
 is_body mark.Body = true
 is_body _ = false
@@ -63,7 +63,7 @@ abbrev pub is_behind : (Mark → Bool) → List Mark → ℕ → Bool
 is_behind p k zero = false
 is_behind p k (suc n) = some_is p (slice_get k n)
 
--- the opening brace behind the first n tokens raises the balance from 0
+-- the opening brace after the first n tokens raises the balance from 0
 abbrev pub raises : List Mark → ℕ → Bool
 raises k n = level (take n k) && some_is is_open (slice_get k n)
 
@@ -86,7 +86,7 @@ begins [] tail k = tail k
 begins (p ∷ ps) tail [] = true
 begins (p ∷ ps) tail (x ∷ k) = p x && begins ps tail k
 
--- The tokens behind `ss` begin some `NAME {`.
+-- The tokens after `ss` begin some `NAME {`.
 abbrev pub begins_state_set : List Mark → Bool
 begins_state_set = begins (is_name ∷ is_open ∷ []) is_empty
 
@@ -95,12 +95,12 @@ abbrev pub begins_texts : List Mark → Bool
 begins_texts [] = true
 begins_texts (x ∷ k) = cond (is_text x) (begins_texts k) (is_close_paren x && is_empty k)
 
--- The tokens behind `program` begin some `NAME ( TEXT .. TEXT )` with one text or more.
+-- The tokens after `program` begin some `NAME ( TEXT .. TEXT )` with one text or more.
 abbrev pub begins_header : List Mark → Bool
 begins_header = begins (is_name ∷ is_open_paren ∷ is_text ∷ []) begins_texts
 
--- An item that begins with no token of its own kind ends behind the token `last` and before the token `ahead`: behind a `;` at balance 0;
--- behind a `}` at balance 0, where it has a body; before `ss` or `program` at any balance; and before a `}` at balance 0.
+-- An item that begins with no token of its own kind ends after the token `last` and before the token `ahead`: after a `;` at balance 0;
+-- after a `}` at balance 0, where it has a body; before `ss` or `program` at any balance; and before a `}` at balance 0.
 abbrev pub plain_ends : Bool → Mark → Bool → Mark → Bool
 plain_ends is_level last has_body ahead =
     (is_level && is_semicolon last) || (is_level && is_close last && has_body) || is_head ahead || (is_level && is_close ahead)
@@ -117,7 +117,7 @@ ends_by mark.CCode k ahead = true
 ends_by mark.Semicolon k ahead = true
 ends_by first k ahead = plain_ends (level (first ∷ k)) (last_of first k) (has_body first k) ahead
 
--- The item that begins with `before` ends there, where this token stands next, or none.
+-- The item that begins with `before` ends there, where this token comes next, or none.
 abbrev pub ends_before : List Mark → Option Mark → Bool
 ends_before before None = true
 ends_before [] (Some ahead) = false
@@ -131,7 +131,7 @@ abbrev pub least_from : (ℕ → Bool) → ℕ → ℕ → ℕ
 least_from p n zero = n
 least_from p n (suc turns) = cond (p n) n (least_from p (suc n) turns)
 
--- The length of the first item: the least number of tokens, at least 1, behind which it ends.
+-- The length of the first item: the least number of tokens, at least 1, after which it ends.
 abbrev pub item : List Mark → ℕ
 item k = least_from (ends_behind k) 1 (length k)
 
@@ -146,11 +146,11 @@ is_plain mark.CCode = false
 is_plain mark.Semicolon = false
 is_plain _ = true
 
--- The balance of the braces behind one more token.
+-- The balance of the braces after one more token.
 abbrev pub balance_behind : ℕ → Mark → ℕ
 balance_behind balance token = cond (is_open token) (balance + 1) (cond (is_close token) (balance - 1) balance)
 
--- A plain item ends behind this token, whatever stands next.
+-- A plain item ends after this token, whatever comes next.
 abbrev pub plain_ends_at : Bool → Mark → Bool → Option Mark → Bool
 plain_ends_at is_level last has_body None = true
 plain_ends_at is_level last has_body (Some ahead) = plain_ends is_level last has_body ahead

@@ -9,7 +9,7 @@ use Rattle.snl_syntax.specs.declared.operator.Assignment.TheVariants as assignme
 use Rattle.snl_syntax.specs.declared.operator.Sign.{Sign}
 use Rattle.snl_syntax.specs.declared.operator.Sign.TheVariants as signs
 
--- The operators between operands stand in ten tiers: 1 binds tightest (`* / %`), 10 loosest (`||`).
+-- The operators between operands are in ten tiers: 1 binds tightest (`* / %`), 10 loosest (`||`).
 abbrev pub tier : Binary → ℕ
 tier binaries.Or = 10
 tier binaries.And = 9

@@ -76,7 +76,7 @@ unfoldable pub many_within : {A : Type 0} → Reader (Option A) → ℕ → List
 many_within next zero found = pure found
 many_within next (suc n) found = next >>= more_or found (many_within next n)
 
--- as many elements as there are, behind those that were found: never more than tokens
+-- as many elements as there are, after those that were found: never more than tokens
 unfoldable pub many : {A : Type 0} → Reader (Option A) → List A → Reader (List A)
 many next found = λ k. many_within next (suc (length k)) found k
 
@@ -93,7 +93,7 @@ until_within step (suc n) found = step >>= again_or found (until_within step n)
 unfoldable pub until : {A B : Type 0} → Reader (Step A B) → List A → Reader (List A × B)
 until step found = λ k. until_within step (suc (length k)) found k
 
--- ---- what stands in brackets, where so many levels are left: with none its first token is blamed
+-- ---- what is in brackets, where so many levels are left: with none its first token is blamed
 
 unfoldable pub within : {A : Type 0} → ℕ → Reader A → Reader A
 within zero p = refuse

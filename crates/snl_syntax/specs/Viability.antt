@@ -18,7 +18,7 @@ pub record IsViable (kinds : List Kind) (n : ℕ) : Type 0 where
 abbrev pub BeginNoItem : List Kind → ℕ → Type 0
 BeginNoItem kinds n = IsViable kinds (suc n) → ⊥
 
--- This is the last token, and an item can begin with all of them: something is missing behind it.
+-- This is the last token, and an item can begin with all of them: something is missing after it.
 pub record AreCutShort (kinds : List Kind) (n : ℕ) : Type 0 where
   pub last : suc n ≡ length kinds
   pub viable : IsViable kinds (suc n)

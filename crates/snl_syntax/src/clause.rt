@@ -63,7 +63,7 @@ fn names(alloc: Global, kinds: &[Kind], at: usize) -> Result<(Items<usize>, usiz
     more_names(kinds, at, found)
 }
 
-/// `foreign` and names, with `;` behind them.
+/// `foreign` and names, with `;` after them.
 #[tactic(auto, unfolding(crate::specs::Reading::Clauses::foreign, crate::specs::Steps::and_then))]
 pub fn foreign(alloc: Global, kinds: &[Kind], at: usize) -> Result<(Items<usize>, usize), Stop>
     ensures { Reads kinds.now result (spec.foreign (ahead kinds.now at)) }
@@ -91,7 +91,7 @@ fn sign(kinds: &[Kind], at: usize) -> Result<(OptionSign, usize), Stop>
     }
 }
 
-/// `option`, a sign and letters, with `;` behind them.
+/// `option`, a sign and letters, with `;` after them.
 #[tactic(auto, unfolding(crate::specs::Reading::Clauses::option_line, crate::specs::Steps::and_then))]
 pub fn option_line(kinds: &[Kind], at: usize) -> Result<(OptionLine, usize), Stop>
     ensures { Reads kinds.now result (spec.option_line (ahead kinds.now at)) }

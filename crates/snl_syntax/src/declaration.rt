@@ -66,7 +66,7 @@ fn next_length(
     }
 }
 
-/// The lengths in brackets behind a name; within the brackets so many levels are left.
+/// The lengths in brackets after a name; within the brackets so many levels are left.
 pub fn lengths(
     alloc: Global,
     kinds: &[Kind],
@@ -205,7 +205,7 @@ fn init_of(alloc: Global, kinds: &[Kind], at: usize, depth: usize) -> Result<(In
     }
 }
 
-/// What a declarator begins with, in so many levels with the one that it stands in.
+/// What a declarator begins with, in so many levels with the one that it is in.
 #[cycle(init)]
 fn init(alloc: Global, kinds: &[Kind], at: usize, depth: usize) -> Result<(Init, usize), Stop>
     ensures { Reads kinds.now result (spec.init depth (ahead kinds.now at)) }
@@ -246,7 +246,7 @@ fn init_part(
     }
 }
 
-/// A declarator from behind its name.
+/// A declarator after its name.
 #[tactic(auto, unfolding(crate::specs::Reading::Declarations::declarator_from, crate::specs::Steps::and_then))]
 fn declarator_from(
     alloc: Global,
@@ -348,7 +348,7 @@ fn more_declarators(
     Ok((Declaration { of, declarators }, at))
 }
 
-/// A declaration from behind its first name.
+/// A declaration after its first name.
 #[tactic(auto, unfolding(crate::specs::Reading::Declarations::declaration_from, crate::specs::Steps::and_then))]
 pub fn declaration_from(
     alloc: Global,
@@ -366,7 +366,7 @@ pub fn declaration_from(
     more_declarators(alloc, kinds, at, depth, of, first)
 }
 
-/// A declaration from behind its type.
+/// A declaration after its type.
 #[tactic(auto, unfolding(crate::specs::Reading::Declarations::declaration_of, crate::specs::Steps::and_then))]
 fn declaration_of(
     alloc: Global,
@@ -396,7 +396,7 @@ fn declaration_in(
     declaration_of(alloc, kinds, at, depth, of)
 }
 
-/// A declaration, in so many levels with the one that it stands in.
+/// A declaration, in so many levels with the one that it is in.
 pub fn declaration(
     alloc: Global,
     kinds: &[Kind],

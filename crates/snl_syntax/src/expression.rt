@@ -37,7 +37,7 @@ pub fn ended<T: Drop>(found: Items<T>, last: Option<T>) -> Result<Items<T>, Allo
     Ok(found)
 }
 
-/// An operand with what stands behind it.
+/// An operand with what comes after it.
 fn suffixed(alloc: Global, operand: Expr, suffixes: Items<Suffix>) -> Result<Expr, AllocError>
     ensures { IfOk result (λ e. e ≡ spec.suffixed operand suffixes) }
 {
@@ -48,7 +48,7 @@ fn suffixed(alloc: Global, operand: Expr, suffixes: Items<Suffix>) -> Result<Exp
     }
 }
 
-/// An operand with what stands before it.
+/// An operand with what comes before it.
 fn prefixed(alloc: Global, ops: Items<Prefix>, operand: Expr) -> Result<Expr, AllocError>
     ensures { IfOk result (λ e. e ≡ spec.prefixed ops operand) }
 {
@@ -59,7 +59,7 @@ fn prefixed(alloc: Global, ops: Items<Prefix>, operand: Expr) -> Result<Expr, Al
     }
 }
 
-/// An operand with the operators and operands behind it.
+/// An operand with the operators and operands after it.
 fn chained(alloc: Global, first: Expr, links: Items<(Binary, Expr)>) -> Result<Expr, AllocError>
     ensures { IfOk result (λ e. e ≡ spec.chained first links) }
 {
@@ -70,7 +70,7 @@ fn chained(alloc: Global, first: Expr, links: Items<(Binary, Expr)>) -> Result<E
     }
 }
 
-/// A condition with the arms behind it.
+/// A condition with the arms after it.
 fn conditional(alloc: Global, first: Expr, arms: Items<(Expr, Expr)>) -> Result<Expr, AllocError>
     ensures { IfOk result (λ e. e ≡ spec.conditional first arms) }
 {
@@ -96,7 +96,7 @@ fn assigned(
     }
 }
 
-/// An expression with those behind its commas.
+/// An expression with those after its commas.
 fn sequenced(alloc: Global, first: Expr, rest: Items<Expr>) -> Result<Expr, AllocError>
     ensures { IfOk result (λ e. e ≡ spec.sequenced first rest) }
 {
@@ -156,7 +156,7 @@ fn more_texts(
     Ok((found, at))
 }
 
-/// All strings that stand side by side, one at least.
+/// All strings that are side by side, one at least.
 #[tactic(auto, unfolding(crate::specs::Reading::Expressions::texts, crate::specs::Steps::and_then))]
 pub fn texts(alloc: Global, kinds: &[Kind], at: usize) -> Result<(Items<usize>, usize), Stop>
     ensures { Reads kinds.now result (spec.texts (ahead kinds.now at)) }
@@ -270,7 +270,7 @@ fn decrement(kinds: &[Kind], at: usize) -> Result<(Option<Suffix>, usize), Stop>
     Ok((Some(Suffix::Decrement), at))
 }
 
-/// The rules of expressions, with the reader of what stands one level deeper.
+/// The rules of expressions, with the reader of what is one level deeper.
 #[derive(Clone, Copy)]
 pub struct Expressions<F> {
     pub alloc: Global,

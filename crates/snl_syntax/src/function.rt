@@ -23,7 +23,7 @@ use std::alloc::Global;
 
 /// Reads the blocks that are bodies of functions.
 pub trait Blocks {
-    /// What a block is, in so many levels with the one that it stands in.
+    /// What a block is, in so many levels with the one that it is in.
     ghost reader: { ℕ → Reader (List trees.Member) };
 
     fn block(
@@ -200,7 +200,7 @@ fn body<B: Blocks>(
     }
 }
 
-/// A function from behind its name.
+/// A function after its name.
 #[tactic(auto, unfolding(crate::specs::Reading::Functions::function_from, crate::specs::Steps::and_then))]
 pub fn function_from<B: Blocks>(
     alloc: Global,

@@ -166,7 +166,7 @@ fn state_item(alloc: Global, kinds: &[Kind], at: usize, depth: usize) -> Result<
     Ok((Item::StateBlock { name, members }, at))
 }
 
-/// An item, in so many levels with the one that it stands in.
+/// An item, in so many levels with the one that it is in.
 #[tactic(auto, unfolding(crate::specs::Reading::Items::item, crate::specs::Steps::and_then))]
 fn item(alloc: Global, kinds: &[Kind], at: usize, depth: usize) -> Result<(Item, usize), Stop>
     requires two { 1 < depth }
@@ -192,7 +192,7 @@ fn item(alloc: Global, kinds: &[Kind], at: usize, depth: usize) -> Result<(Item,
     }
 }
 
-/// An item behind which the tokens end.
+/// An item after which the tokens end.
 #[tactic(auto, unfolding(crate::specs::Reading::Items::ended, crate::specs::Steps::and_then))]
 fn ended(kinds: &[Kind], at: usize, item: Item) -> Result<(Item, usize), Stop>
     ensures { Reads kinds.now result (spec.ended item (ahead kinds.now at)) }
@@ -212,7 +212,7 @@ fn whole_item(alloc: Global, kinds: &[Kind], at: usize, depth: usize) -> Result<
     ended(kinds, at, item)
 }
 
-/// How many levels an item has, with the one that its own tokens stand in: no token may lie within more than 100.
+/// How many levels an item has, with the one that its own tokens are in: no token may lie within more than 100.
 const LEVELS: usize = 101;
 
 /// The item that all tokens of these kinds make. A leaf is the number of its token.

@@ -47,7 +47,7 @@ fn is_close_paren_at(marks: &[Mark], number: usize) -> bool
     matches!(mark_at(marks, number), Some(Mark::CloseParen))
 }
 
-// `ss NAME {`, or as much of it as stands there.
+// `ss NAME {`, or as much of it as is there.
 fn state_set_length(rest: &[Mark]) -> usize
     requires { slice_get rest.now 0 ≡ Some mark.Ss }
     ensures { result ≡ item rest.now }
@@ -61,7 +61,7 @@ fn state_set_length(rest: &[Mark]) -> usize
     }
 }
 
-// Where the texts end that stand from a place on without a gap.
+// Where the texts end that are from a place on without a gap.
 fn texts_end(rest: &[Mark], start: usize) -> usize
     requires { start ≤ length rest.now }
     ensures low { start ≤ result }
@@ -76,7 +76,7 @@ fn texts_end(rest: &[Mark], start: usize) -> usize
     end
 }
 
-// `program NAME ( TEXT .. TEXT )`, or as much of it as stands there.
+// `program NAME ( TEXT .. TEXT )`, or as much of it as is there.
 fn header_length(rest: &[Mark]) -> usize
     requires { slice_get rest.now 0 ≡ Some mark.Program }
     ensures { result ≡ item rest.now }
@@ -104,7 +104,7 @@ fn is_behind_close_paren(marks: &[Mark], number: usize) -> bool
     number > 0 && is_close_paren_at(marks, number - 1)
 }
 
-// Whether the last brace that raised the balance from 0 followed a `)`, behind the mark with this number.
+// Whether the last brace that raised the balance from 0 followed a `)`, after the mark with this number.
 fn opened_by_paren(marks: &[Mark], number: usize, balance: usize, before: bool) -> bool
     ensures { result
         ≡ cond
@@ -119,7 +119,7 @@ fn opened_by_paren(marks: &[Mark], number: usize, balance: usize, before: bool) 
     }
 }
 
-// The balance of the braces behind one more mark.
+// The balance of the braces after one more mark.
 fn balance_behind(balance: usize, mark: Mark) -> usize
     requires room { balance + 1 < 2 ^ 64 }
     requires open { is_close mark ≡ true → 0 < balance }

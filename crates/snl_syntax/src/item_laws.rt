@@ -15,7 +15,7 @@ pub fn first_item()
     ensures least { (tokens : List Mark) → 0 < length tokens → IsLeast (ends_behind tokens) 1 (item tokens) }
 {}
 
-/// The tokens of any text have one cut into items and no other. Its items stand one after another, and each is the first item
+/// The tokens of any text have one cut into items and no other. Its items follow one another, and each is the first item
 /// of what is left from it on.
 pub fn tokens_in_items()
     ensures cut { (tokens : List Mark) → IsCut item tokens (ends_of item tokens) }

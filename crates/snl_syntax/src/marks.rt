@@ -10,7 +10,7 @@ pub enum Mark {
     Program,
     /// The word `ss`.
     Ss,
-    /// The words `state`, `entry` and `exit`, whose items end behind a block.
+    /// The words `state`, `entry` and `exit`, whose items end after a block.
     Body,
     Name,
     Text,

@@ -155,7 +155,7 @@ pub fn assignment_mark(op: Assignment) -> Kind
     }
 }
 
-/// The operator that a mark is behind what is assigned to.
+/// The operator that a mark is after what is assigned to.
 pub fn assignment_of(kind: Kind) -> Option<Assignment>
     ensures { result ≡ spec.assignment_of kind }
 {

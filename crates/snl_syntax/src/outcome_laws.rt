@@ -8,7 +8,7 @@ ghost use Rattle.snl_syntax.specs.Reading.Items.{item_of};
 ghost use Rattle.std.specs.List.{list_any};
 ghost use Rattle.std.specs.Prelude.{◌≡◌, ℕ, ◌<◌, List, None, if◌then◌else◌, length, position};
 
-/// Tokens that are spelled alike make the same item, whichever texts they stand in: what parsing says goes by their spelling alone.
+/// Tokens that are spelled alike make the same item, whichever texts they are in: what parsing says goes by their spelling alone.
 pub fn same_spelling_same_tree()
     ensures kinds { (text moved : List ℕ) (tokens shifted : List Piece) → spelled text tokens ≡ spelled moved shifted → kinds_in text tokens ≡ kinds_in moved shifted }
     ensures bad { (text moved : List ℕ) (tokens shifted : List Piece) → spelled text tokens ≡ spelled moved shifted → position is_bad tokens ≡ position is_bad shifted }

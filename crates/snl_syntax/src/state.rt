@@ -19,7 +19,7 @@ use snl_lex::Kind;
 use sqlite_items::Items;
 use std::alloc::Global;
 
-/// `entry` and its block, in so many levels with the one that they stand in.
+/// `entry` and its block, in so many levels with the one that they are in.
 #[tactic(auto, unfolding(crate::specs::Reading::States::entry_block, crate::specs::Steps::and_then))]
 pub fn entry_block(
     alloc: Global,
@@ -33,7 +33,7 @@ pub fn entry_block(
     block(alloc, kinds, at, depth)
 }
 
-/// `exit` and its block, in so many levels with the one that they stand in.
+/// `exit` and its block, in so many levels with the one that they are in.
 #[tactic(auto, unfolding(crate::specs::Reading::States::exit_block, crate::specs::Steps::and_then))]
 pub fn exit_block(
     alloc: Global,

@@ -35,7 +35,7 @@ fn some_before_semicolon(
     Ok((Some(e), at))
 }
 
-/// An expression or none, and the semicolon behind it.
+/// An expression or none, and the semicolon after it.
 #[tactic(auto, unfolding(crate::specs::Reading::Statements::before_semicolon, crate::specs::Steps::and_then))]
 pub fn before_semicolon(
     alloc: Global,
@@ -68,7 +68,7 @@ fn some_before_paren(
     Ok((Some(e), at))
 }
 
-/// An expression or none, and the closing bracket behind it.
+/// An expression or none, and the closing bracket after it.
 #[tactic(auto, unfolding(crate::specs::Reading::Statements::before_paren, crate::specs::Steps::and_then))]
 pub fn before_paren(
     alloc: Global,
@@ -190,7 +190,7 @@ fn for_parts(
     Ok((head, at))
 }
 
-/// What stands in the brackets of a `for`, within which so many levels are left: a part may be missing, its mark may not.
+/// What is in the brackets of a `for`, within which so many levels are left: a part may be missing, its mark may not.
 fn for_within(
     alloc: Global,
     kinds: &[Kind],
@@ -446,7 +446,7 @@ impl<F: Fn(Global, &[Kind], usize, usize) -> Result<(Stmt, usize), Stop>> Statem
         Ok((Stmt::If(arms, branch), at))
     }
 
-    /// A statement, with `own` levels where it stands.
+    /// A statement, with `own` levels where it is.
     #[tactic(auto, unfolding(crate::specs::Reading::Statements::stmt_of, crate::specs::Reading::Statements::stmt_by, crate::specs::Steps::and_then))]
     fn stmt_of(&self, kinds: &[Kind], at: usize, own: usize) -> Result<(Stmt, usize), Stop>
         requires { NestsStatement self.now.depth (F.pre self.now.inner) (F.post self.now.inner) }
@@ -468,7 +468,7 @@ impl<F: Fn(Global, &[Kind], usize, usize) -> Result<(Stmt, usize), Stop>> Statem
     }
 }
 
-/// A statement, in so many levels with the one that it stands in.
+/// A statement, in so many levels with the one that it is in.
 pub fn stmt(alloc: Global, kinds: &[Kind], at: usize, depth: usize) -> Result<(Stmt, usize), Stop>
     ensures { Reads kinds.now result (spec.stmt depth (ahead kinds.now at)) }
 {
@@ -483,7 +483,7 @@ pub fn stmt(alloc: Global, kinds: &[Kind], at: usize, depth: usize) -> Result<(S
     .stmt_of(kinds, at, depth)
 }
 
-/// A block, in so many levels with the one that its braces stand in.
+/// A block, in so many levels with the one that its braces are in.
 pub fn block(
     alloc: Global,
     kinds: &[Kind],

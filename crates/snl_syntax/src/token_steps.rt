@@ -130,7 +130,7 @@ fn sees(kinds: &[Kind], at: usize, kind: Kind) -> bool
     code(kinds[at]) == code(kind)
 }
 
-/// The place behind a token of this kind.
+/// The place after a token of this kind.
 pub fn expect(kinds: &[Kind], at: usize, kind: Kind) -> Result<usize, Stop>
     ensures { ReadsToken kinds.now at result (read.expect kind (ahead kinds.now at)) }
 {
@@ -141,7 +141,7 @@ pub fn expect(kinds: &[Kind], at: usize, kind: Kind) -> Result<usize, Stop>
     }
 }
 
-/// Whether a token of this kind comes next, and the place behind it then.
+/// Whether a token of this kind comes next, and the place after it then.
 pub fn accept(kinds: &[Kind], at: usize, kind: Kind) -> (bool, usize)
     ensures { read.accept kind (ahead kinds.now at) ≡ Ok (result.0, ahead kinds.now result.1) }
 {

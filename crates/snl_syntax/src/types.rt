@@ -186,7 +186,7 @@ fn base(kinds: &[Kind], at: usize) -> Result<(Base, usize), Stop>
     }
 }
 
-/// A type: a base, and `const` before and behind it or not.
+/// A type: a base, and `const` before and after it or not.
 #[tactic(auto, unfolding(crate::specs::Reading::Types::type_of, crate::specs::Steps::and_then))]
 pub fn type_of(kinds: &[Kind], at: usize) -> Result<(QualifiedType, usize), Stop>
     ensures { Reads kinds.now result (spec.type_of (ahead kinds.now at)) }
@@ -221,7 +221,7 @@ fn next_pointer(kinds: &[Kind], at: usize) -> Result<(Option<Pointer>, usize), S
     }
 }
 
-/// The stars behind a type.
+/// The stars after a type.
 pub fn stars(alloc: Global, kinds: &[Kind], start: usize) -> Result<(Items<Pointer>, usize), Stop>
     ensures { Reads kinds.now result (spec.stars (ahead kinds.now start)) }
 {
@@ -238,7 +238,7 @@ pub fn stars(alloc: Global, kinds: &[Kind], start: usize) -> Result<(Items<Point
     Ok((found, at))
 }
 
-/// A type and the stars behind it.
+/// A type and the stars after it.
 #[tactic(auto, unfolding(crate::specs::Reading::Types::type_name, crate::specs::Steps::and_then))]
 pub fn type_name(alloc: Global, kinds: &[Kind], at: usize) -> Result<(TypeName, usize), Stop>
     ensures { Reads kinds.now result (spec.type_name (ahead kinds.now at)) }

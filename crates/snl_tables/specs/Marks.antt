@@ -1,4 +1,4 @@
--- Marks of numbers: the mark of a number stands at its place in a list.
+-- Marks of numbers: the mark of a number is at its place in a list.
 use Rattle.std.specs.Prelude.{◌≡◌, ℕ, ◌/◌, ◌<◌, ◌≤◌, Bool, true, false, List, length, filter}
 use Rattle.std.specs.List.{range_with_len, slice_index_or}
 
@@ -26,7 +26,7 @@ pub record IsFirstMarked (marks : List Bool) (from n : ℕ) : Type 0 where
   pub is : is_marked marks n ≡ true
   pub none_before : NoneMarked marks from n
 
--- A place behind a number: the block's numbers from that number on, as far as there are any, stand before it.
+-- A place after a number: the block's numbers from that number on, as far as there are any, are before it.
 pub record EndsBlock (limit number end : ℕ) : Type 0 where
   pub behind : number < end
   pub within : end ≤ limit

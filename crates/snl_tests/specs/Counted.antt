@@ -4,7 +4,7 @@ use Rattle.std.proofs.Common.{ap, ◌∙◌, sym, arith, add-one}
 use Rattle.std.proofs.lemmas.List.{length-take}
 use Rattle.snl_cut.specs.Cut.{IsFront, IsLocal}
 
--- The first unit and as many behind it as it says, or all.
+-- The first unit and as many after it as it says, or all.
 abbrev pub counted : List ℕ → ℕ
 counted [] = 0
 counted (x ∷ xs) = suc (min x (length xs))

@@ -120,7 +120,7 @@ fn cuts_by_the_count_in_front(rt: HostRuntime) -> Result<(), Fail> {
     Ok(())
 }
 
-// The lists before and behind the edit, how many units stay at the front and the back, and what is wanted.
+// The lists before and after the edit, how many units stay at the front and the back, and what is wanted.
 struct Case {
     old: &'static [u8],
     new: &'static [u8],
@@ -191,7 +191,7 @@ static CASES: [Case; 8] = [
         made: &[3],
         back: 1,
     },
-    // one that changes each member behind it, to the end
+    // one that changes each member after it, to the end
     Case {
         old: &[1, 1, 1, 1, 1, 1],
         new: &[1, 1, 1, 1, 1],

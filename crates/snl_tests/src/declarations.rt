@@ -36,7 +36,7 @@ static BASES: [&str; 29] = [
     "const int const",
 ];
 
-// What may stand before and behind a base.
+// What may come before and after a base.
 static ROUND: [(&str, &str); 4] = [
     ("", " x;"),
     ("", " *f(const char *);"),

@@ -109,7 +109,7 @@ static BETWEEN: [&str; 29] = [
     "%", "=", "+=", "-=", "*=", "/=", "%=", "&=", "|=", "^=", "<<=", ">>=",
 ];
 
-// What may stand behind `a` and an operator, and which number is blamed then.
+// What may come after `a` and an operator, and which number is blamed then.
 static BEHIND: [Row; 3] = [("b;", None), (";", Some(5)), ("/ b;", Some(5))];
 
 #[test]

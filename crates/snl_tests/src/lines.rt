@@ -4,7 +4,7 @@ use snl_cut::Count;
 use snl_lex::{Line, LineList, lex, line_of};
 use std::test::Fail;
 
-// A text, an offset, the number of its line, and where the name of its file stands.
+// A text, an offset, the number of its line, and where the name of its file is.
 static LINES: [(&[u8], usize, usize, Option<(usize, usize)>); 31] = [
     (b"", 0, 1, None),
     (b"", 9, 1, None),

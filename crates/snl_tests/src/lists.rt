@@ -99,7 +99,7 @@ fn replaces_a_part(rt: HostRuntime) -> Result<(), Fail> {
     Ok(())
 }
 
-// Places, which of them go and come, how those behind are moved, and the places then.
+// Places, which of them go and come, how those after are moved, and the places then.
 struct Shift {
     places: &'static [u32],
     start: usize,
@@ -169,7 +169,7 @@ static SHIFTS: [Shift; 6] = [
     },
 ];
 
-// Whether no place stands before this one, or beyond those that the tests have.
+// Whether no place is before this one, or beyond those that the tests have.
 fn can_shift(places: &[u32], old_stop: u32) -> bool
     ensures behind { result ≡ true → (i : ℕ) → i < length places.now → old_stop ≤ slice_index places.now i }
     ensures small { result ≡ true → (i : ℕ) → i < length places.now → slice_index places.now i < 1000 }
@@ -224,7 +224,7 @@ enum Change {
     Set(usize, u8),
 }
 
-// Changes in turn, from no values on, and the values behind each.
+// Changes in turn, from no values on, and the values after each.
 static CHANGES: [(Change, &[u8]); 9] = [
     (Change::Replace(0, 0, b""), b""),
     (Change::Replace(0, 0, b"abcd"), b"abcd"),

@@ -78,11 +78,11 @@ static CUTS: [(&str, &[usize]); 36] = [
     ("state i { ss b {", &[3, 6]),
     // white space, comments and markers are no tokens
     ("# 1 \"f\"\n int /* a */ x; // b\n", &[3]),
-    // the block of a function ends its item, behind a list of values too
+    // the block of a function ends its item, after a list of values too
     ("int a = {1}, f() { } int x;", &[12, 15]),
     ("int f(int a) { if (a) { } return 1; } ;", &[17, 18]),
     ("f() { } x;", &[5, 7]),
-    // the brace that a `)` stands before is the one that is closed
+    // the brace that a `)` is before is the one that is closed
     ("int a = g() + {1}; int x;", &[11, 14]),
     ("int a = {f() {1}}; int x;", &[12, 15]),
     // a header has a text at least

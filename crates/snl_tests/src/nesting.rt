@@ -6,8 +6,8 @@ use snl_syntax::ParseFault;
 use std::alloc::Global;
 use std::test::Fail;
 
-/// A text is a head, an opening part so many times, an inner part, a closing part as many times, and a tail. Behind these
-/// five parts stand how many times are within 100 levels, and the first token within 101, where it is one time more.
+/// A text is a head, an opening part so many times, an inner part, a closing part as many times, and a tail. After these
+/// five parts come how many times the opening part is within 100 levels, and the first token within 101, where it is there once more.
 type Nest = (
     &'static str,
     &'static str,
@@ -53,7 +53,7 @@ static NESTS: [Nest; 36] = [
     ("state i { int x = ", "(", "1", ")", "; }", 99, 106),
     ("int f() ", "{", "", "}", "", 101, 105),
     ("exit { int x = ", "{", "", "}", "; }", 100, 105),
-    // what stands directly in the innermost braces
+    // what is directly in the innermost braces
     ("exit ", "{", "int x;", "}", "", 100, 102),
     ("exit ", "{", "%{c}%", "}", "", 100, 102),
     ("exit ", "{", "break;", "}", "", 100, 102),
@@ -103,7 +103,7 @@ fn a_hundred_levels_are_read(rt: HostRuntime) -> Result<(), Fail> {
 
 // Texts that are as long as they may be, since nothing in them opens a level: a head, a part so many times, and a tail.
 static CHAINS: [(&str, &str, &str); 5] = [
-    // an `if` behind an `else` is no level deeper
+    // an `if` after an `else` is no level deeper
     ("exit { ", "if (a) ; else ", "; }"),
     // nor is a prefix, an operator, a suffix, a condition or an assignment
     ("int x = ", "- (int) a + ", "1;"),

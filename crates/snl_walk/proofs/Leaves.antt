@@ -17,7 +17,7 @@ begins_more [] zs h = absurd h
 begins_more (a ∷ []) zs h = absurd h
 begins_more (a ∷ b ∷ xs) zs h = h
 
--- What is found stands at some of the leaves, in their order. `at` says at which number each stands, and `indexed` whether a
+-- What is found is at some of the leaves, in their order. `at` says at which number each is, and `indexed` whether a
 -- subscript that is an integer alone follows it.
 pub data AreLeaves {A : Type 0} (at : A → ℕ) (indexed : A → Bool) : List A → List Spelled → Type 0 where
   none : AreLeaves at indexed [] []
@@ -92,7 +92,7 @@ module _ {A : Type 0} (at : A → ℕ) (indexed : A → Bool) where
       from_zero : (y : A) → (j : ℕ) × (at y ≡ 0 + j) × (slice_get kinds (j + 2) ≡ Some kind.Integer) → slice_get kinds (at y + 2) ≡ Some kind.Integer
       from_zero y w = let same : w.0 ≡ at y = omega (arith, w.1) in subst (λ n. slice_get kinds (n + 2) ≡ Some kind.Integer) same w.2
 
--- of parts that stand one after the other
+-- of parts that follow one another
 pub no_leaves : {A : Type 0} {at : A → ℕ} {indexed : A → Bool} (xs : List Spelled) → AreLeaves at indexed [] xs
 no_leaves [] = none
 no_leaves (x ∷ xs) = past x (no_leaves xs)
@@ -117,7 +117,7 @@ one_leaf k y plain = here k y (λ e. absurd (true≢false (sym e ∙ plain))) no
 pub leaves_in_parens : {A : Type 0} {at : A → ℕ} {indexed : A → Bool} {ys : List A} {xs : List Spelled} → AreLeaves at indexed ys xs → AreLeaves at indexed ys (in_parens xs)
 leaves_in_parens l = leaves_after (word kind.OpenParen) (leaves_before (word kind.CloseParen) l)
 
--- of what is found in the members of a list, which stand one after the other
+-- of what is found in the members of a list, which follow one another
 module _ {X A : Type 0} {at : A → ℕ} {indexed : A → Bool} (f : X → List A) (spell : X → List Spelled) (each : (x : X) → AreLeaves at indexed (f x) (spell x)) where
   leaves_after_each : (k : Kind) (xs : List X) → AreLeaves at indexed (flat_map f xs) (behind k (map spell xs))
   leaves_after_each k [] = none

@@ -1,4 +1,4 @@
--- The letters of options stand at leaves of what an item spells, in their order.
+-- The letters of options are at leaves of what an item spells, in their order.
 use Rattle.std.proofs.Common.{ℕ, ◌<◌, Bool, false, List, [], ◌∷◌, ◌++◌, length, map, All, refl, subst}
 use Rattle.std.proofs.lemmas.List.{length-map, map-id}
 use Rattle.std.proofs.lemmas.List.Elements.{All-from_recursion}

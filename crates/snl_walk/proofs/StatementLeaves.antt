@@ -1,4 +1,4 @@
--- What is found in declarations and statements stands at leaves of what these spell, in their order.
+-- What is found in declarations and statements is at leaves of what these spell, in their order.
 use Rattle.std.proofs.Common.{◌≡◌, ℕ, Bool, true, false, cond, List, [], ◌∷◌, ◌++◌, map, Option, None, Some, sym, subst, append_assoc, refl, true≢false}
 use Rattle.snl_lex.specs.declared.kind.Kind.TheVariants as kind
 use Rattle.snl_syntax.specs.declared.tree.declaration.Declaration.{Declaration}

@@ -64,7 +64,7 @@ told-insert (e ∷ es) name v other = by (told-insert es name v other) (bytes_eq
     by rest true h = there h
     by rest false h = ap (λ t. cond (bytes_eq other e.0.now) e.1 t) rest ∙ later h (bytes_eq other e.0.now) refl
 
--- one more entry stands before the others
+-- one more entry is before the others
 pub newest-push : (es : List Entry) (e : Entry) → newest_first (es ++ e ∷ []) ≡ shown e ∷ newest_first es
 newest-push es e = ap (λ (l : List Entry). map shown l) (reverse-append es (e ∷ []))
 

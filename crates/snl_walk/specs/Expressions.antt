@@ -1,4 +1,4 @@
--- The names in expressions and initialisers, in the order of the text, each with how it stands.
+-- The names in expressions and initialisers, in the order of the text, each with how it occurs.
 use Rattle.std.specs.Prelude.{ℕ, Bool, true, false, ◌&&◌, List, [], ◌∷◌, ◌++◌, Option, Some, None, if◌then◌else◌}
 use Rattle.snl_syntax.specs.declared.operator.Assignment.{Assignment}
 use Rattle.snl_syntax.specs.declared.operator.Binary.{Binary}
@@ -15,7 +15,7 @@ use Rattle.snl_walk.specs.declared.occurrence.Named.{Named}
 use Rattle.snl_walk.specs.declared.occurrence.Setting.{Setting}
 
 -- What is found in an expression: the name that it is, if it is a name alone; whether it is an integer alone; and the names in
--- it, by how it stands.
+-- it, by how it occurs.
 pub record Operand : Type 0 where
   pub name : Option ℕ
   pub is_integer : Bool

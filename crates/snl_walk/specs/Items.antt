@@ -31,7 +31,7 @@ abbrev pub found_in_target : Target → List Occurrence
 found_in_target (target.State name) = record { token = name; what = what.Target; means = None } ∷ []
 found_in_target target.Exit = []
 
--- A condition stands in the scope of its state.
+-- A condition is in the scope of its state.
 abbrev pub found_in_transition : (ℕ → List ℕ) → Names → Transition → List Occurrence
 found_in_transition bytes visible t =
     map (seen bytes visible true) (names_if t.condition) ++ found_in_block bytes t.block visible in_transition ++ found_in_target t.target
@@ -57,7 +57,7 @@ found_at_name bytes visible (Some n) = declaration_at bytes visible false n ∷ 
 abbrev pub found_in_named : (ℕ → List ℕ) → Names → Parameter → List Occurrence
 found_in_named bytes visible p = found_at_name bytes visible p.name ++ found_in_parameter bytes visible p
 
--- The parameters of a function with a body are a scope, in which their lengths stand.
+-- The parameters of a function with a body are a scope, in which their lengths are.
 abbrev pub found_with_body : (ℕ → List ℕ) → List Parameter → List Member → List Occurrence
 found_with_body bytes ps block =
     flat_map (found_in_named bytes (under_names bytes (flat_map declared_by_parameter ps))) ps
@@ -84,6 +84,6 @@ occurrences bytes (items.Function f) = found_in_function bytes f.parameters f.bo
 occurrences bytes (items.StructDef name ms) = flat_map (found_in_struct_member bytes) ms
 occurrences bytes _ = []
 
--- Where occurrences stand.
+-- Where occurrences are.
 abbrev pub tokens_of : List Occurrence → List ℕ
 tokens_of found = map (λ o. o.token) found

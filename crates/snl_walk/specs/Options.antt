@@ -1,4 +1,4 @@
--- Where the letters of options stand in an item: an option of the program, or those of a state.
+-- Where the letters of options are in an item: an option of the program, or those of a state.
 use Rattle.std.specs.Prelude.{ℕ, List, [], ◌∷◌}
 use Rattle.std.specs.List.{flat_map}
 use Rattle.snl_syntax.specs.declared.tree.item.Item.{Item}

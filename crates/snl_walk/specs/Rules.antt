@@ -23,7 +23,7 @@ use Rattle.snl_walk.specs.Uses.{is_call}
 abbrev pub when : Bool → Rule → List Rule
 when holds rule = if holds then rule ∷ [] else []
 
--- A declaration stands in its own scope, so its name resolves to the first declaration there.
+-- A declaration is in its own scope, so its name resolves to the first declaration there.
 abbrev pub is_repeated : ℕ → Option Local → Bool
 is_repeated token None = false
 is_repeated token (Some first) = not (first.token == token)
@@ -52,7 +52,7 @@ rules_at_use passed m =
 abbrev pub rules_at_name : List ℕ → Option Outer → Manner → List Rule
 rules_at_name name passed m = if is_call m.follows then rules_at_call name m else rules_at_use passed m
 
--- At an occurrence, by what stands there.
+-- At an occurrence, by what is there.
 abbrev pub rules_at : (List ℕ → Option Outer) → (List ℕ → Bool) → List ℕ → Occurrence → What → List Rule
 rules_at outer misses name o (what.Declaration is_wrong) = when (is_repeated o.token o.means) rules.RepeatedDeclaration ++ when is_wrong rules.WrongFlag
 rules_at outer misses name o (what.Change in_transition) = when (not in_transition) rules.StrayChange

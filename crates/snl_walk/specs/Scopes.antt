@@ -27,7 +27,7 @@ look_up name visible = lookup (bytes_eq name) visible
 abbrev pub resolve : (ℕ → List ℕ) → Names → ℕ → Option Local
 resolve bytes visible n = look_up (bytes n) visible
 
--- How a name stands, told by what the name that is called before it asks for.
+-- How a name occurs, told by what the name that is called before it asks for.
 abbrev pub manner_of : (ℕ → List ℕ) → Bool → Setting → Manner
 manner_of bytes in_condition s = record { follows = s.follows; asked = asked_of bytes s.argument_of; in_condition = in_condition }
 

@@ -64,7 +64,7 @@ abbrev pub found_in_contents : List Content → Names → Place → List Occurre
 found_in_contents [] visible place = []
 found_in_contents (content ∷ contents) visible place = content.found visible place ++ found_in_contents contents visible place
 
--- A block is a scope: in it, what it declares anywhere stands before what is visible around it.
+-- A block is a scope: in it, what it declares anywhere is before what is visible around it.
 abbrev pub found_in_block_of : (ℕ → List ℕ) → List Content → Found
 found_in_block_of bytes contents visible place = found_in_contents contents (under_names bytes (declared_by_contents contents) ++ visible) place
 

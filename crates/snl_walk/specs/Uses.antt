@@ -11,7 +11,7 @@ use Rattle.snl_walk.specs.declared.occurrence.What.TheVariants as what
 use Rattle.snl_walk.specs.declared.used.TargetUse.{TargetUse}
 use Rattle.snl_walk.specs.declared.used.WakeUse.{WakeUse}
 
--- Where occurrences stand that pass a test.
+-- Where occurrences are that pass a test.
 abbrev pub tokens_where : (Occurrence → Bool) → List Occurrence → List ℕ
 tokens_where test found = map (λ o. o.token) (filter test found)
 
@@ -28,7 +28,7 @@ abbrev pub is_indexed : What → Bool
 is_indexed (what.Name m) = is_index m.follows
 is_indexed _ = false
 
--- A name is used where it stands in an expression and isn't called.
+-- A name is used where it is in an expression and isn't called.
 abbrev pub is_use : What → Bool
 is_use (what.Name m) = not (is_call m.follows)
 is_use _ = false

@@ -12,7 +12,7 @@ use snl_walk::{Finding, Outer, Outlook, Rule, Source, findings, occurrences};
 use std::alloc::Global;
 use std::test::Fail;
 
-/// Around the items of these tests stand an event flag `e`, a variable `c` with a channel and one without, `v`, and a foreign
+/// Around the items of these tests there are an event flag `e`, a variable `c` with a channel and one without, `v`, and a foreign
 /// name `g`, in a state set whose one state is `z`.
 struct Around;
 

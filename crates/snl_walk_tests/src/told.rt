@@ -16,7 +16,7 @@ fn follows_letter(follows: Follows) -> u8 {
     }
 }
 
-// How a name stands: what follows it, what is asked of it, and a question mark in a condition.
+// How a name occurs: what follows it, what is asked of it, and a question mark in a condition.
 fn add_manner(words: &mut Vec<u8>, manner: Manner) -> Result<(), Fail> {
     words.push(follows_letter(manner.follows))?;
     match manner.asked {
@@ -30,7 +30,7 @@ fn add_manner(words: &mut Vec<u8>, manner: Manner) -> Result<(), Fail> {
     Ok(())
 }
 
-// A letter for what stands at a token; a capital, where a rule finds fault with it.
+// A letter for what is at a token; a capital, where a rule finds fault with it.
 fn add_what(words: &mut Vec<u8>, what: What) -> Result<(), Fail> {
     let letter = match what {
         What::Name(manner) => return add_manner(words, manner),
@@ -67,7 +67,7 @@ fn add_occurrence(source: &Source, words: &mut Vec<u8>, one: Occurrence) -> Resu
     Ok(words.push(b' ')?)
 }
 
-/// Each occurrence: its token, what stands there, and the declaration that the name resolves to.
+/// Each occurrence: its token, what is there, and the declaration that the name resolves to.
 pub fn told(source: &Source, found: &[Occurrence]) -> Result<Vec<u8>, Fail>
     requires { All (LiesIn source.now.text.now) source.now.tokens.now }
 {

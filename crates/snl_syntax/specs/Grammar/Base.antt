@@ -1,4 +1,4 @@
--- What the productions of the grammar are made of. Each word takes the tokens from its first on, and those behind its last.
+-- What the productions of the grammar are made of. Each word takes the tokens from its first on, and those after its last.
 use Rattle.std.specs.Prelude.{◌≡◌, ℕ, zero, suc, ◌≤◌, List, [], ◌∷◌, Option, Some, None}
 use Rattle.snl_lex.specs.declared.kind.Kind.{Kind}
 use Rattle.snl_syntax.specs.Tokens.{Seat}
@@ -8,11 +8,11 @@ abbrev pub Each : {A : Type 0} → (A → List Seat → List Seat → Type 0) �
 Each R [] k rest = k ≡ rest
 Each R (x ∷ xs) k rest = (mid : List Seat) × R x k mid × Each R xs mid rest
 
--- a token of this kind stands first
+-- a token of this kind comes first
 abbrev pub First : Kind → List Seat → List Seat → Type 0
 First x k rest = (n : ℕ) × (k ≡ ((x, n) ∷ rest))
 
--- the token with this number stands first, and is of this kind
+-- the token with this number comes first, and is of this kind
 abbrev pub Leaf : Kind → ℕ → List Seat → List Seat → Type 0
 Leaf x n k rest = k ≡ ((x, n) ∷ rest)
 
@@ -25,7 +25,7 @@ abbrev pub Perhaps : {A : Type 0} → (A → List Seat → List Seat → Type 0)
 Perhaps R None k rest = k ≡ rest
 Perhaps R (Some x) k rest = R x k rest
 
--- The tokens from here on are free of the levels that are left: each is the `free`th of an item, counted from 1, or stands behind it. With 0 none is free.
+-- The tokens from here on are free of the levels that are left: each is the `free`th of an item, counted from 1, or is after it. With 0 none is free.
 abbrev pub AreFree : ℕ → List Seat → Type 0
 AreFree zero k = ⊥
 AreFree (suc n) [] = Unit {0}

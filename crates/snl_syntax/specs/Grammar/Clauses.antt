@@ -52,7 +52,7 @@ pub record IsFlag (t : Flag) (k rest : List Seat) : Type 0 where
   pub to : Written kind.To t.to k mid
   pub name : Leaf kind.Name t.name mid rest
 
--- what stands between an assign's NAME and its ";"
+-- what is between an assign's NAME and its ";"
 pub data IsChannel (t : Channel) (k rest : List Seat) : Type 0 where
   anonymous : t ≡ channels.Anonymous → k ≡ rest → IsChannel t k rest
   whole : (to : Bool) (ns : List ℕ) (mid : List Seat) → t ≡ channels.Whole to ns → Written kind.To to k mid → AreTexts ns mid rest → IsChannel t k rest

@@ -1,4 +1,4 @@
--- Declarations. Inner says what an expression without commas is one level deeper, and Value what stands behind `=`.
+-- Declarations. Inner says what an expression without commas is one level deeper, and Value what comes after `=`.
 use Rattle.std.specs.Prelude.{◌≡◌, ℕ, zero, suc, Bool, false, List, [], ◌∷◌, Option}
 use Rattle.snl_lex.specs.declared.kind.Kind.TheVariants as kind
 use Rattle.snl_syntax.specs.declared.tree.expression.Expr.{Expr}
@@ -19,7 +19,7 @@ pub record IsLength (Inner : Expr → List Seat → List Seat → Type 0) (t : O
   pub size : Perhaps (IsSequence Inner) t m1 m2
   pub closing : First kind.CloseBracket m2 rest
 
--- one element or more, a comma behind them or not, and "}"
+-- one element or more, a comma after them or not, and "}"
 pub record AreSome {A : Type 0} (R : A → List Seat → List Seat → Type 0) (xs : List A) (trailing : Bool) (k rest : List Seat) : Type 0 where
   pub m1 : List Seat
   pub m2 : List Seat
@@ -37,7 +37,7 @@ pub data IsInitOf (Here : Expr → List Seat → List Seat → Type 0) (Inner : 
   value : (x : Expr) → t ≡ inits.Value x → Here x k rest → IsInitOf Here Inner t k rest
   list : (xs : List Init) (trailing : Bool) (mid : List Seat) → t ≡ inits.List xs trailing → First kind.OpenBrace k mid → AreBraced Inner xs trailing mid rest → IsInitOf Here Inner t k rest
 
--- The value of a declarator that stands in so many levels; tokens from the `free`th on may use `extra` more.
+-- The value of a declarator that is in so many levels; tokens from the `free`th on may use `extra` more.
 abbrev pub IsInit : ℕ → ℕ → ℕ → Init → List Seat → List Seat → Type 0
 IsInit free extra (suc depth) t k rest = IsInitOf (IsAssignx free extra (suc depth)) (IsInit free extra depth) t k rest
 IsInit free (suc extra) zero t k rest = AreFree free k × IsInitOf (IsAssignx free (suc extra) zero) (IsInit free extra zero) t k rest
@@ -67,7 +67,7 @@ pub record IsDeclarationOf (Inner : Expr → List Seat → List Seat → Type 0)
   pub declarators : AreCommas (IsDeclarator Inner Value) t.declarators m1 m2
   pub semicolon : First kind.Semicolon m2 rest
 
--- A declaration that stands in so many levels; tokens from the `free`th on may use `extra` more.
+-- A declaration that is in so many levels; tokens from the `free`th on may use `extra` more.
 abbrev pub IsDeclaration : ℕ → ℕ → ℕ → Declaration → List Seat → List Seat → Type 0
 IsDeclaration free extra (suc depth) t k rest = IsDeclarationOf (IsAssignx free extra depth) (IsInit free extra (suc depth)) t k rest
 IsDeclaration free (suc extra) zero t k rest = AreFree free k × IsDeclarationOf (IsAssignx free extra zero) (IsInit free (suc extra) zero) t k rest

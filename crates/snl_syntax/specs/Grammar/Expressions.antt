@@ -63,12 +63,12 @@ pub data IsSuffix (Inner : Expr → List Seat → List Seat → Type 0) (t : Suf
   increment : t ≡ suffixes.Increment → First kind.PlusPlus k rest → IsSuffix Inner t k rest
   decrement : t ≡ suffixes.Decrement → First kind.MinusMinus k rest → IsSuffix Inner t k rest
 
--- primary and what stands behind it
+-- primary and what comes after it
 pub data IsPostfix (Inner : Expr → List Seat → List Seat → Type 0) (Names : TypeName → List Seat → List Seat → Type 0) (t : Expr) (k rest : List Seat) : Type 0 where
   bare : IsPrimary Inner Names t k rest → IsPostfix Inner Names t k rest
   suffixed : (x : Expr) (s : Suffix) (ss : List Suffix) (mid : List Seat) → t ≡ tree.Postfix x (s ∷ ss) → IsPrimary Inner Names x k mid → Each (IsSuffix Inner) (s ∷ ss) mid rest → IsPostfix Inner Names t k rest
 
--- An operator before an operand; the cast is "(" type stars ")". The flag says that `sizeof` stands directly before it: then it is no cast.
+-- An operator before an operand; the cast is "(" type stars ")". The flag says that `sizeof` is directly before it: then it is no cast.
 pub data IsOperator (Names : TypeName → List Seat → List Seat → Type 0) (behind : Bool) (t : Prefix) (k rest : List Seat) : Type 0 where
   sign : (op : Sign) → t ≡ prefixes.Sign op → First (sign_mark op) k rest → IsOperator Names behind t k rest
   sizeof : t ≡ prefixes.Sizeof → First kind.Sizeof k rest → IsOperator Names behind t k rest

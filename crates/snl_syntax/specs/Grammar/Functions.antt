@@ -26,7 +26,7 @@ pub record IsParameterOf (Inner : Expr → List Seat → List Seat → Type 0) (
   pub name : Perhaps (Leaf kind.Name) t.name m2 m3
   pub lengths : Each (IsLength Inner) t.lengths m3 rest
 
--- A parameter that stands in so many levels; tokens from the `free`th on may use `extra` more.
+-- A parameter that is in so many levels; tokens from the `free`th on may use `extra` more.
 abbrev pub IsParameter : ℕ → ℕ → ℕ → Parameter → List Seat → List Seat → Type 0
 IsParameter free extra (suc depth) t k rest = IsParameterOf (IsAssignx free extra depth) t k rest
 IsParameter free (suc extra) zero t k rest = AreFree free k × IsParameterOf (IsAssignx free extra zero) t k rest
@@ -75,7 +75,7 @@ pub record IsStruct (Inner : Declaration → List Seat → List Seat → Type 0)
   pub closing : First kind.CloseBrace m4 m5
   pub semicolon : First kind.Semicolon m5 rest
 
--- An item that begins with a type. Here says what a declaration is at an item's own level, and the others what stands within its brackets.
+-- An item that begins with a type. Here says what a declaration is at an item's own level, and the others what is within its brackets.
 pub data IsTypedItem (Here Inner : Declaration → List Seat → List Seat → Type 0) (Param : Parameter → List Seat → List Seat → Type 0) (Block : List Member → List Seat → List Seat → Type 0) (t : Item) (k rest : List Seat) : Type 0 where
   definition : (d : Declaration) → t ≡ items.Definition d → Here d k rest → IsTypedItem Here Inner Param Block t k rest
   function : (f : Function) → t ≡ items.Function f → IsFunction Param Block f k rest → IsTypedItem Here Inner Param Block t k rest

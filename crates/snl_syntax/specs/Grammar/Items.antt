@@ -41,7 +41,7 @@ pub record IsSetBegin (n : ℕ) (k rest : List Seat) : Type 0 where
   pub name : Leaf kind.Name n m1 m2
   pub opening : First kind.OpenBrace m2 rest
 
--- An item that stands in two levels more than `depth`: so the members of a state stand in one more, and what the brackets of a `when` hold in `depth`. Tokens from the `free`th on may use `extra` more.
+-- An item that is in two levels more than `depth`: so the members of a state are in one more, and what the brackets of a `when` hold in `depth`. Tokens from the `free`th on may use `extra` more.
 pub data IsItemWithin (free extra depth : ℕ) (t : Item) (k rest : List Seat) : Type 0 where
   header : (n : ℕ) (ns : Option (List ℕ)) → t ≡ items.Header n ns → IsHeader n ns k rest → IsItemWithin free extra depth t k rest
   set_begin : (n : ℕ) → t ≡ items.SsBegin n → IsSetBegin n k rest → IsItemWithin free extra depth t k rest

@@ -1,5 +1,5 @@
 -- Statements and blocks. Inside says what an expression is one level deeper, Outside what it is at a statement's own level, Head what the brackets of a `for` are, Declared what a declaration is one level deeper, and Inner what a statement is there.
--- A statement that stands before an `else` doesn't end with an `if` that has none: it is closed. The flag `closed` is handed on to what a statement ends with.
+-- A statement that is before an `else` doesn't end with an `if` that has none: it is closed. The flag `closed` is handed on to what a statement ends with.
 use Rattle.std.specs.Prelude.{◌≡◌, ◌++◌, ℕ, zero, suc, Bool, true, false, List, [], ◌∷◌, Option, Some, None}
 use Rattle.snl_lex.specs.declared.kind.Kind.{Kind}
 use Rattle.snl_lex.specs.declared.kind.Kind.TheVariants as kind
@@ -15,7 +15,7 @@ use Rattle.snl_syntax.specs.Grammar.Base.{AreFree, Each, First, Leaf, Perhaps, W
 use Rattle.snl_syntax.specs.Grammar.Expressions.{IsExpr}
 use Rattle.snl_syntax.specs.Grammar.Declarations.{IsDeclaration}
 
--- Where a statement stands: as a member of a block; as the body of `if`, `while` or `for`, where it is no block, since a block opens its level by its braces; or behind `else`, where it is no `if` either, since that goes on with the chain.
+-- Where a statement is: as a member of a block; as the body of `if`, `while` or `for`, where it is no block, since a block opens its level by its braces; or after `else`, where it is no `if` either, since that goes on with the chain.
 pub data Place : Type 0 where
   within_block : Place
   as_body : Place
@@ -51,7 +51,7 @@ pub record AreForParts (Inside : Expr → List Seat → List Seat → Type 0) (t
   pub condition : IsBefore kind.Semicolon Inside t.condition m1 m2
   pub step : IsBefore kind.CloseParen Inside t.step m2 rest
 
--- "(" and what stands within these brackets
+-- "(" and what is within these brackets
 pub record IsForHead (Parts : ForHead → List Seat → List Seat → Type 0) (t : ForHead) (k rest : List Seat) : Type 0 where
   pub mid : List Seat
   pub opening : First kind.OpenParen k mid
@@ -87,13 +87,13 @@ pub record IsArm (Inside : Expr → List Seat → List Seat → Type 0) (Declare
   pub condition : IsCondition Inside arm.0 m1 m2
   pub body : IsBody Declared Inner as_body closed arm.1 m2 rest
 
--- an arm, and the `else` behind it
+-- an arm, and the `else` after it
 pub record IsPassed (Inside : Expr → List Seat → List Seat → Type 0) (Declared : Declaration → List Seat → List Seat → Type 0) (Inner : Place → Bool → Stmt → List Seat → List Seat → Type 0) (arm : Expr × Stmt) (k rest : List Seat) : Type 0 where
   pub mid : List Seat
   pub front : IsArm Inside Declared Inner true arm k mid
   pub word : First kind.Else mid rest
 
--- what may stand behind the last `else`
+-- what may come after the last `else`
 pub record IsElse (Declared : Declaration → List Seat → List Seat → Type 0) (Inner : Place → Bool → Stmt → List Seat → List Seat → Type 0) (closed : Bool) (t : Stmt) (k rest : List Seat) : Type 0 where
   pub mid : List Seat
   pub word : First kind.Else k mid

@@ -1,4 +1,4 @@
--- States and their members. Inside says what an expression is within the brackets of `when`, Declared what a declaration is where the members stand, and Block what a block is there.
+-- States and their members. Inside says what an expression is within the brackets of `when`, Declared what a declaration is where the members are, and Block what a block is there.
 use Rattle.std.specs.Prelude.{◌≡◌, ℕ, List}
 use Rattle.snl_lex.specs.declared.kind.Kind.{Kind}
 use Rattle.snl_lex.specs.declared.kind.Kind.TheVariants as kind

@@ -1,7 +1,7 @@
 -- Clauses on variables, options, and foreign names. How each choice is made, by one token alone:
---   Behind the name of an `assign`, `;` ends it and `[` begins a subscript; else `to` may stand, and `{` begins a list of texts, any other token a text.
---   Behind a text in braces `,` is taken first; then `}` ends the list, and any other token begins a further text.
---   Behind the name and subscript of a `syncq`, `to` or a name begins its event flag, an integer is the queue's length.
+--   After the name of an `assign`, `;` ends it and `[` begins a subscript; else `to` may be, and `{` begins a list of texts, any other token a text.
+--   After a text in braces `,` is taken first; then `}` ends the list, and any other token begins a further text.
+--   After the name and subscript of a `syncq`, `to` or a name begins its event flag, an integer is the queue's length.
 use Rattle.std.specs.Prelude.{ℕ, Bool, true, false, List, [], ◌∷◌, Option, Some, None}
 use Rattle.snl_lex.specs.declared.kind.Kind.{Kind}
 use Rattle.snl_lex.specs.declared.kind.Kind.TheVariants as kind
@@ -63,7 +63,7 @@ abbrev pub subscript_by : Option Kind → Reader (Option ℕ)
 subscript_by (Some kind.OpenBracket) = some_subscript
 subscript_by _ = pure None
 
--- a subscript, if one stands there
+-- a subscript, if one is there
 unfoldable pub subscript_part : Reader (Option ℕ)
 subscript_part = λ k. subscript_by (kind_at k) k
 
@@ -107,7 +107,7 @@ after_comma_by _ = do
   x ← texts
   pure (steps.More x)
 
--- behind a text and its comma
+-- after a text and its comma
 unfoldable pub after_comma : Reader (Step (List ℕ) Bool)
 after_comma = expect kind.Comma >> (λ k. after_comma_by (kind_at k) k)
 
@@ -160,7 +160,7 @@ channel_by (Some kind.Semicolon) = pure channels.Anonymous
 channel_by (Some kind.OpenBracket) = element
 channel_by _ = named_channel
 
--- what stands behind the name of an `assign`, but for the `;`
+-- what comes after the name of an `assign`, but for the `;`
 unfoldable pub channel : Reader Channel
 channel = λ k. channel_by (kind_at k) k
 
@@ -193,7 +193,7 @@ sync = do
   expect kind.Semicolon
   pure (clauses.Sync n s f)
 
--- behind the word: NAME [ "[" INT "]" ] [ ["to"] NAME ] [ INT ] ";"
+-- after the word: NAME [ "[" INT "]" ] [ ["to"] NAME ] [ INT ] ";"
 unfoldable pub syncq_rest : Bool → Reader Clause
 syncq_rest capital = do
   n ← expect kind.Name

@@ -1,7 +1,7 @@
 -- Declarations. How each choice is made, by one token alone:
---   Behind `[` a `]` means that no length is written; any other token begins a length.
---   `{` begins values in braces, and any other token a value. Behind the opening brace a `}` means that there are none.
---   Behind a value in braces `,` is taken first; then `}` ends the list, and any other token begins a further value.
+--   After `[` a `]` means that no length is written; any other token begins a length.
+--   `{` begins values in braces, and any other token a value. After the opening brace a `}` means that there are none.
+--   After a value in braces `,` is taken first; then `}` ends the list, and any other token begins a further value.
 --   A declaration and a function begin alike, with a type, stars and a name. So what follows these is read by `declaration_from`, and what follows the type by `declaration_of`.
 use Rattle.std.specs.Prelude.{ℕ, zero, suc, Bool, true, false, List, [], ◌∷◌, Option, Some, None}
 use Rattle.snl_lex.specs.declared.kind.Kind.{Kind}
@@ -53,7 +53,7 @@ after_comma_by inner _ = do
   x ← inner
   pure (steps.More x)
 
--- behind a value and its comma
+-- after a value and its comma
 unfoldable pub after_comma : Reader Init → Reader (Step Init Bool)
 after_comma inner = expect kind.Comma >> (λ k. after_comma_by inner (kind_at k) k)
 
@@ -91,12 +91,12 @@ init_by value inner _ = plain_value value
 unfoldable pub init_of : Reader Expr → Reader Init → Reader Init
 init_of value inner = λ k. init_by value inner (kind_at k) k
 
--- what a declarator begins with, in so many levels with the one that it stands in
+-- what a declarator begins with, in so many levels with the one that it is in
 unfoldable pub init : ℕ → Reader Init
 init zero = refuse
 init (suc depth) = init_of (assignx (suc depth)) (init depth)
 
--- ---- declarators and declarations; `inner` reads an expression without commas one level deeper, `value` what stands behind `=`
+-- ---- declarators and declarations; `inner` reads an expression without commas one level deeper, `value` what comes after `=`
 
 unfoldable pub some_init : Reader Init → Reader (Option Init)
 some_init value = do
@@ -108,12 +108,12 @@ abbrev pub init_part_by : Reader Init → Option Kind → Reader (Option Init)
 init_part_by value (Some kind.Equal) = some_init value
 init_part_by value _ = pure None
 
--- `=` and a value, if it stands there
+-- `=` and a value, if it is there
 unfoldable pub init_part : Reader Init → Reader (Option Init)
 init_part value = λ k. init_part_by value (kind_at k) k
 
 module _ (inner : Reader Expr) (value : Reader Init) where
-  -- a declarator from behind its name
+  -- a declarator after its name
   unfoldable pub declarator_from : List Pointer → ℕ → Reader Declarator
   declarator_from ps n = do
     ls ← lengths inner
@@ -132,13 +132,13 @@ module _ (inner : Reader Expr) (value : Reader Init) where
     expect kind.Semicolon
     pure (record { of = t; declarators = all })
 
-  -- a declaration from behind its first name
+  -- a declaration after its first name
   unfoldable pub declaration_from : QualifiedType → List Pointer → ℕ → Reader Declaration
   declaration_from t ps n = do
     first ← declarator_from ps n
     more_declarators t first
 
-  -- a declaration from behind its type
+  -- a declaration after its type
   unfoldable pub declaration_of : QualifiedType → Reader Declaration
   declaration_of t = do
     first ← declarator
@@ -149,7 +149,7 @@ module _ (inner : Reader Expr) (value : Reader Init) where
     t ← type_of
     declaration_of t
 
--- a declaration, in so many levels with the one that it stands in
+-- a declaration, in so many levels with the one that it is in
 unfoldable pub declaration : ℕ → Reader Declaration
 declaration zero = refuse
 declaration (suc depth) = declaration_in (assignx depth) (init (suc depth))

@@ -1,7 +1,7 @@
 -- Expressions. How each choice is made, by one token alone:
---   `sizeof` is taken first, then a `(` behind it; then a token that begins a type makes `sizeof (type)`, and any other an operand in brackets.
+--   `sizeof` is taken first, then a `(` after it; then a token that begins a type makes `sizeof (type)`, and any other an operand in brackets.
 --   A `(` is taken first; then a token that begins a type makes a cast, and any other an operand in brackets.
---   What may be assigned to is an operand with what stands before and behind it alone; so this is read first, and then an operator that assigns makes it one, and any other token lets the tiers of binary operators go on from it.
+--   What may be assigned to is an operand with what comes before and after it alone; so this is read first, and then an operator that assigns makes it one, and any other token lets the tiers of binary operators go on from it.
 use Rattle.std.specs.Prelude.{ℕ, zero, suc, ◌==◌, Bool, true, false, List, [], ◌∷◌, Option, Some, None, if◌then◌else◌}
 use Rattle.snl_lex.specs.declared.kind.Kind.{Kind}
 use Rattle.snl_lex.specs.declared.kind.Kind.TheVariants as kind
@@ -31,7 +31,7 @@ comma_by p (Some kind.Comma) = do
   pure (Some x)
 comma_by p _ = pure None
 
--- the next element behind a comma
+-- the next element after a comma
 unfoldable pub next_comma : {A : Type 0} → Reader A → Reader (Option A)
 next_comma p = λ k. comma_by p (kind_at k) k
 
@@ -52,7 +52,7 @@ text_by _ = pure None
 unfoldable pub next_text : Reader (Option ℕ)
 next_text = λ k. text_by (kind_at k) k
 
--- all strings that stand side by side
+-- all strings that are side by side
 unfoldable pub texts : Reader (List ℕ)
 texts = do
   first ← expect kind.Text
@@ -162,7 +162,7 @@ module _ (inner : Reader Expr) (names : Reader TypeName) where
   arguments_by (Some kind.CloseParen) = word kind.CloseParen []
   arguments_by _ = some_arguments
 
-  -- behind the opening bracket
+  -- after the opening bracket
   unfoldable pub arguments : Reader (List Expr)
   arguments = λ k. arguments_by (kind_at k) k
 
@@ -191,7 +191,7 @@ module _ (inner : Reader Expr) (names : Reader TypeName) where
   unfoldable pub next_suffix : Reader (Option Suffix)
   next_suffix = λ k. suffix_by (kind_at k) k
 
-  -- an operand in brackets, behind the opening one
+  -- an operand in brackets, after the opening one
   unfoldable pub group : Option Prefix → Reader (Step Prefix Expr)
   group before = do
     x ← sequence inner
@@ -214,7 +214,7 @@ module _ (inner : Reader Expr) (names : Reader TypeName) where
   sized true = sizeof_type
   sized false = group (Some prefixes.Sizeof)
 
-  -- behind `sizeof (`
+  -- after `sizeof (`
   unfoldable pub sizeof_bracket : Reader (Step Prefix Expr)
   sizeof_bracket = expect kind.OpenParen >> (λ k. sized (begins_type (kind_at k)) k)
 

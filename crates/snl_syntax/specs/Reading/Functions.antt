@@ -1,7 +1,7 @@
 -- Functions, structs, and what else an item that begins with a type can be. How each choice is made, by one token alone:
---   Behind a parameter's stars a name may stand.
---   Behind a function's `(` a `)` means that it has no parameters; any other token begins one.
---   Behind its `)` a `;` makes a prototype; any other token begins the body.
+--   After a parameter's stars a name may be.
+--   After a function's `(` a `)` means that it has no parameters; any other token begins one.
+--   After its `)` a `;` makes a prototype; any other token begins the body.
 --   A function and a declaration begin alike, with a type, stars and a name: then `(` makes a function, any other token a declaration.
 --   An item's `struct` and a name are taken first: then `{` begins the struct's members, any other token makes them a type.
 --   Among a struct's members `}` ends them, CCODE is one, and any other token begins a declaration.
@@ -49,7 +49,7 @@ parameter_in inner = do
   ls ← lengths inner
   pure (record { of = t; pointers = ps; name = n; lengths = ls })
 
--- a parameter, in so many levels with the one that it stands in
+-- a parameter, in so many levels with the one that it is in
 unfoldable pub parameter : ℕ → Reader Parameter
 parameter zero = refuse
 parameter (suc depth) = parameter_in (assignx depth)
@@ -83,7 +83,7 @@ body_by block _ = some_body block
 unfoldable pub body : Reader (List Member) → Reader (Option (List Member))
 body block = λ k. body_by block (kind_at k) k
 
--- a function from behind its name
+-- a function after its name
 unfoldable pub function_from : Reader Parameter → Reader (List Member) → QualifiedType → List Pointer → ℕ → Reader Function
 function_from p block t ps n = do
   xs ← parameters p
@@ -110,7 +110,7 @@ member_by inner _ = declared_member inner
 unfoldable pub next_member : Reader Declaration → Reader (Option StructMember)
 next_member inner = λ k. member_by inner (kind_at k) k
 
--- what stands behind `struct NAME`
+-- what comes after `struct NAME`
 unfoldable pub struct_members : Reader Declaration → Reader (List StructMember)
 struct_members inner = do
   expect kind.OpenBrace
@@ -119,13 +119,13 @@ struct_members inner = do
   expect kind.Semicolon
   pure xs
 
--- a type from behind its base
+-- a type after its base
 unfoldable pub type_from : Bool → Base → Reader QualifiedType
 type_from before b = do
   after ← accept kind.Const
   pure (record { leading_const = before; base = b; trailing_const = after })
 
--- ---- items that begin with a type, in so many levels with the one that they stand in; `block` reads a function's body
+-- ---- items that begin with a type, in so many levels with the one that they are in; `block` reads a function's body
 
 unfoldable pub declaration_item : ℕ → QualifiedType → List Pointer → ℕ → Reader Item
 declaration_item depth t ps n = do
@@ -150,7 +150,7 @@ module _ (depth : ℕ) (block : Reader (List Member)) where
   unfoldable pub named_item : QualifiedType → List Pointer → ℕ → Reader Item
   named_item t ps n = λ k. named_by t ps n (kind_at k) k
 
-  -- from behind the type
+  -- after the type
   unfoldable pub item_of : QualifiedType → Reader Item
   item_of t = do
     ps ← stars

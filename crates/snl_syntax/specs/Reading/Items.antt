@@ -1,7 +1,7 @@
 -- Items. How each choice is made, by one token alone:
 --   An item is chosen by its first token; any that begins no other form begins a type.
---   Behind a header's name `(` begins texts; any other token isn't the header's.
---   Behind an item the tokens end, and any token that stands there is blamed.
+--   After a header's name `(` begins texts; any other token isn't the header's.
+--   After an item the tokens end, and any token that is there is blamed.
 use Rattle.std.specs.Prelude.{◌≡◌, ℕ, ◌-◌, min, List, [], length, Option, Some, None, Result, Ok, Err}
 use Rattle.snl_lex.specs.declared.kind.Kind.{Kind}
 use Rattle.snl_lex.specs.declared.kind.Kind.TheVariants as kind
@@ -29,7 +29,7 @@ abbrev pub texts_by : Option Kind → Reader (Option (List ℕ))
 texts_by (Some kind.OpenParen) = some_texts
 texts_by _ = pure None
 
--- texts in brackets, if they stand there
+-- texts in brackets, if they are there
 unfoldable pub texts_part : Reader (Option (List ℕ))
 texts_part = λ k. texts_by (kind_at k) k
 
@@ -54,7 +54,7 @@ c_block = do
   n ← expect kind.CCode
   pure (items.CBlock n)
 
--- ---- items that stand in states as well
+-- ---- items that are in states as well
 
 unfoldable pub foreign_item : Reader Item
 foreign_item = do
@@ -71,7 +71,7 @@ option_item = do
   o ← option_line
   pure (items.OptionLine o)
 
--- ---- items by their first token; `depth` levels are left with the one that they stand in
+-- ---- items by their first token; `depth` levels are left with the one that they are in
 
 unfoldable pub entry_item : ℕ → Reader Item
 entry_item depth = do
@@ -126,7 +126,7 @@ whole_item depth = do
   x ← item depth
   ended x
 
--- how many levels an item has, with the one that its own tokens stand in
+-- how many levels an item has, with the one that its own tokens are in
 abbrev pub levels : ℕ
 levels = 101
 

@@ -1,9 +1,9 @@
 -- Statements and blocks. How each choice is made, by one token alone:
---   A member of a block is a declaration where a token stands that begins a type; `}` ends the block, and any other token begins a statement.
+--   A member of a block is a declaration where a token is that begins a type; `}` ends the block, and any other token begins a statement.
 --   A statement is chosen by its first token; any that begins no other form begins an expression.
---   The body of `if`, `while`, `for` and `else` is a block where `{` stands, which opens its level by its braces; any other token begins a statement one level deeper.
---   Behind the body of an `if`, `else` is taken first; then `if` goes on with the chain, and any other token begins the body that ends it. So an `else` belongs to the nearest `if`.
---   Behind `return` and in the brackets of `for`, the mark that ends a part means that it is empty; any other token begins an expression.
+--   The body of `if`, `while`, `for` and `else` is a block where `{` is, which opens its level by its braces; any other token begins a statement one level deeper.
+--   After the body of an `if`, `else` is taken first; then `if` goes on with the chain, and any other token begins the body that ends it. So an `else` belongs to the nearest `if`.
+--   After `return` and in the brackets of `for`, the mark that ends a part means that it is empty; any other token begins an expression.
 use Rattle.std.specs.Prelude.{ℕ, zero, suc, Bool, true, false, List, [], Option, Some, None}
 use Rattle.snl_lex.specs.declared.kind.Kind.{Kind}
 use Rattle.snl_lex.specs.declared.kind.Kind.TheVariants as kind
@@ -20,7 +20,7 @@ use Rattle.snl_syntax.specs.Reading.Types.{begins_type}
 use Rattle.snl_syntax.specs.Reading.Expressions.{expr}
 use Rattle.snl_syntax.specs.Reading.Declarations.{declaration}
 
--- ---- an expression or nothing, and the mark behind it
+-- ---- an expression or nothing, and the mark after it
 
 unfoldable pub some_before : Kind → Reader Expr → Reader (Option Expr)
 some_before x p = do
@@ -42,7 +42,7 @@ paren_by p _ = some_before kind.CloseParen p
 unfoldable pub before_paren : Reader Expr → Reader (Option Expr)
 before_paren p = λ k. paren_by p (kind_at k) k
 
--- ---- statements that hold no others; `depth` levels are left with the one that they stand in
+-- ---- statements that hold no others; `depth` levels are left with the one that they are in
 
 unfoldable pub c_code : Reader Stmt
 c_code = do
@@ -75,7 +75,7 @@ evaluation depth = do
   expect kind.Semicolon
   pure (tree.Expr e)
 
--- ---- what stands in the brackets of a statement; `depth` levels are left within them
+-- ---- what is in the brackets of a statement; `depth` levels are left within them
 
 unfoldable pub condition : ℕ → Reader Expr
 condition depth = do
@@ -191,7 +191,7 @@ module _ (depth : ℕ) (inner : Reader Stmt) where
     r ← until arm_step []
     pure (tree.If r.0 r.1)
 
-  -- a statement by its first token; `own` levels are left with the one that it stands in
+  -- a statement by its first token; `own` levels are left with the one that it is in
   unfoldable pub stmt_by : ℕ → Option Kind → Reader Stmt
   stmt_by own (Some kind.OpenBrace) = block_statement
   stmt_by own (Some kind.If) = choice
@@ -208,12 +208,12 @@ module _ (depth : ℕ) (inner : Reader Stmt) where
   unfoldable pub stmt_of : ℕ → Reader Stmt
   stmt_of own = λ k. stmt_by own (kind_at k) k
 
--- a statement, in so many levels with the one that it stands in
+-- a statement, in so many levels with the one that it is in
 unfoldable pub stmt : ℕ → Reader Stmt
 stmt zero = refuse
 stmt (suc depth) = stmt_of depth (stmt depth) (suc depth)
 
--- a block, in so many levels with the one that its braces stand in
+-- a block, in so many levels with the one that its braces are in
 unfoldable pub block : ℕ → Reader (List Member)
 block zero = refuse
 block (suc depth) = block_of depth (stmt depth)

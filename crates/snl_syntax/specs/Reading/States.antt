@@ -1,7 +1,7 @@
 -- States and their members. How each choice is made, by one token alone:
 --   A member is chosen by its first token; `}` ends the members, and any token that begins no other form begins a declaration.
 --   In the brackets of `when` a `)` means that nothing is written; any other token begins an expression.
---   Behind the block of `when`, `state` and `exit` say where the transition leads.
+--   After the block of `when`, `state` and `exit` say where the transition leads.
 use Rattle.std.specs.Prelude.{ℕ, ◌-◌, List, [], Option, Some, None}
 use Rattle.snl_lex.specs.declared.kind.Kind.{Kind}
 use Rattle.snl_lex.specs.declared.kind.Kind.TheVariants as kind
@@ -41,7 +41,7 @@ target_by _ = refuse
 unfoldable pub target : Reader Target
 target = λ k. target_by (kind_at k) k
 
--- ---- members; `depth` levels are left with the one that they stand in
+-- ---- members; `depth` levels are left with the one that they are in
 
 module _ (depth : ℕ) where
   -- when = "when" "(" [expr] ")" block ( "state" NAME | "exit" )
@@ -113,7 +113,7 @@ member_by depth _ = declared_member depth
 unfoldable pub next_member : ℕ → Reader (Option StateMember)
 next_member depth = λ k. member_by depth (kind_at k) k
 
--- ---- what stands behind `state NAME`; `depth` levels are left within the braces
+-- ---- what comes after `state NAME`; `depth` levels are left within the braces
 
 unfoldable pub state_members : ℕ → Reader (List StateMember)
 state_members depth = do

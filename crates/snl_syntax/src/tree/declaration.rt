@@ -12,7 +12,7 @@ pub enum Init {
     List(Items<Init>, bool),
 }
 
-/// A name that is declared, with what stands around it. A length may be missing.
+/// A name that is declared, with what is around it. A length may be missing.
 #[derive(Drop)]
 pub struct Declarator {
     pub pointers: Items<Pointer>,

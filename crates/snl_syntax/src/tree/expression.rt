@@ -4,7 +4,7 @@ use crate::operator::{Assignment, Binary, Sign};
 use crate::tree::types::TypeName;
 use sqlite_items::{Boxed, Items};
 
-/// What stands before an operand.
+/// What comes before an operand.
 #[derive(Drop)]
 pub enum Prefix {
     Sign(Sign),
@@ -12,7 +12,7 @@ pub enum Prefix {
     Cast(Boxed<TypeName>),
 }
 
-/// What stands behind an operand.
+/// What comes after an operand.
 #[cycle(expression)]
 #[derive(Drop)]
 pub enum Suffix {
@@ -42,7 +42,7 @@ pub enum Expr {
     Prefixed(Items<Prefix>, Boxed<Expr>),
     /// Operators of one level, read from the left.
     Chain(Boxed<Expr>, Items<(Binary, Expr)>),
-    /// The first condition; then, for each `?`, what stands before its `:` and what stands behind it.
+    /// The first condition; then, for each `?`, what comes before its `:` and what comes after it.
     Conditional(Boxed<Expr>, Items<(Expr, Expr)>),
     /// What is assigned to, each with its operator, and the value.
     Assigned(Items<(Expr, Assignment)>, Boxed<Expr>),

@@ -2,7 +2,7 @@
 
 use sqlite_items::Items;
 
-/// The integer bases that may also stand behind `unsigned`.
+/// The integer bases that may also come after `unsigned`.
 #[derive(Clone, Copy, Debug, PartialEq, Eq)]
 pub enum Integer {
     Char,
@@ -36,7 +36,7 @@ pub enum Base {
     Typename(usize),
 }
 
-/// A base, with `const` before and behind it or not.
+/// A base, with `const` before and after it or not.
 #[derive(Clone, Copy, Debug, PartialEq, Eq)]
 pub struct QualifiedType {
     pub leading_const: bool,
@@ -44,7 +44,7 @@ pub struct QualifiedType {
     pub trailing_const: bool,
 }
 
-/// A `*`, with `const` behind it or not.
+/// A `*`, with `const` after it or not.
 #[derive(Clone, Copy, Debug, PartialEq, Eq)]
 pub enum Pointer {
     Plain,

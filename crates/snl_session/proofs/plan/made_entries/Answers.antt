@@ -12,7 +12,7 @@ use Rattle.snl_session.specs.Planned.{AreEntriesMade}
 use Rattle.snl_session.proofs.Members.{entries_made, middle_within}
 use Rattle.snl_session.proofs.plan.made_entries.Goals as goal
 
--- the ends that are made stand among all ends
+-- the ends that are made are among all ends
 made_within : (ends all : List ℕ) (front from b c k : ℕ) (made : List ℕ) (count : ℕ) → from ≡ last_end 0 (take front ends) → all ≡ (take front ends ++ made) ++ moved b c (drop k ends)
     → EndsWithin 0 all count → EndsWithin from made count
 made_within ends all front from b c k made count from_is all_is h =

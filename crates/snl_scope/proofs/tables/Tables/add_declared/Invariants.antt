@@ -3,7 +3,7 @@ use Rattle.snl_scope.specs.Names.{Entry, declared_entry}
 use Rattle.snl_scope.specs.Tables.{Follows}
 use Rattle.snl_scope.proofs.tables.Tables.add_declared.Given as goal
 
--- the tables follow the declared names so far, behind whatever they followed before
+-- the tables follow the declared names so far, after whatever they followed before
 abbrev pub invariant-loop-declared : goal.invariant-loop-declared
 invariant-loop-declared l =
     (es : List Entry)

@@ -30,7 +30,7 @@ replace-requires-2-clause-within c =
     let old = c.args.edit.now.old.now in
     omega (arith, c.len.ensures, ap length c.requires.lists.entries, entries_count old, ap (λ l. length l.values) c.commit_places.ensures.items.checks, ap length c.requires.lists.checks, count_of_checks old)
 
--- a part of a list is replaced, where what is behind it is counted by another list of the same length
+-- a part of a list is replaced, where what is after it is counted by another list of the same length
 replaced : {X : Type 0} (values olds made : List X) (front back n : ℕ) → values ≡ olds → n ≡ length olds → take front values ++ (made ++ drop (n - back) values) ≡ take front olds ++ (made ++ drop (length olds - back) olds)
 replaced {X} values olds made front back n is n_is =
     ap (λ (l : List X). take front l ++ (made ++ drop (n - back) l)) is ∙ ap (λ (k : ℕ). take front olds ++ (made ++ drop (k - back) olds)) n_is
