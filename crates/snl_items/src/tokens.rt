@@ -5,7 +5,7 @@ ghost use Rattle.snl_items.specs.Changes.{AreShifted, IsTokenChange};
 ghost use Rattle.snl_items.specs.Items.{mark_in};
 ghost use Rattle.snl_lex.specs.PieceList.{IsChange, is_token_class, piece_ends, piece_kinds};
 ghost use Rattle.snl_lex.specs.Pieces.{LiesIn};
-ghost use Rattle.std.specs.Prelude.{◌≡◌, All, IfOk, IfSome, count_by, map};
+ghost use Rattle.std.specs.Prelude.{◌≡◌, ◌≤◌, All, IfOk, IfSome, count_by, length, map};
 
 use crate::shifted::{Shifted, shifted_from};
 use crate::spelled::are_spelled_alike;
@@ -37,15 +37,33 @@ pub struct TokenChange {
     pub shifted: Option<Shifted>,
 }
 
+// So many pieces can be counted in a byte, and so sixteen of them at once.
+const BLOCK: usize = 255;
+
+// How many of a few pieces of these classes are tokens.
+fn count_few(kinds: &[Class]) -> u8
+    requires { length kinds.now ≤ 255 }
+    ensures { result ≡ count_by is_token_class kinds.now }
+{
+    let mut count: u8 = 0;
+    for kind in kinds {
+        if kind.is_token() {
+            count += 1;
+        }
+    }
+    count
+}
+
 // How many of the pieces of these classes are tokens.
 fn count_tokens(kinds: &[Class]) -> usize
     ensures { result ≡ count_by is_token_class kinds.now }
 {
     let mut count = 0;
-    for kind in kinds {
-        if kind.is_token() {
-            count += 1;
-        }
+    let mut start = 0;
+    while start < kinds.len() {
+        let stop = kinds.len().min(start + BLOCK);
+        count += count_few(&kinds[start..stop]) as usize;
+        start = stop;
     }
     count
 }
