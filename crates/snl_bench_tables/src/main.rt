@@ -2,19 +2,21 @@
 //! In: the text, on standard input. Out: how much there is in the text and in its tables, on standard output; the best time, in microseconds, on standard error.
 #![tactic(auto)]
 
-ghost use Rattle.snl_check.specs.Items.{EndsWithin, outlines_of};
-ghost use Rattle.snl_check.specs.Told.{told_in_item, told_kept};
+ghost use Rattle.snl_check.specs.Items.{EndsWithin, IsCutUp, outlines_of, program_items};
+ghost use Rattle.snl_check.specs.Told.{told_in_item, told_kept, told_seen};
+ghost use Rattle.snl_lex.specs.LineList.{IsLineList};
 ghost use Rattle.snl_lex.specs.Pieces.{LiesIn, pieces_of, tokens_of};
 ghost use Rattle.snl_reading.specs.ItemsRead.{AreItems, ReadFrom, items_read};
-ghost use Rattle.std.specs.Prelude.{◌≡◌, All, length, map};
+ghost use Rattle.std.specs.Prelude.{◌≡◌, All, length, map, option_copied};
 
-use snl_check::{Checked, Tables};
-use snl_lex::{Piece, tokens_among};
+use snl_check::{Checked, Tables, tables, tables_by_tokens};
+use snl_lex::{LineList, Piece, tokens_among};
 use snl_reading::{
-    ReadItem, Stop, checks_of, ends_of, items_of, links_among, marks_of, micros, pieces_of,
-    tables_of, tokens_of, trees_of,
+    ReadItem, Stop, borrowed_checks, checks_of, ends_of, items_of, links_among, marks_of, micros,
+    pieces_of, tables_of, tokens_of, trees_among, trees_of,
 };
 use snl_scope::Links;
+use snl_syntax::tree::item::Item;
 use std::alloc::Global;
 use std::io::{self, Read};
 use std::rt::Clock;
@@ -55,6 +57,60 @@ fn time_tokens(rt: &impl Clock, alloc: Global, pieces: &[Piece]) -> Result<u64, 
     Ok(best)
 }
 
+// The best time of the tables by pieces.
+fn time_by_pieces(
+    rt: &impl Clock,
+    alloc: Global,
+    text: &[u8],
+    pieces: &[Piece],
+    ends: &[usize],
+    trees: &[Option<&Item>],
+    links: &Links,
+    checked: &[Option<&Checked>],
+) -> Result<u64, Stop>
+    requires pieces { pieces.now ≡ pieces_of text.now }
+    requires cut { IsCutUp text.now (tokens_of text.now) ends.now (length trees.now) }
+    requires links { links.now.outlines ≡ outlines_of text.now (program_items (tokens_of text.now) ends.now (map option_copied trees.now)) }
+    requires checked { map told_seen checked.now ≡ map (told_in_item text.now) (program_items (tokens_of text.now) ends.now (map option_copied trees.now)) }
+{
+    let mut best = u64::MAX;
+    for _ in 0..TURNS {
+        let begin = Instant::now(rt)?;
+        let tables = tables(alloc, text, pieces, ends, trees, links, checked)?;
+        best = best.min(micros(rt, begin)?);
+        drop(tables);
+    }
+    Ok(best)
+}
+
+// The best time of the tables as a session makes them, by lines and tokens.
+fn time_by_tokens(
+    rt: &impl Clock,
+    alloc: Global,
+    text: &[u8],
+    lines: &LineList,
+    tokens: &[Piece],
+    ends: &[usize],
+    trees: &[Option<&Item>],
+    links: &Links,
+    checked: &[Option<&Checked>],
+) -> Result<u64, Stop>
+    requires lines { IsLineList text.now lines.now.ends.items lines.now.markers.items lines.now.naming.items }
+    requires tokens { tokens.now ≡ tokens_of text.now }
+    requires cut { IsCutUp text.now tokens.now ends.now (length trees.now) }
+    requires links { links.now.outlines ≡ outlines_of text.now (program_items tokens.now ends.now (map option_copied trees.now)) }
+    requires checked { map told_seen checked.now ≡ map (told_in_item text.now) (program_items tokens.now ends.now (map option_copied trees.now)) }
+{
+    let mut best = u64::MAX;
+    for _ in 0..TURNS {
+        let begin = Instant::now(rt)?;
+        let tables = tables_by_tokens(alloc, text, lines, tokens, ends, trees, links, checked)?;
+        best = best.min(micros(rt, begin)?);
+        drop(tables);
+    }
+    Ok(best)
+}
+
 // Times the tables.
 fn measure_tables<R: Clock + Print + Eprint>(
     rt: &R,
@@ -75,15 +131,18 @@ fn measure_tables<R: Clock + Print + Eprint>(
         rt,
         &tables_of(alloc, text, pieces, ends, items, links, checks)?,
     )?;
-    let mut best = u64::MAX;
-    for _ in 0..TURNS {
-        let begin = Instant::now(rt)?;
-        let tables = tables_of(alloc, text, pieces, ends, items, links, checks)?;
-        best = best.min(micros(rt, begin)?);
-        drop(tables);
-    }
-    let tokens = time_tokens(rt, alloc, pieces)?;
-    eprintln!(rt; "tables {best} us, of which their tokens {tokens} us")?;
+    let trees = trees_among(alloc, items)?;
+    let checked = borrowed_checks(alloc, checks)?;
+    let lines = LineList::of(alloc, text, pieces)?;
+    let tokens = tokens_among(alloc, pieces)?;
+    let by_pieces = time_by_pieces(rt, alloc, text, pieces, ends, &trees, links, &checked)?;
+    let by_tokens = time_by_tokens(
+        rt, alloc, text, &lines, &tokens, ends, &trees, links, &checked,
+    )?;
+    let taken = time_tokens(rt, alloc, pieces)?;
+    eprintln!(rt;
+        "tables {by_pieces} us, of which their tokens {taken} us; by lines and tokens {by_tokens} us"
+    )?;
     Ok(())
 }
 

@@ -18,8 +18,8 @@ use snl_scope::Links;
 use snl_syntax::tree::item::Item;
 use std::alloc::Global;
 
-// The trees of items.
-fn trees_among<'a>(
+/// The trees of items. A faulty one has none.
+pub fn trees_among<'a>(
     alloc: Global,
     items: &[ReadItem<'a>],
 ) -> Result<Vec<Option<&'a Item>>, OutOfMemory>
@@ -32,8 +32,8 @@ fn trees_among<'a>(
     Ok(trees)
 }
 
-// The checks, borrowed.
-fn borrowed_checks(
+/// The checks, borrowed.
+pub fn borrowed_checks(
     alloc: Global,
     checks: &[Option<Checked>],
 ) -> Result<Vec<Option<&Checked>>, OutOfMemory>
