@@ -13,7 +13,7 @@ use Rattle.snl_walk.specs.declared.rules.Rule.TheVariants as rules
 use Rattle.snl_walk.specs.Options.{letters_in, letters_in_member}
 use Rattle.snl_scope.specs.declared.codes.Code.{Code}
 use Rattle.snl_scope.specs.declared.codes.Code.TheVariants.{E07, E10, E17, E18, E19, E20, E21, W01, W04}
-use Rattle.snl_check.specs.declared.findings.ItemFault.{ItemFault}
+use Rattle.snl_check.specs.declared.rules.findings.ItemFault.{ItemFault}
 use Rattle.snl_check.specs.Found.{code_of, fault_of}
 use Rattle.snl_check.specs.Options.{found_at_letter, is_known, letter_fault, program_letters, state_letters, unknown_in_member, unknown_letters, unknown_options}
 use Rattle.snl_check.proofs.Each.{each_join, each_of, each_weaker}

@@ -8,7 +8,7 @@ use Rattle.snl_syntax.specs.declared.tree.item.Item.{Item}
 use Rattle.std.specs.Option.{option_copied}
 use Rattle.std.proofs.lemmas.List.{drop_all, length-map}
 use Rattle.std.proofs.lemmas.Option.{slice_get-map, slice_get_past, slice_get_read}
-use Rattle.snl_check.specs.declared.program.Program.{Program}
+use Rattle.snl_check.specs.declared.rows.program.Program.{Program}
 use denote.Bor.{Bor}
 use Rattle.snl_check.specs.Collected.{IsProgram, items_in}
 use Rattle.snl_check.specs.Items.{EndsWithin, ProgramItem, header_name, program_name, start_of, tokens_in, tree_in}

@@ -33,15 +33,15 @@ use Rattle.snl_walk.specs.Statements.{found_in_declaration, found_in_declarator}
 use Rattle.snl_walk.specs.Undeclared.{undeclared}
 use Rattle.snl_walk.specs.Uses.{is_call}
 use Rattle.snl_scope.specs.declared.codes.Code.TheVariants.{E07, W04}
-use Rattle.snl_scope.specs.declared.summary.Outline.{Outline}
-use Rattle.snl_scope.specs.declared.summary.Declared.{Declared}
+use Rattle.snl_scope.specs.declared.summaries.summary.Outline.{Outline}
+use Rattle.snl_scope.specs.declared.summaries.summary.Declared.{Declared}
 use Rattle.snl_scope.specs.Names.{has_own_scope}
 use Rattle.snl_scope.specs.Once.{declared_tokens}
 use Rattle.snl_scope.specs.Summaries.{outline_in, role_of}
 use Rattle.snl_scope.specs.Summaries.Clauses.{clauses_in}
 use Rattle.snl_scope.specs.Summaries.Declares.{declared_at, declared_if_body, declared_in, function_name}
-use Rattle.snl_scope.specs.declared.summary.ItemKind.TheVariants as kinds
-use Rattle.snl_check.specs.declared.findings.ItemFault.{ItemFault}
+use Rattle.snl_scope.specs.declared.summaries.summary.ItemKind.TheVariants as kinds
+use Rattle.snl_check.specs.declared.rules.findings.ItemFault.{ItemFault}
 use Rattle.snl_check.specs.FaultCodes.{LeavesToLinks, is_item_code}
 use Rattle.snl_check.specs.Found.{code_of, fault_of}
 use Rattle.snl_check.specs.Options.{unknown_options}

@@ -5,15 +5,15 @@ use Rattle.std.specs.Option.{is_none, option_and_then, option_map, option_map_or
 use Rattle.std.proofs.lemmas.Option.{slice_get-map}
 use Rattle.snl_lex.specs.declared.piece.Piece.{Piece}
 use Rattle.snl_syntax.specs.declared.tree.item.Item.{Item}
-use Rattle.snl_scope.specs.declared.summary.Outline.{Outline}
+use Rattle.snl_scope.specs.declared.summaries.summary.Outline.{Outline}
 use Rattle.snl_scope.specs.Summaries.{occurrences_in}
 use Rattle.snl_scope.specs.Summaries.Tokens.{mention_at}
 use Rattle.snl_walk.specs.declared.used.TargetUse.{TargetUse}
 use Rattle.snl_walk.specs.Items.{occurrences}
 use Rattle.snl_walk.specs.Tokens.{bytes_at}
 use Rattle.snl_walk.specs.Uses.{targets}
-use Rattle.snl_check.specs.declared.findings.Checked.{Checked}
-use Rattle.snl_check.specs.declared.program.Program.{Program}
+use Rattle.snl_check.specs.declared.rules.findings.Checked.{Checked}
+use Rattle.snl_check.specs.declared.rows.program.Program.{Program}
 use Rattle.snl_check.specs.Collected.{IsProgram, items_in}
 use Rattle.snl_check.specs.Items.{ProgramItem, outlines_of, outline_of_item, summary_of_item, tokens_in, tree_in}
 use Rattle.snl_check.specs.Members.{is_faulty_item, target_number, target_numbers}

@@ -9,11 +9,11 @@ use Rattle.std.proofs.lemmas.Bool.Decides.{Decides-eqb}
 use Rattle.std.specs.Map.{lookup}
 use Rattle.std.specs.Option.{option_map_or, option_or}
 use Rattle.snl_scope.specs.Below.{all_below}
-use Rattle.snl_check.specs.declared.channel_numbers.Key.{Key}
-use Rattle.snl_check.specs.declared.channel_numbers.Which.{Which}
-use Rattle.snl_check.specs.declared.channel_numbers.Which.TheVariants as which
-use Rattle.snl_check.specs.contracts.channel_numbers.KeyPartialEq.TheImpl as key_eq
-use Rattle.snl_check.specs.contracts.channel_numbers.WhichPartialEq.TheImpl as which_eq
+use Rattle.snl_check.specs.declared.rows.channel_numbers.Key.{Key}
+use Rattle.snl_check.specs.declared.rows.channel_numbers.Which.{Which}
+use Rattle.snl_check.specs.declared.rows.channel_numbers.Which.TheVariants as which
+use Rattle.snl_check.specs.contracts.rows.channel_numbers.KeyPartialEq.TheImpl as key_eq
+use Rattle.snl_check.specs.contracts.rows.channel_numbers.WhichPartialEq.TheImpl as which_eq
 use Rattle.snl_check.specs.Channels.{AssignedChannel, channels_of, element_number, is_channel_of, is_element, is_element_of, is_on, variables_before}
 use Rattle.snl_check.specs.Numbered.{Adds, Numbered, element_in, is_key_of, same_key, same_which}
 use Rattle.snl_check.proofs.Positions.{position_push}

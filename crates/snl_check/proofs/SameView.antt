@@ -11,7 +11,7 @@ use Rattle.snl_walk.specs.Rules.{findings}
 use Rattle.snl_walk.specs.Tokens.{bytes_at}
 use Rattle.snl_walk.specs.Uses.{targets, uses}
 use Rattle.snl_scope.specs.declared.facts.Fact.{Fact}
-use Rattle.snl_scope.specs.declared.summary.Mention.{Mention}
+use Rattle.snl_scope.specs.declared.summaries.summary.Mention.{Mention}
 use Rattle.snl_scope.specs.Summaries.Tokens.{mention_at}
 use Rattle.snl_check.specs.Alike.{Agree, SameTokens, target_names, used_names}
 use Rattle.snl_check.specs.Found.{fault_of, faults_in}

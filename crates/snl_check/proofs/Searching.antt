@@ -5,7 +5,7 @@ use Rattle.std.proofs.lemmas.List.{get_or-set_other, get_or-set_same, length-app
 use Rattle.std.proofs.lemmas.List.Elements.{All-append, All-cons, All-nil, All-weaker, Contains-append_cases, Contains-append_left, Contains-append_right, Contains-push}
 use Rattle.std.proofs.lemmas.List.Sums.{sum_by-set}
 use Rattle.std.proofs.lemmas.Option.{slice_get-get_or, slice_get_within}
-use Rattle.snl_check.specs.declared.reaching.Search.{Search}
+use Rattle.snl_check.specs.declared.reachability.reaching.Search.{Search}
 use Rattle.snl_check.specs.Reach.{Enters, HasMarked, left_to}
 
 -- what holds of one thing holds of the list with it alone

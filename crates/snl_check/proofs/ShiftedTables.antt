@@ -14,8 +14,8 @@ use Rattle.snl_syntax.specs.declared.tree.item.Item.{Item}
 use Rattle.snl_syntax.specs.declared.tree.item.Item.TheVariants as items
 use Rattle.snl_syntax.specs.Parsing.{kinds_in}
 use Rattle.snl_syntax.specs.Reading.Items.{item_of}
-use Rattle.snl_scope.specs.declared.summary.Outline.{Outline}
-use Rattle.snl_scope.specs.declared.summary.Summary.{Summary}
+use Rattle.snl_scope.specs.declared.summaries.summary.Outline.{Outline}
+use Rattle.snl_scope.specs.declared.summaries.summary.Summary.{Summary}
 use Rattle.snl_scope.specs.Flags.{flags_of}
 use Rattle.snl_scope.specs.NamedTokens.{NamesItsTokens, own_name}
 use Rattle.snl_scope.specs.Order.{is_named_state, is_state_word, state_name}

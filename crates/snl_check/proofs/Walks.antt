@@ -6,7 +6,7 @@ use Rattle.std.proofs.lemmas.List.{get_or-map, get_or-replicate, get_or_append_l
 use Rattle.std.proofs.lemmas.List.Elements.{All-contains, All-get_or, All-push, Contains-append_left, Contains-push, Contains-push_cases}
 use Rattle.std.proofs.lemmas.Option.{get_or_from_slice_get, slice_get-get_or, slice_get_within}
 use Rattle.std.proofs.Math.Seq.{get_or-append_seam}
-use Rattle.snl_check.specs.declared.reaching.Search.{Search}
+use Rattle.snl_check.specs.declared.reachability.reaching.Search.{Search}
 use Rattle.snl_check.specs.Reach.{AreStates, Enters, HasMarked, IsReached, IsTarget, IsWalk, target_lists}
 
 module _ (targets : List (List ℕ)) where

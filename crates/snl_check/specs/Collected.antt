@@ -2,12 +2,12 @@
 use Rattle.std.specs.Prelude.{◌≡◌, List, map, length, option_copied}
 use Rattle.snl_lex.specs.LineList.{IsLineList}
 use Rattle.snl_scope.specs.declared.facts.ClauseLink.{ClauseLink}
-use Rattle.snl_check.specs.declared.channels.AssignedChannel.{AssignedChannel}
-use Rattle.snl_check.specs.declared.item_clauses.Placed.{Placed}
-use Rattle.snl_check.specs.declared.item_clauses.ToldClause.{ToldClause}
-use Rattle.snl_check.specs.declared.listing.Listing.{Listing}
-use Rattle.snl_check.specs.declared.outline.Outline.{Outline}
-use Rattle.snl_check.specs.declared.program.Program.{Program}
+use Rattle.snl_check.specs.declared.rows.channels.AssignedChannel.{AssignedChannel}
+use Rattle.snl_check.specs.declared.rows.item_clauses.Placed.{Placed}
+use Rattle.snl_check.specs.declared.rows.item_clauses.ToldClause.{ToldClause}
+use Rattle.snl_check.specs.declared.rows.listing.Listing.{Listing}
+use Rattle.snl_check.specs.declared.rows.outline.Outline.{Outline}
+use Rattle.snl_check.specs.declared.rows.program.Program.{Program}
 use Rattle.snl_check.specs.Channels as channels
 use Rattle.snl_check.specs.Clauses.{ItemClause, told_clauses}
 use Rattle.snl_check.specs.Items.{IsCutUp, ProgramItem, program_items, outlines_of}

@@ -3,10 +3,10 @@ use Rattle.std.specs.Prelude.{◌≡◌, Bool, true, false}
 use Rattle.std.specs.List.{Contains}
 use Rattle.snl_scope.specs.declared.codes.Code.{Code}
 use Rattle.snl_scope.specs.declared.codes.Code.TheVariants.{E07, E10, E17, E18, E19, E20, E21, W01, W03, W04}
-use Rattle.snl_scope.specs.declared.summary.Outline.{Outline}
+use Rattle.snl_scope.specs.declared.summaries.summary.Outline.{Outline}
 use Rattle.snl_scope.specs.Names.{has_own_scope}
 use Rattle.snl_scope.specs.Once.{declared_tokens}
-use Rattle.snl_check.specs.declared.findings.ItemFault.{ItemFault}
+use Rattle.snl_check.specs.declared.rules.findings.ItemFault.{ItemFault}
 
 -- The codes of what is found in an item.
 abbrev pub is_item_code : Code → Bool

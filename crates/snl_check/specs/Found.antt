@@ -9,7 +9,7 @@ use Rattle.snl_walk.specs.Rules.{findings}
 use Rattle.snl_scope.specs.declared.codes.Code.{Code}
 use Rattle.snl_scope.specs.declared.codes.Code.TheVariants.{E07, E10, E17, E18, E19, E20, E21, W01, W03}
 use Rattle.snl_scope.specs.declared.facts.Fact.{Fact}
-use Rattle.snl_check.specs.declared.findings.ItemFault.{ItemFault}
+use Rattle.snl_check.specs.declared.rules.findings.ItemFault.{ItemFault}
 use Rattle.snl_check.specs.Options.{unknown_options}
 use Rattle.snl_check.specs.Outlook.{misses_by, outer_by}
 

@@ -2,9 +2,9 @@
 use Rattle.std.specs.Prelude.{◌≡◌, ℕ, Bool, true, false, ◌&&◌, if◌then◌else◌, List, nat_eq, Option, None, Some}
 use Rattle.std.specs.Map.{lookup}
 use Rattle.std.specs.Option.{option_or}
-use Rattle.snl_check.specs.declared.channel_numbers.Key.{Key}
-use Rattle.snl_check.specs.declared.channel_numbers.Which.{Which}
-use Rattle.snl_check.specs.declared.channel_numbers.Which.TheVariants as which
+use Rattle.snl_check.specs.declared.rows.channel_numbers.Key.{Key}
+use Rattle.snl_check.specs.declared.rows.channel_numbers.Which.{Which}
+use Rattle.snl_check.specs.declared.rows.channel_numbers.Which.TheVariants as which
 use Rattle.snl_check.specs.Channels.{AssignedChannel, element_number, is_element_of}
 
 abbrev pub same_which : Which → Which → Bool

@@ -5,7 +5,7 @@ use Rattle.snl_scope.specs.declared.facts.Assigned.TheVariants as assigned
 use Rattle.snl_scope.specs.declared.facts.Base.{Base}
 use Rattle.snl_scope.specs.declared.facts.Base.TheVariants as base
 use Rattle.snl_scope.specs.declared.facts.Fact.{Fact}
-use Rattle.snl_scope.specs.declared.summary.Outline.{Outline}
+use Rattle.snl_scope.specs.declared.summaries.summary.Outline.{Outline}
 use Rattle.snl_scope.specs.Linked.{fact_of, has_target}
 use Rattle.snl_scope.specs.Places.{place}
 use Rattle.snl_walk.specs.declared.outlook.Outer.{Outer}

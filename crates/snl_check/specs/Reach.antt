@@ -3,7 +3,7 @@ use Rattle.std.specs.Prelude.{◌≡◌, ◌⊎◌, ◌+◌, ◌-◌, ◌<◌, �
 use Rattle.std.specs.List.{AllAdjacentBelow, list_any}
 use Rattle.std.specs.declared.alloc.Global.{Global}
 use Rattle.snl_scope.specs.Below.{any_below}
-use Rattle.snl_check.specs.declared.reaching.Search.{Search}
+use Rattle.snl_check.specs.declared.reachability.reaching.Search.{Search}
 
 -- The targets of each state, as lists.
 abbrev pub target_lists : List (Vec ℕ Global) → List (List ℕ)

@@ -1,5 +1,5 @@
 -- The settings that the code has collected, as settings of a text.
-use Rattle.snl_check.specs.declared.option_rows.LetterSetting.{LetterSetting}
+use Rattle.snl_check.specs.declared.rows.option_rows.LetterSetting.{LetterSetting}
 use Rattle.snl_check.specs.Settings as settings
 
 abbrev pub told : LetterSetting → settings.LetterSetting

@@ -4,7 +4,7 @@ use Rattle.snl_lex.specs.declared.piece.Piece.{Piece}
 use Rattle.snl_lex.specs.declared.shift.Shift.{Shift}
 use Rattle.snl_lex.specs.Lines.{line_at}
 use Rattle.snl_lex.specs.Shift.{shifted_line, shifted_piece}
-use Rattle.snl_scope.specs.declared.summary.Outline.{Outline}
+use Rattle.snl_scope.specs.declared.summaries.summary.Outline.{Outline}
 use Rattle.snl_scope.specs.Order.{state_name}
 use Rattle.snl_scope.specs.Places.{begins_set}
 use Rattle.snl_walk.specs.Tokens.{bytes_at}

@@ -4,9 +4,9 @@ use Rattle.std.specs.List.{AllByRecursion}
 use Rattle.snl_lex.specs.declared.shift.Shift.{Shift}
 use Rattle.snl_lex.specs.Lines.{line_at}
 use Rattle.snl_lex.specs.Shift.{shifted_line}
-use Rattle.snl_scope.specs.declared.summary.ItemKind.{ItemKind}
-use Rattle.snl_scope.specs.declared.summary.ItemKind.TheVariants as kinds
-use Rattle.snl_scope.specs.declared.summary.Outline.{Outline}
+use Rattle.snl_scope.specs.declared.summaries.summary.ItemKind.{ItemKind}
+use Rattle.snl_scope.specs.declared.summaries.summary.ItemKind.TheVariants as kinds
+use Rattle.snl_scope.specs.declared.summaries.summary.Outline.{Outline}
 use Rattle.snl_scope.specs.Below.{all_below}
 use Rattle.snl_scope.specs.Order.{is_named_state}
 use Rattle.snl_scope.specs.Places.{is_set_begin, stands_in}

@@ -8,7 +8,7 @@ use Rattle.snl_walk.specs.declared.used.WakeUse.{WakeUse}
 use Rattle.snl_walk.specs.Items.{occurrences}
 use Rattle.snl_walk.specs.Tokens.{bytes_at}
 use Rattle.snl_walk.specs.Uses as uses
-use Rattle.snl_check.specs.declared.findings.Checked.{Checked}
+use Rattle.snl_check.specs.declared.rules.findings.Checked.{Checked}
 use Rattle.snl_check.specs.Items.{ProgramItem}
 
 -- In the order of the text, each use with its subscript: what can wake a state. Only a state has conditions.

@@ -19,7 +19,7 @@ ghost use Rattle.snl_check.specs.Members.{states_in};
 ghost use Rattle.snl_check.specs.Reach.{AreStates, IsReached, is_reached};
 ghost use Rattle.snl_check.specs.States.{mark_of, state_body};
 ghost use Rattle.snl_check.specs.Unreached.{IsUnreached};
-ghost use Rattle.snl_scope.specs.declared.summary.Outline.{Outline};
+ghost use Rattle.snl_scope.specs.declared.summaries.summary.Outline.{Outline};
 ghost use Rattle.snl_tables.specs.Shifted.{shifted_tables, with_body};
 ghost use Rattle.snl_tables.specs.declared.rows.StateMark.TheVariants.{Unreached};
 ghost use Rattle.snl_check.specs.Shifted.{KeepsItems, shifted_item};

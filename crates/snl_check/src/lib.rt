@@ -2,48 +2,27 @@
 //! out; and the tables of a text, from its items and their links. It knows no edits, and not how names are found.
 #![tactic(auto)]
 
-mod body;
-mod channel_names;
-mod channel_numbers;
-mod channel_rows;
-mod channels;
-mod check;
-mod conditions;
 mod fault_laws;
-mod findings;
-mod flag_rows;
-mod item_clauses;
 mod laws;
-mod listing;
-mod members;
-mod option_rows;
-mod options;
-mod outline;
-mod program;
-mod reaching;
-mod room;
-mod set_rows;
-mod state_rows;
-mod syncs;
-mod tables_of;
-mod view;
-mod wake_ups;
+mod reachability;
+mod rows;
+mod rules;
 
-pub use body::state_body;
-pub use check::check_item;
-pub use conditions::wakes_alike;
 pub use fault_laws::{faults_have_item_codes, outer_names_left_to_links};
-pub use findings::{Checked, ItemFault};
 pub use laws::{
     each_item_finding_once, equal_views, faults_stand_at_tokens, faults_stand_in_tokens,
     one_state_between, same_clauses, spans_lie_in_text, tables_shift, tables_shift_around_an_item,
     tables_shift_inside_a_state, unreached_without_a_walk, wake_up_sets, walks_of_few_steps,
 };
-pub use options::warning_setting;
-pub use reaching::reach;
+pub use reachability::reaching::reach;
+pub use rows::body::state_body;
+pub use rows::tables_of::{tables, tables_by_tokens};
+pub use rules::check::check_item;
+pub use rules::conditions::wakes_alike;
+pub use rules::findings::{Checked, ItemFault};
+pub use rules::options::warning_setting;
 pub use snl_tables::{
     ChannelRow, Destination, FlagRow, NamedState, OptionRow, Queue, ScopeName, SetRow, Span,
     StateBody, StateMark, StateRow, Synced, Tables, WakeUp,
 };
 pub use snl_walk::{TargetUse, WakeUse};
-pub use tables_of::{tables, tables_by_tokens};

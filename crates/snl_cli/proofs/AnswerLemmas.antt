@@ -1,7 +1,7 @@
 -- The pieces of an answer make the answer.
 use Rattle.std.proofs.Common.{◌≡◌, ℕ, List, [], ◌++◌, refl, sym, ap, ◌∙◌, append_assoc}
 use Rattle.std.specs.List.{flat_map}
-use Rattle.snl_session.specs.declared.findings.Diagnostic.{Diagnostic}
+use Rattle.snl_session.specs.declared.found.findings.Diagnostic.{Diagnostic}
 use Rattle.snl_session.specs.Diagnostics.{diagnostics_of, errors_of, warnings_of}
 use Rattle.snl_cli.specs.Answers.{line_text, report_of, sum_text}
 

@@ -5,7 +5,7 @@ use Rattle.std.specs.List.{concat}
 use Rattle.snl_session.specs.declared.edits.Refused.{Refused}
 use Rattle.snl_session.specs.declared.edits.Refused.TheVariants.{Range, Size, Memory}
 use Rattle.snl_session.specs.declared.edits.Work.{Work}
-use Rattle.snl_session.specs.declared.findings.Diagnostic.{Diagnostic}
+use Rattle.snl_session.specs.declared.found.findings.Diagnostic.{Diagnostic}
 use Rattle.snl_session.specs.Listing.{listing_text}
 use Rattle.snl_session.specs.Diagnostics.{diagnostics_of, errors_of, message_of, name_of, warnings_of}
 

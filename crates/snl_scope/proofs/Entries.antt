@@ -10,10 +10,10 @@ use Rattle.std.specs.Str.{bytes_eq}
 use Rattle.indexmap.specs.IndexMap.{insert_entry}
 use Rattle.indexmap.proofs.MapLemmas.{absent_from_lookup, insert_entry-absent}
 use Rattle.snl_scope.specs.declared.facts.LinkFault.{LinkFault}
-use Rattle.snl_scope.specs.declared.spaces.Key.{Key}
-use Rattle.snl_scope.specs.declared.spaces.Space.{Space}
-use Rattle.snl_scope.specs.declared.tables.Standing.{Standing}
-use Rattle.snl_scope.specs.contracts.spaces.KeyPartialEq.TheImpl as key_eq
+use Rattle.snl_scope.specs.declared.names.spaces.Key.{Key}
+use Rattle.snl_scope.specs.declared.names.spaces.Space.{Space}
+use Rattle.snl_scope.specs.declared.names.tables.Standing.{Standing}
+use Rattle.snl_scope.specs.contracts.names.spaces.KeyPartialEq.TheImpl as key_eq
 use Rattle.snl_scope.specs.Below.{all_below}
 use Rattle.snl_scope.specs.Flags.{is_first_at}
 use Rattle.snl_scope.specs.Names.{Entry, has_name, number_in, repetition, repetition_at, repetitions}

@@ -3,11 +3,11 @@ use Rattle.std.proofs.Common.{◌≡◌, ℕ, Bool, true, false, ◌&&◌, List,
 use Rattle.std.specs.Str.{bytes_eq}
 use Rattle.std.proofs.lemmas.Bool.Decides.{Decides-eqb}
 use Rattle.std.proofs.lemmas.Slice.Eq.{bytes_eq-Decides}
-use Rattle.snl_scope.specs.declared.spaces.Key.{Key}
-use Rattle.snl_scope.specs.declared.spaces.Space.{Space}
-use Rattle.snl_scope.specs.declared.spaces.Space.TheVariants as space
-use Rattle.snl_scope.specs.contracts.spaces.KeyPartialEq.TheImpl as key_eq
-use Rattle.snl_scope.specs.contracts.spaces.SpacePartialEq.TheImpl as space_eq
+use Rattle.snl_scope.specs.declared.names.spaces.Key.{Key}
+use Rattle.snl_scope.specs.declared.names.spaces.Space.{Space}
+use Rattle.snl_scope.specs.declared.names.spaces.Space.TheVariants as space
+use Rattle.snl_scope.specs.contracts.names.spaces.KeyPartialEq.TheImpl as key_eq
+use Rattle.snl_scope.specs.contracts.names.spaces.SpacePartialEq.TheImpl as space_eq
 use Rattle.snl_scope.specs.Names.{Entry, has_name, same_space}
 use Rattle.snl_scope.specs.Tables.{same_key}
 

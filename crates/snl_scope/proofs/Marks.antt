@@ -4,9 +4,9 @@ use Rattle.std.specs.Option.{option_map_or}
 use Rattle.std.proofs.lemmas.List.{get_or-set_other, get_or-set_same, length-set}
 use Rattle.std.proofs.lemmas.Option.{slice_get-get_or}
 use Rattle.std.proofs.lemmas.Bool.Decides.{Decides-eqb}
-use Rattle.snl_scope.specs.declared.heads.Head.{Head}
-use Rattle.snl_scope.specs.declared.heads.Member.TheVariants as member
-use Rattle.snl_scope.specs.declared.summary.Outline.{Outline}
+use Rattle.snl_scope.specs.declared.items.heads.Head.{Head}
+use Rattle.snl_scope.specs.declared.items.heads.Member.TheVariants as member
+use Rattle.snl_scope.specs.declared.summaries.summary.Outline.{Outline}
 use Rattle.snl_scope.specs.Below.{any_below}
 use Rattle.snl_scope.specs.Order.{has_state, is_closed, is_stateless, is_unmatched}
 use Rattle.snl_scope.specs.Places.{begins_set, ends_set, is_set_begin, item_is, place, stands_in}

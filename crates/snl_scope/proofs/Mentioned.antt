@@ -27,8 +27,8 @@ use Rattle.snl_syntax.specs.Spelling.Items.{spell_item}
 use Rattle.snl_syntax.specs.Spelling.States.{spell_state, spell_state_member}
 use Rattle.snl_syntax.specs.Spelling.Types.{spell_stars, spell_type}
 use Rattle.snl_syntax.specs.Tokens.{ahead}
-use Rattle.snl_scope.specs.declared.summary.Declared.{Declared}
-use Rattle.snl_scope.specs.declared.summary.VariableClause.{VariableClause}
+use Rattle.snl_scope.specs.declared.summaries.summary.Declared.{Declared}
+use Rattle.snl_scope.specs.declared.summaries.summary.VariableClause.{VariableClause}
 use Rattle.snl_scope.specs.Once.{TokensRise, declared_tokens, flag_tokens, tokens_of_flag, variable_tokens}
 use Rattle.snl_scope.specs.Summaries.{outline_in}
 use Rattle.snl_scope.specs.Summaries.Clauses.{clause_of, clauses_in_tree, clauses_of_member}

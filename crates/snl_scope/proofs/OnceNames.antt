@@ -5,9 +5,9 @@ use Rattle.std.specs.Option.{option_map_or, option_to_list}
 use Rattle.snl_scope.specs.declared.codes.Code.{Code}
 use Rattle.snl_scope.specs.declared.codes.Code.TheVariants.{E08, E09}
 use Rattle.snl_scope.specs.declared.facts.LinkFault.{LinkFault}
-use Rattle.snl_scope.specs.declared.spaces.Space.{Space}
-use Rattle.snl_scope.specs.declared.spaces.Space.TheVariants as space
-use Rattle.snl_scope.specs.declared.summary.Outline.{Outline}
+use Rattle.snl_scope.specs.declared.names.spaces.Space.{Space}
+use Rattle.snl_scope.specs.declared.names.spaces.Space.TheVariants as space
+use Rattle.snl_scope.specs.declared.summaries.summary.Outline.{Outline}
 use Rattle.snl_scope.specs.LinkedItems.{LinkedItems}
 use Rattle.snl_scope.specs.Names.{Entry, declared_entry, entries, entries_before, entries_of, name_faults, named_entry, number_in, repetition, repetition_at, repetitions, scope_code, scope_of, set_entries, set_name, state_entries, told_by}
 use Rattle.snl_scope.specs.Once.{TokensRise, declared_tokens}

@@ -3,14 +3,14 @@ use Rattle.std.proofs.Common.{◌≡◌, ℕ, zero, suc, Bool, true, false, ◌&
 use Rattle.std.proofs.Math.Bool.{or_comm, or-false}
 use Rattle.std.proofs.lemmas.Bool.Decides.{Decides-eqb, nat_tests}
 use Rattle.std.specs.List.{list_any}
-use Rattle.snl_scope.specs.declared.claims.Claim.{Claim}
-use Rattle.snl_scope.specs.declared.claims.Extent.{Extent}
-use Rattle.snl_scope.specs.declared.claims.Extent.TheVariants as extent
-use Rattle.snl_scope.specs.declared.claims.Purpose.{Purpose}
-use Rattle.snl_scope.specs.declared.summary.ClauseKind.{ClauseKind}
-use Rattle.snl_scope.specs.declared.summary.ClauseKind.TheVariants as kind
-use Rattle.snl_scope.specs.declared.summary.Coverage.{Coverage}
-use Rattle.snl_scope.specs.declared.summary.Coverage.TheVariants as coverage
+use Rattle.snl_scope.specs.declared.clauses.claims.Claim.{Claim}
+use Rattle.snl_scope.specs.declared.clauses.claims.Extent.{Extent}
+use Rattle.snl_scope.specs.declared.clauses.claims.Extent.TheVariants as extent
+use Rattle.snl_scope.specs.declared.clauses.claims.Purpose.{Purpose}
+use Rattle.snl_scope.specs.declared.summaries.summary.ClauseKind.{ClauseKind}
+use Rattle.snl_scope.specs.declared.summaries.summary.ClauseKind.TheVariants as kind
+use Rattle.snl_scope.specs.declared.summaries.summary.Coverage.{Coverage}
+use Rattle.snl_scope.specs.declared.summaries.summary.Coverage.TheVariants as coverage
 use Rattle.snl_scope.specs.Below.{any_below}
 use Rattle.snl_scope.specs.Claims.{Adds, Claimed, claims, has_claim, makes, overlaps_claims, purpose_of, same_claim, same_extent, same_purpose, sound_among}
 use Rattle.snl_scope.specs.Clauses.{LinkedClause, clash, overlaps, same_kind, same_number}

@@ -8,9 +8,9 @@ use Rattle.snl_lex.specs.declared.piece.Class.{Class}
 use Rattle.snl_lex.specs.declared.piece.Piece.{Piece}
 use Rattle.snl_lex.specs.PieceList.{spelled, spelling}
 use Rattle.snl_syntax.specs.declared.tree.item.Item.{Item}
-use Rattle.snl_scope.specs.declared.summary.Mention.{Mention}
-use Rattle.snl_scope.specs.declared.summary.Opening.{Opening}
-use Rattle.snl_scope.specs.declared.summary.Opening.TheVariants as openings
+use Rattle.snl_scope.specs.declared.summaries.summary.Mention.{Mention}
+use Rattle.snl_scope.specs.declared.summaries.summary.Opening.{Opening}
+use Rattle.snl_scope.specs.declared.summaries.summary.Opening.TheVariants as openings
 use Rattle.snl_scope.specs.SpelledTokens.{bytes_by, bytes_if_spelled, pieces_from, summary_by, text_of}
 use Rattle.snl_scope.specs.Summaries.{kind_of, name_by, name_if, occurrences_in, opening_by, opening_if, opening_in, outline_in, role_in, role_of, second_in, summary_in}
 use Rattle.snl_scope.specs.Summaries.Tokens.{mention_at}

@@ -2,16 +2,16 @@
 use Rattle.std.proofs.Common.{◌≡◌, ℕ, Bool, true, false, ◌&&◌, ◌||◌, List, Option, None, Some, is_some, [], refl, sym, ap, ◌∙◌}
 use Rattle.std.proofs.Math.Bool.{and_assoc}
 use Rattle.std.specs.List.{list_any, position, zip}
-use Rattle.snl_scope.specs.declared.claims.Claim.{Claim}
-use Rattle.snl_scope.specs.declared.claims.Extent.{Extent}
-use Rattle.snl_scope.specs.declared.claims.Extent.TheVariants as extent
-use Rattle.snl_scope.specs.declared.claims.Purpose.{Purpose}
-use Rattle.snl_scope.specs.declared.claims.Purpose.TheVariants as purpose
-use Rattle.snl_scope.specs.declared.summary.ClauseKind.{ClauseKind}
-use Rattle.snl_scope.specs.declared.summary.ClauseKind.TheVariants as kind
-use Rattle.snl_scope.specs.declared.summary.Coverage.{Coverage}
-use Rattle.snl_scope.specs.declared.summary.Coverage.TheVariants as coverage
-use Rattle.snl_scope.specs.declared.summary.Outline.{Outline}
+use Rattle.snl_scope.specs.declared.clauses.claims.Claim.{Claim}
+use Rattle.snl_scope.specs.declared.clauses.claims.Extent.{Extent}
+use Rattle.snl_scope.specs.declared.clauses.claims.Extent.TheVariants as extent
+use Rattle.snl_scope.specs.declared.clauses.claims.Purpose.{Purpose}
+use Rattle.snl_scope.specs.declared.clauses.claims.Purpose.TheVariants as purpose
+use Rattle.snl_scope.specs.declared.summaries.summary.ClauseKind.{ClauseKind}
+use Rattle.snl_scope.specs.declared.summaries.summary.ClauseKind.TheVariants as kind
+use Rattle.snl_scope.specs.declared.summaries.summary.Coverage.{Coverage}
+use Rattle.snl_scope.specs.declared.summaries.summary.Coverage.TheVariants as coverage
+use Rattle.snl_scope.specs.declared.summaries.summary.Outline.{Outline}
 use Rattle.snl_scope.specs.Channels.{is_monitor, is_monitored, is_sync, speaks_of, speaks_on, sync_number}
 use Rattle.snl_scope.specs.Claims.{Claimed, claim_number, claims, first_clause, lesser, makes, purpose_of, same_purpose, sound_among}
 use Rattle.snl_scope.specs.Clauses.{LinkedClause, clauses_of, same_number, soundness}

@@ -9,10 +9,10 @@ use Rattle.snl_scope.specs.declared.facts.Base.TheVariants as base
 use Rattle.snl_scope.specs.declared.facts.Fact.{Fact}
 use Rattle.snl_scope.specs.declared.facts.Level.{Level}
 use Rattle.snl_scope.specs.declared.facts.Level.TheVariants as level
-use Rattle.snl_scope.specs.declared.summary.Dims.{Dims}
-use Rattle.snl_scope.specs.declared.summary.Dims.TheVariants as dims
-use Rattle.snl_scope.specs.declared.summary.Outline.{Outline}
-use Rattle.snl_scope.specs.declared.summary.Summary.{Summary}
+use Rattle.snl_scope.specs.declared.summaries.summary.Dims.{Dims}
+use Rattle.snl_scope.specs.declared.summaries.summary.Dims.TheVariants as dims
+use Rattle.snl_scope.specs.declared.summaries.summary.Outline.{Outline}
+use Rattle.snl_scope.specs.declared.summaries.summary.Summary.{Summary}
 use Rattle.snl_scope.specs.Linked.{fact_of, has_target}
 use Rattle.snl_scope.specs.Places.{place}
 use Rattle.snl_scope.specs.View.{same_assigned, same_base, same_bool, same_dims, same_facts, same_known, same_level, same_view, view}

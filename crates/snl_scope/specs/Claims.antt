@@ -2,15 +2,15 @@
 use Rattle.std.specs.Prelude.{◌≡◌, ℕ, Bool, true, false, ◌&&◌, ◌||◌, if◌then◌else◌, List, filter, map, nat_eq, nat_lt, Option, None, Some, is_some, position}
 use Rattle.std.specs.Map.{lookup}
 use Rattle.std.specs.Option.{option_or}
-use Rattle.snl_scope.specs.declared.claims.Claim.{Claim}
-use Rattle.snl_scope.specs.declared.claims.Extent.{Extent}
-use Rattle.snl_scope.specs.declared.claims.Extent.TheVariants as extent
-use Rattle.snl_scope.specs.declared.claims.Purpose.{Purpose}
-use Rattle.snl_scope.specs.declared.claims.Purpose.TheVariants as purpose
-use Rattle.snl_scope.specs.declared.summary.ClauseKind.{ClauseKind}
-use Rattle.snl_scope.specs.declared.summary.ClauseKind.TheVariants as kind
-use Rattle.snl_scope.specs.declared.summary.Coverage.{Coverage}
-use Rattle.snl_scope.specs.declared.summary.Coverage.TheVariants as coverage
+use Rattle.snl_scope.specs.declared.clauses.claims.Claim.{Claim}
+use Rattle.snl_scope.specs.declared.clauses.claims.Extent.{Extent}
+use Rattle.snl_scope.specs.declared.clauses.claims.Extent.TheVariants as extent
+use Rattle.snl_scope.specs.declared.clauses.claims.Purpose.{Purpose}
+use Rattle.snl_scope.specs.declared.clauses.claims.Purpose.TheVariants as purpose
+use Rattle.snl_scope.specs.declared.summaries.summary.ClauseKind.{ClauseKind}
+use Rattle.snl_scope.specs.declared.summaries.summary.ClauseKind.TheVariants as kind
+use Rattle.snl_scope.specs.declared.summaries.summary.Coverage.{Coverage}
+use Rattle.snl_scope.specs.declared.summaries.summary.Coverage.TheVariants as coverage
 use Rattle.snl_scope.specs.Below.{any_below}
 use Rattle.snl_scope.specs.Clauses.{LinkedClause, same_number}
 

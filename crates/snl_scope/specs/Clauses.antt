@@ -8,19 +8,19 @@ use Rattle.snl_scope.specs.declared.facts.Assigned.{Assigned}
 use Rattle.snl_scope.specs.declared.facts.Assigned.TheVariants as assigned
 use Rattle.snl_scope.specs.declared.facts.ClauseLink.{ClauseLink}
 use Rattle.snl_scope.specs.declared.facts.LinkFault.{LinkFault}
-use Rattle.snl_scope.specs.declared.spaces.Space.TheVariants as space
-use Rattle.snl_scope.specs.declared.summary.ClauseKind.{ClauseKind}
-use Rattle.snl_scope.specs.declared.summary.ClauseKind.TheVariants as kind
-use Rattle.snl_scope.specs.declared.summary.Coverage.{Coverage}
-use Rattle.snl_scope.specs.declared.summary.Coverage.TheVariants as coverage
-use Rattle.snl_scope.specs.declared.summary.Dims.{Dims}
-use Rattle.snl_scope.specs.declared.summary.Dims.TheVariants as dims
-use Rattle.snl_scope.specs.declared.summary.Mention.{Mention}
-use Rattle.snl_scope.specs.declared.summary.Nature.{Nature}
-use Rattle.snl_scope.specs.declared.summary.Nature.TheVariants as nature
-use Rattle.snl_scope.specs.declared.summary.Outline.{Outline}
-use Rattle.snl_scope.specs.declared.summary.Variable.{Variable}
-use Rattle.snl_scope.specs.declared.summary.VariableClause.{VariableClause}
+use Rattle.snl_scope.specs.declared.names.spaces.Space.TheVariants as space
+use Rattle.snl_scope.specs.declared.summaries.summary.ClauseKind.{ClauseKind}
+use Rattle.snl_scope.specs.declared.summaries.summary.ClauseKind.TheVariants as kind
+use Rattle.snl_scope.specs.declared.summaries.summary.Coverage.{Coverage}
+use Rattle.snl_scope.specs.declared.summaries.summary.Coverage.TheVariants as coverage
+use Rattle.snl_scope.specs.declared.summaries.summary.Dims.{Dims}
+use Rattle.snl_scope.specs.declared.summaries.summary.Dims.TheVariants as dims
+use Rattle.snl_scope.specs.declared.summaries.summary.Mention.{Mention}
+use Rattle.snl_scope.specs.declared.summaries.summary.Nature.{Nature}
+use Rattle.snl_scope.specs.declared.summaries.summary.Nature.TheVariants as nature
+use Rattle.snl_scope.specs.declared.summaries.summary.Outline.{Outline}
+use Rattle.snl_scope.specs.declared.summaries.summary.Variable.{Variable}
+use Rattle.snl_scope.specs.declared.summaries.summary.VariableClause.{VariableClause}
 use Rattle.snl_scope.specs.Codes.{is_error}
 use Rattle.snl_scope.specs.Names.{Entry, entries, number_in, resolve}
 use Rattle.snl_scope.specs.Places.{place}

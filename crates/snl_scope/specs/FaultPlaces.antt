@@ -4,7 +4,7 @@ use Rattle.std.specs.List.{AllByRecursion, Contains}
 use Rattle.snl_scope.specs.declared.codes.Code.{Code}
 use Rattle.snl_scope.specs.declared.codes.Code.TheVariants.{E03, E04, E05, E06, E07, E08, E09, E11, E12, E13, E14, E15, E16, E22, W05}
 use Rattle.snl_scope.specs.declared.facts.LinkFault.{LinkFault}
-use Rattle.snl_scope.specs.declared.summary.Outline.{Outline}
+use Rattle.snl_scope.specs.declared.summaries.summary.Outline.{Outline}
 use Rattle.snl_scope.specs.Names.{has_own_scope}
 use Rattle.snl_scope.specs.Once.{declared_tokens, flag_tokens, variable_tokens}
 use Rattle.snl_scope.specs.Order.{is_program_word, is_ss_word}

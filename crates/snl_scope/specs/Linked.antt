@@ -11,12 +11,12 @@ use Rattle.snl_scope.specs.declared.facts.Level.TheVariants as level
 use Rattle.snl_scope.specs.declared.facts.LinkFault.{LinkFault}
 use Rattle.snl_scope.specs.declared.facts.Scope.{Scope}
 use Rattle.snl_scope.specs.declared.facts.Scope.TheVariants as scope
-use Rattle.snl_scope.specs.declared.spaces.Space.{Space}
-use Rattle.snl_scope.specs.declared.spaces.Space.TheVariants as space
-use Rattle.snl_scope.specs.declared.summary.Nature.{Nature}
-use Rattle.snl_scope.specs.declared.summary.Nature.TheVariants as nature
-use Rattle.snl_scope.specs.declared.summary.Outline.{Outline}
-use Rattle.snl_scope.specs.declared.summary.Variable.{Variable}
+use Rattle.snl_scope.specs.declared.names.spaces.Space.{Space}
+use Rattle.snl_scope.specs.declared.names.spaces.Space.TheVariants as space
+use Rattle.snl_scope.specs.declared.summaries.summary.Nature.{Nature}
+use Rattle.snl_scope.specs.declared.summaries.summary.Nature.TheVariants as nature
+use Rattle.snl_scope.specs.declared.summaries.summary.Outline.{Outline}
+use Rattle.snl_scope.specs.declared.summaries.summary.Variable.{Variable}
 use Rattle.snl_scope.specs.Clauses.{assigned_by, clause_faults, clauses_of}
 use Rattle.snl_scope.specs.LinkedItems.{LinkedItems}
 use Rattle.snl_scope.specs.Names.{Entry, entries, number_in, name_faults, resolve}

@@ -4,14 +4,14 @@ use Rattle.std.specs.Option.{option_map_or, option_or}
 use Rattle.snl_scope.specs.declared.codes.Code.{Code}
 use Rattle.snl_scope.specs.declared.codes.Code.TheVariants.{E07, E08, E09}
 use Rattle.snl_scope.specs.declared.facts.LinkFault.{LinkFault}
-use Rattle.snl_scope.specs.declared.spaces.Space.{Space}
-use Rattle.snl_scope.specs.declared.spaces.Space.TheVariants as space
-use Rattle.snl_scope.specs.declared.summary.Declared.{Declared}
-use Rattle.snl_scope.specs.declared.summary.ItemKind.{ItemKind}
-use Rattle.snl_scope.specs.declared.summary.Outline.{Outline}
-use Rattle.snl_scope.specs.declared.summary.Role.{Role}
-use Rattle.snl_scope.specs.declared.summary.Role.TheVariants as role
-use Rattle.snl_scope.specs.declared.summary.Variable.{Variable}
+use Rattle.snl_scope.specs.declared.names.spaces.Space.{Space}
+use Rattle.snl_scope.specs.declared.names.spaces.Space.TheVariants as space
+use Rattle.snl_scope.specs.declared.summaries.summary.Declared.{Declared}
+use Rattle.snl_scope.specs.declared.summaries.summary.ItemKind.{ItemKind}
+use Rattle.snl_scope.specs.declared.summaries.summary.Outline.{Outline}
+use Rattle.snl_scope.specs.declared.summaries.summary.Role.{Role}
+use Rattle.snl_scope.specs.declared.summaries.summary.Role.TheVariants as role
+use Rattle.snl_scope.specs.declared.summaries.summary.Variable.{Variable}
 use Rattle.snl_scope.specs.LinkedItems.{LinkedItems}
 use Rattle.snl_scope.specs.Order.{is_faulty, state_name}
 use Rattle.snl_scope.specs.Places.{begins_set, place}

@@ -2,7 +2,7 @@
 use Rattle.std.specs.Prelude.{◌≡◌, ℕ, if◌then◌else◌, List, [], ◌∷◌, nat_eq, Option, None, Some}
 use Rattle.std.specs.Map.{lookup}
 use Rattle.snl_scope.specs.declared.facts.Assigned.{Assigned}
-use Rattle.snl_scope.specs.declared.resolved.Resolved.{Resolved}
+use Rattle.snl_scope.specs.declared.clauses.resolved.Resolved.{Resolved}
 use Rattle.snl_scope.specs.Clauses.{LinkedClause, assigned_as, assigns}
 
 -- A clause that is resolved.

@@ -4,7 +4,7 @@ use Rattle.std.specs.List.{concat}
 use Rattle.snl_lex.specs.declared.piece.Class.{Class}
 use Rattle.snl_lex.specs.declared.piece.Piece.{Piece}
 use Rattle.snl_syntax.specs.declared.tree.item.Item.{Item}
-use Rattle.snl_scope.specs.declared.summary.Summary.{Summary}
+use Rattle.snl_scope.specs.declared.summaries.summary.Summary.{Summary}
 use Rattle.snl_scope.specs.Summaries.{summary_in}
 
 abbrev pub bytes_if_spelled : Option (Class × List ℕ) → List ℕ

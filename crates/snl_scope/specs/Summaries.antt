@@ -6,14 +6,14 @@ use Rattle.snl_lex.specs.declared.piece.Class.TheVariants as class
 use Rattle.snl_lex.specs.declared.piece.Piece.{Piece}
 use Rattle.snl_syntax.specs.declared.tree.item.Item.{Item}
 use Rattle.snl_syntax.specs.declared.tree.item.Item.TheVariants as items
-use Rattle.snl_scope.specs.declared.summary.ItemKind.{ItemKind}
-use Rattle.snl_scope.specs.declared.summary.ItemKind.TheVariants as kinds
-use Rattle.snl_scope.specs.declared.summary.Opening.{Opening}
-use Rattle.snl_scope.specs.declared.summary.Opening.TheVariants as openings
-use Rattle.snl_scope.specs.declared.summary.Outline.{Outline}
-use Rattle.snl_scope.specs.declared.summary.Role.{Role}
-use Rattle.snl_scope.specs.declared.summary.Role.TheVariants as roles
-use Rattle.snl_scope.specs.declared.summary.Summary.{Summary}
+use Rattle.snl_scope.specs.declared.summaries.summary.ItemKind.{ItemKind}
+use Rattle.snl_scope.specs.declared.summaries.summary.ItemKind.TheVariants as kinds
+use Rattle.snl_scope.specs.declared.summaries.summary.Opening.{Opening}
+use Rattle.snl_scope.specs.declared.summaries.summary.Opening.TheVariants as openings
+use Rattle.snl_scope.specs.declared.summaries.summary.Outline.{Outline}
+use Rattle.snl_scope.specs.declared.summaries.summary.Role.{Role}
+use Rattle.snl_scope.specs.declared.summaries.summary.Role.TheVariants as roles
+use Rattle.snl_scope.specs.declared.summaries.summary.Summary.{Summary}
 use Rattle.snl_scope.specs.Summaries.Clauses.{clauses_in}
 use Rattle.snl_scope.specs.Summaries.Declares.{declared_in}
 use Rattle.snl_scope.specs.Summaries.Tokens.{mention_at}

@@ -3,17 +3,17 @@ use Rattle.std.specs.Prelude.{◌≡◌, ℕ, zero, suc, ◌<◌, ◌≤◌, Boo
 use Rattle.std.specs.Map.{lookup}
 use Rattle.std.specs.Option.{option_map_or}
 use Rattle.snl_scope.specs.declared.facts.LinkFault.{LinkFault}
-use Rattle.snl_scope.specs.declared.heads.Head.{Head}
-use Rattle.snl_scope.specs.declared.phases.Before.{Before}
-use Rattle.snl_scope.specs.declared.heads.Member.{Member}
-use Rattle.snl_scope.specs.declared.heads.Member.TheVariants as member
-use Rattle.snl_scope.specs.declared.spaces.Key.{Key}
-use Rattle.snl_scope.specs.declared.spaces.Space.{Space}
-use Rattle.snl_scope.specs.declared.summary.ItemKind.{ItemKind}
-use Rattle.snl_scope.specs.declared.summary.Opening.{Opening}
-use Rattle.snl_scope.specs.declared.summary.Outline.{Outline}
-use Rattle.snl_scope.specs.declared.tables.Named.{Named}
-use Rattle.snl_scope.specs.declared.tables.Standing.{Standing}
+use Rattle.snl_scope.specs.declared.items.heads.Head.{Head}
+use Rattle.snl_scope.specs.declared.items.phases.Before.{Before}
+use Rattle.snl_scope.specs.declared.items.heads.Member.{Member}
+use Rattle.snl_scope.specs.declared.items.heads.Member.TheVariants as member
+use Rattle.snl_scope.specs.declared.names.spaces.Key.{Key}
+use Rattle.snl_scope.specs.declared.names.spaces.Space.{Space}
+use Rattle.snl_scope.specs.declared.summaries.summary.ItemKind.{ItemKind}
+use Rattle.snl_scope.specs.declared.summaries.summary.Opening.{Opening}
+use Rattle.snl_scope.specs.declared.summaries.summary.Outline.{Outline}
+use Rattle.snl_scope.specs.declared.names.tables.Named.{Named}
+use Rattle.snl_scope.specs.declared.names.tables.Standing.{Standing}
 use Rattle.snl_scope.specs.Below.{all_below, any_below}
 use Rattle.snl_scope.specs.Flags.{declares_flag, is_first_at}
 use Rattle.snl_scope.specs.LinkedItems.{LinkedItems}

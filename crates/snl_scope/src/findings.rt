@@ -7,9 +7,9 @@ ghost use Rattle.snl_scope.specs.Linked.{faults_of};
 ghost use Rattle.snl_scope.specs.Names.{entries, repetitions, told_by};
 
 use crate::facts::LinkFault;
-use crate::order::{add_order_faults, is_faulty};
-use crate::scopes::Scopes;
-use crate::summary::ItemKind;
+use crate::items::order::{add_order_faults, is_faulty};
+use crate::names::scopes::Scopes;
+use crate::summaries::summary::ItemKind;
 use snl_cut::OutOfMemory;
 use std::alloc::Global;
 

@@ -5,16 +5,16 @@ ghost use Rattle.std.specs.Prelude.{◌≡◌, map, IfOk, option_and_then, optio
 ghost use Rattle.snl_scope.specs.Linked.{base_of, entry_fact, level_of, scope_in, variable_declaration, variable_fact};
 ghost use Rattle.snl_scope.specs.LinkedItems.{linked_items};
 
-use crate::claims::{Claims, Purpose};
+use crate::clauses::claims::{Claims, Purpose};
+use crate::clauses::flags::flag_number;
 use crate::facts::{Assigned, Base, ClauseLink, Declaration, Fact, Level, LinkFault, Scope};
 use crate::findings::all_faults;
-use crate::flags::flag_number;
-use crate::linked_items::{kinds_of, outlines_of};
+use crate::items::linked_items::{kinds_of, outlines_of};
 use crate::linking::{LinkedClauses, LinkedNames, linked_clauses, linked_names};
-use crate::scopes::Scopes;
-use crate::spaces::Space;
-use crate::summary::{ItemKind, Nature, Summary};
-use crate::tables::Standing;
+use crate::names::scopes::Scopes;
+use crate::names::spaces::Space;
+use crate::names::tables::Standing;
+use crate::summaries::summary::{ItemKind, Nature, Summary};
 use indexmap::IndexMap;
 use snl_cut::OutOfMemory;
 use std::alloc::Global;

@@ -1,64 +1,7 @@
-//! Names with numbers, in the order in which they came first.
+//! What a name means: the first declaration in the nearest scope that declares it.
 
-ghost use Rattle.std.specs.Prelude.{◌≡◌, [], OnOk, IfOk, Some, bytes_eq, position};
-ghost use Rattle.snl_scope.specs.Tables.{with_name};
-
-use indexmap::IndexSet;
-use snl_cut::OutOfMemory;
-use std::alloc::Global;
-use std::marker::Model;
-
-// The bytes of a name, in a buffer of their own.
-fn copied(alloc: Global, name: &[u8]) -> Result<Vec<u8>, OutOfMemory>
-    ensures { IfOk result (λ v. v.items ≡ name.now) }
-{
-    match Vec::from_slice(alloc, name) {
-        Ok(held) => Ok(held),
-        Err(_) => Err(OutOfMemory),
-    }
-}
-
-/// Different names, which contracts see as their list. The number of a name is its place in it.
-#[derive(Drop)]
-pub(crate) struct Names {
-    held: IndexSet<Vec<u8>>,
-}
-
-impl Model for Names {
-    ghost use Rattle.std.specs.Prelude.{ℕ, List, map};
-
-    ghost Value = { List (List ℕ) };
-
-    ghost view = { λ a. map (λ k. k.items) a.held.keys };
-}
-
-impl Names {
-    pub(crate) fn new(alloc: Global) -> Names
-        ensures { result ≡ [] }
-    {
-        Names {
-            held: IndexSet::new(alloc),
-        }
-    }
-
-    pub(crate) fn number(&self, name: &[u8]) -> Option<usize>
-        ensures { result ≡ position (bytes_eq name.now) self.now }
-    {
-        self.held.get_index_of(name)
-    }
-
-    /// The number of a name, which is taken in if it is new.
-    pub(crate) fn add(&mut self, alloc: Global, name: &[u8]) -> Result<usize, OutOfMemory>
-        ensures names { OnOk result (self.new ≡ with_name self.old name.now) }
-        ensures number { IfOk result (λ n. position (bytes_eq name.now) self.new ≡ Some n) }
-    {
-        match self.held.get_index_of(name) {
-            Some(number) => Ok(number),
-            None => {
-                let number = self.held.len();
-                self.held.insert(copied(alloc, name)?)?;
-                Ok(number)
-            }
-        }
-    }
-}
+pub(crate) mod name_set;
+pub(crate) mod origin;
+pub(crate) mod scopes;
+pub(crate) mod spaces;
+pub(crate) mod tables;

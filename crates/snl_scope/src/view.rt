@@ -4,14 +4,14 @@
 ghost use Rattle.std.specs.Prelude.{◌≡◌, ◌↔◌, IsTrue, List, ℕ};
 ghost use Rattle.std.specs.List.{list_all};
 ghost use Rattle.snl_scope.specs.Linked.{fact_of, has_target};
-ghost use Rattle.snl_scope.specs.declared.summary.Outline.{Outline};
-ghost use Rattle.snl_scope.specs.declared.summary.Summary.{Summary};
+ghost use Rattle.snl_scope.specs.declared.summaries.summary.Outline.{Outline};
+ghost use Rattle.snl_scope.specs.declared.summaries.summary.Summary.{Summary};
 ghost use Rattle.snl_scope.specs.View.{same_assigned, same_base, same_bool, same_dims, same_facts, same_known, same_level, same_view, view};
 
 use crate::facts::{Assigned, Base, Fact, Level};
 use crate::links::Links;
-use crate::name::Name;
-use crate::summary::{Dims, Mention, Summary};
+use crate::summaries::name::Name;
+use crate::summaries::summary::{Dims, Mention, Summary};
 
 fn is_same(one: bool, other: bool) -> bool
     ensures { result ≡ same_bool one other }

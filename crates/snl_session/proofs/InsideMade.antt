@@ -16,25 +16,25 @@ use Rattle.snl_scope.specs.Order.{state_name}
 use Rattle.snl_scope.specs.SpelledTokens.{bytes_by, summary_by}
 use Rattle.snl_scope.specs.Summaries.{summary_in}
 use Rattle.snl_scope.specs.Summaries.Tokens.{bytes_at}
-use Rattle.snl_scope.specs.declared.summary.Outline.{Outline}
-use Rattle.snl_scope.specs.declared.summary.Summary.{Summary}
+use Rattle.snl_scope.specs.declared.summaries.summary.Outline.{Outline}
+use Rattle.snl_scope.specs.declared.summaries.summary.Summary.{Summary}
 use Rattle.snl_tables.specs.declared.rows.Tables.{Tables}
 use Rattle.snl_tables.specs.Shifted.{shifted_tables, with_body}
-use Rattle.snl_check.specs.declared.findings.Checked.{Checked}
+use Rattle.snl_check.specs.declared.rules.findings.Checked.{Checked}
 use Rattle.snl_check.specs.Items.{outlines_of}
 use Rattle.snl_check.specs.ShiftedAround.{SaysAlike, set_number, state_number, wakes_of}
 use Rattle.snl_check.specs.States.{state_body}
 use Rattle.snl_session.specs.declared.entries.Entry.{Entry}
-use Rattle.snl_session.specs.declared.findings.Diagnostic.{Diagnostic}
-use Rattle.snl_session.specs.declared.findings.Finding.{Finding}
-use Rattle.snl_session.specs.declared.inside.Was.{Was}
-use Rattle.snl_session.specs.declared.one_item.OwnTokens.{OwnTokens}
-use Rattle.snl_session.specs.declared.plan.Changes.{Changes}
+use Rattle.snl_session.specs.declared.found.findings.Diagnostic.{Diagnostic}
+use Rattle.snl_session.specs.declared.found.findings.Finding.{Finding}
+use Rattle.snl_session.specs.declared.ways.inside.Was.{Was}
+use Rattle.snl_session.specs.declared.ways.one_item.OwnTokens.{OwnTokens}
+use Rattle.snl_session.specs.declared.ways.plan.Changes.{Changes}
 use Rattle.snl_session.specs.Checks.{check_by, checks_from, checks_of, outlines_in}
 use Rattle.snl_session.specs.Diagnostics.{diagnostic, diagnostics_of, shown_if}
 use Rattle.snl_session.specs.Entries.{entries_of, entry_by}
 use Rattle.snl_session.specs.Inside.{AreOwnTokens, FitsRow, IsAfterInside, IsOneItem, IsStateAlike, IsWas, SaysWhatItSaid, diagnostics_by, outlines_kept, own_item, wakes_told}
-use Rattle.snl_session.specs.OneState.{IsInside, own_findings, own_head, own_shown, own_tokens}
+use Rattle.snl_session.specs.ReplacedItem.{IsInside, own_findings, own_head, own_shown, own_tokens}
 use Rattle.snl_session.specs.OwnFindings.{found_around}
 use Rattle.snl_session.specs.OwnRows.{row_told, with_row}
 use Rattle.snl_session.specs.Planned.{AreEntriesMade, IsChanged}

@@ -9,8 +9,8 @@ use Rattle.snl_scope.specs.Order.{is_faulty}
 use Rattle.snl_scope.specs.SpelledTokens.{bytes_by, summary_by}
 use Rattle.snl_scope.specs.Summaries.{kind_of, kind_of_tree, summary_in}
 use Rattle.snl_scope.specs.Summaries.Tokens.{bytes_at}
-use Rattle.snl_scope.specs.declared.summary.Outline.{Outline}
-use Rattle.snl_check.specs.declared.findings.Checked.{Checked}
+use Rattle.snl_scope.specs.declared.summaries.summary.Outline.{Outline}
+use Rattle.snl_check.specs.declared.rules.findings.Checked.{Checked}
 use Rattle.snl_check.specs.Items.{summary_of_item}
 use Rattle.snl_check.specs.ShiftedAround.{used_by, wakes_of}
 use Rattle.snl_check.specs.Told.{Told, told_in_item, told_kept}

@@ -8,15 +8,15 @@ use Rattle.snl_lex.specs.PieceList.{spelled}
 use Rattle.snl_syntax.specs.Outcome.{parsed_by, sound_tree}
 use Rattle.snl_syntax.specs.declared.tree.item.Item.{Item}
 use Rattle.snl_scope.specs.declared.facts.Fact.{Fact}
-use Rattle.snl_scope.specs.declared.summary.Mention.{Mention}
-use Rattle.snl_scope.specs.declared.summary.Outline.{Outline}
-use Rattle.snl_scope.specs.declared.summary.Summary.{Summary}
+use Rattle.snl_scope.specs.declared.summaries.summary.Mention.{Mention}
+use Rattle.snl_scope.specs.declared.summaries.summary.Outline.{Outline}
+use Rattle.snl_scope.specs.declared.summaries.summary.Summary.{Summary}
 use Rattle.snl_scope.specs.Linked.{fact_of, has_target}
 use Rattle.snl_scope.specs.SpelledTokens.{bytes_by, pieces_from, summary_by, text_of}
 use Rattle.snl_scope.specs.Summaries.Tokens.{bytes_at}
 use Rattle.snl_scope.specs.View.{same_view, view}
-use Rattle.snl_check.specs.declared.findings.Checked.{Checked}
-use Rattle.snl_check.specs.declared.findings.ItemFault.{ItemFault}
+use Rattle.snl_check.specs.declared.rules.findings.Checked.{Checked}
+use Rattle.snl_check.specs.declared.rules.findings.ItemFault.{ItemFault}
 use Rattle.snl_check.specs.Alike.{Agree, SameTokens, target_names, used_names}
 use Rattle.snl_check.specs.Found.{faults_in}
 use Rattle.snl_check.specs.Outlook.{is_in_set, known_of, leads_to}

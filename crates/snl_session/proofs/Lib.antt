@@ -34,9 +34,9 @@ pub mod ShiftedOrder
 pub mod ShiftedText
 pub mod Sorting
 pub mod SpelledItems
-pub mod StateChecks
-pub mod StateItems
-pub mod StateParts
+pub mod InsideChecks
+pub mod InsideItems
+pub mod InsideParts
 pub mod Steps
 pub mod Stirs
 pub mod TextSpans

@@ -8,8 +8,8 @@ use Rattle.snl_items.specs.declared.tokens.TokenEdit.{TokenEdit}
 use Rattle.snl_items.specs.Fresh.{fresh_items_between, token_edit_between}
 use Rattle.snl_items.specs.Items.{item_ends, spelled_items, spellings}
 use Rattle.snl_scope.specs.View.{same_view}
-use Rattle.snl_scope.specs.declared.summary.Outline.{Outline}
-use Rattle.snl_check.specs.declared.findings.Checked.{Checked}
+use Rattle.snl_scope.specs.declared.summaries.summary.Outline.{Outline}
+use Rattle.snl_check.specs.declared.rules.findings.Checked.{Checked}
 use Rattle.snl_session.specs.Checks.{check_by, checks_from, checks_of, outlines_in}
 use Rattle.snl_session.specs.Entries.{entries_of, entry_by}
 use Rattle.snl_session.specs.Rechecked.{AreChecksMade, kept_of, made_checks, made_for, nones, number_before, put}

@@ -7,7 +7,7 @@ use Rattle.snl_lex.specs.declared.piece.Piece.{Piece}
 use Rattle.snl_lex.specs.Pieces.{LiesIn}
 use Rattle.snl_scope.specs.declared.codes.Code.{Code}
 use Rattle.snl_scope.specs.Summaries.Tokens.{bytes_at, bytes_if}
-use Rattle.snl_check.specs.declared.findings.ItemFault.{ItemFault}
+use Rattle.snl_check.specs.declared.rules.findings.ItemFault.{ItemFault}
 use Rattle.snl_check.specs.Found.{StandsIn}
 use Rattle.snl_session.specs.Checked.{HasOffset, at_own_token}
 use Rattle.snl_session.specs.Linked.{finding_at}

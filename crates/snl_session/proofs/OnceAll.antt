@@ -7,7 +7,7 @@ use Rattle.snl_scope.specs.FaultPlaces.{is_link_code}
 use Rattle.snl_scope.specs.Once.{AreFoundOnce}
 use Rattle.snl_scope.specs.Linked as links
 use Rattle.snl_check.specs.FaultCodes.{is_item_code}
-use Rattle.snl_session.specs.declared.findings.Finding.{Finding}
+use Rattle.snl_session.specs.declared.found.findings.Finding.{Finding}
 use Rattle.snl_session.specs.Checked.{checked_faults}
 use Rattle.snl_session.specs.Faults.{faults_of}
 use Rattle.snl_session.specs.Linked.{linked_faults, linked_of}

@@ -13,7 +13,7 @@ use Rattle.snl_syntax.specs.Reading.Items.{item_of}
 use Rattle.snl_scope.specs.declared.codes.Code.{Code}
 use Rattle.snl_scope.specs.declared.codes.Code.TheVariants.{E01, E02, E03, E04, E05, E06, E07, E08, E09, E10, E11, E12, E13, E14, E15, E16, E17, E18, E19, E20, E21, E22, W01, W02, W03, W04, W05}
 use Rattle.snl_scope.specs.declared.facts.LinkFault.{LinkFault}
-use Rattle.snl_scope.specs.declared.summary.Outline.{Outline}
+use Rattle.snl_scope.specs.declared.summaries.summary.Outline.{Outline}
 use Rattle.snl_scope.specs.FaultPlaces.{IsAtItem, IsMissing, IsPlaced, IsPlacedBy, SpeaksOfTokens, is_link_code}
 use Rattle.snl_scope.specs.Linked as links
 use Rattle.snl_scope.specs.LinkedItems.{LinkedItems}
@@ -22,7 +22,7 @@ use Rattle.snl_scope.specs.Once.{AreFoundOnce, declared_tokens}
 use Rattle.snl_scope.specs.Summaries.{outline_in}
 use Rattle.snl_check.specs.FaultCodes.{is_item_code}
 use Rattle.snl_check.specs.Items.{outline_of_item, tokens_in}
-use Rattle.snl_session.specs.declared.findings.Finding.{Finding}
+use Rattle.snl_session.specs.declared.found.findings.Finding.{Finding}
 use Rattle.snl_session.specs.Linked.{finding_at, linked_faults, linked_of, outlines_of, placed, token_of}
 use Rattle.snl_session.specs.OnceFound.{DifferInPlace}
 use Rattle.snl_session.specs.Program.{ProgramItem}

@@ -6,7 +6,7 @@ use Rattle.std.proofs.lemmas.Bool.{eqb-true, false≢true}
 use Rattle.snl_lex.specs.declared.piece.Piece.{Piece}
 use Rattle.snl_lex.specs.Pieces.{LiesIn}
 use Rattle.snl_scope.specs.declared.codes.Code.TheVariants.{W02}
-use Rattle.snl_scope.specs.declared.summary.Outline.{Outline}
+use Rattle.snl_scope.specs.declared.summaries.summary.Outline.{Outline}
 use Rattle.snl_scope.specs.Below.{all_below}
 use Rattle.snl_scope.specs.Order.{is_named_state, is_state_word, state_name}
 use Rattle.snl_scope.specs.Places.{is_set_begin, place, stands_in}
@@ -15,7 +15,7 @@ use Rattle.snl_tables.specs.declared.rows.StateRow.{StateRow}
 use Rattle.snl_check.specs.Items.{item_name, outline_of_item, span_of}
 use Rattle.snl_check.specs.Members.{states_in}
 use Rattle.snl_check.specs.States.{numbered_row, set_row}
-use Rattle.snl_session.specs.declared.findings.Finding.{Finding}
+use Rattle.snl_session.specs.declared.found.findings.Finding.{Finding}
 use Rattle.snl_session.specs.Linked.{outlines_of}
 use Rattle.snl_session.specs.OnceFound.{DifferInPlace}
 use Rattle.snl_session.specs.Program.{ProgramItem}

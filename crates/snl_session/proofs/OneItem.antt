@@ -11,7 +11,7 @@ use Rattle.snl_items.specs.Changes.{IsItemChange}
 use Rattle.snl_items.specs.Items.{item_ends, spellings}
 use Rattle.snl_session.specs.declared.entries.Entry.{Entry}
 use Rattle.snl_session.specs.Entries.{entry_by}
-use Rattle.snl_session.specs.OneState.{own_tokens}
+use Rattle.snl_session.specs.ReplacedItem.{own_tokens}
 use Rattle.snl_session.specs.Parts.{EndsWithin, tokens_between}
 use Rattle.snl_session.proofs.Members.{spelled_between}
 use Rattle.snl_session.proofs.MemberParts.{last_of_more, one_end}

@@ -12,21 +12,21 @@ use Rattle.snl_syntax.specs.declared.tree.item.Item.{Item}
 use Rattle.snl_syntax.specs.declared.tree.item.Item.TheVariants as items
 use Rattle.snl_syntax.specs.Outcome.{parsed_by, parsed_in}
 use Rattle.snl_scope.specs.declared.facts.LinkFault.{LinkFault}
-use Rattle.snl_scope.specs.declared.summary.Outline.{Outline}
+use Rattle.snl_scope.specs.declared.summaries.summary.Outline.{Outline}
 use Rattle.snl_scope.specs.Linked as links
 use Rattle.snl_scope.specs.LinkedItems.{LinkedItems}
 use Rattle.snl_scope.specs.Summaries.{kind_of}
 use Rattle.snl_scope.specs.Summaries.Tokens.{bytes_at}
 use Rattle.snl_check.specs.Shifted.{shifted_item, shifted_tokens}
 use Rattle.snl_check.specs.ShiftedAround.{is_plain}
-use Rattle.snl_session.specs.declared.findings.Finding.{Finding}
+use Rattle.snl_session.specs.declared.found.findings.Finding.{Finding}
 use Rattle.snl_session.specs.Checked.{checked_faults, found_in_item}
 use Rattle.snl_session.specs.Checks.{checked_by, links_in, outlines_in}
 use Rattle.snl_session.specs.Diagnostics.{found, shown, shown_if}
 use Rattle.snl_session.specs.Faults.{fault_at, fault_in, faults_of}
 use Rattle.snl_session.specs.Linked.{finding_at, linked_faults, placed, token_of}
-use Rattle.snl_session.specs.OneState.{ReplacesInside, SparesInside, own_findings, own_shown}
-use Rattle.snl_session.specs.OneState as one
+use Rattle.snl_session.specs.ReplacedItem.{ReplacesInside, SparesInside, own_findings, own_shown}
+use Rattle.snl_session.specs.ReplacedItem as one
 use Rattle.snl_session.specs.Order.{in_order}
 use Rattle.snl_session.specs.OwnFindings.{found_around, without}
 use Rattle.snl_session.specs.Program.{ProgramItem, items_of}

@@ -3,7 +3,7 @@ use Rattle.std.proofs.Common.{◌≡◌, ℕ, zero, suc, ◌+◌, ◌<◌, ◌�
 use Rattle.std.specs.List.{position, position_or_len, remove}
 use Rattle.std.proofs.lemmas.Bool.{le-ltb, ltb-false}
 use Rattle.std.proofs.lemmas.List.Quantifiers.{position-Some}
-use Rattle.snl_session.specs.declared.findings.Finding.{Finding}
+use Rattle.snl_session.specs.declared.found.findings.Finding.{Finding}
 use Rattle.snl_session.specs.OwnFindings.{is_same, taken_out}
 
 module _ (x : Finding) where

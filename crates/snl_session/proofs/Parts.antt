@@ -7,7 +7,7 @@ use Rattle.snl_syntax.specs.Outcome.{parsed_by, parsed_in, sound_tree}
 use Rattle.snl_syntax.specs.declared.tree.item.Item.{Item}
 use Rattle.snl_scope.specs.SpelledTokens.{summary_by}
 use Rattle.snl_scope.specs.Summaries.{summary_in}
-use Rattle.snl_session.specs.declared.program.Part.{Part}
+use Rattle.snl_session.specs.declared.found.program.Part.{Part}
 use Rattle.snl_session.specs.Entries.{entry_by}
 use Rattle.snl_session.specs.Parts.{IsPart, part_of, tokens_of_part}
 use Rattle.snl_session.specs.Program.{ProgramItem, program_item, tree_in}

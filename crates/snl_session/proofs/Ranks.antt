@@ -14,7 +14,7 @@ use Rattle.std.proofs.lemmas.List.Sorted.{ranks_by, sorted_far, sum_by-IsPermuta
 use Rattle.std.proofs.lemmas.List.{get_or-map, length-map}
 use Rattle.snl_scope.specs.declared.codes.Code.{Code}
 use Rattle.snl_scope.specs.declared.codes.Code.TheVariants.{E01, E02, E03, E04, E05, E06, E07, E08, E09, E10, E11, E12, E13, E14, E15, E16, E17, E18, E19, E20, E21, E22, W01, W02, W03, W04, W05}
-use Rattle.snl_session.specs.declared.findings.Finding.{Finding}
+use Rattle.snl_session.specs.declared.found.findings.Finding.{Finding}
 use Rattle.snl_scope.specs.Codes.{name_of}
 use Rattle.snl_session.specs.Order.{goes_before, in_order, order_of, put_in_order}
 use Rattle.snl_session.proofs.Sorting.{all_put, put, same_put, sorted_is, total, total_all}

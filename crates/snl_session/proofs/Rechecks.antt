@@ -7,10 +7,10 @@ use Rattle.snl_syntax.specs.Outcome.{parsed_by, sound_tree}
 use Rattle.snl_syntax.specs.declared.tree.item.Item.{Item}
 use Rattle.snl_scope.specs.SpelledTokens.{bytes_by}
 use Rattle.snl_scope.specs.View.{same_view}
-use Rattle.snl_scope.specs.declared.summary.Outline.{Outline}
-use Rattle.snl_check.specs.declared.findings.Checked.{Checked}
-use Rattle.snl_session.specs.declared.recheck.KeptItems.{KeptItems}
-use Rattle.snl_session.specs.declared.recheck.MadeCheck.{MadeCheck}
+use Rattle.snl_scope.specs.declared.summaries.summary.Outline.{Outline}
+use Rattle.snl_check.specs.declared.rules.findings.Checked.{Checked}
+use Rattle.snl_session.specs.declared.ways.recheck.KeptItems.{KeptItems}
+use Rattle.snl_session.specs.declared.ways.recheck.MadeCheck.{MadeCheck}
 use Rattle.snl_session.specs.Checks.{check_by, checked_by, checks_from}
 use Rattle.snl_session.specs.Entries.{entry_by}
 use Rattle.snl_session.specs.Rechecked.{is_rechecked, made_at, made_for, no_check, nones, number_before, put, sees_as_before}

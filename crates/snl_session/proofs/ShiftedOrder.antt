@@ -12,8 +12,8 @@ use Rattle.snl_lex.specs.declared.shift.Shift.{Shift}
 use Rattle.snl_lex.specs.Lines.{line_at}
 use Rattle.snl_lex.specs.Shift.{IsOutside, most, shifted_line, shifted_offset}
 use Rattle.snl_scope.specs.Codes.{name_of}
-use Rattle.snl_session.specs.declared.findings.Diagnostic.{Diagnostic}
-use Rattle.snl_session.specs.declared.findings.Finding.{Finding}
+use Rattle.snl_session.specs.declared.found.findings.Diagnostic.{Diagnostic}
+use Rattle.snl_session.specs.declared.found.findings.Finding.{Finding}
 use Rattle.snl_session.specs.Diagnostics.{diagnostic, on_line}
 use Rattle.snl_session.specs.Order.{goes_before, in_order, put_in_order}
 use Rattle.snl_session.specs.Shifted.{shifted_diagnostic, shifted_finding}

@@ -24,14 +24,14 @@ use Rattle.snl_scope.specs.SpelledTokens.{summary_by}
 use Rattle.snl_scope.specs.Summaries.{summary_in}
 use Rattle.snl_scope.specs.Summaries.Tokens.{bytes_at}
 use Rattle.snl_scope.specs.View.{same_view, view}
-use Rattle.snl_scope.specs.declared.summary.Outline.{Outline}
-use Rattle.snl_scope.specs.declared.summary.Summary.{Summary}
+use Rattle.snl_scope.specs.declared.summaries.summary.Outline.{Outline}
+use Rattle.snl_scope.specs.declared.summaries.summary.Summary.{Summary}
 use Rattle.snl_tables.specs.Shifted.{shifted_tables}
 use Rattle.snl_check.specs.Shifted.{KeepsItems, shifted_item, shifted_tokens}
 use Rattle.snl_check.specs.Spans.{AreRead}
 use Rattle.snl_check.specs.Tables.{tables_of}
 use Rattle.snl_session.specs.declared.entries.Entry.{Entry}
-use Rattle.snl_session.specs.declared.findings.Finding.{Finding}
+use Rattle.snl_session.specs.declared.found.findings.Finding.{Finding}
 use Rattle.snl_session.specs.Checked.{checked_faults, found_in_item}
 use Rattle.snl_session.specs.Checks.{checked_by, checks_from, links_in, outlines_in}
 use Rattle.snl_session.specs.Diagnostics.{diagnostic, diagnostics_of, found, shown}

@@ -12,10 +12,10 @@ use Rattle.snl_syntax.specs.Outcome.{parsed_by, parsed_in, sound_tree}
 use Rattle.snl_syntax.specs.declared.tree.item.Item.{Item}
 use Rattle.snl_items.specs.Items.{item_ends, spelled_items, spellings}
 use Rattle.snl_scope.specs.SpelledTokens.{bytes_by}
-use Rattle.snl_scope.specs.declared.summary.Outline.{Outline}
+use Rattle.snl_scope.specs.declared.summaries.summary.Outline.{Outline}
 use Rattle.snl_scope.specs.Summaries.Tokens.{bytes_at}
-use Rattle.snl_check.specs.declared.findings.Checked.{Checked}
-use Rattle.snl_session.specs.declared.program.Part.{Part}
+use Rattle.snl_check.specs.declared.rules.findings.Checked.{Checked}
+use Rattle.snl_session.specs.declared.found.program.Part.{Part}
 use Rattle.snl_session.specs.Checks.{check_by, check_of_item, checked_by, checks_from, checks_of, checks_over, outlines_in}
 use Rattle.snl_session.specs.Parts.{part_of, spelled_part}
 use Rattle.snl_session.specs.Program.{ProgramItem, item_tokens, items_of, program_item, tree_in}

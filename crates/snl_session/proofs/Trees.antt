@@ -7,7 +7,7 @@ use Rattle.snl_lex.specs.declared.piece.Piece.{Piece}
 use Rattle.snl_lex.specs.Pieces.{tokens_of}
 use Rattle.snl_items.specs.Items.{item_ends}
 use Rattle.snl_check.specs.Items.{ProgramItem, program_items}
-use Rattle.snl_session.specs.declared.program.Part.{Part}
+use Rattle.snl_session.specs.declared.found.program.Part.{Part}
 use Rattle.snl_session.specs.Parts.{part_of, tree_of_part}
 use Rattle.snl_session.specs.Program.{item_tokens, items_of, program_item, tree_in}
 use Rattle.snl_session.proofs.Members.{members_count}

@@ -2,10 +2,10 @@
 use Rattle.std.specs.Prelude.{ℕ, ◌+◌, ◌^◌, ◌<◌, List, [], map, flat_map, slice_get, Option, Some, None}
 use Rattle.std.specs.List.{enumerate_from}
 use Rattle.snl_lex.specs.declared.piece.Piece.{Piece}
-use Rattle.snl_scope.specs.declared.summary.Outline.{Outline}
-use Rattle.snl_check.specs.declared.findings.Checked.{Checked}
-use Rattle.snl_check.specs.declared.findings.ItemFault.{ItemFault}
-use Rattle.snl_session.specs.declared.findings.Finding.{Finding}
+use Rattle.snl_scope.specs.declared.summaries.summary.Outline.{Outline}
+use Rattle.snl_check.specs.declared.rules.findings.Checked.{Checked}
+use Rattle.snl_check.specs.declared.rules.findings.ItemFault.{ItemFault}
+use Rattle.snl_session.specs.declared.found.findings.Finding.{Finding}
 use Rattle.snl_session.specs.Checks.{check_of_item}
 use Rattle.snl_session.specs.Linked.{finding_at, outlines_of}
 use Rattle.snl_session.specs.Program.{ProgramItem}

@@ -8,9 +8,9 @@ use Rattle.snl_syntax.specs.declared.tree.item.Item.{Item}
 use Rattle.snl_items.specs.Items.{spelled_items}
 use Rattle.snl_scope.specs.LinkedItems.{LinkedItems}
 use Rattle.snl_scope.specs.SpelledTokens.{bytes_by}
-use Rattle.snl_scope.specs.declared.summary.Outline.{Outline}
+use Rattle.snl_scope.specs.declared.summaries.summary.Outline.{Outline}
 use Rattle.snl_scope.specs.Summaries.Tokens.{bytes_at}
-use Rattle.snl_check.specs.declared.findings.Checked.{Checked}
+use Rattle.snl_check.specs.declared.rules.findings.Checked.{Checked}
 use Rattle.snl_check.specs.Found.{faults_in}
 use Rattle.snl_check.specs.Outlook.{is_in_set, known_of, leads_to}
 use Rattle.snl_check.specs.Told.{target_uses, wake_uses}

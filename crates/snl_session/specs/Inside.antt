@@ -11,22 +11,22 @@ use Rattle.snl_scope.specs.Linked.{faults_of}
 use Rattle.snl_scope.specs.Order.{state_name}
 use Rattle.snl_scope.specs.Places.{place}
 use Rattle.snl_scope.specs.Summaries.Tokens.{bytes_at}
-use Rattle.snl_scope.specs.declared.summary.Outline.{Outline}
+use Rattle.snl_scope.specs.declared.summaries.summary.Outline.{Outline}
 use Rattle.snl_tables.specs.declared.rows.Tables.{Tables}
 use Rattle.snl_tables.specs.Shifted.{shifted_tables}
-use Rattle.snl_check.specs.declared.findings.Checked.{Checked}
+use Rattle.snl_check.specs.declared.rules.findings.Checked.{Checked}
 use Rattle.snl_check.specs.ShiftedAround.{is_plain, used_by, wakes_of}
 use Rattle.snl_session.specs.declared.entries.Entry.{Entry}
-use Rattle.snl_session.specs.declared.findings.Diagnostic.{Diagnostic}
-use Rattle.snl_session.specs.declared.findings.Finding.{Finding}
-use Rattle.snl_session.specs.declared.inside.Inside.{Inside}
-use Rattle.snl_session.specs.declared.inside.Was.{Was}
-use Rattle.snl_session.specs.declared.one_item.OwnTokens.{OwnTokens}
-use Rattle.snl_session.specs.declared.plan.Changes.{Changes}
+use Rattle.snl_session.specs.declared.found.findings.Diagnostic.{Diagnostic}
+use Rattle.snl_session.specs.declared.found.findings.Finding.{Finding}
+use Rattle.snl_session.specs.declared.ways.inside.Inside.{Inside}
+use Rattle.snl_session.specs.declared.ways.inside.Was.{Was}
+use Rattle.snl_session.specs.declared.ways.one_item.OwnTokens.{OwnTokens}
+use Rattle.snl_session.specs.declared.ways.plan.Changes.{Changes}
 use Rattle.snl_session.specs.Checks.{checks_of, links_in, outlines_in}
 use Rattle.snl_session.specs.Diagnostics.{diagnostic, diagnostics_of, shown, shown_if}
 use Rattle.snl_session.specs.Entries.{entries_of}
-use Rattle.snl_session.specs.OneState.{DeclaresInHead, SparesInside, own_findings, own_shown, own_tokens}
+use Rattle.snl_session.specs.ReplacedItem.{DeclaresInHead, SparesInside, own_findings, own_shown, own_tokens}
 use Rattle.snl_session.specs.Order.{in_order}
 use Rattle.snl_session.specs.OwnFindings.{found_around}
 use Rattle.snl_session.specs.OwnRows.{with_row}

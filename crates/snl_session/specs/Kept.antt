@@ -5,10 +5,10 @@ use Rattle.snl_lex.specs.PieceList.{piece_ends, piece_kinds}
 use Rattle.snl_lex.specs.Shift.{marker_count}
 use Rattle.snl_items.specs.Items.{item_ends, marks_of}
 use Rattle.snl_tables.specs.declared.rows.Tables.{Tables}
-use Rattle.snl_session.specs.declared.findings.Diagnostic.{Diagnostic}
+use Rattle.snl_session.specs.declared.found.findings.Diagnostic.{Diagnostic}
 use Rattle.snl_session.specs.declared.lists.Lists.{Lists}
 use Rattle.snl_session.specs.declared.lists.Remade.{Remade}
-use Rattle.snl_session.specs.declared.plan.Changes.{Changes}
+use Rattle.snl_session.specs.declared.ways.plan.Changes.{Changes}
 use Rattle.snl_session.specs.Checks.{checks_of, links_in}
 use Rattle.snl_session.specs.Diagnostics.{diagnostics_of}
 use Rattle.snl_session.specs.Edit.{limit}

@@ -8,7 +8,7 @@ pub mod Inside
 pub mod Kept
 pub mod Linked
 pub mod Listing
-pub mod OneState
+pub mod ReplacedItem
 pub mod Order
 pub mod OwnFindings
 pub mod OwnRows

@@ -5,7 +5,7 @@ use Rattle.snl_scope.specs.declared.codes.Code.{Code}
 use Rattle.snl_scope.specs.declared.codes.Code.TheVariants.{E01, E02, E03, E04, E05, E06, E18, W03, W04}
 use Rattle.snl_scope.specs.declared.facts.LinkFault.{LinkFault}
 use Rattle.snl_scope.specs.Linked as links
-use Rattle.snl_session.specs.declared.findings.Finding.{Finding}
+use Rattle.snl_session.specs.declared.found.findings.Finding.{Finding}
 pub use Rattle.snl_check.specs.Items.{linked_of, outlines_of, summaries_of}
 use Rattle.snl_session.specs.Program.{ProgramItem}
 

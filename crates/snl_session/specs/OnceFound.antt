@@ -1,7 +1,7 @@
 -- No offset and code occur twice in what is found in a text.
 use Rattle.std.specs.Prelude.{◌≡◌, List}
 use Rattle.std.specs.List.{AllPairs}
-use Rattle.snl_session.specs.declared.findings.Finding.{Finding}
+use Rattle.snl_session.specs.declared.found.findings.Finding.{Finding}
 
 -- Two findings don't have one offset and one code.
 abbrev pub DifferInPlace : Finding → Finding → Type 0

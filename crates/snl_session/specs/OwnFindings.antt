@@ -4,9 +4,9 @@ use Rattle.std.specs.Ordering.{is_eq}
 use Rattle.snl_lex.specs.declared.piece.Piece.{Piece}
 use Rattle.snl_lex.specs.declared.shift.Shift.{Shift}
 use Rattle.snl_lex.specs.PieceList.{spelled}
-use Rattle.snl_scope.specs.declared.summary.Outline.{Outline}
-use Rattle.snl_check.specs.declared.findings.Checked.{Checked}
-use Rattle.snl_session.specs.declared.findings.Finding.{Finding}
+use Rattle.snl_scope.specs.declared.summaries.summary.Outline.{Outline}
+use Rattle.snl_check.specs.declared.rules.findings.Checked.{Checked}
+use Rattle.snl_session.specs.declared.found.findings.Finding.{Finding}
 use Rattle.snl_session.specs.Checks.{check_by}
 use Rattle.snl_session.specs.Order.{in_order, order_of}
 use Rattle.snl_session.specs.Shifted.{shifted_finding}

@@ -8,7 +8,7 @@ use Rattle.snl_syntax.specs.Outcome.{parsed_in, sound_tree}
 use Rattle.snl_syntax.specs.declared.tree.item.Item.{Item}
 use Rattle.snl_scope.specs.Summaries.{summary_in}
 pub use Rattle.snl_check.specs.Items.{EndsWithin}
-use Rattle.snl_session.specs.declared.program.Part.{Part}
+use Rattle.snl_session.specs.declared.found.program.Part.{Part}
 use Rattle.snl_session.specs.Entries.{entry_by}
 use Rattle.snl_session.specs.Program.{ProgramItem}
 

@@ -8,16 +8,16 @@ use Rattle.snl_items.specs.Fresh.{fresh_items_between, fresh_pieces_between}
 use Rattle.snl_tables.specs.Shifted.{shifted_tables}
 use Rattle.snl_session.specs.declared.edits.Work.{Work}
 use Rattle.snl_session.specs.declared.entries.Entry.{Entry}
-use Rattle.snl_session.specs.declared.inside.StateWay.{StateWay}
+use Rattle.snl_session.specs.declared.ways.inside.ItemWay.{ItemWay}
 use Rattle.snl_session.specs.declared.lists.Lists.{Lists}
 use Rattle.snl_session.specs.declared.lists.Rechecked.{Rechecked}
 use Rattle.snl_session.specs.declared.lists.Remade.{Remade}
-use Rattle.snl_session.specs.declared.plan.Anew.{Anew}
-use Rattle.snl_session.specs.declared.plan.Changes.{Changes}
-use Rattle.snl_session.specs.declared.shift.ShortWay.{ShortWay}
-use Rattle.snl_session.specs.declared.plan.WholeWay.{WholeWay}
-use Rattle.snl_session.specs.declared.ways.Plan.{Plan}
-use Rattle.snl_session.specs.declared.ways.Plan.TheVariants as plan
+use Rattle.snl_session.specs.declared.ways.plan.Anew.{Anew}
+use Rattle.snl_session.specs.declared.ways.plan.Changes.{Changes}
+use Rattle.snl_session.specs.declared.ways.shift.ShortWay.{ShortWay}
+use Rattle.snl_session.specs.declared.ways.plan.WholeWay.{WholeWay}
+use Rattle.snl_session.specs.declared.ways.planning.Plan.{Plan}
+use Rattle.snl_session.specs.declared.ways.planning.Plan.TheVariants as plan
 use Rattle.snl_session.specs.Diagnostics.{diagnostics_of}
 use Rattle.snl_session.specs.Entries.{entries_of}
 use Rattle.snl_session.specs.Kept.{HasRoomFor, HasRoomForPlaces}
@@ -84,7 +84,7 @@ pub record IsWholeWay (old text : List ℕ) (start old_stop new_stop : ℕ) (way
   pub cost : IsCost old text start old_stop new_stop way.work
 
 -- An edit inside one item that says to the others what it said: the rows are shifted, but for the body of its own, if it is a state.
-pub record IsStateWay (old text : List ℕ) (start old_stop new_stop : ℕ) (way : StateWay) : Type 0 where
+pub record IsItemWay (old text : List ℕ) (start old_stop new_stop : ℕ) (way : ItemWay) : Type 0 where
   pub changes : IsChanged old text start old_stop new_stop way.changes
   pub lines : IsLineList text way.lines.ends.items way.lines.markers.items way.lines.naming.items
   pub remade : IsRemade old text way.changes.items.kept_front way.changes.items.kept_back way.remade
@@ -95,16 +95,16 @@ pub record IsStateWay (old text : List ℕ) (start old_stop new_stop : ℕ) (way
 -- The plan of an edit is one of the three.
 abbrev pub IsPlan : (old text : List ℕ) (start old_stop new_stop : ℕ) → Plan → Type 0
 IsPlan old text start old_stop new_stop (plan.Short way) = IsShortWay old text start old_stop new_stop way
-IsPlan old text start old_stop new_stop (plan.State way) = IsStateWay old text start old_stop new_stop way
+IsPlan old text start old_stop new_stop (plan.Item way) = IsItemWay old text start old_stop new_stop way
 IsPlan old text start old_stop new_stop (plan.Whole way) = IsWholeWay old text start old_stop new_stop way
 
 -- There is room for what it makes.
 abbrev pub HasRoom : Lists → Plan → Type 0
 HasRoom l (plan.Short way) = HasRoomForPlaces l way.changes
-HasRoom l (plan.State way) = HasRoomFor l way.changes way.remade
+HasRoom l (plan.Item way) = HasRoomFor l way.changes way.remade
 HasRoom l (plan.Whole way) = HasRoomFor l way.changes way.remade
 
 abbrev pub work_of : Plan → Work
 work_of (plan.Short way) = way.work
-work_of (plan.State way) = way.work
+work_of (plan.Item way) = way.work
 work_of (plan.Whole way) = way.work

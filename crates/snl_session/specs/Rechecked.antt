@@ -4,11 +4,11 @@ use Rattle.std.specs.List.{enumerate_from, flat_map}
 use Rattle.snl_lex.specs.declared.piece.Class.{Class}
 use Rattle.snl_syntax.specs.Outcome.{parsed_by, sound_tree}
 use Rattle.snl_scope.specs.View.{same_view}
-use Rattle.snl_scope.specs.declared.summary.Outline.{Outline}
-use Rattle.snl_scope.specs.declared.summary.Summary.{Summary}
-use Rattle.snl_check.specs.declared.findings.Checked.{Checked}
-use Rattle.snl_session.specs.declared.recheck.KeptItems.{KeptItems}
-use Rattle.snl_session.specs.declared.recheck.MadeCheck.{MadeCheck}
+use Rattle.snl_scope.specs.declared.summaries.summary.Outline.{Outline}
+use Rattle.snl_scope.specs.declared.summaries.summary.Summary.{Summary}
+use Rattle.snl_check.specs.declared.rules.findings.Checked.{Checked}
+use Rattle.snl_session.specs.declared.ways.recheck.KeptItems.{KeptItems}
+use Rattle.snl_session.specs.declared.ways.recheck.MadeCheck.{MadeCheck}
 use Rattle.snl_session.specs.Checks.{check_by, checks_of}
 use Rattle.snl_session.specs.Entries.{entry_by}
 

@@ -2,8 +2,8 @@
 use Rattle.std.specs.Prelude.{◌≡◌, ℕ, List, ⊤}
 use Rattle.snl_scope.specs.Linked.{faults_of}
 use Rattle.snl_scope.specs.LinkedItems.{LinkedItems}
-use Rattle.snl_session.specs.declared.relink.NewLinks.{NewLinks}
-use Rattle.snl_session.specs.declared.relink.NewLinks.TheVariants as new
+use Rattle.snl_session.specs.declared.ways.relink.NewLinks.{NewLinks}
+use Rattle.snl_session.specs.declared.ways.relink.NewLinks.TheVariants as new
 use Rattle.snl_session.specs.Checks.{links_in}
 
 -- The links after an edit: those before it, these with other kinds, or others.

@@ -7,8 +7,8 @@ use Rattle.snl_items.specs.declared.shifted.Shifted.{Shifted}
 use Rattle.snl_items.specs.Changes.{AreShifted}
 use Rattle.snl_items.specs.Items.{item_ends}
 use Rattle.snl_tables.specs.Shifted.{shifted_tables}
-use Rattle.snl_session.specs.declared.findings.Diagnostic.{Diagnostic}
-use Rattle.snl_session.specs.declared.findings.Finding.{Finding}
+use Rattle.snl_session.specs.declared.found.findings.Diagnostic.{Diagnostic}
+use Rattle.snl_session.specs.declared.found.findings.Finding.{Finding}
 use Rattle.snl_session.specs.Checks.{checks_of, links_in}
 use Rattle.snl_session.specs.Diagnostics.{diagnostics_of, on_line}
 use Rattle.snl_session.specs.Entries.{entries_of}

@@ -8,7 +8,7 @@ use Rattle.snl_tables.specs.declared.rows.StateMark.TheVariants as mark
 use Rattle.snl_tables.specs.declared.rows.StateRow.{StateRow}
 use Rattle.snl_tables.specs.declared.rows.Tables.{Tables}
 use Rattle.snl_check.specs.Tables.{tables_of}
-use Rattle.snl_session.specs.declared.findings.Finding.{Finding}
+use Rattle.snl_session.specs.declared.found.findings.Finding.{Finding}
 use Rattle.snl_session.specs.Program.{ProgramItem, items_of}
 
 -- The tables that its items give.

@@ -14,6 +14,7 @@ use snl_cut::{Count, OutOfMemory};
 use snl_lex::Piece;
 use snl_scope::{Summary, same_spelling_same_summary, summary_of};
 use snl_syntax::{Parsed, parsed, same_spelling_same_tree};
+use sqlite_items::Boxed;
 use std::alloc::Global;
 
 /// An item as it is kept.
@@ -29,7 +30,7 @@ pub fn entry_of(
     text: &[u8],
     tokens: &[Piece],
     work: &mut Count,
-) -> Result<Entry, OutOfMemory>
+) -> Result<Boxed<Entry>, OutOfMemory>
     requires some { 0 < length tokens.now }
     requires within { All (LiesIn text.now) tokens.now }
     ensures entry { IfOk result (λ e. e ≡ entry_by (spelled text.now tokens.now)) }
@@ -39,7 +40,7 @@ pub fn entry_of(
     same_spelling_same_summary();
     let parsed = parsed(alloc, text, tokens, work)?;
     let summary = summary_of(alloc, text, tokens, parsed.tree())?;
-    Ok(Entry { parsed, summary })
+    Ok(Boxed::new(alloc, Entry { parsed, summary })?)
 }
 
 /// The entries of the items that end at these tokens, the first of which begins at token `from`. Each is parsed once.
@@ -50,7 +51,7 @@ pub fn entries_along(
     from: usize,
     ends: &[u32],
     work: &mut Count,
-) -> Result<Vec<Entry>, OutOfMemory>
+) -> Result<Vec<Boxed<Entry>>, OutOfMemory>
     requires ends { EndsWithin from ends.now (length tokens.now) }
     requires within { All (LiesIn text.now) tokens.now }
     ensures entries { IfOk result (λ es. es.items ≡ map entry_by (members (spelled text.now tokens.now) from ends.now)) }

@@ -8,15 +8,16 @@ ghost use Rattle.snl_session.specs.Kept.{ArePlaces, HasRoomFor, HasRoomForPlaces
 ghost use Rattle.snl_session.specs.Planned.{IsChanged, IsRemade};
 
 use crate::entries::Entry;
-use crate::plan::Changes;
-use crate::recheck::{MadeCheck, put};
-use crate::relink::NewLinks;
+use crate::ways::plan::Changes;
+use crate::ways::recheck::{MadeCheck, put};
+use crate::ways::relink::NewLinks;
 use snl_check::Checked;
 use snl_cut::OutOfMemory;
 use snl_items::ItemList;
 use snl_lex::{LineList, PieceList, TextEdit};
 use snl_lists::Ordered;
 use snl_scope::Links;
+use sqlite_items::Boxed;
 
 /// The pieces of a text, its lines, the marks of its tokens, where its items end among them, what is kept of each item, what names mean among
 /// the items, what the check of each item gave, and whether warnings are shown.
@@ -25,9 +26,9 @@ pub struct Lists {
     pub pieces: PieceList,
     pub lines: LineList,
     pub items: ItemList,
-    pub entries: Ordered<Entry>,
+    pub entries: Ordered<Boxed<Entry>>,
     pub links: Links,
-    pub checks: Ordered<Option<Checked>>,
+    pub checks: Ordered<Option<Boxed<Checked>>>,
     pub warns: bool,
 }
 
@@ -35,7 +36,7 @@ pub struct Lists {
 #[derive(Drop)]
 pub struct Rechecked {
     pub links: NewLinks,
-    pub vacant: Vec<Option<Checked>>,
+    pub vacant: Vec<Option<Boxed<Checked>>>,
     pub made: Vec<MadeCheck>,
 }
 
@@ -43,9 +44,9 @@ pub struct Rechecked {
 /// for the checks of the items that are made, the checks, and whether warnings are shown.
 #[derive(Drop)]
 pub struct Remade {
-    pub made: Vec<Entry>,
+    pub made: Vec<Boxed<Entry>>,
     pub links: NewLinks,
-    pub vacant: Vec<Option<Checked>>,
+    pub vacant: Vec<Option<Boxed<Checked>>>,
     pub checks: Vec<MadeCheck>,
     pub warns: bool,
 }

@@ -6,13 +6,13 @@ ghost use Rattle.std.specs.Prelude.{◌≡◌, ℕ, ◌+◌, ◌≤◌, [], List
 ghost use Rattle.snl_session.specs.Edit.{spliced};
 
 use crate::edits::{Refused, Work};
-use crate::findings::Diagnostic;
-use crate::judge::judge;
-use crate::laws::rows_have_bytes;
+use crate::found::findings::Diagnostic;
+use crate::found::judge::judge;
+use crate::found::program::CutText;
+use crate::laws::once_laws::found_once;
+use crate::laws::text_laws::rows_have_bytes;
 use crate::lists::Lists;
-use crate::once_laws::found_once;
-use crate::program::CutText;
-use crate::ways::plan_of;
+use crate::ways::planning::plan_of;
 use snl_check::Tables;
 use snl_cut::OutOfMemory;
 use snl_items::ItemList;

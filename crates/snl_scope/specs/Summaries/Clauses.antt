@@ -11,12 +11,12 @@ use Rattle.snl_syntax.specs.declared.tree.item.Item.{Item}
 use Rattle.snl_syntax.specs.declared.tree.item.Item.TheVariants as items
 use Rattle.snl_syntax.specs.declared.tree.state.StateMember.{StateMember}
 use Rattle.snl_syntax.specs.declared.tree.state.StateMember.TheVariants as members
-use Rattle.snl_scope.specs.declared.summary.ClauseKind.{ClauseKind}
-use Rattle.snl_scope.specs.declared.summary.ClauseKind.TheVariants as kinds
-use Rattle.snl_scope.specs.declared.summary.Coverage.{Coverage}
-use Rattle.snl_scope.specs.declared.summary.Coverage.TheVariants as coverage
-use Rattle.snl_scope.specs.declared.summary.Mention.{Mention}
-use Rattle.snl_scope.specs.declared.summary.VariableClause.{VariableClause}
+use Rattle.snl_scope.specs.declared.summaries.summary.ClauseKind.{ClauseKind}
+use Rattle.snl_scope.specs.declared.summaries.summary.ClauseKind.TheVariants as kinds
+use Rattle.snl_scope.specs.declared.summaries.summary.Coverage.{Coverage}
+use Rattle.snl_scope.specs.declared.summaries.summary.Coverage.TheVariants as coverage
+use Rattle.snl_scope.specs.declared.summaries.summary.Mention.{Mention}
+use Rattle.snl_scope.specs.declared.summaries.summary.VariableClause.{VariableClause}
 use Rattle.snl_scope.specs.Summaries.Tokens.{mention_at}
 use Rattle.snl_walk.specs.Tokens.{value_at}
 

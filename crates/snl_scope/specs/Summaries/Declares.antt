@@ -15,12 +15,12 @@ use Rattle.snl_syntax.specs.declared.tree.state.StateMember.TheVariants as membe
 use Rattle.snl_syntax.specs.declared.tree.statement.Member.{Member}
 use Rattle.snl_syntax.specs.declared.tree.types.Base.{Base}
 use Rattle.snl_syntax.specs.declared.tree.types.Base.TheVariants as bases
-use Rattle.snl_scope.specs.declared.summary.Declared.{Declared}
-use Rattle.snl_scope.specs.declared.summary.Dims.{Dims}
-use Rattle.snl_scope.specs.declared.summary.Dims.TheVariants as dims
-use Rattle.snl_scope.specs.declared.summary.Nature.{Nature}
-use Rattle.snl_scope.specs.declared.summary.Nature.TheVariants as natures
-use Rattle.snl_scope.specs.declared.summary.Variable.{Variable}
+use Rattle.snl_scope.specs.declared.summaries.summary.Declared.{Declared}
+use Rattle.snl_scope.specs.declared.summaries.summary.Dims.{Dims}
+use Rattle.snl_scope.specs.declared.summaries.summary.Dims.TheVariants as dims
+use Rattle.snl_scope.specs.declared.summaries.summary.Nature.{Nature}
+use Rattle.snl_scope.specs.declared.summaries.summary.Nature.TheVariants as natures
+use Rattle.snl_scope.specs.declared.summaries.summary.Variable.{Variable}
 use Rattle.snl_walk.specs.Tokens.{bytes_at, value_at}
 
 -- The base of a declaration says what its names stand for.

@@ -1,7 +1,7 @@
 -- The names that are at tokens of an item, by their numbers in it.
 use Rattle.std.specs.Prelude.{ℕ, List}
 use Rattle.snl_lex.specs.declared.piece.Piece.{Piece}
-use Rattle.snl_scope.specs.declared.summary.Mention.{Mention}
+use Rattle.snl_scope.specs.declared.summaries.summary.Mention.{Mention}
 pub use Rattle.snl_walk.specs.Tokens.{IsSource, bytes_if}
 unfoldable pub use Rattle.snl_walk.specs.Tokens.{bytes_at}
 

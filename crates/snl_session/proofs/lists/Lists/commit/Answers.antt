@@ -1,7 +1,7 @@
 use Rattle.std.proofs.Common.{arith, ◌≡◌, ℕ, ◌-◌, ◌++◌, List, length, take, drop, Option, ap, sym, subst, ◌∙◌}
 use Rattle.snl_scope.specs.LinkedItems.{LinkedItems}
-use Rattle.snl_check.specs.declared.findings.Checked.{Checked}
-use Rattle.snl_session.specs.declared.relink.NewLinks.{NewLinks}
+use Rattle.snl_check.specs.declared.rules.findings.Checked.{Checked}
+use Rattle.snl_session.specs.declared.ways.relink.NewLinks.{NewLinks}
 use Rattle.snl_session.specs.Checks.{checks_of, links_in}
 use Rattle.snl_session.specs.Entries.{entries_of}
 use Rattle.snl_session.specs.Rechecked.{put}

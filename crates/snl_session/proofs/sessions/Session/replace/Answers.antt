@@ -2,8 +2,8 @@ use Rattle.std.proofs.Common.{arith, ◌≡◌, ℕ, ◌+◌, ◌-◌, ◌≤◌
 use Rattle.std.proofs.lemmas.Bool.{ltb-false}
 use Rattle.std.proofs.lemmas.List.{length-take-le}
 use Rattle.snl_items.specs.Fresh.{fresh_items_between, fresh_pieces_between}
-use Rattle.snl_session.specs.declared.ways.Plan.{Plan}
-use Rattle.snl_session.specs.declared.ways.Plan.TheVariants as plan
+use Rattle.snl_session.specs.declared.ways.planning.Plan.{Plan}
+use Rattle.snl_session.specs.declared.ways.planning.Plan.TheVariants as plan
 use Rattle.snl_session.specs.declared.edits.Refused.TheVariants.{Range, Size}
 use Rattle.snl_session.specs.Diagnostics.{diagnostics_of}
 use Rattle.snl_session.specs.Edit.{limit, refusal_of, spliced}
@@ -31,7 +31,7 @@ short_of text new start stop h =
 -- whichever way the plan goes, its cost is that of the edit
 cost_of : (old text : List ℕ) (start old_stop new_stop : ℕ) (p : Plan) → IsPlan old text start old_stop new_stop p → IsCost old text start old_stop new_stop (work_of p)
 cost_of old text start old_stop new_stop (plan.Short way) is = is.cost
-cost_of old text start old_stop new_stop (plan.State way) is = is.cost
+cost_of old text start old_stop new_stop (plan.Item way) is = is.cost
 cost_of old text start old_stop new_stop (plan.Whole way) is = is.cost
 
 pub invariant_of-self-2 : goal.invariant_of-self-2

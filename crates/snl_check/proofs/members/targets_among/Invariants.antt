@@ -1,9 +1,0 @@
-use Rattle.std.proofs.Common.{◌≡◌, map, take}
-use Rattle.snl_check.specs.Collected.{items_in}
-use Rattle.snl_check.specs.Members.{target_numbers}
-use Rattle.snl_check.specs.Reach.{target_lists}
-use Rattle.snl_check.proofs.members.targets_among.Given as goal
-
--- the targets of the states so far
-abbrev pub invariant-loop-state : goal.invariant-loop-state
-invariant-loop-state l = target_lists l.targets.items ≡ map (target_numbers l.outline.listing.program.text.now (items_in l.outline.listing.program) l.outline.listing.links.now.outlines l.states) (take l.state-index l.states)

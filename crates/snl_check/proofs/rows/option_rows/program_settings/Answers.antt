@@ -1,0 +1,13 @@
+use Rattle.std.proofs.Common.{◌≡◌, length, ap, ◌∙◌, arith}
+use Rattle.snl_check.specs.Collected.{items_in}
+use Rattle.snl_check.specs.Items.{gathered}
+use Rattle.snl_check.specs.Settings.{setting_at}
+use Rattle.snl_check.proofs.Items.{count_in}
+use Rattle.snl_check.proofs.rows.option_rows.program_settings.Goals as goal
+
+pub returns : goal.returns
+returns c =
+    let p = c.args.listing.now.program in
+    let xs = items_in p in
+    let all : c.loop-item.item ≡ length xs = omega (arith, count_in p c.requires.program, c.loop-item.auto.item-end, c.loop-item-test.false) in
+    c.loop-item.invariant ∙ ap (gathered (setting_at p.text.now xs c.args.listing.now.links.now.outlines)) all

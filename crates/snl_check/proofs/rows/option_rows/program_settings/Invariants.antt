@@ -1,0 +1,10 @@
+use Rattle.std.proofs.Common.{◌≡◌, map}
+use Rattle.snl_check.specs.Collected.{items_in}
+use Rattle.snl_check.specs.Items.{gathered}
+use Rattle.snl_check.specs.SettingTrees.{told}
+use Rattle.snl_check.specs.Settings.{setting_at}
+use Rattle.snl_check.proofs.rows.option_rows.program_settings.Given as goal
+
+-- the settings of the items so far are collected
+abbrev pub invariant-loop-item : goal.invariant-loop-item
+invariant-loop-item l = map told l.settings.items ≡ gathered (setting_at l.listing.program.text.now (items_in l.listing.program) l.listing.links.now.outlines) l.item

@@ -1,0 +1,12 @@
+use Rattle.std.proofs.Common.{None, is_some, ap, sym, ◌∙◌}
+use Rattle.snl_check.specs.declared.rows.channel_numbers.Which.TheVariants as which
+use Rattle.snl_check.specs.Channels.{assigned_channels, is_element_of}
+use Rattle.snl_check.specs.Collected.{items_in}
+use Rattle.snl_check.proofs.Positions.{any_position}
+use Rattle.snl_check.proofs.rows.wake_ups.covers_elements.Goals as goal
+
+pub returns : goal.returns
+returns c =
+    let listing = c.args.outline.now.listing in
+    c.is_some.ensures ∙ ap is_some (c.number.ensures ∙ c.requires.numbered.each (record { variable = c.args.variable; which = which.Any }))
+    ∙ sym (any_position (is_element_of c.args.variable None) (assigned_channels listing.program.text.now (items_in listing.program) listing.links.now.outlines))

@@ -1,0 +1,200 @@
+//! What is in a state set: the items of a text and their links come in; the states of a set, the targets of each and the mark of
+//! each go out.
+
+ghost use Rattle.std.specs.Prelude.{◌≡◌, ◌<◌, ◌≤◌, ◌&&◌, ℕ, IfOk, false, length, nat_eq, nat_lt, option_copied, position, None};
+ghost use Rattle.std.specs.List.Sorted.{IsStrictlyIncreasing};
+ghost use Rattle.std.specs.Option.{option_map_or};
+ghost use Rattle.snl_scope.specs.Linked.{state_of};
+ghost use Rattle.snl_scope.specs.Order.{is_state_word, state_name};
+ghost use Rattle.snl_scope.specs.Places.{stands_in};
+ghost use Rattle.snl_scope.specs.Summaries.{opening_by_word, outline_in};
+ghost use Rattle.snl_walk.specs.Tokens.{IsSource};
+ghost use Rattle.snl_check.specs.Collected.{IsLinked, IsOutline, items_in};
+ghost use Rattle.snl_check.specs.Members.{has_faulty, is_faulty_item, is_first_state, name_of_state, number_among, states_in, target_numbers, targets_among};
+ghost use Rattle.snl_check.specs.Reach.{target_lists};
+
+use crate::rows::listing::Listing;
+use crate::rows::outline::Outline;
+use crate::rows::room::with_room;
+use snl_cut::OutOfMemory;
+use snl_lex::{Class, Piece, token_text};
+use snl_scope::{Links, sets_open_in_turn};
+
+/// What is in a state set: its states, by the numbers of their items, and whether an item is faulty.
+#[derive(Drop)]
+pub(crate) struct Members {
+    pub states: Vec<usize>,
+    pub has_faulty: bool,
+}
+
+fn is_state_word(word: &[u8]) -> bool
+    ensures { result ≡ is_state_word (opening_by_word word.now) }
+{
+    word == b"state".as_slice()
+}
+
+// The name of a state that has these tokens, faulty or not.
+fn name_in<'a>(text: &'a [u8], tokens: &'a [Piece]) -> Option<&'a [u8]>
+    requires { IsSource text.now tokens.now }
+    ensures { option_copied result ≡ state_name (outline_in text.now tokens.now None) }
+{
+    let first: Option<&Piece> = tokens.get(0);
+    let second: Option<&Piece> = tokens.get(1);
+    match (first, second) {
+        (Some(first), Some(second)) => {
+            let is_state = first.kind == Class::Word
+                && is_state_word(token_text(text, *first))
+                && second.kind == Class::Name;
+            if is_state {
+                Some(token_text(text, *second))
+            } else {
+                None
+            }
+        }
+        _ => None,
+    }
+}
+
+// The name of an item that is a state.
+fn name_of_state<'a>(listing: &Listing<'a>, item: usize) -> Option<&'a [u8]>
+    requires { IsLinked listing.now }
+    ensures { option_copied result ≡ name_of_state listing.now.links.now.outlines item }
+{
+    let source = listing.program.source(item);
+    name_in(source.text, source.tokens)
+}
+
+/// Whether an item is faulty.
+pub(crate) fn is_faulty(listing: &Listing, item: usize) -> bool
+    requires linked { IsLinked listing.now }
+    requires item { item < length listing.now.program.trees.now }
+    ensures { result ≡ is_faulty_item (items_in listing.now.program) item }
+{
+    listing.program.tree(item).is_none()
+}
+
+// Whether an item is in the state set that another begins.
+fn stands_in(links: &Links, set: usize, item: usize) -> bool
+    ensures { result ≡ stands_in links.now.outlines set item }
+{
+    match links.place(item) {
+        Some(place) => set == place,
+        None => false,
+    }
+}
+
+// The number of the item after those of a state set: they follow the item that begins it.
+fn end_of(links: &Links, set: usize, count: usize) -> usize
+    requires count { count ≡ length links.now.outlines }
+    requires set { set < count }
+    ensures within { result ≤ count }
+    ensures some { set < result }
+    ensures items { (j : ℕ) → j < count → stands_in links.now.outlines set j ≡ (nat_lt set j && nat_lt j result) }
+{
+    sets_open_in_turn();
+    for item in set + 1..count {
+        if !stands_in(links, set, item) {
+            return item;
+        }
+    }
+    count
+}
+
+/// What is in the state set that an item begins.
+pub(crate) fn members_of(listing: &Listing, set: usize) -> Result<Members, OutOfMemory>
+    requires linked { IsLinked listing.now }
+    requires set { set < length listing.now.program.trees.now }
+    ensures states { IfOk result (λ m. m.states.items ≡ states_in listing.now.links.now.outlines set) }
+    ensures faulty { IfOk result (λ m. m.has_faulty ≡ has_faulty (items_in listing.now.program) listing.now.links.now.outlines set) }
+{
+    let end = end_of(listing.links, set, listing.program.trees.len());
+    let mut states = Vec::new(listing.program.alloc);
+    let mut has_faulty = false;
+    for item in set + 1..end {
+        if is_faulty(listing, item) {
+            has_faulty = true;
+        }
+        if name_of_state(listing, item).is_some() {
+            states.push(item)?;
+        }
+    }
+    Ok(Members { states, has_faulty })
+}
+
+// The number of an item among states.
+fn number_among(states: &[usize], item: usize) -> Option<usize>
+    requires { IsStrictlyIncreasing states.now }
+    ensures { result ≡ position (nat_eq item) states.now }
+{
+    match states.binary_search(&item) {
+        Ok(number) => Some(number),
+        Err(_) => None,
+    }
+}
+
+// What a target of a state means, by its number among the states of the set.
+fn target_number(links: &Links, states: &[usize], state: usize, name: &[u8]) -> Option<usize>
+    requires { IsStrictlyIncreasing states.now }
+    ensures { result ≡ number_among states.now (state_of links.now.outlines state name.now) }
+{
+    number_among(states, links.state(state, name)?)
+}
+
+// The targets of a state, by their numbers among the states of its set.
+fn target_numbers(
+    outline: &Outline,
+    states: &[usize],
+    state: usize,
+) -> Result<Vec<usize>, OutOfMemory>
+    requires outline { IsOutline outline.now }
+    requires rising { IsStrictlyIncreasing states.now }
+    ensures { IfOk result (λ v. v.items ≡ target_numbers outline.now.listing.program.text.now (items_in outline.now.listing.program) outline.now.listing.links.now.outlines states.now state) }
+{
+    let source = outline.listing.program.source(state);
+    let targets = outline.target_uses(state);
+    let mut numbers = with_room(source.alloc, targets.len())?;
+    for target in targets {
+        let name = source.bytes(target.token);
+        if let Some(number) = target_number(outline.listing.links, states, state, name) {
+            numbers.push(number)?;
+        }
+    }
+    Ok(numbers)
+}
+
+/// The targets of each state of a set.
+pub(crate) fn targets_among(
+    outline: &Outline,
+    states: &[usize],
+) -> Result<Vec<Vec<usize>>, OutOfMemory>
+    requires outline { IsOutline outline.now }
+    requires rising { IsStrictlyIncreasing states.now }
+    ensures { IfOk result (λ v. target_lists v.items ≡ targets_among outline.now.listing.program.text.now (items_in outline.now.listing.program) outline.now.listing.links.now.outlines states.now) }
+{
+    let mut targets = with_room(outline.listing.program.alloc, states.len())?;
+    for state in states {
+        targets.push(target_numbers(outline, states, *state)?)?;
+    }
+    Ok(targets)
+}
+
+// Whether a state is the first of a name in its set.
+fn is_first_of(links: &Links, state: usize, name: &[u8]) -> bool
+    ensures { result ≡ option_map_or (nat_eq state) (state_of links.now.outlines state name.now) false }
+{
+    match links.state(state, name) {
+        Some(first) => state == first,
+        None => false,
+    }
+}
+
+/// Whether a state is the first of its name in its set.
+pub(crate) fn is_first_state(listing: &Listing, state: usize) -> bool
+    requires { IsLinked listing.now }
+    ensures { result ≡ is_first_state listing.now.links.now.outlines state }
+{
+    match name_of_state(listing, state) {
+        Some(name) => is_first_of(listing.links, state, name),
+        None => false,
+    }
+}

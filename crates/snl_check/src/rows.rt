@@ -1,0 +1,19 @@
+//! The tables of a text: options, flags, channels, state sets, states and their wake-up sets, a row each.
+
+pub(crate) mod body;
+pub(crate) mod channel_names;
+pub(crate) mod channel_numbers;
+pub(crate) mod channel_rows;
+pub(crate) mod channels;
+pub(crate) mod flag_rows;
+pub(crate) mod item_clauses;
+pub(crate) mod listing;
+pub(crate) mod option_rows;
+pub(crate) mod outline;
+pub(crate) mod program;
+pub(crate) mod room;
+pub(crate) mod set_rows;
+pub(crate) mod state_rows;
+pub(crate) mod syncs;
+pub(crate) mod tables_of;
+pub(crate) mod wake_ups;

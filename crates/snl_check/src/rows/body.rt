@@ -1,0 +1,116 @@
+//! The body of the row of a state: the tokens and the tree of the state and the links come in, its options, where its transitions
+//! lead and which states its statements name go out. It knows no other items.
+
+ghost use Rattle.std.specs.Prelude.{◌≡◌, IfOk, map, option_copied};
+ghost use Rattle.std.specs.List.{flat_map};
+ghost use Rattle.snl_walk.specs.Tokens.{IsSource};
+ghost use Rattle.snl_check.specs.States as states;
+ghost use Rattle.snl_check.specs.Told.{by_statements, told_in_item};
+
+use crate::rows::option_rows::state_options;
+use crate::rows::program::span_of;
+use snl_cut::OutOfMemory;
+use snl_lex::Piece;
+use snl_scope::Links;
+use snl_syntax::tree::item::Item;
+use snl_syntax::tree::state::{StateMember, Target};
+use snl_tables::{Destination, NamedState, Rows, StateBody};
+use snl_walk::{Source, TargetUse};
+use sqlite_items::Items;
+use std::alloc::Global;
+
+// A state that an item names at a token.
+fn named_state(source: &Source, links: &Links, item: usize, token: usize) -> NamedState
+    requires { IsSource source.now.text.now source.now.tokens.now }
+    ensures { result ≡ states.named_state source.now.text.now source.now.tokens.now links.now.outlines item token }
+{
+    NamedState {
+        name: span_of(source.tokens.get(token)),
+        is_known: links.has_target(item, source.bytes(token)),
+    }
+}
+
+fn destination(source: &Source, links: &Links, item: usize, target: Target) -> Destination
+    requires { IsSource source.now.text.now source.now.tokens.now }
+    ensures { result ≡ states.destination source.now.text.now source.now.tokens.now links.now.outlines item target }
+{
+    match target {
+        Target::State(name) => Destination::State(named_state(source, links, item, name)),
+        Target::Exit => Destination::Exit,
+    }
+}
+
+// Where the transitions of a state lead.
+fn destinations(
+    source: &Source,
+    links: &Links,
+    item: usize,
+    members: &[StateMember],
+) -> Result<Vec<Destination>, OutOfMemory>
+    requires { IsSource source.now.text.now source.now.tokens.now }
+    ensures { IfOk result (λ v. v.items ≡ flat_map (states.destinations_in_member source.now.text.now source.now.tokens.now links.now.outlines item) members.now) }
+{
+    let mut destinations = Vec::new(source.alloc);
+    for member in members {
+        if let StateMember::When(transition) = member {
+            destinations.push(destination(source, links, item, transition.target))?;
+        }
+    }
+    Ok(destinations)
+}
+
+// The states that statements in the transitions of a state name.
+fn gotos(
+    source: &Source,
+    links: &Links,
+    item: usize,
+    targets: &[TargetUse],
+) -> Result<Vec<NamedState>, OutOfMemory>
+    requires { IsSource source.now.text.now source.now.tokens.now }
+    ensures { IfOk result (λ v. v.items ≡ map (states.named_state source.now.text.now source.now.tokens.now links.now.outlines item) (by_statements targets.now)) }
+{
+    let mut gotos = Vec::new(source.alloc);
+    for target in targets {
+        if target.by_statement {
+            gotos.push(named_state(source, links, item, target.token))?;
+        }
+    }
+    Ok(gotos)
+}
+
+fn members_in<'a>(tree: Option<&'a Item>) -> &'a [StateMember]
+    ensures { result.now ≡ states.members_in (option_copied tree.entry) }
+{
+    match tree {
+        Some(Item::StateBlock { name: _, members }) => members.as_slice(),
+        _ => &[],
+    }
+}
+
+/// The body of the row of the state that consists of these tokens, of which each lies in the text, and has this number among the
+/// linked items. A faulty state has no tree. `targets` are the names of states that its check told.
+pub fn state_body(
+    alloc: Global,
+    text: &[u8],
+    tokens: &[Piece],
+    tree: Option<&Item>,
+    links: &Links,
+    item: usize,
+    targets: &[TargetUse],
+) -> Result<StateBody, OutOfMemory>
+    requires source { IsSource text.now tokens.now }
+    requires targets { targets.now ≡ (told_in_item text.now (record { tokens = tokens.now; tree = option_copied tree })).target_uses }
+    ensures body { IfOk result (λ body. body ≡ states.state_body text.now links.now.outlines item (record { tokens = tokens.now; tree = option_copied tree.entry })) }
+{
+    let source = Source {
+        text,
+        tokens,
+        alloc,
+    };
+    let members = members_in(tree);
+    Ok(StateBody {
+        options: Items::from_vec(state_options(&source, members)?),
+        transitions: Rows::from_vec(destinations(&source, links, item, members)?),
+        gotos: Rows::from_vec(gotos(&source, links, item, targets)?),
+    })
+}

@@ -1,0 +1,104 @@
+//! The numbers of channels: a variable and an element come in, the number of the channel goes out.
+
+ghost use Rattle.std.specs.Prelude.{◌≡◌, [], IfOk, OnOk, map};
+ghost use Rattle.std.specs.Map.{lookup};
+ghost use Rattle.snl_check.specs.Collected.{assigned};
+ghost use Rattle.snl_check.specs.Numbered.{Adds, Numbered, is_key_of, same_key};
+
+use crate::rows::channels::AssignedChannel;
+use indexmap::IndexMap;
+use snl_cut::OutOfMemory;
+use std::alloc::Global;
+use std::marker::Model;
+
+/// Which element of a variable is meant.
+#[derive(Clone, Copy, Debug, PartialEq, Eq, Hash)]
+pub(crate) enum Which {
+    Any,
+    /// The element with this number.
+    Element(u64),
+}
+
+/// An element of the variable that is the declaration with a number.
+#[derive(Clone, Copy, Debug, PartialEq, Eq, Hash)]
+pub(crate) struct Key {
+    pub variable: usize,
+    pub which: Which,
+}
+
+/// For each element that has a channel the number of the channel, and for each variable of such elements the number of the
+/// first. Contracts see the list of these pairs.
+#[derive(Drop)]
+pub(crate) struct ChannelNumbers {
+    held: IndexMap<Key, usize>,
+}
+
+impl Model for ChannelNumbers {
+    ghost use Rattle.std.specs.Prelude.{ℕ, List};
+    ghost use Rattle.snl_check.specs.declared.rows.channel_numbers.Key.{Key};
+
+    ghost Value = { List (Key × ℕ) };
+
+    ghost view = { λ a. a.held.entries };
+}
+
+impl ChannelNumbers {
+    fn new(alloc: Global) -> ChannelNumbers
+        ensures { result ≡ [] }
+    {
+        ChannelNumbers {
+            held: IndexMap::new(alloc),
+        }
+    }
+
+    /// The number of the first channel with the key.
+    pub(crate) fn number(&self, key: Key) -> Option<usize>
+        ensures { result ≡ lookup (same_key key) self.now }
+    {
+        self.held.get(&key).copied()
+    }
+
+    // Adds a key of the channel with a number. One that had it before stays the first.
+    fn add(&mut self, key: Key, number: usize) -> Result<(), OutOfMemory>
+        ensures { OnOk result (Adds self.old self.new (same_key key) number) }
+    {
+        if !self.held.contains_key(&key) {
+            self.held.insert(key, number)?;
+        }
+        Ok(())
+    }
+
+    // Adds the keys of the channel with a number.
+    fn add_channel(&mut self, channel: AssignedChannel, number: usize) -> Result<(), OutOfMemory>
+        ensures { OnOk result (Adds self.old self.new (is_key_of (assigned channel.entry)) number) }
+    {
+        let Some(element) = channel.element else {
+            return Ok(());
+        };
+        let variable = channel.variable;
+        let any = Key {
+            variable,
+            which: Which::Any,
+        };
+        let one = Key {
+            variable,
+            which: Which::Element(element),
+        };
+        self.add(any, number)?;
+        self.add(one, number)
+    }
+}
+
+/// The numbers of these channels.
+pub(crate) fn numbers_of(
+    alloc: Global,
+    channels: &[AssignedChannel],
+) -> Result<ChannelNumbers, OutOfMemory>
+    ensures { IfOk result (λ numbers. Numbered numbers (map assigned channels.now)) }
+{
+    let mut numbers = ChannelNumbers::new(alloc);
+    for (number, channel) in channels.iter().enumerate() {
+        numbers.add_channel(*channel, number)?;
+    }
+    Ok(numbers)
+}

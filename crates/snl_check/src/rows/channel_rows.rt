@@ -1,0 +1,82 @@
+//! The rows of channels, and the channels of each declaration.
+
+ghost use Rattle.std.specs.Prelude.{◌≡◌, ◌++◌, ◌∷◌, [], IfOk, OnOk, map};
+ghost use Rattle.snl_check.specs.Channels.{variables_before};
+ghost use Rattle.snl_check.specs.Collected.{IsListing, assigned, items_in};
+ghost use Rattle.snl_check.specs.Tables.{channel_row};
+
+use crate::rows::channel_names::joined;
+use crate::rows::channels::AssignedChannel;
+use crate::rows::listing::Listing;
+use crate::rows::room::with_room;
+use crate::rows::syncs::sync_of;
+use snl_cut::OutOfMemory;
+use snl_tables::ChannelRow;
+use sqlite_items::Items;
+use std::alloc::Global;
+
+fn channel_row(listing: &Listing, channel: AssignedChannel) -> Result<ChannelRow, OutOfMemory>
+    requires { IsListing listing.now }
+    ensures { IfOk result (λ row. row ≡ channel_row listing.now.program.text.now (items_in listing.now.program) listing.now.links.now.outlines (assigned channel.entry)) }
+{
+    Ok(ChannelRow {
+        variable: listing.program.span(channel.item, channel.token),
+        element: channel.element,
+        scope: listing.scope_of_variable(channel.variable),
+        pv: joined(&listing.program.source(channel.item), channel.strings)?,
+        is_monitored: listing
+            .links
+            .is_monitored(channel.variable, channel.element),
+        sync: sync_of(listing, channel.variable, channel.element),
+    })
+}
+
+/// The rows of channels.
+pub(crate) fn channel_rows(
+    listing: &Listing,
+    channels: &[AssignedChannel],
+) -> Result<Vec<ChannelRow>, OutOfMemory>
+    requires { IsListing listing.now }
+    ensures { IfOk result (λ rows. rows.items
+        ≡ map (channel_row listing.now.program.text.now (items_in listing.now.program) listing.now.links.now.outlines) (map assigned channels.now)) }
+{
+    let mut rows = with_room(listing.program.alloc, channels.len())?;
+    for channel in channels {
+        rows.push(channel_row(listing, *channel)?)?;
+    }
+    Ok(rows)
+}
+
+// A list for each declaration, of which there are so many.
+fn no_channels(alloc: Global, count: usize) -> Result<Vec<Items<usize>>, OutOfMemory>
+    ensures { IfOk result (λ lists. lists.items ≡ variables_before [] count) }
+{
+    let mut lists = with_room(alloc, count)?;
+    for _ in 0..count {
+        lists.push(Items::new(alloc))?;
+    }
+    Ok(lists)
+}
+
+fn add_number(list: &mut Items<usize>, number: usize) -> Result<(), OutOfMemory>
+    ensures { OnOk result (list.new ≡ list.old ++ number ∷ []) }
+{
+    list.push(number).map_err(|_| OutOfMemory)
+}
+
+/// The channels of each declaration, of which there are so many.
+pub(crate) fn variables(
+    alloc: Global,
+    count: usize,
+    channels: &[AssignedChannel],
+) -> Result<Vec<Items<usize>>, OutOfMemory>
+    ensures { IfOk result (λ lists. lists.items ≡ variables_before (map assigned channels.now) count) }
+{
+    let mut lists = no_channels(alloc, count)?;
+    for (number, channel) in channels.iter().enumerate() {
+        if channel.variable < lists.len() {
+            add_number(&mut lists[channel.variable], number)?;
+        }
+    }
+    Ok(lists)
+}

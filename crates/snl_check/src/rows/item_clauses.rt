@@ -1,0 +1,100 @@
+//! The clauses of a text: the trees of its items and their links come in, the trees of the clauses go out, each with the number
+//! of its item and with what links tell of it.
+
+ghost use Rattle.std.specs.Prelude.{◌≡◌, ◌++◌, IfOk, OnOk, map, option_copied};
+ghost use Rattle.std.specs.List.{flat_map};
+ghost use Rattle.snl_check.specs.Clauses.{clause_in_member, clauses_in_tree, item_clause, item_clauses, item_clauses_if, told_clauses};
+ghost use Rattle.snl_check.specs.Collected.{IsProgram, items_in, placed, told};
+
+use crate::rows::program::Program;
+use snl_cut::OutOfMemory;
+use snl_scope::{ClauseLink, Links};
+use snl_syntax::tree::clause::Clause;
+use snl_syntax::tree::item::Item;
+use snl_syntax::tree::state::StateMember;
+
+// A clause, and the number of its item.
+#[derive(Clone, Copy)]
+struct Placed<'a> {
+    item: usize,
+    clause: &'a Clause,
+}
+
+/// A clause, the number of its item, and what links tell of it.
+#[derive(Clone, Copy)]
+pub(crate) struct ToldClause<'a> {
+    pub item: usize,
+    pub clause: &'a Clause,
+    pub link: ClauseLink,
+}
+
+// Adds the clauses among the members of a state.
+fn add_members<'a>(
+    item: usize,
+    members: &'a [StateMember],
+    clauses: &mut Vec<Placed<'a>>,
+) -> Result<(), OutOfMemory>
+    ensures { OnOk result (map placed clauses.new.items ≡ map placed clauses.old.items ++ map (item_clause item) (flat_map clause_in_member members.now)) }
+{
+    for member in members {
+        if let StateMember::Clause(clause) = member {
+            clauses.push(Placed { item, clause })?;
+        }
+    }
+    Ok(())
+}
+
+// Adds the clauses of an item.
+fn add_item<'a>(
+    item: usize,
+    tree: Option<&'a Item>,
+    clauses: &mut Vec<Placed<'a>>,
+) -> Result<(), OutOfMemory>
+    ensures { OnOk result (map placed clauses.new.items ≡ map placed clauses.old.items ++ item_clauses_if item (option_copied tree.entry)) }
+{
+    match tree {
+        Some(Item::Clause(clause)) => {
+            clauses.push(Placed { item, clause })?;
+            Ok(())
+        }
+        Some(Item::StateBlock { name: _, members }) => {
+            add_members(item, members.as_slice(), clauses)
+        }
+        _ => Ok(()),
+    }
+}
+
+// The clauses of all items, in the order of the text.
+fn item_clauses<'a>(program: &Program<'a>) -> Result<Vec<Placed<'a>>, OutOfMemory>
+    requires { IsProgram program.now }
+    ensures { IfOk result (λ clauses. map placed clauses.items ≡ item_clauses (items_in program.now)) }
+{
+    let mut clauses = Vec::new(program.alloc);
+    for item in 0..program.trees.len() {
+        add_item(item, program.tree(item), &mut clauses)?;
+    }
+    Ok(clauses)
+}
+
+/// The clauses of all items, in the order of the text, each with what links tell of it.
+pub(crate) fn told_clauses<'a>(
+    program: &Program<'a>,
+    links: &Links,
+) -> Result<Vec<ToldClause<'a>>, OutOfMemory>
+    requires { IsProgram program.now }
+    ensures { IfOk result (λ clauses. map told clauses.items ≡ told_clauses (items_in program.now) links.now.outlines) }
+{
+    let placed = item_clauses(program)?;
+    let links = links.clauses();
+    let mut clauses = Vec::new(program.alloc);
+    for (number, placed) in placed.iter().enumerate() {
+        if number < links.len() {
+            clauses.push(ToldClause {
+                item: placed.item,
+                clause: placed.clause,
+                link: links[number],
+            })?;
+        }
+    }
+    Ok(clauses)
+}

@@ -1,0 +1,148 @@
+//! The rows of options: the items of a text, or the members of a state, come in; the last setting of each known letter goes out.
+
+ghost use Rattle.std.specs.Prelude.{◌≡◌, ◌++◌, IfOk, OnOk, map, option_map};
+ghost use Rattle.std.specs.List.{flat_map};
+ghost use Rattle.snl_walk.specs.Tokens.{IsSource, bytes_at};
+ghost use Rattle.snl_check.specs.Collected.{IsListing, items_in};
+ghost use Rattle.snl_check.specs.SettingTrees.{told};
+ghost use Rattle.snl_check.specs.Settings.{last_setting, option_rows, program_options, program_settings, setting_at, setting_of, settings_in_member, state_options};
+
+use crate::rows::listing::Listing;
+use crate::rules::options::is_on;
+use crate::rules::view::View;
+use snl_cut::OutOfMemory;
+use snl_syntax::tree::clause::OptionLine;
+use snl_syntax::tree::item::Item;
+use snl_syntax::tree::state::StateMember;
+use snl_tables::OptionRow;
+use snl_walk::Source;
+use std::alloc::Global;
+
+/// The letters of a program's options, by rising bytes.
+const PROGRAM_LETTERS: &[u8] = b"Wacdeilmrsw";
+
+/// The letters of a state's options, by rising bytes.
+const STATE_LETTERS: &[u8] = b"etx";
+
+/// The letters of an option, and whether it sets them.
+#[derive(Clone, Copy)]
+struct LetterSetting<'a> {
+    letters: &'a [u8],
+    is_set: bool,
+}
+
+fn setting_of<'a>(source: &Source<'a>, line: OptionLine) -> LetterSetting<'a>
+    requires { IsSource source.now.text.now source.now.tokens.now }
+    ensures { told result ≡ setting_of (bytes_at source.now.text.now source.now.tokens.now) line }
+{
+    LetterSetting {
+        letters: source.bytes(line.letters),
+        is_set: is_on(line.sign),
+    }
+}
+
+// The last setting of a letter.
+fn last_setting(letter: u8, settings: &[LetterSetting]) -> Option<bool>
+    ensures { result ≡ last_setting letter (map told settings.now) }
+{
+    let mut last = None;
+    for setting in settings {
+        if setting.letters.contains(&letter) {
+            last = Some(setting.is_set);
+        }
+    }
+    last
+}
+
+// A row for each of the letters that is set or unset.
+fn option_rows(
+    alloc: Global,
+    letters: &[u8],
+    settings: &[LetterSetting],
+) -> Result<Vec<OptionRow>, OutOfMemory>
+    ensures { IfOk result (λ rows. rows.items ≡ option_rows letters.now (map told settings.now)) }
+{
+    let mut rows = Vec::new(alloc);
+    for letter in letters {
+        if let Some(is_set) = last_setting(*letter, settings) {
+            rows.push(OptionRow {
+                letter: *letter,
+                is_set,
+            })?;
+        }
+    }
+    Ok(rows)
+}
+
+// What an item sets for the program.
+fn setting_at<'a>(listing: &Listing<'a>, item: usize) -> Option<LetterSetting<'a>>
+    requires { IsListing listing.now }
+    ensures { option_map told result ≡ setting_at listing.now.program.text.now (items_in listing.now.program) listing.now.links.now.outlines item }
+{
+    let view = View {
+        links: listing.links,
+        item,
+    };
+    if view.is_in_set() {
+        return None;
+    }
+    match listing.program.tree(item)? {
+        Item::OptionLine(line) => Some(setting_of(&listing.program.source(item), *line)),
+        _ => None,
+    }
+}
+
+fn program_settings<'a>(listing: &Listing<'a>) -> Result<Vec<LetterSetting<'a>>, OutOfMemory>
+    requires { IsListing listing.now }
+    ensures { IfOk result (λ settings. map told settings.items
+        ≡ program_settings listing.now.program.text.now (items_in listing.now.program) listing.now.links.now.outlines) }
+{
+    let mut settings = Vec::new(listing.program.alloc);
+    for item in 0..listing.program.trees.len() {
+        if let Some(setting) = setting_at(listing, item) {
+            settings.push(setting)?;
+        }
+    }
+    Ok(settings)
+}
+
+/// The options of a program.
+pub(crate) fn program_options(listing: &Listing) -> Result<Vec<OptionRow>, OutOfMemory>
+    requires { IsListing listing.now }
+    ensures { IfOk result (λ rows. rows.items
+        ≡ program_options listing.now.program.text.now (items_in listing.now.program) listing.now.links.now.outlines) }
+{
+    let settings = program_settings(listing)?;
+    option_rows(listing.program.alloc, PROGRAM_LETTERS, &settings)
+}
+
+// Adds the settings among the members of a state.
+fn add_settings<'a>(
+    source: &Source<'a>,
+    members: &[StateMember],
+    settings: &mut Vec<LetterSetting<'a>>,
+) -> Result<(), OutOfMemory>
+    requires { IsSource source.now.text.now source.now.tokens.now }
+    ensures { OnOk result (map told settings.new.items
+        ≡ map told settings.old.items ++ flat_map (settings_in_member (bytes_at source.now.text.now source.now.tokens.now)) members.now) }
+{
+    for member in members {
+        if let StateMember::OptionLine(line) = member {
+            settings.push(setting_of(source, *line))?;
+        }
+    }
+    Ok(())
+}
+
+/// The options of a state, by its members.
+pub(crate) fn state_options(
+    source: &Source,
+    members: &[StateMember],
+) -> Result<Vec<OptionRow>, OutOfMemory>
+    requires { IsSource source.now.text.now source.now.tokens.now }
+    ensures { IfOk result (λ rows. rows.items ≡ state_options (bytes_at source.now.text.now source.now.tokens.now) members.now) }
+{
+    let mut settings = Vec::new(source.alloc);
+    add_settings(source, members, &mut settings)?;
+    option_rows(source.alloc, STATE_LETTERS, &settings)
+}

@@ -1,0 +1,116 @@
+//! The rows of states: a state set comes in, a row for each of its states goes out.
+
+ghost use Rattle.std.specs.Prelude.{◌≡◌, ◌<◌, ℕ, IfOk, false, if◌then◌else◌, length, slice_index_or};
+ghost use Rattle.snl_tables.specs.declared.rows.StateMark.TheVariants as StateMark;
+ghost use Rattle.snl_check.specs.Collected.{IsLinked, IsOutline, items_in};
+ghost use Rattle.snl_check.specs.Members.{is_faulty_item, states_in};
+ghost use Rattle.snl_check.specs.States as states;
+
+use crate::reachability::members::{Members, is_faulty, is_first_state, members_of, targets_among};
+use crate::reachability::reaching::reach;
+use crate::rows::body::state_body;
+use crate::rows::outline::Outline;
+use crate::rows::room::with_room;
+use crate::rows::wake_ups::wake_ups;
+use snl_cut::OutOfMemory;
+use snl_tables::{StateBody, StateMark, StateRow};
+use sqlite_items::Items;
+
+// What is known of a state, which has this number among the states of its set: the first that holds. `reached` is asked only
+// where no item of the set is faulty.
+fn mark_of(
+    outline: &Outline,
+    members: &Members,
+    reached: &[bool],
+    number: usize,
+    state: usize,
+) -> StateMark
+    requires linked { IsLinked outline.now.listing }
+    requires state { state < length outline.now.listing.program.trees.now }
+    ensures { result ≡ (if is_faulty_item (items_in outline.now.listing.program) state then StateMark.Faulty
+        else if states.is_repeated outline.now.listing.links.now.outlines state then StateMark.Repeated
+        else if members.now.has_faulty then StateMark.Unknown
+        else if slice_index_or reached.now number false then StateMark.Reached
+        else StateMark.Unreached) }
+{
+    if is_faulty(&outline.listing, state) {
+        return StateMark::Faulty;
+    }
+    if !is_first_state(&outline.listing, state) {
+        return StateMark::Repeated;
+    }
+    if members.has_faulty {
+        return StateMark::Unknown;
+    }
+    match reached.get(number) {
+        Some(true) => StateMark::Reached,
+        _ => StateMark::Unreached,
+    }
+}
+
+// Of each state of a set whether it is reached. Where an item of the set is faulty, nothing is said.
+fn reached_among(outline: &Outline, members: &Members, set: usize) -> Result<Vec<bool>, OutOfMemory>
+    requires outline { IsOutline outline.now }
+    requires states { members.now.states.items ≡ states_in outline.now.listing.links.now.outlines set }
+    ensures { IfOk result (λ reached. members.now.has_faulty ≡ false
+        → (number : ℕ) → number < length (states_in outline.now.listing.links.now.outlines set) → slice_index_or reached.items number false ≡ states.is_reached_in outline.now.listing.program.text.now (items_in outline.now.listing.program) outline.now.listing.links.now.outlines set number) }
+{
+    if members.has_faulty {
+        return Ok(Vec::new(outline.listing.program.alloc));
+    }
+    let targets = targets_among(outline, &members.states)?;
+    Ok(reach(outline.listing.program.alloc, &targets)?)
+}
+
+// The body of the row of the state that an item is.
+fn body_at(outline: &Outline, item: usize) -> Result<StateBody, OutOfMemory>
+    requires { IsOutline outline.now }
+    ensures { IfOk result (λ body. body
+        ≡ states.state_body outline.now.listing.program.text.now outline.now.listing.links.now.outlines item (states.item_at (items_in outline.now.listing.program) item)) }
+{
+    let program = &outline.listing.program;
+    state_body(
+        program.alloc,
+        program.text,
+        program.own(item),
+        program.tree(item),
+        outline.listing.links,
+        item,
+        outline.target_uses(item),
+    )
+}
+
+fn state_row(outline: &Outline, mark: StateMark, item: usize) -> Result<StateRow, OutOfMemory>
+    requires outline { IsOutline outline.now }
+    requires item { item < length outline.now.listing.program.trees.now }
+    ensures { IfOk result (λ row. row
+        ≡ states.state_row outline.now.listing.program.text.now (items_in outline.now.listing.program) outline.now.listing.links.now.outlines mark item) }
+{
+    let body = body_at(outline, item)?;
+    Ok(StateRow {
+        name: outline.listing.item_name(item),
+        line: outline.line(item),
+        mark,
+        options: body.options,
+        transitions: body.transitions,
+        gotos: body.gotos,
+        wake: Items::from_vec(wake_ups(outline, item)?),
+    })
+}
+
+/// The states of the set that an item begins, in the order of the text.
+pub(crate) fn state_rows(outline: &Outline, set: usize) -> Result<Vec<StateRow>, OutOfMemory>
+    requires outline { IsOutline outline.now }
+    requires set { set < length outline.now.listing.program.trees.now }
+    ensures { IfOk result (λ rows. rows.items
+        ≡ states.state_rows outline.now.listing.program.text.now (items_in outline.now.listing.program) outline.now.listing.links.now.outlines set) }
+{
+    let members = members_of(&outline.listing, set)?;
+    let reached = reached_among(outline, &members, set)?;
+    let mut rows = with_room(outline.listing.program.alloc, members.states.len())?;
+    for (number, state) in members.states.iter().enumerate() {
+        let mark = mark_of(outline, &members, &reached, number, *state);
+        rows.push(state_row(outline, mark, *state)?)?;
+    }
+    Ok(rows)
+}

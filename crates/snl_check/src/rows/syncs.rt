@@ -1,0 +1,74 @@
+//! How channels are synced: a channel comes in, the number of its flag and its queue go out.
+
+ghost use Rattle.std.specs.Prelude.{◌≡◌, option_and_then};
+ghost use Rattle.snl_scope.specs.Flags.{flag_number};
+ghost use Rattle.snl_walk.specs.Tokens.{IsSource};
+ghost use Rattle.snl_check.specs.Collected.{IsListing, items_in, told};
+ghost use Rattle.snl_check.specs.Tables as tables;
+
+use crate::rows::item_clauses::ToldClause;
+use crate::rows::listing::Listing;
+use snl_scope::Links;
+use snl_syntax::tree::clause::Clause;
+use snl_tables::{Queue, Synced};
+use snl_walk::Source;
+
+// The queue of a `syncq`.
+fn queue_of(source: &Source, length: Option<usize>) -> Queue
+    requires { IsSource source.now.text.now source.now.tokens.now }
+    ensures { result ≡ tables.queue_of source.now.text.now source.now.tokens.now length }
+{
+    match length {
+        None => Queue::Default,
+        Some(number) => Queue::Length(source.value(number).unwrap_or(0)),
+    }
+}
+
+// The number of a flag that a clause names.
+fn flag_number(links: &Links, flag: Option<usize>) -> Option<usize>
+    ensures { result ≡ option_and_then (flag_number links.now.outlines) flag }
+{
+    links.flag_number(flag?)
+}
+
+// How a clause syncs what it speaks of.
+fn synced(listing: &Listing, clause: ToldClause) -> Option<Synced>
+    requires { IsListing listing.now }
+    ensures { result ≡ tables.synced listing.now.program.text.now (items_in listing.now.program) listing.now.links.now.outlines (told clause.entry) }
+{
+    let flag = flag_number(listing.links, clause.link.flag);
+    match clause.clause {
+        Clause::Sync {
+            name: _,
+            subscript: _,
+            flag: _,
+        } => Some(Synced {
+            flag,
+            queue: Queue::Unqueued,
+        }),
+        Clause::Syncq {
+            capital: _,
+            name: _,
+            subscript: _,
+            flag: _,
+            queue,
+        } => {
+            let source = listing.program.source(clause.item);
+            Some(Synced {
+                flag,
+                queue: queue_of(&source, *queue),
+            })
+        }
+        _ => None,
+    }
+}
+
+/// How a channel of a variable is synced: by the first sound clause that speaks of it.
+pub(crate) fn sync_of(listing: &Listing, variable: usize, element: Option<u64>) -> Option<Synced>
+    requires { IsListing listing.now }
+    ensures { result ≡ tables.sync_of listing.now.program.text.now (items_in listing.now.program) listing.now.links.now.outlines variable element }
+{
+    let number = listing.links.sync_number(variable, element)?;
+    let clause = listing.clauses.get(number)?;
+    synced(listing, *clause)
+}

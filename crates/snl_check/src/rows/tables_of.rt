@@ -1,0 +1,119 @@
+//! The tables of a text: its items, their links and what their checks gave come in, rows go out. They are made whole after each
+//! change of the text.
+
+ghost use Rattle.std.specs.Prelude.{◌≡◌, IfOk, length, map, option_copied};
+ghost use Rattle.snl_lex.specs.LineList.{IsLineList};
+ghost use Rattle.snl_lex.specs.Pieces.{pieces_of, tokens_of};
+ghost use Rattle.snl_check.specs.Collected.{IsLinked, items_in};
+ghost use Rattle.snl_check.specs.Items.{IsCutUp, program_items, outlines_of};
+ghost use Rattle.snl_check.specs.Tables.{tables_by, tables_of};
+ghost use Rattle.snl_check.specs.Told.{told_in_item, told_seen};
+
+use crate::rows::channel_numbers::numbers_of;
+use crate::rows::channel_rows::{channel_rows, variables};
+use crate::rows::channels::assigned_channels;
+use crate::rows::flag_rows::flag_rows;
+use crate::rows::item_clauses::told_clauses;
+use crate::rows::listing::Listing;
+use crate::rows::option_rows::program_options;
+use crate::rows::outline::Outline;
+use crate::rows::program::Program;
+use crate::rows::set_rows::set_rows;
+use crate::rules::findings::Checked;
+use snl_cut::OutOfMemory;
+use snl_lex::{LineList, Piece, tokens_among};
+use snl_scope::Links;
+use snl_syntax::tree::item::Item;
+use snl_tables::{Rows, Tables};
+use sqlite_items::Items;
+use std::alloc::Global;
+
+// The rows of all tables.
+fn rows_of(
+    listing: &Listing,
+    lines: &LineList,
+    checked: &[Option<&Checked>],
+) -> Result<Tables, OutOfMemory>
+    requires linked { IsLinked listing.now }
+    requires lines { IsLineList listing.now.program.text.now lines.now.ends.items lines.now.markers.items lines.now.naming.items }
+    requires checked { map told_seen checked.now ≡ map (told_in_item listing.now.program.text.now) (items_in listing.now.program) }
+    ensures { IfOk result (λ t. t ≡ tables_by listing.now.program.text.now (items_in listing.now.program) listing.now.links.now.outlines) }
+{
+    let alloc = listing.program.alloc;
+    let channels = assigned_channels(listing)?;
+    let numbers = numbers_of(alloc, &channels)?;
+    let outline = Outline {
+        listing: *listing,
+        lines,
+        checked,
+        numbers: &numbers,
+    };
+    let variables = variables(alloc, listing.links.declarations(), &channels)?;
+    Ok(Tables {
+        program: listing.program.name(),
+        options: Items::from_vec(program_options(listing)?),
+        flags: Rows::from_vec(flag_rows(listing)?),
+        channels: Rows::from_vec(channel_rows(listing, &channels)?),
+        variables: Items::from_vec(variables),
+        sets: Rows::from_vec(set_rows(&outline)?),
+    })
+}
+
+/// The tables of a text, by its lines and its tokens. `ends` has, for each item, the number of the token after
+/// it; a faulty item has no tree. `checked` has what the check gave of each item that isn't faulty.
+pub fn tables_by_tokens(
+    alloc: Global,
+    text: &[u8],
+    lines: &LineList,
+    tokens: &[Piece],
+    ends: &[usize],
+    items: &[Option<&Item>],
+    links: &Links,
+    checked: &[Option<&Checked>],
+) -> Result<Tables, OutOfMemory>
+    requires lines { IsLineList text.now lines.now.ends.items lines.now.markers.items lines.now.naming.items }
+    requires tokens { tokens.now ≡ tokens_of text.now }
+    requires cut { IsCutUp text.now tokens.now ends.now (length items.now) }
+    requires links { links.now.outlines ≡ outlines_of text.now (program_items tokens.now ends.now (map option_copied items.now)) }
+    requires checked { map told_seen checked.now ≡ map (told_in_item text.now) (program_items tokens.now ends.now (map option_copied items.now)) }
+    ensures { IfOk result (λ t. t ≡ tables_of text.now (program_items tokens.now ends.now (map option_copied items.now))) }
+{
+    let program = Program {
+        text,
+        tokens,
+        ends,
+        trees: items,
+        alloc,
+    };
+    let clauses = told_clauses(&program, links)?;
+    let listing = Listing {
+        program,
+        clauses: &clauses,
+        links,
+    };
+    let tables = rows_of(&listing, lines, checked)?;
+    Ok(tables)
+}
+
+/// The tables of a text, by its pieces. `ends` has, for each item, the number of the token after it; a faulty item has no tree.
+/// `checked` has what the check gave of each item that isn't faulty.
+pub fn tables(
+    alloc: Global,
+    text: &[u8],
+    pieces: &[Piece],
+    ends: &[usize],
+    items: &[Option<&Item>],
+    links: &Links,
+    checked: &[Option<&Checked>],
+) -> Result<Tables, OutOfMemory>
+    requires pieces { pieces.now ≡ pieces_of text.now }
+    requires cut { IsCutUp text.now (tokens_of text.now) ends.now (length items.now) }
+    requires links { links.now.outlines ≡ outlines_of text.now (program_items (tokens_of text.now) ends.now (map option_copied items.now)) }
+    requires checked { map told_seen checked.now ≡ map (told_in_item text.now) (program_items (tokens_of text.now) ends.now (map option_copied items.now)) }
+    ensures { IfOk result (λ t. t ≡ tables_of text.now (program_items (tokens_of text.now) ends.now (map option_copied items.now))) }
+{
+    let lines = LineList::of(alloc, text, pieces)?;
+    let tokens = tokens_among(alloc, pieces)?;
+    let tables = tables_by_tokens(alloc, text, &lines, &tokens, ends, items, links, checked)?;
+    Ok(tables)
+}

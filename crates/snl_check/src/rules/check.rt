@@ -1,0 +1,100 @@
+//! The check of one item.
+
+ghost use Rattle.std.specs.Prelude.{◌≡◌, ◌++◌, All, IfOk, OnOk, map};
+ghost use Rattle.snl_cut.specs.Cut.{ticked};
+ghost use Rattle.snl_walk.specs.Items.{occurrences};
+ghost use Rattle.snl_walk.specs.Tokens.{IsSource, bytes_at};
+ghost use Rattle.snl_check.specs.Found.{StandsIn, code_of, fault_of, faults_in, faults_of_rules};
+ghost use Rattle.snl_check.specs.Outlook.{is_in_set, known_of, leads_to};
+ghost use Rattle.snl_check.specs.Told.{target_uses, wake_uses};
+
+use crate::rules::findings::{Checked, ItemFault};
+use crate::rules::options::add_unknown_options;
+use crate::rules::view::View;
+use snl_cut::{Count, OutOfMemory};
+use snl_lex::Piece;
+use snl_scope::{Code, Links};
+use snl_syntax::tree::item::Item;
+use snl_walk::{Finding, Occurrence, Rule, Source, findings, occurrences, target_uses, wake_uses};
+use sqlite_items::Items;
+use std::alloc::Global;
+
+// The code of a rule.
+fn code_of(rule: Rule) -> Code
+    ensures { result ≡ code_of rule }
+{
+    match rule {
+        Rule::RepeatedDeclaration => Code::E07,
+        Rule::UnknownState => Code::E10,
+        Rule::WrongFlag => Code::E17,
+        Rule::StrayChange => Code::E18,
+        Rule::StrayJump => Code::E19,
+        Rule::NoEventFlag => Code::E20,
+        Rule::NoChannel => Code::E21,
+        Rule::Undeclared => Code::W01,
+        Rule::StrayDelay => Code::W03,
+    }
+}
+
+fn add_findings(findings: &[Finding], faults: &mut Vec<ItemFault>) -> Result<(), OutOfMemory>
+    ensures { OnOk result (faults.new.items ≡ faults.old.items ++ map fault_of findings.now) }
+{
+    for finding in findings {
+        faults.push(ItemFault {
+            token: finding.token,
+            byte: 0,
+            code: code_of(finding.rule),
+        })?;
+    }
+    Ok(())
+}
+
+// What is found in the item with this tree, of which these are the occurrences.
+fn faults_of(
+    source: &Source,
+    tree: &Item,
+    view: &View,
+    found: &[Occurrence],
+) -> Result<Vec<ItemFault>, OutOfMemory>
+    requires source { IsSource source.now.text.now source.now.tokens.now }
+    requires found { found.now ≡ occurrences (bytes_at source.now.text.now source.now.tokens.now) tree.now }
+    ensures { IfOk result (λ v. v.items ≡ faults_in (bytes_at source.now.text.now source.now.tokens.now) tree.now (is_in_set view.now.links.now.outlines view.now.item) (known_of view.now.links.now.outlines view.now.item) (leads_to view.now.links.now.outlines view.now.item)) }
+{
+    let mut faults = Vec::new(source.alloc);
+    add_findings(&findings(source, view, found)?, &mut faults)?;
+    add_unknown_options(source, tree, view, &mut faults)?;
+    Ok(faults)
+}
+
+/// Checks the item that consists of these tokens, of which each lies in the text, and has this tree and this number among the
+/// linked ones. Its findings go by its tokens, its tree and what it sees of the other items alone.
+pub fn check_item(
+    alloc: Global,
+    text: &[u8],
+    tokens: &[Piece],
+    tree: &Item,
+    links: &Links,
+    item: usize,
+    work: &mut Count,
+) -> Result<Checked, OutOfMemory>
+    requires { IsSource text.now tokens.now }
+    ensures faults { IfOk result (λ c. c.faults ≡ faults_in (bytes_at text.now tokens.now) tree.now (is_in_set links.now.outlines item) (known_of links.now.outlines item) (leads_to links.now.outlines item)) }
+    ensures within { IfOk result (λ c. All (StandsIn (bytes_at text.now tokens.now)) c.faults) }
+    ensures wake_uses { IfOk result (λ c. c.wake_uses ≡ wake_uses (bytes_at text.now tokens.now) tree.now) }
+    ensures target_uses { IfOk result (λ c. c.target_uses ≡ target_uses (bytes_at text.now tokens.now) tree.now) }
+    ensures ticks { work.new ≡ ticked work.old }
+{
+    work.tick();
+    let source = Source {
+        text,
+        tokens,
+        alloc,
+    };
+    let view = View { links, item };
+    let found = occurrences(&source, tree)?;
+    Ok(Checked {
+        faults: Items::from_vec(faults_of(&source, tree, &view, &found)?),
+        wake_uses: Items::from_vec(wake_uses(&source, &found)?),
+        target_uses: Items::from_vec(target_uses(alloc, &found)?),
+    })
+}

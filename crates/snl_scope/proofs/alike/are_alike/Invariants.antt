@@ -1,5 +1,0 @@
-use Rattle.std.proofs.Common.{◌≡◌, take}
-use Rattle.snl_scope.proofs.alike.are_alike.Given as goal
-
-abbrev pub invariant-loop-number : goal.invariant-loop-number
-invariant-loop-number g l = take l.number l.ones ≡ take l.number l.others

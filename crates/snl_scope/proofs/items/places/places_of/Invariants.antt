@@ -1,0 +1,14 @@
+use Rattle.std.proofs.Common.{◌≡◌, ◌≤◌, length, map}
+use Rattle.snl_scope.specs.Places.{open_before}
+use Rattle.snl_scope.specs.Tables.{Placed}
+use Rattle.snl_scope.proofs.items.places.places_of.Given as goal
+
+-- the places and the open state set are those of the items so far
+abbrev pub invariant-loop-item : goal.invariant-loop-item
+invariant-loop-item l =
+    let ss = map (λ s. s.now) l.outlines in
+    record {
+      placed : Placed l.places.items ss l.item;
+      opened : l.outer ≡ open_before ss l.item;
+      within : l.item ≤ length l.outlines;
+    }

@@ -1,5 +1,0 @@
-use Rattle.snl_scope.proofs.FaultPlaces.{faults_placed}
-use Rattle.snl_scope.proofs.once_laws.faults_have_places.Goals as goal
-
-pub returns : goal.returns
-returns c = faults_placed

@@ -1,0 +1,61 @@
+//! The event flags: the tables of names come in, and the numbers of the entries that are event flags go out, in the order
+//! of the text. It doesn't know how names are found.
+
+ghost use Rattle.std.specs.Prelude.{◌≡◌, suc, IfOk, List, nat_eq, option_map, position};
+ghost use Rattle.std.specs.List.Sorted.{IsStrictlyIncreasing};
+ghost use Rattle.snl_scope.specs.declared.summaries.summary.Outline.{Outline};
+ghost use Rattle.snl_scope.specs.Flags.{declares_flag, flags_of};
+ghost use Rattle.snl_scope.specs.Names.{entries};
+ghost use Rattle.snl_scope.specs.Tables.{Follows, flag_stands};
+
+use crate::names::tables::{Standing, Tables};
+use crate::summaries::summary::{Nature, Variable};
+use snl_cut::OutOfMemory;
+use std::alloc::Global;
+
+// Whether what a declaration says of a name makes it an event flag.
+fn declares_flag(variable: Option<Variable>) -> bool
+    ensures { result ≡ declares_flag variable }
+{
+    match variable {
+        Some(variable) => matches!(variable.nature, Nature::EventFlag),
+        None => false,
+    }
+}
+
+// Whether the entry with a number declares an event flag.
+fn flag_stands(standings: &[Standing], number: usize) -> bool
+    ensures { result ≡ flag_stands standings.now number }
+{
+    match standings.get(number) {
+        Some(standing) => declares_flag(standing.variable),
+        None => false,
+    }
+}
+
+/// The numbers of the entries that are event flags. The tables list the first of each name in its space, in the order of
+/// the text.
+pub(crate) fn flags_of(alloc: Global, tables: &Tables) -> Result<Vec<usize>, OutOfMemory>
+    ensures { IfOk result (λ flags. (ss : List Outline)
+        → Follows tables.now.names tables.now.first.entries tables.now.standings.items tables.now.faults.items (entries ss)
+        → flags.items ≡ flags_of ss) }
+{
+    let mut flags = Vec::new(alloc);
+    for number in tables.first.values() {
+        if flag_stands(&tables.standings, *number) {
+            flags.push(*number)?;
+        }
+    }
+    Ok(flags)
+}
+
+/// The number of an event flag among all, from 1 on.
+pub(crate) fn flag_number(flags: &[usize], declaration: usize) -> Option<usize>
+    requires { IsStrictlyIncreasing flags.now }
+    ensures { result ≡ option_map suc (position (nat_eq declaration) flags.now) }
+{
+    match flags.binary_search(&declaration) {
+        Ok(index) => Some(index + 1),
+        Err(_) => None,
+    }
+}

@@ -1,0 +1,47 @@
+//! The state set that each item is in.
+
+ghost use Rattle.std.specs.Prelude.{◌≡◌, ◌<◌, IfOk, Some, None, if◌then◌else◌, length, map};
+ghost use Rattle.snl_scope.specs.Places.{begins_set, ends_set};
+ghost use Rattle.snl_scope.specs.Tables.{Placed};
+
+use crate::summaries::summary::{Outline, Role};
+use snl_cut::OutOfMemory;
+use std::alloc::Global;
+
+// The place of an item, where `outer` is the state set that is open before it.
+fn place_in(role: Role, outer: Option<usize>) -> Option<usize>
+    ensures { result ≡ (if begins_set role then None else outer) }
+{
+    match role {
+        Role::SetBegin => None,
+        _ => outer,
+    }
+}
+
+// The state set that is open after an item.
+fn open_behind(role: Role, item: usize, outer: Option<usize>) -> Option<usize>
+    ensures { result ≡ (if begins_set role then Some item else (if ends_set role then None else outer)) }
+{
+    match role {
+        Role::SetBegin => Some(item),
+        Role::SetEnd => None,
+        _ => outer,
+    }
+}
+
+/// The places of all items.
+pub(crate) fn places_of(
+    alloc: Global,
+    outlines: &[&Outline],
+) -> Result<Vec<Option<usize>>, OutOfMemory>
+    ensures { IfOk result (λ places. Placed places.items (map (λ s. s.now) outlines.now) (length outlines.now)) }
+{
+    let mut places = Vec::new(alloc);
+    let mut outer = None;
+    for item in 0..outlines.len() {
+        let outline = outlines[item];
+        places.push(place_in(outline.role, outer))?;
+        outer = open_behind(outline.role, item, outer);
+    }
+    Ok(places)
+}

@@ -1,0 +1,7 @@
+//! Laws that hold for each list of items or summaries.
+
+pub(crate) mod once_laws;
+pub(crate) mod place_laws;
+pub(crate) mod spelling_laws;
+pub(crate) mod summary_laws;
+pub(crate) mod token_laws;

@@ -1,0 +1,132 @@
+//! What names resolve to, by the tables of all items. It knows nothing of clauses.
+
+ghost use Rattle.std.specs.Prelude.{◌≡◌};
+
+use crate::items::heads::Head;
+use crate::names::name_set::Names;
+use crate::names::origin::Origin;
+use crate::names::spaces::{Key, Space};
+use crate::names::tables::{Standing, number_in};
+use crate::summaries::summary::Variable;
+use indexmap::IndexMap;
+use std::marker::Model;
+
+/// The finished tables of all items, which contracts see as the list of their outlines.
+#[derive(Drop)]
+pub(crate) struct Scopes {
+    pub places: Vec<Option<usize>>,
+    pub heads: Vec<Head>,
+    pub names: Names,
+    pub first: IndexMap<Key, usize>,
+    pub standings: Vec<Standing>,
+    pub origin: Origin,
+}
+
+impl Model for Scopes {
+    ghost use Rattle.std.specs.Prelude.{List, length, map, ◌≡◌};
+    ghost use Rattle.snl_scope.specs.declared.summaries.summary.Outline.{Outline};
+    ghost use Rattle.snl_scope.specs.Names.{entries};
+    ghost use Rattle.snl_scope.specs.Tables.{Placed, Tabled, head_of};
+
+    ghost Value = { List Outline };
+
+    ghost view = { λ a. a.origin.outlines };
+
+    ghost invariant = { λ a. Placed a.places.items a.origin.outlines (length a.origin.outlines)
+        × (a.heads.items ≡ map head_of a.origin.outlines)
+        × Tabled a.names a.first.entries a.standings.items (entries a.origin.outlines) };
+}
+
+impl Scopes {
+    ghost use Rattle.snl_scope.specs.Clauses.{resolve_in, variable_at};
+    ghost use Rattle.snl_scope.specs.Linked.{state_in};
+    ghost use Rattle.snl_scope.specs.Names.{entries, number_in, resolve};
+    ghost use Rattle.snl_scope.specs.Places.{place};
+    ghost use Rattle.snl_scope.specs.Tables.{head_of, standing_of};
+    ghost use Rattle.std.specs.Prelude.{Some, ◌<◌, length, map, option_map, slice_get};
+
+    /// How many numbers there are.
+    pub(crate) fn count(&self) -> usize
+        ensures { result ≡ length (entries self.now) }
+    {
+        self.standings.len()
+    }
+
+    /// The state set in which an item is, or None at program level.
+    pub(crate) fn place(&self, item: usize) -> Option<usize>
+        ensures { result ≡ place self.now item }
+    {
+        match self.places.get(item) {
+            Some(place) => *place,
+            None => None,
+        }
+    }
+
+    /// How many items there are.
+    pub(crate) fn item_count(&self) -> usize
+        ensures { result ≡ length self.now }
+    {
+        self.heads.len()
+    }
+
+    /// What the outline of an item says of the order of items.
+    pub(crate) fn head(&self, item: usize) -> Head
+        requires { item < length self.now }
+        ensures { slice_get (map head_of self.now) item ≡ Some result }
+    {
+        self.heads[item]
+    }
+
+    /// The number of the first that is under a name in a space.
+    pub(crate) fn number_in(&self, space: Space, name: &[u8]) -> Option<usize>
+        ensures { result ≡ number_in (entries self.now) space name.now }
+    {
+        number_in(&self.names, &self.first, space, name)
+    }
+
+    /// What is there with a number.
+    pub(crate) fn standing(&self, number: usize) -> Option<Standing>
+        ensures { result ≡ option_map standing_of (slice_get (entries self.now) number) }
+    {
+        self.standings.get(number).copied()
+    }
+
+    /// The number of what a name resolves to from a place.
+    pub(crate) fn resolve(&self, place: Option<usize>, name: &[u8]) -> Option<usize>
+        ensures { result ≡ resolve (entries self.now) place name.now }
+    {
+        if let Some(set) = place {
+            let inside = self.number_in(Space::StateSet(set), name);
+            if inside.is_some() {
+                return inside;
+            }
+        }
+        self.number_in(Space::Program, name)
+    }
+
+    /// The number of what a name resolves to that is in an item outside its blocks.
+    pub(crate) fn resolve_in(&self, item: usize, name: &[u8]) -> Option<usize>
+        ensures { result ≡ resolve_in self.now item name.now }
+    {
+        let own = self.number_in(Space::State(item), name);
+        if own.is_some() {
+            return own;
+        }
+        self.resolve(self.place(item), name)
+    }
+
+    /// The first state with a name in a state set, by the number of its item.
+    pub(crate) fn state_in(&self, set: usize, name: &[u8]) -> Option<usize>
+        ensures { result ≡ state_in self.now set name.now }
+    {
+        let number = self.number_in(Space::States(set), name)?;
+        Some(self.standing(number)?.item)
+    }
+
+    /// What the declaration with a number says.
+    pub(crate) fn variable_at(&self, number: Option<usize>) -> Option<Variable>
+        ensures { result ≡ variable_at (entries self.now) number }
+    {
+        self.standing(number?)?.variable
+    }
+}

@@ -1,0 +1,146 @@
+//! The judgement of a whole text: its tokens, its items, their links and what the check of each gave come in, diagnostics and tables
+//! go out.
+//! It keeps nothing between two texts and knows no edits.
+#![tactic(auto)]
+
+ghost use Rattle.std.specs.Prelude.{◌≡◌, All, IfOk, map};
+ghost use Rattle.snl_cut.specs.Cut.{members};
+ghost use Rattle.snl_scope.specs.Linked.{faults_of};
+ghost use Rattle.snl_session.specs.Checks.{checks_of, checks_over, links_in, outlines_in};
+ghost use Rattle.snl_session.specs.Diagnostics.{diagnostics_of, shown};
+ghost use Rattle.snl_session.specs.Linked.{linked_of, outlines_of};
+ghost use Rattle.snl_session.specs.Parts.{IsPart, part_of};
+ghost use Rattle.snl_session.specs.Program.{program_item};
+ghost use Rattle.snl_session.specs.Tables.{tables_in};
+ghost use Rattle.snl_session.specs.Warnings.{warns_in};
+
+use crate::found::checks::add_checked_faults;
+use crate::found::diagnose::{add_linked_faults, keep_shown, on_lines};
+use crate::found::findings::{Diagnostic, Finding};
+use crate::found::order::sort;
+use crate::found::program::{CutText, Part, add_faults, items_end_in_order};
+use crate::found::tables::tables_of;
+use crate::found::walked::add_walked_faults;
+use crate::found::warnings::shows_warnings;
+use snl_check::{Checked, Tables};
+use snl_cut::OutOfMemory;
+use snl_lex::text_in_pieces;
+use snl_scope::{LinkFault, Links, same_spelling_same_summary};
+use snl_syntax::{outcome_told, same_spelling_same_tree};
+use sqlite_items::Boxed;
+use std::alloc::Global;
+
+/// What a text is judged to say: its diagnostics, its tables, and whether warnings are shown.
+#[derive(Drop)]
+pub struct Judgement {
+    pub diagnostics: Vec<Diagnostic>,
+    pub tables: Tables,
+    pub warns: bool,
+}
+
+// The same, with findings that have no order and no lines yet.
+#[derive(Drop)]
+struct Told {
+    shown: Vec<Finding>,
+    tables: Tables,
+    warns: bool,
+}
+
+// What is shown of what is found in a text that has these items, and the tables of the text.
+#[tactic(auto, unfolding(crate::specs::Diagnostics::found, crate::specs::Diagnostics::shown, crate::specs::Tables::tables_in))]
+fn told_by(
+    alloc: Global,
+    cut: &CutText,
+    parts: &[Part],
+    links: &Links,
+    faults: &[LinkFault],
+    checks: &[&Option<Boxed<Checked>>],
+) -> Result<Told, OutOfMemory>
+    requires items { map (part_of cut.now.tokens.now) parts.now ≡ map (program_item cut.now.text.now) (members cut.now.tokens.now 0 cut.now.ends.now) }
+    requires parts { All (IsPart cut.now.text.now cut.now.tokens.now) parts.now }
+    requires links { links.now.outlines ≡ outlines_of cut.now.text.now (map (part_of cut.now.tokens.now) parts.now) }
+    requires faults { faults.now ≡ faults_of (linked_of cut.now.text.now (map (part_of cut.now.tokens.now) parts.now)) }
+    requires checks { map (λ c. c.now) checks.now ≡ checks_over cut.now.text.now (map (part_of cut.now.tokens.now) parts.now) }
+    ensures shown { IfOk result (λ t. t.shown.items ≡ shown cut.now.text.now) }
+    ensures tables { IfOk result (λ t. t.tables ≡ tables_in cut.now.text.now) }
+    ensures warns { IfOk result (λ t. t.warns ≡ warns_in cut.now.text.now) }
+{
+    text_in_pieces();
+    items_end_in_order();
+    let CutText {
+        text,
+        lines,
+        tokens,
+        ends,
+        ..
+    } = *cut;
+    let mut shown = Vec::new(alloc);
+    add_faults(text, tokens, parts, &mut shown)?;
+    add_linked_faults(text, tokens, parts, faults, &mut shown)?;
+    add_checked_faults(text, tokens, parts, checks, &mut shown)?;
+    let tables = tables_of(alloc, text, lines, tokens, ends, parts, links, checks)?;
+    add_walked_faults(&tables, &mut shown)?;
+    let warns = shows_warnings(alloc, text, tokens, parts, links);
+    keep_shown(warns, &mut shown);
+    Ok(Told {
+        shown,
+        tables,
+        warns,
+    })
+}
+
+// The same by the links and the checks of the text.
+fn told_in(
+    alloc: Global,
+    cut: &CutText,
+    parts: &[Part],
+    links: &Links,
+    faults: &[LinkFault],
+    checks: &[&Option<Boxed<Checked>>],
+) -> Result<Told, OutOfMemory>
+    requires items { map (part_of cut.now.tokens.now) parts.now ≡ map (program_item cut.now.text.now) (members cut.now.tokens.now 0 cut.now.ends.now) }
+    requires parts { All (IsPart cut.now.text.now cut.now.tokens.now) parts.now }
+    requires links { links.now.outlines ≡ outlines_in cut.now.text.now }
+    requires faults { faults.now ≡ faults_of (links_in cut.now.text.now) }
+    requires checks { map (λ c. c.now) checks.now ≡ checks_of cut.now.text.now }
+    ensures shown { IfOk result (λ t. t.shown.items ≡ shown cut.now.text.now) }
+    ensures tables { IfOk result (λ t. t.tables ≡ tables_in cut.now.text.now) }
+    ensures warns { IfOk result (λ t. t.warns ≡ warns_in cut.now.text.now) }
+{
+    outcome_told();
+    same_spelling_same_tree();
+    same_spelling_same_summary();
+    told_by(alloc, cut, parts, links, faults, checks)
+}
+
+/// The diagnostics and the tables of a text that has these items, links and checks.
+#[tactic(auto, unfolding(crate::specs::Diagnostics::diagnostics_of))]
+pub fn judge(
+    alloc: Global,
+    cut: &CutText,
+    parts: &[Part],
+    links: &Links,
+    faults: &[LinkFault],
+    checks: &[&Option<Boxed<Checked>>],
+) -> Result<Judgement, OutOfMemory>
+    requires items { map (part_of cut.now.tokens.now) parts.now ≡ map (program_item cut.now.text.now) (members cut.now.tokens.now 0 cut.now.ends.now) }
+    requires parts { All (IsPart cut.now.text.now cut.now.tokens.now) parts.now }
+    requires links { links.now.outlines ≡ outlines_in cut.now.text.now }
+    requires faults { faults.now ≡ faults_of (links_in cut.now.text.now) }
+    requires checks { map (λ c. c.now) checks.now ≡ checks_of cut.now.text.now }
+    ensures diagnostics { IfOk result (λ j. j.diagnostics.items ≡ diagnostics_of cut.now.text.now) }
+    ensures tables { IfOk result (λ j. j.tables ≡ tables_in cut.now.text.now) }
+    ensures warns { IfOk result (λ j. j.warns ≡ warns_in cut.now.text.now) }
+{
+    let Told {
+        mut shown,
+        tables,
+        warns,
+    } = told_in(alloc, cut, parts, links, faults, checks)?;
+    sort(&mut shown)?;
+    Ok(Judgement {
+        diagnostics: on_lines(alloc, cut.text, cut.lines, &shown)?,
+        tables,
+        warns,
+    })
+}

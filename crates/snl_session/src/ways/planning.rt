@@ -1,0 +1,288 @@
+//! The plan of an edit, which goes one of three ways: the short one, where the edit shifts all that the text says; that of one item,
+//! where it changes the inside of an item that says to the others what it said; and the whole one, where all is made anew. What is kept of the old text and both texts come in; then what is kept of the new one is put in its place.
+#![tactic(auto)]
+
+ghost use Rattle.std.specs.Prelude.{◌≡◌, IfOk, IsTrue, OnOk, length};
+ghost use Rattle.snl_session.specs.Diagnostics.{diagnostics_of};
+ghost use Rattle.snl_session.specs.Kept.{IsListed, SameLists};
+ghost use Rattle.snl_session.specs.Inside.{IsOneItem};
+ghost use Rattle.snl_session.specs.Planned.{AreEntriesMade, HasRoom, IsAnew, IsChanged, IsPlan, IsWholeWay, work_of};
+ghost use Rattle.snl_items.specs.Fresh.{fresh_items_between, fresh_pieces_between};
+ghost use Rattle.snl_lex.specs.LineList.{IsLineList};
+ghost use Rattle.snl_lex.specs.Pieces.{tokens_of};
+ghost use Rattle.snl_session.specs.Tables.{tables_in};
+
+use crate::edits::Work;
+use crate::entries::Entry;
+use crate::found::findings::Diagnostic;
+use crate::lists::Lists;
+use crate::ways::inside::{ItemWay, inside_of, item_way};
+use crate::ways::one_item::{made_alone, own_tokens, replaces_one};
+use crate::ways::plan::{Anew, Changes, WholeWay, anew_by, changes_of, made_entries, whole_way};
+use crate::ways::shift::{ShortWay, shift_of, short_way};
+use snl_check::Tables;
+use snl_cut::{Count, OutOfMemory};
+use snl_items::pieces_are_fresh;
+use snl_lex::{LineList, Piece, TextEdit};
+use sqlite_items::Boxed;
+use std::alloc::Global;
+
+/// What an edit makes that takes memory.
+#[derive(Drop)]
+pub enum Plan {
+    Short(ShortWay),
+    Item(ItemWay),
+    Whole(WholeWay),
+}
+
+// Whether an edit replaces all tokens, as the first one of a text does: then those that it makes are all tokens of the new text.
+fn replaces_all(lists: &Lists, edit: &TextEdit, changes: &Changes) -> bool
+    requires lists { IsListed edit.now.old.now lists.now }
+    requires changes { IsChanged edit.now.old.now edit.now.text.now edit.now.start edit.now.old_stop edit.now.new_stop changes.now }
+    ensures { IsTrue result → changes.now.tokens.made.items ≡ tokens_of edit.now.text.now }
+{
+    changes.tokens.edit.start == 0 && changes.tokens.edit.old_stop == lists.items.marks.len()
+}
+
+// What an edit makes anew, whatever items it makes, by the tokens of the new text.
+fn anew_of_many(
+    alloc: Global,
+    lists: &Lists,
+    edit: &TextEdit,
+    changes: &Changes,
+    lines: &LineList,
+    tokens: &[Piece],
+    lexed: u64,
+) -> Result<Anew, OutOfMemory>
+    requires lists { IsListed edit.now.old.now lists.now }
+    requires changes { IsChanged edit.now.old.now edit.now.text.now edit.now.start edit.now.old_stop edit.now.new_stop changes.now }
+    requires lines { IsLineList edit.now.text.now lines.now.ends.items lines.now.markers.items lines.now.naming.items }
+    requires tokens { tokens.now ≡ tokens_of edit.now.text.now }
+    requires lexed { lexed ≡ fresh_pieces_between edit.now.old.now edit.now.text.now edit.now.start edit.now.old_stop edit.now.new_stop }
+    ensures { IfOk result (IsAnew edit.now.old.now edit.now.text.now edit.now.start edit.now.old_stop edit.now.new_stop changes.now.items) }
+{
+    let mut parsed = Count::new();
+    let made = made_entries(alloc, lists, edit, changes, tokens, &mut parsed)?;
+    let parsed = parsed.ticks();
+    anew_by(
+        alloc, lists, edit, changes, lines, tokens, made, lexed, parsed,
+    )
+}
+
+// The same by the lists. Where the edit makes all tokens, they are at hand.
+fn anew_among_all(
+    alloc: Global,
+    lists: &Lists,
+    edit: &TextEdit,
+    changes: &Changes,
+    lines: &LineList,
+    lexed: u64,
+) -> Result<Anew, OutOfMemory>
+    requires lists { IsListed edit.now.old.now lists.now }
+    requires changes { IsChanged edit.now.old.now edit.now.text.now edit.now.start edit.now.old_stop edit.now.new_stop changes.now }
+    requires lines { IsLineList edit.now.text.now lines.now.ends.items lines.now.markers.items lines.now.naming.items }
+    requires lexed { lexed ≡ fresh_pieces_between edit.now.old.now edit.now.text.now edit.now.start edit.now.old_stop edit.now.new_stop }
+    ensures { IfOk result (IsAnew edit.now.old.now edit.now.text.now edit.now.start edit.now.old_stop edit.now.new_stop changes.now.items) }
+{
+    if replaces_all(lists, edit, changes) {
+        let tokens = &changes.tokens.made;
+        return anew_of_many(alloc, lists, edit, changes, lines, tokens, lexed);
+    }
+    let tokens = lists.pieces.tokens_after(alloc, edit, &changes.pieces)?;
+    anew_of_many(alloc, lists, edit, changes, lines, &tokens, lexed)
+}
+
+// The whole way of an edit, whatever items it makes.
+fn way_of_many(
+    alloc: Global,
+    lists: &Lists,
+    edit: &TextEdit,
+    changes: Changes,
+    lines: LineList,
+    lexed: u64,
+) -> Result<WholeWay, OutOfMemory>
+    requires lists { IsListed edit.now.old.now lists.now }
+    requires changes { IsChanged edit.now.old.now edit.now.text.now edit.now.start edit.now.old_stop edit.now.new_stop changes }
+    requires lines { IsLineList edit.now.text.now lines.ends.items lines.markers.items lines.naming.items }
+    requires lexed { lexed ≡ fresh_pieces_between edit.now.old.now edit.now.text.now edit.now.start edit.now.old_stop edit.now.new_stop }
+    ensures { IfOk result (IsWholeWay edit.now.old.now edit.now.text.now edit.now.start edit.now.old_stop edit.now.new_stop) }
+{
+    let anew = anew_among_all(alloc, lists, edit, &changes, &lines, lexed)?;
+    Ok(whole_way(changes, lines, anew))
+}
+
+// The whole way of an edit that makes one item.
+fn way_of_one(
+    alloc: Global,
+    lists: &Lists,
+    edit: &TextEdit,
+    changes: Changes,
+    lines: LineList,
+    made: Vec<Boxed<Entry>>,
+    lexed: u64,
+    parsed: u64,
+) -> Result<WholeWay, OutOfMemory>
+    requires lists { IsListed edit.now.old.now lists.now }
+    requires changes { IsChanged edit.now.old.now edit.now.text.now edit.now.start edit.now.old_stop edit.now.new_stop changes }
+    requires lines { IsLineList edit.now.text.now lines.ends.items lines.markers.items lines.naming.items }
+    requires parsed { parsed ≡ length (fresh_items_between edit.now.old.now edit.now.text.now edit.now.start edit.now.old_stop edit.now.new_stop) }
+    requires made { AreEntriesMade edit.now.old.now edit.now.text.now changes.items.kept_front made.items changes.items.kept_back }
+    requires lexed { lexed ≡ fresh_pieces_between edit.now.old.now edit.now.text.now edit.now.start edit.now.old_stop edit.now.new_stop }
+    ensures { IfOk result (IsWholeWay edit.now.old.now edit.now.text.now edit.now.start edit.now.old_stop edit.now.new_stop) }
+{
+    let tokens = lists.pieces.tokens_after(alloc, edit, &changes.pieces)?;
+    let anew = anew_by(
+        alloc, lists, edit, &changes, &lines, &tokens, made, lexed, parsed,
+    )?;
+    Ok(whole_way(changes, lines, anew))
+}
+
+// The plan of an edit that makes one item in the place of one. The item is parsed once.
+fn plan_of_one(
+    alloc: Global,
+    lists: &Lists,
+    found: &[Diagnostic],
+    edit: &TextEdit,
+    changes: Changes,
+    lines: LineList,
+    lexed: u64,
+) -> Result<Plan, OutOfMemory>
+    requires lists { IsListed edit.now.old.now lists.now }
+    requires found { found.now ≡ diagnostics_of edit.now.old.now }
+    requires changes { IsChanged edit.now.old.now edit.now.text.now edit.now.start edit.now.old_stop edit.now.new_stop changes }
+    requires lines { IsLineList edit.now.text.now lines.ends.items lines.markers.items lines.naming.items }
+    requires one { IsOneItem edit.now.old.now changes }
+    requires lexed { lexed ≡ fresh_pieces_between edit.now.old.now edit.now.text.now edit.now.start edit.now.old_stop edit.now.new_stop }
+    ensures { IfOk result (IsPlan edit.now.old.now edit.now.text.now edit.now.start edit.now.old_stop edit.now.new_stop) }
+{
+    let own = own_tokens(alloc, lists, edit, &changes)?;
+    let (mut parsed, mut checked) = (Count::new(), Count::new());
+    let made = made_alone(alloc, edit, &changes, &own, &mut parsed)?;
+    let parsed = parsed.ticks();
+    let inside = inside_of(
+        alloc,
+        lists,
+        found,
+        edit,
+        &changes,
+        &lines,
+        &own,
+        made[0].get(),
+        &mut checked,
+    )?;
+    let Some(inside) = inside else {
+        let way = way_of_one(alloc, lists, edit, changes, lines, made, lexed, parsed)?;
+        return Ok(Plan::Whole(way));
+    };
+    let work = Work {
+        lexed,
+        parsed,
+        checked: checked.ticks(),
+    };
+    let way = item_way(alloc, lists, edit, changes, lines, made, inside, work)?;
+    Ok(Plan::Item(way))
+}
+
+// The plan of an edit that changes what some item says.
+fn plan_anew(
+    alloc: Global,
+    lists: &Lists,
+    found: &[Diagnostic],
+    edit: &TextEdit,
+    changes: Changes,
+    lines: LineList,
+    lexed: u64,
+) -> Result<Plan, OutOfMemory>
+    requires lists { IsListed edit.now.old.now lists.now }
+    requires found { found.now ≡ diagnostics_of edit.now.old.now }
+    requires changes { IsChanged edit.now.old.now edit.now.text.now edit.now.start edit.now.old_stop edit.now.new_stop changes }
+    requires lines { IsLineList edit.now.text.now lines.ends.items lines.markers.items lines.naming.items }
+    requires lexed { lexed ≡ fresh_pieces_between edit.now.old.now edit.now.text.now edit.now.start edit.now.old_stop edit.now.new_stop }
+    ensures { IfOk result (IsPlan edit.now.old.now edit.now.text.now edit.now.start edit.now.old_stop edit.now.new_stop) }
+{
+    if replaces_one(lists, edit, &changes) {
+        return plan_of_one(alloc, lists, found, edit, changes, lines, lexed);
+    }
+    let way = way_of_many(alloc, lists, edit, changes, lines, lexed)?;
+    Ok(Plan::Whole(way))
+}
+
+/// The plan of an edit of the text that has these lists and diagnostics.
+pub fn plan_of(
+    alloc: Global,
+    lists: &Lists,
+    found: &[Diagnostic],
+    edit: &TextEdit,
+) -> Result<Plan, OutOfMemory>
+    requires lists { IsListed edit.now.old.now lists.now }
+    requires found { found.now ≡ diagnostics_of edit.now.old.now }
+    ensures { IfOk result (IsPlan edit.now.old.now edit.now.text.now edit.now.start edit.now.old_stop edit.now.new_stop) }
+{
+    pieces_are_fresh();
+    let mut lexed = Count::new();
+    let changes = changes_of(alloc, lists, edit, &mut lexed)?;
+    let lines = lists.lines.after(alloc, edit, &changes.pieces)?;
+    match shift_of(lists, found, edit, &changes) {
+        Some(shifted) => Ok(Plan::Short(short_way(edit, changes, lines, shifted, lexed.ticks()))),
+        None => plan_anew(alloc, lists, found, edit, changes, lines, lexed.ticks()),
+    }
+}
+
+impl Plan {
+    /// What the edit cost.
+    pub fn work(&self) -> Work
+        ensures { result ≡ work_of self.now }
+    {
+        match self {
+            Plan::Short(way) => way.work,
+            Plan::Item(way) => way.work,
+            Plan::Whole(way) => way.work,
+        }
+    }
+
+    // Makes room in the lists for what the plan makes. An error leaves the lists as they were.
+    fn make_room(&self, lists: &mut Lists) -> Result<(), OutOfMemory>
+        ensures lists { SameLists lists.old lists.new }
+        ensures room { OnOk result (HasRoom lists.new self.now) }
+    {
+        match self {
+            Plan::Short(way) => lists.reserve_places(&way.changes),
+            Plan::Item(way) => lists.reserve(&way.changes, &way.remade),
+            Plan::Whole(way) => lists.reserve(&way.changes, &way.remade),
+        }
+    }
+
+    /// Makes room in the lists for what the plan makes. An error leaves the lists as they were, and lets the plan go.
+    pub fn with_room_in(self, lists: &mut Lists) -> Result<Plan, OutOfMemory>
+        ensures lists { SameLists lists.old lists.new }
+        ensures plan { IfOk result (λ p. p ≡ self) }
+        ensures room { OnOk result (HasRoom lists.new self) }
+    {
+        self.make_room(lists)?;
+        Ok(self)
+    }
+
+    /// Makes what is kept of the old text that of the new one. There is room for what is made, so it can't fail.
+    pub fn commit(
+        self,
+        edit: &TextEdit,
+        lists: &mut Lists,
+        found: &mut Vec<Diagnostic>,
+        tables: &mut Tables,
+    )
+        requires plan { IsPlan edit.now.old.now edit.now.text.now edit.now.start edit.now.old_stop edit.now.new_stop self }
+        requires lists { IsListed edit.now.old.now lists.old }
+        requires found { found.old.items ≡ diagnostics_of edit.now.old.now }
+        requires tables { tables.old ≡ tables_in edit.now.old.now }
+        requires room { HasRoom lists.old self }
+        ensures lists { IsListed edit.now.text.now lists.new }
+        ensures found { found.new.items ≡ diagnostics_of edit.now.text.now }
+        ensures tables { tables.new ≡ tables_in edit.now.text.now }
+    {
+        match self {
+            Plan::Short(way) => way.commit(edit, lists, found, tables),
+            Plan::Item(way) => way.commit(edit, lists, found, tables),
+            Plan::Whole(way) => way.commit(edit, lists, found, tables),
+        }
+    }
+}
