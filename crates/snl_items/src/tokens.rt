@@ -73,7 +73,7 @@ pub fn marks_of(alloc: Global, text: &[u8], tokens: &[Piece]) -> Result<Vec<Mark
     requires { All (LiesIn text.now) tokens.now }
     ensures { IfOk result (λ marks. marks.items ≡ map (mark_in text.now) tokens.now) }
 {
-    let mut marks = Vec::new(alloc);
+    let mut marks = Vec::with_capacity(alloc, tokens.len())?;
     for piece in tokens {
         marks.push(mark(text, *piece))?;
     }

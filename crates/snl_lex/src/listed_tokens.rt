@@ -70,7 +70,7 @@ fn add_tokens(pieces: &[Piece], tokens: &mut Vec<Piece>) -> Result<(), OutOfMemo
 pub fn tokens_among(alloc: Global, pieces: &[Piece]) -> Result<Vec<Piece>, OutOfMemory>
     ensures { IfOk result (λ tokens. tokens.items ≡ filter is_token pieces.now) }
 {
-    let mut tokens = Vec::new(alloc);
+    let mut tokens = Vec::with_capacity(alloc, pieces.len())?;
     add_tokens(pieces, &mut tokens)?;
     Ok(tokens)
 }
@@ -90,7 +90,7 @@ impl PieceList {
             result
             (λ tokens. (text : List ℕ) → self.now.ends.items ≡ piece_ends text → self.now.kinds.items ≡ piece_kinds text → tokens.items ≡ filter is_token (pieces_between (pieces_of text) from stop)) }
     {
-        let mut tokens = Vec::new(alloc);
+        let mut tokens = Vec::with_capacity(alloc, stop - from)?;
         add_listed_tokens(self, from, stop, 0, 0, &mut tokens)?;
         Ok(tokens)
     }
@@ -119,7 +119,8 @@ impl PieceList {
     {
         let count = self.ends.len();
         let back = count - change.kept_back;
-        let mut tokens = Vec::new(alloc);
+        let room = count.saturating_add(change.made.len());
+        let mut tokens = Vec::with_capacity(alloc, room)?;
         add_listed_tokens(self, 0, change.kept_front, 0, 0, &mut tokens)?;
         add_tokens(&change.made, &mut tokens)?;
         add_listed_tokens(self, back, count, edit.old_stop, edit.new_stop, &mut tokens)?;

@@ -32,7 +32,7 @@ returns c =
     let ps : List Piece = pieces_of edit.old.now in
     let listed : listed_pieces 0 l.ends.items l.kinds.items ≡ ps = listed_are edit.old.now l.ends.items l.kinds.items c.requires.ends c.requires.kinds in
     let many : count ≡ length ps = omega (arith, c.len-count.ensures, l.ends.ok, ap length c.requires.ends, length-map ps piece_end) in
-    let front = rw c.new-tokens.ensures.items at c.in_ok-add_listed_tokens.ensures in
+    let front = rw c.in_ok-tokens.ensures.items at c.in_ok-add_listed_tokens.ensures in
     let made = rw c.deref.ensures.value at c.in_ok-add_tokens.ensures in
     c.in_ok-add_listed_tokens-2.ensures
     ∙ ap (λ (k : List Piece). k ++ map (moved_piece b d) (filter is_token (pieces_between (listed_pieces 0 l.ends.items l.kinds.items) (count - change.kept_back) count))) (made ∙ ap (λ (k : List Piece). k ++ filter is_token change.made.items) front)
