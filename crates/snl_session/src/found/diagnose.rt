@@ -63,7 +63,7 @@ pub fn on_lines(
     requires { IsLineList text.now lines.now.ends.items lines.now.markers.items lines.now.naming.items }
     ensures { IfOk result (λ v. v.items ≡ map (diagnostic text.now) found.now) }
 {
-    let mut diagnostics = Vec::new(alloc);
+    let mut diagnostics = Vec::with_capacity(alloc, found.len())?;
     for finding in found {
         diagnostics.push(on_line(*finding, lines.line_by(text, finding.offset)))?;
     }
