@@ -17,5 +17,5 @@ typed_edit text at byte now le e =
       old_inside = le;
       new_inside = omega (arith, ap length (sym parts), length-append (front ++ byte ∷ []) back, more);
       before = sym (ap (take at) e ∙ take_at front (byte ∷ back) at size);
-      behind = sym (ap (drop (at + 1)) (sym parts) ∙ drop_at (front ++ byte ∷ []) back (at + 1) more);
+      after = sym (ap (drop (at + 1)) (sym parts) ∙ drop_at (front ++ byte ∷ []) back (at + 1) more);
     }

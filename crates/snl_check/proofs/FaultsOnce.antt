@@ -2,19 +2,19 @@
 -- has the code of these.
 use Rattle.std.proofs.Common.{◌≡◌, ◌≢◌, ℕ, ◌+◌, ◌<◌, ◌≤◌, Bool, true, false, cond, List, [], ◌∷◌, ◌++◌, map, All, refl, sym, subst, ap, ap₂, ◌∙◌, arith}
 use Rattle.std.specs.List.{AllByRecursion as Each, AllPairs, enumerate_from, flat_map}
+use Rattle.std.proofs.lemmas.Bool.{false≢true}
 use Rattle.std.proofs.lemmas.List.Elements.{All-from_recursion, recursion_from_All}
 use Rattle.snl_syntax.specs.declared.tree.item.Item.{Item}
 use Rattle.snl_syntax.specs.declared.tree.item.Item.TheVariants as items
 use Rattle.snl_syntax.specs.declared.tree.state.StateMember.{StateMember}
 use Rattle.snl_syntax.specs.declared.tree.state.StateMember.TheVariants as members
 use Rattle.snl_walk.specs.declared.rules.Finding.{Finding}
-use Rattle.snl_walk.specs.declared.rules.Rule.{Rule}
-use Rattle.snl_walk.specs.declared.rules.Rule.TheVariants as rules
+use Rattle.snl_walk.specs.Codes.{is_rule_code}
 use Rattle.snl_walk.specs.Options.{letters_in, letters_in_member}
-use Rattle.snl_scope.specs.declared.codes.Code.{Code}
-use Rattle.snl_scope.specs.declared.codes.Code.TheVariants.{E07, E10, E17, E18, E19, E20, E21, W01, W04}
+use Rattle.snl_walk.specs.declared.codes.Code.{Code}
+use Rattle.snl_walk.specs.declared.codes.Code.TheVariants.{W04}
 use Rattle.snl_check.specs.declared.rules.findings.ItemFault.{ItemFault}
-use Rattle.snl_check.specs.Found.{code_of, fault_of}
+use Rattle.snl_check.specs.Found.{fault_of}
 use Rattle.snl_check.specs.Options.{found_at_letter, is_known, letter_fault, program_letters, state_letters, unknown_in_member, unknown_letters, unknown_options}
 use Rattle.snl_check.proofs.Each.{each_join, each_of, each_weaker}
 use Rattle.snl_check.proofs.Pairs.{EachTwo, across, pairs_from_two, two-append, two-map, two_from_pairs, two_weaker}
@@ -22,46 +22,11 @@ use Rattle.snl_check.proofs.Pairs.{EachTwo, across, pairs_from_two, two-append, 
 abbrev Differ : {A : Type 0} → A → A → Type 0
 Differ a b = a ≢ b
 
--- ---- rules by their codes
-
-rule_of : Code → Rule
-rule_of E07 = rules.RepeatedDeclaration
-rule_of E10 = rules.UnknownState
-rule_of E17 = rules.WrongFlag
-rule_of E18 = rules.StrayChange
-rule_of E19 = rules.StrayJump
-rule_of E20 = rules.NoEventFlag
-rule_of E21 = rules.NoChannel
-rule_of W01 = rules.Undeclared
-rule_of _ = rules.StrayDelay
-
-rule_back : (r : Rule) → rule_of (code_of r) ≡ r
-unfolding rule_of
-rule_back rules.RepeatedDeclaration = refl
-rule_back rules.UnknownState = refl
-rule_back rules.WrongFlag = refl
-rule_back rules.StrayChange = refl
-rule_back rules.StrayJump = refl
-rule_back rules.NoEventFlag = refl
-rule_back rules.NoChannel = refl
-rule_back rules.Undeclared = refl
-rule_back rules.StrayDelay = refl
-
-code_other : (r : Rule) → code_of r ≢ W04
-code_other rules.RepeatedDeclaration = λ e. cc
-code_other rules.UnknownState = λ e. cc
-code_other rules.WrongFlag = λ e. cc
-code_other rules.StrayChange = λ e. cc
-code_other rules.StrayJump = λ e. cc
-code_other rules.NoEventFlag = λ e. cc
-code_other rules.NoChannel = λ e. cc
-code_other rules.Undeclared = λ e. cc
-code_other rules.StrayDelay = λ e. cc
+-- ---- rules
 
 same_finding : (f g : Finding) → fault_of f ≡ fault_of g → f ≡ g
 same_finding f g e =
-    let rule : f.rule ≡ g.rule = sym (rule_back f.rule) ∙ ap (λ (k : ItemFault). rule_of k.code) e ∙ rule_back g.rule in
-    ap₂ (λ (t : ℕ) (r : Rule). let k : Finding = record { token = t; rule = r } in k) (ap (λ (k : ItemFault). k.token) e) rule
+    ap₂ (λ (t : ℕ) (c : Code). let k : Finding = record { token = t; code = c } in k) (ap (λ (k : ItemFault). k.token) e) (ap (λ (k : ItemFault). k.code) e)
 
 rules_apart : (fs : List Finding) → AllPairs (λ a b. a ≢ b) fs → EachTwo Differ (map fault_of fs)
 rules_apart fs h = two-map Differ fault_of fs (two_weaker Differ (λ f g. fault_of f ≢ fault_of g) (λ f g ne e. ne (same_finding f g e)) fs (two_from_pairs Differ fs h))
@@ -69,9 +34,12 @@ rules_apart fs h = two-map Differ fault_of fs (two_weaker Differ (λ f g. fault_
 abbrev IsOther : ItemFault → Type 0
 IsOther f = f.code ≢ W04
 
-rules_other : (fs : List Finding) → Each IsOther (map fault_of fs)
-rules_other [] = tt
-rules_other (f ∷ fs) = (code_other f.rule, rules_other fs)
+abbrev HasRuleCode : Finding → Type 0
+HasRuleCode f = is_rule_code f.code ≡ true
+
+rules_other : (fs : List Finding) → Each HasRuleCode fs → Each IsOther (map fault_of fs)
+rules_other [] h = tt
+rules_other (f ∷ fs) h = ((λ same. false≢true (sym (ap is_rule_code same) ∙ h.0)), rules_other fs h.1)
 
 -- ---- the letters of options
 
@@ -160,14 +128,14 @@ module _ (bytes : ℕ → List ℕ) where
   every [] = tt
   every (x ∷ xs) = (tt, every xs)
 
-  pub faults_apart : (in_set : Bool) (t : Item) (fs : List Finding) → AllPairs (λ a b. a ≢ b) fs → AllPairs (λ a b. a < b) (letters_in t) →
+  pub faults_apart : (in_set : Bool) (t : Item) (fs : List Finding) → All HasRuleCode fs → AllPairs (λ a b. a ≢ b) fs → AllPairs (λ a b. a < b) (letters_in t) →
       AllPairs (λ a b. a ≢ b) (map fault_of fs ++ unknown_options bytes in_set t)
-  faults_apart in_set t fs differ rise =
+  faults_apart in_set t fs told differ rise =
       let os = unknown_options bytes in_set t in
       pairs_from_two Differ (map fault_of fs ++ os)
       (two-append Differ (map fault_of fs) os (rules_apart fs differ) (options_apart in_set t (two_from_pairs (λ a b. a < b) (letters_in t) rise))
       (across Differ IsOther (IsLetter (λ n. Unit {0})) (λ f g other letter e. other (ap (λ (k : ItemFault). k.code) e ∙ letter.1)) (map fault_of fs) os
-      (rules_other fs) (options_stand (λ n. Unit {0}) in_set t (every (letters_in t)))))
+      (rules_other fs (recursion_from_All HasRuleCode fs told)) (options_stand (λ n. Unit {0}) in_set t (every (letters_in t)))))
 
   pub faults_stand : (count : ℕ) (in_set : Bool) (t : Item) (fs : List Finding) → All (λ f. f.token < count) fs → All (λ n. n < count) (letters_in t) →
       All (λ f. f.token < count) (map fault_of fs ++ unknown_options bytes in_set t)

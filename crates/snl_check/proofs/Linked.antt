@@ -7,7 +7,7 @@ use Rattle.snl_lex.specs.declared.piece.Piece.{Piece}
 use Rattle.snl_syntax.specs.declared.tree.item.Item.{Item}
 use Rattle.snl_scope.specs.declared.summaries.summary.Outline.{Outline}
 use Rattle.snl_scope.specs.Summaries.{occurrences_in}
-use Rattle.snl_scope.specs.Summaries.Tokens.{mention_at}
+use Rattle.snl_scope.specs.Summaries.Tokens.{name_ref_at}
 use Rattle.snl_walk.specs.declared.used.TargetUse.{TargetUse}
 use Rattle.snl_walk.specs.Items.{occurrences}
 use Rattle.snl_walk.specs.Tokens.{bytes_at}
@@ -46,16 +46,16 @@ counted p ss is linked = sym (ap length linked ∙ length-map (items_in p) (outl
 
 -- the targets of an item
 pub targets_at : (text : List ℕ) (xs : List ProgramItem) (ss : List Outline) (states : List ℕ) (i : ℕ) →
-    target_numbers text xs ss states i ≡ filter_map (target_number ss states i) (map (mention_at text (tokens_in xs i)) (map (λ (u : TargetUse). u.token) (told_in text xs i).target_uses))
+    target_numbers text xs ss states i ≡ filter_map (target_number ss states i) (map (name_ref_at text (tokens_in xs i)) (map (λ (u : TargetUse). u.token) (told_in text xs i).target_uses))
 targets_at text xs ss states i = by (slice_get xs i)
   where
-    by_tree : (tokens : List Piece) (t : Option Item) → filter_map (target_number ss states i) (map (mention_at text tokens) (targets (occurrences_in (bytes_at text tokens) t)))
-        ≡ filter_map (target_number ss states i) (map (mention_at text tokens) (map (λ (u : TargetUse). u.token) (option_map_or (told_by (bytes_at text tokens)) t nothing).target_uses))
+    by_tree : (tokens : List Piece) (t : Option Item) → filter_map (target_number ss states i) (map (name_ref_at text tokens) (targets (occurrences_in (bytes_at text tokens) t)))
+        ≡ filter_map (target_number ss states i) (map (name_ref_at text tokens) (map (λ (u : TargetUse). u.token) (option_map_or (told_by (bytes_at text tokens)) t nothing).target_uses))
     by_tree tokens None = refl
-    by_tree tokens (Some t) = ap (λ l. filter_map (target_number ss states i) (map (mention_at text tokens) l)) (sym (uses_at_targets false (occurrences (bytes_at text tokens) t)))
+    by_tree tokens (Some t) = ap (λ l. filter_map (target_number ss states i) (map (name_ref_at text tokens) l)) (sym (uses_at_targets false (occurrences (bytes_at text tokens) t)))
 
     by : (o : Option ProgramItem) → option_map_or (λ (x : ProgramItem). filter_map (target_number ss states i) (summary_of_item text x).targets) o []
-        ≡ filter_map (target_number ss states i) (map (mention_at text (option_map_or (λ (x : ProgramItem). x.tokens) o [])) (map (λ (u : TargetUse). u.token) (option_map_or (told_in_item text) o nothing).target_uses))
+        ≡ filter_map (target_number ss states i) (map (name_ref_at text (option_map_or (λ (x : ProgramItem). x.tokens) o [])) (map (λ (u : TargetUse). u.token) (option_map_or (told_in_item text) o nothing).target_uses))
     by None = refl
     by (Some x) = by_tree x.tokens x.tree
 

@@ -11,8 +11,8 @@ use Rattle.snl_walk.specs.Rules.{findings}
 use Rattle.snl_walk.specs.Tokens.{bytes_at}
 use Rattle.snl_walk.specs.Uses.{targets, uses}
 use Rattle.snl_scope.specs.declared.facts.Fact.{Fact}
-use Rattle.snl_scope.specs.declared.summaries.summary.Mention.{Mention}
-use Rattle.snl_scope.specs.Summaries.Tokens.{mention_at}
+use Rattle.snl_scope.specs.declared.summaries.summary.NameRef.{NameRef}
+use Rattle.snl_scope.specs.Summaries.Tokens.{name_ref_at}
 use Rattle.snl_check.specs.Alike.{Agree, SameTokens, target_names, used_names}
 use Rattle.snl_check.specs.Found.{fault_of, faults_in}
 use Rattle.snl_check.specs.Options.{unknown_options}
@@ -47,8 +47,8 @@ module _ (tell : AnswersTell) (text : List ℕ) (tokens : List Piece) (tree : It
   targets_agree agree =
       All-weaker (λ n. target (bytes n) ≡ another (bytes n)) (λ n. misses_by in_set target (bytes n) ≡ misses_by in_set another (bytes n)) (λ n h. ap (λ b. in_set && not b) h) (targets found)
       (All-from_recursion (λ n. target (bytes n) ≡ another (bytes n)) (targets found)
-      (each_image (λ (m : Mention). target m.name ≡ another m.name) (mention_at text tokens) (targets found)
-      (each_image (λ name. target name ≡ another name) (λ (m : Mention). m.name) (map (mention_at text tokens) (targets found))
+      (each_image (λ (m : NameRef). target m.name ≡ another m.name) (name_ref_at text tokens) (targets found)
+      (each_image (λ name. target name ≡ another name) (λ (m : NameRef). m.name) (map (name_ref_at text tokens) (targets found))
       (recursion_from_All (λ name. target name ≡ another name) (target_names text tokens tree) agree))))
 
   pub faults_agree : Agree fact other (used_names text tokens tree) → Agree target another (target_names text tokens tree) →

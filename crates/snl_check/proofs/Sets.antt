@@ -90,8 +90,8 @@ module _ (law : SetsOpenInTurn) (ss : List Outline) (k : ℕ) where
   none_before j l = false_if (stands_in ss k j) (λ h. let less = law.within ss j k (stands_from j h) in omega (arith, l, less))
 
   -- after the item that ends the set no item is in it
-  none_behind : (i : ℕ) → k < i → (i ≡ length ss) ⊎ (stands_in ss k i ≡ false) → (j : ℕ) → i ≤ j → j < length ss → stands_in ss k j ≡ false
-  none_behind i l end j le within =
+  none_after : (i : ℕ) → k < i → (i ≡ length ss) ⊎ (stands_in ss k i ≡ false) → (j : ℕ) → i ≤ j → j < length ss → stands_in ss k j ≡ false
+  none_after i l end j le within =
       false_if (stands_in ss k j) (λ h. elim end [ inl all ↦ omega (arith, all, le, within) | inr out ↦ false≢true (sym out ∙ between i j l le within h) ])
 
   pub stand_within : (i : ℕ) → k < i → ((j : ℕ) → k < j → j < i → stands_in ss k j ≡ true) → (i ≡ length ss) ⊎ (stands_in ss k i ≡ false) → (j : ℕ) → j < length ss → stands_in ss k j ≡ (nat_lt k j && nat_lt j i)
@@ -101,7 +101,7 @@ module _ (law : SetsOpenInTurn) (ss : List Outline) (k : ℕ) where
         | inl high ↦
             elim (cases_lt j i) [
               | inl near ↦ inside j high near ∙ sym (ap (λ b. b && nat_lt j i) (lt-ltb k j high) ∙ lt-ltb j i near)
-              | inr far ↦ none_behind i l end j far within ∙ sym (ap (λ b. b && nat_lt j i) (lt-ltb k j high) ∙ le-ltb j i far)
+              | inr far ↦ none_after i l end j far within ∙ sym (ap (λ b. b && nat_lt j i) (lt-ltb k j high) ∙ le-ltb j i far)
             ]
       ]
 

@@ -18,14 +18,14 @@ use Rattle.snl_syntax.specs.declared.tree.state.StateMember.TheVariants as membe
 use Rattle.snl_scope.specs.declared.facts.ClauseLink.{ClauseLink}
 use Rattle.snl_scope.specs.declared.facts.Declaration.{Declaration}
 use Rattle.snl_scope.specs.declared.facts.Scope.{Scope}
-use Rattle.snl_scope.specs.declared.codes.Code.{Code}
-use Rattle.snl_scope.specs.declared.codes.Code.TheVariants.{E08, E09}
-use Rattle.snl_scope.specs.declared.names.spaces.Space.{Space}
-use Rattle.snl_scope.specs.declared.names.spaces.Space.TheVariants as space
+use Rattle.snl_walk.specs.declared.codes.Code.{Code}
+use Rattle.snl_walk.specs.declared.codes.Code.TheVariants.{E08, E09}
+use Rattle.snl_scope.specs.declared.names.namespaces.Namespace.{Namespace}
+use Rattle.snl_scope.specs.declared.names.namespaces.Namespace.TheVariants as namespace
 use Rattle.snl_scope.specs.declared.summaries.summary.Declared.{Declared}
 use Rattle.snl_scope.specs.declared.summaries.summary.ItemKind.{ItemKind}
 use Rattle.snl_scope.specs.declared.summaries.summary.ItemKind.TheVariants as kinds
-use Rattle.snl_scope.specs.declared.summaries.summary.Mention.{Mention}
+use Rattle.snl_scope.specs.declared.summaries.summary.NameRef.{NameRef}
 use Rattle.snl_scope.specs.declared.summaries.summary.Outline.{Outline}
 use Rattle.snl_scope.specs.Below.{all_below}
 use Rattle.snl_scope.specs.Clauses.{clause_links, resolve_in}
@@ -232,18 +232,18 @@ module _ (laws : SpellingLaws) (old text : List ℕ) (s : Shift) (xs ys : List P
   entries_placed zero = tt
   entries_placed (suc n) = each_join IsKeptName (entries_before ss n) (option_map_or (entries_of ss n) (slice_get ss n) []) (entries_placed n) (by (slice_get ss n) refl)
     where
-      named : (space : Space) (code : Option Code) (words : List (List ℕ)) → AllByRecursion IsKeptName (map (named_entry space n code) words)
-      named space code words = each_of IsKeptName (named_entry space n code) words (each_all (λ name. IsKeptName (named_entry space n code name)) words (λ name. tt))
+      named : (namespace : Namespace) (code : Option Code) (words : List (List ℕ)) → AllByRecursion IsKeptName (map (named_entry namespace n code) words)
+      named namespace code words = each_of IsKeptName (named_entry namespace n code) words (each_all (λ name. IsKeptName (named_entry namespace n code name)) words (λ name. tt))
 
       states : (p : Option ℕ) (o : Outline) → AllByRecursion IsKeptName (state_entries p n o)
       states None o = tt
-      states (Some k) o = named (space.States k) (Some E09) (option_to_list (state_name o))
+      states (Some k) o = named (namespace.States k) (Some E09) (option_to_list (state_name o))
 
       by : (o : Option Outline) → slice_get ss n ≡ o → AllByRecursion IsKeptName (option_map_or (entries_of ss n) o [])
       by None e = tt
       by (Some o) e =
           each_join IsKeptName (set_entries n o ++ state_entries (place ss n) n o) (map (declared_entry (scope_of ss n o) n) o.declares)
-          (each_join IsKeptName (set_entries n o) (state_entries (place ss n) n o) (named space.Sets (Some E08) (option_to_list (set_name o))) (states (place ss n) o))
+          (each_join IsKeptName (set_entries n o) (state_entries (place ss n) n o) (named namespace.Sets (Some E08) (option_to_list (set_name o))) (states (place ss n) o))
           (declares_placed n o (declares_at n o e))
 
   declared_placed : (number : ℕ) (d : Declaration) → declaration_at ss number ≡ Some d → IsPlaced d.item d.token
@@ -308,10 +308,10 @@ module _ (laws : SpellingLaws) (old text : List ℕ) (s : Shift) (xs ys : List P
   is_state_in k i = is_named_state ss i && stands_in ss k i
 
   targets_told : (bytes : List ℕ) (zs : List ProgramItem) (z : ProgramItem) → slice_get zs j ≡ Some z → (states : List ℕ) →
-      target_numbers bytes zs ss states j ≡ filter_map (λ name. number_among states (state_of ss j name)) (map (λ (m : Mention). m.name) (summary_of_item bytes z).targets)
+      target_numbers bytes zs ss states j ≡ filter_map (λ name. number_among states (state_of ss j name)) (map (λ (m : NameRef). m.name) (summary_of_item bytes z).targets)
   targets_told bytes zs z at states =
       ap (λ (o : Option ProgramItem). option_map_or (λ (x : ProgramItem). filter_map (target_number ss states j) (summary_of_item bytes x).targets) o []) at
-      ∙ kept_map (λ (m : Mention). m.name) (λ name. number_among states (state_of ss j name)) (summary_of_item bytes z).targets
+      ∙ kept_map (λ (m : NameRef). m.name) (λ name. number_among states (state_of ss j name)) (summary_of_item bytes z).targets
 
   -- ---- the rows of sets that the state isn't in
 
@@ -378,11 +378,11 @@ module _ (laws : SpellingLaws) (old text : List ℕ) (s : Shift) (xs ys : List P
     sets_around c here =
         let front = all_below (is_set_begin ss) set in
         ap (map (set_row text ys ss)) set_parts.whole
-        ∙ row_changed (set_row text ys ss) (λ k. shifted_set s (set_row old xs ss k)) c front set set_parts.behind
+        ∙ row_changed (set_row text ys ss) (λ k. shifted_set s (set_row old xs ss k)) c front set set_parts.after
         (each_under (λ k. set_row text ys ss k ≡ shifted_set s (set_row old xs ss k)) (is_set_begin ss) set (λ k l is. set_shift k is (other_set k (λ same. omega (arith, same, l)))))
         here set_parts.each
         ∙ ap (changed_at c (set_number ss set))
-        (map_twice (shifted_set s) (set_row old xs ss) (front ++ (set ∷ set_parts.behind))
+        (map_twice (shifted_set s) (set_row old xs ss) (front ++ (set ∷ set_parts.after))
         ∙ ap (λ (l : List ℕ). map (shifted_set s) (map (set_row old xs ss) l)) (sym set_parts.whole))
 
     tables_if : (sets : List SetRow) → set_rows text ys ss ≡ sets → tables_of text ys ≡ record (shifted_tables s (tables_of old xs)) { sets = sets }
@@ -468,10 +468,10 @@ module _ (laws : SpellingLaws) (old text : List ℕ) (s : Shift) (xs ys : List P
           let front = all_below (is_state_in set) j in
           let zero : number ≡ 0 + number = omega arith in
           ap (λ (l : List ℕ). map (numbered_row text ys ss set) (enumerate_from 0 l)) state_parts.whole
-          ∙ numbered_changed (numbered_row text ys ss set) shifted_row (with_own_body body) 0 front j state_parts.behind
+          ∙ numbered_changed (numbered_row text ys ss set) shifted_row (with_own_body body) 0 front j state_parts.after
           (each_under IsShifted (is_state_in set) j (λ i l is. shifts i (row_kept i (λ same. omega (arith, same, l)) (and_front (is_named_state ss i) (stands_in ss set i) is))))
           (subst (λ n. numbered_row text ys ss set (n, j) ≡ with_own_body body (shifted_row (n, j))) zero row_here)
-          (each_weaker (IsRowKept old text s xs ys) IsShifted shifts state_parts.behind state_parts.each)
+          (each_weaker (IsRowKept old text s xs ys) IsShifted shifts state_parts.after state_parts.each)
           ∙ ap (λ (l : List ℕ). changed_at (with_own_body body) number (map shifted_row (enumerate_from 0 l))) (sym state_parts.whole)
           ∙ ap (changed_at (with_own_body body) number) (map_twice (shifted_state s) (numbered_row old xs ss set) (enumerate_from 0 (states_in ss set)))
 

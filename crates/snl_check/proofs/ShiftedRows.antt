@@ -19,25 +19,25 @@ each_under P p (suc n) h =
     by false e = tt
 
 pub record Parts (P : ℕ → Type 0) (p : ℕ → Bool) (n k : ℕ) : Type 0 where
-  pub behind : List ℕ
-  pub whole : all_below p n ≡ all_below p k ++ (k ∷ behind)
-  pub each : AllByRecursion P behind
+  pub after : List ℕ
+  pub whole : all_below p n ≡ all_below p k ++ (k ∷ after)
+  pub each : AllByRecursion P after
 
 pub parts_at : (P : ℕ → Type 0) (p : ℕ → Bool) (n k : ℕ) → k < n → p k ≡ true → ((i : ℕ) → k < i → i < n → p i ≡ true → P i) → Parts P p n k
 parts_at P p zero k l is h = absurd (omega (arith, l))
 parts_at P p (suc n) k l is h =
     elim (cases_eq k n) [
       | inl same ↦ record {
-        behind = [];
+        after = [];
         whole = ap (λ m. all_below p n ++ (if p m then m ∷ [] else [])) (sym same) ∙ ap (λ b. all_below p n ++ (if b then k ∷ [] else [])) is ∙ ap (λ m. all_below p m ++ k ∷ []) (sym same);
         each = tt;
       }
       | inr apart ↦
           let before : Parts P p n k = parts_at P p n k (omega (arith, l, apart)) is (λ i m o. h i m (omega (arith, o))) in
           record {
-            behind = before.behind ++ (if p n then n ∷ [] else []);
-            whole = ap (λ xs. xs ++ (if p n then n ∷ [] else [])) before.whole ∙ append_assoc (all_below p k) (k ∷ before.behind) (if p n then n ∷ [] else []);
-            each = each_join P before.behind (if p n then n ∷ [] else []) before.each (by (p n) refl (omega (arith, l, apart)));
+            after = before.after ++ (if p n then n ∷ [] else []);
+            whole = ap (λ xs. xs ++ (if p n then n ∷ [] else [])) before.whole ∙ append_assoc (all_below p k) (k ∷ before.after) (if p n then n ∷ [] else []);
+            each = each_join P before.after (if p n then n ∷ [] else []) before.each (by (p n) refl (omega (arith, l, apart)));
           }
     ]
   where
@@ -47,25 +47,25 @@ parts_at P p (suc n) k l is h =
 
 -- ---- lists of rows of which one is changed
 
-pub row_changed : {Y : Type 0} (f g : ℕ → Y) (c : Y → Y) (before : List ℕ) (k : ℕ) (behind : List ℕ) →
-    AllByRecursion (λ i. f i ≡ g i) before → f k ≡ c (g k) → AllByRecursion (λ i. f i ≡ g i) behind →
-    map f (before ++ (k ∷ behind)) ≡ changed_at c (length before) (map g (before ++ (k ∷ behind)))
-row_changed {Y = Y} f g c [] k behind b e a = ap₂ (λ (y : Y) (ys : List Y). y ∷ ys) e (map_same f g behind a)
-row_changed {Y = Y} f g c (x ∷ xs) k behind b e a = ap₂ (λ (y : Y) (ys : List Y). y ∷ ys) b.0 (row_changed f g c xs k behind b.1 e a)
+pub row_changed : {Y : Type 0} (f g : ℕ → Y) (c : Y → Y) (before : List ℕ) (k : ℕ) (after : List ℕ) →
+    AllByRecursion (λ i. f i ≡ g i) before → f k ≡ c (g k) → AllByRecursion (λ i. f i ≡ g i) after →
+    map f (before ++ (k ∷ after)) ≡ changed_at c (length before) (map g (before ++ (k ∷ after)))
+row_changed {Y = Y} f g c [] k after b e a = ap₂ (λ (y : Y) (ys : List Y). y ∷ ys) e (map_same f g after a)
+row_changed {Y = Y} f g c (x ∷ xs) k after b e a = ap₂ (λ (y : Y) (ys : List Y). y ∷ ys) b.0 (row_changed f g c xs k after b.1 e a)
 
 numbered_same : {Y : Type 0} (f g : ℕ × ℕ → Y) (n : ℕ) (js : List ℕ) → AllByRecursion (λ j. (i : ℕ) → f (i, j) ≡ g (i, j)) js → map f (enumerate_from n js) ≡ map g (enumerate_from n js)
 numbered_same f g n [] h = refl
 numbered_same {Y = Y} f g n (j ∷ js) h = ap₂ (λ (y : Y) (ys : List Y). y ∷ ys) (h.0 n) (numbered_same f g (n + 1) js h.1)
 
-pub numbered_changed : {Y : Type 0} (f g : ℕ × ℕ → Y) (c : Y → Y) (n : ℕ) (before : List ℕ) (k : ℕ) (behind : List ℕ) →
-    AllByRecursion (λ j. (i : ℕ) → f (i, j) ≡ g (i, j)) before → f (n + length before, k) ≡ c (g (n + length before, k)) → AllByRecursion (λ j. (i : ℕ) → f (i, j) ≡ g (i, j)) behind →
-    map f (enumerate_from n (before ++ (k ∷ behind))) ≡ changed_at c (length before) (map g (enumerate_from n (before ++ (k ∷ behind))))
-numbered_changed {Y = Y} f g c n [] k behind b e a =
+pub numbered_changed : {Y : Type 0} (f g : ℕ × ℕ → Y) (c : Y → Y) (n : ℕ) (before : List ℕ) (k : ℕ) (after : List ℕ) →
+    AllByRecursion (λ j. (i : ℕ) → f (i, j) ≡ g (i, j)) before → f (n + length before, k) ≡ c (g (n + length before, k)) → AllByRecursion (λ j. (i : ℕ) → f (i, j) ≡ g (i, j)) after →
+    map f (enumerate_from n (before ++ (k ∷ after))) ≡ changed_at c (length before) (map g (enumerate_from n (before ++ (k ∷ after))))
+numbered_changed {Y = Y} f g c n [] k after b e a =
     let here : n + 0 ≡ n = omega arith in
-    ap₂ (λ (y : Y) (ys : List Y). y ∷ ys) (subst (λ (m : ℕ). f (m, k) ≡ c (g (m, k))) here e) (numbered_same f g (n + 1) behind a)
-numbered_changed {Y = Y} f g c n (x ∷ xs) k behind b e a =
+    ap₂ (λ (y : Y) (ys : List Y). y ∷ ys) (subst (λ (m : ℕ). f (m, k) ≡ c (g (m, k))) here e) (numbered_same f g (n + 1) after a)
+numbered_changed {Y = Y} f g c n (x ∷ xs) k after b e a =
     let here : n + suc (length xs) ≡ (n + 1) + length xs = omega arith in
-    ap₂ (λ (y : Y) (ys : List Y). y ∷ ys) (b.0 n) (numbered_changed f g c (n + 1) xs k behind b.1 (subst (λ (m : ℕ). f (m, k) ≡ c (g (m, k))) here e) a)
+    ap₂ (λ (y : Y) (ys : List Y). y ∷ ys) (b.0 n) (numbered_changed f g c (n + 1) xs k after b.1 (subst (λ (m : ℕ). f (m, k) ≡ c (g (m, k))) here e) a)
 
 pub map_twice : {X Y Z : Type 0} (g : Y → Z) (f : X → Y) (xs : List X) → map (λ x. g (f x)) xs ≡ map g (map f xs)
 map_twice g f [] = refl

@@ -14,13 +14,13 @@ use Rattle.snl_syntax.specs.declared.tree.state.StateMember.TheVariants as membe
 use Rattle.snl_syntax.specs.declared.tree.state.Target.{Target}
 use Rattle.snl_syntax.specs.declared.tree.state.Target.TheVariants as target
 use Rattle.snl_syntax.specs.Parsing as parsing
-use Rattle.snl_scope.specs.declared.codes.Code.{Code}
-use Rattle.snl_scope.specs.declared.codes.Code.TheVariants.{E08, E09}
+use Rattle.snl_walk.specs.declared.codes.Code.{Code}
+use Rattle.snl_walk.specs.declared.codes.Code.TheVariants.{E08, E09}
 use Rattle.snl_scope.specs.declared.facts.ClauseLink.{ClauseLink}
 use Rattle.snl_scope.specs.declared.facts.Declaration.{Declaration}
 use Rattle.snl_scope.specs.declared.facts.Scope.{Scope}
-use Rattle.snl_scope.specs.declared.names.spaces.Space.{Space}
-use Rattle.snl_scope.specs.declared.names.spaces.Space.TheVariants as space
+use Rattle.snl_scope.specs.declared.names.namespaces.Namespace.{Namespace}
+use Rattle.snl_scope.specs.declared.names.namespaces.Namespace.TheVariants as namespace
 use Rattle.snl_scope.specs.declared.summaries.summary.Declared.{Declared}
 use Rattle.snl_scope.specs.declared.summaries.summary.Outline.{Outline}
 use Rattle.snl_scope.specs.Below.{all_below, last_below}
@@ -213,12 +213,12 @@ module _ (P : Span → Type 0) (text : List ℕ) (xs : List ProgramItem) (names 
   abbrev EntryHolds : Entry → Type 0
   EntryHolds e = IfSome (entry_declaration e) DeclarationHolds
 
-  entry_holds : (s : Space) (i : ℕ) (d : Declared) → IfSome (scope_in s) ScopeHolds → P (span_at xs i d.token) → EntryHolds (declared_entry s i d)
-  entry_holds space.Program i d h p = (p, h)
-  entry_holds (space.StateSet k) i d h p = (p, h)
-  entry_holds (space.State j) i d h p = (p, h)
-  entry_holds space.Sets i d h p = tt
-  entry_holds (space.States k) i d h p = tt
+  entry_holds : (s : Namespace) (i : ℕ) (d : Declared) → IfSome (scope_in s) ScopeHolds → P (span_at xs i d.token) → EntryHolds (declared_entry s i d)
+  entry_holds namespace.Program i d h p = (p, h)
+  entry_holds (namespace.StateSet k) i d h p = (p, h)
+  entry_holds (namespace.State j) i d h p = (p, h)
+  entry_holds namespace.Sets i d h p = tt
+  entry_holds (namespace.States k) i d h p = tt
 
   scope_at_holds : (i : ℕ) → IfSome (scope_in (scope_at (place ss i))) ScopeHolds
   scope_at_holds i = by (place ss i) (place_holds i)
@@ -230,7 +230,7 @@ module _ (P : Span → Type 0) (text : List ℕ) (xs : List ProgramItem) (names 
   scope_holds : (i : ℕ) (x : ProgramItem) → slice_get xs i ≡ Some x → IfSome (scope_in (scope_of ss i (outline_of_item text x))) ScopeHolds
   scope_holds i x at = by (has_own_scope (role_in text x.tokens x.tree)) refl
     where
-      by : (b : Bool) → has_own_scope (role_in text x.tokens x.tree) ≡ b → IfSome (scope_in (if b then space.State i else scope_at (place ss i))) ScopeHolds
+      by : (b : Bool) → has_own_scope (role_in text x.tokens x.tree) ≡ b → IfSome (scope_in (if b then namespace.State i else scope_at (place ss i))) ScopeHolds
       by true e = (place_holds i, state_holds x i at e)
       by false e = scope_at_holds i
 
@@ -239,20 +239,20 @@ module _ (P : Span → Type 0) (text : List ℕ) (xs : List ProgramItem) (names 
   declared_hold i tokens (Some t) at is = subst (λ ts. AllByRecursion (λ d. P (span_at xs i d.token)) (declared_in_tree text ts t)) at (names.declared i t is)
 
   -- names of state sets and states are no declarations
-  names_hold : (s : Space) (i : ℕ) (code : Option Code) (o : Option (List ℕ)) → AllByRecursion EntryHolds (map (named_entry s i code) (option_to_list o))
+  names_hold : (s : Namespace) (i : ℕ) (code : Option Code) (o : Option (List ℕ)) → AllByRecursion EntryHolds (map (named_entry s i code) (option_to_list o))
   names_hold s i code None = tt
   names_hold s i code (Some name) = (tt, tt)
 
   states_hold : (o : Option ℕ) (i : ℕ) (s : Outline) → AllByRecursion EntryHolds (state_entries o i s)
   states_hold None i s = tt
-  states_hold (Some k) i s = names_hold (space.States k) i (Some E09) (state_name s)
+  states_hold (Some k) i s = names_hold (namespace.States k) i (Some E09) (state_name s)
 
   item_entries_hold : (i : ℕ) (x : ProgramItem) → slice_get xs i ≡ Some x → AllByRecursion EntryHolds (entries_of ss i (outline_of_item text x))
   item_entries_hold i x at =
       let s = outline_of_item text x in
       let declared = map (declared_entry (scope_of ss i s) i) s.declares in
       each_join EntryHolds (set_entries i s ++ state_entries (place ss i) i s) declared
-      (each_join EntryHolds (set_entries i s) (state_entries (place ss i) i s) (names_hold space.Sets i (Some E08) (set_name s)) (states_hold (place ss i) i s))
+      (each_join EntryHolds (set_entries i s) (state_entries (place ss i) i s) (names_hold namespace.Sets i (Some E08) (set_name s)) (states_hold (place ss i) i s))
       (each_of EntryHolds (declared_entry (scope_of ss i s) i) s.declares
       (each_weaker (λ d. P (span_at xs i d.token)) (λ d. EntryHolds (declared_entry (scope_of ss i s) i d))
       (λ d p. entry_holds (scope_of ss i s) i d (scope_holds i x at) p) s.declares

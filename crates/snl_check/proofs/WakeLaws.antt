@@ -6,7 +6,7 @@ use Rattle.std.proofs.lemmas.Bool.{cases_lt, eqb-true}
 use Rattle.std.proofs.lemmas.List.Quantifiers.{position-Some}
 use Rattle.std.proofs.lemmas.Option.{slice_get_past}
 use borrow.Author.Tests.{eq-eqb, le-ltb, lt-ltb}
-use Rattle.snl_scope.specs.declared.names.spaces.Space.TheVariants as space
+use Rattle.snl_scope.specs.declared.names.namespaces.Namespace.TheVariants as namespace
 use Rattle.snl_scope.specs.declared.summaries.summary.Outline.{Outline}
 use Rattle.snl_scope.specs.Below.{all_below}
 use Rattle.snl_scope.specs.Clauses.{resolve_in}
@@ -94,14 +94,14 @@ either_below n (Some k) b v f g h = f v h
 
 resolved_below : (ss : List Outline) (item : ℕ) (name : List ℕ) (v : ℕ) → resolve_in ss item name ≡ Some v → v < length (entries ss)
 resolved_below ss item name v h =
-    either_below (length (entries ss)) (number_in (entries ss) (space.State item) name) (resolve (entries ss) (place ss item) name) v
-    (λ k. found_entry (entries ss) (has_name (space.State item) name) k) (outside (place ss item)) h
+    either_below (length (entries ss)) (number_in (entries ss) (namespace.State item) name) (resolve (entries ss) (place ss item) name) v
+    (λ k. found_entry (entries ss) (has_name (namespace.State item) name) k) (outside (place ss item)) h
   where
     outside : (o : Option ℕ) (k : ℕ) → resolve (entries ss) o name ≡ Some k → k < length (entries ss)
-    outside None k e = found_entry (entries ss) (has_name space.Program name) k e
+    outside None k e = found_entry (entries ss) (has_name namespace.Program name) k e
     outside (Some set) k e =
-        either_below (length (entries ss)) (number_in (entries ss) (space.StateSet set) name) (number_in (entries ss) space.Program name) k
-        (λ j. found_entry (entries ss) (has_name (space.StateSet set) name) j) (λ j. found_entry (entries ss) (has_name space.Program name) j) e
+        either_below (length (entries ss)) (number_in (entries ss) (namespace.StateSet set) name) (number_in (entries ss) namespace.Program name) k
+        (λ j. found_entry (entries ss) (has_name (namespace.StateSet set) name) j) (λ j. found_entry (entries ss) (has_name namespace.Program name) j) e
 
 -- what the entry of a use covers of flags
 module _ (cs : List AssignedChannel) (n v : ℕ) where

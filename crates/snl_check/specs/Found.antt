@@ -2,32 +2,16 @@
 use Rattle.std.specs.Prelude.{◌≡◌, ℕ, ◌<◌, ◌⊎◌, Bool, List, ◌++◌, map, length, Option}
 use Rattle.snl_syntax.specs.declared.tree.item.Item.{Item}
 use Rattle.snl_walk.specs.declared.rules.Finding.{Finding}
-use Rattle.snl_walk.specs.declared.rules.Rule.{Rule}
-use Rattle.snl_walk.specs.declared.rules.Rule.TheVariants as rules
 use Rattle.snl_walk.specs.Items.{occurrences}
 use Rattle.snl_walk.specs.Rules.{findings}
-use Rattle.snl_scope.specs.declared.codes.Code.{Code}
-use Rattle.snl_scope.specs.declared.codes.Code.TheVariants.{E07, E10, E17, E18, E19, E20, E21, W01, W03}
 use Rattle.snl_scope.specs.declared.facts.Fact.{Fact}
 use Rattle.snl_check.specs.declared.rules.findings.ItemFault.{ItemFault}
 use Rattle.snl_check.specs.Options.{unknown_options}
 use Rattle.snl_check.specs.Outlook.{misses_by, outer_by}
 
--- The code of each rule on what is inside an item.
-abbrev pub code_of : Rule → Code
-code_of rules.RepeatedDeclaration = E07
-code_of rules.UnknownState = E10
-code_of rules.WrongFlag = E17
-code_of rules.StrayChange = E18
-code_of rules.StrayJump = E19
-code_of rules.NoEventFlag = E20
-code_of rules.NoChannel = E21
-code_of rules.Undeclared = W01
-code_of rules.StrayDelay = W03
-
 -- A finding of a rule is at the first byte of its token.
 abbrev pub fault_of : Finding → ItemFault
-fault_of f = record { token = f.token; byte = 0; code = code_of f.rule }
+fault_of f = record { token = f.token; byte = 0; code = f.code }
 
 -- A finding is where its token begins, or at a byte of it.
 abbrev pub StandsIn : (ℕ → List ℕ) → ItemFault → Type 0

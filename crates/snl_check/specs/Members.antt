@@ -3,7 +3,7 @@
 use Rattle.std.specs.Prelude.{ℕ, Bool, false, ◌&&◌, List, [], length, map, slice_get, nat_eq, position, is_none, Option, option_and_then}
 use Rattle.std.specs.List.{filter_map}
 use Rattle.std.specs.Option.{option_map_or}
-use Rattle.snl_scope.specs.declared.summaries.summary.Mention.{Mention}
+use Rattle.snl_scope.specs.declared.summaries.summary.NameRef.{NameRef}
 use Rattle.snl_scope.specs.declared.summaries.summary.Outline.{Outline}
 use Rattle.snl_scope.specs.Below.{all_below, any_below}
 use Rattle.snl_scope.specs.Linked.{state_of}
@@ -28,7 +28,7 @@ abbrev pub number_among : List ℕ → Option ℕ → Option ℕ
 number_among states item = option_and_then (λ j. position (nat_eq j) states) item
 
 -- A target of state j means the first state of its name.
-abbrev pub target_number : List Outline → List ℕ → ℕ → Mention → Option ℕ
+abbrev pub target_number : List Outline → List ℕ → ℕ → NameRef → Option ℕ
 target_number ss states j target = number_among states (state_of ss j target.name)
 
 abbrev pub target_numbers : List ℕ → List ProgramItem → List Outline → List ℕ → ℕ → List ℕ

@@ -8,7 +8,7 @@ use Rattle.snl_syntax.specs.declared.tree.item.Item.{Item}
 use Rattle.snl_syntax.specs.declared.tree.item.Item.TheVariants as items
 use Rattle.snl_syntax.specs.declared.tree.state.StateMember.{StateMember}
 use Rattle.snl_syntax.specs.declared.tree.state.StateMember.TheVariants as members
-use Rattle.snl_scope.specs.declared.codes.Code.TheVariants.{W04}
+use Rattle.snl_walk.specs.declared.codes.Code.TheVariants.{W04}
 use Rattle.snl_check.specs.declared.rules.findings.ItemFault.{ItemFault}
 
 -- The options of a program, and those of a state.

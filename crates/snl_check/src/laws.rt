@@ -33,7 +33,8 @@ ghost use Rattle.snl_check.specs.Items.{ProgramItem, outlines_of, tokens_in};
 
 use snl_scope::{names_are_tokens, same_spelling_same_summary};
 use snl_walk::{
-    each_finding_once, findings_stand_at_tokens, option_letters_rise, same_answers_same_findings,
+    each_finding_once, findings_have_rule_codes, findings_stand_at_tokens, option_letters_rise,
+    same_answers_same_findings,
 };
 
 /// The clauses of items, as trees, are those that the summaries of the items have, one by one in the order of the text.
@@ -61,6 +62,7 @@ pub fn each_item_finding_once()
     ensures { (bytes : ℕ → List ℕ) (in_set : Bool) (fact : List ℕ → Option Fact) (target : List ℕ → Bool) (text : List ℕ) (tokens : List Piece) (tree : Item)
         → item_of (kinds_in text tokens) ≡ Some tree → AllPairs (λ a b. a ≢ b) (faults_in bytes tree in_set fact target) }
 {
+    findings_have_rule_codes();
     each_finding_once();
     option_letters_rise();
 }

@@ -10,5 +10,5 @@ pub report_is : (page text session : List ℕ) (diagnostics : List Diagnostic) (
 report_is page text session diagnostics errors warnings p t d e w = rw (p, t, d, e, w) refl
 
 -- what follows the last of some pieces
-pub behind_last : (said last page whole rest : List ℕ) → said ++ last ≡ page ++ whole → said ++ (last ++ rest) ≡ page ++ (whole ++ rest)
-behind_last said last page whole rest h = sym (append_assoc said last rest) ∙ ap (λ l. l ++ rest) h ∙ append_assoc page whole rest
+pub after_last : (said last page whole rest : List ℕ) → said ++ last ≡ page ++ whole → said ++ (last ++ rest) ≡ page ++ (whole ++ rest)
+after_last said last page whole rest h = sym (append_assoc said last rest) ∙ ap (λ l. l ++ rest) h ∙ append_assoc page whole rest

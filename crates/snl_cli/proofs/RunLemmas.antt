@@ -24,47 +24,47 @@ use Rattle.snl_cli.proofs.ScriptLemmas.{place_grows}
 
 -- ---- a command that is whole is whatever follows it
 
-closed-grows : (request : Request) (bytes more behind : List ℕ) (next : Request) → closed request bytes ≡ Then next behind → closed request (bytes ++ more) ≡ Then next (behind ++ more)
-closed-grows request [] more behind next h = cc
-closed-grows request (b ∷ bytes) more behind next h = split (b == 10) h
+closed-grows : (request : Request) (bytes more left : List ℕ) (next : Request) → closed request bytes ≡ Then next left → closed request (bytes ++ more) ≡ Then next (left ++ more)
+closed-grows request [] more left next h = cc
+closed-grows request (b ∷ bytes) more left next h = split (b == 10) h
   where
-    split : (c : Bool) → cond c (Then request bytes) Unknown ≡ Then next behind → cond c (Then request (bytes ++ more)) Unknown ≡ Then next (behind ++ more)
+    split : (c : Bool) → cond c (Then request bytes) Unknown ≡ Then next left → cond c (Then request (bytes ++ more)) Unknown ≡ Then next (left ++ more)
     split true e = cc
     split false e = cc
 
 -- the bytes of an edit are there where an LF closes them
-edit-room : (request : Request) (len : ℕ) (bytes behind : List ℕ) (next : Request) → closed request (drop len bytes) ≡ Then next behind → len ≤ length bytes
-edit-room request len bytes behind next h = some (drop len bytes) h (length-drop len bytes)
+edit-room : (request : Request) (len : ℕ) (bytes left : List ℕ) (next : Request) → closed request (drop len bytes) ≡ Then next left → len ≤ length bytes
+edit-room request len bytes left next h = some (drop len bytes) h (length-drop len bytes)
   where
-    some : (l : List ℕ) → closed request l ≡ Then next behind → length l ≡ length bytes - len → len ≤ length bytes
+    some : (l : List ℕ) → closed request l ≡ Then next left → length l ≡ length bytes - len → len ≤ length bytes
     some [] e size = cc
     some (b ∷ l) e size = omega arith
 
-headed-grows : (heading : Option Heading) (bytes more behind : List ℕ) (next : Request) → headed heading bytes ≡ Then next behind → headed heading (bytes ++ more) ≡ Then next (behind ++ more)
-headed-grows None bytes more behind next h = cc
-headed-grows (Some Check) bytes more behind next h = cc
-headed-grows (Some Listing) bytes more behind next h = cc
-headed-grows (Some Work) bytes more behind next h = cc
-headed-grows (Some (Edit start stop len)) bytes more behind next h =
-    let room : len ≤ length bytes = edit-room _ len bytes behind next h in
-    rw (take-append-le len bytes more room, drop-append-le len bytes more room) (closed-grows _ (drop len bytes) more behind next h)
+headed-grows : (heading : Option Heading) (bytes more left : List ℕ) (next : Request) → headed heading bytes ≡ Then next left → headed heading (bytes ++ more) ≡ Then next (left ++ more)
+headed-grows None bytes more left next h = cc
+headed-grows (Some Check) bytes more left next h = cc
+headed-grows (Some Listing) bytes more left next h = cc
+headed-grows (Some Work) bytes more left next h = cc
+headed-grows (Some (Edit start stop len)) bytes more left next h =
+    let room : len ≤ length bytes = edit-room _ len bytes left next h in
+    rw (take-append-le len bytes more room, drop-append-le len bytes more room) (closed-grows _ (drop len bytes) more left next h)
 
 -- a whole command stays the first, whatever follows
-pub next_of-grows : (bytes more behind : List ℕ) (request : Request) → next_of bytes ≡ Then request behind → next_of (bytes ++ more) ≡ Then request (behind ++ more)
-next_of-grows [] more behind request h = cc
-next_of-grows (b ∷ bytes) more behind request h = at (position (λ c. c == 10) (b ∷ bytes)) refl h
+pub next_of-grows : (bytes more left : List ℕ) (request : Request) → next_of bytes ≡ Then request left → next_of (bytes ++ more) ≡ Then request (left ++ more)
+next_of-grows [] more left request h = cc
+next_of-grows (b ∷ bytes) more left request h = at (position (λ c. c == 10) (b ∷ bytes)) refl h
   where
     all : List ℕ
     all = b ∷ bytes
 
-    at : (o : Option ℕ) → position (λ c. c == 10) (b ∷ bytes) ≡ o → lined o (b ∷ bytes) ≡ Then request behind → next_of ((b ∷ bytes) ++ more) ≡ Then request (behind ++ more)
+    at : (o : Option ℕ) → position (λ c. c == 10) (b ∷ bytes) ≡ o → lined o (b ∷ bytes) ≡ Then request left → next_of ((b ∷ bytes) ++ more) ≡ Then request (left ++ more)
     at None e k = cc
     at (Some end) e k = short (leb end 80) refl k
       where
         line : List ℕ → List ℕ → Next
         line l m = headed (heading_of (words_of l)) m
 
-        short : (c : Bool) → leb end 80 ≡ c → cond c (headed (heading_of (words_of (take end (b ∷ bytes)))) (drop (end + 1) (b ∷ bytes))) Unknown ≡ Then request behind → next_of ((b ∷ bytes) ++ more) ≡ Then request (behind ++ more)
+        short : (c : Bool) → leb end 80 ≡ c → cond c (headed (heading_of (words_of (take end (b ∷ bytes)))) (drop (end + 1) (b ∷ bytes))) Unknown ≡ Then request left → next_of ((b ∷ bytes) ++ more) ≡ Then request (left ++ more)
         short false t w = cc
         short true t w =
             let grown = place_grows (b ∷ bytes) more end e in
@@ -73,7 +73,7 @@ next_of-grows (b ∷ bytes) more behind request h = at (position (λ c. c == 10)
             let found : next_of ((b ∷ bytes) ++ more) ≡ lined (Some end) ((b ∷ bytes) ++ more) = ap (λ (o : Option ℕ). lined o ((b ∷ bytes) ++ more)) grown.0 in
             let here : lined (Some end) ((b ∷ bytes) ++ more) ≡ headed (heading_of (words_of (take end ((b ∷ bytes) ++ more)))) (drop (end + 1) ((b ∷ bytes) ++ more)) = rw t refl in
             let same : headed (heading_of (words_of (take end ((b ∷ bytes) ++ more)))) (drop (end + 1) ((b ∷ bytes) ++ more)) ≡ headed (heading_of (words_of (take end (b ∷ bytes)))) (drop (end + 1) (b ∷ bytes) ++ more) = ap (λ (l : List ℕ). headed (heading_of (words_of l)) (drop (end + 1) ((b ∷ bytes) ++ more))) front ∙ ap (λ (l : List ℕ). headed (heading_of (words_of (take end (b ∷ bytes)))) l) back in
-            found ∙ here ∙ same ∙ headed-grows (heading_of (words_of (take end (b ∷ bytes)))) (drop (end + 1) (b ∷ bytes)) more behind request w
+            found ∙ here ∙ same ∙ headed-grows (heading_of (words_of (take end (b ∷ bytes)))) (drop (end + 1) (b ∷ bytes)) more left request w
 
 -- ---- commands, one after another
 
@@ -81,9 +81,9 @@ pub Begins-grows : (bytes more : List ℕ) (turns : List Turn) (rest : List ℕ)
 Begins-grows bytes more [] rest h = ap (λ l. l ++ more) h
 Begins-grows bytes more (t ∷ ts) rest h = (h.0 ++ more, next_of-grows bytes more h.0 t.request h.1, Begins-grows h.0 more ts rest h.2)
 
-pub Begins-on : (bytes : List ℕ) (turns : List Turn) (rest behind : List ℕ) (turn : Turn) → Begins bytes turns rest → next_of rest ≡ Then turn.request behind → Begins bytes (turns ++ turn ∷ []) behind
-Begins-on bytes [] rest behind turn h e = (behind, ap next_of (sym h) ∙ e, refl)
-Begins-on bytes (t ∷ ts) rest behind turn h e = (h.0, h.1, Begins-on h.0 ts rest behind turn h.2 e)
+pub Begins-on : (bytes : List ℕ) (turns : List Turn) (rest left : List ℕ) (turn : Turn) → Begins bytes turns rest → next_of rest ≡ Then turn.request left → Begins bytes (turns ++ turn ∷ []) left
+Begins-on bytes [] rest left turn h e = (left, ap next_of (sym h) ∙ e, refl)
+Begins-on bytes (t ∷ ts) rest left turn h e = (h.0, h.1, Begins-on h.0 ts rest left turn h.2 e)
 
 pub transcript-on : (first : Version) (turns : List Turn) (turn : Turn) → transcript first (turns ++ turn ∷ []) ≡ transcript first turns ++ reply (version_after first turns) turn.request turn.starved
 transcript-on first [] turn = append-nil _
@@ -132,8 +132,8 @@ Told-start script out first ahead calls e none = record {
   ends = (sym e, refl, refl, omega arith, omega arith);
 }
 
-pub Told-ends : (before behind old new : Option (List ℕ)) (first : Version) (P Q : (read rest : List ℕ) (last : Version) → Type 0) → Told before behind old new first P → ((read rest : List ℕ) (last : Version) → P read rest last → Q read rest last) → Told before behind old new first Q
-Told-ends before behind old new first P Q t f = record {
+pub Told-ends : (before left old new : Option (List ℕ)) (first : Version) (P Q : (read rest : List ℕ) (last : Version) → Type 0) → Told before left old new first P → ((read rest : List ℕ) (last : Version) → P read rest last → Q read rest last) → Told before left old new first Q
+Told-ends before left old new first P Q t f = record {
   read = t.read;
   turns = t.turns;
   rest = t.rest;
@@ -145,8 +145,8 @@ Told-ends before behind old new first P Q t f = record {
 }
 
 -- bytes came
-pub Told-gains : (before mid behind old new : Option (List ℕ)) (first : Version) (ahead next : List ℕ) (version : Version) (offset calls more : ℕ) → Told before mid old new first (At ahead version offset calls) → Gains ahead next mid behind → calls ≤ more → length next ≤ length ahead + 4096 * (more - calls) → more + length ahead ≤ calls + length next → Told before behind old new first (At next version offset more)
-Told-gains before mid behind old new first ahead next version offset calls more t g rises few some =
+pub Told-gains : (before mid left old new : Option (List ℕ)) (first : Version) (ahead next : List ℕ) (version : Version) (offset calls more : ℕ) → Told before mid old new first (At ahead version offset calls) → Gains ahead next mid left → calls ≤ more → length next ≤ length ahead + 4096 * (more - calls) → more + length ahead ≤ calls + length next → Told before left old new first (At next version offset more)
+Told-gains before mid left old new first ahead next version offset calls more t g rises few some =
     let read_size : length (t.read ++ g.gained) ≡ length t.read + length g.gained = length-append t.read g.gained in
     let rest_size : length (t.rest ++ g.gained) ≡ length t.rest + length g.gained = length-append t.rest g.gained in
     let next_size : length next ≡ length ahead + length g.gained = ap length g.there ∙ length-append ahead g.gained in
@@ -158,7 +158,7 @@ Told-gains before mid behind old new first ahead next version offset calls more 
       read = t.read ++ g.gained;
       turns = t.turns;
       rest = t.rest ++ g.gained;
-      is_read = Consumes-on before mid behind t.read g.gained t.is_read g.given;
+      is_read = Consumes-on before mid left t.read g.gained t.is_read g.given;
       begins = Begins-grows t.read g.gained t.turns t.rest t.begins;
       fair = t.fair;
       written = t.written;
@@ -170,12 +170,12 @@ whole-next : (bytes : List ℕ) (command : Command) (len : ℕ) → IsWhole byte
 whole-next bytes command len w = ap next_of (sym (append-nil bytes)) ∙ w.next [] ∙ ap (Then (request_of command)) (append-nil (drop len bytes))
 
 -- a command was carried out, and its answer written
-pub Told-on : (before behind old mid new : Option (List ℕ)) (first : Version) (ahead next bytes : List ℕ) (version last : Version) (offset calls len : ℕ) (command : Command) (starved : Bool) → Told before behind old mid first (At ahead version offset calls) → bytes ≡ ahead → IsWhole bytes command len → next ≡ drop len ahead → OnTrue starved (MayStarve version.text (request_of command)) → last ≡ after version (request_of command) starved → Appends mid new (reply version (request_of command) starved) → Told before behind old new first (At next last (offset + len) calls)
-Told-on before behind old mid new first ahead next bytes version last offset calls len command starved t is whole next_is fair last_is written =
+pub Told-on : (before left old mid new : Option (List ℕ)) (first : Version) (ahead next bytes : List ℕ) (version last : Version) (offset calls len : ℕ) (command : Command) (starved : Bool) → Told before left old mid first (At ahead version offset calls) → bytes ≡ ahead → IsWhole bytes command len → next ≡ drop len ahead → OnTrue starved (MayStarve version.text (request_of command)) → last ≡ after version (request_of command) starved → Appends mid new (reply version (request_of command) starved) → Told before left old new first (At next last (offset + len) calls)
+Told-on before left old mid new first ahead next bytes version last offset calls len command starved t is whole next_is fair last_is written =
     let turn : Turn = record { request = request_of command; starved = starved } in
     let here : next_of t.rest ≡ Then (request_of command) next = ap next_of (t.ends.0 ∙ sym is) ∙ whole-next bytes command len whole ∙ ap (λ (l : List ℕ). Then (request_of command) l) (ap (drop len) is ∙ sym next_is) in
     let version_is : version_after first t.turns ≡ version = t.ends.1 in
-    let behind_size : length next ≡ length ahead - len = ap length next_is ∙ length-drop len ahead in
+    let after_size : length next ≡ length ahead - len = ap length next_is ∙ length-drop len ahead in
     let same : length t.rest ≡ length ahead = ap length t.ends.0 in
     let size : length bytes ≡ length ahead = ap length is in
     let inside : len ≤ length bytes = whole.inside in
@@ -192,8 +192,8 @@ Told-on before behind old mid new first ahead next bytes version last offset cal
     }
 
 -- a command was carried out, and a part of its answer written
-pub ToldPart-on : (before behind old mid new : Option (List ℕ)) (first : Version) (ahead bytes : List ℕ) (version : Version) (offset calls len : ℕ) (command : Command) (starved : Bool) → Told before behind old mid first (At ahead version offset calls) → bytes ≡ ahead → IsWhole bytes command len → OnTrue starved (MayStarve version.text (request_of command)) → AppendsPart mid new (reply version (request_of command) starved) → ToldPart before behind old new first
-ToldPart-on before behind old mid new first ahead bytes version offset calls len command starved t is whole fair written =
+pub ToldPart-on : (before left old mid new : Option (List ℕ)) (first : Version) (ahead bytes : List ℕ) (version : Version) (offset calls len : ℕ) (command : Command) (starved : Bool) → Told before left old mid first (At ahead version offset calls) → bytes ≡ ahead → IsWhole bytes command len → OnTrue starved (MayStarve version.text (request_of command)) → AppendsPart mid new (reply version (request_of command) starved) → ToldPart before left old new first
+ToldPart-on before left old mid new first ahead bytes version offset calls len command starved t is whole fair written =
     let turn : Turn = record { request = request_of command; starved = starved } in
     let here : next_of t.rest ≡ Then (request_of command) (drop len bytes) = ap next_of (t.ends.0 ∙ sym is) ∙ whole-next bytes command len whole in
     let version_is : version_after first t.turns ≡ version = t.ends.1 in
@@ -210,43 +210,43 @@ ToldPart-on before behind old mid new first ahead bytes version offset calls len
 -- ---- the ends of a run
 
 none-malformed : (bytes : List ℕ) → ((more : List ℕ) → next_of (bytes ++ more) ≡ Unknown) → HoldsNone bytes
-none-malformed bytes h = λ request behind e. let u : next_of bytes ≡ Unknown = ap next_of (sym (append-nil bytes)) ∙ h [] in cc
+none-malformed bytes h = λ request left e. let u : next_of bytes ≡ Unknown = ap next_of (sym (append-nil bytes)) ∙ h [] in cc
 
 none-unfinished : (bytes : List ℕ) → next_of bytes ≡ unfinished bytes → HoldsNone bytes
-none-unfinished [] h = λ request behind e. cc
-none-unfinished (b ∷ bytes) h = λ request behind e. cc
+none-unfinished [] h = λ request left e. cc
+none-unfinished (b ∷ bytes) h = λ request left e. cc
 
 malformed-always : (bytes : List ℕ) (left : Option (List ℕ)) → ((more : List ℕ) → next_of (bytes ++ more) ≡ Unknown) → IsMalformed bytes left
 malformed-always bytes None h = tt
 malformed-always bytes (Some more) h = h more
 
 -- no command can be ahead
-pub Told-malformed : (before behind old new : Option (List ℕ)) (first : Version) (ahead bytes : List ℕ) (version : Version) (offset calls : ℕ) → Told before behind old new first (At ahead version offset calls) → bytes ≡ ahead → ((more : List ℕ) → next_of (bytes ++ more) ≡ Unknown) → Ran (Err (Script offset)) before behind old new first
-Told-malformed before behind old new first ahead bytes version offset calls t is h =
-    Told-ends before behind old new first (At ahead version offset calls) _ t (λ read rest last a.
+pub Told-malformed : (before left old new : Option (List ℕ)) (first : Version) (ahead bytes : List ℕ) (version : Version) (offset calls : ℕ) → Told before left old new first (At ahead version offset calls) → bytes ≡ ahead → ((more : List ℕ) → next_of (bytes ++ more) ≡ Unknown) → Ran (Err (Script offset)) before left old new first
+Told-malformed before left old new first ahead bytes version offset calls t is h =
+    Told-ends before left old new first (At ahead version offset calls) _ t (λ read rest last a.
     let same : bytes ≡ rest = is ∙ sym a.0 in
     let unknown : (more : List ℕ) → next_of (rest ++ more) ≡ Unknown = subst (λ (l : List ℕ). (more : List ℕ) → next_of (l ++ more) ≡ Unknown) same h in
-    (a.2, none-malformed rest unknown, malformed-always rest behind unknown))
+    (a.2, none-malformed rest unknown, malformed-always rest left unknown))
 
 -- the reader has no more bytes, and what is ahead is no command
 ends-malformed : (bytes : List ℕ) (left : Option (List ℕ)) → next_of bytes ≡ Unknown → IsAtEnd left → IsMalformed bytes left
 ends-malformed bytes None h e = tt
 ends-malformed bytes (Some more) h e = ap (λ (l : List ℕ). next_of (bytes ++ l)) e ∙ ap next_of (append-nil bytes) ∙ h
 
-pub Ran-end : (result : Result Status RunFault) (before behind old new : Option (List ℕ)) (first : Version) (ahead : List ℕ) (version : Version) (offset calls : ℕ) → Told before behind old new first (At ahead version offset calls) → IsAtEnd behind → next_of ahead ≡ unfinished ahead → (ahead ≡ [] → result ≡ Ok (status_of version.text)) → (ahead ≢ [] → result ≡ Err (Script offset)) → Ran result before behind old new first
-Ran-end result before behind old new first [] version offset calls t e short ok err = rw (ok refl) (Told-ends before behind old new first (At [] version offset calls) _ t (λ read rest last a. (a.0, e, ap (λ (v : Version). status_of v.text) (sym a.1))))
-Ran-end result before behind old new first (b ∷ bytes) version offset calls t e short ok err =
-    rw (err (λ x. cc)) (Told-ends before behind old new first (At (b ∷ bytes) version offset calls) _ t (λ read rest last a.
+pub Ran-end : (result : Result Status RunFault) (before left old new : Option (List ℕ)) (first : Version) (ahead : List ℕ) (version : Version) (offset calls : ℕ) → Told before left old new first (At ahead version offset calls) → IsAtEnd left → next_of ahead ≡ unfinished ahead → (ahead ≡ [] → result ≡ Ok (status_of version.text)) → (ahead ≢ [] → result ≡ Err (Script offset)) → Ran result before left old new first
+Ran-end result before left old new first [] version offset calls t e short ok err = rw (ok refl) (Told-ends before left old new first (At [] version offset calls) _ t (λ read rest last a. (a.0, e, ap (λ (v : Version). status_of v.text) (sym a.1))))
+Ran-end result before left old new first (b ∷ bytes) version offset calls t e short ok err =
+    rw (err (λ x. cc)) (Told-ends before left old new first (At (b ∷ bytes) version offset calls) _ t (λ read rest last a.
     let unknown : next_of rest ≡ Unknown = ap next_of a.0 ∙ short in
-    (a.2, subst HoldsNone (sym a.0) (none-unfinished (b ∷ bytes) short), ends-malformed rest behind unknown e)))
+    (a.2, subst HoldsNone (sym a.0) (none-unfinished (b ∷ bytes) short), ends-malformed rest left unknown e)))
 
 -- no more bytes can be read
-pub Ran-read : (fault : ReadFault) (result : Result Status RunFault) (before behind old new : Option (List ℕ)) (first : Version) (ahead : List ℕ) (version : Version) (offset calls : ℕ) → result ≡ Err (fault_of_read fault) → Told before behind old new first (At ahead version offset calls) → next_of ahead ≡ unfinished ahead → (fault ≡ reading.TooManyTurns → 16777216 ≤ calls) → Ran result before behind old new first
-Ran-read reading.Read result before behind old new first ahead version offset calls is t short many = rw is (Told-ends before behind old new first (At ahead version offset calls) _ t (λ read rest last a. subst HoldsNone (sym a.0) (none-unfinished ahead short)))
-Ran-read reading.Memory result before behind old new first ahead version offset calls is t short many = rw is (Told-ends before behind old new first (At ahead version offset calls) _ t (λ read rest last a. subst HoldsNone (sym a.0) (none-unfinished ahead short)))
-Ran-read reading.TooManyTurns result before behind old new first ahead version offset calls is t short many =
+pub Ran-read : (fault : ReadFault) (result : Result Status RunFault) (before left old new : Option (List ℕ)) (first : Version) (ahead : List ℕ) (version : Version) (offset calls : ℕ) → result ≡ Err (fault_of_read fault) → Told before left old new first (At ahead version offset calls) → next_of ahead ≡ unfinished ahead → (fault ≡ reading.TooManyTurns → 16777216 ≤ calls) → Ran result before left old new first
+Ran-read reading.Read result before left old new first ahead version offset calls is t short many = rw is (Told-ends before left old new first (At ahead version offset calls) _ t (λ read rest last a. subst HoldsNone (sym a.0) (none-unfinished ahead short)))
+Ran-read reading.Memory result before left old new first ahead version offset calls is t short many = rw is (Told-ends before left old new first (At ahead version offset calls) _ t (λ read rest last a. subst HoldsNone (sym a.0) (none-unfinished ahead short)))
+Ran-read reading.TooManyTurns result before left old new first ahead version offset calls is t short many =
     let lots : 16777216 ≤ calls = many refl in
-    rw is (Told-ends before behind old new first (At ahead version offset calls) _ t (λ read rest last a. (subst HoldsNone (sym a.0) (none-unfinished ahead short), omega (arith, a.4))))
+    rw is (Told-ends before left old new first (At ahead version offset calls) _ t (λ read rest last a. (subst HoldsNone (sym a.0) (none-unfinished ahead short), omega (arith, a.4))))
 
 -- no session could begin
 pub Ran-nothing : (fault : RunFault) (result : Result Status RunFault) (script out : Option (List ℕ)) (source : List ℕ) → result ≡ Err fault → NoStart source fault → Ran result script script out out (first_version source)

@@ -9,7 +9,7 @@ use Rattle.std.specs.List.{onto_first, position_or_len, slice_split}
 use Rattle.snl_cli.specs.declared.script.Front.{Front}
 use Rattle.snl_cli.specs.declared.script.Front.TheVariants.{Short, Malformed, Whole}
 use Rattle.snl_cli.specs.declared.script.Heading.{Heading}
-use Rattle.snl_cli.specs.Front.{IsFront, IsFrontBehind, request_of, unfinished}
+use Rattle.snl_cli.specs.Front.{IsFront, IsFrontAfter, request_of, unfinished}
 use Rattle.snl_cli.specs.Script.{Unknown, Then, edit_of, headed, heading_of, lined, lone, next_of, words_of}
 
 -- where a place is found
@@ -78,8 +78,8 @@ feed_inside n bytes more h =
     ap feed_place (by_front n bytes more) ∙ front
 
 -- where there is none in a front, the first is after it
-feed_behind : (n : ℕ) (bytes more : List ℕ) → length (take n bytes) ≤ feed_place (take n bytes) → length (take n bytes) ≤ feed_place (bytes ++ more)
-feed_behind n bytes more h =
+feed_after : (n : ℕ) (bytes more : List ℕ) → length (take n bytes) ≤ feed_place (take n bytes) → length (take n bytes) ≤ feed_place (bytes ++ more)
+feed_after n bytes more h =
     let e : feed_place (bytes ++ more) ≡ feed_place (take n bytes ++ (drop n bytes ++ more)) = ap feed_place (by_front n bytes more) in
     let f = prefix_len-append (λ c. not (c == 10)) (take n bytes) (drop n bytes ++ more) in
     grind (arith, nat_tests)
@@ -116,7 +116,7 @@ pub next_of-long : (n : ℕ) (bytes more : List ℕ) → n ≡ min (length bytes
 next_of-long n bytes more few h long =
     let none = no_place (feed_place (take n bytes)) (length (take n bytes)) h in
     let size : length (take n bytes) ≡ min n (length bytes) = length-take n bytes in
-    let behind = feed_behind n bytes more none in
+    let after = feed_after n bytes more none in
     let whole : length (bytes ++ more) ≡ length bytes + length more = length-append bytes more in
     next_of-lined (bytes ++ more) (omega arith) ∙ too_long (feed_place (bytes ++ more)) (length (bytes ++ more)) (bytes ++ more) (omega arith)
   where
@@ -139,13 +139,13 @@ next_of-short n (b ∷ bytes) few h short =
     ap (λ (o : Option ℕ). lined o (b ∷ bytes)) none
 
 -- what is at the front of the bytes, from what comes after their line
-pub IsFront-behind : (n : ℕ) (bytes : List ℕ) (end : ℕ) (heading : Option Heading) (front : Front) → n ≤ 81 → position (λ c. c == 10) (take n bytes) ≡ Some end → heading ≡ heading_of (words_of (take end bytes)) → IsFrontBehind (headed heading) (end + 1) (drop (end + 1) bytes) front → IsFront bytes front
-IsFront-behind n bytes end heading Short few h is f =
+pub IsFront-after : (n : ℕ) (bytes : List ℕ) (end : ℕ) (heading : Option Heading) (front : Front) → n ≤ 81 → position (λ c. c == 10) (take n bytes) ≡ Some end → heading ≡ heading_of (words_of (take end bytes)) → IsFrontAfter (headed heading) (end + 1) (drop (end + 1) bytes) front → IsFront bytes front
+IsFront-after n bytes end heading Short few h is f =
     let at = found_place (feed_place (take n bytes)) (length (take n bytes)) end h in
     let inside : end < length bytes = omega (arith, at.1, length-take n bytes) in
     ap next_of (sym (append-nil bytes)) ∙ next_of-line n bytes [] end few h ∙ ap (λ (o : Option Heading). headed o (drop (end + 1) bytes ++ [])) (sym is) ∙ ap (headed heading) (append-nil (drop (end + 1) bytes)) ∙ f ∙ sym (unfinished-some bytes (omega arith))
-IsFront-behind n bytes end heading Malformed few h is f = λ more. next_of-line n bytes more end few h ∙ ap (λ (o : Option Heading). headed o (drop (end + 1) bytes ++ more)) (sym is) ∙ f more
-IsFront-behind n bytes end heading (Whole command len) few h is f =
+IsFront-after n bytes end heading Malformed few h is f = λ more. next_of-line n bytes more end few h ∙ ap (λ (o : Option Heading). headed o (drop (end + 1) bytes ++ more)) (sym is) ∙ f more
+IsFront-after n bytes end heading (Whole command len) few h is f =
     let at = found_place (feed_place (take n bytes)) (length (take n bytes)) end h in
     let inside : end < length bytes = omega (arith, at.1, length-take n bytes) in
     let rest : length (drop (end + 1) bytes) ≡ length bytes - (end + 1) = length-drop (end + 1) bytes in

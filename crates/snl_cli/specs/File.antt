@@ -5,10 +5,10 @@ use Rattle.snl_cli.specs.declared.file.SourceFault.{SourceFault}
 use Rattle.snl_cli.specs.declared.file.SourceFault.TheVariants.{Unreadable, TooLarge, Memory}
 
 -- The reader gave at most so many bytes.
-pub record GivesAtMost (before behind : Option (List ℕ)) (most : ℕ) : Type 0 where
+pub record GivesAtMost (before after : Option (List ℕ)) (most : ℕ) : Type 0 where
   pub bytes : List ℕ
   pub few : length bytes ≤ most
-  pub given : Consumes before behind bytes
+  pub given : Consumes before after bytes
 
 -- The file can't be read.
 abbrev pub is_unreadable : {T : Type 0} → Result T SourceFault → Bool

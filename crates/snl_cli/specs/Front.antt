@@ -26,20 +26,20 @@ pub record IsWhole (bytes : List ℕ) (command : Command) (len : ℕ) : Type 0 w
   pub next : (more : List ℕ) → next_of (bytes ++ more) ≡ Then (request_of command) (drop len bytes ++ more)
 
 -- The words after a word's space, if there is one.
-abbrev pub words_behind : Option (Bor (List ℕ)) → List (List ℕ)
-words_behind None = []
-words_behind (Some words) = words_of words.now
+abbrev pub words_after : Option (Bor (List ℕ)) → List (List ℕ)
+words_after None = []
+words_after (Some words) = words_of words.now
 
 -- What is at the front, where `next` tells it by the bytes after a line, which has this length with its LF.
-pub record IsWholeBehind (next : List ℕ → Next) (line : ℕ) (behind : List ℕ) (command : Command) (len : ℕ) : Type 0 where
+pub record IsWholeAfter (next : List ℕ → Next) (line : ℕ) (after : List ℕ) (command : Command) (len : ℕ) : Type 0 where
   pub from : line ≤ len
-  pub inside : len ≤ line + length behind
-  pub next_is : (more : List ℕ) → next (behind ++ more) ≡ Then (request_of command) (drop (len - line) behind ++ more)
+  pub inside : len ≤ line + length after
+  pub next_is : (more : List ℕ) → next (after ++ more) ≡ Then (request_of command) (drop (len - line) after ++ more)
 
-abbrev pub IsFrontBehind : (List ℕ → Next) → ℕ → List ℕ → Front → Type 0
-IsFrontBehind next line behind Short = next behind ≡ Unknown
-IsFrontBehind next line behind Malformed = (more : List ℕ) → next (behind ++ more) ≡ Unknown
-IsFrontBehind next line behind (Whole command len) = IsWholeBehind next line behind command len
+abbrev pub IsFrontAfter : (List ℕ → Next) → ℕ → List ℕ → Front → Type 0
+IsFrontAfter next line after Short = next after ≡ Unknown
+IsFrontAfter next line after Malformed = (more : List ℕ) → next (after ++ more) ≡ Unknown
+IsFrontAfter next line after (Whole command len) = IsWholeAfter next line after command len
 
 -- No command is at the front of the bytes yet, or none can be, or one is, whatever follows them.
 abbrev pub IsFront : List ℕ → Front → Type 0

@@ -14,22 +14,22 @@ use Rattle.snl_cli.specs.Transcript.{Begins, HoldsNone, IsFair, MayStarve, Turn,
 use Rattle.snl_cli.specs.Version.{Version, next_version}
 
 -- The bytes that were read are some commands and a rest, and the transcript of these commands was written, from this first version on.
-pub record Told (before behind old new : Option (List ℕ)) (first : Version) (Ends : (read rest : List ℕ) (last : Version) → Type 0) : Type 0 where
+pub record Told (before left old new : Option (List ℕ)) (first : Version) (Ends : (read rest : List ℕ) (last : Version) → Type 0) : Type 0 where
   pub read : List ℕ
   pub turns : List Turn
   pub rest : List ℕ
-  pub is_read : Consumes before behind read
+  pub is_read : Consumes before left read
   pub begins : Begins read turns rest
   pub fair : IsFair first turns
   pub written : Appends old new (transcript first turns)
   pub ends : Ends read rest (version_after first turns)
 
 -- The bytes that were read are some commands and a rest, and a front of the transcript of these commands was written.
-pub record ToldPart (before behind old new : Option (List ℕ)) (first : Version) : Type 0 where
+pub record ToldPart (before left old new : Option (List ℕ)) (first : Version) : Type 0 where
   pub read : List ℕ
   pub turns : List Turn
   pub rest : List ℕ
-  pub is_read : Consumes before behind read
+  pub is_read : Consumes before left read
   pub begins : Begins read turns rest
   pub fair : IsFair first turns
   pub written : AppendsPart old new (transcript first turns)
@@ -42,14 +42,14 @@ IsMalformed rest left = IfSome (prepend_known rest left) (λ bytes. next_of byte
 --   the script is whole commands and nothing else, and the status is that of the last text;
 --   at a fault of the script, of reading, of memory and of too many reads, the commands are all that are whole among the bytes read;
 --   at a fault of writing a front of the transcript was written, and where the source is too large, nothing was read or written.
-abbrev pub Ran : Result Status RunFault → (before behind old new : Option (List ℕ)) → (first : Version) → Type 0
-Ran (Ok status) before behind old new first = Told before behind old new first (λ read rest last. (rest ≡ []) × IsAtEnd behind × (status ≡ status_of last.text))
-Ran (Err (Script at)) before behind old new first = Told before behind old new first (λ read rest last. (at + length rest ≡ length read) × HoldsNone rest × IsMalformed rest behind)
-Ran (Err Read) before behind old new first = Told before behind old new first (λ read rest last. HoldsNone rest)
-Ran (Err Memory) before behind old new first = Told before behind old new first (λ read rest last. HoldsNone rest)
-Ran (Err TooManyTurns) before behind old new first = Told before behind old new first (λ read rest last. HoldsNone rest × (16777216 ≤ length read))
-Ran (Err Write) before behind old new first = ToldPart before behind old new first
-Ran (Err Source) before behind old new first = Keeps before behind × Keeps old new × (limit < length first.text)
+abbrev pub Ran : Result Status RunFault → (before left old new : Option (List ℕ)) → (first : Version) → Type 0
+Ran (Ok status) before left old new first = Told before left old new first (λ read rest last. (rest ≡ []) × IsAtEnd left × (status ≡ status_of last.text))
+Ran (Err (Script at)) before left old new first = Told before left old new first (λ read rest last. (at + length rest ≡ length read) × HoldsNone rest × IsMalformed rest left)
+Ran (Err Read) before left old new first = Told before left old new first (λ read rest last. HoldsNone rest)
+Ran (Err Memory) before left old new first = Told before left old new first (λ read rest last. HoldsNone rest)
+Ran (Err TooManyTurns) before left old new first = Told before left old new first (λ read rest last. HoldsNone rest × (16777216 ≤ length read))
+Ran (Err Write) before left old new first = ToldPart before left old new first
+Ran (Err Source) before left old new first = Keeps before left × Keeps old new × (limit < length first.text)
 
 abbrev pub is_read_fault : Result Status RunFault → Bool
 is_read_fault (Err Read) = true

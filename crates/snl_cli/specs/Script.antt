@@ -64,11 +64,11 @@ closed request (b ∷ rest) = if b == 10 then Then request rest else Unknown
 
 -- The command of a line, and what is after it.
 abbrev pub headed : Option Heading → List ℕ → Next
-headed None behind = Unknown
-headed (Some Check) behind = Then Checks behind
-headed (Some Listing) behind = Then Lists behind
-headed (Some Work) behind = Then Works behind
-headed (Some (Edit start stop len)) behind = closed (Edits start stop (take len behind)) (drop len behind)
+headed None after = Unknown
+headed (Some Check) after = Then Checks after
+headed (Some Listing) after = Then Lists after
+headed (Some Work) after = Then Works after
+headed (Some (Edit start stop len)) after = closed (Edits start stop (take len after)) (drop len after)
 
 -- A command's line has at most 80 bytes without its LF.
 abbrev pub lined : Option ℕ → List ℕ → Next

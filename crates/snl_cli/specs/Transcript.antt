@@ -69,11 +69,11 @@ version_after version (t ∷ ts) = version_after (after version t.request t.star
 -- The bytes are these commands, one after another, and then the rest.
 abbrev pub Begins : (bytes : List ℕ) → List Turn → (rest : List ℕ) → Type 0
 Begins bytes [] rest = rest ≡ bytes
-Begins bytes (t ∷ ts) rest = (behind : List ℕ) × (next_of bytes ≡ Then t.request behind) × Begins behind ts rest
+Begins bytes (t ∷ ts) rest = (left : List ℕ) × (next_of bytes ≡ Then t.request left) × Begins left ts rest
 
 -- No well-formed command is whole at the front of the bytes.
 abbrev pub HoldsNone : List ℕ → Type 0
-HoldsNone bytes = (request : Request) (behind : List ℕ) → next_of bytes ≢ Then request behind
+HoldsNone bytes = (request : Request) (left : List ℕ) → next_of bytes ≢ Then request left
 
 -- The status of a text.
 abbrev pub status_of : List ℕ → Status

@@ -19,8 +19,8 @@ use std::io::Write;
 fn part_of(text: &[u8], start: usize, len: usize) -> &[u8]
     ensures { result.now ≡ part_of text.now start len }
 {
-    let behind = &text[start.min(text.len())..];
-    &behind[..len.min(behind.len())]
+    let after = &text[start.min(text.len())..];
+    &after[..len.min(after.len())]
 }
 
 fn hex_digit(digit: u8) -> u8

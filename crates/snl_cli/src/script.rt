@@ -4,7 +4,7 @@
 #![tactic(auto)]
 
 ghost use Rattle.std.specs.Prelude.{◌≡◌, ℕ, ◌+◌, ◌==◌, ◌≤◌, ◌<◌, List, [], ◌∷◌, length, take, drop, Some, None, IfSome, position};
-ghost use Rattle.snl_cli.specs.Front.{IsFront, IsFrontBehind, words_behind};
+ghost use Rattle.snl_cli.specs.Front.{IsFront, IsFrontAfter, words_after};
 ghost use Rattle.snl_cli.specs.Script.{edit_of, edit_with, heading_of, headed, lone, number_of, words_of};
 
 /// A command's line has at most so many bytes without its LF.
@@ -74,7 +74,7 @@ fn place_of(byte: u8, bytes: &[u8]) -> Option<usize>
 
 /// The first word of some, and what comes after its space.
 fn first_word(words: &[u8]) -> (&[u8], Option<&[u8]>)
-    ensures { words_of words.now ≡ result.0.now ∷ words_behind result.1 }
+    ensures { words_of words.now ≡ result.0.now ∷ words_after result.1 }
 {
     match place_of(b' ', words) {
         None => (words, None),
@@ -140,7 +140,7 @@ fn heading_in(line: &[u8]) -> Option<Heading>
 /// A command that has no word after the first.
 #[tactic(auto, using(crate::proofs::ScriptLemmas::lone_more))]
 fn lone(heading: Heading, words: Option<&[u8]>) -> Option<Heading>
-    ensures { result ≡ lone heading (words_behind words.entry) }
+    ensures { result ≡ lone heading (words_after words.entry) }
 {
     match words {
         None => Some(heading),
@@ -149,9 +149,9 @@ fn lone(heading: Heading, words: Option<&[u8]>) -> Option<Heading>
 }
 
 /// The command of a heading, whose line and LF have `line` bytes.
-fn front_behind(heading: Option<Heading>, line: usize, behind: &[u8]) -> Front<'_>
+fn front_after(heading: Option<Heading>, line: usize, after: &[u8]) -> Front<'_>
     requires { line ≤ 81 }
-    ensures { IsFrontBehind (headed heading) line behind.now result }
+    ensures { IsFrontAfter (headed heading) line after.now result }
 {
     match heading {
         None => Front::Malformed,
@@ -167,13 +167,13 @@ fn front_behind(heading: Option<Heading>, line: usize, behind: &[u8]) -> Front<'
             command: Command::Work,
             length: line,
         },
-        Some(Heading::Edit { start, stop, len }) => match behind.get(len) {
+        Some(Heading::Edit { start, stop, len }) => match after.get(len) {
             None => Front::Short,
             Some(b'\n') => Front::Whole {
                 command: Command::Edit {
                     start,
                     stop,
-                    new: &behind[..len],
+                    new: &after[..len],
                 },
                 length: line + len + 1,
             },
@@ -188,7 +188,7 @@ pub fn front_of(bytes: &[u8]) -> Front<'_>
 {
     let first = &bytes[..bytes.len().min(MAX_LINE + 1)];
     match place_of(b'\n', first) {
-        Some(end) => front_behind(heading_in(&bytes[..end]), end + 1, &bytes[end + 1..]),
+        Some(end) => front_after(heading_in(&bytes[..end]), end + 1, &bytes[end + 1..]),
         None if bytes.len() > MAX_LINE => Front::Malformed,
         None => Front::Short,
     }

@@ -118,9 +118,9 @@ pub still_unmet : {X : Type 0} (first : List X → ℕ) (old units : List X) (en
     → IsCut first old ends → Walks first units 0 xs at → Unmet first old units b c at
     → (c ≤ at → (k : ℕ) → last_end 0 (take k ends) ≡ (at - c) + b → ⊥) → next ≡ at + first (drop at units)
     → Unmet first old units b c next
-still_unmet first old units ends b c xs at next cut walk unmet none e = λ place lt behind in_new in_old.
+still_unmet first old units ends b c xs at next cut walk unmet none e = λ place lt after in_new in_old.
     elim (split place at) [
-      | inl less ↦ unmet place less behind in_new in_old
+      | inl less ↦ unmet place less after in_new in_old
       | inr more ↦
           elim (split at place) [
             | inl inner ↦ absurd (omega (arith, none_inside first units 0 xs in_new.0 at place walk in_new.1 inner))
@@ -133,7 +133,7 @@ still_unmet first old units ends b c xs at next cut walk unmet none e = λ place
 
 pub same_length : {X : Type 0} (old units : List X) (start b c : ℕ) → IsEdit old units start b c → (length units - c) + b ≡ length old
 same_length old units start b c edit =
-    let e : length old - b ≡ length units - c = sym (length-drop b old) ∙ (ap length edit.behind ∙ length-drop c units) in
+    let e : length old - b ≡ length units - c = sym (length-drop b old) ∙ (ap length edit.after ∙ length-drop c units) in
     omega arith
 
 -- The ends of both lists meet, so a place that doesn't meet is before the end.

@@ -77,7 +77,7 @@ pub all_together : {X : Type 0} (first : List X → ℕ) → IsFront first → I
     → (made : List ℕ) (at : ℕ) → Walks first units (last_end 0 (take kept ends)) made at → at ≤ length units → Unmet first old units b c at
     → (count : ℕ) → c ≤ at → count ≤ length ends → last_end 0 (take count ends) ≡ (at - c) + b
     → IsRecut first old ends units start b c kept made (length ends - count)
-all_together {X} first front local old units ends start b c edit cut kept is made at walk inside unmet count behind count_le there =
+all_together {X} first front local old units ends start b c edit cut kept is made at walk inside unmet count after count_le there =
     let whole_old = same_length old units start b c edit in
     let head : List ℕ = take kept ends in
     let p : ℕ = last_end 0 head in
@@ -85,7 +85,7 @@ all_together {X} first front local old units ends start b c edit cut kept is mad
     let back_old : Walks first old (last_end 0 (take count ends)) (drop count ends) (length old) = walks_back first old 0 ends (length old) count cut in
     let place : last_end 0 (take count ends) ≡ b + (at - c) = omega arith in
     let from_there : Walks first old (b + (at - c)) (drop count ends) (length old) = subst (λ (n : ℕ). Walks first old n (drop count ends) (length old)) place back_old in
-    let shifted : Walks first units (c + (at - c)) (moved b c (drop count ends)) ((length old - b) + c) = shift first old units b c (at - c) (drop count ends) (length old) edit.behind edit.new_inside from_there in
+    let shifted : Walks first units (c + (at - c)) (moved b c (drop count ends)) ((length old - b) + c) = shift first old units b c (at - c) (drop count ends) (length old) edit.after edit.new_inside from_there in
     let at_is : c + (at - c) ≡ at = omega arith in
     let end_is : (length old - b) + c ≡ length units = omega (arith, edit.old_inside, edit.new_inside) in
     let tail_at : Walks first units at (moved b c (drop count ends)) ((length old - b) + c) = subst (λ (n : ℕ). Walks first units n (moved b c (drop count ends)) ((length old - b) + c)) at_is shifted in
@@ -106,7 +106,7 @@ all_together {X} first front local old units ends start b c edit cut kept is mad
     record {
       meet = at;
       meets = record {
-        behind = behind;
+        after = after;
         in_new = (head ++ made, upto);
         in_old = (take count ends, subst (λ (n : ℕ). Walks first old 0 (take count ends) n) there (walks_front first old 0 ends (length old) count cut));
         least = λ place after in_new in_old. elim (split place at) [ inl less ↦ absurd (unmet place less after in_new in_old) | inr more ↦ more ];

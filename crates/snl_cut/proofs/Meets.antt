@@ -105,9 +105,9 @@ searched {X} first front old units ends b c meet at xs (e ∷ es) cut is before 
             | inl less ↦ less
             | inr more ↦
                 let same : meet ≡ at = omega arith in
-                let behind : c ≤ at = omega (arith, is.behind) in
+                let after : c ≤ at = omega (arith, is.after) in
                 let told : there ≡ true = boundary_told first old ends ((at - c) + b) cut (subst (λ (n : ℕ). IsBoundary first old ((n - c) + b)) same is.in_old) in
-                let wrong : test ≡ true = and_both (nat_le c at) there (le_yes c at behind) told in
+                let wrong : test ≡ true = and_both (nat_le c at) there (le_yes c at after) told in
                 cc
           ] in
           let within : at + first (drop at units) ≤ meet = none_inside first units 0 xs is.in_new.0 at meet before is.in_new.1 further in

@@ -45,6 +45,6 @@ cut_made first front units = walks_made first front units 0 (length units) (omeg
 -- There is one meeting point.
 pub meet_only : {X : Type 0} (first : List X → ℕ) (old units : List X) (b c m n : ℕ) → IsMeet first old units b c m → IsMeet first old units b c n → m ≡ n
 meet_only first old units b c m n h k =
-    let one : m ≤ n = h.least n k.behind k.in_new k.in_old in
-    let other : n ≤ m = k.least m h.behind h.in_new h.in_old in
+    let one : m ≤ n = h.least n k.after k.in_new k.in_old in
+    let other : n ≤ m = k.least m h.after h.in_new h.in_old in
     omega arith

@@ -47,11 +47,11 @@ impl<'a> Command<'a> {
             Some("middle") => Ok((text.len() / 2, &self.first)),
             Some("end") => Ok((text.len(), &self.first)),
             Some("before") => Ok((first_place(text, &self.first)?, &self.second)),
-            Some("behind") => {
+            Some("after") => {
                 let at = first_place(text, &self.first)?;
                 Ok((at.saturating_add(self.first.len()), &self.second))
             }
-            _ => bail!("a place is front, middle, end, before or behind"),
+            _ => bail!("a place is front, middle, end, before or after"),
         }
     }
 

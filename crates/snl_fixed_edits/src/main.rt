@@ -6,7 +6,7 @@
 //! The list has a line for each of these; empty lines and those that begin with `#` are for its reader:
 //! - `|` and a line of a text; `text` and bytes of it; `over`, which ends it
 //! - `put PLACE` and bytes, `type PLACE` and bytes that come letter by letter; a place is `front`, `middle` or `end` of the text, or
-//!   `before` or `behind` bytes, where these come first
+//!   `before` or `after` bytes, where these come first
 //! - `swap` and bytes, and others that are put in their place; `erase` and bytes that go letter by letter
 //! - `undo` and how many edits are taken back, the last one first; `undo all`
 //! - `edit`, two offsets, and bytes that are put in the place of what is between them

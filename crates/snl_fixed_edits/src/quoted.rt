@@ -31,7 +31,7 @@ fn take_byte(bytes: &mut Vec<u8>, open: Open, byte: u8) -> Result<Open> {
         (Open::Nothing, byte) => bytes.push(byte)?,
         (Open::Backslash, b'n') => bytes.push(b'\n')?,
         (Open::Backslash, b'\\') => bytes.push(b'\\')?,
-        (Open::Backslash, _) => bail!("behind a backslash comes n, x or another one"),
+        (Open::Backslash, _) => bail!("after a backslash comes n, x or another one"),
         (Open::Digit(high), digit) => bytes.push((high & 0xf) << 4 | digit_of(digit)? & 0xf)?,
     }
     Ok(Open::Nothing)

@@ -59,7 +59,7 @@ module _ (old text : List ℕ) (start b c : ℕ) (edit : TokenEdit) (made_tokens
     pub same_spellings : spellings text ≡ spellings old
     same_spellings =
         in_parts (spellings text) edit.start edit.new_stop is.of_spellings.new_order
-        ∙ ap₂ (λ (x y : List (Class × List ℕ)). x ++ y) (sym is.of_spellings.before) (ap₂ (λ (x y : List (Class × List ℕ)). x ++ y) (sym middle) (sym is.of_spellings.behind))
+        ∙ ap₂ (λ (x y : List (Class × List ℕ)). x ++ y) (sym is.of_spellings.before) (ap₂ (λ (x y : List (Class × List ℕ)). x ++ y) (sym middle) (sym is.of_spellings.after))
         ∙ sym (in_parts (spellings old) edit.start edit.old_stop is.of_spellings.old_order)
 
     -- so no item is fresh
@@ -111,5 +111,5 @@ module _ (old text : List ℕ) (start b c : ℕ) (edit : TokenEdit) (made_tokens
           ends = sym joined_is;
           items = items_are;
           after = omega (arith, recut.from);
-          led = omega (arith, recut.led, recut.from, recut.meets.behind);
+          led = omega (arith, recut.led, recut.from, recut.meets.after);
         }

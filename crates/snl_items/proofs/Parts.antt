@@ -32,7 +32,7 @@ parts_edited front middle back made a b c e i j = record {
   old_inside = omega (arith, whole_length front middle back);
   new_inside = omega (arith, whole_length front made back);
   before = first_part front middle back a e ∙ sym (first_part front made back a e);
-  behind = last_part front middle back b i ∙ sym (last_part front made back c j);
+  after = last_part front middle back b i ∙ sym (last_part front made back c j);
 }
 
 -- A list up to one number, from there up to another, and from there on.

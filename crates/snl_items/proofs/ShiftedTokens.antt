@@ -33,14 +33,14 @@ first_end place (p ∷ ps) =
           subst (λ (n : ℕ). AllByRecursion (λ (q : Piece). piece_end q ≤ place) (take n (p ∷ ps))) (sym (below_no (piece_end p) place (map piece_end ps) more)) tt
     ]
 
-begin_behind : (place from : ℕ) (ends : List ℕ) (kinds : List Class) → Rises from ends → place ≤ from → AllByRecursion (λ p. place ≤ p.start) (listed_pieces from ends kinds)
-begin_behind place from [] kinds r le = tt
-begin_behind place from (e ∷ es) [] r le = tt
-begin_behind place from (e ∷ es) (k ∷ ks) r le = (le, begin_behind place e es ks r.1 (omega (arith, r.0)))
+begin_after : (place from : ℕ) (ends : List ℕ) (kinds : List Class) → Rises from ends → place ≤ from → AllByRecursion (λ p. place ≤ p.start) (listed_pieces from ends kinds)
+begin_after place from [] kinds r le = tt
+begin_after place from (e ∷ es) [] r le = tt
+begin_after place from (e ∷ es) (k ∷ ks) r le = (le, begin_after place e es ks r.1 (omega (arith, r.0)))
 
 -- The last pieces begin where those before them end, or after it.
 last_begin : (from : ℕ) (ends : List ℕ) (kinds : List Class) (n : ℕ) → Rises from ends → AllByRecursion (λ p. last_end from (take n ends) ≤ p.start) (drop n (listed_pieces from ends kinds))
-last_begin from ends kinds zero r = begin_behind from from ends kinds r (omega arith)
+last_begin from ends kinds zero r = begin_after from from ends kinds r (omega arith)
 last_begin from [] kinds (suc n) r = tt
 last_begin from (e ∷ es) [] (suc n) r = tt
 last_begin from (e ∷ es) (k ∷ ks) (suc n) r = last_begin e es ks n r.1
@@ -88,10 +88,10 @@ left_within s front middle back made n still before left after = record {
       All-same (λ p. piece_end p ≤ s.start) (take (length front + n) (front ++ (middle ++ back))) (front ++ take n middle)
       (take-append-add front (middle ++ back) n ∙ ap (λ (l : List Piece). front ++ l) (take-append-le n middle back left.few))
       (All-append (λ p. piece_end p ≤ s.start) front (take n middle) before left.in_front);
-  behind =
+  after =
       All-same (λ p. s.old_stop ≤ p.start) (drop (length front + n) (front ++ (middle ++ back))) (drop n middle ++ back)
       (sym (drop-drop n (length front) (front ++ (middle ++ back))) ∙ ap (drop n) (drop_at front (middle ++ back) (length front) refl) ∙ drop-append-le n middle back left.few)
-      (All-append (λ p. s.old_stop ≤ p.start) (drop n middle) back left.behind after);
+      (All-append (λ p. s.old_stop ≤ p.start) (drop n middle) back left.after after);
 }
 
 module _ (old text : List ℕ) (start b c front : ℕ) (made : List Piece) (back kept_from : ℕ) (made_ends : List ℕ) (made_kinds : List Class) (is : IsChange old text start b c front made back kept_from made_ends made_kinds) where

@@ -42,7 +42,7 @@ pub record AreLeft (s : Shift) (old made : List Piece) (before : ℕ) : Type 0 w
   pub few : before ≤ length old
   pub made_are : made ≡ map (shifted_piece s) old
   pub in_front : All (λ p. piece_end p ≤ s.start) (take before old)
-  pub behind : All (λ p. s.old_stop ≤ p.start) (drop before old)
+  pub after : All (λ p. s.old_stop ≤ p.start) (drop before old)
 
 -- The shift of an edit of a text: its places, and how many line ends it takes out and puts in.
 pub record IsShiftOf (old text : List ℕ) (start old_stop new_stop : ℕ) (s : Shift) : Type 0 where

@@ -56,7 +56,7 @@ fn count_in_front(tokens: &[Piece], place: usize) -> usize
 }
 
 // Whether all tokens begin at a place or after it.
-fn are_behind(tokens: &[Piece], place: usize) -> bool
+fn are_after(tokens: &[Piece], place: usize) -> bool
     ensures { IsTrue result → All (λ p. place ≤ p.start) tokens.now }
 {
     tokens.iter().all(|token| place <= token.start)
@@ -68,7 +68,7 @@ fn left_before(old: &[Piece], made: &[Piece], shift: Shift) -> Option<usize>
     ensures { IfSome result (AreLeft shift old.now made.now) }
 {
     let before = count_in_front(old, shift.start);
-    if are_behind(&old[before..], shift.old_stop) && are_shifted(old, made, shift) {
+    if are_after(&old[before..], shift.old_stop) && are_shifted(old, made, shift) {
         Some(before)
     } else {
         None

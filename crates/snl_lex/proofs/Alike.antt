@@ -42,13 +42,13 @@ leads_back text from (p ∷ ps) to (suc k) h =
     let e : piece_end p ≡ from + piece_length (drop from text) = ap piece_end h.1 ∙ end_at text from in
     leads_back text (piece_end p) ps to k (subst (λ (n : ℕ). Leads text n ps to) (sym e) h.2)
 
-pub alike_behind : (old text : List ℕ) (b c from : ℕ) (ps : List Piece) (to : ℕ) → drop b old ≡ drop c text → b ≤ from → Leads old from ps to
+pub alike_after : (old text : List ℕ) (b c from : ℕ) (ps : List Piece) (to : ℕ) → drop b old ≡ drop c text → b ≤ from → Leads old from ps to
     → AllByRecursion (λ p. bytes_at text (moved_piece b c p) ≡ bytes_at old p) ps
-alike_behind old text b c from [] to h le l = tt
-alike_behind old text b c from (p ∷ ps) to h le l =
+alike_after old text b c from [] to h le l = tt
+alike_after old text b c from (p ∷ ps) to h le l =
     let starts : p.start ≡ from = ap (λ q. q.start) l.1 ∙ start_at old from in
     let place : c + (p.start - b) ≡ (p.start - b) + c = omega arith in
     let there : b + (p.start - b) ≡ p.start = omega arith in
     let rest : drop ((p.start - b) + c) text ≡ drop p.start old =
     ap (λ n. drop n text) (sym place) ∙ sym (drop-drop (p.start - b) c text) ∙ ap (drop (p.start - b)) (sym h) ∙ drop-drop (p.start - b) b old ∙ ap (λ n. drop n old) there in
-    (ap (take p.len) rest, alike_behind old text b c (from + piece_length (drop from old)) ps to h (omega arith) l.2)
+    (ap (take p.len) rest, alike_after old text b c (from + piece_length (drop from old)) ps to h (omega arith) l.2)

@@ -49,7 +49,7 @@ kinds_moved b c (p ∷ ps) = ap (λ (l : List Class). p.kind ∷ l) (kinds_moved
 -- Texts of an edit are as much longer or shorter as the bytes in it.
 pub edit_lengths : (old text : List ℕ) (start b c : ℕ) → IsEdit old text start b c → length old + c ≡ length text + b
 edit_lengths old text start b c e =
-    let same : length old - b ≡ length text - c = sym (length-drop b old) ∙ ap length e.behind ∙ length-drop c text in
+    let same : length old - b ≡ length text - c = sym (length-drop b old) ∙ ap length e.after ∙ length-drop c text in
     omega (arith, same, e.old_inside, e.new_inside)
 
 -- ---- what a change says
@@ -86,9 +86,9 @@ module _ (old text : List ℕ) (start b c front : ℕ) (made : List Piece) (back
       let ps : List Piece = pieces_of old in
       let many : length (piece_ends old) ≡ length ps = length-map ps piece_end in
       let tail : List Piece = last_pieces old back in
-      let behind : map kind (map (moved_piece b c) tail) ≡ drop (length (piece_ends old) - back) (piece_kinds old) =
+      let after : map kind (map (moved_piece b c) tail) ≡ drop (length (piece_ends old) - back) (piece_kinds old) =
       kinds_moved b c tail ∙ sym (drop-map kind (length ps - back) ps) ∙ ap (λ (n : ℕ). drop (n - back) (piece_kinds old)) (sym many) in
       sym (ap (map kind) is.pieces
       ∙ map-append kind (take front ps ++ made) (map (moved_piece b c) tail)
-      ∙ ap₂ (λ (x y : List Class). x ++ y) (map-append kind (take front ps) made ∙ ap₂ (λ (x y : List Class). x ++ y) (sym (take-map kind front ps)) (sym is.kinds)) behind
+      ∙ ap₂ (λ (x y : List Class). x ++ y) (map-append kind (take front ps) made ∙ ap₂ (λ (x y : List Class). x ++ y) (sym (take-map kind front ps)) (sym is.kinds)) after
       ∙ append_assoc (take front (piece_kinds old)) made_kinds (drop (length (piece_ends old) - back) (piece_kinds old)))

@@ -7,7 +7,7 @@ use Rattle.snl_lex.specs.declared.piece.Class.{Class}
 use Rattle.snl_lex.specs.declared.piece.Piece.{Piece}
 use Rattle.snl_lex.specs.PieceList.{last_pieces, piece_ends, spelled, tokens_spelled}
 use Rattle.snl_lex.specs.Pieces.{bytes_at, is_token, moved_piece, piece_length, pieces_of}
-use Rattle.snl_lex.proofs.Alike.{alike_before, alike_behind, leads_back}
+use Rattle.snl_lex.proofs.Alike.{alike_after, alike_before, leads_back}
 use Rattle.snl_lex.proofs.Members.{Leads, pieces_lead}
 
 spelled_alike : (old text : List ℕ) (ps : List Piece) → AllByRecursion (λ p. bytes_at text p ≡ bytes_at old p) ps → spelled text ps ≡ spelled old ps
@@ -48,7 +48,7 @@ module _ (old text : List ℕ) (start b c front : ℕ) (made : List ℕ) (back :
       let many : length (piece_ends old) ≡ length (pieces_of old) = length-map (pieces_of old) _ in
       let there : from ≡ (r.meet - c) + b = ap (λ (n : ℕ). last_end 0 (take (n - back) (piece_ends old))) (sym many) ∙ r.from in
       let led : Leads old from (last_pieces old back) (length old) = leads_back old 0 (pieces_of old) (length old) k (pieces_lead old) in
-      alike_behind old text b c from (last_pieces old back) (length old) edit.behind (omega (arith, there)) led
+      alike_after old text b c from (last_pieces old back) (length old) edit.after (omega (arith, there)) led
 
   pub front_spelled : spelled text (take front (pieces_of old)) ≡ spelled old (take front (pieces_of old))
   front_spelled = spelled_alike old text (take front (pieces_of old)) front_bytes

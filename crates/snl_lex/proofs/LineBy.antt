@@ -6,7 +6,7 @@ use Rattle.std.proofs.lemmas.Bool.Decides.{nat_tests}
 use Rattle.snl_lex.specs.declared.line_list.Marker.{Marker}
 use Rattle.snl_lex.specs.declared.lines.Line.{Line}
 use Rattle.snl_lex.specs.declared.piece.Piece.{Piece}
-use Rattle.snl_lex.specs.LineList.{ends_before, last_before, line_begin, line_ends, marker_of, names, naming_markers, number_behind, numbers, setting_markers}
+use Rattle.snl_lex.specs.LineList.{ends_before, last_before, line_begin, line_ends, marker_of, names, naming_markers, number_after, numbers, setting_markers}
 use Rattle.snl_lex.specs.Lines.{file_by, has_line_between, last_that, line_at, marker_number, names_file, number_by, sets_line}
 use Rattle.snl_lex.specs.Pieces.{bytes_at, piece_end, pieces_of}
 use Rattle.snl_lex.proofs.Along.{names_is, sets_is}
@@ -53,7 +53,7 @@ module _ (text : List ℕ) (offset : ℕ) where
       last_told (names text) (names_file text offset) (marker_of text) (λ m. nat_lt m.end begin) None (pieces_of text)
       (λ p. names_is text offset p ∙ ap (λ (b : Bool). names text p && b) (begin_told text (piece_end p) offset (ends_before lines offset) refl))
 
-  number_told : (o : Option Piece) → number_behind lines (ends_before lines offset) (option_map (marker_of text) o) ≡ number_by text offset o
+  number_told : (o : Option Piece) → number_after lines (ends_before lines offset) (option_map (marker_of text) o) ≡ number_by text offset o
   number_told None = ap (λ (n : ℕ). 1 + n) (below_is text offset)
   number_told (Some p) = ap (λ (n : ℕ). (unwrap_or (marker_number (bytes_at text p)) 0 + n) - 1) (sym (between_is text (piece_end p) offset))
 
@@ -62,17 +62,17 @@ module _ (text : List ℕ) (offset : ℕ) where
   file_told (Some p) = refl
 
   -- What the lists tell is the line.
-  pub line_told : (counted begun behind : List ℕ) (ms ns : List Marker) (count from number : ℕ) (last named : Option Marker) → counted ≡ line_ends text → begun ≡ line_ends text → behind ≡ line_ends text → ms ≡ setting_markers text → ns ≡ naming_markers text
-      → count ≡ ends_before counted offset → from ≡ line_begin begun count → last ≡ last_before from ms → number ≡ number_behind behind count last → named ≡ last_before from ns
+  pub line_told : (counted begun after : List ℕ) (ms ns : List Marker) (count from number : ℕ) (last named : Option Marker) → counted ≡ line_ends text → begun ≡ line_ends text → after ≡ line_ends text → ms ≡ setting_markers text → ns ≡ naming_markers text
+      → count ≡ ends_before counted offset → from ≡ line_begin begun count → last ≡ last_before from ms → number ≡ number_after after count last → named ≡ last_before from ns
       → line_with number (file_in named) ≡ line_at text offset
   unfolding line_at
-  line_told counted begun behind ms ns count from number last named e1 e2 e3 em en hc hf hl hn hd =
+  line_told counted begun after ms ns count from number last named e1 e2 e3 em en hc hf hl hn hd =
       let here : count ≡ ends_before lines offset = hc ∙ ap (λ (l : List ℕ). ends_before l offset) e1 in
       let start : from ≡ begin = hf ∙ ap₂ line_begin e2 here in
       let setting : last ≡ option_map (marker_of text) (last_that (sets_line text offset) (pieces_of text)) = hl ∙ ap₂ last_before start em ∙ setter in
       let naming : named ≡ option_map (marker_of text) (last_that (names_file text offset) (pieces_of text)) = hd ∙ ap₂ last_before start en ∙ namer in
       let the_number : number ≡ number_by text offset (last_that (sets_line text offset) (pieces_of text)) =
-      hn ∙ ap₂ (λ (l : List ℕ) (n : ℕ). number_behind l n last) e3 here ∙ ap (number_behind lines (ends_before lines offset)) setting
+      hn ∙ ap₂ (λ (l : List ℕ) (n : ℕ). number_after l n last) e3 here ∙ ap (number_after lines (ends_before lines offset)) setting
       ∙ number_told (last_that (sets_line text offset) (pieces_of text)) in
       let the_file : file_in named ≡ file_by text (last_that (names_file text offset) (pieces_of text)) = ap file_in naming ∙ file_told (last_that (names_file text offset) (pieces_of text)) in
       ap₂ line_with the_number the_file

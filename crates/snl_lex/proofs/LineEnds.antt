@@ -58,11 +58,11 @@ below_at at (e ∷ es) zero h lt = count_no (λ x. nat_lt x e) e es (lt_no e e (
 below_at at (e ∷ es) (suc k) h lt =
     count_yes (λ x. nat_lt x (get_or es k 0)) e es (lt_yes e (get_or es k 0) (omega (arith, climbs_get (suc e) es k 0 h.1 (omega arith)))) ∙ ap suc (below_at (suc e) es k h.1 (omega arith))
 
-pub below_behind : (at : ℕ) (es : List ℕ) (k : ℕ) → Climbs at es → k < length es → below (suc (get_or es k 0)) es ≡ suc k
-below_behind at [] k h lt = absurd (omega arith)
-below_behind at (e ∷ es) zero h lt = count_yes (λ x. nat_lt x (suc e)) e es (lt_yes e (suc e) (omega arith)) ∙ ap suc (below_none (suc e) (suc e) es h.1 (omega arith))
-below_behind at (e ∷ es) (suc k) h lt =
-    count_yes (λ x. nat_lt x (suc (get_or es k 0))) e es (lt_yes e (suc (get_or es k 0)) (omega (arith, climbs_get (suc e) es k 0 h.1 (omega arith)))) ∙ ap suc (below_behind (suc e) es k h.1 (omega arith))
+pub below_after : (at : ℕ) (es : List ℕ) (k : ℕ) → Climbs at es → k < length es → below (suc (get_or es k 0)) es ≡ suc k
+below_after at [] k h lt = absurd (omega arith)
+below_after at (e ∷ es) zero h lt = count_yes (λ x. nat_lt x (suc e)) e es (lt_yes e (suc e) (omega arith)) ∙ ap suc (below_none (suc e) (suc e) es h.1 (omega arith))
+below_after at (e ∷ es) (suc k) h lt =
+    count_yes (λ x. nat_lt x (suc (get_or es k 0))) e es (lt_yes e (suc (get_or es k 0)) (omega (arith, climbs_get (suc e) es k 0 h.1 (omega arith)))) ∙ ap suc (below_after (suc e) es k h.1 (omega arith))
 
 abbrev bit : Bool → ℕ
 bit t = cond t 1 0
@@ -149,7 +149,7 @@ any_some text a place k h =
     any_counted (λ b. b == 10) (part_of text a place)
     ∙ elim (split e a) [
       | inl less ↦
-          lt_no 0 (lines_between text a place) (omega (arith, between_is text a place, h, below_behind 0 es k climb lt, below_more (suc e) a es (omega (arith, less))))
+          lt_no 0 (lines_between text a place) (omega (arith, between_is text a place, h, below_after 0 es k climb lt, below_more (suc e) a es (omega (arith, less))))
           ∙ sym (lt_no a (suc e) (omega (arith, less)))
       | inr more ↦
           lt_yes 0 (lines_between text a place) (omega (arith, between_is text a place, h, below_at 0 es k climb lt, below_more a e es more))
@@ -243,14 +243,14 @@ place_parts text place le =
 pub ends_order : (text : List ℕ) → IsNonDecreasing (line_ends text)
 ends_order text = λ i j d le lt. climbs_order 0 (line_ends text) (ends_climb 0 text) i j d le lt
 
-pub behind_above : (text : List ℕ) (b : ℕ) → b ≤ length text → (i : ℕ) → i < length (drop (below b (line_ends text)) (line_ends text)) → b ≤ slice_index (drop (below b (line_ends text)) (line_ends text)) i
-behind_above text b le i lt =
+pub after_above : (text : List ℕ) (b : ℕ) → b ≤ length text → (i : ℕ) → i < length (drop (below b (line_ends text)) (line_ends text)) → b ≤ slice_index (drop (below b (line_ends text)) (line_ends text)) i
+after_above text b le i lt =
     let e = (place_parts text b le).1 in
     let there : i < length (line_ends_from b (drop b text)) = omega (arith, lt, ap length e) in
     subst (λ (l : List ℕ). b ≤ slice_index l i) (sym e) (climbs_get b (line_ends_from b (drop b text)) i 0 (ends_climb b (drop b text)) there)
 
-pub behind_under : (text : List ℕ) (b : ℕ) → b ≤ length text → (i : ℕ) → i < length (drop (below b (line_ends text)) (line_ends text)) → slice_index (drop (below b (line_ends text)) (line_ends text)) i < length text
-behind_under text b le i lt =
+pub after_under : (text : List ℕ) (b : ℕ) → b ≤ length text → (i : ℕ) → i < length (drop (below b (line_ends text)) (line_ends text)) → slice_index (drop (below b (line_ends text)) (line_ends text)) i < length text
+after_under text b le i lt =
     let e = (place_parts text b le).1 in
     let there : i < length (line_ends_from b (drop b text)) = omega (arith, lt, ap length e) in
     let under : slice_index (line_ends_from b (drop b text)) i < length text = omega (arith, ends_under b (drop b text) i 0 there, length-drop b text, le) in
@@ -264,7 +264,7 @@ edited_ends old text start b c e =
     let zero_b : b + 0 ≡ b = omega arith in
     let zero_c : c + 0 ≡ c = omega arith in
     let moves : moved b c (line_ends_from b (drop b old)) ≡ line_ends_from c (drop c text) =
-    sym (ap (λ (n : ℕ). line_ends_from n (drop c text)) (sym zero_c) ∙ ends_moved b c 0 (drop c text) ∙ ap₂ (λ (n : ℕ) (l : List ℕ). moved b c (line_ends_from n l)) zero_b (sym e.behind)) in
+    sym (ap (λ (n : ℕ). line_ends_from n (drop c text)) (sym zero_c) ∙ ends_moved b c 0 (drop c text) ∙ ap₂ (λ (n : ℕ) (l : List ℕ). moved b c (line_ends_from n l)) zero_b (sym e.after)) in
     let tail : moved b c (drop (below b (line_ends old)) (line_ends old)) ≡ line_ends_from c (drop c text) = ap (moved b c) (place_parts old b e.old_inside).1 ∙ moves in
     let order : start + (c - start) ≡ c = omega (arith, e.new_order) in
     let size : 0 + length (take start text) ≡ start = omega (arith, length-take-le start text (omega (arith, e.new_order, e.new_inside))) in

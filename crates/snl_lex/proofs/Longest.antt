@@ -138,7 +138,7 @@ closes_by kind a b u (Some n) e =
     inl (
       refl,
       record {
-        behind = omega (arith, c.some);
+        after = omega (arith, c.some);
         closes = ap (λ (m : ℕ). take 2 (drop m u)) (sym back) ∙ ap (take 2) (sym (drop-drop (n - 2) 2 u)) ∙ c.there;
         first = λ place le h.
             let at : 2 + (place - 2) ≡ place = omega (arith, le) in

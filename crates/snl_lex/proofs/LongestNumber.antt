@@ -42,9 +42,9 @@ all_mirrored p (b ∷ bs) front m =
 abbrev joins_as : ℕ → ℕ → Bool → Bool
 joins_as x b plain = is_word_byte x || x == 46 || (is_sign x && (is_power b && plain))
 
-joins_behind : (b : ℕ) (bs : List ℕ) (x : ℕ) → number_joins (b ∷ bs) x ≡ joins_as x b (list_all is_plain bs)
+joins_after : (b : ℕ) (bs : List ℕ) (x : ℕ) → number_joins (b ∷ bs) x ≡ joins_as x b (list_all is_plain bs)
 unfolding number_joins awaits_sign
-joins_behind b bs x = refl
+joins_after b bs x = refl
 
 on_at : (rest : List ℕ) (b x : ℕ) (xs : List ℕ) → goes_on (rest ++ b ∷ x ∷ xs) (length rest + 1) ≡ joins_as x b (list_all is_plain rest)
 on_at rest b x xs =
@@ -61,7 +61,7 @@ joins_on b bs front x xs m =
     let rest : List ℕ = m.0 in
     let whole : front ++ x ∷ xs ≡ rest ++ b ∷ x ∷ xs = ap (λ (l : List ℕ). l ++ x ∷ xs) m.1.0 ∙ append_assoc rest (b ∷ []) (x ∷ xs) in
     let size : length front ≡ length rest + 1 = ap length m.1.0 ∙ length-append rest (b ∷ []) in
-    joins_behind b bs x ∙ ap (joins_as x b) (all_mirrored is_plain bs rest m.1.1) ∙ sym (ap₂ goes_on whole size ∙ on_at rest b x xs)
+    joins_after b bs x ∙ ap (joins_as x b) (all_mirrored is_plain bs rest m.1.1) ∙ sym (ap₂ goes_on whole size ∙ on_at rest b x xs)
 
 -- From a place on, so many bytes go on the run, and the next one doesn't.
 pub record Reaches (u : List ℕ) (from : ℕ) (n : ℕ) : Type 0 where

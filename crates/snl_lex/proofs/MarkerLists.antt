@@ -109,10 +109,10 @@ marked_before passes text place (p ∷ ps) h =
       | false ↦ rest
     ]
 
-marked_behind : (passes : Piece → Bool) (text : List ℕ) (place : ℕ) (ps : List Piece) → AllByRecursion (λ p. place ≤ piece_end p) ps → AllByRecursion (λ m. nat_lt m.end place ≡ false) (marked passes text ps)
-marked_behind passes text place [] h = tt
-marked_behind passes text place (p ∷ ps) h =
-    let rest = marked_behind passes text place ps h.1 in
+marked_after : (passes : Piece → Bool) (text : List ℕ) (place : ℕ) (ps : List Piece) → AllByRecursion (λ p. place ≤ piece_end p) ps → AllByRecursion (λ m. nat_lt m.end place ≡ false) (marked passes text ps)
+marked_after passes text place [] h = tt
+marked_after passes text place (p ∷ ps) h =
+    let rest = marked_after passes text place ps h.1 in
     elim (passes p) as (λ b. AllByRecursion (λ m. nat_lt m.end place ≡ false) (map (marker_of text) (cond b (p ∷ filter passes ps) (filter passes ps)))) [
       | true ↦ (lt_no (piece_end p) place h.0, rest)
       | false ↦ rest
@@ -121,12 +121,12 @@ marked_behind passes text place (p ∷ ps) h =
 -- The markers that end before a place, and the others.
 pub marked_parts : (passes : Piece → Bool) (text : List ℕ) (place : ℕ) (xs ys : List Piece) → AllByRecursion (λ p. piece_end p < place) xs → AllByRecursion (λ p. place ≤ piece_end p) ys → (ms : List Marker) → ms ≡ marked passes text (xs ++ ys)
     → (take (count_by (λ m. nat_lt m.end place) ms) ms ≡ marked passes text xs) × (drop (count_by (λ m. nat_lt m.end place) ms) ms ≡ marked passes text ys)
-marked_parts passes text place xs ys before behind ms is =
+marked_parts passes text place xs ys before after ms is =
     let a : List Marker = marked passes text xs in
     let b : List Marker = marked passes text ys in
     let test : Marker → Bool = λ (m : Marker). nat_lt m.end place in
     let two : ms ≡ a ++ b = is ∙ marked_append passes text xs ys in
-    let count : count_by test ms ≡ length a = ap (count_by test) two ∙ count_parts test a b (all_counted test a (marked_before passes text place xs before)) (no_counted test b (marked_behind passes text place ys behind)) in (
+    let count : count_by test ms ≡ length a = ap (count_by test) two ∙ count_parts test a b (all_counted test a (marked_before passes text place xs before)) (no_counted test b (marked_after passes text place ys after)) in (
       ap₂ (λ (n : ℕ) (l : List Marker). take n l) count two ∙ take-append_seam a b,
       ap₂ (λ (n : ℕ) (l : List Marker). drop n l) count two ∙ drop-append_seam a b,
     )
@@ -295,16 +295,16 @@ module _ (old text : List ℕ) (start b c front : ℕ) (made : List Piece) (back
       let N : Piece → Bool = passing test text in
       let f_is : front ≡ ends_below start (piece_ends old) = is.recut.kept in
       let before_front : AllByRecursion (λ p. piece_end p < start) (take front ps) = subst (λ (n : ℕ). AllByRecursion (λ p. piece_end p < start) (take n ps)) (sym f_is) (front_below start ps) in
-      let behind_front : AllByRecursion (λ p. start ≤ piece_end p) (drop front ps) =
+      let after_front : AllByRecursion (λ p. start ≤ piece_end p) (drop front ps) =
       subst (λ (n : ℕ). AllByRecursion (λ p. start ≤ piece_end p) (drop n ps)) (sym f_is) (rest_above old start 0 ps (length old) (pieces_lead old)) in
       let more : suc (last_end 0 (take k (piece_ends old))) ≡ kept_from + 1 = omega (arith, from_is) in
       let before_back : AllByRecursion (λ p. piece_end p < kept_from + 1) (take k ps) =
       subst (λ (n : ℕ). AllByRecursion (λ p. piece_end p < n) (take k ps)) more (taken_under old 0 k ps (length old) (pieces_lead old)) in
-      let behind_back : AllByRecursion (λ p. kept_from + 1 ≤ piece_end p) (drop k ps) =
+      let after_back : AllByRecursion (λ p. kept_from + 1 ≤ piece_end p) (drop k ps) =
       let one : suc kept_from ≡ kept_from + 1 = omega arith in
       subst (λ (n : ℕ). AllByRecursion (λ p. n ≤ piece_end p) (drop k ps)) one (all_above old kept_from kept_from (drop k ps) (length old) back_leads (omega arith)) in
-      let at_front = (marked_parts T old start (take front ps) (drop front ps) before_front behind_front ms (whole ∙ ap (marked T old) (sym (take-append-drop front ps)))).0 in
-      let at_back = (marked_parts T old (kept_from + 1) (take k ps) (drop k ps) before_back behind_back ms (whole ∙ ap (marked T old) (sym (take-append-drop k ps)))).1 in
+      let at_front = (marked_parts T old start (take front ps) (drop front ps) before_front after_front ms (whole ∙ ap (marked T old) (sym (take-append-drop front ps)))).0 in
+      let at_back = (marked_parts T old (kept_from + 1) (take k ps) (drop k ps) before_back after_back ms (whole ∙ ap (marked T old) (sym (take-append-drop k ps)))).1 in
       let head : marked N text (take front ps) ≡ marked T old (take front ps) = front_marked test old text (take front ps) (front_bytes old text start b c front (map piece_end made) back edit is.recut) in
       let tail : marked N text (map (moved_piece b c) (drop k ps)) ≡ map (moved_marker b c) (marked T old (drop k ps)) =
       back_marked test old text b c (drop k ps) (back_bytes old text start b c front (map piece_end made) back edit is.recut) (starts_above old kept_from b (drop k ps) (length old) back_leads from_order) in
@@ -342,7 +342,7 @@ split_there {X} xs made start stop h =
       ap₂ (λ (n : ℕ) (l : List X). drop n l) long two ∙ drop-append_seam front (drop stop xs),
     )
 
-pub short_behind : (ms : List Marker) (k : ℕ) → All IsShort ms → All IsShort (drop k ms)
-short_behind ms zero h = h
-short_behind [] (suc k) h = λ j d lt. absurd (omega (arith, lt))
-short_behind (m ∷ ms) (suc k) h = short_behind ms k (λ j d lt. h (suc j) d (omega (arith, lt)))
+pub short_after : (ms : List Marker) (k : ℕ) → All IsShort ms → All IsShort (drop k ms)
+short_after ms zero h = h
+short_after [] (suc k) h = λ j d lt. absurd (omega (arith, lt))
+short_after (m ∷ ms) (suc k) h = short_after ms k (λ j d lt. h (suc j) d (omega (arith, lt)))

@@ -62,11 +62,11 @@ same_rest : (old text : List ℕ) (start b c p : ℕ) → IsEdit old text start 
 same_rest old text start b c p edit le =
     let one : b + (p - c) ≡ (p - c) + b = omega arith in
     let other : c + (p - c) ≡ p = omega arith in
-    ap (λ (n : ℕ). drop n old) (sym one) ∙ (sym (drop-drop (p - c) b old) ∙ (ap (drop (p - c)) edit.behind ∙ (drop-drop (p - c) c text ∙ ap (λ (n : ℕ). drop n text) other)))
+    ap (λ (n : ℕ). drop n old) (sym one) ∙ (sym (drop-drop (p - c) b old) ∙ (ap (drop (p - c)) edit.after ∙ (drop-drop (p - c) c text ∙ ap (λ (n : ℕ). drop n text) other)))
 
 lengths : (old text : List ℕ) (start b c : ℕ) → IsEdit old text start b c → (length text - c) + b ≡ length old
 lengths old text start b c edit =
-    let e : length old - b ≡ length text - c = sym (length-drop b old) ∙ (ap length edit.behind ∙ length-drop c text) in
+    let e : length old - b ≡ length text - c = sym (length-drop b old) ∙ (ap length edit.after ∙ length-drop c text) in
     omega (arith, e, edit.old_inside, edit.new_inside)
 
 -- Members of the new text after the edit are members of the old one.
@@ -177,9 +177,9 @@ back_begin old text ends start b c front made back edit cut r e es eq =
       | inr more ↦ more
     ]
     in
-    let behind : c ≤ r.meet = r.meets.behind in
+    let after : c ≤ r.meet = r.meets.after in
     let ws = between text 0 r.meets.in_new.0 head r.meet m r.meets.in_new.1 m_walk reached in
-    let vs = moved_back old text start b c edit r.meet ws.0 m behind ws.1 in
+    let vs = moved_back old text start b c edit r.meet ws.0 m after ws.1 in
     let there = join_walks old 0 r.meets.in_old.0 ((r.meet - c) + b) vs.0 ((m - c) + b) r.meets.in_old.1 vs.1 in
     let size : piece_length (drop ((m - c) + b) old) ≡ piece_length (drop m text) = ap piece_length (same_rest old text start b c m edit (omega arith)) in
     let ends_there : ((m - c) + b) + piece_length (drop ((m - c) + b) old) ≡ e = omega (arith, size, m_back.1, some.0) in

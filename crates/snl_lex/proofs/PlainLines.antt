@@ -77,7 +77,7 @@ module _ (old text : List ℕ) (s : Shift) (is : IsShift old text s) where
   same_back : (offset : ℕ) → s.old_stop ≤ offset → lines_between text s.new_stop ((offset - s.old_stop) + s.new_stop) ≡ lines_between old s.old_stop offset
   same_back offset h =
       let way : ((offset - s.old_stop) + s.new_stop) - s.new_stop ≡ offset - s.old_stop = omega arith in
-      ap₂ (λ (n : ℕ) (l : List ℕ). count (take n l)) way (sym is.edit.behind)
+      ap₂ (λ (n : ℕ) (l : List ℕ). count (take n l)) way (sym is.edit.after)
 
   -- What is counted up to an offset after the edit.
   counted : (offset : ℕ) → s.old_stop ≤ offset → lines_between text 0 ((offset - s.old_stop) + s.new_stop) + s.old_lines ≡ lines_between old 0 offset + s.new_lines

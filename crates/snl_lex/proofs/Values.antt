@@ -4,18 +4,18 @@ use Rattle.std.proofs.lemmas.List.{drop_more}
 use Rattle.std.proofs.lemmas.Bool.Decides.{nat_tests}
 use Rattle.snl_lex.specs.declared.alphabet.Base.{Base}
 use Rattle.snl_lex.specs.declared.alphabet.Base.TheVariants.{Octal, Decimal, Hexadecimal}
-use Rattle.snl_lex.specs.Numbers.{radix, digit_value, value_behind, checked_value}
+use Rattle.snl_lex.specs.Numbers.{radix, digit_value, value_after, checked_value}
 
-pub behind_more : (base : Base) (v : ℕ) (ds : List ℕ) (i : ℕ) → i < length ds
-    → value_behind base v (drop i ds) ≡ value_behind base (v * radix base + digit_value (get_or ds i 0)) (drop (i + 1) ds)
-behind_more base v ds i lt = ap (value_behind base v) (drop_more ds i 0 lt)
+pub after_more : (base : Base) (v : ℕ) (ds : List ℕ) (i : ℕ) → i < length ds
+    → value_after base v (drop i ds) ≡ value_after base (v * radix base + digit_value (get_or ds i 0)) (drop (i + 1) ds)
+after_more base v ds i lt = ap (value_after base v) (drop_more ds i 0 lt)
 
 times : (base : Base) (v d : ℕ) → v ≤ v * radix base + d
 times Octal v d = omega arith
 times Decimal v d = omega arith
 times Hexadecimal v d = omega arith
 
-pub value_grows : (base : Base) (v : ℕ) (ds : List ℕ) → v ≤ value_behind base v ds
+pub value_grows : (base : Base) (v : ℕ) (ds : List ℕ) → v ≤ value_after base v ds
 value_grows base v [] = omega arith
 value_grows base v (d ∷ ds) = omega (arith, times base v (digit_value d), value_grows base (v * radix base + digit_value d) ds)
 

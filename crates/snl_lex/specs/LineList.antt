@@ -63,9 +63,9 @@ abbrev pub ends_before : List ℕ → ℕ → ℕ
 ends_before ends place = count_by (λ e. nat_lt e place) ends
 
 -- The number of an offset's line by the last marker that counts, and so many line ends before it.
-abbrev pub number_behind : List ℕ → ℕ → Option Marker → ℕ
-number_behind ends count None = 1 + count
-number_behind ends count (Some m) = (m.number + (count - ends_before ends m.end)) - 1
+abbrev pub number_after : List ℕ → ℕ → Option Marker → ℕ
+number_after ends count None = 1 + count
+number_after ends count (Some m) = (m.number + (count - ends_before ends m.end)) - 1
 
 -- The last marker that ends before a place.
 abbrev pub last_before : ℕ → List Marker → Option Marker

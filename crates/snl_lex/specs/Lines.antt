@@ -10,7 +10,7 @@ use Rattle.snl_lex.specs.declared.piece.Piece.{Piece}
 use Rattle.snl_lex.specs.declared.lines.Line.{Line}
 use Rattle.snl_lex.specs.Alphabet.{is_gap, is_white, is_digit}
 use Rattle.snl_lex.specs.Runs.{run_of, run_by}
-use Rattle.snl_lex.specs.Numbers.{value_behind}
+use Rattle.snl_lex.specs.Numbers.{value_after}
 use Rattle.snl_lex.specs.Pieces.{string_joins, piece_end, bytes_at, pieces_of}
 
 -- The bytes from one offset up to another.
@@ -44,7 +44,7 @@ abbrev pub number_stop : List ℕ → ℕ
 number_stop marker = number_place marker + digit_count marker
 
 abbrev pub written_number : List ℕ → ℕ
-written_number marker = value_behind Decimal 0 (take (digit_count marker) (drop (number_place marker) marker))
+written_number marker = value_after Decimal 0 (take (digit_count marker) (drop (number_place marker) marker))
 
 -- The number that a marker sets: 1 to 10 digits, at most 2,147,483,647, with white space or nothing after. None: the marker sets nothing.
 unfoldable pub marker_number : List ℕ → Option ℕ

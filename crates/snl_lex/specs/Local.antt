@@ -228,9 +228,9 @@ string_alone kind quote x xs ys h =
     let n : ℕ = run_by (string_joins quote) [] ys in
     let near : take (suc m) xs ≡ take (suc m) ys = take_less (suc m) (string_piece kind quote (x ∷ xs)).1 xs ys (reaches kind m (eqb (slice_index (x ∷ xs) (1 + m)) quote)) h in
     let same : n ≡ m = run_by_same (string_joins quote) [] xs ys near in
-    let behind : slice_index (x ∷ ys) (1 + m) ≡ slice_index (x ∷ xs) (1 + m) = same_at (suc (suc m)) (1 + m) (x ∷ xs) (x ∷ ys) (omega arith) (ap (λ (l : List ℕ). x ∷ l) near) in
+    let after : slice_index (x ∷ ys) (1 + m) ≡ slice_index (x ∷ xs) (1 + m) = same_at (suc (suc m)) (1 + m) (x ∷ xs) (x ∷ ys) (omega arith) (ap (λ (l : List ℕ). x ∷ l) near) in
     let count : ended kind n (eqb (slice_index (x ∷ ys) (1 + n)) quote) ≡ ended kind m (eqb (slice_index (x ∷ ys) (1 + m)) quote) = ap (λ (k : ℕ). ended kind k (eqb (slice_index (x ∷ ys) (1 + k)) quote)) same in
-    count ∙ ap (λ (b : ℕ). ended kind m (eqb b quote)) behind
+    count ∙ ap (λ (b : ℕ). ended kind m (eqb b quote)) after
 
 string_inside_at : (kind : Class) (quote n : ℕ) (xs : List ℕ) (b : Bool) → n ≤ length xs → (b ≡ true → suc n ≤ length xs) → (1 ≤ (ended kind n b).1) × ((ended kind n b).1 ≤ suc (length xs))
 string_inside_at kind quote n xs true le more = (omega arith, omega (arith, more refl))

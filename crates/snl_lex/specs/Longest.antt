@@ -24,7 +24,7 @@ StandAt a b text place = take 2 (drop place text) ≡ a ∷ b ∷ []
 
 -- After its first two bytes, the piece goes on up to and with the first `a b`.
 pub record IsFirstClose (a : ℕ) (b : ℕ) (text : List ℕ) (len : ℕ) : Type 0 where
-  pub behind : 4 ≤ len
+  pub after : 4 ≤ len
   pub closes : StandAt a b text (len - 2)
   pub first : (place : ℕ) → 2 ≤ place → StandAt a b text place → len ≤ place + 2
 

@@ -40,9 +40,9 @@ radix Decimal = 10
 radix Hexadecimal = 16
 
 -- What the digits are worth after others that are worth `value`.
-abbrev pub value_behind : Base → ℕ → List ℕ → ℕ
-value_behind base value [] = value
-value_behind base value (d ∷ ds) = value_behind base (value * radix base + digit_value d) ds
+abbrev pub value_after : Base → ℕ → List ℕ → ℕ
+value_after base value [] = value
+value_after base value (d ∷ ds) = value_after base (value * radix base + digit_value d) ds
 
 -- A value, if it is at most 2^64 - 1.
 abbrev pub checked_value : ℕ → Option ℕ
@@ -73,7 +73,7 @@ from_digits Hexadecimal bytes = drop 2 bytes
 unfoldable pub value_in : Base → List ℕ → Option ℕ
 value_in base bytes =
     let count = run_of (is_digit_in base) bytes in
-    if nat_lt 0 count && is_int_suffix (drop count bytes) then checked_value (value_behind base 0 (take count bytes)) else None
+    if nat_lt 0 count && is_int_suffix (drop count bytes) then checked_value (value_after base 0 (take count bytes)) else None
 
 -- The value of the Int that the bytes are, if they are one.
 unfoldable pub int_value_of : List ℕ → Option ℕ
@@ -107,8 +107,8 @@ unfoldable pub is_float : List ℕ → Bool
 is_float bytes =
     let count = run_of is_plain bytes in
     let dots = dots_in (take count bytes) in
-    let behind = drop count bytes in
-    nat_lt dots count && ((dots == 1 && is_float_suffix behind) || (nat_le dots 1 && is_power_part behind))
+    let after = drop count bytes in
+    nat_lt dots count && ((dots == 1 && is_float_suffix after) || (nat_le dots 1 && is_power_part after))
 
 -- The class that the bytes of a number run tell.
 unfoldable pub number_class : List ℕ → Class

@@ -165,7 +165,7 @@ pub fn byte_at(bytes: &[u8], at: usize) -> u8
 }
 
 /// The bytes after so many; none, if there are no more.
-pub fn behind(bytes: &[u8], count: usize) -> &[u8]
+pub fn after(bytes: &[u8], count: usize) -> &[u8]
     ensures { result.now ≡ drop count bytes.now }
 {
     &bytes[count.min(bytes.len())..]

@@ -1,7 +1,7 @@
 //! The lines of a text as lists, which an edit changes in place: its line ends, and the markers that set a line.
 //! In: a text and its pieces; after an edit both texts. Out: the lists, and by them the line of an offset.
 
-ghost use Rattle.snl_lex.specs.LineList.{IsLineList, IsLinePart, IsShort, last_before, line_begin, line_ends, line_ends_in, marked, marker_of, moved_marker, names, number_behind, numbers, replaced_markers};
+ghost use Rattle.snl_lex.specs.LineList.{IsLineList, IsLinePart, IsShort, last_before, line_begin, line_ends, line_ends_in, marked, marker_of, moved_marker, names, number_after, numbers, replaced_markers};
 ghost use Rattle.snl_lex.specs.Lines.{line_at, marker_number};
 ghost use Rattle.snl_lex.specs.PieceList.{IsChange};
 ghost use Rattle.snl_lex.specs.Pieces.{LiesIn, bytes_at, pieces_of};
@@ -83,10 +83,10 @@ fn line_begin(ends: &[usize], count: usize) -> usize
 }
 
 // The number of an offset's line by the last marker that counts, and so many line ends before it.
-fn number_behind(ends: &[usize], count: usize, last: Option<Marker>) -> usize
+fn number_after(ends: &[usize], count: usize, last: Option<Marker>) -> usize
     requires order { IsNonDecreasing ends.now }
     requires count { count ≤ length ends.now }
-    ensures { result ≡ number_behind ends.now count last }
+    ensures { result ≡ number_after ends.now count last }
 {
     match last {
         Some(marker) => {
@@ -282,7 +282,7 @@ impl LineList {
         let count = places_before(&self.ends, offset);
         let begin = line_begin(&self.ends, count);
         Line {
-            number: number_behind(&self.ends, count, last_before(&self.markers, begin)),
+            number: number_after(&self.ends, count, last_before(&self.markers, begin)),
             file: match last_before(&self.naming, begin) {
                 Some(marker) => marker.file,
                 None => None,
@@ -376,7 +376,7 @@ impl LineList {
 
 // Moves places, as the bytes from `old_stop` on are moved to `new_stop`.
 fn move_places(places: &mut [usize], old_stop: usize, new_stop: usize)
-    requires behind { (i : ℕ) → i < length places.old → old_stop ≤ slice_index places.old i }
+    requires after { (i : ℕ) → i < length places.old → old_stop ≤ slice_index places.old i }
     requires fits { (i : ℕ) → i < length places.old → (slice_index places.old i - old_stop) + new_stop < 2 ^ 32 }
     ensures { places.new ≡ moved old_stop new_stop places.old }
 {
@@ -388,7 +388,7 @@ fn move_places(places: &mut [usize], old_stop: usize, new_stop: usize)
 // Moves the places from one number on.
 fn move_places_from(places: &mut Vec<usize>, from: usize, old_stop: usize, new_stop: usize)
     requires from { from ≤ vec_len places.old }
-    requires behind { (i : ℕ) → i < length (drop from places.old.items) → old_stop ≤ slice_index (drop from places.old.items) i }
+    requires after { (i : ℕ) → i < length (drop from places.old.items) → old_stop ≤ slice_index (drop from places.old.items) i }
     requires fits { (i : ℕ) → i < length (drop from places.old.items) → (slice_index (drop from places.old.items) i - old_stop) + new_stop < 2 ^ 32 }
     ensures { places.new.items ≡ take from places.old.items ++ moved old_stop new_stop (drop from places.old.items) }
 {
@@ -407,7 +407,7 @@ fn replace_places(
     requires range { start ≤ stop }
     requires within { stop ≤ vec_len places.old }
     requires room { vec_len places.old + length made.now ≤ vec_capacity places.old }
-    requires behind { (i : ℕ) → i < length (drop stop places.old.items) → old_stop ≤ slice_index (drop stop places.old.items) i }
+    requires after { (i : ℕ) → i < length (drop stop places.old.items) → old_stop ≤ slice_index (drop stop places.old.items) i }
     requires fits { (i : ℕ) → i < length (drop stop places.old.items) → (slice_index (drop stop places.old.items) i - old_stop) + new_stop < 2 ^ 32 }
     ensures { places.new.items ≡ replaced_and_moved places.old.items start stop made.now old_stop new_stop }
 {

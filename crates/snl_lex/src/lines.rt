@@ -6,7 +6,7 @@ ghost use Rattle.snl_lex.specs.Lines.{file_by, has_line_between, last_that, line
 ghost use Rattle.snl_lex.specs.Pieces.{LiesIn, pieces_of};
 ghost use Rattle.std.specs.Prelude.{◌≡◌, ◌+◌, ◌<◌, ◌≤◌, IfSome, length};
 
-use crate::alphabet::{Base, Set, behind, byte_at, is_blank, is_gap, run_end};
+use crate::alphabet::{Base, Set, after, byte_at, is_blank, is_gap, run_end};
 use crate::numbers::value_of;
 use crate::piece::{Class, Piece};
 use crate::scan::string_end;
@@ -26,7 +26,7 @@ fn number_place(marker: &[u8]) -> usize
     ensures inside { result ≤ length marker.now }
 {
     let place = run_end(marker, 1, Set::Gaps);
-    if behind(marker, place).starts_with(b"line") && is_gap(byte_at(marker, place + 4)) {
+    if after(marker, place).starts_with(b"line") && is_gap(byte_at(marker, place + 4)) {
         run_end(marker, place + 4, Set::Gaps)
     } else {
         place

@@ -3,11 +3,11 @@
 //! It knows nothing of what follows a run.
 
 ghost use Rattle.snl_lex.specs.Alphabet.{is_digit_in, is_word_byte};
-ghost use Rattle.snl_lex.specs.Numbers.{base_of, checked_value, digit_value, dots_in, is_exponent, is_float, is_float_suffix, is_int_suffix, is_power, is_power_part, is_sign, number_class, number_joins, radix, sign_length, int_value_of, value_behind, value_in};
+ghost use Rattle.snl_lex.specs.Numbers.{base_of, checked_value, digit_value, dots_in, is_exponent, is_float, is_float_suffix, is_int_suffix, is_power, is_power_part, is_sign, number_class, number_joins, radix, sign_length, int_value_of, value_after, value_in};
 ghost use Rattle.snl_lex.specs.Runs.{run_by};
 ghost use Rattle.std.specs.Prelude.{◌≡◌, ◌==◌, ◌+◌, ◌<◌, ◌≤◌, ◌&&◌, ◌||◌, drop, length, take};
 
-use crate::alphabet::{Base, Set, behind, byte_at, is_digit, is_plain, is_word_byte, run_end};
+use crate::alphabet::{Base, Set, after, byte_at, is_digit, is_plain, is_word_byte, run_end};
 use crate::piece::Class;
 
 #[tactic(auto, unfolding(crate::specs::Numbers::is_sign))]
@@ -74,7 +74,7 @@ fn digit_value(digit: u8) -> u64
 
 /// The value of digits, if it is at most 2^64 - 1.
 pub fn value_of(digits: &[u8], base: Base) -> Option<u64>
-    ensures { result ≡ checked_value (value_behind base 0 digits.now) }
+    ensures { result ≡ checked_value (value_after base 0 digits.now) }
 {
     let mut value: u64 = 0;
     for digit in digits {
@@ -151,7 +151,7 @@ pub fn int_value(bytes: &[u8]) -> Option<u64>
     match base_of(bytes) {
         Base::Octal => value_in(Base::Octal, bytes),
         Base::Decimal => value_in(Base::Decimal, bytes),
-        Base::Hexadecimal => value_in(Base::Hexadecimal, behind(bytes, 2)),
+        Base::Hexadecimal => value_in(Base::Hexadecimal, after(bytes, 2)),
     }
 }
 
@@ -172,7 +172,7 @@ fn sign_length(bytes: &[u8]) -> usize
 fn is_exponent(bytes: &[u8]) -> bool
     ensures { result ≡ is_exponent bytes.now }
 {
-    let digits = behind(bytes, sign_length(bytes));
+    let digits = after(bytes, sign_length(bytes));
     let count = run_end(digits, 0, Set::Digits(Base::Decimal));
     count > 0 && is_float_suffix(&digits[count..])
 }
@@ -181,7 +181,7 @@ fn is_exponent(bytes: &[u8]) -> bool
 fn is_power_part(bytes: &[u8]) -> bool
     ensures { result ≡ is_power_part bytes.now }
 {
-    is_power(byte_at(bytes, 0)) && is_exponent(behind(bytes, 1))
+    is_power(byte_at(bytes, 0)) && is_exponent(after(bytes, 1))
 }
 
 fn dots_in(bytes: &[u8]) -> usize
@@ -196,8 +196,8 @@ fn is_float(bytes: &[u8]) -> bool
 {
     let count = run_end(bytes, 0, Set::Plains);
     let dots = dots_in(&bytes[..count]);
-    let behind = &bytes[count..];
-    dots < count && ((dots == 1 && is_float_suffix(behind)) || (dots <= 1 && is_power_part(behind)))
+    let after = &bytes[count..];
+    dots < count && ((dots == 1 && is_float_suffix(after)) || (dots <= 1 && is_power_part(after)))
 }
 
 /// The class that the bytes of a number run tell.

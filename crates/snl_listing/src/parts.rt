@@ -43,8 +43,8 @@ pub(crate) enum Part<'a> {
 pub(crate) fn bytes_of(text: &[u8], start: usize, len: usize) -> &[u8]
     ensures { result.now ≡ bytes_of text.now start len }
 {
-    let behind = &text[start.min(text.len())..];
-    &behind[..len.min(behind.len())]
+    let after = &text[start.min(text.len())..];
+    &after[..len.min(after.len())]
 }
 
 /// The bytes of a name.

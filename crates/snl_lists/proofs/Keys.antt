@@ -92,7 +92,7 @@ distinct_more ks k h d = distinct_both ks (k ∷ []) h (tt, tt) (outside_more k 
 pub record Parts (a r b f : List ℕ) : Type 0 where
   pub turned : IsDistinct (a ++ (f ++ b))
   pub front : Outside r a
-  pub behind : Outside r b
+  pub after : Outside r b
   pub made : Outside r f
 
 pub parts : (a r b f : List ℕ) → IsDistinct (a ++ (r ++ (b ++ f))) → Parts a r b f
@@ -106,6 +106,6 @@ parts a r b f h =
     record {
       turned = distinct_both a (f ++ b) (distinct_left a (r ++ (b ++ f)) h) swapped (outside_joined f b a (outside_second b f a a_tail) (outside_first b f a a_tail));
       front = outside_first r (b ++ f) a a_out;
-      behind = outside_left r b f r_out;
+      after = outside_left r b f r_out;
       made = outside_right r b f r_out;
     }

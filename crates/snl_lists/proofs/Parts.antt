@@ -14,23 +14,23 @@ drop_front front back n k e = ap (λ j. drop j (front ++ back)) e ∙ drop-appen
 front_length : {X : Type 0} (xs made : List X) (start : ℕ) → start ≤ length xs → length (take start xs ++ made) ≡ start + length made
 front_length xs made start h = omega (arith, length-append (take start xs) made, length-take-le start xs h)
 
-pub insert_behind : {X : Type 0} (xs made : List X) (start stop : ℕ) → start ≤ stop → stop ≤ length xs → stop - start < length made
+pub insert_after : {X : Type 0} (xs made : List X) (start stop : ℕ) → start ≤ stop → stop ≤ length xs → stop - start < length made
     → replaced (replaced xs start stop (take (stop - start) made)) stop stop (drop (stop - start) made) ≡ replaced xs start stop made
-insert_behind {X} xs made start stop h w m =
+insert_after {X} xs made start stop h w m =
     let some : List X = take (stop - start) made in
     let others : List X = drop (stop - start) made in
     let front : List X = take start xs ++ some in
     let as_two : replaced xs start stop some ≡ front ++ drop stop xs = sym (append_assoc (take start xs) some (drop stop xs)) in
     let long : stop ≡ length front = omega (arith, front_length xs some start (omega arith), length-take-le (stop - start) made (omega arith)) in
     let before : take stop (replaced xs start stop some) ≡ front = ap (take stop) as_two ∙ take_front front (drop stop xs) stop long in
-    let behind : drop stop (replaced xs start stop some) ≡ drop stop xs = ap (drop stop) as_two ∙ drop_front front (drop stop xs) stop 0 (omega (arith, long)) in
-    ap₂ (λ (a b : List X). a ++ (others ++ b)) before behind
+    let after : drop stop (replaced xs start stop some) ≡ drop stop xs = ap (drop stop) as_two ∙ drop_front front (drop stop xs) stop 0 (omega (arith, long)) in
+    ap₂ (λ (a b : List X). a ++ (others ++ b)) before after
     ∙ append_assoc (take start xs) some (others ++ drop stop xs)
     ∙ ap (λ (l : List X). take start xs ++ l) (sym (append_assoc some others (drop stop xs)) ∙ ap (λ (l : List X). l ++ drop stop xs) (take-append-drop (stop - start) made))
 
-pub remove_behind : {X : Type 0} (xs made : List X) (start stop : ℕ) → start ≤ stop → stop ≤ length xs → length made ≤ stop - start
+pub remove_after : {X : Type 0} (xs made : List X) (start stop : ℕ) → start ≤ stop → stop ≤ length xs → length made ≤ stop - start
     → take (start + length made) (replaced xs start (start + length made) made) ++ drop stop (replaced xs start (start + length made) made) ≡ replaced xs start stop made
-remove_behind {X} xs made start stop h w m =
+remove_after {X} xs made start stop h w m =
     let front : List X = take start xs ++ made in
     let rest : List X = drop (start + length made) xs in
     let as_two : replaced xs start (start + length made) made ≡ front ++ rest = sym (append_assoc (take start xs) made rest) in

@@ -118,20 +118,20 @@ one_found : {T : Type 0} (o : Option T) (l : List T) → IsSome o → slice_get 
 one_found None l h = cc
 one_found (Some x) l h = refl
 
-one_behind : {T : Type 0} (o : Option T) (l : List T) (n : ℕ) → IsSome o → slice_get (cons_option o l) (suc n) ≡ slice_get l n
-one_behind None l n h = cc
-one_behind (Some x) l n h = refl
+one_after : {T : Type 0} (o : Option T) (l : List T) (n : ℕ) → IsSome o → slice_get (cons_option o l) (suc n) ≡ slice_get l n
+one_after None l n h = cc
+one_after (Some x) l n h = refl
 
 -- the value with a number is the one under the key with the number
 pub value_at : {T : Type 0} (kept : Slab T) (ks : List ℕ) (n : ℕ) → AreStored kept ks → n < length ks → slice_get (values_of kept ks) n ≡ get kept (get_or ks n 0)
 value_at kept [] n h inside = absurd (omega (arith, inside))
 value_at kept (k ∷ ks) zero h inside = one_found (get kept k) (values_of kept ks) h.0
-value_at kept (k ∷ ks) (suc n) h inside = one_behind (get kept k) (values_of kept ks) n h.0 ∙ value_at kept ks n h.1 (omega arith)
+value_at kept (k ∷ ks) (suc n) h inside = one_after (get kept k) (values_of kept ks) n h.0 ∙ value_at kept ks n h.1 (omega arith)
 
 pub values_none : {T : Type 0} (kept : Slab T) (ks : List ℕ) (n : ℕ) → AreStored kept ks → length ks ≤ n → slice_get (values_of kept ks) n ≡ None
-values_none kept [] n h behind = refl
-values_none kept (k ∷ ks) zero h behind = absurd (omega (arith, behind))
-values_none kept (k ∷ ks) (suc n) h behind = one_behind (get kept k) (values_of kept ks) n h.0 ∙ values_none kept ks n h.1 (omega arith)
+values_none kept [] n h after = refl
+values_none kept (k ∷ ks) zero h after = absurd (omega (arith, after))
+values_none kept (k ∷ ks) (suc n) h after = one_after (get kept k) (values_of kept ks) n h.0 ∙ values_none kept ks n h.1 (omega arith)
 
 -- The same, where the four parts of the order are named: a front, what goes, what comes after, and the fresh keys.
 turned_parts : {T : Type 0} (old mid new : Slab T) (a r b f : List ℕ) (items : List T)
@@ -142,7 +142,7 @@ turned_parts {T} old mid new a r b f items all apart keeps a_is b_is f_is =
     let p = parts a r b f apart in
     let rest = stored_right mid r (b ++ f) (stored_right mid a (r ++ (b ++ f)) all) in
     let a_same = others_still mid new r a keeps p.front in
-    let b_same = others_still mid new r b keeps p.behind in
+    let b_same = others_still mid new r b keeps p.after in
     let f_same = others_still mid new r f keeps p.made in
     let a_stored = same_stored mid new a a_same (stored_left mid a (r ++ (b ++ f)) all) in
     let b_stored = same_stored mid new b b_same (stored_left mid b f rest) in

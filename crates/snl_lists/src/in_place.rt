@@ -54,7 +54,7 @@ pub fn replace<T: Copy + Drop>(list: &mut Vec<T>, start: usize, stop: usize, mad
 
 // Moves places, as the bytes from `old_stop` on are moved to `new_stop`.
 fn shift_all(places: &mut [u32], old_stop: u32, new_stop: u32)
-    requires behind { (i : ℕ) → i < length places.old → old_stop ≤ slice_index places.old i }
+    requires after { (i : ℕ) → i < length places.old → old_stop ≤ slice_index places.old i }
     requires fits { (i : ℕ) → i < length places.old → (slice_index places.old i - old_stop) + new_stop < 2 ^ 32 }
     ensures { places.new ≡ moved old_stop new_stop places.old }
 {
@@ -66,7 +66,7 @@ fn shift_all(places: &mut [u32], old_stop: u32, new_stop: u32)
 /// Moves the places from one number on, as the bytes from `old_stop` on are moved to `new_stop`.
 pub fn shift(places: &mut Vec<u32>, from: usize, old_stop: u32, new_stop: u32)
     requires from { from ≤ vec_len places.old }
-    requires behind { (i : ℕ) → i < length (drop from places.old.items) → old_stop ≤ slice_index (drop from places.old.items) i }
+    requires after { (i : ℕ) → i < length (drop from places.old.items) → old_stop ≤ slice_index (drop from places.old.items) i }
     requires fits { (i : ℕ) → i < length (drop from places.old.items) → (slice_index (drop from places.old.items) i - old_stop) + new_stop < 2 ^ 32 }
     ensures { places.new.items ≡ take from places.old.items ++ moved old_stop new_stop (drop from places.old.items) }
 {
@@ -85,7 +85,7 @@ pub fn replace_and_shift(
     requires range { start ≤ stop }
     requires within { stop ≤ vec_len places.old }
     requires room { vec_len places.old + length made.now ≤ vec_capacity places.old }
-    requires behind { (i : ℕ) → i < length (drop stop places.old.items) → old_stop ≤ slice_index (drop stop places.old.items) i }
+    requires after { (i : ℕ) → i < length (drop stop places.old.items) → old_stop ≤ slice_index (drop stop places.old.items) i }
     requires fits { (i : ℕ) → i < length (drop stop places.old.items) → (slice_index (drop stop places.old.items) i - old_stop) + new_stop < 2 ^ 32 }
     ensures { places.new.items ≡ replaced_and_moved places.old.items start stop made.now old_stop new_stop }
 {

@@ -68,22 +68,22 @@ fn remove(keys: &mut Vec<usize>, start: usize, stop: usize)
 }
 
 // Puts so many keys, from `start` on, after all others.
-fn put_behind(keys: &mut Vec<usize>, start: usize, count: usize)
+fn put_after(keys: &mut Vec<usize>, start: usize, count: usize)
     requires { start + count ≤ vec_len keys.old }
     ensures { keys.new.items ≡ take start keys.old.items ++ (drop count (drop start keys.old.items) ++ take count (drop start keys.old.items)) }
 {
     keys[start..].rotate_left(count);
 }
 
-// Puts what is from `behind` on in the place of what is from `start` up to `stop`.
-fn turn(keys: &mut Vec<usize>, start: usize, stop: usize, behind: usize)
+// Puts what is from `after` on in the place of what is from `start` up to `stop`.
+fn turn(keys: &mut Vec<usize>, start: usize, stop: usize, after: usize)
     requires range { start ≤ stop }
-    requires within { stop ≤ behind }
-    requires inside { behind ≤ vec_len keys.old }
-    ensures { keys.new.items ≡ take start keys.old.items ++ (drop behind keys.old.items ++ take (behind - stop) (drop stop keys.old.items)) }
+    requires within { stop ≤ after }
+    requires inside { after ≤ vec_len keys.old }
+    ensures { keys.new.items ≡ take start keys.old.items ++ (drop after keys.old.items ++ take (after - stop) (drop stop keys.old.items)) }
 {
     remove(keys, start, stop);
-    put_behind(keys, start, behind - stop);
+    put_after(keys, start, after - stop);
 }
 
 // Puts other values in the place of those whose keys are from `start` up to `stop`.
@@ -101,10 +101,10 @@ fn replace_in<T: Drop>(
     requires listed { vec_len keys.old + vec_len items ≤ vec_capacity keys.old }
     ensures turned { Turned kept.old kept.new keys.old.items keys.new.items items.items start stop }
 {
-    let behind = keys.len();
+    let after = keys.len();
     store_all(kept, keys, items);
     remove_all(kept, &keys[start..stop]);
-    turn(keys, start, stop, behind);
+    turn(keys, start, stop, after);
 }
 
 // Puts another value under a key that has one.

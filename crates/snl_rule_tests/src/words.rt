@@ -1,6 +1,6 @@
 //! What the tests share to write answers as words.
 
-use snl_scope::{Dims, Nature, Variable};
+use snl_scope::{Dims, SymbolKind, Variable};
 use std::alloc::Global;
 use std::test::Fail;
 
@@ -33,13 +33,13 @@ pub fn add_word(words: &mut Vec<u8>, word: &[u8]) -> Result<(), Fail> {
     Ok(())
 }
 
-fn nature_letter(nature: Nature) -> u8 {
-    match nature {
-        Nature::EventFlag => b'e',
-        Nature::Foreign => b'f',
-        Nature::Function => b'F',
-        Nature::Assignable => b'a',
-        Nature::Unassignable => b'u',
+fn symbol_kind_letter(symbol_kind: SymbolKind) -> u8 {
+    match symbol_kind {
+        SymbolKind::EventFlag => b'e',
+        SymbolKind::Foreign => b'f',
+        SymbolKind::Function => b'F',
+        SymbolKind::Assignable => b'a',
+        SymbolKind::Unassignable => b'u',
     }
 }
 
@@ -50,6 +50,6 @@ pub fn add_variable(variable: Variable, words: &mut Vec<u8>) -> Result<(), Fail>
         Dims::Known(value) => add_digit(words, (value % 10) as usize)?,
         Dims::Unknown => words.push(b'?')?,
     }
-    words.push(nature_letter(variable.nature))?;
+    words.push(symbol_kind_letter(variable.symbol_kind))?;
     Ok(())
 }

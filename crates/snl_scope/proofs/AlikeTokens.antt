@@ -23,23 +23,23 @@ use Rattle.snl_scope.specs.declared.summaries.summary.ClauseKind.TheVariants as 
 use Rattle.snl_scope.specs.declared.summaries.summary.Coverage.{Coverage}
 use Rattle.snl_scope.specs.declared.summaries.summary.Coverage.TheVariants as coverage
 use Rattle.snl_scope.specs.declared.summaries.summary.Declared.{Declared}
-use Rattle.snl_scope.specs.declared.summaries.summary.Mention.{Mention}
-use Rattle.snl_scope.specs.declared.summaries.summary.Nature.{Nature}
+use Rattle.snl_scope.specs.declared.summaries.summary.NameRef.{NameRef}
+use Rattle.snl_scope.specs.declared.summaries.summary.SymbolKind.{SymbolKind}
 use Rattle.snl_scope.specs.declared.summaries.summary.Variable.{Variable}
 use Rattle.snl_scope.specs.declared.summaries.summary.VariableClause.{VariableClause}
 use Rattle.snl_scope.specs.Summaries.Clauses.{clause_of, clause_on, clauses_in, clauses_in_tree, clauses_of_member, covered_by_channel, covered_by_subscript, element, flag_at}
-use Rattle.snl_scope.specs.Summaries.Declares.{declared_at, declared_by_declaration, declared_by_declarator, declared_by_foreign, declared_by_function, declared_by_member, declared_if_body, declared_in, declared_in_tree, dims_by, dims_by_integer, dims_of, foreign_name, function_name, known_value, lone_integer, nature_of, variable_of}
-use Rattle.snl_scope.specs.Summaries.Tokens.{mention_at}
+use Rattle.snl_scope.specs.Summaries.Declares.{declared_at, declared_by_declaration, declared_by_declarator, declared_by_foreign, declared_by_function, declared_by_member, declared_if_body, declared_in, declared_in_tree, dims_by, dims_by_integer, dims_of, foreign_name, function_name, known_value, lone_integer, symbol_kind_of, variable_of}
+use Rattle.snl_scope.specs.Summaries.Tokens.{name_ref_at}
 use Rattle.snl_walk.specs.Tokens.{bytes_at, value_at}
 
 module _ (text moved : List ℕ) (tokens shifted : List Piece) (same : (n : ℕ) → bytes_at text tokens n ≡ bytes_at moved shifted n) where
   same_value : (n : ℕ) → value_at text tokens n ≡ value_at moved shifted n
   same_value n = ap int_value_of (same n)
 
-  pub same_mention : (n : ℕ) → mention_at text tokens n ≡ mention_at moved shifted n
-  same_mention n =
-      let mention : List ℕ → Mention = λ name. record { name = name; token = n } in
-      ap mention (same n)
+  pub same_name_ref : (n : ℕ) → name_ref_at text tokens n ≡ name_ref_at moved shifted n
+  same_name_ref n =
+      let name_ref : List ℕ → NameRef = λ name. record { name = name; token = n } in
+      ap name_ref (same n)
 
   -- ---- clauses
 
@@ -56,13 +56,13 @@ module _ (text moved : List ℕ) (tokens shifted : List Piece) (same : (n : ℕ)
 
   same_flag : (o : Option Flag) → option_map (flag_at text tokens) o ≡ option_map (flag_at moved shifted) o
   same_flag None = refl
-  same_flag (Some flag) = ap Some (same_mention flag.name)
+  same_flag (Some flag) = ap Some (same_name_ref flag.name)
 
   same_clause_on : (kind : ClauseKind) (n : ℕ) (a b : Coverage) (o : Option Flag) → a ≡ b → clause_on text tokens kind n a o ≡ clause_on moved shifted kind n b o
   same_clause_on kind n a b o e =
-      let clause : Mention → Coverage → Option Mention → VariableClause = λ variable covered flag. record { variable = variable; flag = flag; coverage = covered; kind = kind } in
-      ap (λ variable. clause variable a (option_map (flag_at text tokens) o)) (same_mention n)
-      ∙ ap₂ (clause (mention_at moved shifted n)) e (same_flag o)
+      let clause : NameRef → Coverage → Option NameRef → VariableClause = λ variable covered flag. record { variable = variable; flag = flag; coverage = covered; kind = kind } in
+      ap (λ variable. clause variable a (option_map (flag_at text tokens) o)) (same_name_ref n)
+      ∙ ap₂ (clause (name_ref_at moved shifted n)) e (same_flag o)
 
   same_clause : (c : Clause) → clause_of text tokens c ≡ clause_of moved shifted c
   same_clause (clauses.Assign name channel) = same_clause_on kinds.Assign name _ _ None (same_channel channel)
@@ -102,11 +102,11 @@ module _ (text moved : List ℕ) (tokens shifted : List Piece) (same : (n : ℕ)
       let declared : List ℕ → Variable → Declared = λ name variable. record { name = name; token = n; variable = variable } in
       ap₂ declared (same n) e
 
-  same_declarator : (nature : Nature) (d : Declarator) → declared_by_declarator text tokens nature d ≡ declared_by_declarator moved shifted nature d
-  same_declarator nature d = same_declared _ _ d.name (ap (λ dims. variable_of dims nature) (same_dims d))
+  same_declarator : (symbol_kind : SymbolKind) (d : Declarator) → declared_by_declarator text tokens symbol_kind d ≡ declared_by_declarator moved shifted symbol_kind d
+  same_declarator symbol_kind d = same_declared _ _ d.name (ap (λ dims. variable_of dims symbol_kind) (same_dims d))
 
   same_declaration : (d : Declaration) → declared_by_declaration text tokens d ≡ declared_by_declaration moved shifted d
-  same_declaration d = ap (λ (f : Declarator → Declared). map f d.declarators) (fun_ext (same_declarator (nature_of d.of.base)))
+  same_declaration d = ap (λ (f : Declarator → Declared). map f d.declarators) (fun_ext (same_declarator (symbol_kind_of d.of.base)))
 
   same_foreign : (names : List ℕ) → declared_by_foreign text tokens names ≡ declared_by_foreign moved shifted names
   same_foreign names = ap (λ (f : ℕ → Declared). map f names) (fun_ext (λ n. same_declared foreign_name foreign_name n refl))

@@ -10,14 +10,14 @@ use Rattle.std.specs.Str.{bytes_eq}
 use Rattle.indexmap.specs.IndexMap.{insert_entry}
 use Rattle.indexmap.proofs.MapLemmas.{absent_from_lookup, insert_entry-absent}
 use Rattle.snl_scope.specs.declared.facts.LinkFault.{LinkFault}
-use Rattle.snl_scope.specs.declared.names.spaces.Key.{Key}
-use Rattle.snl_scope.specs.declared.names.spaces.Space.{Space}
-use Rattle.snl_scope.specs.declared.names.tables.Standing.{Standing}
-use Rattle.snl_scope.specs.contracts.names.spaces.KeyPartialEq.TheImpl as key_eq
+use Rattle.snl_scope.specs.declared.names.namespaces.Key.{Key}
+use Rattle.snl_scope.specs.declared.names.namespaces.Namespace.{Namespace}
+use Rattle.snl_scope.specs.declared.names.tables.Symbol.{Symbol}
+use Rattle.snl_scope.specs.contracts.names.namespaces.KeyPartialEq.TheImpl as key_eq
 use Rattle.snl_scope.specs.Below.{all_below}
 use Rattle.snl_scope.specs.Flags.{is_first_at}
 use Rattle.snl_scope.specs.Names.{Entry, has_name, number_in, repetition, repetition_at, repetitions}
-use Rattle.snl_scope.specs.Tables.{Follows, number_by, same_key, standing_of, with_name}
+use Rattle.snl_scope.specs.Tables.{Follows, number_by, same_key, symbol_of, with_name}
 use Rattle.snl_scope.proofs.Equality.{key_is, key_true, key_same, name_same, name_true}
 use Rattle.snl_scope.proofs.FirstEntries.{firsts-new, firsts-seen}
 use Rattle.snl_scope.proofs.Numbering.{position-push}
@@ -42,12 +42,12 @@ or-none : {A : Type 0} (o : Option A) → option_or o None ≡ o
 or-none None = refl
 or-none (Some x) = refl
 
-abbrev key : Space → ℕ → Key
-key s n = record { space = s; name = n }
+abbrev key : Namespace → ℕ → Key
+key s n = record { namespace = s; name = n }
 
-module _ (names : List (List ℕ)) (first : List (Key × ℕ)) (standings : List Standing) (faults : List LinkFault) (es : List Entry) (f : Follows names first standings faults es) where
+module _ (names : List (List ℕ)) (first : List (Key × ℕ)) (symbols : List Symbol) (faults : List LinkFault) (es : List Entry) (f : Follows names first symbols faults es) where
   -- a new name that nothing is declared by yet
-  same_numbers : (name : List ℕ) (s : Space) (other : List ℕ) → number_by (with_name names name) first s other ≡ number_by names first s other
+  same_numbers : (name : List ℕ) (s : Namespace) (other : List ℕ) → number_by (with_name names name) first s other ≡ number_by names first s other
   same_numbers name s other = by (position (bytes_eq name) names)
     where
       later : (o : Option ℕ) (b : Bool)
@@ -68,7 +68,7 @@ module _ (names : List (List ℕ)) (first : List (Key × ℕ)) (standings : List
       by None = omega (arith, length-append names (name ∷ []))
       by (Some n) = omega arith
 
-  pub follows_name : (name : List ℕ) → Follows (with_name names name) first standings faults es
+  pub follows_name : (name : List ℕ) → Follows (with_name names name) first symbols faults es
   follows_name name = record {
     tabled = record { found = λ s other. same_numbers name s other ∙ f.tabled.found s other; known = f.tabled.known };
     fresh = λ s n h. f.fresh s n (omega (arith, h, longer name));
@@ -78,31 +78,31 @@ module _ (names : List (List ℕ)) (first : List (Key × ℕ)) (standings : List
 
   module _ (e : Entry) (k : ℕ) (numbered : position (bytes_eq e.name) names ≡ Some k) where
     -- what the tables have for the entry's name
-    here : number_by names first e.space e.name ≡ lookup (same_key (key e.space k)) first
-    here = ap (option_and_then (λ n. lookup (same_key (key e.space n)) first)) numbered
+    here : number_by names first e.namespace e.name ≡ lookup (same_key (key e.namespace k)) first
+    here = ap (option_and_then (λ n. lookup (same_key (key e.namespace n)) first)) numbered
 
-    known_here : (standings' : List Standing) → standings' ≡ standings ++ standing_of e ∷ [] → standings' ≡ map standing_of (es ++ e ∷ [])
-    known_here standings' h = h ∙ ap (λ l. l ++ standing_of e ∷ []) f.tabled.known ∙ sym (map-append standing_of es (e ∷ []))
+    known_here : (symbols' : List Symbol) → symbols' ≡ symbols ++ symbol_of e ∷ [] → symbols' ≡ map symbol_of (es ++ e ∷ [])
+    known_here symbols' h = h ∙ ap (λ l. l ++ symbol_of e ∷ []) f.tabled.known ∙ sym (map-append symbol_of es (e ∷ []))
 
     -- the entry's name is there: the tables stay, and a finding is added
-    module _ (there : is_some (lookup (same_key (key e.space k)) first) ≡ true) where
-      seen : is_some (number_in es e.space e.name) ≡ true
-      seen = ap is_some (sym (f.tabled.found e.space e.name)) ∙ ap is_some here ∙ there
+    module _ (there : is_some (lookup (same_key (key e.namespace k)) first) ≡ true) where
+      seen : is_some (number_in es e.namespace e.name) ≡ true
+      seen = ap is_some (sym (f.tabled.found e.namespace e.name)) ∙ ap is_some here ∙ there
 
-      stays : (s : Space) (name : List ℕ) → number_in es s name ≡ number_in (es ++ e ∷ []) s name
+      stays : (s : Namespace) (name : List ℕ) → number_in es s name ≡ number_in (es ++ e ∷ []) s name
       stays s name = sym (position-push (has_name s name) es e ∙ by (has_name s name e) refl)
         where
           by : (b : Bool) → has_name s name e ≡ b → option_or (number_in es s name) (cond (has_name s name e) (Some (length es)) None) ≡ number_in es s name
           by true h =
               let p = name_true s name e h in
               some-or (number_in es s name) (cond (has_name s name e) (Some (length es)) None)
-              (ap (λ t. is_some (number_in es t name)) p.0 ∙ ap (λ n. is_some (number_in es e.space n)) p.1 ∙ seen)
+              (ap (λ t. is_some (number_in es t name)) p.0 ∙ ap (λ n. is_some (number_in es e.namespace n)) p.1 ∙ seen)
           by false h = ap (λ b. option_or (number_in es s name) (cond b (Some (length es)) None)) h ∙ or-none (number_in es s name)
 
-      pub follows_again : (standings' : List Standing) (faults' : List LinkFault) → standings' ≡ standings ++ standing_of e ∷ [] → faults' ≡ faults ++ repetition_at e
-          → Follows names first standings' faults' (es ++ e ∷ [])
-      follows_again standings' faults' h g = record {
-        tabled = record { found = λ s name. f.tabled.found s name ∙ stays s name; known = known_here standings' h };
+      pub follows_again : (symbols' : List Symbol) (faults' : List LinkFault) → symbols' ≡ symbols ++ symbol_of e ∷ [] → faults' ≡ faults ++ repetition_at e
+          → Follows names first symbols' faults' (es ++ e ∷ [])
+      follows_again symbols' faults' h g = record {
+        tabled = record { found = λ s name. f.tabled.found s name ∙ stays s name; known = known_here symbols' h };
         fresh = f.fresh;
         again = g ∙ ap (λ l. l ++ repetition_at e) f.again
             ∙ sym (repetitions-push [] es e ∙ ap (λ b. repetitions [] es ++ (if b then repetition_at e else [])) seen);
@@ -110,11 +110,11 @@ module _ (names : List (List ℕ)) (first : List (Key × ℕ)) (standings : List
       }
 
     -- it is new: the tables have it, and there is no finding
-    module _ (first' : List (Key × ℕ)) (number : ℕ) (absent : is_some (lookup (same_key (key e.space k)) first) ≡ false)
-        (put : (q : Key) → lookup (same_key q) first' ≡ cond (same_key (key e.space k) q) (Some number) (lookup (same_key q) first))
-        (listed : first' ≡ first ++ (key e.space k, number) ∷ []) (counted : number ≡ length es) where
-      unseen : is_some (number_in es e.space e.name) ≡ false
-      unseen = ap is_some (sym (f.tabled.found e.space e.name)) ∙ ap is_some here ∙ absent
+    module _ (first' : List (Key × ℕ)) (number : ℕ) (absent : is_some (lookup (same_key (key e.namespace k)) first) ≡ false)
+        (put : (q : Key) → lookup (same_key q) first' ≡ cond (same_key (key e.namespace k) q) (Some number) (lookup (same_key q) first))
+        (listed : first' ≡ first ++ (key e.namespace k, number) ∷ []) (counted : number ≡ length es) where
+      unseen : is_some (number_in es e.namespace e.name) ≡ false
+      unseen = ap is_some (sym (f.tabled.found e.namespace e.name)) ∙ ap is_some here ∙ absent
 
       -- a name with the entry's number is the entry's
       one_name : (name : List ℕ) → position (bytes_eq name) names ≡ Some k → name ≡ e.name
@@ -122,7 +122,7 @@ module _ (names : List (List ℕ)) (first : List (Key × ℕ)) (standings : List
           (bytes_eq-Decides name (get_or names k [])).0 (position-Some (bytes_eq name) names k [] h).1
           ∙ sym ((bytes_eq-Decides e.name (get_or names k [])).0 (position-Some (bytes_eq e.name) names k [] numbered).1)
 
-      found : (s : Space) (name : List ℕ) → number_by names first' s name ≡ number_in (es ++ e ∷ []) s name
+      found : (s : Namespace) (name : List ℕ) → number_by names first' s name ≡ number_in (es ++ e ∷ []) s name
       found s name = by (position (bytes_eq name) names) refl ∙ sym (position-push (has_name s name) es e)
         where
           before : (o : Option ℕ) → position (bytes_eq name) names ≡ o → number_in es s name ≡ option_and_then (λ n. lookup (same_key (key s n)) first) o
@@ -140,16 +140,16 @@ module _ (names : List (List ℕ)) (first : List (Key × ℕ)) (standings : List
                   let p = name_true s name e g in
                   let clash : None ≡ Some k = sym h ∙ ap (λ n. position (bytes_eq n) names) p.1 ∙ numbered in absurd (cc)
               no_number false g = sym (other g ∙ before None h)
-          by (Some j) h = put (key s j) ∙ compared (same_key (key e.space k) (key s j)) refl
+          by (Some j) h = put (key s j) ∙ compared (same_key (key e.namespace k) (key s j)) refl
             where
-              compared : (b : Bool) → same_key (key e.space k) (key s j) ≡ b
-                  → cond (same_key (key e.space k) (key s j)) (Some number) (lookup (same_key (key s j)) first)
+              compared : (b : Bool) → same_key (key e.namespace k) (key s j) ≡ b
+                  → cond (same_key (key e.namespace k) (key s j)) (Some number) (lookup (same_key (key s j)) first)
                   ≡ option_or (number_in es s name) (cond (has_name s name e) (Some (length es)) None)
               compared true g =
-                  let p = key_true (key e.space k) (key s j) g in
+                  let p = key_true (key e.namespace k) (key s j) g in
                   let n = one_name name (h ∙ ap Some (sym p.1)) in
-                  let same : has_name s name e ≡ true = ap (λ t. has_name t name e) (sym p.0) ∙ ap (λ m. has_name e.space m e) n ∙ name_same e in
-                  let gone : is_some (number_in es s name) ≡ false = ap (λ t. is_some (number_in es t name)) (sym p.0) ∙ ap (λ m. is_some (number_in es e.space m)) n ∙ unseen in
+                  let same : has_name s name e ≡ true = ap (λ t. has_name t name e) (sym p.0) ∙ ap (λ m. has_name e.namespace m e) n ∙ name_same e in
+                  let gone : is_some (number_in es s name) ≡ false = ap (λ t. is_some (number_in es t name)) (sym p.0) ∙ ap (λ m. is_some (number_in es e.namespace m)) n ∙ unseen in
                   ap (λ b. cond b (Some number) (lookup (same_key (key s j)) first)) g ∙ ap Some counted
                   ∙ sym (none-or (number_in es s name) (cond (has_name s name e) (Some (length es)) None) gone ∙ ap (λ b. cond b (Some (length es)) None) same)
               compared false g =
@@ -163,19 +163,19 @@ module _ (names : List (List ℕ)) (first : List (Key × ℕ)) (standings : List
                       absurd (true≢false (sym (key_same (key s j)) ∙ ap (λ n. same_key (key s n) (key s j)) m ∙ ap (λ t. same_key (key t k) (key s j)) p.0 ∙ g))
                   differs false t = other t
 
-      none_there : (s : Space) (n : ℕ) → length names ≤ n → cond (same_key (key e.space k) (key s n)) (Some number) (lookup (same_key (key s n)) first) ≡ None
-      none_there s n l = by (same_key (key e.space k) (key s n)) refl
+      none_there : (s : Namespace) (n : ℕ) → length names ≤ n → cond (same_key (key e.namespace k) (key s n)) (Some number) (lookup (same_key (key s n)) first) ≡ None
+      none_there s n l = by (same_key (key e.namespace k) (key s n)) refl
         where
-          by : (b : Bool) → same_key (key e.space k) (key s n) ≡ b → cond (same_key (key e.space k) (key s n)) (Some number) (lookup (same_key (key s n)) first) ≡ None
-          by true h = let p = (key_true (key e.space k) (key s n) h).1 in let w = (position-Some (bytes_eq e.name) names k [] numbered).0 in absurd (omega (arith, l, p, w))
+          by : (b : Bool) → same_key (key e.namespace k) (key s n) ≡ b → cond (same_key (key e.namespace k) (key s n)) (Some number) (lookup (same_key (key s n)) first) ≡ None
+          by true h = let p = (key_true (key e.namespace k) (key s n) h).1 in let w = (position-Some (bytes_eq e.name) names k [] numbered).0 in absurd (omega (arith, l, p, w))
           by false h = ap (λ b. cond b (Some number) (lookup (same_key (key s n)) first)) h ∙ f.fresh s n l
 
-      pub follows_new : (standings' : List Standing) → standings' ≡ standings ++ standing_of e ∷ [] → Follows names first' standings' faults (es ++ e ∷ [])
-      follows_new standings' h = record {
-        tabled = record { found = found; known = known_here standings' h };
+      pub follows_new : (symbols' : List Symbol) → symbols' ≡ symbols ++ symbol_of e ∷ [] → Follows names first' symbols' faults (es ++ e ∷ [])
+      follows_new symbols' h = record {
+        tabled = record { found = found; known = known_here symbols' h };
         fresh = λ s n l. put (key s n) ∙ none_there s n l;
         again = f.again ∙ sym (repetitions-push [] es e ∙ ap (λ b. repetitions [] es ++ (if b then repetition_at e else [])) unseen ∙ append-nil (repetitions [] es));
-        firsts = ap (map (λ p. p.1)) listed ∙ map-append (λ p. p.1) first ((key e.space k, number) ∷ [])
+        firsts = ap (map (λ p. p.1)) listed ∙ map-append (λ p. p.1) first ((key e.namespace k, number) ∷ [])
             ∙ ap (λ l. l ++ number ∷ []) f.firsts ∙ ap (λ n. all_below (is_first_at es) (length es) ++ n ∷ []) counted ∙ sym (firsts-new es e unseen);
       }
 

@@ -1,8 +1,8 @@
 -- Findings that differ, by their items and by the families of their codes: those of order, of names, and of clauses.
 use Rattle.std.proofs.Common.{◌≡◌, ◌≢◌, ℕ, ◌<◌, ◌≤◌, List, ◌++◌, ap, arith}
 use Rattle.std.specs.List.{AllByRecursion as Each}
-use Rattle.snl_scope.specs.declared.codes.Code.{Code}
-use Rattle.snl_scope.specs.declared.codes.Code.TheVariants.{E03, E04, E05, E06, E07, E08, E09, E11, E12, E13, E14, E15, E16, E22, W05}
+use Rattle.snl_walk.specs.declared.codes.Code.{Code}
+use Rattle.snl_walk.specs.declared.codes.Code.TheVariants.{E03, E04, E05, E06, E07, E08, E09, E11, E12, E13, E14, E15, E16, E22, W05}
 use Rattle.snl_scope.specs.declared.facts.LinkFault.{LinkFault}
 use Rattle.snl_scope.proofs.Pairs.{EachTwo, each_weaker, two_parts}
 

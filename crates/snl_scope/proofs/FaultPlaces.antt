@@ -4,17 +4,18 @@ use Rattle.std.specs.List.{AllByRecursion as Each, Contains}
 use Rattle.std.specs.Option.{option_map_or, option_to_list}
 use Rattle.std.proofs.lemmas.Bool.{cases_lt, false≢true}
 use Rattle.std.proofs.lemmas.List.Elements.{All-contains_itself, All-from_recursion, recursion_from_All}
-use Rattle.snl_scope.specs.declared.codes.Code.{Code}
-use Rattle.snl_scope.specs.declared.codes.Code.TheVariants.{E03, E04, E05, E06, E07, E08, E09, E11, E12, E13, E14, E15, E16, E22, W05}
+use Rattle.snl_walk.specs.declared.codes.Code.{Code}
+use Rattle.snl_walk.specs.declared.codes.Code.TheVariants.{E03, E04, E05, E06, E07, E08, E09, E11, E12, E13, E14, E15, E16, E22, W05}
 use Rattle.snl_scope.specs.declared.facts.LinkFault.{LinkFault}
-use Rattle.snl_scope.specs.declared.names.spaces.Space.{Space}
-use Rattle.snl_scope.specs.declared.names.spaces.Space.TheVariants as space
-use Rattle.snl_scope.specs.declared.summaries.summary.Mention.{Mention}
+use Rattle.snl_scope.specs.declared.names.namespaces.Namespace.{Namespace}
+use Rattle.snl_scope.specs.declared.names.namespaces.Namespace.TheVariants as namespace
+use Rattle.snl_scope.specs.declared.summaries.summary.NameRef.{NameRef}
 use Rattle.snl_scope.specs.declared.summaries.summary.Outline.{Outline}
 use Rattle.snl_scope.specs.declared.summaries.summary.VariableClause.{VariableClause}
 use Rattle.snl_scope.specs.Below.{all_below, any_below}
 use Rattle.snl_scope.specs.Clauses.{LinkedClause, clause_faults, clauses_before, clauses_of, linked_clause}
-use Rattle.snl_scope.specs.FaultPlaces.{DeclaresOutside, IsPlaced, IsPlacedBy, NoneIs, SpeaksOfTokens, is_link_code}
+use Rattle.snl_walk.specs.Codes.{is_link_code}
+use Rattle.snl_scope.specs.FaultPlaces.{DeclaresOutside, IsPlaced, IsPlacedBy, NoneIs, SpeaksOfTokens}
 use Rattle.snl_scope.specs.Linked.{faults_of}
 use Rattle.snl_scope.specs.LinkedItems.{LinkedItems}
 use Rattle.snl_scope.specs.Names.{Entry, declared_entry, entries, entries_before, entries_of, has_own_scope, name_faults, named_entry, repetitions, scope_at, scope_code, scope_of, set_entries, set_name, state_entries, told_by}
@@ -22,7 +23,7 @@ use Rattle.snl_scope.specs.Once.{declared_tokens}
 use Rattle.snl_scope.specs.Order.{at_item, at_items_where, found_if, header_faults, if_missing, is_misplaced, is_program_item, is_program_word, is_repeated_header, is_ss_item, is_ss_word, is_state_word, is_stateless, is_unmatched, misplaced_items, missing_states, order_faults, state_name, unmatched_braces}
 use Rattle.snl_scope.specs.Places.{begins_set, is_set_begin, item_is, place}
 use Rattle.snl_scope.proofs.Families.{rank}
-use Rattle.snl_scope.proofs.OnceClauses.{AtClause, behind_each, each_flags}
+use Rattle.snl_scope.proofs.OnceClauses.{AtClause, after_each, each_flags}
 use Rattle.snl_scope.proofs.OnceNames.{Gives, each-filter, repeated_each}
 use Rattle.snl_scope.proofs.Pairs.{each-append, each-map, each_both, each_unmap, each_weaker}
 
@@ -161,7 +162,7 @@ module _ (counts : ℕ → ℕ) (ss : List Outline) (speaks : (i : ℕ) → IfSo
       (λ is. subst (λ n. DeclaresOutside n s) (sym p.token) (outside (p.code ∙ ap Some is)))
 
   module _ (i : ℕ) (s : Outline) (at : slice_get ss i ≡ Some s) (says : SpeaksOfTokens (counts i) s) where
-    named : (names : Space) (code : Code) → 6 < rank code → rank code < 12 → (code ≡ E07 → ⊥) → (o : Option (List ℕ)) → (is_some o ≡ true → is_some s.second ≡ true)
+    named : (names : Namespace) (code : Code) → 6 < rank code → rank code < 12 → (code ≡ E07 → ⊥) → (o : Option (List ℕ)) → (is_some o ≡ true → is_some s.second ≡ true)
         → Each EntryPlaced (map (named_entry names i (Some code)) (option_to_list o))
     named names code low high other None some = tt
     named names code low high other (Some name) some =
@@ -169,16 +170,16 @@ module _ (counts : ℕ → ℕ) (ss : List Outline) (speaks : (i : ℕ) → IfSo
 
     state_placed : (p : Option ℕ) → Each EntryPlaced (state_entries p i s)
     state_placed None = tt
-    state_placed (Some k) = named (space.States k) E09 (omega arith) (omega arith) (λ e. cc) (state_name s) (some_if (is_state_word s.opening) s.second)
+    state_placed (Some k) = named (namespace.States k) E09 (omega arith) (omega arith) (λ e. cc) (state_name s) (some_if (is_state_word s.opening) s.second)
 
-    scope_ranks : (scope : Space) → HasRank (scope_code scope)
-    scope_ranks (space.State k) = tt
+    scope_ranks : (scope : Namespace) → HasRank (scope_code scope)
+    scope_ranks (namespace.State k) = tt
     scope_ranks scope = (omega arith, omega arith)
 
     not_own : scope_code (scope_of ss i s) ≡ Some E07 → has_own_scope s.role ≡ false
     not_own = by (has_own_scope s.role)
       where
-        by : (b : Bool) → scope_code (if b then space.State i else scope_at (place ss i)) ≡ Some E07 → b ≡ false
+        by : (b : Bool) → scope_code (if b then namespace.State i else scope_at (place ss i)) ≡ Some E07 → b ≡ false
         by true e = absurd cc
         by false e = refl
 
@@ -196,7 +197,7 @@ module _ (counts : ℕ → ℕ) (ss : List Outline) (speaks : (i : ℕ) → IfSo
     entries_placed =
         each-append EntryPlaced (set_entries i s ++ state_entries (place ss i) i s) (map (declared_entry (scope_of ss i s) i) s.declares)
         (each-append EntryPlaced (set_entries i s) (state_entries (place ss i) i s)
-        (named space.Sets E08 (omega arith) (omega arith) (λ e. cc) (set_name s) (some_if (begins_set s.role) s.second)) (state_placed (place ss i)))
+        (named namespace.Sets E08 (omega arith) (omega arith) (λ e. cc) (set_name s) (some_if (begins_set s.role) s.second)) (state_placed (place ss i)))
         declared_placed
 
   entries_if : (i : ℕ) (o : Option Outline) → slice_get ss i ≡ o → IfSome o (SpeaksOfTokens (counts i)) → Each EntryPlaced (option_map_or (entries_of ss i) o [])
@@ -214,21 +215,21 @@ module _ (counts : ℕ → ℕ) (ss : List Outline) (speaks : (i : ℕ) → IfSo
   ClausePlaced c = (f : LinkFault) → AtClause c f → Placed f
 
   clause_placed : (i : ℕ) (s : Outline) → slice_get ss i ≡ Some s → (c : VariableClause) → c.variable.token < counts i
-      → ((m : Mention) → c.flag ≡ Some m → m.token < counts i) → ClausePlaced (linked_clause ss i c)
+      → ((m : NameRef) → c.flag ≡ Some m → m.token < counts i) → ClausePlaced (linked_clause ss i c)
   clause_placed i s at c token flags f (inl p) =
       at_token i s at f p.item (omega (arith, token, p.token)) (omega (arith, p.code)) (omega (arith, p.code)) (λ e. absurd (omega (arith, p.code, ap rank e)))
   clause_placed i s at c token flags f (inr p) =
       at_token i s at f p.item (omega (arith, flags p.flag p.named, p.token)) (omega (arith, p.code)) (omega (arith, p.code)) (λ e. absurd (omega (arith, p.code, ap rank e)))
 
   abbrev BothBelow : ℕ → VariableClause → Type 0
-  BothBelow count c = (c.variable.token < count) × ((m : Mention) → c.flag ≡ Some m → m.token < count)
+  BothBelow count c = (c.variable.token < count) × ((m : NameRef) → c.flag ≡ Some m → m.token < count)
 
   clauses_if : (i : ℕ) (o : Option Outline) → slice_get ss i ≡ o → IfSome o (SpeaksOfTokens (counts i)) → Each ClausePlaced (option_map_or (λ s. map (linked_clause ss i) s.clauses) o [])
   clauses_if i None at says = tt
   clauses_if i (Some s) at says =
       each-map ClausePlaced (linked_clause ss i) s.clauses
       (each_weaker (BothBelow (counts i)) (λ c. ClausePlaced (linked_clause ss i c)) (λ c h. clause_placed i s at c h.0 h.1) s.clauses
-      (each_both (λ c. c.variable.token < counts i) (λ c. (m : Mention) → c.flag ≡ Some m → m.token < counts i) s.clauses
+      (each_both (λ c. c.variable.token < counts i) (λ c. (m : NameRef) → c.flag ≡ Some m → m.token < counts i) s.clauses
       (each_unmap (λ n. n < counts i) (λ c. c.variable.token) s.clauses says.variables)
       (each_flags (λ n. n < counts i) s.clauses says.flags)))
 
@@ -273,4 +274,4 @@ module _ (l : LinkedItems) (counts : ℕ → ℕ) (speaks : (i : ℕ) → IfSome
       (each-append IsPlacedThere (order_faults l ++ name_faults l) (clause_faults l.outlines)
       (each-append IsPlacedThere (order_faults l) (name_faults l) order_placed
       (each-filter (told_by l.kinds) IsPlacedThere (repetitions [] (entries l.outlines)) (repeated_each IsPlacedThere [] (entries l.outlines) (before_placed counts l.outlines speaks (length l.outlines)))))
-      (behind_each (entries l.outlines) (clauses_of l.outlines) IsPlacedThere [] (clauses_of l.outlines) (clauses_placed counts l.outlines speaks (length l.outlines))))
+      (after_each (entries l.outlines) (clauses_of l.outlines) IsPlacedThere [] (clauses_of l.outlines) (clauses_placed counts l.outlines speaks (length l.outlines))))

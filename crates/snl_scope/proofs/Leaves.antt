@@ -2,7 +2,7 @@
 use Rattle.std.proofs.Common.{◌≡◌, ℕ, suc, ◌<◌, ◌≤◌, List, [], ◌∷◌, ◌++◌, map, Some, sym, subst, arith}
 use Rattle.std.specs.List.{AllByRecursion as Each, flat_map}
 use Rattle.snl_lex.specs.declared.kind.Kind.{Kind}
-use Rattle.snl_syntax.specs.Spelling.Base.{Matches, Spelled, behind, between, joined, leaf, word}
+use Rattle.snl_syntax.specs.Spelling.Base.{Matches, Spelled, after, between, joined, leaf, word}
 use Rattle.snl_syntax.specs.Tokens.{ahead, numbered}
 use Rattle.snl_scope.proofs.Pairs.{EachTwo, each_weaker}
 
@@ -34,9 +34,9 @@ pub no_leaves : (xs : List Spelled) → AreLeaves [] xs
 no_leaves [] = none
 no_leaves (x ∷ xs) = past x (no_leaves xs)
 
-pub leaves_behind : (xs : List Spelled) {ns : List ℕ} {ys : List Spelled} → AreLeaves ns ys → AreLeaves ns (xs ++ ys)
-leaves_behind [] l = l
-leaves_behind (x ∷ xs) l = past x (leaves_behind xs l)
+pub leaves_after : (xs : List Spelled) {ns : List ℕ} {ys : List Spelled} → AreLeaves ns ys → AreLeaves ns (xs ++ ys)
+leaves_after [] l = l
+leaves_after (x ∷ xs) l = past x (leaves_after xs l)
 
 pub leaves-append : {ns ms : List ℕ} {xs ys : List Spelled} → AreLeaves ns xs → AreLeaves ms ys → AreLeaves (ns ++ ms) (xs ++ ys)
 leaves-append none m = m
@@ -55,15 +55,15 @@ one_leaf k n = here k n none
 -- of what is made of the members of a list, which follow one another
 module _ {A B : Type 0} (found : List B → List ℕ) (none_found : found [] ≡ []) (found-append : (bs cs : List B) → found (bs ++ cs) ≡ found bs ++ found cs)
     (f : A → List B) (spell : A → List Spelled) (each : (x : A) → AreLeaves (found (f x)) (spell x)) where
-  pub leaves_behind_each : (k : Kind) (xs : List A) → AreLeaves (found (flat_map f xs)) (behind k (map spell xs))
-  leaves_behind_each k [] = subst (λ ns. AreLeaves ns []) (sym none_found) none
-  leaves_behind_each k (x ∷ xs) =
-      subst (λ ns. AreLeaves ns (word k ++ spell x ++ behind k (map spell xs))) (sym (found-append (f x) (flat_map f xs))) (leaves-append (leaves_behind (word k) (each x)) (leaves_behind_each k xs))
+  pub leaves_after_each : (k : Kind) (xs : List A) → AreLeaves (found (flat_map f xs)) (after k (map spell xs))
+  leaves_after_each k [] = subst (λ ns. AreLeaves ns []) (sym none_found) none
+  leaves_after_each k (x ∷ xs) =
+      subst (λ ns. AreLeaves ns (word k ++ spell x ++ after k (map spell xs))) (sym (found-append (f x) (flat_map f xs))) (leaves-append (leaves_after (word k) (each x)) (leaves_after_each k xs))
 
   pub leaves_between : (k : Kind) (xs : List A) → AreLeaves (found (flat_map f xs)) (between k (map spell xs))
   leaves_between k [] = subst (λ ns. AreLeaves ns []) (sym none_found) none
   leaves_between k (x ∷ xs) =
-      subst (λ ns. AreLeaves ns (spell x ++ behind k (map spell xs))) (sym (found-append (f x) (flat_map f xs))) (leaves-append (each x) (leaves_behind_each k xs))
+      subst (λ ns. AreLeaves ns (spell x ++ after k (map spell xs))) (sym (found-append (f x) (flat_map f xs))) (leaves-append (each x) (leaves_after_each k xs))
 
   pub leaves_joined : (xs : List A) → AreLeaves (found (flat_map f xs)) (joined (map spell xs))
   leaves_joined [] = subst (λ ns. AreLeaves ns []) (sym none_found) none

@@ -32,8 +32,8 @@ use Rattle.snl_scope.specs.declared.summaries.summary.VariableClause.{VariableCl
 use Rattle.snl_scope.specs.Once.{TokensRise, declared_tokens, flag_tokens, tokens_of_flag, variable_tokens}
 use Rattle.snl_scope.specs.Summaries.{outline_in}
 use Rattle.snl_scope.specs.Summaries.Clauses.{clause_of, clauses_in_tree, clauses_of_member}
-use Rattle.snl_scope.specs.Summaries.Declares.{declared_at, declared_by_declaration, declared_by_declarator, declared_by_foreign, declared_by_function, declared_by_member, declared_if_body, declared_in_tree, foreign_name, function_name, nature_of}
-use Rattle.snl_scope.proofs.Leaves.{AreLeaves, leaves_before, leaves_behind, leaves_between, leaves_joined, leaves_rise, no_leaves, one_leaf}
+use Rattle.snl_scope.specs.Summaries.Declares.{declared_at, declared_by_declaration, declared_by_declarator, declared_by_foreign, declared_by_function, declared_by_member, declared_if_body, declared_in_tree, foreign_name, function_name, symbol_kind_of}
+use Rattle.snl_scope.proofs.Leaves.{AreLeaves, leaves_after, leaves_before, leaves_between, leaves_joined, leaves_rise, no_leaves, one_leaf}
 use Rattle.snl_scope.proofs.Pairs.{rising_from_two}
 
 abbrev tokens_declared : List Declared → List ℕ
@@ -45,7 +45,7 @@ before_body f = spell_type f.of ++ spell_stars f.pointers ++ leaf kind.Name f.na
 
 -- the leaves of a state's members are leaves of the state
 in_state : (name : ℕ) (ms : List StateMember) {ns : List ℕ} → AreLeaves ns (joined (map spell_state_member ms)) → AreLeaves ns (spell_state name ms)
-in_state name ms l = leaves_behind (word kind.State ++ leaf kind.Name name) (leaves_before (word kind.CloseBrace) (leaves_behind (word kind.OpenBrace) l))
+in_state name ms l = leaves_after (word kind.State ++ leaf kind.Name name) (leaves_before (word kind.CloseBrace) (leaves_after (word kind.OpenBrace) l))
 
 module _ (text : List ℕ) (tokens : List Piece) where
   by_commas : {A : Type 0} (f : A → Declared) (spell : A → List Spelled) → ((a : A) → AreLeaves ((f a).token ∷ []) (spell a)) → (xs : List A) → AreLeaves (tokens_declared (map f xs)) (commas (map spell xs))
@@ -53,21 +53,21 @@ module _ (text : List ℕ) (tokens : List Piece) where
       subst (λ ds. AreLeaves (tokens_declared ds) (commas (map spell xs))) (flat_map_single f xs) (leaves_between tokens_declared refl (map-append (λ d. d.token)) (λ a. f a ∷ []) spell each kind.Comma xs)
 
   declarator_leaf : (d : Declarator) → AreLeaves (d.name ∷ []) (spell_declarator d)
-  declarator_leaf d = leaves_before (perhaps spell_value d.init) (leaves_before (joined (map spell_length d.lengths)) (leaves_behind (spell_stars d.pointers) (one_leaf kind.Name d.name)))
+  declarator_leaf d = leaves_before (perhaps spell_value d.init) (leaves_before (joined (map spell_length d.lengths)) (leaves_after (spell_stars d.pointers) (one_leaf kind.Name d.name)))
 
   declaration_leaves : (d : Declaration) → AreLeaves (tokens_declared (declared_by_declaration text tokens d)) (spell_declaration d)
   declaration_leaves d =
-      leaves_before (word kind.Semicolon) (leaves_behind (spell_type d.of) (by_commas (declared_by_declarator text tokens (nature_of d.of.base)) spell_declarator declarator_leaf d.declarators))
+      leaves_before (word kind.Semicolon) (leaves_after (spell_type d.of) (by_commas (declared_by_declarator text tokens (symbol_kind_of d.of.base)) spell_declarator declarator_leaf d.declarators))
 
   foreign_leaves : (ns : List ℕ) → AreLeaves (tokens_declared (declared_by_foreign text tokens ns)) (spell_foreign ns)
-  foreign_leaves ns = leaves_before (word kind.Semicolon) (leaves_behind (word kind.Foreign) (by_commas (declared_at text tokens foreign_name) (leaf kind.Name) (one_leaf kind.Name) ns))
+  foreign_leaves ns = leaves_before (word kind.Semicolon) (leaves_after (word kind.Foreign) (by_commas (declared_at text tokens foreign_name) (leaf kind.Name) (one_leaf kind.Name) ns))
 
   function_leaves : (f : Function) → AreLeaves (tokens_declared (declared_by_function text tokens f)) (spell_function f)
   function_leaves f = by f.body
     where
       by : (body : Option (List Member)) → AreLeaves (tokens_declared (declared_if_body (declared_at text tokens function_name f.name) body)) (before_body f ++ spell_body body)
       by None = no_leaves (before_body f ++ word kind.Semicolon)
-      by (Some block) = leaves_before (spell_body (Some block)) (leaves_before (in_parens (commas (map spell_parameter f.parameters))) (leaves_behind (spell_type f.of ++ spell_stars f.pointers) (one_leaf kind.Name f.name)))
+      by (Some block) = leaves_before (spell_body (Some block)) (leaves_before (in_parens (commas (map spell_parameter f.parameters))) (leaves_after (spell_type f.of ++ spell_stars f.pointers) (one_leaf kind.Name f.name)))
 
   declared_member_leaves : (m : StateMember) → AreLeaves (tokens_declared (declared_by_member text tokens m)) (spell_state_member m)
   declared_member_leaves (members.Declaration d) = declaration_leaves d
@@ -83,25 +83,25 @@ module _ (text : List ℕ) (tokens : List Piece) where
   declared_leaves t = no_leaves (spell_item t)
 
   variable_leaf : (c : Clause) → AreLeaves ((clause_of text tokens c).variable.token ∷ []) (spell_clause c)
-  variable_leaf (clauses.Assign name channel) = leaves_before (word kind.Semicolon) (leaves_before (spell_channel channel) (leaves_behind (word kind.Assign) (one_leaf kind.Name name)))
+  variable_leaf (clauses.Assign name channel) = leaves_before (word kind.Semicolon) (leaves_before (spell_channel channel) (leaves_after (word kind.Assign) (one_leaf kind.Name name)))
   variable_leaf (clauses.Monitor name subscript) =
-      leaves_before (word kind.Semicolon) (leaves_before (perhaps spell_subscript subscript) (leaves_behind (word kind.Monitor) (one_leaf kind.Name name)))
+      leaves_before (word kind.Semicolon) (leaves_before (perhaps spell_subscript subscript) (leaves_after (word kind.Monitor) (one_leaf kind.Name name)))
   variable_leaf (clauses.Sync name subscript flag) =
-      leaves_before (word kind.Semicolon) (leaves_before (spell_flag flag) (leaves_before (perhaps spell_subscript subscript) (leaves_behind (word kind.Sync) (one_leaf kind.Name name))))
+      leaves_before (word kind.Semicolon) (leaves_before (spell_flag flag) (leaves_before (perhaps spell_subscript subscript) (leaves_after (word kind.Sync) (one_leaf kind.Name name))))
   variable_leaf (clauses.Syncq capital name subscript flag queue) =
-      leaves_before (word kind.Semicolon) (leaves_before (perhaps (leaf kind.Integer) queue) (leaves_before (perhaps spell_flag flag) (leaves_before (perhaps spell_subscript subscript) (leaves_behind (spell_syncq capital) (one_leaf kind.Name name)))))
+      leaves_before (word kind.Semicolon) (leaves_before (perhaps (leaf kind.Integer) queue) (leaves_before (perhaps spell_flag flag) (leaves_before (perhaps spell_subscript subscript) (leaves_after (spell_syncq capital) (one_leaf kind.Name name)))))
 
   flag_leaf : (flag : Flag) → AreLeaves (flag.name ∷ []) (spell_flag flag)
-  flag_leaf flag = leaves_behind (written kind.To flag.to) (one_leaf kind.Name flag.name)
+  flag_leaf flag = leaves_after (written kind.To flag.to) (one_leaf kind.Name flag.name)
 
   flag_leaves : (c : Clause) → AreLeaves (tokens_of_flag (clause_of text tokens c)) (spell_clause c)
   flag_leaves (clauses.Assign name channel) = no_leaves (spell_clause (clauses.Assign name channel))
   flag_leaves (clauses.Monitor name subscript) = no_leaves (spell_clause (clauses.Monitor name subscript))
   flag_leaves (clauses.Sync name subscript flag) =
-      leaves_before (word kind.Semicolon) (leaves_behind (word kind.Sync ++ leaf kind.Name name ++ perhaps spell_subscript subscript) (flag_leaf flag))
+      leaves_before (word kind.Semicolon) (leaves_after (word kind.Sync ++ leaf kind.Name name ++ perhaps spell_subscript subscript) (flag_leaf flag))
   flag_leaves (clauses.Syncq capital name subscript None queue) = no_leaves (spell_clause (clauses.Syncq capital name subscript None queue))
   flag_leaves (clauses.Syncq capital name subscript (Some flag) queue) =
-      leaves_before (word kind.Semicolon) (leaves_before (perhaps (leaf kind.Integer) queue) (leaves_behind (spell_syncq capital ++ leaf kind.Name name ++ perhaps spell_subscript subscript) (flag_leaf flag)))
+      leaves_before (word kind.Semicolon) (leaves_before (perhaps (leaf kind.Integer) queue) (leaves_after (spell_syncq capital ++ leaf kind.Name name ++ perhaps spell_subscript subscript) (flag_leaf flag)))
 
   -- of what is told of each clause
   module _ (found : List VariableClause → List ℕ) (none_found : found [] ≡ []) (found-append : (cs ds : List VariableClause) → found (cs ++ ds) ≡ found cs ++ found ds)

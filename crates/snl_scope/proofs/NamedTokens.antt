@@ -18,7 +18,7 @@ use Rattle.snl_walk.specs.Uses.{is_target}
 use Rattle.snl_scope.specs.NamedTokens.{NamesItsTokens, own_name}
 use Rattle.snl_scope.specs.Summaries.Clauses.{clauses_in_tree}
 use Rattle.snl_scope.specs.Summaries.Declares.{declared_in_tree}
-use Rattle.snl_scope.proofs.Leaves.{AreLeaves, none, past, here, leaves_before, leaves_behind, one_leaf}
+use Rattle.snl_scope.proofs.Leaves.{AreLeaves, none, past, here, leaves_before, leaves_after, one_leaf}
 use Rattle.snl_scope.proofs.Mentioned.{declared_leaves, variable_leaves}
 use Rattle.snl_scope.proofs.Pairs.{each_unmap, each_weaker}
 use Rattle.snl_scope.proofs.SomeTokens.{all_where}
@@ -48,7 +48,7 @@ two_tokens x y zs (q ∷ r ∷ qs) h = omega arith
 
 own_below : (t : Item) (kinds : List Kind) → Matches (spell_item t) (ahead kinds 0) → Each (λ n. n < length kinds) (own_name t)
 own_below (items.Header name parameters) kinds h =
-    below_count (name ∷ []) (spell_item (items.Header name parameters)) kinds (leaves_before (perhaps spell_header_text parameters) (leaves_behind (word kind.Program) (one_leaf kind.Name name))) h
+    below_count (name ∷ []) (spell_item (items.Header name parameters)) kinds (leaves_before (perhaps spell_header_text parameters) (leaves_after (word kind.Program) (one_leaf kind.Name name))) h
 own_below (items.SsBegin name) kinds h = (two_tokens (kind.Ss, None) (kind.Name, Some name) (word kind.OpenBrace) kinds h, tt)
 own_below (items.StateBlock name ms) kinds h = (two_tokens (kind.State, None) (kind.Name, Some name) (word kind.OpenBrace ++ joined (map spell_state_member ms) ++ word kind.CloseBrace) kinds h, tt)
 own_below t kinds h = tt

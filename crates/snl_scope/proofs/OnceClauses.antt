@@ -2,16 +2,16 @@
 use Rattle.std.proofs.Common.{◌≡◌, ℕ, zero, suc, ◌<◌, ◌≤◌, Bool, true, false, not, ◌&&◌, ◌⊎◌, inl, inr, List, [], ◌∷◌, length, map, Option, None, Some, IfSome, slice_get, arith, refl, subst, sym, ap, ◌∙◌, if◌then◌else◌}
 use Rattle.std.specs.List.{AllByRecursion as Each, flat_map, list_any}
 use Rattle.std.specs.Option.{option_map_or, option_to_list}
-use Rattle.snl_scope.specs.declared.codes.Code.{Code}
-use Rattle.snl_scope.specs.declared.codes.Code.TheVariants.{E11, E13, E14, E15, E16}
+use Rattle.snl_walk.specs.declared.codes.Code.{Code}
+use Rattle.snl_walk.specs.declared.codes.Code.TheVariants.{E11, E13, E14, E15, E16}
 use Rattle.snl_scope.specs.declared.facts.LinkFault.{LinkFault}
 use Rattle.snl_scope.specs.declared.summaries.summary.ClauseKind.{ClauseKind}
 use Rattle.snl_scope.specs.declared.summaries.summary.ClauseKind.TheVariants as kind
-use Rattle.snl_scope.specs.declared.summaries.summary.Mention.{Mention}
+use Rattle.snl_scope.specs.declared.summaries.summary.NameRef.{NameRef}
 use Rattle.snl_scope.specs.declared.summaries.summary.Outline.{Outline}
 use Rattle.snl_scope.specs.declared.summaries.summary.Variable.{Variable}
 use Rattle.snl_scope.specs.declared.summaries.summary.VariableClause.{VariableClause}
-use Rattle.snl_scope.specs.Clauses.{LinkedClause, assigns, at_mention, clash, clause_faults, clauses_before, clauses_of, code_on, found_at, found_at_flag, found_at_variable, found_behind, has_wrong_flag, is_assign, is_assignable, linked_clause, misfits, repetition_code, variable_at, variable_code, with_clause}
+use Rattle.snl_scope.specs.Clauses.{LinkedClause, assigns, at_name_ref, clash, clause_faults, clauses_before, clauses_of, code_on, found_after, found_at, found_at_flag, found_at_variable, has_wrong_flag, is_assign, is_assignable, linked_clause, misfits, repetition_code, variable_at, variable_code, with_clause}
 use Rattle.snl_scope.specs.Names.{Entry, entries}
 use Rattle.snl_scope.specs.Once.{TokensRise, flag_tokens, tokens_of_flag, variable_tokens}
 use Rattle.snl_scope.proofs.Families.{Differ, differ_by_rank, rank}
@@ -25,7 +25,7 @@ pub record AtVariable (c : LinkedClause) (f : LinkFault) : Type 0 where
 
 pub record AtFlag (c : LinkedClause) (f : LinkFault) : Type 0 where
   pub item : f.item ≡ c.item
-  pub flag : Mention
+  pub flag : NameRef
   pub token : f.token ≡ flag.token
   pub named : c.clause.flag ≡ Some flag
   pub code : rank f.code ≡ 11
@@ -36,7 +36,7 @@ AtClause c f = AtVariable c f ⊎ AtFlag c f
 -- Two clauses name their variables at different places, and their flags.
 record StandApart (c d : LinkedClause) : Type 0 where
   variables : c.item ≡ d.item → c.clause.variable.token ≡ d.clause.variable.token → ⊥
-  flags : c.item ≡ d.item → (m n : Mention) → c.clause.flag ≡ Some m → d.clause.flag ≡ Some n → m.token ≡ n.token → ⊥
+  flags : c.item ≡ d.item → (m n : NameRef) → c.clause.flag ≡ Some m → d.clause.flag ≡ Some n → m.token ≡ n.token → ⊥
 
 stand_apart : (c d : LinkedClause) → StandApart c d → (f g : LinkFault) → AtClause c f → AtClause d g → Differ f g
 stand_apart c d apart f g (inl p) (inl q) = λ e. apart.variables (sym p.item ∙ ap (λ x. x.item) e ∙ q.item) (sym p.token ∙ ap (λ x. x.token) e ∙ q.token)
@@ -65,7 +65,7 @@ module _ (es : List Entry) (cs : List LinkedClause) where
       let again : Option Code = (if list_any (clash c) sound then Some (repetition_code c.clause.kind) else None) in
       let unassigned : Option Code = (if not (is_assign c.clause.kind) && not (list_any (assigns c.variable) cs) then Some E13 else again) in
       let misfit : Option Code = (if misfits v.dims c.clause.coverage then Some E16 else unassigned) in
-      either (is_assign c.clause.kind && not (is_assignable v.nature)) (Some E15) misfit refl
+      either (is_assign c.clause.kind && not (is_assignable v.symbol_kind)) (Some E15) misfit refl
       (either (misfits v.dims c.clause.coverage) (Some E16) unassigned refl
       (either (not (is_assign c.clause.kind) && not (list_any (assigns c.variable) cs)) (Some E13) again refl
       (either (list_any (clash c) sound) (Some (repetition_code c.clause.kind)) None (repetition_rank c.clause.kind) tt)))
@@ -78,12 +78,12 @@ module _ (es : List Entry) (cs : List LinkedClause) where
       by (Some v) = code_rank sound c v
 
   module _ (c : LinkedClause) where
-    coded : (o : Option Code) → IsAtVariable o → Each (AtVariable c) (map (at_mention c.item c.clause.variable) (option_to_list o)) × EachTwo Differ (map (at_mention c.item c.clause.variable) (option_to_list o))
+    coded : (o : Option Code) → IsAtVariable o → Each (AtVariable c) (map (at_name_ref c.item c.clause.variable) (option_to_list o)) × EachTwo Differ (map (at_name_ref c.item c.clause.variable) (option_to_list o))
     coded None h = (tt, tt)
     coded (Some code) h = ((record { item = refl; token = refl; code = h }, tt), (tt, tt))
 
-    flagged : (b : Bool) (o : Option Mention) → c.clause.flag ≡ o
-        → Each (AtFlag c) (if b then map (λ m. at_mention c.item m E14) (option_to_list o) else []) × EachTwo Differ (if b then map (λ m. at_mention c.item m E14) (option_to_list o) else [])
+    flagged : (b : Bool) (o : Option NameRef) → c.clause.flag ≡ o
+        → Each (AtFlag c) (if b then map (λ m. at_name_ref c.item m E14) (option_to_list o) else []) × EachTwo Differ (if b then map (λ m. at_name_ref c.item m E14) (option_to_list o) else [])
     flagged false o h = (tt, tt)
     flagged true None h = (tt, tt)
     flagged true (Some m) h = ((record { item = refl; flag = m; token = refl; named = h; code = refl }, tt), (tt, tt))
@@ -106,47 +106,47 @@ module _ (es : List Entry) (cs : List LinkedClause) where
         (at_variable sound).0 (at_variable sound).1 at_flag.0 at_flag.1
 
   -- what holds of all that is found at clauses
-  pub behind_each : (P : LinkFault → Type 0) (sound ds : List LinkedClause) → Each (λ c. (f : LinkFault) → AtClause c f → P f) ds → Each P (found_behind es cs sound ds)
-  behind_each P sound [] h = tt
-  behind_each P sound (d ∷ ds) h =
-      each-append P (found_at es cs sound d) (found_behind es cs (with_clause es cs sound d) ds) (each_weaker (AtClause d) P h.0 (found_at es cs sound d) (found_each d sound)) (behind_each P (with_clause es cs sound d) ds h.1)
+  pub after_each : (P : LinkFault → Type 0) (sound ds : List LinkedClause) → Each (λ c. (f : LinkFault) → AtClause c f → P f) ds → Each P (found_after es cs sound ds)
+  after_each P sound [] h = tt
+  after_each P sound (d ∷ ds) h =
+      each-append P (found_at es cs sound d) (found_after es cs (with_clause es cs sound d) ds) (each_weaker (AtClause d) P h.0 (found_at es cs sound d) (found_each d sound)) (after_each P (with_clause es cs sound d) ds h.1)
 
-  behind_once : (sound ds : List LinkedClause) → EachTwo StandApart ds → EachTwo Differ (found_behind es cs sound ds)
-  behind_once sound [] h = tt
-  behind_once sound (d ∷ ds) h =
-      two_parts Differ (AtClause d) (λ g. (f : LinkFault) → AtClause d f → Differ f g) (λ f g p q. q f p) (found_at es cs sound d) (found_behind es cs (with_clause es cs sound d) ds)
+  after_once : (sound ds : List LinkedClause) → EachTwo StandApart ds → EachTwo Differ (found_after es cs sound ds)
+  after_once sound [] h = tt
+  after_once sound (d ∷ ds) h =
+      two_parts Differ (AtClause d) (λ g. (f : LinkFault) → AtClause d f → Differ f g) (λ f g p q. q f p) (found_at es cs sound d) (found_after es cs (with_clause es cs sound d) ds)
       (found_each d sound) (found_once d sound)
-      (behind_each (λ g. (f : LinkFault) → AtClause d f → Differ f g) (with_clause es cs sound d) ds (each_weaker (StandApart d) (λ c. (g : LinkFault) → AtClause c g → (f : LinkFault) → AtClause d f → Differ f g) (λ c apart g q f p. stand_apart d c apart f g p q) ds h.0))
-      (behind_once (with_clause es cs sound d) ds h.1)
+      (after_each (λ g. (f : LinkFault) → AtClause d f → Differ f g) (with_clause es cs sound d) ds (each_weaker (StandApart d) (λ c. (g : LinkFault) → AtClause c g → (f : LinkFault) → AtClause d f → Differ f g) (λ c apart g q f p. stand_apart d c apart f g p q) ds h.0))
+      (after_once (with_clause es cs sound d) ds h.1)
 
 -- the flags of the clauses of one item
 abbrev FlagsRise : VariableClause → VariableClause → Type 0
-FlagsRise c d = (m n : Mention) → c.flag ≡ Some m → d.flag ≡ Some n → m.token < n.token
+FlagsRise c d = (m n : NameRef) → c.flag ≡ Some m → d.flag ≡ Some n → m.token < n.token
 
-each_flag : (P : ℕ → Type 0) (c : VariableClause) → Each P (tokens_of_flag c) → (n : Mention) → c.flag ≡ Some n → P n.token
+each_flag : (P : ℕ → Type 0) (c : VariableClause) → Each P (tokens_of_flag c) → (n : NameRef) → c.flag ≡ Some n → P n.token
 each_flag P c h n e = (subst (λ o. Each P (map (λ m. m.token) (option_to_list o))) e h).0
 
-pub each_flags : (P : ℕ → Type 0) (cs : List VariableClause) → Each P (flat_map tokens_of_flag cs) → Each (λ c. (n : Mention) → c.flag ≡ Some n → P n.token) cs
+pub each_flags : (P : ℕ → Type 0) (cs : List VariableClause) → Each P (flat_map tokens_of_flag cs) → Each (λ c. (n : NameRef) → c.flag ≡ Some n → P n.token) cs
 each_flags P [] h = tt
 each_flags P (c ∷ cs) h =
     (each_flag P c (each_front P (tokens_of_flag c) (flat_map tokens_of_flag cs) h), each_flags P cs (each_rear P (tokens_of_flag c) (flat_map tokens_of_flag cs) h))
 
 -- a token that is after each flag that one clause may have
-abbrev IsBehind : VariableClause → ℕ → Type 0
-IsBehind c b = (m : Mention) → c.flag ≡ Some m → m.token < b
+abbrev IsAfter : VariableClause → ℕ → Type 0
+IsAfter c b = (m : NameRef) → c.flag ≡ Some m → m.token < b
 
-behind_flag : (c : VariableClause) (ns : List ℕ) → Each (λ a. Each (λ b. a < b) ns) (tokens_of_flag c) → Each (IsBehind c) ns
-behind_flag c ns h = by c.flag refl
+after_flag : (c : VariableClause) (ns : List ℕ) → Each (λ a. Each (λ b. a < b) ns) (tokens_of_flag c) → Each (IsAfter c) ns
+after_flag c ns h = by c.flag refl
   where
-    by : (o : Option Mention) → c.flag ≡ o → Each (IsBehind c) ns
-    by None e = each_by (IsBehind c) (λ b m i. absurd (cc)) ns
-    by (Some k) e = each_weaker (λ b. k.token < b) (IsBehind c) (λ b l m i. let same : k ≡ m = cc in subst (λ x. x.token < b) same l) ns (each_flag (λ a. Each (λ b. a < b) ns) c h k e)
+    by : (o : Option NameRef) → c.flag ≡ o → Each (IsAfter c) ns
+    by None e = each_by (IsAfter c) (λ b m i. absurd (cc)) ns
+    by (Some k) e = each_weaker (λ b. k.token < b) (IsAfter c) (λ b l m i. let same : k ≡ m = cc in subst (λ x. x.token < b) same l) ns (each_flag (λ a. Each (λ b. a < b) ns) c h k e)
 
 flags_rise : (cs : List VariableClause) → EachTwo (λ a b. a < b) (flat_map tokens_of_flag cs) → EachTwo FlagsRise cs
 flags_rise [] h = tt
 flags_rise (c ∷ cs) h = (
-  each_weaker (λ d. (n : Mention) → d.flag ≡ Some n → IsBehind c n.token) (FlagsRise c) (λ d l m n e i. l n i m e) cs
-      (each_flags (IsBehind c) cs (behind_flag c (flat_map tokens_of_flag cs) (across_append (λ a b. a < b) (tokens_of_flag c) (flat_map tokens_of_flag cs) h))),
+  each_weaker (λ d. (n : NameRef) → d.flag ≡ Some n → IsAfter c n.token) (FlagsRise c) (λ d l m n e i. l n i m e) cs
+      (each_flags (IsAfter c) cs (after_flag c (flat_map tokens_of_flag cs) (across_append (λ a b. a < b) (tokens_of_flag c) (flat_map tokens_of_flag cs) h))),
   flags_rise cs (two_rear (λ a b. a < b) (tokens_of_flag c) (flat_map tokens_of_flag cs) h),
 )
 
@@ -190,11 +190,11 @@ module _ (ss : List Outline) where
       )
 
   pub clauses_once : Each TokensRise ss → EachTwo Differ (clause_faults ss)
-  clauses_once rise = behind_once (entries ss) (clauses_of ss) [] (clauses_of ss) (clauses_apart rise (length ss)).1
+  clauses_once rise = after_once (entries ss) (clauses_of ss) [] (clauses_of ss) (clauses_apart rise (length ss)).1
 
   rank_by : (c : LinkedClause) (f : LinkFault) → AtClause c f → 10 ≤ rank f.code
   rank_by c f (inl p) = omega (arith, p.code)
   rank_by c f (inr p) = omega (arith, p.code)
 
   pub clause_ranks : Each (λ f. 10 ≤ rank f.code) (clause_faults ss)
-  clause_ranks = behind_each (entries ss) (clauses_of ss) (λ f. 10 ≤ rank f.code) [] (clauses_of ss) (each_by (λ c. (f : LinkFault) → AtClause c f → 10 ≤ rank f.code) rank_by (clauses_of ss))
+  clause_ranks = after_each (entries ss) (clauses_of ss) (λ f. 10 ≤ rank f.code) [] (clauses_of ss) (each_by (λ c. (f : LinkFault) → AtClause c f → 10 ≤ rank f.code) rank_by (clauses_of ss))

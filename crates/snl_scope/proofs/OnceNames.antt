@@ -2,11 +2,11 @@
 use Rattle.std.proofs.Common.{◌≡◌, ℕ, zero, suc, ◌<◌, ◌≤◌, Bool, true, false, List, [], ◌∷◌, ◌++◌, filter, length, map, Option, None, Some, IfSome, is_some, slice_get, arith, refl, subst, sym, if◌then◌else◌}
 use Rattle.std.specs.List.{AllByRecursion as Each}
 use Rattle.std.specs.Option.{option_map_or, option_to_list}
-use Rattle.snl_scope.specs.declared.codes.Code.{Code}
-use Rattle.snl_scope.specs.declared.codes.Code.TheVariants.{E08, E09}
+use Rattle.snl_walk.specs.declared.codes.Code.{Code}
+use Rattle.snl_walk.specs.declared.codes.Code.TheVariants.{E08, E09}
 use Rattle.snl_scope.specs.declared.facts.LinkFault.{LinkFault}
-use Rattle.snl_scope.specs.declared.names.spaces.Space.{Space}
-use Rattle.snl_scope.specs.declared.names.spaces.Space.TheVariants as space
+use Rattle.snl_scope.specs.declared.names.namespaces.Namespace.{Namespace}
+use Rattle.snl_scope.specs.declared.names.namespaces.Namespace.TheVariants as namespace
 use Rattle.snl_scope.specs.declared.summaries.summary.Outline.{Outline}
 use Rattle.snl_scope.specs.LinkedItems.{LinkedItems}
 use Rattle.snl_scope.specs.Names.{Entry, declared_entry, entries, entries_before, entries_of, name_faults, named_entry, number_in, repetition, repetition_at, repetitions, scope_code, scope_of, set_entries, set_name, state_entries, told_by}
@@ -35,7 +35,7 @@ given_if true e = given_by e e.code refl
 given_if false e = (tt, tt)
 
 given : (earlier : List Entry) (e : Entry) → Each (Gives e) (repetition earlier e) × EachTwo Differ (repetition earlier e)
-given earlier e = given_if (is_some (number_in earlier e.space e.name)) e
+given earlier e = given_if (is_some (number_in earlier e.namespace e.name)) e
 
 -- what holds of all that the entries give
 pub repeated_each : (P : LinkFault → Type 0) (earlier es : List Entry) → Each (λ e. (f : LinkFault) → Gives e f → P f) es → Each P (repetitions earlier es)
@@ -78,23 +78,23 @@ apart_by_item d e h f g p q = differ_by_item f g (λ r. omega (arith, h, r, p.it
 
 -- the entries of one item
 module _ (ss : List Outline) (i : ℕ) (s : Outline) where
-  named_once : (names : Space) (code : Option Code) (a : ℕ) → IfSome code (λ c. (a ≤ rank c) × (rank c < suc a)) → (o : Option (List ℕ))
+  named_once : (names : Namespace) (code : Option Code) (a : ℕ) → IfSome code (λ c. (a ≤ rank c) × (rank c < suc a)) → (o : Option (List ℕ))
       → Each (IsOf i a (suc a)) (map (named_entry names i code) (option_to_list o)) × EachTwo GiveApart (map (named_entry names i code) (option_to_list o))
   named_once names code a h None = (tt, tt)
   named_once names code a h (Some name) = ((record { item = refl; code = h }, tt), (tt, tt))
 
   set_once : Each (IsOf i 8 9) (set_entries i s) × EachTwo GiveApart (set_entries i s)
-  set_once = named_once space.Sets (Some E08) 8 (omega arith, omega arith) (set_name s)
+  set_once = named_once namespace.Sets (Some E08) 8 (omega arith, omega arith) (set_name s)
 
   state_once : (p : Option ℕ) → Each (IsOf i 9 10) (state_entries p i s) × EachTwo GiveApart (state_entries p i s)
   state_once None = (tt, tt)
-  state_once (Some k) = named_once (space.States k) (Some E09) 9 (omega arith, omega arith) (state_name s)
+  state_once (Some k) = named_once (namespace.States k) (Some E09) 9 (omega arith, omega arith) (state_name s)
 
-  by_scope : (scope : Space) → IfSome (scope_code scope) (λ c. (7 ≤ rank c) × (rank c < 8))
-  by_scope (space.State k) = tt
+  by_scope : (scope : Namespace) → IfSome (scope_code scope) (λ c. (7 ≤ rank c) × (rank c < 8))
+  by_scope (namespace.State k) = tt
   by_scope scope = (omega arith, omega arith)
 
-  declared_once : (scope : Space) → TokensRise s → Each (IsOf i 7 8) (map (declared_entry scope i) s.declares) × EachTwo GiveApart (map (declared_entry scope i) s.declares)
+  declared_once : (scope : Namespace) → TokensRise s → Each (IsOf i 7 8) (map (declared_entry scope i) s.declares) × EachTwo GiveApart (map (declared_entry scope i) s.declares)
   declared_once scope rise = (
     each-map (IsOf i 7 8) (declared_entry scope i) s.declares (each_by (λ d. IsOf i 7 8 (declared_entry scope i d)) (λ d. record { item = refl; code = by_scope scope }) s.declares),
     two-map GiveApart (declared_entry scope i) s.declares

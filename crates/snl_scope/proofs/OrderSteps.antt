@@ -3,7 +3,7 @@ use Rattle.std.proofs.Common.{◌≡◌, ℕ, zero, suc, ◌+◌, Bool, true, fa
 use Rattle.std.specs.Option.{option_map, option_map_or, option_and_then}
 use Rattle.std.proofs.lemmas.Bool.Decides.{nat_tests}
 use Rattle.std.proofs.lemmas.Option.{slice_get-map}
-use Rattle.snl_scope.specs.declared.codes.Code.{Code}
+use Rattle.snl_walk.specs.declared.codes.Code.{Code}
 use Rattle.snl_scope.specs.declared.facts.LinkFault.{LinkFault}
 use Rattle.snl_scope.specs.declared.items.heads.Head.{Head}
 use Rattle.snl_scope.specs.declared.items.heads.Member.{Member}
@@ -14,7 +14,7 @@ use Rattle.snl_scope.specs.Below.{all_below, any_below}
 use Rattle.snl_scope.specs.LinkedItems.{LinkedItems, kind_is}
 use Rattle.snl_scope.specs.Order.{at_item, at_items_where, exceeds, found_if, has_begun, is_barred, is_barred_in_sets, is_faulty, is_late, is_main, is_misplaced, is_program_item, is_program_word, is_repeated_header, is_state, is_state_word, phase, phase_of, state_name}
 use Rattle.snl_scope.specs.Places.{ends_set, item_is, place}
-use Rattle.snl_scope.specs.Tables.{and_item, barred_at, before, greatest_before, head_of, heads_member, is_below, is_member, misplaced_behind, phase_in, with_phase}
+use Rattle.snl_scope.specs.Tables.{and_item, barred_at, before, greatest_before, head_of, heads_member, is_below, is_member, misplaced_after, phase_in, with_phase}
 
 map-append : {A B : Type 0} (f : A → B) (xs ys : List A) → map f (xs ++ ys) ≡ map f xs ++ map f ys
 map-append f [] ys = refl
@@ -106,7 +106,7 @@ module _ (l : LinkedItems) (i : ℕ) (h : Head) (k : ItemKind) (at : slice_get (
       by None = refl
       by (Some k) = refl
 
-  pub misplaced_here : misplaced_behind (before l i) (place l.outlines i) k h.opening ≡ is_misplaced l i
+  pub misplaced_here : misplaced_after (before l i) (place l.outlines i) k h.opening ≡ is_misplaced l i
   misplaced_here =
       ap (λ b. (b || barred_at (place l.outlines i) k) && not (is_program_word h.opening && any_below (is_program_item l.outlines) i)) (sym late_here)
       ∙ ap (λ b. (is_late l i || b) && not (is_program_word h.opening && any_below (is_program_item l.outlines) i)) (sym barred_here)

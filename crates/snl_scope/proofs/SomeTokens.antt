@@ -4,7 +4,7 @@ use Rattle.std.proofs.lemmas.List.Elements.{recursion_from_All}
 use Rattle.std.specs.List.{All, AllByRecursion as Each}
 use Rattle.std.specs.List.Sorted.{IsStrictlyIncreasing}
 use Rattle.snl_lex.specs.declared.piece.Piece.{Piece}
-use Rattle.snl_scope.specs.Summaries.Tokens.{mention_at}
+use Rattle.snl_scope.specs.Summaries.Tokens.{name_ref_at}
 use Rattle.snl_walk.specs.declared.occurrence.Occurrence.{Occurrence}
 use Rattle.snl_walk.specs.Items.{tokens_of}
 use Rattle.snl_walk.specs.Uses.{tokens_where}
@@ -34,6 +34,6 @@ module _ (test : Occurrence → Bool) where
   rising_where found h = rising_from_two (tokens_where test found) (two_where (λ a b. a < b) found (two_from_rising (tokens_of found) h))
 
 -- the tokens of the names at tokens
-pub tokens_mentioned : (text : List ℕ) (tokens : List Piece) (ns : List ℕ) → map (λ m. m.token) (map (mention_at text tokens) ns) ≡ ns
+pub tokens_mentioned : (text : List ℕ) (tokens : List Piece) (ns : List ℕ) → map (λ m. m.token) (map (name_ref_at text tokens) ns) ≡ ns
 tokens_mentioned text tokens [] = refl
 tokens_mentioned text tokens (n ∷ ns) = ap (λ (ms : List ℕ). n ∷ ms) (tokens_mentioned text tokens ns)

@@ -8,16 +8,16 @@ use Rattle.snl_lex.specs.declared.piece.Class.{Class}
 use Rattle.snl_lex.specs.declared.piece.Piece.{Piece}
 use Rattle.snl_lex.specs.PieceList.{spelled, spelling}
 use Rattle.snl_syntax.specs.declared.tree.item.Item.{Item}
-use Rattle.snl_scope.specs.declared.summaries.summary.Mention.{Mention}
+use Rattle.snl_scope.specs.declared.summaries.summary.NameRef.{NameRef}
 use Rattle.snl_scope.specs.declared.summaries.summary.Opening.{Opening}
 use Rattle.snl_scope.specs.declared.summaries.summary.Opening.TheVariants as openings
 use Rattle.snl_scope.specs.SpelledTokens.{bytes_by, bytes_if_spelled, pieces_from, summary_by, text_of}
 use Rattle.snl_scope.specs.Summaries.{kind_of, name_by, name_if, occurrences_in, opening_by, opening_if, opening_in, outline_in, role_in, role_of, second_in, summary_in}
-use Rattle.snl_scope.specs.Summaries.Tokens.{mention_at}
+use Rattle.snl_scope.specs.Summaries.Tokens.{name_ref_at}
 use Rattle.snl_walk.specs.Once.{once}
 use Rattle.snl_walk.specs.Tokens.{bytes_at, bytes_if}
 use Rattle.snl_walk.specs.Uses.{targets, uses}
-use Rattle.snl_scope.proofs.AlikeTokens.{same_clauses, same_declares, same_mention}
+use Rattle.snl_scope.proofs.AlikeTokens.{same_clauses, same_declares, same_name_ref}
 
 -- ---- the bytes, and the two tokens that an outline goes by
 
@@ -83,9 +83,9 @@ module _ (text moved : List ℕ) (tokens shifted : List Piece) (alike : spelled 
       let second = same_second in
       cc
 
-  same_targets : (tree : Option Item) → map (mention_at text tokens) (target_tokens (bytes_at text tokens) tree) ≡ map (mention_at moved shifted) (target_tokens (bytes_at moved shifted) tree)
+  same_targets : (tree : Option Item) → map (name_ref_at text tokens) (target_tokens (bytes_at text tokens) tree) ≡ map (name_ref_at moved shifted) (target_tokens (bytes_at moved shifted) tree)
   same_targets tree =
-      ap₂ (λ (f : ℕ → Mention) ns. map f ns) (fun_ext (same_mention text moved tokens shifted each)) (ap (λ (f : ℕ → List ℕ). target_tokens f tree) same_bytes)
+      ap₂ (λ (f : ℕ → NameRef) ns. map f ns) (fun_ext (same_name_ref text moved tokens shifted each)) (ap (λ (f : ℕ → List ℕ). target_tokens f tree) same_bytes)
 
   pub same_summary : (tree : Option Item) → summary_in text tokens tree ≡ summary_in moved shifted tree
   same_summary tree =
@@ -105,9 +105,9 @@ spelled_from before start (token ∷ tokens) e =
     let here : take (length token.1) (drop start (before ++ (token.1 ++ text_of tokens))) ≡ token.1 =
     ap (λ n. take (length token.1) (drop n (before ++ (token.1 ++ text_of tokens)))) e ∙ first_bytes before token.1 (text_of tokens) in
     let longer : before ++ (token.1 ++ text_of tokens) ≡ (before ++ token.1) ++ text_of tokens = sym (append_assoc before token.1 (text_of tokens)) in
-    let behind : start + length token.1 ≡ length (before ++ token.1) = ap (λ n. n + length token.1) e ∙ sym (length-append before token.1) in
+    let after : start + length token.1 ≡ length (before ++ token.1) = ap (λ n. n + length token.1) e ∙ sym (length-append before token.1) in
     let rest : spelled (before ++ (token.1 ++ text_of tokens)) (pieces_from (start + length token.1) tokens) ≡ tokens =
-    ap (λ t. spelled t (pieces_from (start + length token.1) tokens)) longer ∙ spelled_from (before ++ token.1) (start + length token.1) tokens behind in
+    ap (λ t. spelled t (pieces_from (start + length token.1) tokens)) longer ∙ spelled_from (before ++ token.1) (start + length token.1) tokens after in
     ap₂ (λ (b : List ℕ) (l : List (Class × List ℕ)). (token.0, b) ∷ l) here rest
 
 pub spelled_alone : (tokens : List (Class × List ℕ)) → spelled (text_of tokens) (pieces_from 0 tokens) ≡ tokens

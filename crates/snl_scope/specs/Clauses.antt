@@ -2,33 +2,33 @@
 use Rattle.std.specs.Prelude.{ℕ, zero, suc, Bool, true, false, not, ◌&&◌, if◌then◌else◌, List, [], ◌∷◌, ◌++◌, map, length, slice_get, nat_eq, nat_lt, Option, None, Some, is_some, option_and_then, option_to_list}
 use Rattle.std.specs.List.{list_any, zip}
 use Rattle.std.specs.Option.{option_map_or, option_or}
-use Rattle.snl_scope.specs.declared.codes.Code.{Code}
-use Rattle.snl_scope.specs.declared.codes.Code.TheVariants.{E11, E12, E13, E14, E15, E16, E22, W05}
+use Rattle.snl_walk.specs.declared.codes.Code.{Code}
+use Rattle.snl_walk.specs.declared.codes.Code.TheVariants.{E11, E12, E13, E14, E15, E16, E22, W05}
 use Rattle.snl_scope.specs.declared.facts.Assigned.{Assigned}
 use Rattle.snl_scope.specs.declared.facts.Assigned.TheVariants as assigned
 use Rattle.snl_scope.specs.declared.facts.ClauseLink.{ClauseLink}
 use Rattle.snl_scope.specs.declared.facts.LinkFault.{LinkFault}
-use Rattle.snl_scope.specs.declared.names.spaces.Space.TheVariants as space
+use Rattle.snl_scope.specs.declared.names.namespaces.Namespace.TheVariants as namespace
 use Rattle.snl_scope.specs.declared.summaries.summary.ClauseKind.{ClauseKind}
 use Rattle.snl_scope.specs.declared.summaries.summary.ClauseKind.TheVariants as kind
 use Rattle.snl_scope.specs.declared.summaries.summary.Coverage.{Coverage}
 use Rattle.snl_scope.specs.declared.summaries.summary.Coverage.TheVariants as coverage
 use Rattle.snl_scope.specs.declared.summaries.summary.Dims.{Dims}
 use Rattle.snl_scope.specs.declared.summaries.summary.Dims.TheVariants as dims
-use Rattle.snl_scope.specs.declared.summaries.summary.Mention.{Mention}
-use Rattle.snl_scope.specs.declared.summaries.summary.Nature.{Nature}
-use Rattle.snl_scope.specs.declared.summaries.summary.Nature.TheVariants as nature
+use Rattle.snl_scope.specs.declared.summaries.summary.NameRef.{NameRef}
+use Rattle.snl_scope.specs.declared.summaries.summary.SymbolKind.{SymbolKind}
+use Rattle.snl_scope.specs.declared.summaries.summary.SymbolKind.TheVariants as symbol_kind
 use Rattle.snl_scope.specs.declared.summaries.summary.Outline.{Outline}
 use Rattle.snl_scope.specs.declared.summaries.summary.Variable.{Variable}
 use Rattle.snl_scope.specs.declared.summaries.summary.VariableClause.{VariableClause}
-use Rattle.snl_scope.specs.Codes.{is_error}
+use Rattle.snl_walk.specs.Codes.{is_error}
 use Rattle.snl_scope.specs.Names.{Entry, entries, number_in, resolve}
 use Rattle.snl_scope.specs.Places.{place}
 
 -- The number of the entry that a name outside the blocks of item i resolves to. A state's own scope comes first; an item
 -- that is none has nothing in such a scope.
 abbrev pub resolve_in : List Outline → ℕ → List ℕ → Option ℕ
-resolve_in ss i name = option_or (number_in (entries ss) (space.State i) name) (resolve (entries ss) (place ss i) name)
+resolve_in ss i name = option_or (number_in (entries ss) (namespace.State i) name) (resolve (entries ss) (place ss i) name)
 
 -- A clause in a text: the item that it is in, and the numbers of the entries that its variable and its flag resolve to.
 pub record LinkedClause : Type 0 where
@@ -78,12 +78,12 @@ same_number (Some a) (Some b) = nat_eq a b
 same_number _ _ = false
 
 -- A channel can be assigned to it.
-abbrev pub is_assignable : Nature → Bool
-is_assignable nature.Assignable = true
+abbrev pub is_assignable : SymbolKind → Bool
+is_assignable symbol_kind.Assignable = true
 is_assignable _ = false
 
-abbrev pub is_event_flag : Nature → Bool
-is_event_flag nature.EventFlag = true
+abbrev pub is_event_flag : SymbolKind → Bool
+is_event_flag symbol_kind.EventFlag = true
 is_event_flag _ = false
 
 -- What a clause covers does not fit the variable: a subscript or a list on a plain one, a subscript that is not below the
@@ -122,7 +122,7 @@ repetition_code kind.Syncq = E22
 -- What a clause gives at its variable, by the clauses of the text and the sound ones before it: the first rule that holds.
 abbrev pub code_on : List LinkedClause → List LinkedClause → LinkedClause → Variable → Option Code
 code_on cs sound c v =
-    if is_assign c.clause.kind && not (is_assignable v.nature) then Some E15
+    if is_assign c.clause.kind && not (is_assignable v.symbol_kind) then Some E15
     else if misfits v.dims c.clause.coverage then Some E16
     else if not (is_assign c.clause.kind) && not (list_any (assigns c.variable) cs) then Some E13
     else if list_any (clash c) sound then Some (repetition_code c.clause.kind)
@@ -133,7 +133,7 @@ variable_code es cs sound c = option_map_or (code_on cs sound c) (variable_at es
 
 -- The clause names a flag that resolves to no event flag.
 abbrev pub has_wrong_flag : List Entry → LinkedClause → Bool
-has_wrong_flag es c = is_some c.clause.flag && not (option_map_or (λ v. is_event_flag v.nature) (variable_at es c.flag) false)
+has_wrong_flag es c = is_some c.clause.flag && not (option_map_or (λ v. is_event_flag v.symbol_kind) (variable_at es c.flag) false)
 
 -- A clause is sound if it gives no error.
 abbrev pub is_sound : List Entry → List LinkedClause → List LinkedClause → LinkedClause → Bool
@@ -144,20 +144,20 @@ abbrev pub with_clause : List Entry → List LinkedClause → List LinkedClause 
 with_clause es cs sound c = if is_sound es cs sound c then sound ++ c ∷ [] else sound
 
 -- The sound clauses, after the sound ones before them.
-abbrev pub sound_behind : List Entry → List LinkedClause → List LinkedClause → List LinkedClause → List LinkedClause
-sound_behind es cs sound [] = sound
-sound_behind es cs sound (d ∷ ds) = sound_behind es cs (with_clause es cs sound d) ds
+abbrev pub sound_after : List Entry → List LinkedClause → List LinkedClause → List LinkedClause → List LinkedClause
+sound_after es cs sound [] = sound
+sound_after es cs sound (d ∷ ds) = sound_after es cs (with_clause es cs sound d) ds
 
 abbrev pub sound_clauses : List Outline → List LinkedClause
-sound_clauses ss = sound_behind (entries ss) (clauses_of ss) [] (clauses_of ss)
+sound_clauses ss = sound_after (entries ss) (clauses_of ss) [] (clauses_of ss)
 
 -- Of each clause whether it is sound, after the sound ones before them.
-abbrev pub soundness_behind : List Entry → List LinkedClause → List LinkedClause → List LinkedClause → List Bool
-soundness_behind es cs sound [] = []
-soundness_behind es cs sound (d ∷ ds) = is_sound es cs sound d ∷ soundness_behind es cs (with_clause es cs sound d) ds
+abbrev pub soundness_after : List Entry → List LinkedClause → List LinkedClause → List LinkedClause → List Bool
+soundness_after es cs sound [] = []
+soundness_after es cs sound (d ∷ ds) = is_sound es cs sound d ∷ soundness_after es cs (with_clause es cs sound d) ds
 
 abbrev pub soundness : List Outline → List Bool
-soundness ss = soundness_behind (entries ss) (clauses_of ss) [] (clauses_of ss)
+soundness ss = soundness_after (entries ss) (clauses_of ss) [] (clauses_of ss)
 
 -- A clause as links tell it.
 abbrev pub clause_link : LinkedClause → Bool → ClauseLink
@@ -175,27 +175,27 @@ clause_link c is_sound = record {
 abbrev pub clause_links : List Outline → List ClauseLink
 clause_links ss = map (λ p. clause_link p.0 p.1) (zip (clauses_of ss) (soundness ss))
 
-abbrev pub at_mention : ℕ → Mention → Code → LinkFault
-at_mention i m code = record { item = i; token = m.token; code = code }
+abbrev pub at_name_ref : ℕ → NameRef → Code → LinkFault
+at_name_ref i m code = record { item = i; token = m.token; code = code }
 
 -- What is found at a clause: at its variable, and E14 at its flag.
 abbrev pub found_at_variable : List Entry → List LinkedClause → List LinkedClause → LinkedClause → List LinkFault
-found_at_variable es cs sound c = map (at_mention c.item c.clause.variable) (option_to_list (variable_code es cs sound c))
+found_at_variable es cs sound c = map (at_name_ref c.item c.clause.variable) (option_to_list (variable_code es cs sound c))
 
 abbrev pub found_at_flag : List Entry → LinkedClause → List LinkFault
-found_at_flag es c = if has_wrong_flag es c then map (λ m. at_mention c.item m E14) (option_to_list c.clause.flag) else []
+found_at_flag es c = if has_wrong_flag es c then map (λ m. at_name_ref c.item m E14) (option_to_list c.clause.flag) else []
 
 abbrev pub found_at : List Entry → List LinkedClause → List LinkedClause → LinkedClause → List LinkFault
 found_at es cs sound c = found_at_variable es cs sound c ++ found_at_flag es c
 
 -- What is found at clauses, after the sound ones before them.
-abbrev pub found_behind : List Entry → List LinkedClause → List LinkedClause → List LinkedClause → List LinkFault
-found_behind es cs sound [] = []
-found_behind es cs sound (d ∷ ds) = found_at es cs sound d ++ found_behind es cs (with_clause es cs sound d) ds
+abbrev pub found_after : List Entry → List LinkedClause → List LinkedClause → List LinkedClause → List LinkFault
+found_after es cs sound [] = []
+found_after es cs sound (d ∷ ds) = found_at es cs sound d ++ found_after es cs (with_clause es cs sound d) ds
 
 -- E11 to E16, E22 and W05.
 abbrev pub clause_faults : List Outline → List LinkFault
-clause_faults ss = found_behind (entries ss) (clauses_of ss) [] (clauses_of ss)
+clause_faults ss = found_after (entries ss) (clauses_of ss) [] (clauses_of ss)
 
 -- What a clause that assigns says of its variable.
 abbrev pub assigned_as : Coverage → Assigned

@@ -1,33 +1,14 @@
--- Where the findings of links are, and what codes they have.
+-- Where the findings of links are.
 use Rattle.std.specs.Prelude.{◌≡◌, ℕ, ◌<◌, ◌⊎◌, Bool, true, false, List, length, slice_get, Option, None, Some, is_some}
 use Rattle.std.specs.List.{AllByRecursion, Contains}
-use Rattle.snl_scope.specs.declared.codes.Code.{Code}
-use Rattle.snl_scope.specs.declared.codes.Code.TheVariants.{E03, E04, E05, E06, E07, E08, E09, E11, E12, E13, E14, E15, E16, E22, W05}
+use Rattle.snl_walk.specs.declared.codes.Code.TheVariants.{E05, E06, E07}
+use Rattle.snl_walk.specs.Codes.{is_link_code}
 use Rattle.snl_scope.specs.declared.facts.LinkFault.{LinkFault}
 use Rattle.snl_scope.specs.declared.summaries.summary.Outline.{Outline}
 use Rattle.snl_scope.specs.Names.{has_own_scope}
 use Rattle.snl_scope.specs.Once.{declared_tokens, flag_tokens, variable_tokens}
 use Rattle.snl_scope.specs.Order.{is_program_word, is_ss_word}
 use Rattle.snl_scope.specs.Places.{begins_set}
-
--- The codes of the findings of links.
-abbrev pub is_link_code : Code → Bool
-is_link_code E03 = true
-is_link_code E04 = true
-is_link_code E05 = true
-is_link_code E06 = true
-is_link_code E07 = true
-is_link_code E08 = true
-is_link_code E09 = true
-is_link_code E11 = true
-is_link_code E12 = true
-is_link_code E13 = true
-is_link_code E14 = true
-is_link_code E15 = true
-is_link_code E16 = true
-is_link_code E22 = true
-is_link_code W05 = true
-is_link_code _ = false
 
 -- All that an outline speaks of is at the first so many tokens. An item that begins a state set begins with `ss`.
 pub record SpeaksOfTokens (count : ℕ) (s : Outline) : Type 0 where

@@ -9,11 +9,11 @@ use Rattle.snl_scope.specs.Names.{Entry, entries, number_in}
 
 -- What a declaration says of a name makes it an event flag; what is no declaration declares none.
 abbrev pub declares_flag : Option Variable → Bool
-declares_flag variable = option_map_or (λ v. is_event_flag v.nature) variable false
+declares_flag variable = option_map_or (λ v. is_event_flag v.symbol_kind) variable false
 
 -- The entry is the first of its name in its scope.
 abbrev pub is_first : List Entry → ℕ → Entry → Bool
-is_first es number e = option_map_or (nat_eq number) (number_in es e.space e.name) false
+is_first es number e = option_map_or (nat_eq number) (number_in es e.namespace e.name) false
 
 -- The entry with a number is the first of its name in its scope.
 abbrev pub is_first_at : List Entry → ℕ → Bool

@@ -1,5 +1,4 @@
 pub mod Below
-pub mod Codes
 pub mod LinkedItems
 pub mod Places
 pub mod Order

@@ -11,10 +11,10 @@ use Rattle.snl_scope.specs.declared.facts.Level.TheVariants as level
 use Rattle.snl_scope.specs.declared.facts.LinkFault.{LinkFault}
 use Rattle.snl_scope.specs.declared.facts.Scope.{Scope}
 use Rattle.snl_scope.specs.declared.facts.Scope.TheVariants as scope
-use Rattle.snl_scope.specs.declared.names.spaces.Space.{Space}
-use Rattle.snl_scope.specs.declared.names.spaces.Space.TheVariants as space
-use Rattle.snl_scope.specs.declared.summaries.summary.Nature.{Nature}
-use Rattle.snl_scope.specs.declared.summaries.summary.Nature.TheVariants as nature
+use Rattle.snl_scope.specs.declared.names.namespaces.Namespace.{Namespace}
+use Rattle.snl_scope.specs.declared.names.namespaces.Namespace.TheVariants as namespace
+use Rattle.snl_scope.specs.declared.summaries.summary.SymbolKind.{SymbolKind}
+use Rattle.snl_scope.specs.declared.summaries.summary.SymbolKind.TheVariants as symbol_kind
 use Rattle.snl_scope.specs.declared.summaries.summary.Outline.{Outline}
 use Rattle.snl_scope.specs.declared.summaries.summary.Variable.{Variable}
 use Rattle.snl_scope.specs.Clauses.{assigned_by, clause_faults, clauses_of}
@@ -24,23 +24,23 @@ use Rattle.snl_scope.specs.Order.{order_faults}
 use Rattle.snl_scope.specs.Places.{place}
 
 -- The scope in which a declaration is, as the items see it that can name it.
-abbrev pub level_of : Space → Level
-level_of (space.StateSet k) = level.StateSet
+abbrev pub level_of : Namespace → Level
+level_of (namespace.StateSet k) = level.StateSet
 level_of _ = level.Program
 
-abbrev pub base_of : Nature → Base
-base_of nature.EventFlag = base.EventFlag
-base_of nature.Foreign = base.Foreign
-base_of nature.Function = base.Function
-base_of nature.Assignable = base.Other
-base_of nature.Unassignable = base.Other
+abbrev pub base_of : SymbolKind → Base
+base_of symbol_kind.EventFlag = base.EventFlag
+base_of symbol_kind.Foreign = base.Foreign
+base_of symbol_kind.Function = base.Function
+base_of symbol_kind.Assignable = base.Other
+base_of symbol_kind.Unassignable = base.Other
 
-abbrev pub variable_fact : Assigned → Space → Variable → Fact
-variable_fact a s v = record { level = level_of s; base = base_of v.nature; dims = v.dims; assigned = a }
+abbrev pub variable_fact : Assigned → Namespace → Variable → Fact
+variable_fact a s v = record { level = level_of s; base = base_of v.symbol_kind; dims = v.dims; assigned = a }
 
 -- What is known of an entry, where it is a declaration.
 abbrev pub entry_fact : Assigned → Entry → Option Fact
-entry_fact a e = option_map (variable_fact a e.space) e.variable
+entry_fact a e = option_map (variable_fact a e.namespace) e.variable
 
 -- What is known of the declaration with a number.
 abbrev pub fact_at : List Outline → ℕ → Option Fact
@@ -53,11 +53,11 @@ fact_of ss i name =
     then option_and_then (fact_at ss) (resolve (entries ss) (place ss i) name)
     else None
 
--- The scope that is a space of names; the names of state sets and states are in none.
-abbrev pub scope_in : Space → Option Scope
-scope_in space.Program = Some scope.Program
-scope_in (space.StateSet k) = Some (scope.StateSet k)
-scope_in (space.State i) = Some (scope.State i)
+-- The scope that is a namespace; the names of state sets and states are in none.
+abbrev pub scope_in : Namespace → Option Scope
+scope_in namespace.Program = Some scope.Program
+scope_in (namespace.StateSet k) = Some (scope.StateSet k)
+scope_in (namespace.State i) = Some (scope.State i)
 scope_in _ = None
 
 abbrev pub variable_declaration : ℕ → ℕ → Scope → Variable → Declaration
@@ -65,7 +65,7 @@ variable_declaration i token s v = record { scope = s; item = i; token = token; 
 
 -- What an entry declares. The name of a state set or a state is no declaration.
 abbrev pub entry_declaration : Entry → Option Declaration
-entry_declaration e = option_and_then (λ v. option_map (λ s. variable_declaration e.item e.token s v) (scope_in e.space)) e.variable
+entry_declaration e = option_and_then (λ v. option_map (λ s. variable_declaration e.item e.token s v) (scope_in e.namespace)) e.variable
 
 -- The declaration that is the entry with a number.
 abbrev pub declaration_at : List Outline → ℕ → Option Declaration
@@ -73,7 +73,7 @@ declaration_at ss number = option_and_then entry_declaration (slice_get (entries
 
 -- The first state with a name in the state set that item k begins, by the number of its item.
 abbrev pub state_in : List Outline → ℕ → List ℕ → Option ℕ
-state_in ss k name = option_and_then (λ number. option_map (λ e. e.item) (slice_get (entries ss) number)) (number_in (entries ss) (space.States k) name)
+state_in ss k name = option_and_then (λ number. option_map (λ e. e.item) (slice_get (entries ss) number)) (number_in (entries ss) (namespace.States k) name)
 
 -- The first state with a name in the state set in which an item is.
 abbrev pub state_of : List Outline → ℕ → List ℕ → Option ℕ
@@ -81,7 +81,7 @@ state_of ss i name = option_and_then (λ k. state_in ss k name) (place ss i)
 
 -- The state set in which an item is has a state of the name.
 abbrev pub has_target : List Outline → ℕ → List ℕ → Bool
-has_target ss i name = option_map_or (λ k. is_some (number_in (entries ss) (space.States k) name)) (place ss i) false
+has_target ss i name = option_map_or (λ k. is_some (number_in (entries ss) (namespace.States k) name)) (place ss i) false
 
 -- All findings of links.
 abbrev pub faults_of : LinkedItems → List LinkFault

@@ -16,7 +16,7 @@ use Rattle.snl_scope.specs.declared.summaries.summary.Role.TheVariants as roles
 use Rattle.snl_scope.specs.declared.summaries.summary.Summary.{Summary}
 use Rattle.snl_scope.specs.Summaries.Clauses.{clauses_in}
 use Rattle.snl_scope.specs.Summaries.Declares.{declared_in}
-use Rattle.snl_scope.specs.Summaries.Tokens.{mention_at}
+use Rattle.snl_scope.specs.Summaries.Tokens.{name_ref_at}
 use Rattle.snl_walk.specs.declared.occurrence.Occurrence.{Occurrence}
 use Rattle.snl_walk.specs.Items.{occurrences}
 use Rattle.snl_walk.specs.Once.{once}
@@ -108,5 +108,5 @@ summary_in text tokens tree = record {
   kind = kind_of tree;
   outline = outline_in text tokens tree;
   uses = once (map (bytes_at text tokens) (uses (occurrences_in (bytes_at text tokens) tree)));
-  targets = map (mention_at text tokens) (targets (occurrences_in (bytes_at text tokens) tree));
+  targets = map (name_ref_at text tokens) (targets (occurrences_in (bytes_at text tokens) tree));
 }

@@ -7,17 +7,17 @@ use Rattle.snl_scope.specs.declared.items.heads.Head.{Head}
 use Rattle.snl_scope.specs.declared.items.phases.Before.{Before}
 use Rattle.snl_scope.specs.declared.items.heads.Member.{Member}
 use Rattle.snl_scope.specs.declared.items.heads.Member.TheVariants as member
-use Rattle.snl_scope.specs.declared.names.spaces.Key.{Key}
-use Rattle.snl_scope.specs.declared.names.spaces.Space.{Space}
+use Rattle.snl_scope.specs.declared.names.namespaces.Key.{Key}
+use Rattle.snl_scope.specs.declared.names.namespaces.Namespace.{Namespace}
 use Rattle.snl_scope.specs.declared.summaries.summary.ItemKind.{ItemKind}
 use Rattle.snl_scope.specs.declared.summaries.summary.Opening.{Opening}
 use Rattle.snl_scope.specs.declared.summaries.summary.Outline.{Outline}
 use Rattle.snl_scope.specs.declared.names.tables.Named.{Named}
-use Rattle.snl_scope.specs.declared.names.tables.Standing.{Standing}
+use Rattle.snl_scope.specs.declared.names.tables.Symbol.{Symbol}
 use Rattle.snl_scope.specs.Below.{all_below, any_below}
 use Rattle.snl_scope.specs.Flags.{declares_flag, is_first_at}
 use Rattle.snl_scope.specs.LinkedItems.{LinkedItems}
-use Rattle.snl_scope.specs.Names.{Entry, number_in, repetitions, same_space}
+use Rattle.snl_scope.specs.Names.{Entry, number_in, repetitions, same_namespace}
 use Rattle.snl_scope.specs.Order.{has_begun, is_barred_in_sets, is_main, is_program_item, is_program_word, is_state, is_state_word, phase, phase_of, state_name}
 use Rattle.snl_scope.specs.Places.{ends_set, item_is, place, stands_in}
 
@@ -56,8 +56,8 @@ abbrev pub later_program : Before → Opening → Bool
 later_program b o = is_program_word o && b.has_program
 
 -- An item of a kind is out of place after them, by its place and the word that it begins with.
-abbrev pub misplaced_behind : Before → Option ℕ → ItemKind → Opening → Bool
-misplaced_behind b p k o = (is_below (phase_in b.begun p k) b.greatest || barred_at p k) && not (later_program b o)
+abbrev pub misplaced_after : Before → Option ℕ → ItemKind → Opening → Bool
+misplaced_after b p k o = (is_below (phase_in b.begun p k) b.greatest || barred_at p k) && not (later_program b o)
 
 -- And what they say together with such an item.
 abbrev pub and_item : Before → Option ℕ → ItemKind → Opening → Before
@@ -98,35 +98,35 @@ with_mark marks p = option_map_or (λ k. set marks k true) p marks
 abbrev pub with_name : List (List ℕ) → List ℕ → List (List ℕ)
 with_name names name = if is_some (position (bytes_eq name) names) then names else names ++ name ∷ []
 
--- One name in one space.
+-- One name in one namespace.
 abbrev pub same_key : Key → Key → Bool
-same_key a b = same_space a.space b.space && nat_eq a.name b.name
+same_key a b = same_namespace a.namespace b.namespace && nat_eq a.name b.name
 
--- What the tables have for a name in a space.
-abbrev pub number_by : List (List ℕ) → List (Key × ℕ) → Space → List ℕ → Option ℕ
-number_by names first s name = option_and_then (λ n. lookup (same_key (record { space = s; name = n })) first) (position (bytes_eq name) names)
+-- What the tables have for a name in a namespace.
+abbrev pub number_by : List (List ℕ) → List (Key × ℕ) → Namespace → List ℕ → Option ℕ
+number_by names first s name = option_and_then (λ n. lookup (same_key (record { namespace = s; name = n })) first) (position (bytes_eq name) names)
 
 -- Where an entry is, and what it declares.
-abbrev pub standing_of : Entry → Standing
-standing_of e = record { space = e.space; item = e.item; token = e.token; variable = e.variable }
+abbrev pub symbol_of : Entry → Symbol
+symbol_of e = record { namespace = e.namespace; item = e.item; token = e.token; variable = e.variable }
 
 -- The entry with a number declares an event flag, by what the tables have there.
-abbrev pub flag_stands : List Standing → ℕ → Bool
-flag_stands standings number = option_map_or (λ s. declares_flag s.variable) (slice_get standings number) false
+abbrev pub flag_stands : List Symbol → ℕ → Bool
+flag_stands symbols number = option_map_or (λ s. declares_flag s.variable) (slice_get symbols number) false
 
--- The tables tell of a list of entries the first of each name in a space, and where each is.
-pub record Tabled (names : List (List ℕ)) (first : List (Key × ℕ)) (standings : List Standing) (es : List Entry) : Type 0 where
-  pub found : (s : Space) (name : List ℕ) → number_by names first s name ≡ number_in es s name
-  pub known : standings ≡ map standing_of es
+-- The tables tell of a list of entries the first of each name in a namespace, and where each is.
+pub record Tabled (names : List (List ℕ)) (first : List (Key × ℕ)) (symbols : List Symbol) (es : List Entry) : Type 0 where
+  pub found : (s : Namespace) (name : List ℕ) → number_by names first s name ≡ number_in es s name
+  pub known : symbols ≡ map symbol_of es
 
 -- And more can be added, with findings at the names that came again. The table of the first has them in the order in
 -- which they came.
-pub record Follows (names : List (List ℕ)) (first : List (Key × ℕ)) (standings : List Standing) (faults : List LinkFault) (es : List Entry) : Type 0 where
-  pub tabled : Tabled names first standings es
-  pub fresh : (s : Space) (n : ℕ) → length names ≤ n → lookup (same_key (record { space = s; name = n })) first ≡ None
+pub record Follows (names : List (List ℕ)) (first : List (Key × ℕ)) (symbols : List Symbol) (faults : List LinkFault) (es : List Entry) : Type 0 where
+  pub tabled : Tabled names first symbols es
+  pub fresh : (s : Namespace) (n : ℕ) → length names ≤ n → lookup (same_key (record { namespace = s; name = n })) first ≡ None
   pub again : faults ≡ repetitions [] es
   pub firsts : map (λ p. p.1) first ≡ all_below (is_first_at es) (length es)
 
 -- A name that is handed in, as an entry.
 abbrev pub entry_of : Named → Entry
-entry_of d = record { space = d.space; name = d.name.now; item = d.item; token = d.token; code = d.code; variable = d.variable }
+entry_of d = record { namespace = d.namespace; name = d.name.now; item = d.item; token = d.token; code = d.code; variable = d.variable }

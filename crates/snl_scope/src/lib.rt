@@ -3,7 +3,6 @@
 #![tactic(auto)]
 
 mod clauses;
-mod codes;
 mod facts;
 mod findings;
 mod items;
@@ -14,7 +13,6 @@ mod names;
 mod summaries;
 mod view;
 
-pub use codes::Code;
 pub use facts::{Assigned, Base, ClauseLink, Declaration, Fact, Level, LinkFault, Scope};
 pub use laws::once_laws::{
     each_fault_once, faults_have_places, outlines_speak_of_tokens, tokens_declared_once,
@@ -24,12 +22,12 @@ pub use laws::spelling_laws::same_spelling_same_summary;
 pub use laws::summary_laws::{names_kept_once, plain_state_outline};
 pub use laws::token_laws::{names_are_tokens, targets_rise};
 pub use links::{Links, link};
-pub use snl_walk::Source;
+pub use snl_walk::{Code, Source};
 pub use summaries::alike::same_outline;
 pub use summaries::name::Name;
 pub use summaries::summarize::summary_of;
 pub use summaries::summary::{
-    ClauseKind, Coverage, Declared, Dims, ItemKind, Mention, Nature, Opening, Outline, Role,
-    Summary, Variable, VariableClause,
+    ClauseKind, Coverage, Declared, Dims, ItemKind, NameRef, Opening, Outline, Role, Summary,
+    SymbolKind, Variable, VariableClause,
 };
 pub use view::{same_view, views_told_apart};

@@ -64,7 +64,7 @@ pub(crate) fn linked_names(alloc: Global, outlines: &[&Outline]) -> Result<Linke
     let Tables {
         names,
         first,
-        standings,
+        symbols,
         faults: repeated,
     } = tables;
     let scopes = Scopes {
@@ -72,7 +72,7 @@ pub(crate) fn linked_names(alloc: Global, outlines: &[&Outline]) -> Result<Linke
         heads,
         names,
         first,
-        standings,
+        symbols,
         origin: origin_of(outlines),
     };
     Ok(LinkedNames {

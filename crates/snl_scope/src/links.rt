@@ -11,10 +11,10 @@ use crate::facts::{Assigned, Base, ClauseLink, Declaration, Fact, Level, LinkFau
 use crate::findings::all_faults;
 use crate::items::linked_items::{kinds_of, outlines_of};
 use crate::linking::{LinkedClauses, LinkedNames, linked_clauses, linked_names};
+use crate::names::namespaces::Namespace;
 use crate::names::scopes::Scopes;
-use crate::names::spaces::Space;
-use crate::names::tables::Standing;
-use crate::summaries::summary::{ItemKind, Nature, Summary};
+use crate::names::tables::Symbol;
+use crate::summaries::summary::{ItemKind, Summary, SymbolKind};
 use indexmap::IndexMap;
 use snl_cut::OutOfMemory;
 use std::alloc::Global;
@@ -90,8 +90,8 @@ impl Links {
     fn known_at(&self, number: usize) -> Option<Fact>
         ensures { result ≡ fact_at self.now.outlines number }
     {
-        let standing = self.scopes.standing(number)?;
-        known_of(standing, self.assigned_to(number))
+        let symbol = self.scopes.symbol(number)?;
+        known_of(symbol, self.assigned_to(number))
     }
 
     /// What a name means to an item, by the scopes outside it.
@@ -118,7 +118,7 @@ impl Links {
     pub fn declared(&self, declaration: usize) -> Option<Declaration>
         ensures { result ≡ declaration_at self.now.outlines declaration }
     {
-        declaration_of(self.scopes.standing(declaration)?)
+        declaration_of(self.scopes.symbol(declaration)?)
     }
 
     /// How many numbers of declarations there are, those of the names of state sets and states among them.
@@ -147,7 +147,10 @@ impl Links {
         ensures { result ≡ has_target self.now.outlines item name.now }
     {
         match self.place(item) {
-            Some(set) => self.scopes.number_in(Space::States(set), name).is_some(),
+            Some(set) => self
+                .scopes
+                .number_in(Namespace::States(set), name)
+                .is_some(),
             None => false,
         }
     }
@@ -220,60 +223,60 @@ impl Links {
     }
 }
 
-fn level_of(space: Space) -> Level
-    ensures { result ≡ level_of space }
+fn level_of(namespace: Namespace) -> Level
+    ensures { result ≡ level_of namespace }
 {
-    match space {
-        Space::StateSet(_) => Level::StateSet,
+    match namespace {
+        Namespace::StateSet(_) => Level::StateSet,
         _ => Level::Program,
     }
 }
 
-fn base_of(nature: Nature) -> Base
-    ensures { result ≡ base_of nature }
+fn base_of(symbol_kind: SymbolKind) -> Base
+    ensures { result ≡ base_of symbol_kind }
 {
-    match nature {
-        Nature::EventFlag => Base::EventFlag,
-        Nature::Foreign => Base::Foreign,
-        Nature::Function => Base::Function,
-        Nature::Assignable | Nature::Unassignable => Base::Other,
+    match symbol_kind {
+        SymbolKind::EventFlag => Base::EventFlag,
+        SymbolKind::Foreign => Base::Foreign,
+        SymbolKind::Function => Base::Function,
+        SymbolKind::Assignable | SymbolKind::Unassignable => Base::Other,
     }
 }
 
 // What is known of what is there, if it is a declaration.
-fn known_of(standing: Standing, assigned: Assigned) -> Option<Fact>
-    ensures { result ≡ option_map (variable_fact assigned standing.space) standing.variable }
+fn known_of(symbol: Symbol, assigned: Assigned) -> Option<Fact>
+    ensures { result ≡ option_map (variable_fact assigned symbol.namespace) symbol.variable }
 {
-    let variable = standing.variable?;
+    let variable = symbol.variable?;
     Some(Fact {
         dims: variable.dims,
-        level: level_of(standing.space),
-        base: base_of(variable.nature),
+        level: level_of(symbol.namespace),
+        base: base_of(variable.symbol_kind),
         assigned,
     })
 }
 
-// The scope that is a space of names.
-fn scope_in(space: Space) -> Option<Scope>
-    ensures { result ≡ scope_in space }
+// The scope that is a namespace.
+fn scope_in(namespace: Namespace) -> Option<Scope>
+    ensures { result ≡ scope_in namespace }
 {
-    match space {
-        Space::Program => Some(Scope::Program),
-        Space::StateSet(set) => Some(Scope::StateSet(set)),
-        Space::State(state) => Some(Scope::State(state)),
-        Space::Sets | Space::States(_) => None,
+    match namespace {
+        Namespace::Program => Some(Scope::Program),
+        Namespace::StateSet(set) => Some(Scope::StateSet(set)),
+        Namespace::State(state) => Some(Scope::State(state)),
+        Namespace::Sets | Namespace::States(_) => None,
     }
 }
 
 // The declaration that is there, if it is one.
-fn declaration_of(standing: Standing) -> Option<Declaration>
-    ensures { result ≡ option_and_then (λ v. option_map (λ s. variable_declaration standing.item standing.token s v) (scope_in standing.space)) standing.variable }
+fn declaration_of(symbol: Symbol) -> Option<Declaration>
+    ensures { result ≡ option_and_then (λ v. option_map (λ s. variable_declaration symbol.item symbol.token s v) (scope_in symbol.namespace)) symbol.variable }
 {
     Some(Declaration {
-        variable: standing.variable?,
-        scope: scope_in(standing.space)?,
-        item: standing.item,
-        token: standing.token,
+        variable: symbol.variable?,
+        scope: scope_in(symbol.namespace)?,
+        item: symbol.item,
+        token: symbol.token,
     })
 }
 

@@ -11,7 +11,7 @@ ghost use Rattle.snl_scope.specs.View.{same_assigned, same_base, same_bool, same
 use crate::facts::{Assigned, Base, Fact, Level};
 use crate::links::Links;
 use crate::summaries::name::Name;
-use crate::summaries::summary::{Dims, Mention, Summary};
+use crate::summaries::summary::{Dims, NameRef, Summary};
 
 fn is_same(one: bool, other: bool) -> bool
     ensures { result ≡ same_bool one other }
@@ -95,7 +95,7 @@ fn knows_the_same(old: Place, new: Place, names: &[Name]) -> bool
     })
 }
 
-fn leads_to_the_same(old: Place, new: Place, targets: &[Mention]) -> bool
+fn leads_to_the_same(old: Place, new: Place, targets: &[NameRef]) -> bool
     ensures { result ≡ list_all (λ t. same_bool (has_target old.entry.links.now.outlines old.entry.item t.name) (has_target new.entry.links.now.outlines new.entry.item t.name)) targets.now }
 {
     targets.iter().all(|target| {

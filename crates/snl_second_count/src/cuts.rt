@@ -75,7 +75,7 @@ impl<'a> Recount<'a> {
     }
 
     // Whether a member begins where the lists meet, or after that.
-    fn is_behind(self, number: usize) -> bool {
+    fn is_after(self, number: usize) -> bool {
         let begin = match number.checked_sub(1) {
             Some(last) => self.new_ends.get(last).copied().unwrap_or(usize::MAX),
             None => 0,
@@ -88,7 +88,7 @@ impl<'a> Recount<'a> {
         if self.is_before(number) {
             return Some(number);
         }
-        if self.is_behind(number) {
+        if self.is_after(number) {
             let to_the_end = self.new_ends.len().checked_sub(number)?;
             return self.old_ends.len().checked_sub(to_the_end);
         }
@@ -98,7 +98,7 @@ impl<'a> Recount<'a> {
     /// How many members are fresh.
     pub fn fresh(self) -> usize {
         (0..self.new_ends.len())
-            .filter(|number| !self.is_before(*number) && !self.is_behind(*number))
+            .filter(|number| !self.is_before(*number) && !self.is_after(*number))
             .count()
     }
 }

@@ -40,17 +40,17 @@ unequal a b ne = elim (eqb_tells a b) [ inl t ↦ absurd (ne t.1) | inr f ↦ f.
 
 -- ---- ends of which a part in the middle is fresh
 
-module _ (front made behind : List ℕ) (rise : Rises 0 ((front ++ made) ++ behind)) where
+module _ (front made after : List ℕ) (rise : Rises 0 ((front ++ made) ++ after)) where
   abbrev all : List ℕ
-  all = (front ++ made) ++ behind
+  all = (front ++ made) ++ after
 
   middle : (k : ℕ) → k < length made → get_or all (length front + k) 0 ≡ get_or made k 0
   middle k lt =
-      get_or_append_left (front ++ made) behind 0 (length front + k) (omega (arith, length-append front made))
+      get_or_append_left (front ++ made) after 0 (length front + k) (omega (arith, length-append front made))
       ∙ get_or-append-add front made k 0
 
   inside : (k : ℕ) → k < length made → length front + k < length all
-  inside k lt = omega (arith, length-append front made, length-append (front ++ made) behind)
+  inside k lt = omega (arith, length-append front made, length-append (front ++ made) after)
 
   -- an end outside the part is not fresh
   outside_part : (i : ℕ) → i < length all → ((k : ℕ) → k < length made → i ≢ length front + k) → is_fresh all made i ≡ false

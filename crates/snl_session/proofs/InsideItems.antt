@@ -45,7 +45,7 @@ use Rattle.snl_session.proofs.Rechecks.{Spelled}
 use Rattle.snl_session.proofs.ShiftPlans.{none_marked, shift_is}
 use Rattle.snl_session.proofs.ShiftedFindings.{stays}
 use Rattle.snl_session.proofs.ShiftedItems.{all_items, all_kinds, all_outlines}
-use Rattle.snl_session.proofs.ShiftedLines.{IsBehind, IsInFront, KeepsLine, all_behind, all_in_front, in_front}
+use Rattle.snl_session.proofs.ShiftedLines.{IsAfter, IsInFront, KeepsLine, all_after, all_in_front, in_front}
 use Rattle.snl_session.proofs.ShiftedText.{along}
 use Rattle.snl_session.proofs.InsideChecks.{one_check}
 use Rattle.snl_session.proofs.InsideParts.{IsPastHead, are_parts, back_alike, back_each, before_count, entry_is, entry_was, front_alike, front_each, front_olds_count, fronts_count, head_before, head_shifts, own_now, spelled_parts, stops_after, were_parts}
@@ -216,7 +216,7 @@ module _ (old text : List ℕ) (start old_stop new_stop : ℕ) (c : Changes) (s 
       let lies = All-take (LiesIn old) c.tokens.edit.start (tokens_of old) tokens_lie n d lt in
       omega (arith, around.in_front n d lt, lies.0)
 
-  starts_after : All (IsBehind old text s order line_of) after
+  starts_after : All (IsAfter old text s order line_of) after
   starts_after = λ n d lt.
       let lies = All-drop (LiesIn old) c.tokens.edit.old_stop (tokens_of old) tokens_lie n d lt in
       (around.after n d lt, omega (arith, lies.1))
@@ -254,9 +254,9 @@ module _ (old text : List ℕ) (start old_stop new_stop : ℕ) (c : Changes) (s 
   back_keeps : AllByRecursion (KeepsItem old text s) back
   back_keeps =
       along old (KeepsItem old text s) back_tokens
-      (both (λ m. spelled text (shifted_tokens s m) ≡ spelled old m) (AllByRecursion (IsBehind old text s order line_of)) (λ m. KeepsItem old text s (program_item old m))
-      (λ m same there. keeps_one m same (all_behind old text s order line_of m there)) back_tokens alike_at_back
-      (back_each old text start old_stop new_stop c s past (IsBehind old text s order line_of) starts_after))
+      (both (λ m. spelled text (shifted_tokens s m) ≡ spelled old m) (AllByRecursion (IsAfter old text s order line_of)) (λ m. KeepsItem old text s (program_item old m))
+      (λ m same there. keeps_one m same (all_after old text s order line_of m there)) back_tokens alike_at_back
+      (back_each old text start old_stop new_stop c s past (IsAfter old text s order line_of) starts_after))
 
   -- ---- the tokens before the edit of the one that is replaced
 

@@ -8,7 +8,7 @@ use Rattle.snl_lex.specs.PieceList.{spelled}
 use Rattle.snl_syntax.specs.Outcome.{parsed_by, sound_tree}
 use Rattle.snl_syntax.specs.declared.tree.item.Item.{Item}
 use Rattle.snl_scope.specs.declared.facts.Fact.{Fact}
-use Rattle.snl_scope.specs.declared.summaries.summary.Mention.{Mention}
+use Rattle.snl_scope.specs.declared.summaries.summary.NameRef.{NameRef}
 use Rattle.snl_scope.specs.declared.summaries.summary.Outline.{Outline}
 use Rattle.snl_scope.specs.declared.summaries.summary.Summary.{Summary}
 use Rattle.snl_scope.specs.Linked.{fact_of, has_target}
@@ -55,9 +55,9 @@ module _
     leads_same : Agree (leads_to ss j) (leads_to ts i) (target_names (text_of x) (pieces_from 0 x) tree)
     unfolding leads_to
     leads_same =
-        All-map (λ name. has_target ss j name ≡ has_target ts i name) (λ (t : Mention). t.name) summary.targets
-        (All-from_recursion (λ (t : Mention). has_target ss j t.name ≡ has_target ts i t.name) summary.targets
-        (agreed (λ (t : Mention). has_target ss j t.name) (λ (t : Mention). has_target ts i t.name) summary.targets (ap (λ v. v.leads) same)))
+        All-map (λ name. has_target ss j name ≡ has_target ts i name) (λ (t : NameRef). t.name) summary.targets
+        (All-from_recursion (λ (t : NameRef). has_target ss j t.name ≡ has_target ts i t.name) summary.targets
+        (agreed (λ (t : NameRef). has_target ss j t.name) (λ (t : NameRef). has_target ts i t.name) summary.targets (ap (λ v. v.leads) same)))
 
     faults_same : faults_in (bytes_by x) tree (is_in_set ss j) (known_of ss j) (leads_to ss j) ≡ faults_in (bytes_by x) tree (is_in_set ts i) (known_of ts i) (leads_to ts i)
     faults_same =

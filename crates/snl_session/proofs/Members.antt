@@ -53,9 +53,9 @@ pub entries_made : (old text : List ℕ) (front from : ℕ) (made : List ℕ) (b
 entries_made old text front from made back is =
     let olds : List (List (Class × List ℕ)) = spelled_items old in
     let news : List (List (Class × List ℕ)) = members (spellings text) from made in
-    let behind : ℕ = length (item_ends old) - back in
+    let after : ℕ = length (item_ends old) - back in
     ap (map entry_by) is
-    ∙ map-append entry_by (take front olds) (news ++ drop behind olds)
-    ∙ ap (λ (l : List Entry). map entry_by (take front olds) ++ l) (map-append entry_by news (drop behind olds))
+    ∙ map-append entry_by (take front olds) (news ++ drop after olds)
+    ∙ ap (λ (l : List Entry). map entry_by (take front olds) ++ l) (map-append entry_by news (drop after olds))
     ∙ ap₂ (λ (x y : List Entry). x ++ (map entry_by news ++ y)) (sym (take-map entry_by front olds))
-    (sym (drop-map entry_by behind olds) ∙ ap (λ (n : ℕ). drop (n - back) (entries_of old)) (sym (entries_count old)))
+    (sym (drop-map entry_by after olds) ∙ ap (λ (n : ℕ). drop (n - back) (entries_of old)) (sym (entries_count old)))

@@ -5,7 +5,7 @@ use Rattle.std.proofs.lemmas.List.{length-take}
 use Rattle.std.proofs.lemmas.List.Elements.{recursion_from_All}
 use Rattle.snl_lex.specs.declared.piece.Piece.{Piece}
 use Rattle.snl_lex.specs.Pieces.{LiesIn}
-use Rattle.snl_scope.specs.declared.codes.Code.{Code}
+use Rattle.snl_walk.specs.declared.codes.Code.{Code}
 use Rattle.snl_scope.specs.Summaries.Tokens.{bytes_at, bytes_if}
 use Rattle.snl_check.specs.declared.rules.findings.ItemFault.{ItemFault}
 use Rattle.snl_check.specs.Found.{StandsIn}

@@ -2,11 +2,10 @@
 use Rattle.std.proofs.Common.{◌≡◌, ℕ, true, List, ◌++◌, inl, inr, sym, ap, ◌∙◌}
 use Rattle.std.specs.List.{AllByRecursion as Each}
 use Rattle.std.proofs.lemmas.Bool.{false≢true}
-use Rattle.snl_scope.specs.declared.codes.Code.TheVariants.{E01, E02, W02}
-use Rattle.snl_scope.specs.FaultPlaces.{is_link_code}
+use Rattle.snl_walk.specs.declared.codes.Code.TheVariants.{E01, E02, W02}
 use Rattle.snl_scope.specs.Once.{AreFoundOnce}
 use Rattle.snl_scope.specs.Linked as links
-use Rattle.snl_check.specs.FaultCodes.{is_item_code}
+use Rattle.snl_walk.specs.Codes.{is_item_code, is_link_code}
 use Rattle.snl_session.specs.declared.found.findings.Finding.{Finding}
 use Rattle.snl_session.specs.Checked.{checked_faults}
 use Rattle.snl_session.specs.Faults.{faults_of}

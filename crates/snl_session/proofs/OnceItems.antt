@@ -12,8 +12,8 @@ use Rattle.snl_syntax.specs.declared.tree.item.Item.{Item}
 use Rattle.snl_syntax.specs.Outcome.{parsed_in}
 use Rattle.snl_syntax.specs.Parsing.{kinds_in}
 use Rattle.snl_syntax.specs.Reading.Items.{item_of}
-use Rattle.snl_scope.specs.declared.codes.Code.{Code}
-use Rattle.snl_scope.specs.declared.codes.Code.TheVariants.{E01, E02, E07}
+use Rattle.snl_walk.specs.declared.codes.Code.{Code}
+use Rattle.snl_walk.specs.declared.codes.Code.TheVariants.{E01, E02, E07}
 use Rattle.snl_scope.specs.declared.facts.Fact.{Fact}
 use Rattle.snl_scope.specs.declared.summaries.summary.Outline.{Outline}
 use Rattle.snl_scope.specs.Names.{has_own_scope}
@@ -21,7 +21,8 @@ use Rattle.snl_scope.specs.Once.{declared_tokens}
 use Rattle.snl_scope.specs.Summaries.{outline_in}
 use Rattle.snl_scope.specs.Summaries.Tokens.{bytes_at, bytes_if}
 use Rattle.snl_check.specs.declared.rules.findings.ItemFault.{ItemFault}
-use Rattle.snl_check.specs.FaultCodes.{LeavesToLinks, is_item_code}
+use Rattle.snl_walk.specs.Codes.{is_item_code}
+use Rattle.snl_check.specs.FaultCodes.{LeavesToLinks}
 use Rattle.snl_check.specs.Found.{StandsIn, faults_in}
 use Rattle.snl_check.specs.Items.{outline_of_item}
 use Rattle.snl_check.specs.Outlook.{is_in_set, known_of, leads_to}

@@ -1,6 +1,6 @@
 -- What is found by the links of a text's items: no offset and code occur twice in it, nor in it and in what is found in items.
-use Rattle.std.proofs.Common.{◌≡◌, ◌≢◌, ◌⊎◌, ℕ, zero, suc, ◌<◌, true, All, List, [], ◌∷◌, length, map, slice_get, Option, None, Some, IfSome, option_map, inl, inr, refl, sym, ap, subst, ◌∙◌, arith}
-use Rattle.std.specs.Prelude.{option_and_then}
+use Rattle.std.proofs.Common.{◌≡◌, ◌≢◌, ◌⊎◌, ℕ, zero, suc, ◌<◌, true, All, List, [], ◌∷◌, length, map, slice_get, Option, None, Some, IfSome, option_map, inl, inr, refl, sym, ap, ap₂, subst, ◌∙◌, arith}
+use Rattle.std.specs.Prelude.{◌&&◌, option_and_then}
 use Rattle.std.specs.Option.{option_map_or}
 use Rattle.std.specs.List.{AllByRecursion as Each, Contains}
 use Rattle.std.proofs.lemmas.Bool.{false≢true}
@@ -10,17 +10,17 @@ use Rattle.snl_lex.specs.Pieces.{LiesIn}
 use Rattle.snl_syntax.specs.declared.tree.item.Item.{Item}
 use Rattle.snl_syntax.specs.Parsing.{kinds_in}
 use Rattle.snl_syntax.specs.Reading.Items.{item_of}
-use Rattle.snl_scope.specs.declared.codes.Code.{Code}
-use Rattle.snl_scope.specs.declared.codes.Code.TheVariants.{E01, E02, E03, E04, E05, E06, E07, E08, E09, E10, E11, E12, E13, E14, E15, E16, E17, E18, E19, E20, E21, E22, W01, W02, W03, W04, W05}
+use Rattle.snl_walk.specs.declared.codes.Code.{Code}
+use Rattle.snl_walk.specs.declared.codes.Code.TheVariants.{E05, E06, E07}
 use Rattle.snl_scope.specs.declared.facts.LinkFault.{LinkFault}
 use Rattle.snl_scope.specs.declared.summaries.summary.Outline.{Outline}
-use Rattle.snl_scope.specs.FaultPlaces.{IsAtItem, IsMissing, IsPlaced, IsPlacedBy, SpeaksOfTokens, is_link_code}
+use Rattle.snl_scope.specs.FaultPlaces.{IsAtItem, IsMissing, IsPlaced, IsPlacedBy, SpeaksOfTokens}
 use Rattle.snl_scope.specs.Linked as links
 use Rattle.snl_scope.specs.LinkedItems.{LinkedItems}
 use Rattle.snl_scope.specs.Names.{has_own_scope}
 use Rattle.snl_scope.specs.Once.{AreFoundOnce, declared_tokens}
 use Rattle.snl_scope.specs.Summaries.{outline_in}
-use Rattle.snl_check.specs.FaultCodes.{is_item_code}
+use Rattle.snl_walk.specs.Codes.{is_item_code, is_link_code}
 use Rattle.snl_check.specs.Items.{outline_of_item, tokens_in}
 use Rattle.snl_session.specs.declared.found.findings.Finding.{Finding}
 use Rattle.snl_session.specs.Linked.{finding_at, linked_faults, linked_of, outlines_of, placed, token_of}
@@ -47,35 +47,13 @@ pub record LinkLaws : Type 0 where
   pub faulty : (text : List ℕ) (tokens : List Piece) → 0 < length tokens → SpeaksOfTokens (length tokens) (outline_in text tokens None)
   pub places : (l : LinkedItems) (counts : ℕ → ℕ) → ((i : ℕ) → IfSome (slice_get l.outlines i) (SpeaksOfTokens (counts i))) → All (IsPlaced counts l.outlines) (links.faults_of l)
 
--- the codes that links and items share
+-- the one code that links and items share
+only_shared : (c : Code) → (is_link_code c && is_item_code c) ≡ true → c ≡ E07
+only_shared E07 h = refl
+only_shared _ h = absurd (false≢true h)
+
 pub shared_code : (c : Code) → is_link_code c ≡ true → is_item_code c ≡ true → c ≡ E07
-shared_code E01 h k = absurd (false≢true h)
-shared_code E02 h k = absurd (false≢true h)
-shared_code E03 h k = absurd (false≢true k)
-shared_code E04 h k = absurd (false≢true k)
-shared_code E05 h k = absurd (false≢true k)
-shared_code E06 h k = absurd (false≢true k)
-shared_code E07 h k = refl
-shared_code E08 h k = absurd (false≢true k)
-shared_code E09 h k = absurd (false≢true k)
-shared_code E10 h k = absurd (false≢true h)
-shared_code E11 h k = absurd (false≢true k)
-shared_code E12 h k = absurd (false≢true k)
-shared_code E13 h k = absurd (false≢true k)
-shared_code E14 h k = absurd (false≢true k)
-shared_code E15 h k = absurd (false≢true k)
-shared_code E16 h k = absurd (false≢true k)
-shared_code E17 h k = absurd (false≢true h)
-shared_code E18 h k = absurd (false≢true h)
-shared_code E19 h k = absurd (false≢true h)
-shared_code E20 h k = absurd (false≢true h)
-shared_code E21 h k = absurd (false≢true h)
-shared_code E22 h k = absurd (false≢true k)
-shared_code W01 h k = absurd (false≢true h)
-shared_code W02 h k = absurd (false≢true h)
-shared_code W03 h k = absurd (false≢true h)
-shared_code W04 h k = absurd (false≢true h)
-shared_code W05 h k = absurd (false≢true k)
+shared_code c h k = only_shared c (ap₂ (λ a b. a && b) h k)
 
 module _ (text : List ℕ) (xs : List ProgramItem) (laws : LinkLaws) (apart : AreApart text xs) where
   abbrev ss : List Outline

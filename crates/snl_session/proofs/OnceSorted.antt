@@ -9,7 +9,7 @@ use Rattle.std.specs.declared.cmp.Ordering.{Ordering}
 use Rattle.std.specs.declared.cmp.Ordering.TheVariants.{Less, Equal, Greater}
 use Rattle.std.proofs.lemmas.Bool.{false≢true}
 use Rattle.std.proofs.lemmas.Cmp.{nat_cmp_total, nat_list_cmp_total, on_total, then_total}
-use Rattle.snl_scope.specs.Codes.{is_error, name_of}
+use Rattle.snl_walk.specs.Codes.{is_error, name_of}
 use Rattle.snl_session.specs.declared.found.findings.Finding.{Finding}
 use Rattle.snl_session.specs.Diagnostics.{diagnostic, diagnostics_of, found, shown, stands_before}
 use Rattle.snl_session.specs.OnceFound.{DifferInPlace}

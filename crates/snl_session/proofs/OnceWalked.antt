@@ -5,7 +5,7 @@ use Rattle.std.specs.Option.{option_map_or}
 use Rattle.std.proofs.lemmas.Bool.{eqb-true, false≢true}
 use Rattle.snl_lex.specs.declared.piece.Piece.{Piece}
 use Rattle.snl_lex.specs.Pieces.{LiesIn}
-use Rattle.snl_scope.specs.declared.codes.Code.TheVariants.{W02}
+use Rattle.snl_walk.specs.declared.codes.Code.TheVariants.{W02}
 use Rattle.snl_scope.specs.declared.summaries.summary.Outline.{Outline}
 use Rattle.snl_scope.specs.Below.{all_below}
 use Rattle.snl_scope.specs.Order.{is_named_state, is_state_word, state_name}

@@ -127,25 +127,25 @@ module _ (old text : List ℕ) (s : Shift) (head : ℕ) (front back : List Progr
   abbrev faults_before : List Finding
   faults_before = filter_map (fault_in old) front
 
-  abbrev faults_behind : List Finding
-  faults_behind = filter_map (fault_in old) back
+  abbrev faults_after : List Finding
+  faults_after = filter_map (fault_in old) back
 
   abbrev checks_before : List Finding
   checks_before = flat_map (found_in_item old ss) (enumerate_from 0 front)
 
-  abbrev checks_behind : List Finding
-  checks_behind = flat_map (found_in_item old ss) (enumerate_from (n + 1) back)
+  abbrev checks_after : List Finding
+  checks_after = flat_map (found_in_item old ss) (enumerate_from (n + 1) back)
 
   abbrev others : List Finding
-  others = (faults_before ++ faults_behind) ++ linked_faults old (items_of old) ++ (checks_before ++ checks_behind) ++ walked_faults old (items_of old)
+  others = (faults_before ++ faults_after) ++ linked_faults old (items_of old) ++ (checks_before ++ checks_after) ++ walked_faults old (items_of old)
 
   here : n ≡ 0 + n
   here = omega arith
 
-  faults_were : (f : Finding → ℕ) → total f (faults_of old (items_of old)) ≡ total f faults_before + (total f (cons_option (fault_in old x) []) + total f faults_behind)
+  faults_were : (f : Finding → ℕ) → total f (faults_of old (items_of old)) ≡ total f faults_before + (total f (cons_option (fault_in old x) []) + total f faults_after)
   faults_were f = ap (λ (zs : List ProgramItem). total f (filter_map (fault_in old) zs)) is.items_were ∙ total_filter_map f (fault_in old) front x back
 
-  checks_were : (f : Finding → ℕ) → total f (checked_faults old (items_of old)) ≡ total f checks_before + (total f (found_in_item old ss (n, x)) + total f checks_behind)
+  checks_were : (f : Finding → ℕ) → total f (checked_faults old (items_of old)) ≡ total f checks_before + (total f (found_in_item old ss (n, x)) + total f checks_after)
   checks_were f =
       ap (λ (zs : List ProgramItem). total f (flat_map (found_in_item old ss) (enumerate_from 0 zs))) is.items_were
       ∙ total_flat_map f (found_in_item old ss) 0 front x back n here
@@ -157,7 +157,7 @@ module _ (old text : List ℕ) (s : Shift) (head : ℕ) (front back : List Progr
   unfolding found
   were f =
       let whole = total_four f (faults_of old (items_of old)) (linked_faults old (items_of old)) (checked_faults old (items_of old)) (walked_faults old (items_of old)) in
-      let rest = total_pairs f faults_before faults_behind (linked_faults old (items_of old)) checks_before checks_behind (walked_faults old (items_of old)) in
+      let rest = total_pairs f faults_before faults_after (linked_faults old (items_of old)) checks_before checks_after (walked_faults old (items_of old)) in
       let own = total_option f (fault_in old x) (found_in_item old ss (n, x)) in
       omega (arith, whole, rest, own, faults_were f, checks_were f)
 
@@ -167,23 +167,23 @@ module _ (old text : List ℕ) (s : Shift) (head : ℕ) (front back : List Progr
   shifts : (f : Finding → ℕ) (xs ys : List Finding) → xs ≡ map sh ys → total f xs ≡ total (λ z. f (sh z)) ys
   shifts f xs ys e = ap (total f) e ∙ total_map f sh ys
 
-  faults_are : (f : Finding → ℕ) → total f (faults_of text (items_of text)) ≡ total (λ z. f (sh z)) faults_before + (total f (cons_option (fault_in text y) []) + total (λ z. f (sh z)) faults_behind)
+  faults_are : (f : Finding → ℕ) → total f (faults_of text (items_of text)) ≡ total (λ z. f (sh z)) faults_before + (total f (cons_option (fault_in text y) []) + total (λ z. f (sh z)) faults_after)
   faults_are f =
       let all = ap (λ (zs : List ProgramItem). total f (filter_map (fault_in text) zs)) is.items_are ∙ total_filter_map f (fault_in text) (map si front) y (map si back) in
       let before = shifts f (filter_map (fault_in text) (map si front)) faults_before (faults_shift front is.front_stays) in
-      let behind = shifts f (filter_map (fault_in text) (map si back)) faults_behind (faults_shift back is.back_stays) in
-      omega (arith, all, before, behind)
+      let after = shifts f (filter_map (fault_in text) (map si back)) faults_after (faults_shift back is.back_stays) in
+      omega (arith, all, before, after)
 
   checks_are : (f : Finding → ℕ) → total f (checked_faults text (items_of text))
-      ≡ total (λ z. f (sh z)) checks_before + (total f (found_in_item text (outlines_in text) (n, y)) + total (λ z. f (sh z)) checks_behind)
+      ≡ total (λ z. f (sh z)) checks_before + (total f (found_in_item text (outlines_in text) (n, y)) + total (λ z. f (sh z)) checks_after)
   checks_are f =
       let all =
       ap₂ (λ (ts : List Outline) (zs : List ProgramItem). total f (flat_map (found_in_item text ts) (enumerate_from 0 zs))) outlines_are is.items_are
       ∙ total_flat_map f (found_in_item text ss) 0 (map si front) y (map si back) n (here ∙ ap (λ (k : ℕ). 0 + k) (sym (length-map front si))) in
       let before = shifts f (flat_map (found_in_item text ss) (enumerate_from 0 (map si front))) checks_before (checked_shift s is.shift.some_before old order fits text each_inside ss 0 front (stay front is.front_stays)) in
-      let behind = shifts f (flat_map (found_in_item text ss) (enumerate_from (n + 1) (map si back))) checks_behind (checked_shift s is.shift.some_before old order fits text each_inside ss (n + 1) back (stay back is.back_stays)) in
+      let after = shifts f (flat_map (found_in_item text ss) (enumerate_from (n + 1) (map si back))) checks_after (checked_shift s is.shift.some_before old order fits text each_inside ss (n + 1) back (stay back is.back_stays)) in
       let own = ap (λ (ts : List Outline). total f (found_in_item text ts (n, y))) outlines_are in
-      omega (arith, all, before, behind, own)
+      omega (arith, all, before, after, own)
 
   module _ (spares : SparesInside head n (links.faults_of (links_in old))) (walks : walked_in (tables_in text) ≡ map sh (walked_in (tables_in old))) where
     walks_are : walked_faults text (items_of text) ≡ map sh (walked_faults old (items_of old))
@@ -194,7 +194,7 @@ module _ (old text : List ℕ) (s : Shift) (head : ℕ) (front back : List Progr
     unfolding found
     are f =
         let whole = total_four f (faults_of text (items_of text)) (linked_faults text (items_of text)) (checked_faults text (items_of text)) (walked_faults text (items_of text)) in
-        let rest = total_pairs (λ z. f (sh z)) faults_before faults_behind (linked_faults old (items_of old)) checks_before checks_behind (walked_faults old (items_of old)) in
+        let rest = total_pairs (λ z. f (sh z)) faults_before faults_after (linked_faults old (items_of old)) checks_before checks_after (walked_faults old (items_of old)) in
         let own = total_option f (fault_in text y) (found_in_item text (outlines_in text) (n, y)) in
         let linked = shifts f (linked_faults text (items_of text)) (linked_faults old (items_of old)) (linked_around spares) in
         let walked = shifts f (walked_faults text (items_of text)) (walked_faults old (items_of old)) walks_are in

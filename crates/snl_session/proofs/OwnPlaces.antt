@@ -25,8 +25,8 @@ module _ (x : Finding) where
           → y ∷ ys ≡ (cond b ys (y ∷ taken_out x ys))
       by true none rest = absurd (omega (arith, ltb-false 0 (length (y ∷ ys)) none))
       by false none rest =
-          let behind : length ys ≤ position_or_len (is_same x) ys = omega (arith, ltb-false (1 + position_or_len (is_same x) ys) (length (y ∷ ys)) none) in
-          ap (λ (l : List Finding). y ∷ l) (rest (le-ltb (position_or_len (is_same x) ys) (length ys) behind))
+          let after : length ys ≤ position_or_len (is_same x) ys = omega (arith, ltb-false (1 + position_or_len (is_same x) ys) (length (y ∷ ys)) none) in
+          ap (λ (l : List Finding). y ∷ l) (rest (le-ltb (position_or_len (is_same x) ys) (length ys) after))
 
   pub kept_is : (ys : List Finding) → position (is_same x) ys ≡ None → ys ≡ taken_out x ys
   kept_is ys is = nowhere ys (by (nat_lt (position_or_len (is_same x) ys) (length ys)) is)

@@ -12,10 +12,10 @@ use Rattle.std.specs.declared.cmp.Ordering.TheVariants.{Less, Equal, Greater}
 use Rattle.std.proofs.lemmas.Cmp.{nat_cmp_total, nat_list_cmp_total, on_total, ranked, then_total}
 use Rattle.std.proofs.lemmas.List.Sorted.{ranks_by, sorted_far, sum_by-IsPermutation}
 use Rattle.std.proofs.lemmas.List.{get_or-map, length-map}
-use Rattle.snl_scope.specs.declared.codes.Code.{Code}
-use Rattle.snl_scope.specs.declared.codes.Code.TheVariants.{E01, E02, E03, E04, E05, E06, E07, E08, E09, E10, E11, E12, E13, E14, E15, E16, E17, E18, E19, E20, E21, E22, W01, W02, W03, W04, W05}
+use Rattle.snl_walk.specs.declared.codes.Code.{Code}
+use Rattle.snl_walk.specs.declared.codes.Code.TheVariants.{E01}
 use Rattle.snl_session.specs.declared.found.findings.Finding.{Finding}
-use Rattle.snl_scope.specs.Codes.{name_of}
+use Rattle.snl_walk.specs.Codes.{all_codes, name_of}
 use Rattle.snl_session.specs.Order.{goes_before, in_order, order_of, put_in_order}
 use Rattle.snl_session.proofs.Sorting.{all_put, put, same_put, sorted_is, total, total_all}
 
@@ -45,37 +45,12 @@ both_tie Greater s h = cc
 
 -- the code that has a name
 abbrev code_named : List ℕ → Option Code
-code_named name = find (λ c. bytes_eq (name_of c) name) (E01 ∷ E02 ∷ E03 ∷ E04 ∷ E05 ∷ E06 ∷ E07 ∷ E08 ∷ E09 ∷ E10 ∷ E11 ∷ E12 ∷ E13 ∷ E14 ∷ E15 ∷ E16 ∷ E17 ∷ E18 ∷ E19 ∷ E20 ∷ E21 ∷ E22 ∷ W01 ∷ W02 ∷ W03 ∷ W04 ∷ W05 ∷ [])
+code_named name = find (λ c. bytes_eq (name_of c) name) all_codes
 
 found_by_name : (c : Code) → code_named (name_of c) ≡ Some c
 unfolding name_of
 found_by_name E01 = refl
-found_by_name E02 = refl
-found_by_name E03 = refl
-found_by_name E04 = refl
-found_by_name E05 = refl
-found_by_name E06 = refl
-found_by_name E07 = refl
-found_by_name E08 = refl
-found_by_name E09 = refl
-found_by_name E10 = refl
-found_by_name E11 = refl
-found_by_name E12 = refl
-found_by_name E13 = refl
-found_by_name E14 = refl
-found_by_name E15 = refl
-found_by_name E16 = refl
-found_by_name E17 = refl
-found_by_name E18 = refl
-found_by_name E19 = refl
-found_by_name E20 = refl
-found_by_name E21 = refl
-found_by_name E22 = refl
-found_by_name W01 = refl
-found_by_name W02 = refl
-found_by_name W03 = refl
-found_by_name W04 = refl
-found_by_name W05 = refl
+found_by_name _ = refl
 
 pub one_code : (c d : Code) → name_of c ≡ name_of d → c ≡ d
 one_code c d h =

@@ -13,7 +13,7 @@ use Rattle.snl_lex.specs.Shift.{most, shifted_offset, shifted_piece}
 use Rattle.snl_syntax.specs.declared.outcome.Parsed.{Parsed}
 use Rattle.snl_syntax.specs.declared.outcome.Parsed.TheVariants as parsed
 use Rattle.snl_syntax.specs.declared.tree.item.Item.{Item}
-use Rattle.snl_scope.specs.declared.codes.Code.{Code}
+use Rattle.snl_walk.specs.declared.codes.Code.{Code}
 use Rattle.snl_scope.specs.declared.facts.LinkFault.{LinkFault}
 use Rattle.snl_scope.specs.Summaries.Tokens.{bytes_at, bytes_if}
 use Rattle.snl_scope.specs.declared.summaries.summary.Outline.{Outline}

@@ -35,7 +35,7 @@ each_left s ts us before left =
     All-same P ts (take before ts ++ drop before ts) (sym (take-append-drop before ts))
     (All-append P (take before ts) (drop before ts)
     (All-weaker (λ p. piece_end p ≤ s.start) P (λ p h. inl h) (take before ts) left.in_front)
-    (All-weaker (λ p. s.old_stop ≤ p.start) P (λ p h. inr h) (drop before ts) left.behind))
+    (All-weaker (λ p. s.old_stop ≤ p.start) P (λ p h. inr h) (drop before ts) left.after))
 
 module _ (old text : List ℕ) (s : Shift)
     -- what the laws of the layers below say: an item goes by its spelling alone

@@ -11,7 +11,7 @@ use Rattle.std.proofs.lemmas.List.Elements.{recursion_from_All}
 use Rattle.snl_lex.specs.declared.shift.Shift.{Shift}
 use Rattle.snl_lex.specs.Lines.{line_at}
 use Rattle.snl_lex.specs.Shift.{IsOutside, most, shifted_line, shifted_offset}
-use Rattle.snl_scope.specs.Codes.{name_of}
+use Rattle.snl_walk.specs.Codes.{name_of}
 use Rattle.snl_session.specs.declared.found.findings.Diagnostic.{Diagnostic}
 use Rattle.snl_session.specs.declared.found.findings.Finding.{Finding}
 use Rattle.snl_session.specs.Diagnostics.{diagnostic, on_line}

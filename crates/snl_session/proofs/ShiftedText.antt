@@ -17,7 +17,7 @@ use Rattle.snl_syntax.specs.declared.tree.item.Item.{Item}
 use Rattle.snl_items.specs.declared.shifted.Shifted.{Shifted}
 use Rattle.snl_items.specs.Fresh.{token_edit_between}
 use Rattle.snl_items.specs.Items.{item_ends, spelled_items}
-use Rattle.snl_scope.specs.Codes.{is_error}
+use Rattle.snl_walk.specs.Codes.{is_error}
 use Rattle.snl_scope.specs.Linked as links
 use Rattle.snl_scope.specs.LinkedItems.{LinkedItems}
 use Rattle.snl_scope.specs.SpelledTokens.{summary_by}
@@ -47,7 +47,7 @@ use Rattle.snl_session.specs.Warnings.{last_or, setting_of_item, shows_warnings}
 use Rattle.snl_session.proofs.MemberParts.{got, in_members}
 use Rattle.snl_session.proofs.ShiftedFindings.{IsInside, IsLeft, StaysItem, checked_shift, fault_shifts, placed_shift, settings_stay, walked_shift}
 use Rattle.snl_session.proofs.ShiftedItems.{each_alike, each_left, items_shift, links_stay, outlines_stay, spelled_stay}
-use Rattle.snl_session.proofs.ShiftedLines.{IsBehind, IsInFront, KeepsLine, lines_kept}
+use Rattle.snl_session.proofs.ShiftedLines.{IsAfter, IsInFront, KeepsLine, lines_kept}
 use Rattle.snl_session.proofs.ShiftedOrder.{told_shift}
 use Rattle.snl_session.proofs.TextSpans.{items_are_read}
 
@@ -157,10 +157,10 @@ module _ (old text : List ℕ) (a b c : ℕ) (t : Shifted) (is : ShiftsAll old t
       let lies : LiesIn old (get_or (take t.before (tokens_of old)) k d) = All-take (LiesIn old) t.before (tokens_of old) tokens_lie k d lt in
       omega (arith, is.tokens.left.in_front k d lt, lies.0)
 
-  back_begins : All (IsBehind old text s order line_of) (drop t.before (tokens_of old))
+  back_begins : All (IsAfter old text s order line_of) (drop t.before (tokens_of old))
   back_begins = λ k d lt.
       let lies : LiesIn old (get_or (drop t.before (tokens_of old)) k d) = All-drop (LiesIn old) t.before (tokens_of old) tokens_lie k d lt in
-      (is.tokens.left.behind k d lt, omega (arith, lies.1))
+      (is.tokens.left.after k d lt, omega (arith, lies.1))
 
   lines_stay : AllByRecursion (λ (x : ProgramItem). KeepsLine old text s order line_of x.tokens) xs
   unfolding item_tokens
@@ -168,7 +168,7 @@ module _ (old text : List ℕ) (a b c : ℕ) (t : Shifted) (is : ShiftsAll old t
       along old (λ (x : ProgramItem). KeepsLine old text s order line_of x.tokens) (item_tokens old)
       (lines_kept old text s order line_of t.before (tokens_of old)
       (recursion_from_All (IsInFront old text s order line_of) (take t.before (tokens_of old)) front_begins)
-      (recursion_from_All (IsBehind old text s order line_of) (drop t.before (tokens_of old)) back_begins)
+      (recursion_from_All (IsAfter old text s order line_of) (drop t.before (tokens_of old)) back_begins)
       0 (item_ends old) (omega (arith, is.items.0)) (recursion_from_All (λ e. t.before ≢ e + 1) (item_ends old) is.items.1))
 
   keeps : KeepsItems old text s xs

@@ -14,8 +14,8 @@ total_is : {X : Type 0} (f : X → ℕ) (xs : List X) → total f xs ≡ sum_by 
 total_is f [] = refl
 total_is f (x ∷ xs) = ap (λ n. f x + n) (total_is f xs) ∙ sym (sum_by-cons f x xs)
 
-get_behind : {X : Type 0} (x : X) (xs : List X) (k : ℕ) (d : X) → get_or (x ∷ xs) (k + 1) d ≡ get_or xs k d
-get_behind x xs k d = rw add-one refl
+get_after : {X : Type 0} (x : X) (xs : List X) (k : ℕ) (d : X) → get_or (x ∷ xs) (k + 1) d ≡ get_or xs k d
+get_after x xs k d = rw add-one refl
 
 module _ {X : Type 0} (lt : X → X → Bool) (order : IsStrictWeakOrder lt) (same : (x y : X) → lt x y ≡ false → lt y x ≡ false → x ≡ y) where
   -- x goes to its place
@@ -110,8 +110,8 @@ module _ {X : Type 0} (lt : X → X → Bool) (order : IsStrictWeakOrder lt) (sa
 
   rest_sorted : (x : X) (xs : List X) → IsSortedBy lt (x ∷ xs) → IsSortedBy lt xs
   rest_sorted x xs up = λ k d low h.
-      ap (λ z. lt z (get_or xs k d)) (sym (get_behind x xs (k + 1) d))
-      ∙ ap (λ z. lt (get_or (x ∷ xs) (k + 1 + 1) d) z) (sym (get_behind x xs k d))
+      ap (λ z. lt z (get_or xs k d)) (sym (get_after x xs (k + 1) d))
+      ∙ ap (λ z. lt (get_or (x ∷ xs) (k + 1 + 1) d) z) (sym (get_after x xs k d))
       ∙ up (k + 1) d (omega arith) (omega arith)
 
   ordered_sorted : (xs : List X) → IsSortedBy lt xs → Ordered xs
@@ -129,7 +129,7 @@ module _ {X : Type 0} (lt : X → X → Bool) (order : IsStrictWeakOrder lt) (sa
   sorted_from (x ∷ y ∷ ys) h (suc k) d within =
       let next : suc k + 1 ≡ (k + 1) + 1 = omega arith in
       ap (λ n. lt (get_or (x ∷ y ∷ ys) n d) (get_or (y ∷ ys) k d)) next
-      ∙ ap (λ z. lt z (get_or (y ∷ ys) k d)) (get_behind x (y ∷ ys) (k + 1) d)
+      ∙ ap (λ z. lt z (get_or (y ∷ ys) k d)) (get_after x (y ∷ ys) (k + 1) d)
       ∙ sorted_from (y ∷ ys) h.1 k d (omega arith)
 
   pub all_sorted : (xs : List X) → IsSortedBy lt (all_put xs)

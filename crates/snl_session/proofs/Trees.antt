@@ -1,16 +1,21 @@
 -- The items that ends among the tokens of a text and the trees of its parts give.
-use Rattle.std.proofs.Common.{◌≡◌, ℕ, List, [], ◌∷◌, length, map, refl, ap, sym, ◌∙◌}
-use Rattle.std.specs.List.{zip}
+use Rattle.std.proofs.Common.{◌≡◌, ℕ, List, [], ◌∷◌, length, map, refl, ap, sym, subst, ◌∙◌}
+use Rattle.std.specs.List.{All, zip}
 use Rattle.std.proofs.lemmas.List.{length-map}
+use Rattle.std.proofs.lemmas.List.Elements.{All-filter}
 use Rattle.snl_cut.specs.Cut.{members}
 use Rattle.snl_lex.specs.declared.piece.Piece.{Piece}
-use Rattle.snl_lex.specs.Pieces.{tokens_of}
+use Rattle.snl_lex.specs.Pieces.{LiesIn, is_token, pieces_of, tokens_of}
 use Rattle.snl_items.specs.Items.{item_ends}
 use Rattle.snl_check.specs.Items.{ProgramItem, program_items}
 use Rattle.snl_session.specs.declared.found.program.Part.{Part}
 use Rattle.snl_session.specs.Parts.{part_of, tree_of_part}
 use Rattle.snl_session.specs.Program.{item_tokens, items_of, program_item, tree_in}
 use Rattle.snl_session.proofs.Members.{members_count}
+
+-- the tokens of a text lie in it
+pub tokens_lie : (text : List ℕ) (tokens : List Piece) → tokens ≡ tokens_of text → All (LiesIn text) (pieces_of text) → All (LiesIn text) tokens
+tokens_lie text tokens all inside = subst (All (LiesIn text)) (sym all) (All-filter is_token (LiesIn text) (pieces_of text) inside)
 
 -- each of these lists of tokens beside its tree
 beside : (text : List ℕ) (ms : List (List Piece)) → map (λ p. record { tokens = p.0; tree = p.1 }) (zip ms (map (tree_in text) ms)) ≡ map (program_item text) ms

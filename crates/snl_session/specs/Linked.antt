@@ -1,8 +1,8 @@
 -- What is found by the links of the items of a text, each finding at a token of an item.
 use Rattle.std.specs.Prelude.{ℕ, Bool, true, false, if◌then◌else◌, List, map, slice_get, Option, Some, None, option_and_then}
 use Rattle.snl_lex.specs.declared.piece.Piece.{Piece}
-use Rattle.snl_scope.specs.declared.codes.Code.{Code}
-use Rattle.snl_scope.specs.declared.codes.Code.TheVariants.{E01, E02, E03, E04, E05, E06, E18, W03, W04}
+use Rattle.snl_walk.specs.declared.codes.Code.{Code}
+use Rattle.snl_walk.specs.declared.codes.Code.TheVariants.{E01, E02, E03, E04, E05, E06, E18, W03, W04}
 use Rattle.snl_scope.specs.declared.facts.LinkFault.{LinkFault}
 use Rattle.snl_scope.specs.Linked as links
 use Rattle.snl_session.specs.declared.found.findings.Finding.{Finding}

@@ -1,7 +1,7 @@
 -- The tables of a text, which the text alone defines, and what is found of the states in them.
 use Rattle.std.specs.Prelude.{ℕ, Bool, true, false, if◌then◌else◌, List, [], ◌∷◌}
 use Rattle.std.specs.List.{flat_map}
-use Rattle.snl_scope.specs.declared.codes.Code.TheVariants.{W02}
+use Rattle.snl_walk.specs.declared.codes.Code.TheVariants.{W02}
 use Rattle.snl_tables.specs.declared.rows.SetRow.{SetRow}
 use Rattle.snl_tables.specs.declared.rows.StateMark.{StateMark}
 use Rattle.snl_tables.specs.declared.rows.StateMark.TheVariants as mark

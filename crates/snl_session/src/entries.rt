@@ -57,7 +57,7 @@ pub fn entries_along(
     ensures entries { IfOk result (λ es. es.items ≡ map entry_by (members (spelled text.now tokens.now) from ends.now)) }
     ensures ticks { IfOk result (λ es. work.new ≡ after_ticks work.old (length ends.now)) }
 {
-    let mut entries = Vec::new(alloc);
+    let mut entries = Vec::with_capacity(alloc, ends.len())?;
     let mut start = from;
     for end in ends {
         let stop = *end as usize;

@@ -8,7 +8,7 @@ use Rattle.snl_syntax.specs.Tokens.{Seat}
 use Rattle.snl_syntax.specs.Steps.{Reader, until}
 use Rattle.snl_syntax.specs.Grammar.Base.{Each, First}
 use Rattle.snl_syntax.specs.Grammar.Types.{Written}
-use Rattle.snl_syntax.specs.Grammar.Expressions.{IsBehindComma}
+use Rattle.snl_syntax.specs.Grammar.Expressions.{IsAfterComma}
 use Rattle.snl_syntax.proofs.Local.{EatsMore}
 use Rattle.snl_syntax.proofs.Again.{Comes, comes_as, until_more_comes, until_last_comes, first_heads, Heads}
 
@@ -19,16 +19,16 @@ goes_on kind.CloseBrace = true
 goes_on _ = false
 
 module _ (free : ℕ) {A : Type 0} (R : A → List Seat → List Seat → Type 0) (step : Reader (Step A Bool)) (eats : EatsMore step)
-    (more : (x : A) (k m : List Seat) → IsBehindComma R x k m → Heads goes_on m → Comes free (step k) (steps.More x) m)
+    (more : (x : A) (k m : List Seat) → IsAfterComma R x k m → Heads goes_on m → Comes free (step k) (steps.More x) m)
     (trailing : (k m rest : List Seat) → First kind.Comma k m → First kind.CloseBrace m rest → Comes free (step k) (steps.Last None true) m)
     (ends : (k rest : List Seat) → First kind.CloseBrace k rest → Comes free (step k) (steps.Last None false) k) where
   -- what comes after an element
-  pub behind_value : (xs : List A) (b : Bool) (k mid m2 rest : List Seat) → Each (IsBehindComma R) xs k mid → Written kind.Comma b mid m2 → First kind.CloseBrace m2 rest → Heads goes_on k
-  behind_value (x ∷ xs) b k mid m2 rest each w c = first_heads kind.Comma goes_on k each.1.mid refl each.1.comma
-  behind_value [] true k mid m2 rest each w c = first_heads kind.Comma goes_on k m2 refl (subst (λ l. First kind.Comma l m2) (sym each) w)
-  behind_value [] false k mid m2 rest each w c = first_heads kind.CloseBrace goes_on k rest refl (subst (λ l. First kind.CloseBrace l rest) (sym (each ∙ w)) c)
+  pub after_value : (xs : List A) (b : Bool) (k mid m2 rest : List Seat) → Each (IsAfterComma R) xs k mid → Written kind.Comma b mid m2 → First kind.CloseBrace m2 rest → Heads goes_on k
+  after_value (x ∷ xs) b k mid m2 rest each w c = first_heads kind.Comma goes_on k each.1.mid refl each.1.comma
+  after_value [] true k mid m2 rest each w c = first_heads kind.Comma goes_on k m2 refl (subst (λ l. First kind.Comma l m2) (sym each) w)
+  after_value [] false k mid m2 rest each w c = first_heads kind.CloseBrace goes_on k rest refl (subst (λ l. First kind.CloseBrace l rest) (sym (each ∙ w)) c)
 
-  pub values_comes : (found xs : List A) (b : Bool) (k mid m2 rest : List Seat) → Each (IsBehindComma R) xs k mid → Written kind.Comma b mid m2 → First kind.CloseBrace m2 rest → Comes free (until step found k) (found ++ xs, b) m2
+  pub values_comes : (found xs : List A) (b : Bool) (k mid m2 rest : List Seat) → Each (IsAfterComma R) xs k mid → Written kind.Comma b mid m2 → First kind.CloseBrace m2 rest → Comes free (until step found k) (found ++ xs, b) m2
   values_comes found [] false k mid m2 rest each w c =
       let here : First kind.CloseBrace k rest = subst (λ l. First kind.CloseBrace l rest) (sym (each ∙ w)) c in
       subst (λ l. Comes free (until step found k) (found ++ [], false) l) (each ∙ w) (until_last_comes free step eats found k None false k (ends k rest here))
@@ -36,5 +36,5 @@ module _ (free : ℕ) {A : Type 0} (R : A → List Seat → List Seat → Type 0
       until_last_comes free step eats found k None true m2 (trailing k m2 rest (subst (λ l. First kind.Comma l m2) (sym each) w) c)
   values_comes found (x ∷ xs) b k mid m2 rest each w c =
       let h = values_comes (found ++ x ∷ []) xs b each.0 mid m2 rest each.2 w c in
-      until_more_comes free step eats found k x each.0 (found ++ x ∷ xs, b) m2 (more x k each.0 each.1 (behind_value xs b each.0 mid m2 rest each.2 w c))
+      until_more_comes free step eats found k x each.0 (found ++ x ∷ xs, b) m2 (more x k each.0 each.1 (after_value xs b each.0 mid m2 rest each.2 w c))
       (comes_as free (until step (found ++ x ∷ []) each.0) ((found ++ x ∷ []) ++ xs, b) (found ++ x ∷ xs, b) m2 (ap (λ (l : List A). (l, b)) (append_assoc found (x ∷ []) xs)) h)

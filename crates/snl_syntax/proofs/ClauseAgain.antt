@@ -16,7 +16,7 @@ use Rattle.snl_syntax.specs.Tokens.{Seat, same}
 use Rattle.snl_syntax.specs.Steps.{kind_at, expect, accept, until}
 use Rattle.snl_syntax.specs.Grammar.Base.{First, Leaf, Perhaps}
 use Rattle.snl_syntax.specs.Grammar.Types.{Written}
-use Rattle.snl_syntax.specs.Grammar.Expressions.{IsBehindComma, AreCommas, AreTexts}
+use Rattle.snl_syntax.specs.Grammar.Expressions.{IsAfterComma, AreCommas, AreTexts}
 use Rattle.snl_syntax.specs.Grammar.Declarations.{AreBraced}
 use Rattle.snl_syntax.specs.Grammar.Clauses.{AreForeign, option_mark, IsOptionLine, IsSubscript, IsFlag, IsChannel, anonymous, whole as is_whole, element as is_element, elements as are_elements, IsAssign, IsMonitor, IsSync, IsSyncq, IsClause, assign as is_assign, monitor as is_monitor, sync as is_sync, syncq as is_syncq}
 use Rattle.snl_syntax.specs.Reading.Expressions.{next_comma, commas, texts}
@@ -27,7 +27,7 @@ use Rattle.snl_syntax.proofs.TypeLaws.{word_comes}
 use Rattle.snl_syntax.proofs.ExpressionLocal.{comma_eats}
 use Rattle.snl_syntax.proofs.ExpressionAgain.{no_comma, comma_comes, texts_comes}
 use Rattle.snl_syntax.proofs.ClauseLocal.{text_step_eats}
-use Rattle.snl_syntax.proofs.BracedAgain.{goes_on, behind_value, values_comes}
+use Rattle.snl_syntax.proofs.BracedAgain.{goes_on, after_value, values_comes}
 
 -- which parts may be missing
 no_subscript_by : (d : Kind) (k : List Seat) → same d kind.OpenBracket ≡ false → subscript_by (Some d) k ≡ Ok (None, k)
@@ -70,7 +70,7 @@ module _ (free : ℕ) where
   names_comes [] k rest is h = absurd is
   names_comes (n ∷ ns) k rest is h =
       bind_comes free (expect kind.Name k) _ n is.0 (n ∷ ns) rest (expect_comes free kind.Name n k is.0 is.1)
-      (many_comes free (next_comma (expect kind.Name)) (comma_eats (expect kind.Name) (expect_local kind.Name)) (IsBehindComma (Leaf kind.Name)) (λ _. Unit {0}) (λ _ _ _ _. tt) (λ x k m is u. comma_comes free (Leaf kind.Name) (expect kind.Name) x k m is (expect_comes free kind.Name x is.mid m is.element)) (n ∷ []) ns is.0 rest is.2 tt (no_comma free (expect kind.Name) rest h))
+      (many_comes free (next_comma (expect kind.Name)) (comma_eats (expect kind.Name) (expect_local kind.Name)) (IsAfterComma (Leaf kind.Name)) (λ _. Unit {0}) (λ _ _ _ _. tt) (λ x k m is u. comma_comes free (Leaf kind.Name) (expect kind.Name) x k m is (expect_comes free kind.Name x is.mid m is.element)) (n ∷ []) ns is.0 rest is.2 tt (no_comma free (expect kind.Name) rest h))
 
   pub foreign_comes : (ns : List ℕ) (k rest : List Seat) → AreForeign ns k rest → Comes free (foreign k) ns rest
   unfolding foreign
@@ -135,7 +135,7 @@ module _ (free : ℕ) where
   texts_first [] k rest is = absurd is
   texts_first (n ∷ ns) k rest is = (is.0, (n, is.1))
 
-  text_more : (x : List ℕ) (k m : List Seat) → IsBehindComma AreTexts x k m → Heads goes_on m → Comes free (text_step k) (steps.More x) m
+  text_more : (x : List ℕ) (k m : List Seat) → IsAfterComma AreTexts x k m → Heads goes_on m → Comes free (text_step k) (steps.More x) m
   unfolding after_comma
   text_more x k m is h =
       let f = texts_first x is.mid m is.element in
@@ -161,7 +161,7 @@ module _ (free : ℕ) where
   in_braces_comes b (x ∷ xs) trailing k rest is =
       let e = is.elements in
       let f = texts_first x k e.0 e.1 in
-      let h = behind_value free AreTexts text_step text_step_eats text_more text_trailing text_ends xs trailing e.0 is.m1 is.m2 rest e.2 is.comma is.closing in
+      let h = after_value free AreTexts text_step text_step_eats text_more text_trailing text_ends xs trailing e.0 is.m1 is.m2 rest e.2 is.comma is.closing in
       comes_at free (elements_by b (kind_at k) k) (some_elements b k) (channels.Elements b (x ∷ xs) trailing) rest (ap (λ o. elements_by b o k) (kind_first kind.Text k f.0 f.1))
       (bind_comes free (texts k) _ (x) e.0 (channels.Elements b (x ∷ xs) trailing) rest (texts_comes free x k e.0 e.1 (heads_lack kind.Text goes_on e.0 refl h)) (bind_comes free (until text_step (x ∷ []) e.0) _ ((x ∷ xs, trailing)) is.m2 (channels.Elements b (x ∷ xs) trailing) rest (values_comes free AreTexts text_step text_step_eats text_more text_trailing text_ends (x ∷ []) xs trailing e.0 is.m1 is.m2 rest e.2 is.comma is.closing) (bind_comes free (expect kind.CloseBrace is.m2) _ (is.closing.0) rest (channels.Elements b (x ∷ xs) trailing) rest (first_comes free kind.CloseBrace is.m2 rest is.closing) (pure_comes free (channels.Elements b (x ∷ xs) trailing) rest))))
 

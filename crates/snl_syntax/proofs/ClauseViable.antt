@@ -14,7 +14,7 @@ use Rattle.snl_syntax.specs.Tokens.{Seat}
 use Rattle.snl_syntax.specs.Steps.{pure, kind_at, expect, accept, until}
 use Rattle.snl_syntax.specs.Grammar.Base.{First, Leaf, Perhaps}
 use Rattle.snl_syntax.specs.Grammar.Types.{Written}
-use Rattle.snl_syntax.specs.Grammar.Expressions.{IsBehindComma, AreCommas, AreTexts}
+use Rattle.snl_syntax.specs.Grammar.Expressions.{IsAfterComma, AreCommas, AreTexts}
 use Rattle.snl_syntax.specs.Grammar.Declarations.{AreBraced}
 use Rattle.snl_syntax.specs.Grammar.Clauses.{AreForeign, option_mark, IsOptionLine, IsSubscript, IsFlag, IsChannel, anonymous, whole as is_whole, element as is_element, elements as are_elements, syncq_word, IsClause, assign as is_assign, monitor as is_monitor, sync as is_sync, syncq as is_syncq}
 use Rattle.snl_syntax.specs.Reading.Expressions.{commas, texts}
@@ -22,7 +22,7 @@ use Rattle.snl_syntax.specs.Reading.Clauses.{foreign, sign_by, sign, option_line
 use Rattle.snl_syntax.proofs.Viable.{Makes, Viable, Full, Exists, Both, both, IsNothing, Ends, bind_full, into_full, choice_viable, refuse_viable, expect_full, accept_full, pure_full}
 use Rattle.snl_syntax.proofs.TypeLaws.{word_full, first_then}
 use Rattle.snl_syntax.proofs.ExpressionViable.{commas_full, texts_full}
-use Rattle.snl_syntax.proofs.Braced.{none_perhaps, some_perhaps, perhaps_full, IsLast, IsValueStep, AllValues, Behind, BehindAim, close_viable, more_viable, comma_step, last_step, values_full, braced_values}
+use Rattle.snl_syntax.proofs.Braced.{none_perhaps, some_perhaps, perhaps_full, IsLast, IsValueStep, AllValues, After, AfterAim, close_viable, more_viable, comma_step, last_step, values_full, braced_values}
 
 abbrev make_option : OptionSign → ℕ → OptionLine
 make_option s n = record { sign = s; letters = n }
@@ -110,7 +110,7 @@ module _ (free extra : ℕ) where
 
   -- ---- channels
 
-  after_comma_by_viable : (o : Option Kind) → Viable free extra (after_comma_by o) (Behind free extra AreTexts texts (kind.Text ∷ []) (texts_full free extra)) (BehindAim free extra AreTexts texts (kind.Text ∷ []) (texts_full free extra))
+  after_comma_by_viable : (o : Option Kind) → Viable free extra (after_comma_by o) (After free extra AreTexts texts (kind.Text ∷ []) (texts_full free extra)) (AfterAim free extra AreTexts texts (kind.Text ∷ []) (texts_full free extra))
   after_comma_by_viable (Some kind.CloseBrace) = close_viable free extra AreTexts texts (kind.Text ∷ []) (texts_full free extra)
   after_comma_by_viable _ = more_viable free extra AreTexts texts (kind.Text ∷ []) (texts_full free extra)
 
@@ -130,12 +130,12 @@ module _ (free extra : ℕ) where
   abbrev InBraces : Bool → Channel → List Seat → List Seat → Type 0
   InBraces b t k rest = (xs : List (List ℕ)) × (trailing : Bool) × (t ≡ channels.Elements b xs trailing) × AreBraced AreTexts xs trailing k rest
 
-  into_some_elements : (b : Bool) → (y : Channel) (k rest : List Seat) → Both (AreTexts) (λ first. Both (Ends (IsBehindComma AreTexts) (IsLast free extra AreTexts texts (kind.Text ∷ []) (texts_full free extra)) (first ∷ [])) (λ r. Both (Leaf kind.CloseBrace) (λ _. IsNothing (channels.Elements b r.0 r.1)))) y k rest → (InBraces b) y k rest
+  into_some_elements : (b : Bool) → (y : Channel) (k rest : List Seat) → Both (AreTexts) (λ first. Both (Ends (IsAfterComma AreTexts) (IsLast free extra AreTexts texts (kind.Text ∷ []) (texts_full free extra)) (first ∷ [])) (λ r. Both (Leaf kind.CloseBrace) (λ _. IsNothing (channels.Elements b r.0 r.1)))) y k rest → (InBraces b) y k rest
   into_some_elements b y k rest (both v0 m1 w0 (both v1 m2 w1 (both v2 m3 w2 h))) = subst (λ z. (InBraces b) z k rest) h.0 ((v1.0, v1.1, refl, braced_values free extra AreTexts texts (kind.Text ∷ []) (texts_full free extra) v0 v1 k m1 m2 rest w0 w1 (first_then kind.CloseBrace v2 m2 m3 rest w2 h.1)))
 
   some_elements_full : (b : Bool) → Full free extra (some_elements b) (InBraces b) (kind.Text ∷ kind.CloseBrace ∷ [])
   unfolding some_elements
-  some_elements_full b = into_full free extra (some_elements b) _ (InBraces b) (kind.Text ∷ kind.CloseBrace ∷ []) (into_some_elements b) (bind_full free extra (texts) _ (AreTexts) (λ first. Both (Ends (IsBehindComma AreTexts) (IsLast free extra AreTexts texts (kind.Text ∷ []) (texts_full free extra)) (first ∷ [])) (λ r. Both (Leaf kind.CloseBrace) (λ _. IsNothing (channels.Elements b r.0 r.1)))) (kind.Text ∷ []) (kind.CloseBrace ∷ []) (texts_full free extra) (λ first. bind_full free extra (until text_step (first ∷ [])) _ (Ends (IsBehindComma AreTexts) (IsLast free extra AreTexts texts (kind.Text ∷ []) (texts_full free extra)) (first ∷ [])) (λ r. Both (Leaf kind.CloseBrace) (λ _. IsNothing (channels.Elements b r.0 r.1))) [] (kind.CloseBrace ∷ []) (values_full free extra AreTexts texts (kind.Text ∷ []) (texts_full free extra) text_step text_step_viable (first ∷ [])) (λ r. bind_full free extra (expect kind.CloseBrace) _ (Leaf kind.CloseBrace) (λ _. IsNothing (channels.Elements b r.0 r.1)) (kind.CloseBrace ∷ []) [] (expect_full free extra kind.CloseBrace) (λ _. pure_full free extra (channels.Elements b r.0 r.1)))))
+  some_elements_full b = into_full free extra (some_elements b) _ (InBraces b) (kind.Text ∷ kind.CloseBrace ∷ []) (into_some_elements b) (bind_full free extra (texts) _ (AreTexts) (λ first. Both (Ends (IsAfterComma AreTexts) (IsLast free extra AreTexts texts (kind.Text ∷ []) (texts_full free extra)) (first ∷ [])) (λ r. Both (Leaf kind.CloseBrace) (λ _. IsNothing (channels.Elements b r.0 r.1)))) (kind.Text ∷ []) (kind.CloseBrace ∷ []) (texts_full free extra) (λ first. bind_full free extra (until text_step (first ∷ [])) _ (Ends (IsAfterComma AreTexts) (IsLast free extra AreTexts texts (kind.Text ∷ []) (texts_full free extra)) (first ∷ [])) (λ r. Both (Leaf kind.CloseBrace) (λ _. IsNothing (channels.Elements b r.0 r.1))) [] (kind.CloseBrace ∷ []) (values_full free extra AreTexts texts (kind.Text ∷ []) (texts_full free extra) text_step text_step_viable (first ∷ [])) (λ r. bind_full free extra (expect kind.CloseBrace) _ (Leaf kind.CloseBrace) (λ _. IsNothing (channels.Elements b r.0 r.1)) (kind.CloseBrace ∷ []) [] (expect_full free extra kind.CloseBrace) (λ _. pure_full free extra (channels.Elements b r.0 r.1)))))
 
   elements_by_viable : (b : Bool) (o : Option Kind) → Viable free extra (elements_by b o) (InBraces b) (Exists (InBraces b))
   elements_by_viable b (Some kind.CloseBrace) = (word_full free extra kind.CloseBrace (channels.Elements b [] false) (InBraces b) (λ k rest f. ([], false, refl, (refl, f)))).viable

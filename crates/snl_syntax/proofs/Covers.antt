@@ -5,8 +5,8 @@ use Rattle.snl_lex.specs.declared.kind.Kind.{Kind}
 use Rattle.snl_syntax.specs.Tokens.{Seat}
 use Rattle.snl_syntax.specs.Grammar.Base.{Each, First, Leaf, Perhaps, Within}
 use Rattle.snl_syntax.specs.Grammar.Types.{Written}
-use Rattle.snl_syntax.specs.Grammar.Expressions.{IsBehindComma, AreCommas}
-use Rattle.snl_syntax.specs.Spelling.Base.{Spelled, word, leaf, written, perhaps, joined, behind, commas, Matches}
+use Rattle.snl_syntax.specs.Grammar.Expressions.{IsAfterComma, AreCommas}
+use Rattle.snl_syntax.specs.Spelling.Base.{Spelled, word, leaf, written, perhaps, joined, after, commas, Matches}
 use Rattle.snl_lex.specs.declared.kind.Kind.TheVariants as kind
 
 pub record Covers (spelled : List Spelled) (k rest : List Seat) : Type 0 where
@@ -73,13 +73,13 @@ pub parts_spell : {A B : Type 0} (R : A → List Seat → List Seat → Type 0) 
 parts_spell R part spell spells [] k rest e = nothing_covers e
 parts_spell R part spell spells (x ∷ xs) k rest e = spells x k e.0 e.1 and parts_spell R part spell spells xs e.0 rest e.2
 
-behind_spells : {A : Type 0} (R : A → List Seat → List Seat → Type 0) (spell : A → List Spelled) → Spells R spell → Spells (Each (IsBehindComma R)) (λ xs. behind kind.Comma (map spell xs))
-behind_spells R spell spells [] k rest e = nothing_covers e
-behind_spells R spell spells (x ∷ xs) k rest e = word_covers e.1.comma and spells x e.1.mid e.0 e.1.element and behind_spells R spell spells xs e.0 rest e.2
+after_spells : {A : Type 0} (R : A → List Seat → List Seat → Type 0) (spell : A → List Spelled) → Spells R spell → Spells (Each (IsAfterComma R)) (λ xs. after kind.Comma (map spell xs))
+after_spells R spell spells [] k rest e = nothing_covers e
+after_spells R spell spells (x ∷ xs) k rest e = word_covers e.1.comma and spells x e.1.mid e.0 e.1.element and after_spells R spell spells xs e.0 rest e.2
 
 -- one element, and those after commas
-pub commas_cover : {A : Type 0} (R : A → List Seat → List Seat → Type 0) (spell : A → List Spelled) → Spells R spell → (x : A) (xs : List A) (k m rest : List Seat) → R x k m → Each (IsBehindComma R) xs m rest → Covers (commas (map spell (x ∷ xs))) k rest
-commas_cover R spell spells x xs k m rest r e = spells x k m r and behind_spells R spell spells xs m rest e
+pub commas_cover : {A : Type 0} (R : A → List Seat → List Seat → Type 0) (spell : A → List Spelled) → Spells R spell → (x : A) (xs : List A) (k m rest : List Seat) → R x k m → Each (IsAfterComma R) xs m rest → Covers (commas (map spell (x ∷ xs))) k rest
+commas_cover R spell spells x xs k m rest r e = spells x k m r and after_spells R spell spells xs m rest e
 
 pub commas_spell : {A : Type 0} (R : A → List Seat → List Seat → Type 0) (spell : A → List Spelled) → Spells R spell → Spells (AreCommas R) (λ xs. commas (map spell xs))
 commas_spell R spell spells [] k rest e = absurd e

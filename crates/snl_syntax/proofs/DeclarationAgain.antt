@@ -16,8 +16,8 @@ use Rattle.snl_syntax.specs.Tokens.{Seat, same}
 use Rattle.snl_syntax.specs.Steps.{Reader, and_then, pure, kind_at, expect, many, until}
 use Rattle.snl_syntax.specs.Grammar.Base.{Each, First, Perhaps}
 use Rattle.snl_syntax.specs.Grammar.Types.{IsPointer}
-use Rattle.snl_syntax.specs.Grammar.Expressions.{IsBehindComma, AreCommas, IsSequence, one, several, IsAssignx}
-use Rattle.snl_syntax.specs.Grammar.Declarations.{IsLength, AreBraced, IsInitOf, value as is_value, list as is_list, IsInit, IsBehindEqual, IsDeclarator, IsDeclarationOf, IsDeclaration}
+use Rattle.snl_syntax.specs.Grammar.Expressions.{IsAfterComma, AreCommas, IsSequence, one, several, IsAssignx}
+use Rattle.snl_syntax.specs.Grammar.Declarations.{IsLength, AreBraced, IsInitOf, value as is_value, list as is_list, IsInit, IsAfterEqual, IsDeclarator, IsDeclarationOf, IsDeclaration}
 use Rattle.snl_syntax.specs.Reading.Types.{type_of, type_name, stars, begins_type}
 use Rattle.snl_syntax.specs.Reading.Expressions.{assignx, sequence, next_comma}
 use Rattle.snl_syntax.specs.Reading.Declarations.{some_length, length_by, bracketed_length, next_length_by, next_length, lengths, after_comma_by, after_comma, value_step_by, value_step, some_values, values_by, values, plain_value, init_by, init_of, init, some_init, init_part_by, init_part, declarator_from, declarator, more_declarators, declaration_from, declaration_of, declaration_in, declaration}
@@ -29,7 +29,7 @@ use Rattle.snl_syntax.proofs.ExpressionLocal.{comma_eats, assignx_local}
 use Rattle.snl_syntax.proofs.ExpressionAgain.{begins_expr, no_comma, comma_comes, sequence_again}
 use Rattle.snl_syntax.proofs.SingleAgain.{assignx_begins, assignx_again}
 use Rattle.snl_syntax.proofs.DeclarationLocal.{next_length_eats, value_step_eats, init_local, declarator_local}
-use Rattle.snl_syntax.proofs.BracedAgain.{goes_on, behind_value, values_comes}
+use Rattle.snl_syntax.proofs.BracedAgain.{goes_on, after_value, values_comes}
 
 pub heads_lack : (x : Kind) (p : Kind → Bool) (k : List Seat) → p x ≡ false → Heads p k → Lacks x k
 heads_lack x p [] f h = absurd h
@@ -109,7 +109,7 @@ module _ (free : ℕ) (Inner : Init → List Seat → List Seat → Type 0) (inn
   more_at [] h = absurd h
   more_at (s ∷ k) h = more_by s.0 (s ∷ k) h
 
-  value_more : (x : Init) (k m : List Seat) → IsBehindComma Inner x k m → Heads goes_on m → Comes free (value_step inner k) (steps.More x) m
+  value_more : (x : Init) (k m : List Seat) → IsAfterComma Inner x k m → Heads goes_on m → Comes free (value_step inner k) (steps.More x) m
   unfolding after_comma
   value_more x k m is h =
       by_step kind.Comma (steps.More x) k is.mid m is.comma
@@ -142,7 +142,7 @@ module _ (free : ℕ) (Inner : Init → List Seat → List Seat → Type 0) (inn
       (comes_at free (values_by inner (kind_at k) k) (values_by inner (Some kind.CloseBrace) k) (inits.List [] false) rest (ap (λ o. values_by inner o k) (kind_first kind.CloseBrace k rest is.1)) (word_comes free kind.CloseBrace (inits.List [] false) k rest is.1))
   in_braces_comes (x ∷ xs) trailing k rest is =
       let e = is.elements in
-      let h = behind_value free Inner (value_step inner) (value_step_eats inner local) value_more value_trailing value_ends xs trailing e.0 is.m1 is.m2 rest e.2 is.comma is.closing in
+      let h = after_value free Inner (value_step inner) (value_step_eats inner local) value_more value_trailing value_ends xs trailing e.0 is.m1 is.m2 rest e.2 is.comma is.closing in
       comes_at free (values_by inner (kind_at k) k) (some_values inner k) (inits.List (x ∷ xs) trailing) rest (some_value_at k (begins x k e.0 e.1))
       (bind_comes free (inner k) _ (x) e.0 (inits.List (x ∷ xs) trailing) rest (again x k e.0 e.1 (value_stops e.0 h)) (bind_comes free (until (value_step inner) (x ∷ []) e.0) _ ((x ∷ xs, trailing)) is.m2 (inits.List (x ∷ xs) trailing) rest (values_comes free Inner (value_step inner) (value_step_eats inner local) value_more value_trailing value_ends (x ∷ []) xs trailing e.0 is.m1 is.m2 rest e.2 is.comma is.closing) (bind_comes free (expect kind.CloseBrace is.m2) _ (is.closing.0) rest (inits.List (x ∷ xs) trailing) rest (first_comes free kind.CloseBrace is.m2 rest is.closing) (pure_comes free (inits.List (x ∷ xs) trailing) rest))))
 
@@ -191,19 +191,19 @@ init_again free zero zero t k rest is h = absurd is
 -- ---- declarators and declarations
 
 -- a comma or a semicolon is after a declarator
-abbrev pub goes_behind : Kind → Bool
-goes_behind kind.Comma = true
-goes_behind kind.Semicolon = true
-goes_behind _ = false
+abbrev pub goes_after : Kind → Bool
+goes_after kind.Comma = true
+goes_after kind.Semicolon = true
+goes_after _ = false
 
-behind_kind : (d : Kind) → goes_behind d ≡ true → 12 < binds d
-behind_kind kind.Comma h = omega arith
-behind_kind kind.Semicolon h = omega arith
-behind_kind _ h = absurd cc
+after_kind : (d : Kind) → goes_after d ≡ true → 12 < binds d
+after_kind kind.Comma h = omega arith
+after_kind kind.Semicolon h = omega arith
+after_kind _ h = absurd cc
 
-behind_stops : (k : List Seat) → Heads goes_behind k → Stops 12 k
-behind_stops [] h = tt
-behind_stops (s ∷ k) h = behind_kind s.0 h
+after_stops : (k : List Seat) → Heads goes_after k → Stops 12 k
+after_stops [] h = tt
+after_stops (s ∷ k) h = after_kind s.0 h
 
 pub pointer_first : (x : Pointer) (k m : List Seat) → IsPointer x k m → (mid : List Seat) × First kind.Star k mid
 pointer_first pointers.Plain k m is = (m, is)
@@ -223,54 +223,54 @@ module _ (free : ℕ) (Inner : Expr → List Seat → List Seat → Type 0) (Val
   no_init [] h = read refl
   no_init (s ∷ k) h = read (no_init_by value s.0 (s ∷ k) h)
 
-  init_part_comes : (t : Option Init) (k rest : List Seat) → Perhaps (IsBehindEqual Value) t k rest → Heads goes_behind rest → Comes free (init_part value k) t rest
+  init_part_comes : (t : Option Init) (k rest : List Seat) → Perhaps (IsAfterEqual Value) t k rest → Heads goes_after rest → Comes free (init_part value k) t rest
   unfolding init_part some_init
-  init_part_comes None k rest is h = comes_from free (init_part value) k rest None rest is (no_init rest (heads_lack kind.Equal goes_behind rest refl h))
+  init_part_comes None k rest is h = comes_from free (init_part value) k rest None rest is (no_init rest (heads_lack kind.Equal goes_after rest refl h))
   init_part_comes (Some x) k rest is h =
       comes_at free (init_part value k) (init_part_by value (Some kind.Equal) k) (Some x) rest (ap (λ o. init_part_by value o k) (kind_first kind.Equal k is.mid is.equal))
-      (bind_comes free (expect kind.Equal k) _ (is.equal.0) is.mid (Some x) rest (first_comes free kind.Equal k is.mid is.equal) (bind_comes free (value is.mid) _ (x) rest (Some x) rest (value_again x is.mid rest is.value (behind_stops rest h)) (pure_comes free (Some x) rest)))
+      (bind_comes free (expect kind.Equal k) _ (is.equal.0) is.mid (Some x) rest (first_comes free kind.Equal k is.mid is.equal) (bind_comes free (value is.mid) _ (x) rest (Some x) rest (value_again x is.mid rest is.value (after_stops rest h)) (pure_comes free (Some x) rest)))
 
-  init_lacks : (t : Option Init) (k rest : List Seat) → Perhaps (IsBehindEqual Value) t k rest → Heads goes_behind rest → Lacks kind.OpenBracket k
-  init_lacks None k rest is h = subst (Lacks kind.OpenBracket) (sym is) (heads_lack kind.OpenBracket goes_behind rest refl h)
+  init_lacks : (t : Option Init) (k rest : List Seat) → Perhaps (IsAfterEqual Value) t k rest → Heads goes_after rest → Lacks kind.OpenBracket k
+  init_lacks None k rest is h = subst (Lacks kind.OpenBracket) (sym is) (heads_lack kind.OpenBracket goes_after rest refl h)
   init_lacks (Some x) k rest is h = first_lacks kind.Equal kind.OpenBracket k is.mid refl is.equal
 
   -- what comes after a declarator's name
-  name_lacks : (x : Kind) → same kind.OpenBracket x ≡ false → same kind.Equal x ≡ false → goes_behind x ≡ false → (ls : List (Option Expr)) (t : Option Init) (k mid rest : List Seat) → Each (IsLength Inner) ls k mid → Perhaps (IsBehindEqual Value) t mid rest → Heads goes_behind rest → Lacks x k
+  name_lacks : (x : Kind) → same kind.OpenBracket x ≡ false → same kind.Equal x ≡ false → goes_after x ≡ false → (ls : List (Option Expr)) (t : Option Init) (k mid rest : List Seat) → Each (IsLength Inner) ls k mid → Perhaps (IsAfterEqual Value) t mid rest → Heads goes_after rest → Lacks x k
   name_lacks x b e g (l ∷ ls) t k mid rest each is h = first_lacks kind.OpenBracket x k each.1.m1 b each.1.opening
   name_lacks x b e g [] (Some v) k mid rest each is h = subst (Lacks x) (sym each) (first_lacks kind.Equal x mid is.mid e is.equal)
-  name_lacks x b e g [] None k mid rest each is h = subst (Lacks x) (sym (each ∙ is)) (heads_lack x goes_behind rest g h)
+  name_lacks x b e g [] None k mid rest each is h = subst (Lacks x) (sym (each ∙ is)) (heads_lack x goes_after rest g h)
 
-  declarator_from_comes : (t : Declarator) (k mid rest : List Seat) → Each (IsLength Inner) t.lengths k mid → Perhaps (IsBehindEqual Value) t.init mid rest → Heads goes_behind rest → Comes free (declarator_from inner value t.pointers t.name k) t rest
+  declarator_from_comes : (t : Declarator) (k mid rest : List Seat) → Each (IsLength Inner) t.lengths k mid → Perhaps (IsAfterEqual Value) t.init mid rest → Heads goes_after rest → Comes free (declarator_from inner value t.pointers t.name k) t rest
   unfolding declarator_from
   declarator_from_comes t k mid rest each is h =
       bind_comes free (lengths inner k) _ t.lengths mid t rest (lengths_comes free Inner inner li again begins t.lengths k mid each (init_lacks t.init mid rest is h))
       (bind_comes free (init_part value mid) _ t.init rest t rest (init_part_comes t.init mid rest is h) (pure_comes free t rest))
 
-  declarator_comes : (t : Declarator) (k rest : List Seat) → IsDeclarator Inner Value t k rest → Heads goes_behind rest → Comes free (declarator inner value k) t rest
+  declarator_comes : (t : Declarator) (k rest : List Seat) → IsDeclarator Inner Value t k rest → Heads goes_after rest → Comes free (declarator inner value k) t rest
   unfolding declarator
   declarator_comes t k rest is h =
       bind_comes free (stars k) _ t.pointers is.m1 t rest (stars_comes free t.pointers k is.m1 is.stars (first_lacks kind.Name kind.Const is.m1 is.m2 refl (t.name, is.name)) (first_lacks kind.Name kind.Star is.m1 is.m2 refl (t.name, is.name)))
       (bind_comes free (expect kind.Name is.m1) _ t.name is.m2 t rest (expect_comes free kind.Name t.name is.m1 is.m2 is.name) (declarator_from_comes t is.m2 is.m3 rest is.lengths is.init h))
 
-  comma_behind : (x : Declarator) (k m : List Seat) → IsBehindComma (IsDeclarator Inner Value) x k m → Heads goes_behind k
-  comma_behind x k m is = first_heads kind.Comma goes_behind k is.mid refl is.comma
+  comma_after : (x : Declarator) (k m : List Seat) → IsAfterComma (IsDeclarator Inner Value) x k m → Heads goes_after k
+  comma_after x k m is = first_heads kind.Comma goes_after k is.mid refl is.comma
 
-  next_declarator : (x : Declarator) (k m : List Seat) → IsBehindComma (IsDeclarator Inner Value) x k m → Heads goes_behind m → Comes free (next_comma (declarator inner value) k) (Some x) m
+  next_declarator : (x : Declarator) (k m : List Seat) → IsAfterComma (IsDeclarator Inner Value) x k m → Heads goes_after m → Comes free (next_comma (declarator inner value) k) (Some x) m
   next_declarator x k m is h = comma_comes free (IsDeclarator Inner Value) (declarator inner value) x k m is (declarator_comes x is.mid m is.element h)
 
-  follow_more : (xs : List Declarator) (k mid rest : List Seat) → Each (IsBehindComma (IsDeclarator Inner Value)) xs k mid → First kind.Semicolon mid rest → Heads goes_behind k
-  follow_more [] k mid rest e f = subst (Heads goes_behind) (sym e) (first_heads kind.Semicolon goes_behind mid rest refl f)
-  follow_more (x ∷ xs) k mid rest e f = comma_behind x k e.0 e.1
+  follow_more : (xs : List Declarator) (k mid rest : List Seat) → Each (IsAfterComma (IsDeclarator Inner Value)) xs k mid → First kind.Semicolon mid rest → Heads goes_after k
+  follow_more [] k mid rest e f = subst (Heads goes_after) (sym e) (first_heads kind.Semicolon goes_after mid rest refl f)
+  follow_more (x ∷ xs) k mid rest e f = comma_after x k e.0 e.1
 
-  more_comes : (t : QualifiedType) (first : Declarator) (xs : List Declarator) (k mid rest : List Seat) → Each (IsBehindComma (IsDeclarator Inner Value)) xs k mid → First kind.Semicolon mid rest → Comes free (more_declarators inner value t first k) (record { of = t; declarators = first ∷ xs }) rest
+  more_comes : (t : QualifiedType) (first : Declarator) (xs : List Declarator) (k mid rest : List Seat) → Each (IsAfterComma (IsDeclarator Inner Value)) xs k mid → First kind.Semicolon mid rest → Comes free (more_declarators inner value t first k) (record { of = t; declarators = first ∷ xs }) rest
   unfolding more_declarators
   more_comes t first xs k mid rest each f =
       bind_comes free (many (next_comma (declarator inner value)) (first ∷ []) k) _ (first ∷ xs) mid _ rest
-      (many_comes free (next_comma (declarator inner value)) (comma_eats (declarator inner value) (declarator_local inner value li lv)) (IsBehindComma (IsDeclarator Inner Value)) (Heads goes_behind) comma_behind next_declarator (first ∷ []) xs k mid each (first_heads kind.Semicolon goes_behind mid rest refl f) (no_comma free (declarator inner value) mid (first_lacks kind.Semicolon kind.Comma mid rest refl f)))
+      (many_comes free (next_comma (declarator inner value)) (comma_eats (declarator inner value) (declarator_local inner value li lv)) (IsAfterComma (IsDeclarator Inner Value)) (Heads goes_after) comma_after next_declarator (first ∷ []) xs k mid each (first_heads kind.Semicolon goes_after mid rest refl f) (no_comma free (declarator inner value) mid (first_lacks kind.Semicolon kind.Comma mid rest refl f)))
       (bind_comes free (expect kind.Semicolon mid) _ f.0 rest _ rest (first_comes free kind.Semicolon mid rest f) (pure_comes free _ rest))
 
   -- a declaration after its first name, where no bracket is
-  pub declaration_from_comes : (t : QualifiedType) (x : Declarator) (xs : List Declarator) (k m1 m2 mid rest : List Seat) → Each (IsLength Inner) x.lengths k m1 → Perhaps (IsBehindEqual Value) x.init m1 m2 → Each (IsBehindComma (IsDeclarator Inner Value)) xs m2 mid → First kind.Semicolon mid rest → Lacks kind.OpenParen k × Comes free (declaration_from inner value t x.pointers x.name k) (record { of = t; declarators = x ∷ xs }) rest
+  pub declaration_from_comes : (t : QualifiedType) (x : Declarator) (xs : List Declarator) (k m1 m2 mid rest : List Seat) → Each (IsLength Inner) x.lengths k m1 → Perhaps (IsAfterEqual Value) x.init m1 m2 → Each (IsAfterComma (IsDeclarator Inner Value)) xs m2 mid → First kind.Semicolon mid rest → Lacks kind.OpenParen k × Comes free (declaration_from inner value t x.pointers x.name k) (record { of = t; declarators = x ∷ xs }) rest
   unfolding declaration_from
   declaration_from_comes t x xs k m1 m2 mid rest each is more f =
       let h = follow_more xs m2 mid rest more f in (
@@ -281,10 +281,10 @@ module _ (free : ℕ) (Inner : Expr → List Seat → List Seat → Type 0) (Val
   declarator_stops : (t : Declarator) (k rest : List Seat) → IsDeclarator Inner Value t k rest → TypeStops k
   declarator_stops t k rest is = stars_stop t.pointers k is.m1 is.stars (first_type_stops kind.Name is.m1 is.m2 refl refl (t.name, is.name))
 
-  behind_type : (t : QualifiedType) (ds : List Declarator) (k mid rest : List Seat) → AreCommas (IsDeclarator Inner Value) ds k mid → First kind.Semicolon mid rest → TypeStops k × Comes free (declaration_of inner value t k) (record { of = t; declarators = ds }) rest
+  after_type : (t : QualifiedType) (ds : List Declarator) (k mid rest : List Seat) → AreCommas (IsDeclarator Inner Value) ds k mid → First kind.Semicolon mid rest → TypeStops k × Comes free (declaration_of inner value t k) (record { of = t; declarators = ds }) rest
   unfolding declaration_of
-  behind_type t [] k mid rest is f = absurd is
-  behind_type t (x ∷ xs) k mid rest is f = (
+  after_type t [] k mid rest is f = absurd is
+  after_type t (x ∷ xs) k mid rest is f = (
     declarator_stops x k is.0 is.1,
     bind_comes free (declarator inner value k) _ x is.0 _ rest (declarator_comes x k is.0 is.1 (follow_more xs is.0 mid rest is.2 f)) (more_comes t x xs is.0 mid rest is.2 f),
   )
@@ -292,7 +292,7 @@ module _ (free : ℕ) (Inner : Expr → List Seat → List Seat → Type 0) (Val
   pub declaration_in_comes : (t : Declaration) (k rest : List Seat) → IsDeclarationOf Inner Value t k rest → Comes free (declaration_in inner value k) t rest
   unfolding declaration_in
   declaration_in_comes t k rest is =
-      let b = behind_type t.of t.declarators is.m1 is.m2 rest is.declarators is.semicolon in
+      let b = after_type t.of t.declarators is.m1 is.m2 rest is.declarators is.semicolon in
       bind_comes free (type_of k) _ t.of is.m1 t rest (type_comes free t.of k is.m1 is.of_type b.0) b.1
 
 -- what the grammar gives is read, unless a token lies too deep that is free of the levels

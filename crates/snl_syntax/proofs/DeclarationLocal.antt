@@ -14,7 +14,7 @@ use Rattle.snl_syntax.specs.Steps.{Reader, pure, refuse, kind_at, expect, many, 
 use Rattle.snl_syntax.specs.Reading.Types.{type_of, type_name, stars}
 use Rattle.snl_syntax.specs.Reading.Expressions.{assignx, sequence, next_comma}
 use Rattle.snl_syntax.specs.Reading.Declarations.{some_length, length_by, bracketed_length, next_length_by, next_length, lengths, after_comma_by, after_comma, value_step_by, value_step, some_values, values_by, values, plain_value, init_by, init_of, init, some_init, init_part_by, init_part, declarator_from, declarator, more_declarators, declaration_from, declaration_of, declaration_in, declaration}
-use Rattle.snl_syntax.proofs.Local.{Local, Eats, EatsSome, EatsMore, bind_local, choice_local, pure_local, refuse_local, expect_local, many_local, until_local, bind_eats, eats_behind, expect_eats, eats_some, eats_more, none_eats, ok_is}
+use Rattle.snl_syntax.proofs.Local.{Local, Eats, EatsSome, EatsMore, bind_local, choice_local, pure_local, refuse_local, expect_local, many_local, until_local, bind_eats, eats_after, expect_eats, eats_some, eats_more, none_eats, ok_is}
 use Rattle.snl_syntax.proofs.TypeLaws.{word_local, type_local, stars_local, type_name_local}
 use Rattle.snl_syntax.proofs.ExpressionLocal.{comma_local, comma_eats, sequence_local, assignx_local}
 
@@ -156,7 +156,7 @@ module _ (inner : Reader Expr) (value : Reader Init) (li : Local inner) (lv : Lo
   more_eats : (t : QualifiedType) (first : Declarator) → Eats (more_declarators inner value t first)
   unfolding more_declarators
   more_eats t first =
-      eats_behind (many (next_comma (declarator inner value)) (first ∷ [])) _ (many_local (next_comma (declarator inner value)) (comma_eats (declarator inner value) declarator_local) (comma_local (declarator inner value) declarator_local) (first ∷ [])) (λ all. bind_eats (expect kind.Semicolon) _ (expect_eats kind.Semicolon) (λ _. pure_local (record { of = t; declarators = all })))
+      eats_after (many (next_comma (declarator inner value)) (first ∷ [])) _ (many_local (next_comma (declarator inner value)) (comma_eats (declarator inner value) declarator_local) (comma_local (declarator inner value) declarator_local) (first ∷ [])) (λ all. bind_eats (expect kind.Semicolon) _ (expect_eats kind.Semicolon) (λ _. pure_local (record { of = t; declarators = all })))
 
   pub declaration_from_local : (t : QualifiedType) (ps : List Pointer) (n : ℕ) → Local (declaration_from inner value t ps n)
   unfolding declaration_from
@@ -172,11 +172,11 @@ module _ (inner : Reader Expr) (value : Reader Init) (li : Local inner) (lv : Lo
 
   declaration_of_eats : (t : QualifiedType) → Eats (declaration_of inner value t)
   unfolding declaration_of
-  declaration_of_eats t = eats_behind (declarator inner value) _ declarator_local (λ first. more_eats t first)
+  declaration_of_eats t = eats_after (declarator inner value) _ declarator_local (λ first. more_eats t first)
 
   declaration_in_eats : Eats (declaration_in inner value)
   unfolding declaration_in
-  declaration_in_eats = eats_behind type_of _ type_local (λ t. declaration_of_eats t)
+  declaration_in_eats = eats_after type_of _ type_local (λ t. declaration_of_eats t)
 
 pub declaration_local : (depth : ℕ) → Local (declaration depth)
 unfolding declaration

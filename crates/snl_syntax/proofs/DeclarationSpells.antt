@@ -10,7 +10,7 @@ use denote.Hole.Carrier.{roll}
 use Rattle.snl_syntax.specs.Tokens.{Seat}
 use Rattle.snl_syntax.specs.Grammar.Base.{First}
 use Rattle.snl_syntax.specs.Grammar.Expressions.{IsSequence, IsAssignx}
-use Rattle.snl_syntax.specs.Grammar.Declarations.{IsLength, AreBraced, IsInitOf, value, list, IsInit, IsBehindEqual, IsDeclarator, IsDeclarationOf, IsDeclaration}
+use Rattle.snl_syntax.specs.Grammar.Declarations.{IsLength, AreBraced, IsInitOf, value, list, IsInit, IsAfterEqual, IsDeclarator, IsDeclarationOf, IsDeclaration}
 use Rattle.snl_syntax.specs.Spelling.Base.{Spelled, written, commas}
 use Rattle.snl_syntax.specs.Spelling.Expressions.{spell_expr}
 use Rattle.snl_syntax.specs.Spelling.Declarations.{spell_length, spell_init_step, spell_init, spell_value, spell_declarator, spell_declaration}
@@ -48,15 +48,15 @@ module _ (Inner : Expr → List Seat → List Seat → Type 0) (inner_spells : S
   length_spells t k rest is = word_covers is.opening and perhaps_spells (IsSequence Inner) spell_expr (sequence_spells Inner inner_spells) t is.m1 is.m2 is.size and word_covers is.closing
 
 module _ (Inner : Expr → List Seat → List Seat → Type 0) (inner_spells : Spells Inner spell_expr) (Value : Init → List Seat → List Seat → Type 0) (value_spells : Spells Value spell_init) where
-  behind_equal_spells : Spells (IsBehindEqual Value) spell_value
-  behind_equal_spells t k rest is = word_covers is.equal and value_spells t is.mid rest is.value
+  after_equal_spells : Spells (IsAfterEqual Value) spell_value
+  after_equal_spells t k rest is = word_covers is.equal and value_spells t is.mid rest is.value
 
   declarator_spells : Spells (IsDeclarator Inner Value) spell_declarator
   declarator_spells t k rest is =
       stars_spell t.pointers k is.m1 is.stars
       and leaf_covers is.name
       and each_spells (IsLength Inner) spell_length (length_spells Inner inner_spells) t.lengths is.m2 is.m3 is.lengths
-      and perhaps_spells (IsBehindEqual Value) spell_value behind_equal_spells t.init is.m3 rest is.init
+      and perhaps_spells (IsAfterEqual Value) spell_value after_equal_spells t.init is.m3 rest is.init
 
   declaration_of_spells : Spells (IsDeclarationOf Inner Value) spell_declaration
   declaration_of_spells t k rest is =

@@ -13,15 +13,15 @@ use Rattle.snl_syntax.specs.Tokens.{Seat}
 use Rattle.snl_syntax.specs.Steps.{Reader, pure, kind_at, expect, many, until}
 use Rattle.snl_syntax.specs.Grammar.Base.{Each, First, Leaf, Perhaps}
 use Rattle.snl_syntax.specs.Grammar.Types.{IsType, IsPointer, IsTypeName}
-use Rattle.snl_syntax.specs.Grammar.Expressions.{IsBehindComma, IsSequence, IsAssignx}
-use Rattle.snl_syntax.specs.Grammar.Declarations.{IsLength, AreBraced, IsInitOf, value as is_value, list as is_list, IsInit, IsBehindEqual, IsDeclarator, IsDeclarationOf, IsDeclaration}
+use Rattle.snl_syntax.specs.Grammar.Expressions.{IsAfterComma, IsSequence, IsAssignx}
+use Rattle.snl_syntax.specs.Grammar.Declarations.{IsLength, AreBraced, IsInitOf, value as is_value, list as is_list, IsInit, IsAfterEqual, IsDeclarator, IsDeclarationOf, IsDeclaration}
 use Rattle.snl_syntax.specs.Reading.Types.{type_of, type_name, stars}
 use Rattle.snl_syntax.specs.Reading.Expressions.{assignx, sequence, next_comma}
 use Rattle.snl_syntax.specs.Reading.Declarations.{some_length, length_by, bracketed_length, next_length_by, next_length, lengths, after_comma_by, after_comma, value_step_by, value_step, some_values, values_by, values, plain_value, init_by, init_of, init, some_init, init_part_by, init_part, declarator_from, declarator, more_declarators, declaration_from, declaration_of, declaration_in, declaration}
 use Rattle.snl_syntax.proofs.Viable.{Free, Makes, Viable, Full, Exists, Both, both, Next, Lists, IsNothing, Ends, seats, bind_full, into_full, choice_viable, refuse_viable, expect_full, pure_full, many_full}
 use Rattle.snl_syntax.proofs.TypeLaws.{word_full, lists_each, none_next, first_then, type_full, stars_full, type_name_full}
 use Rattle.snl_syntax.proofs.ExpressionViable.{more_commas, sequence_full, assignx_full}
-use Rattle.snl_syntax.proofs.Braced.{none_perhaps, perhaps_full, IsLast, IsValueStep, AllValues, Behind, BehindAim, close_viable, more_viable, comma_step, last_step, values_full, braced_values}
+use Rattle.snl_syntax.proofs.Braced.{none_perhaps, perhaps_full, IsLast, IsValueStep, AllValues, After, AfterAim, close_viable, more_viable, comma_step, last_step, values_full, braced_values}
 
 abbrev pub make_declarator : List Pointer → ℕ → List (Option Expr) → Option Init → Declarator
 make_declarator ps n ls x = record { pointers = ps; name = n; lengths = ls; init = x }
@@ -71,7 +71,7 @@ module _ (free extra : ℕ) (Inner : Expr → List Seat → List Seat → Type 0
 -- ---- values
 
 module _ (free extra : ℕ) (Inner : Init → List Seat → List Seat → Type 0) (inner : Reader Init) (fi : Full free extra inner Inner (kind.Integer ∷ [])) where
-  after_comma_by_viable : (o : Option Kind) → Viable free extra (after_comma_by inner o) (Behind free extra Inner inner (kind.Integer ∷ []) fi) (BehindAim free extra Inner inner (kind.Integer ∷ []) fi)
+  after_comma_by_viable : (o : Option Kind) → Viable free extra (after_comma_by inner o) (After free extra Inner inner (kind.Integer ∷ []) fi) (AfterAim free extra Inner inner (kind.Integer ∷ []) fi)
   after_comma_by_viable (Some kind.CloseBrace) = close_viable free extra Inner inner (kind.Integer ∷ []) fi
   after_comma_by_viable _ = more_viable free extra Inner inner (kind.Integer ∷ []) fi
 
@@ -91,12 +91,12 @@ module _ (free extra : ℕ) (Inner : Init → List Seat → List Seat → Type 0
   abbrev InBraces : Init → List Seat → List Seat → Type 0
   InBraces t k rest = (xs : List Init) × (trailing : Bool) × (t ≡ inits.List xs trailing) × AreBraced Inner xs trailing k rest
 
-  into_some_values : (y : Init) (k rest : List Seat) → Both (Inner) (λ first. Both (Ends (IsBehindComma Inner) (IsLast free extra Inner inner (kind.Integer ∷ []) fi) (first ∷ [])) (λ r. Both (Leaf kind.CloseBrace) (λ _. IsNothing (inits.List r.0 r.1)))) y k rest → (InBraces) y k rest
+  into_some_values : (y : Init) (k rest : List Seat) → Both (Inner) (λ first. Both (Ends (IsAfterComma Inner) (IsLast free extra Inner inner (kind.Integer ∷ []) fi) (first ∷ [])) (λ r. Both (Leaf kind.CloseBrace) (λ _. IsNothing (inits.List r.0 r.1)))) y k rest → (InBraces) y k rest
   into_some_values y k rest (both v0 m1 w0 (both v1 m2 w1 (both v2 m3 w2 h))) = subst (λ z. (InBraces) z k rest) h.0 ((v1.0, v1.1, refl, braced_values free extra Inner inner (kind.Integer ∷ []) fi v0 v1 k m1 m2 rest w0 w1 (first_then kind.CloseBrace v2 m2 m3 rest w2 h.1)))
 
   some_values_full : Full free extra (some_values inner) (InBraces) (kind.Integer ∷ kind.CloseBrace ∷ [])
   unfolding some_values
-  some_values_full = into_full free extra (some_values inner) _ (InBraces) (kind.Integer ∷ kind.CloseBrace ∷ []) (into_some_values) (bind_full free extra (inner) _ (Inner) (λ first. Both (Ends (IsBehindComma Inner) (IsLast free extra Inner inner (kind.Integer ∷ []) fi) (first ∷ [])) (λ r. Both (Leaf kind.CloseBrace) (λ _. IsNothing (inits.List r.0 r.1)))) (kind.Integer ∷ []) (kind.CloseBrace ∷ []) (fi) (λ first. bind_full free extra (until (value_step inner) (first ∷ [])) _ (Ends (IsBehindComma Inner) (IsLast free extra Inner inner (kind.Integer ∷ []) fi) (first ∷ [])) (λ r. Both (Leaf kind.CloseBrace) (λ _. IsNothing (inits.List r.0 r.1))) [] (kind.CloseBrace ∷ []) (values_full free extra Inner inner (kind.Integer ∷ []) fi (value_step inner) value_step_viable (first ∷ [])) (λ r. bind_full free extra (expect kind.CloseBrace) _ (Leaf kind.CloseBrace) (λ _. IsNothing (inits.List r.0 r.1)) (kind.CloseBrace ∷ []) [] (expect_full free extra kind.CloseBrace) (λ _. pure_full free extra (inits.List r.0 r.1)))))
+  some_values_full = into_full free extra (some_values inner) _ (InBraces) (kind.Integer ∷ kind.CloseBrace ∷ []) (into_some_values) (bind_full free extra (inner) _ (Inner) (λ first. Both (Ends (IsAfterComma Inner) (IsLast free extra Inner inner (kind.Integer ∷ []) fi) (first ∷ [])) (λ r. Both (Leaf kind.CloseBrace) (λ _. IsNothing (inits.List r.0 r.1)))) (kind.Integer ∷ []) (kind.CloseBrace ∷ []) (fi) (λ first. bind_full free extra (until (value_step inner) (first ∷ [])) _ (Ends (IsAfterComma Inner) (IsLast free extra Inner inner (kind.Integer ∷ []) fi) (first ∷ [])) (λ r. Both (Leaf kind.CloseBrace) (λ _. IsNothing (inits.List r.0 r.1))) [] (kind.CloseBrace ∷ []) (values_full free extra Inner inner (kind.Integer ∷ []) fi (value_step inner) value_step_viable (first ∷ [])) (λ r. bind_full free extra (expect kind.CloseBrace) _ (Leaf kind.CloseBrace) (λ _. IsNothing (inits.List r.0 r.1)) (kind.CloseBrace ∷ []) [] (expect_full free extra kind.CloseBrace) (λ _. pure_full free extra (inits.List r.0 r.1)))))
 
   values_by_viable : (o : Option Kind) → Viable free extra (values_by inner o) InBraces (Exists InBraces)
   values_by_viable (Some kind.CloseBrace) = (word_full free extra kind.CloseBrace (inits.List [] false) InBraces (λ k rest f. ([], false, refl, (refl, f)))).viable
@@ -144,20 +144,20 @@ init_full free (suc extra) zero =
 -- ---- declarators and declarations
 
 module _ (free extra : ℕ) (Value : Init → List Seat → List Seat → Type 0) (value : Reader Init) (fv : Full free extra value Value (kind.Integer ∷ [])) where
-  into_some_init : (y : Option Init) (k rest : List Seat) → Both (Leaf kind.Equal) (λ _. Both (Value) (λ x. IsNothing (Some x))) y k rest → (Perhaps (IsBehindEqual Value)) y k rest
-  into_some_init y k rest (both v0 m1 w0 (both v1 m2 w1 h)) = subst (λ z. (Perhaps (IsBehindEqual Value)) z k rest) h.0 (record { mid = m1; equal = (v0, w0); value = subst (λ l. Value v1 m1 l) h.1 w1 })
+  into_some_init : (y : Option Init) (k rest : List Seat) → Both (Leaf kind.Equal) (λ _. Both (Value) (λ x. IsNothing (Some x))) y k rest → (Perhaps (IsAfterEqual Value)) y k rest
+  into_some_init y k rest (both v0 m1 w0 (both v1 m2 w1 h)) = subst (λ z. (Perhaps (IsAfterEqual Value)) z k rest) h.0 (record { mid = m1; equal = (v0, w0); value = subst (λ l. Value v1 m1 l) h.1 w1 })
 
-  some_init_full : Full free extra (some_init value) (Perhaps (IsBehindEqual Value)) (kind.Equal ∷ kind.Integer ∷ [])
+  some_init_full : Full free extra (some_init value) (Perhaps (IsAfterEqual Value)) (kind.Equal ∷ kind.Integer ∷ [])
   unfolding some_init
-  some_init_full = into_full free extra (some_init value) _ (Perhaps (IsBehindEqual Value)) (kind.Equal ∷ kind.Integer ∷ []) (into_some_init) (bind_full free extra (expect kind.Equal) _ (Leaf kind.Equal) (λ _. Both (Value) (λ x. IsNothing (Some x))) (kind.Equal ∷ []) (kind.Integer ∷ []) (expect_full free extra kind.Equal) (λ _. bind_full free extra (value) _ (Value) (λ x. IsNothing (Some x)) (kind.Integer ∷ []) [] (fv) (λ x. pure_full free extra (Some x))))
+  some_init_full = into_full free extra (some_init value) _ (Perhaps (IsAfterEqual Value)) (kind.Equal ∷ kind.Integer ∷ []) (into_some_init) (bind_full free extra (expect kind.Equal) _ (Leaf kind.Equal) (λ _. Both (Value) (λ x. IsNothing (Some x))) (kind.Equal ∷ []) (kind.Integer ∷ []) (expect_full free extra kind.Equal) (λ _. bind_full free extra (value) _ (Value) (λ x. IsNothing (Some x)) (kind.Integer ∷ []) [] (fv) (λ x. pure_full free extra (Some x))))
 
-  init_part_by_viable : (o : Option Kind) → Viable free extra (init_part_by value o) (Perhaps (IsBehindEqual Value)) (Exists (Perhaps (IsBehindEqual Value)))
+  init_part_by_viable : (o : Option Kind) → Viable free extra (init_part_by value o) (Perhaps (IsAfterEqual Value)) (Exists (Perhaps (IsAfterEqual Value)))
   init_part_by_viable (Some kind.Equal) = some_init_full.viable
-  init_part_by_viable _ = none_perhaps free extra (IsBehindEqual Value)
+  init_part_by_viable _ = none_perhaps free extra (IsAfterEqual Value)
 
-  pub init_part_full : Full free extra (init_part value) (Perhaps (IsBehindEqual Value)) []
+  pub init_part_full : Full free extra (init_part value) (Perhaps (IsAfterEqual Value)) []
   unfolding init_part
-  init_part_full = perhaps_full free extra (IsBehindEqual Value) (init_part_by value) init_part_by_viable
+  init_part_full = perhaps_full free extra (IsAfterEqual Value) (init_part_by value) init_part_by_viable
 
 -- what comes after a declarator's name
 pub record IsDeclaratorFrom (Inner : Expr → List Seat → List Seat → Type 0) (Value : Init → List Seat → List Seat → Type 0) (ps : List Pointer) (n : ℕ) (t : Declarator) (k rest : List Seat) : Type 0 where
@@ -166,14 +166,14 @@ pub record IsDeclaratorFrom (Inner : Expr → List Seat → List Seat → Type 0
   pub mid : List Seat
   pub made : make_declarator ps n ls x ≡ t
   pub lengths : Each (IsLength Inner) ls k mid
-  pub init : Perhaps (IsBehindEqual Value) x mid rest
+  pub init : Perhaps (IsAfterEqual Value) x mid rest
 
 -- what comes after a declaration's first declarator
 pub record AreMore (Inner : Expr → List Seat → List Seat → Type 0) (Value : Init → List Seat → List Seat → Type 0) (of : QualifiedType) (first : Declarator) (t : Declaration) (k rest : List Seat) : Type 0 where
   pub ds : List Declarator
   pub mid : List Seat
   pub made : make_declaration of (first ∷ ds) ≡ t
-  pub more : Each (IsBehindComma (IsDeclarator Inner Value)) ds k mid
+  pub more : Each (IsAfterComma (IsDeclarator Inner Value)) ds k mid
   pub semicolon : First kind.Semicolon mid rest
 
 -- what comes after a declaration's first name
@@ -181,12 +181,12 @@ abbrev pub IsDeclarationFrom : (Expr → List Seat → List Seat → Type 0) →
 IsDeclarationFrom Inner Value t ps n d k rest = (first : Declarator) × (mid : List Seat) × IsDeclaratorFrom Inner Value ps n first k mid × AreMore Inner Value t first d mid rest
 
 module _ (free extra : ℕ) (Inner : Expr → List Seat → List Seat → Type 0) (Value : Init → List Seat → List Seat → Type 0) (inner : Reader Expr) (value : Reader Init) (fi : Full free extra inner Inner (kind.Integer ∷ [])) (fv : Full free extra value Value (kind.Integer ∷ [])) where
-  into_declarator_from : (ps : List Pointer) (n : ℕ) → (y : Declarator) (k rest : List Seat) → Both (Each (IsLength Inner)) (λ ls. Both (Perhaps (IsBehindEqual Value)) (λ x. IsNothing (make_declarator ps n ls x))) y k rest → (IsDeclaratorFrom Inner Value ps n) y k rest
-  into_declarator_from ps n y k rest (both v0 m1 w0 (both v1 m2 w1 h)) = subst (λ z. (IsDeclaratorFrom Inner Value ps n) z k rest) h.0 (record { ls = v0; x = v1; mid = m1; made = refl; lengths = w0; init = subst (λ l. Perhaps (IsBehindEqual Value) v1 m1 l) h.1 w1 })
+  into_declarator_from : (ps : List Pointer) (n : ℕ) → (y : Declarator) (k rest : List Seat) → Both (Each (IsLength Inner)) (λ ls. Both (Perhaps (IsAfterEqual Value)) (λ x. IsNothing (make_declarator ps n ls x))) y k rest → (IsDeclaratorFrom Inner Value ps n) y k rest
+  into_declarator_from ps n y k rest (both v0 m1 w0 (both v1 m2 w1 h)) = subst (λ z. (IsDeclaratorFrom Inner Value ps n) z k rest) h.0 (record { ls = v0; x = v1; mid = m1; made = refl; lengths = w0; init = subst (λ l. Perhaps (IsAfterEqual Value) v1 m1 l) h.1 w1 })
 
   pub declarator_from_full : (ps : List Pointer) (n : ℕ) → Full free extra (declarator_from inner value ps n) (IsDeclaratorFrom Inner Value ps n) []
   unfolding declarator_from
-  declarator_from_full ps n = into_full free extra (declarator_from inner value ps n) _ (IsDeclaratorFrom Inner Value ps n) [] (into_declarator_from ps n) (bind_full free extra (lengths inner) _ (Each (IsLength Inner)) (λ ls. Both (Perhaps (IsBehindEqual Value)) (λ x. IsNothing (make_declarator ps n ls x))) [] [] (lengths_full free extra Inner inner fi) (λ ls. bind_full free extra (init_part value) _ (Perhaps (IsBehindEqual Value)) (λ x. IsNothing (make_declarator ps n ls x)) [] [] (init_part_full free extra Value value fv) (λ x. pure_full free extra (make_declarator ps n ls x))))
+  declarator_from_full ps n = into_full free extra (declarator_from inner value ps n) _ (IsDeclaratorFrom Inner Value ps n) [] (into_declarator_from ps n) (bind_full free extra (lengths inner) _ (Each (IsLength Inner)) (λ ls. Both (Perhaps (IsAfterEqual Value)) (λ x. IsNothing (make_declarator ps n ls x))) [] [] (lengths_full free extra Inner inner fi) (λ ls. bind_full free extra (init_part value) _ (Perhaps (IsAfterEqual Value)) (λ x. IsNothing (make_declarator ps n ls x)) [] [] (init_part_full free extra Value value fv) (λ x. pure_full free extra (make_declarator ps n ls x))))
 
   into_declarator : (y : Declarator) (k rest : List Seat) → Both (Each IsPointer) (λ ps. Both (Leaf kind.Name) (λ n. IsDeclaratorFrom Inner Value ps n)) y k rest → IsDeclarator Inner Value y k rest
   into_declarator y k rest (both ps m1 w1 (both n m2 w2 d)) = subst (λ z. IsDeclarator Inner Value z k rest) d.made (record { m1 = m1; m2 = m2; m3 = d.mid; stars = w1; name = w2; lengths = d.lengths; init = d.init })
@@ -197,12 +197,12 @@ module _ (free extra : ℕ) (Inner : Expr → List Seat → List Seat → Type 0
       (bind_full free extra stars _ (Each IsPointer) (λ ps. Both (Leaf kind.Name) (λ n. IsDeclaratorFrom Inner Value ps n)) [] (kind.Name ∷ []) (stars_full free extra) (λ ps.
       bind_full free extra (expect kind.Name) _ (Leaf kind.Name) (λ n. IsDeclaratorFrom Inner Value ps n) (kind.Name ∷ []) [] (expect_full free extra kind.Name) (λ n. declarator_from_full ps n)))
 
-  into_more : (t : QualifiedType) (first : Declarator) → (y : Declaration) (k rest : List Seat) → Both (Lists (IsBehindComma (IsDeclarator Inner Value)) (first ∷ [])) (λ all. Both (Leaf kind.Semicolon) (λ _. IsNothing (make_declaration t all))) y k rest → (AreMore Inner Value t first) y k rest
+  into_more : (t : QualifiedType) (first : Declarator) → (y : Declaration) (k rest : List Seat) → Both (Lists (IsAfterComma (IsDeclarator Inner Value)) (first ∷ [])) (λ all. Both (Leaf kind.Semicolon) (λ _. IsNothing (make_declaration t all))) y k rest → (AreMore Inner Value t first) y k rest
   into_more t first y k rest (both v0 m1 w0 (both v1 m2 w1 h)) = subst (λ z. (AreMore Inner Value t first) z k rest) h.0 (record { ds = w0.0; mid = m1; made = ap (make_declaration t) (sym w0.1); more = w0.2; semicolon = first_then kind.Semicolon v1 m1 m2 rest w1 h.1 })
 
   more_full : (t : QualifiedType) (first : Declarator) → Full free extra (more_declarators inner value t first) (AreMore Inner Value t first) (kind.Semicolon ∷ [])
   unfolding more_declarators
-  more_full t first = into_full free extra (more_declarators inner value t first) _ (AreMore Inner Value t first) (kind.Semicolon ∷ []) (into_more t first) (bind_full free extra (many (next_comma (declarator inner value)) (first ∷ [])) _ (Lists (IsBehindComma (IsDeclarator Inner Value)) (first ∷ [])) (λ all. Both (Leaf kind.Semicolon) (λ _. IsNothing (make_declaration t all))) [] (kind.Semicolon ∷ []) (more_commas free extra (IsDeclarator Inner Value) (declarator inner value) (kind.Name ∷ []) declarator_full (first ∷ [])) (λ all. bind_full free extra (expect kind.Semicolon) _ (Leaf kind.Semicolon) (λ _. IsNothing (make_declaration t all)) (kind.Semicolon ∷ []) [] (expect_full free extra kind.Semicolon) (λ _. pure_full free extra (make_declaration t all))))
+  more_full t first = into_full free extra (more_declarators inner value t first) _ (AreMore Inner Value t first) (kind.Semicolon ∷ []) (into_more t first) (bind_full free extra (many (next_comma (declarator inner value)) (first ∷ [])) _ (Lists (IsAfterComma (IsDeclarator Inner Value)) (first ∷ [])) (λ all. Both (Leaf kind.Semicolon) (λ _. IsNothing (make_declaration t all))) [] (kind.Semicolon ∷ []) (more_commas free extra (IsDeclarator Inner Value) (declarator inner value) (kind.Name ∷ []) declarator_full (first ∷ [])) (λ all. bind_full free extra (expect kind.Semicolon) _ (Leaf kind.Semicolon) (λ _. IsNothing (make_declaration t all)) (kind.Semicolon ∷ []) [] (expect_full free extra kind.Semicolon) (λ _. pure_full free extra (make_declaration t all))))
 
   into_from : (t : QualifiedType) (ps : List Pointer) (n : ℕ) (y : Declaration) (k rest : List Seat) → Both (IsDeclaratorFrom Inner Value ps n) (λ first. AreMore Inner Value t first) y k rest → IsDeclarationFrom Inner Value t ps n y k rest
   into_from t ps n y k rest (both first m w a) = (first, m, w, a)

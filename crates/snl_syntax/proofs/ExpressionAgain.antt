@@ -10,7 +10,7 @@ use Rattle.snl_syntax.specs.declared.tree.expression.Expr.TheVariants as tree
 use Rattle.snl_syntax.specs.Tokens.{Seat, same}
 use Rattle.snl_syntax.specs.Steps.{Reader, kind_at, expect, many}
 use Rattle.snl_syntax.specs.Grammar.Base.{Each, First, Leaf}
-use Rattle.snl_syntax.specs.Grammar.Expressions.{IsBehindComma, AreCommas, AreTexts, IsSequence, one, several, AreArguments, IsSuffix, subscript as is_subscript, call as is_call, member as is_member, arrow, increment, decrement}
+use Rattle.snl_syntax.specs.Grammar.Expressions.{IsAfterComma, AreCommas, AreTexts, IsSequence, one, several, AreArguments, IsSuffix, subscript as is_subscript, call as is_call, member as is_member, arrow, increment, decrement}
 use Rattle.snl_syntax.specs.Reading.Expressions.{comma_by, next_comma, commas, text_by, next_text, texts, member, sequence, some_arguments, arguments_by, arguments, subscript, call, suffix_by, next_suffix}
 use Rattle.snl_syntax.proofs.Local.{Local}
 use Rattle.snl_syntax.proofs.ExpressionLocal.{comma_eats, text_eats, suffix_eats}
@@ -29,7 +29,7 @@ unfolding next_comma kind_at
 no_comma free p [] h = read refl
 no_comma free p (s ∷ k) h = read (no_comma_by p s.0 (s ∷ k) h)
 
-pub comma_comes : (free : ℕ) {A : Type 0} (R : A → List Seat → List Seat → Type 0) (p : Reader A) (x : A) (k m : List Seat) (is : IsBehindComma R x k m) → Comes free (p is.mid) x m → Comes free (next_comma p k) (Some x) m
+pub comma_comes : (free : ℕ) {A : Type 0} (R : A → List Seat → List Seat → Type 0) (p : Reader A) (x : A) (k m : List Seat) (is : IsAfterComma R x k m) → Comes free (p is.mid) x m → Comes free (next_comma p k) (Some x) m
 unfolding next_comma
 comma_comes free R p x k m is c =
     comes_at free (next_comma p k) (comma_by p (Some kind.Comma) k) (Some x) m (ap (λ o. comma_by p o k) (kind_first kind.Comma k is.mid is.comma))
@@ -78,16 +78,16 @@ begins_expr kind.MinusMinus = true
 begins_expr _ = false
 
 module _ (free : ℕ) (Inner : Expr → List Seat → List Seat → Type 0) (inner : Reader Expr) (names : Reader TypeName) (local : Local inner) (named : Local names) (again : (x : Expr) (k rest : List Seat) → Inner x k rest → Stops 12 rest → Comes free (inner k) x rest) (begins : (x : Expr) (k rest : List Seat) → Inner x k rest → Heads begins_expr k) where
-  comma_begins : (x : Expr) (k m : List Seat) → IsBehindComma Inner x k m → Stops 12 k
+  comma_begins : (x : Expr) (k m : List Seat) → IsAfterComma Inner x k m → Stops 12 k
   comma_begins x k m is = first_stops kind.Comma 12 k is.mid (omega arith) is.comma
 
-  comma_again : (x : Expr) (k m : List Seat) → IsBehindComma Inner x k m → Stops 12 m → Comes free (next_comma inner k) (Some x) m
+  comma_again : (x : Expr) (k m : List Seat) → IsAfterComma Inner x k m → Stops 12 m → Comes free (next_comma inner k) (Some x) m
   comma_again x k m is h = comma_comes free Inner inner x k m is (again x is.mid m is.element h)
 
-  more_again : (found xs : List Expr) (k rest : List Seat) → Each (IsBehindComma Inner) xs k rest → Stops 13 rest → Comes free (many (next_comma inner) found k) (found ++ xs) rest
-  more_again found xs k rest each h = many_comes free (next_comma inner) (comma_eats inner local) (IsBehindComma Inner) (Stops 12) comma_begins comma_again found xs k rest each (stops_less 12 13 rest (omega arith) h) (no_comma free inner rest (stops_lacks 13 rest kind.Comma h (omega arith)))
+  more_again : (found xs : List Expr) (k rest : List Seat) → Each (IsAfterComma Inner) xs k rest → Stops 13 rest → Comes free (many (next_comma inner) found k) (found ++ xs) rest
+  more_again found xs k rest each h = many_comes free (next_comma inner) (comma_eats inner local) (IsAfterComma Inner) (Stops 12) comma_begins comma_again found xs k rest each (stops_less 12 13 rest (omega arith) h) (no_comma free inner rest (stops_lacks 13 rest kind.Comma h (omega arith)))
 
-  follow_more : (xs : List Expr) (k rest : List Seat) → Each (IsBehindComma Inner) xs k rest → Stops 13 rest → Stops 12 k
+  follow_more : (xs : List Expr) (k rest : List Seat) → Each (IsAfterComma Inner) xs k rest → Stops 13 rest → Stops 12 k
   follow_more [] k rest e h = subst (Stops 12) (sym e) (stops_less 12 13 rest (omega arith) h)
   follow_more (x ∷ xs) k rest e h = comma_begins x k e.0 e.1
 

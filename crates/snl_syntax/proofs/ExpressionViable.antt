@@ -23,11 +23,11 @@ use Rattle.snl_syntax.specs.Tokens.{Seat}
 use Rattle.snl_syntax.specs.Steps.{Outcome, Reader, until_within, again_or, and_then, pure, refuse, kind_at, expect, many, until}
 use Rattle.snl_syntax.specs.Grammar.Base.{Each, First, Leaf, Within}
 use Rattle.snl_syntax.specs.Grammar.Types.{IsTypeName}
-use Rattle.snl_syntax.specs.Grammar.Expressions.{IsBehindComma, AreCommas, AreTexts, IsSequence, one, several, IsPrimary, name, integer, floating, character, texts as is_texts, group as is_group, sizeof_type as is_sizeof_type, AreArguments, IsSuffix, subscript as is_subscript, call as is_call, member as is_member, arrow, increment, decrement, IsPostfix, bare as bare_postfix, suffixed as is_suffixed, IsOperator, sign, sizeof as is_size, cast as is_cast, is_sizeof, AreOperators, IsPrefix, bare as bare_prefix, prefixed as is_prefixed, IsLink, alone, chain, IsTier, IsArm, IsConditional, alone as lone, choice, IsTarget, IsSingle, value, assignment, IsAssignx, IsExpr}
+use Rattle.snl_syntax.specs.Grammar.Expressions.{IsAfterComma, AreCommas, AreTexts, IsSequence, one, several, IsPrimary, name, integer, floating, character, texts as is_texts, group as is_group, sizeof_type as is_sizeof_type, AreArguments, IsSuffix, subscript as is_subscript, call as is_call, member as is_member, arrow, increment, decrement, IsPostfix, bare as bare_postfix, suffixed as is_suffixed, IsOperator, sign, sizeof as is_size, cast as is_cast, is_sizeof, AreOperators, IsPrefix, bare as bare_prefix, prefixed as is_prefixed, IsLink, alone, chain, IsTier, IsArm, IsConditional, alone as lone, choice, IsTarget, IsSingle, value, assignment, IsAssignx, IsExpr}
 use Rattle.snl_syntax.specs.Reading.Types.{type_name, begins_type}
 use Rattle.snl_syntax.specs.Reading.Expressions.{comma_by, next_comma, commas, text_by, next_text, texts, leaf, text, atom_by, atom, suffixed, prefixed, chained, conditional, assigned, sequenced, in_tier, binary_in, assignment_in, link_by, next_link, signed, member, sequence, some_arguments, arguments_by, arguments, subscript, call, suffix_by, next_suffix, group, sizeof_type, cast, sized, sizeof_bracket, sizeof_by, sizeof, bracketed, bracket, plain, prefix_by, prefix_step, prefix, tiers_from, operand, arm_by, next_arm, conditional_from, target_by, target_step, single, type_within, assignx, expr}
 use Rattle.snl_syntax.proofs.Local.{bind_ok, bind_err, ok_is, err_is}
-use Rattle.snl_syntax.proofs.Viable.{Free, Makes, Viable, Full, Exists, Both, both, Joint, Next, Lists, IsNothing, StepOf, Ends, Whole, seats, bind_viable, bind_full, into_full, lighter, choice_viable, refuse_viable, expect_full, pure_full, many_full, until_viable, level_full, free_behind}
+use Rattle.snl_syntax.proofs.Viable.{Free, Makes, Viable, Full, Exists, Both, both, Joint, Next, Lists, IsNothing, StepOf, Ends, Whole, seats, bind_viable, bind_full, into_full, lighter, choice_viable, refuse_viable, expect_full, pure_full, many_full, until_viable, level_full, free_after}
 use Rattle.snl_syntax.proofs.TypeLaws.{word_full, lists_each, none_next, first_then, type_name_full}
 
 abbrev Int : List Kind
@@ -36,26 +36,26 @@ Int = kind.Integer ∷ []
 -- ---- lists with commas, and strings
 
 module _ (free extra : ℕ) {A : Type 0} (R : A → List Seat → List Seat → Type 0) (p : Reader A) (some : List Kind) (f : Full free extra p R some) where
-  into_comma : (y : Option A) (k rest : List Seat) → Both (Leaf kind.Comma) (λ _. Both R (λ x. IsNothing (Some x))) y k rest → Next (IsBehindComma R) y k rest
-  into_comma y k rest (both n m e (both x m2 r h)) = subst (λ z. Next (IsBehindComma R) z k rest) h.0 (record { mid = m; comma = (n, e); element = subst (λ l. R x m l) h.1 r })
+  into_comma : (y : Option A) (k rest : List Seat) → Both (Leaf kind.Comma) (λ _. Both R (λ x. IsNothing (Some x))) y k rest → Next (IsAfterComma R) y k rest
+  into_comma y k rest (both n m e (both x m2 r h)) = subst (λ z. Next (IsAfterComma R) z k rest) h.0 (record { mid = m; comma = (n, e); element = subst (λ l. R x m l) h.1 r })
 
-  comma_by_viable : (o : Option Kind) → Viable free extra (comma_by p o) (Next (IsBehindComma R)) (Exists (Next (IsBehindComma R)))
-  comma_by_viable (Some kind.Comma) = (into_full free extra (comma_by p (Some kind.Comma)) _ (Next (IsBehindComma R)) (kind.Comma ∷ (some ++ [])) into_comma (bind_full free extra (expect kind.Comma) _ (Leaf kind.Comma) (λ _. Both R (λ x. IsNothing (Some x))) (kind.Comma ∷ []) (some ++ []) (expect_full free extra kind.Comma) (λ _. bind_full free extra p _ R (λ x. IsNothing (Some x)) some [] f (λ x. pure_full free extra (Some x))))).viable
-  comma_by_viable _ = (into_full free extra (pure None) (IsNothing None) (Next (IsBehindComma R)) [] (none_next (IsBehindComma R)) (pure_full free extra None)).viable
+  comma_by_viable : (o : Option Kind) → Viable free extra (comma_by p o) (Next (IsAfterComma R)) (Exists (Next (IsAfterComma R)))
+  comma_by_viable (Some kind.Comma) = (into_full free extra (comma_by p (Some kind.Comma)) _ (Next (IsAfterComma R)) (kind.Comma ∷ (some ++ [])) into_comma (bind_full free extra (expect kind.Comma) _ (Leaf kind.Comma) (λ _. Both R (λ x. IsNothing (Some x))) (kind.Comma ∷ []) (some ++ []) (expect_full free extra kind.Comma) (λ _. bind_full free extra p _ R (λ x. IsNothing (Some x)) some [] f (λ x. pure_full free extra (Some x))))).viable
+  comma_by_viable _ = (into_full free extra (pure None) (IsNothing None) (Next (IsAfterComma R)) [] (none_next (IsAfterComma R)) (pure_full free extra None)).viable
 
-  comma_viable : Viable free extra (next_comma p) (Next (IsBehindComma R)) (Exists (Next (IsBehindComma R)))
+  comma_viable : Viable free extra (next_comma p) (Next (IsAfterComma R)) (Exists (Next (IsAfterComma R)))
   unfolding next_comma
-  comma_viable = choice_viable free extra (comma_by p) (Next (IsBehindComma R)) (Exists (Next (IsBehindComma R))) comma_by_viable
+  comma_viable = choice_viable free extra (comma_by p) (Next (IsAfterComma R)) (Exists (Next (IsAfterComma R))) comma_by_viable
 
-  pub more_commas : (found : List A) → Full free extra (many (next_comma p) found) (Lists (IsBehindComma R) found) []
-  more_commas found = many_full free extra (IsBehindComma R) (next_comma p) comma_viable found
+  pub more_commas : (found : List A) → Full free extra (many (next_comma p) found) (Lists (IsAfterComma R) found) []
+  more_commas found = many_full free extra (IsAfterComma R) (next_comma p) comma_viable found
 
-  into_commas : (y : List A) (k rest : List Seat) → Both R (λ x. Lists (IsBehindComma R) (x ∷ [])) y k rest → AreCommas R y k rest
+  into_commas : (y : List A) (k rest : List Seat) → Both R (λ x. Lists (IsAfterComma R) (x ∷ [])) y k rest → AreCommas R y k rest
   into_commas y k rest (both x m r h) = subst (λ z. AreCommas R z k rest) (sym h.1) (m, r, h.2)
 
   pub commas_full : Full free extra (commas p) (AreCommas R) (some ++ [])
   unfolding commas
-  commas_full = into_full free extra (commas p) _ (AreCommas R) (some ++ []) into_commas (bind_full free extra p _ R (λ x. Lists (IsBehindComma R) (x ∷ [])) some [] f (λ x. more_commas (x ∷ [])))
+  commas_full = into_full free extra (commas p) _ (AreCommas R) (some ++ []) into_commas (bind_full free extra p _ R (λ x. Lists (IsAfterComma R) (x ∷ [])) some [] f (λ x. more_commas (x ∷ [])))
 
 module _ (free extra : ℕ) where
   into_next_text : (y : Option ℕ) (k rest : List Seat) → Both (Leaf kind.Text) (λ n. IsNothing (Some n)) y k rest → Next (Leaf kind.Text) y k rest
@@ -115,16 +115,16 @@ abbrev a_cast : TypeName → Step Prefix Expr
 a_cast x = steps.More (prefixes.Cast x)
 
 module _ (free extra : ℕ) (Inner : Expr → List Seat → List Seat → Type 0) (Names : TypeName → List Seat → List Seat → Type 0) (inner : Reader Expr) (names : Reader TypeName) (fi : Full free extra inner Inner Int) (fn : Full free extra names Names (kind.Int ∷ [])) where
-  make_sequence : (x : Expr) (ys : List Expr) (k m rest : List Seat) → Inner x k m → Each (IsBehindComma Inner) ys m rest → IsSequence Inner (sequenced x ys) k rest
+  make_sequence : (x : Expr) (ys : List Expr) (k m rest : List Seat) → Inner x k m → Each (IsAfterComma Inner) ys m rest → IsSequence Inner (sequenced x ys) k rest
   make_sequence x [] k m rest r e = one (subst (λ l. Inner x k l) e r)
   make_sequence x (y ∷ ys) k m rest r e = several x y ys m refl r e
 
-  into_sequence : (y : Expr) (k rest : List Seat) → Both Inner (λ x. Both (Lists (IsBehindComma Inner) []) (λ ys. IsNothing (sequenced x ys))) y k rest → IsSequence Inner y k rest
-  into_sequence y k rest (both x m r (both ys m2 l h)) = subst (λ z. IsSequence Inner z k rest) h.0 (make_sequence x ys k m rest r (subst (λ q. Each (IsBehindComma Inner) ys m q) h.1 (lists_each (IsBehindComma Inner) ys m m2 l)))
+  into_sequence : (y : Expr) (k rest : List Seat) → Both Inner (λ x. Both (Lists (IsAfterComma Inner) []) (λ ys. IsNothing (sequenced x ys))) y k rest → IsSequence Inner y k rest
+  into_sequence y k rest (both x m r (both ys m2 l h)) = subst (λ z. IsSequence Inner z k rest) h.0 (make_sequence x ys k m rest r (subst (λ q. Each (IsAfterComma Inner) ys m q) h.1 (lists_each (IsAfterComma Inner) ys m m2 l)))
 
   pub sequence_full : Full free extra (sequence inner) (IsSequence Inner) Int
   unfolding sequence
-  sequence_full = into_full free extra (sequence inner) _ (IsSequence Inner) Int into_sequence (bind_full free extra inner _ Inner (λ x. Both (Lists (IsBehindComma Inner) []) (λ ys. IsNothing (sequenced x ys))) Int [] fi (λ x. bind_full free extra (many (next_comma inner) []) _ (Lists (IsBehindComma Inner) []) (λ ys. IsNothing (sequenced x ys)) [] [] (more_commas free extra Inner inner Int fi []) (λ ys. pure_full free extra (sequenced x ys))))
+  sequence_full = into_full free extra (sequence inner) _ (IsSequence Inner) Int into_sequence (bind_full free extra inner _ Inner (λ x. Both (Lists (IsAfterComma Inner) []) (λ ys. IsNothing (sequenced x ys))) Int [] fi (λ x. bind_full free extra (many (next_comma inner) []) _ (Lists (IsAfterComma Inner) []) (λ ys. IsNothing (sequenced x ys)) [] [] (more_commas free extra Inner inner Int fi []) (λ ys. pure_full free extra (sequenced x ys))))
 
   -- after the opening bracket
   into_arguments : (ys : List Expr) (k mid rest : List Seat) → AreCommas Inner ys k mid → First kind.CloseParen mid rest → AreArguments Inner ys k rest
@@ -309,7 +309,7 @@ module _ (free extra : ℕ) (Inner : Expr → List Seat → List Seat → Type 0
   cast_step s k rest h n = subst (λ z. IsStep false z ((kind.OpenParen, n) ∷ k) rest) (sym h.2) (is_cast h.0 k h.1 refl refl (n, refl) h.3 h.4)
 
   cast_end_makes : Makes free extra (Joint (Leaf kind.CloseParen) (λ _. Operation false)) (kind.CloseParen ∷ kind.Integer ∷ [])
-  cast_end_makes n rest room = (n, seats (suc n) Int ++ rest, refl, step_makes false (suc n) rest (free_behind free extra ((kind.CloseParen, n) ∷ []) (seats (suc n) Int ++ rest) room))
+  cast_end_makes n rest room = (n, seats (suc n) Int ++ rest, refl, step_makes false (suc n) rest (free_after free extra ((kind.CloseParen, n) ∷ []) (seats (suc n) Int ++ rest) room))
 
   cast_end_viable : (x : TypeName) → Viable free extra (λ k. and_then (expect kind.CloseParen k) (λ _. pure (a_cast x))) (Both (Leaf kind.CloseParen) (λ _. IsNothing (steps.More (prefixes.Cast x)))) (Joint (Leaf kind.CloseParen) (λ _. Operation false))
   cast_end_viable x = bind_viable free extra (expect kind.CloseParen) (λ _. pure (steps.More (prefixes.Cast x))) (Leaf kind.CloseParen) (λ _. IsNothing (steps.More (prefixes.Cast x))) (λ _. Operation false) Int (expect_full free extra kind.CloseParen).viable (λ _. pure_never (steps.More (prefixes.Cast x)) (Operation false)) (λ _. step_makes false)
@@ -366,41 +366,41 @@ module _ (free extra : ℕ) (Inner : Expr → List Seat → List Seat → Type 0
   size_makes : (b : Bool) → Makes free extra (InSizeofAim b) (kind.Integer ∷ kind.CloseParen ∷ [])
   size_makes b n rest room = size_group_aim b (seats n (kind.Integer ∷ kind.CloseParen ∷ []) ++ rest) rest ((group_full (Some prefixes.Sizeof)).makes n rest room)
 
-  abbrev BehindSizeof : Bool → Step Prefix Expr → List Seat → List Seat → Type 0
-  BehindSizeof b s k rest = (n : ℕ) → IsStep b s ((kind.Sizeof, n) ∷ k) rest
+  abbrev AfterSizeof : Bool → Step Prefix Expr → List Seat → List Seat → Type 0
+  AfterSizeof b s k rest = (n : ℕ) → IsStep b s ((kind.Sizeof, n) ∷ k) rest
 
-  abbrev BehindAim : Bool → List Seat → List Seat → Type 0
-  BehindAim b k rest = (n : ℕ) → Operation b ((kind.Sizeof, n) ∷ k) rest
+  abbrev AfterAim : Bool → List Seat → List Seat → Type 0
+  AfterAim b k rest = (n : ℕ) → Operation b ((kind.Sizeof, n) ∷ k) rest
 
-  into_size_bracket : (b : Bool) (s : Step Prefix Expr) (k rest : List Seat) → Both (Leaf kind.OpenParen) (λ _. InSizeof b) s k rest → BehindSizeof b s k rest
+  into_size_bracket : (b : Bool) (s : Step Prefix Expr) (k rest : List Seat) → Both (Leaf kind.OpenParen) (λ _. InSizeof b) s k rest → AfterSizeof b s k rest
   into_size_bracket b s k rest (both i m e h) n = subst (λ l. IsStep b s ((kind.Sizeof, n) ∷ l) rest) (sym e) (h n i)
 
-  size_bracket_aim : (b : Bool) (k rest : List Seat) → Joint (Leaf kind.OpenParen) (λ _. InSizeofAim b) k rest → BehindAim b k rest
+  size_bracket_aim : (b : Bool) (k rest : List Seat) → Joint (Leaf kind.OpenParen) (λ _. InSizeofAim b) k rest → AfterAim b k rest
   size_bracket_aim b k rest h n = subst (λ l. Operation b ((kind.Sizeof, n) ∷ l) rest) (sym h.2) (h.3 n h.0)
 
-  size_bracket_viable : (b : Bool) → Viable free extra (sizeof_bracket inner names) (BehindSizeof b) (BehindAim b)
+  size_bracket_viable : (b : Bool) → Viable free extra (sizeof_bracket inner names) (AfterSizeof b) (AfterAim b)
   unfolding sizeof_bracket
-  size_bracket_viable b = lighter free extra (sizeof_bracket inner names) _ (BehindSizeof b) _ (BehindAim b) (into_size_bracket b) (size_bracket_aim b) (bind_viable free extra (expect kind.OpenParen) _ (Leaf kind.OpenParen) (λ _. InSizeof b) (λ _. InSizeofAim b) (kind.Integer ∷ kind.CloseParen ∷ []) (expect_full free extra kind.OpenParen).viable (λ _. choice_viable free extra (λ o. sized inner names (begins_type o)) (InSizeof b) (InSizeofAim b) (λ o. sized_viable b (begins_type o))) (λ _. size_makes b))
+  size_bracket_viable b = lighter free extra (sizeof_bracket inner names) _ (AfterSizeof b) _ (AfterAim b) (into_size_bracket b) (size_bracket_aim b) (bind_viable free extra (expect kind.OpenParen) _ (Leaf kind.OpenParen) (λ _. InSizeof b) (λ _. InSizeofAim b) (kind.Integer ∷ kind.CloseParen ∷ []) (expect_full free extra kind.OpenParen).viable (λ _. choice_viable free extra (λ o. sized inner names (begins_type o)) (InSizeof b) (InSizeofAim b) (λ o. sized_viable b (begins_type o))) (λ _. size_makes b))
 
-  into_bare : (b : Bool) (s : Step Prefix Expr) (k rest : List Seat) → IsNothing (steps.More prefixes.Sizeof) s k rest → BehindSizeof b s k rest
+  into_bare : (b : Bool) (s : Step Prefix Expr) (k rest : List Seat) → IsNothing (steps.More prefixes.Sizeof) s k rest → AfterSizeof b s k rest
   into_bare b s k rest h n = subst (λ z. IsStep b z ((kind.Sizeof, n) ∷ k) rest) h.0 (is_size refl (n, ap (λ (l : List Seat). (kind.Sizeof, n) ∷ l) h.1))
 
-  sizeof_by_viable : (b : Bool) (o : Option Kind) → Viable free extra (sizeof_by inner names o) (BehindSizeof b) (BehindAim b)
+  sizeof_by_viable : (b : Bool) (o : Option Kind) → Viable free extra (sizeof_by inner names o) (AfterSizeof b) (AfterAim b)
   sizeof_by_viable b (Some kind.OpenParen) = size_bracket_viable b
-  sizeof_by_viable b _ = lighter free extra (pure (steps.More prefixes.Sizeof)) (IsNothing (steps.More prefixes.Sizeof)) (BehindSizeof b) (BehindAim b) (BehindAim b) (into_bare b) (λ k rest h. h) (pure_never (steps.More prefixes.Sizeof) (BehindAim b))
+  sizeof_by_viable b _ = lighter free extra (pure (steps.More prefixes.Sizeof)) (IsNothing (steps.More prefixes.Sizeof)) (AfterSizeof b) (AfterAim b) (AfterAim b) (into_bare b) (λ k rest h. h) (pure_never (steps.More prefixes.Sizeof) (AfterAim b))
 
-  behind_makes : (b : Bool) → Makes free extra (BehindAim b) Int
-  behind_makes b n rest room i = (prefixes.Sizeof ∷ [], None, tree.Integer n, seats n Int ++ rest, (seats n Int ++ rest, is_size refl (i, refl), refl), integer n refl refl)
+  after_makes : (b : Bool) → Makes free extra (AfterAim b) Int
+  after_makes b n rest room i = (prefixes.Sizeof ∷ [], None, tree.Integer n, seats n Int ++ rest, (seats n Int ++ rest, is_size refl (i, refl), refl), integer n refl refl)
 
-  into_size : (b : Bool) (s : Step Prefix Expr) (k rest : List Seat) → Both (Leaf kind.Sizeof) (λ _. BehindSizeof b) s k rest → IsStep b s k rest
+  into_size : (b : Bool) (s : Step Prefix Expr) (k rest : List Seat) → Both (Leaf kind.Sizeof) (λ _. AfterSizeof b) s k rest → IsStep b s k rest
   into_size b s k rest (both n m e h) = subst (λ l. IsStep b s l rest) (sym e) (h n)
 
-  size_aim : (b : Bool) (k rest : List Seat) → Joint (Leaf kind.Sizeof) (λ _. BehindAim b) k rest → Operation b k rest
+  size_aim : (b : Bool) (k rest : List Seat) → Joint (Leaf kind.Sizeof) (λ _. AfterAim b) k rest → Operation b k rest
   size_aim b k rest h = subst (λ l. Operation b l rest) (sym h.2) (h.3 h.0)
 
   sizeof_viable : (b : Bool) → Viable free extra (sizeof inner names) (IsStep b) (Operation b)
   unfolding sizeof
-  sizeof_viable b = lighter free extra (sizeof inner names) _ (IsStep b) _ (Operation b) (into_size b) (size_aim b) (bind_viable free extra (expect kind.Sizeof) _ (Leaf kind.Sizeof) (λ _. BehindSizeof b) (λ _. BehindAim b) Int (expect_full free extra kind.Sizeof).viable (λ _. choice_viable free extra (sizeof_by inner names) (BehindSizeof b) (BehindAim b) (sizeof_by_viable b)) (λ _. behind_makes b))
+  sizeof_viable b = lighter free extra (sizeof inner names) _ (IsStep b) _ (Operation b) (into_size b) (size_aim b) (bind_viable free extra (expect kind.Sizeof) _ (Leaf kind.Sizeof) (λ _. AfterSizeof b) (λ _. AfterAim b) Int (expect_full free extra kind.Sizeof).viable (λ _. choice_viable free extra (sizeof_by inner names) (AfterSizeof b) (AfterAim b) (sizeof_by_viable b)) (λ _. after_makes b))
 
   -- directly after `sizeof` no bracket is met
   abbrev closed_by : Option Kind → Reader (Step Prefix Expr)
@@ -712,11 +712,11 @@ module _ (free extra : ℕ) (Inner : Expr → List Seat → List Seat → Type 0
   Value o y k rest = (o ≡ None) × IsConditional Inner Names y k rest
 
   -- what comes after a prefix expression
-  abbrev Behind : Expr → Step (Expr × Assignment) Expr → List Seat → List Seat → Type 0
-  Behind x s k rest = (m : List Seat) → IsPrefix Inner Names x m k → StepOf Target Value s m rest
+  abbrev After : Expr → Step (Expr × Assignment) Expr → List Seat → List Seat → Type 0
+  After x s k rest = (m : List Seat) → IsPrefix Inner Names x m k → StepOf Target Value s m rest
 
-  abbrev BehindWhole : Expr → List Seat → List Seat → Type 0
-  BehindWhole x k rest = (m : List Seat) → IsPrefix Inner Names x m k → Whole Target Value m rest
+  abbrev AfterWhole : Expr → List Seat → List Seat → Type 0
+  AfterWhole x k rest = (m : List Seat) → IsPrefix Inner Names x m k → Whole Target Value m rest
 
   abbrev a_target : Expr → Assignment → Step (Expr × Assignment) Expr
   a_target x op = steps.More (x, op)
@@ -724,44 +724,44 @@ module _ (free extra : ℕ) (Inner : Expr → List Seat → List Seat → Type 0
   abbrev a_value : Expr → Step (Expr × Assignment) Expr
   a_value y = steps.Last None y
 
-  value_whole : (x y : Expr) (k rest : List Seat) → Conditional x y k rest → BehindWhole x k rest
+  value_whole : (x y : Expr) (k rest : List Seat) → Conditional x y k rest → AfterWhole x k rest
   value_whole x y k rest c m p = ([], None, y, m, refl, (refl, c m p))
 
-  behind_whole_makes : (x : Expr) → Makes free extra (BehindWhole x) []
-  behind_whole_makes x n rest room = let t = (conditional_full x).makes n rest room in value_whole x t.0 rest rest t.1
+  after_whole_makes : (x : Expr) → Makes free extra (AfterWhole x) []
+  after_whole_makes x n rest room = let t = (conditional_full x).makes n rest room in value_whole x t.0 rest rest t.1
 
-  into_target : (x : Expr) (op : Assignment) (s : Step (Expr × Assignment) Expr) (k rest : List Seat) → Both (Leaf (assignment_mark op)) (λ _. IsNothing (a_target x op)) s k rest → Behind x s k rest
+  into_target : (x : Expr) (op : Assignment) (s : Step (Expr × Assignment) Expr) (k rest : List Seat) → Both (Leaf (assignment_mark op)) (λ _. IsNothing (a_target x op)) s k rest → After x s k rest
   into_target x op s k rest (both n m e h) front p = subst (λ z. StepOf Target Value z front rest) h.0 (record { mid = k; operand = p; operator = first_then (assignment_mark op) n k m rest e h.1 })
 
   -- the shortest value
   whole_makes : Makes free extra (Whole Target Value) Int
-  whole_makes n rest room = let p = prefix_full.makes n rest room in behind_whole_makes p.0 (suc n) rest (free_behind free extra ((kind.Integer, n) ∷ []) rest room) (seats n Int ++ rest) p.1
+  whole_makes n rest room = let p = prefix_full.makes n rest room in after_whole_makes p.0 (suc n) rest (free_after free extra ((kind.Integer, n) ∷ []) rest room) (seats n Int ++ rest) p.1
 
-  target_aim : (x : Expr) (op : Assignment) (k rest : List Seat) → Joint (Leaf (assignment_mark op)) (λ _. Whole Target Value) k rest → BehindWhole x k rest
+  target_aim : (x : Expr) (op : Assignment) (k rest : List Seat) → Joint (Leaf (assignment_mark op)) (λ _. Whole Target Value) k rest → AfterWhole x k rest
   target_aim x op k rest h front p = let w = h.3 in ((x, op) ∷ w.0, w.1, w.2, w.3, (h.1, record { mid = k; operand = p; operator = (h.0, h.2) }, w.4), w.5)
 
-  target_viable : (x : Expr) (op : Assignment) → Viable free extra (target_by inner names x (Some op)) (Behind x) (BehindWhole x)
-  target_viable x op = lighter free extra (target_by inner names x (Some op)) _ (Behind x) _ (BehindWhole x) (into_target x op) (target_aim x op) (bind_viable free extra (expect (assignment_mark op)) (λ _. pure (a_target x op)) (Leaf (assignment_mark op)) (λ _. IsNothing (a_target x op)) (λ _. Whole Target Value) Int (expect_full free extra (assignment_mark op)).viable (λ _. pure_never (a_target x op) (Whole Target Value)) (λ _. whole_makes))
+  target_viable : (x : Expr) (op : Assignment) → Viable free extra (target_by inner names x (Some op)) (After x) (AfterWhole x)
+  target_viable x op = lighter free extra (target_by inner names x (Some op)) _ (After x) _ (AfterWhole x) (into_target x op) (target_aim x op) (bind_viable free extra (expect (assignment_mark op)) (λ _. pure (a_target x op)) (Leaf (assignment_mark op)) (λ _. IsNothing (a_target x op)) (λ _. Whole Target Value) Int (expect_full free extra (assignment_mark op)).viable (λ _. pure_never (a_target x op) (Whole Target Value)) (λ _. whole_makes))
 
-  into_value : (x : Expr) (s : Step (Expr × Assignment) Expr) (k rest : List Seat) → Both (Conditional x) (λ y. IsNothing (a_value y)) s k rest → Behind x s k rest
+  into_value : (x : Expr) (s : Step (Expr × Assignment) Expr) (k rest : List Seat) → Both (Conditional x) (λ y. IsNothing (a_value y)) s k rest → After x s k rest
   into_value x s k rest (both y m c h) front p = subst (λ z. StepOf Target Value z front rest) h.0 (refl, subst (λ l. IsConditional Inner Names y front l) h.1 (c front p))
 
-  value_aim : (x : Expr) (s : Step (Expr × Assignment) Expr) (k rest : List Seat) → Both (Conditional x) (λ y. IsNothing (a_value y)) s k rest → BehindWhole x k rest
+  value_aim : (x : Expr) (s : Step (Expr × Assignment) Expr) (k rest : List Seat) → Both (Conditional x) (λ y. IsNothing (a_value y)) s k rest → AfterWhole x k rest
   value_aim x s k rest (both y m c h) = value_whole x y k rest (λ front p. subst (λ l. IsConditional Inner Names y front l) h.1 (c front p))
 
-  value_viable : (x : Expr) → Viable free extra (target_by inner names x None) (Behind x) (BehindWhole x)
-  value_viable x = lighter free extra (target_by inner names x None) _ (Behind x) _ (BehindWhole x) (into_value x) (λ k rest h. value_aim x h.0 k rest h.1) (bind_full free extra (conditional_from inner names x) _ (Conditional x) (λ y. IsNothing (a_value y)) [] [] (conditional_full x) (λ y. pure_full free extra (a_value y))).viable
+  value_viable : (x : Expr) → Viable free extra (target_by inner names x None) (After x) (AfterWhole x)
+  value_viable x = lighter free extra (target_by inner names x None) _ (After x) _ (AfterWhole x) (into_value x) (λ k rest h. value_aim x h.0 k rest h.1) (bind_full free extra (conditional_from inner names x) _ (Conditional x) (λ y. IsNothing (a_value y)) [] [] (conditional_full x) (λ y. pure_full free extra (a_value y))).viable
 
-  target_by_viable : (x : Expr) (o : Option Assignment) → Viable free extra (target_by inner names x o) (Behind x) (BehindWhole x)
+  target_by_viable : (x : Expr) (o : Option Assignment) → Viable free extra (target_by inner names x o) (After x) (AfterWhole x)
   target_by_viable x None = value_viable x
   target_by_viable x (Some op) = target_viable x op
 
-  into_target_step : (s : Step (Expr × Assignment) Expr) (k rest : List Seat) → Both (IsPrefix Inner Names) Behind s k rest → StepOf Target Value s k rest
+  into_target_step : (s : Step (Expr × Assignment) Expr) (k rest : List Seat) → Both (IsPrefix Inner Names) After s k rest → StepOf Target Value s k rest
   into_target_step s k rest (both x m p c) = c k p
 
   target_step_viable : Viable free extra (target_step inner names) (StepOf Target Value) (Whole Target Value)
   unfolding target_step
-  target_step_viable = lighter free extra (target_step inner names) (Both (IsPrefix Inner Names) Behind) (StepOf Target Value) (Joint (IsPrefix Inner Names) BehindWhole) (Whole Target Value) into_target_step (λ k rest h. h.3 k h.2) (bind_viable free extra (prefix inner names) _ (IsPrefix Inner Names) Behind BehindWhole [] prefix_full.viable (λ x. choice_viable free extra (λ o. target_by inner names x (assignment_in o)) (Behind x) (BehindWhole x) (λ o. target_by_viable x (assignment_in o))) behind_whole_makes)
+  target_step_viable = lighter free extra (target_step inner names) (Both (IsPrefix Inner Names) After) (StepOf Target Value) (Joint (IsPrefix Inner Names) AfterWhole) (Whole Target Value) into_target_step (λ k rest h. h.3 k h.2) (bind_viable free extra (prefix inner names) _ (IsPrefix Inner Names) After AfterWhole [] prefix_full.viable (λ x. choice_viable free extra (λ o. target_by inner names x (assignment_in o)) (After x) (AfterWhole x) (λ o. target_by_viable x (assignment_in o))) after_whole_makes)
 
   make_single : (targets : List (Expr × Assignment)) (x : Expr) (k mid rest : List Seat) → Each Target targets k mid → IsConditional Inner Names x mid rest → IsSingle Inner Names (assigned targets x) k rest
   make_single [] x k mid rest e c = value (subst (λ l. IsConditional Inner Names x l rest) (sym e) c)

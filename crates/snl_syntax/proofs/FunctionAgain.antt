@@ -12,7 +12,7 @@ use Rattle.snl_syntax.specs.declared.tree.item.StructMember.TheVariants as membe
 use Rattle.snl_syntax.specs.Tokens.{Seat, same}
 use Rattle.snl_syntax.specs.Steps.{Reader, kind_at, expect, many}
 use Rattle.snl_syntax.specs.Grammar.Base.{Each, First, Leaf, Perhaps}
-use Rattle.snl_syntax.specs.Grammar.Expressions.{IsBehindComma, AreCommas, IsAssignx}
+use Rattle.snl_syntax.specs.Grammar.Expressions.{IsAfterComma, AreCommas, IsAssignx}
 use Rattle.snl_syntax.specs.Grammar.Declarations.{IsLength}
 use Rattle.snl_syntax.specs.Grammar.Functions.{IsParameterOf, IsParameter, AreParameters, IsBody, IsStructMember, declaration as is_declaration, c_block as is_c_block}
 use Rattle.snl_syntax.specs.Reading.Types.{type_of, stars, begins_type}
@@ -32,22 +32,22 @@ use Rattle.snl_syntax.proofs.FunctionLocal.{next_member_eats}
 -- ---- lists with commas, of elements that the kinds `ends` may follow
 
 module _ (free : ℕ) {A : Type 0} (R : A → List Seat → List Seat → Type 0) (p : Reader A) (local : Local p) (ends : Kind → Bool) (comma_ends : ends kind.Comma ≡ true) (again : (x : A) (k rest : List Seat) → R x k rest → Heads ends rest → Comes free (p k) x rest) where
-  comma_heads : (x : A) (k m : List Seat) → IsBehindComma R x k m → Heads ends k
+  comma_heads : (x : A) (k m : List Seat) → IsAfterComma R x k m → Heads ends k
   comma_heads x k m is = first_heads kind.Comma ends k is.mid comma_ends is.comma
 
-  comma_again : (x : A) (k m : List Seat) → IsBehindComma R x k m → Heads ends m → Comes free (next_comma p k) (Some x) m
+  comma_again : (x : A) (k m : List Seat) → IsAfterComma R x k m → Heads ends m → Comes free (next_comma p k) (Some x) m
   comma_again x k m is h = comma_comes free R p x k m is (again x is.mid m is.element h)
 
-  behind_element : (xs : List A) (k rest : List Seat) → Each (IsBehindComma R) xs k rest → Heads ends rest → Heads ends k
-  behind_element [] k rest each h = subst (Heads ends) (sym each) h
-  behind_element (x ∷ xs) k rest each h = comma_heads x k each.0 each.1
+  after_element : (xs : List A) (k rest : List Seat) → Each (IsAfterComma R) xs k rest → Heads ends rest → Heads ends k
+  after_element [] k rest each h = subst (Heads ends) (sym each) h
+  after_element (x ∷ xs) k rest each h = comma_heads x k each.0 each.1
 
   pub commas_comes : (xs : List A) (k rest : List Seat) → AreCommas R xs k rest → Heads ends rest → Lacks kind.Comma rest → Comes free (commas p k) xs rest
   unfolding commas
   commas_comes [] k rest is h c = absurd is
   commas_comes (x ∷ xs) k rest is h c =
-      bind_comes free (p k) _ x is.0 (x ∷ xs) rest (again x k is.0 is.1 (behind_element xs is.0 rest is.2 h))
-      (many_comes free (next_comma p) (comma_eats p local) (IsBehindComma R) (Heads ends) comma_heads comma_again (x ∷ []) xs is.0 rest is.2 h (no_comma free p rest c))
+      bind_comes free (p k) _ x is.0 (x ∷ xs) rest (again x k is.0 is.1 (after_element xs is.0 rest is.2 h))
+      (many_comes free (next_comma p) (comma_eats p local) (IsAfterComma R) (Heads ends) comma_heads comma_again (x ∷ []) xs is.0 rest is.2 h (no_comma free p rest c))
 
 -- ---- a parameter
 

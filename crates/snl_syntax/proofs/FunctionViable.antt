@@ -191,92 +191,92 @@ module _ (free extra depth : ℕ) (Block : List Member → List Seat → List Se
   IsTyped = IsTypedItem (IsDeclarationOf (IsAssignx free extra (depth - 1)) (IsInit free extra depth)) (IsDeclaration free extra (depth - 1)) (IsParameter free extra (depth - 1)) Block
 
   -- what comes after a type, stars and a name
-  abbrev BehindName : QualifiedType → List Pointer → ℕ → Item → List Seat → List Seat → Type 0
-  BehindName t ps n y k rest = (k1 k2 k3 : List Seat) → IsType t k1 k2 → Each IsPointer ps k2 k3 → Leaf kind.Name n k3 k → IsTyped y k1 rest
+  abbrev AfterName : QualifiedType → List Pointer → ℕ → Item → List Seat → List Seat → Type 0
+  AfterName t ps n y k rest = (k1 k2 k3 : List Seat) → IsType t k1 k2 → Each IsPointer ps k2 k3 → Leaf kind.Name n k3 k → IsTyped y k1 rest
 
-  into_definition : (t : QualifiedType) (ps : List Pointer) (n : ℕ) (y : Item) (k rest : List Seat) → Both (IsDeclarationFrom (IsAssignx free extra (depth - 1)) (IsInit free extra depth) t ps n) (λ d. IsNothing (items.Definition d)) y k rest → BehindName t ps n y k rest
+  into_definition : (t : QualifiedType) (ps : List Pointer) (n : ℕ) (y : Item) (k rest : List Seat) → Both (IsDeclarationFrom (IsAssignx free extra (depth - 1)) (IsInit free extra depth) t ps n) (λ d. IsNothing (items.Definition d)) y k rest → AfterName t ps n y k rest
   into_definition t ps n y k rest (both d m r h) k1 k2 k3 of_type pointers name =
       let first = r.2 in
       let more = r.3 in
       let is : IsDeclarationOf (IsAssignx free extra (depth - 1)) (IsInit free extra depth) (make_declaration t (r.0 ∷ more.ds)) k1 rest = record { m1 = k2; m2 = more.mid; of_type = of_type; declarators = (r.1, subst (λ z. IsDeclarator (IsAssignx free extra (depth - 1)) (IsInit free extra depth) z k2 r.1) first.made (record { m1 = k3; m2 = k; m3 = first.mid; stars = pointers; name = name; lengths = first.lengths; init = first.init }), more.more); semicolon = subst (λ l. First kind.Semicolon more.mid l) h.1 more.semicolon } in
       subst (λ z. IsTyped z k1 rest) h.0 (is_definition d refl (subst (λ z. IsDeclarationOf (IsAssignx free extra (depth - 1)) (IsInit free extra depth) z k1 rest) more.made is))
 
-  declaration_item_full : (t : QualifiedType) (ps : List Pointer) (n : ℕ) → Full free extra (declaration_item depth t ps n) (BehindName t ps n) (kind.Semicolon ∷ [])
+  declaration_item_full : (t : QualifiedType) (ps : List Pointer) (n : ℕ) → Full free extra (declaration_item depth t ps n) (AfterName t ps n) (kind.Semicolon ∷ [])
   unfolding declaration_item
-  declaration_item_full t ps n = into_full free extra (declaration_item depth t ps n) _ (BehindName t ps n) (kind.Semicolon ∷ []) (into_definition t ps n) (bind_full free extra (declaration_from (assignx (depth - 1)) (init depth) t ps n) _ (IsDeclarationFrom (IsAssignx free extra (depth - 1)) (IsInit free extra depth) t ps n) (λ d. IsNothing (items.Definition d)) (kind.Semicolon ∷ []) [] (declaration_from_full free extra (IsAssignx free extra (depth - 1)) (IsInit free extra depth) (assignx (depth - 1)) (init depth) (assignx_full free extra (depth - 1)) (init_full free extra depth) t ps n) (λ d. pure_full free extra (items.Definition d)))
+  declaration_item_full t ps n = into_full free extra (declaration_item depth t ps n) _ (AfterName t ps n) (kind.Semicolon ∷ []) (into_definition t ps n) (bind_full free extra (declaration_from (assignx (depth - 1)) (init depth) t ps n) _ (IsDeclarationFrom (IsAssignx free extra (depth - 1)) (IsInit free extra depth) t ps n) (λ d. IsNothing (items.Definition d)) (kind.Semicolon ∷ []) [] (declaration_from_full free extra (IsAssignx free extra (depth - 1)) (IsInit free extra depth) (assignx (depth - 1)) (init depth) (assignx_full free extra (depth - 1)) (init_full free extra depth) t ps n) (λ d. pure_full free extra (items.Definition d)))
 
-  into_function_item : (t : QualifiedType) (ps : List Pointer) (n : ℕ) (y : Item) (k rest : List Seat) → Both (IsFunctionFrom (IsParameter free extra (depth - 1)) Block t ps n) (λ f. IsNothing (items.Function f)) y k rest → BehindName t ps n y k rest
+  into_function_item : (t : QualifiedType) (ps : List Pointer) (n : ℕ) (y : Item) (k rest : List Seat) → Both (IsFunctionFrom (IsParameter free extra (depth - 1)) Block t ps n) (λ f. IsNothing (items.Function f)) y k rest → AfterName t ps n y k rest
   into_function_item t ps n y k rest (both f m r h) k1 k2 k3 of_type pointers name =
       let is : IsFunction (IsParameter free extra (depth - 1)) Block (make_function t ps n r.xs r.b) k1 rest = record { m1 = k2; m2 = k3; m3 = k; m4 = r.m1; m5 = r.m2; of_type = of_type; stars = pointers; name = name; opening = r.opening; parameters = r.parameters; body = subst (λ l. IsBody Block r.b r.m2 l) h.1 r.body } in
       subst (λ z. IsTyped z k1 rest) h.0 (is_function f refl (subst (λ z. IsFunction (IsParameter free extra (depth - 1)) Block z k1 rest) r.made is))
 
-  function_item_viable : (t : QualifiedType) (ps : List Pointer) (n : ℕ) → Viable free extra (function_item depth block t ps n) (BehindName t ps n) (Exists (BehindName t ps n))
+  function_item_viable : (t : QualifiedType) (ps : List Pointer) (n : ℕ) → Viable free extra (function_item depth block t ps n) (AfterName t ps n) (Exists (AfterName t ps n))
   unfolding function_item
-  function_item_viable t ps n = (into_full free extra (function_item depth block t ps n) _ (BehindName t ps n) (kind.OpenParen ∷ kind.CloseParen ∷ kind.Semicolon ∷ []) (into_function_item t ps n) (bind_full free extra (function_from (parameter (depth - 1)) block t ps n) _ (IsFunctionFrom (IsParameter free extra (depth - 1)) Block t ps n) (λ f. IsNothing (items.Function f)) (kind.OpenParen ∷ kind.CloseParen ∷ kind.Semicolon ∷ []) [] (function_from_full free extra (IsParameter free extra (depth - 1)) (parameter (depth - 1)) (parameter_full free extra (depth - 1)) Block block start fb t ps n) (λ f. pure_full free extra (items.Function f)))).viable
+  function_item_viable t ps n = (into_full free extra (function_item depth block t ps n) _ (AfterName t ps n) (kind.OpenParen ∷ kind.CloseParen ∷ kind.Semicolon ∷ []) (into_function_item t ps n) (bind_full free extra (function_from (parameter (depth - 1)) block t ps n) _ (IsFunctionFrom (IsParameter free extra (depth - 1)) Block t ps n) (λ f. IsNothing (items.Function f)) (kind.OpenParen ∷ kind.CloseParen ∷ kind.Semicolon ∷ []) [] (function_from_full free extra (IsParameter free extra (depth - 1)) (parameter (depth - 1)) (parameter_full free extra (depth - 1)) Block block start fb t ps n) (λ f. pure_full free extra (items.Function f)))).viable
 
-  named_by_viable : (t : QualifiedType) (ps : List Pointer) (n : ℕ) (o : Option Kind) → Viable free extra (named_by depth block t ps n o) (BehindName t ps n) (Exists (BehindName t ps n))
+  named_by_viable : (t : QualifiedType) (ps : List Pointer) (n : ℕ) (o : Option Kind) → Viable free extra (named_by depth block t ps n o) (AfterName t ps n) (Exists (AfterName t ps n))
   named_by_viable t ps n (Some kind.OpenParen) = function_item_viable t ps n
   named_by_viable t ps n _ = (declaration_item_full t ps n).viable
 
-  named_item_full : (t : QualifiedType) (ps : List Pointer) (n : ℕ) → Full free extra (named_item depth block t ps n) (BehindName t ps n) (kind.Semicolon ∷ [])
+  named_item_full : (t : QualifiedType) (ps : List Pointer) (n : ℕ) → Full free extra (named_item depth block t ps n) (AfterName t ps n) (kind.Semicolon ∷ [])
   unfolding named_item
-  named_item_full t ps n = record { viable = choice_viable free extra (named_by depth block t ps n) (BehindName t ps n) (Exists (BehindName t ps n)) (named_by_viable t ps n); makes = (declaration_item_full t ps n).makes }
+  named_item_full t ps n = record { viable = choice_viable free extra (named_by depth block t ps n) (AfterName t ps n) (Exists (AfterName t ps n)) (named_by_viable t ps n); makes = (declaration_item_full t ps n).makes }
 
   -- what comes after a type
-  abbrev BehindType : QualifiedType → Item → List Seat → List Seat → Type 0
-  BehindType t y k rest = (k1 : List Seat) → IsType t k1 k → IsTyped y k1 rest
+  abbrev AfterType : QualifiedType → Item → List Seat → List Seat → Type 0
+  AfterType t y k rest = (k1 : List Seat) → IsType t k1 k → IsTyped y k1 rest
 
-  into_of : (t : QualifiedType) (y : Item) (k rest : List Seat) → Both (Each IsPointer) (λ ps. Both (Leaf kind.Name) (λ n. BehindName t ps n)) y k rest → BehindType t y k rest
+  into_of : (t : QualifiedType) (y : Item) (k rest : List Seat) → Both (Each IsPointer) (λ ps. Both (Leaf kind.Name) (λ n. AfterName t ps n)) y k rest → AfterType t y k rest
   into_of t y k rest (both ps m1 w1 (both n m2 w2 b)) k1 of_type = b k1 k m1 of_type w1 w2
 
-  item_of_full : (t : QualifiedType) → Full free extra (item_of depth block t) (BehindType t) (kind.Name ∷ kind.Semicolon ∷ [])
+  item_of_full : (t : QualifiedType) → Full free extra (item_of depth block t) (AfterType t) (kind.Name ∷ kind.Semicolon ∷ [])
   unfolding item_of
-  item_of_full t = into_full free extra (item_of depth block t) _ (BehindType t) (kind.Name ∷ kind.Semicolon ∷ []) (into_of t) (bind_full free extra stars _ (Each IsPointer) (λ ps. Both (Leaf kind.Name) (λ n. BehindName t ps n)) [] (kind.Name ∷ kind.Semicolon ∷ []) (stars_full free extra) (λ ps. bind_full free extra (expect kind.Name) _ (Leaf kind.Name) (λ n. BehindName t ps n) (kind.Name ∷ []) (kind.Semicolon ∷ []) (expect_full free extra kind.Name) (λ n. named_item_full t ps n)))
+  item_of_full t = into_full free extra (item_of depth block t) _ (AfterType t) (kind.Name ∷ kind.Semicolon ∷ []) (into_of t) (bind_full free extra stars _ (Each IsPointer) (λ ps. Both (Leaf kind.Name) (λ n. AfterName t ps n)) [] (kind.Name ∷ kind.Semicolon ∷ []) (stars_full free extra) (λ ps. bind_full free extra (expect kind.Name) _ (Leaf kind.Name) (λ n. AfterName t ps n) (kind.Name ∷ []) (kind.Semicolon ∷ []) (expect_full free extra kind.Name) (λ n. named_item_full t ps n)))
 
   -- what comes after `struct NAME`
-  abbrev BehindStruct : ℕ → Item → List Seat → List Seat → Type 0
-  BehindStruct n y k rest = (k1 k2 : List Seat) → First kind.Struct k1 k2 → Leaf kind.Name n k2 k → IsTyped y k1 rest
+  abbrev AfterStruct : ℕ → Item → List Seat → List Seat → Type 0
+  AfterStruct n y k rest = (k1 k2 : List Seat) → First kind.Struct k1 k2 → Leaf kind.Name n k2 k → IsTyped y k1 rest
 
-  into_struct : (n : ℕ) (y : Item) (k rest : List Seat) → Both (AreMembers free extra (IsDeclaration free extra (depth - 1)) (declaration (depth - 1)) (kind.Int ∷ kind.Name ∷ kind.Semicolon ∷ []) (declaration_full free extra (depth - 1))) (λ xs. IsNothing (items.StructDef n xs)) y k rest → BehindStruct n y k rest
+  into_struct : (n : ℕ) (y : Item) (k rest : List Seat) → Both (AreMembers free extra (IsDeclaration free extra (depth - 1)) (declaration (depth - 1)) (kind.Int ∷ kind.Name ∷ kind.Semicolon ∷ []) (declaration_full free extra (depth - 1))) (λ xs. IsNothing (items.StructDef n xs)) y k rest → AfterStruct n y k rest
   into_struct n y k rest (both xs m r h) k1 k2 w e = subst (λ z. IsTyped z k1 rest) h.0 (is_struct n xs refl (subst (λ l. IsStruct (IsDeclaration free extra (depth - 1)) n xs k1 l) h.1 (r n k1 k2 w e)))
 
-  struct_definition_viable : (n : ℕ) → Viable free extra (struct_definition depth n) (BehindStruct n) (Exists (BehindStruct n))
+  struct_definition_viable : (n : ℕ) → Viable free extra (struct_definition depth n) (AfterStruct n) (Exists (AfterStruct n))
   unfolding struct_definition
-  struct_definition_viable n = (into_full free extra (struct_definition depth n) _ (BehindStruct n) (kind.OpenBrace ∷ kind.CloseBrace ∷ kind.Semicolon ∷ []) (into_struct n) (bind_full free extra (struct_members (declaration (depth - 1))) _ (AreMembers free extra (IsDeclaration free extra (depth - 1)) (declaration (depth - 1)) (kind.Int ∷ kind.Name ∷ kind.Semicolon ∷ []) (declaration_full free extra (depth - 1))) (λ xs. IsNothing (items.StructDef n xs)) (kind.OpenBrace ∷ kind.CloseBrace ∷ kind.Semicolon ∷ []) [] (struct_members_full free extra (IsDeclaration free extra (depth - 1)) (declaration (depth - 1)) (kind.Int ∷ kind.Name ∷ kind.Semicolon ∷ []) (declaration_full free extra (depth - 1))) (λ xs. pure_full free extra (items.StructDef n xs)))).viable
+  struct_definition_viable n = (into_full free extra (struct_definition depth n) _ (AfterStruct n) (kind.OpenBrace ∷ kind.CloseBrace ∷ kind.Semicolon ∷ []) (into_struct n) (bind_full free extra (struct_members (declaration (depth - 1))) _ (AreMembers free extra (IsDeclaration free extra (depth - 1)) (declaration (depth - 1)) (kind.Int ∷ kind.Name ∷ kind.Semicolon ∷ []) (declaration_full free extra (depth - 1))) (λ xs. IsNothing (items.StructDef n xs)) (kind.OpenBrace ∷ kind.CloseBrace ∷ kind.Semicolon ∷ []) [] (struct_members_full free extra (IsDeclaration free extra (depth - 1)) (declaration (depth - 1)) (kind.Int ∷ kind.Name ∷ kind.Semicolon ∷ []) (declaration_full free extra (depth - 1))) (λ xs. pure_full free extra (items.StructDef n xs)))).viable
 
   type_from_full : (n : ℕ) → Full free extra (type_from false (bases.Struct n)) (Both (Written kind.Const) (λ after. IsNothing (make_type false (bases.Struct n) after))) []
   unfolding type_from
   type_from_full n = bind_full free extra (accept kind.Const) _ (Written kind.Const) (λ after. IsNothing (make_type false (bases.Struct n) after)) [] [] (accept_full free extra kind.Const) (λ after. pure_full free extra (make_type false (bases.Struct n) after))
 
-  into_type : (n : ℕ) (y : Item) (k rest : List Seat) → Both (Both (Written kind.Const) (λ after. IsNothing (make_type false (bases.Struct n) after))) BehindType y k rest → BehindStruct n y k rest
+  into_type : (n : ℕ) (y : Item) (k rest : List Seat) → Both (Both (Written kind.Const) (λ after. IsNothing (make_type false (bases.Struct n) after))) AfterType y k rest → AfterStruct n y k rest
   into_type n y k rest (both t m (both after m1 w h) b) k1 k2 f e =
       b k1 (subst (λ z. IsType z k1 m) h.0 (record { m1 = k1; m2 = k; before = refl; base = (k2, f, e); after = subst (λ l. Written kind.Const after k l) h.1 w }))
 
-  struct_type_full : (n : ℕ) → Full free extra (struct_type depth block n) (BehindStruct n) (kind.Name ∷ kind.Semicolon ∷ [])
+  struct_type_full : (n : ℕ) → Full free extra (struct_type depth block n) (AfterStruct n) (kind.Name ∷ kind.Semicolon ∷ [])
   unfolding struct_type
-  struct_type_full n = into_full free extra (struct_type depth block n) _ (BehindStruct n) (kind.Name ∷ kind.Semicolon ∷ []) (into_type n) (bind_full free extra (type_from false (bases.Struct n)) _ (Both (Written kind.Const) (λ after. IsNothing (make_type false (bases.Struct n) after))) BehindType [] (kind.Name ∷ kind.Semicolon ∷ []) (type_from_full n) item_of_full)
+  struct_type_full n = into_full free extra (struct_type depth block n) _ (AfterStruct n) (kind.Name ∷ kind.Semicolon ∷ []) (into_type n) (bind_full free extra (type_from false (bases.Struct n)) _ (Both (Written kind.Const) (λ after. IsNothing (make_type false (bases.Struct n) after))) AfterType [] (kind.Name ∷ kind.Semicolon ∷ []) (type_from_full n) item_of_full)
 
-  struct_by_viable : (n : ℕ) (o : Option Kind) → Viable free extra (struct_by depth block n o) (BehindStruct n) (Exists (BehindStruct n))
+  struct_by_viable : (n : ℕ) (o : Option Kind) → Viable free extra (struct_by depth block n o) (AfterStruct n) (Exists (AfterStruct n))
   struct_by_viable n (Some kind.OpenBrace) = struct_definition_viable n
   struct_by_viable n _ = (struct_type_full n).viable
 
-  struct_from_full : (n : ℕ) → Full free extra (struct_from depth block n) (BehindStruct n) (kind.Name ∷ kind.Semicolon ∷ [])
+  struct_from_full : (n : ℕ) → Full free extra (struct_from depth block n) (AfterStruct n) (kind.Name ∷ kind.Semicolon ∷ [])
   unfolding struct_from
-  struct_from_full n = record { viable = choice_viable free extra (struct_by depth block n) (BehindStruct n) (Exists (BehindStruct n)) (struct_by_viable n); makes = (struct_type_full n).makes }
+  struct_from_full n = record { viable = choice_viable free extra (struct_by depth block n) (AfterStruct n) (Exists (AfterStruct n)) (struct_by_viable n); makes = (struct_type_full n).makes }
 
-  into_struct_item : (y : Item) (k rest : List Seat) → Both (Leaf kind.Struct) (λ _. Both (Leaf kind.Name) BehindStruct) y k rest → IsTyped y k rest
+  into_struct_item : (y : Item) (k rest : List Seat) → Both (Leaf kind.Struct) (λ _. Both (Leaf kind.Name) AfterStruct) y k rest → IsTyped y k rest
   into_struct_item y k rest (both i m1 w1 (both n m2 w2 b)) = b k m1 (i, w1) w2
 
   struct_item_viable : Viable free extra (struct_item depth block) IsTyped (Exists IsTyped)
   unfolding struct_item
-  struct_item_viable = (into_full free extra (struct_item depth block) _ IsTyped (kind.Struct ∷ kind.Name ∷ kind.Name ∷ kind.Semicolon ∷ []) into_struct_item (bind_full free extra (expect kind.Struct) _ (Leaf kind.Struct) (λ _. Both (Leaf kind.Name) BehindStruct) (kind.Struct ∷ []) (kind.Name ∷ kind.Name ∷ kind.Semicolon ∷ []) (expect_full free extra kind.Struct) (λ _. bind_full free extra (expect kind.Name) _ (Leaf kind.Name) BehindStruct (kind.Name ∷ []) (kind.Name ∷ kind.Semicolon ∷ []) (expect_full free extra kind.Name) struct_from_full))).viable
+  struct_item_viable = (into_full free extra (struct_item depth block) _ IsTyped (kind.Struct ∷ kind.Name ∷ kind.Name ∷ kind.Semicolon ∷ []) into_struct_item (bind_full free extra (expect kind.Struct) _ (Leaf kind.Struct) (λ _. Both (Leaf kind.Name) AfterStruct) (kind.Struct ∷ []) (kind.Name ∷ kind.Name ∷ kind.Semicolon ∷ []) (expect_full free extra kind.Struct) (λ _. bind_full free extra (expect kind.Name) _ (Leaf kind.Name) AfterStruct (kind.Name ∷ []) (kind.Name ∷ kind.Semicolon ∷ []) (expect_full free extra kind.Name) struct_from_full))).viable
 
-  into_type_item : (y : Item) (k rest : List Seat) → Both IsType BehindType y k rest → IsTyped y k rest
+  into_type_item : (y : Item) (k rest : List Seat) → Both IsType AfterType y k rest → IsTyped y k rest
   into_type_item y k rest (both t m w b) = b k w
 
   type_item_full : Full free extra (type_item depth block) IsTyped (kind.Int ∷ kind.Name ∷ kind.Semicolon ∷ [])
   unfolding type_item
-  type_item_full = into_full free extra (type_item depth block) _ IsTyped (kind.Int ∷ kind.Name ∷ kind.Semicolon ∷ []) into_type_item (bind_full free extra type_of _ IsType BehindType (kind.Int ∷ []) (kind.Name ∷ kind.Semicolon ∷ []) (type_full free extra) item_of_full)
+  type_item_full = into_full free extra (type_item depth block) _ IsTyped (kind.Int ∷ kind.Name ∷ kind.Semicolon ∷ []) into_type_item (bind_full free extra type_of _ IsType AfterType (kind.Int ∷ []) (kind.Name ∷ kind.Semicolon ∷ []) (type_full free extra) item_of_full)
 
   typed_by_viable : (o : Option Kind) → Viable free extra (typed_by depth block o) IsTyped (Exists IsTyped)
   typed_by_viable (Some kind.Struct) = struct_item_viable

@@ -5,7 +5,7 @@ use Rattle.std.proofs.lemmas.Bool.{cases_lt}
 use Rattle.std.specs.List.{slice_get}
 use Rattle.snl_syntax.specs.declared.marks.Mark.{Mark}
 use Rattle.snl_syntax.specs.declared.marks.Mark.TheVariants as mark
-use Rattle.snl_syntax.specs.Items.{begins_texts, ends_before, ends_behind, is_close_paren, is_empty, is_name, is_open_paren, is_text, item, some_is}
+use Rattle.snl_syntax.specs.Items.{begins_texts, ends_after, ends_before, is_close_paren, is_empty, is_name, is_open_paren, is_text, item, some_is}
 use Rattle.snl_syntax.specs.ItemLaws.{item_is, least_here, least_next}
 
 -- the token there is there
@@ -63,10 +63,10 @@ among a b t k n is all (Some x) here text =
     ∙ ap (λ (e : Bool). not (cond e true (is_close_paren x && true))) text
 
 -- after the texts it ends, but before a closing parenthesis
-behind : (a b t : Mark) (k : List Mark) (n : ℕ) → IsHeader a b t → AllText k n → (o : Option Mark) → some_is is_text o ≡ false
+after : (a b t : Mark) (k : List Mark) (n : ℕ) → IsHeader a b t → AllText k n → (o : Option Mark) → some_is is_text o ≡ false
     → ends_before (mark.Program ∷ a ∷ b ∷ t ∷ take n k) o ≡ not (some_is is_close_paren o)
-behind a b t k n is all None stop = refl
-behind a b t k n is all (Some x) stop =
+after a b t k n is all None stop = refl
+after a b t k n is all (Some x) stop =
     header_told a b t is (begins_texts (take n k ++ x ∷ []))
     ∙ ap not (texts_front k n all x)
     ∙ ap (λ (e : Bool). not (cond e true (is_close_paren x && true))) stop
@@ -81,7 +81,7 @@ closed a b t k n is all stop close (Some x) =
 
 -- nothing ends before the texts do
 unended : (a b t : Mark) (k : List Mark) (n : ℕ) → IsHeader a b t → AllText k n
-    → (m : ℕ) → 1 ≤ m → m < suc (suc (suc (suc n))) → ends_behind (mark.Program ∷ a ∷ b ∷ t ∷ k) m ≡ false
+    → (m : ℕ) → 1 ≤ m → m < suc (suc (suc (suc n))) → ends_after (mark.Program ∷ a ∷ b ∷ t ∷ k) m ≡ false
 unended a b t k n is all zero low high = absurd (omega arith)
 unended a b t k n is all (suc zero) low high = ap (λ (x : Bool). not (x && true)) is.name
 unended a b t k n is all (suc (suc zero)) low high =
@@ -96,7 +96,7 @@ header_open : (a b t : Mark) (k : List Mark) (n : ℕ) → IsHeader a b t → Al
 header_open a b t k n is all within stop free =
     item_is (mark.Program ∷ a ∷ b ∷ t ∷ k) (suc (suc (suc (suc n)))) (omega arith) (record {
       above = omega arith;
-      passes = behind a b t k n is all (slice_get k n) stop ∙ ap not free;
+      passes = after a b t k n is all (slice_get k n) stop ∙ ap not free;
       none = unended a b t k n is all;
     })
 
@@ -112,7 +112,7 @@ header_closed a b t k n is all stop close =
             | inl less ↦ unended a b t k n is all m low less
             | inr more ↦
                 let same : suc (suc (suc (suc n))) ≡ m = omega arith in
-                subst (λ (i : ℕ). ends_behind (mark.Program ∷ a ∷ b ∷ t ∷ k) i ≡ false) same (behind a b t k n is all (slice_get k n) stop ∙ ap not close)
+                subst (λ (i : ℕ). ends_after (mark.Program ∷ a ∷ b ∷ t ∷ k) i ≡ false) same (after a b t k n is all (slice_get k n) stop ∙ ap not close)
           ];
     })
 
@@ -156,13 +156,13 @@ header_shut (p ∷ a ∷ b ∷ t ∷ k) (suc (suc (suc (suc n)))) is low all sto
     ∙ one
 
 -- where the front of a header breaks off
-two_ends : (a : Mark) (k : List Mark) → is_name a ≡ true → some_is is_open_paren (slice_get k 0) ≡ false → ends_behind (mark.Program ∷ a ∷ k) 2 ≡ true
+two_ends : (a : Mark) (k : List Mark) → is_name a ≡ true → some_is is_open_paren (slice_get k 0) ≡ false → ends_after (mark.Program ∷ a ∷ k) 2 ≡ true
 two_ends a [] name free = refl
 two_ends a (b ∷ k) name free =
     ap (λ (e : Bool). not (e && (is_open_paren b && true))) name ∙ ap (λ (e : Bool). not (e && true)) free
 
 three_ends : (a b : Mark) (k : List Mark) → is_name a ≡ true → is_open_paren b ≡ true → some_is is_text (slice_get k 0) ≡ false
-    → ends_behind (mark.Program ∷ a ∷ b ∷ k) 3 ≡ true
+    → ends_after (mark.Program ∷ a ∷ b ∷ k) 3 ≡ true
 three_ends a b [] name paren text = refl
 three_ends a b (t ∷ k) name paren text =
     ap (λ (e : Bool). not (e && (is_open_paren b && (is_text t && true)))) name
@@ -174,7 +174,7 @@ header_two [] f name free = cc
 header_two (p ∷ []) f name free = cc
 header_two (p ∷ a ∷ k) f name free =
     let same : p ≡ mark.Program = cc in
-    let q : ℕ → Bool = ends_behind (mark.Program ∷ a ∷ k) in
+    let q : ℕ → Bool = ends_after (mark.Program ∷ a ∷ k) in
     ap (λ (x : Mark). item (x ∷ a ∷ k)) same
     ∙ least_next q 1 (length (a ∷ k)) (ap (λ (b : Bool). not (b && true)) name)
     ∙ least_here q 2 (length k) (two_ends a k name free)
@@ -186,7 +186,7 @@ header_three (p ∷ []) f name paren text = cc
 header_three (p ∷ a ∷ []) f name paren text = cc
 header_three (p ∷ a ∷ b ∷ k) f name paren text =
     let same : p ≡ mark.Program = cc in
-    let q : ℕ → Bool = ends_behind (mark.Program ∷ a ∷ b ∷ k) in
+    let q : ℕ → Bool = ends_after (mark.Program ∷ a ∷ b ∷ k) in
     ap (λ (x : Mark). item (x ∷ a ∷ b ∷ k)) same
     ∙ least_next q 1 (length (a ∷ b ∷ k)) (ap (λ (e : Bool). not (e && true)) name)
     ∙ least_next q 2 (length (b ∷ k)) (ap (λ (e : Bool). not (e && (is_open_paren b && true))) name ∙ ap (λ (e : Bool). not (e && true)) paren)

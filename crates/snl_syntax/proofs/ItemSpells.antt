@@ -17,7 +17,7 @@ use Rattle.snl_syntax.proofs.DeclarationSpells.{declaration_spells}
 use Rattle.snl_syntax.proofs.StatementSpells.{block_within_spells}
 use Rattle.snl_syntax.proofs.ClauseSpells.{foreign_spells, option_line_spells, clause_spells}
 use Rattle.snl_syntax.proofs.FunctionSpells.{parameter_spells, typed_spells}
-use Rattle.snl_syntax.proofs.StateSpells.{block_behind_spells, state_spells}
+use Rattle.snl_syntax.proofs.StateSpells.{block_after_spells, state_spells}
 
 bracketed_spell : Spells AreBracketed spell_header_text
 bracketed_spell ns k rest is = word_covers is.opening and texts_spell ns is.m1 is.m2 is.strings and word_covers is.closing
@@ -32,8 +32,8 @@ module _ (free extra depth : ℕ) where
   within_item_spells t k rest (foreign ns is inside) = covers_as spell_item is refl (foreign_spells ns k rest inside)
   within_item_spells t k rest (clause c is inside) = covers_as spell_item is refl (clause_spells c k rest inside)
   within_item_spells t k rest (option_line o is inside) = covers_as spell_item is refl (option_line_spells o k rest inside)
-  within_item_spells t k rest (entry b is inside) = covers_as spell_item is refl (block_behind_spells kind.Entry (IsBlockWithin free extra (suc (suc depth))) (block_within_spells free extra (suc (suc depth))) b k rest inside)
-  within_item_spells t k rest (exit b is inside) = covers_as spell_item is refl (block_behind_spells kind.Exit (IsBlockWithin free extra (suc (suc depth))) (block_within_spells free extra (suc (suc depth))) b k rest inside)
+  within_item_spells t k rest (entry b is inside) = covers_as spell_item is refl (block_after_spells kind.Entry (IsBlockWithin free extra (suc (suc depth))) (block_within_spells free extra (suc (suc depth))) b k rest inside)
+  within_item_spells t k rest (exit b is inside) = covers_as spell_item is refl (block_after_spells kind.Exit (IsBlockWithin free extra (suc (suc depth))) (block_within_spells free extra (suc (suc depth))) b k rest inside)
   within_item_spells t k rest (state n ms is inside) =
       covers_as spell_item is refl
       (state_spells (IsExpr free extra depth) (expr_spells free extra depth) (IsDeclaration free extra (suc depth)) (declaration_spells free extra (suc depth)) (IsBlockWithin free extra (suc depth)) (block_within_spells free extra (suc depth)) n ms k rest inside)

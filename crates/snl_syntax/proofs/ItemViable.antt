@@ -14,7 +14,7 @@ use Rattle.snl_syntax.specs.Grammar.Declarations.{IsInit, IsDeclarationOf, IsDec
 use Rattle.snl_syntax.specs.Grammar.Clauses.{AreForeign, IsOptionLine, IsClause}
 use Rattle.snl_syntax.specs.Grammar.Statements.{IsBlockWithin}
 use Rattle.snl_syntax.specs.Grammar.Functions.{IsParameter, IsTypedItem}
-use Rattle.snl_syntax.specs.Grammar.States.{IsBlockBehind}
+use Rattle.snl_syntax.specs.Grammar.States.{IsBlockAfter}
 use Rattle.snl_syntax.specs.Grammar.Items.{AreBracketed, IsItemWithin, header as is_header, set_begin as is_set_begin, set_end as is_set_end, empty as is_empty, c_block as is_c_block, foreign as is_foreign, clause as is_clause, option_line as is_option, entry as is_entry, exit as is_exit, state as is_state, typed as is_typed}
 use Rattle.snl_syntax.specs.Reading.Expressions.{texts}
 use Rattle.snl_syntax.specs.Reading.Clauses.{foreign, option_line, clause}
@@ -99,11 +99,11 @@ module _ (free extra depth : ℕ) where
 
   entry_viable : Viable free extra (entry_item (suc (suc depth))) I (Exists I)
   unfolding entry_item
-  entry_viable = made_viable (entry_block (block (suc (suc depth)))) items.Entry (IsBlockBehind kind.Entry Block) (kind.Entry ∷ Braces) (entry_block_full free extra Block (block (suc (suc depth))) Braces (block_within_full free extra (suc (suc depth)))) (λ b k rest is. is_entry b refl is)
+  entry_viable = made_viable (entry_block (block (suc (suc depth)))) items.Entry (IsBlockAfter kind.Entry Block) (kind.Entry ∷ Braces) (entry_block_full free extra Block (block (suc (suc depth))) Braces (block_within_full free extra (suc (suc depth)))) (λ b k rest is. is_entry b refl is)
 
   exit_viable : Viable free extra (exit_item (suc (suc depth))) I (Exists I)
   unfolding exit_item
-  exit_viable = made_viable (exit_block (block (suc (suc depth)))) items.Exit (IsBlockBehind kind.Exit Block) (kind.Exit ∷ Braces) (exit_block_full free extra Block (block (suc (suc depth))) Braces (block_within_full free extra (suc (suc depth)))) (λ b k rest is. is_exit b refl is)
+  exit_viable = made_viable (exit_block (block (suc (suc depth)))) items.Exit (IsBlockAfter kind.Exit Block) (kind.Exit ∷ Braces) (exit_block_full free extra Block (block (suc (suc depth))) Braces (block_within_full free extra (suc (suc depth)))) (λ b k rest is. is_exit b refl is)
 
   -- ---- states
 

@@ -285,8 +285,8 @@ pub bind_eats : {A B : Type 0} (p : Reader A) (f : A → Reader B) → Eats p �
 bind_eats p f eats locals k y m e = bind_ok (p k) f (y, m) e (λ x m' e1 e2. let a = eats k x m' e1 in let b = took_shorter (f x) (locals x) m' y m e2 in omega arith)
 
 -- any reader, and one after it that eats
-pub eats_behind : {A B : Type 0} (p : Reader A) (f : A → Reader B) → Local p → ((x : A) → Eats (f x)) → Eats (λ k. and_then (p k) f)
-eats_behind p f local eats k y m e = bind_ok (p k) f (y, m) e (λ x m' e1 e2. let a = took_shorter p local k x m' e1 in let b = eats x m' y m e2 in omega arith)
+pub eats_after : {A B : Type 0} (p : Reader A) (f : A → Reader B) → Local p → ((x : A) → Eats (f x)) → Eats (λ k. and_then (p k) f)
+eats_after p f local eats k y m e = bind_ok (p k) f (y, m) e (λ x m' e1 e2. let a = took_shorter p local k x m' e1 in let b = eats x m' y m e2 in omega arith)
 
 pub eats_some : {A : Type 0} (p : Reader (Option A)) → Eats p → EatsSome p
 eats_some p eats k x m e = eats k (Some x) m e

@@ -224,14 +224,14 @@ module _ (free : ℕ) (Inner : Expr → List Seat → List Seat → Type 0) (Nam
   suffix_first s k m (increment is f) = first_lacks kind.PlusPlus kind.Text k m refl f
   suffix_first s k m (decrement is f) = first_lacks kind.MinusMinus kind.Text k m refl f
 
-  no_text_behind : (ss : List Suffix) (k rest : List Seat) → Each (IsSuffix Inner) ss k rest → Stops 0 rest → Lacks kind.Text k
-  no_text_behind [] k rest e h = subst (Lacks kind.Text) (sym e) (stops_lacks 0 rest kind.Text h (omega arith))
-  no_text_behind (s ∷ ss) k rest e h = suffix_first s k e.0 e.1
+  no_text_after : (ss : List Suffix) (k rest : List Seat) → Each (IsSuffix Inner) ss k rest → Stops 0 rest → Lacks kind.Text k
+  no_text_after [] k rest e h = subst (Lacks kind.Text) (sym e) (stops_lacks 0 rest kind.Text h (omega arith))
+  no_text_after (s ∷ ss) k rest e h = suffix_first s k e.0 e.1
 
   parts_again : (ops : List Prefix) (x : Expr) (ss : List Suffix) (k m1 m2 rest : List Seat) → AreOperators Names false ops k m1 → IsPrimary Inner Names x m1 m2 → Each (IsSuffix Inner) ss m2 rest → Stops 0 rest → Comes free (prefix inner names k) (prefixed ops (suffixed x ss)) rest
   unfolding prefix
   parts_again ops x ss k m1 m2 rest a p e h =
-      bind_comes free (until (prefix_step inner names) [] k) _ (ops, x) m2 _ rest (operators_again false [] ops x k m1 m2 a p (no_text_behind ss m2 rest e h))
+      bind_comes free (until (prefix_step inner names) [] k) _ (ops, x) m2 _ rest (operators_again false [] ops x k m1 m2 a p (no_text_after ss m2 rest e h))
       (bind_comes free (many (next_suffix inner names) [] m2) _ ss rest _ rest (suffixes_again free Inner inner names local named again begins ss m2 rest e h) (pure_comes free (prefixed ops (suffixed x ss)) rest))
 
   postfix_again : (ops : List Prefix) (t : Expr) (k m rest : List Seat) → AreOperators Names false ops k m → IsPostfix Inner Names t m rest → Stops 0 rest → Comes free (prefix inner names k) (prefixed ops t) rest

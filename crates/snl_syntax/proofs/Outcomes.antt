@@ -45,8 +45,8 @@ module _ (text moved : List ℕ) (tokens shifted : List Piece) (same : spelled t
 
 -- ---- the tree, and where a fault is
 
-lt_behind : (n m : ℕ) → nat_lt (1 + n) (suc m) ≡ nat_lt n m
-lt_behind n m = grind (arith, nat_tests)
+lt_after : (n m : ℕ) → nat_lt (1 + n) (suc m) ≡ nat_lt n m
+lt_after n m = grind (arith, nat_tests)
 
 lt_first : (m : ℕ) → true ≡ nat_lt 0 (suc m)
 lt_first m = grind (arith, nat_tests)
@@ -58,7 +58,7 @@ is_some-cond false n = refl
 any_here : (b r : Bool) (n m : ℕ) → r ≡ is_some (cond (nat_lt n m) (Some n) None)
     → (b || r) ≡ is_some (cond (nat_lt (cond (not b) (1 + n) 0) (suc m)) (Some (cond (not b) (1 + n) 0)) None)
 any_here true r n m h = lt_first m ∙ sym (is_some-cond (nat_lt 0 (suc m)) 0)
-any_here false r n m h = h ∙ is_some-cond (nat_lt n m) n ∙ sym (lt_behind n m) ∙ sym (is_some-cond (nat_lt (1 + n) (suc m)) (1 + n))
+any_here false r n m h = h ∙ is_some-cond (nat_lt n m) n ∙ sym (lt_after n m) ∙ sym (is_some-cond (nat_lt (1 + n) (suc m)) (1 + n))
 
 any_position : {X : Type 0} (p : X → Bool) (xs : List X) → list_any p xs ≡ is_some (position p xs)
 any_position p [] = refl

@@ -8,7 +8,7 @@ use Rattle.std.proofs.lemmas.List.Sums.{count_by_more_no, count_by_more_yes}
 use Rattle.std.proofs.lemmas.Option.{get_or_from_slice_get, slice_get-get_or, slice_get_past, slice_get_within}
 use Rattle.snl_syntax.specs.declared.marks.Mark.{Mark}
 use Rattle.snl_syntax.specs.declared.marks.Mark.TheVariants as mark
-use Rattle.snl_syntax.specs.Items.{balance_behind, ends_before, ends_behind, ends_by, greatest_below, has_body, is_behind, is_body, is_close, is_close_paren, is_open, is_plain, item, last_of, level, opened_by_paren, plain_ends, plain_ends_at, raises, some_is}
+use Rattle.snl_syntax.specs.Items.{balance_after, ends_after, ends_before, ends_by, greatest_below, has_body, is_after, is_body, is_close, is_close_paren, is_open, is_plain, item, last_of, level, opened_by_paren, plain_ends, plain_ends_at, raises, some_is}
 use Rattle.snl_syntax.specs.ItemLaws.{get_taken, item_is}
 
 -- what a mark isn't
@@ -56,9 +56,9 @@ counted_by false false balance opened closed only room so = omega (arith, so)
 
 pub counted_more : (u : List Mark) (n : ℕ) (x : Mark) (balance : ℕ) → slice_get u n ≡ Some x → (is_close x ≡ true → 0 < balance)
     → balance + count_by is_close (take n u) ≡ count_by is_open (take n u)
-    → balance_behind balance x + count_by is_close (take (n + 1) u) ≡ count_by is_open (take (n + 1) u)
+    → balance_after balance x + count_by is_close (take (n + 1) u) ≡ count_by is_open (take (n + 1) u)
 counted_more u n x balance here room so =
-    ap (λ (c : ℕ). balance_behind balance x + c) (count_more is_close u n x here)
+    ap (λ (c : ℕ). balance_after balance x + c) (count_more is_close u n x here)
     ∙ counted_by (is_open x) (is_close x) balance (count_by is_open (take n u)) (count_by is_close (take n u)) (open_not_close x) room so
     ∙ sym (count_more is_open u n x here)
 
@@ -74,15 +74,15 @@ apply_cond f true m n = refl
 apply_cond f false m n = refl
 
 pub paren_more : (u : List Mark) (n balance : ℕ) (before : Bool) → balance + count_by is_close (take n u) ≡ count_by is_open (take n u)
-    → before ≡ is_behind is_close_paren u (greatest_below (raises u) n)
-    → cond (balance == 0 && some_is is_open (slice_get u n)) (is_behind is_close_paren u n) before
-    ≡ is_behind is_close_paren u (greatest_below (raises u) (suc n))
+    → before ≡ is_after is_close_paren u (greatest_below (raises u) n)
+    → cond (balance == 0 && some_is is_open (slice_get u n)) (is_after is_close_paren u n) before
+    ≡ is_after is_close_paren u (greatest_below (raises u) (suc n))
 paren_more u n balance before so told =
     let raised : raises u n ≡ (balance == 0 && some_is is_open (slice_get u n)) =
     ap (λ (b : Bool). b && some_is is_open (slice_get u n)) (level_told (take n u) balance so) in
-    ap (λ (b : Bool). cond b (is_behind is_close_paren u n) before) (sym raised)
-    ∙ ap (λ (b : Bool). cond (raises u n) (is_behind is_close_paren u n) b) told
-    ∙ apply_cond (is_behind is_close_paren u) (raises u n) n (greatest_below (raises u) n)
+    ap (λ (b : Bool). cond b (is_after is_close_paren u n) before) (sym raised)
+    ∙ ap (λ (b : Bool). cond (raises u n) (is_after is_close_paren u n) b) told
+    ∙ apply_cond (is_after is_close_paren u) (raises u n) n (greatest_below (raises u) n)
 
 greatest_same : (p q : ℕ → Bool) (n : ℕ) → ((m : ℕ) → m < n → p m ≡ q m) → greatest_below p n ≡ greatest_below q n
 greatest_same p q zero same = refl
@@ -101,15 +101,15 @@ raises_taken u n m under =
     ap (λ (k : List Mark). level k && some_is is_open (slice_get (take n u) m)) (take-take m n u (omega arith))
     ∙ ap (λ (o : Option Mark). level (take m u) && some_is is_open o) (get_taken u m n under)
 
-behind_taken : (u : List Mark) (n m : ℕ) → m ≤ n → is_behind is_close_paren (take n u) m ≡ is_behind is_close_paren u m
-behind_taken u n zero under = refl
-behind_taken u n (suc m) under = ap (some_is is_close_paren) (get_taken u m n (omega arith))
+after_taken : (u : List Mark) (n m : ℕ) → m ≤ n → is_after is_close_paren (take n u) m ≡ is_after is_close_paren u m
+after_taken u n zero under = refl
+after_taken u n (suc m) under = ap (some_is is_close_paren) (get_taken u m n (omega arith))
 
-opened_taken : (u : List Mark) (n : ℕ) → n ≤ length u → opened_by_paren (take n u) ≡ is_behind is_close_paren u (greatest_below (raises u) n)
+opened_taken : (u : List Mark) (n : ℕ) → n ≤ length u → opened_by_paren (take n u) ≡ is_after is_close_paren u (greatest_below (raises u) n)
 opened_taken u n within =
-    ap (λ (m : ℕ). is_behind is_close_paren (take n u) (greatest_below (raises (take n u)) m)) (length-take-le n u within)
-    ∙ ap (is_behind is_close_paren (take n u)) (greatest_same (raises (take n u)) (raises u) n (raises_taken u n))
-    ∙ behind_taken u n (greatest_below (raises u) n) (greatest_within (raises u) n)
+    ap (λ (m : ℕ). is_after is_close_paren (take n u) (greatest_below (raises (take n u)) m)) (length-take-le n u within)
+    ∙ ap (is_after is_close_paren (take n u)) (greatest_same (raises (take n u)) (raises u) n (raises_taken u n))
+    ∙ after_taken u n (greatest_below (raises u) n) (greatest_within (raises u) n)
 
 -- The last mark
 last_taken : (f : Mark) (k : List Mark) (n : ℕ) (x : Mark) → slice_get (f ∷ k) n ≡ Some x → last_of f (take n k) ≡ x
@@ -120,8 +120,8 @@ last_taken f (y ∷ k) (suc n) x here = last_taken y k n x here
 -- Whether it ends after one more mark
 pub turn : (u : List Mark) (n : ℕ) (x : Mark) (balance : ℕ) (paren : Bool) → some_is is_plain (slice_get u 0) ≡ true → slice_get u n ≡ Some x
     → balance + count_by is_close (take (suc n) u) ≡ count_by is_open (take (suc n) u)
-    → paren ≡ is_behind is_close_paren u (greatest_below (raises u) (suc n))
-    → ends_behind u (suc n) ≡ plain_ends_at (balance == 0) x (some_is is_body (slice_get u 0) || paren) (slice_get u (suc n))
+    → paren ≡ is_after is_close_paren u (greatest_below (raises u) (suc n))
+    → ends_after u (suc n) ≡ plain_ends_at (balance == 0) x (some_is is_body (slice_get u 0) || paren) (slice_get u (suc n))
 turn [] n x balance paren plain here so told = cc
 turn (f ∷ k) n x balance paren plain here so told =
     let within = slice_get_within (f ∷ k) n x here in
@@ -137,7 +137,7 @@ room_by true b h closed = cc
 room_by false b h closed = refl
 
 pub room : (u : List Mark) (n : ℕ) (x : Mark) (balance : ℕ) → some_is is_plain (slice_get u 0) ≡ true → slice_get u n ≡ Some x
-    → balance + count_by is_close (take n u) ≡ count_by is_open (take n u) → ((m : ℕ) → 1 ≤ m → m ≤ n → ends_behind u m ≡ false)
+    → balance + count_by is_close (take n u) ≡ count_by is_open (take n u) → ((m : ℕ) → 1 ≤ m → m ≤ n → ends_after u m ≡ false)
     → is_close x ≡ true → 0 < balance
 room [] n x balance plain here so unended close = cc
 room (f ∷ k) zero x balance plain here so unended close =
@@ -159,8 +159,8 @@ pub record IsRead (u : List Mark) (n : ℕ) (balance : ℕ) (paren : Bool) : Typ
   pub inside : n < length u
   pub small : balance ≤ n
   pub counted : balance + count_by is_close (take n u) ≡ count_by is_open (take n u)
-  pub told : paren ≡ is_behind is_close_paren u (greatest_below (raises u) n)
-  pub unended : (m : ℕ) → 1 ≤ m → m ≤ n → ends_behind u m ≡ false
+  pub told : paren ≡ is_after is_close_paren u (greatest_below (raises u) n)
+  pub unended : (m : ℕ) → 1 ≤ m → m ≤ n → ends_after u m ≡ false
 
 pub none_read : (u : List Mark) → 0 < length u → IsRead u 0 0 false
 none_read u some = record {
@@ -175,13 +175,13 @@ none_read u some = record {
 pub record IsTurn (u : List Mark) (n : ℕ) (balance : ℕ) (paren : Bool) (balance_next : ℕ) (paren_next : Bool) (ended : Bool) : Type 0 where
   pub plain : some_is is_plain (slice_get u 0) ≡ true
   pub read : IsRead u n balance paren
-  pub balanced : balance_next ≡ balance_behind balance (get_or u n mark.Program)
-  pub opened : paren_next ≡ cond (balance == 0 && some_is is_open (slice_get u n)) (is_behind is_close_paren u n) paren
+  pub balanced : balance_next ≡ balance_after balance (get_or u n mark.Program)
+  pub opened : paren_next ≡ cond (balance == 0 && some_is is_open (slice_get u n)) (is_after is_close_paren u n) paren
   pub tested : ended ≡ plain_ends_at (balance_next == 0) (get_or u n mark.Program) (is_body (get_or u 0 mark.Program) || paren_next) (slice_get u (n + 1))
 
 pub turn_of : {u : List Mark} {n balance : ℕ} {paren : Bool} {balance_next : ℕ} {paren_next ended : Bool} (body has : Bool) (o : Option Mark)
-    → some_is is_plain (slice_get u 0) ≡ true → IsRead u n balance paren → balance_next ≡ balance_behind balance (get_or u n mark.Program)
-    → paren_next ≡ cond (balance == 0 && some_is is_open (slice_get u n)) (is_behind is_close_paren u n) paren
+    → some_is is_plain (slice_get u 0) ≡ true → IsRead u n balance paren → balance_next ≡ balance_after balance (get_or u n mark.Program)
+    → paren_next ≡ cond (balance == 0 && some_is is_open (slice_get u n)) (is_after is_close_paren u n) paren
     → body ≡ is_body (get_or u 0 mark.Program) → has ≡ (body || paren_next) → o ≡ slice_get u (n + 1)
     → ended ≡ plain_ends_at (balance_next == 0) (get_or u n mark.Program) has o
     → IsTurn u n balance paren balance_next paren_next ended
@@ -212,21 +212,21 @@ counted_there {u} {n} {balance} {paren} {balance_next} t =
     ∙ counted_more u n (get_or u n mark.Program) balance (mark_there u n t.read.inside) (room_there u n balance paren t.plain t.read) t.read.counted
 
 told_there : {u : List Mark} {n balance : ℕ} {paren : Bool} {balance_next : ℕ} {paren_next ended : Bool} → IsTurn u n balance paren balance_next paren_next ended
-    → paren_next ≡ is_behind is_close_paren u (greatest_below (raises u) (n + 1))
+    → paren_next ≡ is_after is_close_paren u (greatest_below (raises u) (n + 1))
 told_there {u} {n} {balance} {paren} t =
     let one : suc n ≡ n + 1 = omega arith in
-    t.opened ∙ paren_more u n balance paren t.read.counted t.read.told ∙ ap (λ (m : ℕ). is_behind is_close_paren u (greatest_below (raises u) m)) one
+    t.opened ∙ paren_more u n balance paren t.read.counted t.read.told ∙ ap (λ (m : ℕ). is_after is_close_paren u (greatest_below (raises u) m)) one
 
 pub turn_ended : {u : List Mark} {n balance : ℕ} {paren : Bool} {balance_next : ℕ} {paren_next ended : Bool} → IsTurn u n balance paren balance_next paren_next ended
-    → ends_behind u (n + 1) ≡ ended
+    → ends_after u (n + 1) ≡ ended
 turn_ended {u} {n} {balance} {paren} {balance_next} {paren_next} t =
     let one : n + 1 ≡ suc n = omega arith in
     let x : Mark = get_or u n mark.Program in
     let first : slice_get u 0 ≡ Some (get_or u 0 mark.Program) = mark_there u 0 (omega (arith, t.read.inside)) in
-    ap (ends_behind u) one
+    ap (ends_after u) one
     ∙ turn u n x balance_next paren_next t.plain (mark_there u n t.read.inside)
     (subst (λ (m : ℕ). balance_next + count_by is_close (take m u) ≡ count_by is_open (take m u)) one (counted_there t))
-    (subst (λ (m : ℕ). paren_next ≡ is_behind is_close_paren u (greatest_below (raises u) m)) one (told_there t))
+    (subst (λ (m : ℕ). paren_next ≡ is_after is_close_paren u (greatest_below (raises u) m)) one (told_there t))
     ∙ ap (λ (o : Option Mark). plain_ends_at (balance_next == 0) x (some_is is_body o || paren_next) (slice_get u (suc n))) first
     ∙ ap (λ (m : ℕ). plain_ends_at (balance_next == 0) x (is_body (get_or u 0 mark.Program) || paren_next) (slice_get u m)) (sym one)
     ∙ sym t.tested
@@ -248,7 +248,7 @@ more_there u n off =
 pub turn_read : {u : List Mark} {n balance : ℕ} {paren : Bool} {balance_next : ℕ} {paren_next ended : Bool} → IsTurn u n balance paren balance_next paren_next ended
     → ended ≡ false → IsRead u (n + 1) balance_next paren_next
 turn_read {u} {n} {balance} {paren} {balance_next} {paren_next} t off =
-    let here : ends_behind u (n + 1) ≡ false = turn_ended t ∙ off in
+    let here : ends_after u (n + 1) ≡ false = turn_ended t ∙ off in
     record {
       inside = more_there u n here;
       small = subst (λ (b : ℕ). b ≤ n + 1) (sym t.balanced) (small_by (is_open (get_or u n mark.Program)) (is_close (get_or u n mark.Program)) balance n t.read.small);
@@ -257,7 +257,7 @@ turn_read {u} {n} {balance} {paren} {balance_next} {paren_next} t off =
       unended = λ m low high.
           elim (cases_lt m (n + 1)) [
             | inl less ↦ t.read.unended m low (omega arith)
-            | inr more ↦ let same : n + 1 ≡ m = omega arith in subst (λ (i : ℕ). ends_behind u i ≡ false) same here
+            | inr more ↦ let same : n + 1 ≡ m = omega arith in subst (λ (i : ℕ). ends_after u i ≡ false) same here
           ];
     }
 

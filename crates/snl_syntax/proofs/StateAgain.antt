@@ -17,7 +17,7 @@ use Rattle.snl_syntax.specs.Grammar.Expressions.{IsExpr}
 use Rattle.snl_syntax.specs.Grammar.Declarations.{IsDeclaration}
 use Rattle.snl_syntax.specs.Grammar.Clauses.{IsClause, assign as is_assign, monitor as is_monitor, sync as is_sync, syncq as is_syncq}
 use Rattle.snl_syntax.specs.Grammar.Statements.{IsBefore, IsBlockWithin}
-use Rattle.snl_syntax.specs.Grammar.States.{IsBlockBehind, IsTarget, next as is_next, leave as is_leave, IsTransition, IsStateMember, declaration as is_declaration, foreign as is_foreign, clause as is_clause, option_line as is_option, empty as is_empty, c_block as is_c_block, entry as is_entry, exit as is_exit, transition as is_transition}
+use Rattle.snl_syntax.specs.Grammar.States.{IsBlockAfter, IsTarget, next as is_next, leave as is_leave, IsTransition, IsStateMember, declaration as is_declaration, foreign as is_foreign, clause as is_clause, option_line as is_option, empty as is_empty, c_block as is_c_block, entry as is_entry, exit as is_exit, transition as is_transition}
 use Rattle.snl_syntax.specs.Reading.Types.{begins_type}
 use Rattle.snl_syntax.specs.Reading.Expressions.{expr}
 use Rattle.snl_syntax.specs.Reading.Declarations.{declaration}
@@ -35,11 +35,11 @@ use Rattle.snl_syntax.proofs.StateLocal.{member_eats}
 -- ---- blocks at entry and exit
 
 module _ (free extra depth : ℕ) where
-  pub entry_block_comes : (t : List Member) (k rest : List Seat) → IsBlockBehind kind.Entry (IsBlockWithin free extra depth) t k rest → Comes free (entry_block (block depth) k) t rest
+  pub entry_block_comes : (t : List Member) (k rest : List Seat) → IsBlockAfter kind.Entry (IsBlockWithin free extra depth) t k rest → Comes free (entry_block (block depth) k) t rest
   unfolding entry_block
   entry_block_comes t k rest is = bind_comes free (expect kind.Entry k) _ is.first.0 is.mid t rest (first_comes free kind.Entry k is.mid is.first) (block_within_again free extra depth t is.mid rest is.block)
 
-  pub exit_block_comes : (t : List Member) (k rest : List Seat) → IsBlockBehind kind.Exit (IsBlockWithin free extra depth) t k rest → Comes free (exit_block (block depth) k) t rest
+  pub exit_block_comes : (t : List Member) (k rest : List Seat) → IsBlockAfter kind.Exit (IsBlockWithin free extra depth) t k rest → Comes free (exit_block (block depth) k) t rest
   unfolding exit_block
   exit_block_comes t k rest is = bind_comes free (expect kind.Exit k) _ is.first.0 is.mid t rest (first_comes free kind.Exit k is.mid is.first) (block_within_again free extra depth t is.mid rest is.block)
 

@@ -16,7 +16,7 @@ use Rattle.snl_syntax.specs.Grammar.Expressions.{IsExpr}
 use Rattle.snl_syntax.specs.Grammar.Declarations.{IsDeclaration}
 use Rattle.snl_syntax.specs.Grammar.Clauses.{AreForeign, IsOptionLine, IsClause}
 use Rattle.snl_syntax.specs.Grammar.Statements.{IsBefore, IsBlockWithin}
-use Rattle.snl_syntax.specs.Grammar.States.{IsBlockBehind, IsTarget, next as is_next, leave as is_leave, IsTransition, IsStateMember, declaration as is_declaration, foreign as is_foreign, clause as is_clause, option_line as is_option, empty as is_empty, c_block as is_c_block, entry as is_entry, exit as is_exit, transition as is_transition}
+use Rattle.snl_syntax.specs.Grammar.States.{IsBlockAfter, IsTarget, next as is_next, leave as is_leave, IsTransition, IsStateMember, declaration as is_declaration, foreign as is_foreign, clause as is_clause, option_line as is_option, empty as is_empty, c_block as is_c_block, entry as is_entry, exit as is_exit, transition as is_transition}
 use Rattle.snl_syntax.specs.Reading.Expressions.{expr}
 use Rattle.snl_syntax.specs.Reading.Declarations.{declaration}
 use Rattle.snl_syntax.specs.Reading.Clauses.{foreign, option_line, clause}
@@ -34,16 +34,16 @@ use Rattle.snl_syntax.proofs.StateLocal.{make_transition}
 -- ---- blocks at entry and exit; `start` are the shortest kinds of a block
 
 module _ (free extra : ℕ) (Block : List Member → List Seat → List Seat → Type 0) (braced : Reader (List Member)) (start : List Kind) (fb : Full free extra braced Block start) where
-  into_behind : (x : Kind) (y : List Member) (k rest : List Seat) → Both (Leaf x) (λ _. Block) y k rest → IsBlockBehind x Block y k rest
-  into_behind x y k rest (both n m e b) = record { mid = m; first = (n, e); block = b }
+  into_after : (x : Kind) (y : List Member) (k rest : List Seat) → Both (Leaf x) (λ _. Block) y k rest → IsBlockAfter x Block y k rest
+  into_after x y k rest (both n m e b) = record { mid = m; first = (n, e); block = b }
 
-  pub entry_block_full : Full free extra (entry_block braced) (IsBlockBehind kind.Entry Block) (kind.Entry ∷ start)
+  pub entry_block_full : Full free extra (entry_block braced) (IsBlockAfter kind.Entry Block) (kind.Entry ∷ start)
   unfolding entry_block
-  entry_block_full = into_full free extra (entry_block braced) _ (IsBlockBehind kind.Entry Block) (kind.Entry ∷ start) (into_behind kind.Entry) (bind_full free extra (expect kind.Entry) (λ _. braced) (Leaf kind.Entry) (λ _. Block) (kind.Entry ∷ []) start (expect_full free extra kind.Entry) (λ _. fb))
+  entry_block_full = into_full free extra (entry_block braced) _ (IsBlockAfter kind.Entry Block) (kind.Entry ∷ start) (into_after kind.Entry) (bind_full free extra (expect kind.Entry) (λ _. braced) (Leaf kind.Entry) (λ _. Block) (kind.Entry ∷ []) start (expect_full free extra kind.Entry) (λ _. fb))
 
-  pub exit_block_full : Full free extra (exit_block braced) (IsBlockBehind kind.Exit Block) (kind.Exit ∷ start)
+  pub exit_block_full : Full free extra (exit_block braced) (IsBlockAfter kind.Exit Block) (kind.Exit ∷ start)
   unfolding exit_block
-  exit_block_full = into_full free extra (exit_block braced) _ (IsBlockBehind kind.Exit Block) (kind.Exit ∷ start) (into_behind kind.Exit) (bind_full free extra (expect kind.Exit) (λ _. braced) (Leaf kind.Exit) (λ _. Block) (kind.Exit ∷ []) start (expect_full free extra kind.Exit) (λ _. fb))
+  exit_block_full = into_full free extra (exit_block braced) _ (IsBlockAfter kind.Exit Block) (kind.Exit ∷ start) (into_after kind.Exit) (bind_full free extra (expect kind.Exit) (λ _. braced) (Leaf kind.Exit) (λ _. Block) (kind.Exit ∷ []) start (expect_full free extra kind.Exit) (λ _. fb))
 
 -- ---- transitions
 
@@ -121,8 +121,8 @@ module _ (free extra depth : ℕ) where
   member_by_viable (Some kind.Sync) = clause_viable
   member_by_viable (Some kind.Syncq) = clause_viable
   member_by_viable (Some kind.SyncqCapital) = clause_viable
-  member_by_viable (Some kind.Entry) = made_viable (entry_block (block (suc depth))) members.Entry (IsBlockBehind kind.Entry Block) (kind.Entry ∷ Braces) (entry_block_full free extra Block (block (suc depth)) Braces (block_within_full free extra (suc depth))) (λ b k rest is. is_entry b refl is)
-  member_by_viable (Some kind.Exit) = made_viable (exit_block (block (suc depth))) members.Exit (IsBlockBehind kind.Exit Block) (kind.Exit ∷ Braces) (exit_block_full free extra Block (block (suc depth)) Braces (block_within_full free extra (suc depth))) (λ b k rest is. is_exit b refl is)
+  member_by_viable (Some kind.Entry) = made_viable (entry_block (block (suc depth))) members.Entry (IsBlockAfter kind.Entry Block) (kind.Entry ∷ Braces) (entry_block_full free extra Block (block (suc depth)) Braces (block_within_full free extra (suc depth))) (λ b k rest is. is_entry b refl is)
+  member_by_viable (Some kind.Exit) = made_viable (exit_block (block (suc depth))) members.Exit (IsBlockAfter kind.Exit Block) (kind.Exit ∷ Braces) (exit_block_full free extra Block (block (suc depth)) Braces (block_within_full free extra (suc depth))) (λ b k rest is. is_exit b refl is)
   member_by_viable (Some kind.When) = made_viable (transition (suc depth)) members.When (IsTransition Inside Block) _ transition_full (λ t k rest is. is_transition t refl is)
   member_by_viable _ = made_viable (declaration (suc depth)) members.Declaration (IsDeclaration free extra (suc depth)) (kind.Int ∷ kind.Name ∷ kind.Semicolon ∷ []) (declaration_full free extra (suc depth)) (λ d k rest is. is_declaration d refl is)
 

@@ -16,11 +16,11 @@ use Rattle.snl_syntax.specs.Steps.{Reader, pure, kind_at, expect, many, until}
 use Rattle.snl_syntax.specs.Grammar.Base.{Each, First, Leaf}
 use Rattle.snl_syntax.specs.Grammar.Expressions.{one, several, IsExpr}
 use Rattle.snl_syntax.specs.Grammar.Declarations.{IsDeclaration}
-use Rattle.snl_syntax.specs.Grammar.Statements.{Place, within_block, as_body, behind_else as at_else, may_be_block, may_be_choice, IsBefore, IsCondition, AreForParts, IsForHeadWithin, IsMember, declaration as is_declaration, statement as is_statement, IsBlock, IsBody, block as is_block_body, deeper, IsArm, IsPassed, IsLast, IsStmt, empty as is_empty, evaluation as is_evaluation, block as is_block, c_code as is_code, choice as is_choice, while_loop as is_while, for_loop as is_for, break_loop as is_break, continue_loop as is_continue, return_value as is_return, change as is_change, IsStatement, IsBlockWithin}
+use Rattle.snl_syntax.specs.Grammar.Statements.{Place, within_block, as_body, after_else as at_else, may_be_block, may_be_choice, IsBefore, IsCondition, AreForParts, IsForHeadWithin, IsMember, declaration as is_declaration, statement as is_statement, IsBlock, IsBody, block as is_block_body, deeper, IsArm, IsPassed, IsLast, IsStmt, empty as is_empty, evaluation as is_evaluation, block as is_block, c_code as is_code, choice as is_choice, while_loop as is_while, for_loop as is_for, break_loop as is_break, continue_loop as is_continue, return_value as is_return, change as is_change, IsStatement, IsBlockWithin}
 use Rattle.snl_syntax.specs.Reading.Types.{begins_type}
 use Rattle.snl_syntax.specs.Reading.Expressions.{expr}
 use Rattle.snl_syntax.specs.Reading.Declarations.{declaration}
-use Rattle.snl_syntax.specs.Reading.Statements.{some_before, semicolon_by, before_semicolon, paren_by, before_paren, c_code, jump, change, return_value, evaluation, condition, for_parts, for_head, declared, stated, some_by, some_member, member_by, next_member, block_of, block_statement, body_by, body, while_loop, for_loop, last_body, branch_by, behind_else, else_by, arm, arm_step, choice, stmt_by, stmt_of, stmt, block}
+use Rattle.snl_syntax.specs.Reading.Statements.{some_before, semicolon_by, before_semicolon, paren_by, before_paren, c_code, jump, change, return_value, evaluation, condition, for_parts, for_head, declared, stated, some_by, some_member, member_by, next_member, block_of, block_statement, body_by, body, while_loop, for_loop, last_body, branch_by, after_else, else_by, arm, arm_step, choice, stmt_by, stmt_of, stmt, block}
 use Rattle.snl_syntax.proofs.Local.{Local, Eats, eats_more}
 use Rattle.snl_syntax.proofs.Again.{Comes, read, late, comes_at, comes_as, bind_comes, pure_comes, expect_comes, first_comes, kind_first, Heads, first_heads, Lacks, differ, first_lacks, many_comes, until_more_comes, until_last_comes, level_comes}
 use Rattle.snl_syntax.proofs.Follow.{binds, first_stops}
@@ -306,9 +306,9 @@ module _ (free extra depth : ℕ) (Inner : Place → Bool → Stmt → List Seat
       (bind_comes free (body depth inner is.m2) _ a.1 rest a rest (body_again as_body refl closed a.1 is.m2 rest is.body h) (pure_comes free a rest)))
 
   else_at : (a : Expr × Stmt) (k m : List Seat) (y : Stepping) (rest : List Seat) → First kind.Else k m → Comes free (branch_by depth inner a (kind_at m) m) y rest → Comes free (else_by depth inner a (kind_at k) k) y rest
-  unfolding behind_else
+  unfolding after_else
   else_at a k m y rest f c =
-      comes_at free (else_by depth inner a (kind_at k) k) (behind_else depth inner a k) y rest (ap (λ o. else_by depth inner a o k) (kind_first kind.Else k m f))
+      comes_at free (else_by depth inner a (kind_at k) k) (after_else depth inner a k) y rest (ap (λ o. else_by depth inner a o k) (kind_first kind.Else k m f))
       (bind_comes free (expect kind.Else k) _ f.0 m y rest (first_comes free kind.Else k m f) c)
 
   passed_again : (a : Expr × Stmt) (k rest after : List Seat) → P a k rest → First kind.If rest after → Comes free (arm_step depth inner k) (go_on a) rest

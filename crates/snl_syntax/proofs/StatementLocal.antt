@@ -12,8 +12,8 @@ use Rattle.snl_syntax.specs.Steps.{Reader, and_then, pure, refuse, kind_at, expe
 use Rattle.snl_syntax.specs.Reading.Types.{begins_type}
 use Rattle.snl_syntax.specs.Reading.Expressions.{expr}
 use Rattle.snl_syntax.specs.Reading.Declarations.{declaration}
-use Rattle.snl_syntax.specs.Reading.Statements.{some_before, semicolon_by, before_semicolon, paren_by, before_paren, c_code, jump, change, return_value, evaluation, condition, for_parts, for_head, declared, stated, some_by, some_member, member_by, next_member, block_of, block_statement, body_by, body, while_loop, for_loop, last_body, branch_by, behind_else, else_by, arm, arm_step, choice, stmt_by, stmt_of, stmt, block}
-use Rattle.snl_syntax.proofs.Local.{Local, Eats, EatsSome, bind_local, choice_local, pure_local, refuse_local, expect_local, many_local, until_local, level_local, bind_eats, eats_behind, expect_eats, eats_some, eats_more, none_eats, until_step}
+use Rattle.snl_syntax.specs.Reading.Statements.{some_before, semicolon_by, before_semicolon, paren_by, before_paren, c_code, jump, change, return_value, evaluation, condition, for_parts, for_head, declared, stated, some_by, some_member, member_by, next_member, block_of, block_statement, body_by, body, while_loop, for_loop, last_body, branch_by, after_else, else_by, arm, arm_step, choice, stmt_by, stmt_of, stmt, block}
+use Rattle.snl_syntax.proofs.Local.{Local, Eats, EatsSome, bind_local, choice_local, pure_local, refuse_local, expect_local, many_local, until_local, level_local, bind_eats, eats_after, expect_eats, eats_some, eats_more, none_eats, until_step}
 use Rattle.snl_syntax.proofs.TypeLaws.{word_local}
 use Rattle.snl_syntax.proofs.ExpressionLocal.{expr_local}
 use Rattle.snl_syntax.proofs.DeclarationLocal.{declaration_local, declaration_eats}
@@ -94,7 +94,7 @@ module _ (depth : ℕ) where
 
   evaluation_eats : Eats (evaluation depth)
   unfolding evaluation
-  evaluation_eats = eats_behind (expr depth) _ (expr_local depth) (λ e. bind_eats (expect kind.Semicolon) _ (expect_eats kind.Semicolon) (λ _. pure_local (tree.Expr e)))
+  evaluation_eats = eats_after (expr depth) _ (expr_local depth) (λ e. bind_eats (expect kind.Semicolon) _ (expect_eats kind.Semicolon) (λ _. pure_local (tree.Expr e)))
 
   condition_local : Local (condition depth)
   unfolding condition
@@ -212,8 +212,8 @@ module _ (depth : ℕ) (inner : Reader Stmt) (local : Local inner) (eats : Eats 
   branch_by_local a (Some kind.If) = pure_local (steps.More a)
   branch_by_local a _ = last_local a
 
-  else_local : (a : Expr × Stmt) → Local (behind_else depth inner a)
-  unfolding behind_else
+  else_local : (a : Expr × Stmt) → Local (after_else depth inner a)
+  unfolding after_else
   else_local a = bind_local (expect kind.Else) _ (expect_local kind.Else) (λ _. choice_local (branch_by depth inner a) (branch_by_local a))
 
   else_by_local : (a : Expr × Stmt) (o : Option Kind) → Local (else_by depth inner a o)

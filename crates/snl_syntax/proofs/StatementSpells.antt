@@ -14,8 +14,8 @@ use Rattle.snl_syntax.specs.Tokens.{Seat}
 use Rattle.snl_syntax.specs.Grammar.Base.{Each}
 use Rattle.snl_syntax.specs.Grammar.Expressions.{IsExpr}
 use Rattle.snl_syntax.specs.Grammar.Declarations.{IsDeclaration}
-use Rattle.snl_syntax.specs.Grammar.Statements.{Place, within_block, as_body, behind_else, IsCondition, AreForParts, IsForHeadWithin, IsMember, declaration, statement, IsBlock, IsBody, block as is_block, deeper, IsArm, IsPassed, IsStmt, empty, evaluation, block as block_within, c_code, choice, while_loop, for_loop, break_loop, continue_loop, return_value, change, IsStatement, IsBlockWithin}
-use Rattle.snl_syntax.specs.Spelling.Base.{Spelled, word, behind, between, in_parens}
+use Rattle.snl_syntax.specs.Grammar.Statements.{Place, within_block, as_body, after_else, IsCondition, AreForParts, IsForHeadWithin, IsMember, declaration, statement, IsBlock, IsBody, block as is_block, deeper, IsArm, IsPassed, IsStmt, empty, evaluation, block as block_within, c_code, choice, while_loop, for_loop, break_loop, continue_loop, return_value, change, IsStatement, IsBlockWithin}
+use Rattle.snl_syntax.specs.Spelling.Base.{Spelled, word, after, between, in_parens}
 use Rattle.snl_syntax.specs.Spelling.Expressions.{spell_expr}
 use Rattle.snl_syntax.specs.Spelling.Declarations.{spell_declaration}
 use Rattle.snl_syntax.specs.Spelling.Statements.{spell_choice, spell_for_parts, spell_for_head, spell_member_step, spell_stmt_step, spell_member, spell_stmt, spell_block}
@@ -75,9 +75,9 @@ spelled_arm arm = (arm.0, spell_stmt arm.1)
 abbrev spell_arms : List (Expr × Stmt) → List Spelled
 spell_arms arms = between kind.Else (map spell_choice (map spelled_arm arms))
 
-behind_arms : (arms : List (Expr × Stmt)) (last : Expr × Stmt) → behind kind.Else (map spell_choice (map spelled_arm (arms ++ last ∷ []))) ≡ word kind.Else ++ spell_arms (arms ++ last ∷ [])
-behind_arms [] last = refl
-behind_arms (arm ∷ arms) last = refl
+after_arms : (arms : List (Expr × Stmt)) (last : Expr × Stmt) → after kind.Else (map spell_choice (map spelled_arm (arms ++ last ∷ []))) ≡ word kind.Else ++ spell_arms (arms ++ last ∷ [])
+after_arms [] last = refl
+after_arms (arm ∷ arms) last = refl
 
 module _ (Inside : Expr → List Seat → List Seat → Type 0) (inside_spells : Spells Inside spell_expr) (Declared : Declaration → List Seat → List Seat → Type 0) (declared_spells : Spells Declared spell_declaration) (Inner : Place → Bool → Stmt → List Seat → List Seat → Type 0) (inner_spells : (place : Place) (closed : Bool) → Spells (Inner place closed) spell_stmt) where
   arm_spells : (closed : Bool) → Spells (IsArm Inside Declared Inner closed) (λ arm. spell_choice (spelled_arm arm))
@@ -86,7 +86,7 @@ module _ (Inside : Expr → List Seat → List Seat → Type 0) (inside_spells :
   arms_spell : (arms : List (Expr × Stmt)) (last : Expr × Stmt) (closed : Bool) (k m rest : List Seat) → Each (IsPassed Inside Declared Inner) arms k m → IsArm Inside Declared Inner closed last m rest → Covers (spell_arms (arms ++ last ∷ [])) k rest
   arms_spell [] last closed k m rest e is = nothing_covers e and arm_spells closed last m rest is and nothing_covers refl
   arms_spell (arm ∷ arms) last closed k m rest e is =
-      subst (λ (l : List Spelled). Covers (spell_choice (spelled_arm arm) ++ l) k rest) (sym (behind_arms arms last))
+      subst (λ (l : List Spelled). Covers (spell_choice (spelled_arm arm) ++ l) k rest) (sym (after_arms arms last))
       (arm_spells true arm k e.1.mid e.1.front and (word_covers e.1.word and arms_spell arms last closed e.0 m rest e.2 is))
 
 module _ (Inside : Expr → List Seat → List Seat → Type 0) (inside_spells : Spells Inside spell_expr) (Outside : Expr → List Seat → List Seat → Type 0) (outside_spells : Spells Outside spell_expr) (Head : ForHead → List Seat → List Seat → Type 0) (head_spells : Spells Head spell_for_head) (Declared : Declaration → List Seat → List Seat → Type 0) (declared_spells : Spells Declared spell_declaration) (Inner : Place → Bool → Stmt → List Seat → List Seat → Type 0) (inner_spells : (place : Place) (closed : Bool) → Spells (Inner place closed) spell_stmt) where
@@ -99,10 +99,10 @@ module _ (Inside : Expr → List Seat → List Seat → Type 0) (inside_spells :
   form_spells place closed t k rest (choice arms last None mid may is front final) =
       stmt_covers (Stmt-F.If (arms ++ last ∷ []) None) is (arms_spell Inside inside_spells Declared declared_spells Inner inner_spells arms last false k mid rest front final.1 and nothing_covers refl)
   form_spells place closed t k rest (choice arms last (Some s) mid may is front final) =
-      let behind_last = final.2 in
+      let after_last = final.2 in
       stmt_covers (Stmt-F.If (arms ++ last ∷ []) (Some s)) is
       (arms_spell Inside inside_spells Declared declared_spells Inner inner_spells arms last true k mid final.0 front final.1
-      and (word_covers behind_last.word and body_spells Declared declared_spells Inner inner_spells behind_else closed s behind_last.mid rest behind_last.body))
+      and (word_covers after_last.word and body_spells Declared declared_spells Inner inner_spells after_else closed s after_last.mid rest after_last.body))
   form_spells place closed t k rest (while_loop e s m1 m2 is mark condition inside) =
       stmt_covers (Stmt-F.While e s) is (word_covers mark and condition_spells Inside inside_spells e m1 m2 condition and body_spells Declared declared_spells Inner inner_spells as_body closed s m2 rest inside)
   form_spells place closed t k rest (for_loop h s m1 m2 is mark head inside) =

@@ -17,11 +17,11 @@ use Rattle.snl_syntax.specs.Steps.{Outcome, Reader, and_then, pure, refuse, kind
 use Rattle.snl_syntax.specs.Grammar.Base.{Each, Leaf, Within}
 use Rattle.snl_syntax.specs.Grammar.Expressions.{IsExpr}
 use Rattle.snl_syntax.specs.Grammar.Declarations.{IsDeclaration}
-use Rattle.snl_syntax.specs.Grammar.Statements.{Place, within_block, as_body, behind_else as at_else, may_be_block, may_be_choice, IsBefore, IsCondition, AreForParts, IsForHead, IsForHeadWithin, IsMember, declaration as is_declaration, statement as is_statement, IsBlock, IsBody, block as is_block_body, deeper, IsArm, IsPassed, IsLast, IsStmt, empty as is_empty, evaluation as is_evaluation, block as is_block, c_code as is_code, choice as is_choice, while_loop as is_while, for_loop as is_for, break_loop as is_break, continue_loop as is_continue, return_value as is_return, change as is_change, IsStatement, IsBlockWithin}
+use Rattle.snl_syntax.specs.Grammar.Statements.{Place, within_block, as_body, after_else as at_else, may_be_block, may_be_choice, IsBefore, IsCondition, AreForParts, IsForHead, IsForHeadWithin, IsMember, declaration as is_declaration, statement as is_statement, IsBlock, IsBody, block as is_block_body, deeper, IsArm, IsPassed, IsLast, IsStmt, empty as is_empty, evaluation as is_evaluation, block as is_block, c_code as is_code, choice as is_choice, while_loop as is_while, for_loop as is_for, break_loop as is_break, continue_loop as is_continue, return_value as is_return, change as is_change, IsStatement, IsBlockWithin}
 use Rattle.snl_syntax.specs.Reading.Types.{begins_type}
 use Rattle.snl_syntax.specs.Reading.Expressions.{expr}
 use Rattle.snl_syntax.specs.Reading.Declarations.{declaration}
-use Rattle.snl_syntax.specs.Reading.Statements.{some_before, semicolon_by, before_semicolon, paren_by, before_paren, c_code, jump, change, return_value, evaluation, condition, for_parts, for_head, declared, stated, some_by, some_member, member_by, next_member, block_of, block_statement, body_by, body, while_loop, for_loop, last_body, branch_by, behind_else, else_by, arm, arm_step, choice, stmt_by, stmt_of, stmt, block}
+use Rattle.snl_syntax.specs.Reading.Statements.{some_before, semicolon_by, before_semicolon, paren_by, before_paren, c_code, jump, change, return_value, evaluation, condition, for_parts, for_head, declared, stated, some_by, some_member, member_by, next_member, block_of, block_statement, body_by, body, while_loop, for_loop, last_body, branch_by, after_else, else_by, arm, arm_step, choice, stmt_by, stmt_of, stmt, block}
 use Rattle.snl_syntax.proofs.Local.{bind_ok, bind_err, ok_is}
 use Rattle.snl_syntax.proofs.Viable.{Free, Makes, Viable, Full, Exists, Both, both, Joint, Next, Lists, IsNothing, StepOf, Ends, Whole, seats, bind_viable, bind_full, into_full, lighter, choice_viable, refuse_viable, expect_full, pure_full, many_full, until_viable, level_full}
 use Rattle.snl_syntax.proofs.TypeLaws.{word_full, lists_each, none_next, first_then}
@@ -485,13 +485,13 @@ module _ (free extra depth : ℕ) (Inner : Place → Bool → Stmt → List Seat
   branched a (Some kind.If) = pure (go_on a)
   branched a _ = last_at a
 
-  body_behind : (k : List Seat) → fits at_else (kind_at k) ≡ true → body depth inner k ≡ placed at_else k
+  body_after : (k : List Seat) → fits at_else (kind_at k) ≡ true → body depth inner k ≡ placed at_else k
   unfolding body
-  body_behind k h = body_is at_else (kind_at k) k refl h
+  body_after k h = body_is at_else (kind_at k) k refl h
 
   last_is : (a : Expr × Stmt) (k : List Seat) → fits at_else (kind_at k) ≡ true → last_body depth inner a k ≡ last_at a k
   unfolding last_body
-  last_is a k h = ap (λ (r : Outcome Stmt). and_then r (λ s. pure (ends_with a s))) (body_behind k h)
+  last_is a k h = ap (λ (r : Outcome Stmt). and_then r (λ s. pure (ends_with a s))) (body_after k h)
 
   branch_is : (a : Expr × Stmt) (o : Option Kind) (k : List Seat) → kind_at k ≡ o → branch_by depth inner a o k ≡ branched a o k
   branch_is a (Some kind.If) k e = refl
@@ -511,21 +511,21 @@ module _ (free extra depth : ℕ) (Inner : Place → Bool → Stmt → List Seat
   branch_shut : (a : Expr × Stmt) → Shut (λ k. branch_by depth inner a (kind_at k) k) (Branch true a)
   branch_shut a = same_shut (λ k. branch_by depth inner a (kind_at k) k) (λ k. branched a (kind_at k) k) (Branch true a) (λ k. branch_is a (kind_at k) k refl) (choice_shut (branched a) (Branch true a) (branched_shut a))
 
-  abbrev Behind : Bool → Expr × Stmt → Stepping → List Seat → List Seat → Type 0
-  Behind closed a = Both (Leaf kind.Else) (λ _. Branch closed a)
+  abbrev After : Bool → Expr × Stmt → Stepping → List Seat → List Seat → Type 0
+  After closed a = Both (Leaf kind.Else) (λ _. Branch closed a)
 
   abbrev Aim : List Seat → List Seat → Type 0
   Aim = Joint (Leaf kind.Else) (λ _. Exists (B at_else false))
 
-  behind_viable : (a : Expr × Stmt) → Viable free extra (behind_else depth inner a) (Behind false a) Aim
-  unfolding behind_else
-  behind_viable a = bind_viable free extra (expect kind.Else) _ (Leaf kind.Else) (λ _. Branch false a) (λ _. Exists (B at_else false)) Semi (expect_full free extra kind.Else).viable (λ _. branch_viable a) (λ _. (placed_full at_else).makes)
+  after_viable : (a : Expr × Stmt) → Viable free extra (after_else depth inner a) (After false a) Aim
+  unfolding after_else
+  after_viable a = bind_viable free extra (expect kind.Else) _ (Leaf kind.Else) (λ _. Branch false a) (λ _. Exists (B at_else false)) Semi (expect_full free extra kind.Else).viable (λ _. branch_viable a) (λ _. (placed_full at_else).makes)
 
-  behind_shut : (a : Expr × Stmt) → Shut (behind_else depth inner a) (Behind true a)
-  unfolding behind_else
-  behind_shut a = bind_shut free extra (expect kind.Else) _ (Leaf kind.Else) (λ _. Branch true a) (Exists (Leaf kind.Else)) (expect_full free extra kind.Else).viable (λ _. branch_shut a)
+  after_shut : (a : Expr × Stmt) → Shut (after_else depth inner a) (After true a)
+  unfolding after_else
+  after_shut a = bind_shut free extra (expect kind.Else) _ (Leaf kind.Else) (λ _. Branch true a) (Exists (Leaf kind.Else)) (expect_full free extra kind.Else).viable (λ _. branch_shut a)
 
-  joins : (closed : Bool) (a : Expr × Stmt) (y : Stepping) (k m rest : List Seat) → A true a k m → Behind closed a y m rest → StepOf P (LastOf closed) y k rest
+  joins : (closed : Bool) (a : Expr × Stmt) (y : Stepping) (k m rest : List Seat) → A true a k m → After closed a y m rest → StepOf P (LastOf closed) y k rest
   joins closed a (steps.More b) k m rest r (both n m2 e h) = subst (λ z. P z k rest) h.0 (record { mid = m; front = r; word = first_then kind.Else n m m2 rest e h.1 })
   joins closed a (steps.Last o None) k m rest r (both n m2 e h) = absurd h
   joins closed a (steps.Last o (Some s)) k m rest r (both n m2 e h) = subst (λ z. LastOf closed z (Some s) k rest) h.0 (m, r, record { mid = m2; word = (n, e); body = h.1 })
@@ -533,7 +533,7 @@ module _ (free extra depth : ℕ) (Inner : Place → Bool → Stmt → List Seat
   abbrev Took : {X : Type 0} → (X → List Seat → List Seat → Type 0) → X → List Seat → List Seat → Type 0
   Took Rel x k m = (front : List Seat) × (k ≡ front ++ m) × ((after : List Seat) → Rel x (front ++ after) after)
 
-  combine : (closed : Bool) (a : Expr × Stmt) (y : Stepping) (k m' m : List Seat) → Took (A true) a k m' → Took (Behind closed a) y m' m → Took (StepOf P (LastOf closed)) y k m
+  combine : (closed : Bool) (a : Expr × Stmt) (y : Stepping) (k m' m : List Seat) → Took (A true) a k m' → Took (After closed a) y m' m → Took (StepOf P (LastOf closed)) y k m
   combine closed a y k m' m u v = (
     u.0 ++ v.0,
     u.1 ∙ ap (λ (l : List Seat). u.0 ++ l) v.1 ∙ sym (append_assoc u.0 v.0 m),
@@ -549,7 +549,7 @@ module _ (free extra depth : ℕ) (Inner : Place → Bool → Stmt → List Seat
   is_else a (Some kind.Else) = inl refl
   is_else a _ = inr (refl, refl)
 
-  else_is : (a : Expr × Stmt) (m : List Seat) (r : Outcome Stepping) → kind_at m ≡ Some kind.Else → else_by depth inner a (kind_at m) m ≡ r → behind_else depth inner a m ≡ r
+  else_is : (a : Expr × Stmt) (m : List Seat) (r : Outcome Stepping) → kind_at m ≡ Some kind.Else → else_by depth inner a (kind_at m) m ≡ r → after_else depth inner a m ≡ r
   else_is a m r h e = sym (ap (λ o. else_by depth inner a o m) h) ∙ e
 
   alone_is : (a : Expr × Stmt) (m : List Seat) (r : Outcome Stepping) → else_by depth inner a (kind_at m) ≡ pure (ends_alone a) → else_by depth inner a (kind_at m) m ≡ r → pure (ends_alone a) m ≡ r
@@ -559,7 +559,7 @@ module _ (free extra depth : ℕ) (Inner : Place → Bool → Stmt → List Seat
   unfolding arm_step
   step_takes k y m e = bind_ok (arm depth inner k) _ (y, m) e (λ a m' e1 e2.
       elim (is_else a (kind_at m')) [
-        | inl h ↦ combine false a y k m' m (arm_shut.shuts k a m' e1 h) ((behind_viable a).takes m' y m (else_is a m' (Ok (y, m)) h e2))
+        | inl h ↦ combine false a y k m' m (arm_shut.shuts k a m' e1 h) ((after_viable a).takes m' y m (else_is a m' (Ok (y, m)) h e2))
         | inr h ↦
             let v = ok_is (ends_alone a) y m' m (alone_is a m' (Ok (y, m)) h.1 e2) in
             let t = arm_full.viable.takes k a m' e1 in
@@ -570,7 +570,7 @@ module _ (free extra depth : ℕ) (Inner : Place → Bool → Stmt → List Seat
   unfolding arm_step
   step_shuts k y m e w = bind_ok (arm depth inner k) _ (y, m) e (λ a m' e1 e2.
       elim (is_else a (kind_at m')) [
-        | inl h ↦ combine true a y k m' m (arm_shut.shuts k a m' e1 h) ((behind_shut a).shuts m' y m (else_is a m' (Ok (y, m)) h e2) w)
+        | inl h ↦ combine true a y k m' m (arm_shut.shuts k a m' e1 h) ((after_shut a).shuts m' y m (else_is a m' (Ok (y, m)) h e2) w)
         | inr h ↦
             let v = ok_is (ends_alone a) y m' m (alone_is a m' (Ok (y, m)) h.1 e2) in
             let seen : sees_else (kind_at m') ≡ true = ap (λ (l : List Seat). sees_else (kind_at l)) v.1 ∙ ap sees_else w in
@@ -594,7 +594,7 @@ module _ (free extra depth : ℕ) (Inner : Place → Bool → Stmt → List Seat
       elim (is_else a (kind_at m)) [
         | inl h ↦
             let u = arm_shut.shuts k a m e1 h in
-            let v = (behind_viable a).stuck m j (else_is a m (Err j) h e2) in (
+            let v = (after_viable a).stuck m j (else_is a m (Err j) h e2) in (
               u.0 ++ v.0,
               v.1,
               u.1 ∙ ap (λ (l : List Seat). u.0 ++ l) v.2 ∙ sym (append_assoc u.0 v.0 j),

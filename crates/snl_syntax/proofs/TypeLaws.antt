@@ -179,32 +179,32 @@ module _ (free extra : ℕ) where
   plain_full = into_full free extra plain_integer _ IsBase (kind.Int ∷ []) into_plain (bind_full free extra integer _ IsInteger (λ i. IsNothing (bases.Integer i)) (kind.Int ∷ []) [] integer_full (λ i. pure_full free extra (bases.Integer i)))
 
   -- what may come after `unsigned`
-  abbrev BehindUnsigned : Base → List Seat → List Seat → Type 0
-  BehindUnsigned y k rest = (n : ℕ) → IsBase y ((kind.Unsigned, n) ∷ k) rest
+  abbrev AfterUnsigned : Base → List Seat → List Seat → Type 0
+  AfterUnsigned y k rest = (n : ℕ) → IsBase y ((kind.Unsigned, n) ∷ k) rest
 
-  into_some : (y : Base) (k rest : List Seat) → Both IsInteger (λ i. IsNothing (bases.UnsignedInteger i)) y k rest → BehindUnsigned y k rest
+  into_some : (y : Base) (k rest : List Seat) → Both IsInteger (λ i. IsNothing (bases.UnsignedInteger i)) y k rest → AfterUnsigned y k rest
   into_some y k rest (both i m e h) n = subst (λ z. IsBase z ((kind.Unsigned, n) ∷ k) rest) h.0 (k, (n, refl), subst (λ l. IsInteger i k l) h.1 e)
 
-  into_none : (y : Base) (k rest : List Seat) → IsNothing bases.Unsigned y k rest → BehindUnsigned y k rest
+  into_none : (y : Base) (k rest : List Seat) → IsNothing bases.Unsigned y k rest → AfterUnsigned y k rest
   into_none y k rest h n = subst (λ z. IsBase z ((kind.Unsigned, n) ∷ k) rest) h.0 (n, ap (λ (l : List Seat). (kind.Unsigned, n) ∷ l) h.1)
 
-  behind_makes : Makes free extra (Exists BehindUnsigned) []
-  behind_makes n rest room = (bases.Unsigned, into_none bases.Unsigned rest rest (refl, refl))
+  after_makes : Makes free extra (Exists AfterUnsigned) []
+  after_makes n rest room = (bases.Unsigned, into_none bases.Unsigned rest rest (refl, refl))
 
-  unsigned_by_viable : (b : Bool) → Viable free extra (unsigned_by b) BehindUnsigned (Exists BehindUnsigned)
-  unsigned_by_viable true = (into_full free extra (unsigned_by true) _ BehindUnsigned (kind.Int ∷ []) into_some (bind_full free extra integer _ IsInteger (λ i. IsNothing (bases.UnsignedInteger i)) (kind.Int ∷ []) [] integer_full (λ i. pure_full free extra (bases.UnsignedInteger i)))).viable
-  unsigned_by_viable false = (into_full free extra (unsigned_by false) (IsNothing bases.Unsigned) BehindUnsigned [] into_none (pure_full free extra bases.Unsigned)).viable
+  unsigned_by_viable : (b : Bool) → Viable free extra (unsigned_by b) AfterUnsigned (Exists AfterUnsigned)
+  unsigned_by_viable true = (into_full free extra (unsigned_by true) _ AfterUnsigned (kind.Int ∷ []) into_some (bind_full free extra integer _ IsInteger (λ i. IsNothing (bases.UnsignedInteger i)) (kind.Int ∷ []) [] integer_full (λ i. pure_full free extra (bases.UnsignedInteger i)))).viable
+  unsigned_by_viable false = (into_full free extra (unsigned_by false) (IsNothing bases.Unsigned) AfterUnsigned [] into_none (pure_full free extra bases.Unsigned)).viable
 
-  rest_full : Full free extra unsigned_rest BehindUnsigned []
+  rest_full : Full free extra unsigned_rest AfterUnsigned []
   unfolding unsigned_rest
-  rest_full = record { viable = choice_viable free extra (λ o. unsigned_by (begins_integer o)) BehindUnsigned (Exists BehindUnsigned) (λ o. unsigned_by_viable (begins_integer o)); makes = behind_makes }
+  rest_full = record { viable = choice_viable free extra (λ o. unsigned_by (begins_integer o)) AfterUnsigned (Exists AfterUnsigned) (λ o. unsigned_by_viable (begins_integer o)); makes = after_makes }
 
-  into_unsigned : (y : Base) (k rest : List Seat) → Both (Leaf kind.Unsigned) (λ _. BehindUnsigned) y k rest → IsBase y k rest
+  into_unsigned : (y : Base) (k rest : List Seat) → Both (Leaf kind.Unsigned) (λ _. AfterUnsigned) y k rest → IsBase y k rest
   into_unsigned y k rest (both n m e h) = subst (λ l. IsBase y l rest) (sym e) (h n)
 
   unsigned_full : Full free extra unsigned IsBase (kind.Unsigned ∷ [])
   unfolding unsigned
-  unsigned_full = into_full free extra unsigned _ IsBase (kind.Unsigned ∷ []) into_unsigned (bind_full free extra (expect kind.Unsigned) _ (Leaf kind.Unsigned) (λ _. BehindUnsigned) (kind.Unsigned ∷ []) [] (expect_full free extra kind.Unsigned) (λ _. rest_full))
+  unsigned_full = into_full free extra unsigned _ IsBase (kind.Unsigned ∷ []) into_unsigned (bind_full free extra (expect kind.Unsigned) _ (Leaf kind.Unsigned) (λ _. AfterUnsigned) (kind.Unsigned ∷ []) [] (expect_full free extra kind.Unsigned) (λ _. rest_full))
 
   into_named : (x : Kind) (make : ℕ → Base) → ((n : ℕ) (k mid rest : List Seat) → First x k mid → Leaf kind.Name n mid rest → IsBase (make n) k rest) → (y : Base) (k rest : List Seat) → Both (Leaf x) (λ _. Both (Leaf kind.Name) (λ n. IsNothing (make n))) y k rest → IsBase y k rest
   into_named x make is y k rest (both i m e (both n m2 f h)) = subst (λ z. IsBase z k rest) h.0 (is n k m rest (i, e) (f ∙ ap (λ (l : List Seat). (kind.Name, n) ∷ l) h.1))

@@ -21,7 +21,7 @@ use Rattle.snl_syntax.specs.Tokens.{Seat, same}
 use Rattle.snl_syntax.specs.Steps.{Reader, kind_at, expect, accept}
 use Rattle.snl_syntax.specs.Grammar.Base.{Each, First, Leaf}
 use Rattle.snl_syntax.specs.Grammar.Types.{Written, IsBase, IsType, IsPointer}
-use Rattle.snl_syntax.specs.Grammar.Expressions.{IsBehindComma, AreCommas, IsAssignx}
+use Rattle.snl_syntax.specs.Grammar.Expressions.{IsAfterComma, AreCommas, IsAssignx}
 use Rattle.snl_syntax.specs.Grammar.Declarations.{IsInit, IsDeclarator, IsDeclaration}
 use Rattle.snl_syntax.specs.Grammar.Statements.{IsBlockWithin}
 use Rattle.snl_syntax.specs.Grammar.Functions.{IsParameter, IsFunction, IsStruct, IsTypedItem, definition as is_definition, function as is_function, struct_definition as is_struct}
@@ -109,15 +109,15 @@ module _ (free depth : ℕ) (block : Reader (List Member)) where
   struct_type_at n [] h = refl
   struct_type_at n (s ∷ k) h = ap (λ (q : Reader Item). q (s ∷ k)) (by_struct_type n s.0 h)
 
-  behind_another : (x : Kind) (t : QualifiedType) (k m1 mid : List Seat) (y : Item) (rest : List Seat) → First x k m1 → same x kind.Struct ≡ false → IsType t k mid → TypeEnds mid → Comes free (item_of depth block t mid) y rest → Comes free (typed_item depth block k) y rest
+  after_another : (x : Kind) (t : QualifiedType) (k m1 mid : List Seat) (y : Item) (rest : List Seat) → First x k m1 → same x kind.Struct ≡ false → IsType t k mid → TypeEnds mid → Comes free (item_of depth block t mid) y rest → Comes free (typed_item depth block k) y rest
   unfolding typed_item type_item
-  behind_another x t k m1 mid y rest f e is h c =
+  after_another x t k m1 mid y rest f e is h c =
       comes_at free (typed_item depth block k) (type_item depth block k) y rest (ap (λ o. typed_by depth block o k) (kind_first x k m1 f) ∙ ap (λ (q : Reader Item). q k) (by_another x e))
       (bind_comes free (type_of k) _ t mid y rest (type_comes free t k mid is h.0) c)
 
-  behind_struct : (n : ℕ) (after : Bool) (k m1 m2 mid : List Seat) (y : Item) (rest : List Seat) → First kind.Struct k m1 → Leaf kind.Name n m1 m2 → Written kind.Const after m2 mid → TypeEnds mid → Comes free (item_of depth block (qualified false (bases.Struct n) after) mid) y rest → Comes free (typed_item depth block k) y rest
+  after_struct : (n : ℕ) (after : Bool) (k m1 m2 mid : List Seat) (y : Item) (rest : List Seat) → First kind.Struct k m1 → Leaf kind.Name n m1 m2 → Written kind.Const after m2 mid → TypeEnds mid → Comes free (item_of depth block (qualified false (bases.Struct n) after) mid) y rest → Comes free (typed_item depth block k) y rest
   unfolding typed_item struct_item struct_type type_from
-  behind_struct n after k m1 m2 mid y rest f e w h c =
+  after_struct n after k m1 m2 mid y rest f e w h c =
       let t : QualifiedType = qualified false (bases.Struct n) after in
       comes_at free (typed_item depth block k) (struct_item depth block k) y rest (ap (λ o. typed_by depth block o k) (kind_first kind.Struct k m1 f))
       (bind_comes free (expect kind.Struct k) _ f.0 m1 y rest (first_comes free kind.Struct k m1 f)
@@ -127,21 +127,21 @@ module _ (free depth : ℕ) (block : Reader (List Member)) where
       (bind_comes free (accept kind.Const m2) _ after mid t mid (written_comes free kind.Const after m2 mid w h.0.1) (pure_comes free t mid)) c))))
 
   by_start : (before : Bool) (b : Base) (after : Bool) (k m1 m2 mid : List Seat) (y : Item) (rest : List Seat) → Written kind.Const before k m1 → BaseStart b m1 m2 → Written kind.Const after m2 mid → IsType (qualified before b after) k mid → TypeEnds mid → Comes free (item_of depth block (qualified before b after) mid) y rest → Comes free (typed_item depth block k) y rest
-  by_start true b after k m1 m2 mid y rest f start w is h c = behind_another kind.Const (qualified true b after) k m1 mid y rest f refl is h c
-  by_start false b after k m1 m2 mid y rest f (another x m g e) w is h c = behind_another x (qualified false b after) k m mid y rest (subst (λ l. First x l m) (sym f) g) e is h c
+  by_start true b after k m1 m2 mid y rest f start w is h c = after_another kind.Const (qualified true b after) k m1 mid y rest f refl is h c
+  by_start false b after k m1 m2 mid y rest f (another x m g e) w is h c = after_another x (qualified false b after) k m mid y rest (subst (λ l. First x l m) (sym f) g) e is h c
   by_start false b after k m1 m2 mid y rest f (struct_name n m e g l) w is h c =
-      behind_struct n after k m m2 mid y rest (subst (λ q. First kind.Struct q m) (sym f) g) l w h
+      after_struct n after k m m2 mid y rest (subst (λ q. First kind.Struct q m) (sym f) g) l w h
       (subst (λ z. Comes free (item_of depth block (qualified false z after) mid) y rest) e c)
 
   -- an item is read that begins with a type, if what comes after it is
-  behind_type : (t : QualifiedType) (k mid : List Seat) (y : Item) (rest : List Seat) → IsType t k mid → TypeEnds mid → Comes free (item_of depth block t mid) y rest → Comes free (typed_item depth block k) y rest
-  behind_type t k mid y rest is h c = by_start t.leading_const t.base t.trailing_const k is.m1 is.m2 mid y rest is.before (base_start t.base is.m1 is.m2 is.base) is.after is h c
+  after_type : (t : QualifiedType) (k mid : List Seat) (y : Item) (rest : List Seat) → IsType t k mid → TypeEnds mid → Comes free (item_of depth block t mid) y rest → Comes free (typed_item depth block k) y rest
+  after_type t k mid y rest is h c = by_start t.leading_const t.base t.trailing_const k is.m1 is.m2 mid y rest is.before (base_start t.base is.m1 is.m2 is.base) is.after is h c
 
   -- an item is read that begins with a type, stars and a name, if what comes after the name is
-  behind_name : (t : QualifiedType) (ps : List Pointer) (n : ℕ) (k m1 m2 mid : List Seat) (y : Item) (rest : List Seat) → IsType t k m1 → Each IsPointer ps m1 m2 → Leaf kind.Name n m2 mid → Comes free (named_item depth block t ps n mid) y rest → Comes free (typed_item depth block k) y rest
+  after_name : (t : QualifiedType) (ps : List Pointer) (n : ℕ) (k m1 m2 mid : List Seat) (y : Item) (rest : List Seat) → IsType t k m1 → Each IsPointer ps m1 m2 → Leaf kind.Name n m2 mid → Comes free (named_item depth block t ps n mid) y rest → Comes free (typed_item depth block k) y rest
   unfolding item_of
-  behind_name t ps n k m1 m2 mid y rest is each e c =
-      behind_type t k m1 y rest is (stars_end ps n m1 m2 mid each e)
+  after_name t ps n k m1 m2 mid y rest is each e c =
+      after_type t k m1 y rest is (stars_end ps n m1 m2 mid each e)
       (bind_comes free (stars m1) _ ps m2 y rest (stars_comes free ps m1 m2 each (first_lacks kind.Name kind.Const m2 mid refl (n, e)) (first_lacks kind.Name kind.Star m2 mid refl (n, e)))
       (bind_comes free (expect kind.Name m2) _ n mid y rest (expect_comes free kind.Name n m2 mid e) c))
 
@@ -180,7 +180,7 @@ module _ (free extra depth : ℕ) (Block : List Member → List Seat → List Se
   abbrev Value : Init → List Seat → List Seat → Type 0
   Value = IsInit free extra (suc depth)
 
-  declared_comes : (t : QualifiedType) (x : Declarator) (xs : List Declarator) (k mid rest m1 : List Seat) (is : IsDeclarator Inside Value x k m1) → Each (IsBehindComma (IsDeclarator Inside Value)) xs m1 mid → First kind.Semicolon mid rest → Comes free (named_item (suc depth) block t x.pointers x.name is.m2) (items.Definition (record { of = t; declarators = x ∷ xs })) rest
+  declared_comes : (t : QualifiedType) (x : Declarator) (xs : List Declarator) (k mid rest m1 : List Seat) (is : IsDeclarator Inside Value x k m1) → Each (IsAfterComma (IsDeclarator Inside Value)) xs m1 mid → First kind.Semicolon mid rest → Comes free (named_item (suc depth) block t x.pointers x.name is.m2) (items.Definition (record { of = t; declarators = x ∷ xs })) rest
   declared_comes t x xs k mid rest m1 is more f =
       let d : Declaration = record { of = t; declarators = x ∷ xs } in
       let c = declaration_from_comes free Inside Value (assignx depth) (init (suc depth)) (assignx_local depth) (init_local (suc depth)) (assignx_again free extra depth) (assignx_begins free extra depth) (init_again free extra (suc depth)) t x xs is.m2 is.m3 m1 mid rest is.lengths is.init more f in
@@ -191,12 +191,12 @@ module _ (free extra depth : ℕ) (Block : List Member → List Seat → List Se
   declarators_comes t [] k m1 m2 rest is are f = absurd are
   declarators_comes t (x ∷ xs) k m1 m2 rest is are f =
       let d = are.1 in
-      behind_name free (suc depth) block t x.pointers x.name k m1 d.m1 d.m2 (items.Definition (record { of = t; declarators = x ∷ xs })) rest is d.stars d.name (declared_comes t x xs m1 m2 rest are.0 d are.2 f)
+      after_name free (suc depth) block t x.pointers x.name k m1 d.m1 d.m2 (items.Definition (record { of = t; declarators = x ∷ xs })) rest is d.stars d.name (declared_comes t x xs m1 m2 rest are.0 d are.2 f)
 
   function_comes : (t : Function) (k rest : List Seat) → IsFunction (IsParameter free extra depth) Block t k rest → Comes free (typed_item (suc depth) block k) (items.Function t) rest
   unfolding named_item
   function_comes t k rest is =
-      behind_name free (suc depth) block t.of t.pointers t.name k is.m1 is.m2 is.m3 (items.Function t) rest is.of_type is.stars is.name
+      after_name free (suc depth) block t.of t.pointers t.name k is.m1 is.m2 is.m3 (items.Function t) rest is.of_type is.stars is.name
       (comes_at free (named_item (suc depth) block t.of t.pointers t.name is.m3) (function_item (suc depth) block t.of t.pointers t.name is.m3) (items.Function t) rest (ap (λ o. named_by (suc depth) block t.of t.pointers t.name o is.m3) (kind_first kind.OpenParen is.m3 is.m4 is.opening))
       (function_of free (suc depth) block t.of t.pointers t.name t is.m3 rest (subst (λ i. Comes free (function_from (parameter i) block t.of t.pointers t.name is.m3) t rest) (one_less depth)
       (function_from_comes free (IsParameter free extra depth) (parameter depth) (parameter_local depth) (parameter_begins free extra depth) (parameter_again free extra depth) Block block opens block_again t is.m3 is.m4 is.m5 rest is.opening is.parameters is.body))))

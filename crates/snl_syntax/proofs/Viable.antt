@@ -49,13 +49,13 @@ module _ (free extra : ℕ) where
     -- where it fails, what is before can be completed
     pub stuck : (k j : List Seat) → p k ≡ Err j → (front : List Seat) × (more : List Kind) × (k ≡ front ++ j) × ((n : ℕ) (rest : List Seat) → Free (seats n more ++ rest) → G (front ++ (seats n more ++ rest)) rest)
 
-behind_free : (free : ℕ) (front k : List Seat) → AreFree free (front ++ k) → AreFree free k
-behind_free zero front k h = absurd h
-behind_free (suc n) [] k h = h
-behind_free (suc n) (s ∷ front) k h = behind_free (suc n) front k h.1
+after_free : (free : ℕ) (front k : List Seat) → AreFree free (front ++ k) → AreFree free k
+after_free zero front k h = absurd h
+after_free (suc n) [] k h = h
+after_free (suc n) (s ∷ front) k h = after_free (suc n) front k h.1
 
-pub free_behind : (free extra : ℕ) (front k : List Seat) → Free free extra (front ++ k) → Free free extra k
-free_behind free extra front k f = (f.0, behind_free free front k f.1)
+pub free_after : (free extra : ℕ) (front k : List Seat) → Free free extra (front ++ k) → Free free extra k
+free_after free extra front k f = (f.0, after_free free front k f.1)
 
 free_split : (free extra n : ℕ) (a b : List Kind) (rest : List Seat) → Free free extra (seats n (a ++ b) ++ rest) → Free free extra (seats n a ++ (seats (n + length a) b ++ rest))
 free_split free extra n a b rest f = subst (Free free extra) (seats-append n a b rest) f
@@ -82,7 +82,7 @@ module _ (free extra : ℕ) {A B : Type 0} (p : Reader A) (f : A → Reader B) (
             let after : List Seat = seats (n + length u.1) b ++ rest in
             let room1 = free_split free extra n u.1 b rest room in
             let x = u.3 n after room1 in
-            let v = makes x.0 (n + length u.1) rest (free_behind free extra (seats n u.1) after room1) in
+            let v = makes x.0 (n + length u.1) rest (free_after free extra (seats n u.1) after room1) in
             subst (λ (l : List Seat). Joint R H (u.0 ++ l) rest) (sym (seats-append n u.1 b rest)) (x.0, after, x.1, v),
       ))
       (λ x m e1 e2.
@@ -135,7 +135,7 @@ bind_full free extra p f R S a b first second = record {
       let after : List Seat = seats (n + length a) b ++ rest in
       let room1 = free_split free extra n a b rest room in
       let u = first.makes n after room1 in
-      let v = (second u.0).makes (n + length a) rest (free_behind free extra (seats n a) after room1) in
+      let v = (second u.0).makes (n + length a) rest (free_after free extra (seats n a) after room1) in
       (v.0, subst (λ (l : List Seat). Both R S v.0 l rest) (sym (seats-append n a b rest)) (both u.0 after u.1 v.1));
 }
 

@@ -7,7 +7,7 @@ use Rattle.std.proofs.lemmas.List.{take-take, length-take}
 use Rattle.std.proofs.lemmas.Option.{slice_get_past}
 use Rattle.snl_cut.specs.Cut.{IsFront, IsLocal}
 use Rattle.snl_syntax.specs.declared.marks.Mark.{Mark}
-use Rattle.snl_syntax.specs.Items.{ends_before, ends_behind, least_from, item}
+use Rattle.snl_syntax.specs.Items.{ends_before, ends_after, least_from, item}
 
 -- the number is the least from `low` on that passes
 pub record IsLeast (p : ℕ → Bool) (low : ℕ) (k : ℕ) : Type 0 where
@@ -57,16 +57,16 @@ found_from p low n (suc turns) le h none =
     (rest.0, omega (arith, rest.1), rest.2))
 
 -- at the list's end an item ends
-pub ends_at_end : (u : List Mark) → ends_behind u (length u) ≡ true
+pub ends_at_end : (u : List Mark) → ends_after u (length u) ≡ true
 ends_at_end u = ap (ends_before (take (length u) u)) (slice_get_past u (length u) (omega arith))
 
 -- the first item is the least prefix after which it ends
-pub item_found : (u : List Mark) → 0 < length u → (k : ℕ) × (k ≤ length u) × (item u ≡ k) × IsLeast (ends_behind u) 1 k
+pub item_found : (u : List Mark) → 0 < length u → (k : ℕ) × (k ≤ length u) × (item u ≡ k) × IsLeast (ends_after u) 1 k
 item_found u some =
     let turns : ℕ = length u - 1 in
     let there : 1 + turns ≡ length u = omega arith in
-    let found = found_from (ends_behind u) 1 1 turns (omega arith) (subst (λ (m : ℕ). ends_behind u m ≡ true) (sym there) (ends_at_end u)) (λ m low under. absurd (omega arith)) in
-    (found.0, omega (arith, found.1, there), least_is (ends_behind u) 1 (length u) found.0 (omega (arith, found.1, there)) found.2, found.2)
+    let found = found_from (ends_after u) 1 1 turns (omega arith) (subst (λ (m : ℕ). ends_after u m ≡ true) (sym there) (ends_at_end u)) (λ m low under. absurd (omega arith)) in
+    (found.0, omega (arith, found.1, there), least_is (ends_after u) 1 (length u) found.0 (omega (arith, found.1, there)) found.2, found.2)
 
 pub item_front : IsFront item
 item_front u some =
@@ -74,8 +74,8 @@ item_front u some =
     (omega (arith, found.2, found.3.above), omega (arith, found.1, found.2))
 
 -- a length that is within, after which it ends and after no lesser one, is that of the first item
-pub item_is : (u : List Mark) (k : ℕ) → k ≤ length u → IsLeast (ends_behind u) 1 k → item u ≡ k
-item_is u k within is = least_is (ends_behind u) 1 (length u) k (omega arith) is
+pub item_is : (u : List Mark) (k : ℕ) → k ≤ length u → IsLeast (ends_after u) 1 k → item u ≡ k
+item_is u k within is = least_is (ends_after u) 1 (length u) k (omega arith) is
 
 pub get_taken : (u : List Mark) (m n : ℕ) → m < n → slice_get (take n u) m ≡ slice_get u m
 get_taken u m zero h = absurd (omega arith)
@@ -84,13 +84,13 @@ get_taken (x ∷ xs) zero (suc n) h = refl
 get_taken (x ∷ xs) (suc m) (suc n) h = get_taken xs m n (omega arith)
 
 -- whether it ends after m tokens is told by these and the one after them
-pub ends_local : (u v : List Mark) (n m : ℕ) → m < n → take n u ≡ take n v → ends_behind v m ≡ ends_behind u m
+pub ends_local : (u v : List Mark) (n m : ℕ) → m < n → take n u ≡ take n v → ends_after v m ≡ ends_after u m
 ends_local u v n m h e =
     let front : take m u ≡ take m v = sym (take-take m n u (omega arith)) ∙ ap (take m) e ∙ take-take m n v (omega arith) in
     let next : slice_get u m ≡ slice_get v m = sym (get_taken u m n h) ∙ ap (λ (l : List Mark). slice_get l m) e ∙ get_taken v m n h in
     sym (ap (λ (l : List Mark). ends_before l (slice_get u m)) front ∙ ap (ends_before (take m v)) next)
 
-item_local_at : (u v : List Mark) (k : ℕ) → k ≤ length u → IsLeast (ends_behind u) 1 k → take (k + 1) u ≡ take (k + 1) v → item v ≡ k
+item_local_at : (u v : List Mark) (k : ℕ) → k ≤ length u → IsLeast (ends_after u) 1 k → take (k + 1) u ≡ take (k + 1) v → item v ≡ k
 item_local_at u v k within is e =
     let long : min (k + 1) (length u) ≡ min (k + 1) (length v) = sym (length-take (k + 1) u) ∙ ap length e ∙ length-take (k + 1) v in
     item_is v k (omega (arith, long)) (record {

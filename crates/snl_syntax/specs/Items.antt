@@ -59,9 +59,9 @@ abbrev pub level : List Mark → Bool
 level k = count_by is_open k == count_by is_close k
 
 -- the token in front of this place passes
-abbrev pub is_behind : (Mark → Bool) → List Mark → ℕ → Bool
-is_behind p k zero = false
-is_behind p k (suc n) = some_is p (slice_get k n)
+abbrev pub is_after : (Mark → Bool) → List Mark → ℕ → Bool
+is_after p k zero = false
+is_after p k (suc n) = some_is p (slice_get k n)
 
 -- the opening brace after the first n tokens raises the balance from 0
 abbrev pub raises : List Mark → ℕ → Bool
@@ -74,7 +74,7 @@ greatest_below p (suc n) = cond (p n) n (greatest_below p n)
 
 -- the last brace that raised the balance from 0 directly followed a closing parenthesis
 abbrev pub opened_by_paren : List Mark → Bool
-opened_by_paren k = is_behind is_close_paren k (greatest_below (raises k) (length k))
+opened_by_paren k = is_after is_close_paren k (greatest_below (raises k) (length k))
 
 abbrev pub is_empty : List Mark → Bool
 is_empty [] = true
@@ -123,8 +123,8 @@ ends_before before None = true
 ends_before [] (Some ahead) = false
 ends_before (first ∷ k) (Some ahead) = ends_by first k ahead
 
-abbrev pub ends_behind : List Mark → ℕ → Bool
-ends_behind k n = ends_before (take n k) (slice_get k n)
+abbrev pub ends_after : List Mark → ℕ → Bool
+ends_after k n = ends_before (take n k) (slice_get k n)
 
 -- the least number from n on that passes, if it is found in so many turns
 abbrev pub least_from : (ℕ → Bool) → ℕ → ℕ → ℕ
@@ -133,7 +133,7 @@ least_from p n (suc turns) = cond (p n) n (least_from p (suc n) turns)
 
 -- The length of the first item: the least number of tokens, at least 1, after which it ends.
 abbrev pub item : List Mark → ℕ
-item k = least_from (ends_behind k) 1 (length k)
+item k = least_from (ends_after k) 1 (length k)
 
 -- What the code asks while it reads the tokens one by one.
 
@@ -147,8 +147,8 @@ is_plain mark.Semicolon = false
 is_plain _ = true
 
 -- The balance of the braces after one more token.
-abbrev pub balance_behind : ℕ → Mark → ℕ
-balance_behind balance token = cond (is_open token) (balance + 1) (cond (is_close token) (balance - 1) balance)
+abbrev pub balance_after : ℕ → Mark → ℕ
+balance_after balance token = cond (is_open token) (balance + 1) (cond (is_close token) (balance - 1) balance)
 
 -- A plain item ends after this token, whatever comes next.
 abbrev pub plain_ends_at : Bool → Mark → Bool → Option Mark → Bool

@@ -18,7 +18,7 @@ use crate::tree::statement::Member;
 use crate::tree::types::{Base, Pointer, QualifiedType};
 use crate::types::{stars, type_of};
 use snl_lex::Kind;
-use sqlite_items::Items;
+use sqlite_items::{Boxed, Items};
 use std::alloc::Global;
 
 /// Reads the blocks that are bodies of functions.
@@ -336,7 +336,7 @@ fn function_item<B: Blocks>(
     ensures { Reads kinds.now result (spec.function_item depth (B.reader depth) of pointers name (ahead kinds.now at)) }
 {
     let (function, at) = function_from(alloc, kinds, at, depth, blocks, of, pointers, name)?;
-    Ok((Item::Function(function), at))
+    Ok((Item::Function(Boxed::new(alloc, function)?), at))
 }
 
 #[tactic(auto, unfolding(crate::specs::Reading::Functions::declaration_item, crate::specs::Steps::and_then))]
@@ -353,7 +353,7 @@ fn declaration_item(
     ensures { Reads kinds.now result (spec.declaration_item depth of pointers name (ahead kinds.now at)) }
 {
     let (declaration, at) = declaration_from(alloc, kinds, at, depth, of, pointers, name)?;
-    Ok((Item::Definition(declaration), at))
+    Ok((Item::Definition(Boxed::new(alloc, declaration)?), at))
 }
 
 #[tactic(auto, unfolding(crate::specs::Reading::Functions::named_item, crate::specs::Steps::and_then))]

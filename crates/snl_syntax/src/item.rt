@@ -19,7 +19,7 @@ use crate::token_steps::{expect, kind_at};
 use crate::tree::item::Item;
 use crate::tree::statement::Member;
 use snl_lex::Kind;
-use sqlite_items::Items;
+use sqlite_items::{Boxed, Items};
 use std::alloc::Global;
 
 /// Blocks of statements, as the bodies of functions.
@@ -127,7 +127,7 @@ fn clause_item(alloc: Global, kinds: &[Kind], at: usize) -> Result<(Item, usize)
     ensures { Reads kinds.now result (spec.clause_item (ahead kinds.now at)) }
 {
     let (clause, at) = clause(alloc, kinds, at)?;
-    Ok((Item::Clause(clause), at))
+    Ok((Item::Clause(Boxed::new(alloc, clause)?), at))
 }
 
 #[tactic(auto, unfolding(crate::specs::Reading::Items::option_item, crate::specs::Steps::and_then))]

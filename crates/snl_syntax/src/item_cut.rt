@@ -2,7 +2,7 @@
 
 ghost use Rattle.snl_cut.specs.Cut.{ticked};
 ghost use Rattle.snl_syntax.specs.ItemLaws.{item_front, item_local};
-ghost use Rattle.snl_syntax.specs.Items.{balance_behind, is_behind, is_close, is_close_paren, is_name, is_open, is_open_paren, is_plain, is_text, item, plain_ends_at, some_is};
+ghost use Rattle.snl_syntax.specs.Items.{balance_after, is_after, is_close, is_close_paren, is_name, is_open, is_open_paren, is_plain, is_text, item, plain_ends_at, some_is};
 ghost use Rattle.snl_syntax.specs.declared.marks.Mark.TheVariants as mark;
 ghost use Rattle.std.specs.List.{slice_get};
 ghost use Rattle.std.specs.Prelude.{◌≡◌, ◌==◌, ◌&&◌, ◌+◌, ◌^◌, ◌<◌, ◌≤◌, cond, false, length, true, ℕ};
@@ -98,8 +98,8 @@ fn header_length(rest: &[Mark]) -> usize
     }
 }
 
-fn is_behind_close_paren(marks: &[Mark], number: usize) -> bool
-    ensures { result ≡ is_behind is_close_paren marks.now number }
+fn is_after_close_paren(marks: &[Mark], number: usize) -> bool
+    ensures { result ≡ is_after is_close_paren marks.now number }
 {
     number > 0 && is_close_paren_at(marks, number - 1)
 }
@@ -109,21 +109,21 @@ fn opened_by_paren(marks: &[Mark], number: usize, balance: usize, before: bool) 
     ensures { result
         ≡ cond
         (balance == 0 && some_is is_open (slice_get marks.now number))
-        (is_behind is_close_paren marks.now number)
+        (is_after is_close_paren marks.now number)
         before }
 {
     if balance == 0 && is_open_at(marks, number) {
-        is_behind_close_paren(marks, number)
+        is_after_close_paren(marks, number)
     } else {
         before
     }
 }
 
 // The balance of the braces after one more mark.
-fn balance_behind(balance: usize, mark: Mark) -> usize
+fn balance_after(balance: usize, mark: Mark) -> usize
     requires room { balance + 1 < 2 ^ 64 }
     requires open { is_close mark ≡ true → 0 < balance }
-    ensures { result ≡ balance_behind balance mark }
+    ensures { result ≡ balance_after balance mark }
 {
     if mark.is_open() {
         balance + 1
@@ -159,7 +159,7 @@ fn plain_length(rest: &[Mark]) -> usize
     loop {
         let last = rest[end];
         by_paren = opened_by_paren(rest, end, balance, by_paren);
-        balance = balance_behind(balance, last);
+        balance = balance_after(balance, last);
         end += 1;
         if ends_between(balance == 0, last, is_body || by_paren, mark_at(rest, end)) {
             return end;

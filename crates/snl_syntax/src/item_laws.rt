@@ -2,7 +2,7 @@
 
 ghost use Rattle.snl_cut.specs.Cut.{EachFirst, IsCut, ends_of, in_a_row, members};
 ghost use Rattle.snl_syntax.specs.ItemLaws.{IsLeast};
-ghost use Rattle.snl_syntax.specs.Items.{ends_behind, item};
+ghost use Rattle.snl_syntax.specs.Items.{ends_after, item};
 ghost use Rattle.snl_syntax.specs.declared.marks.Mark.{Mark};
 ghost use Rattle.std.specs.Prelude.{◌≡◌, ℕ, ◌<◌, ◌≤◌, List, length};
 
@@ -12,7 +12,7 @@ use snl_cut::one_cut;
 /// The first item has a token at least, ends where it has to, and no item ends before.
 pub fn first_item()
     ensures within { (tokens : List Mark) → 0 < length tokens → item tokens ≤ length tokens }
-    ensures least { (tokens : List Mark) → 0 < length tokens → IsLeast (ends_behind tokens) 1 (item tokens) }
+    ensures least { (tokens : List Mark) → 0 < length tokens → IsLeast (ends_after tokens) 1 (item tokens) }
 {}
 
 /// The tokens of any text have one cut into items and no other. Its items follow one another, and each is the first item

@@ -372,15 +372,15 @@ impl<F: Fn(Global, &[Kind], usize, usize) -> Result<(Stmt, usize), Stop>> Statem
         Ok((Step::Last(Some(arm), Some(body)), at))
     }
 
-    #[tactic(auto, unfolding(crate::specs::Reading::Statements::behind_else, crate::specs::Steps::and_then))]
-    fn behind_else(
+    #[tactic(auto, unfolding(crate::specs::Reading::Statements::after_else, crate::specs::Steps::and_then))]
+    fn after_else(
         &self,
         kinds: &[Kind],
         at: usize,
         arm: (Expr, Stmt),
     ) -> Result<(Step<(Expr, Stmt), Option<Boxed<Stmt>>>, usize), Stop>
         requires { NestsStatement self.now.depth (F.pre self.now.inner) (F.post self.now.inner) }
-        ensures { Reads kinds.now result (spec.behind_else self.now.depth (spec.stmt self.now.depth) arm (ahead kinds.now at)) }
+        ensures { Reads kinds.now result (spec.after_else self.now.depth (spec.stmt self.now.depth) arm (ahead kinds.now at)) }
     {
         let at = expect(kinds, at, Kind::Else)?;
         match kind_at(kinds, at) {
@@ -411,7 +411,7 @@ impl<F: Fn(Global, &[Kind], usize, usize) -> Result<(Stmt, usize), Stop>> Statem
     {
         let (arm, at) = self.arm(kinds, at)?;
         match kind_at(kinds, at) {
-            Some(Kind::Else) => self.behind_else(kinds, at, arm),
+            Some(Kind::Else) => self.after_else(kinds, at, arm),
             _ => Ok((Step::Last(Some(arm), None), at)),
         }
     }

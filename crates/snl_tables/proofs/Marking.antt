@@ -94,7 +94,7 @@ pub kept_taken : (marks blocks : List Bool) (from n : ℕ) → AreKept marks blo
 kept_taken marks blocks from n kept first = record {
   inside = λ k h. kept.inside k (omega (arith, length-set marks n false));
   noted = λ k h. still k (kept.noted k h);
-  behind = λ k h. still k (first.none_before k (omega arith) h);
+  after = λ k h. still k (first.none_before k (omega arith) h);
 }
   where
     still : (k : ℕ) → is_marked marks k ≡ false → is_marked (set marks n false) k ≡ false

@@ -13,7 +13,7 @@ marked marks = filter (is_marked marks) (range_with_len 0 (length marks))
 pub record AreKept (marks blocks : List Bool) (from : ℕ) : Type 0 where
   pub inside : (n : ℕ) → n < length marks → n / 256 < length blocks
   pub noted : (n : ℕ) → is_marked blocks (n / 256) ≡ false → is_marked marks n ≡ false
-  pub behind : (n : ℕ) → n < from → is_marked marks n ≡ false
+  pub after : (n : ℕ) → n < from → is_marked marks n ≡ false
 
 -- No number from one place up to another is marked.
 abbrev pub NoneMarked : (marks : List Bool) (from to : ℕ) → Type 0
@@ -28,7 +28,7 @@ pub record IsFirstMarked (marks : List Bool) (from n : ℕ) : Type 0 where
 
 -- A place after a number: the block's numbers from that number on, as far as there are any, are before it.
 pub record EndsBlock (limit number end : ℕ) : Type 0 where
-  pub behind : number < end
+  pub after : number < end
   pub within : end ≤ limit
   pub whole : (n : ℕ) → number ≤ n → n < limit → n / 256 ≡ number / 256 → n < end
   pub same : (n : ℕ) → number ≤ n → n < end → n / 256 ≡ number / 256

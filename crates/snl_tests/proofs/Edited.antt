@@ -15,5 +15,5 @@ edited_edit text new now start stop order inside e =
       old_inside = inside;
       new_inside = omega (arith, ap length e, length-append (front ++ new) back, more);
       before = sym (ap (take start) (e ∙ append_assoc front new back) ∙ take_at front (new ++ back) start size);
-      behind = sym (ap (drop (start + length new)) e ∙ drop_at (front ++ new) back (start + length new) more);
+      after = sym (ap (drop (start + length new)) e ∙ drop_at (front ++ new) back (start + length new) more);
     }

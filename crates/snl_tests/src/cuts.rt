@@ -84,23 +84,23 @@ fn alike(left: &[u8], right: &[u8]) -> bool
     left == right
 }
 
-// An edit of one list to another, if the first `start` bytes and the last `behind` bytes stay.
+// An edit of one list to another, if the first `start` bytes and the last `after` bytes stay.
 fn edit(
     rt: &HostRuntime,
     old: &[u8],
     new: &[u8],
     start: usize,
-    behind: usize,
+    after: usize,
 ) -> Result<Option<Outcome>, Fail> {
     if start > old.len()
         || start > new.len()
-        || behind > old.len() - start
-        || behind > new.len() - start
+        || after > old.len() - start
+        || after > new.len() - start
     {
         return Ok(None);
     }
-    let old_stop = old.len() - behind;
-    let new_stop = new.len() - behind;
+    let old_stop = old.len() - after;
+    let new_stop = new.len() - after;
     let before = alike(&old[..start], &new[..start]);
     let after = alike(&old[old_stop..], &new[new_stop..]);
     if !before || !after {
@@ -125,7 +125,7 @@ struct Case {
     old: &'static [u8],
     new: &'static [u8],
     start: usize,
-    behind: usize,
+    after: usize,
     front: usize,
     made: &'static [usize],
     back: usize,
@@ -137,7 +137,7 @@ static CASES: [Case; 8] = [
         old: &[0, 2, 7, 7, 1, 7],
         new: &[1, 0, 2, 7, 7, 1, 7],
         start: 0,
-        behind: 6,
+        after: 6,
         front: 0,
         made: &[2],
         back: 2,
@@ -147,7 +147,7 @@ static CASES: [Case; 8] = [
         old: &[0, 2, 7, 7, 1, 7],
         new: &[0, 2, 7, 7, 0, 1, 7],
         start: 4,
-        behind: 2,
+        after: 2,
         front: 1,
         made: &[4, 5],
         back: 1,
@@ -157,7 +157,7 @@ static CASES: [Case; 8] = [
         old: &[0, 2, 7, 7, 1, 7],
         new: &[0, 2, 5, 7, 1, 7],
         start: 2,
-        behind: 3,
+        after: 3,
         front: 1,
         made: &[4],
         back: 1,
@@ -167,7 +167,7 @@ static CASES: [Case; 8] = [
         old: &[0, 1, 7],
         new: &[0, 1, 7, 0],
         start: 3,
-        behind: 0,
+        after: 0,
         front: 1,
         made: &[3, 4],
         back: 0,
@@ -177,7 +177,7 @@ static CASES: [Case; 8] = [
         old: &[0, 1, 7],
         new: &[2, 2],
         start: 0,
-        behind: 0,
+        after: 0,
         front: 0,
         made: &[2],
         back: 0,
@@ -186,7 +186,7 @@ static CASES: [Case; 8] = [
         old: &[0, 1, 7, 0],
         new: &[0, 1, 7, 0],
         start: 2,
-        behind: 2,
+        after: 2,
         front: 1,
         made: &[3],
         back: 1,
@@ -196,7 +196,7 @@ static CASES: [Case; 8] = [
         old: &[1, 1, 1, 1, 1, 1],
         new: &[1, 1, 1, 1, 1],
         start: 0,
-        behind: 5,
+        after: 5,
         front: 0,
         made: &[2, 4, 5],
         back: 0,
@@ -206,7 +206,7 @@ static CASES: [Case; 8] = [
         old: &[],
         new: &[1, 7, 0],
         start: 0,
-        behind: 0,
+        after: 0,
         front: 0,
         made: &[2, 3],
         back: 0,
@@ -216,7 +216,7 @@ static CASES: [Case; 8] = [
 #[test]
 fn recuts_what_is_fresh(rt: HostRuntime) -> Result<(), Fail> {
     for case in &CASES {
-        let Some(outcome) = edit(&rt, case.old, case.new, case.start, case.behind)? else {
+        let Some(outcome) = edit(&rt, case.old, case.new, case.start, case.after)? else {
             assert!(rt; false, "no edit");
             continue;
         };

@@ -47,8 +47,8 @@ static ROUND: [(&str, &str); 4] = [
 #[test]
 fn reads_bases(rt: HostRuntime) -> Result<(), Fail> {
     for base in &BASES {
-        for (before, behind) in &ROUND {
-            let text = format!(in rt.alloc(); "{before}{base}{behind}")?;
+        for (before, after) in &ROUND {
+            let text = format!(in rt.alloc(); "{before}{base}{after}")?;
             read_row(&rt, rt.alloc(), &text, None)?;
         }
     }

@@ -110,13 +110,13 @@ static BETWEEN: [&str; 29] = [
 ];
 
 // What may come after `a` and an operator, and which number is blamed then.
-static BEHIND: [Row; 3] = [("b;", None), (";", Some(5)), ("/ b;", Some(5))];
+static AFTER: [Row; 3] = [("b;", None), (";", Some(5)), ("/ b;", Some(5))];
 
 #[test]
 fn reads_operators(rt: HostRuntime) -> Result<(), Fail> {
     for operator in &BETWEEN {
-        for (behind, blamed) in &BEHIND {
-            let text = format!(in rt.alloc(); "int x = a {operator} {behind}")?;
+        for (after, blamed) in &AFTER {
+            let text = format!(in rt.alloc(); "int x = a {operator} {after}")?;
             read_row(&rt, rt.alloc(), &text, *blamed)?;
         }
     }

@@ -171,7 +171,7 @@ static SHIFTS: [Shift; 6] = [
 
 // Whether no place is before this one, or beyond those that the tests have.
 fn can_shift(places: &[u32], old_stop: u32) -> bool
-    ensures behind { result ≡ true → (i : ℕ) → i < length places.now → old_stop ≤ slice_index places.now i }
+    ensures after { result ≡ true → (i : ℕ) → i < length places.now → old_stop ≤ slice_index places.now i }
     ensures small { result ≡ true → (i : ℕ) → i < length places.now → slice_index places.now i < 1000 }
 {
     for place in places {
@@ -194,7 +194,7 @@ fn roomy(alloc: Global, places: &[u32], more: usize) -> Result<Vec<u32>, AllocEr
 }
 
 #[test]
-fn moves_what_is_behind(rt: HostRuntime) -> Result<(), Fail> {
+fn moves_what_is_after(rt: HostRuntime) -> Result<(), Fail> {
     for row in &SHIFTS {
         assert!(rt; row.start <= row.stop && row.stop <= row.places.len() && row.new_stop < 1000);
         assert!(rt; can_shift(&row.places[row.stop..], row.old_stop));

@@ -61,7 +61,7 @@ fn items_have_their_form(rt: HostRuntime) -> Result<(), Fail> {
 
 fn declaration_of(item: &Item) -> Option<&Declaration> {
     match item {
-        Item::Definition(declaration) => Some(declaration),
+        Item::Definition(declaration) => Some(declaration.get()),
         _ => None,
     }
 }
@@ -163,11 +163,11 @@ fn a_looser_operator_holds_a_tighter_one(rt: HostRuntime) -> Result<(), Fail> {
             Some(wanted),
             "at {before}"
         );
-        let behind = format!(in rt.alloc(); "int x = a {tight} b {loose} c;")?;
+        let after = format!(in rt.alloc(); "int x = a {tight} b {loose} c;")?;
         assert_eq!(rt;
-            operator_in(rt.alloc(), &behind)?,
+            operator_in(rt.alloc(), &after)?,
             Some(wanted),
-            "at {behind}"
+            "at {after}"
         );
     }
     Ok(())

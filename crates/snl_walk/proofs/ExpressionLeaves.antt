@@ -14,7 +14,7 @@ use Rattle.snl_syntax.specs.declared.tree.expression.Expr.TheFolds.{fold-roll-Ex
 use Rattle.snl_syntax.specs.declared.tree.expression.Expr.TheViews.{roll-Expr, roll-Suffix}
 use Rattle.snl_syntax.specs.declared.tree.expression.Suffix.{Suffix}
 use Rattle.snl_syntax.specs.Operators.{assignment_mark, binary_mark}
-use Rattle.snl_syntax.specs.Spelling.Base.{Spelled, behind, commas, in_brackets, in_parens, joined, leaf, perhaps, word, written}
+use Rattle.snl_syntax.specs.Spelling.Base.{Spelled, after, commas, in_brackets, in_parens, joined, leaf, perhaps, word, written}
 use Rattle.snl_syntax.specs.Spelling.Declarations.{spell_init, spell_init_step, spell_length, spell_value}
 use Rattle.snl_syntax.specs.Spelling.Expressions.{spell_arm, spell_expr, spell_expr_step, spell_link, spell_prefix, spell_suffix, spell_suffix_step, spell_target, spell_texts}
 use Rattle.snl_syntax.specs.Spelling.Types.{spell_type_name}
@@ -121,11 +121,11 @@ postfix_leaves x ps s = by x.1.leaves
         (subst (λ (xs : List Spelled). NamedLeaves (record { token = a.number; setting = inner } ∷ ns) (xs ++ ys)) (sym a.spelled)
         (here kind.Name (record { token = a.number; setting = inner }) (index_first ps) (tails_leaves (operand x.0).name ps)))
 
-all_leaves : (xs : List KnownExpr) → NamedLeaves (names_in_all (map operand (map expr_of xs))) (behind kind.Comma (map spell_expr (map expr_of xs)))
+all_leaves : (xs : List KnownExpr) → NamedLeaves (names_in_all (map operand (map expr_of xs))) (after kind.Comma (map spell_expr (map expr_of xs)))
 all_leaves [] = none
 all_leaves (x ∷ xs) = leaves_after (word kind.Comma) (leaves-append (in_expr x) (all_leaves xs))
 
-more_arguments : (call : Option ℕ) (xs : List KnownExpr) → NamedLeaves (names_in_arguments call (map operand (map expr_of xs))) (behind kind.Comma (map spell_expr (map expr_of xs)))
+more_arguments : (call : Option ℕ) (xs : List KnownExpr) → NamedLeaves (names_in_arguments call (map operand (map expr_of xs))) (after kind.Comma (map spell_expr (map expr_of xs)))
 more_arguments call [] = none
 more_arguments call (x ∷ xs) = leaves_after (word kind.Comma) (leaves-append (in_argument call x) (more_arguments None xs))
 
@@ -234,7 +234,7 @@ KnownInit = (i : Init) × LeavesOfInit i
 abbrev init_of : KnownInit → Init
 init_of k = k.0
 
-more_values : (vs : List KnownInit) → NamedLeaves (names_in_values (map names_in_init (map init_of vs))) (behind kind.Comma (map spell_init (map init_of vs)))
+more_values : (vs : List KnownInit) → NamedLeaves (names_in_values (map names_in_init (map init_of vs))) (after kind.Comma (map spell_init (map init_of vs)))
 more_values [] = none
 more_values (v ∷ vs) = leaves_after (word kind.Comma) (leaves-append v.1 (more_values vs))
 

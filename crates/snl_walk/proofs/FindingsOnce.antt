@@ -1,21 +1,24 @@
 -- No rule is told twice at one token: the tokens of occurrences rise, at one of them no rule is told twice, and what is told of
 -- undeclared names is told of nothing else.
-use Rattle.std.proofs.Common.{◌≡◌, ◌≢◌, ℕ, ◌<◌, Bool, true, false, cond, List, [], ◌∷◌, ◌++◌, map, filter, Option, refl, ap, ◌∙◌, arith}
+use Rattle.std.proofs.Common.{◌≡◌, ◌≢◌, ℕ, ◌<◌, Bool, true, false, cond, List, [], ◌∷◌, ◌++◌, map, filter, Option, refl, sym, ap, ◌∙◌, arith}
 use Rattle.std.specs.List.{AllByRecursion as Each, AllPairs, flat_map, list_any}
 use Rattle.std.specs.Str.{bytes_eq}
+use Rattle.std.proofs.lemmas.Bool.{false≢true}
+use Rattle.snl_walk.specs.declared.codes.Code.{Code}
+use Rattle.snl_walk.specs.declared.codes.Code.TheVariants.{E07, E10, E17, E18, E19, E20, E21, W01, W03}
 use Rattle.snl_walk.specs.declared.occurrence.Occurrence.{Occurrence}
 use Rattle.snl_walk.specs.declared.occurrence.What.{What}
 use Rattle.snl_walk.specs.declared.occurrence.What.TheVariants as what
 use Rattle.snl_walk.specs.declared.outlook.Outer.{Outer}
 use Rattle.snl_walk.specs.declared.rules.Finding.{Finding}
-use Rattle.snl_walk.specs.declared.rules.Rule.{Rule}
-use Rattle.snl_walk.specs.declared.rules.Rule.TheVariants as rules
 use Rattle.snl_walk.specs.Items.{tokens_of}
 use Rattle.snl_walk.specs.Once.{with_new}
-use Rattle.snl_walk.specs.Rules.{finding, findings, found_wrong, rules_at, rules_at_call, rules_at_use, when}
+use Rattle.snl_walk.specs.Codes.{is_occurrence_code}
+use Rattle.snl_walk.specs.Rules.{finding, findings, found_wrong, is_repeated, rules_at, rules_at_call, rules_at_use, when}
 use Rattle.snl_walk.specs.Passing.{passes}
 use Rattle.snl_walk.specs.Undeclared.{firsts_after, is_undeclared, undeclared}
 use Rattle.snl_walk.specs.Uses.{is_call, tokens_where}
+use Rattle.snl_walk.proofs.RulesHold.{wrong_hold}
 use Rattle.snl_walk.proofs.Pairs.{EachTwo, across, each-append, each-filter, each-map, each_unmap, each_weaker, pairs_from_two, two-append, two-filter, two-map, two_unmap, two_weaker}
 
 abbrev Differ : {A : Type 0} → A → A → Type 0
@@ -23,27 +26,17 @@ Differ a b = a ≢ b
 
 -- ---- at one occurrence
 
-abbrev IsOther : Rule → Type 0
-IsOther r = r ≢ rules.Undeclared
-
-when_other : (b : Bool) (r : Rule) → IsOther r → Each IsOther (when b r)
-when_other true r h = (h, tt)
-when_other false r h = tt
-
-two_other : (a b : Bool) (r s : Rule) → IsOther r → IsOther s → Each IsOther (when a r ++ when b s)
-two_other a b r s h k = each-append IsOther (when a r) (when b s) (when_other a r h) (when_other b s k)
-
-two_rules : (a b : Bool) → EachTwo Differ (when a rules.RepeatedDeclaration ++ when b rules.WrongFlag)
+two_rules : (a b : Bool) → EachTwo Differ (when a E07 ++ when b E17)
 two_rules true true = (((λ e. cc), tt), (tt, tt))
 two_rules true false = (tt, tt)
 two_rules false true = (tt, tt)
 two_rules false false = tt
 
-one_rule : (b : Bool) (r : Rule) → EachTwo Differ (when b r)
+one_rule : (b : Bool) (r : Code) → EachTwo Differ (when b r)
 one_rule true r = (tt, tt)
 one_rule false r = tt
 
-use_rules : (a b : Bool) → EachTwo Differ (when a rules.NoEventFlag ++ when b rules.NoChannel)
+use_rules : (a b : Bool) → EachTwo Differ (when a E20 ++ when b E21)
 use_rules true true = (((λ e. cc), tt), (tt, tt))
 use_rules true false = (tt, tt)
 use_rules false true = (tt, tt)
@@ -52,25 +45,14 @@ use_rules false false = tt
 module _ (outer : List ℕ → Option Outer) (misses : List ℕ → Bool) (name : List ℕ) (o : Occurrence) where
   rules_apart : (w : What) → EachTwo Differ (rules_at outer misses name o w)
   rules_apart (what.Declaration is_wrong) = two_rules _ is_wrong
-  rules_apart (what.Change in_transition) = one_rule _ rules.StrayChange
-  rules_apart (what.Jump in_loop) = one_rule _ rules.StrayJump
-  rules_apart what.Target = one_rule _ rules.UnknownState
+  rules_apart (what.Change in_transition) = one_rule _ E18
+  rules_apart (what.Jump in_loop) = one_rule _ E19
+  rules_apart what.Target = one_rule _ E10
   rules_apart (what.Name m) = by (is_call m.follows)
     where
       by : (b : Bool) → EachTwo Differ (cond b (rules_at_call name m) (rules_at_use (passes outer name o.means) m))
-      by true = one_rule _ rules.StrayDelay
+      by true = one_rule _ W03
       by false = use_rules _ _
-
-  rules_other : (w : What) → Each IsOther (rules_at outer misses name o w)
-  rules_other (what.Declaration is_wrong) = two_other _ is_wrong rules.RepeatedDeclaration rules.WrongFlag (λ e. cc) (λ e. cc)
-  rules_other (what.Change in_transition) = when_other _ rules.StrayChange (λ e. cc)
-  rules_other (what.Jump in_loop) = when_other _ rules.StrayJump (λ e. cc)
-  rules_other what.Target = when_other _ rules.UnknownState (λ e. cc)
-  rules_other (what.Name m) = by (is_call m.follows)
-    where
-      by : (b : Bool) → Each IsOther (cond b (rules_at_call name m) (rules_at_use (passes outer name o.means) m))
-      by true = when_other _ rules.StrayDelay (λ e. cc)
-      by false = two_other _ _ rules.NoEventFlag rules.NoChannel (λ e. cc) (λ e. cc)
 
 -- ---- in all
 
@@ -85,7 +67,7 @@ module _ (bytes : ℕ → List ℕ) (outer : List ℕ → Option Outer) (misses 
   abbrev wrong_at : Occurrence → List Finding
   wrong_at o = found_wrong bytes outer misses o
 
-  abbrev rules_of : Occurrence → List Rule
+  abbrev rules_of : Occurrence → List Code
   rules_of o = rules_at outer misses (bytes o.token) o o.what
 
   at_token : (o : Occurrence) → Each (λ f. f.token ≡ o.token) (wrong_at o)
@@ -94,7 +76,7 @@ module _ (bytes : ℕ → List ℕ) (outer : List ℕ → Option Outer) (misses 
   apart_at : (o : Occurrence) → EachTwo Differ (wrong_at o)
   apart_at o =
       two-map Differ (finding o.token) (rules_of o)
-      (two_weaker Differ (λ r s. finding o.token r ≢ finding o.token s) (λ r s ne e. ne (ap (λ (f : Finding). f.rule) e)) (rules_of o) (rules_apart outer misses (bytes o.token) o o.what))
+      (two_weaker Differ (λ r s. finding o.token r ≢ finding o.token s) (λ r s ne e. ne (ap (λ (f : Finding). f.code) e)) (rules_of o) (rules_apart outer misses (bytes o.token) o o.what))
 
   after : (n : ℕ) (os : List Occurrence) → Each (λ o. n < o.token) os → Each (λ f. n < f.token) (flat_map wrong_at os)
   after n [] h = tt
@@ -109,12 +91,12 @@ module _ (bytes : ℕ → List ℕ) (outer : List ℕ → Option Outer) (misses 
       (across Differ (λ f. f.token ≡ o.token) (λ f. o.token < f.token) (λ f g at later e. let same : f.token ≡ g.token = ap (λ (k : Finding). k.token) e in omega (arith, at, later, same)) (wrong_at o) (flat_map wrong_at os) (at_token o) (after o.token os h.0))
 
   abbrev OtherFinding : Finding → Type 0
-  OtherFinding f = IsOther f.rule
+  OtherFinding f = f.code ≢ W01
 
   wrong_other : (os : List Occurrence) → Each OtherFinding (flat_map wrong_at os)
-  wrong_other [] = tt
-  wrong_other (o ∷ os) =
-      each-append OtherFinding (wrong_at o) (flat_map wrong_at os) (each-map OtherFinding (finding o.token) (rules_of o) (rules_other outer misses (bytes o.token) o o.what)) (wrong_other os)
+  wrong_other os =
+      wrong_hold bytes outer misses OtherFinding (λ n c is same. false≢true (sym (ap is_occurrence_code same) ∙ is)) os
+      (each_by (λ o. is_repeated o.token o.means ≡ true → OtherFinding (finding o.token E07)) (λ o again same. cc) os)
 
   -- the first use of each name is one of the uses, in their order
   each_first : (P : ℕ → Type 0) (names : List (List ℕ)) (ns : List ℕ) → Each P ns → Each P (firsts_after bytes names ns)
@@ -134,7 +116,7 @@ module _ (bytes : ℕ → List ℕ) (outer : List ℕ → Option Outer) (misses 
       by rest false = (each_first (λ x. n < x) (with_new names (bytes n)) ns h.0, rest)
 
   abbrev told_undeclared : ℕ → Finding
-  told_undeclared n = finding n rules.Undeclared
+  told_undeclared n = finding n W01
 
   undeclared_apart : (os : List Occurrence) → EachTwo Later os → EachTwo Differ (map told_undeclared (undeclared bytes outer os))
   undeclared_apart os h =
@@ -166,5 +148,5 @@ module _ (bytes : ℕ → List ℕ) (outer : List ℕ → Option Outer) (misses 
       let us : List ℕ = undeclared bytes outer os in
       pairs_from_two Differ (flat_map wrong_at os ++ map told_undeclared us)
       (two-append Differ (flat_map wrong_at os) (map told_undeclared us) (wrong_apart os later) (undeclared_apart os later)
-      (across Differ OtherFinding (λ f. f.rule ≡ rules.Undeclared) (λ f g other is e. other (ap (λ (k : Finding). k.rule) e ∙ is)) (flat_map wrong_at os) (map told_undeclared us) (wrong_other os)
-      (each-map (λ (f : Finding). f.rule ≡ rules.Undeclared) told_undeclared us (each_by (λ n. rules.Undeclared ≡ rules.Undeclared) (λ n. refl) us))))
+      (across Differ OtherFinding (λ f. f.code ≡ W01) (λ f g other is e. other (ap (λ (k : Finding). k.code) e ∙ is)) (flat_map wrong_at os) (map told_undeclared us) (wrong_other os)
+      (each-map (λ (f : Finding). f.code ≡ W01) told_undeclared us (each_by (λ n. W01 ≡ W01) (λ n. refl) us))))

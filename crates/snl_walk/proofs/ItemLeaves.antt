@@ -20,7 +20,7 @@ use Rattle.snl_syntax.specs.declared.tree.state.Target.TheVariants as target
 use Rattle.snl_syntax.specs.declared.tree.state.Transition.{Transition}
 use Rattle.snl_syntax.specs.declared.tree.statement.Member.{Member}
 use Rattle.snl_syntax.specs.Parsing.{kind_in, kinds_in}
-use Rattle.snl_syntax.specs.Spelling.Base.{Matches, Spelled, behind, commas, in_parens, leaf, perhaps, word}
+use Rattle.snl_syntax.specs.Spelling.Base.{Matches, Spelled, after, commas, in_parens, leaf, perhaps, word}
 use Rattle.snl_syntax.specs.Spelling.Clauses.{spell_foreign}
 use Rattle.snl_syntax.specs.Spelling.Functions.{spell_body, spell_function, spell_parameter, spell_struct_member}
 use Rattle.snl_syntax.specs.Spelling.Items.{spell_item}
@@ -46,7 +46,7 @@ module _ (bytes : ℕ → List ℕ) where
     abbrev foreign_at : ℕ → Occurrence
     foreign_at n = declaration_at bytes visible false n
 
-    more_foreign : (ns : List ℕ) → FoundLeaves (map foreign_at ns) (behind kind.Comma (map (leaf kind.Name) ns))
+    more_foreign : (ns : List ℕ) → FoundLeaves (map foreign_at ns) (after kind.Comma (map (leaf kind.Name) ns))
     more_foreign [] = none
     more_foreign (n ∷ ns) = leaves_after (word kind.Comma) (leaves-append (one_leaf kind.Name (foreign_at n) refl) (more_foreign ns))
 

@@ -3,7 +3,7 @@ use Rattle.std.proofs.Common.{◌≡◌, ℕ, suc, ◌+◌, ◌<◌, ◌≤◌, 
 use Rattle.std.specs.List.{AllByRecursion as Each, flat_map}
 use Rattle.snl_lex.specs.declared.kind.Kind.{Kind}
 use Rattle.snl_lex.specs.declared.kind.Kind.TheVariants as kind
-use Rattle.snl_syntax.specs.Spelling.Base.{Matches, Spelled, behind, between, in_parens, joined, word}
+use Rattle.snl_syntax.specs.Spelling.Base.{Matches, Spelled, after, between, in_parens, joined, word}
 use Rattle.snl_syntax.specs.Tokens.{ahead, numbered}
 use Rattle.snl_walk.proofs.Pairs.{EachTwo, each_weaker}
 
@@ -119,7 +119,7 @@ leaves_in_parens l = leaves_after (word kind.OpenParen) (leaves_before (word kin
 
 -- of what is found in the members of a list, which follow one another
 module _ {X A : Type 0} {at : A → ℕ} {indexed : A → Bool} (f : X → List A) (spell : X → List Spelled) (each : (x : X) → AreLeaves at indexed (f x) (spell x)) where
-  leaves_after_each : (k : Kind) (xs : List X) → AreLeaves at indexed (flat_map f xs) (behind k (map spell xs))
+  leaves_after_each : (k : Kind) (xs : List X) → AreLeaves at indexed (flat_map f xs) (after k (map spell xs))
   leaves_after_each k [] = none
   leaves_after_each k (x ∷ xs) = leaves_after (word k) (leaves-append (each x) (leaves_after_each k xs))
 

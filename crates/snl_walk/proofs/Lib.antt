@@ -8,5 +8,6 @@ pub mod ExpressionLeaves
 pub mod StatementLeaves
 pub mod ItemLeaves
 pub mod OptionLeaves
+pub mod RulesHold
 pub mod FindingsOnce
 pub mod Outlooks

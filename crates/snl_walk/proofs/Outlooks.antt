@@ -7,7 +7,7 @@ use Rattle.snl_walk.specs.declared.occurrence.Occurrence.{Occurrence}
 use Rattle.snl_walk.specs.declared.occurrence.What.{What}
 use Rattle.snl_walk.specs.declared.occurrence.What.TheVariants as what
 use Rattle.snl_walk.specs.declared.outlook.Outer.{Outer}
-use Rattle.snl_walk.specs.declared.rules.Rule.TheVariants as rules
+use Rattle.snl_walk.specs.declared.codes.Code.TheVariants.{E10, W01}
 use Rattle.snl_walk.specs.Passing.{passes}
 use Rattle.snl_walk.specs.Rules.{finding, findings, found_wrong, rules_at, rules_at_call, rules_at_use, when}
 use Rattle.snl_walk.specs.Undeclared.{firsts_after, is_built_in, is_undeclared, undeclared}
@@ -49,7 +49,7 @@ module _ (bytes : ℕ → List ℕ) (outer other : List ℕ → Option Outer) (m
   rules_alike o (what.Declaration is_wrong) used led = refl
   rules_alike o (what.Change in_transition) used led = refl
   rules_alike o (what.Jump in_loop) used led = refl
-  rules_alike o what.Target used led = ap (λ b. when b rules.UnknownState) (led refl)
+  rules_alike o what.Target used led = ap (λ b. when b E10) (led refl)
   rules_alike o (what.Name m) used led = by (is_call m.follows) refl
     where
       by : (b : Bool) → is_call m.follows ≡ b →
@@ -84,5 +84,5 @@ module _ (bytes : ℕ → List ℕ) (outer other : List ℕ → Option Outer) (m
       ap (λ kept. firsts_after bytes [] (map (λ (o : Occurrence). o.token) kept))
       (kept_alike (λ o. is_undeclared outer (bytes o.token) o) (λ o. is_undeclared other (bytes o.token) o) os
       (each_weaker UsedAlike (λ o. is_undeclared outer (bytes o.token) o ≡ is_undeclared other (bytes o.token) o) undeclared_alike os used)) in
-      ap (λ l. l ++ map (λ n. finding n rules.Undeclared) (undeclared bytes outer os)) wrong
-      ∙ ap (λ ns. flat_map (found_wrong bytes other missed) os ++ map (λ n. finding n rules.Undeclared) ns) first
+      ap (λ l. l ++ map (λ n. finding n W01) (undeclared bytes outer os)) wrong
+      ∙ ap (λ ns. flat_map (found_wrong bytes other missed) os ++ map (λ n. finding n W01) ns) first

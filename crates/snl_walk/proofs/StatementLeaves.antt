@@ -10,7 +10,7 @@ use Rattle.snl_syntax.specs.declared.tree.statement.Member.TheOpen.{Member-F, St
 use Rattle.snl_syntax.specs.declared.tree.statement.Member.TheFolds.{fold-roll-Member, fold-roll-Stmt, ind-Member, map-Member, map-Stmt}
 use Rattle.snl_syntax.specs.declared.tree.statement.Member.TheViews.{roll-Member, roll-Stmt}
 use Rattle.snl_syntax.specs.declared.tree.statement.Stmt.{Stmt}
-use Rattle.snl_syntax.specs.Spelling.Base.{Spelled, behind, between, joined, leaf, word}
+use Rattle.snl_syntax.specs.Spelling.Base.{Spelled, after, between, joined, leaf, word}
 use Rattle.snl_syntax.specs.Spelling.Declarations.{spell_declaration, spell_declarator}
 use Rattle.snl_syntax.specs.Spelling.Statements.{spell_block, spell_choice, spell_else, spell_for_head, spell_member, spell_member_step, spell_stmt, spell_stmt_step}
 use Rattle.snl_syntax.specs.Spelling.Types.{spell_stars, spell_type}
@@ -107,16 +107,16 @@ module _ (bytes : ℕ → List ℕ) where
       abbrev found_after : List KnownArm → List Occurrence
       found_after arms = found_in_branches bytes (found_arms (arms_of arms)) last visible place
 
-      arms_after : (arms : List KnownArm) → FoundLeaves (found_after arms) (behind kind.Else (spelled_arms (arms_of arms)) ++ ys)
+      arms_after : (arms : List KnownArm) → FoundLeaves (found_after arms) (after kind.Else (spelled_arms (arms_of arms)) ++ ys)
       arms_after [] = l
       arms_after (arm ∷ arms) =
-          let rest = behind kind.Else (spelled_arms (arms_of arms)) in
+          let rest = after kind.Else (spelled_arms (arms_of arms)) in
           leaves_after (word kind.Else) (subst (FoundLeaves (found_in_arm arm ++ found_after arms)) (sym (append_assoc (spell_arm arm) rest ys)) (leaves-append (arm_leaves arm) (arms_after arms)))
 
       arms_leaves : (arms : List KnownArm) → FoundLeaves (found_after arms) (between kind.Else (spelled_arms (arms_of arms)) ++ ys)
       arms_leaves [] = l
       arms_leaves (arm ∷ arms) =
-          let rest = behind kind.Else (spelled_arms (arms_of arms)) in
+          let rest = after kind.Else (spelled_arms (arms_of arms)) in
           subst (FoundLeaves (found_in_arm arm ++ found_after arms)) (sym (append_assoc (spell_arm arm) rest ys)) (leaves-append (arm_leaves arm) (arms_after arms))
 
   -- one level, where it is known of each part

@@ -1,3 +1,4 @@
+pub mod Codes
 pub mod Tokens
 pub mod Once
 pub mod Calls
@@ -12,3 +13,4 @@ pub mod Options
 pub mod Passing
 pub mod Undeclared
 pub mod Rules
+pub mod Repeated

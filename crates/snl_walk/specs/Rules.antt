@@ -3,6 +3,8 @@
 use Rattle.std.specs.Prelude.{ℕ, Bool, true, false, not, ◌&&◌, ◌==◌, if◌then◌else◌, codes, List, [], ◌∷◌, ◌++◌, map, Option, Some, None}
 use Rattle.std.specs.List.{flat_map}
 use Rattle.std.specs.Str.{bytes_eq}
+use Rattle.snl_walk.specs.declared.codes.Code.{Code}
+use Rattle.snl_walk.specs.declared.codes.Code.TheVariants.{E07, E10, E17, E18, E19, E20, E21, W01, W03}
 use Rattle.snl_walk.specs.declared.occurrence.Asked.{Asked}
 use Rattle.snl_walk.specs.declared.occurrence.Asked.TheVariants as asked
 use Rattle.snl_walk.specs.declared.occurrence.Follows.{Follows}
@@ -14,14 +16,12 @@ use Rattle.snl_walk.specs.declared.occurrence.What.{What}
 use Rattle.snl_walk.specs.declared.occurrence.What.TheVariants as what
 use Rattle.snl_walk.specs.declared.outlook.Outer.{Outer}
 use Rattle.snl_walk.specs.declared.rules.Finding.{Finding}
-use Rattle.snl_walk.specs.declared.rules.Rule.{Rule}
-use Rattle.snl_walk.specs.declared.rules.Rule.TheVariants as rules
 use Rattle.snl_walk.specs.Passing.{lacks_channel, lacks_flag, passes}
 use Rattle.snl_walk.specs.Undeclared.{undeclared}
 use Rattle.snl_walk.specs.Uses.{is_call}
 
-abbrev pub when : Bool → Rule → List Rule
-when holds rule = if holds then rule ∷ [] else []
+abbrev pub when : Bool → Code → List Code
+when holds code = if holds then code ∷ [] else []
 
 -- A declaration is in its own scope, so its name resolves to the first declaration there.
 abbrev pub is_repeated : ℕ → Option Local → Bool
@@ -41,27 +41,27 @@ asks_channel asked.Channel = true
 asks_channel _ = false
 
 -- At a name that is called.
-abbrev pub rules_at_call : List ℕ → Manner → List Rule
-rules_at_call name m = when (not m.in_condition && bytes_eq name (codes "delay")) rules.StrayDelay
+abbrev pub rules_at_call : List ℕ → Manner → List Code
+rules_at_call name m = when (not m.in_condition && bytes_eq name (codes "delay")) W03
 
 -- At a name that is used: an event flag has to be a name alone, and a variable with a channel may have subscripts.
-abbrev pub rules_at_use : Option Outer → Manner → List Rule
+abbrev pub rules_at_use : Option Outer → Manner → List Code
 rules_at_use passed m =
-    when (asks_flag m.asked && is_nothing m.follows && lacks_flag passed) rules.NoEventFlag ++ when (asks_channel m.asked && lacks_channel passed) rules.NoChannel
+    when (asks_flag m.asked && is_nothing m.follows && lacks_flag passed) E20 ++ when (asks_channel m.asked && lacks_channel passed) E21
 
-abbrev pub rules_at_name : List ℕ → Option Outer → Manner → List Rule
+abbrev pub rules_at_name : List ℕ → Option Outer → Manner → List Code
 rules_at_name name passed m = if is_call m.follows then rules_at_call name m else rules_at_use passed m
 
 -- At an occurrence, by what is there.
-abbrev pub rules_at : (List ℕ → Option Outer) → (List ℕ → Bool) → List ℕ → Occurrence → What → List Rule
-rules_at outer misses name o (what.Declaration is_wrong) = when (is_repeated o.token o.means) rules.RepeatedDeclaration ++ when is_wrong rules.WrongFlag
-rules_at outer misses name o (what.Change in_transition) = when (not in_transition) rules.StrayChange
-rules_at outer misses name o (what.Jump in_loop) = when (not in_loop) rules.StrayJump
-rules_at outer misses name o what.Target = when (misses name) rules.UnknownState
+abbrev pub rules_at : (List ℕ → Option Outer) → (List ℕ → Bool) → List ℕ → Occurrence → What → List Code
+rules_at outer misses name o (what.Declaration is_wrong) = when (is_repeated o.token o.means) E07 ++ when is_wrong E17
+rules_at outer misses name o (what.Change in_transition) = when (not in_transition) E18
+rules_at outer misses name o (what.Jump in_loop) = when (not in_loop) E19
+rules_at outer misses name o what.Target = when (misses name) E10
 rules_at outer misses name o (what.Name m) = rules_at_name name (passes outer name o.means) m
 
-abbrev pub finding : ℕ → Rule → Finding
-finding token rule = record { token = token; rule = rule }
+abbrev pub finding : ℕ → Code → Finding
+finding token code = record { token = token; code = code }
 
 abbrev pub found_wrong : (ℕ → List ℕ) → (List ℕ → Option Outer) → (List ℕ → Bool) → Occurrence → List Finding
 found_wrong bytes outer misses o = map (finding o.token) (rules_at outer misses (bytes o.token) o o.what)
@@ -69,4 +69,4 @@ found_wrong bytes outer misses o = map (finding o.token) (rules_at outer misses 
 -- What is wrong at each occurrence by itself, and then the first use of each name that nothing declares.
 unfoldable pub findings : (ℕ → List ℕ) → (List ℕ → Option Outer) → (List ℕ → Bool) → List Occurrence → List Finding
 findings bytes outer misses found =
-    flat_map (found_wrong bytes outer misses) found ++ map (λ n. finding n rules.Undeclared) (undeclared bytes outer found)
+    flat_map (found_wrong bytes outer misses) found ++ map (λ n. finding n W01) (undeclared bytes outer found)

@@ -256,7 +256,7 @@ pub fn occurrences(source: &Source, tree: &Item) -> Result<Vec<Occurrence>, OutO
     let mut names = Visible::new(source.alloc);
     match tree {
         Item::Definition(declaration) => {
-            add_declaration(source, &names, false, declaration, &mut found)?;
+            add_declaration(source, &names, false, declaration.get(), &mut found)?;
         }
         Item::Entry(block) => {
             add_block(source, &mut names, outside(), block.as_slice(), &mut found)?;
@@ -267,7 +267,7 @@ pub fn occurrences(source: &Source, tree: &Item) -> Result<Vec<Occurrence>, OutO
         Item::StateBlock { name: _, members } => {
             add_state(source, members.as_slice(), &mut found)?;
         }
-        Item::Function(function) => add_function(source, function, &mut found)?,
+        Item::Function(function) => add_function(source, function.get(), &mut found)?,
         Item::StructDef { name: _, members } => {
             add_struct(source, members.as_slice(), &mut found)?;
         }

@@ -11,8 +11,10 @@ ghost use Rattle.snl_syntax.specs.declared.tree.item.Item.{Item};
 ghost use Rattle.snl_syntax.specs.declared.tree.item.Item.TheVariants as items;
 ghost use Rattle.snl_walk.specs.declared.occurrence.Occurrence.{Occurrence};
 ghost use Rattle.snl_walk.specs.declared.outlook.Outer.{Outer};
+ghost use Rattle.snl_walk.specs.Codes.{is_rule_code};
 ghost use Rattle.snl_walk.specs.Items.{occurrences, tokens_of};
 ghost use Rattle.snl_walk.specs.Options.{letters_in};
+ghost use Rattle.snl_walk.specs.Repeated.{IsApartFrom, IsNoRepetitionAt};
 ghost use Rattle.snl_walk.specs.Rules.{findings};
 ghost use Rattle.snl_walk.specs.Uses.{is_indexed, targets, uses};
 
@@ -73,6 +75,17 @@ pub fn each_finding_once()
     item_read();
     item_spelled();
 }
+
+/// What the rules find in an item has one of their codes.
+pub fn findings_have_rule_codes()
+    ensures { (bytes : ℕ → List ℕ) (outer : List ℕ → Option Outer) (misses : List ℕ → Bool) (found : List Occurrence) → All (λ f. is_rule_code f.code ≡ true) (findings bytes outer misses found) }
+{}
+
+/// A name is told as declared again only where it resolves to a declaration of the item.
+pub fn repeated_names_resolve()
+    ensures { (bytes : ℕ → List ℕ) (outer : List ℕ → Option Outer) (misses : List ℕ → Bool) (found : List Occurrence) (tokens : List ℕ)
+        → All (IsApartFrom tokens) found → All (IsNoRepetitionAt tokens) (findings bytes outer misses found) }
+{}
 
 /// In the tree that is read of tokens each finding is at one of these tokens.
 pub fn findings_stand_at_tokens()

@@ -3,6 +3,7 @@
 #![tactic(auto)]
 
 mod calls;
+mod codes;
 mod declares;
 mod expressions;
 mod items;
@@ -17,14 +18,16 @@ mod undeclared;
 mod used;
 mod visible;
 
+pub use codes::Code;
 pub use items::occurrences;
 pub use laws::{
-    each_finding_once, findings_stand_at_tokens, functions_are_named_first, option_letters_rise,
+    each_finding_once, findings_have_rule_codes, findings_stand_at_tokens,
+    functions_are_named_first, option_letters_rise, repeated_names_resolve,
     same_answers_same_findings, same_bytes_same_occurrences, subscripts_stand_second, tokens_rise,
 };
 pub use name_set::NameSet;
 pub use occurrence::{Asked, Follows, Local, Manner, Occurrence, What};
 pub use outlook::{Outer, Outlook};
-pub use rules::{Finding, Rule, findings};
+pub use rules::{Finding, findings};
 pub use source::Source;
 pub use used::{TargetUse, WakeUse, target_uses, targets, uses, wake_uses};

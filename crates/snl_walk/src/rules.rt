@@ -2,10 +2,12 @@
 
 ghost use Rattle.std.specs.Prelude.{◌≡◌, ◌++◌, IfOk, OnOk, map};
 ghost use Rattle.std.specs.List.{flat_map};
+ghost use Rattle.snl_walk.specs.declared.codes.Code.{Code};
 ghost use Rattle.snl_walk.specs.Passing.{lacks_channel, lacks_flag, passes};
 ghost use Rattle.snl_walk.specs.Rules.{asks_channel, asks_flag, finding, findings, found_wrong, is_nothing, is_repeated, rules_at, rules_at_call, rules_at_name, rules_at_use, when};
 ghost use Rattle.snl_walk.specs.Tokens.{IsSource, bytes_at};
 
+use crate::codes::Code;
 use crate::occurrence::{Asked, Follows, Local, Manner, Occurrence, What};
 use crate::outlook::{Outer, Outlook};
 use crate::source::Source;
@@ -13,34 +15,11 @@ use crate::undeclared::undeclared;
 use crate::used::is_call;
 use snl_cut::OutOfMemory;
 
-/// A rule on what is inside an item (docs/LANGUAGE.md).
-#[derive(Clone, Copy, Debug, PartialEq, Eq)]
-pub enum Rule {
-    /// E07: its scope declares the name before.
-    RepeatedDeclaration,
-    /// E10: the state set has no such state.
-    UnknownState,
-    /// E17: an event flag that is declared wrongly.
-    WrongFlag,
-    /// E18: a change of the state outside the block of a transition.
-    StrayChange,
-    /// E19: `break` or `continue` in no loop.
-    StrayJump,
-    /// E20: an argument that is no event flag.
-    NoEventFlag,
-    /// E21: an argument to which nothing is assigned.
-    NoChannel,
-    /// W01: nothing declares the name.
-    Undeclared,
-    /// W03: `delay` outside a condition.
-    StrayDelay,
-}
-
-/// A rule that is broken, and the token at which it is.
+/// What is found at a token of an item (docs/LANGUAGE.md).
 #[derive(Clone, Copy, Debug, PartialEq, Eq)]
 pub struct Finding {
     pub token: usize,
-    pub rule: Rule,
+    pub code: Code,
 }
 
 fn is_repeated(token: usize, means: Option<Local>) -> bool
@@ -105,13 +84,13 @@ fn lacks_channel(passes: Option<Outer>) -> bool
 fn add_when(
     holds: bool,
     token: usize,
-    rule: Rule,
+    code: Code,
     findings: &mut Vec<Finding>,
 ) -> Result<(), OutOfMemory>
-    ensures { OnOk result (findings.new.items ≡ findings.old.items ++ map (finding token) (when holds rule)) }
+    ensures { OnOk result (findings.new.items ≡ findings.old.items ++ map (finding token) (when holds code)) }
 {
     if holds {
-        findings.push(Finding { token, rule })?;
+        findings.push(Finding { token, code })?;
     }
     Ok(())
 }
@@ -126,7 +105,7 @@ fn add_at_call(
     ensures { OnOk result (findings.new.items ≡ findings.old.items ++ map (finding token) (rules_at_call name.now manner)) }
 {
     let delays = !manner.in_condition && name == b"delay".as_slice();
-    add_when(delays, token, Rule::StrayDelay, findings)
+    add_when(delays, token, Code::W03, findings)
 }
 
 // Adds what is found wrong at a name that is used, and passes for something or is declared by nothing.
@@ -140,8 +119,8 @@ fn add_at_use(
 {
     let no_flag = asks_flag(manner.asked) && is_nothing(manner.follows) && lacks_flag(passes);
     let no_channel = asks_channel(manner.asked) && lacks_channel(passes);
-    add_when(no_flag, token, Rule::NoEventFlag, findings)?;
-    add_when(no_channel, token, Rule::NoChannel, findings)
+    add_when(no_flag, token, Code::E20, findings)?;
+    add_when(no_channel, token, Code::E21, findings)
 }
 
 // Adds what is found wrong at a name in an expression.
@@ -174,16 +153,14 @@ fn add_at<O: Outlook>(
     match occurrence.what {
         What::Declaration { is_wrong } => {
             let is_repeated = is_repeated(token, occurrence.means);
-            add_when(is_repeated, token, Rule::RepeatedDeclaration, findings)?;
-            add_when(is_wrong, token, Rule::WrongFlag, findings)
+            add_when(is_repeated, token, Code::E07, findings)?;
+            add_when(is_wrong, token, Code::E17, findings)
         }
-        What::Change { in_transition } => {
-            add_when(!in_transition, token, Rule::StrayChange, findings)
-        }
-        What::Jump { in_loop } => add_when(!in_loop, token, Rule::StrayJump, findings),
+        What::Change { in_transition } => { add_when(!in_transition, token, Code::E18, findings) }
+        What::Jump { in_loop } => add_when(!in_loop, token, Code::E19, findings),
         What::Target => {
             let is_missing = outlook.misses_state(name);
-            add_when(is_missing, token, Rule::UnknownState, findings)
+            add_when(is_missing, token, Code::E10, findings)
         }
         What::Name(manner) => {
             let passes = passes(outlook, name, occurrence.means);
@@ -210,12 +187,12 @@ fn add_each<O: Outlook>(
 }
 
 fn add_undeclared(tokens: &[usize], findings: &mut Vec<Finding>) -> Result<(), OutOfMemory>
-    ensures { OnOk result (findings.new.items ≡ findings.old.items ++ map (λ n. finding n Rule.Undeclared) tokens.now) }
+    ensures { OnOk result (findings.new.items ≡ findings.old.items ++ map (λ n. finding n Code.W01) tokens.now) }
 {
     for token in tokens {
         findings.push(Finding {
             token: *token,
-            rule: Rule::Undeclared,
+            code: Code::W01,
         })?;
     }
     Ok(())

@@ -8,7 +8,7 @@ use snl_cut::Count;
 use snl_lex::Piece;
 use snl_reading::tokens_of;
 use snl_syntax::parse_item;
-use snl_walk::{Finding, Outer, Outlook, Rule, Source, findings, occurrences};
+use snl_walk::{Finding, Outer, Outlook, Source, findings, occurrences};
 use std::alloc::Global;
 use std::test::Fail;
 
@@ -46,27 +46,13 @@ impl Outlook for Around {
     }
 }
 
-fn code_of(rule: Rule) -> &'static str {
-    match rule {
-        Rule::RepeatedDeclaration => "E07",
-        Rule::UnknownState => "E10",
-        Rule::WrongFlag => "E17",
-        Rule::StrayChange => "E18",
-        Rule::StrayJump => "E19",
-        Rule::NoEventFlag => "E20",
-        Rule::NoChannel => "E21",
-        Rule::Undeclared => "W01",
-        Rule::StrayDelay => "W03",
-    }
-}
-
 // Each finding: its code, and its token.
 fn told(source: &Source, found: &[Finding]) -> Result<Vec<u8>, Fail>
     requires { All (LiesIn source.now.text.now) source.now.tokens.now }
 {
     let mut words = Vec::new(source.alloc);
     for one in found {
-        words.extend_from_slice(code_of(one.rule).as_bytes())?;
+        words.extend_from_slice(one.code.name().as_bytes())?;
         words.push(b':')?;
         words.extend_from_slice(source.bytes(one.token))?;
         words.push(b' ')?;

@@ -54,7 +54,10 @@ fn add_item<'a>(
 {
     match tree {
         Some(Item::Clause(clause)) => {
-            clauses.push(Placed { item, clause })?;
+            clauses.push(Placed {
+                item,
+                clause: clause.get(),
+            })?;
             Ok(())
         }
         Some(Item::StateBlock { name: _, members }) => {

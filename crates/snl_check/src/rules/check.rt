@@ -4,7 +4,7 @@ ghost use Rattle.std.specs.Prelude.{◌≡◌, ◌++◌, All, IfOk, OnOk, map};
 ghost use Rattle.snl_cut.specs.Cut.{ticked};
 ghost use Rattle.snl_walk.specs.Items.{occurrences};
 ghost use Rattle.snl_walk.specs.Tokens.{IsSource, bytes_at};
-ghost use Rattle.snl_check.specs.Found.{StandsIn, code_of, fault_of, faults_in, faults_of_rules};
+ghost use Rattle.snl_check.specs.Found.{StandsIn, fault_of, faults_in, faults_of_rules};
 ghost use Rattle.snl_check.specs.Outlook.{is_in_set, known_of, leads_to};
 ghost use Rattle.snl_check.specs.Told.{target_uses, wake_uses};
 
@@ -13,28 +13,11 @@ use crate::rules::options::add_unknown_options;
 use crate::rules::view::View;
 use snl_cut::{Count, OutOfMemory};
 use snl_lex::Piece;
-use snl_scope::{Code, Links};
+use snl_lists::Few;
+use snl_scope::Links;
 use snl_syntax::tree::item::Item;
-use snl_walk::{Finding, Occurrence, Rule, Source, findings, occurrences, target_uses, wake_uses};
-use sqlite_items::Items;
+use snl_walk::{Finding, Occurrence, Source, findings, occurrences, target_uses, wake_uses};
 use std::alloc::Global;
-
-// The code of a rule.
-fn code_of(rule: Rule) -> Code
-    ensures { result ≡ code_of rule }
-{
-    match rule {
-        Rule::RepeatedDeclaration => Code::E07,
-        Rule::UnknownState => Code::E10,
-        Rule::WrongFlag => Code::E17,
-        Rule::StrayChange => Code::E18,
-        Rule::StrayJump => Code::E19,
-        Rule::NoEventFlag => Code::E20,
-        Rule::NoChannel => Code::E21,
-        Rule::Undeclared => Code::W01,
-        Rule::StrayDelay => Code::W03,
-    }
-}
 
 fn add_findings(findings: &[Finding], faults: &mut Vec<ItemFault>) -> Result<(), OutOfMemory>
     ensures { OnOk result (faults.new.items ≡ faults.old.items ++ map fault_of findings.now) }
@@ -43,7 +26,7 @@ fn add_findings(findings: &[Finding], faults: &mut Vec<ItemFault>) -> Result<(),
         faults.push(ItemFault {
             token: finding.token,
             byte: 0,
-            code: code_of(finding.rule),
+            code: finding.code,
         })?;
     }
     Ok(())
@@ -92,9 +75,12 @@ pub fn check_item(
     };
     let view = View { links, item };
     let found = occurrences(&source, tree)?;
+    let faults = Few::from_vec(alloc, faults_of(&source, tree, &view, &found)?)?;
+    let wake_uses = Few::from_vec(alloc, wake_uses(&source, &found)?)?;
+    let target_uses = Few::from_vec(alloc, target_uses(alloc, &found)?)?;
     Ok(Checked {
-        faults: Items::from_vec(faults_of(&source, tree, &view, &found)?),
-        wake_uses: Items::from_vec(wake_uses(&source, &found)?),
-        target_uses: Items::from_vec(target_uses(alloc, &found)?),
+        faults,
+        wake_uses,
+        target_uses,
     })
 }

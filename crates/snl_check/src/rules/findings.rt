@@ -1,8 +1,8 @@
 //! What a check of an item gives.
 
+use snl_lists::Few;
 use snl_scope::Code;
 use snl_walk::{TargetUse, WakeUse};
-use sqlite_items::Items;
 
 /// A finding at a token of an item, which is told by its number in the item.
 #[derive(Clone, Copy, Debug, PartialEq, Eq)]
@@ -15,11 +15,11 @@ pub struct ItemFault {
 
 /// What a check of an item gives.
 pub struct Checked {
-    pub faults: Items<ItemFault>,
+    pub faults: Few<ItemFault>,
     /// The uses of names in its conditions, in the order of the text.
-    pub wake_uses: Items<WakeUse>,
+    pub wake_uses: Few<WakeUse>,
     /// The names of the states that it leads to, in the order of the text.
-    pub target_uses: Items<TargetUse>,
+    pub target_uses: Few<TargetUse>,
 }
 
 // By hand, so that whoever holds a check need not know what is in it to let it go.

@@ -15,9 +15,9 @@ use Rattle.snl_scope.specs.declared.summaries.summary.ClauseKind.{ClauseKind}
 use Rattle.snl_scope.specs.declared.summaries.summary.ClauseKind.TheVariants as kinds
 use Rattle.snl_scope.specs.declared.summaries.summary.Coverage.{Coverage}
 use Rattle.snl_scope.specs.declared.summaries.summary.Coverage.TheVariants as coverage
-use Rattle.snl_scope.specs.declared.summaries.summary.Mention.{Mention}
+use Rattle.snl_scope.specs.declared.summaries.summary.NameRef.{NameRef}
 use Rattle.snl_scope.specs.declared.summaries.summary.VariableClause.{VariableClause}
-use Rattle.snl_scope.specs.Summaries.Tokens.{mention_at}
+use Rattle.snl_scope.specs.Summaries.Tokens.{name_ref_at}
 use Rattle.snl_walk.specs.Tokens.{value_at}
 
 -- The element that a subscript means: the value of its integer, which has one.
@@ -36,12 +36,12 @@ covered_by_channel text tokens (channels.Whole to pv) = coverage.Whole
 covered_by_channel text tokens (channels.Element subscript to pv) = element text tokens subscript
 covered_by_channel text tokens (channels.Elements to pvs trailing) = coverage.Front (length pvs)
 
-abbrev pub flag_at : List ℕ → List Piece → Flag → Mention
-flag_at text tokens flag = mention_at text tokens flag.name
+abbrev pub flag_at : List ℕ → List Piece → Flag → NameRef
+flag_at text tokens flag = name_ref_at text tokens flag.name
 
 abbrev pub clause_on : List ℕ → List Piece → ClauseKind → ℕ → Coverage → Option Flag → VariableClause
 clause_on text tokens kind number covered flag =
-    record { variable = mention_at text tokens number; flag = option_map (flag_at text tokens) flag; coverage = covered; kind = kind }
+    record { variable = name_ref_at text tokens number; flag = option_map (flag_at text tokens) flag; coverage = covered; kind = kind }
 
 abbrev pub clause_of : List ℕ → List Piece → Clause → VariableClause
 clause_of text tokens (clauses.Assign name channel) = clause_on text tokens kinds.Assign name (covered_by_channel text tokens channel) None

@@ -18,20 +18,20 @@ use Rattle.snl_syntax.specs.declared.tree.types.Base.TheVariants as bases
 use Rattle.snl_scope.specs.declared.summaries.summary.Declared.{Declared}
 use Rattle.snl_scope.specs.declared.summaries.summary.Dims.{Dims}
 use Rattle.snl_scope.specs.declared.summaries.summary.Dims.TheVariants as dims
-use Rattle.snl_scope.specs.declared.summaries.summary.Nature.{Nature}
-use Rattle.snl_scope.specs.declared.summaries.summary.Nature.TheVariants as natures
+use Rattle.snl_scope.specs.declared.summaries.summary.SymbolKind.{SymbolKind}
+use Rattle.snl_scope.specs.declared.summaries.summary.SymbolKind.TheVariants as symbol_kinds
 use Rattle.snl_scope.specs.declared.summaries.summary.Variable.{Variable}
 use Rattle.snl_walk.specs.Tokens.{bytes_at, value_at}
 
 -- The base of a declaration says what its names stand for.
-abbrev pub nature_of : Base → Nature
-nature_of bases.Evflag = natures.EventFlag
-nature_of bases.Void = natures.Unassignable
-nature_of (bases.Enum n) = natures.Unassignable
-nature_of (bases.Struct n) = natures.Unassignable
-nature_of (bases.Union n) = natures.Unassignable
-nature_of (bases.Typename n) = natures.Unassignable
-nature_of _ = natures.Assignable
+abbrev pub symbol_kind_of : Base → SymbolKind
+symbol_kind_of bases.Evflag = symbol_kinds.EventFlag
+symbol_kind_of bases.Void = symbol_kinds.Unassignable
+symbol_kind_of (bases.Enum n) = symbol_kinds.Unassignable
+symbol_kind_of (bases.Struct n) = symbol_kinds.Unassignable
+symbol_kind_of (bases.Union n) = symbol_kinds.Unassignable
+symbol_kind_of (bases.Typename n) = symbol_kinds.Unassignable
+symbol_kind_of _ = symbol_kinds.Assignable
 
 abbrev pub integer_step : Expr-F (Option ℕ) (Option ℕ) → Option ℕ
 integer_step (Expr-F.Integer n) = Some n
@@ -66,26 +66,26 @@ dims_by text tokens no_pointer (Some (Some e)) = dims_by_integer text tokens (lo
 abbrev pub dims_of : List ℕ → List Piece → Declarator → Dims
 dims_of text tokens d = dims_by text tokens (length d.pointers == 0) (slice_get d.lengths 0)
 
-abbrev pub variable_of : Dims → Nature → Variable
-variable_of dims nature = record { dims = dims; nature = nature }
+abbrev pub variable_of : Dims → SymbolKind → Variable
+variable_of dims symbol_kind = record { dims = dims; symbol_kind = symbol_kind }
 
 abbrev pub declared_at : List ℕ → List Piece → Variable → ℕ → Declared
 declared_at text tokens variable number = record { name = bytes_at text tokens number; token = number; variable = variable }
 
-abbrev pub declared_by_declarator : List ℕ → List Piece → Nature → Declarator → Declared
-declared_by_declarator text tokens nature d = declared_at text tokens (variable_of (dims_of text tokens d) nature) d.name
+abbrev pub declared_by_declarator : List ℕ → List Piece → SymbolKind → Declarator → Declared
+declared_by_declarator text tokens symbol_kind d = declared_at text tokens (variable_of (dims_of text tokens d) symbol_kind) d.name
 
 abbrev pub declared_by_declaration : List ℕ → List Piece → Declaration → List Declared
-declared_by_declaration text tokens d = map (declared_by_declarator text tokens (nature_of d.of.base)) d.declarators
+declared_by_declaration text tokens d = map (declared_by_declarator text tokens (symbol_kind_of d.of.base)) d.declarators
 
 abbrev pub foreign_name : Variable
-foreign_name = variable_of dims.Unknown natures.Foreign
+foreign_name = variable_of dims.Unknown symbol_kinds.Foreign
 
 abbrev pub declared_by_foreign : List ℕ → List Piece → List ℕ → List Declared
 declared_by_foreign text tokens names = map (declared_at text tokens foreign_name) names
 
 abbrev pub function_name : Variable
-function_name = variable_of dims.Unknown natures.Function
+function_name = variable_of dims.Unknown symbol_kinds.Function
 
 -- A prototype declares nothing.
 abbrev pub declared_if_body : Declared → Option (List Member) → List Declared

@@ -8,8 +8,8 @@ ghost use Rattle.snl_scope.specs.Flags.{declares_flag, flags_of};
 ghost use Rattle.snl_scope.specs.Names.{entries};
 ghost use Rattle.snl_scope.specs.Tables.{Follows, flag_stands};
 
-use crate::names::tables::{Standing, Tables};
-use crate::summaries::summary::{Nature, Variable};
+use crate::names::tables::{Symbol, Tables};
+use crate::summaries::summary::{SymbolKind, Variable};
 use snl_cut::OutOfMemory;
 use std::alloc::Global;
 
@@ -18,31 +18,31 @@ fn declares_flag(variable: Option<Variable>) -> bool
     ensures { result ≡ declares_flag variable }
 {
     match variable {
-        Some(variable) => matches!(variable.nature, Nature::EventFlag),
+        Some(variable) => matches!(variable.symbol_kind, SymbolKind::EventFlag),
         None => false,
     }
 }
 
 // Whether the entry with a number declares an event flag.
-fn flag_stands(standings: &[Standing], number: usize) -> bool
-    ensures { result ≡ flag_stands standings.now number }
+fn flag_stands(symbols: &[Symbol], number: usize) -> bool
+    ensures { result ≡ flag_stands symbols.now number }
 {
-    match standings.get(number) {
-        Some(standing) => declares_flag(standing.variable),
+    match symbols.get(number) {
+        Some(symbol) => declares_flag(symbol.variable),
         None => false,
     }
 }
 
-/// The numbers of the entries that are event flags. The tables list the first of each name in its space, in the order of
+/// The numbers of the entries that are event flags. The tables list the first of each name in its namespace, in the order of
 /// the text.
 pub(crate) fn flags_of(alloc: Global, tables: &Tables) -> Result<Vec<usize>, OutOfMemory>
     ensures { IfOk result (λ flags. (ss : List Outline)
-        → Follows tables.now.names tables.now.first.entries tables.now.standings.items tables.now.faults.items (entries ss)
+        → Follows tables.now.names tables.now.first.entries tables.now.symbols.items tables.now.faults.items (entries ss)
         → flags.items ≡ flags_of ss) }
 {
     let mut flags = Vec::new(alloc);
     for number in tables.first.values() {
-        if flag_stands(&tables.standings, *number) {
+        if flag_stands(&tables.symbols, *number) {
             flags.push(*number)?;
         }
     }

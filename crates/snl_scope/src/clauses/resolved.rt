@@ -6,7 +6,7 @@ ghost use Rattle.snl_scope.specs.Clauses.{clauses_of, linked_clause, resolve_in}
 ghost use Rattle.snl_scope.specs.Resolved.{linked};
 
 use crate::names::scopes::Scopes;
-use crate::summaries::summary::{Mention, Outline, VariableClause};
+use crate::summaries::summary::{NameRef, Outline, VariableClause};
 use snl_cut::OutOfMemory;
 use std::alloc::Global;
 
@@ -20,11 +20,11 @@ pub(crate) struct Resolved<'a> {
 }
 
 // What a flag resolves to that a clause names.
-fn flag_in(scopes: &Scopes, item: usize, flag: &Option<Mention>) -> Option<usize>
+fn flag_in(scopes: &Scopes, item: usize, flag: &Option<NameRef>) -> Option<usize>
     ensures { result ≡ option_and_then (λ m. resolve_in scopes.now item m.name) flag.now }
 {
     match flag {
-        Some(mention) => scopes.resolve_in(item, mention.name.bytes()),
+        Some(name_ref) => scopes.resolve_in(item, name_ref.name.bytes()),
         None => None,
     }
 }

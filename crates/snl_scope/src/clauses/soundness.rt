@@ -5,34 +5,34 @@ ghost use Rattle.std.specs.Prelude.{◌≡◌, ◌&&◌, ◌||◌, ◌++◌, ◌
 ghost use Rattle.std.specs.Option.{option_map_or};
 ghost use Rattle.std.specs.List.{list_any, zip};
 ghost use Rattle.snl_scope.specs.Claims.{Claimed, sound_among};
-ghost use Rattle.snl_scope.specs.Clauses.{LinkedClause, assigns, at_mention, clash, clause_link, code_on, found_at_flag, found_behind, has_wrong_flag, is_assign, is_assignable, is_event_flag, misfits, repetition_code, soundness_behind, variable_code};
-ghost use Rattle.snl_scope.specs.Codes.{is_error};
+ghost use Rattle.snl_scope.specs.Clauses.{LinkedClause, assigns, at_name_ref, clash, clause_link, code_on, found_after, found_at_flag, has_wrong_flag, is_assign, is_assignable, is_event_flag, misfits, repetition_code, soundness_after, variable_code};
+ghost use Rattle.snl_walk.specs.Codes.{is_error};
 ghost use Rattle.snl_scope.specs.Names.{entries};
 ghost use Rattle.snl_scope.specs.Resolved.{Assigns, linked};
-ghost use Rattle.snl_scope.specs.declared.codes.Code.{Code};
+ghost use Rattle.snl_walk.specs.declared.codes.Code.{Code};
 
 use crate::clauses::assigned::is_assign;
 use crate::clauses::claims::{Claims, purpose_of};
 use crate::clauses::resolved::Resolved;
-use crate::codes::Code;
 use crate::facts::{Assigned, ClauseLink, LinkFault};
 use crate::names::scopes::Scopes;
-use crate::summaries::summary::{ClauseKind, Coverage, Dims, Nature, Variable, VariableClause};
+use crate::summaries::summary::{ClauseKind, Coverage, Dims, SymbolKind, Variable, VariableClause};
 use indexmap::IndexMap;
 use snl_cut::OutOfMemory;
+use snl_walk::Code;
 use std::alloc::Global;
 
 // Whether a channel can be assigned to it.
-fn is_assignable(nature: Nature) -> bool
-    ensures { result ≡ is_assignable nature }
+fn is_assignable(symbol_kind: SymbolKind) -> bool
+    ensures { result ≡ is_assignable symbol_kind }
 {
-    matches!(nature, Nature::Assignable)
+    matches!(symbol_kind, SymbolKind::Assignable)
 }
 
-fn is_event_flag(nature: Nature) -> bool
-    ensures { result ≡ is_event_flag nature }
+fn is_event_flag(symbol_kind: SymbolKind) -> bool
+    ensures { result ≡ is_event_flag symbol_kind }
 {
-    matches!(nature, Nature::EventFlag)
+    matches!(symbol_kind, SymbolKind::EventFlag)
 }
 
 // Whether a clause covers what the variable does not have.
@@ -66,14 +66,14 @@ fn code_on(
     is_assigned: bool,
     is_repeated: bool,
 ) -> Option<Code>
-    ensures { result ≡ (if is_assign clause.now.kind && not (is_assignable variable.nature) then Some Code.E15
+    ensures { result ≡ (if is_assign clause.now.kind && not (is_assignable variable.symbol_kind) then Some Code.E15
         else if misfits variable.dims clause.now.coverage then Some Code.E16
         else if not (is_assign clause.now.kind) && not is_assigned then Some Code.E13
         else if is_repeated then Some (repetition_code clause.now.kind)
         else None) }
 {
     let assigns = is_assign(clause.kind);
-    if assigns && !is_assignable(variable.nature) {
+    if assigns && !is_assignable(variable.symbol_kind) {
         Some(Code::E15)
     } else if misfits(variable.dims, clause.coverage) {
         Some(Code::E16)
@@ -119,7 +119,7 @@ fn has_wrong_flag(scopes: &Scopes, clause: Resolved) -> bool
         return false;
     }
     match scopes.variable_at(clause.flag) {
-        Some(variable) => !is_event_flag(variable.nature),
+        Some(variable) => !is_event_flag(variable.symbol_kind),
         None => true,
     }
 }
@@ -130,7 +130,7 @@ fn add_at_variable(
     code: Option<Code>,
     faults: &mut Vec<LinkFault>,
 ) -> Result<(), OutOfMemory>
-    ensures { OnOk result (faults.new.items ≡ faults.old.items ++ map (at_mention clause.entry.item clause.entry.clause.now.variable) (option_to_list code)) }
+    ensures { OnOk result (faults.new.items ≡ faults.old.items ++ map (at_name_ref clause.entry.item clause.entry.clause.now.variable) (option_to_list code)) }
 {
     if let Some(code) = code {
         faults.push(LinkFault {
@@ -149,7 +149,7 @@ fn add_at_flag(
     faults: &mut Vec<LinkFault>,
 ) -> Result<(), OutOfMemory>
     ensures { OnOk result (faults.new.items ≡ faults.old.items
-        ++ (if is_wrong then map (λ m. at_mention clause.entry.item m Code.E14) (option_to_list clause.entry.clause.now.flag) else [])) }
+        ++ (if is_wrong then map (λ m. at_name_ref clause.entry.item m Code.E14) (option_to_list clause.entry.clause.now.flag) else [])) }
 {
     match &clause.clause.flag {
         Some(flag) if is_wrong => {
@@ -228,11 +228,11 @@ pub(crate) fn judged_clauses(
 ) -> Result<JudgedClauses, OutOfMemory>
     requires { Assigns assigned.now.entries (map linked clauses.now) }
     ensures links { IfOk result (λ judged. judged.links.items ≡ map (λ p. clause_link p.0 p.1)
-        (zip (map linked clauses.now) (soundness_behind (entries scopes.now) (map linked clauses.now) [] (map linked clauses.now)))) }
+        (zip (map linked clauses.now) (soundness_after (entries scopes.now) (map linked clauses.now) [] (map linked clauses.now)))) }
     ensures claims { IfOk result (λ judged. Claimed judged.claims
-        (zip (map linked clauses.now) (soundness_behind (entries scopes.now) (map linked clauses.now) [] (map linked clauses.now)))) }
+        (zip (map linked clauses.now) (soundness_after (entries scopes.now) (map linked clauses.now) [] (map linked clauses.now)))) }
     ensures found { OnOk result (faults.new.items ≡ faults.old.items
-        ++ found_behind (entries scopes.now) (map linked clauses.now) [] (map linked clauses.now)) }
+        ++ found_after (entries scopes.now) (map linked clauses.now) [] (map linked clauses.now)) }
 {
     let mut claims = Claims::new(alloc);
     let mut links = Vec::new(alloc);

@@ -6,13 +6,13 @@ ghost use Rattle.snl_scope.specs.Order.{found_if, header_faults, is_faulty, is_p
 ghost use Rattle.snl_scope.specs.Places.{begins_set, ends_set};
 ghost use Rattle.snl_scope.specs.Tables.{Marked, is_member, set_of, with_mark};
 
-use crate::codes::Code;
 use crate::facts::LinkFault;
 use crate::items::heads::{Member, is_member};
 use crate::items::phases::{Before, begins_with_program};
 use crate::names::scopes::Scopes;
 use crate::summaries::summary::{ItemKind, Opening, Role};
 use snl_cut::OutOfMemory;
+use snl_walk::Code;
 use std::alloc::Global;
 
 /// Whether an item of the kind is faulty.

@@ -2,7 +2,7 @@
 
 ghost use Rattle.std.specs.Prelude.{◌≡◌, false};
 ghost use Rattle.snl_scope.specs.Order.{is_barred_in_sets, is_main, is_program_word, is_state, phase_of};
-ghost use Rattle.snl_scope.specs.Tables.{and_item, barred_at, is_below, misplaced_behind, phase_in, with_phase};
+ghost use Rattle.snl_scope.specs.Tables.{and_item, barred_at, is_below, misplaced_after, phase_in, with_phase};
 
 use crate::summaries::summary::{ItemKind, Opening};
 
@@ -116,7 +116,7 @@ impl Before {
     }
 
     pub(crate) fn misplaces(self, place: Option<usize>, kind: ItemKind, opening: Opening) -> bool
-        ensures { result ≡ misplaced_behind self place kind opening }
+        ensures { result ≡ misplaced_after self place kind opening }
     {
         let phase = phase_in(self.begun, place, kind);
         let is_later_program = begins_with_program(opening) && self.has_program;

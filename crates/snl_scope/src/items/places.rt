@@ -19,7 +19,7 @@ fn place_in(role: Role, outer: Option<usize>) -> Option<usize>
 }
 
 // The state set that is open after an item.
-fn open_behind(role: Role, item: usize, outer: Option<usize>) -> Option<usize>
+fn open_after(role: Role, item: usize, outer: Option<usize>) -> Option<usize>
     ensures { result ≡ (if begins_set role then Some item else (if ends_set role then None else outer)) }
 {
     match role {
@@ -41,7 +41,7 @@ pub(crate) fn places_of(
     for item in 0..outlines.len() {
         let outline = outlines[item];
         places.push(place_in(outline.role, outer))?;
-        outer = open_behind(outline.role, item, outer);
+        outer = open_after(outline.role, item, outer);
     }
     Ok(places)
 }

@@ -4,9 +4,9 @@ ghost use Rattle.std.specs.Prelude.{◌≡◌};
 
 use crate::items::heads::Head;
 use crate::names::name_set::Names;
+use crate::names::namespaces::{Key, Namespace};
 use crate::names::origin::Origin;
-use crate::names::spaces::{Key, Space};
-use crate::names::tables::{Standing, number_in};
+use crate::names::tables::{Symbol, number_in};
 use crate::summaries::summary::Variable;
 use indexmap::IndexMap;
 use std::marker::Model;
@@ -18,7 +18,7 @@ pub(crate) struct Scopes {
     pub heads: Vec<Head>,
     pub names: Names,
     pub first: IndexMap<Key, usize>,
-    pub standings: Vec<Standing>,
+    pub symbols: Vec<Symbol>,
     pub origin: Origin,
 }
 
@@ -34,7 +34,7 @@ impl Model for Scopes {
 
     ghost invariant = { λ a. Placed a.places.items a.origin.outlines (length a.origin.outlines)
         × (a.heads.items ≡ map head_of a.origin.outlines)
-        × Tabled a.names a.first.entries a.standings.items (entries a.origin.outlines) };
+        × Tabled a.names a.first.entries a.symbols.items (entries a.origin.outlines) };
 }
 
 impl Scopes {
@@ -42,14 +42,14 @@ impl Scopes {
     ghost use Rattle.snl_scope.specs.Linked.{state_in};
     ghost use Rattle.snl_scope.specs.Names.{entries, number_in, resolve};
     ghost use Rattle.snl_scope.specs.Places.{place};
-    ghost use Rattle.snl_scope.specs.Tables.{head_of, standing_of};
+    ghost use Rattle.snl_scope.specs.Tables.{head_of, symbol_of};
     ghost use Rattle.std.specs.Prelude.{Some, ◌<◌, length, map, option_map, slice_get};
 
     /// How many numbers there are.
     pub(crate) fn count(&self) -> usize
         ensures { result ≡ length (entries self.now) }
     {
-        self.standings.len()
+        self.symbols.len()
     }
 
     /// The state set in which an item is, or None at program level.
@@ -77,18 +77,18 @@ impl Scopes {
         self.heads[item]
     }
 
-    /// The number of the first that is under a name in a space.
-    pub(crate) fn number_in(&self, space: Space, name: &[u8]) -> Option<usize>
-        ensures { result ≡ number_in (entries self.now) space name.now }
+    /// The number of the first that is under a name in a namespace.
+    pub(crate) fn number_in(&self, namespace: Namespace, name: &[u8]) -> Option<usize>
+        ensures { result ≡ number_in (entries self.now) namespace name.now }
     {
-        number_in(&self.names, &self.first, space, name)
+        number_in(&self.names, &self.first, namespace, name)
     }
 
     /// What is there with a number.
-    pub(crate) fn standing(&self, number: usize) -> Option<Standing>
-        ensures { result ≡ option_map standing_of (slice_get (entries self.now) number) }
+    pub(crate) fn symbol(&self, number: usize) -> Option<Symbol>
+        ensures { result ≡ option_map symbol_of (slice_get (entries self.now) number) }
     {
-        self.standings.get(number).copied()
+        self.symbols.get(number).copied()
     }
 
     /// The number of what a name resolves to from a place.
@@ -96,19 +96,19 @@ impl Scopes {
         ensures { result ≡ resolve (entries self.now) place name.now }
     {
         if let Some(set) = place {
-            let inside = self.number_in(Space::StateSet(set), name);
+            let inside = self.number_in(Namespace::StateSet(set), name);
             if inside.is_some() {
                 return inside;
             }
         }
-        self.number_in(Space::Program, name)
+        self.number_in(Namespace::Program, name)
     }
 
     /// The number of what a name resolves to that is in an item outside its blocks.
     pub(crate) fn resolve_in(&self, item: usize, name: &[u8]) -> Option<usize>
         ensures { result ≡ resolve_in self.now item name.now }
     {
-        let own = self.number_in(Space::State(item), name);
+        let own = self.number_in(Namespace::State(item), name);
         if own.is_some() {
             return own;
         }
@@ -119,14 +119,14 @@ impl Scopes {
     pub(crate) fn state_in(&self, set: usize, name: &[u8]) -> Option<usize>
         ensures { result ≡ state_in self.now set name.now }
     {
-        let number = self.number_in(Space::States(set), name)?;
-        Some(self.standing(number)?.item)
+        let number = self.number_in(Namespace::States(set), name)?;
+        Some(self.symbol(number)?.item)
     }
 
     /// What the declaration with a number says.
     pub(crate) fn variable_at(&self, number: Option<usize>) -> Option<Variable>
         ensures { result ≡ variable_at (entries self.now) number }
     {
-        self.standing(number?)?.variable
+        self.symbol(number?)?.variable
     }
 }

@@ -1,28 +1,28 @@
-//! The names of all spaces, with where each comes first.
+//! The names of all namespaces, with where each comes first.
 
 ghost use Rattle.std.specs.Prelude.{◌≡◌, ◌++◌, ◌∷◌, [], List, OnOk, IfOk, Option, if◌then◌else◌, is_some, length, map, option_copied};
 ghost use Rattle.snl_scope.specs.Names.{Entry, declared_entry, entries, entries_of, has_own_scope, repetition_at, scope_at, scope_code, scope_of, set_entries, set_name, state_entries};
 ghost use Rattle.snl_scope.specs.Order.{state_name};
 ghost use Rattle.snl_scope.specs.Places as Places;
 ghost use Rattle.snl_scope.specs.declared.summaries.summary.Outline.{Outline};
-ghost use Rattle.snl_scope.specs.declared.codes.Code.{Code};
-ghost use Rattle.snl_scope.specs.declared.names.spaces.Space.{Space};
-ghost use Rattle.snl_scope.specs.Tables.{Follows, Placed, entry_of, number_by, standing_of};
+ghost use Rattle.snl_walk.specs.declared.codes.Code.{Code};
+ghost use Rattle.snl_scope.specs.declared.names.namespaces.Namespace.{Namespace};
+ghost use Rattle.snl_scope.specs.Tables.{Follows, Placed, entry_of, number_by, symbol_of};
 
-use crate::codes::Code;
 use crate::facts::LinkFault;
 use crate::names::name_set::Names;
-use crate::names::spaces::{Key, Space};
+use crate::names::namespaces::{Key, Namespace};
 use crate::summaries::summary::{Declared, Opening, Outline, Role, Variable};
 use indexmap::IndexMap;
 use snl_cut::OutOfMemory;
+use snl_walk::Code;
 use std::alloc::Global;
 
-/// A name that an item brings into a space: `code` is what it gives where an earlier one has the name, and `variable`
+/// A name that an item brings into a namespace: `code` is what it gives where an earlier one has the name, and `variable`
 /// is what a declaration says of it.
 #[derive(Clone, Copy)]
 pub(crate) struct Named<'a> {
-    pub space: Space,
+    pub namespace: Namespace,
     pub name: &'a [u8],
     pub item: usize,
     pub token: usize,
@@ -32,45 +32,45 @@ pub(crate) struct Named<'a> {
 
 /// Where a name is that has come, and what a declaration says of it.
 #[derive(Clone, Copy, Debug, PartialEq, Eq)]
-pub(crate) struct Standing {
-    pub space: Space,
+pub(crate) struct Symbol {
+    pub namespace: Namespace,
     pub item: usize,
     pub token: usize,
     pub variable: Option<Variable>,
 }
 
-/// The names that have come so far: for each name in a space the number of the first that came, for each number where it
+/// The names that have come so far: for each name in a namespace the number of the first that came, for each number where it
 /// is, and the findings at those that came again.
 #[derive(Drop)]
 pub(crate) struct Tables {
     pub names: Names,
     pub first: IndexMap<Key, usize>,
-    pub standings: Vec<Standing>,
+    pub symbols: Vec<Symbol>,
     pub faults: Vec<LinkFault>,
 }
 
-fn standing_of(named: Named) -> Standing
-    ensures { result ≡ standing_of (entry_of named.entry) }
+fn symbol_of(named: Named) -> Symbol
+    ensures { result ≡ symbol_of (entry_of named.entry) }
 {
-    Standing {
-        space: named.space,
+    Symbol {
+        namespace: named.namespace,
         item: named.item,
         token: named.token,
         variable: named.variable,
     }
 }
 
-/// The number of the first that came with a name in a space.
+/// The number of the first that came with a name in a namespace.
 pub(crate) fn number_in(
     names: &Names,
     first: &IndexMap<Key, usize>,
-    space: Space,
+    namespace: Namespace,
     name: &[u8],
 ) -> Option<usize>
-    ensures { result ≡ number_by names.now first.now.entries space name.now }
+    ensures { result ≡ number_by names.now first.now.entries namespace name.now }
 {
     let name = names.number(name)?;
-    first.get(&Key { space, name }).copied()
+    first.get(&Key { namespace, name }).copied()
 }
 
 // Adds what a name gives that came again.
@@ -88,31 +88,31 @@ fn add_repetition(named: Named, faults: &mut Vec<LinkFault>) -> Result<(), OutOf
 }
 
 // The scope of what is at a place.
-fn scope_at(place: Option<usize>) -> Space
+fn scope_at(place: Option<usize>) -> Namespace
     ensures { result ≡ scope_at place }
 {
     match place {
-        None => Space::Program,
-        Some(set) => Space::StateSet(set),
+        None => Namespace::Program,
+        Some(set) => Namespace::StateSet(set),
     }
 }
 
 // The scope that an item declares in.
-fn scope_of(role: Role, item: usize, place: Option<usize>) -> Space
-    ensures { result ≡ (if has_own_scope role then Space.State item else scope_at place) }
+fn scope_of(role: Role, item: usize, place: Option<usize>) -> Namespace
+    ensures { result ≡ (if has_own_scope role then Namespace.State item else scope_at place) }
 {
     match role {
-        Role::State => Space::State(item),
+        Role::State => Namespace::State(item),
         _ => scope_at(place),
     }
 }
 
 // What a second declaration in a scope gives.
-fn scope_code(scope: Space) -> Option<Code>
+fn scope_code(scope: Namespace) -> Option<Code>
     ensures { result ≡ scope_code scope }
 {
     match scope {
-        Space::State(_) => None,
+        Namespace::State(_) => None,
         _ => Some(Code::E07),
     }
 }
@@ -138,25 +138,25 @@ fn state_name(outline: &Outline) -> Option<&[u8]>
 
 impl Tables {
     pub(crate) fn new(alloc: Global) -> Tables
-        ensures { Follows result.names result.first.entries result.standings.items result.faults.items [] }
+        ensures { Follows result.names result.first.entries result.symbols.items result.faults.items [] }
     {
         Tables {
             names: Names::new(alloc),
             first: IndexMap::new(alloc),
-            standings: Vec::new(alloc),
+            symbols: Vec::new(alloc),
             faults: Vec::new(alloc),
         }
     }
 
     fn add(&mut self, alloc: Global, named: Named) -> Result<(), OutOfMemory>
         ensures { OnOk result ((es : List Entry)
-            → Follows self.old.names self.old.first.entries self.old.standings.items self.old.faults.items es
-            → Follows self.new.names self.new.first.entries self.new.standings.items self.new.faults.items (es ++ entry_of named.entry ∷ [])) }
+            → Follows self.old.names self.old.first.entries self.old.symbols.items self.old.faults.items es
+            → Follows self.new.names self.new.first.entries self.new.symbols.items self.new.faults.items (es ++ entry_of named.entry ∷ [])) }
     {
-        let number = self.standings.len();
+        let number = self.symbols.len();
         let name = self.names.add(alloc, named.name)?;
         let key = Key {
-            space: named.space,
+            namespace: named.namespace,
             name,
         };
         if self.first.contains_key(&key) {
@@ -164,22 +164,22 @@ impl Tables {
         } else {
             self.first.insert(key, number)?;
         }
-        self.standings.push(standing_of(named))?;
+        self.symbols.push(symbol_of(named))?;
         Ok(())
     }
 
     // Adds the name of the state set that an item begins.
     fn add_set(&mut self, alloc: Global, item: usize, outline: &Outline) -> Result<(), OutOfMemory>
         ensures { OnOk result ((es : List Entry)
-            → Follows self.old.names self.old.first.entries self.old.standings.items self.old.faults.items es
-            → Follows self.new.names self.new.first.entries self.new.standings.items self.new.faults.items (es ++ set_entries item outline.now)) }
+            → Follows self.old.names self.old.first.entries self.old.symbols.items self.old.faults.items es
+            → Follows self.new.names self.new.first.entries self.new.symbols.items self.new.faults.items (es ++ set_entries item outline.now)) }
     {
         match set_name(outline) {
             None => Ok(()),
             Some(name) => self.add(
                 alloc,
                 Named {
-                    space: Space::Sets,
+                    namespace: Namespace::Sets,
                     name,
                     item,
                     token: 1,
@@ -199,14 +199,14 @@ impl Tables {
         outline: &Outline,
     ) -> Result<(), OutOfMemory>
         ensures { OnOk result ((es : List Entry)
-            → Follows self.old.names self.old.first.entries self.old.standings.items self.old.faults.items es
-            → Follows self.new.names self.new.first.entries self.new.standings.items self.new.faults.items (es ++ state_entries place item outline.now)) }
+            → Follows self.old.names self.old.first.entries self.old.symbols.items self.old.faults.items es
+            → Follows self.new.names self.new.first.entries self.new.symbols.items self.new.faults.items (es ++ state_entries place item outline.now)) }
     {
         match (place, state_name(outline)) {
             (Some(set), Some(name)) => self.add(
                 alloc,
                 Named {
-                    space: Space::States(set),
+                    namespace: Namespace::States(set),
                     name,
                     item,
                     token: 1,
@@ -222,19 +222,19 @@ impl Tables {
     fn add_declared(
         &mut self,
         alloc: Global,
-        scope: Space,
+        scope: Namespace,
         item: usize,
         declares: &[Declared],
     ) -> Result<(), OutOfMemory>
         ensures { OnOk result ((es : List Entry)
-            → Follows self.old.names self.old.first.entries self.old.standings.items self.old.faults.items es
-            → Follows self.new.names self.new.first.entries self.new.standings.items self.new.faults.items (es ++ map (declared_entry scope item) declares.now)) }
+            → Follows self.old.names self.old.first.entries self.old.symbols.items self.old.faults.items es
+            → Follows self.new.names self.new.first.entries self.new.symbols.items self.new.faults.items (es ++ map (declared_entry scope item) declares.now)) }
     {
         for declared in declares {
             self.add(
                 alloc,
                 Named {
-                    space: scope,
+                    namespace: scope,
                     name: declared.name.bytes(),
                     item,
                     token: declared.token,
@@ -254,8 +254,8 @@ impl Tables {
         outline: &Outline,
     ) -> Result<(), OutOfMemory>
         ensures { OnOk result ((ss : List Outline) → place ≡ Places.place ss item → (es : List Entry)
-            → Follows self.old.names self.old.first.entries self.old.standings.items self.old.faults.items es
-            → Follows self.new.names self.new.first.entries self.new.standings.items self.new.faults.items (es ++ entries_of ss item outline.now)) }
+            → Follows self.old.names self.old.first.entries self.old.symbols.items self.old.faults.items es
+            → Follows self.new.names self.new.first.entries self.new.symbols.items self.new.faults.items (es ++ entries_of ss item outline.now)) }
     {
         self.add_set(alloc, item, outline)?;
         self.add_state(alloc, place, item, outline)?;
@@ -272,7 +272,7 @@ pub(crate) fn tables_of(
     places: &[Option<usize>],
 ) -> Result<Tables, OutOfMemory>
     requires { Placed places.now (map (λ s. s.now) outlines.now) (length outlines.now) }
-    ensures { IfOk result (λ t. Follows t.names t.first.entries t.standings.items t.faults.items (entries (map (λ s. s.now) outlines.now))) }
+    ensures { IfOk result (λ t. Follows t.names t.first.entries t.symbols.items t.faults.items (entries (map (λ s. s.now) outlines.now))) }
 {
     let mut tables = Tables::new(alloc);
     for item in 0..outlines.len() {

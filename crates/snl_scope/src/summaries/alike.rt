@@ -4,7 +4,7 @@
 ghost use Rattle.std.specs.Prelude.{◌≡◌, ◌↔◌, IsTrue};
 
 use crate::summaries::name::Name;
-use crate::summaries::summary::{Declared, Mention, Outline, VariableClause};
+use crate::summaries::summary::{Declared, NameRef, Outline, VariableClause};
 
 /// Values that can be compared.
 pub(crate) trait Alike {
@@ -43,8 +43,8 @@ impl Alike for Name {
     }
 }
 
-impl Alike for Mention {
-    fn is_like(&self, other: &Mention) -> bool {
+impl Alike for NameRef {
+    fn is_like(&self, other: &NameRef) -> bool {
         self.token == other.token && self.name.is_like(&other.name)
     }
 }

@@ -5,8 +5,8 @@ ghost use Rattle.snl_walk.specs.Tokens.{IsSource};
 ghost use Rattle.std.specs.Prelude.{◌≡◌, ◌++◌, IfOk, OnOk, option_copied, option_map};
 ghost use Rattle.std.specs.List.{flat_map};
 
-use crate::summaries::summary::{ClauseKind, Coverage, Mention, VariableClause};
-use crate::summaries::token_names::mention_at;
+use crate::summaries::summary::{ClauseKind, Coverage, NameRef, VariableClause};
+use crate::summaries::token_names::name_ref_at;
 use snl_cut::OutOfMemory;
 use snl_syntax::tree::clause::{Channel, Clause, Flag};
 use snl_syntax::tree::item::Item;
@@ -50,13 +50,13 @@ fn covered_by_channel(source: &Source, channel: &Channel) -> Coverage
     }
 }
 
-fn flag_of(source: &Source, flag: Option<Flag>) -> Result<Option<Mention>, OutOfMemory>
+fn flag_of(source: &Source, flag: Option<Flag>) -> Result<Option<NameRef>, OutOfMemory>
     requires { IsSource source.now.text.now source.now.tokens.now }
     ensures { IfOk result (λ m. m ≡ option_map (flag_at source.now.text.now source.now.tokens.now) flag) }
 {
     match flag {
         None => Ok(None),
-        Some(flag) => Ok(Some(mention_at(source, flag.name)?)),
+        Some(flag) => Ok(Some(name_ref_at(source, flag.name)?)),
     }
 }
 
@@ -71,7 +71,7 @@ fn clause_on(
     ensures { IfOk result (λ c. c ≡ clause_on source.now.text.now source.now.tokens.now kind name coverage flag) }
 {
     Ok(VariableClause {
-        variable: mention_at(source, name)?,
+        variable: name_ref_at(source, name)?,
         flag: flag_of(source, flag)?,
         coverage,
         kind,
@@ -138,7 +138,7 @@ pub(crate) fn clauses_in(
 {
     let mut clauses = Vec::new(source.alloc);
     match tree {
-        Some(Item::Clause(clause)) => clauses.push(clause_of(source, clause)?)?,
+        Some(Item::Clause(clause)) => clauses.push(clause_of(source, clause.get())?)?,
         Some(Item::StateBlock { name: _, members }) => {
             add_state(source, members.as_slice(), &mut clauses)?;
         }

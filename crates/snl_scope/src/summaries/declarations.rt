@@ -1,11 +1,11 @@
 //! The names that an item declares outside its blocks: its tree comes in, each name with what a declaration says of it goes out.
 
-ghost use Rattle.snl_scope.specs.Summaries.Declares.{declared_at, declared_by_declaration, declared_by_declarator, declared_by_foreign, declared_by_function, declared_by_member, declared_in, declared_in_tree, dims_by_integer, dims_of, foreign_name, function_name, lone_integer, nature_of};
+ghost use Rattle.snl_scope.specs.Summaries.Declares.{declared_at, declared_by_declaration, declared_by_declarator, declared_by_foreign, declared_by_function, declared_by_member, declared_in, declared_in_tree, dims_by_integer, dims_of, foreign_name, function_name, lone_integer, symbol_kind_of};
 ghost use Rattle.snl_walk.specs.Tokens.{IsSource};
 ghost use Rattle.std.specs.Prelude.{◌≡◌, ◌++◌, ◌∷◌, [], IfOk, OnOk, option_copied};
 ghost use Rattle.std.specs.List.{flat_map};
 
-use crate::summaries::summary::{Declared, Dims, Nature, Variable};
+use crate::summaries::summary::{Declared, Dims, SymbolKind, Variable};
 use crate::summaries::token_names::name_at;
 use snl_cut::OutOfMemory;
 use snl_syntax::tree::declaration::{Declaration, Declarator};
@@ -16,15 +16,15 @@ use snl_syntax::tree::types::Base;
 use snl_walk::Source;
 
 // What names of a declaration with this base stand for.
-fn nature_of(base: Base) -> Nature
-    ensures { result ≡ nature_of base }
+fn symbol_kind_of(base: Base) -> SymbolKind
+    ensures { result ≡ symbol_kind_of base }
 {
     match base {
-        Base::Evflag => Nature::EventFlag,
+        Base::Evflag => SymbolKind::EventFlag,
         Base::Void | Base::Enum(_) | Base::Struct(_) | Base::Union(_) | Base::Typename(_) => {
-            Nature::Unassignable
+            SymbolKind::Unassignable
         }
-        _ => Nature::Assignable,
+        _ => SymbolKind::Assignable,
     }
 }
 
@@ -82,14 +82,14 @@ fn declared_at(source: &Source, variable: Variable, number: usize) -> Result<Dec
 
 fn declared_by_declarator(
     source: &Source,
-    nature: Nature,
+    symbol_kind: SymbolKind,
     declarator: &Declarator,
 ) -> Result<Declared, OutOfMemory>
     requires { IsSource source.now.text.now source.now.tokens.now }
-    ensures { IfOk result (λ d. d ≡ declared_by_declarator source.now.text.now source.now.tokens.now nature declarator.now) }
+    ensures { IfOk result (λ d. d ≡ declared_by_declarator source.now.text.now source.now.tokens.now symbol_kind declarator.now) }
 {
     let dims = dims_of(source, declarator);
-    declared_at(source, Variable { dims, nature }, declarator.name)
+    declared_at(source, Variable { dims, symbol_kind }, declarator.name)
 }
 
 fn add_declaration(
@@ -100,9 +100,9 @@ fn add_declaration(
     requires { IsSource source.now.text.now source.now.tokens.now }
     ensures { OnOk result (declared.new.items ≡ declared.old.items ++ declared_by_declaration source.now.text.now source.now.tokens.now declaration.now) }
 {
-    let nature = nature_of(declaration.of.base);
+    let symbol_kind = symbol_kind_of(declaration.of.base);
     for declarator in declaration.declarators.as_slice() {
-        declared.push(declared_by_declarator(source, nature, declarator)?)?;
+        declared.push(declared_by_declarator(source, symbol_kind, declarator)?)?;
     }
     Ok(())
 }
@@ -117,7 +117,7 @@ fn add_foreign(
 {
     let variable = Variable {
         dims: Dims::Unknown,
-        nature: Nature::Foreign,
+        symbol_kind: SymbolKind::Foreign,
     };
     for name in names {
         declared.push(declared_at(source, variable, *name)?)?;
@@ -136,7 +136,7 @@ fn add_function(
 {
     let variable = Variable {
         dims: Dims::Unknown,
-        nature: Nature::Function,
+        symbol_kind: SymbolKind::Function,
     };
     match &function.body {
         Some(_) => {
@@ -187,9 +187,9 @@ fn add_tree(source: &Source, tree: &Item, declared: &mut Vec<Declared>) -> Resul
     ensures { OnOk result (declared.new.items ≡ declared.old.items ++ declared_in_tree source.now.text.now source.now.tokens.now tree.now) }
 {
     match tree {
-        Item::Definition(declaration) => add_declaration(source, declaration, declared),
+        Item::Definition(declaration) => add_declaration(source, declaration.get(), declared),
         Item::Foreign(names) => add_foreign(source, names.as_slice(), declared),
-        Item::Function(function) => add_function(source, function, declared),
+        Item::Function(function) => add_function(source, function.get(), declared),
         Item::StateBlock { name: _, members } => add_state(source, members.as_slice(), declared),
         Item::Header {
             name: _,

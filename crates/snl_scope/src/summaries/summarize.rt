@@ -2,7 +2,7 @@
 //! It knows nothing of the other items.
 
 ghost use Rattle.snl_scope.specs.Summaries.{kind_of, kind_of_tree, occurrences_in, opening_by_word, opening_in, role_of, second_in, summary_in};
-ghost use Rattle.snl_scope.specs.Summaries.Tokens.{mention_at};
+ghost use Rattle.snl_scope.specs.Summaries.Tokens.{name_ref_at};
 ghost use Rattle.snl_walk.specs.Once.{once};
 ghost use Rattle.snl_walk.specs.Tokens.{IsSource, bytes_at};
 ghost use Rattle.snl_walk.specs.Uses.{targets, uses};
@@ -11,13 +11,13 @@ ghost use Rattle.std.specs.Prelude.{◌≡◌, IfOk, map, option_copied};
 use crate::summaries::clauses_of::clauses_in;
 use crate::summaries::declarations::declared_in;
 use crate::summaries::name::Name;
-use crate::summaries::summary::{ItemKind, Mention, Opening, Outline, Role, Summary};
-use crate::summaries::token_names::{mentions, names_once};
+use crate::summaries::summary::{ItemKind, NameRef, Opening, Outline, Role, Summary};
+use crate::summaries::token_names::{name_refs, names_once};
 use snl_cut::OutOfMemory;
 use snl_lex::{Class, Piece, token_text};
+use snl_lists::Few;
 use snl_syntax::tree::item::Item;
 use snl_walk::{Occurrence, Source, occurrences, targets, uses};
-use sqlite_items::Items;
 use std::alloc::Global;
 
 fn kind_of_tree(tree: &Item) -> ItemKind
@@ -128,7 +128,7 @@ fn occurrences_in(source: &Source, tree: Option<&Item>) -> Result<Vec<Occurrence
 }
 
 // The names that the item uses, each once.
-fn used_names(source: &Source, found: &[Occurrence]) -> Result<Items<Name>, OutOfMemory>
+fn used_names(source: &Source, found: &[Occurrence]) -> Result<Few<Name>, OutOfMemory>
     requires { IsSource source.now.text.now source.now.tokens.now }
     ensures { IfOk result (λ names. names ≡ once (map (bytes_at source.now.text.now source.now.tokens.now) (uses found.now))) }
 {
@@ -136,11 +136,11 @@ fn used_names(source: &Source, found: &[Occurrence]) -> Result<Items<Name>, OutO
 }
 
 // The states that the item leads to.
-fn target_names(source: &Source, found: &[Occurrence]) -> Result<Items<Mention>, OutOfMemory>
+fn target_names(source: &Source, found: &[Occurrence]) -> Result<Few<NameRef>, OutOfMemory>
     requires { IsSource source.now.text.now source.now.tokens.now }
-    ensures { IfOk result (λ m. m ≡ map (mention_at source.now.text.now source.now.tokens.now) (targets found.now)) }
+    ensures { IfOk result (λ m. m ≡ map (name_ref_at source.now.text.now source.now.tokens.now) (targets found.now)) }
 {
-    mentions(source, &targets(source.alloc, found)?)
+    name_refs(source, &targets(source.alloc, found)?)
 }
 
 /// The summary of the item that consists of these tokens, of which each lies in the text. `tree` is the item's tree; an item
@@ -159,8 +159,8 @@ pub fn summary_of(
         tokens,
         alloc,
     };
-    let declares = Items::from_vec(declared_in(&source, tree)?);
-    let clauses = Items::from_vec(clauses_in(&source, tree)?);
+    let declares = Few::from_vec(alloc, declared_in(&source, tree)?)?;
+    let clauses = Few::from_vec(alloc, clauses_in(&source, tree)?)?;
     let found = occurrences_in(&source, tree)?;
     let uses = used_names(&source, &found)?;
     let targets = target_names(&source, &found)?;

@@ -2,7 +2,7 @@
 //! Names are copied, so that a summary stands alone; a token is told by its number in the item.
 
 use crate::summaries::name::Name;
-use sqlite_items::Items;
+use snl_lists::Few;
 
 /// What an item is.
 #[derive(Clone, Copy, Debug, PartialEq, Eq)]
@@ -51,7 +51,7 @@ pub enum Role {
 
 /// What a declared name stands for.
 #[derive(Clone, Copy, Debug, PartialEq, Eq)]
-pub enum Nature {
+pub enum SymbolKind {
     EventFlag,
     Foreign,
     Function,
@@ -75,7 +75,7 @@ pub enum Dims {
 #[derive(Clone, Copy, Debug, PartialEq, Eq)]
 pub struct Variable {
     pub dims: Dims,
-    pub nature: Nature,
+    pub symbol_kind: SymbolKind,
 }
 
 /// A name that an item declares outside its blocks.
@@ -88,7 +88,7 @@ pub struct Declared {
 
 /// A name that is at a token.
 #[derive(Drop)]
-pub struct Mention {
+pub struct NameRef {
     pub name: Name,
     pub token: usize,
 }
@@ -115,8 +115,8 @@ pub enum Coverage {
 /// A clause on a variable. `sync` and `syncq` may name an event flag.
 #[derive(Drop)]
 pub struct VariableClause {
-    pub variable: Mention,
-    pub flag: Option<Mention>,
+    pub variable: NameRef,
+    pub flag: Option<NameRef>,
     pub coverage: Coverage,
     pub kind: ClauseKind,
 }
@@ -124,8 +124,8 @@ pub struct VariableClause {
 /// What an item says to the others.
 pub struct Outline {
     /// The names that it declares outside its blocks. Those of a state are in the state's own scope.
-    pub declares: Items<Declared>,
-    pub clauses: Items<VariableClause>,
+    pub declares: Few<Declared>,
+    pub clauses: Few<VariableClause>,
     /// The second token, if that is a name; it has the number 1.
     pub second: Option<Name>,
     pub role: Role,
@@ -137,9 +137,9 @@ pub struct Summary {
     pub kind: ItemKind,
     pub outline: Outline,
     /// Each name that it uses as an expression, once, in the order of first use.
-    pub uses: Items<Name>,
+    pub uses: Few<Name>,
     /// The states that its transitions name.
-    pub targets: Items<Mention>,
+    pub targets: Few<NameRef>,
 }
 
 // By hand, so that whoever holds a summary need not know what is in its lists to let it go.

@@ -1,15 +1,15 @@
 //! The names at the tokens of an item: the tokens' numbers come in, copies of the names go out.
 
-ghost use Rattle.snl_scope.specs.Summaries.Tokens.{mention_at};
+ghost use Rattle.snl_scope.specs.Summaries.Tokens.{name_ref_at};
 ghost use Rattle.snl_walk.specs.Once.{once};
 ghost use Rattle.snl_walk.specs.Tokens.{IsSource, bytes_at};
 ghost use Rattle.std.specs.Prelude.{◌≡◌, IfOk, map};
 
 use crate::summaries::name::Name;
-use crate::summaries::summary::Mention;
+use crate::summaries::summary::NameRef;
 use snl_cut::OutOfMemory;
+use snl_lists::Few;
 use snl_walk::{NameSet, Source};
-use sqlite_items::Items;
 
 /// A copy of the bytes of a token.
 pub(crate) fn name_at(source: &Source, number: usize) -> Result<Name, OutOfMemory>
@@ -20,30 +20,30 @@ pub(crate) fn name_at(source: &Source, number: usize) -> Result<Name, OutOfMemor
 }
 
 /// The name at a token.
-pub(crate) fn mention_at(source: &Source, number: usize) -> Result<Mention, OutOfMemory>
+pub(crate) fn name_ref_at(source: &Source, number: usize) -> Result<NameRef, OutOfMemory>
     requires { IsSource source.now.text.now source.now.tokens.now }
-    ensures { IfOk result (λ m. m ≡ mention_at source.now.text.now source.now.tokens.now number) }
+    ensures { IfOk result (λ m. m ≡ name_ref_at source.now.text.now source.now.tokens.now number) }
 {
-    Ok(Mention {
+    Ok(NameRef {
         name: name_at(source, number)?,
         token: number,
     })
 }
 
 /// The names at tokens, each with its token.
-pub(crate) fn mentions(source: &Source, numbers: &[usize]) -> Result<Items<Mention>, OutOfMemory>
+pub(crate) fn name_refs(source: &Source, numbers: &[usize]) -> Result<Few<NameRef>, OutOfMemory>
     requires { IsSource source.now.text.now source.now.tokens.now }
-    ensures { IfOk result (λ m. m ≡ map (mention_at source.now.text.now source.now.tokens.now) numbers.now) }
+    ensures { IfOk result (λ m. m ≡ map (name_ref_at source.now.text.now source.now.tokens.now) numbers.now) }
 {
-    let mut mentions = Vec::new(source.alloc);
+    let mut name_refs = Vec::new(source.alloc);
     for number in numbers {
-        mentions.push(mention_at(source, *number)?)?;
+        name_refs.push(name_ref_at(source, *number)?)?;
     }
-    Ok(Items::from_vec(mentions))
+    Ok(Few::from_vec(source.alloc, name_refs)?)
 }
 
 /// The names at tokens, each once, in the order in which they come first.
-pub(crate) fn names_once(source: &Source, numbers: &[usize]) -> Result<Items<Name>, OutOfMemory>
+pub(crate) fn names_once(source: &Source, numbers: &[usize]) -> Result<Few<Name>, OutOfMemory>
     requires { IsSource source.now.text.now source.now.tokens.now }
     ensures { IfOk result (λ names. names ≡ once (map (bytes_at source.now.text.now source.now.tokens.now) numbers.now)) }
 {
@@ -55,5 +55,5 @@ pub(crate) fn names_once(source: &Source, numbers: &[usize]) -> Result<Items<Nam
             names.push(Name::new(source.alloc, name)?)?;
         }
     }
-    Ok(Items::from_vec(names))
+    Ok(Few::from_vec(source.alloc, names)?)
 }

@@ -5,14 +5,16 @@
 
 ghost use Rattle.std.specs.Prelude.{◌≡◌, All, IfOk, map};
 ghost use Rattle.snl_cut.specs.Cut.{members};
+ghost use Rattle.snl_lex.specs.LineList.{IsLineList};
 ghost use Rattle.snl_scope.specs.Linked.{faults_of};
+ghost use Rattle.snl_check.specs.Tables.{tables_of};
 ghost use Rattle.snl_session.specs.Checks.{checks_of, checks_over, links_in, outlines_in};
 ghost use Rattle.snl_session.specs.Diagnostics.{diagnostics_of, shown};
 ghost use Rattle.snl_session.specs.Linked.{linked_of, outlines_of};
 ghost use Rattle.snl_session.specs.Parts.{IsPart, part_of};
 ghost use Rattle.snl_session.specs.Program.{program_item};
 ghost use Rattle.snl_session.specs.Tables.{tables_in};
-ghost use Rattle.snl_session.specs.Warnings.{warns_in};
+ghost use Rattle.snl_session.specs.Warnings.{shows_warnings, warns_in};
 
 use crate::found::checks::add_checked_faults;
 use crate::found::diagnose::{add_linked_faults, keep_shown, on_lines};
@@ -24,7 +26,7 @@ use crate::found::walked::add_walked_faults;
 use crate::found::warnings::shows_warnings;
 use snl_check::{Checked, Tables};
 use snl_cut::OutOfMemory;
-use snl_lex::text_in_pieces;
+use snl_lex::{LineList, text_in_pieces};
 use snl_scope::{LinkFault, Links, same_spelling_same_summary};
 use snl_syntax::{outcome_told, same_spelling_same_tree};
 use sqlite_items::Boxed;
@@ -38,16 +40,46 @@ pub struct Judgement {
     pub warns: bool,
 }
 
-// The same, with findings that have no order and no lines yet.
+/// The same, with findings that have no order and no lines yet.
 #[derive(Drop)]
-struct Told {
-    shown: Vec<Finding>,
-    tables: Tables,
-    warns: bool,
+pub struct Told {
+    pub shown: Vec<Finding>,
+    pub tables: Tables,
+    pub warns: bool,
 }
 
-// What is shown of what is found in a text that has these items, and the tables of the text.
-#[tactic(auto, unfolding(crate::specs::Diagnostics::found, crate::specs::Diagnostics::shown, crate::specs::Tables::tables_in))]
+// What is shown of what is found in a text that has these items and these tables.
+#[tactic(auto, unfolding(crate::specs::Diagnostics::found, crate::specs::Diagnostics::shown))]
+fn shown_by(
+    alloc: Global,
+    cut: &CutText,
+    parts: &[Part],
+    faults: &[LinkFault],
+    checks: &[&Option<Boxed<Checked>>],
+    tables: &Tables,
+    warns: bool,
+) -> Result<Vec<Finding>, OutOfMemory>
+    requires items { map (part_of cut.now.tokens.now) parts.now ≡ map (program_item cut.now.text.now) (members cut.now.tokens.now 0 cut.now.ends.now) }
+    requires parts { All (IsPart cut.now.text.now cut.now.tokens.now) parts.now }
+    requires faults { faults.now ≡ faults_of (linked_of cut.now.text.now (map (part_of cut.now.tokens.now) parts.now)) }
+    requires checks { map (λ c. c.now) checks.now ≡ checks_over cut.now.text.now (map (part_of cut.now.tokens.now) parts.now) }
+    requires tables { tables.now ≡ tables_of cut.now.text.now (map (part_of cut.now.tokens.now) parts.now) }
+    requires warns { warns ≡ shows_warnings cut.now.text.now (map (part_of cut.now.tokens.now) parts.now) }
+    ensures { IfOk result (λ v. v.items ≡ shown cut.now.text.now) }
+{
+    text_in_pieces();
+    let mut shown = Vec::new(alloc);
+    add_faults(cut.text, cut.tokens, parts, &mut shown)?;
+    add_linked_faults(cut.text, cut.tokens, parts, faults, &mut shown)?;
+    add_checked_faults(cut.text, cut.tokens, parts, checks, &mut shown)?;
+    add_walked_faults(tables, &mut shown)?;
+    keep_shown(warns, &mut shown);
+    Ok(shown)
+}
+
+// What is shown of what is found in a text that has these items, and the tables of the text. These come first: what is listed for
+// them is let go before the findings are.
+#[tactic(auto, unfolding(crate::specs::Tables::tables_in))]
 fn told_by(
     alloc: Global,
     cut: &CutText,
@@ -74,14 +106,9 @@ fn told_by(
         ends,
         ..
     } = *cut;
-    let mut shown = Vec::new(alloc);
-    add_faults(text, tokens, parts, &mut shown)?;
-    add_linked_faults(text, tokens, parts, faults, &mut shown)?;
-    add_checked_faults(text, tokens, parts, checks, &mut shown)?;
     let tables = tables_of(alloc, text, lines, tokens, ends, parts, links, checks)?;
-    add_walked_faults(&tables, &mut shown)?;
     let warns = shows_warnings(alloc, text, tokens, parts, links);
-    keep_shown(warns, &mut shown);
+    let shown = shown_by(alloc, cut, parts, faults, checks, &tables, warns)?;
     Ok(Told {
         shown,
         tables,
@@ -89,8 +116,8 @@ fn told_by(
     })
 }
 
-// The same by the links and the checks of the text.
-fn told_in(
+/// What is shown of what is found in a text that has these items, links and checks, and its tables.
+pub fn told_in(
     alloc: Global,
     cut: &CutText,
     parts: &[Part],
@@ -113,8 +140,34 @@ fn told_in(
     told_by(alloc, cut, parts, links, faults, checks)
 }
 
-/// The diagnostics and the tables of a text that has these items, links and checks.
+/// What a text is judged to say, by what is shown of what is found in it.
 #[tactic(auto, unfolding(crate::specs::Diagnostics::diagnostics_of))]
+pub fn judged(
+    alloc: Global,
+    text: &[u8],
+    lines: &LineList,
+    told: Told,
+) -> Result<Judgement, OutOfMemory>
+    requires lines { IsLineList text.now lines.now.ends.items lines.now.markers.items lines.now.naming.items }
+    requires shown { told.shown.items ≡ shown text.now }
+    ensures diagnostics { IfOk result (λ j. j.diagnostics.items ≡ diagnostics_of text.now) }
+    ensures tables { IfOk result (λ j. j.tables ≡ told.tables) }
+    ensures warns { IfOk result (λ j. j.warns ≡ told.warns) }
+{
+    let Told {
+        mut shown,
+        tables,
+        warns,
+    } = told;
+    sort(&mut shown)?;
+    Ok(Judgement {
+        diagnostics: on_lines(alloc, text, lines, &shown)?,
+        tables,
+        warns,
+    })
+}
+
+/// The diagnostics and the tables of a text that has these items, links and checks.
 pub fn judge(
     alloc: Global,
     cut: &CutText,
@@ -132,15 +185,6 @@ pub fn judge(
     ensures tables { IfOk result (λ j. j.tables ≡ tables_in cut.now.text.now) }
     ensures warns { IfOk result (λ j. j.warns ≡ warns_in cut.now.text.now) }
 {
-    let Told {
-        mut shown,
-        tables,
-        warns,
-    } = told_in(alloc, cut, parts, links, faults, checks)?;
-    sort(&mut shown)?;
-    Ok(Judgement {
-        diagnostics: on_lines(alloc, cut.text, cut.lines, &shown)?,
-        tables,
-        warns,
-    })
+    let told = told_in(alloc, cut, parts, links, faults, checks)?;
+    judged(alloc, cut.text, cut.lines, told)
 }

@@ -70,7 +70,7 @@ pub fn parts_along<'a>(
     outcome_told();
     same_spelling_same_tree();
     same_spelling_same_summary();
-    let mut parts = Vec::new(alloc);
+    let mut parts = Vec::with_capacity(alloc, ends.len())?;
     let mut start = 0;
     for (number, end) in ends.iter().enumerate() {
         let stop = *end as usize;

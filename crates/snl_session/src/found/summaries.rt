@@ -22,7 +22,7 @@ fn summaries_of<'a>(
     requires parts { All (IsPart text.now tokens.now) parts.now }
     ensures { IfOk result (λ v. map (λ s. s.now) v.items ≡ summaries_of text.now (map (part_of tokens.now) parts.now)) }
 {
-    let mut summaries = Vec::new(alloc);
+    let mut summaries = Vec::with_capacity(alloc, parts.len())?;
     for part in parts {
         summaries.push(&part.entry.summary)?;
     }
@@ -55,7 +55,7 @@ pub fn kinds_of(
     requires parts { All (IsPart text.now tokens.now) parts.now }
     ensures { IfOk result (λ v. v.items ≡ (linked_of text.now (map (part_of tokens.now) parts.now)).kinds) }
 {
-    let mut kinds = Vec::new(alloc);
+    let mut kinds = Vec::with_capacity(alloc, parts.len())?;
     for part in parts {
         kinds.push(part.entry.summary.kind)?;
     }

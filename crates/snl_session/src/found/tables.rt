@@ -24,7 +24,7 @@ use std::alloc::Global;
 fn trees_of<'a>(alloc: Global, parts: &[Part<'a>]) -> Result<Vec<Option<&'a Item>>, OutOfMemory>
     ensures { IfOk result (λ trees. map option_copied trees.items ≡ map tree_of_part parts.now) }
 {
-    let mut trees = Vec::new(alloc);
+    let mut trees = Vec::with_capacity(alloc, parts.len())?;
     for part in parts {
         trees.push(part.entry.parsed.tree())?;
     }
@@ -48,7 +48,7 @@ fn told_checks<'a>(
 ) -> Result<Vec<Option<&'a Checked>>, OutOfMemory>
     ensures { IfOk result (λ told. map told_seen told.items ≡ map told_kept (map (λ c. c.now) checks.now)) }
 {
-    let mut told = Vec::new(alloc);
+    let mut told = Vec::with_capacity(alloc, checks.len())?;
     for check in checks {
         told.push(told_by(check))?;
     }
@@ -59,7 +59,7 @@ fn told_checks<'a>(
 fn widened(alloc: Global, ends: &[u32]) -> Result<Vec<usize>, OutOfMemory>
     ensures { IfOk result (λ w. w.items ≡ ends.now) }
 {
-    let mut wide = Vec::new(alloc);
+    let mut wide = Vec::with_capacity(alloc, ends.len())?;
     for end in ends {
         wide.push(*end as usize)?;
     }

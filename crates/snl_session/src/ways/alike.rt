@@ -14,7 +14,7 @@ use crate::ways::one_item::OwnTokens;
 use snl_check::{Checked, wakes_alike};
 use snl_cut::OutOfMemory;
 use snl_lex::TextEdit;
-use snl_scope::{ItemKind, Links, Mention, Outline, same_outline};
+use snl_scope::{ItemKind, Links, NameRef, Outline, same_outline};
 use sqlite_items::Boxed;
 use std::alloc::Global;
 
@@ -48,7 +48,7 @@ pub fn says_the_same(was: &Entry, is: &Entry, head: usize) -> bool
         && is.kind == was.kind
         && is_plain(was.kind)
         && declares_in_head(&was.outline, head)
-        && was.outline.clauses.is_empty()
+        && was.outline.clauses.as_slice().is_empty()
 }
 
 /// Whether the links find nothing in an item past so many of its first tokens.
@@ -62,14 +62,14 @@ pub fn spares_inside(links: &Links, item: usize, head: usize) -> bool
 }
 
 // Whether two names are the same.
-fn same_name(one: &Mention, other: &Mention) -> bool
+fn same_name(one: &NameRef, other: &NameRef) -> bool
     ensures { IsTrue result ↔ (one.now.name ≡ other.now.name) }
 {
     one.name.bytes() == other.name.bytes()
 }
 
 // Whether as many names are the same, one by one.
-fn same_names(ones: &[Mention], others: &[Mention]) -> bool
+fn same_names(ones: &[NameRef], others: &[NameRef]) -> bool
     ensures { IsTrue result → map (λ m. m.name) ones.now ≡ map (λ m. m.name) others.now }
 {
     if ones.len() != others.len() {

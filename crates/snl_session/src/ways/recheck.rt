@@ -154,7 +154,7 @@ pub fn recheck(
 pub fn vacant_for(alloc: Global, ends: &[u32]) -> Result<Vec<Option<Boxed<Checked>>>, OutOfMemory>
     ensures { IfOk result (λ v. v.items ≡ nones ends.now) }
 {
-    let mut vacant = Vec::new(alloc);
+    let mut vacant = Vec::with_capacity(alloc, ends.len())?;
     for _end in ends {
         vacant.push(None)?;
     }

@@ -6,7 +6,7 @@ ghost use Rattle.std.specs.Prelude.{◌≡◌, ◌+◌, ◌-◌, ◌≤◌, All,
 ghost use Rattle.snl_cut.specs.Cut.{after_ticks, members};
 ghost use Rattle.snl_lex.specs.LineList.{IsLineList};
 ghost use Rattle.snl_lex.specs.Pieces.{tokens_of};
-ghost use Rattle.snl_session.specs.Diagnostics.{diagnostics_of};
+ghost use Rattle.snl_session.specs.Diagnostics.{diagnostics_of, shown};
 ghost use Rattle.snl_session.specs.Kept.{IsListed};
 ghost use Rattle.snl_session.specs.Parts.{IsPart, part_of};
 ghost use Rattle.snl_session.specs.Planned.{AreEntriesMade, IsChanged, IsRechecked};
@@ -17,7 +17,7 @@ ghost use Rattle.snl_session.specs.Tables.{tables_in};
 ghost use Rattle.snl_session.specs.Warnings.{warns_in};
 
 use crate::entries::Entry;
-use crate::found::judge::{Judgement, judge};
+use crate::found::judge::{Judgement, Told, judged, told_in};
 use crate::found::program::{CutText, Part, items_end_in_order, parts_along};
 use crate::lists::{Lists, Rechecked};
 use crate::ways::plan::Changes;
@@ -38,6 +38,13 @@ use std::alloc::Global;
 pub struct Rejudged {
     pub judgement: Judgement,
     pub rechecked: Rechecked,
+}
+
+// What is shown of what is found in the new text and its tables, and what is made of the links and the checks.
+#[derive(Drop)]
+struct Retold {
+    told: Told,
+    rechecked: Rechecked,
 }
 
 // Which items are kept of so many, and where they are among so many.
@@ -96,8 +103,8 @@ fn recheck_after(
     })
 }
 
-// What the new text is judged to say, by its items and what is made of the links and the checks.
-fn judge_after(
+// What is shown of what is found in the new text, by its items and what is made of the links and the checks.
+fn told_after(
     alloc: Global,
     lists: &Lists,
     edit: &TextEdit,
@@ -105,16 +112,16 @@ fn judge_after(
     cut: &CutText,
     parts: &[Part],
     rechecked: &Rechecked,
-) -> Result<Judgement, OutOfMemory>
+) -> Result<Told, OutOfMemory>
     requires lists { IsListed edit.now.old.now lists.now }
     requires changes { IsChanged edit.now.old.now edit.now.text.now edit.now.start edit.now.old_stop edit.now.new_stop changes.now }
     requires text { cut.now.text.now ≡ edit.now.text.now }
     requires items { map (part_of cut.now.tokens.now) parts.now ≡ map (program_item cut.now.text.now) (members cut.now.tokens.now 0 cut.now.ends.now) }
     requires parts { All (IsPart cut.now.text.now cut.now.tokens.now) parts.now }
     requires rechecked { IsRechecked edit.now.old.now edit.now.text.now changes.now.items.kept_front changes.now.items.kept_back rechecked.now }
-    ensures diagnostics { IfOk result (λ j. j.diagnostics.items ≡ diagnostics_of edit.now.text.now) }
-    ensures tables { IfOk result (λ j. j.tables ≡ tables_in edit.now.text.now) }
-    ensures warns { IfOk result (λ j. j.warns ≡ warns_in edit.now.text.now) }
+    ensures shown { IfOk result (λ t. t.shown.items ≡ shown edit.now.text.now) }
+    ensures tables { IfOk result (λ t. t.tables ≡ tables_in edit.now.text.now) }
+    ensures warns { IfOk result (λ t. t.warns ≡ warns_in edit.now.text.now) }
 {
     let back = lists.checks.len() - changes.items.kept_back;
     let checks = checks_in(
@@ -127,11 +134,11 @@ fn judge_after(
     )?;
     let links = rechecked.links.after(&lists.links);
     let faults = rechecked.links.faults(&lists.links);
-    judge(alloc, cut, parts, links, faults, &checks)
+    told_in(alloc, cut, parts, links, faults, &checks)
 }
 
 // The same of the new text as it is cut. Each check that is made is one tick.
-fn rejudge_cut(
+fn retell_cut(
     alloc: Global,
     lists: &Lists,
     edit: &TextEdit,
@@ -139,14 +146,14 @@ fn rejudge_cut(
     cut: &CutText,
     made: &[Boxed<Entry>],
     work: &mut Count,
-) -> Result<Rejudged, OutOfMemory>
+) -> Result<Retold, OutOfMemory>
     requires lists { IsListed edit.now.old.now lists.now }
     requires changes { IsChanged edit.now.old.now edit.now.text.now edit.now.start edit.now.old_stop edit.now.new_stop changes.now }
     requires text { cut.now.text.now ≡ edit.now.text.now }
     requires made { AreEntriesMade edit.now.old.now edit.now.text.now changes.now.items.kept_front made.now changes.now.items.kept_back }
-    ensures diagnostics { IfOk result (λ r. r.judgement.diagnostics.items ≡ diagnostics_of edit.now.text.now) }
-    ensures tables { IfOk result (λ r. r.judgement.tables ≡ tables_in edit.now.text.now) }
-    ensures warns { IfOk result (λ r. r.judgement.warns ≡ warns_in edit.now.text.now) }
+    ensures shown { IfOk result (λ r. r.told.shown.items ≡ shown edit.now.text.now) }
+    ensures tables { IfOk result (λ r. r.told.tables ≡ tables_in edit.now.text.now) }
+    ensures warns { IfOk result (λ r. r.told.warns ≡ warns_in edit.now.text.now) }
     ensures rechecked { IfOk result (λ r. IsRechecked edit.now.old.now edit.now.text.now changes.now.items.kept_front changes.now.items.kept_back r.rechecked) }
     ensures stirred { IfOk result (λ r. length r.rechecked.made.items ≡ stirred_between edit.now.old.now edit.now.text.now edit.now.start edit.now.old_stop edit.now.new_stop) }
     ensures ticks { IfOk result (λ r. work.new ≡ after_ticks work.old (length r.rechecked.made.items)) }
@@ -154,11 +161,49 @@ fn rejudge_cut(
     items_end_in_order();
     let parts = parts_along(alloc, cut.text, cut.tokens, cut.ends, cut.entries)?;
     let rechecked = recheck_after(alloc, lists, edit, changes, cut.tokens, &parts, made, work)?;
-    let judgement = judge_after(alloc, lists, edit, changes, cut, &parts, &rechecked)?;
-    Ok(Rejudged {
-        judgement,
-        rechecked,
-    })
+    let told = told_after(alloc, lists, edit, changes, cut, &parts, &rechecked)?;
+    Ok(Retold { told, rechecked })
+}
+
+// The same by the lines and tokens of the new text. What is listed of its items is let go here, before the findings get their lines.
+fn retell(
+    alloc: Global,
+    lists: &Lists,
+    edit: &TextEdit,
+    changes: &Changes,
+    lines: &LineList,
+    tokens: &[Piece],
+    made: &[Boxed<Entry>],
+    work: &mut Count,
+) -> Result<Retold, OutOfMemory>
+    requires lists { IsListed edit.now.old.now lists.now }
+    requires changes { IsChanged edit.now.old.now edit.now.text.now edit.now.start edit.now.old_stop edit.now.new_stop changes.now }
+    requires lines { IsLineList edit.now.text.now lines.now.ends.items lines.now.markers.items lines.now.naming.items }
+    requires tokens { tokens.now ≡ tokens_of edit.now.text.now }
+    requires made { AreEntriesMade edit.now.old.now edit.now.text.now changes.now.items.kept_front made.now changes.now.items.kept_back }
+    ensures shown { IfOk result (λ r. r.told.shown.items ≡ shown edit.now.text.now) }
+    ensures tables { IfOk result (λ r. r.told.tables ≡ tables_in edit.now.text.now) }
+    ensures warns { IfOk result (λ r. r.told.warns ≡ warns_in edit.now.text.now) }
+    ensures rechecked { IfOk result (λ r. IsRechecked edit.now.old.now edit.now.text.now changes.now.items.kept_front changes.now.items.kept_back r.rechecked) }
+    ensures stirred { IfOk result (λ r. length r.rechecked.made.items ≡ stirred_between edit.now.old.now edit.now.text.now edit.now.start edit.now.old_stop edit.now.new_stop) }
+    ensures ticks { IfOk result (λ r. work.new ≡ after_ticks work.old (length r.rechecked.made.items)) }
+{
+    let Changes {
+        tokens: replaced,
+        items,
+        ..
+    } = changes;
+    let ends = lists.items.ends_after(alloc, edit, replaced, items)?;
+    let back = lists.entries.len() - items.kept_back;
+    let entries = values_after(alloc, &lists.entries, items.kept_front, made, back)?;
+    let cut = CutText {
+        text: edit.text,
+        lines,
+        tokens,
+        ends: &ends,
+        entries: &entries,
+    };
+    retell_cut(alloc, lists, edit, changes, &cut, made, work)
 }
 
 /// What the new text says, by its lines and tokens and what is kept of the fresh items. Each check that is made is one tick.
@@ -184,20 +229,11 @@ pub fn rejudge(
     ensures stirred { IfOk result (λ r. length r.rechecked.made.items ≡ stirred_between edit.now.old.now edit.now.text.now edit.now.start edit.now.old_stop edit.now.new_stop) }
     ensures ticks { IfOk result (λ r. work.new ≡ after_ticks work.old (length r.rechecked.made.items)) }
 {
-    let Changes {
-        tokens: replaced,
-        items,
-        ..
-    } = changes;
-    let ends = lists.items.ends_after(alloc, edit, replaced, items)?;
-    let back = lists.entries.len() - items.kept_back;
-    let entries = values_after(alloc, &lists.entries, items.kept_front, made, back)?;
-    let cut = CutText {
-        text: edit.text,
-        lines,
-        tokens,
-        ends: &ends,
-        entries: &entries,
-    };
-    rejudge_cut(alloc, lists, edit, changes, &cut, made, work)
+    let Retold { told, rechecked } = retell(
+        alloc, lists, edit, changes, lines, tokens, made, work,
+    )?;
+    Ok(Rejudged {
+        judgement: judged(alloc, edit.text, lines, told)?,
+        rechecked,
+    })
 }

@@ -49,7 +49,8 @@ pub fn values_after<'a, T>(
     requires inside { back ≤ length kept.now.values }
     ensures { IfOk result (λ vs. map (λ v. v.now) vs.items ≡ take front kept.now.values ++ (made.now ++ drop back kept.now.values)) }
 {
-    let mut values = Vec::new(alloc);
+    let room = (kept.len() - back + front).saturating_add(made.len());
+    let mut values = Vec::with_capacity(alloc, room)?;
     add_kept(kept, 0, front, &mut values)?;
     add_made(made, &mut values)?;
     add_kept(kept, back, kept.len(), &mut values)?;

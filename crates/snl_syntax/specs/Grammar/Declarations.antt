@@ -44,7 +44,7 @@ IsInit free (suc extra) zero t k rest = AreFree free k × IsInitOf (IsAssignx fr
 IsInit free zero zero t k rest = ⊥
 
 -- "=" init
-pub record IsBehindEqual (Value : Init → List Seat → List Seat → Type 0) (t : Init) (k rest : List Seat) : Type 0 where
+pub record IsAfterEqual (Value : Init → List Seat → List Seat → Type 0) (t : Init) (k rest : List Seat) : Type 0 where
   pub mid : List Seat
   pub equal : First kind.Equal k mid
   pub value : Value t mid rest
@@ -57,7 +57,7 @@ pub record IsDeclarator (Inner : Expr → List Seat → List Seat → Type 0) (V
   pub stars : Each IsPointer t.pointers k m1
   pub name : Leaf kind.Name t.name m1 m2
   pub lengths : Each (IsLength Inner) t.lengths m2 m3
-  pub init : Perhaps (IsBehindEqual Value) t.init m3 rest
+  pub init : Perhaps (IsAfterEqual Value) t.init m3 rest
 
 -- decl = type dcl { "," dcl } ";"
 pub record IsDeclarationOf (Inner : Expr → List Seat → List Seat → Type 0) (Value : Init → List Seat → List Seat → Type 0) (t : Declaration) (k rest : List Seat) : Type 0 where

@@ -20,7 +20,7 @@ abbrev pub Grammar : Type 0 → Type 1
 Grammar A = A → List Seat → List Seat → Type 0
 
 -- "," and an element
-pub record IsBehindComma {A : Type 0} (R : A → List Seat → List Seat → Type 0) (x : A) (k rest : List Seat) : Type 0 where
+pub record IsAfterComma {A : Type 0} (R : A → List Seat → List Seat → Type 0) (x : A) (k rest : List Seat) : Type 0 where
   pub mid : List Seat
   pub comma : First kind.Comma k mid
   pub element : R x mid rest
@@ -28,7 +28,7 @@ pub record IsBehindComma {A : Type 0} (R : A → List Seat → List Seat → Typ
 -- one element or more, with commas between
 abbrev pub AreCommas : {A : Type 0} → (A → List Seat → List Seat → Type 0) → List A → List Seat → List Seat → Type 0
 AreCommas R [] k rest = ⊥
-AreCommas R (x ∷ xs) k rest = (mid : List Seat) × R x k mid × Each (IsBehindComma R) xs mid rest
+AreCommas R (x ∷ xs) k rest = (mid : List Seat) × R x k mid × Each (IsAfterComma R) xs mid rest
 
 -- texts = TEXT { TEXT }
 abbrev pub AreTexts : List ℕ → List Seat → List Seat → Type 0
@@ -38,7 +38,7 @@ AreTexts (n ∷ ns) k rest = (mid : List Seat) × Leaf kind.Text n k mid × Each
 -- expr = assignx { "," assignx }
 pub data IsSequence (Inner : Expr → List Seat → List Seat → Type 0) (t : Expr) (k rest : List Seat) : Type 0 where
   one : Inner t k rest → IsSequence Inner t k rest
-  several : (x y : Expr) (ys : List Expr) (mid : List Seat) → t ≡ tree.Sequence x (y ∷ ys) → Inner x k mid → Each (IsBehindComma Inner) (y ∷ ys) mid rest → IsSequence Inner t k rest
+  several : (x y : Expr) (ys : List Expr) (mid : List Seat) → t ≡ tree.Sequence x (y ∷ ys) → Inner x k mid → Each (IsAfterComma Inner) (y ∷ ys) mid rest → IsSequence Inner t k rest
 
 -- primary = NAME | INT | FLOAT | CHAR | texts | "(" expr ")" | "sizeof" "(" type stars ")"
 pub data IsPrimary (Inner : Expr → List Seat → List Seat → Type 0) (Names : TypeName → List Seat → List Seat → Type 0) (t : Expr) (k rest : List Seat) : Type 0 where
@@ -69,18 +69,18 @@ pub data IsPostfix (Inner : Expr → List Seat → List Seat → Type 0) (Names 
   suffixed : (x : Expr) (s : Suffix) (ss : List Suffix) (mid : List Seat) → t ≡ tree.Postfix x (s ∷ ss) → IsPrimary Inner Names x k mid → Each (IsSuffix Inner) (s ∷ ss) mid rest → IsPostfix Inner Names t k rest
 
 -- An operator before an operand; the cast is "(" type stars ")". The flag says that `sizeof` is directly before it: then it is no cast.
-pub data IsOperator (Names : TypeName → List Seat → List Seat → Type 0) (behind : Bool) (t : Prefix) (k rest : List Seat) : Type 0 where
-  sign : (op : Sign) → t ≡ prefixes.Sign op → First (sign_mark op) k rest → IsOperator Names behind t k rest
-  sizeof : t ≡ prefixes.Sizeof → First kind.Sizeof k rest → IsOperator Names behind t k rest
-  cast : (x : TypeName) (m1 m2 : List Seat) → behind ≡ false → t ≡ prefixes.Cast x → First kind.OpenParen k m1 → Names x m1 m2 → First kind.CloseParen m2 rest → IsOperator Names behind t k rest
+pub data IsOperator (Names : TypeName → List Seat → List Seat → Type 0) (after : Bool) (t : Prefix) (k rest : List Seat) : Type 0 where
+  sign : (op : Sign) → t ≡ prefixes.Sign op → First (sign_mark op) k rest → IsOperator Names after t k rest
+  sizeof : t ≡ prefixes.Sizeof → First kind.Sizeof k rest → IsOperator Names after t k rest
+  cast : (x : TypeName) (m1 m2 : List Seat) → after ≡ false → t ≡ prefixes.Cast x → First kind.OpenParen k m1 → Names x m1 m2 → First kind.CloseParen m2 rest → IsOperator Names after t k rest
 
 abbrev pub is_sizeof : Prefix → Bool
 is_sizeof prefixes.Sizeof = true
 is_sizeof _ = false
 
 abbrev pub AreOperators : (TypeName → List Seat → List Seat → Type 0) → Bool → List Prefix → List Seat → List Seat → Type 0
-AreOperators Names behind [] k rest = k ≡ rest
-AreOperators Names behind (op ∷ ops) k rest = (mid : List Seat) × IsOperator Names behind op k mid × AreOperators Names (is_sizeof op) ops mid rest
+AreOperators Names after [] k rest = k ≡ rest
+AreOperators Names after (op ∷ ops) k rest = (mid : List Seat) × IsOperator Names after op k mid × AreOperators Names (is_sizeof op) ops mid rest
 
 -- prefix = { pre } postfix
 pub data IsPrefix (Inner : Expr → List Seat → List Seat → Type 0) (Names : TypeName → List Seat → List Seat → Type 0) (t : Expr) (k rest : List Seat) : Type 0 where

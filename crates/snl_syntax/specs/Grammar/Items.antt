@@ -15,7 +15,7 @@ use Rattle.snl_syntax.specs.Grammar.Declarations.{IsDeclaration}
 use Rattle.snl_syntax.specs.Grammar.Clauses.{AreForeign, IsOptionLine, IsClause}
 use Rattle.snl_syntax.specs.Grammar.Statements.{IsBlockWithin}
 use Rattle.snl_syntax.specs.Grammar.Functions.{IsParameter, IsTypedItem}
-use Rattle.snl_syntax.specs.Grammar.States.{IsBlockBehind, IsState}
+use Rattle.snl_syntax.specs.Grammar.States.{IsBlockAfter, IsState}
 
 -- "(" texts ")"
 pub record AreBracketed (ns : List ℕ) (k rest : List Seat) : Type 0 where
@@ -51,8 +51,8 @@ pub data IsItemWithin (free extra depth : ℕ) (t : Item) (k rest : List Seat) :
   foreign : (ns : List ℕ) → t ≡ items.Foreign ns → AreForeign ns k rest → IsItemWithin free extra depth t k rest
   clause : (c : Clause) → t ≡ items.Clause c → IsClause c k rest → IsItemWithin free extra depth t k rest
   option_line : (o : OptionLine) → t ≡ items.OptionLine o → IsOptionLine o k rest → IsItemWithin free extra depth t k rest
-  entry : (b : List Member) → t ≡ items.Entry b → IsBlockBehind kind.Entry (IsBlockWithin free extra (suc (suc depth))) b k rest → IsItemWithin free extra depth t k rest
-  exit : (b : List Member) → t ≡ items.Exit b → IsBlockBehind kind.Exit (IsBlockWithin free extra (suc (suc depth))) b k rest → IsItemWithin free extra depth t k rest
+  entry : (b : List Member) → t ≡ items.Entry b → IsBlockAfter kind.Entry (IsBlockWithin free extra (suc (suc depth))) b k rest → IsItemWithin free extra depth t k rest
+  exit : (b : List Member) → t ≡ items.Exit b → IsBlockAfter kind.Exit (IsBlockWithin free extra (suc (suc depth))) b k rest → IsItemWithin free extra depth t k rest
   state : (n : ℕ) (ms : List StateMember) → t ≡ items.StateBlock n ms → IsState (IsExpr free extra depth) (IsDeclaration free extra (suc depth)) (IsBlockWithin free extra (suc depth)) n ms k rest → IsItemWithin free extra depth t k rest
   typed : IsTypedItem (IsDeclaration free extra (suc (suc depth))) (IsDeclaration free extra (suc depth)) (IsParameter free extra (suc depth)) (IsBlockWithin free extra (suc (suc depth))) t k rest → IsItemWithin free extra depth t k rest
 

@@ -19,14 +19,14 @@ use Rattle.snl_syntax.specs.Grammar.Declarations.{IsDeclaration}
 pub data Place : Type 0 where
   within_block : Place
   as_body : Place
-  behind_else : Place
+  after_else : Place
 
 abbrev pub may_be_block : Place → Bool
 may_be_block within_block = true
 may_be_block _ = false
 
 abbrev pub may_be_choice : Place → Bool
-may_be_choice behind_else = false
+may_be_choice after_else = false
 may_be_choice _ = true
 
 -- an expression or nothing, and a mark
@@ -97,7 +97,7 @@ pub record IsPassed (Inside : Expr → List Seat → List Seat → Type 0) (Decl
 pub record IsElse (Declared : Declaration → List Seat → List Seat → Type 0) (Inner : Place → Bool → Stmt → List Seat → List Seat → Type 0) (closed : Bool) (t : Stmt) (k rest : List Seat) : Type 0 where
   pub mid : List Seat
   pub word : First kind.Else k mid
-  pub body : IsBody Declared Inner behind_else closed t mid rest
+  pub body : IsBody Declared Inner after_else closed t mid rest
 
 -- the last arm of a chain, with `else` and a statement or not
 abbrev pub IsLast : (Expr → List Seat → List Seat → Type 0) → (Declaration → List Seat → List Seat → Type 0) → (Place → Bool → Stmt → List Seat → List Seat → Type 0) → Bool → Expr × Stmt → Option Stmt → List Seat → List Seat → Type 0

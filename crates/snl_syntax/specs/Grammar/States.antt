@@ -18,7 +18,7 @@ use Rattle.snl_syntax.specs.Grammar.Statements.{IsBefore}
 use Rattle.snl_syntax.specs.Grammar.Clauses.{AreForeign, IsOptionLine, IsClause}
 
 -- entry = "entry" block, exit = "exit" block
-pub record IsBlockBehind (word : Kind) (Block : List Member → List Seat → List Seat → Type 0) (t : List Member) (k rest : List Seat) : Type 0 where
+pub record IsBlockAfter (word : Kind) (Block : List Member → List Seat → List Seat → Type 0) (t : List Member) (k rest : List Seat) : Type 0 where
   pub mid : List Seat
   pub first : First word k mid
   pub block : Block t mid rest
@@ -48,8 +48,8 @@ pub data IsStateMember (Inside : Expr → List Seat → List Seat → Type 0) (D
   option_line : (o : OptionLine) → t ≡ members.OptionLine o → IsOptionLine o k rest → IsStateMember Inside Declared Block t k rest
   empty : t ≡ members.Empty → First kind.Semicolon k rest → IsStateMember Inside Declared Block t k rest
   c_block : (n : ℕ) → t ≡ members.CBlock n → Leaf kind.CCode n k rest → IsStateMember Inside Declared Block t k rest
-  entry : (b : List Member) → t ≡ members.Entry b → IsBlockBehind kind.Entry Block b k rest → IsStateMember Inside Declared Block t k rest
-  exit : (b : List Member) → t ≡ members.Exit b → IsBlockBehind kind.Exit Block b k rest → IsStateMember Inside Declared Block t k rest
+  entry : (b : List Member) → t ≡ members.Entry b → IsBlockAfter kind.Entry Block b k rest → IsStateMember Inside Declared Block t k rest
+  exit : (b : List Member) → t ≡ members.Exit b → IsBlockAfter kind.Exit Block b k rest → IsStateMember Inside Declared Block t k rest
   transition : (x : Transition) → t ≡ members.When x → IsTransition Inside Block x k rest → IsStateMember Inside Declared Block t k rest
 
 -- state = "state" NAME "{" { smember } "}"

@@ -166,11 +166,11 @@ module _ (depth : ℕ) (inner : Reader Stmt) where
   branch_by arm (Some kind.If) = pure (steps.More arm)
   branch_by arm _ = last_body arm
 
-  unfoldable pub behind_else : Expr × Stmt → Reader (Step (Expr × Stmt) (Option Stmt))
-  behind_else arm = expect kind.Else >> (λ k. branch_by arm (kind_at k) k)
+  unfoldable pub after_else : Expr × Stmt → Reader (Step (Expr × Stmt) (Option Stmt))
+  after_else arm = expect kind.Else >> (λ k. branch_by arm (kind_at k) k)
 
   abbrev pub else_by : Expr × Stmt → Option Kind → Reader (Step (Expr × Stmt) (Option Stmt))
-  else_by arm (Some kind.Else) = behind_else arm
+  else_by arm (Some kind.Else) = after_else arm
   else_by arm _ = pure (steps.Last (Some arm) None)
 
   unfoldable pub arm : Reader (Expr × Stmt)

@@ -32,14 +32,14 @@ joined [] = []
 joined (part ∷ parts) = part ++ joined parts
 
 -- the word before each
-abbrev pub behind : Kind → List (List Spelled) → List Spelled
-behind x [] = []
-behind x (part ∷ parts) = word x ++ part ++ behind x parts
+abbrev pub after : Kind → List (List Spelled) → List Spelled
+after x [] = []
+after x (part ∷ parts) = word x ++ part ++ after x parts
 
 -- one after the other, with the word between each two
 abbrev pub between : Kind → List (List Spelled) → List Spelled
 between x [] = []
-between x (part ∷ parts) = part ++ behind x parts
+between x (part ∷ parts) = part ++ after x parts
 
 abbrev pub commas : List (List Spelled) → List Spelled
 commas = between kind.Comma

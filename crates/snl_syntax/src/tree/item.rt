@@ -5,7 +5,7 @@ use crate::tree::declaration::{Declaration, Parameter};
 use crate::tree::state::StateMember;
 use crate::tree::statement::Member;
 use crate::tree::types::{Pointer, QualifiedType};
-use sqlite_items::Items;
+use sqlite_items::{Boxed, Items};
 
 /// A function; one without a body is a prototype.
 #[derive(Drop)]
@@ -23,15 +23,16 @@ pub enum StructMember {
     CBlock(usize),
 }
 
-/// One item of a text. A text of joined strings is the list of their numbers.
+/// One item of a text. A text of joined strings is the list of their numbers. What has much in it is in memory of its own, so
+/// that an item without anything takes little.
 pub enum Item {
     Header {
         name: usize,
         parameters: Option<Items<usize>>,
     },
-    Definition(Declaration),
+    Definition(Boxed<Declaration>),
     Foreign(Items<usize>),
-    Clause(Clause),
+    Clause(Boxed<Clause>),
     OptionLine(OptionLine),
     Entry(Items<Member>),
     Exit(Items<Member>),
@@ -43,7 +44,7 @@ pub enum Item {
         name: usize,
         members: Items<StateMember>,
     },
-    Function(Function),
+    Function(Boxed<Function>),
     StructDef {
         name: usize,
         members: Items<StructMember>,

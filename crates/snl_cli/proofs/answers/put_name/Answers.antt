@@ -2,7 +2,7 @@ use Rattle.std.proofs.Common.{arith, rules, take, ◌≡◌, ◌++◌, ◌+◌, 
 use Rattle.std.proofs.lemmas.List.{take_all}
 use Rattle.std.specs.List.{flat_map}
 use Rattle.snl_cli.specs.Answers.{escaped}
-use Rattle.snl_cli.proofs.AnswerLemmas.{behind_last}
+use Rattle.snl_cli.proofs.AnswerLemmas.{after_last}
 use Rattle.snl_cli.proofs.SaidLemmas.{AppendsPart-on, Said-on, Said-part, Says-on, Says-same, pieces-all, pieces-more}
 use Rattle.snl_cli.proofs.answers.put_name.Goals as goal
 
@@ -19,7 +19,7 @@ returns-in_err-put_escaped-clause-said g c =
     let name : List ℕ = c.args.name.now in
     let all = pieces-all escaped c.args.page.now name c.loop-byte.byte-index 0 c.loop-byte-test.true in
     let part = AppendsPart-on _ _ _ _ _ _ c.loop-byte.invariant.said c.in_err-put_escaped.ensures.said in
-    Said-part c.from_residual.result _ _ _ _ (flat_map escaped (drop (c.loop-byte.byte-index + 1) name) ++ 58 ∷ []) _ c.from_residual.ensures.0 (behind_last _ _ _ _ (58 ∷ []) all) part
+    Said-part c.from_residual.result _ _ _ _ (flat_map escaped (drop (c.loop-byte.byte-index + 1) name) ++ 58 ∷ []) _ c.from_residual.ensures.0 (after_last _ _ _ _ (58 ∷ []) all) part
 
 pub returns-clause-said : goal.returns-clause-said
 returns-clause-said g c =

@@ -15,7 +15,7 @@ loop-kept-init g c =
     record {
       walked = rw c.new-made.ensures.items (sym c.end_of-at.ensures);
       inside = omega (arith, low, c.requires.edit.new_order, c.requires.edit.new_inside);
-      unmet = λ place lt behind in_new in_old. omega (arith, low, c.requires.edit.new_order);
+      unmet = λ place lt after in_new in_old. omega (arith, low, c.requires.edit.new_order);
       ticked = rw c.new-made.ensures.items refl;
     }
 

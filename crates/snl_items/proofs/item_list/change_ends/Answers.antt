@@ -13,8 +13,8 @@ overflow_cast-tokens-2 c =
     let edit = c.args.edit.now in
     omega (arith, c.requires.tokens.of_marks.new_inside, c.few_tokens.ensures edit.text.now, edit.short.1)
 
-pub replace_and_shift-requires-clause-behind : goal.replace_and_shift-requires-clause-behind
-replace_and_shift-requires-clause-behind c =
+pub replace_and_shift-requires-clause-after : goal.replace_and_shift-requires-clause-after
+replace_and_shift-requires-clause-after c =
     let old : List ℕ = c.args.edit.now.old.now in
     let ends : List ℕ = item_ends old in
     let many : c.len.result ≡ length ends = omega (arith, c.len.ensures, c.args.ends.now.ok, ap length c.requires.ends) in
@@ -27,7 +27,7 @@ replace_and_shift-requires-clause-fits c =
     let ends : List ℕ = item_ends old in
     let is = c.requires.tokens.of_marks in
     let many : c.len.result ≡ length ends = omega (arith, c.len.ensures, c.args.ends.now.ok, ap length c.requires.ends) in
-    let rest = ap length is.behind in
+    let rest = ap length is.after in
     rw (many, c.requires.ends) (λ i lt.
     omega (
       arith,

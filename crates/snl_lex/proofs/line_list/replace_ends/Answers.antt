@@ -2,7 +2,7 @@ use Rattle.std.proofs.Common.{◌≡◌, arith, sym, ap, ◌∙◌, subst}
 use Rattle.std.specs.List.Sorted.{IsNonDecreasing}
 use Rattle.snl_lex.specs.LineList.{line_ends}
 use Rattle.snl_lex.proofs.Changes.{edit_lengths}
-use Rattle.snl_lex.proofs.LineEnds.{behind_above, behind_under, below, below_more, edited_ends, ends_order}
+use Rattle.snl_lex.proofs.LineEnds.{after_above, after_under, below, below_more, edited_ends, ends_order}
 use Rattle.snl_lex.proofs.line_list.replace_ends.Goals as goal
 
 pub places_before-front-requires : goal.places_before-front-requires
@@ -18,17 +18,17 @@ replace_places-requires-clause-range c =
     let back : c.places_before-back.result ≡ below e.old_stop (line_ends e.old.now) = c.places_before-back.ensures.count ∙ ap (below e.old_stop) (c.deref-2.ensures.value ∙ c.requires.ends) in
     omega (arith, front, back, below_more e.start e.old_stop (line_ends e.old.now) e.edit.old_order)
 
-pub replace_places-requires-clause-behind : goal.replace_places-requires-clause-behind
-replace_places-requires-clause-behind c =
+pub replace_places-requires-clause-after : goal.replace_places-requires-clause-after
+replace_places-requires-clause-after c =
     let e = c.args.edit.now in
     let back : c.places_before-back.result ≡ below e.old_stop (line_ends e.old.now) = c.places_before-back.ensures.count ∙ ap (below e.old_stop) (c.deref-2.ensures.value ∙ c.requires.ends) in
-    rw (back, c.requires.ends) (behind_above e.old.now e.old_stop e.edit.old_inside)
+    rw (back, c.requires.ends) (after_above e.old.now e.old_stop e.edit.old_inside)
 
 pub replace_places-requires-clause-fits : goal.replace_places-requires-clause-fits
 replace_places-requires-clause-fits c = λ i lt.
     let e = c.args.edit.now in
     let back : c.places_before-back.result ≡ below e.old_stop (line_ends e.old.now) = c.places_before-back.ensures.count ∙ ap (below e.old_stop) (c.deref-2.ensures.value ∙ c.requires.ends) in
-    let under = behind_under e.old.now e.old_stop e.edit.old_inside i (rw (back, c.requires.ends) at lt) in
+    let under = after_under e.old.now e.old_stop e.edit.old_inside i (rw (back, c.requires.ends) at lt) in
     rw (back, c.requires.ends) (omega (arith, under, edit_lengths e.old.now e.text.now e.start e.old_stop e.new_stop e.edit, e.edit.old_inside, e.edit.new_inside, e.short.0, e.short.1))
 
 pub returns : goal.returns

@@ -3,7 +3,7 @@ use Rattle.std.specs.Prelude.{All}
 use Rattle.snl_lex.specs.declared.line_list.Marker.{Marker}
 use Rattle.snl_lex.specs.LineList.{IsShort, moved_marker}
 use Rattle.snl_lex.proofs.Halving.{count_more}
-use Rattle.snl_lex.proofs.MarkerLists.{short_behind, split_there}
+use Rattle.snl_lex.proofs.MarkerLists.{short_after, split_there}
 use Rattle.snl_lex.proofs.line_list.replace_markers.Goals as goal
 
 pub replace-requires-clause-range : goal.replace-requires-clause-range
@@ -22,7 +22,7 @@ move_from-requires-clause-short c =
     let back : ℕ = c.markers_before-back.result in
     let inside : front ≤ length ms = omega (arith, c.markers_before-front.ensures.inside, ap length c.deref.ensures.value) in
     let rest : drop (front + length made) c.replace.new.list.items ≡ drop back ms = ap (drop (front + length made)) c.replace.ensures ∙ (split_there ms made front back inside).1 in
-    subst (All IsShort) (sym rest) (short_behind ms back c.requires.short)
+    subst (All IsShort) (sym rest) (short_after ms back c.requires.short)
 
 pub returns : goal.returns
 returns c =

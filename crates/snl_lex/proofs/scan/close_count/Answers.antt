@@ -21,7 +21,7 @@ loop-end-preserved c =
     record {
       counted = c.loop-end.invariant.counted ∙ (ap (shifted (end - c.args.from)) (close_on a b bytes end c.loop-end-test.true open_) ∙ (shift_more (end - c.args.from) rest ∙ ap (λ (n : ℕ). shifted n rest) count));
       inside = omega arith;
-      behind = omega arith;
+      after = omega arith;
     }
 
 pub returns-clause-count : goal.returns-clause-count

@@ -7,7 +7,7 @@ abbrev pub invariant-loop-end : goal.invariant-loop-end
 invariant-loop-end l = record {
   counted : close_of l.a l.b (drop l.from l.bytes) ≡ shifted (l.end - l.from) (close_of l.a l.b (drop l.end l.bytes));
   inside : l.end ≤ length l.bytes;
-  behind : l.from ≤ l.end;
+  after : l.from ≤ l.end;
 }
 
 abbrev pub decreases-loop-end : goal.decreases-loop-end

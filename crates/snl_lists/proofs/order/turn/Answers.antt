@@ -8,9 +8,9 @@ returns c =
     let xs = c.args.keys.now.items in
     let start : ℕ = c.args.start in
     let stop : ℕ = c.args.stop in
-    let count : ℕ = c.args.behind - stop in
+    let count : ℕ = c.args.after - stop in
     let long : start ≡ length (take start xs) = sym (length-take-le start xs (omega arith)) in
     let before : take start (take start xs ++ drop stop xs) ≡ take start xs = take_front (take start xs) (drop stop xs) start long in
     let after : drop start (take start xs ++ drop stop xs) ≡ drop stop xs = drop_front (take start xs) (drop stop xs) start long in
-    let there : drop count (drop stop xs) ≡ drop c.args.behind xs = drop-drop count stop xs ∙ ap (λ n. drop n xs) (omega arith) in
-    rw (c.put_behind.ensures, c.remove.ensures.items, before, after, there)
+    let there : drop count (drop stop xs) ≡ drop c.args.after xs = drop-drop count stop xs ∙ ap (λ n. drop n xs) (omega arith) in
+    rw (c.put_after.ensures, c.remove.ensures.items, before, after, there)

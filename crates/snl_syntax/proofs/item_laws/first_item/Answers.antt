@@ -1,5 +1,5 @@
 use Rattle.std.proofs.Common.{ℕ, sym, subst}
-use Rattle.snl_syntax.specs.Items.{ends_behind}
+use Rattle.snl_syntax.specs.Items.{ends_after}
 use Rattle.snl_syntax.specs.ItemLaws.{IsLeast, item_found, item_front}
 use Rattle.snl_syntax.proofs.item_laws.first_item.Goals as goal
 
@@ -9,4 +9,4 @@ returns-clause-within c = λ tokens some. (item_front tokens some).1
 pub returns-clause-least : goal.returns-clause-least
 returns-clause-least c = λ tokens some.
     let found = item_found tokens some in
-    subst (λ (n : ℕ). IsLeast (ends_behind tokens) 1 n) (sym found.2) found.3
+    subst (λ (n : ℕ). IsLeast (ends_after tokens) 1 n) (sym found.2) found.3

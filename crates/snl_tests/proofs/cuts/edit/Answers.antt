@@ -14,5 +14,5 @@ again_by-requires c = record {
   old_inside = omega arith;
   new_inside = omega arith;
   before = c.alike-before.ensures (search rules);
-  behind = rest_same c.args.old.now c.args.new.now (length c.args.old.now - c.args.behind) (length c.args.new.now - c.args.behind) (c.alike-after.ensures (search rules));
+  after = rest_same c.args.old.now c.args.new.now (length c.args.old.now - c.args.after) (length c.args.new.now - c.args.after) (c.alike-after.ensures (search rules));
 }

@@ -2,7 +2,7 @@ use Rattle.std.proofs.Common.{◌++◌, map, sym, ap, ◌∙◌}
 use Rattle.std.specs.List.{filter_map}
 use Rattle.std.proofs.lemmas.List.{append-nil, drop_all}
 use Rattle.std.proofs.lemmas.Simd.{map-map}
-use Rattle.snl_scope.specs.Summaries.Tokens.{mention_at}
+use Rattle.snl_scope.specs.Summaries.Tokens.{name_ref_at}
 use Rattle.snl_walk.specs.declared.used.TargetUse.{TargetUse}
 use Rattle.snl_check.specs.Collected.{items_in}
 use Rattle.snl_check.specs.Items.{tokens_in}
@@ -22,10 +22,10 @@ returns c =
     let numbers = c.loop-target.numbers.items in
     let told = (told_in program.text.now xs c.args.state).target_uses in
     sym (append-nil numbers)
-    ∙ sym (ap (λ l. numbers ++ kept (map (λ (u : TargetUse). mention_at source.text.now source.tokens.now u.token) l)) (drop_all c.loop-target.target-index targets c.loop-target-test.false))
+    ∙ sym (ap (λ l. numbers ++ kept (map (λ (u : TargetUse). name_ref_at source.text.now source.tokens.now u.token) l)) (drop_all c.loop-target.target-index targets c.loop-target-test.false))
     ∙ c.loop-target.invariant
-    ∙ ap (λ l. kept (map (λ (u : TargetUse). mention_at source.text.now source.tokens.now u.token) l)) c.target_uses-targets.ensures
-    ∙ ap (λ t. kept (map (λ (u : TargetUse). mention_at t source.tokens.now u.token) told)) c.source-source.ensures.text
-    ∙ ap (λ ts. kept (map (λ (u : TargetUse). mention_at program.text.now ts u.token) told)) c.source-source.ensures.tokens
-    ∙ ap kept (sym (map-map (mention_at program.text.now (tokens_in xs c.args.state)) (λ (u : TargetUse). u.token) told))
+    ∙ ap (λ l. kept (map (λ (u : TargetUse). name_ref_at source.text.now source.tokens.now u.token) l)) c.target_uses-targets.ensures
+    ∙ ap (λ t. kept (map (λ (u : TargetUse). name_ref_at t source.tokens.now u.token) told)) c.source-source.ensures.text
+    ∙ ap (λ ts. kept (map (λ (u : TargetUse). name_ref_at program.text.now ts u.token) told)) c.source-source.ensures.tokens
+    ∙ ap kept (sym (map-map (name_ref_at program.text.now (tokens_in xs c.args.state)) (λ (u : TargetUse). u.token) told))
     ∙ sym (targets_at program.text.now xs ss c.args.states.now c.args.state)

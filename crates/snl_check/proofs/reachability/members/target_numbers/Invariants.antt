@@ -1,6 +1,6 @@
 use Rattle.std.proofs.Common.{◌≡◌, ◌++◌, drop, map}
 use Rattle.std.specs.List.{filter_map}
-use Rattle.snl_scope.specs.Summaries.Tokens.{mention_at}
+use Rattle.snl_scope.specs.Summaries.Tokens.{name_ref_at}
 use Rattle.snl_walk.specs.declared.used.TargetUse.{TargetUse}
 use Rattle.snl_check.specs.Members.{target_number}
 use Rattle.snl_check.proofs.reachability.members.target_numbers.Given as goal
@@ -9,5 +9,5 @@ use Rattle.snl_check.proofs.reachability.members.target_numbers.Given as goal
 abbrev pub invariant-loop-target : goal.invariant-loop-target
 invariant-loop-target l =
     let numbers = filter_map (target_number l.outline.listing.links.now.outlines l.states l.state) in
-    let mention = λ (u : TargetUse). mention_at l.source.text.now l.source.tokens.now u.token in
-    l.numbers.items ++ numbers (map mention (drop l.target-index l.targets)) ≡ numbers (map mention l.targets)
+    let name_ref = λ (u : TargetUse). name_ref_at l.source.text.now l.source.tokens.now u.token in
+    l.numbers.items ++ numbers (map name_ref (drop l.target-index l.targets)) ≡ numbers (map name_ref l.targets)

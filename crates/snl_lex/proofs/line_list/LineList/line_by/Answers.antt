@@ -10,8 +10,8 @@ use Rattle.snl_lex.proofs.line_list.LineList.line_by.Goals as goal
 pub places_before-count-requires : goal.places_before-count-requires
 places_before-count-requires c = subst IsNonDecreasing (sym (c.deref.ensures.value ∙ c.requires.at_ends)) (ends_order c.args.text.now)
 
-pub number_behind-requires-clause-order : goal.number_behind-requires-clause-order
-number_behind-requires-clause-order c = subst IsNonDecreasing (sym (c.deref-3.ensures.value ∙ c.requires.at_ends)) (ends_order c.args.text.now)
+pub number_after-requires-clause-order : goal.number_after-requires-clause-order
+number_after-requires-clause-order c = subst IsNonDecreasing (sym (c.deref-3.ensures.value ∙ c.requires.at_ends)) (ends_order c.args.text.now)
 
 pub line_begin-begin-requires-clause-below : goal.line_begin-begin-requires-clause-below
 line_begin-begin-requires-clause-below c =
@@ -32,11 +32,11 @@ returns-in-Some c =
     line_told c.args.text.now c.args.offset _ _ _ _ _ _ _ _ _ (Some c.in-Some.marker)
     (c.deref.ensures.value ∙ c.requires.at_ends) (c.deref-2.ensures.value ∙ c.requires.at_ends) (c.deref-3.ensures.value ∙ c.requires.at_ends)
     (c.deref-4.ensures.value ∙ c.requires.at_markers) (c.deref-5.ensures.value ∙ c.requires.at_naming)
-    c.places_before-count.ensures.count c.line_begin-begin.ensures c.last_before.ensures c.number_behind.ensures (sym c.in-Some.is ∙ c.last_before-2.ensures)
+    c.places_before-count.ensures.count c.line_begin-begin.ensures c.last_before.ensures c.number_after.ensures (sym c.in-Some.is ∙ c.last_before-2.ensures)
 
 pub returns-in-None : goal.returns-in-None
 returns-in-None c =
     line_told c.args.text.now c.args.offset _ _ _ _ _ _ _ _ _ None
     (c.deref.ensures.value ∙ c.requires.at_ends) (c.deref-2.ensures.value ∙ c.requires.at_ends) (c.deref-3.ensures.value ∙ c.requires.at_ends)
     (c.deref-4.ensures.value ∙ c.requires.at_markers) (c.deref-5.ensures.value ∙ c.requires.at_naming)
-    c.places_before-count.ensures.count c.line_begin-begin.ensures c.last_before.ensures c.number_behind.ensures (sym c.in-None.is ∙ c.last_before-2.ensures)
+    c.places_before-count.ensures.count c.line_begin-begin.ensures c.last_before.ensures c.number_after.ensures (sym c.in-None.is ∙ c.last_before-2.ensures)

@@ -4,8 +4,8 @@ use Rattle.snl_lex.specs.PieceList.{piece_ends}
 use Rattle.snl_lex.proofs.Changes.{back_above, back_under, edit_lengths, new_ends, new_kinds}
 use Rattle.snl_lex.proofs.piece_list.PieceList.commit.Goals as goal
 
-pub replace_and_shift-requires-clause-behind : goal.replace_and_shift-requires-clause-behind
-replace_and_shift-requires-clause-behind c =
+pub replace_and_shift-requires-clause-after : goal.replace_and_shift-requires-clause-after
+replace_and_shift-requires-clause-after c =
     let many : c.len.result ≡ length (piece_ends c.args.edit.now.old.now) = omega (arith, c.len.ensures, c.args.self.now.ends.ok, ap length c.requires.ends) in
     rw (many, c.requires.ends) (back_above _ _ _ _ _ _ _ _ _ _ _ c.requires.change)
 

@@ -6,15 +6,15 @@ use Rattle.std.specs.Option.{option_map_or}
 use Rattle.snl_scope.specs.Below.{all_below}
 use Rattle.snl_scope.specs.Flags.{declares_flag, is_first, is_first_at, is_flag}
 use Rattle.snl_scope.specs.Names.{Entry, entries}
-use Rattle.snl_scope.specs.Tables.{flag_stands, standing_of}
+use Rattle.snl_scope.specs.Tables.{flag_stands, symbol_of}
 use Rattle.snl_scope.proofs.Rising.{all_below-same, filter-all_below}
 use Rattle.snl_scope.proofs.clauses.flags.flags_of.Goals as goal
 
 -- a flag by what the tables have at its number
-flag_at : (es : List Entry) (k : ℕ) → (flag_stands (map standing_of es) k && is_first_at es k) ≡ is_flag es k
-flag_at es k = ap (λ o. option_map_or (λ s. declares_flag s.variable) o false && is_first_at es k) (slice_get-map standing_of es k) ∙ by (slice_get es k)
+flag_at : (es : List Entry) (k : ℕ) → (flag_stands (map symbol_of es) k && is_first_at es k) ≡ is_flag es k
+flag_at es k = ap (λ o. option_map_or (λ s. declares_flag s.variable) o false && is_first_at es k) (slice_get-map symbol_of es k) ∙ by (slice_get es k)
   where
-    by : (o : Option Entry) → (option_map_or (λ s. declares_flag s.variable) (option_map standing_of o) false && option_map_or (is_first es k) o false)
+    by : (o : Option Entry) → (option_map_or (λ s. declares_flag s.variable) (option_map symbol_of o) false && option_map_or (is_first es k) o false)
         ≡ option_map_or (λ e. declares_flag e.variable && is_first es k e) o false
     by None = refl
     by (Some e) = refl
@@ -23,9 +23,9 @@ pub returns : goal.returns
 returns c = λ ss f.
     let es = entries ss in
     let first = map (λ p. p.1) c.args.tables.now.first.entries in
-    let standings = c.args.tables.now.standings.items in
+    let symbols = c.args.tables.now.symbols.items in
     let start = c.into_iter-number-iterator.ensures.into_iter_gives ∙ c.values-number-items.ensures.rest in
     let seen = iter_end (λ n. n.now) first c.loop-number.yielded _ c.loop-number.number-iterator c.next.new.self c.next.result start c.loop-number.yielded_by c.in-None.is c.next.ensures.steps in
-    c.loop-number.invariant ∙ ap (filter (flag_stands standings)) (seen.0 ∙ f.firsts) ∙ filter-all_below (flag_stands standings) (is_first_at es) (length es)
+    c.loop-number.invariant ∙ ap (filter (flag_stands symbols)) (seen.0 ∙ f.firsts) ∙ filter-all_below (flag_stands symbols) (is_first_at es) (length es)
     ∙ ap (λ l. all_below (λ k. flag_stands l k && is_first_at es k) (length es)) f.tabled.known
-    ∙ all_below-same (λ k. flag_stands (map standing_of es) k && is_first_at es k) (is_flag es) (length es) (λ k l. flag_at es k)
+    ∙ all_below-same (λ k. flag_stands (map symbol_of es) k && is_first_at es k) (is_flag es) (length es) (λ k l. flag_at es k)

@@ -5,4 +5,4 @@ use Rattle.snl_scope.proofs.clauses.flags.flags_of.Given as goal
 
 -- the flags among the numbers so far
 abbrev pub invariant-loop-number : goal.invariant-loop-number
-invariant-loop-number l = l.flags.items ≡ filter (flag_stands l.tables.standings.items) (map (λ n. n.now) l.yielded)
+invariant-loop-number l = l.flags.items ≡ filter (flag_stands l.tables.symbols.items) (map (λ n. n.now) l.yielded)

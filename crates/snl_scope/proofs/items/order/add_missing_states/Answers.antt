@@ -1,5 +1,5 @@
 use Rattle.std.proofs.Common.{◌<◌, ◌||◌, length, ap, ◌∙◌, arith}
-use Rattle.snl_scope.specs.declared.codes.Code.TheVariants.{E06}
+use Rattle.snl_walk.specs.declared.codes.Code.TheVariants.{E06}
 use Rattle.snl_scope.specs.declared.items.heads.Member.TheVariants as member
 use Rattle.snl_scope.specs.Order.{is_ss_word, is_stateless}
 use Rattle.snl_scope.specs.Tables.{Marked, is_member}

@@ -1,5 +1,5 @@
 use Rattle.std.proofs.Common.{◌<◌, ◌||◌, ◌&&◌, is_none, length, not, ap, ◌∙◌, arith}
-use Rattle.snl_scope.specs.declared.codes.Code.TheVariants.{E04}
+use Rattle.snl_walk.specs.declared.codes.Code.TheVariants.{E04}
 use Rattle.snl_scope.specs.declared.items.heads.Member.TheVariants as member
 use Rattle.snl_scope.specs.Order.{is_unmatched}
 use Rattle.snl_scope.specs.Places.{begins_set, ends_set}

@@ -16,7 +16,7 @@ loop-item-preserved c =
     record {
       placed = subst (λ ps. Placed ps ss (i + 1)) (sym c.in_ok-push.ensures.items) (placed-push c.loop-item.places.items ss i c.place_in.result known.placed here);
       opened =
-          c.open_behind-outer.ensures ∙ ap (λ o. if begins_set s.role then Some i else (if ends_set s.role then None else o)) known.opened
+          c.open_after-outer.ensures ∙ ap (λ o. if begins_set s.role then Some i else (if ends_set s.role then None else o)) known.opened
           ∙ sym (open_step ss i s at) ∙ sym (ap (open_before ss) (add-one i));
       within = omega (arith, c.loop-item-test.true);
     }

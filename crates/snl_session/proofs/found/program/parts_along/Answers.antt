@@ -29,7 +29,7 @@ loop-number-preserved c =
     let spellings = spelled text tokens in
     let own = tokens_between tokens start stop in
     let part : Part = record { start = start; stop = stop; entry = entry } in
-    let behind = map (program_item text) (members tokens stop (drop (i + 1) ends)) in
+    let after = map (program_item text) (members tokens stop (drop (i + 1) ends)) in
     let here : drop i ends ≡ stop ∷ drop (i + 1) ends = drop_at ends i 0 c.loop-number-test.true in
     let left : EndsWithin start (stop ∷ drop (i + 1) ends) (length tokens) = subst (λ l. EndsWithin start l (length tokens)) here c.loop-number.invariant.ends in
     let told : map (λ (e : Bor Entry). e.now) (drop i entries) ≡ entry_by (take (stop - start) (drop start spellings)) ∷ map entry_by (members spellings stop (drop (i + 1) ends)) =
@@ -44,10 +44,10 @@ loop-number-preserved c =
       ends = left.2;
       entries = both.1;
       parts =
-          ap (λ l. map (part_of tokens) l ++ behind) c.in_ok-push.ensures.items
-          ∙ ap (λ l. l ++ behind) (map-append (part_of tokens) done (part ∷ []))
-          ∙ append_assoc (map (part_of tokens) done) (part_of tokens part ∷ []) behind
-          ∙ ap (λ x. map (part_of tokens) done ++ x ∷ behind) (part_item text tokens part left.0 left.1 is spelling summary (c.outcome_told.ensures.tree text own))
+          ap (λ l. map (part_of tokens) l ++ after) c.in_ok-push.ensures.items
+          ∙ ap (λ l. l ++ after) (map-append (part_of tokens) done (part ∷ []))
+          ∙ append_assoc (map (part_of tokens) done) (part_of tokens part ∷ []) after
+          ∙ ap (λ x. map (part_of tokens) done ++ x ∷ after) (part_item text tokens part left.0 left.1 is spelling summary (c.outcome_told.ensures.tree text own))
           ∙ sym (ap (λ l. map (part_of tokens) done ++ map (program_item text) (members tokens start l)) here)
           ∙ c.loop-number.invariant.parts;
       inside = subst (All (IsPart text tokens)) (sym c.in_ok-push.ensures.items) (All-push (IsPart text tokens) done part c.loop-number.invariant.inside (is_part text tokens part left.0 left.1 is spelling summary));

@@ -1,6 +1,6 @@
 //! The codes of the diagnostics: this project's profile, as are the texts of their messages.
 ghost use Rattle.std.specs.Prelude.{◌≡◌};
-ghost use Rattle.snl_scope.specs.Codes.{is_error, message_of, name_of};
+ghost use Rattle.snl_walk.specs.Codes.{is_error, message_of, name_of};
 
 /// What kind of finding it is: an error, with `E`, or a warning, with `W`.
 #[derive(Clone, Copy, Debug, PartialEq, Eq)]

@@ -1,9 +1,9 @@
 //! Spaces of names.
 
-/// A space of names, in which a name is to occur once. A state set is told by the number of its `ss NAME {` item, and a
+/// A namespace, in which a name is to occur once. A state set is told by the number of its `ss NAME {` item, and a
 /// state by that of its own item.
 #[derive(Clone, Copy, Debug, PartialEq, Eq, Hash)]
-pub(crate) enum Space {
+pub(crate) enum Namespace {
     /// The scope of the program.
     Program,
     /// The scope of a state set.
@@ -16,9 +16,9 @@ pub(crate) enum Space {
     States(usize),
 }
 
-/// A name, by its number, in a space.
+/// A name, by its number, in a namespace.
 #[derive(Clone, Copy, Debug, PartialEq, Eq, Hash)]
 pub(crate) struct Key {
-    pub space: Space,
+    pub namespace: Namespace,
     pub name: usize,
 }

@@ -1,6 +1,6 @@
 use Rattle.std.proofs.Common.{arith, length, ap}
 use Rattle.snl_session.proofs.Members.{entries_count}
-use Rattle.snl_session.proofs.ways.rejudge.rejudge.Goals as goal
+use Rattle.snl_session.proofs.ways.rejudge.retell.Goals as goal
 
 pub overflow_sub-back : goal.overflow_sub-back
 overflow_sub-back c =

@@ -8,7 +8,7 @@ use Rattle.snl_session.specs.Rechecked.{AreChecksMade, put}
 use Rattle.snl_session.specs.Relinked.{HasFaults, links_now}
 use Rattle.snl_session.specs.Warnings.{warns_in}
 use Rattle.snl_session.proofs.MadeChecks.{count_of_checks}
-use Rattle.snl_session.proofs.ways.rejudge.judge_after.Goals as goal
+use Rattle.snl_session.proofs.ways.rejudge.told_after.Goals as goal
 
 pub overflow_sub-back : goal.overflow_sub-back
 overflow_sub-back c =
@@ -20,8 +20,8 @@ checks_in-requires-clause-order c =
     let old = c.args.edit.now.old.now in
     omega (arith, c.len.ensures, ap length c.requires.lists.checks, count_of_checks old, c.requires.changes.items.order)
 
-pub judge-requires-clause-links : goal.judge-requires-clause-links
-judge-requires-clause-links c =
+pub told_in-requires-clause-links : goal.told_in-requires-clause-links
+told_in-requires-clause-links c =
     let links = c.args.rechecked.now.links in
     c.after-links.ensures
     ∙ ap (λ (l : LinkedItems). (links_now l links).outlines) c.requires.lists.links
@@ -31,8 +31,8 @@ judge-requires-clause-links c =
 pub faults-faults-requires : goal.faults-faults-requires
 faults-faults-requires c = subst (λ (l : LinkedItems). HasFaults l c.args.rechecked.now.links) (sym c.requires.lists.links) c.requires.rechecked.links.faults
 
-pub judge-requires-clause-faults : goal.judge-requires-clause-faults
-judge-requires-clause-faults c =
+pub told_in-requires-clause-faults : goal.told_in-requires-clause-faults
+told_in-requires-clause-faults c =
     let links = c.args.rechecked.now.links in
     c.faults-faults.ensures
     ∙ ap (λ (l : LinkedItems). faults_of (links_now l links)) c.requires.lists.links
@@ -48,8 +48,8 @@ all_checks old text front back values vacant checks made n values_are n_is is to
     ∙ ap (λ (v : List (Option Checked)). put (take front v ++ (vacant ++ drop (length v - back) v)) made) values_are
     ∙ sym told
 
-pub judge-requires-clause-checks : goal.judge-requires-clause-checks
-judge-requires-clause-checks c =
+pub told_in-requires-clause-checks : goal.told_in-requires-clause-checks
+told_in-requires-clause-checks c =
     let old = c.args.edit.now.old.now in
     let text = c.args.edit.now.text.now in
     let items = c.args.changes.now.items in
@@ -66,4 +66,4 @@ judge-requires-clause-checks c =
     ∙ ap checks_of (sym c.requires.text)
 
 pub returns-clause-warns : goal.returns-clause-warns
-returns-clause-warns c = subst (λ (t : List ℕ). IfOk c.judge.result (λ j. j.warns ≡ warns_in t)) c.requires.text c.judge.ensures.warns
+returns-clause-warns c = subst (λ (t : List ℕ). IfOk c.told_in.result (λ j. j.warns ≡ warns_in t)) c.requires.text c.told_in.ensures.warns

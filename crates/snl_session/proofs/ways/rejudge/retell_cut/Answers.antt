@@ -4,7 +4,7 @@ use Rattle.snl_lex.specs.Pieces.{tokens_of}
 use Rattle.snl_session.specs.Parts.{IsPart, part_of}
 use Rattle.snl_session.specs.Program.{items_of}
 use Rattle.snl_session.proofs.Trees.{same_items}
-use Rattle.snl_session.proofs.ways.rejudge.rejudge_cut.Goals as goal
+use Rattle.snl_session.proofs.ways.rejudge.retell_cut.Goals as goal
 
 pub recheck_after-requires-clause-tokens : goal.recheck_after-requires-clause-tokens
 recheck_after-requires-clause-tokens c = c.args.cut.now.tokens_are ∙ ap tokens_of c.requires.text
@@ -21,7 +21,7 @@ recheck_after-requires-clause-parts c =
     subst (All (IsPart c.args.edit.now.text.now cut.tokens.now)) (sym c.deref.ensures.value)
     (subst (λ t. All (IsPart t cut.tokens.now) c.in_ok-parts.parts.items) c.requires.text c.in_ok-parts.ensures.inside)
 
-pub judge_after-requires-clause-parts : goal.judge_after-requires-clause-parts
-judge_after-requires-clause-parts c =
+pub told_after-requires-clause-parts : goal.told_after-requires-clause-parts
+told_after-requires-clause-parts c =
     let cut = c.args.cut.now in
     subst (All (IsPart cut.text.now cut.tokens.now)) (sym c.deref-2.ensures.value) c.in_ok-parts.ensures.inside
