@@ -22,7 +22,11 @@ fn view_of(links: &Links, item: usize, summary: &Summary) -> usize {
         .iter()
         .filter(|target| links.has_target(item, target.name.bytes()))
         .count();
-    let place = if links.place(item).is_some() { 1 } else { 0 };
+    let place = if links.enclosing_set(item).is_some() {
+        1
+    } else {
+        0
+    };
     known.wrapping_add(found).wrapping_add(place)
 }
 

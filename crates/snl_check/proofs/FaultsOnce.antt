@@ -14,7 +14,7 @@ use Rattle.snl_walk.specs.Options.{letters_in, letters_in_member}
 use Rattle.snl_walk.specs.declared.codes.Code.{Code}
 use Rattle.snl_walk.specs.declared.codes.Code.TheVariants.{W04}
 use Rattle.snl_check.specs.declared.rules.findings.ItemFault.{ItemFault}
-use Rattle.snl_check.specs.Found.{fault_of}
+use Rattle.snl_check.specs.ItemFaults.{fault_of}
 use Rattle.snl_check.specs.Options.{found_at_letter, is_known, letter_fault, program_letters, state_letters, unknown_in_member, unknown_letters, unknown_options}
 use Rattle.snl_check.proofs.Each.{each_join, each_of, each_weaker}
 use Rattle.snl_check.proofs.Pairs.{EachTwo, across, pairs_from_two, two-append, two-map, two_from_pairs, two_weaker}

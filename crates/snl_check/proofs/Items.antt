@@ -8,9 +8,9 @@ use Rattle.snl_syntax.specs.declared.tree.item.Item.{Item}
 use Rattle.std.specs.Option.{option_copied}
 use Rattle.std.proofs.lemmas.List.{drop_all, length-map}
 use Rattle.std.proofs.lemmas.Option.{slice_get-map, slice_get_past, slice_get_read}
-use Rattle.snl_check.specs.declared.rows.program.Program.{Program}
+use Rattle.snl_check.specs.declared.rows.text_items.TextItems.{TextItems}
 use denote.Bor.{Bor}
-use Rattle.snl_check.specs.Collected.{IsProgram, items_in}
+use Rattle.snl_check.specs.Collected.{AreTextItems, items_in}
 use Rattle.snl_check.specs.Items.{EndsWithin, ProgramItem, header_name, program_name, start_of, tokens_in, tree_in}
 
 abbrev items_from : List Piece → ℕ → List ℕ → List (Option Item) → List ProgramItem
@@ -49,28 +49,28 @@ count_items tokens from (e ∷ ends) [] same = refl
 count_items tokens from (e ∷ ends) (t ∷ trees) same = ap suc (count_items tokens e ends trees (omega arith))
 
 -- there are as many trees as ends
-trees_count : (p : Program) → IsProgram p → length (map option_copied p.trees.now) ≡ length p.ends.now
+trees_count : (p : TextItems) → AreTextItems p → length (map option_copied p.trees.now) ≡ length p.ends.now
 trees_count p h = simp length-map h.each
 
 -- the tokens of an item are those between its ends, and there are none after the last one
-pub own_at : (p : Program) (i : ℕ) → IsProgram p → i < length p.ends.now →
+pub own_at : (p : TextItems) (i : ℕ) → AreTextItems p → i < length p.ends.now →
     take (get_or p.ends.now i 0 - start_of 0 p.ends.now i) (drop (start_of 0 p.ends.now i) p.tokens.now) ≡ tokens_in (items_in p) i
 own_at p i h lt = sym (tokens_from p.tokens.now 0 p.ends.now (map option_copied p.trees.now) i (trees_count p h) lt)
 
-pub own_past : (p : Program) (i : ℕ) → length p.ends.now ≤ i → [] ≡ tokens_in (items_in p) i
+pub own_past : (p : TextItems) (i : ℕ) → length p.ends.now ≤ i → [] ≡ tokens_in (items_in p) i
 own_past p i past = sym (tokens_past p.tokens.now 0 p.ends.now (map option_copied p.trees.now) i past)
 
-pub tree_here : (p : Program) (i : ℕ) (t : Option (Bor Item)) → IsProgram p → i < length p.trees.now → t ≡ get_or p.trees.now i t → option_copied t ≡ tree_in (items_in p) i
+pub tree_here : (p : TextItems) (i : ℕ) (t : Option (Bor Item)) → AreTextItems p → i < length p.trees.now → t ≡ get_or p.trees.now i t → option_copied t ≡ tree_in (items_in p) i
 tree_here p i t h lt is =
     let trees = p.trees.now in
     sym (tree_at p.tokens.now 0 p.ends.now (map option_copied trees) i (trees_count p h) ∙ ap (option_and_then (λ t. t)) (slice_get-map option_copied trees i ∙ ap (option_map option_copied) (slice_get_read trees (length trees) i t refl lt is)))
 
-pub tree_past : (p : Program) (i : ℕ) → IsProgram p → length p.trees.now ≤ i → None ≡ tree_in (items_in p) i
+pub tree_past : (p : TextItems) (i : ℕ) → AreTextItems p → length p.trees.now ≤ i → None ≡ tree_in (items_in p) i
 tree_past p i h past =
     let trees = p.trees.now in
     sym (tree_at p.tokens.now 0 p.ends.now (map option_copied trees) i (trees_count p h) ∙ ap (option_and_then (λ t. t)) (slice_get-map option_copied trees i ∙ ap (option_map option_copied) (slice_get_past trees i past)))
 
-pub count_in : (p : Program) → IsProgram p → length (items_in p) ≡ length p.trees.now
+pub count_in : (p : TextItems) → AreTextItems p → length (items_in p) ≡ length p.trees.now
 count_in p h = count_items p.tokens.now 0 p.ends.now (map option_copied p.trees.now) (trees_count p h) ∙ simp length-map refl
 
 -- an item begins before it ends, and ends among the tokens
@@ -88,10 +88,10 @@ start_is ends (suc i) some =
     let same : i ≡ suc i - 1 = omega arith in
     ap (λ n. get_or ends n 0) same
 
-pub end_before : (p : Program) (i : ℕ) → IsProgram p → 0 < i → i < length p.ends.now → get_or p.ends.now (i - 1) 0 ≤ get_or p.ends.now i 0
+pub end_before : (p : TextItems) (i : ℕ) → AreTextItems p → 0 < i → i < length p.ends.now → get_or p.ends.now (i - 1) 0 ≤ get_or p.ends.now i 0
 end_before p i h some lt = omega (arith, start_is p.ends.now i some, (ends_at 0 p.ends.now (length p.tokens.now) i h.within lt).0)
 
-pub end_within : (p : Program) (i : ℕ) → IsProgram p → i < length p.ends.now → get_or p.ends.now i 0 ≤ length p.tokens.now
+pub end_within : (p : TextItems) (i : ℕ) → AreTextItems p → i < length p.ends.now → get_or p.ends.now i 0 ≤ length p.tokens.now
 end_within p i h lt = (ends_at 0 p.ends.now (length p.tokens.now) i h.within lt).1
 
 -- the first name among the rest of the items

@@ -13,7 +13,7 @@ use Rattle.snl_syntax.specs.declared.tree.item.Item.{Item}
 use Rattle.snl_syntax.specs.declared.tree.item.Item.TheVariants as items
 use Rattle.snl_syntax.specs.declared.tree.statement.Member.{Member}
 use Rattle.snl_walk.specs.declared.occurrence.Occurrence.{Occurrence}
-use Rattle.snl_walk.specs.declared.outlook.Outer.{Outer}
+use Rattle.snl_walk.specs.declared.other_items.Outer.{Outer}
 use Rattle.snl_walk.specs.declared.rules.Finding.{Finding}
 use Rattle.snl_walk.specs.Declares.{is_event_flag}
 use Rattle.snl_walk.specs.Expressions.{names_if, names_in_value}
@@ -35,7 +35,7 @@ use Rattle.snl_check.specs.declared.rules.findings.ItemFault.{ItemFault}
 use Rattle.snl_walk.specs.Codes.{Finder, finder_of, finds_by_rules, finds_in_items, is_item_code, is_rule_code, links_or_rules, rules, undeclared_names}
 use Rattle.snl_walk.specs.Repeated.{IsApartFrom, IsNoRepetitionAt}
 use Rattle.snl_check.specs.FaultCodes.{LeavesToLinks}
-use Rattle.snl_check.specs.Found.{fault_of}
+use Rattle.snl_check.specs.ItemFaults.{fault_of}
 use Rattle.snl_check.specs.Options.{unknown_options}
 use Rattle.snl_check.proofs.Each.{each_image, each_join, each_of, each_weaker}
 use Rattle.snl_check.proofs.FaultsOnce.{IsLetter, every, options_stand}

@@ -10,11 +10,11 @@ use Rattle.snl_scope.specs.Summaries.{occurrences_in}
 use Rattle.snl_scope.specs.Summaries.Tokens.{name_ref_at}
 use Rattle.snl_walk.specs.declared.used.TargetUse.{TargetUse}
 use Rattle.snl_walk.specs.Items.{occurrences}
-use Rattle.snl_walk.specs.Tokens.{bytes_at}
+use Rattle.snl_walk.specs.Tokens.{token_bytes}
 use Rattle.snl_walk.specs.Uses.{targets}
 use Rattle.snl_check.specs.declared.rules.findings.Checked.{Checked}
-use Rattle.snl_check.specs.declared.rows.program.Program.{Program}
-use Rattle.snl_check.specs.Collected.{IsProgram, items_in}
+use Rattle.snl_check.specs.declared.rows.text_items.TextItems.{TextItems}
+use Rattle.snl_check.specs.Collected.{AreTextItems, items_in}
 use Rattle.snl_check.specs.Items.{ProgramItem, outlines_of, outline_of_item, summary_of_item, tokens_in, tree_in}
 use Rattle.snl_check.specs.Members.{is_faulty_item, target_number, target_numbers}
 use Rattle.snl_check.specs.Told.{Told, nothing, told_by, told_in, told_in_item, told_seen}
@@ -41,7 +41,7 @@ turned false true h = refl
 turned false false h = absurd cc
 
 -- there are as many outlines as items
-pub counted : (p : Program) (ss : List Outline) → IsProgram p → ss ≡ outlines_of p.text.now (items_in p) → length p.trees.now ≡ length ss
+pub counted : (p : TextItems) (ss : List Outline) → AreTextItems p → ss ≡ outlines_of p.text.now (items_in p) → length p.trees.now ≡ length ss
 counted p ss is linked = sym (ap length linked ∙ length-map (items_in p) (outline_of_item p.text.now) ∙ count_in p is)
 
 -- the targets of an item
@@ -49,10 +49,10 @@ pub targets_at : (text : List ℕ) (xs : List ProgramItem) (ss : List Outline) (
     target_numbers text xs ss states i ≡ filter_map (target_number ss states i) (map (name_ref_at text (tokens_in xs i)) (map (λ (u : TargetUse). u.token) (told_in text xs i).target_uses))
 targets_at text xs ss states i = by (slice_get xs i)
   where
-    by_tree : (tokens : List Piece) (t : Option Item) → filter_map (target_number ss states i) (map (name_ref_at text tokens) (targets (occurrences_in (bytes_at text tokens) t)))
-        ≡ filter_map (target_number ss states i) (map (name_ref_at text tokens) (map (λ (u : TargetUse). u.token) (option_map_or (told_by (bytes_at text tokens)) t nothing).target_uses))
+    by_tree : (tokens : List Piece) (t : Option Item) → filter_map (target_number ss states i) (map (name_ref_at text tokens) (targets (occurrences_in (token_bytes text tokens) t)))
+        ≡ filter_map (target_number ss states i) (map (name_ref_at text tokens) (map (λ (u : TargetUse). u.token) (option_map_or (told_by (token_bytes text tokens)) t nothing).target_uses))
     by_tree tokens None = refl
-    by_tree tokens (Some t) = ap (λ l. filter_map (target_number ss states i) (map (name_ref_at text tokens) l)) (sym (uses_at_targets false (occurrences (bytes_at text tokens) t)))
+    by_tree tokens (Some t) = ap (λ l. filter_map (target_number ss states i) (map (name_ref_at text tokens) l)) (sym (uses_at_targets false (occurrences (token_bytes text tokens) t)))
 
     by : (o : Option ProgramItem) → option_map_or (λ (x : ProgramItem). filter_map (target_number ss states i) (summary_of_item text x).targets) o []
         ≡ filter_map (target_number ss states i) (map (name_ref_at text (option_map_or (λ (x : ProgramItem). x.tokens) o [])) (map (λ (u : TargetUse). u.token) (option_map_or (told_in_item text) o nothing).target_uses))

@@ -5,18 +5,18 @@ use Rattle.std.proofs.lemmas.List.Elements.{All-from_recursion, All-weaker, recu
 use Rattle.snl_lex.specs.declared.piece.Piece.{Piece}
 use Rattle.snl_syntax.specs.declared.tree.item.Item.{Item}
 use Rattle.snl_walk.specs.declared.occurrence.Occurrence.{Occurrence}
-use Rattle.snl_walk.specs.declared.outlook.Outer.{Outer}
+use Rattle.snl_walk.specs.declared.other_items.Outer.{Outer}
 use Rattle.snl_walk.specs.Items.{occurrences}
 use Rattle.snl_walk.specs.Rules.{findings}
-use Rattle.snl_walk.specs.Tokens.{bytes_at}
+use Rattle.snl_walk.specs.Tokens.{token_bytes}
 use Rattle.snl_walk.specs.Uses.{targets, uses}
 use Rattle.snl_scope.specs.declared.facts.Fact.{Fact}
 use Rattle.snl_scope.specs.declared.summaries.summary.NameRef.{NameRef}
 use Rattle.snl_scope.specs.Summaries.Tokens.{name_ref_at}
-use Rattle.snl_check.specs.Alike.{Agree, SameTokens, target_names, used_names}
-use Rattle.snl_check.specs.Found.{fault_of, faults_in}
+use Rattle.snl_check.specs.SeenNames.{Agree, SameTokens, target_names, used_names}
+use Rattle.snl_check.specs.ItemFaults.{fault_of, faults_in}
 use Rattle.snl_check.specs.Options.{unknown_options}
-use Rattle.snl_check.specs.Outlook.{misses_by, outer_by, outer_of}
+use Rattle.snl_check.specs.View.{misses_by, outer_by, outer_of}
 use Rattle.snl_check.proofs.Each.{each_image, each_once}
 
 -- the same is found wrong where the same is answered of uses and targets
@@ -26,12 +26,12 @@ AnswersTell = (bytes : ℕ → List ℕ) (outer other : List ℕ → Option Oute
     → findings bytes outer misses found ≡ findings bytes other missed found
 
 -- tokens that are spelled alike
-pub same_bytes : (text moved : List ℕ) (tokens shifted : List Piece) → SameTokens text tokens moved shifted → bytes_at text tokens ≡ bytes_at moved shifted
+pub same_bytes : (text moved : List ℕ) (tokens shifted : List Piece) → SameTokens text tokens moved shifted → token_bytes text tokens ≡ token_bytes moved shifted
 same_bytes text moved tokens shifted same = fun_ext same
 
 module _ (tell : AnswersTell) (text : List ℕ) (tokens : List Piece) (tree : Item) (in_set : Bool) (fact other : List ℕ → Option Fact) (target another : List ℕ → Bool) where
   abbrev bytes : ℕ → List ℕ
-  bytes = bytes_at text tokens
+  bytes = token_bytes text tokens
 
   abbrev found : List Occurrence
   found = occurrences bytes tree
@@ -59,7 +59,7 @@ module _ (tell : AnswersTell) (text : List ℕ) (tokens : List Piece) (tree : It
 
 pub faults_alike : AnswersTell → (text moved : List ℕ) (tokens shifted : List Piece) (tree : Item) (in_set : Bool) (fact other : List ℕ → Option Fact) (target another : List ℕ → Bool) →
     SameTokens text tokens moved shifted → Agree fact other (used_names text tokens tree) → Agree target another (target_names text tokens tree) →
-    faults_in (bytes_at text tokens) tree in_set fact target ≡ faults_in (bytes_at moved shifted) tree in_set other another
+    faults_in (token_bytes text tokens) tree in_set fact target ≡ faults_in (token_bytes moved shifted) tree in_set other another
 faults_alike tell text moved tokens shifted tree in_set fact other target another same agree lead =
     faults_agree tell text tokens tree in_set fact other target another agree lead
     ∙ ap (λ b. faults_in b tree in_set other another) (same_bytes text moved tokens shifted same)

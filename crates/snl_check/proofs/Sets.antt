@@ -13,7 +13,7 @@ use Rattle.std.proofs.lemmas.List.Kept.{IsStrictlyIncreasing-filter}
 use borrow.Author.Tests.{eq-eqb, le-ltb, lt-ltb}
 use Rattle.snl_scope.specs.declared.summaries.summary.Outline.{Outline}
 use Rattle.snl_scope.specs.Below.{all_below, any_below}
-use Rattle.snl_scope.specs.Places.{begins_set, ends_set, item_is, open_before, place, stands_in}
+use Rattle.snl_scope.specs.Places.{begins_set, ends_set, item_is, open_before, enclosing_set, stands_in}
 use Rattle.snl_check.specs.Items.{ProgramItem, summary_of_item}
 use Rattle.snl_check.specs.Reach.{AreStates}
 use Rattle.snl_check.specs.Members.{number_among, target_number, target_numbers, targets_among}
@@ -45,46 +45,46 @@ is_within test (s ∷ ss) (suc i) h = let l = is_within test ss i h in omega (ar
 pub record SetsOpenInTurn : Type 0 where
   pub opened : (ss : List Outline) (i : ℕ) (s : Outline) → slice_get ss i ≡ Some s
       → open_before ss (suc i) ≡ (if begins_set s.role then Some i else (if ends_set s.role then None else open_before ss i))
-  pub placed : (ss : List Outline) (i : ℕ) (s : Outline) → slice_get ss i ≡ Some s → place ss i ≡ (if begins_set s.role then None else open_before ss i)
-  pub within : (ss : List Outline) (i k : ℕ) → place ss i ≡ Some k → k < i
+  pub placed : (ss : List Outline) (i : ℕ) (s : Outline) → slice_get ss i ≡ Some s → enclosing_set ss i ≡ (if begins_set s.role then None else open_before ss i)
+  pub within : (ss : List Outline) (i k : ℕ) → enclosing_set ss i ≡ Some k → k < i
 
 module _ (law : SetsOpenInTurn) (ss : List Outline) (k : ℕ) where
-  stands_from : (j : ℕ) → stands_in ss k j ≡ true → place ss j ≡ Some k
-  stands_from j = by (place ss j)
+  stands_from : (j : ℕ) → stands_in ss k j ≡ true → enclosing_set ss j ≡ Some k
+  stands_from j = by (enclosing_set ss j)
     where
       by : (o : Option ℕ) → option_map_or (nat_eq k) o false ≡ true → o ≡ Some k
       by None h = absurd (false≢true h)
       by (Some m) h = ap Some (sym (eqb-true k m h))
 
-  stands_is : (j : ℕ) → place ss j ≡ Some k → stands_in ss k j ≡ true
+  stands_is : (j : ℕ) → enclosing_set ss j ≡ Some k → stands_in ss k j ≡ true
   stands_is j h = ap (λ o. option_map_or (nat_eq k) o false) h ∙ eq-eqb k k refl
 
   -- an item is in the set that the next one is in
-  step_back : (j : ℕ) (s : Outline) → slice_get ss j ≡ Some s → k < j → place ss (suc j) ≡ Some k → place ss j ≡ Some k
+  step_back : (j : ℕ) (s : Outline) → slice_get ss j ≡ Some s → k < j → enclosing_set ss (suc j) ≡ Some k → enclosing_set ss j ≡ Some k
   step_back j s at l h = by (begins_set s.role) (ends_set s.role) refl (sym (law.opened ss j s at) ∙ opened (item_is (λ s. not (begins_set s.role)) ss (suc j)) h)
     where
       opened : (b : Bool) → (if b then open_before ss (suc j) else None) ≡ Some k → open_before ss (suc j) ≡ Some k
       opened true e = e
       opened false e = absurd cc
 
-      by : (b e : Bool) → begins_set s.role ≡ b → (if b then Some j else (if e then None else open_before ss j)) ≡ Some k → place ss j ≡ Some k
+      by : (b e : Bool) → begins_set s.role ≡ b → (if b then Some j else (if e then None else open_before ss j)) ≡ Some k → enclosing_set ss j ≡ Some k
       by true e is o = let same : j ≡ k = cc in absurd (omega (arith, same, l))
       by false true is o = absurd cc
       by false false is o = law.placed ss j s at ∙ ap (λ b. if b then None else open_before ss j) is ∙ o
 
-  back : (d i : ℕ) → k < i → i + d < length ss → place ss (i + d) ≡ Some k → place ss i ≡ Some k
-  back zero i l within h = let same : i + 0 ≡ i = omega arith in subst (λ n. place ss n ≡ Some k) same h
+  back : (d i : ℕ) → k < i → i + d < length ss → enclosing_set ss (i + d) ≡ Some k → enclosing_set ss i ≡ Some k
+  back zero i l within h = let same : i + 0 ≡ i = omega arith in subst (λ n. enclosing_set ss n ≡ Some k) same h
   back (suc d) i l within h =
       let same : i + suc d ≡ suc (i + d) = omega arith in
       let inside : i + d < length ss = omega (arith, within) in
       let before : k < i + d = omega (arith, l) in
       let here = get_here ss (i + d) inside in
-      back d i l inside (step_back (i + d) here.0 here.1 before (subst (λ n. place ss n ≡ Some k) same h))
+      back d i l inside (step_back (i + d) here.0 here.1 before (subst (λ n. enclosing_set ss n ≡ Some k) same h))
 
   between : (i j : ℕ) → k < i → i ≤ j → j < length ss → stands_in ss k j ≡ true → stands_in ss k i ≡ true
   between i j l le within h =
       let same : i + (j - i) ≡ j = omega (arith, le) in
-      stands_is i (back (j - i) i l (omega (arith, le, within)) (subst (λ n. place ss n ≡ Some k) (sym same) (stands_from j h)))
+      stands_is i (back (j - i) i l (omega (arith, le, within)) (subst (λ n. enclosing_set ss n ≡ Some k) (sym same) (stands_from j h)))
 
   none_before : (j : ℕ) → j ≤ k → stands_in ss k j ≡ false
   none_before j l = false_if (stands_in ss k j) (λ h. let less = law.within ss j k (stands_from j h) in omega (arith, l, less))

@@ -33,11 +33,11 @@ use Rattle.snl_scope.specs.Flags.{flags_of}
 use Rattle.snl_scope.specs.Linked.{declaration_at, entry_declaration, scope_in, state_of, variable_declaration}
 use Rattle.snl_scope.specs.Names.{Entry, declared_entry, named_entry, entries, entries_before, entries_of, scope_of, set_entries, set_name, state_entries}
 use Rattle.snl_scope.specs.Order.{is_named_state, state_name}
-use Rattle.snl_scope.specs.Places.{begins_set, is_set_begin, place, stands_in}
+use Rattle.snl_scope.specs.Places.{begins_set, is_set_begin, enclosing_set, stands_in}
 use Rattle.snl_scope.specs.Summaries.{kind_of, role_of}
 use Rattle.snl_scope.specs.Summaries.Clauses as summary
 use Rattle.snl_scope.specs.Summaries.Declares.{declared_in}
-use Rattle.snl_walk.specs.Tokens.{bytes_at}
+use Rattle.snl_walk.specs.Tokens.{token_bytes}
 use Rattle.snl_tables.specs.declared.rows.SetRow.{SetRow}
 use Rattle.snl_tables.specs.declared.rows.StateBody.{StateBody}
 use Rattle.snl_tables.specs.declared.rows.StateRow.{StateRow}
@@ -48,7 +48,7 @@ use Rattle.snl_check.specs.Clauses.{ItemClause, clause_in_member, clauses_in_tre
 use Rattle.snl_check.specs.Conditions.{on_declaration, uses_in, wake_ups}
 use Rattle.snl_check.specs.Items.{ProgramItem, header_name, named_by, span_of, item_name, outline_of_item, outlines_of, summary_of_item, tokens_in, tree_in}
 use Rattle.snl_check.specs.Members.{is_faulty_item, number_among, states_in, target_number, target_numbers}
-use Rattle.snl_check.specs.Outlook.{is_in_set}
+use Rattle.snl_check.specs.View.{is_in_set}
 use Rattle.snl_check.specs.Settings.{LetterSetting, setting_at, setting_in_tree}
 use Rattle.snl_check.specs.Shifted.{KeepsItem, KeepsItems, shifted_item, start_at}
 use Rattle.snl_check.specs.ShiftedAround.{IsPlacedAt, IsSoundAsItWas, ReplacesOne, ReplacesItem, SaysAlike, SaysAlikeAt, is_plain, set_number, state_number, used_by, wakes_of}
@@ -138,7 +138,7 @@ module _ (laws : SpellingLaws) (old text : List ℕ) (s : Shift) (xs ys : List P
   sets_nothing : (bytes : List ℕ) (zs : List ProgramItem) (z : ProgramItem) → slice_get zs j ≡ Some z → is_plain (kind_of z.tree) ≡ true → setting_at bytes zs ss j ≡ None
   sets_nothing bytes zs z at state =
       ap (λ (o : Option LetterSetting). if is_in_set ss j then None else o)
-      (ap (option_and_then (setting_in_tree (bytes_at bytes (tokens_in zs j)))) (tree_at zs z at) ∙ no_setting (bytes_at bytes (tokens_in zs j)) z.tree state)
+      (ap (option_and_then (setting_in_tree (token_bytes bytes (tokens_in zs j)))) (tree_at zs z at) ∙ no_setting (token_bytes bytes (tokens_in zs j)) z.tree state)
       ∙ same_either (is_in_set ss j) None
 
   settings : (i : ℕ) → setting_at text ys ss i ≡ setting_at old xs ss i
@@ -242,8 +242,8 @@ module _ (laws : SpellingLaws) (old text : List ℕ) (s : Shift) (xs ys : List P
       by : (o : Option Outline) → slice_get ss n ≡ o → AllByRecursion IsKeptName (option_map_or (entries_of ss n) o [])
       by None e = tt
       by (Some o) e =
-          each_join IsKeptName (set_entries n o ++ state_entries (place ss n) n o) (map (declared_entry (scope_of ss n o) n) o.declares)
-          (each_join IsKeptName (set_entries n o) (state_entries (place ss n) n o) (named namespace.Sets (Some E08) (option_to_list (set_name o))) (states (place ss n) o))
+          each_join IsKeptName (set_entries n o ++ state_entries (enclosing_set ss n) n o) (map (declared_entry (scope_of ss n o) n) o.declares)
+          (each_join IsKeptName (set_entries n o) (state_entries (enclosing_set ss n) n o) (named namespace.Sets (Some E08) (option_to_list (set_name o))) (states (enclosing_set ss n) o))
           (declares_placed n o (declares_at n o e))
 
   declared_placed : (number : ℕ) (d : Declaration) → declaration_at ss number ≡ Some d → IsPlaced d.item d.token
@@ -338,7 +338,7 @@ module _ (laws : SpellingLaws) (old text : List ℕ) (s : Shift) (xs ys : List P
 
   -- ---- the row of its set
 
-  module _ (set : ℕ) (stands : place ss j ≡ Some set) (named_here : is_named_state ss j ≡ true) where
+  module _ (set : ℕ) (stands : enclosing_set ss j ≡ Some set) (named_here : is_named_state ss j ≡ true) where
     abbrev number : ℕ
     number = state_number ss set j
 
@@ -421,8 +421,8 @@ module _ (laws : SpellingLaws) (old text : List ℕ) (s : Shift) (xs ys : List P
           wake_ups bytes zs ss cs j (uses_in bytes zs j) ≡ filter_map (meant cs) (wakes_of bytes z)
       unfolding meant
       wakes_are bytes zs z at cs =
-          ap (λ (o : Option ProgramItem). filter_map (λ used. option_and_then (on_declaration ss cs used.subscript) (resolve_in ss j (bytes_at bytes (option_map_or (λ (x : ProgramItem). x.tokens) o []) used.token))) (option_map_or (told_in_item bytes) o nothing).wake_uses) at
-          ∙ kept_map (used_by (bytes_at bytes z.tokens)) (meant cs) (told_in_item bytes z).wake_uses
+          ap (λ (o : Option ProgramItem). filter_map (λ used. option_and_then (on_declaration ss cs used.subscript) (resolve_in ss j (token_bytes bytes (option_map_or (λ (x : ProgramItem). x.tokens) o []) used.token))) (option_map_or (told_in_item bytes) o nothing).wake_uses) at
+          ∙ kept_map (used_by (token_bytes bytes z.tokens)) (meant cs) (told_in_item bytes z).wake_uses
 
       wakes_stay : wake_ups text ys ss (assigned_channels text ys ss) j (uses_in text ys j) ≡ wake_ups old xs ss (assigned_channels old xs ss) j (uses_in old xs j)
       wakes_stay =

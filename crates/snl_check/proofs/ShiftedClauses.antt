@@ -21,8 +21,8 @@ use Rattle.snl_scope.specs.Clauses.{clause_links}
 use Rattle.snl_scope.specs.Flags.{flag_number, flags_of}
 use Rattle.snl_scope.specs.Linked.{declaration_at}
 use Rattle.snl_scope.specs.Names.{entries}
-use Rattle.snl_scope.specs.Places.{place}
-use Rattle.snl_walk.specs.Tokens.{bytes_at, value_at}
+use Rattle.snl_scope.specs.Places.{enclosing_set}
+use Rattle.snl_walk.specs.Tokens.{token_bytes, value_at}
 use Rattle.snl_tables.specs.declared.rows.ChannelRow.{ChannelRow}
 use Rattle.snl_tables.specs.declared.rows.FlagRow.{FlagRow}
 use Rattle.snl_tables.specs.declared.rows.Queue.{Queue}
@@ -35,7 +35,7 @@ use Rattle.snl_tables.specs.Shifted.{shifted_channel, shifted_flag, shifted_scop
 use Rattle.snl_check.specs.Channels.{AssignedChannel, NamedChannel, assigned_channel, assigned_channels, between_quotes, channels_in, channels_of_clause, channels_on, joined, variables_before}
 use Rattle.snl_check.specs.Clauses.{ItemClause, item_clauses_before, item_clauses_if, told_clauses}
 use Rattle.snl_check.specs.Items.{ProgramItem, gathered, item_name, span_at, tokens_in, tree_in}
-use Rattle.snl_check.specs.Outlook.{is_in_set}
+use Rattle.snl_check.specs.View.{is_in_set}
 use Rattle.snl_check.specs.Settings.{LetterSetting, letters_of_program, option_rows, program_options, setting_at, setting_in_tree}
 use Rattle.snl_check.specs.Tables.{channel_row, channel_rows, flag_row, flag_row_at, flag_rows, queue_of, scope_name, scope_of_variable, sync_of, synced, synced_by, variables_of}
 use Rattle.snl_check.proofs.ShiftLists.{flat_same, gathered_same, kept_shift, map_shift}
@@ -63,7 +63,7 @@ module _ (s : Shift) (xs ys : List ProgramItem) (ss : List Outline) (names : (i 
   pub scope_shifts : (c : Scope) → scope_name ys ss c ≡ shifted_scope s (scope_name xs ss c)
   scope_shifts scope.Program = refl
   scope_shifts (scope.StateSet set) = ap named.StateSet (names set)
-  scope_shifts (scope.State state) = ap₂ named.State (by (place ss state)) (names state)
+  scope_shifts (scope.State state) = ap₂ named.State (by (enclosing_set ss state)) (names state)
     where
       by : (o : Option ℕ) → option_map (item_name ys) o ≡ option_map (shifted_span s) (option_map (item_name xs) o)
       by None = refl
@@ -105,7 +105,7 @@ module _ (xs ys : List ProgramItem) (same : (i : ℕ) → item_clauses_if i (tre
 
 -- ---- channels: what the clauses on them say goes by bytes
 
-module _ (old text : List ℕ) (tokens shifted : List Piece) (bytes : bytes_at text shifted ≡ bytes_at old tokens) where
+module _ (old text : List ℕ) (tokens shifted : List Piece) (bytes : token_bytes text shifted ≡ token_bytes old tokens) where
   value_stays : (n : ℕ) → value_at text shifted n ≡ value_at old tokens n
   value_stays n = ap (λ (b : ℕ → List ℕ). int_value_of (b n)) bytes
 
@@ -134,7 +134,7 @@ module _ (old text : List ℕ) (tokens shifted : List Piece) (bytes : bytes_at t
 
 -- The item of a clause has the bytes that it had.
 abbrev pub HasBytes : (old text : List ℕ) (xs ys : List ProgramItem) → ItemClause × ClauseLink → Type 0
-HasBytes old text xs ys p = bytes_at text (tokens_in ys p.0.item) ≡ bytes_at old (tokens_in xs p.0.item)
+HasBytes old text xs ys p = token_bytes text (tokens_in ys p.0.item) ≡ token_bytes old (tokens_in xs p.0.item)
 
 module _ (old text : List ℕ) (xs ys : List ProgramItem) (ss : List Outline) (told : told_clauses ys ss ≡ told_clauses xs ss)
     (each : AllByRecursion (HasBytes old text xs ys) (told_clauses xs ss)) where

@@ -7,7 +7,7 @@ use borrow.Author.Tests.{lt-ltb}
 use Rattle.snl_lex.specs.declared.piece.Piece.{Piece}
 use Rattle.snl_lex.specs.declared.shift.Shift.{Shift}
 use Rattle.snl_lex.specs.Shift.{most, shifted_offset, shifted_piece}
-use Rattle.snl_walk.specs.Tokens.{bytes_at}
+use Rattle.snl_walk.specs.Tokens.{token_bytes}
 use Rattle.snl_tables.specs.declared.rows.Span.{Span}
 use Rattle.snl_tables.specs.Shifted.{shifted_span}
 use Rattle.snl_check.specs.Items.{ProgramItem, header_name, named_by, program_name, span_at, span_of, tokens_in, tree_in}
@@ -17,7 +17,7 @@ use Rattle.snl_check.specs.Shifted.{shifted_item, shifted_tokens}
 -- The item with this number is the one that it was, shifted, and its tokens have the bytes that they had.
 pub record IsKept (old text : List ℕ) (s : Shift) (xs ys : List ProgramItem) (i : ℕ) : Type 0 where
   pub item : slice_get ys i ≡ option_map (shifted_item s) (slice_get xs i)
-  pub bytes : bytes_at text (tokens_in ys i) ≡ bytes_at old (tokens_in xs i)
+  pub bytes : token_bytes text (tokens_in ys i) ≡ token_bytes old (tokens_in xs i)
 
 -- ---- where tokens are
 

@@ -15,7 +15,7 @@ use Rattle.snl_scope.specs.Linked.{has_target}
 use Rattle.snl_scope.specs.Places.{stands_in}
 use Rattle.snl_walk.specs.declared.used.TargetUse.{TargetUse}
 use Rattle.snl_walk.specs.declared.used.WakeUse.{WakeUse}
-use Rattle.snl_walk.specs.Tokens.{bytes_at}
+use Rattle.snl_walk.specs.Tokens.{token_bytes}
 use Rattle.snl_tables.specs.declared.rows.Destination.TheVariants as destinations
 use Rattle.snl_tables.specs.declared.rows.NamedState.{NamedState}
 use Rattle.snl_tables.specs.declared.rows.Span.{Span}
@@ -41,12 +41,12 @@ use Rattle.snl_check.proofs.SpanLaws.{each_all}
 told_of_item : (ℕ → List ℕ) → Option Item → Told
 told_of_item bytes tree = option_map_or (told_by bytes) tree nothing
 
-told_at : (text : List ℕ) (xs : List ProgramItem) (i : ℕ) → told_in text xs i ≡ told_of_item (bytes_at text (tokens_in xs i)) (tree_in xs i)
+told_at : (text : List ℕ) (xs : List ProgramItem) (i : ℕ) → told_in text xs i ≡ told_of_item (token_bytes text (tokens_in xs i)) (tree_in xs i)
 unfolding told_of_item
 told_at text xs i = by (slice_get xs i)
   where
     by : (o : Option ProgramItem) → option_map_or (told_in_item text) o nothing
-        ≡ option_map_or (told_by (bytes_at text (option_map_or (λ (x : ProgramItem). x.tokens) o []))) (option_and_then (λ (x : ProgramItem). x.tree) o) nothing
+        ≡ option_map_or (told_by (token_bytes text (option_map_or (λ (x : ProgramItem). x.tokens) o []))) (option_and_then (λ (x : ProgramItem). x.tree) o) nothing
     by None = refl
     by (Some x) = refl
 
@@ -73,7 +73,7 @@ module _ (old text : List ℕ) (s : Shift) (xs ys : List ProgramItem) (ss : List
     member_shifts (members.When t) = ap (λ d. d ∷ []) (destination_shifts t.target)
     member_shifts _ = refl
 
-    options_stay : state_options (bytes_at text (tokens_in ys i)) (members_in (tree_in ys i)) ≡ state_options (bytes_at old (tokens_in xs i)) (members_in (tree_in xs i))
+    options_stay : state_options (token_bytes text (tokens_in ys i)) (members_in (tree_in ys i)) ≡ state_options (token_bytes old (tokens_in xs i)) (members_in (tree_in xs i))
     options_stay = ap₂ (λ (b : ℕ → List ℕ) (t : Option Item). state_options b (members_in t)) kept.bytes (tree_stays old text s xs ys i kept)
 
     transitions_shift : flat_map (destinations_in_member text (tokens_in ys i) ss i) (members_in (tree_in ys i)) ≡ map (shifted_destination s) (flat_map (destinations_in_member old (tokens_in xs i) ss i) (members_in (tree_in xs i)))
@@ -104,7 +104,7 @@ module _ (old text : List ℕ) (s : Shift) (xs ys : List ProgramItem) (ss : List
         wake_ups text ys ss (assigned_channels text ys ss) i (uses_in text ys i) ≡ wake_ups old xs ss (assigned_channels old xs ss) i (uses_in old xs i)
     unfolding wakes_by
     wakes_stay assigned =
-        ap₂ (λ (cs : List AssignedChannel) (us : List WakeUse). wakes_by ss cs i (bytes_at text (tokens_in ys i)) us) assigned uses_stay
+        ap₂ (λ (cs : List AssignedChannel) (us : List WakeUse). wakes_by ss cs i (token_bytes text (tokens_in ys i)) us) assigned uses_stay
         ∙ ap (λ (b : ℕ → List ℕ). wakes_by ss (assigned_channels old xs ss) i b (uses_in old xs i)) kept.bytes
 
     pub state_row_shifts : (m : StateMark) → assigned_channels text ys ss ≡ assigned_channels old xs ss →

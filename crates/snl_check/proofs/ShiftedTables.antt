@@ -23,7 +23,7 @@ use Rattle.snl_scope.specs.Places.{begins_set, is_set_begin}
 use Rattle.snl_scope.specs.Summaries.{kind_of, opening_in, role_of, second_in, summary_in}
 use Rattle.snl_scope.specs.Summaries.Clauses.{clauses_in}
 use Rattle.snl_scope.specs.Summaries.Declares.{declared_in}
-use Rattle.snl_walk.specs.Tokens.{bytes_at}
+use Rattle.snl_walk.specs.Tokens.{token_bytes}
 use Rattle.snl_tables.specs.declared.rows.SetRow.{SetRow}
 use Rattle.snl_tables.specs.Shifted.{shifted_flag, shifted_set, shifted_span, shifted_state, shifted_tables}
 use Rattle.snl_check.specs.Channels.{assigned_channels}
@@ -138,12 +138,12 @@ set_has_second text xs k own h =
 
 module _ (old text : List ℕ) (s : Shift) (xs ys : List ProgramItem) (i : ℕ) (item : slice_get ys i ≡ option_map (shifted_item s) (slice_get xs i))
     (keeps : (x : ProgramItem) → slice_get xs i ≡ Some x → KeepsItem old text s x) where
-  bytes_kept : bytes_at text (tokens_in ys i) ≡ bytes_at old (tokens_in xs i)
-  unfolding bytes_at
-  bytes_kept = ap (λ (o : Option ProgramItem). bytes_at text (option_map_or (λ (x : ProgramItem). x.tokens) o [])) item ∙ by (slice_get xs i) refl
+  bytes_kept : token_bytes text (tokens_in ys i) ≡ token_bytes old (tokens_in xs i)
+  unfolding token_bytes
+  bytes_kept = ap (λ (o : Option ProgramItem). token_bytes text (option_map_or (λ (x : ProgramItem). x.tokens) o [])) item ∙ by (slice_get xs i) refl
     where
       by : (o : Option ProgramItem) → slice_get xs i ≡ o →
-          bytes_at text (option_map_or (λ (x : ProgramItem). x.tokens) (option_map (shifted_item s) o) []) ≡ bytes_at old (option_map_or (λ (x : ProgramItem). x.tokens) o [])
+          token_bytes text (option_map_or (λ (x : ProgramItem). x.tokens) (option_map (shifted_item s) o) []) ≡ token_bytes old (option_map_or (λ (x : ProgramItem). x.tokens) o [])
       by None e = fun_ext (λ n. refl)
       by (Some x) e = fun_ext (keeps x e).bytes
 
@@ -174,8 +174,8 @@ module _ (old text : List ℕ) (s : Shift) (xs ys : List ProgramItem) (i : ℕ) 
 
 -- ---- the same tokens say the same to others
 
-alike : (old text : List ℕ) (s : Shift) (tokens : List Piece) → ((n : ℕ) → bytes_at text (shifted_tokens s tokens) n ≡ bytes_at old tokens n) → spelled text (shifted_tokens s tokens) ≡ spelled old tokens
-unfolding bytes_at
+alike : (old text : List ℕ) (s : Shift) (tokens : List Piece) → ((n : ℕ) → token_bytes text (shifted_tokens s tokens) n ≡ token_bytes old tokens n) → spelled text (shifted_tokens s tokens) ≡ spelled old tokens
+unfolding token_bytes
 alike old text s [] h = refl
 alike old text s (p ∷ ps) h = ap₂ (λ (b : List ℕ) (l : List (Class × List ℕ)). (p.kind, b) ∷ l) (h 0) (alike old text s ps (λ n. h (suc n)))
 

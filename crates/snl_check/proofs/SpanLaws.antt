@@ -30,7 +30,7 @@ use Rattle.snl_scope.specs.Linked.{declaration_at, entry_declaration, scope_in}
 use Rattle.snl_scope.specs.NamedTokens.{NamesItsTokens, own_name}
 use Rattle.snl_scope.specs.Names.{Entry, declared_entry, entries, entries_before, entries_of, named_entry, scope_at, has_own_scope, scope_of, set_entries, set_name, state_entries}
 use Rattle.snl_scope.specs.Order.{is_named_state, is_state_word, state_name}
-use Rattle.snl_scope.specs.Places.{begins_set, ends_between, is_set_begin, item_is, open_before, place, stands_in}
+use Rattle.snl_scope.specs.Places.{begins_set, ends_between, is_set_begin, item_is, open_before, enclosing_set, stands_in}
 use Rattle.snl_scope.specs.Summaries.{kind_of, name_if, opening_in, role_in, role_of, second_in}
 use Rattle.snl_scope.specs.Summaries.Clauses as summary
 use Rattle.snl_scope.specs.Summaries.Declares.{declared_in, declared_in_tree}
@@ -39,7 +39,7 @@ use Rattle.snl_walk.specs.Expressions.{names_if}
 use Rattle.snl_walk.specs.Items.{found_in_member, found_in_target, in_transition, occurrences}
 use Rattle.snl_walk.specs.Scopes.{Names, seen, under_names}
 use Rattle.snl_walk.specs.Statements.{found_in_block}
-use Rattle.snl_walk.specs.Tokens.{IsSource, bytes_at}
+use Rattle.snl_walk.specs.Tokens.{IsSource, token_bytes}
 use Rattle.snl_walk.specs.Uses.{target_uses_after, targets}
 use Rattle.snl_tables.specs.declared.rows.FlagRow.{FlagRow}
 use Rattle.snl_tables.specs.declared.rows.ScopeName.TheVariants as named
@@ -48,7 +48,7 @@ use Rattle.snl_check.specs.Channels.{AssignedChannel, assigned_channel, assigned
 use Rattle.snl_check.specs.Clauses.{ItemClause, clauses_in_tree, item_clause, item_clauses, item_clauses_before, item_clauses_if, told_clauses}
 use Rattle.snl_check.specs.Items.{ProgramItem, header_name, item_name, named_by, program_name, span_at, span_of, outline_of_item, outlines_of, tokens_in, tree_in}
 use Rattle.snl_check.specs.Members.{states_in}
-use Rattle.snl_check.specs.Spans.{AreRead, HasByte, InChannel, InDestination, InFlag, InNamed, InScope, InSet, InState, InTables, LiesIn, TablesHaveBytes, TablesLieIn}
+use Rattle.snl_check.specs.Spans.{AreRead, HasByte, InChannel, InDestination, InFlag, InNamed, InScope, InSet, InState, InTables, SpanLiesIn, TablesHaveBytes, TablesLieIn}
 use Rattle.snl_check.specs.States.{destination, destinations_in_member, gotos_in, item_at, members_in, named_state, numbered_row, set_row}
 use Rattle.snl_check.specs.Tables.{channel_row, flag_row, flag_row_at, scope_name, tables_of}
 use Rattle.snl_check.specs.Told.{by_statements, nothing, told_by}
@@ -116,7 +116,7 @@ last_passes test (suc n) k h = by (test n) refl (last_passes test n k) h
     by true e before is = let same : n ≡ k = cc in subst (λ m. test m ≡ true) same e
     by false e before is = before is
 
-pub place_begins : (ss : List Outline) (i k : ℕ) → place ss i ≡ Some k → is_set_begin ss k ≡ true
+pub place_begins : (ss : List Outline) (i k : ℕ) → enclosing_set ss i ≡ Some k → is_set_begin ss k ≡ true
 place_begins ss i k = by (item_is (λ s. not (begins_set s.role)) ss i)
   where
     by : (b : Bool) → (if b then open_before ss i else None) ≡ Some k → is_set_begin ss k ≡ true
@@ -141,7 +141,7 @@ record NamesHold (P : Span → Type 0) (text : List ℕ) (xs : List ProgramItem)
   second : (item : ℕ) → is_some (second_in text (tokens_in xs item)) ≡ true → P (span_at xs item 1)
   declared : (item : ℕ) (t : Item) → tree_in xs item ≡ Some t → AllByRecursion (λ d. P (span_at xs item d.token)) (declared_in_tree text (tokens_in xs item) t)
   variables : (item : ℕ) (t : Item) → tree_in xs item ≡ Some t → AllByRecursion (λ c. P (span_at xs item c.variable.token)) (summary.clauses_in_tree text (tokens_in xs item) t)
-  targets : (item : ℕ) (t : Item) → tree_in xs item ≡ Some t → AllByRecursion (λ n. P (span_at xs item n)) (targets (occurrences (bytes_at text (tokens_in xs item)) t))
+  targets : (item : ℕ) (t : Item) → tree_in xs item ≡ Some t → AllByRecursion (λ n. P (span_at xs item n)) (targets (occurrences (token_bytes text (tokens_in xs item)) t))
 
 -- the name of the program
 module _ (P : Span → Type 0) where
@@ -195,10 +195,10 @@ module _ (P : Span → Type 0) (text : List ℕ) (xs : List ProgramItem) (names 
       let second : is_some (second_in text x.tokens) ≡ true = some_if (is_state_word (opening_in text x.tokens)) (second_in text x.tokens) found.2 in
       names.second j (subst (λ tokens. is_some (second_in text tokens) ≡ true) (sym (tokens_are xs j x found.1)) second)
 
-  place_holds : (i : ℕ) → IfSome (option_map (item_name xs) (place ss i)) P
-  place_holds i = by (place ss i) refl
+  place_holds : (i : ℕ) → IfSome (option_map (item_name xs) (enclosing_set ss i)) P
+  place_holds i = by (enclosing_set ss i) refl
     where
-      by : (o : Option ℕ) → place ss i ≡ o → IfSome (option_map (item_name xs) o) P
+      by : (o : Option ℕ) → enclosing_set ss i ≡ o → IfSome (option_map (item_name xs) o) P
       by None e = tt
       by (Some k) e = set_holds k (place_begins ss i k e)
 
@@ -220,8 +220,8 @@ module _ (P : Span → Type 0) (text : List ℕ) (xs : List ProgramItem) (names 
   entry_holds namespace.Sets i d h p = tt
   entry_holds (namespace.States k) i d h p = tt
 
-  scope_at_holds : (i : ℕ) → IfSome (scope_in (scope_at (place ss i))) ScopeHolds
-  scope_at_holds i = by (place ss i) (place_holds i)
+  scope_at_holds : (i : ℕ) → IfSome (scope_in (scope_at (enclosing_set ss i))) ScopeHolds
+  scope_at_holds i = by (enclosing_set ss i) (place_holds i)
     where
       by : (o : Option ℕ) → IfSome (option_map (item_name xs) o) P → IfSome (scope_in (scope_at o)) ScopeHolds
       by None h = tt
@@ -230,7 +230,7 @@ module _ (P : Span → Type 0) (text : List ℕ) (xs : List ProgramItem) (names 
   scope_holds : (i : ℕ) (x : ProgramItem) → slice_get xs i ≡ Some x → IfSome (scope_in (scope_of ss i (outline_of_item text x))) ScopeHolds
   scope_holds i x at = by (has_own_scope (role_in text x.tokens x.tree)) refl
     where
-      by : (b : Bool) → has_own_scope (role_in text x.tokens x.tree) ≡ b → IfSome (scope_in (if b then namespace.State i else scope_at (place ss i))) ScopeHolds
+      by : (b : Bool) → has_own_scope (role_in text x.tokens x.tree) ≡ b → IfSome (scope_in (if b then namespace.State i else scope_at (enclosing_set ss i))) ScopeHolds
       by true e = (place_holds i, state_holds x i at e)
       by false e = scope_at_holds i
 
@@ -251,8 +251,8 @@ module _ (P : Span → Type 0) (text : List ℕ) (xs : List ProgramItem) (names 
   item_entries_hold i x at =
       let s = outline_of_item text x in
       let declared = map (declared_entry (scope_of ss i s) i) s.declares in
-      each_join EntryHolds (set_entries i s ++ state_entries (place ss i) i s) declared
-      (each_join EntryHolds (set_entries i s) (state_entries (place ss i) i s) (names_hold namespace.Sets i (Some E08) (set_name s)) (states_hold (place ss i) i s))
+      each_join EntryHolds (set_entries i s ++ state_entries (enclosing_set ss i) i s) declared
+      (each_join EntryHolds (set_entries i s) (state_entries (enclosing_set ss i) i s) (names_hold namespace.Sets i (Some E08) (set_name s)) (states_hold (enclosing_set ss i) i s))
       (each_of EntryHolds (declared_entry (scope_of ss i s) i) s.declares
       (each_weaker (λ d. P (span_at xs i d.token)) (λ d. EntryHolds (declared_entry (scope_of ss i s) i d))
       (λ d p. entry_holds (scope_of ss i s) i d (scope_holds i x at) p) s.declares
@@ -333,7 +333,7 @@ module _ (P : Span → Type 0) (text : List ℕ) (xs : List ProgramItem) (names 
     TokenHolds n = P (span_at xs item n)
 
     abbrev bytes : ℕ → List ℕ
-    bytes = bytes_at text (tokens_in xs item)
+    bytes = token_bytes text (tokens_in xs item)
 
     destination_holds : (t : Target) → AllByRecursion TokenHolds (targets (found_in_target t)) → InDestination P (destination text (tokens_in xs item) ss item t)
     destination_holds (target.State name) h = h.0
@@ -394,10 +394,10 @@ module _ (P : Span → Type 0) (text : List ℕ) (xs : List ProgramItem) (names 
 
 -- ---- they lie in the text
 
-token_lies : (text : List ℕ) (ts : List Piece) (n : ℕ) → IsSource text ts → LiesIn text (span_of (slice_get ts n))
+token_lies : (text : List ℕ) (ts : List Piece) (n : ℕ) → IsSource text ts → SpanLiesIn text (span_of (slice_get ts n))
 token_lies text ts n h = by (slice_get ts n) refl
   where
-    by : (o : Option Piece) → slice_get ts n ≡ o → LiesIn text (span_of o)
+    by : (o : Option Piece) → slice_get ts n ≡ o → SpanLiesIn text (span_of o)
     by None e = omega arith
     by (Some p) e =
         let within = slice_get_within ts n p e in
@@ -405,15 +405,15 @@ token_lies text ts n h = by (slice_get ts n) refl
         omega (arith, lies)
 
 pub tables_lie : (text : List ℕ) (xs : List ProgramItem) → ((item : ℕ) → IsSource text (tokens_in xs item)) → TablesLieIn text (tables_of text xs)
-tables_lie text xs h = tables_hold (LiesIn text) text xs (record {
-  own = λ item t is. each_all (λ n. LiesIn text (span_at xs item n)) (own_name t) (lies item);
+tables_lie text xs h = tables_hold (SpanLiesIn text) text xs (record {
+  own = λ item t is. each_all (λ n. SpanLiesIn text (span_at xs item n)) (own_name t) (lies item);
   second = λ item is. lies item 1;
-  declared = λ item t is. each_all (λ d. LiesIn text (span_at xs item d.token)) (declared_in_tree text (tokens_in xs item) t) (λ d. lies item d.token);
-  variables = λ item t is. each_all (λ c. LiesIn text (span_at xs item c.variable.token)) (summary.clauses_in_tree text (tokens_in xs item) t) (λ c. lies item c.variable.token);
-  targets = λ item t is. each_all (λ n. LiesIn text (span_at xs item n)) (targets (occurrences (bytes_at text (tokens_in xs item)) t)) (lies item);
+  declared = λ item t is. each_all (λ d. SpanLiesIn text (span_at xs item d.token)) (declared_in_tree text (tokens_in xs item) t) (λ d. lies item d.token);
+  variables = λ item t is. each_all (λ c. SpanLiesIn text (span_at xs item c.variable.token)) (summary.clauses_in_tree text (tokens_in xs item) t) (λ c. lies item c.variable.token);
+  targets = λ item t is. each_all (λ n. SpanLiesIn text (span_at xs item n)) (targets (occurrences (token_bytes text (tokens_in xs item)) t)) (lies item);
 })
   where
-    lies : (item number : ℕ) → LiesIn text (span_at xs item number)
+    lies : (item number : ℕ) → SpanLiesIn text (span_at xs item number)
     lies item number = token_lies text (tokens_in xs item) number (h item)
 
 -- ---- each has a byte
@@ -437,7 +437,7 @@ have_bytes text xs read named = tables_hold HasByte text xs (record {
   second = λ item is. has item 1 (second_there text (tokens_in xs item) is);
   declared = λ item t is. each_weaker (λ d. d.token < length (tokens_in xs item)) (λ d. HasByte (span_at xs item d.token)) (λ d. has item d.token) (declared_in_tree text (tokens_in xs item) t) (named item t is).declared;
   variables = λ item t is. each_weaker (λ c. c.variable.token < length (tokens_in xs item)) (λ c. HasByte (span_at xs item c.variable.token)) (λ c. has item c.variable.token) (summary.clauses_in_tree text (tokens_in xs item) t) (named item t is).variables;
-  targets = λ item t is. each_weaker (λ n. n < length (tokens_in xs item)) (λ n. HasByte (span_at xs item n)) (has item) (targets (occurrences (bytes_at text (tokens_in xs item)) t)) (named item t is).targets;
+  targets = λ item t is. each_weaker (λ n. n < length (tokens_in xs item)) (λ n. HasByte (span_at xs item n)) (has item) (targets (occurrences (token_bytes text (tokens_in xs item)) t)) (named item t is).targets;
 })
   where
     has : (item number : ℕ) → number < length (tokens_in xs item) → HasByte (span_at xs item number)

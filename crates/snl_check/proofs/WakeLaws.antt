@@ -12,8 +12,8 @@ use Rattle.snl_scope.specs.Below.{all_below}
 use Rattle.snl_scope.specs.Clauses.{resolve_in}
 use Rattle.snl_scope.specs.Flags.{flag_number}
 use Rattle.snl_scope.specs.Names.{Entry, entries, has_name, number_in, resolve}
-use Rattle.snl_scope.specs.Places.{place}
-use Rattle.snl_walk.specs.Tokens.{bytes_at}
+use Rattle.snl_scope.specs.Places.{enclosing_set}
+use Rattle.snl_walk.specs.Tokens.{token_bytes}
 use Rattle.snl_tables.specs.declared.rows.WakeUp.TheVariants as wake
 use Rattle.snl_walk.specs.declared.used.WakeUse.{WakeUse}
 use Rattle.snl_check.specs.Channels.{AssignedChannel, assigned_channels, covers_elements, element_number, is_channel_of, is_on, variables_before}
@@ -94,8 +94,8 @@ either_below n (Some k) b v f g h = f v h
 
 resolved_below : (ss : List Outline) (item : ℕ) (name : List ℕ) (v : ℕ) → resolve_in ss item name ≡ Some v → v < length (entries ss)
 resolved_below ss item name v h =
-    either_below (length (entries ss)) (number_in (entries ss) (namespace.State item) name) (resolve (entries ss) (place ss item) name) v
-    (λ k. found_entry (entries ss) (has_name (namespace.State item) name) k) (outside (place ss item)) h
+    either_below (length (entries ss)) (number_in (entries ss) (namespace.State item) name) (resolve (entries ss) (enclosing_set ss item) name) v
+    (λ k. found_entry (entries ss) (has_name (namespace.State item) name) k) (outside (enclosing_set ss item)) h
   where
     outside : (o : Option ℕ) (k : ℕ) → resolve (entries ss) o name ≡ Some k → k < length (entries ss)
     outside None k e = found_entry (entries ss) (has_name namespace.Program name) k e
@@ -153,7 +153,7 @@ module _ (text : List ℕ) (xs : List ProgramItem) (ss : List Outline) (cs : Lis
 
   channel_covered : (u : WakeUse) → option_map_or (covers_channel (variables_before cs (length (entries ss))) n) (wake_up text xs ss cs item u) false
       ≡ option_map_or (λ v. is_none (flag_number ss v) && channel_meant cs u.subscript v n) (declaration_of text xs ss item u) false
-  channel_covered u = by (declaration_of text xs ss item u) (resolved_below ss item (bytes_at text (tokens_in xs item) u.token))
+  channel_covered u = by (declaration_of text xs ss item u) (resolved_below ss item (token_bytes text (tokens_in xs item) u.token))
     where
       by : (o : Option ℕ) → ((v : ℕ) → o ≡ Some v → v < length (entries ss))
           → option_map_or (covers_channel (variables_before cs (length (entries ss))) n) (option_and_then (on_declaration ss cs u.subscript) o) false

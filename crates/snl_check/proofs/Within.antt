@@ -12,9 +12,9 @@ use Rattle.snl_walk.specs.Items.{occurrences}
 use Rattle.snl_walk.specs.Rules.{findings}
 use Rattle.snl_scope.specs.declared.facts.Fact.{Fact}
 use Rattle.snl_check.specs.declared.rules.findings.ItemFault.{ItemFault}
-use Rattle.snl_check.specs.Found.{StandsIn, fault_of, faults_in, faults_of_rules}
+use Rattle.snl_check.specs.ItemFaults.{StandsIn, fault_of, faults_in, faults_of_rules}
 use Rattle.snl_check.specs.Options.{found_at_letter, is_known, letter_fault, program_letters, state_letters, unknown_in_member, unknown_letters, unknown_options}
-use Rattle.snl_check.specs.Outlook.{misses_by, outer_by}
+use Rattle.snl_check.specs.View.{misses_by, outer_by}
 use Rattle.snl_check.proofs.Each.{each_join}
 
 abbrev Within : (ℕ → List ℕ) → List ItemFault → Type 0

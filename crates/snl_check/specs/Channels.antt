@@ -10,7 +10,7 @@ use Rattle.snl_syntax.specs.declared.tree.clause.Clause.TheVariants as clauses
 use Rattle.snl_scope.specs.declared.facts.ClauseLink.{ClauseLink}
 use Rattle.snl_scope.specs.declared.summaries.summary.Outline.{Outline}
 use Rattle.snl_scope.specs.Below.{all_below}
-use Rattle.snl_walk.specs.Tokens.{bytes_at, value_at}
+use Rattle.snl_walk.specs.Tokens.{token_bytes, value_at}
 use Rattle.snl_check.specs.Clauses.{ItemClause, told_clauses}
 use Rattle.snl_check.specs.Items.{ProgramItem, tokens_in}
 
@@ -20,7 +20,7 @@ between_quotes bytes = take (length bytes - 2) (drop 1 bytes)
 
 -- A channel's name: what is between the quotes of its strings, joined.
 abbrev pub joined : List ℕ → List Piece → List ℕ → List ℕ
-joined text tokens numbers = flat_map (λ n. between_quotes (bytes_at text tokens n)) numbers
+joined text tokens numbers = flat_map (λ n. between_quotes (token_bytes text tokens n)) numbers
 
 -- A channel that an `assign` names: its element, if it is that of one, and the strings of its name.
 pub record NamedChannel : Type 0 where

@@ -5,20 +5,20 @@ use Rattle.snl_scope.specs.declared.facts.ClauseLink.{ClauseLink}
 use Rattle.snl_check.specs.declared.rows.channels.AssignedChannel.{AssignedChannel}
 use Rattle.snl_check.specs.declared.rows.item_clauses.Placed.{Placed}
 use Rattle.snl_check.specs.declared.rows.item_clauses.ToldClause.{ToldClause}
-use Rattle.snl_check.specs.declared.rows.listing.Listing.{Listing}
+use Rattle.snl_check.specs.declared.rows.row_source.RowSource.{RowSource}
 use Rattle.snl_check.specs.declared.rows.outline.Outline.{Outline}
-use Rattle.snl_check.specs.declared.rows.program.Program.{Program}
+use Rattle.snl_check.specs.declared.rows.text_items.TextItems.{TextItems}
 use Rattle.snl_check.specs.Channels as channels
 use Rattle.snl_check.specs.Clauses.{ItemClause, told_clauses}
 use Rattle.snl_check.specs.Items.{IsCutUp, ProgramItem, program_items, outlines_of}
 use Rattle.snl_check.specs.Numbered.{Numbered}
 use Rattle.snl_check.specs.Told.{told_in_item, told_seen}
 
-abbrev pub items_in : Program → List ProgramItem
+abbrev pub items_in : TextItems → List ProgramItem
 items_in p = program_items p.tokens.now p.ends.now (map option_copied p.trees.now)
 
-abbrev pub IsProgram : Program → Type 0
-IsProgram p = IsCutUp p.text.now p.tokens.now p.ends.now (length p.trees.now)
+abbrev pub AreTextItems : TextItems → Type 0
+AreTextItems p = IsCutUp p.text.now p.tokens.now p.ends.now (length p.trees.now)
 
 abbrev pub placed : Placed → ItemClause
 placed p = record { item = p.item; clause = p.clause.now }
@@ -27,13 +27,13 @@ abbrev pub told : ToldClause → ItemClause × ClauseLink
 told t = (record { item = t.item; clause = t.clause.now }, t.link)
 
 -- The clauses are those of the program's items, with what links tell of each.
-pub record IsListing (l : Listing) : Type 0 where
-  pub program : IsProgram l.program
+pub record IsRowSource (l : RowSource) : Type 0 where
+  pub program : AreTextItems l.program
   pub clauses : map told l.clauses.now ≡ told_clauses (items_in l.program) l.links.now.outlines
 
 -- The links are those of the items.
-pub record IsLinked (l : Listing) : Type 0 where
-  pub listing : IsListing l
+pub record IsLinked (l : RowSource) : Type 0 where
+  pub listing : IsRowSource l
   pub outlines : l.links.now.outlines ≡ outlines_of l.program.text.now (items_in l.program)
 
 abbrev pub assigned : AssignedChannel → channels.AssignedChannel

@@ -4,7 +4,7 @@ use Rattle.std.specs.List.{filter_map}
 use Rattle.snl_scope.specs.declared.summaries.summary.Outline.{Outline}
 use Rattle.snl_scope.specs.Clauses.{resolve_in}
 use Rattle.snl_scope.specs.Flags.{flag_number}
-use Rattle.snl_walk.specs.Tokens.{bytes_at}
+use Rattle.snl_walk.specs.Tokens.{token_bytes}
 use Rattle.snl_tables.specs.declared.rows.WakeUp.{WakeUp}
 use Rattle.snl_tables.specs.declared.rows.WakeUp.TheVariants as wake
 use Rattle.snl_walk.specs.declared.used.WakeUse.{WakeUse}
@@ -34,7 +34,7 @@ on_declaration ss cs subscript number = by_flag (flag_number ss number) (on_vari
 -- What a use of a name in an item means. A name that resolves to nothing means nothing.
 abbrev pub wake_up : List ℕ → List ProgramItem → List Outline → List AssignedChannel → ℕ → WakeUse → Option WakeUp
 wake_up text xs ss cs item used =
-    option_and_then (on_declaration ss cs used.subscript) (resolve_in ss item (bytes_at text (tokens_in xs item) used.token))
+    option_and_then (on_declaration ss cs used.subscript) (resolve_in ss item (token_bytes text (tokens_in xs item) used.token))
 
 -- What the uses in the conditions of an item mean, in the order of the text.
 abbrev pub wake_ups : List ℕ → List ProgramItem → List Outline → List AssignedChannel → ℕ → List WakeUse → List WakeUp

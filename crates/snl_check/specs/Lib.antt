@@ -1,8 +1,8 @@
 pub mod Options
 pub mod Members
-pub mod Outlook
-pub mod Found
-pub mod Alike
+pub mod View
+pub mod ItemFaults
+pub mod SeenNames
 pub mod Reach
 pub mod Items
 pub mod Told

@@ -8,10 +8,10 @@ use Rattle.snl_syntax.specs.declared.tree.item.Item.TheVariants as items
 use Rattle.snl_syntax.specs.declared.tree.state.StateMember.{StateMember}
 use Rattle.snl_syntax.specs.declared.tree.state.StateMember.TheVariants as members
 use Rattle.snl_scope.specs.declared.summaries.summary.Outline.{Outline}
-use Rattle.snl_walk.specs.Tokens.{bytes_at}
+use Rattle.snl_walk.specs.Tokens.{token_bytes}
 use Rattle.snl_tables.specs.declared.rows.OptionRow.{OptionRow}
 use Rattle.snl_check.specs.Options.{has_letter, is_on}
-use Rattle.snl_check.specs.Outlook.{is_in_set}
+use Rattle.snl_check.specs.View.{is_in_set}
 use Rattle.snl_check.specs.Items.{ProgramItem, gathered, tokens_in, tree_in}
 
 -- The letters of a program's options and those of a state's, by rising bytes.
@@ -55,7 +55,7 @@ setting_in_tree bytes _ = None
 -- What an item sets for the program. An option in a state set sets nothing, nor does a faulty one.
 abbrev pub setting_at : List ℕ → List ProgramItem → List Outline → ℕ → Option LetterSetting
 setting_at text xs ss item =
-    if is_in_set ss item then None else option_and_then (setting_in_tree (bytes_at text (tokens_in xs item))) (tree_in xs item)
+    if is_in_set ss item then None else option_and_then (setting_in_tree (token_bytes text (tokens_in xs item))) (tree_in xs item)
 
 -- What the items set for the program, in the order of the text.
 abbrev pub program_settings : List ℕ → List ProgramItem → List Outline → List LetterSetting

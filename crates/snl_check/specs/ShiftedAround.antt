@@ -12,7 +12,7 @@ use Rattle.snl_scope.specs.Order.{is_named_state}
 use Rattle.snl_scope.specs.Places.{is_set_begin, stands_in}
 use Rattle.snl_scope.specs.Summaries.{kind_of}
 use Rattle.snl_walk.specs.declared.used.WakeUse.{WakeUse}
-use Rattle.snl_walk.specs.Tokens.{bytes_at}
+use Rattle.snl_walk.specs.Tokens.{token_bytes}
 use Rattle.snl_tables.specs.Shifted.{shifted_span}
 use Rattle.snl_check.specs.Items.{ProgramItem, outline_of_item, span_of, summary_of_item}
 use Rattle.snl_check.specs.Shifted.{KeepsItem, shifted_item, start_at}
@@ -66,7 +66,7 @@ used_by bytes u = (bytes u.token, u.subscript)
 
 -- What the conditions of an item say, use by use.
 abbrev pub wakes_of : List ℕ → ProgramItem → List (List ℕ × Option ℕ)
-wakes_of text x = map (used_by (bytes_at text x.tokens)) (told_in_item text x).wake_uses
+wakes_of text x = map (used_by (token_bytes text x.tokens)) (told_in_item text x).wake_uses
 
 -- The new state leads where the old one led, its conditions say the same, and it is sound where that one was: so all states of the
 -- set have the marks that they had, and its row has the wake-up set that it had.

@@ -52,15 +52,15 @@ pub record InTables (P : Span → Type 0) (t : Tables) : Type 0 where
   pub sets : AllByRecursion (InSet P) t.sets
 
 -- The span lies in the text.
-abbrev pub LiesIn : List ℕ → Span → Type 0
-LiesIn text s = s.start + s.len ≤ length text
+abbrev pub SpanLiesIn : List ℕ → Span → Type 0
+SpanLiesIn text s = s.start + s.len ≤ length text
 
 -- It has a byte.
 abbrev pub HasByte : Span → Type 0
 HasByte s = 1 ≤ s.len
 
 abbrev pub TablesLieIn : List ℕ → Tables → Type 0
-TablesLieIn text t = InTables (LiesIn text) t
+TablesLieIn text t = InTables (SpanLiesIn text) t
 
 abbrev pub TablesHaveBytes : Tables → Type 0
 TablesHaveBytes t = InTables HasByte t

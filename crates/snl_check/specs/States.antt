@@ -14,7 +14,7 @@ use Rattle.snl_scope.specs.declared.summaries.summary.Outline.{Outline}
 use Rattle.snl_scope.specs.Below.{all_below}
 use Rattle.snl_scope.specs.Linked.{has_target}
 use Rattle.snl_scope.specs.Places.{is_set_begin}
-use Rattle.snl_walk.specs.Tokens.{bytes_at}
+use Rattle.snl_walk.specs.Tokens.{token_bytes}
 use Rattle.snl_tables.specs.declared.rows.Destination.{Destination}
 use Rattle.snl_tables.specs.declared.rows.Destination.TheVariants as destinations
 use Rattle.snl_tables.specs.declared.rows.NamedState.{NamedState}
@@ -40,7 +40,7 @@ members_in _ = []
 abbrev pub named_state : List ℕ → List Piece → List Outline → ℕ → ℕ → NamedState
 named_state text tokens ss item token = record {
   name = span_of (slice_get tokens token);
-  is_known = has_target ss item (bytes_at text tokens token);
+  is_known = has_target ss item (token_bytes text tokens token);
 }
 
 -- Where a transition leads.
@@ -59,7 +59,7 @@ gotos_in text x = by_statements (told_in_item text x).target_uses
 -- The body of the row of an item, which has this number: what goes by the item's own tokens and tree, and by the states of its set.
 abbrev pub state_body : List ℕ → List Outline → ℕ → ProgramItem → StateBody
 state_body text ss item x = record {
-  options = state_options (bytes_at text x.tokens) (members_in x.tree);
+  options = state_options (token_bytes text x.tokens) (members_in x.tree);
   transitions = flat_map (destinations_in_member text x.tokens ss item) (members_in x.tree);
   gotos = map (named_state text x.tokens ss item) (gotos_in text x);
 }

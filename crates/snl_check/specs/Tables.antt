@@ -14,7 +14,7 @@ use Rattle.snl_scope.specs.Channels.{is_monitored, sync_number}
 use Rattle.snl_scope.specs.Flags.{flag_number, flags_of}
 use Rattle.snl_scope.specs.Linked.{declaration_at}
 use Rattle.snl_scope.specs.Names.{entries}
-use Rattle.snl_scope.specs.Places.{place}
+use Rattle.snl_scope.specs.Places.{enclosing_set}
 use Rattle.snl_walk.specs.Tokens.{value_at}
 use Rattle.snl_tables.specs.declared.rows.ChannelRow.{ChannelRow}
 use Rattle.snl_tables.specs.declared.rows.FlagRow.{FlagRow}
@@ -34,7 +34,7 @@ use Rattle.snl_check.specs.States.{set_rows}
 abbrev pub scope_name : List ProgramItem → List Outline → Scope → ScopeName
 scope_name xs ss scope.Program = named.Program
 scope_name xs ss (scope.StateSet set) = named.StateSet (item_name xs set)
-scope_name xs ss (scope.State state) = named.State (option_map (item_name xs) (place ss state)) (item_name xs state)
+scope_name xs ss (scope.State state) = named.State (option_map (item_name xs) (enclosing_set ss state)) (item_name xs state)
 
 abbrev pub flag_row : List ProgramItem → List Outline → Declaration → FlagRow
 flag_row xs ss d = record { name = span_at xs d.item d.token; scope = scope_name xs ss d.scope }

@@ -6,7 +6,7 @@ use Rattle.snl_syntax.specs.declared.tree.item.Item.{Item}
 use Rattle.snl_walk.specs.declared.used.TargetUse.{TargetUse}
 use Rattle.snl_walk.specs.declared.used.WakeUse.{WakeUse}
 use Rattle.snl_walk.specs.Items.{occurrences}
-use Rattle.snl_walk.specs.Tokens.{bytes_at}
+use Rattle.snl_walk.specs.Tokens.{token_bytes}
 use Rattle.snl_walk.specs.Uses as uses
 use Rattle.snl_check.specs.declared.rules.findings.Checked.{Checked}
 use Rattle.snl_check.specs.Items.{ProgramItem}
@@ -31,7 +31,7 @@ nothing = record { wake_uses = []; target_uses = [] }
 
 -- A faulty item has no check.
 abbrev pub told_in_item : List ℕ → ProgramItem → Told
-told_in_item text x = option_map_or (told_by (bytes_at text x.tokens)) x.tree nothing
+told_in_item text x = option_map_or (told_by (token_bytes text x.tokens)) x.tree nothing
 
 -- That of the item with a number.
 abbrev pub told_in : List ℕ → List ProgramItem → ℕ → Told

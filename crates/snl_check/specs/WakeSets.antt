@@ -6,7 +6,7 @@ use Rattle.std.specs.Option.{is_none, option_map_or}
 use Rattle.snl_scope.specs.declared.summaries.summary.Outline.{Outline}
 use Rattle.snl_scope.specs.Clauses.{resolve_in}
 use Rattle.snl_scope.specs.Flags.{flag_number}
-use Rattle.snl_walk.specs.Tokens.{bytes_at}
+use Rattle.snl_walk.specs.Tokens.{token_bytes}
 use Rattle.snl_tables.specs.declared.rows.WakeUp.{WakeUp}
 pub use Rattle.snl_tables.specs.WakeSets.{covers_channel, covers_flag}
 use Rattle.snl_walk.specs.declared.used.WakeUse.{WakeUse}
@@ -21,7 +21,7 @@ is_number n told = option_map_or (nat_eq n) told false
 
 -- The declaration that a use of a name in an item resolves to.
 abbrev pub declaration_of : List ℕ → List ProgramItem → List Outline → ℕ → WakeUse → Option ℕ
-declaration_of text xs ss item u = resolve_in ss item (bytes_at text (tokens_in xs item) u.token)
+declaration_of text xs ss item u = resolve_in ss item (token_bytes text (tokens_in xs item) u.token)
 
 -- A use means an event flag: its name resolves to the flag with this number.
 abbrev pub means_flag : List ℕ → List ProgramItem → List Outline → ℕ → ℕ → WakeUse → Bool

@@ -9,7 +9,7 @@ ghost use Rattle.snl_scope.specs.declared.facts.Fact.{Fact};
 ghost use Rattle.snl_scope.specs.Summaries.{outline_in};
 ghost use Rattle.snl_walk.specs.Codes.{is_item_code};
 ghost use Rattle.snl_check.specs.FaultCodes.{LeavesToLinks};
-ghost use Rattle.snl_check.specs.Found.{faults_in};
+ghost use Rattle.snl_check.specs.ItemFaults.{faults_in};
 
 use snl_walk::{findings_have_rule_codes, functions_are_named_first, repeated_names_resolve};
 

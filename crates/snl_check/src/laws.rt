@@ -11,10 +11,10 @@ ghost use Rattle.snl_syntax.specs.Reading.Items.{item_of};
 ghost use Rattle.snl_scope.specs.declared.facts.Fact.{Fact};
 ghost use Rattle.snl_scope.specs.Clauses.{clauses_of};
 ghost use Rattle.snl_scope.specs.Order.{is_named_state};
-ghost use Rattle.snl_scope.specs.Places.{place};
-ghost use Rattle.snl_walk.specs.Tokens.{IsSource, bytes_at};
-ghost use Rattle.snl_check.specs.Alike.{Agree, SameTokens, target_names, used_names};
-ghost use Rattle.snl_check.specs.Found.{StandsIn, faults_in};
+ghost use Rattle.snl_scope.specs.Places.{enclosing_set};
+ghost use Rattle.snl_walk.specs.Tokens.{IsSource, token_bytes};
+ghost use Rattle.snl_check.specs.SeenNames.{Agree, SameTokens, target_names, used_names};
+ghost use Rattle.snl_check.specs.ItemFaults.{StandsIn, faults_in};
 ghost use Rattle.snl_check.specs.Members.{states_in};
 ghost use Rattle.snl_check.specs.Reach.{AreStates, IsReached, is_reached};
 ghost use Rattle.snl_check.specs.States.{mark_of, state_body};
@@ -50,9 +50,9 @@ pub fn equal_views()
         → SameTokens text tokens moved shifted
         → Agree fact other (used_names text tokens tree)
         → Agree target another (target_names text tokens tree)
-        → faults_in (bytes_at text tokens) tree in_set fact target ≡ faults_in (bytes_at moved shifted) tree in_set other another }
+        → faults_in (token_bytes text tokens) tree in_set fact target ≡ faults_in (token_bytes moved shifted) tree in_set other another }
     ensures told { (text moved : List ℕ) (tokens shifted : List Piece) (tree : Item)
-        → SameTokens text tokens moved shifted → told_by (bytes_at text tokens) tree ≡ told_by (bytes_at moved shifted) tree }
+        → SameTokens text tokens moved shifted → told_by (token_bytes text tokens) tree ≡ told_by (token_bytes moved shifted) tree }
 {
     same_answers_same_findings();
 }
@@ -123,7 +123,7 @@ pub fn tables_shift()
 /// and in its conditions what it said, the rows are shifted, but for the body of its own.
 pub fn tables_shift_inside_a_state()
     ensures { (old text : List ℕ) (s : Shift) (xs ys : List ProgramItem) (j set : ℕ) (y : ProgramItem) → 0 < s.start → AreRead old xs → ReplacesOne old text s xs ys j
-        → place (outlines_of old xs) j ≡ Some set → is_named_state (outlines_of old xs) j ≡ true → slice_get ys j ≡ Some y → SaysAlikeAt old text xs ys j
+        → enclosing_set (outlines_of old xs) j ≡ Some set → is_named_state (outlines_of old xs) j ≡ true → slice_get ys j ≡ Some y → SaysAlikeAt old text xs ys j
         → tables_of text ys ≡ with_body (shifted_tables s (tables_of old xs)) (set_number (outlines_of old xs) set) (state_number (outlines_of old xs) set j) (state_body text (outlines_of old xs) j y) }
 {
     names_are_tokens();

@@ -10,8 +10,8 @@ use Rattle.snl_session.specs.Listing.{listing_text}
 use Rattle.snl_session.specs.Diagnostics.{diagnostics_of, errors_of, message_of, name_of, warnings_of}
 
 -- So many bytes of a text from an offset on.
-abbrev pub part_of : (text : List ℕ) (start len : ℕ) → List ℕ
-part_of text start len = take len (drop start text)
+abbrev pub slice_of : (text : List ℕ) (start len : ℕ) → List ℕ
+slice_of text start len = take len (drop start text)
 
 -- A byte of a file's name: one outside 32 to 126 is `\x` and two lower-case hexadecimal digits.
 abbrev pub escaped : ℕ → List ℕ
@@ -24,7 +24,7 @@ name_text name = flat_map escaped name ++ codes ":"
 -- `FILE:`, where a line marker names the file of the line.
 abbrev pub file_text : (text : List ℕ) → Option (ℕ × ℕ) → List ℕ
 file_text text None = []
-file_text text (Some file) = name_text (part_of text file.0 file.1)
+file_text text (Some file) = name_text (slice_of text file.0 file.1)
 
 -- ` 'BYTES'`, where bytes are quoted.
 abbrev pub quoted : List ℕ → List ℕ
@@ -37,7 +37,7 @@ finding_text d = concat (decimal d.line ∷ codes ": " ∷ name_of d.code ∷ co
 
 -- The line of a diagnostic.
 abbrev pub line_text : (text : List ℕ) → Diagnostic → List ℕ
-line_text text d = concat (file_text text d.file ∷ finding_text d ∷ quoted (part_of text d.offset d.subject) ∷ codes "\n" ∷ [])
+line_text text d = concat (file_text text d.file ∷ finding_text d ∷ quoted (slice_of text d.offset d.subject) ∷ codes "\n" ∷ [])
 
 -- `errors E warnings W`.
 abbrev pub sum_text : (errors warnings : ℕ) → List ℕ

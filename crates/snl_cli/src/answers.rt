@@ -5,7 +5,7 @@
 
 ghost use Rattle.std.specs.Prelude.{◌≡◌, ℕ, ◌+◌, ◌==◌, ◌<◌, ◌||◌, [], ◌++◌, List, length, take, flat_map, is_err, OnOk};
 ghost use Rattle.std.specs.Char.{digit_char};
-ghost use Rattle.snl_cli.specs.Answers.{edit_text, escaped, file_text, finding_text, line_text, name_text, part_of, quoted, report_of, sum_text, work_text};
+ghost use Rattle.snl_cli.specs.Answers.{edit_text, escaped, file_text, finding_text, line_text, name_text, slice_of, quoted, report_of, sum_text, work_text};
 ghost use Rattle.snl_cli.specs.Said.{Said, Written};
 ghost use Rattle.snl_cli.specs.Watched.{failed_of, inner_of};
 
@@ -16,8 +16,8 @@ use snl_session::{Diagnostic, Refused, Session, Work};
 use std::io::Write;
 
 /// So many bytes of a text from an offset on, or those that there are.
-fn part_of(text: &[u8], start: usize, len: usize) -> &[u8]
-    ensures { result.now ≡ part_of text.now start len }
+fn slice_of(text: &[u8], start: usize, len: usize) -> &[u8]
+    ensures { result.now ≡ slice_of text.now start len }
 {
     let after = &text[start.min(text.len())..];
     &after[..len.min(after.len())]
@@ -72,7 +72,7 @@ fn put_file<W: Write>(
 {
     match file {
         None => Ok(()),
-        Some((start, len)) => put_name(page, out, part_of(text, start, len)),
+        Some((start, len)) => put_name(page, out, slice_of(text, start, len)),
     }
 }
 
@@ -116,10 +116,10 @@ fn put_subject<W: Write>(
     len: usize,
 ) -> Result<(), WriteFault>
     ensures said { Said result (W.contents (inner_of out.old)) (W.contents (inner_of out.new)) page.new
-        (page.old ++ quoted (part_of text.now start len)) }
+        (page.old ++ quoted (slice_of text.now start len)) }
     ensures failed { failed_of out.new ≡ (failed_of out.old || is_err result) }
 {
-    put_quoted(page, out, part_of(text, start, len))
+    put_quoted(page, out, slice_of(text, start, len))
 }
 
 /// Says the line of a diagnostic of a text.

@@ -1,5 +1,5 @@
 //! Lists that change in place: a part of one is replaced, places are moved, values stay under their keys. All growth is asked
-//! for beforehand, so that no change can fail. Besides these, lists that take one word while they are empty. The crate knows
+//! for beforehand, so that no change can fail. Besides these, lists that take two words while they are empty. The crate knows
 //! nothing of what is listed.
 #![tactic(auto)]
 

@@ -163,7 +163,7 @@ fn add_word_told(links: &Links, question: Question, words: &mut Vec<u8>) -> Resu
 
 fn number_told(links: &Links, question: Question) -> Option<usize> {
     match question {
-        Question::Place(item) => links.place(item),
+        Question::Place(item) => links.enclosing_set(item),
         Question::FlagNumber(declaration) => links.flag_number(declaration),
         Question::Meaning(item, name) => links.declaration(item, name),
         Question::Sync(declaration, element) => links.sync_number(declaration, element),

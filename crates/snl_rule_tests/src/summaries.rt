@@ -237,7 +237,7 @@ fn beginnings(rt: HostRuntime) -> Result<(), Fail> {
         assert_eq!(rt; summary.kind, *kind, "{text:?}");
         assert_eq!(rt; summary.outline.opening, *opening, "{text:?}");
         let name = match &summary.outline.second {
-            Some(name) => name.bytes(),
+            Some(name) => name.get().bytes(),
             None => &[],
         };
         assert_eq!(rt; name, *second, "{text:?}");

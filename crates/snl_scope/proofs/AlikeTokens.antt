@@ -30,9 +30,9 @@ use Rattle.snl_scope.specs.declared.summaries.summary.VariableClause.{VariableCl
 use Rattle.snl_scope.specs.Summaries.Clauses.{clause_of, clause_on, clauses_in, clauses_in_tree, clauses_of_member, covered_by_channel, covered_by_subscript, element, flag_at}
 use Rattle.snl_scope.specs.Summaries.Declares.{declared_at, declared_by_declaration, declared_by_declarator, declared_by_foreign, declared_by_function, declared_by_member, declared_if_body, declared_in, declared_in_tree, dims_by, dims_by_integer, dims_of, foreign_name, function_name, known_value, lone_integer, symbol_kind_of, variable_of}
 use Rattle.snl_scope.specs.Summaries.Tokens.{name_ref_at}
-use Rattle.snl_walk.specs.Tokens.{bytes_at, value_at}
+use Rattle.snl_walk.specs.Tokens.{token_bytes, value_at}
 
-module _ (text moved : List ℕ) (tokens shifted : List Piece) (same : (n : ℕ) → bytes_at text tokens n ≡ bytes_at moved shifted n) where
+module _ (text moved : List ℕ) (tokens shifted : List Piece) (same : (n : ℕ) → token_bytes text tokens n ≡ token_bytes moved shifted n) where
   same_value : (n : ℕ) → value_at text tokens n ≡ value_at moved shifted n
   same_value n = ap int_value_of (same n)
 

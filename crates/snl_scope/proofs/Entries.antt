@@ -12,12 +12,12 @@ use Rattle.indexmap.proofs.MapLemmas.{absent_from_lookup, insert_entry-absent}
 use Rattle.snl_scope.specs.declared.facts.LinkFault.{LinkFault}
 use Rattle.snl_scope.specs.declared.names.namespaces.Key.{Key}
 use Rattle.snl_scope.specs.declared.names.namespaces.Namespace.{Namespace}
-use Rattle.snl_scope.specs.declared.names.tables.Symbol.{Symbol}
+use Rattle.snl_scope.specs.declared.names.name_tables.Symbol.{Symbol}
 use Rattle.snl_scope.specs.contracts.names.namespaces.KeyPartialEq.TheImpl as key_eq
 use Rattle.snl_scope.specs.Below.{all_below}
 use Rattle.snl_scope.specs.Flags.{is_first_at}
 use Rattle.snl_scope.specs.Names.{Entry, has_name, number_in, repetition, repetition_at, repetitions}
-use Rattle.snl_scope.specs.Tables.{Follows, number_by, same_key, symbol_of, with_name}
+use Rattle.snl_scope.specs.NameTables.{Follows, number_by, same_key, symbol_of, with_name}
 use Rattle.snl_scope.proofs.Equality.{key_is, key_true, key_same, name_same, name_true}
 use Rattle.snl_scope.proofs.FirstEntries.{firsts-new, firsts-seen}
 use Rattle.snl_scope.proofs.Numbering.{position-push}

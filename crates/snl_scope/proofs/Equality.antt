@@ -9,7 +9,7 @@ use Rattle.snl_scope.specs.declared.names.namespaces.Namespace.TheVariants as na
 use Rattle.snl_scope.specs.contracts.names.namespaces.KeyPartialEq.TheImpl as key_eq
 use Rattle.snl_scope.specs.contracts.names.namespaces.NamespacePartialEq.TheImpl as namespace_eq
 use Rattle.snl_scope.specs.Names.{Entry, has_name, same_namespace}
-use Rattle.snl_scope.specs.Tables.{same_key}
+use Rattle.snl_scope.specs.NameTables.{same_key}
 
 namespace_is : (a b : Namespace) → namespace_eq.eq-value.it a b ≡ same_namespace a b
 namespace_is namespace.Program namespace.Program = refl

@@ -21,7 +21,7 @@ use Rattle.snl_scope.specs.LinkedItems.{LinkedItems}
 use Rattle.snl_scope.specs.Names.{Entry, declared_entry, entries, entries_before, entries_of, has_own_scope, name_faults, named_entry, repetitions, scope_at, scope_code, scope_of, set_entries, set_name, state_entries, told_by}
 use Rattle.snl_scope.specs.Once.{declared_tokens}
 use Rattle.snl_scope.specs.Order.{at_item, at_items_where, found_if, header_faults, if_missing, is_misplaced, is_program_item, is_program_word, is_repeated_header, is_ss_item, is_ss_word, is_state_word, is_stateless, is_unmatched, misplaced_items, missing_states, order_faults, state_name, unmatched_braces}
-use Rattle.snl_scope.specs.Places.{begins_set, is_set_begin, item_is, place}
+use Rattle.snl_scope.specs.Places.{begins_set, is_set_begin, item_is, enclosing_set}
 use Rattle.snl_scope.proofs.Families.{rank}
 use Rattle.snl_scope.proofs.OnceClauses.{AtClause, after_each, each_flags}
 use Rattle.snl_scope.proofs.OnceNames.{Gives, each-filter, repeated_each}
@@ -179,7 +179,7 @@ module _ (counts : ℕ → ℕ) (ss : List Outline) (speaks : (i : ℕ) → IfSo
     not_own : scope_code (scope_of ss i s) ≡ Some E07 → has_own_scope s.role ≡ false
     not_own = by (has_own_scope s.role)
       where
-        by : (b : Bool) → scope_code (if b then namespace.State i else scope_at (place ss i)) ≡ Some E07 → b ≡ false
+        by : (b : Bool) → scope_code (if b then namespace.State i else scope_at (enclosing_set ss i)) ≡ Some E07 → b ≡ false
         by true e = absurd cc
         by false e = refl
 
@@ -195,9 +195,9 @@ module _ (counts : ℕ → ℕ) (ss : List Outline) (speaks : (i : ℕ) → IfSo
 
     entries_placed : Each EntryPlaced (entries_of ss i s)
     entries_placed =
-        each-append EntryPlaced (set_entries i s ++ state_entries (place ss i) i s) (map (declared_entry (scope_of ss i s) i) s.declares)
-        (each-append EntryPlaced (set_entries i s) (state_entries (place ss i) i s)
-        (named namespace.Sets E08 (omega arith) (omega arith) (λ e. cc) (set_name s) (some_if (begins_set s.role) s.second)) (state_placed (place ss i)))
+        each-append EntryPlaced (set_entries i s ++ state_entries (enclosing_set ss i) i s) (map (declared_entry (scope_of ss i s) i) s.declares)
+        (each-append EntryPlaced (set_entries i s) (state_entries (enclosing_set ss i) i s)
+        (named namespace.Sets E08 (omega arith) (omega arith) (λ e. cc) (set_name s) (some_if (begins_set s.role) s.second)) (state_placed (enclosing_set ss i)))
         declared_placed
 
   entries_if : (i : ℕ) (o : Option Outline) → slice_get ss i ≡ o → IfSome o (SpeaksOfTokens (counts i)) → Each EntryPlaced (option_map_or (entries_of ss i) o [])

@@ -5,14 +5,14 @@ use Rattle.std.proofs.lemmas.Bool.Decides.{Decides-eqb}
 use Rattle.std.specs.List.{list_any, position}
 use Rattle.std.specs.Map.{lookup}
 use Rattle.std.specs.Option.{option_or}
-use Rattle.snl_scope.specs.declared.clauses.claims.Claim.{Claim}
-use Rattle.snl_scope.specs.declared.clauses.claims.Extent.{Extent}
-use Rattle.snl_scope.specs.declared.clauses.claims.Extent.TheVariants as extent
-use Rattle.snl_scope.specs.declared.clauses.claims.Purpose.{Purpose}
-use Rattle.snl_scope.specs.declared.clauses.claims.Purpose.TheVariants as purpose
-use Rattle.snl_scope.specs.contracts.clauses.claims.ClaimPartialEq.TheImpl as claim_eq
-use Rattle.snl_scope.specs.contracts.clauses.claims.ExtentPartialEq.TheImpl as extent_eq
-use Rattle.snl_scope.specs.contracts.clauses.claims.PurposePartialEq.TheImpl as purpose_eq
+use Rattle.snl_scope.specs.declared.clauses.clause_index.Claim.{Claim}
+use Rattle.snl_scope.specs.declared.clauses.clause_index.Extent.{Extent}
+use Rattle.snl_scope.specs.declared.clauses.clause_index.Extent.TheVariants as extent
+use Rattle.snl_scope.specs.declared.clauses.clause_index.Purpose.{Purpose}
+use Rattle.snl_scope.specs.declared.clauses.clause_index.Purpose.TheVariants as purpose
+use Rattle.snl_scope.specs.contracts.clauses.clause_index.ClaimPartialEq.TheImpl as claim_eq
+use Rattle.snl_scope.specs.contracts.clauses.clause_index.ExtentPartialEq.TheImpl as extent_eq
+use Rattle.snl_scope.specs.contracts.clauses.clause_index.PurposePartialEq.TheImpl as purpose_eq
 use Rattle.snl_scope.specs.Claims.{Adds, Claimed, claims, makes, purpose_of, same_claim, same_extent, same_purpose, sound_among}
 use Rattle.snl_scope.specs.Clauses.{LinkedClause, same_number}
 use Rattle.snl_scope.proofs.Numbering.{any-position, position-push}

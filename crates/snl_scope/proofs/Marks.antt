@@ -9,8 +9,8 @@ use Rattle.snl_scope.specs.declared.items.heads.Member.TheVariants as member
 use Rattle.snl_scope.specs.declared.summaries.summary.Outline.{Outline}
 use Rattle.snl_scope.specs.Below.{any_below}
 use Rattle.snl_scope.specs.Order.{has_state, is_closed, is_stateless, is_unmatched}
-use Rattle.snl_scope.specs.Places.{begins_set, ends_set, is_set_begin, item_is, place, stands_in}
-use Rattle.snl_scope.specs.Tables.{Marked, head_of, is_member, set_of, with_mark}
+use Rattle.snl_scope.specs.Places.{begins_set, ends_set, is_set_begin, item_is, enclosing_set, stands_in}
+use Rattle.snl_scope.specs.NameTables.{Marked, head_of, is_member, set_of, with_mark}
 use Rattle.snl_scope.proofs.Searches.{get-or}
 use Rattle.snl_scope.proofs.OpenSets.{place_within}
 use Rattle.snl_scope.proofs.OrderSteps.{head_here}
@@ -30,7 +30,7 @@ module _ (test : Outline → Bool) (ss : List Outline) where
         by false e = get_or-set_other marks p k true false (λ h. true≢false (sym ((Decides-eqb k p).1 h) ∙ e))
 
     -- what the item is to the state set that item k begins
-    marked_here : (k : ℕ) → members k i ≡ (is && option_map_or (nat_eq k) (place ss i) false)
+    marked_here : (k : ℕ) → members k i ≡ (is && option_map_or (nat_eq k) (enclosing_set ss i) false)
     marked_here k = ap (λ b. b && stands_in ss k i) told
 
     marks-step : (marks : List Bool) (b : Bool) (p : Option ℕ) → ((j : ℕ) → p ≡ Some j → j < length marks) → (k : ℕ)
@@ -43,18 +43,18 @@ module _ (test : Outline → Bool) (ss : List Outline) where
     marks-length marks None = refl
     marks-length marks (Some k) = length-set marks k true
 
-    pub marked-push : (marks : List Bool) → i < length ss → Marked test marks ss i → Marked test (with_mark marks (set_of is (place ss i))) ss (i + 1)
+    pub marked-push : (marks : List Bool) → i < length ss → Marked test marks ss i → Marked test (with_mark marks (set_of is (enclosing_set ss i))) ss (i + 1)
     marked-push marks l m = record {
-      len = marks-length marks (set_of is (place ss i)) ∙ m.len;
+      len = marks-length marks (set_of is (enclosing_set ss i)) ∙ m.len;
       each = λ k below.
-          marks-step marks is (place ss i) (λ j e. omega (arith, place_within ss i j e, m.len, l)) k
-          ∙ ap (λ b. (is && option_map_or (nat_eq k) (place ss i) false) || b) (m.each k below)
+          marks-step marks is (enclosing_set ss i) (λ j e. omega (arith, place_within ss i j e, m.len, l)) k
+          ∙ ap (λ b. (is && option_map_or (nat_eq k) (enclosing_set ss i) false) || b) (m.each k below)
           ∙ ap (λ b. b || any_below (members k) i) (sym (marked_here k)) ∙ ap (any_below (members k)) (sym (add-one i));
     }
 
   -- the mark is set within the marks
   module _ (i : ℕ) where
-    pub set_within : (marks : List Bool) (b : Bool) (j : ℕ) → Marked test marks ss i → i < length ss → set_of b (place ss i) ≡ Some j → j < length marks
+    pub set_within : (marks : List Bool) (b : Bool) (j : ℕ) → Marked test marks ss i → i < length ss → set_of b (enclosing_set ss i) ≡ Some j → j < length marks
     set_within marks true j m l e = omega (arith, place_within ss i j e, m.len, l)
     set_within marks false j m l e = absurd (cc)
 
@@ -69,11 +69,11 @@ module _ (ss : List Outline) (i : ℕ) (h : Head) (at : slice_get (map head_of s
   read test marks mark m e = e ∙ get-or marks i mark (get_or marks i false) (slice_get-get_or marks i false (omega (arith, l, m.len))) ∙ m.each i l
 
   pub unmatched_here : (marks : List Bool) (mark : Bool) → Marked (is_member member.End) marks ss (length ss) → mark ≡ get_or marks i mark
-      → ((begins_set h.role && not mark) || (ends_set h.role && is_none (place ss i))) ≡ is_unmatched ss i
+      → ((begins_set h.role && not mark) || (ends_set h.role && is_none (enclosing_set ss i))) ≡ is_unmatched ss i
   unmatched_here marks mark m e =
-      ap (λ b. (begins_set h.role && not b) || (ends_set h.role && is_none (place ss i))) (read (is_member member.End) marks mark m e)
-      ∙ ap (λ b. (b && not (is_closed ss i)) || (ends_set h.role && is_none (place ss i))) (sym (head_here ss i h at (λ h. begins_set h.role)))
-      ∙ ap (λ b. (is_set_begin ss i && not (is_closed ss i)) || (b && is_none (place ss i))) (sym (head_here ss i h at (λ h. ends_set h.role)))
+      ap (λ b. (begins_set h.role && not b) || (ends_set h.role && is_none (enclosing_set ss i))) (read (is_member member.End) marks mark m e)
+      ∙ ap (λ b. (b && not (is_closed ss i)) || (ends_set h.role && is_none (enclosing_set ss i))) (sym (head_here ss i h at (λ h. begins_set h.role)))
+      ∙ ap (λ b. (is_set_begin ss i && not (is_closed ss i)) || (b && is_none (enclosing_set ss i))) (sym (head_here ss i h at (λ h. ends_set h.role)))
 
   pub stateless_here : (marks : List Bool) (mark : Bool) → Marked (is_member member.State) marks ss (length ss) → mark ≡ get_or marks i mark
       → (begins_set h.role && not mark) ≡ is_stateless ss i

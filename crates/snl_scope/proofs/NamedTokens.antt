@@ -13,7 +13,7 @@ use Rattle.snl_syntax.specs.Spelling.Items.{spell_header_text, spell_item}
 use Rattle.snl_syntax.specs.Spelling.States.{spell_state_member}
 use Rattle.snl_syntax.specs.Tokens.{ahead, numbered}
 use Rattle.snl_walk.specs.Items.{occurrences, tokens_of}
-use Rattle.snl_walk.specs.Tokens.{bytes_at}
+use Rattle.snl_walk.specs.Tokens.{token_bytes}
 use Rattle.snl_walk.specs.Uses.{is_target}
 use Rattle.snl_scope.specs.NamedTokens.{NamesItsTokens, own_name}
 use Rattle.snl_scope.specs.Summaries.Clauses.{clauses_in_tree}
@@ -54,12 +54,12 @@ own_below (items.StateBlock name ms) kinds h = (two_tokens (kind.State, None) (k
 own_below t kinds h = tt
 
 pub names_tokens : (text : List ℕ) (tokens : List Piece) (t : Item) → Matches (spell_item t) (ahead (kinds_in text tokens) 0)
-    → All (λ n. n < length tokens) (tokens_of (occurrences (bytes_at text tokens) t)) → NamesItsTokens text tokens t
+    → All (λ n. n < length tokens) (tokens_of (occurrences (token_bytes text tokens) t)) → NamesItsTokens text tokens t
 names_tokens text tokens t h stand = record {
   own = counted (own_name t) (own_below t kinds h);
   declared = each_unmap (λ n. n < length tokens) (λ d. d.token) (declared_in_tree text tokens t) (among (map (λ d. d.token) (declared_in_tree text tokens t)) (declared_leaves text tokens t));
   variables = each_unmap (λ n. n < length tokens) (λ c. c.variable.token) (clauses_in_tree text tokens t) (among (map (λ c. c.variable.token) (clauses_in_tree text tokens t)) (variable_leaves text tokens t));
-  targets = all_where (λ o. is_target o.what) (λ n. n < length tokens) (occurrences (bytes_at text tokens) t) stand;
+  targets = all_where (λ o. is_target o.what) (λ n. n < length tokens) (occurrences (token_bytes text tokens) t) stand;
 }
   where
     kinds : List Kind

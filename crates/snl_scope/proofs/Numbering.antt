@@ -7,7 +7,7 @@ use Rattle.std.proofs.lemmas.Bool.Decides.{nat_tests}
 use borrow.Author.Tests.{lt-ltb, lt-leb}
 use Rattle.std.proofs.lemmas.Slice.Eq.{bytes_eq-Decides}
 use Rattle.snl_scope.specs.Claims.{lesser}
-use Rattle.snl_scope.specs.Tables.{with_name}
+use Rattle.snl_scope.specs.NameTables.{with_name}
 
 zero-lt : (n : ℕ) → nat_lt 0 (suc n) ≡ true
 zero-lt n = lt-ltb 0 (suc n) (omega arith)

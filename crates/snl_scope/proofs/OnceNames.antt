@@ -12,7 +12,7 @@ use Rattle.snl_scope.specs.LinkedItems.{LinkedItems}
 use Rattle.snl_scope.specs.Names.{Entry, declared_entry, entries, entries_before, entries_of, name_faults, named_entry, number_in, repetition, repetition_at, repetitions, scope_code, scope_of, set_entries, set_name, state_entries, told_by}
 use Rattle.snl_scope.specs.Once.{TokensRise, declared_tokens}
 use Rattle.snl_scope.specs.Order.{state_name}
-use Rattle.snl_scope.specs.Places.{place}
+use Rattle.snl_scope.specs.Places.{enclosing_set}
 use Rattle.snl_scope.proofs.Families.{Differ, differ_by_item, differ_by_rank, differ_by_token, rank}
 use Rattle.snl_scope.proofs.Pairs.{EachTwo, each-append, each-map, each_at, each_by, each_weaker, two-map, two_from_rising, two_parts, two_unmap, two_weaker}
 
@@ -102,16 +102,16 @@ module _ (ss : List Outline) (i : ℕ) (s : Outline) where
         (two_unmap (λ a b. a < b) (λ d. d.token) s.declares (two_from_rising (declared_tokens s) rise.declared))),
   )
 
-  named_before : Each (IsOf i 8 10) (set_entries i s ++ state_entries (place ss i) i s)
+  named_before : Each (IsOf i 8 10) (set_entries i s ++ state_entries (enclosing_set ss i) i s)
   named_before =
-      each-append (IsOf i 8 10) (set_entries i s) (state_entries (place ss i) i s)
+      each-append (IsOf i 8 10) (set_entries i s) (state_entries (enclosing_set ss i) i s)
       (each_weaker (IsOf i 8 9) (IsOf i 8 10) (wider i 8 9 8 10 (omega arith) (omega arith)) (set_entries i s) set_once.0)
-      (each_weaker (IsOf i 9 10) (IsOf i 8 10) (wider i 9 10 8 10 (omega arith) (omega arith)) (state_entries (place ss i) i s) (state_once (place ss i)).0)
+      (each_weaker (IsOf i 9 10) (IsOf i 8 10) (wider i 9 10 8 10 (omega arith) (omega arith)) (state_entries (enclosing_set ss i) i s) (state_once (enclosing_set ss i)).0)
 
-  named_apart : EachTwo GiveApart (set_entries i s ++ state_entries (place ss i) i s)
+  named_apart : EachTwo GiveApart (set_entries i s ++ state_entries (enclosing_set ss i) i s)
   named_apart =
-      two_parts GiveApart (IsOf i 8 9) (IsOf i 9 10) (λ d e a b. apart_by_rank i 8 9 9 10 (omega arith) d e a b) (set_entries i s) (state_entries (place ss i) i s)
-      set_once.0 set_once.1 (state_once (place ss i)).0 (state_once (place ss i)).1
+      two_parts GiveApart (IsOf i 8 9) (IsOf i 9 10) (λ d e a b. apart_by_rank i 8 9 9 10 (omega arith) d e a b) (set_entries i s) (state_entries (enclosing_set ss i) i s)
+      set_once.0 set_once.1 (state_once (enclosing_set ss i)).0 (state_once (enclosing_set ss i)).1
 
   -- apart_by_rank wants the lower ranks first
   apart_from_declared : (d e : Entry) → IsOf i 8 10 d → IsOf i 7 8 e → GiveApart d e
@@ -120,10 +120,10 @@ module _ (ss : List Outline) (i : ℕ) (s : Outline) where
   item_entries : TokensRise s → Each (IsOf i 7 10) (entries_of ss i s) × EachTwo GiveApart (entries_of ss i s)
   item_entries rise =
       let declared : Each (IsOf i 7 8) (map (declared_entry (scope_of ss i s) i) s.declares) × EachTwo GiveApart (map (declared_entry (scope_of ss i s) i) s.declares) = declared_once (scope_of ss i s) rise in (
-        each-append (IsOf i 7 10) (set_entries i s ++ state_entries (place ss i) i s) (map (declared_entry (scope_of ss i s) i) s.declares)
-            (each_weaker (IsOf i 8 10) (IsOf i 7 10) (wider i 8 10 7 10 (omega arith) (omega arith)) (set_entries i s ++ state_entries (place ss i) i s) named_before)
+        each-append (IsOf i 7 10) (set_entries i s ++ state_entries (enclosing_set ss i) i s) (map (declared_entry (scope_of ss i s) i) s.declares)
+            (each_weaker (IsOf i 8 10) (IsOf i 7 10) (wider i 8 10 7 10 (omega arith) (omega arith)) (set_entries i s ++ state_entries (enclosing_set ss i) i s) named_before)
             (each_weaker (IsOf i 7 8) (IsOf i 7 10) (wider i 7 8 7 10 (omega arith) (omega arith)) (map (declared_entry (scope_of ss i s) i) s.declares) declared.0),
-        two_parts GiveApart (IsOf i 8 10) (IsOf i 7 8) apart_from_declared (set_entries i s ++ state_entries (place ss i) i s) (map (declared_entry (scope_of ss i s) i) s.declares)
+        two_parts GiveApart (IsOf i 8 10) (IsOf i 7 8) apart_from_declared (set_entries i s ++ state_entries (enclosing_set ss i) i s) (map (declared_entry (scope_of ss i s) i) s.declares)
             named_before named_apart declared.0 declared.1,
       )
 

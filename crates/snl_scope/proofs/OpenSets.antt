@@ -4,8 +4,8 @@ use Rattle.std.specs.Option.{option_map_or}
 use borrow.Author.Count.{below_more}
 use Rattle.snl_scope.specs.declared.summaries.summary.Outline.{Outline}
 use Rattle.snl_scope.specs.Below.{last_below}
-use Rattle.snl_scope.specs.Places.{begins_set, ends_between, ends_set, is_set_begin, is_set_end, open_before, place}
-use Rattle.snl_scope.specs.Tables.{Placed}
+use Rattle.snl_scope.specs.Places.{begins_set, ends_between, ends_set, is_set_begin, is_set_end, open_before, enclosing_set}
+use Rattle.snl_scope.specs.NameTables.{Placed}
 use Rattle.snl_scope.proofs.Searches.{any_below-none, get-front, get-last, last_below-none, last_below-same, last_below-within, nat_lt-false, nat_lt-true}
 
 module _ (ss : List Outline) (i : ℕ) where
@@ -50,7 +50,7 @@ module _ (ss : List Outline) (i : ℕ) where
       by false false p q = stays p q
 
   -- the place of an item that is read
-  pub place_here : (s : Outline) → slice_get ss i ≡ Some s → place ss i ≡ (if begins_set s.role then None else open_before ss i)
+  pub place_here : (s : Outline) → slice_get ss i ≡ Some s → enclosing_set ss i ≡ (if begins_set s.role then None else open_before ss i)
   place_here s at = ap (λ o. if option_map_or (λ s. not (begins_set s.role)) o false then open_before ss i else None) at ∙ by (begins_set s.role)
     where
       by : (b : Bool) → (if not b then open_before ss i else None) ≡ (if b then None else open_before ss i)
@@ -58,7 +58,7 @@ module _ (ss : List Outline) (i : ℕ) where
       by false = refl
 
   -- the state set that an item is in begins before it
-  pub place_within : (k : ℕ) → place ss i ≡ Some k → k < i
+  pub place_within : (k : ℕ) → enclosing_set ss i ≡ Some k → k < i
   place_within k = by (option_map_or (λ s. not (begins_set s.role)) (slice_get ss i) false)
     where
       by : (b : Bool) → (if b then open_before ss i else None) ≡ Some k → k < i
@@ -66,10 +66,10 @@ module _ (ss : List Outline) (i : ℕ) where
       by false e = absurd (cc)
 
 -- the places with one more item
-pub placed-push : (places : List (Option ℕ)) (ss : List Outline) (n : ℕ) (p : Option ℕ) → Placed places ss n → p ≡ place ss n → Placed (places ++ p ∷ []) ss (n + 1)
+pub placed-push : (places : List (Option ℕ)) (ss : List Outline) (n : ℕ) (p : Option ℕ) → Placed places ss n → p ≡ enclosing_set ss n → Placed (places ++ p ∷ []) ss (n + 1)
 placed-push places ss n p h e = record {
   len = omega (arith, length-append places (p ∷ []), h.len);
-  each = below_more (λ k. slice_get (places ++ p ∷ []) k ≡ Some (place ss k)) n
+  each = below_more (λ k. slice_get (places ++ p ∷ []) k ≡ Some (enclosing_set ss k)) n
       (λ k l. get-front places p k (omega (arith, l, h.len)) ∙ h.each k l)
       (ap (λ m. slice_get (places ++ p ∷ []) m) (sym h.len) ∙ get-last places p ∙ ap Some e);
 }

@@ -13,8 +13,8 @@ use Rattle.snl_scope.specs.declared.summaries.summary.Outline.{Outline}
 use Rattle.snl_scope.specs.Below.{all_below, any_below}
 use Rattle.snl_scope.specs.LinkedItems.{LinkedItems, kind_is}
 use Rattle.snl_scope.specs.Order.{at_item, at_items_where, exceeds, found_if, has_begun, is_barred, is_barred_in_sets, is_faulty, is_late, is_main, is_misplaced, is_program_item, is_program_word, is_repeated_header, is_state, is_state_word, phase, phase_of, state_name}
-use Rattle.snl_scope.specs.Places.{ends_set, item_is, place}
-use Rattle.snl_scope.specs.Tables.{and_item, barred_at, before, greatest_before, head_of, heads_member, is_below, is_member, misplaced_after, phase_in, with_phase}
+use Rattle.snl_scope.specs.Places.{ends_set, item_is, enclosing_set}
+use Rattle.snl_scope.specs.NameTables.{and_item, barred_at, before, greatest_before, head_of, heads_member, is_below, is_member, misplaced_after, phase_in, with_phase}
 
 map-append : {A B : Type 0} (f : A → B) (xs ys : List A) → map f (xs ++ ys) ≡ map f xs ++ map f ys
 map-append f [] ys = refl
@@ -89,34 +89,34 @@ module _ (l : LinkedItems) (i : ℕ) (h : Head) (k : ItemKind) (at : slice_get (
   program_here : is_program_item l.outlines i ≡ is_program_word h.opening
   program_here = head_here l.outlines i h at (λ h. is_program_word h.opening)
 
-  phase_here : phase l i ≡ phase_in (has_begun l i) (place l.outlines i) k
-  phase_here = ap (λ o. if is_none (place l.outlines i) then option_and_then (phase_of (has_begun l i)) o else None) is ∙ by (place l.outlines i)
+  phase_here : phase l i ≡ phase_in (has_begun l i) (enclosing_set l.outlines i) k
+  phase_here = ap (λ o. if is_none (enclosing_set l.outlines i) then option_and_then (phase_of (has_begun l i)) o else None) is ∙ by (enclosing_set l.outlines i)
     where
       by : (o : Option ℕ) → (if is_none o then phase_of (has_begun l i) k else None) ≡ phase_in (has_begun l i) o k
       by None = refl
       by (Some k) = refl
 
-  late_here : is_late l i ≡ is_below (phase_in (has_begun l i) (place l.outlines i) k) (greatest_before l i)
+  late_here : is_late l i ≡ is_below (phase_in (has_begun l i) (enclosing_set l.outlines i) k) (greatest_before l i)
   late_here = late_below l (phase l i) i ∙ ap (λ p. is_below p (greatest_before l i)) phase_here
 
-  barred_here : is_barred l i ≡ barred_at (place l.outlines i) k
-  barred_here = kind_here (λ k. if is_none (place l.outlines i) then is_state k else is_barred_in_sets k) ∙ by (place l.outlines i)
+  barred_here : is_barred l i ≡ barred_at (enclosing_set l.outlines i) k
+  barred_here = kind_here (λ k. if is_none (enclosing_set l.outlines i) then is_state k else is_barred_in_sets k) ∙ by (enclosing_set l.outlines i)
     where
       by : (o : Option ℕ) → (if is_none o then is_state k else is_barred_in_sets k) ≡ barred_at o k
       by None = refl
       by (Some k) = refl
 
-  pub misplaced_here : misplaced_after (before l i) (place l.outlines i) k h.opening ≡ is_misplaced l i
+  pub misplaced_here : misplaced_after (before l i) (enclosing_set l.outlines i) k h.opening ≡ is_misplaced l i
   misplaced_here =
-      ap (λ b. (b || barred_at (place l.outlines i) k) && not (is_program_word h.opening && any_below (is_program_item l.outlines) i)) (sym late_here)
+      ap (λ b. (b || barred_at (enclosing_set l.outlines i) k) && not (is_program_word h.opening && any_below (is_program_item l.outlines) i)) (sym late_here)
       ∙ ap (λ b. (is_late l i || b) && not (is_program_word h.opening && any_below (is_program_item l.outlines) i)) (sym barred_here)
       ∙ ap (λ b. (is_late l i || is_barred l i) && not (b && any_below (is_program_item l.outlines) i)) (sym program_here)
 
-  pub before-step : and_item (before l i) (place l.outlines i) k h.opening ≡ before l (i + 1)
+  pub before-step : and_item (before l i) (enclosing_set l.outlines i) k h.opening ≡ before l (i + 1)
   before-step =
       (λ j. record {
         greatest = with_phase (sym phase_here j) (greatest_before l i);
-        begun = (sym (kind_here is_main) j && is_none (place l.outlines i)) || has_begun l i;
+        begun = (sym (kind_here is_main) j && is_none (enclosing_set l.outlines i)) || has_begun l i;
         has_program = sym program_here j || any_below (is_program_item l.outlines) i;
       }) ∙ ap (before l) (sym (add-one i))
 

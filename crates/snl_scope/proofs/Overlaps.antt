@@ -3,10 +3,10 @@ use Rattle.std.proofs.Common.{◌≡◌, ℕ, zero, suc, Bool, true, false, ◌&
 use Rattle.std.proofs.Math.Bool.{or_comm, or-false}
 use Rattle.std.proofs.lemmas.Bool.Decides.{Decides-eqb, nat_tests}
 use Rattle.std.specs.List.{list_any}
-use Rattle.snl_scope.specs.declared.clauses.claims.Claim.{Claim}
-use Rattle.snl_scope.specs.declared.clauses.claims.Extent.{Extent}
-use Rattle.snl_scope.specs.declared.clauses.claims.Extent.TheVariants as extent
-use Rattle.snl_scope.specs.declared.clauses.claims.Purpose.{Purpose}
+use Rattle.snl_scope.specs.declared.clauses.clause_index.Claim.{Claim}
+use Rattle.snl_scope.specs.declared.clauses.clause_index.Extent.{Extent}
+use Rattle.snl_scope.specs.declared.clauses.clause_index.Extent.TheVariants as extent
+use Rattle.snl_scope.specs.declared.clauses.clause_index.Purpose.{Purpose}
 use Rattle.snl_scope.specs.declared.summaries.summary.ClauseKind.{ClauseKind}
 use Rattle.snl_scope.specs.declared.summaries.summary.ClauseKind.TheVariants as kind
 use Rattle.snl_scope.specs.declared.summaries.summary.Coverage.{Coverage}

@@ -15,7 +15,7 @@ use Rattle.snl_scope.specs.SpelledTokens.{bytes_by, bytes_if_spelled, pieces_fro
 use Rattle.snl_scope.specs.Summaries.{kind_of, name_by, name_if, occurrences_in, opening_by, opening_if, opening_in, outline_in, role_in, role_of, second_in, summary_in}
 use Rattle.snl_scope.specs.Summaries.Tokens.{name_ref_at}
 use Rattle.snl_walk.specs.Once.{once}
-use Rattle.snl_walk.specs.Tokens.{bytes_at, bytes_if}
+use Rattle.snl_walk.specs.Tokens.{token_bytes, bytes_if}
 use Rattle.snl_walk.specs.Uses.{targets, uses}
 use Rattle.snl_scope.proofs.AlikeTokens.{same_clauses, same_declares, same_name_ref}
 
@@ -25,8 +25,8 @@ bytes_spelled : (text : List ℕ) (o : Option Piece) → bytes_if text o ≡ byt
 bytes_spelled text None = refl
 bytes_spelled text (Some p) = refl
 
-pub bytes_told : (text : List ℕ) (tokens : List Piece) → bytes_at text tokens ≡ bytes_by (spelled text tokens)
-unfolding bytes_at
+pub bytes_told : (text : List ℕ) (tokens : List Piece) → token_bytes text tokens ≡ bytes_by (spelled text tokens)
+unfolding token_bytes
 bytes_told text tokens = fun_ext (λ n. bytes_spelled text (slice_get tokens n) ∙ ap bytes_if_spelled (sym (slice_get-map (spelling text) tokens n)))
 
 opening_by_token : Option (Class × List ℕ) → Opening
@@ -61,10 +61,10 @@ abbrev target_tokens : (ℕ → List ℕ) → Option Item → List ℕ
 target_tokens bytes tree = targets (occurrences_in bytes tree)
 
 module _ (text moved : List ℕ) (tokens shifted : List Piece) (alike : spelled text tokens ≡ spelled moved shifted) where
-  pub same_bytes : bytes_at text tokens ≡ bytes_at moved shifted
+  pub same_bytes : token_bytes text tokens ≡ token_bytes moved shifted
   same_bytes = bytes_told text tokens ∙ ap bytes_by alike ∙ sym (bytes_told moved shifted)
 
-  each : (n : ℕ) → bytes_at text tokens n ≡ bytes_at moved shifted n
+  each : (n : ℕ) → token_bytes text tokens n ≡ token_bytes moved shifted n
   each n = ap (λ (f : ℕ → List ℕ). f n) same_bytes
 
   same_opening : opening_in text tokens ≡ opening_in moved shifted
@@ -83,14 +83,14 @@ module _ (text moved : List ℕ) (tokens shifted : List Piece) (alike : spelled 
       let second = same_second in
       cc
 
-  same_targets : (tree : Option Item) → map (name_ref_at text tokens) (target_tokens (bytes_at text tokens) tree) ≡ map (name_ref_at moved shifted) (target_tokens (bytes_at moved shifted) tree)
+  same_targets : (tree : Option Item) → map (name_ref_at text tokens) (target_tokens (token_bytes text tokens) tree) ≡ map (name_ref_at moved shifted) (target_tokens (token_bytes moved shifted) tree)
   same_targets tree =
       ap₂ (λ (f : ℕ → NameRef) ns. map f ns) (fun_ext (same_name_ref text moved tokens shifted each)) (ap (λ (f : ℕ → List ℕ). target_tokens f tree) same_bytes)
 
   pub same_summary : (tree : Option Item) → summary_in text tokens tree ≡ summary_in moved shifted tree
   same_summary tree =
       let outline = same_outline tree in
-      let used : used_by (bytes_at text tokens) tree ≡ used_by (bytes_at moved shifted) tree = ap (λ (f : ℕ → List ℕ). used_by f tree) same_bytes in
+      let used : used_by (token_bytes text tokens) tree ≡ used_by (token_bytes moved shifted) tree = ap (λ (f : ℕ → List ℕ). used_by f tree) same_bytes in
       let led_to = same_targets tree in
       cc
 

@@ -14,7 +14,7 @@ use Rattle.snl_scope.specs.declared.summaries.summary.Dims.TheVariants as dims
 use Rattle.snl_scope.specs.declared.summaries.summary.Outline.{Outline}
 use Rattle.snl_scope.specs.declared.summaries.summary.Summary.{Summary}
 use Rattle.snl_scope.specs.Linked.{fact_of, has_target}
-use Rattle.snl_scope.specs.Places.{place}
+use Rattle.snl_scope.specs.Places.{enclosing_set}
 use Rattle.snl_scope.specs.View.{same_assigned, same_base, same_bool, same_dims, same_facts, same_known, same_level, same_view, view}
 
 both : (a b : Bool) → (a && b) ≡ true → (a ≡ true) × (b ≡ true)
@@ -123,7 +123,7 @@ module _ {X A : Type 0} (same : A → A → Bool) (equal : (a b : A) → same a 
 
 module _ (ss : List Outline) (i : ℕ) (ts : List Outline) (j : ℕ) (s : Summary) where
   abbrev placed : Bool
-  placed = same_bool (is_some (place ss i)) (is_some (place ts j))
+  placed = same_bool (is_some (enclosing_set ss i)) (is_some (enclosing_set ts j))
 
   abbrev known : Bool
   known = list_all (λ name. same_known (fact_of ss i name) (fact_of ts j name)) s.uses
@@ -135,14 +135,14 @@ module _ (ss : List Outline) (i : ℕ) (ts : List Outline) (j : ℕ) (s : Summar
   view_from h =
       let last = both (placed && known) led h in
       let first = both placed known last.0 in
-      let place_is : is_some (place ss i) ≡ is_some (place ts j) = bool_equal (is_some (place ss i)) (is_some (place ts j)) first.0 in
+      let place_is : is_some (enclosing_set ss i) ≡ is_some (enclosing_set ts j) = bool_equal (is_some (enclosing_set ss i)) (is_some (enclosing_set ts j)) first.0 in
       let facts_are = all_equal same_known known_equal known_same (λ name. fact_of ss i name) (λ name. fact_of ts j name) s.uses first.1 in
       let leads_are = all_equal same_bool bool_equal bool_same (λ t. has_target ss i t.name) (λ t. has_target ts j t.name) s.targets last.1 in
       λ d. record { in_set = place_is d; facts = facts_are d; leads = leads_are d }
 
   view_to : view ss i s ≡ view ts j s → same_view ss i ts j s ≡ true
   view_to h =
-      let place_is : placed ≡ true = subst (λ b. same_bool (is_some (place ss i)) b ≡ true) (ap (λ v. v.in_set) h) (bool_same (is_some (place ss i))) in
+      let place_is : placed ≡ true = subst (λ b. same_bool (is_some (enclosing_set ss i)) b ≡ true) (ap (λ v. v.in_set) h) (bool_same (is_some (enclosing_set ss i))) in
       let facts_are : known ≡ true = all_same same_known known_equal known_same (λ name. fact_of ss i name) (λ name. fact_of ts j name) s.uses (ap (λ v. v.facts) h) in
       let leads_are : led ≡ true = all_same same_bool bool_equal bool_same (λ t. has_target ss i t.name) (λ t. has_target ts j t.name) s.targets (ap (λ v. v.leads) h) in
       ap (λ b. b && known && led) place_is ∙ ap (λ b. b && led) facts_are ∙ leads_are

@@ -2,11 +2,11 @@
 use Rattle.std.specs.Prelude.{◌≡◌, ℕ, Bool, true, false, ◌&&◌, ◌||◌, if◌then◌else◌, List, filter, map, nat_eq, nat_lt, Option, None, Some, is_some, position}
 use Rattle.std.specs.Map.{lookup}
 use Rattle.std.specs.Option.{option_or}
-use Rattle.snl_scope.specs.declared.clauses.claims.Claim.{Claim}
-use Rattle.snl_scope.specs.declared.clauses.claims.Extent.{Extent}
-use Rattle.snl_scope.specs.declared.clauses.claims.Extent.TheVariants as extent
-use Rattle.snl_scope.specs.declared.clauses.claims.Purpose.{Purpose}
-use Rattle.snl_scope.specs.declared.clauses.claims.Purpose.TheVariants as purpose
+use Rattle.snl_scope.specs.declared.clauses.clause_index.Claim.{Claim}
+use Rattle.snl_scope.specs.declared.clauses.clause_index.Extent.{Extent}
+use Rattle.snl_scope.specs.declared.clauses.clause_index.Extent.TheVariants as extent
+use Rattle.snl_scope.specs.declared.clauses.clause_index.Purpose.{Purpose}
+use Rattle.snl_scope.specs.declared.clauses.clause_index.Purpose.TheVariants as purpose
 use Rattle.snl_scope.specs.declared.summaries.summary.ClauseKind.{ClauseKind}
 use Rattle.snl_scope.specs.declared.summaries.summary.ClauseKind.TheVariants as kind
 use Rattle.snl_scope.specs.declared.summaries.summary.Coverage.{Coverage}

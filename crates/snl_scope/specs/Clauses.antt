@@ -23,12 +23,12 @@ use Rattle.snl_scope.specs.declared.summaries.summary.Variable.{Variable}
 use Rattle.snl_scope.specs.declared.summaries.summary.VariableClause.{VariableClause}
 use Rattle.snl_walk.specs.Codes.{is_error}
 use Rattle.snl_scope.specs.Names.{Entry, entries, number_in, resolve}
-use Rattle.snl_scope.specs.Places.{place}
+use Rattle.snl_scope.specs.Places.{enclosing_set}
 
 -- The number of the entry that a name outside the blocks of item i resolves to. A state's own scope comes first; an item
 -- that is none has nothing in such a scope.
 abbrev pub resolve_in : List Outline → ℕ → List ℕ → Option ℕ
-resolve_in ss i name = option_or (number_in (entries ss) (namespace.State i) name) (resolve (entries ss) (place ss i) name)
+resolve_in ss i name = option_or (number_in (entries ss) (namespace.State i) name) (resolve (entries ss) (enclosing_set ss i) name)
 
 -- A clause in a text: the item that it is in, and the numbers of the entries that its variable and its flag resolve to.
 pub record LinkedClause : Type 0 where

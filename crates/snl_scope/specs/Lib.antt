@@ -9,7 +9,7 @@ pub mod Channels
 pub mod Flags
 pub mod Linked
 pub mod View
-pub mod Tables
+pub mod NameTables
 pub mod Resolved
 pub mod Summaries
 pub mod Once

@@ -21,7 +21,7 @@ use Rattle.snl_scope.specs.Clauses.{assigned_by, clause_faults, clauses_of}
 use Rattle.snl_scope.specs.LinkedItems.{LinkedItems}
 use Rattle.snl_scope.specs.Names.{Entry, entries, number_in, name_faults, resolve}
 use Rattle.snl_scope.specs.Order.{order_faults}
-use Rattle.snl_scope.specs.Places.{place}
+use Rattle.snl_scope.specs.Places.{enclosing_set}
 
 -- The scope in which a declaration is, as the items see it that can name it.
 abbrev pub level_of : Namespace → Level
@@ -50,7 +50,7 @@ fact_at ss number = option_and_then (entry_fact (assigned_by (clauses_of ss) num
 abbrev pub fact_of : List Outline → ℕ → List ℕ → Option Fact
 fact_of ss i name =
     if nat_lt i (length ss)
-    then option_and_then (fact_at ss) (resolve (entries ss) (place ss i) name)
+    then option_and_then (fact_at ss) (resolve (entries ss) (enclosing_set ss i) name)
     else None
 
 -- The scope that is a namespace; the names of state sets and states are in none.
@@ -77,11 +77,11 @@ state_in ss k name = option_and_then (λ number. option_map (λ e. e.item) (slic
 
 -- The first state with a name in the state set in which an item is.
 abbrev pub state_of : List Outline → ℕ → List ℕ → Option ℕ
-state_of ss i name = option_and_then (λ k. state_in ss k name) (place ss i)
+state_of ss i name = option_and_then (λ k. state_in ss k name) (enclosing_set ss i)
 
 -- The state set in which an item is has a state of the name.
 abbrev pub has_target : List Outline → ℕ → List ℕ → Bool
-has_target ss i name = option_map_or (λ k. is_some (number_in (entries ss) (namespace.States k) name)) (place ss i) false
+has_target ss i name = option_map_or (λ k. is_some (number_in (entries ss) (namespace.States k) name)) (enclosing_set ss i) false
 
 -- All findings of links.
 abbrev pub faults_of : LinkedItems → List LinkFault

@@ -8,7 +8,7 @@ use Rattle.snl_scope.specs.declared.summaries.summary.Summary.{Summary}
 use Rattle.snl_scope.specs.Summaries.Clauses.{clauses_in_tree}
 use Rattle.snl_scope.specs.Summaries.Declares.{declared_in_tree}
 use Rattle.snl_walk.specs.Items.{occurrences}
-use Rattle.snl_walk.specs.Tokens.{bytes_at}
+use Rattle.snl_walk.specs.Tokens.{token_bytes}
 use Rattle.snl_walk.specs.Uses.{targets}
 
 -- The token that names an item, if it has a name of its own: that of a state set and of a state is the second one.
@@ -23,7 +23,7 @@ pub record NamesItsTokens (text : List ℕ) (tokens : List Piece) (t : Item) : T
   pub own : AllByRecursion (λ number. number < length tokens) (own_name t)
   pub declared : AllByRecursion (λ d. d.token < length tokens) (declared_in_tree text tokens t)
   pub variables : AllByRecursion (λ c. c.variable.token < length tokens) (clauses_in_tree text tokens t)
-  pub targets : AllByRecursion (λ number. number < length tokens) (targets (occurrences (bytes_at text tokens) t))
+  pub targets : AllByRecursion (λ number. number < length tokens) (targets (occurrences (token_bytes text tokens) t))
 
 -- The tokens of the names of states that a summary has as targets.
 abbrev pub target_tokens : Summary → List ℕ

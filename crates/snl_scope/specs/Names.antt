@@ -14,7 +14,7 @@ use Rattle.snl_scope.specs.declared.summaries.summary.Role.TheVariants as role
 use Rattle.snl_scope.specs.declared.summaries.summary.Variable.{Variable}
 use Rattle.snl_scope.specs.LinkedItems.{LinkedItems}
 use Rattle.snl_scope.specs.Order.{is_faulty, state_name}
-use Rattle.snl_scope.specs.Places.{begins_set, place}
+use Rattle.snl_scope.specs.Places.{begins_set, enclosing_set}
 
 -- A name that an item brings into a namespace. `code` is what it gives where an earlier one has the name, if anything;
 -- `variable` is what a declaration says of it.
@@ -37,7 +37,7 @@ has_own_scope role.State = true
 has_own_scope _ = false
 
 abbrev pub scope_of : List Outline → ℕ → Outline → Namespace
-scope_of ss i s = if has_own_scope s.role then namespace.State i else scope_at (place ss i)
+scope_of ss i s = if has_own_scope s.role then namespace.State i else scope_at (enclosing_set ss i)
 
 -- What a second declaration in a scope gives. Those of a state are found with the state.
 abbrev pub scope_code : Namespace → Option Code
@@ -65,7 +65,7 @@ state_entries (Some k) i s = map (named_entry (namespace.States k) i (Some E09))
 
 -- The entries of item i, and of all items in order.
 abbrev pub entries_of : List Outline → ℕ → Outline → List Entry
-entries_of ss i s = set_entries i s ++ state_entries (place ss i) i s ++ map (declared_entry (scope_of ss i s) i) s.declares
+entries_of ss i s = set_entries i s ++ state_entries (enclosing_set ss i) i s ++ map (declared_entry (scope_of ss i s) i) s.declares
 
 abbrev pub entries_before : List Outline → ℕ → List Entry
 entries_before ss zero = []

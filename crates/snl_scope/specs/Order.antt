@@ -10,7 +10,7 @@ use Rattle.snl_scope.specs.declared.summaries.summary.Opening.TheVariants as ope
 use Rattle.snl_scope.specs.declared.summaries.summary.Outline.{Outline}
 use Rattle.snl_scope.specs.Below.{any_below, all_below}
 use Rattle.snl_scope.specs.LinkedItems.{LinkedItems, kind_is}
-use Rattle.snl_scope.specs.Places.{item_is, is_set_begin, is_set_end, place, stands_in}
+use Rattle.snl_scope.specs.Places.{item_is, is_set_begin, is_set_end, enclosing_set, stands_in}
 
 -- The item begins with the word, faulty or not.
 abbrev pub is_program_word : Opening → Bool
@@ -74,11 +74,11 @@ phase_of begun _ = None
 
 -- An item of phase 2, 3 or 4 is at program level before item i.
 abbrev pub has_begun : LinkedItems → ℕ → Bool
-has_begun l i = any_below (λ j. kind_is is_main l j && is_none (place l.outlines j)) i
+has_begun l i = any_below (λ j. kind_is is_main l j && is_none (enclosing_set l.outlines j)) i
 
 -- The phase of an item. One in a state set has none.
 abbrev pub phase : LinkedItems → ℕ → Option ℕ
-phase l i = if is_none (place l.outlines i) then option_and_then (phase_of (has_begun l i)) (slice_get l.kinds i) else None
+phase l i = if is_none (enclosing_set l.outlines i) then option_and_then (phase_of (has_begun l i)) (slice_get l.kinds i) else None
 
 abbrev pub exceeds : Option ℕ → Option ℕ → Bool
 exceeds (Some a) (Some b) = nat_lt b a
@@ -100,7 +100,7 @@ is_barred_in_sets _ = false
 
 -- A state at program level, or an item that may not be in the state set that it is in.
 abbrev pub is_barred : LinkedItems → ℕ → Bool
-is_barred l i = kind_is (λ k. if is_none (place l.outlines i) then is_state k else is_barred_in_sets k) l i
+is_barred l i = kind_is (λ k. if is_none (enclosing_set l.outlines i) then is_state k else is_barred_in_sets k) l i
 
 -- The second or a later item that begins with `program`.
 abbrev pub is_later_program : List Outline → ℕ → Bool
@@ -116,7 +116,7 @@ is_closed ss k = any_below (λ j. is_set_end ss j && stands_in ss k j) (length s
 
 -- E04: a state set that no `}` item closes, and a `}` item that closes none.
 abbrev pub is_unmatched : List Outline → ℕ → Bool
-is_unmatched ss i = (is_set_begin ss i && not (is_closed ss i)) || (is_set_end ss i && is_none (place ss i))
+is_unmatched ss i = (is_set_begin ss i && not (is_closed ss i)) || (is_set_end ss i && is_none (enclosing_set ss i))
 
 -- E05: a second or later header; a faulty one has its own code.
 abbrev pub is_repeated_header : LinkedItems → ℕ → Bool

@@ -35,9 +35,9 @@ open_before ss i = last_below (λ k. is_set_begin ss k && not (ends_between ss k
 
 -- The state set that an item is in, by the number of its `ss NAME {` item; None is program level, where each
 -- `ss NAME {` item itself is.
-abbrev pub place : List Outline → ℕ → Option ℕ
-place ss i = if item_is (λ s. not (begins_set s.role)) ss i then open_before ss i else None
+abbrev pub enclosing_set : List Outline → ℕ → Option ℕ
+enclosing_set ss i = if item_is (λ s. not (begins_set s.role)) ss i then open_before ss i else None
 
 -- Item i is in the state set that item k begins.
 abbrev pub stands_in : List Outline → ℕ → ℕ → Bool
-stands_in ss k i = option_map_or (nat_eq k) (place ss i) false
+stands_in ss k i = option_map_or (nat_eq k) (enclosing_set ss i) false

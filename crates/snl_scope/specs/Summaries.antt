@@ -20,7 +20,7 @@ use Rattle.snl_scope.specs.Summaries.Tokens.{name_ref_at}
 use Rattle.snl_walk.specs.declared.occurrence.Occurrence.{Occurrence}
 use Rattle.snl_walk.specs.Items.{occurrences}
 use Rattle.snl_walk.specs.Once.{once}
-use Rattle.snl_walk.specs.Tokens.{bytes_at, bytes_of}
+use Rattle.snl_walk.specs.Tokens.{token_bytes, bytes_of}
 use Rattle.snl_walk.specs.Uses.{targets, uses}
 pub mod Tokens
 pub mod Declares
@@ -107,6 +107,6 @@ abbrev pub summary_in : List ℕ → List Piece → Option Item → Summary
 summary_in text tokens tree = record {
   kind = kind_of tree;
   outline = outline_in text tokens tree;
-  uses = once (map (bytes_at text tokens) (uses (occurrences_in (bytes_at text tokens) tree)));
-  targets = map (name_ref_at text tokens) (targets (occurrences_in (bytes_at text tokens) tree));
+  uses = once (map (token_bytes text tokens) (uses (occurrences_in (token_bytes text tokens) tree)));
+  targets = map (name_ref_at text tokens) (targets (occurrences_in (token_bytes text tokens) tree));
 }

@@ -13,7 +13,7 @@ use Rattle.snl_scope.specs.declared.summaries.summary.Dims.TheVariants as dims
 use Rattle.snl_scope.specs.declared.summaries.summary.Outline.{Outline}
 use Rattle.snl_scope.specs.declared.summaries.summary.Summary.{Summary}
 use Rattle.snl_scope.specs.Linked.{fact_of, has_target}
-use Rattle.snl_scope.specs.Places.{place}
+use Rattle.snl_scope.specs.Places.{enclosing_set}
 
 -- Whether it is in a state set, what is known of each name that it uses, and of each of its targets whether that is a
 -- state of its set.
@@ -25,7 +25,7 @@ pub record View : Type 0 where
 -- By the outlines of all items, its number among them, and its summary.
 abbrev pub view : List Outline → ℕ → Summary → View
 view ss i s = record {
-  in_set = is_some (place ss i);
+  in_set = is_some (enclosing_set ss i);
   facts = map (λ name. fact_of ss i name) s.uses;
   leads = map (λ t. has_target ss i t.name) s.targets;
 }
@@ -71,6 +71,6 @@ same_known _ _ = false
 -- Item i among some items sees what item j sees among others, both with this summary.
 abbrev pub same_view : List Outline → ℕ → List Outline → ℕ → Summary → Bool
 same_view ss i ts j s =
-    same_bool (is_some (place ss i)) (is_some (place ts j))
+    same_bool (is_some (enclosing_set ss i)) (is_some (enclosing_set ts j))
     && list_all (λ name. same_known (fact_of ss i name) (fact_of ts j name)) s.uses
     && list_all (λ t. same_bool (has_target ss i t.name) (has_target ts j t.name)) s.targets

@@ -9,16 +9,16 @@ ghost use Rattle.snl_scope.specs.Names.{entries, repetitions};
 ghost use Rattle.snl_scope.specs.Resolved.{Assigns};
 
 use crate::clauses::assigned::assigned_in;
-use crate::clauses::claims::Claims;
+use crate::clauses::clause_index::ClauseIndex;
 use crate::clauses::flags::flags_of;
 use crate::clauses::resolved::resolved_clauses;
 use crate::clauses::soundness::{JudgedClauses, judged_clauses};
 use crate::facts::{Assigned, ClauseLink, LinkFault};
 use crate::items::heads::heads_of;
 use crate::items::places::places_of;
-use crate::names::origin::Origin;
+use crate::names::ghost_outlines::GhostOutlines;
+use crate::names::name_tables::{NameTables, tables_of};
 use crate::names::scopes::Scopes;
-use crate::names::tables::{Tables, tables_of};
 use crate::summaries::summary::Outline;
 use indexmap::IndexMap;
 use snl_cut::OutOfMemory;
@@ -36,19 +36,19 @@ pub(crate) struct LinkedNames {
 #[derive(Drop)]
 pub(crate) struct LinkedClauses {
     pub clauses: Vec<ClauseLink>,
-    pub claims: Claims,
+    pub claims: ClauseIndex,
     pub assigned: IndexMap<usize, Assigned>,
     pub faults: Vec<LinkFault>,
 }
 
-fn origin_of(outlines: &[&Outline]) -> Origin
+fn ghost_of(outlines: &[&Outline]) -> GhostOutlines
     ensures { result.outlines ≡ map (λ s. s.now) outlines.now }
 {
-    let mut origin = Origin::new();
+    let mut made_of = GhostOutlines::new();
     for outline in outlines {
-        origin = origin.then(outline);
+        made_of = made_of.then(outline);
     }
-    origin
+    made_of
 }
 
 /// What the names of all items mean.
@@ -61,7 +61,7 @@ pub(crate) fn linked_names(alloc: Global, outlines: &[&Outline]) -> Result<Linke
     let heads = heads_of(alloc, outlines)?;
     let tables = tables_of(alloc, outlines, &places)?;
     let flags = flags_of(alloc, &tables)?;
-    let Tables {
+    let NameTables {
         names,
         first,
         symbols,
@@ -73,7 +73,7 @@ pub(crate) fn linked_names(alloc: Global, outlines: &[&Outline]) -> Result<Linke
         names,
         first,
         symbols,
-        origin: origin_of(outlines),
+        made_of: ghost_of(outlines),
     };
     Ok(LinkedNames {
         scopes,

@@ -5,15 +5,15 @@ ghost use Rattle.std.specs.Prelude.{◌≡◌, map, IfOk, option_and_then, optio
 ghost use Rattle.snl_scope.specs.Linked.{base_of, entry_fact, level_of, scope_in, variable_declaration, variable_fact};
 ghost use Rattle.snl_scope.specs.LinkedItems.{linked_items};
 
-use crate::clauses::claims::{Claims, Purpose};
+use crate::clauses::clause_index::{ClauseIndex, Purpose};
 use crate::clauses::flags::flag_number;
 use crate::facts::{Assigned, Base, ClauseLink, Declaration, Fact, Level, LinkFault, Scope};
 use crate::findings::all_faults;
 use crate::items::linked_items::{kinds_of, outlines_of};
 use crate::linking::{LinkedClauses, LinkedNames, linked_clauses, linked_names};
+use crate::names::name_tables::Symbol;
 use crate::names::namespaces::Namespace;
 use crate::names::scopes::Scopes;
-use crate::names::tables::Symbol;
 use crate::summaries::summary::{ItemKind, Summary, SymbolKind};
 use indexmap::IndexMap;
 use snl_cut::OutOfMemory;
@@ -27,7 +27,7 @@ pub struct Links {
     scopes: Scopes,
     kinds: Vec<ItemKind>,
     clauses: Vec<ClauseLink>,
-    claims: Claims,
+    claims: ClauseIndex,
     assigned: IndexMap<usize, Assigned>,
     flags: Vec<usize>,
     /// The names that came again, those of faulty states among them.
@@ -66,14 +66,29 @@ impl Links {
     ghost use Rattle.snl_scope.specs.Flags as flags;
     ghost use Rattle.snl_scope.specs.Linked.{declaration_at, fact_at, fact_of, faults_of, has_target, state_of};
     ghost use Rattle.snl_scope.specs.Names.{entries};
-    ghost use Rattle.snl_scope.specs.Places.{place};
+    ghost use Rattle.snl_scope.specs.Order.{is_named_state};
+    ghost use Rattle.snl_scope.specs.Places.{enclosing_set, is_set_begin};
     ghost use Rattle.std.specs.Prelude.{length};
 
     /// The state set in which an item is, by the number of its `ss NAME {` item, or None at program level.
-    pub fn place(&self, item: usize) -> Option<usize>
-        ensures { result ≡ place self.now.outlines item }
+    pub fn enclosing_set(&self, item: usize) -> Option<usize>
+        ensures { result ≡ enclosing_set self.now.outlines item }
     {
-        self.scopes.place(item)
+        self.scopes.enclosing_set(item)
+    }
+
+    /// Whether an item begins a state set.
+    pub fn begins_set(&self, item: usize) -> bool
+        ensures { result ≡ is_set_begin self.now.outlines item }
+    {
+        self.scopes.begins_set(item)
+    }
+
+    /// Whether an item begins as a state does, faulty or not, and has a name.
+    pub fn is_named_state(&self, item: usize) -> bool
+        ensures { result ≡ is_named_state self.now.outlines item }
+    {
+        self.scopes.is_named_state(item)
     }
 
     // To what the declaration with a number is assigned.
@@ -99,7 +114,7 @@ impl Links {
         ensures { result ≡ fact_of self.now.outlines item name.now }
     {
         if item < self.scopes.places.len() {
-            let number = self.scopes.resolve(self.place(item), name)?;
+            let number = self.scopes.resolve(self.enclosing_set(item), name)?;
             self.known_at(number)
         } else {
             None
@@ -146,7 +161,7 @@ impl Links {
     pub fn has_target(&self, item: usize, name: &[u8]) -> bool
         ensures { result ≡ has_target self.now.outlines item name.now }
     {
-        match self.place(item) {
+        match self.enclosing_set(item) {
             Some(set) => self
                 .scopes
                 .number_in(Namespace::States(set), name)
@@ -159,7 +174,7 @@ impl Links {
     pub fn state(&self, item: usize, name: &[u8]) -> Option<usize>
         ensures { result ≡ state_of self.now.outlines item name.now }
     {
-        self.scopes.state_in(self.place(item)?, name)
+        self.scopes.state_in(self.enclosing_set(item)?, name)
     }
 
     /// The clauses of all items, in the order of the text.

@@ -109,8 +109,8 @@ fn sees_the_same(old: Place, new: Place, summary: &Summary) -> bool
     ensures { result ≡ same_view old.entry.links.now.outlines old.entry.item new.entry.links.now.outlines new.entry.item summary.now }
 {
     is_same(
-        old.links.place(old.item).is_some(),
-        new.links.place(new.item).is_some(),
+        old.links.enclosing_set(old.item).is_some(),
+        new.links.enclosing_set(new.item).is_some(),
     ) && knows_the_same(old, new, summary.uses.as_slice())
         && leads_to_the_same(old, new, summary.targets.as_slice())
 }

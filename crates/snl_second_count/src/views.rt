@@ -31,7 +31,7 @@ pub fn sees_the_same(old: &ReadText, old_number: usize, new: &ReadText, number: 
     let Some(summary) = new.summaries.get(number) else {
         return false;
     };
-    old.links.place(old_number).is_some() == new.links.place(number).is_some()
+    old.links.enclosing_set(old_number).is_some() == new.links.enclosing_set(number).is_some()
         && summary
             .uses
             .as_slice()

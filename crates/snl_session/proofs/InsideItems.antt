@@ -19,7 +19,7 @@ use Rattle.snl_items.specs.Items.{item_ends, spelled_items}
 use Rattle.snl_scope.specs.LinkedItems.{LinkedItems}
 use Rattle.snl_scope.specs.SpelledTokens.{summary_by}
 use Rattle.snl_scope.specs.Summaries.{kind_of, summary_in}
-use Rattle.snl_scope.specs.Summaries.Tokens.{bytes_at}
+use Rattle.snl_scope.specs.Summaries.Tokens.{token_bytes}
 use Rattle.snl_scope.specs.View.{same_view, view}
 use Rattle.snl_scope.specs.declared.summaries.summary.ItemKind.{ItemKind}
 use Rattle.snl_scope.specs.declared.summaries.summary.Outline.{Outline}
@@ -61,7 +61,7 @@ module _ (old text : List ℕ) (start old_stop new_stop : ℕ) (c : Changes) (s 
     (tree_told : (text : List ℕ) (tokens : List Piece) → sound_tree (parsed_in text tokens) ≡ tree_in text tokens)
     (by_spelling : (text : List ℕ) (tokens : List Piece) → parsed_in text tokens ≡ parsed_by (spelled text tokens))
     (summary_told : (text : List ℕ) (tokens : List Piece) (tree : Option Item) → summary_in text tokens tree ≡ summary_by (spelled text tokens) tree)
-    (bytes_same : (text moved : List ℕ) (tokens shifted : List Piece) → spelled text tokens ≡ spelled moved shifted → bytes_at text tokens ≡ bytes_at moved shifted)
+    (bytes_same : (text moved : List ℕ) (tokens shifted : List Piece) → spelled text tokens ≡ spelled moved shifted → token_bytes text tokens ≡ token_bytes moved shifted)
     (views : (ss : List Outline) (i : ℕ) (ts : List Outline) (j : ℕ) (s : Summary) → IsTrue (same_view ss i ts j s) ↔ (view ss i s ≡ view ts j s))
     (lines : (old text : List ℕ) (s : Shift) (o : ℕ) → IsShift old text s → IsOutside old s o → line_at text (shifted_offset s o) ≡ shifted_line s o (line_at old o))
     (checks_stay : (ss ts : List Outline) (j i : ℕ) (x : Spelled) → same_view ss j ts i (entry_by x).summary ≡ true → check_by ss j x ≡ check_by ts i x)

@@ -15,7 +15,7 @@ use Rattle.snl_syntax.specs.declared.tree.item.Item.{Item}
 use Rattle.snl_scope.specs.Order.{state_name}
 use Rattle.snl_scope.specs.SpelledTokens.{bytes_by, summary_by}
 use Rattle.snl_scope.specs.Summaries.{summary_in}
-use Rattle.snl_scope.specs.Summaries.Tokens.{bytes_at}
+use Rattle.snl_scope.specs.Summaries.Tokens.{token_bytes}
 use Rattle.snl_scope.specs.declared.summaries.summary.Outline.{Outline}
 use Rattle.snl_scope.specs.declared.summaries.summary.Summary.{Summary}
 use Rattle.snl_tables.specs.declared.rows.Tables.{Tables}
@@ -27,13 +27,13 @@ use Rattle.snl_check.specs.States.{state_body}
 use Rattle.snl_session.specs.declared.entries.Entry.{Entry}
 use Rattle.snl_session.specs.declared.found.findings.Diagnostic.{Diagnostic}
 use Rattle.snl_session.specs.declared.found.findings.Finding.{Finding}
-use Rattle.snl_session.specs.declared.ways.inside.Was.{Was}
+use Rattle.snl_session.specs.declared.ways.item_plan.Was.{Was}
 use Rattle.snl_session.specs.declared.ways.one_item.OwnTokens.{OwnTokens}
 use Rattle.snl_session.specs.declared.ways.plan.Changes.{Changes}
 use Rattle.snl_session.specs.Checks.{check_by, checks_from, checks_of, outlines_in}
 use Rattle.snl_session.specs.Diagnostics.{diagnostic, diagnostics_of, shown_if}
 use Rattle.snl_session.specs.Entries.{entries_of, entry_by}
-use Rattle.snl_session.specs.Inside.{AreOwnTokens, FitsRow, IsAfterInside, IsOneItem, IsStateAlike, IsWas, SaysWhatItSaid, diagnostics_by, outlines_kept, own_item, wakes_told}
+use Rattle.snl_session.specs.ItemPlan.{AreOwnTokens, FitsRow, IsAfterInside, IsOneItem, IsStateAlike, IsWas, SaysWhatItSaid, diagnostics_by, outlines_kept, own_item, wakes_told}
 use Rattle.snl_session.specs.ReplacedItem.{IsInside, own_findings, own_head, own_shown, own_tokens}
 use Rattle.snl_session.specs.OwnFindings.{found_around}
 use Rattle.snl_session.specs.OwnRows.{row_told, with_row}
@@ -117,7 +117,7 @@ is_there old c one = omega (arith, one.one_gone)
 module _ (tree_told : (text : List ℕ) (tokens : List Piece) → sound_tree (parsed_in text tokens) ≡ tree_in text tokens)
     (by_spelling : (text : List ℕ) (tokens : List Piece) → parsed_in text tokens ≡ parsed_by (spelled text tokens))
     (summary_told : (text : List ℕ) (tokens : List Piece) (tree : Option Item) → summary_in text tokens tree ≡ summary_by (spelled text tokens) tree)
-    (bytes_told : (text : List ℕ) (tokens : List Piece) → bytes_at text tokens ≡ bytes_by (spelled text tokens)) where
+    (bytes_told : (text : List ℕ) (tokens : List Piece) → token_bytes text tokens ≡ bytes_by (spelled text tokens)) where
   -- what the items say to each other, as it is kept
   kept_along : (text : List ℕ) (ms : List (List Piece)) → outlines_kept (map entry_by (map (spelled text) ms)) ≡ outlines_of text (map (program_item text) ms)
   kept_along text [] = refl
@@ -142,7 +142,7 @@ module _ (tree_told : (text : List ℕ) (tokens : List Piece) → sound_tree (pa
         targets = ap (λ (y : Summary). map (λ m. m.name) y.targets) (sym summary) ∙ alike.alike.targets ∙ ap (λ (y : Summary). map (λ m. m.name) y.targets) summary_was;
         wakes = ap₂ (λ (ts : List Piece) (t : Option Item). let y : ProgramItem = record { tokens = ts; tree = t } in wakes_of text y) (sym own_are.is) (sym tree)
             ∙ alike.alike.wakes
-            ∙ ap₂ (λ (ts : List Piece) (c : Option Checked). wakes_told (bytes_at old ts) c) own_are.was check
+            ∙ ap₂ (λ (ts : List Piece) (c : Option Checked). wakes_told (token_bytes old ts) c) own_are.was check
             ∙ wakes_are tree_told by_spelling summary_told bytes_told (outlines_in old) k old (own_tokens old k);
       }
 

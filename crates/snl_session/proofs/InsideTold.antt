@@ -8,7 +8,7 @@ use Rattle.snl_syntax.specs.declared.tree.item.Item.TheVariants as items
 use Rattle.snl_scope.specs.Order.{is_faulty}
 use Rattle.snl_scope.specs.SpelledTokens.{bytes_by, summary_by}
 use Rattle.snl_scope.specs.Summaries.{kind_of, kind_of_tree, summary_in}
-use Rattle.snl_scope.specs.Summaries.Tokens.{bytes_at}
+use Rattle.snl_scope.specs.Summaries.Tokens.{token_bytes}
 use Rattle.snl_scope.specs.declared.summaries.summary.Outline.{Outline}
 use Rattle.snl_check.specs.declared.rules.findings.Checked.{Checked}
 use Rattle.snl_check.specs.Items.{summary_of_item}
@@ -17,7 +17,7 @@ use Rattle.snl_check.specs.Told.{Told, told_in_item, told_kept}
 use Rattle.snl_session.specs.declared.entries.Entry.{Entry}
 use Rattle.snl_session.specs.Checks.{check_by, check_of_item, checked_by}
 use Rattle.snl_session.specs.Entries.{entry_by}
-use Rattle.snl_session.specs.Inside.{wakes_told}
+use Rattle.snl_session.specs.ItemPlan.{wakes_told}
 use Rattle.snl_session.specs.Program.{ProgramItem, program_item, tree_in}
 
 -- a sound item isn't of the kind of faulty ones
@@ -55,7 +55,7 @@ by_tree text ss n tokens (Some tree) = refl
 module _ (tree_told : (text : List ℕ) (tokens : List Piece) → sound_tree (parsed_in text tokens) ≡ tree_in text tokens)
     (by_spelling : (text : List ℕ) (tokens : List Piece) → parsed_in text tokens ≡ parsed_by (spelled text tokens))
     (summary_told : (text : List ℕ) (tokens : List Piece) (tree : Option Item) → summary_in text tokens tree ≡ summary_by (spelled text tokens) tree)
-    (bytes_told : (text : List ℕ) (tokens : List Piece) → bytes_at text tokens ≡ bytes_by (spelled text tokens)) where
+    (bytes_told : (text : List ℕ) (tokens : List Piece) → token_bytes text tokens ≡ bytes_by (spelled text tokens)) where
   pub tree_is : (text : List ℕ) (own : List Piece) → sound_tree (parsed_by (spelled text own)) ≡ tree_in text own
   tree_is text own = ap sound_tree (sym (by_spelling text own)) ∙ tree_told text own
 
@@ -69,6 +69,6 @@ module _ (tree_told : (text : List ℕ) (tokens : List Piece) → sound_tree (pa
   pub told_is : (ss : List Outline) (i : ℕ) (text : List ℕ) (own : List Piece) → told_kept (check_by ss i (spelled text own)) ≡ told_in_item text (program_item text own)
   told_is ss i text own = ap told_kept (check_is ss i text own) ∙ by_tree text ss i own (tree_in text own)
 
-  pub wakes_are : (ss : List Outline) (i : ℕ) (text : List ℕ) (own : List Piece) → wakes_told (bytes_at text own) (check_by ss i (spelled text own)) ≡ wakes_of text (program_item text own)
+  pub wakes_are : (ss : List Outline) (i : ℕ) (text : List ℕ) (own : List Piece) → wakes_told (token_bytes text own) (check_by ss i (spelled text own)) ≡ wakes_of text (program_item text own)
   wakes_are ss i text own =
-      wakes_kept (bytes_at text own) (check_by ss i (spelled text own)) ∙ ap (λ (t : Told). map (used_by (bytes_at text own)) t.wake_uses) (told_is ss i text own)
+      wakes_kept (token_bytes text own) (check_by ss i (spelled text own)) ∙ ap (λ (t : Told). map (used_by (token_bytes text own)) t.wake_uses) (told_is ss i text own)

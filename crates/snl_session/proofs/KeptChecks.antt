@@ -13,13 +13,13 @@ use Rattle.snl_scope.specs.declared.summaries.summary.Outline.{Outline}
 use Rattle.snl_scope.specs.declared.summaries.summary.Summary.{Summary}
 use Rattle.snl_scope.specs.Linked.{fact_of, has_target}
 use Rattle.snl_scope.specs.SpelledTokens.{bytes_by, pieces_from, summary_by, text_of}
-use Rattle.snl_scope.specs.Summaries.Tokens.{bytes_at}
+use Rattle.snl_scope.specs.Summaries.Tokens.{token_bytes}
 use Rattle.snl_scope.specs.View.{same_view, view}
 use Rattle.snl_check.specs.declared.rules.findings.Checked.{Checked}
 use Rattle.snl_check.specs.declared.rules.findings.ItemFault.{ItemFault}
-use Rattle.snl_check.specs.Alike.{Agree, SameTokens, target_names, used_names}
-use Rattle.snl_check.specs.Found.{faults_in}
-use Rattle.snl_check.specs.Outlook.{is_in_set, known_of, leads_to}
+use Rattle.snl_check.specs.SeenNames.{Agree, SameTokens, target_names, used_names}
+use Rattle.snl_check.specs.ItemFaults.{faults_in}
+use Rattle.snl_check.specs.View.{is_in_set, known_of, leads_to}
 use Rattle.snl_check.specs.Told.{target_uses, wake_uses}
 use Rattle.snl_session.specs.Checks.{check_by, checked_by}
 use Rattle.snl_session.specs.Entries.{entry_by}
@@ -34,10 +34,10 @@ module _
     (told : (ss : List Outline) (j : ℕ) (ts : List Outline) (i : ℕ) (s : Summary) → IsTrue (same_view ss j ts i s) ↔ (view ss j s ≡ view ts i s))
     (equal : (text moved : List ℕ) (tokens shifted : List Piece) (tree : Item) (in_set : Bool) (fact other : List ℕ → Option Fact) (target another : List ℕ → Bool)
     → SameTokens text tokens moved shifted → Agree fact other (used_names text tokens tree) → Agree target another (target_names text tokens tree)
-    → faults_in (bytes_at text tokens) tree in_set fact target ≡ faults_in (bytes_at moved shifted) tree in_set other another)
-    (by_spelling : (text : List ℕ) (tokens : List Piece) → bytes_at text tokens ≡ bytes_by (spelled text tokens))
+    → faults_in (token_bytes text tokens) tree in_set fact target ≡ faults_in (token_bytes moved shifted) tree in_set other another)
+    (by_spelling : (text : List ℕ) (tokens : List Piece) → token_bytes text tokens ≡ bytes_by (spelled text tokens))
     (alone : (tokens : List (Class × List ℕ)) → spelled (text_of tokens) (pieces_from 0 tokens) ≡ tokens) where
-  own_bytes : (x : Spelled) → bytes_at (text_of x) (pieces_from 0 x) ≡ bytes_by x
+  own_bytes : (x : Spelled) → token_bytes (text_of x) (pieces_from 0 x) ≡ bytes_by x
   own_bytes x = by_spelling (text_of x) (pieces_from 0 x) ∙ ap bytes_by (alone x)
 
   module _ (ss ts : List Outline) (j i : ℕ) (x : Spelled) (tree : Item) (same : view ss j (summary_by x (Some tree)) ≡ view ts i (summary_by x (Some tree))) where
@@ -62,7 +62,7 @@ module _
     faults_same : faults_in (bytes_by x) tree (is_in_set ss j) (known_of ss j) (leads_to ss j) ≡ faults_in (bytes_by x) tree (is_in_set ts i) (known_of ts i) (leads_to ts i)
     faults_same =
         ap (λ (b : ℕ → List ℕ). faults_in b tree (is_in_set ss j) (known_of ss j) (leads_to ss j)) (sym (own_bytes x))
-        ∙ ap (λ (s : Bool). faults_in (bytes_at (text_of x) (pieces_from 0 x)) tree s (known_of ss j) (leads_to ss j)) in_set_same
+        ∙ ap (λ (s : Bool). faults_in (token_bytes (text_of x) (pieces_from 0 x)) tree s (known_of ss j) (leads_to ss j)) in_set_same
         ∙ equal (text_of x) (text_of x) (pieces_from 0 x) (pieces_from 0 x) tree (is_in_set ts i) (known_of ss j) (known_of ts i) (leads_to ss j) (leads_to ts i) (λ n. refl) facts_same leads_same
         ∙ ap (λ (b : ℕ → List ℕ). faults_in b tree (is_in_set ts i) (known_of ts i) (leads_to ts i)) (own_bytes x)
 

@@ -6,9 +6,9 @@ use Rattle.std.proofs.lemmas.List.Elements.{recursion_from_All}
 use Rattle.snl_lex.specs.declared.piece.Piece.{Piece}
 use Rattle.snl_lex.specs.Pieces.{LiesIn}
 use Rattle.snl_walk.specs.declared.codes.Code.{Code}
-use Rattle.snl_scope.specs.Summaries.Tokens.{bytes_at, bytes_if}
+use Rattle.snl_scope.specs.Summaries.Tokens.{token_bytes, bytes_if}
 use Rattle.snl_check.specs.declared.rules.findings.ItemFault.{ItemFault}
-use Rattle.snl_check.specs.Found.{StandsIn}
+use Rattle.snl_check.specs.ItemFaults.{StandsIn}
 use Rattle.snl_session.specs.Checked.{HasOffset, at_own_token}
 use Rattle.snl_session.specs.Linked.{finding_at}
 
@@ -18,12 +18,12 @@ in_text text [] code n byte h w = omega arith
 in_text text (p ∷ ps) code zero byte h w = omega (arith, length-take p.len (drop p.start text))
 in_text text (p ∷ ps) code (suc n) byte h w = in_text text ps code n byte h.1 w
 
-stands : (text : List ℕ) (tokens : List Piece) (fault : ItemFault) → AllByRecursion (LiesIn text) tokens → StandsIn (bytes_at text tokens) fault → (at_own_token tokens fault).offset ≤ length text
-unfolding bytes_at
+stands : (text : List ℕ) (tokens : List Piece) (fault : ItemFault) → AllByRecursion (LiesIn text) tokens → StandsIn (token_bytes text tokens) fault → (at_own_token tokens fault).offset ≤ length text
+unfolding token_bytes
 stands text tokens fault h (inl w) = in_text text tokens fault.code fault.token fault.byte h (omega arith)
 stands text tokens fault h (inr w) = in_text text tokens fault.code fault.token fault.byte h (omega arith)
 
-pub have_offsets : (text : List ℕ) (tokens : List Piece) (faults : List ItemFault) → length text < 2 ^ 64 → All (LiesIn text) tokens → All (StandsIn (bytes_at text tokens)) faults →
+pub have_offsets : (text : List ℕ) (tokens : List Piece) (faults : List ItemFault) → length text < 2 ^ 64 → All (LiesIn text) tokens → All (StandsIn (token_bytes text tokens)) faults →
     All (HasOffset tokens) faults
 have_offsets text tokens faults small h w = λ k d within.
     let there : (at_own_token tokens (get_or faults k d)).offset ≤ length text = stands text tokens (get_or faults k d) (recursion_from_All (LiesIn text) tokens h) (w k d within) in

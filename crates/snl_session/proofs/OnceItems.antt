@@ -19,13 +19,13 @@ use Rattle.snl_scope.specs.declared.summaries.summary.Outline.{Outline}
 use Rattle.snl_scope.specs.Names.{has_own_scope}
 use Rattle.snl_scope.specs.Once.{declared_tokens}
 use Rattle.snl_scope.specs.Summaries.{outline_in}
-use Rattle.snl_scope.specs.Summaries.Tokens.{bytes_at, bytes_if}
+use Rattle.snl_scope.specs.Summaries.Tokens.{token_bytes, bytes_if}
 use Rattle.snl_check.specs.declared.rules.findings.ItemFault.{ItemFault}
 use Rattle.snl_walk.specs.Codes.{is_item_code}
 use Rattle.snl_check.specs.FaultCodes.{LeavesToLinks}
-use Rattle.snl_check.specs.Found.{StandsIn, faults_in}
+use Rattle.snl_check.specs.ItemFaults.{StandsIn, faults_in}
 use Rattle.snl_check.specs.Items.{outline_of_item}
-use Rattle.snl_check.specs.Outlook.{is_in_set, known_of, leads_to}
+use Rattle.snl_check.specs.View.{is_in_set, known_of, leads_to}
 use Rattle.snl_session.specs.declared.found.findings.Finding.{Finding}
 use Rattle.snl_session.specs.Checked.{at_own_token, checked_faults, faults_kept, found_in_item}
 use Rattle.snl_session.specs.Checks.{checked_by}
@@ -144,8 +144,8 @@ there [] n l = absurd (omega (arith, l))
 there (p ∷ ps) zero l = (p, refl)
 there (p ∷ ps) (suc n) l = there ps n (omega (arith, l))
 
-is_at : (text : List ℕ) (tokens : List Piece) → Each (LiesIn text) tokens → (f : ItemFault) → f.token < length tokens → StandsIn (bytes_at text tokens) f → IsAt tokens f
-unfolding bytes_at
+is_at : (text : List ℕ) (tokens : List Piece) → Each (LiesIn text) tokens → (f : ItemFault) → f.token < length tokens → StandsIn (token_bytes text tokens) f → IsAt tokens f
+unfolding token_bytes
 is_at text tokens lie f own inside =
     let here = there tokens f.token own in
     let some = (each_got (LiesIn text) tokens f.token here.0 lie here.1).0 in
@@ -215,11 +215,11 @@ module _ (text : List ℕ) (ss : List Outline) (laws : CheckLaws text) where
       tokens = x.tokens
 
       by : (o : Option Item) → x.tree ≡ o
-          → Each (IsMadeIn text x) (map (at_own_token x.tokens) (faults_kept (option_map (checked_by ss i (bytes_at text x.tokens)) o)))
-          × EachTwo DifferInPlace (map (at_own_token x.tokens) (faults_kept (option_map (checked_by ss i (bytes_at text x.tokens)) o)))
+          → Each (IsMadeIn text x) (map (at_own_token x.tokens) (faults_kept (option_map (checked_by ss i (token_bytes text x.tokens)) o)))
+          × EachTwo DifferInPlace (map (at_own_token x.tokens) (faults_kept (option_map (checked_by ss i (token_bytes text x.tokens)) o)))
       by None is = (tt, tt)
       by (Some t) is =
-          let bytes = bytes_at text x.tokens in
+          let bytes = token_bytes text x.tokens in
           let fs : List ItemFault = faults_in bytes t (is_in_set ss i) (known_of ss i) (leads_to ss i) in
           let own = recursion_from_All (λ (f : ItemFault). f.token < length x.tokens) fs (laws.own bytes (is_in_set ss i) (known_of ss i) (leads_to ss i) text x.tokens t (read t is)) in
           let inside = recursion_from_All (StandsIn bytes) fs (laws.inside bytes t (is_in_set ss i) (known_of ss i) (leads_to ss i)) in

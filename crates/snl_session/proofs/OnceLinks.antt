@@ -23,7 +23,7 @@ use Rattle.snl_scope.specs.Summaries.{outline_in}
 use Rattle.snl_walk.specs.Codes.{is_item_code, is_link_code}
 use Rattle.snl_check.specs.Items.{outline_of_item, tokens_in}
 use Rattle.snl_session.specs.declared.found.findings.Finding.{Finding}
-use Rattle.snl_session.specs.Linked.{finding_at, linked_faults, linked_of, outlines_of, placed, token_of}
+use Rattle.snl_session.specs.Linked.{finding_at, linked_faults, linked_of, outlines_of, linked_finding, token_of}
 use Rattle.snl_session.specs.OnceFound.{DifferInPlace}
 use Rattle.snl_session.specs.Program.{ProgramItem}
 use Rattle.snl_session.proofs.OnceItems.{IsMade, there}
@@ -100,14 +100,14 @@ module _ (text : List ℕ) (xs : List ProgramItem) (laws : LinkLaws) (apart : Ar
           let here = there x.tokens f.token (omega (arith, g.token, count)) in
           inl (record { x = x; p = here.0; item = at; token = here.1; says = g })
 
-  code_is : (f : LinkFault) → (placed xs f).code ≡ f.code
+  code_is : (f : LinkFault) → (linked_finding xs f).code ≡ f.code
   code_is f = by (token_of xs f.item f.token)
     where
       by : (o : Option Piece) → (finding_at f.code o).code ≡ f.code
       by None = refl
       by (Some p) = refl
 
-  offset_is : (f : LinkFault) → (a : AtToken f) → (placed xs f).offset ≡ a.p.start
+  offset_is : (f : LinkFault) → (a : AtToken f) → (linked_finding xs f).offset ≡ a.p.start
   offset_is f a = ap (λ o. (finding_at f.code (option_and_then (λ (x : ProgramItem). slice_get x.tokens f.token) o)).offset) a.item ∙ ap (λ o. (finding_at f.code o).offset) a.token
 
   is_in : (f : LinkFault) → (a : AtToken f) → (o : ℕ) → o ≡ a.p.start → IsIn xs f.item f.token o
@@ -126,7 +126,7 @@ module _ (text : List ℕ) (xs : List ProgramItem) (laws : LinkLaws) (apart : Ar
     | inr states ↦ false≢true (sym (states.1 f.item (outline_of_item text a.x) (outline_at f a)) ∙ a.says.set (code ∙ states.0))
   ]
 
-  differ : (f g : LinkFault) → IsPlaced counts ss f → IsPlaced counts ss g → f ≢ g → DifferInPlace (placed xs f) (placed xs g)
+  differ : (f g : LinkFault) → IsPlaced counts ss f → IsPlaced counts ss g → f ≢ g → DifferInPlace (linked_finding xs f) (linked_finding xs g)
   differ f g h k other offset same = by (where_is f h) (where_is g k)
     where
       code : f.code ≡ g.code
@@ -143,8 +143,8 @@ module _ (text : List ℕ) (xs : List ProgramItem) (laws : LinkLaws) (apart : Ar
 
   pub linked_once : AreFoundOnce fs → EachTwo DifferInPlace (linked_faults text xs)
   linked_once once =
-      two_map DifferInPlace (placed xs) fs
-      (two_with (λ a b. a ≢ b) (IsPlaced counts ss) (λ f g. DifferInPlace (placed xs f) (placed xs g)) (λ f g h k other. differ f g h k other) fs each_placed (two_from_pairs (λ a b. a ≢ b) fs once))
+      two_map DifferInPlace (linked_finding xs) fs
+      (two_with (λ a b. a ≢ b) (IsPlaced counts ss) (λ f g. DifferInPlace (linked_finding xs f) (linked_finding xs g)) (λ f g h k other. differ f g h k other) fs each_placed (two_from_pairs (λ a b. a ≢ b) fs once))
 
   -- ---- their codes, and what is found in items
 
@@ -158,7 +158,7 @@ module _ (text : List ℕ) (xs : List ProgramItem) (laws : LinkLaws) (apart : Ar
   not_seven f a e = elim a.code [ inl header ↦ let other : E05 ≡ E07 = sym header.0 ∙ e in cc | inr states ↦ let other : E06 ≡ E07 = sym states.0 ∙ e in cc ]
 
   -- E07 of the links is at another token than that of an item
-  apart_from_made : (f : LinkFault) → IsPlaced counts ss f → (g : Finding) → IsMade text xs g → DifferInPlace (placed xs f) g
+  apart_from_made : (f : LinkFault) → IsPlaced counts ss f → (g : Finding) → IsMade text xs g → DifferInPlace (linked_finding xs f) g
   unfolding is_in
   apart_from_made f h g made offset same =
       let seven : f.code ≡ E07 = shared_code f.code (link_code f h) (ap is_item_code (sym (code_is f) ∙ same) ∙ made.made.code) in
@@ -184,5 +184,5 @@ module _ (text : List ℕ) (xs : List ProgramItem) (laws : LinkLaws) (apart : Ar
 
   pub linked_found : Each IsOfLinks (linked_faults text xs)
   linked_found =
-      each_map IsOfLinks (placed xs) fs
-      (each_weaker (IsPlaced counts ss) (λ f. IsOfLinks (placed xs f)) (λ f h. record { code = ap is_link_code (code_is f) ∙ link_code f h; from_made = apart_from_made f h }) fs each_placed)
+      each_map IsOfLinks (linked_finding xs) fs
+      (each_weaker (IsPlaced counts ss) (λ f. IsOfLinks (linked_finding xs f)) (λ f h. record { code = ap is_link_code (code_is f) ∙ link_code f h; from_made = apart_from_made f h }) fs each_placed)

@@ -9,7 +9,7 @@ use Rattle.snl_walk.specs.declared.codes.Code.TheVariants.{W02}
 use Rattle.snl_scope.specs.declared.summaries.summary.Outline.{Outline}
 use Rattle.snl_scope.specs.Below.{all_below}
 use Rattle.snl_scope.specs.Order.{is_named_state, is_state_word, state_name}
-use Rattle.snl_scope.specs.Places.{is_set_begin, place, stands_in}
+use Rattle.snl_scope.specs.Places.{is_set_begin, enclosing_set, stands_in}
 use Rattle.snl_scope.specs.Summaries.{second_in}
 use Rattle.snl_tables.specs.declared.rows.StateRow.{StateRow}
 use Rattle.snl_check.specs.Items.{item_name, outline_of_item, span_of}
@@ -56,7 +56,7 @@ and_right true b h = h
 and_right false b h = absurd (false≢true h)
 
 in_one_set : (ss : List Outline) (k m j : ℕ) → stands_in ss k j ≡ true → stands_in ss m j ≡ true → k ≡ m
-in_one_set ss k m j = by (place ss j)
+in_one_set ss k m j = by (enclosing_set ss j)
   where
     by : (o : Option ℕ) → option_map_or (nat_eq k) o false ≡ true → option_map_or (nat_eq m) o false ≡ true → k ≡ m
     by None h g = absurd (false≢true h)

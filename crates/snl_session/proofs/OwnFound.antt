@@ -16,7 +16,7 @@ use Rattle.snl_scope.specs.declared.summaries.summary.Outline.{Outline}
 use Rattle.snl_scope.specs.Linked as links
 use Rattle.snl_scope.specs.LinkedItems.{LinkedItems}
 use Rattle.snl_scope.specs.Summaries.{kind_of}
-use Rattle.snl_scope.specs.Summaries.Tokens.{bytes_at}
+use Rattle.snl_scope.specs.Summaries.Tokens.{token_bytes}
 use Rattle.snl_check.specs.Shifted.{shifted_item, shifted_tokens}
 use Rattle.snl_check.specs.ShiftedAround.{is_plain}
 use Rattle.snl_session.specs.declared.found.findings.Finding.{Finding}
@@ -24,7 +24,7 @@ use Rattle.snl_session.specs.Checked.{checked_faults, found_in_item}
 use Rattle.snl_session.specs.Checks.{checked_by, links_in, outlines_in}
 use Rattle.snl_session.specs.Diagnostics.{found, shown, shown_if}
 use Rattle.snl_session.specs.Faults.{fault_at, fault_in, faults_of}
-use Rattle.snl_session.specs.Linked.{finding_at, linked_faults, placed, token_of}
+use Rattle.snl_session.specs.Linked.{finding_at, linked_faults, linked_finding, token_of}
 use Rattle.snl_session.specs.ReplacedItem.{ReplacesInside, SparesInside, own_findings, own_shown}
 use Rattle.snl_session.specs.ReplacedItem as one
 use Rattle.snl_session.specs.Order.{in_order}
@@ -57,7 +57,7 @@ says_nothing text ss i x h = by x.tree h
 module _ (old text : List ℕ) (s : Shift) (head : ℕ) (front back : List ProgramItem) (x y : ProgramItem) (is : ReplacesInside old text s head front x y back)
     -- what the laws of the layers below say
     (by_spelling : (text : List ℕ) (tokens : List Piece) → parsed_in text tokens ≡ parsed_by (spelled text tokens))
-    (bytes_same : (text moved : List ℕ) (tokens shifted : List Piece) → spelled text tokens ≡ spelled moved shifted → bytes_at text tokens ≡ bytes_at moved shifted)
+    (bytes_same : (text moved : List ℕ) (tokens shifted : List Piece) → spelled text tokens ≡ spelled moved shifted → token_bytes text tokens ≡ token_bytes moved shifted)
     (each_inside : (ss : List Outline) (i : ℕ) (bytes : ℕ → List ℕ) (tree : Item) → All (IsInside s is.shift.some_before bytes) (checked_by ss i bytes tree).faults) where
   abbrev sh : Finding → Finding
   sh = shifted_finding s
@@ -109,7 +109,7 @@ module _ (old text : List ℕ) (s : Shift) (head : ℕ) (front back : List Progr
   token_around (a ∷ ps) (suc i) k low = token_around ps i k (λ e. low (ap suc e))
 
   placed_around : (faults : List LinkFault) → AllByRecursion (λ (f : LinkFault). f.item ≡ n → f.token < head) faults
-      → map (placed (map si front ++ (y ∷ map si back))) faults ≡ map sh (map (placed (front ++ (x ∷ back))) faults)
+      → map (linked_finding (map si front ++ (y ∷ map si back))) faults ≡ map sh (map (linked_finding (front ++ (x ∷ back))) faults)
   placed_around [] h = refl
   placed_around (f ∷ fs) h =
       ap₂ (λ (z : Finding) (l : List Finding). z ∷ l)
@@ -119,9 +119,9 @@ module _ (old text : List ℕ) (s : Shift) (head : ℕ) (front back : List Progr
   linked_around : SparesInside head n (links.faults_of (links_in old)) → linked_faults text (items_of text) ≡ map sh (linked_faults old (items_of old))
   linked_around spares =
       let faults : List LinkFault = links.faults_of (links_in old) in
-      ap₂ (λ (zs : List ProgramItem) (l : LinkedItems). map (placed zs) (links.faults_of l)) is.items_are is.links
+      ap₂ (λ (zs : List ProgramItem) (l : LinkedItems). map (linked_finding zs) (links.faults_of l)) is.items_are is.links
       ∙ placed_around faults (recursion_from_All (λ (f : LinkFault). f.item ≡ n → f.token < head) faults spares)
-      ∙ ap (λ (zs : List ProgramItem). map sh (map (placed zs) faults)) (sym is.items_were)
+      ∙ ap (λ (zs : List ProgramItem). map sh (map (linked_finding zs) faults)) (sym is.items_were)
 
   -- what is found, but for that at the state itself
   abbrev faults_before : List Finding

@@ -9,7 +9,7 @@ use Rattle.snl_scope.specs.SpelledTokens.{summary_by}
 use Rattle.snl_scope.specs.Summaries.{summary_in}
 use Rattle.snl_session.specs.declared.found.program.Part.{Part}
 use Rattle.snl_session.specs.Entries.{entry_by}
-use Rattle.snl_session.specs.Parts.{IsPart, part_of, tokens_of_part}
+use Rattle.snl_session.specs.Parts.{IsPart, item_of_part, tokens_of_part}
 use Rattle.snl_session.specs.Program.{ProgramItem, program_item, tree_in}
 use Rattle.snl_session.proofs.Members.{entry_parsed, entry_summary}
 
@@ -34,7 +34,7 @@ module _ (text : List ℕ) (tokens : List Piece) (part : Part) (some : part.star
     summary = entry_summary text (tokens_of_part tokens part) part.entry.now is summary;
   }
 
-  pub part_item : sound_tree (parsed_in text (tokens_of_part tokens part)) ≡ tree_in text (tokens_of_part tokens part) → part_of tokens part ≡ program_item text (tokens_of_part tokens part)
+  pub part_item : sound_tree (parsed_in text (tokens_of_part tokens part)) ≡ tree_in text (tokens_of_part tokens part) → item_of_part tokens part ≡ program_item text (tokens_of_part tokens part)
   part_item law =
       ap (λ (tree : Option Item). let x : ProgramItem = record { tokens = tokens_of_part tokens part; tree = tree } in x)
       (ap sound_tree (entry_parsed text (tokens_of_part tokens part) part.entry.now is by_spelling) ∙ law)

@@ -15,7 +15,7 @@ use Rattle.snl_syntax.specs.declared.outcome.Parsed.TheVariants as parsed
 use Rattle.snl_syntax.specs.declared.tree.item.Item.{Item}
 use Rattle.snl_walk.specs.declared.codes.Code.{Code}
 use Rattle.snl_scope.specs.declared.facts.LinkFault.{LinkFault}
-use Rattle.snl_scope.specs.Summaries.Tokens.{bytes_at, bytes_if}
+use Rattle.snl_scope.specs.Summaries.Tokens.{token_bytes, bytes_if}
 use Rattle.snl_scope.specs.declared.summaries.summary.Outline.{Outline}
 use Rattle.snl_tables.specs.declared.rows.SetRow.{SetRow}
 use Rattle.snl_tables.specs.declared.rows.StateRow.{StateRow}
@@ -23,13 +23,13 @@ use Rattle.snl_tables.specs.declared.rows.Tables.{Tables}
 use Rattle.snl_tables.specs.Shifted.{shifted_set, shifted_state, shifted_tables}
 use Rattle.snl_check.specs.declared.rules.findings.ItemFault.{ItemFault}
 use Rattle.snl_check.specs.Options.{warning_setting}
-use Rattle.snl_check.specs.Outlook.{is_in_set}
+use Rattle.snl_check.specs.View.{is_in_set}
 use Rattle.snl_check.specs.Shifted.{shifted_item, shifted_tokens}
 use Rattle.snl_session.specs.declared.found.findings.Finding.{Finding}
 use Rattle.snl_session.specs.Checked.{at_own_token, faults_kept, found_in_item, moved}
 use Rattle.snl_session.specs.Checks.{checked_by}
 use Rattle.snl_session.specs.Faults.{at_number, at_token, fault_at}
-use Rattle.snl_session.specs.Linked.{finding_at, placed, token_of}
+use Rattle.snl_session.specs.Linked.{finding_at, linked_finding, token_of}
 use Rattle.snl_session.specs.Program.{ProgramItem}
 use Rattle.snl_session.specs.Shifted.{shifted_finding}
 use Rattle.snl_session.specs.Tables.{at_state, found_at_state, found_in_set, is_unreached, walked_in}
@@ -106,7 +106,7 @@ module _ (s : Shift) where
         by None = refl
         by (Some x) = slice_get-map (shifted_piece s) x.tokens n
 
-    pub placed_shift : (xs : List ProgramItem) (faults : List LinkFault) → map (placed (map (shifted_item s) xs)) faults ≡ map (shifted_finding s) (map (placed xs) faults)
+    pub placed_shift : (xs : List ProgramItem) (faults : List LinkFault) → map (linked_finding (map (shifted_item s) xs)) faults ≡ map (shifted_finding s) (map (linked_finding xs) faults)
     placed_shift xs [] = refl
     placed_shift xs (f ∷ fs) =
         ap₂ (λ (x : Finding) (l : List Finding). x ∷ l)
@@ -141,15 +141,15 @@ module _ (s : Shift) where
       abbrev pub IsLeft : Piece → Type 0
       IsLeft p = ((piece_end p ≤ s.start) ⊎ (s.old_stop ≤ p.start)) × LiesIn old p
 
-      own_shifts : (ts : List Piece) (f : ItemFault) → AllByRecursion IsLeft ts → IsInside (bytes_at old ts) f → at_own_token (shifted_tokens s ts) f ≡ shifted_finding s (at_own_token ts f)
-      unfolding bytes_at
+      own_shifts : (ts : List Piece) (f : ItemFault) → AllByRecursion IsLeft ts → IsInside (token_bytes old ts) f → at_own_token (shifted_tokens s ts) f ≡ shifted_finding s (at_own_token ts f)
+      unfolding token_bytes
       own_shifts ts f left inside =
           ap (λ (o : Option Piece). moved f.byte (finding_at f.code o)) (slice_get-map (shifted_piece s) ts f.token)
           ∙ ap (moved f.byte) (finding_shifts f.code (slice_get ts f.token))
           ∙ ap (λ (n : ℕ). let x : Finding = record { offset = n; code = (finding_at f.code (slice_get ts f.token)).code; subject = (finding_at f.code (slice_get ts f.token)).subject } in x)
           (at_byte f.code f.byte (slice_get ts f.token) inside (got IsLeft ts f.token left))
 
-      all_own_shift : (ts : List Piece) (fs : List ItemFault) → AllByRecursion IsLeft ts → AllByRecursion (IsInside (bytes_at old ts)) fs
+      all_own_shift : (ts : List Piece) (fs : List ItemFault) → AllByRecursion IsLeft ts → AllByRecursion (IsInside (token_bytes old ts)) fs
           → map (at_own_token (shifted_tokens s ts)) fs ≡ map (shifted_finding s) (map (at_own_token ts) fs)
       all_own_shift ts [] left inside = refl
       all_own_shift ts (f ∷ fs) left inside = ap₂ (λ (x : Finding) (l : List Finding). x ∷ l) (own_shifts ts f left inside.0) (all_own_shift ts fs left inside.1)
@@ -157,15 +157,15 @@ module _ (s : Shift) where
       module _ (text : List ℕ) (each_inside : (ss : List Outline) (i : ℕ) (bytes : ℕ → List ℕ) (tree : Item) → All (IsInside bytes) (checked_by ss i bytes tree).faults) where
         -- An item has the bytes that it had, and the edit leaves its tokens.
         abbrev pub StaysItem : ProgramItem → Type 0
-        StaysItem x = (bytes_at text (shifted_tokens s x.tokens) ≡ bytes_at old x.tokens) × AllByRecursion IsLeft x.tokens
+        StaysItem x = (token_bytes text (shifted_tokens s x.tokens) ≡ token_bytes old x.tokens) × AllByRecursion IsLeft x.tokens
 
         by_tree : (ss : List Outline) (i : ℕ) (ts : List Piece) (tree : Option Item) → AllByRecursion IsLeft ts
-            → map (at_own_token (shifted_tokens s ts)) (faults_kept (option_map (checked_by ss i (bytes_at old ts)) tree))
-            ≡ map (shifted_finding s) (map (at_own_token ts) (faults_kept (option_map (checked_by ss i (bytes_at old ts)) tree)))
+            → map (at_own_token (shifted_tokens s ts)) (faults_kept (option_map (checked_by ss i (token_bytes old ts)) tree))
+            ≡ map (shifted_finding s) (map (at_own_token ts) (faults_kept (option_map (checked_by ss i (token_bytes old ts)) tree)))
         by_tree ss i ts None left = refl
         by_tree ss i ts (Some tree) left =
-            all_own_shift ts (checked_by ss i (bytes_at old ts) tree).faults left
-            (recursion_from_All (IsInside (bytes_at old ts)) (checked_by ss i (bytes_at old ts) tree).faults (each_inside ss i (bytes_at old ts) tree))
+            all_own_shift ts (checked_by ss i (token_bytes old ts) tree).faults left
+            (recursion_from_All (IsInside (token_bytes old ts)) (checked_by ss i (token_bytes old ts) tree).faults (each_inside ss i (token_bytes old ts) tree))
 
         item_shifts : (ss : List Outline) (i : ℕ) (x : ProgramItem) → StaysItem x → found_in_item text ss (i, shifted_item s x) ≡ map (shifted_finding s) (found_in_item old ss (i, x))
         item_shifts ss i x stays =
@@ -180,7 +180,7 @@ module _ (s : Shift) where
             ∙ sym (map-append (shifted_finding s) (found_in_item old ss (n, x)) (flat_map (found_in_item old ss) (enumerate_from (n + 1) xs)))
 
         -- what items say of warnings
-        pub setting_stays : (ss : List Outline) (i : ℕ) (ts : List Piece) (tree : Option Item) → bytes_at text (shifted_tokens s ts) ≡ bytes_at old ts → setting_in text ss i (shifted_tokens s ts) tree ≡ setting_in old ss i ts tree
+        pub setting_stays : (ss : List Outline) (i : ℕ) (ts : List Piece) (tree : Option Item) → token_bytes text (shifted_tokens s ts) ≡ token_bytes old ts → setting_in text ss i (shifted_tokens s ts) tree ≡ setting_in old ss i ts tree
         setting_stays ss i ts None same = refl
         setting_stays ss i ts (Some tree) same = ap (λ (b : ℕ → List ℕ). warning_setting b (is_in_set ss i) tree) same
 

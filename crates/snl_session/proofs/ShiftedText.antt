@@ -22,7 +22,7 @@ use Rattle.snl_scope.specs.Linked as links
 use Rattle.snl_scope.specs.LinkedItems.{LinkedItems}
 use Rattle.snl_scope.specs.SpelledTokens.{summary_by}
 use Rattle.snl_scope.specs.Summaries.{summary_in}
-use Rattle.snl_scope.specs.Summaries.Tokens.{bytes_at}
+use Rattle.snl_scope.specs.Summaries.Tokens.{token_bytes}
 use Rattle.snl_scope.specs.View.{same_view, view}
 use Rattle.snl_scope.specs.declared.summaries.summary.Outline.{Outline}
 use Rattle.snl_scope.specs.declared.summaries.summary.Summary.{Summary}
@@ -37,7 +37,7 @@ use Rattle.snl_session.specs.Checks.{checked_by, checks_from, links_in, outlines
 use Rattle.snl_session.specs.Diagnostics.{diagnostic, diagnostics_of, found, shown}
 use Rattle.snl_session.specs.Entries.{entries_of, entry_by}
 use Rattle.snl_session.specs.Faults.{fault_at, fault_in, faults_of}
-use Rattle.snl_session.specs.Linked.{linked_faults, placed}
+use Rattle.snl_session.specs.Linked.{linked_faults, linked_finding}
 use Rattle.snl_session.specs.Order.{in_order}
 use Rattle.snl_session.specs.Program.{ProgramItem, item_tokens, items_of, program_item, tree_in}
 use Rattle.snl_session.specs.Shifted.{IsShifted, ShiftsAll, shifted_diagnostic, shifted_finding}
@@ -93,7 +93,7 @@ module _ (old text : List ℕ) (a b c : ℕ) (t : Shifted) (is : ShiftsAll old t
     (tree_told : (text : List ℕ) (tokens : List Piece) → sound_tree (parsed_in text tokens) ≡ tree_in text tokens)
     (by_spelling : (text : List ℕ) (tokens : List Piece) → parsed_in text tokens ≡ parsed_by (spelled text tokens))
     (summary_told : (text : List ℕ) (tokens : List Piece) (tree : Option Item) → summary_in text tokens tree ≡ summary_by (spelled text tokens) tree)
-    (bytes_same : (text moved : List ℕ) (tokens shifted : List Piece) → spelled text tokens ≡ spelled moved shifted → bytes_at text tokens ≡ bytes_at moved shifted)
+    (bytes_same : (text moved : List ℕ) (tokens shifted : List Piece) → spelled text tokens ≡ spelled moved shifted → token_bytes text tokens ≡ token_bytes moved shifted)
     (each_inside : (ss : List Outline) (i : ℕ) (bytes : ℕ → List ℕ) (tree : Item) → All (IsInside t.by is.lines.some_before bytes) (checked_by ss i bytes tree).faults)
     (views : (ss : List Outline) (i : ℕ) (ts : List Outline) (j : ℕ) (s : Summary) → IsTrue (same_view ss i ts j s) ↔ (view ss i s ≡ view ts j s))
     (lines : (old text : List ℕ) (s : Shift) (o : ℕ) → IsShift old text s → IsOutside old s o → line_at text (shifted_offset s o) ≡ shifted_line s o (line_at old o))
@@ -140,7 +140,7 @@ module _ (old text : List ℕ) (a b c : ℕ) (t : Shifted) (is : ShiftsAll old t
   unfolding item_tokens
   members_left = in_members (IsLeft s is.lines.some_before old order fits) (tokens_of old) tokens_left 0 (item_ends old)
 
-  same_bytes : (ms : List (List Piece)) → AllByRecursion (λ m. spelled text (shifted_tokens s m) ≡ spelled old m) ms → AllByRecursion (λ m. bytes_at text (shifted_tokens s m) ≡ bytes_at old m) ms
+  same_bytes : (ms : List (List Piece)) → AllByRecursion (λ m. spelled text (shifted_tokens s m) ≡ spelled old m) ms → AllByRecursion (λ m. token_bytes text (shifted_tokens s m) ≡ token_bytes old m) ms
   same_bytes [] h = tt
   same_bytes (m ∷ ms) h = (bytes_same text old (shifted_tokens s m) m h.0, same_bytes ms h.1)
 
@@ -150,7 +150,7 @@ module _ (old text : List ℕ) (a b c : ℕ) (t : Shifted) (is : ShiftsAll old t
   items_stay : AllByRecursion Stays xs
   items_stay =
       along old Stays (item_tokens old)
-      (both (λ m. bytes_at text (shifted_tokens s m) ≡ bytes_at old m) (AllByRecursion (IsLeft s is.lines.some_before old order fits)) (item_tokens old) (same_bytes (item_tokens old) alike) members_left)
+      (both (λ m. token_bytes text (shifted_tokens s m) ≡ token_bytes old m) (AllByRecursion (IsLeft s is.lines.some_before old order fits)) (item_tokens old) (same_bytes (item_tokens old) alike) members_left)
 
   front_begins : All (IsInFront old text s order line_of) (take t.before (tokens_of old))
   front_begins = λ k d lt.
@@ -199,7 +199,7 @@ module _ (old text : List ℕ) (a b c : ℕ) (t : Shifted) (is : ShiftsAll old t
 
   linked_shift : linked_faults text (items_of text) ≡ map (shifted_finding s) (linked_faults old xs)
   linked_shift =
-      ap₂ (λ (ys : List ProgramItem) (l : LinkedItems). map (placed ys) (links.faults_of l)) items_are links_are
+      ap₂ (λ (ys : List ProgramItem) (l : LinkedItems). map (linked_finding ys) (links.faults_of l)) items_are links_are
       ∙ placed_shift s is.lines.some_before xs (links.faults_of (links_in old))
 
   checks_shift : checked_faults text (items_of text) ≡ map (shifted_finding s) (checked_faults old xs)

@@ -9,7 +9,7 @@ use Rattle.snl_lex.specs.Pieces.{LiesIn, is_token, pieces_of, tokens_of}
 use Rattle.snl_items.specs.Items.{item_ends}
 use Rattle.snl_check.specs.Items.{ProgramItem, program_items}
 use Rattle.snl_session.specs.declared.found.program.Part.{Part}
-use Rattle.snl_session.specs.Parts.{part_of, tree_of_part}
+use Rattle.snl_session.specs.Parts.{item_of_part, tree_of_part}
 use Rattle.snl_session.specs.Program.{item_tokens, items_of, program_item, tree_in}
 use Rattle.snl_session.proofs.Members.{members_count}
 
@@ -22,7 +22,7 @@ beside : (text : List ℕ) (ms : List (List Piece)) → map (λ p. record { toke
 beside text [] = refl
 beside text (m ∷ ms) = ap (λ xs. program_item text m ∷ xs) (beside text ms)
 
-trees_of_parts : (tokens : List Piece) (parts : List Part) → map (λ (x : ProgramItem). x.tree) (map (part_of tokens) parts) ≡ map tree_of_part parts
+trees_of_parts : (tokens : List Piece) (parts : List Part) → map (λ (x : ProgramItem). x.tree) (map (item_of_part tokens) parts) ≡ map tree_of_part parts
 trees_of_parts tokens [] = refl
 trees_of_parts tokens (part ∷ parts) = ap (λ ts. tree_of_part part ∷ ts) (trees_of_parts tokens parts)
 
@@ -32,10 +32,10 @@ trees_of_items text (m ∷ ms) = ap (λ ts. tree_in text m ∷ ts) (trees_of_ite
 
 -- parts that are the items along ends
 module _ (text : List ℕ) (tokens : List Piece) (ends : List ℕ) (parts : List Part)
-    (same : map (part_of tokens) parts ≡ map (program_item text) (members tokens 0 ends)) where
+    (same : map (item_of_part tokens) parts ≡ map (program_item text) (members tokens 0 ends)) where
   -- there are as many as ends
   pub parts_count : length parts ≡ length ends
-  parts_count = sym (length-map parts (part_of tokens)) ∙ ap length same ∙ length-map (members tokens 0 ends) (program_item text) ∙ members_count tokens 0 ends
+  parts_count = sym (length-map parts (item_of_part tokens)) ∙ ap length same ∙ length-map (members tokens 0 ends) (program_item text) ∙ members_count tokens 0 ends
 
   -- and the ends and their trees give the items
   pub trees_give : program_items tokens ends (map tree_of_part parts) ≡ map (program_item text) (members tokens 0 ends)

@@ -9,10 +9,10 @@ use Rattle.snl_items.specs.Items.{spelled_items}
 use Rattle.snl_scope.specs.LinkedItems.{LinkedItems}
 use Rattle.snl_scope.specs.SpelledTokens.{bytes_by}
 use Rattle.snl_scope.specs.declared.summaries.summary.Outline.{Outline}
-use Rattle.snl_scope.specs.Summaries.Tokens.{bytes_at}
+use Rattle.snl_scope.specs.Summaries.Tokens.{token_bytes}
 use Rattle.snl_check.specs.declared.rules.findings.Checked.{Checked}
-use Rattle.snl_check.specs.Found.{faults_in}
-use Rattle.snl_check.specs.Outlook.{is_in_set, known_of, leads_to}
+use Rattle.snl_check.specs.ItemFaults.{faults_in}
+use Rattle.snl_check.specs.View.{is_in_set, known_of, leads_to}
 use Rattle.snl_check.specs.Told.{target_uses, wake_uses}
 use Rattle.snl_session.specs.Linked.{linked_of, outlines_of}
 use Rattle.snl_session.specs.Program.{ProgramItem, items_of}
@@ -46,7 +46,7 @@ checks_of text = checks_from (outlines_in text) 0 (spelled_items text)
 
 -- The same of items that are given by their tokens and trees.
 abbrev pub check_of_item : List ℕ → List Outline → ℕ × ProgramItem → Option Checked
-check_of_item text ss (i, x) = option_map (checked_by ss i (bytes_at text x.tokens)) x.tree
+check_of_item text ss (i, x) = option_map (checked_by ss i (token_bytes text x.tokens)) x.tree
 
 abbrev pub checks_over : List ℕ → List ProgramItem → List (Option Checked)
 checks_over text xs = map (check_of_item text (outlines_of text xs)) (enumerate_from 0 xs)

@@ -4,7 +4,7 @@ pub mod Diagnostics
 pub mod Edit
 pub mod Entries
 pub mod Faults
-pub mod Inside
+pub mod ItemPlan
 pub mod Kept
 pub mod Linked
 pub mod Listing

@@ -1,30 +1,13 @@
 -- What is found by the links of the items of a text, each finding at a token of an item.
-use Rattle.std.specs.Prelude.{ℕ, Bool, true, false, if◌then◌else◌, List, map, slice_get, Option, Some, None, option_and_then}
+use Rattle.std.specs.Prelude.{ℕ, List, map, slice_get, Option, Some, None, option_and_then}
 use Rattle.snl_lex.specs.declared.piece.Piece.{Piece}
 use Rattle.snl_walk.specs.declared.codes.Code.{Code}
-use Rattle.snl_walk.specs.declared.codes.Code.TheVariants.{E01, E02, E03, E04, E05, E06, E18, W03, W04}
+use Rattle.snl_walk.specs.Codes.{quoted_bytes}
 use Rattle.snl_scope.specs.declared.facts.LinkFault.{LinkFault}
 use Rattle.snl_scope.specs.Linked as links
 use Rattle.snl_session.specs.declared.found.findings.Finding.{Finding}
 pub use Rattle.snl_check.specs.Items.{linked_of, outlines_of, summaries_of}
 use Rattle.snl_session.specs.Program.{ProgramItem}
-
--- A finding with this code quotes the token at which it is.
-abbrev pub is_quoted : Code → Bool
-is_quoted E01 = false
-is_quoted E02 = false
-is_quoted E03 = false
-is_quoted E04 = false
-is_quoted E05 = false
-is_quoted E06 = false
-is_quoted E18 = false
-is_quoted W03 = false
-is_quoted _ = true
-
--- How many bytes a finding with this code quotes, at a token of so many: none, all of them, or the one letter that is unknown.
-abbrev pub quoted_bytes : Code → ℕ → ℕ
-quoted_bytes W04 len = 1
-quoted_bytes code len = if is_quoted code then len else 0
 
 -- A finding at a token. One of what is missing altogether has none, and is at the text's beginning.
 abbrev pub finding_at : Code → Option Piece → Finding
@@ -36,9 +19,9 @@ abbrev pub token_of : List ProgramItem → ℕ → ℕ → Option Piece
 token_of xs item number = option_and_then (λ x. slice_get x.tokens number) (slice_get xs item)
 
 -- A finding of the links, at its token.
-abbrev pub placed : List ProgramItem → LinkFault → Finding
-placed xs fault = finding_at fault.code (token_of xs fault.item fault.token)
+abbrev pub linked_finding : List ProgramItem → LinkFault → Finding
+linked_finding xs fault = finding_at fault.code (token_of xs fault.item fault.token)
 
 -- What is found by the links of the items of a text.
 abbrev pub linked_faults : List ℕ → List ProgramItem → List Finding
-linked_faults text xs = map (placed xs) (links.faults_of (linked_of text xs))
+linked_faults text xs = map (linked_finding xs) (links.faults_of (linked_of text xs))

@@ -6,7 +6,7 @@ use Rattle.snl_tables.specs.Shifted.{with_body}
 use Rattle.snl_check.specs.Items.{ProgramItem}
 use Rattle.snl_check.specs.ShiftedAround.{set_number, state_number}
 use Rattle.snl_check.specs.States.{state_body}
-use Rattle.snl_session.specs.declared.ways.inside.OwnRow.{OwnRow}
+use Rattle.snl_session.specs.declared.ways.item_plan.OwnRow.{OwnRow}
 
 -- The row of item i, if that is a state with a name, in this set: where it is, and what its body says.
 abbrev pub row_told : List ℕ → List Outline → ℕ → ProgramItem → Option ℕ → Option OwnRow

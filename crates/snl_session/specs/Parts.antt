@@ -35,5 +35,5 @@ pub record IsPart (text : List ℕ) (tokens : List Piece) (part : Part) : Type 0
   pub summary : part.entry.now.summary ≡ summary_in text (tokens_of_part tokens part) (tree_of_part part)
 
 -- The item that a part of the tokens is.
-abbrev pub part_of : List Piece → Part → ProgramItem
-part_of tokens part = record { tokens = tokens_of_part tokens part; tree = tree_of_part part }
+abbrev pub item_of_part : List Piece → Part → ProgramItem
+item_of_part tokens part = record { tokens = tokens_of_part tokens part; tree = tree_of_part part }

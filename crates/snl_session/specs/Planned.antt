@@ -8,7 +8,7 @@ use Rattle.snl_items.specs.Fresh.{fresh_items_between, fresh_pieces_between}
 use Rattle.snl_tables.specs.Shifted.{shifted_tables}
 use Rattle.snl_session.specs.declared.edits.Work.{Work}
 use Rattle.snl_session.specs.declared.entries.Entry.{Entry}
-use Rattle.snl_session.specs.declared.ways.inside.ItemWay.{ItemWay}
+use Rattle.snl_session.specs.declared.ways.item_plan.ItemWay.{ItemWay}
 use Rattle.snl_session.specs.declared.lists.Lists.{Lists}
 use Rattle.snl_session.specs.declared.lists.Rechecked.{Rechecked}
 use Rattle.snl_session.specs.declared.lists.Remade.{Remade}

@@ -4,16 +4,16 @@ use Rattle.std.specs.List.{enumerate_from, filter_map}
 use Rattle.snl_lex.specs.declared.piece.Piece.{Piece}
 use Rattle.snl_syntax.specs.declared.tree.item.Item.{Item}
 use Rattle.snl_scope.specs.declared.summaries.summary.Outline.{Outline}
-use Rattle.snl_scope.specs.Summaries.Tokens.{bytes_at}
+use Rattle.snl_scope.specs.Summaries.Tokens.{token_bytes}
 use Rattle.snl_check.specs.Options.{warning_setting}
-use Rattle.snl_check.specs.Outlook.{is_in_set}
+use Rattle.snl_check.specs.View.{is_in_set}
 use Rattle.snl_session.specs.Linked.{outlines_of}
 use Rattle.snl_session.specs.Program.{ProgramItem, items_of}
 
 -- What item i says of warnings. A faulty item has no tree, and says nothing.
 abbrev pub setting_in : List ℕ → List Outline → ℕ → List Piece → Option Item → Option Bool
 setting_in text ss i tokens None = None
-setting_in text ss i tokens (Some tree) = warning_setting (bytes_at text tokens) (is_in_set ss i) tree
+setting_in text ss i tokens (Some tree) = warning_setting (token_bytes text tokens) (is_in_set ss i) tree
 
 abbrev pub setting_of_item : List ℕ → List Outline → ℕ × ProgramItem → Option Bool
 setting_of_item text ss (i, x) = setting_in text ss i x.tokens x.tree

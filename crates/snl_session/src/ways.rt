@@ -4,7 +4,7 @@
 //! the links, `recheck` checks the items that are to be checked, and `rejudge` tells what is found, by what is kept.
 
 pub(crate) mod alike;
-pub(crate) mod inside;
+pub(crate) mod item_plan;
 pub(crate) mod numbers;
 pub(crate) mod one_item;
 pub(crate) mod plan;

@@ -3,7 +3,7 @@ use Rattle.std.proofs.Common.{Bool, true, false, List, refl}
 use Rattle.snl_lex.specs.declared.kind.Kind.TheVariants as kind
 use Rattle.snl_syntax.specs.declared.tree.clause.OptionSign.{OptionSign}
 use Rattle.snl_syntax.specs.declared.tree.clause.OptionSign.TheVariants as signs
-use Rattle.snl_syntax.specs.Tokens.{Seat}
+use Rattle.snl_syntax.specs.Tokens.{NumberedKind}
 use Rattle.snl_syntax.specs.Grammar.Base.{First, Leaf, Perhaps}
 use Rattle.snl_syntax.specs.Grammar.Expressions.{AreTexts}
 use Rattle.snl_syntax.specs.Grammar.Clauses.{AreForeign, option_mark, IsOptionLine, IsSubscript, IsFlag, IsChannel, anonymous, whole, element, elements, syncq_word, IsClause, assign, monitor, sync, syncq}
@@ -22,7 +22,7 @@ name_spells n k rest e = leaf_covers e
 pub foreign_spells : Spells AreForeign spell_foreign
 foreign_spells t k rest is = word_covers is.word and commas_spell (Leaf kind.Name) (leaf kind.Name) name_spells t is.m1 is.m2 is.names and word_covers is.semicolon
 
-sign_spells : (sign : OptionSign) (k rest : List Seat) → First (option_mark sign) k rest → Covers (spell_sign sign) k rest
+sign_spells : (sign : OptionSign) (k rest : List NumberedKind) → First (option_mark sign) k rest → Covers (spell_sign sign) k rest
 sign_spells signs.Plus k rest f = word_covers f
 sign_spells signs.Minus k rest f = word_covers f
 
@@ -49,7 +49,7 @@ channel_spells t k rest (elements to xs trailing m1 m2 is to_is opening are) =
 subscript_perhaps : Spells (Perhaps IsSubscript) (perhaps spell_subscript)
 subscript_perhaps = perhaps_spells IsSubscript spell_subscript subscript_spells
 
-syncq_spells : (capital : Bool) (k rest : List Seat) → First (syncq_word capital) k rest → Covers (spell_syncq capital) k rest
+syncq_spells : (capital : Bool) (k rest : List NumberedKind) → First (syncq_word capital) k rest → Covers (spell_syncq capital) k rest
 syncq_spells true k rest f = word_covers f
 syncq_spells false k rest f = word_covers f
 

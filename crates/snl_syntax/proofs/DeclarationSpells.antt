@@ -7,7 +7,7 @@ use Rattle.snl_syntax.specs.declared.tree.declaration.Init.TheOpen.{Init-F}
 use Rattle.snl_syntax.specs.declared.tree.declaration.Init.TheViews.{roll-Init}
 use Rattle.snl_syntax.specs.declared.tree.declaration.Init.TheFolds.{map-Init, fold-roll-Init}
 use denote.Hole.Carrier.{roll}
-use Rattle.snl_syntax.specs.Tokens.{Seat}
+use Rattle.snl_syntax.specs.Tokens.{NumberedKind}
 use Rattle.snl_syntax.specs.Grammar.Base.{First}
 use Rattle.snl_syntax.specs.Grammar.Expressions.{IsSequence, IsAssignx}
 use Rattle.snl_syntax.specs.Grammar.Declarations.{IsLength, AreBraced, IsInitOf, value, list, IsInit, IsAfterEqual, IsDeclarator, IsDeclarationOf, IsDeclaration}
@@ -19,17 +19,17 @@ use Rattle.snl_syntax.proofs.TypeSpells.{type_spells, stars_spell}
 use Rattle.snl_syntax.proofs.ExpressionSpells.{sequence_spells, assignx_spells}
 
 -- elements in braces with a comma after them or not, and the closing brace
-pub braced_spell : {A : Type 0} (R : A → List Seat → List Seat → Type 0) (spell : A → List Spelled) → Spells R spell → (xs : List A) (trailing : Bool) (k rest : List Seat) → AreBraced R xs trailing k rest
-    → (mid : List Seat) × Covers (commas (map spell xs) ++ written kind.Comma trailing) k mid × First kind.CloseBrace mid rest
+pub braced_spell : {A : Type 0} (R : A → List NumberedKind → List NumberedKind → Type 0) (spell : A → List Spelled) → Spells R spell → (xs : List A) (trailing : Bool) (k rest : List NumberedKind) → AreBraced R xs trailing k rest
+    → (mid : List NumberedKind) × Covers (commas (map spell xs) ++ written kind.Comma trailing) k mid × First kind.CloseBrace mid rest
 braced_spell R spell spells [] trailing k rest are = (k, subst (λ b. Covers (written kind.Comma b) k k) (sym are.0) (nothing_covers refl), are.1)
 braced_spell R spell spells (x ∷ xs) trailing k rest are = (are.m2, commas_spell R spell spells (x ∷ xs) k are.m1 are.elements and written_spells kind.Comma trailing are.m1 are.m2 are.comma, are.closing)
 
 -- ---- initialisers
 
-init_covers : {t : Init} {k rest : List Seat} (level : Init-F Init) → t ≡ roll-Init level → Covers (spell_init_step (map-Init Init (List Spelled) spell_init level)) k rest → Covers (spell_init t) k rest
+init_covers : {t : Init} {k rest : List NumberedKind} (level : Init-F Init) → t ≡ roll-Init level → Covers (spell_init_step (map-Init Init (List Spelled) spell_init level)) k rest → Covers (spell_init t) k rest
 init_covers level is c = covers_as spell_init is (fold-roll-Init (List Spelled) spell_init_step level) c
 
-init_of_spells : (Here : Expr → List Seat → List Seat → Type 0) → Spells Here spell_expr → (Inner : Init → List Seat → List Seat → Type 0) → Spells Inner spell_init → Spells (IsInitOf Here Inner) spell_init
+init_of_spells : (Here : Expr → List NumberedKind → List NumberedKind → Type 0) → Spells Here spell_expr → (Inner : Init → List NumberedKind → List NumberedKind → Type 0) → Spells Inner spell_init → Spells (IsInitOf Here Inner) spell_init
 unfolding roll-Init roll
 init_of_spells Here here_spells Inner inner_spells t k rest (value x is inside) = init_covers (Init-F.Value x) is (here_spells x k rest inside)
 init_of_spells Here here_spells Inner inner_spells t k rest (list xs trailing mid is opening are) =
@@ -43,11 +43,11 @@ init_spells free zero zero t k rest is = absurd is
 
 -- ---- declarations
 
-module _ (Inner : Expr → List Seat → List Seat → Type 0) (inner_spells : Spells Inner spell_expr) where
+module _ (Inner : Expr → List NumberedKind → List NumberedKind → Type 0) (inner_spells : Spells Inner spell_expr) where
   pub length_spells : Spells (IsLength Inner) spell_length
   length_spells t k rest is = word_covers is.opening and perhaps_spells (IsSequence Inner) spell_expr (sequence_spells Inner inner_spells) t is.m1 is.m2 is.size and word_covers is.closing
 
-module _ (Inner : Expr → List Seat → List Seat → Type 0) (inner_spells : Spells Inner spell_expr) (Value : Init → List Seat → List Seat → Type 0) (value_spells : Spells Value spell_init) where
+module _ (Inner : Expr → List NumberedKind → List NumberedKind → Type 0) (inner_spells : Spells Inner spell_expr) (Value : Init → List NumberedKind → List NumberedKind → Type 0) (value_spells : Spells Value spell_init) where
   after_equal_spells : Spells (IsAfterEqual Value) spell_value
   after_equal_spells t k rest is = word_covers is.equal and value_spells t is.mid rest is.value
 

@@ -15,7 +15,7 @@ use Rattle.snl_syntax.specs.declared.tree.expression.Suffix.TheVariants as suffi
 use Rattle.snl_syntax.specs.declared.tree.expression.Expr.{Expr}
 use Rattle.snl_syntax.specs.declared.tree.expression.Expr.TheVariants as tree
 use Rattle.snl_syntax.specs.Operators.{binary_mark, assignment_mark, sign_mark}
-use Rattle.snl_syntax.specs.Tokens.{Seat}
+use Rattle.snl_syntax.specs.Tokens.{NumberedKind}
 use Rattle.snl_syntax.specs.Steps.{Reader, and_then, pure, kind_at, expect, word, many, until}
 use Rattle.snl_syntax.specs.Reading.Types.{type_name, begins_type}
 use Rattle.snl_syntax.specs.Reading.Expressions.{comma_by, next_comma, commas, text_by, next_text, texts, leaf, text, atom_by, atom, suffixed, prefixed, chained, conditional, assigned, sequenced, binary_in, assignment_in, link_by, next_link, signed, member, sequence, some_arguments, arguments_by, arguments, subscript, call, suffix_by, next_suffix, group, sizeof_type, cast, sized, sizeof_bracket, sizeof_by, sizeof, bracketed, bracket, plain, prefix_by, prefix_step, prefix, tiers_from, operand, arm_by, next_arm, conditional_from, target_by, target_step, single, type_within, assignx, expr}
@@ -242,7 +242,7 @@ module _ (inner : Reader Expr) (names : Reader TypeName) (local : Local inner) (
   unfolding bracket
   bracket_eats = bind_eats (expect kind.OpenParen) (λ _. λ k. bracketed inner names (begins_type (kind_at k)) k) (expect_eats kind.OpenParen) (λ _. choice_local (λ o. bracketed inner names (begins_type o)) (λ o. bracketed_local (begins_type o)))
 
-  plain_never : (k : List Seat) (x : Prefix) (m : List Seat) → plain inner names k ≡ Ok (steps.More x, m) → ⊥
+  plain_never : (k : List NumberedKind) (x : Prefix) (m : List NumberedKind) → plain inner names k ≡ Ok (steps.More x, m) → ⊥
   unfolding plain
   plain_never k x m e = bind_ok (atom k) _ (steps.More x, m) e (λ y m' e1 e2. let v = ok_is (steps.Last None y) (steps.More x) m' m e2 in let h : steps.Last None y ≡ steps.More x = v.0 in absurd cc)
 

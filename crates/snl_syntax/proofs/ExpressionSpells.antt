@@ -8,7 +8,7 @@ use Rattle.snl_syntax.specs.declared.tree.expression.Expr.TheOpen.{Expr-F, Suffi
 use Rattle.snl_syntax.specs.declared.tree.expression.Expr.TheViews.{roll-Expr, roll-Suffix}
 use Rattle.snl_syntax.specs.declared.tree.expression.Expr.TheFolds.{map-Expr, map-Suffix, fold-roll-Expr, fold-roll-Suffix}
 use denote.Hole.Carrier.{roll}
-use Rattle.snl_syntax.specs.Tokens.{Seat}
+use Rattle.snl_syntax.specs.Tokens.{NumberedKind}
 use Rattle.snl_syntax.specs.Grammar.Base.{First, Leaf, Within}
 use Rattle.snl_syntax.specs.Grammar.Types.{IsTypeName}
 use Rattle.snl_syntax.specs.Grammar.Expressions.{AreTexts, IsSequence, one, several, IsPrimary, name, integer, floating, character, texts, group as is_group, sizeof_type, AreArguments, IsSuffix, subscript, call, member, arrow, increment, decrement, IsPostfix, bare as bare_primary, suffixed, IsOperator, sign, sizeof, cast, is_sizeof, AreOperators, IsPrefix, bare as bare_postfix, prefixed, IsLink, IsChain, alone as alone_operand, chain, IsTier, IsArm, IsConditional, alone as alone_tier, choice, IsTarget, IsSingle, value, assignment, IsAssignx, IsExpr}
@@ -20,10 +20,10 @@ use Rattle.snl_syntax.proofs.TypeSpells.{type_name_spells}
 
 -- ---- where the tree is one level, it spells what the level does
 
-expr_covers : {t : Expr} {k rest : List Seat} (level : Expr-F Expr Suffix) → t ≡ roll-Expr level → Covers (spell_expr_step (map-Expr Expr Suffix (List Spelled) (List Spelled) spell_expr spell_suffix level)) k rest → Covers (spell_expr t) k rest
+expr_covers : {t : Expr} {k rest : List NumberedKind} (level : Expr-F Expr Suffix) → t ≡ roll-Expr level → Covers (spell_expr_step (map-Expr Expr Suffix (List Spelled) (List Spelled) spell_expr spell_suffix level)) k rest → Covers (spell_expr t) k rest
 expr_covers level is c = covers_as spell_expr is (fold-roll-Expr (List Spelled) (List Spelled) spell_expr_step spell_suffix_step level) c
 
-suffix_covers : {t : Suffix} {k rest : List Seat} (level : Suffix-F Expr Suffix) → t ≡ roll-Suffix level → Covers (spell_suffix_step (map-Suffix Expr Suffix (List Spelled) (List Spelled) spell_expr spell_suffix level)) k rest → Covers (spell_suffix t) k rest
+suffix_covers : {t : Suffix} {k rest : List NumberedKind} (level : Suffix-F Expr Suffix) → t ≡ roll-Suffix level → Covers (spell_suffix_step (map-Suffix Expr Suffix (List Spelled) (List Spelled) spell_expr spell_suffix level)) k rest → Covers (spell_suffix t) k rest
 suffix_covers level is c = covers_as spell_suffix is (fold-roll-Suffix (List Spelled) (List Spelled) spell_expr_step spell_suffix_step level) c
 
 -- ---- what is in brackets
@@ -35,14 +35,14 @@ pub texts_spell : Spells AreTexts spell_texts
 texts_spell [] k rest is = absurd is
 texts_spell (n ∷ ns) k rest is = leaf_covers is.1 and each_spells (Leaf kind.Text) (leaf kind.Text) text_spells ns is.0 rest is.2
 
-module _ (Inner : Expr → List Seat → List Seat → Type 0) (inner_spells : Spells Inner spell_expr) where
+module _ (Inner : Expr → List NumberedKind → List NumberedKind → Type 0) (inner_spells : Spells Inner spell_expr) where
   pub sequence_spells : Spells (IsSequence Inner) spell_expr
   unfolding roll-Expr roll
   sequence_spells t k rest (one is) = inner_spells t k rest is
   sequence_spells t k rest (several x y ys mid is first more) = expr_covers (Expr-F.Sequence x (y ∷ ys)) is (commas_cover Inner spell_expr inner_spells x (y ∷ ys) k mid rest first more)
 
   -- the arguments, and the bracket after them
-  arguments_spell : (xs : List Expr) (k rest : List Seat) → AreArguments Inner xs k rest → (mid : List Seat) × Covers (commas (map spell_expr xs)) k mid × First kind.CloseParen mid rest
+  arguments_spell : (xs : List Expr) (k rest : List NumberedKind) → AreArguments Inner xs k rest → (mid : List NumberedKind) × Covers (commas (map spell_expr xs)) k mid × First kind.CloseParen mid rest
   arguments_spell [] k rest closing = (k, nothing_covers refl, closing)
   arguments_spell (x ∷ xs) k rest are = (are.0, commas_spell Inner spell_expr inner_spells (x ∷ xs) k are.0 are.1, are.2)
 
@@ -59,7 +59,7 @@ module _ (Inner : Expr → List Seat → List Seat → Type 0) (inner_spells : S
 
 -- ---- operands
 
-module _ (Names : TypeName → List Seat → List Seat → Type 0) (names_spell : Spells Names spell_type_name) where
+module _ (Names : TypeName → List NumberedKind → List NumberedKind → Type 0) (names_spell : Spells Names spell_type_name) where
   operator_spells : (after_sizeof : Bool) → Spells (IsOperator Names after_sizeof) spell_prefix
   operator_spells after_sizeof t k rest (sign op is mark) = covers_as spell_prefix is refl (word_covers mark)
   operator_spells after_sizeof t k rest (sizeof is mark) = covers_as spell_prefix is refl (word_covers mark)
@@ -69,7 +69,7 @@ module _ (Names : TypeName → List Seat → List Seat → Type 0) (names_spell 
   operators_spell after_sizeof [] k rest e = nothing_covers e
   operators_spell after_sizeof (op ∷ ops) k rest are = operator_spells after_sizeof op k are.0 are.1 and operators_spell (is_sizeof op) ops are.0 rest are.2
 
-module _ (Inner : Expr → List Seat → List Seat → Type 0) (inner_spells : Spells Inner spell_expr) (Names : TypeName → List Seat → List Seat → Type 0) (names_spell : Spells Names spell_type_name) where
+module _ (Inner : Expr → List NumberedKind → List NumberedKind → Type 0) (inner_spells : Spells Inner spell_expr) (Names : TypeName → List NumberedKind → List NumberedKind → Type 0) (names_spell : Spells Names spell_type_name) where
   primary_spells : Spells (IsPrimary Inner Names) spell_expr
   unfolding roll-Expr roll
   primary_spells t k rest (name n is at) = expr_covers (Expr-F.Name n) is (leaf_covers at)
@@ -92,16 +92,16 @@ module _ (Inner : Expr → List Seat → List Seat → Type 0) (inner_spells : S
 
 -- ---- operators between operands
 
-link_spells : (n : ℕ) (Operand : Expr → List Seat → List Seat → Type 0) → Spells Operand spell_expr → Spells (IsLink n Operand) (λ link. spell_link (link.0, spell_expr link.1))
+link_spells : (n : ℕ) (Operand : Expr → List NumberedKind → List NumberedKind → Type 0) → Spells Operand spell_expr → Spells (IsLink n Operand) (λ link. spell_link (link.0, spell_expr link.1))
 link_spells n Operand spells link k rest is = word_covers is.operator and spells link.1 is.mid rest is.operand
 
-chain_spells : (n : ℕ) (Operand : Expr → List Seat → List Seat → Type 0) → Spells Operand spell_expr → Spells (IsChain n Operand) spell_expr
+chain_spells : (n : ℕ) (Operand : Expr → List NumberedKind → List NumberedKind → Type 0) → Spells Operand spell_expr → Spells (IsChain n Operand) spell_expr
 unfolding roll-Expr roll
 chain_spells n Operand spells t k rest (alone_operand is) = spells t k rest is
 chain_spells n Operand spells t k rest (chain x link links mid is first more) =
     expr_covers (Expr-F.Chain x (link ∷ links)) is (spells x k mid first and parts_spell (IsLink n Operand) (λ l. (l.0, spell_expr l.1)) spell_link (link_spells n Operand spells) (link ∷ links) mid rest more)
 
-module _ (Inner : Expr → List Seat → List Seat → Type 0) (inner_spells : Spells Inner spell_expr) (Names : TypeName → List Seat → List Seat → Type 0) (names_spell : Spells Names spell_type_name) where
+module _ (Inner : Expr → List NumberedKind → List NumberedKind → Type 0) (inner_spells : Spells Inner spell_expr) (Names : TypeName → List NumberedKind → List NumberedKind → Type 0) (names_spell : Spells Names spell_type_name) where
   tier_spells : (n : ℕ) → Spells (IsTier Inner Names n) spell_expr
   tier_spells zero t k rest is = prefix_spells Inner inner_spells Names names_spell t k rest is
   tier_spells (suc n) t k rest is = chain_spells (suc n) (IsTier Inner Names n) (tier_spells n) t k rest is

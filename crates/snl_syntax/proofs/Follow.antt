@@ -7,7 +7,7 @@ use Rattle.snl_syntax.specs.declared.operator.Binary.{Binary}
 use Rattle.snl_syntax.specs.declared.operator.Binary.TheVariants as binaries
 use Rattle.snl_syntax.specs.declared.operator.Assignment.{Assignment}
 use Rattle.snl_syntax.specs.declared.operator.Assignment.TheVariants as assignments
-use Rattle.snl_syntax.specs.Tokens.{Seat, same}
+use Rattle.snl_syntax.specs.Tokens.{NumberedKind, same}
 use Rattle.snl_syntax.specs.Operators.{tier, binary_of, binary_mark, assignment_of, assignment_mark}
 use Rattle.snl_syntax.specs.Steps.{kind_at}
 use Rattle.snl_syntax.specs.Reading.Expressions.{in_tier, binary_in, assignment_in}
@@ -58,18 +58,18 @@ binds kind.Comma = 13
 binds _ = 14
 
 -- the tokens do not continue an expression of this level
-abbrev pub Stops : ℕ → List Seat → Type 0
+abbrev pub Stops : ℕ → List NumberedKind → Type 0
 Stops n [] = Unit {0}
 Stops n (s ∷ k) = n < binds s.0
 
-pub stops_less : (n i : ℕ) (k : List Seat) → n ≤ i → Stops i k → Stops n k
+pub stops_less : (n i : ℕ) (k : List NumberedKind) → n ≤ i → Stops i k → Stops n k
 stops_less n i [] le h = tt
 stops_less n i (s ∷ k) le h = omega arith
 
-pub first_stops : (x : Kind) (n : ℕ) (k rest : List Seat) → n < binds x → First x k rest → Stops n k
+pub first_stops : (x : Kind) (n : ℕ) (k rest : List NumberedKind) → n < binds x → First x k rest → Stops n k
 first_stops x n k rest lt f = subst (Stops n) (sym f.1) lt
 
-pub stops_lacks : (n : ℕ) (k : List Seat) (x : Kind) → Stops n k → binds x ≤ n → Lacks x k
+pub stops_lacks : (n : ℕ) (k : List NumberedKind) (x : Kind) → Stops n k → binds x ≤ n → Lacks x k
 stops_lacks n [] x h le = tt
 stops_lacks n (s ∷ k) x h le = is_false (same s.0 x) (λ e. let b : binds s.0 ≡ binds x = ap binds (same_true s.0 x e) in let lt : n < binds s.0 = h in omega arith)
 
@@ -140,12 +140,12 @@ in_tier_none n (Some op) h =
     let no : eqb (tier op) n ≡ false = is_false (eqb (tier op) n) (λ e. let q : tier op ≡ n = eqb-true (tier op) n e in let lt : n < tier op = h op refl in omega arith) in
     rw no refl
 
-pub binary_none : (n : ℕ) (k : List Seat) → Stops n k → binary_in n (kind_at k) ≡ None
+pub binary_none : (n : ℕ) (k : List NumberedKind) → Stops n k → binary_in n (kind_at k) ≡ None
 unfolding kind_at
 binary_none n [] h = refl
 binary_none n (s ∷ k) h = in_tier_none n (binary_of s.0) (λ op e. let r : binds s.0 ≡ tier op = binary_tier s.0 op e in let lt : n < binds s.0 = h in omega arith)
 
-pub binary_some : (n : ℕ) (op : Binary) (k rest : List Seat) → First (binary_mark op) k rest → tier op ≡ n → binary_in n (kind_at k) ≡ Some op
+pub binary_some : (n : ℕ) (op : Binary) (k rest : List NumberedKind) → First (binary_mark op) k rest → tier op ≡ n → binary_in n (kind_at k) ≡ Some op
 binary_some n op k rest f r =
     let same : eqb (tier op) n ≡ true = eq-eqb (tier op) n r in
     let here : in_tier n (Some op) ≡ Some op = rw same refl in
@@ -164,7 +164,7 @@ assignment-mark assignments.BitXor = refl
 assignment-mark assignments.ShiftLeft = refl
 assignment-mark assignments.ShiftRight = refl
 
-pub assignment_some : (op : Assignment) (k rest : List Seat) → First (assignment_mark op) k rest → assignment_in (kind_at k) ≡ Some op
+pub assignment_some : (op : Assignment) (k rest : List NumberedKind) → First (assignment_mark op) k rest → assignment_in (kind_at k) ≡ Some op
 assignment_some op k rest f = ap assignment_in (kind_first (assignment_mark op) k rest f) ∙ assignment-mark op
 
 pub binds-assignment : (op : Assignment) → binds (assignment_mark op) ≡ 12
@@ -181,7 +181,7 @@ binds-assignment assignments.ShiftLeft = refl
 binds-assignment assignments.ShiftRight = refl
 
 -- the next token assigns nothing
-abbrev pub Quiet : List Seat → Type 0
+abbrev pub Quiet : List NumberedKind → Type 0
 Quiet k = assignment_in (kind_at k) ≡ None
 
 quiet_kind : (d : Kind) → 12 < binds d → assignment_of d ≡ None
@@ -198,7 +198,7 @@ quiet_kind kind.LessLessEqual h = absurd (omega (arith, h))
 quiet_kind kind.GreaterGreaterEqual h = absurd (omega (arith, h))
 quiet_kind _ h = refl
 
-pub stops_quiet : (k : List Seat) → Stops 12 k → Quiet k
+pub stops_quiet : (k : List NumberedKind) → Stops 12 k → Quiet k
 unfolding kind_at
 stops_quiet [] h = refl
 stops_quiet (s ∷ k) h = quiet_kind s.0 h
@@ -223,5 +223,5 @@ quiet_mark binaries.Multiply = refl
 quiet_mark binaries.Divide = refl
 quiet_mark binaries.Remainder = refl
 
-pub binary_quiet : (op : Binary) (k rest : List Seat) → First (binary_mark op) k rest → Quiet k
+pub binary_quiet : (op : Binary) (k rest : List NumberedKind) → First (binary_mark op) k rest → Quiet k
 binary_quiet op k rest f = ap assignment_in (kind_first (binary_mark op) k rest f) ∙ quiet_mark op

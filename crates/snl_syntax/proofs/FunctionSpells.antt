@@ -6,7 +6,7 @@ use Rattle.snl_syntax.specs.declared.tree.declaration.Declaration.{Declaration}
 use Rattle.snl_syntax.specs.declared.tree.declaration.Parameter.{Parameter}
 use Rattle.snl_syntax.specs.declared.tree.statement.Member.{Member}
 use Rattle.snl_syntax.specs.declared.tree.item.StructMember.{StructMember}
-use Rattle.snl_syntax.specs.Tokens.{Seat}
+use Rattle.snl_syntax.specs.Tokens.{NumberedKind}
 use Rattle.snl_syntax.specs.Grammar.Base.{First, Leaf}
 use Rattle.snl_syntax.specs.Grammar.Expressions.{IsAssignx}
 use Rattle.snl_syntax.specs.Grammar.Declarations.{IsLength}
@@ -27,7 +27,7 @@ use Rattle.snl_syntax.proofs.DeclarationSpells.{length_spells}
 name_spells : Spells (Leaf kind.Name) (leaf kind.Name)
 name_spells n k rest e = leaf_covers e
 
-parameter_of_spells : (Inner : Expr → List Seat → List Seat → Type 0) → Spells Inner spell_expr → Spells (IsParameterOf Inner) spell_parameter
+parameter_of_spells : (Inner : Expr → List NumberedKind → List NumberedKind → Type 0) → Spells Inner spell_expr → Spells (IsParameterOf Inner) spell_parameter
 parameter_of_spells Inner inner_spells t k rest is =
     type_spells t.of k is.m1 is.of_type
     and stars_spell t.pointers is.m1 is.m2 is.stars
@@ -40,17 +40,17 @@ parameter_spells free (suc extra) zero t k rest is = parameter_of_spells (IsAssi
 parameter_spells free zero zero t k rest is = absurd is
 
 -- the parameters, and the bracket after them
-parameters_spell : (Inner : Parameter → List Seat → List Seat → Type 0) → Spells Inner spell_parameter → (xs : List Parameter) (k rest : List Seat) → AreParameters Inner xs k rest → (mid : List Seat) × Covers (commas (map spell_parameter xs)) k mid × First kind.CloseParen mid rest
+parameters_spell : (Inner : Parameter → List NumberedKind → List NumberedKind → Type 0) → Spells Inner spell_parameter → (xs : List Parameter) (k rest : List NumberedKind) → AreParameters Inner xs k rest → (mid : List NumberedKind) × Covers (commas (map spell_parameter xs)) k mid × First kind.CloseParen mid rest
 parameters_spell Inner inner_spells [] k rest closing = (k, nothing_covers refl, closing)
 parameters_spell Inner inner_spells (x ∷ xs) k rest are = (are.0, commas_spell Inner spell_parameter inner_spells (x ∷ xs) k are.0 are.1, are.2)
 
 -- ---- functions
 
-body_spells : (Block : List Member → List Seat → List Seat → Type 0) → Spells Block spell_block → Spells (IsBody Block) spell_body
+body_spells : (Block : List Member → List NumberedKind → List NumberedKind → Type 0) → Spells Block spell_block → Spells (IsBody Block) spell_body
 body_spells Block block_spells None k rest mark = word_covers mark
 body_spells Block block_spells (Some members) k rest is = block_spells members k rest is
 
-function_spells : (Inner : Parameter → List Seat → List Seat → Type 0) → Spells Inner spell_parameter → (Block : List Member → List Seat → List Seat → Type 0) → Spells Block spell_block → Spells (IsFunction Inner Block) spell_function
+function_spells : (Inner : Parameter → List NumberedKind → List NumberedKind → Type 0) → Spells Inner spell_parameter → (Block : List Member → List NumberedKind → List NumberedKind → Type 0) → Spells Block spell_block → Spells (IsFunction Inner Block) spell_function
 function_spells Inner inner_spells Block block_spells t k rest is =
     let inside = parameters_spell Inner inner_spells t.parameters is.m4 is.m5 is.parameters in
     type_spells t.of k is.m1 is.of_type
@@ -61,11 +61,11 @@ function_spells Inner inner_spells Block block_spells t k rest is =
 
 -- ---- structs
 
-struct_member_spells : (Inner : Declaration → List Seat → List Seat → Type 0) → Spells Inner spell_declaration → Spells (IsStructMember Inner) spell_struct_member
+struct_member_spells : (Inner : Declaration → List NumberedKind → List NumberedKind → Type 0) → Spells Inner spell_declaration → Spells (IsStructMember Inner) spell_struct_member
 struct_member_spells Inner inner_spells t k rest (declaration d is inside) = covers_as spell_struct_member is refl (inner_spells d k rest inside)
 struct_member_spells Inner inner_spells t k rest (c_block n is at) = covers_as spell_struct_member is refl (leaf_covers at)
 
-struct_spells : (Inner : Declaration → List Seat → List Seat → Type 0) → Spells Inner spell_declaration → (n : ℕ) (xs : List StructMember) (k rest : List Seat) → IsStruct Inner n xs k rest → Covers (spell_struct n xs) k rest
+struct_spells : (Inner : Declaration → List NumberedKind → List NumberedKind → Type 0) → Spells Inner spell_declaration → (n : ℕ) (xs : List StructMember) (k rest : List NumberedKind) → IsStruct Inner n xs k rest → Covers (spell_struct n xs) k rest
 struct_spells Inner inner_spells n xs k rest is =
     word_covers is.word
     and leaf_covers is.name
@@ -74,7 +74,7 @@ struct_spells Inner inner_spells n xs k rest is =
 
 -- ---- items that begin with a type
 
-module _ (Here : Declaration → List Seat → List Seat → Type 0) (here_spells : Spells Here spell_declaration) (Inner : Declaration → List Seat → List Seat → Type 0) (inner_spells : Spells Inner spell_declaration) (Param : Parameter → List Seat → List Seat → Type 0) (param_spells : Spells Param spell_parameter) (Block : List Member → List Seat → List Seat → Type 0) (block_spells : Spells Block spell_block) where
+module _ (Here : Declaration → List NumberedKind → List NumberedKind → Type 0) (here_spells : Spells Here spell_declaration) (Inner : Declaration → List NumberedKind → List NumberedKind → Type 0) (inner_spells : Spells Inner spell_declaration) (Param : Parameter → List NumberedKind → List NumberedKind → Type 0) (param_spells : Spells Param spell_parameter) (Block : List Member → List NumberedKind → List NumberedKind → Type 0) (block_spells : Spells Block spell_block) where
   pub typed_spells : Spells (IsTypedItem Here Inner Param Block) spell_item
   typed_spells t k rest (definition d is inside) = covers_as spell_item is refl (here_spells d k rest inside)
   typed_spells t k rest (function f is inside) = covers_as spell_item is refl (function_spells Param param_spells Block block_spells f k rest inside)

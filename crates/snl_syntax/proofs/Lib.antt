@@ -8,6 +8,14 @@ pub mod Viable
 pub mod Again
 pub mod TypeLaws
 pub mod ExpressionLocal
+pub mod CommasViable
+pub mod SuffixViable
+pub mod AtomViable
+pub mod BracketViable
+pub mod StepViable
+pub mod OperandViable
+pub mod TierViable
+pub mod SingleViable
 pub mod ExpressionViable
 pub mod Follow
 pub mod ExpressionAgain
@@ -30,6 +38,12 @@ pub mod BracedAgain
 pub mod ClauseAgain
 pub mod DeclarationAgain
 pub mod StatementLocal
+pub mod BeforeViable
+pub mod Shuts
+pub mod SimpleViable
+pub mod LoopViable
+pub mod BranchViable
+pub mod ChoiceViable
 pub mod StatementViable
 pub mod StatementAgain
 pub mod FunctionAgain

@@ -5,61 +5,61 @@ use Rattle.std.proofs.lemmas.List.{append_cancel_right, length-append}
 use Rattle.snl_lex.specs.declared.kind.Kind.{Kind}
 use Rattle.snl_syntax.specs.declared.stop.Step.{Step}
 use Rattle.snl_syntax.specs.declared.stop.Step.TheVariants as steps
-use Rattle.snl_syntax.specs.Tokens.{Seat, same}
+use Rattle.snl_syntax.specs.Tokens.{NumberedKind, same}
 use Rattle.snl_syntax.specs.Steps.{Outcome, Reader, and_then, pure, refuse, kind_at, expect, accept, more_or, many_within, many, again_or, until_within, until, within}
 
 -- What is read, and the token that is blamed, depend on no token past the next one.
 pub record Local {A : Type 0} (p : Reader A) : Type 0 where
   -- it took a front
-  pub took : (k : List Seat) (x : A) (m : List Seat) → p k ≡ Ok (x, m) → (front : List Seat) × (k ≡ front ++ m)
-  pub blamed : (k j : List Seat) → p k ≡ Err j → (front : List Seat) × (k ≡ front ++ j)
+  pub took : (k : List NumberedKind) (x : A) (m : List NumberedKind) → p k ≡ Ok (x, m) → (front : List NumberedKind) × (k ≡ front ++ m)
+  pub blamed : (k j : List NumberedKind) → p k ≡ Err j → (front : List NumberedKind) × (k ≡ front ++ j)
   -- and takes it whatever is past the next token
-  pub reads : (front : List Seat) (s : Seat) (j more : List Seat) (x : A) → p (front ++ s ∷ j) ≡ Ok (x, s ∷ j) → p (front ++ s ∷ more) ≡ Ok (x, s ∷ more)
-  pub fails : (front : List Seat) (s : Seat) (j more : List Seat) → p (front ++ s ∷ j) ≡ Err (s ∷ j) → p (front ++ s ∷ more) ≡ Err (s ∷ more)
+  pub reads : (front : List NumberedKind) (s : NumberedKind) (j more : List NumberedKind) (x : A) → p (front ++ s ∷ j) ≡ Ok (x, s ∷ j) → p (front ++ s ∷ more) ≡ Ok (x, s ∷ more)
+  pub fails : (front : List NumberedKind) (s : NumberedKind) (j more : List NumberedKind) → p (front ++ s ∷ j) ≡ Err (s ∷ j) → p (front ++ s ∷ more) ≡ Err (s ∷ more)
 
 -- ---- one after another
 
-pub bind_ok : {A B : Type 0} {C : Type 0} (o : Outcome A) (f : A → Reader B) (y : B × List Seat) → and_then o f ≡ Ok y → ((x : A) (m : List Seat) → o ≡ Ok (x, m) → f x m ≡ Ok y → C) → C
+pub bind_ok : {A B : Type 0} {C : Type 0} (o : Outcome A) (f : A → Reader B) (y : B × List NumberedKind) → and_then o f ≡ Ok y → ((x : A) (m : List NumberedKind) → o ≡ Ok (x, m) → f x m ≡ Ok y → C) → C
 unfolding and_then
 bind_ok (Ok p) f y e go = go p.0 p.1 refl e
 bind_ok (Err j) f y e go = absurd cc
 
-pub bind_err : {A B : Type 0} {C : Type 0} (o : Outcome A) (f : A → Reader B) (j : List Seat) → and_then o f ≡ Err j → (o ≡ Err j → C) → ((x : A) (m : List Seat) → o ≡ Ok (x, m) → f x m ≡ Err j → C) → C
+pub bind_err : {A B : Type 0} {C : Type 0} (o : Outcome A) (f : A → Reader B) (j : List NumberedKind) → and_then o f ≡ Err j → (o ≡ Err j → C) → ((x : A) (m : List NumberedKind) → o ≡ Ok (x, m) → f x m ≡ Err j → C) → C
 unfolding and_then
 bind_err (Ok p) f j e failed go = go p.0 p.1 refl e
-bind_err (Err i) f j e failed go = let h : i ≡ j = cc in failed (ap (λ (l : List Seat). Err l) h)
+bind_err (Err i) f j e failed go = let h : i ≡ j = cc in failed (ap (λ (l : List NumberedKind). Err l) h)
 
-pub bind_is : {A B : Type 0} (o : Outcome A) (f : A → Reader B) (x : A) (m : List Seat) (r : Outcome B) → o ≡ Ok (x, m) → f x m ≡ r → and_then o f ≡ r
+pub bind_is : {A B : Type 0} (o : Outcome A) (f : A → Reader B) (x : A) (m : List NumberedKind) (r : Outcome B) → o ≡ Ok (x, m) → f x m ≡ r → and_then o f ≡ r
 unfolding and_then
 bind_is o f x m r e h = rw e h
 
-pub bind_no : {A B : Type 0} (o : Outcome A) (f : A → Reader B) (j : List Seat) → o ≡ Err j → and_then o f ≡ Err j
+pub bind_no : {A B : Type 0} (o : Outcome A) (f : A → Reader B) (j : List NumberedKind) → o ≡ Err j → and_then o f ≡ Err j
 unfolding and_then
 bind_no o f j e = rw e refl
 
 -- The reader stopped at m, before or at the place s ∷ j: so the front is what it took, and what is left of the front.
-splits : (front f1 m f2 : List Seat) (s : Seat) (j : List Seat) → front ++ s ∷ j ≡ f1 ++ m → m ≡ f2 ++ s ∷ j → front ≡ f1 ++ f2
+splits : (front f1 m f2 : List NumberedKind) (s : NumberedKind) (j : List NumberedKind) → front ++ s ∷ j ≡ f1 ++ m → m ≡ f2 ++ s ∷ j → front ≡ f1 ++ f2
 splits front f1 m f2 s j e h =
-    let t : front ++ s ∷ j ≡ (f1 ++ f2) ++ s ∷ j = e ∙ ap (λ (l : List Seat). f1 ++ l) h ∙ sym (append_assoc f1 f2 (s ∷ j)) in
+    let t : front ++ s ∷ j ≡ (f1 ++ f2) ++ s ∷ j = e ∙ ap (λ (l : List NumberedKind). f1 ++ l) h ∙ sym (append_assoc f1 f2 (s ∷ j)) in
     append_cancel_right front (f1 ++ f2) (s ∷ j) t
 
 -- A local reader at f1, then f2, then s: the next token is the first of f2, or s.
-reads_on : {A : Type 0} (p : Reader A) → Local p → (f1 f2 : List Seat) (s : Seat) (j more : List Seat) (x : A) → p (f1 ++ (f2 ++ s ∷ j)) ≡ Ok (x, f2 ++ s ∷ j) → p (f1 ++ (f2 ++ s ∷ more)) ≡ Ok (x, f2 ++ s ∷ more)
+reads_on : {A : Type 0} (p : Reader A) → Local p → (f1 f2 : List NumberedKind) (s : NumberedKind) (j more : List NumberedKind) (x : A) → p (f1 ++ (f2 ++ s ∷ j)) ≡ Ok (x, f2 ++ s ∷ j) → p (f1 ++ (f2 ++ s ∷ more)) ≡ Ok (x, f2 ++ s ∷ more)
 reads_on p local f1 [] s j more x e = local.reads f1 s j more x e
 reads_on p local f1 (s' ∷ f2) s j more x e = local.reads f1 s' (f2 ++ s ∷ j) (f2 ++ s ∷ more) x e
 
 -- the first reader stops in the same place, whatever is past s
-first_on : {A : Type 0} (p : Reader A) → Local p → (front f1 f2 : List Seat) (s : Seat) (j more : List Seat) (x : A) (m : List Seat) → front ≡ f1 ++ f2 → m ≡ f2 ++ s ∷ j → p (front ++ s ∷ j) ≡ Ok (x, m) → p (front ++ s ∷ more) ≡ Ok (x, f2 ++ s ∷ more)
+first_on : {A : Type 0} (p : Reader A) → Local p → (front f1 f2 : List NumberedKind) (s : NumberedKind) (j more : List NumberedKind) (x : A) (m : List NumberedKind) → front ≡ f1 ++ f2 → m ≡ f2 ++ s ∷ j → p (front ++ s ∷ j) ≡ Ok (x, m) → p (front ++ s ∷ more) ≡ Ok (x, f2 ++ s ∷ more)
 first_on p local front f1 f2 s j more x m w h e =
-    let at : (l : List Seat) → front ++ s ∷ l ≡ f1 ++ (f2 ++ s ∷ l) = λ (l : List Seat). ap (λ (q : List Seat). q ++ s ∷ l) w ∙ append_assoc f1 f2 (s ∷ l) in
-    let was = sym (ap p (at j)) ∙ e ∙ ap (λ (l : List Seat). Ok (x, l)) h in
+    let at : (l : List NumberedKind) → front ++ s ∷ l ≡ f1 ++ (f2 ++ s ∷ l) = λ (l : List NumberedKind). ap (λ (q : List NumberedKind). q ++ s ∷ l) w ∙ append_assoc f1 f2 (s ∷ l) in
+    let was = sym (ap p (at j)) ∙ e ∙ ap (λ (l : List NumberedKind). Ok (x, l)) h in
     ap p (at more) ∙ reads_on p local f1 f2 s j more x was
 
-reads_both : {A B : Type 0} (p : Reader A) (f : A → Reader B) → Local p → (front f1 f2 : List Seat) (s : Seat) (j more : List Seat) (x : A) → Local (f x) → (m : List Seat) (y : B) → front ≡ f1 ++ f2 → m ≡ f2 ++ s ∷ j → p (front ++ s ∷ j) ≡ Ok (x, m) → f x m ≡ Ok (y, s ∷ j) → and_then (p (front ++ s ∷ more)) f ≡ Ok (y, s ∷ more)
+reads_both : {A B : Type 0} (p : Reader A) (f : A → Reader B) → Local p → (front f1 f2 : List NumberedKind) (s : NumberedKind) (j more : List NumberedKind) (x : A) → Local (f x) → (m : List NumberedKind) (y : B) → front ≡ f1 ++ f2 → m ≡ f2 ++ s ∷ j → p (front ++ s ∷ j) ≡ Ok (x, m) → f x m ≡ Ok (y, s ∷ j) → and_then (p (front ++ s ∷ more)) f ≡ Ok (y, s ∷ more)
 reads_both p f local front f1 f2 s j more x second m y w h e1 e2 =
     bind_is (p (front ++ s ∷ more)) f x (f2 ++ s ∷ more) _ (first_on p local front f1 f2 s j more x m w h e1) (second.reads f2 s j more y (sym (ap (f x) h) ∙ e2))
 
-fails_both : {A B : Type 0} (p : Reader A) (f : A → Reader B) → Local p → (front f1 f2 : List Seat) (s : Seat) (j more : List Seat) (x : A) → Local (f x) → (m : List Seat) → front ≡ f1 ++ f2 → m ≡ f2 ++ s ∷ j → p (front ++ s ∷ j) ≡ Ok (x, m) → f x m ≡ Err (s ∷ j) → and_then (p (front ++ s ∷ more)) f ≡ Err (s ∷ more)
+fails_both : {A B : Type 0} (p : Reader A) (f : A → Reader B) → Local p → (front f1 f2 : List NumberedKind) (s : NumberedKind) (j more : List NumberedKind) (x : A) → Local (f x) → (m : List NumberedKind) → front ≡ f1 ++ f2 → m ≡ f2 ++ s ∷ j → p (front ++ s ∷ j) ≡ Ok (x, m) → f x m ≡ Err (s ∷ j) → and_then (p (front ++ s ∷ more)) f ≡ Err (s ∷ more)
 fails_both p f local front f1 f2 s j more x second m w h e1 e2 =
     bind_is (p (front ++ s ∷ more)) f x (f2 ++ s ∷ more) _ (first_on p local front f1 f2 s j more x m w h e1) (second.fails f2 s j more (sym (ap (f x) h) ∙ e2))
 
@@ -68,11 +68,11 @@ bind_local p f local locals = record {
   took = λ k y m e. bind_ok (p k) f (y, m) e (λ x m' e1 e2.
       let a = local.took k x m' e1 in
       let b = (locals x).took m' y m e2 in
-      (a.0 ++ b.0, a.1 ∙ ap (λ (l : List Seat). a.0 ++ l) b.1 ∙ sym (append_assoc a.0 b.0 m)));
+      (a.0 ++ b.0, a.1 ∙ ap (λ (l : List NumberedKind). a.0 ++ l) b.1 ∙ sym (append_assoc a.0 b.0 m)));
   blamed = λ k j e. bind_err (p k) f j e (λ e1. local.blamed k j e1) (λ x m' e1 e2.
       let a = local.took k x m' e1 in
       let b = (locals x).blamed m' j e2 in
-      (a.0 ++ b.0, a.1 ∙ ap (λ (l : List Seat). a.0 ++ l) b.1 ∙ sym (append_assoc a.0 b.0 j)));
+      (a.0 ++ b.0, a.1 ∙ ap (λ (l : List NumberedKind). a.0 ++ l) b.1 ∙ sym (append_assoc a.0 b.0 j)));
   reads = λ front s j more y e. bind_ok (p (front ++ s ∷ j)) f (y, s ∷ j) e (λ x m e1 e2.
       let a = local.took (front ++ s ∷ j) x m e1 in
       let b = (locals x).took m y (s ∷ j) e2 in
@@ -89,18 +89,18 @@ bind_local p f local locals = record {
 
 -- ---- the other steps
 
-pub ok_is : {A : Type 0} (a b : A) (k l : List Seat) → (let p : Outcome A = Ok (a, k) in p ≡ Ok (b, l)) → (a ≡ b) × (k ≡ l)
+pub ok_is : {A : Type 0} (a b : A) (k l : List NumberedKind) → (let p : Outcome A = Ok (a, k) in p ≡ Ok (b, l)) → (a ≡ b) × (k ≡ l)
 ok_is {A} a b k l e =
-    let p : A × List Seat = (a, k) in
-    let q : A × List Seat = (b, l) in
+    let p : A × List NumberedKind = (a, k) in
+    let q : A × List NumberedKind = (b, l) in
     let h : p ≡ q = cc in
-    (ap (λ (r : A × List Seat). r.0) h, ap (λ (r : A × List Seat). r.1) h)
+    (ap (λ (r : A × List NumberedKind). r.0) h, ap (λ (r : A × List NumberedKind). r.1) h)
 
-pub err_is : {A : Type 0} (k l : List Seat) → (let p : Outcome A = Err k in p ≡ Err l) → k ≡ l
+pub err_is : {A : Type 0} (k l : List NumberedKind) → (let p : Outcome A = Err k in p ≡ Err l) → k ≡ l
 err_is k l e = cc
 
 -- a front that is followed by the same is empty
-pub no_front : (front m : List Seat) → front ++ m ≡ m → front ≡ []
+pub no_front : (front m : List NumberedKind) → front ++ m ≡ m → front ≡ []
 no_front front m e = append_cancel_right front [] m e
 
 pub pure_local : {A : Type 0} (x : A) → Local (pure x)
@@ -110,7 +110,7 @@ pure_local x = record {
   reads = λ front s j more y e.
       let v = ok_is x y (front ++ s ∷ j) (s ∷ j) e in
       let w = no_front front (s ∷ j) v.1 in
-      ap (λ (l : List Seat). Ok (x, l ++ s ∷ more)) w ∙ ap (λ z. Ok (z, s ∷ more)) v.0;
+      ap (λ (l : List NumberedKind). Ok (x, l ++ s ∷ more)) w ∙ ap (λ z. Ok (z, s ∷ more)) v.0;
   fails = λ front s j more e. absurd cc;
 }
 
@@ -121,10 +121,10 @@ refuse_local = record {
   reads = λ front s j more y e. absurd cc;
   fails = λ front s j more e.
       let w = no_front front (s ∷ j) (err_is (front ++ s ∷ j) (s ∷ j) e) in
-      ap (λ (l : List Seat). Err (l ++ s ∷ more)) w;
+      ap (λ (l : List NumberedKind). Err (l ++ s ∷ more)) w;
 }
 
-same_next : (front : List Seat) (s : Seat) (j more : List Seat) → kind_at (front ++ s ∷ j) ≡ kind_at (front ++ s ∷ more)
+same_next : (front : List NumberedKind) (s : NumberedKind) (j more : List NumberedKind) → kind_at (front ++ s ∷ j) ≡ kind_at (front ++ s ∷ more)
 unfolding kind_at
 same_next [] s j more = refl
 same_next (s' ∷ front) s j more = refl
@@ -142,10 +142,10 @@ pub chosen : {A : Type 0} (b : Bool) (x y z : A) → cond b x y ≡ z → ((b �
 chosen true x y z e = inl (refl, e)
 chosen false x y z e = inr (refl, e)
 
-err_seats : (k l : List Seat) → (let p : Outcome ℕ = Err k in p ≡ Err l) → k ≡ l
-err_seats k l e = cc
+err_rest : (k l : List NumberedKind) → (let p : Outcome ℕ = Err k in p ≡ Err l) → k ≡ l
+err_rest k l e = cc
 
-expect_reads : (x : Kind) (front : List Seat) (s : Seat) (j more : List Seat) (n : ℕ) → expect x (front ++ s ∷ j) ≡ Ok (n, s ∷ j) → expect x (front ++ s ∷ more) ≡ Ok (n, s ∷ more)
+expect_reads : (x : Kind) (front : List NumberedKind) (s : NumberedKind) (j more : List NumberedKind) (n : ℕ) → expect x (front ++ s ∷ j) ≡ Ok (n, s ∷ j) → expect x (front ++ s ∷ more) ≡ Ok (n, s ∷ more)
 unfolding expect
 expect_reads x [] s j more n e =
     elim (chosen (same s.0 x) (Ok (s.1, j)) (Err (s ∷ j)) (Ok (n, s ∷ j)) e) [
@@ -161,11 +161,11 @@ expect_reads x (s' ∷ front) s j more n e =
       | inl h ↦
           let v = ok_is s'.1 n (front ++ s ∷ j) (s ∷ j) h.1 in
           let w = no_front front (s ∷ j) v.1 in
-          rw h.0 (ap (λ (l : List Seat). Ok (s'.1, l ++ s ∷ more)) w ∙ ap (λ (i : ℕ). Ok (i, s ∷ more)) v.0)
+          rw h.0 (ap (λ (l : List NumberedKind). Ok (s'.1, l ++ s ∷ more)) w ∙ ap (λ (i : ℕ). Ok (i, s ∷ more)) v.0)
       | inr h ↦ absurd cc
     ]
 
-expect_fails : (x : Kind) (front : List Seat) (s : Seat) (j more : List Seat) → expect x (front ++ s ∷ j) ≡ Err (s ∷ j) → expect x (front ++ s ∷ more) ≡ Err (s ∷ more)
+expect_fails : (x : Kind) (front : List NumberedKind) (s : NumberedKind) (j more : List NumberedKind) → expect x (front ++ s ∷ j) ≡ Err (s ∷ j) → expect x (front ++ s ∷ more) ≡ Err (s ∷ more)
 unfolding expect
 expect_fails x [] s j more e =
     elim (chosen (same s.0 x) (Ok (s.1, j)) (Err (s ∷ j)) (Err (s ∷ j)) e) [
@@ -176,27 +176,27 @@ expect_fails x (s' ∷ front) s j more e =
     elim (chosen (same s'.0 x) (Ok (s'.1, front ++ s ∷ j)) (Err (s' ∷ (front ++ s ∷ j))) (Err (s ∷ j)) e) [
       | inl h ↦ absurd cc
       | inr h ↦
-          let long : (s' ∷ front) ++ s ∷ j ≡ s ∷ j = err_seats (s' ∷ (front ++ s ∷ j)) (s ∷ j) h.1 in
+          let long : (s' ∷ front) ++ s ∷ j ≡ s ∷ j = err_rest (s' ∷ (front ++ s ∷ j)) (s ∷ j) h.1 in
           let none : s' ∷ front ≡ [] = no_front (s' ∷ front) (s ∷ j) long in
           absurd cc
     ]
 
-expect_took : (x : Kind) (k : List Seat) (n : ℕ) (m : List Seat) → expect x k ≡ Ok (n, m) → (front : List Seat) × (k ≡ front ++ m)
+expect_took : (x : Kind) (k : List NumberedKind) (n : ℕ) (m : List NumberedKind) → expect x k ≡ Ok (n, m) → (front : List NumberedKind) × (k ≡ front ++ m)
 unfolding expect
 expect_took x [] n m e = absurd cc
 expect_took x (s ∷ k) n m e =
     elim (chosen (same s.0 x) (Ok (s.1, k)) (Err (s ∷ k)) (Ok (n, m)) e) [
-      | inl h ↦ (s ∷ [], ap (λ (l : List Seat). s ∷ l) (ok_is s.1 n k m h.1).1)
+      | inl h ↦ (s ∷ [], ap (λ (l : List NumberedKind). s ∷ l) (ok_is s.1 n k m h.1).1)
       | inr h ↦ absurd cc
     ]
 
-expect_blamed : (x : Kind) (k j : List Seat) → expect x k ≡ Err j → (front : List Seat) × (k ≡ front ++ j)
+expect_blamed : (x : Kind) (k j : List NumberedKind) → expect x k ≡ Err j → (front : List NumberedKind) × (k ≡ front ++ j)
 unfolding expect
-expect_blamed x [] j e = ([], err_seats [] j e)
+expect_blamed x [] j e = ([], err_rest [] j e)
 expect_blamed x (s ∷ k) j e =
     elim (chosen (same s.0 x) (Ok (s.1, k)) (Err (s ∷ k)) (Err j) e) [
       | inl h ↦ absurd cc
-      | inr h ↦ ([], err_seats (s ∷ k) j h.1)
+      | inr h ↦ ([], err_rest (s ∷ k) j h.1)
     ]
 
 pub expect_local : (x : Kind) → Local (expect x)
@@ -204,19 +204,19 @@ expect_local x = record { took = expect_took x; blamed = expect_blamed x; reads 
 
 -- ---- a word that may be there
 
-ok_seats : {A : Type 0} (a b : A) (k l : List Seat) → (let p : Outcome A = Ok (a, k) in p ≡ Ok (b, l)) → (a ≡ b) × (k ≡ l)
-ok_seats a b k l e = ok_is a b k l e
+ok_rest : {A : Type 0} (a b : A) (k l : List NumberedKind) → (let p : Outcome A = Ok (a, k) in p ≡ Ok (b, l)) → (a ≡ b) × (k ≡ l)
+ok_rest a b k l e = ok_is a b k l e
 
-accept_took : (x : Kind) (k : List Seat) (b : Bool) (m : List Seat) → accept x k ≡ Ok (b, m) → (front : List Seat) × (k ≡ front ++ m)
+accept_took : (x : Kind) (k : List NumberedKind) (b : Bool) (m : List NumberedKind) → accept x k ≡ Ok (b, m) → (front : List NumberedKind) × (k ≡ front ++ m)
 unfolding accept
 accept_took x [] b m e = ([], (ok_is false b [] m e).1)
 accept_took x (s ∷ k) b m e =
     elim (chosen (same s.0 x) (Ok (true, k)) (Ok (false, s ∷ k)) (Ok (b, m)) e) [
-      | inl h ↦ (s ∷ [], ap (λ (l : List Seat). s ∷ l) (ok_is true b k m h.1).1)
+      | inl h ↦ (s ∷ [], ap (λ (l : List NumberedKind). s ∷ l) (ok_is true b k m h.1).1)
       | inr h ↦ ([], (ok_is false b (s ∷ k) m h.1).1)
     ]
 
-accept_blamed : (x : Kind) (k j : List Seat) → accept x k ≡ Err j → ⊥
+accept_blamed : (x : Kind) (k j : List NumberedKind) → accept x k ≡ Err j → ⊥
 unfolding accept
 accept_blamed x [] j e = absurd cc
 accept_blamed x (s ∷ k) j e =
@@ -225,7 +225,7 @@ accept_blamed x (s ∷ k) j e =
       | inr h ↦ absurd cc
     ]
 
-accept_reads : (x : Kind) (front : List Seat) (s : Seat) (j more : List Seat) (b : Bool) → accept x (front ++ s ∷ j) ≡ Ok (b, s ∷ j) → accept x (front ++ s ∷ more) ≡ Ok (b, s ∷ more)
+accept_reads : (x : Kind) (front : List NumberedKind) (s : NumberedKind) (j more : List NumberedKind) (b : Bool) → accept x (front ++ s ∷ j) ≡ Ok (b, s ∷ j) → accept x (front ++ s ∷ more) ≡ Ok (b, s ∷ more)
 unfolding accept
 accept_reads x [] s j more b e =
     elim (chosen (same s.0 x) (Ok (true, j)) (Ok (false, s ∷ j)) (Ok (b, s ∷ j)) e) [
@@ -241,7 +241,7 @@ accept_reads x (s' ∷ front) s j more b e =
       | inl h ↦
           let v = ok_is true b (front ++ s ∷ j) (s ∷ j) h.1 in
           let w = no_front front (s ∷ j) v.1 in
-          rw h.0 (ap (λ (l : List Seat). Ok (true, l ++ s ∷ more)) w ∙ ap (λ z. Ok (z, s ∷ more)) v.0)
+          rw h.0 (ap (λ (l : List NumberedKind). Ok (true, l ++ s ∷ more)) w ∙ ap (λ z. Ok (z, s ∷ more)) v.0)
       | inr h ↦
           let v = ok_is false b (s' ∷ (front ++ s ∷ j)) (s ∷ j) h.1 in
           let long : (s' ∷ front) ++ s ∷ j ≡ s ∷ j = v.1 in
@@ -254,22 +254,22 @@ accept_local x = record { took = accept_took x; blamed = λ k j e. absurd (accep
 
 -- ---- what is shorter
 
-pub front_shorter : (k front m : List Seat) → k ≡ front ++ m → length m ≤ length k
+pub front_shorter : (k front m : List NumberedKind) → k ≡ front ++ m → length m ≤ length k
 front_shorter k front m e = let h : length k ≡ length front + length m = ap length e ∙ length-append front m in omega arith
 
 -- what it leaves is no longer
-pub took_shorter : {A : Type 0} (p : Reader A) → Local p → (k : List Seat) (x : A) (m : List Seat) → p k ≡ Ok (x, m) → length m ≤ length k
+pub took_shorter : {A : Type 0} (p : Reader A) → Local p → (k : List NumberedKind) (x : A) (m : List NumberedKind) → p k ≡ Ok (x, m) → length m ≤ length k
 took_shorter p local k x m e = let t = local.took k x m e in front_shorter k t.0 m t.1
 
 -- what it leaves is shorter
 abbrev pub Eats : {A : Type 0} → Reader A → Type 0
-Eats {A} p = (k : List Seat) (x : A) (m : List Seat) → p k ≡ Ok (x, m) → length m < length k
+Eats {A} p = (k : List NumberedKind) (x : A) (m : List NumberedKind) → p k ≡ Ok (x, m) → length m < length k
 
 abbrev pub EatsSome : {A : Type 0} → Reader (Option A) → Type 0
-EatsSome {A} p = (k : List Seat) (x : A) (m : List Seat) → p k ≡ Ok (Some x, m) → length m < length k
+EatsSome {A} p = (k : List NumberedKind) (x : A) (m : List NumberedKind) → p k ≡ Ok (Some x, m) → length m < length k
 
 abbrev pub EatsMore : {A B : Type 0} → Reader (Step A B) → Type 0
-EatsMore {A} p = (k : List Seat) (x : A) (m : List Seat) → p k ≡ Ok (steps.More x, m) → length m < length k
+EatsMore {A} p = (k : List NumberedKind) (x : A) (m : List NumberedKind) → p k ≡ Ok (steps.More x, m) → length m < length k
 
 pub expect_eats : (x : Kind) → Eats (expect x)
 unfolding expect
@@ -320,68 +320,68 @@ until_within_local step local (suc n) found = bind_local step (again_or found (u
 -- ---- lists, with as many turns as there are tokens and one more: others that are enough give the same
 
 module _ {A : Type 0} (next : Reader (Option A)) (eats : EatsSome next) where
-  option_enough : (n i : ℕ) → ((l : List A) (m : List Seat) → length m < n → length m < i → many_within next n l m ≡ many_within next i l m) → (found : List A) (o : Option A) (m : List Seat) → ((x : A) → o ≡ Some x → (length m < n) × (length m < i)) → more_or found (many_within next n) o m ≡ more_or found (many_within next i) o m
+  option_enough : (n i : ℕ) → ((l : List A) (m : List NumberedKind) → length m < n → length m < i → many_within next n l m ≡ many_within next i l m) → (found : List A) (o : Option A) (m : List NumberedKind) → ((x : A) → o ≡ Some x → (length m < n) × (length m < i)) → more_or found (many_within next n) o m ≡ more_or found (many_within next i) o m
   option_enough n i ih found None m b = refl
   option_enough n i ih found (Some x) m b = let h = b x refl in ih (found ++ x ∷ []) m h.0 h.1
 
-  outcome_enough : (n i : ℕ) → ((l : List A) (m : List Seat) → length m < n → length m < i → many_within next n l m ≡ many_within next i l m) → (found : List A) (o : Outcome (Option A)) → ((x : A) (m : List Seat) → o ≡ Ok (Some x, m) → (length m < n) × (length m < i)) → and_then o (more_or found (many_within next n)) ≡ and_then o (more_or found (many_within next i))
+  outcome_enough : (n i : ℕ) → ((l : List A) (m : List NumberedKind) → length m < n → length m < i → many_within next n l m ≡ many_within next i l m) → (found : List A) (o : Outcome (Option A)) → ((x : A) (m : List NumberedKind) → o ≡ Ok (Some x, m) → (length m < n) × (length m < i)) → and_then o (more_or found (many_within next n)) ≡ and_then o (more_or found (many_within next i))
   unfolding and_then
   outcome_enough n i ih found (Err j) b = refl
   outcome_enough n i ih found (Ok p) b = option_enough n i ih found p.0 p.1 (λ x e. b x p.1 (ap (λ (q : Option A). Ok (q, p.1)) e))
 
-  many_enough : (n i : ℕ) (found : List A) (k : List Seat) → length k < n → length k < i → many_within next n found k ≡ many_within next i found k
+  many_enough : (n i : ℕ) (found : List A) (k : List NumberedKind) → length k < n → length k < i → many_within next n found k ≡ many_within next i found k
   unfolding many_within
   many_enough zero i found k hn hi = absurd (omega arith)
   many_enough (suc n) zero found k hn hi = absurd (omega arith)
   many_enough (suc n) (suc i) found k hn hi = outcome_enough n i (many_enough n i) found (next k) (λ x m e. let s = eats k x m e in (omega arith, omega arith))
 
-  some_enough : (found : List A) (k : List Seat) (o : Option A) (m : List Seat) → ((x : A) → o ≡ Some x → length m < length k) → more_or found (many_within next (length k)) o m ≡ more_or found (many next) o m
+  some_enough : (found : List A) (k : List NumberedKind) (o : Option A) (m : List NumberedKind) → ((x : A) → o ≡ Some x → length m < length k) → more_or found (many_within next (length k)) o m ≡ more_or found (many next) o m
   unfolding many
   some_enough found k None m b = refl
   some_enough found k (Some x) m b = many_enough (length k) (suc (length m)) (found ++ x ∷ []) m (b x refl) (omega arith)
 
-  each_enough : (found : List A) (k : List Seat) (o : Outcome (Option A)) → ((x : A) (m : List Seat) → o ≡ Ok (Some x, m) → length m < length k) → and_then o (more_or found (many_within next (length k))) ≡ and_then o (more_or found (many next))
+  each_enough : (found : List A) (k : List NumberedKind) (o : Outcome (Option A)) → ((x : A) (m : List NumberedKind) → o ≡ Ok (Some x, m) → length m < length k) → and_then o (more_or found (many_within next (length k))) ≡ and_then o (more_or found (many next))
   unfolding and_then
   each_enough found k (Err j) b = refl
   each_enough found k (Ok p) b = some_enough found k p.0 p.1 (λ x e. b x p.1 (ap (λ (q : Option A). Ok (q, p.1)) e))
 
   -- one element after another
-  pub many_step : (found : List A) (k : List Seat) → many next found k ≡ and_then (next k) (more_or found (many next))
+  pub many_step : (found : List A) (k : List NumberedKind) → many next found k ≡ and_then (next k) (more_or found (many next))
   unfolding many many_within
   many_step found k = each_enough found k (next k) (λ x m e. eats k x m e)
 
 module _ {A B : Type 0} (step : Reader (Step A B)) (eats : EatsMore step) where
-  step_enough : (n i : ℕ) → ((l : List A) (m : List Seat) → length m < n → length m < i → until_within step n l m ≡ until_within step i l m) → (found : List A) (o : Step A B) (m : List Seat) → ((x : A) → o ≡ steps.More x → (length m < n) × (length m < i)) → again_or found (until_within step n) o m ≡ again_or found (until_within step i) o m
+  step_enough : (n i : ℕ) → ((l : List A) (m : List NumberedKind) → length m < n → length m < i → until_within step n l m ≡ until_within step i l m) → (found : List A) (o : Step A B) (m : List NumberedKind) → ((x : A) → o ≡ steps.More x → (length m < n) × (length m < i)) → again_or found (until_within step n) o m ≡ again_or found (until_within step i) o m
   step_enough n i ih found (steps.Last x y) m b = refl
   step_enough n i ih found (steps.More x) m b = let h = b x refl in ih (found ++ x ∷ []) m h.0 h.1
 
-  steps_enough : (n i : ℕ) → ((l : List A) (m : List Seat) → length m < n → length m < i → until_within step n l m ≡ until_within step i l m) → (found : List A) (o : Outcome (Step A B)) → ((x : A) (m : List Seat) → o ≡ Ok (steps.More x, m) → (length m < n) × (length m < i)) → and_then o (again_or found (until_within step n)) ≡ and_then o (again_or found (until_within step i))
+  steps_enough : (n i : ℕ) → ((l : List A) (m : List NumberedKind) → length m < n → length m < i → until_within step n l m ≡ until_within step i l m) → (found : List A) (o : Outcome (Step A B)) → ((x : A) (m : List NumberedKind) → o ≡ Ok (steps.More x, m) → (length m < n) × (length m < i)) → and_then o (again_or found (until_within step n)) ≡ and_then o (again_or found (until_within step i))
   unfolding and_then
   steps_enough n i ih found (Err j) b = refl
   steps_enough n i ih found (Ok p) b = step_enough n i ih found p.0 p.1 (λ x e. b x p.1 (ap (λ (q : Step A B). Ok (q, p.1)) e))
 
-  until_enough : (n i : ℕ) (found : List A) (k : List Seat) → length k < n → length k < i → until_within step n found k ≡ until_within step i found k
+  until_enough : (n i : ℕ) (found : List A) (k : List NumberedKind) → length k < n → length k < i → until_within step n found k ≡ until_within step i found k
   unfolding until_within
   until_enough zero i found k hn hi = absurd (omega arith)
   until_enough (suc n) zero found k hn hi = absurd (omega arith)
   until_enough (suc n) (suc i) found k hn hi = steps_enough n i (until_enough n i) found (step k) (λ x m e. let s = eats k x m e in (omega arith, omega arith))
 
-  after_enough : (found : List A) (k : List Seat) (o : Step A B) (m : List Seat) → ((x : A) → o ≡ steps.More x → length m < length k) → again_or found (until_within step (length k)) o m ≡ again_or found (until step) o m
+  after_enough : (found : List A) (k : List NumberedKind) (o : Step A B) (m : List NumberedKind) → ((x : A) → o ≡ steps.More x → length m < length k) → again_or found (until_within step (length k)) o m ≡ again_or found (until step) o m
   unfolding until
   after_enough found k (steps.Last x y) m b = refl
   after_enough found k (steps.More x) m b = until_enough (length k) (suc (length m)) (found ++ x ∷ []) m (b x refl) (omega arith)
 
-  all_enough : (found : List A) (k : List Seat) (o : Outcome (Step A B)) → ((x : A) (m : List Seat) → o ≡ Ok (steps.More x, m) → length m < length k) → and_then o (again_or found (until_within step (length k))) ≡ and_then o (again_or found (until step))
+  all_enough : (found : List A) (k : List NumberedKind) (o : Outcome (Step A B)) → ((x : A) (m : List NumberedKind) → o ≡ Ok (steps.More x, m) → length m < length k) → and_then o (again_or found (until_within step (length k))) ≡ and_then o (again_or found (until step))
   unfolding and_then
   all_enough found k (Err j) b = refl
   all_enough found k (Ok p) b = after_enough found k p.0 p.1 (λ x e. b x p.1 (ap (λ (q : Step A B). Ok (q, p.1)) e))
 
-  pub until_step : (found : List A) (k : List Seat) → until step found k ≡ and_then (step k) (again_or found (until step))
+  pub until_step : (found : List A) (k : List NumberedKind) → until step found k ≡ and_then (step k) (again_or found (until step))
   unfolding until until_within
   until_step found k = all_enough found k (step k) (λ x m e. eats k x m e)
 
 -- a reader whose number of turns goes by its tokens
-fuel_local : {X : Type 0} (q : ℕ → Reader X) → ((n : ℕ) → Local (q n)) → ((n i : ℕ) (k : List Seat) → length k < n → length k < i → q n k ≡ q i k) → Local (λ k. q (suc (length k)) k)
+fuel_local : {X : Type 0} (q : ℕ → Reader X) → ((n : ℕ) → Local (q n)) → ((n i : ℕ) (k : List NumberedKind) → length k < n → length k < i → q n k ≡ q i k) → Local (λ k. q (suc (length k)) k)
 fuel_local q locals enough = record {
   took = λ k x m e. (locals (suc (length k))).took k x m e;
   blamed = λ k j e. (locals (suc (length k))).blamed k j e;

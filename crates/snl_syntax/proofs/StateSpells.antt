@@ -6,7 +6,7 @@ use Rattle.snl_syntax.specs.declared.tree.expression.Expr.{Expr}
 use Rattle.snl_syntax.specs.declared.tree.declaration.Declaration.{Declaration}
 use Rattle.snl_syntax.specs.declared.tree.statement.Member.{Member}
 use Rattle.snl_syntax.specs.declared.tree.state.StateMember.{StateMember}
-use Rattle.snl_syntax.specs.Tokens.{Seat}
+use Rattle.snl_syntax.specs.Tokens.{NumberedKind}
 use Rattle.snl_syntax.specs.Grammar.States.{IsBlockAfter, IsTarget, next as next_state, leave, IsTransition, IsStateMember, declaration, foreign, clause, option_line, empty, c_block, entry, exit, transition, IsState}
 use Rattle.snl_syntax.specs.Spelling.Base.{word}
 use Rattle.snl_syntax.specs.Spelling.Expressions.{spell_expr}
@@ -16,14 +16,14 @@ use Rattle.snl_syntax.specs.Spelling.States.{spell_target, spell_transition, spe
 use Rattle.snl_syntax.proofs.Covers.{Covers, Spells, word_covers, leaf_covers, ◌and◌, covers_as, perhaps_spells, each_spells}
 use Rattle.snl_syntax.proofs.ClauseSpells.{foreign_spells, option_line_spells, clause_spells}
 
-pub block_after_spells : (x : Kind) (Block : List Member → List Seat → List Seat → Type 0) → Spells Block spell_block → Spells (IsBlockAfter x Block) (λ b. word x ++ spell_block b)
+pub block_after_spells : (x : Kind) (Block : List Member → List NumberedKind → List NumberedKind → Type 0) → Spells Block spell_block → Spells (IsBlockAfter x Block) (λ b. word x ++ spell_block b)
 block_after_spells x Block block_spells b k rest is = word_covers is.first and block_spells b is.mid rest is.block
 
 target_spells : Spells IsTarget spell_target
 target_spells t k rest (next_state n mid is mark at) = covers_as spell_target is refl (word_covers mark and leaf_covers at)
 target_spells t k rest (leave is mark) = covers_as spell_target is refl (word_covers mark)
 
-module _ (Inside : Expr → List Seat → List Seat → Type 0) (inside_spells : Spells Inside spell_expr) (Declared : Declaration → List Seat → List Seat → Type 0) (declared_spells : Spells Declared spell_declaration) (Block : List Member → List Seat → List Seat → Type 0) (block_spells : Spells Block spell_block) where
+module _ (Inside : Expr → List NumberedKind → List NumberedKind → Type 0) (inside_spells : Spells Inside spell_expr) (Declared : Declaration → List NumberedKind → List NumberedKind → Type 0) (declared_spells : Spells Declared spell_declaration) (Block : List Member → List NumberedKind → List NumberedKind → Type 0) (block_spells : Spells Block spell_block) where
   transition_spells : Spells (IsTransition Inside Block) spell_transition
   transition_spells t k rest is =
       word_covers is.word
@@ -42,7 +42,7 @@ module _ (Inside : Expr → List Seat → List Seat → Type 0) (inside_spells :
   state_member_spells t k rest (exit b is inside) = covers_as spell_state_member is refl (block_after_spells kind.Exit Block block_spells b k rest inside)
   state_member_spells t k rest (transition x is inside) = covers_as spell_state_member is refl (transition_spells x k rest inside)
 
-  pub state_spells : (n : ℕ) (ms : List StateMember) (k rest : List Seat) → IsState Inside Declared Block n ms k rest → Covers (spell_state n ms) k rest
+  pub state_spells : (n : ℕ) (ms : List StateMember) (k rest : List NumberedKind) → IsState Inside Declared Block n ms k rest → Covers (spell_state n ms) k rest
   state_spells n ms k rest is =
       word_covers is.word
       and leaf_covers is.name

@@ -10,7 +10,7 @@ use Rattle.snl_syntax.specs.declared.tree.statement.Member.TheOpen.{Member-F, St
 use Rattle.snl_syntax.specs.declared.tree.statement.Member.TheViews.{roll-Member, roll-Stmt}
 use Rattle.snl_syntax.specs.declared.tree.statement.Member.TheFolds.{map-Member, map-Stmt, fold-roll-Member, fold-roll-Stmt}
 use denote.Hole.Carrier.{roll}
-use Rattle.snl_syntax.specs.Tokens.{Seat}
+use Rattle.snl_syntax.specs.Tokens.{NumberedKind}
 use Rattle.snl_syntax.specs.Grammar.Base.{Each}
 use Rattle.snl_syntax.specs.Grammar.Expressions.{IsExpr}
 use Rattle.snl_syntax.specs.Grammar.Declarations.{IsDeclaration}
@@ -25,15 +25,15 @@ use Rattle.snl_syntax.proofs.DeclarationSpells.{declaration_spells}
 
 -- ---- where the tree is one level, it spells what the level does
 
-member_covers : {t : Member} {k rest : List Seat} (level : Member-F Member Stmt) → t ≡ roll-Member level → Covers (spell_member_step (map-Member Member Stmt (List Spelled) (List Spelled) spell_member spell_stmt level)) k rest → Covers (spell_member t) k rest
+member_covers : {t : Member} {k rest : List NumberedKind} (level : Member-F Member Stmt) → t ≡ roll-Member level → Covers (spell_member_step (map-Member Member Stmt (List Spelled) (List Spelled) spell_member spell_stmt level)) k rest → Covers (spell_member t) k rest
 member_covers level is c = covers_as spell_member is (fold-roll-Member (List Spelled) (List Spelled) spell_member_step spell_stmt_step level) c
 
-stmt_covers : {t : Stmt} {k rest : List Seat} (level : Stmt-F Member Stmt) → t ≡ roll-Stmt level → Covers (spell_stmt_step (map-Stmt Member Stmt (List Spelled) (List Spelled) spell_member spell_stmt level)) k rest → Covers (spell_stmt t) k rest
+stmt_covers : {t : Stmt} {k rest : List NumberedKind} (level : Stmt-F Member Stmt) → t ≡ roll-Stmt level → Covers (spell_stmt_step (map-Stmt Member Stmt (List Spelled) (List Spelled) spell_member spell_stmt level)) k rest → Covers (spell_stmt t) k rest
 stmt_covers level is c = covers_as spell_stmt is (fold-roll-Stmt (List Spelled) (List Spelled) spell_member_step spell_stmt_step level) c
 
 -- ---- conditions
 
-module _ (Inside : Expr → List Seat → List Seat → Type 0) (inside_spells : Spells Inside spell_expr) where
+module _ (Inside : Expr → List NumberedKind → List NumberedKind → Type 0) (inside_spells : Spells Inside spell_expr) where
   condition_spells : Spells (IsCondition Inside) (λ e. in_parens (spell_expr e))
   condition_spells e k rest is = word_covers is.opening and inside_spells e is.m1 is.m2 is.value and word_covers is.closing
 
@@ -53,7 +53,7 @@ for_head_spells free extra depth t k rest is =
 
 -- ---- blocks and bodies
 
-module _ (Declared : Declaration → List Seat → List Seat → Type 0) (declared_spells : Spells Declared spell_declaration) (Inner : Place → Bool → Stmt → List Seat → List Seat → Type 0) (inner_spells : (place : Place) (closed : Bool) → Spells (Inner place closed) spell_stmt) where
+module _ (Declared : Declaration → List NumberedKind → List NumberedKind → Type 0) (declared_spells : Spells Declared spell_declaration) (Inner : Place → Bool → Stmt → List NumberedKind → List NumberedKind → Type 0) (inner_spells : (place : Place) (closed : Bool) → Spells (Inner place closed) spell_stmt) where
   member_spells : Spells (IsMember Declared Inner) spell_member
   unfolding roll-Member roll
   member_spells t k rest (declaration d is inside) = member_covers (Member-F.Declaration d) is (declared_spells d k rest inside)
@@ -79,17 +79,17 @@ after_arms : (arms : List (Expr × Stmt)) (last : Expr × Stmt) → after kind.E
 after_arms [] last = refl
 after_arms (arm ∷ arms) last = refl
 
-module _ (Inside : Expr → List Seat → List Seat → Type 0) (inside_spells : Spells Inside spell_expr) (Declared : Declaration → List Seat → List Seat → Type 0) (declared_spells : Spells Declared spell_declaration) (Inner : Place → Bool → Stmt → List Seat → List Seat → Type 0) (inner_spells : (place : Place) (closed : Bool) → Spells (Inner place closed) spell_stmt) where
+module _ (Inside : Expr → List NumberedKind → List NumberedKind → Type 0) (inside_spells : Spells Inside spell_expr) (Declared : Declaration → List NumberedKind → List NumberedKind → Type 0) (declared_spells : Spells Declared spell_declaration) (Inner : Place → Bool → Stmt → List NumberedKind → List NumberedKind → Type 0) (inner_spells : (place : Place) (closed : Bool) → Spells (Inner place closed) spell_stmt) where
   arm_spells : (closed : Bool) → Spells (IsArm Inside Declared Inner closed) (λ arm. spell_choice (spelled_arm arm))
   arm_spells closed arm k rest is = word_covers is.word and condition_spells Inside inside_spells arm.0 is.m1 is.m2 is.condition and body_spells Declared declared_spells Inner inner_spells as_body closed arm.1 is.m2 rest is.body
 
-  arms_spell : (arms : List (Expr × Stmt)) (last : Expr × Stmt) (closed : Bool) (k m rest : List Seat) → Each (IsPassed Inside Declared Inner) arms k m → IsArm Inside Declared Inner closed last m rest → Covers (spell_arms (arms ++ last ∷ [])) k rest
+  arms_spell : (arms : List (Expr × Stmt)) (last : Expr × Stmt) (closed : Bool) (k m rest : List NumberedKind) → Each (IsPassed Inside Declared Inner) arms k m → IsArm Inside Declared Inner closed last m rest → Covers (spell_arms (arms ++ last ∷ [])) k rest
   arms_spell [] last closed k m rest e is = nothing_covers e and arm_spells closed last m rest is and nothing_covers refl
   arms_spell (arm ∷ arms) last closed k m rest e is =
       subst (λ (l : List Spelled). Covers (spell_choice (spelled_arm arm) ++ l) k rest) (sym (after_arms arms last))
       (arm_spells true arm k e.1.mid e.1.front and (word_covers e.1.word and arms_spell arms last closed e.0 m rest e.2 is))
 
-module _ (Inside : Expr → List Seat → List Seat → Type 0) (inside_spells : Spells Inside spell_expr) (Outside : Expr → List Seat → List Seat → Type 0) (outside_spells : Spells Outside spell_expr) (Head : ForHead → List Seat → List Seat → Type 0) (head_spells : Spells Head spell_for_head) (Declared : Declaration → List Seat → List Seat → Type 0) (declared_spells : Spells Declared spell_declaration) (Inner : Place → Bool → Stmt → List Seat → List Seat → Type 0) (inner_spells : (place : Place) (closed : Bool) → Spells (Inner place closed) spell_stmt) where
+module _ (Inside : Expr → List NumberedKind → List NumberedKind → Type 0) (inside_spells : Spells Inside spell_expr) (Outside : Expr → List NumberedKind → List NumberedKind → Type 0) (outside_spells : Spells Outside spell_expr) (Head : ForHead → List NumberedKind → List NumberedKind → Type 0) (head_spells : Spells Head spell_for_head) (Declared : Declaration → List NumberedKind → List NumberedKind → Type 0) (declared_spells : Spells Declared spell_declaration) (Inner : Place → Bool → Stmt → List NumberedKind → List NumberedKind → Type 0) (inner_spells : (place : Place) (closed : Bool) → Spells (Inner place closed) spell_stmt) where
   form_spells : (place : Place) (closed : Bool) → Spells (IsStmt Inside Outside Head Declared Inner place closed) spell_stmt
   unfolding roll-Stmt roll
   form_spells place closed t k rest (empty is mark) = stmt_covers Stmt-F.Empty is (word_covers mark)

@@ -6,10 +6,10 @@ use Rattle.snl_syntax.specs.declared.stop.Stop.{Stop}
 use Rattle.snl_syntax.specs.declared.stop.Stop.TheVariants as stops
 use Rattle.snl_syntax.specs.declared.stop.Step.{Step}
 use Rattle.snl_syntax.specs.declared.stop.Step.TheVariants as steps
-use Rattle.snl_syntax.specs.Tokens.{Seat}
+use Rattle.snl_syntax.specs.Tokens.{NumberedKind}
 use Rattle.snl_syntax.specs.Steps.{Outcome, Reader, and_then, many, many_within, until, until_within, Fails}
 
-module _ {A : Type 0} (next : Reader (Option A)) (total : Outcome (List A)) (n i : ℕ) (found : List A) (k : List Seat) where
+module _ {A : Type 0} (next : Reader (Option A)) (total : Outcome (List A)) (n i : ℕ) (found : List A) (k : List NumberedKind) where
   -- the loop is over
   pub turns_over : n ≤ i → many_within next (n - i) found k ≡ total → total ≡ Ok (found, k)
   unfolding many_within and_then
@@ -20,17 +20,17 @@ module _ {A : Type 0} (next : Reader (Option A)) (total : Outcome (List A)) (n i
   turn lt h = let some : suc (n - (i + 1)) ≡ n - i = omega arith in ap (λ m. many_within next m found k) some ∙ h
 
   -- it found an element
-  pub turn_more : (x : A) (k' : List Seat) → i < n → many_within next (n - i) found k ≡ total → next k ≡ Ok (Some x, k') → many_within next (n - (i + 1)) (found ++ x ∷ []) k' ≡ total
+  pub turn_more : (x : A) (k' : List NumberedKind) → i < n → many_within next (n - i) found k ≡ total → next k ≡ Ok (Some x, k') → many_within next (n - (i + 1)) (found ++ x ∷ []) k' ≡ total
   unfolding many_within and_then
   turn_more x k' lt h e = let t = turn lt h in sym (rw e refl) ∙ t
 
   -- it found the end
-  pub turn_end : (k' : List Seat) → i < n → many_within next (n - i) found k ≡ total → next k ≡ Ok (None, k') → total ≡ Ok (found, k')
+  pub turn_end : (k' : List NumberedKind) → i < n → many_within next (n - i) found k ≡ total → next k ≡ Ok (None, k') → total ≡ Ok (found, k')
   unfolding many_within and_then
   turn_end k' lt h e = let t = turn lt h in sym t ∙ rw e refl
 
   -- it failed
-  turn_fails : (j : List Seat) → i < n → many_within next (n - i) found k ≡ total → next k ≡ Err j → total ≡ Err j
+  turn_fails : (j : List NumberedKind) → i < n → many_within next (n - i) found k ≡ total → next k ≡ Err j → total ≡ Err j
   unfolding many_within and_then
   turn_fails j lt h e = let t = turn lt h in sym t ∙ rw e refl
 
@@ -38,7 +38,7 @@ module _ {A : Type 0} (next : Reader (Option A)) (total : Outcome (List A)) (n i
   turn_err kinds stops.OutOfMemory lt h e = tt
   turn_err kinds (stops.Here at) lt h e = turn_fails _ lt h e
 
-module _ {A B : Type 0} (step : Reader (Step A B)) (total : Outcome (List A × B)) (n i : ℕ) (found : List A) (k : List Seat) where
+module _ {A B : Type 0} (step : Reader (Step A B)) (total : Outcome (List A × B)) (n i : ℕ) (found : List A) (k : List NumberedKind) where
   pub until_over : n ≤ i → until_within step (n - i) found k ≡ total → total ≡ Err k
   unfolding until_within and_then
   until_over le h = let none : n - i ≡ 0 = omega arith in sym h ∙ ap (λ m. until_within step m found k) none
@@ -46,15 +46,15 @@ module _ {A B : Type 0} (step : Reader (Step A B)) (total : Outcome (List A × B
   again : i < n → until_within step (n - i) found k ≡ total → until_within step (suc (n - (i + 1))) found k ≡ total
   again lt h = let some : suc (n - (i + 1)) ≡ n - i = omega arith in ap (λ m. until_within step m found k) some ∙ h
 
-  pub until_more : (x : A) (k' : List Seat) → i < n → until_within step (n - i) found k ≡ total → step k ≡ Ok (steps.More x, k') → until_within step (n - (i + 1)) (found ++ x ∷ []) k' ≡ total
+  pub until_more : (x : A) (k' : List NumberedKind) → i < n → until_within step (n - i) found k ≡ total → step k ≡ Ok (steps.More x, k') → until_within step (n - (i + 1)) (found ++ x ∷ []) k' ≡ total
   unfolding until_within and_then
   until_more x k' lt h e = let t = again lt h in sym (rw e refl) ∙ t
 
-  pub until_last : (o : Option A) (y : B) (k' : List Seat) → i < n → until_within step (n - i) found k ≡ total → step k ≡ Ok (steps.Last o y, k') → total ≡ Ok ((found ++ option_to_list o, y), k')
+  pub until_last : (o : Option A) (y : B) (k' : List NumberedKind) → i < n → until_within step (n - i) found k ≡ total → step k ≡ Ok (steps.Last o y, k') → total ≡ Ok ((found ++ option_to_list o, y), k')
   unfolding until_within and_then
   until_last o y k' lt h e = let t = again lt h in sym t ∙ rw e refl
 
-  until_fails : (j : List Seat) → i < n → until_within step (n - i) found k ≡ total → step k ≡ Err j → total ≡ Err j
+  until_fails : (j : List NumberedKind) → i < n → until_within step (n - i) found k ≡ total → step k ≡ Err j → total ≡ Err j
   unfolding until_within and_then
   until_fails j lt h e = let t = again lt h in sym t ∙ rw e refl
 
@@ -66,10 +66,10 @@ pub deeper : {X : Type 0} (f : ℕ → X) (n : ℕ) → 0 < n → f n ≡ f (suc
 deeper f n some = let e : n ≡ suc (n - 1) = omega arith in ap f e
 
 -- before the first turn
-pub turns_begin : {A : Type 0} (next : Reader (Option A)) (found given : List A) (n : ℕ) (k : List Seat) → found ≡ given → n ≡ suc (length k) → many_within next (n - 0) found k ≡ many next given k
+pub turns_begin : {A : Type 0} (next : Reader (Option A)) (found given : List A) (n : ℕ) (k : List NumberedKind) → found ≡ given → n ≡ suc (length k) → many_within next (n - 0) found k ≡ many next given k
 unfolding many
 turns_begin next found given n k f e = let m : n - 0 ≡ suc (length k) = omega arith in ap (λ i. many_within next i found k) m ∙ ap (λ l. many_within next (suc (length k)) l k) f
 
-pub until_begin : {A B : Type 0} (step : Reader (Step A B)) (found given : List A) (n : ℕ) (k : List Seat) → found ≡ given → n ≡ suc (length k) → until_within step (n - 0) found k ≡ until step given k
+pub until_begin : {A B : Type 0} (step : Reader (Step A B)) (found given : List A) (n : ℕ) (k : List NumberedKind) → found ≡ given → n ≡ suc (length k) → until_within step (n - 0) found k ≡ until step given k
 unfolding until
 until_begin step found given n k f e = let m : n - 0 ≡ suc (length k) = omega arith in ap (λ i. until_within step i found k) m ∙ ap (λ l. until_within step (suc (length k)) l k) f

@@ -5,13 +5,13 @@ use Rattle.snl_syntax.specs.declared.stop.Stop.{Stop}
 use Rattle.snl_syntax.specs.declared.stop.Stop.TheVariants as stops
 use Rattle.snl_syntax.specs.declared.stop.Step.{Step}
 use Rattle.snl_syntax.specs.declared.stop.Step.TheVariants as steps
-use Rattle.snl_syntax.specs.Tokens.{Seat, ahead, same}
+use Rattle.snl_syntax.specs.Tokens.{NumberedKind, ahead, same}
 
 abbrev pub Outcome : Type 0 → Type 0
-Outcome A = Result (A × List Seat) (List Seat)
+Outcome A = Result (A × List NumberedKind) (List NumberedKind)
 
 abbrev pub Reader : Type 0 → Type 0
-Reader A = List Seat → Outcome A
+Reader A = List NumberedKind → Outcome A
 
 unfoldable pub and_then : {A B : Type 0} → Outcome A → (A → Reader B) → Outcome B
 and_then (Ok p) f = f p.0 p.1
@@ -48,7 +48,7 @@ ReadsToken kinds at (Err s) read = Fails kinds s read
 
 -- ---- tokens
 
-unfoldable pub kind_at : List Seat → Option Kind
+unfoldable pub kind_at : List NumberedKind → Option Kind
 kind_at [] = None
 kind_at (s ∷ k) = Some s.0
 

@@ -4,15 +4,15 @@ use Rattle.snl_lex.specs.declared.kind.Kind.{Kind}
 use Rattle.snl_lex.specs.declared.kind.Kind.TheVariants as kind
 
 -- a token's kind, and its number in the item
-abbrev pub Seat : Type 0
-Seat = Kind × ℕ
+abbrev pub NumberedKind : Type 0
+NumberedKind = Kind × ℕ
 
-abbrev pub numbered : ℕ → List Kind → List Seat
+abbrev pub numbered : ℕ → List Kind → List NumberedKind
 numbered n [] = []
 numbered n (x ∷ xs) = (x, n) ∷ numbered (suc n) xs
 
 -- the tokens from a place on
-unfoldable pub ahead : List Kind → ℕ → List Seat
+unfoldable pub ahead : List Kind → ℕ → List NumberedKind
 ahead kinds at = numbered at (drop at kinds)
 
 -- a number for each kind

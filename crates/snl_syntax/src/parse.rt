@@ -37,7 +37,7 @@ fn kinds_of(alloc: Global, text: &[u8], tokens: &[Piece]) -> Result<Vec<Kind>, A
     requires { All (LiesIn text.now) tokens.now }
     ensures { IfOk result (λ kinds. kinds.items ≡ kinds_in text.now tokens.now) }
 {
-    let mut kinds = Vec::new(alloc);
+    let mut kinds = Vec::with_capacity(alloc, tokens.len())?;
     for piece in tokens {
         kinds.push(kind_of(text, *piece))?;
     }

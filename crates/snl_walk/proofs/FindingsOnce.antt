@@ -9,7 +9,7 @@ use Rattle.snl_walk.specs.declared.codes.Code.TheVariants.{E07, E10, E17, E18, E
 use Rattle.snl_walk.specs.declared.occurrence.Occurrence.{Occurrence}
 use Rattle.snl_walk.specs.declared.occurrence.What.{What}
 use Rattle.snl_walk.specs.declared.occurrence.What.TheVariants as what
-use Rattle.snl_walk.specs.declared.outlook.Outer.{Outer}
+use Rattle.snl_walk.specs.declared.other_items.Outer.{Outer}
 use Rattle.snl_walk.specs.declared.rules.Finding.{Finding}
 use Rattle.snl_walk.specs.Items.{tokens_of}
 use Rattle.snl_walk.specs.Once.{with_new}

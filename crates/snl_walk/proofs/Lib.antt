@@ -10,4 +10,4 @@ pub mod ItemLeaves
 pub mod OptionLeaves
 pub mod RulesHold
 pub mod FindingsOnce
-pub mod Outlooks
+pub mod SameAnswers

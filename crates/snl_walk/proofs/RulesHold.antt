@@ -1,8 +1,6 @@
 -- What holds of each code of a rule holds of what is found at occurrences.
-use Rattle.std.proofs.Common.{◌≡◌, ℕ, Bool, true, false, not, cond, List, [], ◌∷◌, ◌++◌, map, Option, None, Some, inl, inr, refl, sym, subst, ap, ◌∙◌, arith}
-use Rattle.std.specs.Prelude.{◌&&◌, ◌⊎◌, codes}
-use Rattle.std.specs.List.{AllByRecursion as Each, Contains, flat_map}
-use Rattle.std.specs.Str.{bytes_eq}
+use Rattle.std.proofs.Common.{◌≡◌, ℕ, Bool, true, false, cond, List, [], ◌∷◌, ◌++◌, map, Option, None, inl, inr, refl, sym, ap, ◌∙◌}
+use Rattle.std.specs.List.{AllByRecursion as Each, flat_map}
 use Rattle.std.proofs.lemmas.Bool.{false≢true}
 use Rattle.snl_walk.specs.declared.codes.Code.{Code}
 use Rattle.snl_walk.specs.declared.codes.Code.TheVariants.{E07, W01}
@@ -11,7 +9,7 @@ use Rattle.snl_walk.specs.declared.occurrence.Local.{Local}
 use Rattle.snl_walk.specs.declared.occurrence.Occurrence.{Occurrence}
 use Rattle.snl_walk.specs.declared.occurrence.What.{What}
 use Rattle.snl_walk.specs.declared.occurrence.What.TheVariants as what
-use Rattle.snl_walk.specs.declared.outlook.Outer.{Outer}
+use Rattle.snl_walk.specs.declared.other_items.Outer.{Outer}
 use Rattle.snl_walk.specs.declared.rules.Finding.{Finding}
 use Rattle.snl_walk.specs.Codes.{Finder, finder_of, finds_at_occurrences, finds_by_rules, is_occurrence_code, is_rule_code, rules}
 use Rattle.snl_walk.specs.Passing.{passes}

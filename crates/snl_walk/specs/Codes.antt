@@ -72,6 +72,19 @@ is_error W04 = false
 is_error W05 = false
 is_error _ = true
 
+-- How many bytes a message quotes, at a token of so many: none, an option's letter, or the whole token.
+abbrev pub quoted_bytes : Code → ℕ → ℕ
+quoted_bytes E01 len = 0
+quoted_bytes E02 len = 0
+quoted_bytes E03 len = 0
+quoted_bytes E04 len = 0
+quoted_bytes E05 len = 0
+quoted_bytes E06 len = 0
+quoted_bytes E18 len = 0
+quoted_bytes W03 len = 0
+quoted_bytes W04 len = 1
+quoted_bytes _ len = len
+
 -- Who finds what has a code.
 pub data Finder : Type 0 where
   parser : Finder

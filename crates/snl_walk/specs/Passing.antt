@@ -1,7 +1,7 @@
 -- What names pass for, by the declarations that they resolve to.
 use Rattle.std.specs.Prelude.{ℕ, Bool, false, not, List, Option, Some, None}
 use Rattle.snl_walk.specs.declared.occurrence.Local.{Local}
-use Rattle.snl_walk.specs.declared.outlook.Outer.{Outer}
+use Rattle.snl_walk.specs.declared.other_items.Outer.{Outer}
 
 -- A declaration in the item goes before those outside.
 abbrev pub passes : (List ℕ → Option Outer) → List ℕ → Option Local → Option Outer

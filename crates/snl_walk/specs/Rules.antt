@@ -14,7 +14,7 @@ use Rattle.snl_walk.specs.declared.occurrence.Manner.{Manner}
 use Rattle.snl_walk.specs.declared.occurrence.Occurrence.{Occurrence}
 use Rattle.snl_walk.specs.declared.occurrence.What.{What}
 use Rattle.snl_walk.specs.declared.occurrence.What.TheVariants as what
-use Rattle.snl_walk.specs.declared.outlook.Outer.{Outer}
+use Rattle.snl_walk.specs.declared.other_items.Outer.{Outer}
 use Rattle.snl_walk.specs.declared.rules.Finding.{Finding}
 use Rattle.snl_walk.specs.Passing.{lacks_channel, lacks_flag, passes}
 use Rattle.snl_walk.specs.Undeclared.{undeclared}

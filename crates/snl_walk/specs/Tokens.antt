@@ -17,9 +17,9 @@ bytes_if text None = []
 bytes_if text (Some piece) = bytes_of text piece
 
 -- The bytes of the token with this number; none, where there is no such token.
-unfoldable pub bytes_at : List ℕ → List Piece → ℕ → List ℕ
-bytes_at text tokens number = bytes_if text (slice_get tokens number)
+unfoldable pub token_bytes : List ℕ → List Piece → ℕ → List ℕ
+token_bytes text tokens number = bytes_if text (slice_get tokens number)
 
 -- The value of the integer with this number.
 abbrev pub value_at : List ℕ → List Piece → ℕ → Option ℕ
-value_at text tokens number = int_value_of (bytes_at text tokens number)
+value_at text tokens number = int_value_of (token_bytes text tokens number)

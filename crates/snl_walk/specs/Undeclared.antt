@@ -3,7 +3,7 @@ use Rattle.std.specs.Prelude.{ℕ, Bool, not, ◌&&◌, ◌||◌, if◌then◌el
 use Rattle.std.specs.List.{list_any, starts_with}
 use Rattle.std.specs.Str.{bytes_eq}
 use Rattle.snl_walk.specs.declared.occurrence.Occurrence.{Occurrence}
-use Rattle.snl_walk.specs.declared.outlook.Outer.{Outer}
+use Rattle.snl_walk.specs.declared.other_items.Outer.{Outer}
 use Rattle.snl_walk.specs.Once.{with_new}
 use Rattle.snl_walk.specs.Passing.{passes}
 use Rattle.snl_walk.specs.Uses.{is_use, tokens_where}

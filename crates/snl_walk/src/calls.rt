@@ -2,7 +2,7 @@
 
 ghost use Rattle.std.specs.Prelude.{◌≡◌};
 ghost use Rattle.snl_walk.specs.Calls.{asked_by, asked_of, asks_for_channel, asks_for_flag};
-ghost use Rattle.snl_walk.specs.Tokens.{IsSource, bytes_at};
+ghost use Rattle.snl_walk.specs.Tokens.{IsSource, token_bytes};
 
 use crate::occurrence::Asked;
 use crate::source::Source;
@@ -46,7 +46,7 @@ fn asked_by(name: &[u8]) -> Asked
 /// What is asked of the first argument of the call of the name at this token, if it is one.
 pub(crate) fn asked_of(source: &Source, call: Option<usize>) -> Asked
     requires { IsSource source.now.text.now source.now.tokens.now }
-    ensures { result ≡ asked_of (bytes_at source.now.text.now source.now.tokens.now) call }
+    ensures { result ≡ asked_of (token_bytes source.now.text.now source.now.tokens.now) call }
 {
     match call {
         Some(call) => asked_by(source.bytes(call)),

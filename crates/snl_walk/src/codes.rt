@@ -1,6 +1,6 @@
 //! The codes of the diagnostics: this project's profile, as are the texts of their messages.
 ghost use Rattle.std.specs.Prelude.{◌≡◌};
-ghost use Rattle.snl_walk.specs.Codes.{is_error, message_of, name_of};
+ghost use Rattle.snl_walk.specs.Codes.{is_error, message_of, name_of, quoted_bytes};
 
 /// What kind of finding it is: an error, with `E`, or a warning, with `W`.
 #[derive(Clone, Copy, Debug, PartialEq, Eq)]
@@ -116,5 +116,23 @@ impl Code {
             self,
             Code::W01 | Code::W02 | Code::W03 | Code::W04 | Code::W05
         )
+    }
+
+    /// How many bytes its message quotes, from the first byte of what it is about. `len` is the length of the token there.
+    pub fn quoted_bytes(self, len: usize) -> usize
+        ensures { result ≡ quoted_bytes self len }
+    {
+        match self {
+            Code::E01
+            | Code::E02
+            | Code::E03
+            | Code::E04
+            | Code::E05
+            | Code::E06
+            | Code::E18
+            | Code::W03 => 0,
+            Code::W04 => 1,
+            _ => len,
+        }
     }
 }

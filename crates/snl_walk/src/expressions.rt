@@ -2,7 +2,7 @@
 
 ghost use Rattle.std.specs.Prelude.{◌≡◌, ◌++◌, false, OnOk, map};
 ghost use Rattle.std.specs.List.{flat_map};
-ghost use Rattle.snl_walk.specs.Tokens.{IsSource, bytes_at};
+ghost use Rattle.snl_walk.specs.Tokens.{IsSource, token_bytes};
 ghost use Rattle.snl_walk.specs.Scopes.{manner_of, seen};
 ghost use Rattle.snl_walk.specs.Expressions.{are_subscripts, before, following, names_if, names_in_all, names_in_arguments, names_in_arms, names_in_expr, names_in_init, names_in_links, names_in_tails, names_in_targets, names_in_value, names_in_values, operand, plain, subscript_by, tail_of};
 
@@ -111,7 +111,7 @@ fn before(suffixes: &[Suffix], setting: Setting) -> Setting
 
 fn manner_of(source: &Source, in_condition: bool, setting: Setting) -> Manner
     requires { IsSource source.now.text.now source.now.tokens.now }
-    ensures { result ≡ manner_of (bytes_at source.now.text.now source.now.tokens.now) in_condition setting }
+    ensures { result ≡ manner_of (token_bytes source.now.text.now source.now.tokens.now) in_condition setting }
 {
     Manner {
         follows: setting.follows,
@@ -123,7 +123,7 @@ fn manner_of(source: &Source, in_condition: bool, setting: Setting) -> Manner
 // A name where these are visible.
 fn seen(source: &Source, names: &Visible, in_condition: bool, name: Named) -> Occurrence
     requires { IsSource source.now.text.now source.now.tokens.now }
-    ensures { result ≡ seen (bytes_at source.now.text.now source.now.tokens.now) names.now in_condition name }
+    ensures { result ≡ seen (token_bytes source.now.text.now source.now.tokens.now) names.now in_condition name }
 {
     Occurrence {
         token: name.token,
@@ -143,7 +143,7 @@ pub(crate) fn add_expr(
     found: &mut Vec<Occurrence>,
 ) -> Result<(), OutOfMemory>
     requires { IsSource source.now.text.now source.now.tokens.now }
-    ensures { OnOk result (found.new.items ≡ found.old.items ++ map (seen (bytes_at source.now.text.now source.now.tokens.now) names.now in_condition) (names_in_expr setting expr.now)) }
+    ensures { OnOk result (found.new.items ≡ found.old.items ++ map (seen (token_bytes source.now.text.now source.now.tokens.now) names.now in_condition) (names_in_expr setting expr.now)) }
 {
     match expr {
         Expr::Name(token) => {
@@ -206,7 +206,7 @@ fn add_suffixes(
     found: &mut Vec<Occurrence>,
 ) -> Result<(), OutOfMemory>
     requires { IsSource source.now.text.now source.now.tokens.now }
-    ensures { OnOk result (found.new.items ≡ found.old.items ++ map (seen (bytes_at source.now.text.now source.now.tokens.now) names.now in_condition) (names_in_tails name (map tail_of suffixes.now))) }
+    ensures { OnOk result (found.new.items ≡ found.old.items ++ map (seen (token_bytes source.now.text.now source.now.tokens.now) names.now in_condition) (names_in_tails name (map tail_of suffixes.now))) }
 {
     let mut call = name;
     for suffix in suffixes {
@@ -242,7 +242,7 @@ fn add_arguments(
     found: &mut Vec<Occurrence>,
 ) -> Result<(), OutOfMemory>
     requires { IsSource source.now.text.now source.now.tokens.now }
-    ensures { OnOk result (found.new.items ≡ found.old.items ++ map (seen (bytes_at source.now.text.now source.now.tokens.now) names.now in_condition) (names_in_arguments call (map operand exprs.now))) }
+    ensures { OnOk result (found.new.items ≡ found.old.items ++ map (seen (token_bytes source.now.text.now source.now.tokens.now) names.now in_condition) (names_in_arguments call (map operand exprs.now))) }
 {
     let mut argument_of = call;
     for expr in exprs {
@@ -265,7 +265,7 @@ fn add_links(
     found: &mut Vec<Occurrence>,
 ) -> Result<(), OutOfMemory>
     requires { IsSource source.now.text.now source.now.tokens.now }
-    ensures { OnOk result (found.new.items ≡ found.old.items ++ map (seen (bytes_at source.now.text.now source.now.tokens.now) names.now in_condition) (names_in_links (map (λ link. (link.0, operand link.1)) links.now))) }
+    ensures { OnOk result (found.new.items ≡ found.old.items ++ map (seen (token_bytes source.now.text.now source.now.tokens.now) names.now in_condition) (names_in_links (map (λ link. (link.0, operand link.1)) links.now))) }
 {
     for link in links {
         add_expr(source, names, in_condition, &link.1, plain(), found)?;
@@ -282,7 +282,7 @@ fn add_arms(
     found: &mut Vec<Occurrence>,
 ) -> Result<(), OutOfMemory>
     requires { IsSource source.now.text.now source.now.tokens.now }
-    ensures { OnOk result (found.new.items ≡ found.old.items ++ map (seen (bytes_at source.now.text.now source.now.tokens.now) names.now in_condition) (names_in_arms (map (λ arm. (operand arm.0, operand arm.1)) arms.now))) }
+    ensures { OnOk result (found.new.items ≡ found.old.items ++ map (seen (token_bytes source.now.text.now source.now.tokens.now) names.now in_condition) (names_in_arms (map (λ arm. (operand arm.0, operand arm.1)) arms.now))) }
 {
     for arm in arms {
         add_expr(source, names, in_condition, &arm.0, plain(), found)?;
@@ -300,7 +300,7 @@ fn add_targets(
     found: &mut Vec<Occurrence>,
 ) -> Result<(), OutOfMemory>
     requires { IsSource source.now.text.now source.now.tokens.now }
-    ensures { OnOk result (found.new.items ≡ found.old.items ++ map (seen (bytes_at source.now.text.now source.now.tokens.now) names.now in_condition) (names_in_targets (map (λ target. (operand target.0, target.1)) targets.now))) }
+    ensures { OnOk result (found.new.items ≡ found.old.items ++ map (seen (token_bytes source.now.text.now source.now.tokens.now) names.now in_condition) (names_in_targets (map (λ target. (operand target.0, target.1)) targets.now))) }
 {
     for target in targets {
         add_expr(source, names, in_condition, &target.0, plain(), found)?;
@@ -317,7 +317,7 @@ fn add_all(
     found: &mut Vec<Occurrence>,
 ) -> Result<(), OutOfMemory>
     requires { IsSource source.now.text.now source.now.tokens.now }
-    ensures { OnOk result (found.new.items ≡ found.old.items ++ map (seen (bytes_at source.now.text.now source.now.tokens.now) names.now in_condition) (names_in_all (map operand exprs.now))) }
+    ensures { OnOk result (found.new.items ≡ found.old.items ++ map (seen (token_bytes source.now.text.now source.now.tokens.now) names.now in_condition) (names_in_all (map operand exprs.now))) }
 {
     for expr in exprs {
         add_expr(source, names, in_condition, expr, plain(), found)?;
@@ -334,7 +334,7 @@ pub(crate) fn add_optional(
     found: &mut Vec<Occurrence>,
 ) -> Result<(), OutOfMemory>
     requires { IsSource source.now.text.now source.now.tokens.now }
-    ensures { OnOk result (found.new.items ≡ found.old.items ++ map (seen (bytes_at source.now.text.now source.now.tokens.now) names.now in_condition) (names_if expr.now)) }
+    ensures { OnOk result (found.new.items ≡ found.old.items ++ map (seen (token_bytes source.now.text.now source.now.tokens.now) names.now in_condition) (names_if expr.now)) }
 {
     match expr {
         Some(expr) => add_expr(source, names, in_condition, expr, plain(), found),
@@ -350,7 +350,7 @@ pub(crate) fn add_lengths(
     found: &mut Vec<Occurrence>,
 ) -> Result<(), OutOfMemory>
     requires { IsSource source.now.text.now source.now.tokens.now }
-    ensures { OnOk result (found.new.items ≡ found.old.items ++ map (seen (bytes_at source.now.text.now source.now.tokens.now) names.now false) (flat_map names_if lengths.now)) }
+    ensures { OnOk result (found.new.items ≡ found.old.items ++ map (seen (token_bytes source.now.text.now source.now.tokens.now) names.now false) (flat_map names_if lengths.now)) }
 {
     for length in lengths {
         add_optional(source, names, false, length, found)?;
@@ -367,7 +367,7 @@ fn add_init(
     found: &mut Vec<Occurrence>,
 ) -> Result<(), OutOfMemory>
     requires { IsSource source.now.text.now source.now.tokens.now }
-    ensures { OnOk result (found.new.items ≡ found.old.items ++ map (seen (bytes_at source.now.text.now source.now.tokens.now) names.now false) (names_in_init init.now)) }
+    ensures { OnOk result (found.new.items ≡ found.old.items ++ map (seen (token_bytes source.now.text.now source.now.tokens.now) names.now false) (names_in_init init.now)) }
 {
     match init {
         Init::Value(value) => add_expr(source, names, false, value, plain(), found),
@@ -383,7 +383,7 @@ fn add_inits(
     found: &mut Vec<Occurrence>,
 ) -> Result<(), OutOfMemory>
     requires { IsSource source.now.text.now source.now.tokens.now }
-    ensures { OnOk result (found.new.items ≡ found.old.items ++ map (seen (bytes_at source.now.text.now source.now.tokens.now) names.now false) (names_in_values (map names_in_init values.now))) }
+    ensures { OnOk result (found.new.items ≡ found.old.items ++ map (seen (token_bytes source.now.text.now source.now.tokens.now) names.now false) (names_in_values (map names_in_init values.now))) }
 {
     for value in values {
         add_init(source, names, value, found)?;
@@ -399,7 +399,7 @@ pub(crate) fn add_value(
     found: &mut Vec<Occurrence>,
 ) -> Result<(), OutOfMemory>
     requires { IsSource source.now.text.now source.now.tokens.now }
-    ensures { OnOk result (found.new.items ≡ found.old.items ++ map (seen (bytes_at source.now.text.now source.now.tokens.now) names.now false) (names_in_value value.now)) }
+    ensures { OnOk result (found.new.items ≡ found.old.items ++ map (seen (token_bytes source.now.text.now source.now.tokens.now) names.now false) (names_in_value value.now)) }
 {
     match value {
         Some(init) => add_init(source, names, init, found),

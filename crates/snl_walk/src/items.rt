@@ -2,7 +2,7 @@
 
 ghost use Rattle.std.specs.Prelude.{◌≡◌, ◌++◌, [], false, IfOk, OnOk, map};
 ghost use Rattle.std.specs.List.{flat_map};
-ghost use Rattle.snl_walk.specs.Tokens.{IsSource, bytes_at};
+ghost use Rattle.snl_walk.specs.Tokens.{IsSource, token_bytes};
 ghost use Rattle.snl_walk.specs.Items.{found_in_function, found_in_member, found_in_named, found_in_parameter, found_in_state, found_in_struct_member, found_in_target, found_in_transition, found_with_body, in_transition, occurrences, outside};
 ghost use Rattle.snl_walk.specs.Declares.{declared_by_parameter};
 ghost use Rattle.snl_walk.specs.Scopes.{under_names};
@@ -59,7 +59,7 @@ fn add_transition<'a>(
     found: &mut Vec<Occurrence>,
 ) -> Result<(), OutOfMemory>
     requires { IsSource source.now.text.now source.now.tokens.now }
-    ensures found { OnOk result (found.new.items ≡ found.old.items ++ found_in_transition (bytes_at source.now.text.now source.now.tokens.now) names.old transition.now) }
+    ensures found { OnOk result (found.new.items ≡ found.old.items ++ found_in_transition (token_bytes source.now.text.now source.now.tokens.now) names.old transition.now) }
     ensures names { OnOk result (names.new ≡ names.old) }
 {
     add_optional(source, names, true, &transition.condition, found)?;
@@ -80,7 +80,7 @@ fn add_names(
     found: &mut Vec<Occurrence>,
 ) -> Result<(), OutOfMemory>
     requires { IsSource source.now.text.now source.now.tokens.now }
-    ensures { OnOk result (found.new.items ≡ found.old.items ++ map (declaration_at (bytes_at source.now.text.now source.now.tokens.now) names.now false) tokens.now) }
+    ensures { OnOk result (found.new.items ≡ found.old.items ++ map (declaration_at (token_bytes source.now.text.now source.now.tokens.now) names.now false) tokens.now) }
 {
     for token in tokens {
         found.push(declaration_at(source, names, false, *token))?;
@@ -95,7 +95,7 @@ fn add_member<'a>(
     found: &mut Vec<Occurrence>,
 ) -> Result<(), OutOfMemory>
     requires { IsSource source.now.text.now source.now.tokens.now }
-    ensures found { OnOk result (found.new.items ≡ found.old.items ++ found_in_member (bytes_at source.now.text.now source.now.tokens.now) names.old member.now) }
+    ensures found { OnOk result (found.new.items ≡ found.old.items ++ found_in_member (token_bytes source.now.text.now source.now.tokens.now) names.old member.now) }
     ensures names { OnOk result (names.new ≡ names.old) }
 {
     match member {
@@ -119,7 +119,7 @@ fn add_state(
     found: &mut Vec<Occurrence>,
 ) -> Result<(), OutOfMemory>
     requires { IsSource source.now.text.now source.now.tokens.now }
-    ensures { OnOk result (found.new.items ≡ found.old.items ++ found_in_state (bytes_at source.now.text.now source.now.tokens.now) members.now) }
+    ensures { OnOk result (found.new.items ≡ found.old.items ++ found_in_state (token_bytes source.now.text.now source.now.tokens.now) members.now) }
 {
     let mut names = Visible::new(source.alloc);
     enter(source, &declared_by_state(source, members)?, &mut names)?;
@@ -135,7 +135,7 @@ fn add_prototype(
     found: &mut Vec<Occurrence>,
 ) -> Result<(), OutOfMemory>
     requires { IsSource source.now.text.now source.now.tokens.now }
-    ensures { OnOk result (found.new.items ≡ found.old.items ++ flat_map (found_in_parameter (bytes_at source.now.text.now source.now.tokens.now) []) parameters.now) }
+    ensures { OnOk result (found.new.items ≡ found.old.items ++ flat_map (found_in_parameter (token_bytes source.now.text.now source.now.tokens.now) []) parameters.now) }
 {
     let names = Visible::new(source.alloc);
     for parameter in parameters {
@@ -151,7 +151,7 @@ fn add_parameter(
     found: &mut Vec<Occurrence>,
 ) -> Result<(), OutOfMemory>
     requires { IsSource source.now.text.now source.now.tokens.now }
-    ensures { OnOk result (found.new.items ≡ found.old.items ++ found_in_named (bytes_at source.now.text.now source.now.tokens.now) names.now parameter.now) }
+    ensures { OnOk result (found.new.items ≡ found.old.items ++ found_in_named (token_bytes source.now.text.now source.now.tokens.now) names.now parameter.now) }
 {
     if let Some(token) = parameter.name {
         found.push(declaration_at(source, names, false, token))?;
@@ -166,7 +166,7 @@ fn add_parameters(
     found: &mut Vec<Occurrence>,
 ) -> Result<(), OutOfMemory>
     requires { IsSource source.now.text.now source.now.tokens.now }
-    ensures { OnOk result (found.new.items ≡ found.old.items ++ flat_map (found_in_named (bytes_at source.now.text.now source.now.tokens.now) names.now) parameters.now) }
+    ensures { OnOk result (found.new.items ≡ found.old.items ++ flat_map (found_in_named (token_bytes source.now.text.now source.now.tokens.now) names.now) parameters.now) }
 {
     for parameter in parameters {
         add_parameter(source, names, parameter, found)?;
@@ -180,7 +180,7 @@ fn names_of_parameters<'a>(
     parameters: &[Parameter],
 ) -> Result<Visible<'a>, OutOfMemory>
     requires { IsSource source.now.text.now source.now.tokens.now }
-    ensures { IfOk result (λ names. names ≡ under_names (bytes_at source.now.text.now source.now.tokens.now) (flat_map declared_by_parameter parameters.now)) }
+    ensures { IfOk result (λ names. names ≡ under_names (token_bytes source.now.text.now source.now.tokens.now) (flat_map declared_by_parameter parameters.now)) }
 {
     let mut names = Visible::new(source.alloc);
     enter(
@@ -198,7 +198,7 @@ fn add_with_body(
     found: &mut Vec<Occurrence>,
 ) -> Result<(), OutOfMemory>
     requires { IsSource source.now.text.now source.now.tokens.now }
-    ensures { OnOk result (found.new.items ≡ found.old.items ++ found_with_body (bytes_at source.now.text.now source.now.tokens.now) parameters.now block.now) }
+    ensures { OnOk result (found.new.items ≡ found.old.items ++ found_with_body (token_bytes source.now.text.now source.now.tokens.now) parameters.now block.now) }
 {
     let mut names = names_of_parameters(source, parameters)?;
     add_parameters(source, &names, parameters, found)?;
@@ -211,7 +211,7 @@ fn add_function(
     found: &mut Vec<Occurrence>,
 ) -> Result<(), OutOfMemory>
     requires { IsSource source.now.text.now source.now.tokens.now }
-    ensures { OnOk result (found.new.items ≡ found.old.items ++ found_in_function (bytes_at source.now.text.now source.now.tokens.now) function.now.parameters function.now.body) }
+    ensures { OnOk result (found.new.items ≡ found.old.items ++ found_in_function (token_bytes source.now.text.now source.now.tokens.now) function.now.parameters function.now.body) }
 {
     match &function.body {
         Some(block) => {
@@ -232,7 +232,7 @@ fn add_struct(
     found: &mut Vec<Occurrence>,
 ) -> Result<(), OutOfMemory>
     requires { IsSource source.now.text.now source.now.tokens.now }
-    ensures { OnOk result (found.new.items ≡ found.old.items ++ flat_map (found_in_struct_member (bytes_at source.now.text.now source.now.tokens.now)) members.now) }
+    ensures { OnOk result (found.new.items ≡ found.old.items ++ flat_map (found_in_struct_member (token_bytes source.now.text.now source.now.tokens.now)) members.now) }
 {
     let names = Visible::new(source.alloc);
     for member in members {
@@ -250,7 +250,7 @@ fn add_struct(
 #[tactic(auto, unfolding(crate::specs::Items::occurrences))]
 pub fn occurrences(source: &Source, tree: &Item) -> Result<Vec<Occurrence>, OutOfMemory>
     requires { IsSource source.now.text.now source.now.tokens.now }
-    ensures { IfOk result (λ v. v.items ≡ occurrences (bytes_at source.now.text.now source.now.tokens.now) tree.now) }
+    ensures { IfOk result (λ v. v.items ≡ occurrences (token_bytes source.now.text.now source.now.tokens.now) tree.now) }
 {
     let mut found = Vec::new(source.alloc);
     let mut names = Visible::new(source.alloc);

@@ -10,7 +10,7 @@ ghost use Rattle.snl_syntax.specs.declared.tree.item.Function.{Function};
 ghost use Rattle.snl_syntax.specs.declared.tree.item.Item.{Item};
 ghost use Rattle.snl_syntax.specs.declared.tree.item.Item.TheVariants as items;
 ghost use Rattle.snl_walk.specs.declared.occurrence.Occurrence.{Occurrence};
-ghost use Rattle.snl_walk.specs.declared.outlook.Outer.{Outer};
+ghost use Rattle.snl_walk.specs.declared.other_items.Outer.{Outer};
 ghost use Rattle.snl_walk.specs.Codes.{is_rule_code};
 ghost use Rattle.snl_walk.specs.Items.{occurrences, tokens_of};
 ghost use Rattle.snl_walk.specs.Options.{letters_in};

@@ -10,7 +10,7 @@ mod items;
 mod laws;
 mod name_set;
 mod occurrence;
-mod outlook;
+mod other_items;
 mod rules;
 mod source;
 mod statements;
@@ -27,7 +27,7 @@ pub use laws::{
 };
 pub use name_set::NameSet;
 pub use occurrence::{Asked, Follows, Local, Manner, Occurrence, What};
-pub use outlook::{Outer, Outlook};
+pub use other_items::{OtherItems, Outer};
 pub use rules::{Finding, findings};
 pub use source::Source;
 pub use used::{TargetUse, WakeUse, target_uses, targets, uses, wake_uses};

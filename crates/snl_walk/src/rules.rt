@@ -5,11 +5,11 @@ ghost use Rattle.std.specs.List.{flat_map};
 ghost use Rattle.snl_walk.specs.declared.codes.Code.{Code};
 ghost use Rattle.snl_walk.specs.Passing.{lacks_channel, lacks_flag, passes};
 ghost use Rattle.snl_walk.specs.Rules.{asks_channel, asks_flag, finding, findings, found_wrong, is_nothing, is_repeated, rules_at, rules_at_call, rules_at_name, rules_at_use, when};
-ghost use Rattle.snl_walk.specs.Tokens.{IsSource, bytes_at};
+ghost use Rattle.snl_walk.specs.Tokens.{IsSource, token_bytes};
 
 use crate::codes::Code;
 use crate::occurrence::{Asked, Follows, Local, Manner, Occurrence, What};
-use crate::outlook::{Outer, Outlook};
+use crate::other_items::{OtherItems, Outer};
 use crate::source::Source;
 use crate::undeclared::undeclared;
 use crate::used::is_call;
@@ -50,15 +50,15 @@ fn asks_channel(asked: Asked) -> bool
 }
 
 /// What a name passes for, which may resolve to a declaration in the item.
-pub(crate) fn passes<O: Outlook>(outlook: &O, name: &[u8], means: Option<Local>) -> Option<Outer>
-    ensures { result ≡ passes (O.outer_of outlook.now) name.now means }
+pub(crate) fn passes<O: OtherItems>(others: &O, name: &[u8], means: Option<Local>) -> Option<Outer>
+    ensures { result ≡ passes (O.outer_of others.now) name.now means }
 {
     match means {
         Some(local) => Some(Outer {
             flag: local.flag,
             channel: local.channel,
         }),
-        None => outlook.outer(name),
+        None => others.outer(name),
     }
 }
 
@@ -141,13 +141,13 @@ fn add_at_name(
 }
 
 // Adds what is found wrong at an occurrence, where this is at its token.
-fn add_at<O: Outlook>(
-    outlook: &O,
+fn add_at<O: OtherItems>(
+    others: &O,
     name: &[u8],
     occurrence: Occurrence,
     findings: &mut Vec<Finding>,
 ) -> Result<(), OutOfMemory>
-    ensures { OnOk result (findings.new.items ≡ findings.old.items ++ map (finding occurrence.token) (rules_at (O.outer_of outlook.now) (O.misses outlook.now) name.now occurrence occurrence.what)) }
+    ensures { OnOk result (findings.new.items ≡ findings.old.items ++ map (finding occurrence.token) (rules_at (O.outer_of others.now) (O.misses others.now) name.now occurrence occurrence.what)) }
 {
     let token = occurrence.token;
     match occurrence.what {
@@ -159,29 +159,29 @@ fn add_at<O: Outlook>(
         What::Change { in_transition } => { add_when(!in_transition, token, Code::E18, findings) }
         What::Jump { in_loop } => add_when(!in_loop, token, Code::E19, findings),
         What::Target => {
-            let is_missing = outlook.misses_state(name);
+            let is_missing = others.misses_state(name);
             add_when(is_missing, token, Code::E10, findings)
         }
         What::Name(manner) => {
-            let passes = passes(outlook, name, occurrence.means);
+            let passes = passes(others, name, occurrence.means);
             add_at_name(token, name, passes, manner, findings)
         }
     }
 }
 
 // Adds what is found wrong at each occurrence by itself.
-fn add_each<O: Outlook>(
+fn add_each<O: OtherItems>(
     source: &Source,
-    outlook: &O,
+    others: &O,
     found: &[Occurrence],
     findings: &mut Vec<Finding>,
 ) -> Result<(), OutOfMemory>
     requires { IsSource source.now.text.now source.now.tokens.now }
-    ensures { OnOk result (findings.new.items ≡ findings.old.items ++ flat_map (found_wrong (bytes_at source.now.text.now source.now.tokens.now) (O.outer_of outlook.now) (O.misses outlook.now)) found.now) }
+    ensures { OnOk result (findings.new.items ≡ findings.old.items ++ flat_map (found_wrong (token_bytes source.now.text.now source.now.tokens.now) (O.outer_of others.now) (O.misses others.now)) found.now) }
 {
     for occurrence in found {
         let name = source.bytes(occurrence.token);
-        add_at(outlook, name, *occurrence, findings)?;
+        add_at(others, name, *occurrence, findings)?;
     }
     Ok(())
 }
@@ -201,16 +201,16 @@ fn add_undeclared(tokens: &[usize], findings: &mut Vec<Finding>) -> Result<(), O
 /// What is found wrong at the occurrences of an item, where the other items say this of its names: what is wrong at each by
 /// itself, in the order of the text, and then the first use of each name that nothing declares.
 #[tactic(auto, unfolding(crate::specs::Rules::findings))]
-pub fn findings<O: Outlook>(
+pub fn findings<O: OtherItems>(
     source: &Source,
-    outlook: &O,
+    others: &O,
     found: &[Occurrence],
 ) -> Result<Vec<Finding>, OutOfMemory>
     requires { IsSource source.now.text.now source.now.tokens.now }
-    ensures { IfOk result (λ v. v.items ≡ findings (bytes_at source.now.text.now source.now.tokens.now) (O.outer_of outlook.now) (O.misses outlook.now) found.now) }
+    ensures { IfOk result (λ v. v.items ≡ findings (token_bytes source.now.text.now source.now.tokens.now) (O.outer_of others.now) (O.misses others.now) found.now) }
 {
     let mut findings = Vec::new(source.alloc);
-    add_each(source, outlook, found, &mut findings)?;
-    add_undeclared(&undeclared(source, outlook, found)?, &mut findings)?;
+    add_each(source, others, found, &mut findings)?;
+    add_undeclared(&undeclared(source, others, found)?, &mut findings)?;
     Ok(findings)
 }

@@ -1,7 +1,7 @@
 //! The tokens of an item, by their numbers: a number comes in, the bytes of its token go out.
 
 ghost use Rattle.std.specs.Prelude.{◌≡◌, ◌+◌};
-ghost use Rattle.snl_walk.specs.Tokens.{IsSource, bytes_at, value_at};
+ghost use Rattle.snl_walk.specs.Tokens.{IsSource, token_bytes, value_at};
 
 use snl_lex::{Piece, int_value, token_text};
 use std::alloc::Global;
@@ -16,10 +16,10 @@ pub struct Source<'a> {
 
 impl<'a> Source<'a> {
     /// The bytes of a token; none, where there is no token of this number.
-    #[tactic(auto, unfolding(crate::specs::Tokens::bytes_at))]
+    #[tactic(auto, unfolding(crate::specs::Tokens::token_bytes))]
     pub fn bytes(&self, number: usize) -> &'a [u8]
         requires { IsSource self.now.text.now self.now.tokens.now }
-        ensures { result.now ≡ bytes_at self.now.text.now self.now.tokens.now number }
+        ensures { result.now ≡ token_bytes self.now.text.now self.now.tokens.now number }
     {
         match self.tokens.get(number) {
             Some(piece) => token_text(self.text, *piece),
@@ -36,10 +36,10 @@ impl<'a> Source<'a> {
     }
 
     /// The bytes of the token so many tokens after another.
-    #[tactic(auto, unfolding(crate::specs::Tokens::bytes_at))]
+    #[tactic(auto, unfolding(crate::specs::Tokens::token_bytes))]
     pub(crate) fn bytes_after(&self, number: usize, distance: usize) -> &'a [u8]
         requires { IsSource self.now.text.now self.now.tokens.now }
-        ensures { result.now ≡ bytes_at self.now.text.now self.now.tokens.now (number + distance) }
+        ensures { result.now ≡ token_bytes self.now.text.now self.now.tokens.now (number + distance) }
     {
         match number.checked_add(distance) {
             Some(number) => self.bytes(number),

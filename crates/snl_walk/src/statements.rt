@@ -1,7 +1,7 @@
 //! What is found in the statements of an item: a tree comes in, occurrences go out, in the order of the text.
 
 ghost use Rattle.std.specs.Prelude.{◌≡◌, ◌++◌, IfOk, OnOk};
-ghost use Rattle.snl_walk.specs.Tokens.{IsSource, bytes_at};
+ghost use Rattle.snl_walk.specs.Tokens.{IsSource, token_bytes};
 ghost use Rattle.snl_walk.specs.Statements.{change, content_of, declaration_at, found_in_block, found_in_declaration, found_in_declarator, found_in_head, found_in_stmt, has_more, in_loop, jump};
 ghost use Rattle.snl_walk.specs.Scopes.{under_names};
 
@@ -21,7 +21,7 @@ pub(crate) fn enter<'a>(
     names: &mut Visible<'a>,
 ) -> Result<(), OutOfMemory>
     requires { IsSource source.now.text.now source.now.tokens.now }
-    ensures { OnOk result (names.new ≡ under_names (bytes_at source.now.text.now source.now.tokens.now) declared.now ++ names.old) }
+    ensures { OnOk result (names.new ≡ under_names (token_bytes source.now.text.now source.now.tokens.now) declared.now ++ names.old) }
 {
     let mut left = declared.len();
     while left > 0 {
@@ -47,7 +47,7 @@ pub(crate) fn declaration_at(
     token: usize,
 ) -> Occurrence
     requires { IsSource source.now.text.now source.now.tokens.now }
-    ensures { result ≡ declaration_at (bytes_at source.now.text.now source.now.tokens.now) names.now is_wrong token }
+    ensures { result ≡ declaration_at (token_bytes source.now.text.now source.now.tokens.now) names.now is_wrong token }
 {
     Occurrence {
         token,
@@ -66,7 +66,7 @@ fn add_declarator(
     found: &mut Vec<Occurrence>,
 ) -> Result<(), OutOfMemory>
     requires { IsSource source.now.text.now source.now.tokens.now }
-    ensures { OnOk result (found.new.items ≡ found.old.items ++ found_in_declarator (bytes_at source.now.text.now source.now.tokens.now) names.now is_flag in_block declarator.now) }
+    ensures { OnOk result (found.new.items ≡ found.old.items ++ found_in_declarator (token_bytes source.now.text.now source.now.tokens.now) names.now is_flag in_block declarator.now) }
 {
     let is_wrong = is_flag && (in_block || has_more(declarator));
     found.push(declaration_at(source, names, is_wrong, declarator.name))?;
@@ -83,7 +83,7 @@ pub(crate) fn add_declaration(
     found: &mut Vec<Occurrence>,
 ) -> Result<(), OutOfMemory>
     requires { IsSource source.now.text.now source.now.tokens.now }
-    ensures { OnOk result (found.new.items ≡ found.old.items ++ found_in_declaration (bytes_at source.now.text.now source.now.tokens.now) names.now in_block declaration.now) }
+    ensures { OnOk result (found.new.items ≡ found.old.items ++ found_in_declaration (token_bytes source.now.text.now source.now.tokens.now) names.now in_block declaration.now) }
 {
     let is_flag = is_event_flag(declaration.of.base);
     for declarator in declaration.declarators.as_slice() {
@@ -100,7 +100,7 @@ fn add_head(
     found: &mut Vec<Occurrence>,
 ) -> Result<(), OutOfMemory>
     requires { IsSource source.now.text.now source.now.tokens.now }
-    ensures { OnOk result (found.new.items ≡ found.old.items ++ found_in_head (bytes_at source.now.text.now source.now.tokens.now) names.now head.now) }
+    ensures { OnOk result (found.new.items ≡ found.old.items ++ found_in_head (token_bytes source.now.text.now source.now.tokens.now) names.now head.now) }
 {
     add_optional(source, names, false, &head.first, found)?;
     add_optional(source, names, false, &head.condition, found)?;
@@ -164,7 +164,7 @@ fn add_statement<'a>(
     found: &mut Vec<Occurrence>,
 ) -> Result<(), OutOfMemory>
     requires { IsSource source.now.text.now source.now.tokens.now }
-    ensures found { OnOk result (found.new.items ≡ found.old.items ++ found_in_stmt (bytes_at source.now.text.now source.now.tokens.now) statement.now names.old place) }
+    ensures found { OnOk result (found.new.items ≡ found.old.items ++ found_in_stmt (token_bytes source.now.text.now source.now.tokens.now) statement.now names.old place) }
     ensures names { OnOk result (names.new ≡ names.old) }
 {
     match statement {
@@ -212,7 +212,7 @@ fn add_content<'a>(
     found: &mut Vec<Occurrence>,
 ) -> Result<(), OutOfMemory>
     requires { IsSource source.now.text.now source.now.tokens.now }
-    ensures found { OnOk result (found.new.items ≡ found.old.items ++ (content_of (bytes_at source.now.text.now source.now.tokens.now) member.now).found names.old place) }
+    ensures found { OnOk result (found.new.items ≡ found.old.items ++ (content_of (token_bytes source.now.text.now source.now.tokens.now) member.now).found names.old place) }
     ensures names { OnOk result (names.new ≡ names.old) }
 {
     match member {
@@ -233,7 +233,7 @@ pub(crate) fn add_block<'a>(
     found: &mut Vec<Occurrence>,
 ) -> Result<(), OutOfMemory>
     requires { IsSource source.now.text.now source.now.tokens.now }
-    ensures found { OnOk result (found.new.items ≡ found.old.items ++ found_in_block (bytes_at source.now.text.now source.now.tokens.now) members.now names.old place) }
+    ensures found { OnOk result (found.new.items ≡ found.old.items ++ found_in_block (token_bytes source.now.text.now source.now.tokens.now) members.now names.old place) }
     ensures names { OnOk result (names.new ≡ names.old) }
 {
     let declared = declared_by_block(source, members)?;

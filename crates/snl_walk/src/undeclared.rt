@@ -2,11 +2,11 @@
 
 ghost use Rattle.std.specs.Prelude.{◌≡◌, IfOk};
 ghost use Rattle.snl_walk.specs.Undeclared.{is_built_in, is_channel_constant, is_constant, is_undeclared, undeclared};
-ghost use Rattle.snl_walk.specs.Tokens.{IsSource, bytes_at};
+ghost use Rattle.snl_walk.specs.Tokens.{IsSource, token_bytes};
 
 use crate::name_set::NameSet;
 use crate::occurrence::Occurrence;
-use crate::outlook::Outlook;
+use crate::other_items::OtherItems;
 use crate::rules::passes;
 use crate::source::Source;
 use crate::used::is_use;
@@ -34,28 +34,28 @@ fn is_built_in(name: &[u8]) -> bool
     is_constant(name) || is_channel_constant(name)
 }
 
-fn is_undeclared<O: Outlook>(outlook: &O, name: &[u8], occurrence: Occurrence) -> bool
-    ensures { result ≡ is_undeclared (O.outer_of outlook.now) name.now occurrence }
+fn is_undeclared<O: OtherItems>(others: &O, name: &[u8], occurrence: Occurrence) -> bool
+    ensures { result ≡ is_undeclared (O.outer_of others.now) name.now occurrence }
 {
     is_use(occurrence.what)
-        && passes(outlook, name, occurrence.means).is_none()
+        && passes(others, name, occurrence.means).is_none()
         && !is_built_in(name)
 }
 
 /// The first use of each name that nothing declares, in the item or outside.
-pub(crate) fn undeclared<O: Outlook>(
+pub(crate) fn undeclared<O: OtherItems>(
     source: &Source,
-    outlook: &O,
+    others: &O,
     found: &[Occurrence],
 ) -> Result<Vec<usize>, OutOfMemory>
     requires { IsSource source.now.text.now source.now.tokens.now }
-    ensures { IfOk result (λ v. v.items ≡ undeclared (bytes_at source.now.text.now source.now.tokens.now) (O.outer_of outlook.now) found.now) }
+    ensures { IfOk result (λ v. v.items ≡ undeclared (token_bytes source.now.text.now source.now.tokens.now) (O.outer_of others.now) found.now) }
 {
     let mut names = NameSet::new(source.alloc);
     let mut firsts = Vec::new(source.alloc);
     for occurrence in found {
         let name = source.bytes(occurrence.token);
-        if is_undeclared(outlook, name, *occurrence) {
+        if is_undeclared(others, name, *occurrence) {
             if names.add(name)? {
                 firsts.push(occurrence.token)?;
             }

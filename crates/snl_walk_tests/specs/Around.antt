@@ -1,7 +1,7 @@
 -- What the tests take for declared around an item.
 use Rattle.std.specs.Prelude.{ℕ, Bool, true, false, not, if◌then◌else◌, codes, List, Option, Some, None}
 use Rattle.std.specs.Str.{bytes_eq}
-use Rattle.snl_walk.specs.declared.outlook.Outer.{Outer}
+use Rattle.snl_walk.specs.declared.other_items.Outer.{Outer}
 
 abbrev pub passing : Bool → Bool → Option Outer
 passing flag channel = Some (record { flag = flag; channel = channel })

@@ -8,7 +8,7 @@ use snl_cut::Count;
 use snl_lex::Piece;
 use snl_reading::tokens_of;
 use snl_syntax::parse_item;
-use snl_walk::{Finding, Outer, Outlook, Source, findings, occurrences};
+use snl_walk::{Finding, OtherItems, Outer, Source, findings, occurrences};
 use std::alloc::Global;
 use std::test::Fail;
 
@@ -22,7 +22,7 @@ fn passing(flag: bool, channel: bool) -> Option<Outer>
     Some(Outer { flag, channel })
 }
 
-impl Outlook for Around {
+impl OtherItems for Around {
     ghost outer_of = { λ s name. outer_of name };
 
     ghost misses = { λ s name. misses name };

@@ -13,9 +13,9 @@ ghost use Rattle.snl_check.specs.Collected.{IsLinked, IsOutline, items_in};
 ghost use Rattle.snl_check.specs.Members.{has_faulty, is_faulty_item, is_first_state, name_of_state, number_among, states_in, target_numbers, targets_among};
 ghost use Rattle.snl_check.specs.Reach.{target_lists};
 
-use crate::rows::listing::Listing;
 use crate::rows::outline::Outline;
 use crate::rows::room::with_room;
+use crate::rows::row_source::RowSource;
 use snl_cut::OutOfMemory;
 use snl_lex::{Class, Piece, token_text};
 use snl_scope::{Links, sets_open_in_turn};
@@ -56,7 +56,7 @@ fn name_in<'a>(text: &'a [u8], tokens: &'a [Piece]) -> Option<&'a [u8]>
 }
 
 // The name of an item that is a state.
-fn name_of_state<'a>(listing: &Listing<'a>, item: usize) -> Option<&'a [u8]>
+fn name_of_state<'a>(listing: &RowSource<'a>, item: usize) -> Option<&'a [u8]>
     requires { IsLinked listing.now }
     ensures { option_copied result ≡ name_of_state listing.now.links.now.outlines item }
 {
@@ -65,7 +65,7 @@ fn name_of_state<'a>(listing: &Listing<'a>, item: usize) -> Option<&'a [u8]>
 }
 
 /// Whether an item is faulty.
-pub(crate) fn is_faulty(listing: &Listing, item: usize) -> bool
+pub(crate) fn is_faulty(listing: &RowSource, item: usize) -> bool
     requires linked { IsLinked listing.now }
     requires item { item < length listing.now.program.trees.now }
     ensures { result ≡ is_faulty_item (items_in listing.now.program) item }
@@ -77,8 +77,8 @@ pub(crate) fn is_faulty(listing: &Listing, item: usize) -> bool
 fn stands_in(links: &Links, set: usize, item: usize) -> bool
     ensures { result ≡ stands_in links.now.outlines set item }
 {
-    match links.place(item) {
-        Some(place) => set == place,
+    match links.enclosing_set(item) {
+        Some(enclosing) => set == enclosing,
         None => false,
     }
 }
@@ -101,7 +101,7 @@ fn end_of(links: &Links, set: usize, count: usize) -> usize
 }
 
 /// What is in the state set that an item begins.
-pub(crate) fn members_of(listing: &Listing, set: usize) -> Result<Members, OutOfMemory>
+pub(crate) fn members_of(listing: &RowSource, set: usize) -> Result<Members, OutOfMemory>
     requires linked { IsLinked listing.now }
     requires set { set < length listing.now.program.trees.now }
     ensures states { IfOk result (λ m. m.states.items ≡ states_in listing.now.links.now.outlines set) }
@@ -189,7 +189,7 @@ fn is_first_of(links: &Links, state: usize, name: &[u8]) -> bool
 }
 
 /// Whether a state is the first of its name in its set.
-pub(crate) fn is_first_state(listing: &Listing, state: usize) -> bool
+pub(crate) fn is_first_state(listing: &RowSource, state: usize) -> bool
     requires { IsLinked listing.now }
     ensures { result ≡ is_first_state listing.now.links.now.outlines state }
 {

@@ -8,7 +8,7 @@ ghost use Rattle.snl_check.specs.States as states;
 ghost use Rattle.snl_check.specs.Told.{by_statements, told_in_item};
 
 use crate::rows::option_rows::state_options;
-use crate::rows::program::span_of;
+use crate::rows::text_items::span_of;
 use snl_cut::OutOfMemory;
 use snl_lex::Piece;
 use snl_scope::Links;

@@ -2,21 +2,21 @@
 
 ghost use Rattle.std.specs.Prelude.{◌≡◌, ◌++◌, ◌∷◌, [], IfOk, OnOk, map};
 ghost use Rattle.snl_check.specs.Channels.{variables_before};
-ghost use Rattle.snl_check.specs.Collected.{IsListing, assigned, items_in};
+ghost use Rattle.snl_check.specs.Collected.{IsRowSource, assigned, items_in};
 ghost use Rattle.snl_check.specs.Tables.{channel_row};
 
 use crate::rows::channel_names::joined;
 use crate::rows::channels::AssignedChannel;
-use crate::rows::listing::Listing;
 use crate::rows::room::with_room;
+use crate::rows::row_source::RowSource;
 use crate::rows::syncs::sync_of;
 use snl_cut::OutOfMemory;
 use snl_tables::ChannelRow;
 use sqlite_items::Items;
 use std::alloc::Global;
 
-fn channel_row(listing: &Listing, channel: AssignedChannel) -> Result<ChannelRow, OutOfMemory>
-    requires { IsListing listing.now }
+fn channel_row(listing: &RowSource, channel: AssignedChannel) -> Result<ChannelRow, OutOfMemory>
+    requires { IsRowSource listing.now }
     ensures { IfOk result (λ row. row ≡ channel_row listing.now.program.text.now (items_in listing.now.program) listing.now.links.now.outlines (assigned channel.entry)) }
 {
     Ok(ChannelRow {
@@ -33,10 +33,10 @@ fn channel_row(listing: &Listing, channel: AssignedChannel) -> Result<ChannelRow
 
 /// The rows of channels.
 pub(crate) fn channel_rows(
-    listing: &Listing,
+    listing: &RowSource,
     channels: &[AssignedChannel],
 ) -> Result<Vec<ChannelRow>, OutOfMemory>
-    requires { IsListing listing.now }
+    requires { IsRowSource listing.now }
     ensures { IfOk result (λ rows. rows.items
         ≡ map (channel_row listing.now.program.text.now (items_in listing.now.program) listing.now.links.now.outlines) (map assigned channels.now)) }
 {

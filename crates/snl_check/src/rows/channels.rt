@@ -2,11 +2,11 @@
 
 ghost use Rattle.std.specs.Prelude.{◌≡◌, ◌++◌, IfOk, OnOk, map};
 ghost use Rattle.snl_check.specs.Channels.{assigned_channel, assigned_channels, by_element, channels_in, channels_of_clause};
-ghost use Rattle.snl_check.specs.Collected.{IsListing, assigned, items_in, told};
+ghost use Rattle.snl_check.specs.Collected.{IsRowSource, assigned, items_in, told};
 ghost use Rattle.snl_check.specs.Items.{tokens_in};
 
 use crate::rows::item_clauses::ToldClause;
-use crate::rows::listing::Listing;
+use crate::rows::row_source::RowSource;
 use snl_cut::OutOfMemory;
 use snl_syntax::tree::clause::{Channel, Clause};
 use sqlite_items::Items;
@@ -61,12 +61,12 @@ fn add_list<'a>(
 
 // Adds the channels that an `assign` names.
 fn add_channels<'a>(
-    listing: &Listing<'a>,
+    listing: &RowSource<'a>,
     assign: Assign,
     channel: &'a Channel,
     channels: &mut Vec<AssignedChannel<'a>>,
 ) -> Result<(), OutOfMemory>
-    requires { IsListing listing.now }
+    requires { IsRowSource listing.now }
     ensures { OnOk result (map assigned channels.new.items
         ≡ map assigned channels.old.items ++ map (assigned_channel assign.item assign.token assign.variable)
         (channels_in listing.now.program.text.now (tokens_in (items_in listing.now.program) assign.item) channel.now)) }
@@ -94,11 +94,11 @@ fn add_channels<'a>(
 
 // Adds the channels of a clause: a sound `assign` has them.
 fn add_clause<'a>(
-    listing: &Listing<'a>,
+    listing: &RowSource<'a>,
     clause: ToldClause<'a>,
     channels: &mut Vec<AssignedChannel<'a>>,
 ) -> Result<(), OutOfMemory>
-    requires { IsListing listing.now }
+    requires { IsRowSource listing.now }
     ensures { OnOk result (map assigned channels.new.items
         ≡ map assigned channels.old.items ++ channels_of_clause listing.now.program.text.now (items_in listing.now.program) (told clause.entry)) }
 {
@@ -120,9 +120,9 @@ fn add_clause<'a>(
 
 /// The channels in the order of the text.
 pub(crate) fn assigned_channels<'a>(
-    listing: &Listing<'a>,
+    listing: &RowSource<'a>,
 ) -> Result<Vec<AssignedChannel<'a>>, OutOfMemory>
-    requires { IsListing listing.now }
+    requires { IsRowSource listing.now }
     ensures { IfOk result (λ channels. map assigned channels.items
         ≡ assigned_channels listing.now.program.text.now (items_in listing.now.program) listing.now.links.now.outlines) }
 {

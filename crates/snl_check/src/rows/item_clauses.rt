@@ -4,9 +4,9 @@
 ghost use Rattle.std.specs.Prelude.{◌≡◌, ◌++◌, IfOk, OnOk, map, option_copied};
 ghost use Rattle.std.specs.List.{flat_map};
 ghost use Rattle.snl_check.specs.Clauses.{clause_in_member, clauses_in_tree, item_clause, item_clauses, item_clauses_if, told_clauses};
-ghost use Rattle.snl_check.specs.Collected.{IsProgram, items_in, placed, told};
+ghost use Rattle.snl_check.specs.Collected.{AreTextItems, items_in, placed, told};
 
-use crate::rows::program::Program;
+use crate::rows::text_items::TextItems;
 use snl_cut::OutOfMemory;
 use snl_scope::{ClauseLink, Links};
 use snl_syntax::tree::clause::Clause;
@@ -68,8 +68,8 @@ fn add_item<'a>(
 }
 
 // The clauses of all items, in the order of the text.
-fn item_clauses<'a>(program: &Program<'a>) -> Result<Vec<Placed<'a>>, OutOfMemory>
-    requires { IsProgram program.now }
+fn item_clauses<'a>(program: &TextItems<'a>) -> Result<Vec<Placed<'a>>, OutOfMemory>
+    requires { AreTextItems program.now }
     ensures { IfOk result (λ clauses. map placed clauses.items ≡ item_clauses (items_in program.now)) }
 {
     let mut clauses = Vec::new(program.alloc);
@@ -81,10 +81,10 @@ fn item_clauses<'a>(program: &Program<'a>) -> Result<Vec<Placed<'a>>, OutOfMemor
 
 /// The clauses of all items, in the order of the text, each with what links tell of it.
 pub(crate) fn told_clauses<'a>(
-    program: &Program<'a>,
+    program: &TextItems<'a>,
     links: &Links,
 ) -> Result<Vec<ToldClause<'a>>, OutOfMemory>
-    requires { IsProgram program.now }
+    requires { AreTextItems program.now }
     ensures { IfOk result (λ clauses. map told clauses.items ≡ told_clauses (items_in program.now) links.now.outlines) }
 {
     let placed = item_clauses(program)?;

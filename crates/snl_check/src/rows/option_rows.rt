@@ -2,12 +2,12 @@
 
 ghost use Rattle.std.specs.Prelude.{◌≡◌, ◌++◌, IfOk, OnOk, map, option_map};
 ghost use Rattle.std.specs.List.{flat_map};
-ghost use Rattle.snl_walk.specs.Tokens.{IsSource, bytes_at};
-ghost use Rattle.snl_check.specs.Collected.{IsListing, items_in};
+ghost use Rattle.snl_walk.specs.Tokens.{IsSource, token_bytes};
+ghost use Rattle.snl_check.specs.Collected.{IsRowSource, items_in};
 ghost use Rattle.snl_check.specs.SettingTrees.{told};
 ghost use Rattle.snl_check.specs.Settings.{last_setting, option_rows, program_options, program_settings, setting_at, setting_of, settings_in_member, state_options};
 
-use crate::rows::listing::Listing;
+use crate::rows::row_source::RowSource;
 use crate::rules::options::is_on;
 use crate::rules::view::View;
 use snl_cut::OutOfMemory;
@@ -33,7 +33,7 @@ struct LetterSetting<'a> {
 
 fn setting_of<'a>(source: &Source<'a>, line: OptionLine) -> LetterSetting<'a>
     requires { IsSource source.now.text.now source.now.tokens.now }
-    ensures { told result ≡ setting_of (bytes_at source.now.text.now source.now.tokens.now) line }
+    ensures { told result ≡ setting_of (token_bytes source.now.text.now source.now.tokens.now) line }
 {
     LetterSetting {
         letters: source.bytes(line.letters),
@@ -75,8 +75,8 @@ fn option_rows(
 }
 
 // What an item sets for the program.
-fn setting_at<'a>(listing: &Listing<'a>, item: usize) -> Option<LetterSetting<'a>>
-    requires { IsListing listing.now }
+fn setting_at<'a>(listing: &RowSource<'a>, item: usize) -> Option<LetterSetting<'a>>
+    requires { IsRowSource listing.now }
     ensures { option_map told result ≡ setting_at listing.now.program.text.now (items_in listing.now.program) listing.now.links.now.outlines item }
 {
     let view = View {
@@ -92,8 +92,8 @@ fn setting_at<'a>(listing: &Listing<'a>, item: usize) -> Option<LetterSetting<'a
     }
 }
 
-fn program_settings<'a>(listing: &Listing<'a>) -> Result<Vec<LetterSetting<'a>>, OutOfMemory>
-    requires { IsListing listing.now }
+fn program_settings<'a>(listing: &RowSource<'a>) -> Result<Vec<LetterSetting<'a>>, OutOfMemory>
+    requires { IsRowSource listing.now }
     ensures { IfOk result (λ settings. map told settings.items
         ≡ program_settings listing.now.program.text.now (items_in listing.now.program) listing.now.links.now.outlines) }
 {
@@ -107,8 +107,8 @@ fn program_settings<'a>(listing: &Listing<'a>) -> Result<Vec<LetterSetting<'a>>,
 }
 
 /// The options of a program.
-pub(crate) fn program_options(listing: &Listing) -> Result<Vec<OptionRow>, OutOfMemory>
-    requires { IsListing listing.now }
+pub(crate) fn program_options(listing: &RowSource) -> Result<Vec<OptionRow>, OutOfMemory>
+    requires { IsRowSource listing.now }
     ensures { IfOk result (λ rows. rows.items
         ≡ program_options listing.now.program.text.now (items_in listing.now.program) listing.now.links.now.outlines) }
 {
@@ -124,7 +124,7 @@ fn add_settings<'a>(
 ) -> Result<(), OutOfMemory>
     requires { IsSource source.now.text.now source.now.tokens.now }
     ensures { OnOk result (map told settings.new.items
-        ≡ map told settings.old.items ++ flat_map (settings_in_member (bytes_at source.now.text.now source.now.tokens.now)) members.now) }
+        ≡ map told settings.old.items ++ flat_map (settings_in_member (token_bytes source.now.text.now source.now.tokens.now)) members.now) }
 {
     for member in members {
         if let StateMember::OptionLine(line) = member {
@@ -140,7 +140,7 @@ pub(crate) fn state_options(
     members: &[StateMember],
 ) -> Result<Vec<OptionRow>, OutOfMemory>
     requires { IsSource source.now.text.now source.now.tokens.now }
-    ensures { IfOk result (λ rows. rows.items ≡ state_options (bytes_at source.now.text.now source.now.tokens.now) members.now) }
+    ensures { IfOk result (λ rows. rows.items ≡ state_options (token_bytes source.now.text.now source.now.tokens.now) members.now) }
 {
     let mut settings = Vec::new(source.alloc);
     add_settings(source, members, &mut settings)?;

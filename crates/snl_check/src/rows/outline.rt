@@ -4,7 +4,7 @@
 ghost use Rattle.std.specs.Prelude.{◌≡◌};
 
 use crate::rows::channel_numbers::ChannelNumbers;
-use crate::rows::listing::Listing;
+use crate::rows::row_source::RowSource;
 use crate::rules::findings::Checked;
 use snl_lex::{Line, LineList};
 use snl_walk::{TargetUse, WakeUse};
@@ -12,7 +12,7 @@ use snl_walk::{TargetUse, WakeUse};
 /// The items of a text, its lines, what the check of each item gave that isn't faulty, and the numbers of channels.
 #[derive(Clone, Copy)]
 pub(crate) struct Outline<'a> {
-    pub listing: Listing<'a>,
+    pub listing: RowSource<'a>,
     pub lines: &'a LineList,
     pub checked: &'a [Option<&'a Checked>],
     pub numbers: &'a ChannelNumbers,

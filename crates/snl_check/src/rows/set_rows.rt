@@ -5,15 +5,15 @@ ghost use Rattle.snl_scope.specs.Places.{is_set_begin};
 ghost use Rattle.snl_check.specs.Collected.{IsLinked, IsOutline, items_in};
 ghost use Rattle.snl_check.specs.States.{set_row, set_rows};
 
-use crate::rows::listing::Listing;
 use crate::rows::outline::Outline;
+use crate::rows::row_source::RowSource;
 use crate::rows::state_rows::state_rows;
 use snl_cut::OutOfMemory;
 use snl_syntax::tree::item::Item;
 use snl_tables::{Rows, SetRow};
 
 // Whether an item begins a state set.
-fn begins_set(listing: &Listing, item: usize) -> bool
+fn begins_set(listing: &RowSource, item: usize) -> bool
     requires { IsLinked listing.now }
     ensures { result ≡ is_set_begin listing.now.links.now.outlines item }
 {

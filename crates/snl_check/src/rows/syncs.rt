@@ -3,11 +3,11 @@
 ghost use Rattle.std.specs.Prelude.{◌≡◌, option_and_then};
 ghost use Rattle.snl_scope.specs.Flags.{flag_number};
 ghost use Rattle.snl_walk.specs.Tokens.{IsSource};
-ghost use Rattle.snl_check.specs.Collected.{IsListing, items_in, told};
+ghost use Rattle.snl_check.specs.Collected.{IsRowSource, items_in, told};
 ghost use Rattle.snl_check.specs.Tables as tables;
 
 use crate::rows::item_clauses::ToldClause;
-use crate::rows::listing::Listing;
+use crate::rows::row_source::RowSource;
 use snl_scope::Links;
 use snl_syntax::tree::clause::Clause;
 use snl_tables::{Queue, Synced};
@@ -32,8 +32,8 @@ fn flag_number(links: &Links, flag: Option<usize>) -> Option<usize>
 }
 
 // How a clause syncs what it speaks of.
-fn synced(listing: &Listing, clause: ToldClause) -> Option<Synced>
-    requires { IsListing listing.now }
+fn synced(listing: &RowSource, clause: ToldClause) -> Option<Synced>
+    requires { IsRowSource listing.now }
     ensures { result ≡ tables.synced listing.now.program.text.now (items_in listing.now.program) listing.now.links.now.outlines (told clause.entry) }
 {
     let flag = flag_number(listing.links, clause.link.flag);
@@ -64,8 +64,8 @@ fn synced(listing: &Listing, clause: ToldClause) -> Option<Synced>
 }
 
 /// How a channel of a variable is synced: by the first sound clause that speaks of it.
-pub(crate) fn sync_of(listing: &Listing, variable: usize, element: Option<u64>) -> Option<Synced>
-    requires { IsListing listing.now }
+pub(crate) fn sync_of(listing: &RowSource, variable: usize, element: Option<u64>) -> Option<Synced>
+    requires { IsRowSource listing.now }
     ensures { result ≡ tables.sync_of listing.now.program.text.now (items_in listing.now.program) listing.now.links.now.outlines variable element }
 {
     let number = listing.links.sync_number(variable, element)?;

@@ -14,11 +14,11 @@ use crate::rows::channel_rows::{channel_rows, variables};
 use crate::rows::channels::assigned_channels;
 use crate::rows::flag_rows::flag_rows;
 use crate::rows::item_clauses::told_clauses;
-use crate::rows::listing::Listing;
 use crate::rows::option_rows::program_options;
 use crate::rows::outline::Outline;
-use crate::rows::program::Program;
+use crate::rows::row_source::RowSource;
 use crate::rows::set_rows::set_rows;
+use crate::rows::text_items::TextItems;
 use crate::rules::findings::Checked;
 use snl_cut::OutOfMemory;
 use snl_lex::{LineList, Piece, tokens_among};
@@ -30,7 +30,7 @@ use std::alloc::Global;
 
 // The rows of all tables.
 fn rows_of(
-    listing: &Listing,
+    listing: &RowSource,
     lines: &LineList,
     checked: &[Option<&Checked>],
 ) -> Result<Tables, OutOfMemory>
@@ -78,7 +78,7 @@ pub fn tables_by_tokens(
     requires checked { map told_seen checked.now ≡ map (told_in_item text.now) (program_items tokens.now ends.now (map option_copied items.now)) }
     ensures { IfOk result (λ t. t ≡ tables_of text.now (program_items tokens.now ends.now (map option_copied items.now))) }
 {
-    let program = Program {
+    let program = TextItems {
         text,
         tokens,
         ends,
@@ -86,7 +86,7 @@ pub fn tables_by_tokens(
         alloc,
     };
     let clauses = told_clauses(&program, links)?;
-    let listing = Listing {
+    let listing = RowSource {
         program,
         clauses: &clauses,
         links,

@@ -3,9 +3,9 @@
 ghost use Rattle.std.specs.Prelude.{◌≡◌, ◌++◌, All, IfOk, OnOk, map};
 ghost use Rattle.snl_cut.specs.Cut.{ticked};
 ghost use Rattle.snl_walk.specs.Items.{occurrences};
-ghost use Rattle.snl_walk.specs.Tokens.{IsSource, bytes_at};
-ghost use Rattle.snl_check.specs.Found.{StandsIn, fault_of, faults_in, faults_of_rules};
-ghost use Rattle.snl_check.specs.Outlook.{is_in_set, known_of, leads_to};
+ghost use Rattle.snl_walk.specs.Tokens.{IsSource, token_bytes};
+ghost use Rattle.snl_check.specs.ItemFaults.{StandsIn, fault_of, faults_in, faults_of_rules};
+ghost use Rattle.snl_check.specs.View.{is_in_set, known_of, leads_to};
 ghost use Rattle.snl_check.specs.Told.{target_uses, wake_uses};
 
 use crate::rules::findings::{Checked, ItemFault};
@@ -40,8 +40,8 @@ fn faults_of(
     found: &[Occurrence],
 ) -> Result<Vec<ItemFault>, OutOfMemory>
     requires source { IsSource source.now.text.now source.now.tokens.now }
-    requires found { found.now ≡ occurrences (bytes_at source.now.text.now source.now.tokens.now) tree.now }
-    ensures { IfOk result (λ v. v.items ≡ faults_in (bytes_at source.now.text.now source.now.tokens.now) tree.now (is_in_set view.now.links.now.outlines view.now.item) (known_of view.now.links.now.outlines view.now.item) (leads_to view.now.links.now.outlines view.now.item)) }
+    requires found { found.now ≡ occurrences (token_bytes source.now.text.now source.now.tokens.now) tree.now }
+    ensures { IfOk result (λ v. v.items ≡ faults_in (token_bytes source.now.text.now source.now.tokens.now) tree.now (is_in_set view.now.links.now.outlines view.now.item) (known_of view.now.links.now.outlines view.now.item) (leads_to view.now.links.now.outlines view.now.item)) }
 {
     let mut faults = Vec::new(source.alloc);
     add_findings(&findings(source, view, found)?, &mut faults)?;
@@ -61,10 +61,10 @@ pub fn check_item(
     work: &mut Count,
 ) -> Result<Checked, OutOfMemory>
     requires { IsSource text.now tokens.now }
-    ensures faults { IfOk result (λ c. c.faults ≡ faults_in (bytes_at text.now tokens.now) tree.now (is_in_set links.now.outlines item) (known_of links.now.outlines item) (leads_to links.now.outlines item)) }
-    ensures within { IfOk result (λ c. All (StandsIn (bytes_at text.now tokens.now)) c.faults) }
-    ensures wake_uses { IfOk result (λ c. c.wake_uses ≡ wake_uses (bytes_at text.now tokens.now) tree.now) }
-    ensures target_uses { IfOk result (λ c. c.target_uses ≡ target_uses (bytes_at text.now tokens.now) tree.now) }
+    ensures faults { IfOk result (λ c. c.faults ≡ faults_in (token_bytes text.now tokens.now) tree.now (is_in_set links.now.outlines item) (known_of links.now.outlines item) (leads_to links.now.outlines item)) }
+    ensures within { IfOk result (λ c. All (StandsIn (token_bytes text.now tokens.now)) c.faults) }
+    ensures wake_uses { IfOk result (λ c. c.wake_uses ≡ wake_uses (token_bytes text.now tokens.now) tree.now) }
+    ensures target_uses { IfOk result (λ c. c.target_uses ≡ target_uses (token_bytes text.now tokens.now) tree.now) }
     ensures ticks { work.new ≡ ticked work.old }
 {
     work.tick();

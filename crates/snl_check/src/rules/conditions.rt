@@ -1,7 +1,7 @@
 //! The conditions of a state: its uses of names before an edit and its tree after it come in, whether they say the same goes out.
 
 ghost use Rattle.std.specs.Prelude.{◌≡◌, ◌↔◌, IfOk, IsTrue, map, option_copied};
-ghost use Rattle.snl_walk.specs.Tokens.{IsSource, bytes_at};
+ghost use Rattle.snl_walk.specs.Tokens.{IsSource, token_bytes};
 ghost use Rattle.snl_check.specs.ShiftedAround.{used_by, wakes_of};
 ghost use Rattle.snl_check.specs.Told.{told_in_item};
 
@@ -26,7 +26,7 @@ fn uses_in(source: &Source, tree: Option<&Item>) -> Result<Vec<WakeUse>, OutOfMe
 fn same_use(other: &Source, use_there: WakeUse, own: &Source, used: WakeUse) -> bool
     requires other { IsSource other.now.text.now other.now.tokens.now }
     requires own { IsSource own.now.text.now own.now.tokens.now }
-    ensures { IsTrue result ↔ (used_by (bytes_at own.now.text.now own.now.tokens.now) used ≡ used_by (bytes_at other.now.text.now other.now.tokens.now) use_there) }
+    ensures { IsTrue result ↔ (used_by (token_bytes own.now.text.now own.now.tokens.now) used ≡ used_by (token_bytes other.now.text.now other.now.tokens.now) use_there) }
 {
     own.bytes(used.token) == other.bytes(use_there.token) && used.subscript == use_there.subscript
 }
@@ -34,8 +34,8 @@ fn same_use(other: &Source, use_there: WakeUse, own: &Source, used: WakeUse) -> 
 fn same_uses(other: &Source, uses_there: &[WakeUse], own: &Source, uses: &[WakeUse]) -> bool
     requires other { IsSource other.now.text.now other.now.tokens.now }
     requires own { IsSource own.now.text.now own.now.tokens.now }
-    ensures { IsTrue result ↔ (map (used_by (bytes_at own.now.text.now own.now.tokens.now)) uses.now
-        ≡ map (used_by (bytes_at other.now.text.now other.now.tokens.now)) uses_there.now) }
+    ensures { IsTrue result ↔ (map (used_by (token_bytes own.now.text.now own.now.tokens.now)) uses.now
+        ≡ map (used_by (token_bytes other.now.text.now other.now.tokens.now)) uses_there.now) }
 {
     if uses.len() != uses_there.len() {
         return false;
@@ -61,7 +61,7 @@ pub fn wakes_alike(
 ) -> Result<bool, OutOfMemory>
     requires old { IsSource old.now old_tokens.now }
     requires source { IsSource text.now tokens.now }
-    ensures { IfOk result (λ alike. IsTrue alike ↔ (wakes_of text.now (record { tokens = tokens.now; tree = option_copied tree.entry }) ≡ map (used_by (bytes_at old.now old_tokens.now)) uses.now)) }
+    ensures { IfOk result (λ alike. IsTrue alike ↔ (wakes_of text.now (record { tokens = tokens.now; tree = option_copied tree.entry }) ≡ map (used_by (token_bytes old.now old_tokens.now)) uses.now)) }
 {
     let other = Source {
         text: old,

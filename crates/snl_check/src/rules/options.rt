@@ -3,9 +3,9 @@
 
 ghost use Rattle.std.specs.Prelude.{◌≡◌, ◌++◌, OnOk};
 ghost use Rattle.std.specs.List.{flat_map};
-ghost use Rattle.snl_walk.specs.Tokens.{IsSource, bytes_at};
+ghost use Rattle.snl_walk.specs.Tokens.{IsSource, token_bytes};
 ghost use Rattle.snl_check.specs.Options.{is_on, unknown_in_member, unknown_letters, unknown_options, warning_setting};
-ghost use Rattle.snl_check.specs.Outlook.{is_in_set};
+ghost use Rattle.snl_check.specs.View.{is_in_set};
 
 use crate::rules::findings::ItemFault;
 use crate::rules::view::View;
@@ -33,7 +33,7 @@ fn add_letters(
     faults: &mut Vec<ItemFault>,
 ) -> Result<(), OutOfMemory>
     requires { IsSource source.now.text.now source.now.tokens.now }
-    ensures { OnOk result (faults.new.items ≡ faults.old.items ++ unknown_letters (bytes_at source.now.text.now source.now.tokens.now) known.now line) }
+    ensures { OnOk result (faults.new.items ≡ faults.old.items ++ unknown_letters (token_bytes source.now.text.now source.now.tokens.now) known.now line) }
 {
     let letters = source.bytes(line.letters);
     for (byte, letter) in letters.iter().enumerate() {
@@ -54,7 +54,7 @@ fn add_state(
     faults: &mut Vec<ItemFault>,
 ) -> Result<(), OutOfMemory>
     requires { IsSource source.now.text.now source.now.tokens.now }
-    ensures { OnOk result (faults.new.items ≡ faults.old.items ++ flat_map (unknown_in_member (bytes_at source.now.text.now source.now.tokens.now)) members.now) }
+    ensures { OnOk result (faults.new.items ≡ faults.old.items ++ flat_map (unknown_in_member (token_bytes source.now.text.now source.now.tokens.now)) members.now) }
 {
     for member in members {
         if let StateMember::OptionLine(line) = member {
@@ -73,7 +73,7 @@ pub(crate) fn add_unknown_options(
     faults: &mut Vec<ItemFault>,
 ) -> Result<(), OutOfMemory>
     requires { IsSource source.now.text.now source.now.tokens.now }
-    ensures { OnOk result (faults.new.items ≡ faults.old.items ++ unknown_options (bytes_at source.now.text.now source.now.tokens.now) (is_in_set view.now.links.now.outlines view.now.item) tree.now) }
+    ensures { OnOk result (faults.new.items ≡ faults.old.items ++ unknown_options (token_bytes source.now.text.now source.now.tokens.now) (is_in_set view.now.links.now.outlines view.now.item) tree.now) }
 {
     match tree {
         Item::OptionLine(line) => {
@@ -118,7 +118,7 @@ pub(crate) fn is_on(sign: OptionSign) -> bool
 /// does neither.
 pub fn warning_setting(source: &Source, tree: &Item, links: &Links, item: usize) -> Option<bool>
     requires { IsSource source.now.text.now source.now.tokens.now }
-    ensures { result ≡ warning_setting (bytes_at source.now.text.now source.now.tokens.now) (is_in_set links.now.outlines item) tree.now }
+    ensures { result ≡ warning_setting (token_bytes source.now.text.now source.now.tokens.now) (is_in_set links.now.outlines item) tree.now }
 {
     let Item::OptionLine(line) = tree else {
         return None;

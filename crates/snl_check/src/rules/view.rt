@@ -1,10 +1,10 @@
 //! What an item sees of the other items.
 
 ghost use Rattle.std.specs.Prelude.{◌≡◌};
-ghost use Rattle.snl_check.specs.Outlook.{is_assigned, is_foreign, may_be_flag, outer_of};
+ghost use Rattle.snl_check.specs.View.{is_assigned, is_foreign, may_be_flag, outer_of};
 
 use snl_scope::{Assigned, Base, Fact, Links};
-use snl_walk::{Outer, Outlook};
+use snl_walk::{OtherItems, Outer};
 
 fn is_foreign(base: Base) -> bool
     ensures { result ≡ is_foreign base }
@@ -45,18 +45,18 @@ pub(crate) struct View<'a> {
 }
 
 impl View<'_> {
-    ghost use Rattle.snl_check.specs.Outlook.{is_in_set, known_of, leads_to};
+    ghost use Rattle.snl_check.specs.View.{is_in_set, known_of, leads_to};
 
     /// Whether the item is in a state set.
-    #[tactic(auto, unfolding(crate::specs::Outlook::is_in_set))]
+    #[tactic(auto, unfolding(crate::specs::View::is_in_set))]
     pub(crate) fn is_in_set(&self) -> bool
         ensures { result ≡ is_in_set self.now.links.now.outlines self.now.item }
     {
-        self.links.place(self.item).is_some()
+        self.links.enclosing_set(self.item).is_some()
     }
 
     // What a name means by the scopes outside the item.
-    #[tactic(auto, unfolding(crate::specs::Outlook::known_of))]
+    #[tactic(auto, unfolding(crate::specs::View::known_of))]
     fn fact(&self, name: &[u8]) -> Option<Fact>
         ensures { result ≡ known_of self.now.links.now.outlines self.now.item name.now }
     {
@@ -64,7 +64,7 @@ impl View<'_> {
     }
 
     // Whether the item's state set has a state of the name.
-    #[tactic(auto, unfolding(crate::specs::Outlook::leads_to))]
+    #[tactic(auto, unfolding(crate::specs::View::leads_to))]
     fn leads_to(&self, name: &[u8]) -> bool
         ensures { result ≡ leads_to self.now.links.now.outlines self.now.item name.now }
     {
@@ -72,8 +72,8 @@ impl View<'_> {
     }
 }
 
-impl Outlook for View<'_> {
-    ghost use Rattle.snl_check.specs.Outlook.{is_in_set, known_of, leads_to, misses_by, outer_by};
+impl OtherItems for View<'_> {
+    ghost use Rattle.snl_check.specs.View.{is_in_set, known_of, leads_to, misses_by, outer_by};
 
     ghost outer_of = { λ v. outer_by (known_of v.links.now.outlines v.item) };
 

@@ -21,7 +21,7 @@ use Rattle.snl_scope.specs.declared.summaries.summary.Dims.TheVariants as dims
 use Rattle.snl_scope.specs.declared.summaries.summary.SymbolKind.{SymbolKind}
 use Rattle.snl_scope.specs.declared.summaries.summary.SymbolKind.TheVariants as symbol_kinds
 use Rattle.snl_scope.specs.declared.summaries.summary.Variable.{Variable}
-use Rattle.snl_walk.specs.Tokens.{bytes_at, value_at}
+use Rattle.snl_walk.specs.Tokens.{token_bytes, value_at}
 
 -- The base of a declaration says what its names stand for.
 abbrev pub symbol_kind_of : Base → SymbolKind
@@ -70,7 +70,7 @@ abbrev pub variable_of : Dims → SymbolKind → Variable
 variable_of dims symbol_kind = record { dims = dims; symbol_kind = symbol_kind }
 
 abbrev pub declared_at : List ℕ → List Piece → Variable → ℕ → Declared
-declared_at text tokens variable number = record { name = bytes_at text tokens number; token = number; variable = variable }
+declared_at text tokens variable number = record { name = token_bytes text tokens number; token = number; variable = variable }
 
 abbrev pub declared_by_declarator : List ℕ → List Piece → SymbolKind → Declarator → Declared
 declared_by_declarator text tokens symbol_kind d = declared_at text tokens (variable_of (dims_of text tokens d) symbol_kind) d.name

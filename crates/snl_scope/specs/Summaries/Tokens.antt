@@ -3,8 +3,8 @@ use Rattle.std.specs.Prelude.{ℕ, List}
 use Rattle.snl_lex.specs.declared.piece.Piece.{Piece}
 use Rattle.snl_scope.specs.declared.summaries.summary.NameRef.{NameRef}
 pub use Rattle.snl_walk.specs.Tokens.{IsSource, bytes_if}
-unfoldable pub use Rattle.snl_walk.specs.Tokens.{bytes_at}
+unfoldable pub use Rattle.snl_walk.specs.Tokens.{token_bytes}
 
 -- The name that is at the token with this number.
 abbrev pub name_ref_at : List ℕ → List Piece → ℕ → NameRef
-name_ref_at text tokens number = record { name = bytes_at text tokens number; token = number }
+name_ref_at text tokens number = record { name = token_bytes text tokens number; token = number }

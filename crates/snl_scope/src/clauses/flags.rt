@@ -6,9 +6,9 @@ ghost use Rattle.std.specs.List.Sorted.{IsStrictlyIncreasing};
 ghost use Rattle.snl_scope.specs.declared.summaries.summary.Outline.{Outline};
 ghost use Rattle.snl_scope.specs.Flags.{declares_flag, flags_of};
 ghost use Rattle.snl_scope.specs.Names.{entries};
-ghost use Rattle.snl_scope.specs.Tables.{Follows, flag_stands};
+ghost use Rattle.snl_scope.specs.NameTables.{Follows, flag_stands};
 
-use crate::names::tables::{Symbol, Tables};
+use crate::names::name_tables::{NameTables, Symbol};
 use crate::summaries::summary::{SymbolKind, Variable};
 use snl_cut::OutOfMemory;
 use std::alloc::Global;
@@ -35,7 +35,7 @@ fn flag_stands(symbols: &[Symbol], number: usize) -> bool
 
 /// The numbers of the entries that are event flags. The tables list the first of each name in its namespace, in the order of
 /// the text.
-pub(crate) fn flags_of(alloc: Global, tables: &Tables) -> Result<Vec<usize>, OutOfMemory>
+pub(crate) fn flags_of(alloc: Global, tables: &NameTables) -> Result<Vec<usize>, OutOfMemory>
     ensures { IfOk result (λ flags. (ss : List Outline)
         → Follows tables.now.names tables.now.first.entries tables.now.symbols.items tables.now.faults.items (entries ss)
         → flags.items ≡ flags_of ss) }

@@ -12,7 +12,7 @@ ghost use Rattle.snl_scope.specs.Resolved.{Assigns, linked};
 ghost use Rattle.snl_walk.specs.declared.codes.Code.{Code};
 
 use crate::clauses::assigned::is_assign;
-use crate::clauses::claims::{Claims, purpose_of};
+use crate::clauses::clause_index::{ClauseIndex, purpose_of};
 use crate::clauses::resolved::Resolved;
 use crate::facts::{Assigned, ClauseLink, LinkFault};
 use crate::names::scopes::Scopes;
@@ -90,7 +90,7 @@ fn code_on(
 fn variable_code(
     scopes: &Scopes,
     assigned: &IndexMap<usize, Assigned>,
-    claims: &Claims,
+    claims: &ClauseIndex,
     clause: Resolved,
 ) -> Option<Code>
     ensures { (cs : List LinkedClause) → (judged : List (LinkedClause × Bool)) → Assigns assigned.now.entries cs → Claimed claims.now judged
@@ -175,7 +175,7 @@ fn is_sound(code: Option<Code>, has_wrong_flag: bool) -> bool
 
 // Makes the claims of the clause with a number, if it is sound.
 fn make_claims(
-    claims: &mut Claims,
+    claims: &mut ClauseIndex,
     clause: Resolved,
     number: usize,
     is_sound: bool,
@@ -215,7 +215,7 @@ fn link_of(clause: Resolved, is_sound: bool) -> ClauseLink
 #[derive(Drop)]
 pub(crate) struct JudgedClauses {
     pub links: Vec<ClauseLink>,
-    pub claims: Claims,
+    pub claims: ClauseIndex,
 }
 
 /// Judges all clauses; what is found at them is added.
@@ -234,7 +234,7 @@ pub(crate) fn judged_clauses(
     ensures found { OnOk result (faults.new.items ≡ faults.old.items
         ++ found_after (entries scopes.now) (map linked clauses.now) [] (map linked clauses.now)) }
 {
-    let mut claims = Claims::new(alloc);
+    let mut claims = ClauseIndex::new(alloc);
     let mut links = Vec::new(alloc);
     for clause in clauses {
         let code = variable_code(scopes, assigned, &claims, *clause);

@@ -1,7 +1,7 @@
 //! What the order of items asks of their outlines, in flat lists.
 
 ghost use Rattle.std.specs.Prelude.{◌≡◌, IfOk, map};
-ghost use Rattle.snl_scope.specs.Tables.{head_of, heads_member};
+ghost use Rattle.snl_scope.specs.NameTables.{head_of, heads_member};
 
 use crate::summaries::summary::{Opening, Outline, Role};
 use snl_cut::OutOfMemory;
@@ -30,7 +30,7 @@ fn head_of(outline: &Outline) -> Head
 pub(crate) fn heads_of(alloc: Global, outlines: &[&Outline]) -> Result<Vec<Head>, OutOfMemory>
     ensures { IfOk result (λ heads. heads.items ≡ map (λ s. head_of s.now) outlines.now) }
 {
-    let mut heads = Vec::new(alloc);
+    let mut heads = Vec::with_capacity(alloc, outlines.len())?;
     for outline in outlines {
         heads.push(head_of(outline))?;
     }

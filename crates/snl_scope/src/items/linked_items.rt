@@ -13,7 +13,7 @@ pub(crate) fn outlines_of<'a>(
 ) -> Result<Vec<&'a Outline>, OutOfMemory>
     ensures { IfOk result (λ outlines. map (λ s. s.now) outlines.items ≡ map (λ s. s.now.outline) summaries.now) }
 {
-    let mut outlines = Vec::new(alloc);
+    let mut outlines = Vec::with_capacity(alloc, summaries.len())?;
     for summary in summaries {
         outlines.push(&summary.outline)?;
     }
@@ -24,7 +24,7 @@ pub(crate) fn outlines_of<'a>(
 pub(crate) fn kinds_of(alloc: Global, summaries: &[&Summary]) -> Result<Vec<ItemKind>, OutOfMemory>
     ensures { IfOk result (λ kinds. kinds.items ≡ map (λ s. s.now.kind) summaries.now) }
 {
-    let mut kinds = Vec::new(alloc);
+    let mut kinds = Vec::with_capacity(alloc, summaries.len())?;
     for summary in summaries {
         kinds.push(summary.kind)?;
     }

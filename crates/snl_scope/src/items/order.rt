@@ -4,7 +4,7 @@
 ghost use Rattle.std.specs.Prelude.{◌≡◌, false, ◌++◌, ◌<◌, IfOk, IfSome, OnOk, ◌&&◌, ◌||◌, not, is_none, length, replicate};
 ghost use Rattle.snl_scope.specs.Order.{found_if, header_faults, is_faulty, is_program_word, is_ss_word, misplaced_items, missing_states, order_faults, unmatched_braces};
 ghost use Rattle.snl_scope.specs.Places.{begins_set, ends_set};
-ghost use Rattle.snl_scope.specs.Tables.{Marked, is_member, set_of, with_mark};
+ghost use Rattle.snl_scope.specs.NameTables.{Marked, is_member, set_of, with_mark};
 
 use crate::facts::LinkFault;
 use crate::items::heads::{Member, is_member};
@@ -59,11 +59,11 @@ fn add_misplaced(
     let mut before = Before::new();
     for item in 0..kinds.len() {
         let kind = kinds[item];
-        let place = scopes.place(item);
+        let enclosing_set = scopes.enclosing_set(item);
         let opening = scopes.head(item).opening;
-        let is_misplaced = before.misplaces(place, kind, opening);
+        let is_misplaced = before.misplaces(enclosing_set, kind, opening);
         add_if(is_misplaced, Code::E03, item, faults)?;
-        before = before.and(place, kind, opening);
+        before = before.and(enclosing_set, kind, opening);
     }
     Ok(())
 }
@@ -78,10 +78,10 @@ fn unmarked(alloc: Global, len: usize) -> Result<Vec<bool>, OutOfMemory>
 }
 
 // The state set that a member is in, if it is one.
-fn set_of(is_member: bool, place: Option<usize>) -> Option<usize>
-    ensures { result ≡ set_of is_member place }
+fn set_of(is_member: bool, enclosing_set: Option<usize>) -> Option<usize>
+    ensures { result ≡ set_of is_member enclosing_set }
 {
-    if is_member { place } else { None }
+    if is_member { enclosing_set } else { None }
 }
 
 fn mark(marks: &mut Vec<bool>, set: Option<usize>)
@@ -101,7 +101,7 @@ fn sets_with(alloc: Global, member: Member, scopes: &Scopes) -> Result<Vec<bool>
     let mut marks = unmarked(alloc, count)?;
     for item in 0..count {
         let is_member = is_member(member, scopes.head(item));
-        mark(&mut marks, set_of(is_member, scopes.place(item)));
+        mark(&mut marks, set_of(is_member, scopes.enclosing_set(item)));
     }
     Ok(marks)
 }
@@ -113,12 +113,12 @@ fn begins_set(role: Role) -> bool
 }
 
 // Whether an item is a state set that nothing closes, or a `}` that closes none.
-fn is_unmatched(role: Role, place: Option<usize>, is_closed: bool) -> bool
-    ensures { result ≡ ((begins_set role && not is_closed) || (ends_set role && is_none place)) }
+fn is_unmatched(role: Role, enclosing_set: Option<usize>, is_closed: bool) -> bool
+    ensures { result ≡ ((begins_set role && not is_closed) || (ends_set role && is_none enclosing_set)) }
 {
     match role {
         Role::SetBegin => !is_closed,
-        Role::SetEnd => place.is_none(),
+        Role::SetEnd => enclosing_set.is_none(),
         _ => false,
     }
 }
@@ -134,7 +134,7 @@ fn add_unmatched(
     let closed = sets_with(alloc, Member::End, scopes)?;
     for item in 0..closed.len() {
         let role = scopes.head(item).role;
-        let is_unmatched = is_unmatched(role, scopes.place(item), closed[item]);
+        let is_unmatched = is_unmatched(role, scopes.enclosing_set(item), closed[item]);
         add_if(is_unmatched, Code::E04, item, faults)?;
     }
     Ok(())

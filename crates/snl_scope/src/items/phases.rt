@@ -2,7 +2,7 @@
 
 ghost use Rattle.std.specs.Prelude.{◌≡◌, false};
 ghost use Rattle.snl_scope.specs.Order.{is_barred_in_sets, is_main, is_program_word, is_state, phase_of};
-ghost use Rattle.snl_scope.specs.Tables.{and_item, barred_at, is_below, misplaced_after, phase_in, with_phase};
+ghost use Rattle.snl_scope.specs.NameTables.{and_item, barred_at, is_below, misplaced_after, phase_in, with_phase};
 
 use crate::summaries::summary::{ItemKind, Opening};
 
@@ -58,10 +58,10 @@ fn phase_of(begun: bool, kind: ItemKind) -> Option<u8>
     }
 }
 
-fn phase_in(begun: bool, place: Option<usize>, kind: ItemKind) -> Option<u8>
-    ensures { result ≡ phase_in begun place kind }
+fn phase_in(begun: bool, enclosing_set: Option<usize>, kind: ItemKind) -> Option<u8>
+    ensures { result ≡ phase_in begun enclosing_set kind }
 {
-    match place {
+    match enclosing_set {
         None => phase_of(begun, kind),
         Some(_) => None,
     }
@@ -86,10 +86,10 @@ fn with_phase(phase: Option<u8>, greatest: u8) -> u8
 }
 
 // A state at program level, or an item that may not be in a state set.
-fn is_barred(place: Option<usize>, kind: ItemKind) -> bool
-    ensures { result ≡ barred_at place kind }
+fn is_barred(enclosing_set: Option<usize>, kind: ItemKind) -> bool
+    ensures { result ≡ barred_at enclosing_set kind }
 {
-    match place {
+    match enclosing_set {
         None => is_state(kind),
         Some(_) => is_barred_in_sets(kind),
     }
@@ -115,21 +115,31 @@ impl Before {
         }
     }
 
-    pub(crate) fn misplaces(self, place: Option<usize>, kind: ItemKind, opening: Opening) -> bool
-        ensures { result ≡ misplaced_after self place kind opening }
+    pub(crate) fn misplaces(
+        self,
+        enclosing_set: Option<usize>,
+        kind: ItemKind,
+        opening: Opening,
+    ) -> bool
+        ensures { result ≡ misplaced_after self enclosing_set kind opening }
     {
-        let phase = phase_in(self.begun, place, kind);
+        let phase = phase_in(self.begun, enclosing_set, kind);
         let is_later_program = begins_with_program(opening) && self.has_program;
-        (is_below(phase, self.greatest) || is_barred(place, kind)) && !is_later_program
+        (is_below(phase, self.greatest) || is_barred(enclosing_set, kind)) && !is_later_program
     }
 
-    pub(crate) fn and(self, place: Option<usize>, kind: ItemKind, opening: Opening) -> Before
-        ensures { result ≡ and_item self place kind opening }
+    pub(crate) fn and(
+        self,
+        enclosing_set: Option<usize>,
+        kind: ItemKind,
+        opening: Opening,
+    ) -> Before
+        ensures { result ≡ and_item self enclosing_set kind opening }
     {
-        let phase = phase_in(self.begun, place, kind);
+        let phase = phase_in(self.begun, enclosing_set, kind);
         Before {
             greatest: with_phase(phase, self.greatest),
-            begun: (is_main(kind) && place.is_none()) || self.begun,
+            begun: (is_main(kind) && enclosing_set.is_none()) || self.begun,
             has_program: begins_with_program(opening) || self.has_program,
         }
     }

@@ -2,7 +2,7 @@
 
 ghost use Rattle.std.specs.Prelude.{◌≡◌, ◌<◌, IfOk, Some, None, if◌then◌else◌, length, map};
 ghost use Rattle.snl_scope.specs.Places.{begins_set, ends_set};
-ghost use Rattle.snl_scope.specs.Tables.{Placed};
+ghost use Rattle.snl_scope.specs.NameTables.{Placed};
 
 use crate::summaries::summary::{Outline, Role};
 use snl_cut::OutOfMemory;
@@ -36,7 +36,7 @@ pub(crate) fn places_of(
 ) -> Result<Vec<Option<usize>>, OutOfMemory>
     ensures { IfOk result (λ places. Placed places.items (map (λ s. s.now) outlines.now) (length outlines.now)) }
 {
-    let mut places = Vec::new(alloc);
+    let mut places = Vec::with_capacity(alloc, outlines.len())?;
     let mut outer = None;
     for item in 0..outlines.len() {
         let outline = outlines[item];

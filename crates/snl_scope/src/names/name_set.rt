@@ -1,7 +1,7 @@
 //! Names with numbers, in the order in which they came first.
 
 ghost use Rattle.std.specs.Prelude.{◌≡◌, [], OnOk, IfOk, Some, bytes_eq, position};
-ghost use Rattle.snl_scope.specs.Tables.{with_name};
+ghost use Rattle.snl_scope.specs.NameTables.{with_name};
 
 use indexmap::IndexSet;
 use snl_cut::OutOfMemory;

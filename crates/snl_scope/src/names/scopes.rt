@@ -2,12 +2,12 @@
 
 ghost use Rattle.std.specs.Prelude.{◌≡◌};
 
-use crate::items::heads::Head;
+use crate::items::heads::{Head, Member, is_member};
+use crate::names::ghost_outlines::GhostOutlines;
 use crate::names::name_set::Names;
+use crate::names::name_tables::{Symbol, number_in, number_under};
 use crate::names::namespaces::{Key, Namespace};
-use crate::names::origin::Origin;
-use crate::names::tables::{Symbol, number_in};
-use crate::summaries::summary::Variable;
+use crate::summaries::summary::{Role, Variable};
 use indexmap::IndexMap;
 use std::marker::Model;
 
@@ -19,30 +19,31 @@ pub(crate) struct Scopes {
     pub names: Names,
     pub first: IndexMap<Key, usize>,
     pub symbols: Vec<Symbol>,
-    pub origin: Origin,
+    pub made_of: GhostOutlines,
 }
 
 impl Model for Scopes {
     ghost use Rattle.std.specs.Prelude.{List, length, map, ◌≡◌};
     ghost use Rattle.snl_scope.specs.declared.summaries.summary.Outline.{Outline};
     ghost use Rattle.snl_scope.specs.Names.{entries};
-    ghost use Rattle.snl_scope.specs.Tables.{Placed, Tabled, head_of};
+    ghost use Rattle.snl_scope.specs.NameTables.{Placed, Tabled, head_of};
 
     ghost Value = { List Outline };
 
-    ghost view = { λ a. a.origin.outlines };
+    ghost view = { λ a. a.made_of.outlines };
 
-    ghost invariant = { λ a. Placed a.places.items a.origin.outlines (length a.origin.outlines)
-        × (a.heads.items ≡ map head_of a.origin.outlines)
-        × Tabled a.names a.first.entries a.symbols.items (entries a.origin.outlines) };
+    ghost invariant = { λ a. Placed a.places.items a.made_of.outlines (length a.made_of.outlines)
+        × (a.heads.items ≡ map head_of a.made_of.outlines)
+        × Tabled a.names a.first.entries a.symbols.items (entries a.made_of.outlines) };
 }
 
 impl Scopes {
     ghost use Rattle.snl_scope.specs.Clauses.{resolve_in, variable_at};
     ghost use Rattle.snl_scope.specs.Linked.{state_in};
     ghost use Rattle.snl_scope.specs.Names.{entries, number_in, resolve};
-    ghost use Rattle.snl_scope.specs.Places.{place};
-    ghost use Rattle.snl_scope.specs.Tables.{head_of, symbol_of};
+    ghost use Rattle.snl_scope.specs.Order.{is_named_state};
+    ghost use Rattle.snl_scope.specs.Places.{enclosing_set, is_set_begin};
+    ghost use Rattle.snl_scope.specs.NameTables.{head_of, symbol_of};
     ghost use Rattle.std.specs.Prelude.{Some, ◌<◌, length, map, option_map, slice_get};
 
     /// How many numbers there are.
@@ -53,11 +54,11 @@ impl Scopes {
     }
 
     /// The state set in which an item is, or None at program level.
-    pub(crate) fn place(&self, item: usize) -> Option<usize>
-        ensures { result ≡ place self.now item }
+    pub(crate) fn enclosing_set(&self, item: usize) -> Option<usize>
+        ensures { result ≡ enclosing_set self.now item }
     {
         match self.places.get(item) {
-            Some(place) => *place,
+            Some(set) => *set,
             None => None,
         }
     }
@@ -77,6 +78,26 @@ impl Scopes {
         self.heads[item]
     }
 
+    /// Whether an item begins a state set.
+    pub(crate) fn begins_set(&self, item: usize) -> bool
+        ensures { result ≡ is_set_begin self.now item }
+    {
+        match self.heads.get(item) {
+            Some(head) => matches!(head.role, Role::SetBegin),
+            None => false,
+        }
+    }
+
+    /// Whether an item begins as a state does, and has a name.
+    pub(crate) fn is_named_state(&self, item: usize) -> bool
+        ensures { result ≡ is_named_state self.now item }
+    {
+        match self.heads.get(item) {
+            Some(head) => is_member(Member::State, *head),
+            None => false,
+        }
+    }
+
     /// The number of the first that is under a name in a namespace.
     pub(crate) fn number_in(&self, namespace: Namespace, name: &[u8]) -> Option<usize>
         ensures { result ≡ number_in (entries self.now) namespace name.now }
@@ -92,16 +113,17 @@ impl Scopes {
     }
 
     /// The number of what a name resolves to from a place.
-    pub(crate) fn resolve(&self, place: Option<usize>, name: &[u8]) -> Option<usize>
-        ensures { result ≡ resolve (entries self.now) place name.now }
+    pub(crate) fn resolve(&self, enclosing_set: Option<usize>, name: &[u8]) -> Option<usize>
+        ensures { result ≡ resolve (entries self.now) enclosing_set name.now }
     {
-        if let Some(set) = place {
-            let inside = self.number_in(Namespace::StateSet(set), name);
+        let name = self.names.number(name)?;
+        if let Some(set) = enclosing_set {
+            let inside = number_under(&self.first, Namespace::StateSet(set), name);
             if inside.is_some() {
                 return inside;
             }
         }
-        self.number_in(Namespace::Program, name)
+        number_under(&self.first, Namespace::Program, name)
     }
 
     /// The number of what a name resolves to that is in an item outside its blocks.
@@ -112,7 +134,7 @@ impl Scopes {
         if own.is_some() {
             return own;
         }
-        self.resolve(self.place(item), name)
+        self.resolve(self.enclosing_set(item), name)
     }
 
     /// The first state with a name in a state set, by the number of its item.

@@ -5,6 +5,7 @@ ghost use Rattle.std.specs.Prelude.{◌≡◌, ◌↔◌, IsTrue};
 
 use crate::summaries::name::Name;
 use crate::summaries::summary::{Declared, NameRef, Outline, VariableClause};
+use sqlite_items::Boxed;
 
 /// Values that can be compared.
 pub(crate) trait Alike {
@@ -40,6 +41,12 @@ fn is_like_if<T: Alike>(one: &Option<T>, other: &Option<T>) -> bool
 impl Alike for Name {
     fn is_like(&self, other: &Name) -> bool {
         self.bytes() == other.bytes()
+    }
+}
+
+impl Alike for Boxed<Name> {
+    fn is_like(&self, other: &Boxed<Name>) -> bool {
+        self.get().is_like(other.get())
     }
 }
 

@@ -4,7 +4,7 @@
 ghost use Rattle.snl_scope.specs.Summaries.{kind_of, kind_of_tree, occurrences_in, opening_by_word, opening_in, role_of, second_in, summary_in};
 ghost use Rattle.snl_scope.specs.Summaries.Tokens.{name_ref_at};
 ghost use Rattle.snl_walk.specs.Once.{once};
-ghost use Rattle.snl_walk.specs.Tokens.{IsSource, bytes_at};
+ghost use Rattle.snl_walk.specs.Tokens.{IsSource, token_bytes};
 ghost use Rattle.snl_walk.specs.Uses.{targets, uses};
 ghost use Rattle.std.specs.Prelude.{◌≡◌, IfOk, map, option_copied};
 
@@ -18,6 +18,7 @@ use snl_lex::{Class, Piece, token_text};
 use snl_lists::Few;
 use snl_syntax::tree::item::Item;
 use snl_walk::{Occurrence, Source, occurrences, targets, uses};
+use sqlite_items::Boxed;
 use std::alloc::Global;
 
 fn kind_of_tree(tree: &Item) -> ItemKind
@@ -100,15 +101,15 @@ fn opening_of(source: &Source) -> Opening
 }
 
 // The second token, if that is a name.
-fn second_of(source: &Source) -> Result<Option<Name>, OutOfMemory>
+fn second_of(source: &Source) -> Result<Option<Boxed<Name>>, OutOfMemory>
     requires { IsSource source.now.text.now source.now.tokens.now }
     ensures { IfOk result (λ name. name ≡ second_in source.now.text.now source.now.tokens.now) }
 {
     match source.tokens.get(1) {
         Some(second) => match second.kind {
             Class::Name => {
-                let name = token_text(source.text, *second);
-                Ok(Some(Name::new(source.alloc, name)?))
+                let name = Name::new(source.alloc, token_text(source.text, *second))?;
+                Ok(Some(Boxed::new(source.alloc, name)?))
             }
             _ => Ok(None),
         },
@@ -119,7 +120,7 @@ fn second_of(source: &Source) -> Result<Option<Name>, OutOfMemory>
 // What is found in the item; in a faulty one nothing is.
 fn occurrences_in(source: &Source, tree: Option<&Item>) -> Result<Vec<Occurrence>, OutOfMemory>
     requires { IsSource source.now.text.now source.now.tokens.now }
-    ensures { IfOk result (λ v. v.items ≡ occurrences_in (bytes_at source.now.text.now source.now.tokens.now) (option_copied tree.entry)) }
+    ensures { IfOk result (λ v. v.items ≡ occurrences_in (token_bytes source.now.text.now source.now.tokens.now) (option_copied tree.entry)) }
 {
     match tree {
         Some(tree) => occurrences(source, tree),
@@ -130,7 +131,7 @@ fn occurrences_in(source: &Source, tree: Option<&Item>) -> Result<Vec<Occurrence
 // The names that the item uses, each once.
 fn used_names(source: &Source, found: &[Occurrence]) -> Result<Few<Name>, OutOfMemory>
     requires { IsSource source.now.text.now source.now.tokens.now }
-    ensures { IfOk result (λ names. names ≡ once (map (bytes_at source.now.text.now source.now.tokens.now) (uses found.now))) }
+    ensures { IfOk result (λ names. names ≡ once (map (token_bytes source.now.text.now source.now.tokens.now) (uses found.now))) }
 {
     names_once(source, &uses(source.alloc, found)?)
 }

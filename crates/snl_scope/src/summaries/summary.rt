@@ -3,6 +3,7 @@
 
 use crate::summaries::name::Name;
 use snl_lists::Few;
+use sqlite_items::Boxed;
 
 /// What an item is.
 #[derive(Clone, Copy, Debug, PartialEq, Eq)]
@@ -127,7 +128,7 @@ pub struct Outline {
     pub declares: Few<Declared>,
     pub clauses: Few<VariableClause>,
     /// The second token, if that is a name; it has the number 1.
-    pub second: Option<Name>,
+    pub second: Option<Boxed<Name>>,
     pub role: Role,
     pub opening: Opening,
 }

@@ -6,7 +6,7 @@ ghost use Rattle.std.specs.Prelude.{◌≡◌, ◌++◌, All, OnOk, map};
 ghost use Rattle.snl_lex.specs.Pieces.{LiesIn};
 ghost use Rattle.snl_session.specs.Checked.{HasOffset, at_own_token, checked_faults, faults_kept};
 ghost use Rattle.snl_session.specs.Checks.{checks_over};
-ghost use Rattle.snl_session.specs.Parts.{IsPart, part_of};
+ghost use Rattle.snl_session.specs.Parts.{IsPart, item_of_part};
 
 use crate::found::findings::Finding;
 use crate::found::linked::finding_at;
@@ -68,8 +68,8 @@ pub fn add_checked_faults(
 ) -> Result<(), OutOfMemory>
     requires tokens { All (LiesIn text.now) tokens.now }
     requires parts { All (IsPart text.now tokens.now) parts.now }
-    requires checks { map (λ c. c.now) checks.now ≡ checks_over text.now (map (part_of tokens.now) parts.now) }
-    ensures { OnOk result (found.new.items ≡ found.old.items ++ checked_faults text.now (map (part_of tokens.now) parts.now)) }
+    requires checks { map (λ c. c.now) checks.now ≡ checks_over text.now (map (item_of_part tokens.now) parts.now) }
+    ensures { OnOk result (found.new.items ≡ found.old.items ++ checked_faults text.now (map (item_of_part tokens.now) parts.now)) }
 {
     faults_stand_in_tokens();
     for (item, part) in parts.iter().enumerate() {

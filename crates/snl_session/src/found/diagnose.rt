@@ -7,7 +7,7 @@ ghost use Rattle.snl_lex.specs.LineList.{IsLineList};
 ghost use Rattle.snl_scope.specs.Linked.{faults_of};
 ghost use Rattle.snl_session.specs.Diagnostics.{diagnostic, on_line, shown_if};
 ghost use Rattle.snl_session.specs.Linked.{linked_faults, linked_of};
-ghost use Rattle.snl_session.specs.Parts.{IsPart, part_of};
+ghost use Rattle.snl_session.specs.Parts.{IsPart, item_of_part};
 
 use crate::found::findings::{Diagnostic, Finding};
 use crate::found::linked::add_placed;
@@ -35,8 +35,8 @@ pub fn add_linked_faults(
     found: &mut Vec<Finding>,
 ) -> Result<(), OutOfMemory>
     requires parts { All (IsPart text.now tokens.now) parts.now }
-    requires faults { faults.now ≡ faults_of (linked_of text.now (map (part_of tokens.now) parts.now)) }
-    ensures { OnOk result (found.new.items ≡ found.old.items ++ linked_faults text.now (map (part_of tokens.now) parts.now)) }
+    requires faults { faults.now ≡ faults_of (linked_of text.now (map (item_of_part tokens.now) parts.now)) }
+    ensures { OnOk result (found.new.items ≡ found.old.items ++ linked_faults text.now (map (item_of_part tokens.now) parts.now)) }
 {
     add_placed(text, tokens, parts, faults, found)
 }

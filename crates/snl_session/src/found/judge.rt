@@ -11,7 +11,7 @@ ghost use Rattle.snl_check.specs.Tables.{tables_of};
 ghost use Rattle.snl_session.specs.Checks.{checks_of, checks_over, links_in, outlines_in};
 ghost use Rattle.snl_session.specs.Diagnostics.{diagnostics_of, shown};
 ghost use Rattle.snl_session.specs.Linked.{linked_of, outlines_of};
-ghost use Rattle.snl_session.specs.Parts.{IsPart, part_of};
+ghost use Rattle.snl_session.specs.Parts.{IsPart, item_of_part};
 ghost use Rattle.snl_session.specs.Program.{program_item};
 ghost use Rattle.snl_session.specs.Tables.{tables_in};
 ghost use Rattle.snl_session.specs.Warnings.{shows_warnings, warns_in};
@@ -59,12 +59,12 @@ fn shown_by(
     tables: &Tables,
     warns: bool,
 ) -> Result<Vec<Finding>, OutOfMemory>
-    requires items { map (part_of cut.now.tokens.now) parts.now ≡ map (program_item cut.now.text.now) (members cut.now.tokens.now 0 cut.now.ends.now) }
+    requires items { map (item_of_part cut.now.tokens.now) parts.now ≡ map (program_item cut.now.text.now) (members cut.now.tokens.now 0 cut.now.ends.now) }
     requires parts { All (IsPart cut.now.text.now cut.now.tokens.now) parts.now }
-    requires faults { faults.now ≡ faults_of (linked_of cut.now.text.now (map (part_of cut.now.tokens.now) parts.now)) }
-    requires checks { map (λ c. c.now) checks.now ≡ checks_over cut.now.text.now (map (part_of cut.now.tokens.now) parts.now) }
-    requires tables { tables.now ≡ tables_of cut.now.text.now (map (part_of cut.now.tokens.now) parts.now) }
-    requires warns { warns ≡ shows_warnings cut.now.text.now (map (part_of cut.now.tokens.now) parts.now) }
+    requires faults { faults.now ≡ faults_of (linked_of cut.now.text.now (map (item_of_part cut.now.tokens.now) parts.now)) }
+    requires checks { map (λ c. c.now) checks.now ≡ checks_over cut.now.text.now (map (item_of_part cut.now.tokens.now) parts.now) }
+    requires tables { tables.now ≡ tables_of cut.now.text.now (map (item_of_part cut.now.tokens.now) parts.now) }
+    requires warns { warns ≡ shows_warnings cut.now.text.now (map (item_of_part cut.now.tokens.now) parts.now) }
     ensures { IfOk result (λ v. v.items ≡ shown cut.now.text.now) }
 {
     text_in_pieces();
@@ -88,11 +88,11 @@ fn told_by(
     faults: &[LinkFault],
     checks: &[&Option<Boxed<Checked>>],
 ) -> Result<Told, OutOfMemory>
-    requires items { map (part_of cut.now.tokens.now) parts.now ≡ map (program_item cut.now.text.now) (members cut.now.tokens.now 0 cut.now.ends.now) }
+    requires items { map (item_of_part cut.now.tokens.now) parts.now ≡ map (program_item cut.now.text.now) (members cut.now.tokens.now 0 cut.now.ends.now) }
     requires parts { All (IsPart cut.now.text.now cut.now.tokens.now) parts.now }
-    requires links { links.now.outlines ≡ outlines_of cut.now.text.now (map (part_of cut.now.tokens.now) parts.now) }
-    requires faults { faults.now ≡ faults_of (linked_of cut.now.text.now (map (part_of cut.now.tokens.now) parts.now)) }
-    requires checks { map (λ c. c.now) checks.now ≡ checks_over cut.now.text.now (map (part_of cut.now.tokens.now) parts.now) }
+    requires links { links.now.outlines ≡ outlines_of cut.now.text.now (map (item_of_part cut.now.tokens.now) parts.now) }
+    requires faults { faults.now ≡ faults_of (linked_of cut.now.text.now (map (item_of_part cut.now.tokens.now) parts.now)) }
+    requires checks { map (λ c. c.now) checks.now ≡ checks_over cut.now.text.now (map (item_of_part cut.now.tokens.now) parts.now) }
     ensures shown { IfOk result (λ t. t.shown.items ≡ shown cut.now.text.now) }
     ensures tables { IfOk result (λ t. t.tables ≡ tables_in cut.now.text.now) }
     ensures warns { IfOk result (λ t. t.warns ≡ warns_in cut.now.text.now) }
@@ -125,7 +125,7 @@ pub fn told_in(
     faults: &[LinkFault],
     checks: &[&Option<Boxed<Checked>>],
 ) -> Result<Told, OutOfMemory>
-    requires items { map (part_of cut.now.tokens.now) parts.now ≡ map (program_item cut.now.text.now) (members cut.now.tokens.now 0 cut.now.ends.now) }
+    requires items { map (item_of_part cut.now.tokens.now) parts.now ≡ map (program_item cut.now.text.now) (members cut.now.tokens.now 0 cut.now.ends.now) }
     requires parts { All (IsPart cut.now.text.now cut.now.tokens.now) parts.now }
     requires links { links.now.outlines ≡ outlines_in cut.now.text.now }
     requires faults { faults.now ≡ faults_of (links_in cut.now.text.now) }
@@ -176,7 +176,7 @@ pub fn judge(
     faults: &[LinkFault],
     checks: &[&Option<Boxed<Checked>>],
 ) -> Result<Judgement, OutOfMemory>
-    requires items { map (part_of cut.now.tokens.now) parts.now ≡ map (program_item cut.now.text.now) (members cut.now.tokens.now 0 cut.now.ends.now) }
+    requires items { map (item_of_part cut.now.tokens.now) parts.now ≡ map (program_item cut.now.text.now) (members cut.now.tokens.now 0 cut.now.ends.now) }
     requires parts { All (IsPart cut.now.text.now cut.now.tokens.now) parts.now }
     requires links { links.now.outlines ≡ outlines_in cut.now.text.now }
     requires faults { faults.now ≡ faults_of (links_in cut.now.text.now) }

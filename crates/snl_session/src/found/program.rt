@@ -13,7 +13,7 @@ ghost use Rattle.snl_lex.specs.Pieces.{LiesIn, tokens_of};
 ghost use Rattle.snl_syntax.specs.Outcome.{BlamesWithin};
 ghost use Rattle.snl_session.specs.Entries.{entries_of, entry_by};
 ghost use Rattle.snl_session.specs.Faults.{at_token, fault_at, faults_of};
-ghost use Rattle.snl_session.specs.Parts.{EndsWithin, IsPart, part_of};
+ghost use Rattle.snl_session.specs.Parts.{EndsWithin, IsPart, item_of_part};
 ghost use Rattle.snl_session.specs.Program.{program_item};
 
 use crate::entries::Entry;
@@ -64,7 +64,7 @@ pub fn parts_along<'a>(
 ) -> Result<Vec<Part<'a>>, OutOfMemory>
     requires ends { EndsWithin 0 ends.now (length tokens.now) }
     requires entries { map (λ e. e.now) entries.now ≡ map entry_by (members (spelled text.now tokens.now) 0 ends.now) }
-    ensures items { IfOk result (λ parts. map (part_of tokens.now) parts.items ≡ map (program_item text.now) (members tokens.now 0 ends.now)) }
+    ensures items { IfOk result (λ parts. map (item_of_part tokens.now) parts.items ≡ map (program_item text.now) (members tokens.now 0 ends.now)) }
     ensures inside { IfOk result (λ parts. All (IsPart text.now tokens.now) parts.items) }
 {
     outcome_told();
@@ -112,7 +112,7 @@ pub fn add_faults(
     found: &mut Vec<Finding>,
 ) -> Result<(), OutOfMemory>
     requires parts { All (IsPart text.now tokens.now) parts.now }
-    ensures { OnOk result (found.new.items ≡ found.old.items ++ faults_of text.now (map (part_of tokens.now) parts.now)) }
+    ensures { OnOk result (found.new.items ≡ found.old.items ++ faults_of text.now (map (item_of_part tokens.now) parts.now)) }
 {
     outcome_told();
     for part in parts {

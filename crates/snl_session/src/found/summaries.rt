@@ -4,7 +4,7 @@
 
 ghost use Rattle.std.specs.Prelude.{◌≡◌, All, IfOk, map};
 ghost use Rattle.snl_session.specs.Linked.{linked_of, outlines_of, summaries_of};
-ghost use Rattle.snl_session.specs.Parts.{IsPart, part_of};
+ghost use Rattle.snl_session.specs.Parts.{IsPart, item_of_part};
 
 use crate::found::program::Part;
 use snl_cut::OutOfMemory;
@@ -20,7 +20,7 @@ fn summaries_of<'a>(
     parts: &[Part<'a>],
 ) -> Result<Vec<&'a Summary>, OutOfMemory>
     requires parts { All (IsPart text.now tokens.now) parts.now }
-    ensures { IfOk result (λ v. map (λ s. s.now) v.items ≡ summaries_of text.now (map (part_of tokens.now) parts.now)) }
+    ensures { IfOk result (λ v. map (λ s. s.now) v.items ≡ summaries_of text.now (map (item_of_part tokens.now) parts.now)) }
 {
     let mut summaries = Vec::with_capacity(alloc, parts.len())?;
     for part in parts {
@@ -37,8 +37,8 @@ pub fn links_of(
     parts: &[Part],
 ) -> Result<Links, OutOfMemory>
     requires parts { All (IsPart text.now tokens.now) parts.now }
-    ensures links { IfOk result (λ links. links ≡ linked_of text.now (map (part_of tokens.now) parts.now)) }
-    ensures outlines { IfOk result (λ links. links.outlines ≡ outlines_of text.now (map (part_of tokens.now) parts.now)) }
+    ensures links { IfOk result (λ links. links ≡ linked_of text.now (map (item_of_part tokens.now) parts.now)) }
+    ensures outlines { IfOk result (λ links. links.outlines ≡ outlines_of text.now (map (item_of_part tokens.now) parts.now)) }
 {
     let summaries = summaries_of(alloc, text, tokens, parts)?;
     let links = link(alloc, &summaries)?;
@@ -53,7 +53,7 @@ pub fn kinds_of(
     parts: &[Part],
 ) -> Result<Vec<ItemKind>, OutOfMemory>
     requires parts { All (IsPart text.now tokens.now) parts.now }
-    ensures { IfOk result (λ v. v.items ≡ (linked_of text.now (map (part_of tokens.now) parts.now)).kinds) }
+    ensures { IfOk result (λ v. v.items ≡ (linked_of text.now (map (item_of_part tokens.now) parts.now)).kinds) }
 {
     let mut kinds = Vec::with_capacity(alloc, parts.len())?;
     for part in parts {

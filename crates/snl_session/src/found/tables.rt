@@ -9,7 +9,7 @@ ghost use Rattle.snl_check.specs.Items.{IsCutUp, outlines_of, program_items};
 ghost use Rattle.snl_check.specs.Tables.{tables_of};
 ghost use Rattle.snl_check.specs.Told.{told_kept, told_seen};
 ghost use Rattle.snl_session.specs.Checks.{checks_over};
-ghost use Rattle.snl_session.specs.Parts.{part_of, tree_of_part};
+ghost use Rattle.snl_session.specs.Parts.{item_of_part, tree_of_part};
 
 use crate::found::program::Part;
 use snl_check::{Checked, Tables, tables_by_tokens};
@@ -80,10 +80,10 @@ pub fn tables_of(
     requires lines { IsLineList text.now lines.now.ends.items lines.now.markers.items lines.now.naming.items }
     requires tokens { tokens.now ≡ tokens_of text.now }
     requires cut { IsCutUp text.now tokens.now ends.now (length parts.now) }
-    requires items { program_items tokens.now ends.now (map tree_of_part parts.now) ≡ map (part_of tokens.now) parts.now }
-    requires links { links.now.outlines ≡ outlines_of text.now (map (part_of tokens.now) parts.now) }
-    requires checks { map (λ c. c.now) checks.now ≡ checks_over text.now (map (part_of tokens.now) parts.now) }
-    ensures { IfOk result (λ t. t ≡ tables_of text.now (map (part_of tokens.now) parts.now)) }
+    requires items { program_items tokens.now ends.now (map tree_of_part parts.now) ≡ map (item_of_part tokens.now) parts.now }
+    requires links { links.now.outlines ≡ outlines_of text.now (map (item_of_part tokens.now) parts.now) }
+    requires checks { map (λ c. c.now) checks.now ≡ checks_over text.now (map (item_of_part tokens.now) parts.now) }
+    ensures { IfOk result (λ t. t ≡ tables_of text.now (map (item_of_part tokens.now) parts.now)) }
 {
     let ends = widened(alloc, ends)?;
     let trees = trees_of(alloc, parts)?;

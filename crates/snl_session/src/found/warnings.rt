@@ -6,7 +6,7 @@ ghost use Rattle.std.specs.Prelude.{◌≡◌, All, map};
 ghost use Rattle.std.specs.Option.{option_copied};
 ghost use Rattle.snl_lex.specs.Pieces.{LiesIn};
 ghost use Rattle.snl_session.specs.Linked.{outlines_of};
-ghost use Rattle.snl_session.specs.Parts.{IsPart, part_of};
+ghost use Rattle.snl_session.specs.Parts.{IsPart, item_of_part};
 ghost use Rattle.snl_session.specs.Warnings.{setting_in, shows_warnings};
 
 use crate::found::program::Part;
@@ -37,8 +37,8 @@ pub fn shows_warnings(
 ) -> bool
     requires tokens { All (LiesIn text.now) tokens.now }
     requires parts { All (IsPart text.now tokens.now) parts.now }
-    requires links { links.now.outlines ≡ outlines_of text.now (map (part_of tokens.now) parts.now) }
-    ensures { result ≡ shows_warnings text.now (map (part_of tokens.now) parts.now) }
+    requires links { links.now.outlines ≡ outlines_of text.now (map (item_of_part tokens.now) parts.now) }
+    ensures { result ≡ shows_warnings text.now (map (item_of_part tokens.now) parts.now) }
 {
     let mut shown = true;
     for (item, part) in parts.iter().enumerate() {

@@ -4,14 +4,14 @@ ghost use Rattle.std.specs.Prelude.{◌≡◌, ℕ, List, Some, false, is_some, 
 ghost use Rattle.snl_lex.specs.declared.shift.Shift.{Shift};
 ghost use Rattle.snl_scope.specs.Linked.{faults_of};
 ghost use Rattle.snl_scope.specs.Order.{state_name};
-ghost use Rattle.snl_scope.specs.Places.{place};
+ghost use Rattle.snl_scope.specs.Places.{enclosing_set};
 ghost use Rattle.snl_tables.specs.Shifted.{shifted_tables, with_body};
 ghost use Rattle.snl_check.specs.ShiftedAround.{SaysAlike, set_number, state_number};
 ghost use Rattle.snl_check.specs.States.{state_body};
 ghost use Rattle.snl_session.specs.declared.entries.Entry.{Entry};
 ghost use Rattle.snl_session.specs.declared.ways.plan.Changes.{Changes};
 ghost use Rattle.snl_session.specs.Checks.{links_in, outlines_in};
-ghost use Rattle.snl_session.specs.Inside.{IsAfterInside, own_item};
+ghost use Rattle.snl_session.specs.ItemPlan.{IsAfterInside, own_item};
 ghost use Rattle.snl_session.specs.ReplacedItem.{IsInside, SparesInside, own_head};
 ghost use Rattle.snl_session.specs.Tables.{tables_in};
 
@@ -27,7 +27,7 @@ pub fn edit_inside_a_state()
         → SaysAlike old text (own_item old c.items.kept_front) (own_item text c.items.kept_front)
         → SparesInside (own_head old c) c.items.kept_front (faults_of (links_in old))
         → is_some (state_name x.summary.outline) ≡ true
-        → place (outlines_in old) c.items.kept_front ≡ Some set
+        → enclosing_set (outlines_in old) c.items.kept_front ≡ Some set
         → IsAfterInside old text s c.items.kept_front (with_body (shifted_tables s (tables_in old)) (set_number (outlines_in old) set) (state_number (outlines_in old) set c.items.kept_front) (state_body text (outlines_in old) c.items.kept_front (own_item text c.items.kept_front))) }
 {
     one_item_replaced();

@@ -6,7 +6,7 @@ ghost use Rattle.std.specs.Prelude.{◌≡◌, ◌↔◌, All, IfOk, IsTrue, map
 ghost use Rattle.snl_lex.specs.Pieces.{LiesIn};
 ghost use Rattle.snl_scope.specs.Linked.{faults_of};
 ghost use Rattle.snl_check.specs.ShiftedAround.{is_plain};
-ghost use Rattle.snl_session.specs.Inside.{AreAlike, SaysTheSame};
+ghost use Rattle.snl_session.specs.ItemPlan.{AreAlike, SaysTheSame};
 ghost use Rattle.snl_session.specs.ReplacedItem.{DeclaresInHead, SparesInside};
 
 use crate::entries::Entry;

@@ -5,7 +5,7 @@ ghost use Rattle.std.specs.Prelude.{◌≡◌, ◌+◌, ◌<◌, ◌≤◌, [], 
 ghost use Rattle.snl_cut.specs.Cut.{last_end, ticked};
 ghost use Rattle.snl_lex.specs.PieceList.{spelled};
 ghost use Rattle.snl_session.specs.Entries.{entry_by};
-ghost use Rattle.snl_session.specs.Inside.{AreOwnTokens, IsOneItem};
+ghost use Rattle.snl_session.specs.ItemPlan.{AreOwnTokens, IsOneItem};
 ghost use Rattle.snl_session.specs.Kept.{IsListed};
 ghost use Rattle.snl_session.specs.Planned.{AreEntriesMade, IsChanged};
 

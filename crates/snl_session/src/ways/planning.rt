@@ -5,7 +5,7 @@
 ghost use Rattle.std.specs.Prelude.{◌≡◌, IfOk, IsTrue, OnOk, length};
 ghost use Rattle.snl_session.specs.Diagnostics.{diagnostics_of};
 ghost use Rattle.snl_session.specs.Kept.{IsListed, SameLists};
-ghost use Rattle.snl_session.specs.Inside.{IsOneItem};
+ghost use Rattle.snl_session.specs.ItemPlan.{IsOneItem};
 ghost use Rattle.snl_session.specs.Planned.{AreEntriesMade, HasRoom, IsAnew, IsChanged, IsPlan, IsWholeWay, work_of};
 ghost use Rattle.snl_items.specs.Fresh.{fresh_items_between, fresh_pieces_between};
 ghost use Rattle.snl_lex.specs.LineList.{IsLineList};
@@ -16,7 +16,7 @@ use crate::edits::Work;
 use crate::entries::Entry;
 use crate::found::findings::Diagnostic;
 use crate::lists::Lists;
-use crate::ways::inside::{ItemWay, inside_of, item_way};
+use crate::ways::item_plan::{ItemWay, inside_of, item_way};
 use crate::ways::one_item::{made_alone, own_tokens, replaces_one};
 use crate::ways::plan::{Anew, Changes, WholeWay, anew_by, changes_of, made_entries, whole_way};
 use crate::ways::shift::{ShortWay, shift_of, short_way};

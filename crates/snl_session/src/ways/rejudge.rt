@@ -8,7 +8,7 @@ ghost use Rattle.snl_lex.specs.LineList.{IsLineList};
 ghost use Rattle.snl_lex.specs.Pieces.{tokens_of};
 ghost use Rattle.snl_session.specs.Diagnostics.{diagnostics_of, shown};
 ghost use Rattle.snl_session.specs.Kept.{IsListed};
-ghost use Rattle.snl_session.specs.Parts.{IsPart, part_of};
+ghost use Rattle.snl_session.specs.Parts.{IsPart, item_of_part};
 ghost use Rattle.snl_session.specs.Planned.{AreEntriesMade, IsChanged, IsRechecked};
 ghost use Rattle.snl_session.specs.Program.{items_of, program_item};
 ghost use Rattle.snl_session.specs.Rechecked.{kept_of};
@@ -74,7 +74,7 @@ fn recheck_after(
     requires lists { IsListed edit.now.old.now lists.now }
     requires changes { IsChanged edit.now.old.now edit.now.text.now edit.now.start edit.now.old_stop edit.now.new_stop changes.now }
     requires tokens { tokens.now ≡ tokens_of edit.now.text.now }
-    requires items { map (part_of tokens.now) parts.now ≡ items_of edit.now.text.now }
+    requires items { map (item_of_part tokens.now) parts.now ≡ items_of edit.now.text.now }
     requires parts { All (IsPart edit.now.text.now tokens.now) parts.now }
     requires made { AreEntriesMade edit.now.old.now edit.now.text.now changes.now.items.kept_front made.now changes.now.items.kept_back }
     ensures rechecked { IfOk result (IsRechecked edit.now.old.now edit.now.text.now changes.now.items.kept_front changes.now.items.kept_back) }
@@ -116,7 +116,7 @@ fn told_after(
     requires lists { IsListed edit.now.old.now lists.now }
     requires changes { IsChanged edit.now.old.now edit.now.text.now edit.now.start edit.now.old_stop edit.now.new_stop changes.now }
     requires text { cut.now.text.now ≡ edit.now.text.now }
-    requires items { map (part_of cut.now.tokens.now) parts.now ≡ map (program_item cut.now.text.now) (members cut.now.tokens.now 0 cut.now.ends.now) }
+    requires items { map (item_of_part cut.now.tokens.now) parts.now ≡ map (program_item cut.now.text.now) (members cut.now.tokens.now 0 cut.now.ends.now) }
     requires parts { All (IsPart cut.now.text.now cut.now.tokens.now) parts.now }
     requires rechecked { IsRechecked edit.now.old.now edit.now.text.now changes.now.items.kept_front changes.now.items.kept_back rechecked.now }
     ensures shown { IfOk result (λ t. t.shown.items ≡ shown edit.now.text.now) }

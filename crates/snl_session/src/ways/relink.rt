@@ -7,9 +7,9 @@ ghost use Rattle.std.specs.Prelude.{◌≡◌, ◌≤◌, ◌++◌, All, IfOk, I
 ghost use Rattle.snl_scope.specs.Linked.{faults_of};
 ghost use Rattle.snl_scope.specs.LinkedItems.{LinkedItems};
 ghost use Rattle.snl_session.specs.Checks.{links_in, outlines_in};
-ghost use Rattle.snl_session.specs.Inside.{outlines_kept};
+ghost use Rattle.snl_session.specs.ItemPlan.{outlines_kept};
 ghost use Rattle.snl_session.specs.Kept.{IsListed};
-ghost use Rattle.snl_session.specs.Parts.{IsPart, part_of};
+ghost use Rattle.snl_session.specs.Parts.{IsPart, item_of_part};
 ghost use Rattle.snl_session.specs.Planned.{AreEntriesMade, IsChanged};
 ghost use Rattle.snl_session.specs.Program.{items_of};
 ghost use Rattle.snl_session.specs.Relinked.{AreLinks, HasFaults, links_now};
@@ -146,7 +146,7 @@ fn with_kinds(
     parts: &[Part],
 ) -> Result<NewKinds, OutOfMemory>
     requires parts { All (IsPart text.now tokens.now) parts.now }
-    requires items { map (part_of tokens.now) parts.now ≡ items_of text.now }
+    requires items { map (item_of_part tokens.now) parts.now ≡ items_of text.now }
     requires outlines { links.now.outlines ≡ outlines_in text.now }
     ensures kinds { IfOk result (λ n. n.kinds.items ≡ (links_in text.now).kinds) }
     ensures faults { IfOk result (λ n. n.faults.items ≡ faults_of (links_in text.now)) }
@@ -168,7 +168,7 @@ pub fn relink(
 ) -> Result<NewLinks, OutOfMemory>
     requires lists { IsListed edit.now.old.now lists.now }
     requires changes { IsChanged edit.now.old.now edit.now.text.now edit.now.start edit.now.old_stop edit.now.new_stop changes.now }
-    requires items { map (part_of tokens.now) parts.now ≡ items_of edit.now.text.now }
+    requires items { map (item_of_part tokens.now) parts.now ≡ items_of edit.now.text.now }
     requires parts { All (IsPart edit.now.text.now tokens.now) parts.now }
     requires made { AreEntriesMade edit.now.old.now edit.now.text.now changes.now.items.kept_front made.now changes.now.items.kept_back }
     ensures { IfOk result (AreLinks edit.now.old.now edit.now.text.now) }

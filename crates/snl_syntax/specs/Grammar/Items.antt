@@ -8,7 +8,7 @@ use Rattle.snl_syntax.specs.declared.tree.clause.OptionLine.{OptionLine}
 use Rattle.snl_syntax.specs.declared.tree.state.StateMember.{StateMember}
 use Rattle.snl_syntax.specs.declared.tree.item.Item.{Item}
 use Rattle.snl_syntax.specs.declared.tree.item.Item.TheVariants as items
-use Rattle.snl_syntax.specs.Tokens.{Seat, ahead}
+use Rattle.snl_syntax.specs.Tokens.{NumberedKind, ahead}
 use Rattle.snl_syntax.specs.Grammar.Base.{First, Leaf, Perhaps}
 use Rattle.snl_syntax.specs.Grammar.Expressions.{AreTexts, IsExpr}
 use Rattle.snl_syntax.specs.Grammar.Declarations.{IsDeclaration}
@@ -18,31 +18,31 @@ use Rattle.snl_syntax.specs.Grammar.Functions.{IsParameter, IsTypedItem}
 use Rattle.snl_syntax.specs.Grammar.States.{IsBlockAfter, IsState}
 
 -- "(" texts ")"
-pub record AreBracketed (ns : List ℕ) (k rest : List Seat) : Type 0 where
-  pub m1 : List Seat
-  pub m2 : List Seat
+pub record AreBracketed (ns : List ℕ) (k rest : List NumberedKind) : Type 0 where
+  pub m1 : List NumberedKind
+  pub m2 : List NumberedKind
   pub opening : First kind.OpenParen k m1
   pub strings : AreTexts ns m1 m2
   pub closing : First kind.CloseParen m2 rest
 
 -- header = "program" NAME [ "(" texts ")" ]
-pub record IsHeader (n : ℕ) (ns : Option (List ℕ)) (k rest : List Seat) : Type 0 where
-  pub m1 : List Seat
-  pub m2 : List Seat
+pub record IsHeader (n : ℕ) (ns : Option (List ℕ)) (k rest : List NumberedKind) : Type 0 where
+  pub m1 : List NumberedKind
+  pub m2 : List NumberedKind
   pub word : First kind.Program k m1
   pub name : Leaf kind.Name n m1 m2
   pub parameters : Perhaps AreBracketed ns m2 rest
 
 -- ssbegin = "ss" NAME "{"
-pub record IsSetBegin (n : ℕ) (k rest : List Seat) : Type 0 where
-  pub m1 : List Seat
-  pub m2 : List Seat
+pub record IsSetBegin (n : ℕ) (k rest : List NumberedKind) : Type 0 where
+  pub m1 : List NumberedKind
+  pub m2 : List NumberedKind
   pub word : First kind.Ss k m1
   pub name : Leaf kind.Name n m1 m2
   pub opening : First kind.OpenBrace m2 rest
 
 -- An item that is in two levels more than `depth`: so the members of a state are in one more, and what the brackets of a `when` hold in `depth`. Tokens from the `free`th on may use `extra` more.
-pub data IsItemWithin (free extra depth : ℕ) (t : Item) (k rest : List Seat) : Type 0 where
+pub data IsItemWithin (free extra depth : ℕ) (t : Item) (k rest : List NumberedKind) : Type 0 where
   header : (n : ℕ) (ns : Option (List ℕ)) → t ≡ items.Header n ns → IsHeader n ns k rest → IsItemWithin free extra depth t k rest
   set_begin : (n : ℕ) → t ≡ items.SsBegin n → IsSetBegin n k rest → IsItemWithin free extra depth t k rest
   set_end : t ≡ items.SsEnd → First kind.CloseBrace k rest → IsItemWithin free extra depth t k rest

@@ -12,28 +12,28 @@ use Rattle.snl_syntax.specs.declared.tree.state.Target.TheVariants as targets
 use Rattle.snl_syntax.specs.declared.tree.state.Transition.{Transition}
 use Rattle.snl_syntax.specs.declared.tree.state.StateMember.{StateMember}
 use Rattle.snl_syntax.specs.declared.tree.state.StateMember.TheVariants as members
-use Rattle.snl_syntax.specs.Tokens.{Seat}
+use Rattle.snl_syntax.specs.Tokens.{NumberedKind}
 use Rattle.snl_syntax.specs.Grammar.Base.{Each, First, Leaf}
 use Rattle.snl_syntax.specs.Grammar.Statements.{IsBefore}
 use Rattle.snl_syntax.specs.Grammar.Clauses.{AreForeign, IsOptionLine, IsClause}
 
 -- entry = "entry" block, exit = "exit" block
-pub record IsBlockAfter (word : Kind) (Block : List Member → List Seat → List Seat → Type 0) (t : List Member) (k rest : List Seat) : Type 0 where
-  pub mid : List Seat
+pub record IsBlockAfter (word : Kind) (Block : List Member → List NumberedKind → List NumberedKind → Type 0) (t : List Member) (k rest : List NumberedKind) : Type 0 where
+  pub mid : List NumberedKind
   pub first : First word k mid
   pub block : Block t mid rest
 
 -- "state" NAME | "exit"
-pub data IsTarget (t : Target) (k rest : List Seat) : Type 0 where
-  next : (n : ℕ) (mid : List Seat) → t ≡ targets.State n → First kind.State k mid → Leaf kind.Name n mid rest → IsTarget t k rest
+pub data IsTarget (t : Target) (k rest : List NumberedKind) : Type 0 where
+  next : (n : ℕ) (mid : List NumberedKind) → t ≡ targets.State n → First kind.State k mid → Leaf kind.Name n mid rest → IsTarget t k rest
   leave : t ≡ targets.Exit → First kind.Exit k rest → IsTarget t k rest
 
 -- when = "when" "(" [expr] ")" block ( "state" NAME | "exit" )
-pub record IsTransition (Inside : Expr → List Seat → List Seat → Type 0) (Block : List Member → List Seat → List Seat → Type 0) (t : Transition) (k rest : List Seat) : Type 0 where
-  pub m1 : List Seat
-  pub m2 : List Seat
-  pub m3 : List Seat
-  pub m4 : List Seat
+pub record IsTransition (Inside : Expr → List NumberedKind → List NumberedKind → Type 0) (Block : List Member → List NumberedKind → List NumberedKind → Type 0) (t : Transition) (k rest : List NumberedKind) : Type 0 where
+  pub m1 : List NumberedKind
+  pub m2 : List NumberedKind
+  pub m3 : List NumberedKind
+  pub m4 : List NumberedKind
   pub word : First kind.When k m1
   pub opening : First kind.OpenParen m1 m2
   pub condition : IsBefore kind.CloseParen Inside t.condition m2 m3
@@ -41,7 +41,7 @@ pub record IsTransition (Inside : Expr → List Seat → List Seat → Type 0) (
   pub target : IsTarget t.target m4 rest
 
 -- smember = decl | foreign | assign | monitor | sync | syncq | option | ";" | CCODE | entry | exit | when
-pub data IsStateMember (Inside : Expr → List Seat → List Seat → Type 0) (Declared : Declaration → List Seat → List Seat → Type 0) (Block : List Member → List Seat → List Seat → Type 0) (t : StateMember) (k rest : List Seat) : Type 0 where
+pub data IsStateMember (Inside : Expr → List NumberedKind → List NumberedKind → Type 0) (Declared : Declaration → List NumberedKind → List NumberedKind → Type 0) (Block : List Member → List NumberedKind → List NumberedKind → Type 0) (t : StateMember) (k rest : List NumberedKind) : Type 0 where
   declaration : (d : Declaration) → t ≡ members.Declaration d → Declared d k rest → IsStateMember Inside Declared Block t k rest
   foreign : (ns : List ℕ) → t ≡ members.Foreign ns → AreForeign ns k rest → IsStateMember Inside Declared Block t k rest
   clause : (c : Clause) → t ≡ members.Clause c → IsClause c k rest → IsStateMember Inside Declared Block t k rest
@@ -53,11 +53,11 @@ pub data IsStateMember (Inside : Expr → List Seat → List Seat → Type 0) (D
   transition : (x : Transition) → t ≡ members.When x → IsTransition Inside Block x k rest → IsStateMember Inside Declared Block t k rest
 
 -- state = "state" NAME "{" { smember } "}"
-pub record IsState (Inside : Expr → List Seat → List Seat → Type 0) (Declared : Declaration → List Seat → List Seat → Type 0) (Block : List Member → List Seat → List Seat → Type 0) (n : ℕ) (ms : List StateMember) (k rest : List Seat) : Type 0 where
-  pub m1 : List Seat
-  pub m2 : List Seat
-  pub m3 : List Seat
-  pub m4 : List Seat
+pub record IsState (Inside : Expr → List NumberedKind → List NumberedKind → Type 0) (Declared : Declaration → List NumberedKind → List NumberedKind → Type 0) (Block : List Member → List NumberedKind → List NumberedKind → Type 0) (n : ℕ) (ms : List StateMember) (k rest : List NumberedKind) : Type 0 where
+  pub m1 : List NumberedKind
+  pub m2 : List NumberedKind
+  pub m3 : List NumberedKind
+  pub m4 : List NumberedKind
   pub word : First kind.State k m1
   pub name : Leaf kind.Name n m1 m2
   pub opening : First kind.OpenBrace m2 m3

@@ -2,7 +2,7 @@
 use Rattle.std.specs.Prelude.{◌≡◌, ℕ, Bool, true, false, List, [], ◌∷◌, ◌++◌, Option, Some, None, IfSome}
 use Rattle.snl_lex.specs.declared.kind.Kind.{Kind}
 use Rattle.snl_lex.specs.declared.kind.Kind.TheVariants as kind
-use Rattle.snl_syntax.specs.Tokens.{Seat}
+use Rattle.snl_syntax.specs.Tokens.{NumberedKind}
 
 -- a token's kind and, where the token is a leaf of the tree, its number
 abbrev pub Spelled : Type 0
@@ -54,11 +54,11 @@ abbrev pub in_braces : List Spelled → List Spelled
 in_braces part = word kind.OpenBrace ++ part ++ word kind.CloseBrace
 
 -- the token has the kind that is spelled, and a leaf's number is the token's
-abbrev pub IsToken : Spelled → Seat → Type 0
+abbrev pub IsToken : Spelled → NumberedKind → Type 0
 IsToken spelled s = (spelled.0 ≡ s.0) × IfSome spelled.1 (λ n. n ≡ s.1)
 
 -- The tokens are those that are spelled: as many, and each in its place.
-abbrev pub Matches : List Spelled → List Seat → Type 0
+abbrev pub Matches : List Spelled → List NumberedKind → Type 0
 Matches [] [] = Unit {0}
 Matches (x ∷ xs) (s ∷ k) = IsToken x s × Matches xs k
 Matches _ _ = ⊥

@@ -1,6 +1,6 @@
 use Rattle.snl_walk.specs.Items.{occurrences}
 use Rattle.snl_walk.specs.Rules.{findings}
-use Rattle.snl_check.specs.Outlook.{misses_by, outer_by}
+use Rattle.snl_check.specs.View.{misses_by, outer_by}
 use Rattle.snl_check.proofs.LeftToLinks.{item_codes}
 use Rattle.snl_check.proofs.fault_laws.faults_have_item_codes.Goals as goal
 

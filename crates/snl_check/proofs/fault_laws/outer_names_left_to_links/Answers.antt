@@ -1,6 +1,6 @@
 use Rattle.std.proofs.Common.{Some, ap, ◌∙◌}
 use Rattle.snl_walk.specs.Items.{occurrences}
-use Rattle.snl_check.specs.Outlook.{misses_by, outer_by}
+use Rattle.snl_check.specs.View.{misses_by, outer_by}
 use Rattle.snl_check.proofs.LeftToLinks.{left_to_links, own_tokens}
 use Rattle.snl_check.proofs.fault_laws.outer_names_left_to_links.Goals as goal
 

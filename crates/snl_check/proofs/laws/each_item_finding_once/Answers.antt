@@ -1,6 +1,6 @@
 use Rattle.snl_walk.specs.Items.{occurrences}
 use Rattle.snl_walk.specs.Rules.{findings}
-use Rattle.snl_check.specs.Outlook.{misses_by, outer_by}
+use Rattle.snl_check.specs.View.{misses_by, outer_by}
 use Rattle.snl_check.proofs.FaultsOnce.{faults_apart}
 use Rattle.snl_check.proofs.laws.each_item_finding_once.Goals as goal
 

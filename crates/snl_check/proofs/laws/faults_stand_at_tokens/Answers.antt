@@ -1,7 +1,7 @@
 use Rattle.std.proofs.Common.{length}
 use Rattle.snl_walk.specs.Items.{occurrences}
 use Rattle.snl_walk.specs.Rules.{findings}
-use Rattle.snl_check.specs.Outlook.{misses_by, outer_by}
+use Rattle.snl_check.specs.View.{misses_by, outer_by}
 use Rattle.snl_check.proofs.FaultsOnce.{faults_stand}
 use Rattle.snl_check.proofs.laws.faults_stand_at_tokens.Goals as goal
 

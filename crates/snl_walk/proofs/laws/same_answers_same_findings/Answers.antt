@@ -1,4 +1,4 @@
-use Rattle.snl_walk.proofs.Outlooks.{findings_alike}
+use Rattle.snl_walk.proofs.SameAnswers.{findings_alike}
 use Rattle.snl_walk.proofs.laws.same_answers_same_findings.Goals as goal
 
 pub returns : goal.returns

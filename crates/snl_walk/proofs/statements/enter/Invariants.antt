@@ -1,5 +1,5 @@
 use Rattle.std.proofs.Common.{◌≡◌, ◌++◌, ◌≤◌, length, drop}
-use Rattle.snl_walk.specs.Tokens.{bytes_at}
+use Rattle.snl_walk.specs.Tokens.{token_bytes}
 use Rattle.snl_walk.specs.Scopes.{under_names}
 use Rattle.snl_walk.proofs.statements.enter.Given as goal
 
@@ -7,7 +7,7 @@ use Rattle.snl_walk.proofs.statements.enter.Given as goal
 abbrev pub invariant-loop-left : goal.invariant-loop-left
 invariant-loop-left l = record {
   within : l.left ≤ length l.declared;
-  taken : l.names ≡ under_names (bytes_at l.source.text.now l.source.tokens.now) (drop l.left l.declared) ++ l.initial.names;
+  taken : l.names ≡ under_names (token_bytes l.source.text.now l.source.tokens.now) (drop l.left l.declared) ++ l.initial.names;
 }
 
 abbrev pub decreases-loop-left : goal.decreases-loop-left

@@ -1,5 +1,5 @@
 use Rattle.std.proofs.Common.{◌≡◌, ◌++◌, map, drop}
-use Rattle.snl_check.specs.Found.{fault_of}
+use Rattle.snl_check.specs.ItemFaults.{fault_of}
 use Rattle.snl_check.proofs.rules.check.add_findings.Given as goal
 
 -- the findings so far and those at the rest are those at all

@@ -1,14 +1,14 @@
 use Rattle.std.proofs.Common.{◌≡◌, All, arith, subst, sym}
 use Rattle.std.proofs.lemmas.Grind.{common_steps}
-use Rattle.snl_walk.specs.Tokens.{bytes_at}
-use Rattle.snl_check.specs.Found.{StandsIn, faults_in}
-use Rattle.snl_check.specs.Outlook.{is_in_set, known_of, leads_to}
+use Rattle.snl_walk.specs.Tokens.{token_bytes}
+use Rattle.snl_check.specs.ItemFaults.{StandsIn, faults_in}
+use Rattle.snl_check.specs.View.{is_in_set, known_of, leads_to}
 use Rattle.snl_check.proofs.Within.{faults_within}
 use Rattle.snl_check.proofs.rules.check.check_item.Goals as goal
 
 pub returns-clause-within : goal.returns-clause-within
 returns-clause-within c =
-    let bytes = bytes_at c.args.text.now c.args.tokens.now in
+    let bytes = token_bytes c.args.text.now c.args.tokens.now in
     let in_set = is_in_set c.args.links.now.outlines c.args.item in
     let fact = known_of c.args.links.now.outlines c.args.item in
     let target = leads_to c.args.links.now.outlines c.args.item in

@@ -6,7 +6,7 @@ use Rattle.std.specs.Option.{option_map_or}
 use Rattle.snl_scope.specs.Below.{all_below}
 use Rattle.snl_scope.specs.Flags.{declares_flag, is_first, is_first_at, is_flag}
 use Rattle.snl_scope.specs.Names.{Entry, entries}
-use Rattle.snl_scope.specs.Tables.{flag_stands, symbol_of}
+use Rattle.snl_scope.specs.NameTables.{flag_stands, symbol_of}
 use Rattle.snl_scope.proofs.Rising.{all_below-same, filter-all_below}
 use Rattle.snl_scope.proofs.clauses.flags.flags_of.Goals as goal
 

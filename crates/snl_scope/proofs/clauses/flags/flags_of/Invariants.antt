@@ -1,6 +1,6 @@
 use Rattle.std.proofs.Common.{◌≡◌, map}
 use Rattle.std.specs.List.{filter}
-use Rattle.snl_scope.specs.Tables.{flag_stands}
+use Rattle.snl_scope.specs.NameTables.{flag_stands}
 use Rattle.snl_scope.proofs.clauses.flags.flags_of.Given as goal
 
 -- the flags among the numbers so far

@@ -1,5 +1,5 @@
 use Rattle.std.proofs.Common.{◌≡◌, map, take}
-use Rattle.snl_scope.specs.Tables.{head_of}
+use Rattle.snl_scope.specs.NameTables.{head_of}
 use Rattle.snl_scope.proofs.items.heads.heads_of.Given as goal
 
 -- the heads of the items so far

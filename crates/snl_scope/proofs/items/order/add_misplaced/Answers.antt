@@ -4,7 +4,7 @@ use Rattle.snl_walk.specs.declared.codes.Code.TheVariants.{E03}
 use Rattle.snl_scope.specs.declared.summaries.summary.ItemKind.TheVariants.{Faulty}
 use Rattle.snl_scope.specs.LinkedItems.{LinkedItems}
 use Rattle.snl_scope.specs.Order.{is_misplaced}
-use Rattle.snl_scope.specs.Tables.{and_item, before, misplaced_after}
+use Rattle.snl_scope.specs.NameTables.{and_item, before, misplaced_after}
 use Rattle.snl_scope.proofs.OrderSteps.{before-step, found-step, misplaced_here}
 use Rattle.snl_scope.proofs.items.order.add_misplaced.Goals as goal
 
@@ -18,10 +18,10 @@ loop-item-preserved c =
     let is : slice_get c.args.kinds.now i ≡ Some k = slice_get-get_or c.args.kinds.now i Faulty (omega (arith, c.loop-item-test.true)) in
     record {
       known =
-          c.and-before.ensures ∙ ap (λ b. and_item b c.place-place.result k h.opening) so_far.known
-          ∙ ap (λ p. and_item (before l i) p k h.opening) c.place-place.ensures ∙ before-step l i h k c.head-opening.ensures is;
+          c.and-before.ensures ∙ ap (λ b. and_item b c.enclosing_set-enclosing_set.result k h.opening) so_far.known
+          ∙ ap (λ p. and_item (before l i) p k h.opening) c.enclosing_set-enclosing_set.ensures ∙ before-step l i h k c.head-opening.ensures is;
       found = found-step E03 (is_misplaced l) c.args.faults.now.items c.loop-item.faults.items c.add_if.new.faults.items i c.misplaces-is_misplaced.result so_far.found
-          (c.misplaces-is_misplaced.ensures ∙ ap (λ b. misplaced_after b c.place-place.result k h.opening) so_far.known
-          ∙ ap (λ p. misplaced_after (before l i) p k h.opening) c.place-place.ensures ∙ misplaced_here l i h k c.head-opening.ensures is) (c.in_ok-add_if.ensures);
+          (c.misplaces-is_misplaced.ensures ∙ ap (λ b. misplaced_after b c.enclosing_set-enclosing_set.result k h.opening) so_far.known
+          ∙ ap (λ p. misplaced_after (before l i) p k h.opening) c.enclosing_set-enclosing_set.ensures ∙ misplaced_here l i h k c.head-opening.ensures is) (c.in_ok-add_if.ensures);
       within = omega (arith, c.loop-item-test.true);
     }

@@ -2,7 +2,7 @@ use Rattle.std.proofs.Common.{◌≡◌, ◌++◌, ◌≤◌, length}
 use Rattle.snl_walk.specs.declared.codes.Code.TheVariants.{E03}
 use Rattle.snl_scope.specs.LinkedItems.{LinkedItems}
 use Rattle.snl_scope.specs.Order.{at_items_where, is_misplaced}
-use Rattle.snl_scope.specs.Tables.{before}
+use Rattle.snl_scope.specs.NameTables.{before}
 use Rattle.snl_scope.proofs.items.order.add_misplaced.Given as goal
 
 -- what the items so far say, and what is found at them

@@ -2,7 +2,7 @@ use Rattle.std.proofs.Common.{◌<◌, ◌||◌, length, ap, ◌∙◌, arith}
 use Rattle.snl_walk.specs.declared.codes.Code.TheVariants.{E06}
 use Rattle.snl_scope.specs.declared.items.heads.Member.TheVariants as member
 use Rattle.snl_scope.specs.Order.{is_ss_word, is_stateless}
-use Rattle.snl_scope.specs.Tables.{Marked, is_member}
+use Rattle.snl_scope.specs.NameTables.{Marked, is_member}
 use Rattle.snl_scope.proofs.Marks.{stateless_here}
 use Rattle.snl_scope.proofs.OrderSteps.{any-step, found-step}
 use Rattle.snl_scope.proofs.items.order.add_missing_states.Goals as goal

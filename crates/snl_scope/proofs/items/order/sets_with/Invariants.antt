@@ -1,5 +1,5 @@
 use Rattle.std.proofs.Common.{◌≤◌, length}
-use Rattle.snl_scope.specs.Tables.{Marked, is_member}
+use Rattle.snl_scope.specs.NameTables.{Marked, is_member}
 use Rattle.snl_scope.proofs.items.order.sets_with.Given as goal
 
 -- the marks are those of the items so far

@@ -1,6 +1,6 @@
 use Rattle.std.proofs.Common.{◌≡◌, ◌+◌, Some, None, map, slice_get, sym, ap, subst, ◌∙◌, arith, add-one, if◌then◌else◌}
-use Rattle.snl_scope.specs.Places.{begins_set, ends_set, place, open_before}
-use Rattle.snl_scope.specs.Tables.{Placed}
+use Rattle.snl_scope.specs.Places.{begins_set, ends_set, enclosing_set, open_before}
+use Rattle.snl_scope.specs.NameTables.{Placed}
 use Rattle.snl_scope.proofs.Searches.{get-map}
 use Rattle.snl_scope.proofs.OpenSets.{open_step, place_here, placed-push}
 use Rattle.snl_scope.proofs.items.places.places_of.Goals as goal
@@ -12,7 +12,7 @@ loop-item-preserved c =
     let s = c.index-outlines-item.result.now in
     let known = c.loop-item.invariant in
     let at : slice_get ss i ≡ Some s = get-map (λ s. s.now) c.args.outlines.now i c.index-outlines-item.result (omega (arith, c.loop-item-test.true)) c.index-outlines-item.is in
-    let here : c.place_in.result ≡ place ss i = c.place_in.ensures ∙ ap (λ o. if begins_set s.role then None else o) known.opened ∙ sym (place_here ss i s at) in
+    let here : c.place_in.result ≡ enclosing_set ss i = c.place_in.ensures ∙ ap (λ o. if begins_set s.role then None else o) known.opened ∙ sym (place_here ss i s at) in
     record {
       placed = subst (λ ps. Placed ps ss (i + 1)) (sym c.in_ok-push.ensures.items) (placed-push c.loop-item.places.items ss i c.place_in.result known.placed here);
       opened =

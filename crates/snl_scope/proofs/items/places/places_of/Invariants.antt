@@ -1,6 +1,6 @@
 use Rattle.std.proofs.Common.{◌≡◌, ◌≤◌, length, map}
 use Rattle.snl_scope.specs.Places.{open_before}
-use Rattle.snl_scope.specs.Tables.{Placed}
+use Rattle.snl_scope.specs.NameTables.{Placed}
 use Rattle.snl_scope.proofs.items.places.places_of.Given as goal
 
 -- the places and the open state set are those of the items so far

@@ -8,15 +8,15 @@ use Rattle.snl_lex.specs.declared.piece.Piece.{Piece}
 use Rattle.snl_lex.specs.Pieces.{LiesIn}
 use Rattle.snl_syntax.specs.declared.tree.item.Item.{Item}
 use Rattle.snl_scope.specs.declared.summaries.summary.Outline.{Outline}
-use Rattle.snl_scope.specs.Summaries.Tokens.{bytes_at}
+use Rattle.snl_scope.specs.Summaries.Tokens.{token_bytes}
 use Rattle.snl_check.specs.declared.rules.findings.Checked.{Checked}
-use Rattle.snl_check.specs.Found.{StandsIn, faults_in}
-use Rattle.snl_check.specs.Outlook.{is_in_set, known_of, leads_to}
+use Rattle.snl_check.specs.ItemFaults.{StandsIn, faults_in}
+use Rattle.snl_check.specs.View.{is_in_set, known_of, leads_to}
 use Rattle.snl_session.specs.declared.found.findings.Finding.{Finding}
 use Rattle.snl_session.specs.Checked.{HasOffset, at_own_token, faults_kept, found_in_item}
 use Rattle.snl_session.specs.Checks.{check_of_item, checks_over}
 use Rattle.snl_session.specs.Linked.{outlines_of}
-use Rattle.snl_session.specs.Parts.{part_of, tokens_of_part}
+use Rattle.snl_session.specs.Parts.{item_of_part, tokens_of_part}
 use Rattle.snl_session.specs.Program.{ProgramItem}
 use Rattle.snl_session.proofs.Offsets.{have_offsets}
 use Rattle.snl_session.proofs.Steps.{added, drop_image}
@@ -50,12 +50,12 @@ offsets_by : (text : List ℕ) (ss : List Outline) (i : ℕ) (tokens : List Piec
     → let x : ProgramItem = record { tokens = tokens; tree = tree } in All (HasOffset tokens) (faults_kept (check_of_item text ss (i, x)))
 offsets_by text ss i tokens None small lie stand = All-nil (HasOffset tokens)
 offsets_by text ss i tokens (Some tree) small lie stand =
-    have_offsets text tokens (faults_in (bytes_at text tokens) tree (is_in_set ss i) (known_of ss i) (leads_to ss i)) small lie (stand (bytes_at text tokens) tree)
+    have_offsets text tokens (faults_in (token_bytes text tokens) tree (is_in_set ss i) (known_of ss i) (leads_to ss i)) small lie (stand (token_bytes text tokens) tree)
 
 pub bounds-checks-item : goal.bounds-checks-item
 bounds-checks-item c =
     let parts = c.args.parts.now in
-    let item = part_of c.args.tokens.now in
+    let item = item_of_part c.args.tokens.now in
     omega (arith, c.loop-item-test.true, as_many c.args.text.now (map item parts) c.args.checks.now c.requires.checks, length-map parts item)
 
 pub add_item-requires : goal.add_item-requires
@@ -64,7 +64,7 @@ add_item-requires c =
     let tokens = c.args.tokens.now in
     let parts = c.args.parts.now in
     let i = c.loop-item.item in
-    let item = part_of tokens in
+    let item = item_of_part tokens in
     let xs = map item parts in
     let ss = outlines_of text xs in
     let first = c.index-parts-item.result in
@@ -82,7 +82,7 @@ loop-item-preserved c =
     let tokens = c.args.tokens.now in
     let parts = c.args.parts.now in
     let i = c.loop-item.item in
-    let item = part_of tokens in
+    let item = item_of_part tokens in
     let xs = map item parts in
     let ss = outlines_of text xs in
     let first = c.index-parts-item.result in

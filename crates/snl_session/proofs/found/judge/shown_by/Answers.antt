@@ -4,7 +4,7 @@ use Rattle.snl_session.specs.Checked.{checked_faults}
 use Rattle.snl_session.specs.Diagnostics.{found, shown, shown_if, shown_of}
 use Rattle.snl_session.specs.Faults.{faults_of}
 use Rattle.snl_session.specs.Linked.{linked_faults}
-use Rattle.snl_session.specs.Parts.{part_of}
+use Rattle.snl_session.specs.Parts.{item_of_part}
 use Rattle.snl_session.specs.Program.{ProgramItem, items_of}
 use Rattle.snl_session.specs.Tables.{walked_faults, walked_in}
 use Rattle.snl_session.proofs.Trees.{same_items, tokens_lie}
@@ -26,7 +26,7 @@ pub returns : goal.returns
 returns c =
     let cut = c.args.cut.now in
     let text = cut.text.now in
-    let xs = map (part_of cut.tokens.now) c.args.parts.now in
+    let xs = map (item_of_part cut.tokens.now) c.args.parts.now in
     let items : xs ≡ items_of text = same_items text cut.tokens.now cut.ends.now xs cut.tokens_are cut.ends_are c.requires.items in
     same_shown text xs c.keep_shown.new.found.items items
     (c.keep_shown.ensures

@@ -2,7 +2,7 @@ use Rattle.std.proofs.Common.{◌≡◌, ℕ, List, ◌++◌, length, map, ap, s
 use Rattle.snl_lex.specs.Pieces.{tokens_of}
 use Rattle.snl_tables.specs.declared.rows.Tables.{Tables}
 use Rattle.snl_check.specs.Tables.{tables_of}
-use Rattle.snl_session.specs.Parts.{EndsWithin, part_of}
+use Rattle.snl_session.specs.Parts.{EndsWithin, item_of_part}
 use Rattle.snl_session.specs.Program.{ProgramItem, items_of}
 use Rattle.snl_session.specs.Tables.{tables_in}
 use Rattle.snl_session.specs.Warnings.{shows_warnings}
@@ -37,11 +37,11 @@ same_tables text xs all items is = is ∙ ap (tables_of text) items
 pub returns-clause-tables : goal.returns-clause-tables
 returns-clause-tables c =
     let cut = c.args.cut.now in
-    let xs = map (part_of cut.tokens.now) c.args.parts.now in
+    let xs = map (item_of_part cut.tokens.now) c.args.parts.now in
     same_tables cut.text.now xs c.in_ok-tables.tables (same_items cut.text.now cut.tokens.now cut.ends.now xs cut.tokens_are cut.ends_are c.requires.items) c.in_ok-tables.ensures
 
 pub returns-clause-warns : goal.returns-clause-warns
 returns-clause-warns c =
     let cut = c.args.cut.now in
-    let xs = map (part_of cut.tokens.now) c.args.parts.now in
+    let xs = map (item_of_part cut.tokens.now) c.args.parts.now in
     c.shows_warnings-warns.ensures ∙ ap (shows_warnings cut.text.now) (same_items cut.text.now cut.tokens.now cut.ends.now xs cut.tokens_are cut.ends_are c.requires.items)

@@ -7,7 +7,7 @@ use Rattle.snl_lex.specs.PieceList.{spelled}
 use Rattle.snl_session.specs.declared.entries.Entry.{Entry}
 use Rattle.snl_session.specs.declared.found.program.Part.{Part}
 use Rattle.snl_session.specs.Entries.{entry_by}
-use Rattle.snl_session.specs.Parts.{EndsWithin, IsPart, part_of, tokens_between}
+use Rattle.snl_session.specs.Parts.{EndsWithin, IsPart, item_of_part, tokens_between}
 use Rattle.snl_session.specs.Program.{program_item}
 use Rattle.snl_session.proofs.Members.{spelled_between}
 use Rattle.snl_session.proofs.Parts.{is_part, part_item, same_first, some_left}
@@ -44,11 +44,11 @@ loop-number-preserved c =
       ends = left.2;
       entries = both.1;
       parts =
-          ap (λ l. map (part_of tokens) l ++ after) c.in_ok-push.ensures.items
-          ∙ ap (λ l. l ++ after) (map-append (part_of tokens) done (part ∷ []))
-          ∙ append_assoc (map (part_of tokens) done) (part_of tokens part ∷ []) after
-          ∙ ap (λ x. map (part_of tokens) done ++ x ∷ after) (part_item text tokens part left.0 left.1 is spelling summary (c.outcome_told.ensures.tree text own))
-          ∙ sym (ap (λ l. map (part_of tokens) done ++ map (program_item text) (members tokens start l)) here)
+          ap (λ l. map (item_of_part tokens) l ++ after) c.in_ok-push.ensures.items
+          ∙ ap (λ l. l ++ after) (map-append (item_of_part tokens) done (part ∷ []))
+          ∙ append_assoc (map (item_of_part tokens) done) (item_of_part tokens part ∷ []) after
+          ∙ ap (λ x. map (item_of_part tokens) done ++ x ∷ after) (part_item text tokens part left.0 left.1 is spelling summary (c.outcome_told.ensures.tree text own))
+          ∙ sym (ap (λ l. map (item_of_part tokens) done ++ map (program_item text) (members tokens start l)) here)
           ∙ c.loop-number.invariant.parts;
       inside = subst (All (IsPart text tokens)) (sym c.in_ok-push.ensures.items) (All-push (IsPart text tokens) done part c.loop-number.invariant.inside (is_part text tokens part left.0 left.1 is spelling summary));
     }

@@ -3,7 +3,7 @@ use Rattle.std.specs.List.{All}
 use Rattle.snl_cut.specs.Cut.{members}
 use Rattle.snl_lex.specs.PieceList.{spelled}
 use Rattle.snl_session.specs.Entries.{entry_by}
-use Rattle.snl_session.specs.Parts.{EndsWithin, IsPart, part_of}
+use Rattle.snl_session.specs.Parts.{EndsWithin, IsPart, item_of_part}
 use Rattle.snl_session.specs.Program.{program_item}
 use Rattle.snl_session.proofs.found.program.parts_along.Given as goal
 
@@ -12,6 +12,6 @@ abbrev pub invariant-loop-number : goal.invariant-loop-number
 invariant-loop-number l = record {
   ends : EndsWithin l.start (drop l.number l.ends) (length l.tokens);
   entries : map (λ e. e.now) (drop l.number l.entries) ≡ map entry_by (members (spelled l.text l.tokens) l.start (drop l.number l.ends));
-  parts : map (part_of l.tokens) l.parts.items ++ map (program_item l.text) (members l.tokens l.start (drop l.number l.ends)) ≡ map (program_item l.text) (members l.tokens 0 l.ends);
+  parts : map (item_of_part l.tokens) l.parts.items ++ map (program_item l.text) (members l.tokens l.start (drop l.number l.ends)) ≡ map (program_item l.text) (members l.tokens 0 l.ends);
   inside : All (IsPart l.text l.tokens) l.parts.items;
 }

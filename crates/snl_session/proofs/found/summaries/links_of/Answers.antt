@@ -3,7 +3,7 @@ use Rattle.std.proofs.lemmas.Simd.{map-map}
 use Rattle.snl_scope.specs.declared.summaries.summary.Summary.{Summary}
 use Rattle.snl_scope.specs.LinkedItems.{linked_items}
 use Rattle.snl_check.specs.Items.{ProgramItem, linked_of, summaries_of, summary_of_item}
-use Rattle.snl_session.specs.Parts.{part_of}
+use Rattle.snl_session.specs.Parts.{item_of_part}
 use Rattle.snl_session.proofs.found.summaries.links_of.Goals as goal
 
 -- the outlines and the kinds of the summaries are those of the items
@@ -12,10 +12,10 @@ linked-summaries text xs = λ j. record { outlines = map-map (λ s. s.outline) (
 
 pub returns-clause-links : goal.returns-clause-links
 returns-clause-links c =
-    let xs = map (part_of c.args.tokens.now) c.args.parts.now in
+    let xs = map (item_of_part c.args.tokens.now) c.args.parts.now in
     c.in_ok-links.ensures ∙ ap (λ (l : List (Bor Summary)). linked_items (map (λ (s : Bor Summary). s.now) l)) c.deref.ensures.value ∙ ap linked_items c.in_ok-summaries.ensures ∙ linked-summaries c.args.text.now xs
 
 pub returns-clause-outlines : goal.returns-clause-outlines
 returns-clause-outlines c =
-    let xs = map (part_of c.args.tokens.now) c.args.parts.now in
+    let xs = map (item_of_part c.args.tokens.now) c.args.parts.now in
     ap (λ l. l.outlines) (c.in_ok-links.ensures ∙ ap (λ (l : List (Bor Summary)). linked_items (map (λ (s : Bor Summary). s.now) l)) c.deref.ensures.value ∙ ap linked_items c.in_ok-summaries.ensures ∙ linked-summaries c.args.text.now xs)

@@ -7,7 +7,7 @@ use Rattle.snl_check.specs.Items.{program_items}
 use Rattle.snl_check.specs.Told.{Told, told_in_item, told_kept, told_seen}
 use Rattle.snl_session.specs.Checks.{check_of_item}
 use Rattle.snl_session.specs.Linked.{outlines_of}
-use Rattle.snl_session.specs.Parts.{part_of}
+use Rattle.snl_session.specs.Parts.{item_of_part}
 use Rattle.snl_session.specs.Program.{ProgramItem}
 use Rattle.snl_session.proofs.found.tables.tables_of.Goals as goal
 
@@ -24,7 +24,7 @@ pub tables_by_tokens-requires-clause-checked : goal.tables_by_tokens-requires-cl
 tables_by_tokens-requires-clause-checked c =
     let text = c.args.text.now in
     let tokens = c.args.tokens.now in
-    let xs = map (part_of tokens) c.args.parts.now in
+    let xs = map (item_of_part tokens) c.args.parts.now in
     let items : program_items tokens c.deref.result.now (map option_copied c.deref-2.result.now) ≡ xs =
     ap₂ (λ (es : List ℕ) (ts : List (Option Item)). program_items tokens es ts) (c.deref.ensures.value ∙ c.in_ok-ends.ensures) (ap (map (λ (o : Option (Bor Item)). option_copied o)) c.deref-2.ensures.value ∙ c.in_ok-trees.ensures) ∙ c.requires.items in
     ap (map told_seen) c.deref-3.ensures.value

@@ -1,7 +1,7 @@
 use Rattle.std.proofs.Common.{◌≡◌, ◌+◌, Bool, List, Option, Some, None, drop, map, refl, ap, sym, ◌∙◌}
 use Rattle.std.specs.List.{cons_option, enumerate_from, filter_map}
 use Rattle.std.specs.Option.{unwrap_or}
-use Rattle.snl_session.specs.Parts.{part_of, tokens_of_part}
+use Rattle.snl_session.specs.Parts.{item_of_part, tokens_of_part}
 use Rattle.snl_session.specs.Warnings.{last_or, setting_in, setting_of_item}
 use Rattle.snl_session.proofs.Steps.{drop_image}
 use Rattle.snl_session.proofs.found.warnings.shows_warnings.Goals as goal
@@ -15,7 +15,7 @@ last_or-more default (Some setting) settings = refl
 pub loop-item-preserved : goal.loop-item-preserved
 loop-item-preserved c =
     let i = c.loop-item.item in
-    let item = part_of c.args.tokens.now in
+    let item = item_of_part c.args.tokens.now in
     let xs = map item c.args.parts.now in
     let first = c.index-parts-item.result in
     let setting = setting_of_item c.args.text.now c.args.links.now.outlines in

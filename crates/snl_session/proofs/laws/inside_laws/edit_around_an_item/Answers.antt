@@ -10,7 +10,7 @@ use Rattle.snl_check.specs.Shifted.{shifted_item}
 use Rattle.snl_check.specs.ShiftedAround.{IsSoundAsItWas}
 use Rattle.snl_session.specs.Checks.{links_in}
 use Rattle.snl_session.specs.Diagnostics.{shown}
-use Rattle.snl_session.specs.Inside.{own_item}
+use Rattle.snl_session.specs.ItemPlan.{own_item}
 use Rattle.snl_session.specs.ReplacedItem.{SparesInside, own_head, own_shown}
 use Rattle.snl_session.specs.Order.{in_order}
 use Rattle.snl_session.specs.OwnFindings.{found_around}

@@ -11,7 +11,7 @@ use Rattle.snl_check.specs.Shifted.{shifted_item}
 use Rattle.snl_check.specs.ShiftedAround.{SaysAlike, SaysAlikeAt}
 use Rattle.snl_session.specs.Checks.{links_in}
 use Rattle.snl_session.specs.Diagnostics.{shown}
-use Rattle.snl_session.specs.Inside.{own_item}
+use Rattle.snl_session.specs.ItemPlan.{own_item}
 use Rattle.snl_session.specs.ReplacedItem.{SparesInside, own_head, own_shown}
 use Rattle.snl_session.specs.Order.{in_order}
 use Rattle.snl_session.specs.OwnFindings.{found_around}
@@ -33,7 +33,7 @@ same_one x y e = cc
 
 pub returns : goal.returns
 unfolding tables_in
-returns c = λ old text start old_stop new_stop changes s x e set inside alike spares named place.
+returns c = λ old text start old_stop new_stop changes s x e set inside alike spares named enclosing_set.
     let one = c.one_item_replaced.ensures old text start old_stop new_stop changes s x e inside in
     let j : ℕ = changes.items.kept_front in
     let was : ProgramItem = own_item old j in
@@ -50,7 +50,7 @@ returns c = λ old text start old_stop new_stop changes s x e set inside alike s
     let at : slice_get (outlines_of old (items_of old)) j ≡ Some x.summary.outline =
     slice_get-map (outline_of_item old) (items_of old) j ∙ ap (option_map (outline_of_item old)) got_was ∙ ap Some one.outline_was in
     let named_here : is_named_state (outlines_of old (items_of old)) j ≡ true = ap (λ (o : Option Outline). option_map_or (λ (y : Outline). is_some (state_name y)) o false) at ∙ named in
-    let tables = c.tables_shift_inside_a_state.ensures old text s (items_of old) (items_of text) j set is one.inside.shift.some_before (items_are_read old (c.text_in_pieces.ensures.inside old)) one.one place named_here got_is says in
+    let tables = c.tables_shift_inside_a_state.ensures old text s (items_of old) (items_of text) j set is one.inside.shift.some_before (items_are_read old (c.text_in_pieces.ensures.inside old)) one.one enclosing_set named_here got_is says in
     let walked : walked_in (tables_in text) ≡ map (shifted_finding s) (walked_in (tables_in old)) =
     ap walked_in tables ∙ walked_stay (shifted_tables s (tables_in old)) _ _ _ ∙ walked_shift s (tables_in old) in
     let replaced = one.one.replaced was is got_was got_is in

@@ -1,7 +1,7 @@
 use Rattle.std.proofs.Common.{map, ap, sym, subst, ◌∙◌}
 use Rattle.std.specs.List.{All}
 use Rattle.snl_lex.specs.Pieces.{tokens_of}
-use Rattle.snl_session.specs.Parts.{IsPart, part_of}
+use Rattle.snl_session.specs.Parts.{IsPart, item_of_part}
 use Rattle.snl_session.specs.Program.{items_of}
 use Rattle.snl_session.proofs.Trees.{same_items}
 use Rattle.snl_session.proofs.ways.rejudge.retell_cut.Goals as goal
@@ -12,8 +12,8 @@ recheck_after-requires-clause-tokens c = c.args.cut.now.tokens_are ∙ ap tokens
 pub recheck_after-requires-clause-items : goal.recheck_after-requires-clause-items
 recheck_after-requires-clause-items c =
     let cut = c.args.cut.now in
-    ap (map (part_of cut.tokens.now)) c.deref.ensures.value
-    ∙ same_items cut.text.now cut.tokens.now cut.ends.now (map (part_of cut.tokens.now) c.in_ok-parts.parts.items) cut.tokens_are cut.ends_are c.in_ok-parts.ensures.items ∙ ap items_of c.requires.text
+    ap (map (item_of_part cut.tokens.now)) c.deref.ensures.value
+    ∙ same_items cut.text.now cut.tokens.now cut.ends.now (map (item_of_part cut.tokens.now) c.in_ok-parts.parts.items) cut.tokens_are cut.ends_are c.in_ok-parts.ensures.items ∙ ap items_of c.requires.text
 
 pub recheck_after-requires-clause-parts : goal.recheck_after-requires-clause-parts
 recheck_after-requires-clause-parts c =

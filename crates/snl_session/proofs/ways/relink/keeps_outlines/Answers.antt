@@ -2,7 +2,7 @@ use Rattle.std.proofs.Common.{arith, ◌≡◌, ℕ, ◌-◌, ◌++◌, List, le
 use Rattle.snl_session.specs.declared.entries.Entry.{Entry}
 use Rattle.snl_session.specs.Checks.{outlines_in}
 use Rattle.snl_session.specs.Entries.{entries_of}
-use Rattle.snl_session.specs.Inside.{outlines_kept}
+use Rattle.snl_session.specs.ItemPlan.{outlines_kept}
 use Rattle.snl_session.proofs.InsideMade.{kept_outlines}
 use Rattle.snl_session.proofs.Members.{entries_count}
 use Rattle.snl_session.proofs.ways.relink.keeps_outlines.Goals as goal

@@ -1,6 +1,6 @@
 use Rattle.std.proofs.Common.{arith, ◌≡◌, ◌-◌, length, take, drop, map, ap, sym, ◌∙◌}
 use Rattle.std.proofs.Math.Seq.{take-length}
-use Rattle.snl_session.specs.Inside.{outlines_kept}
+use Rattle.snl_session.specs.ItemPlan.{outlines_kept}
 use Rattle.snl_session.proofs.KeptOutlines.{all_same, one_more}
 use Rattle.snl_session.proofs.Steps.{drop_here}
 use Rattle.snl_session.proofs.ways.relink.say_the_same.Goals as goal

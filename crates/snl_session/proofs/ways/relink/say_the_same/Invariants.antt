@@ -1,5 +1,5 @@
 use Rattle.std.proofs.Common.{◌≡◌, drop, map, take}
-use Rattle.snl_session.specs.Inside.{outlines_kept}
+use Rattle.snl_session.specs.ItemPlan.{outlines_kept}
 use Rattle.snl_session.proofs.ways.relink.say_the_same.Given as goal
 
 -- the items so far say the same

@@ -2,7 +2,7 @@ use Rattle.std.proofs.Common.{◌≡◌, ◌++◌, ◌∷◌, [], None, Some, co
 use Rattle.std.specs.List.{position, list_any}
 use Rattle.std.specs.Str.{bytes_eq}
 use Rattle.std.proofs.lemmas.List.{length-map, map-append}
-use Rattle.snl_scope.specs.Tables.{with_name}
+use Rattle.snl_scope.specs.NameTables.{with_name}
 use Rattle.snl_scope.proofs.Numbering.{position-map, none-any, name-new, with_name-known, with_name-new}
 use Rattle.snl_scope.proofs.names.name_set.Names.add.Goals as goal
 

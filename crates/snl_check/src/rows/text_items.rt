@@ -1,0 +1,125 @@
+//! The items of a text: the number of an item comes in, its tokens, its tree and where they are go out. It knows no rules.
+
+ghost use Rattle.std.specs.Prelude.{◌≡◌, option_copied};
+ghost use Rattle.snl_check.specs.Items as items;
+
+use snl_lex::Piece;
+use snl_syntax::tree::item::Item;
+use snl_tables::Span;
+use snl_walk::Source;
+use std::alloc::Global;
+
+/// The tokens of a text, the number of the token after each item, and the trees of the items. A faulty item has no tree.
+#[derive(Clone, Copy)]
+pub(crate) struct TextItems<'a> {
+    pub text: &'a [u8],
+    pub tokens: &'a [Piece],
+    pub ends: &'a [usize],
+    pub trees: &'a [Option<&'a Item>],
+    pub alloc: Global,
+}
+
+/// Where a token is.
+pub(crate) fn span_of(token: Option<&Piece>) -> Span
+    ensures { result ≡ items.span_of (option_copied token.entry) }
+{
+    match token {
+        Some(token) => Span {
+            start: token.start,
+            len: token.len,
+        },
+        None => Span { start: 0, len: 0 },
+    }
+}
+
+impl<'a> TextItems<'a> {
+    ghost use Rattle.std.specs.Prelude.{◌<◌, ◌≤◌, length, option_and_then, slice_get, slice_index};
+    ghost use Rattle.snl_walk.specs.Tokens.{IsSource};
+    ghost use Rattle.snl_check.specs.Collected.{AreTextItems, items_in};
+    ghost use Rattle.snl_check.specs.Items.{header_name, program_name, span_at, start_of, tokens_in, tree_in};
+
+    // The number of the first token of an item.
+    fn start(&self, item: usize) -> usize
+        requires program { AreTextItems self.now }
+        requires inside { item < length self.now.ends.now }
+        ensures start { result ≡ start_of 0 self.now.ends.now item }
+        ensures before { result ≤ slice_index self.now.ends.now item }
+        ensures within { slice_index self.now.ends.now item ≤ length self.now.tokens.now }
+    {
+        if item == 0 { 0 } else { self.ends[item - 1] }
+    }
+
+    /// The tokens of an item.
+    pub(crate) fn own(&self, item: usize) -> &'a [Piece]
+        requires { AreTextItems self.now }
+        ensures tokens { result.now ≡ tokens_in (items_in self.now) item }
+        ensures source { IsSource self.now.text.now result.now }
+    {
+        if item >= self.ends.len() {
+            return &[];
+        }
+        &self.tokens[self.start(item)..self.ends[item]]
+    }
+
+    /// The tree of an item.
+    pub(crate) fn tree(&self, item: usize) -> Option<&'a Item>
+        requires { AreTextItems self.now }
+        ensures { option_copied result ≡ tree_in (items_in self.now) item }
+    {
+        if item < self.trees.len() {
+            self.trees[item]
+        } else {
+            None
+        }
+    }
+
+    /// The tokens of an item, and the memory for what is made of them.
+    pub(crate) fn source(&self, item: usize) -> Source<'a>
+        requires { AreTextItems self.now }
+        ensures source { IsSource result.text.now result.tokens.now }
+        ensures text { result.text.now ≡ self.now.text.now }
+        ensures tokens { result.tokens.now ≡ tokens_in (items_in self.now) item }
+    {
+        Source {
+            text: self.text,
+            tokens: self.own(item),
+            alloc: self.alloc,
+        }
+    }
+
+    /// Where a token of an item is.
+    pub(crate) fn span(&self, item: usize, number: usize) -> Span
+        requires { AreTextItems self.now }
+        ensures { result ≡ span_at (items_in self.now) item number }
+    {
+        span_of(self.own(item).get(number))
+    }
+
+    // Where the name of the program is, if the item is a header.
+    fn header(&self, item: usize) -> Option<Span>
+        requires { AreTextItems self.now }
+        ensures { result ≡ option_and_then header_name (slice_get (items_in self.now) item) }
+    {
+        match self.tree(item)? {
+            Item::Header {
+                name,
+                parameters: _,
+            } => Some(self.span(item, *name)),
+            _ => None,
+        }
+    }
+
+    /// Where the name of the program is: that of the first header that isn't faulty.
+    pub(crate) fn name(&self) -> Option<Span>
+        requires { AreTextItems self.now }
+        ensures { result ≡ program_name (items_in self.now) }
+    {
+        for item in 0..self.trees.len() {
+            let name = self.header(item);
+            if name.is_some() {
+                return name;
+            }
+        }
+        None
+    }
+}

@@ -1,0 +1,135 @@
+-- How the tables that links are made of follow the list of summaries.
+use Rattle.std.specs.Prelude.{◌≡◌, ℕ, zero, suc, ◌<◌, ◌≤◌, Bool, true, false, not, ◌&&◌, ◌||◌, if◌then◌else◌, List, [], ◌∷◌, ◌++◌, map, length, get_or, set, slice_get, nat_eq, nat_lt, bytes_eq, position, Option, None, Some, is_some, is_none, option_and_then}
+use Rattle.std.specs.Map.{lookup}
+use Rattle.std.specs.Option.{option_map_or}
+use Rattle.snl_scope.specs.declared.facts.LinkFault.{LinkFault}
+use Rattle.snl_scope.specs.declared.items.heads.Head.{Head}
+use Rattle.snl_scope.specs.declared.items.phases.Before.{Before}
+use Rattle.snl_scope.specs.declared.items.heads.Member.{Member}
+use Rattle.snl_scope.specs.declared.items.heads.Member.TheVariants as member
+use Rattle.snl_scope.specs.declared.names.namespaces.Key.{Key}
+use Rattle.snl_scope.specs.declared.names.namespaces.Namespace.{Namespace}
+use Rattle.snl_scope.specs.declared.summaries.summary.ItemKind.{ItemKind}
+use Rattle.snl_scope.specs.declared.summaries.summary.Opening.{Opening}
+use Rattle.snl_scope.specs.declared.summaries.summary.Outline.{Outline}
+use Rattle.snl_scope.specs.declared.names.name_tables.Named.{Named}
+use Rattle.snl_scope.specs.declared.names.name_tables.Symbol.{Symbol}
+use Rattle.snl_scope.specs.Below.{all_below, any_below}
+use Rattle.snl_scope.specs.Flags.{declares_flag, is_first_at}
+use Rattle.snl_scope.specs.LinkedItems.{LinkedItems}
+use Rattle.snl_scope.specs.Names.{Entry, number_in, repetitions, same_namespace}
+use Rattle.snl_scope.specs.Order.{has_begun, is_barred_in_sets, is_main, is_program_item, is_program_word, is_state, is_state_word, phase, phase_of, state_name}
+use Rattle.snl_scope.specs.Places.{ends_set, item_is, enclosing_set, stands_in}
+
+-- The places of the first n items.
+pub record Placed (places : List (Option ℕ)) (ss : List Outline) (n : ℕ) : Type 0 where
+  pub len : length places ≡ n
+  pub each : (i : ℕ) → i < n → slice_get places i ≡ Some (enclosing_set ss i)
+
+-- The greater of a phase and the greatest one so far.
+abbrev pub with_phase : Option ℕ → ℕ → ℕ
+with_phase None greatest = greatest
+with_phase (Some p) greatest = if nat_lt greatest p then p else greatest
+
+abbrev pub greatest_before : LinkedItems → ℕ → ℕ
+greatest_before l zero = 0
+greatest_before l (suc n) = with_phase (phase l n) (greatest_before l n)
+
+-- What the items before item i say to it.
+abbrev pub before : LinkedItems → ℕ → Before
+before l i = record { greatest = greatest_before l i; begun = has_begun l i; has_program = any_below (is_program_item l.outlines) i }
+
+abbrev pub phase_in : Bool → Option ℕ → ItemKind → Option ℕ
+phase_in begun None k = phase_of begun k
+phase_in begun (Some _) k = None
+
+-- A phase that a greater one is before.
+abbrev pub is_below : Option ℕ → ℕ → Bool
+is_below None greatest = false
+is_below (Some p) greatest = nat_lt p greatest
+
+abbrev pub barred_at : Option ℕ → ItemKind → Bool
+barred_at None k = is_state k
+barred_at (Some _) k = is_barred_in_sets k
+
+abbrev pub later_program : Before → Opening → Bool
+later_program b o = is_program_word o && b.has_program
+
+-- An item of a kind is out of place after them, by its place and the word that it begins with.
+abbrev pub misplaced_after : Before → Option ℕ → ItemKind → Opening → Bool
+misplaced_after b p k o = (is_below (phase_in b.begun p k) b.greatest || barred_at p k) && not (later_program b o)
+
+-- And what they say together with such an item.
+abbrev pub and_item : Before → Option ℕ → ItemKind → Opening → Before
+and_item b p k o = record {
+  greatest = with_phase (phase_in b.begun p k) b.greatest;
+  begun = (is_main k && is_none p) || b.begun;
+  has_program = is_program_word o || b.has_program;
+}
+
+-- What the order of items asks of an outline.
+abbrev pub head_of : Outline → Head
+head_of s = record { role = s.role; opening = s.opening; is_named = is_some s.second }
+
+-- The item is what the members of a state set are searched for.
+abbrev pub is_member : Member → Outline → Bool
+is_member member.End s = ends_set s.role
+is_member member.State s = is_some (state_name s)
+
+-- The same, told of its head.
+abbrev pub heads_member : Member → Head → Bool
+heads_member member.End h = ends_set h.role
+heads_member member.State h = is_state_word h.opening && h.is_named
+
+-- Whether a member that passes the test is in each state set, as far as the first n items tell.
+pub record Marked (test : Outline → Bool) (marks : List Bool) (ss : List Outline) (n : ℕ) : Type 0 where
+  pub len : length marks ≡ length ss
+  pub each : (k : ℕ) → k < length ss → get_or marks k false ≡ any_below (λ j. item_is test ss j && stands_in ss k j) n
+
+-- The state set that a member is in, if it is one.
+abbrev pub set_of : Bool → Option ℕ → Option ℕ
+set_of is_member p = if is_member then p else None
+
+-- The marks with one more.
+abbrev pub with_mark : List Bool → Option ℕ → List Bool
+with_mark marks p = option_map_or (λ k. set marks k true) p marks
+
+-- A list of different names, with one more.
+abbrev pub with_name : List (List ℕ) → List ℕ → List (List ℕ)
+with_name names name = if is_some (position (bytes_eq name) names) then names else names ++ name ∷ []
+
+-- One name in one namespace.
+abbrev pub same_key : Key → Key → Bool
+same_key a b = same_namespace a.namespace b.namespace && nat_eq a.name b.name
+
+-- What the tables have for a name in a namespace.
+abbrev pub number_under : List (Key × ℕ) → Namespace → ℕ → Option ℕ
+number_under first s n = lookup (same_key (record { namespace = s; name = n })) first
+
+abbrev pub number_by : List (List ℕ) → List (Key × ℕ) → Namespace → List ℕ → Option ℕ
+number_by names first s name = option_and_then (number_under first s) (position (bytes_eq name) names)
+
+-- Where an entry is, and what it declares.
+abbrev pub symbol_of : Entry → Symbol
+symbol_of e = record { namespace = e.namespace; item = e.item; token = e.token; variable = e.variable }
+
+-- The entry with a number declares an event flag, by what the tables have there.
+abbrev pub flag_stands : List Symbol → ℕ → Bool
+flag_stands symbols number = option_map_or (λ s. declares_flag s.variable) (slice_get symbols number) false
+
+-- The tables tell of a list of entries the first of each name in a namespace, and where each is.
+pub record Tabled (names : List (List ℕ)) (first : List (Key × ℕ)) (symbols : List Symbol) (es : List Entry) : Type 0 where
+  pub found : (s : Namespace) (name : List ℕ) → number_by names first s name ≡ number_in es s name
+  pub known : symbols ≡ map symbol_of es
+
+-- And more can be added, with findings at the names that came again. The table of the first has them in the order in
+-- which they came.
+pub record Follows (names : List (List ℕ)) (first : List (Key × ℕ)) (symbols : List Symbol) (faults : List LinkFault) (es : List Entry) : Type 0 where
+  pub tabled : Tabled names first symbols es
+  pub fresh : (s : Namespace) (n : ℕ) → length names ≤ n → lookup (same_key (record { namespace = s; name = n })) first ≡ None
+  pub again : faults ≡ repetitions [] es
+  pub firsts : map (λ p. p.1) first ≡ all_below (is_first_at es) (length es)
+
+-- A name that is handed in, as an entry.
+abbrev pub entry_of : Named → Entry
+entry_of d = record { namespace = d.namespace; name = d.name.now; item = d.item; token = d.token; code = d.code; variable = d.variable }
