@@ -173,7 +173,7 @@ impl ClauseIndex {
         Ok(())
     }
 
-    // ClauseIndex the first elements.
+    // Claims the first elements.
     fn add_front(
         &mut self,
         purpose: Purpose,

@@ -1,4 +1,4 @@
--- The new made_of's list is chosen here, where it is made: the empty one.
+-- The new ghost list is chosen here, where it is made: the empty one.
 use Rattle.std.proofs.Common.{[], ◌∷◌, refl}
 use Rattle.std.proofs.raw_atomic.Walks.{proved}
 use base.Fml.{ftrue}

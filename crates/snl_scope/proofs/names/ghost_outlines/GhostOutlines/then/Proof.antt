@@ -1,4 +1,4 @@
--- The longer made_of's list is chosen here, where it is made: that of `self`, and the outline.
+-- The longer ghost list is chosen here, where it is made: that of `self`, and the outline.
 use Rattle.std.proofs.Common.{[], ◌∷◌, ◌++◌, refl}
 use Rattle.std.proofs.raw_atomic.Walks.{proved}
 use base.Fml.{ftrue}
