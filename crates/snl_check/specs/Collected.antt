@@ -33,7 +33,7 @@ pub record IsRowSource (l : RowSource) : Type 0 where
 
 -- The links are those of the items.
 pub record IsLinked (l : RowSource) : Type 0 where
-  pub listing : IsRowSource l
+  pub row_source : IsRowSource l
   pub outlines : l.links.now.outlines ≡ outlines_of l.program.text.now (items_in l.program)
 
 abbrev pub assigned : AssignedChannel → channels.AssignedChannel
@@ -41,7 +41,7 @@ assigned c = record { item = c.item; token = c.token; variable = c.variable; ele
 
 -- What the rows of states are made from.
 pub record IsOutline (o : Outline) : Type 0 where
-  pub linked : IsLinked o.listing
-  pub lines : IsLineList o.listing.program.text.now o.lines.now.ends.items o.lines.now.markers.items o.lines.now.naming.items
-  pub checked : map told_seen o.checked.now ≡ map (told_in_item o.listing.program.text.now) (items_in o.listing.program)
-  pub numbered : Numbered o.numbers.now (channels.assigned_channels o.listing.program.text.now (items_in o.listing.program) o.listing.links.now.outlines)
+  pub linked : IsLinked o.row_source
+  pub lines : IsLineList o.row_source.program.text.now o.lines.now.ends.items o.lines.now.markers.items o.lines.now.naming.items
+  pub checked : map told_seen o.checked.now ≡ map (told_in_item o.row_source.program.text.now) (items_in o.row_source.program)
+  pub numbered : Numbered o.numbers.now (channels.assigned_channels o.row_source.program.text.now (items_in o.row_source.program) o.row_source.links.now.outlines)

@@ -5,13 +5,19 @@ use std::test::Fail;
 
 static SCOPES: &[u8] = b"program p\nint a, b, a;\nss s {\nint b;\nstate i { int a; }\n}\n%{ }%";
 
-static IN_SCOPES: [Row; 15] = [
-    (Question::Place(1), b"-"),
-    (Question::Place(2), b"-"),
-    (Question::Place(3), b"2"),
-    (Question::Place(5), b"2"),
-    (Question::Place(6), b"-"),
-    (Question::Place(7), b"-"),
+static IN_SCOPES: [Row; 21] = [
+    (Question::EnclosingSet(1), b"-"),
+    (Question::EnclosingSet(2), b"-"),
+    (Question::EnclosingSet(3), b"2"),
+    (Question::EnclosingSet(5), b"2"),
+    (Question::EnclosingSet(6), b"-"),
+    (Question::EnclosingSet(7), b"-"),
+    (Question::BeginsSet(2), b"yes"),
+    (Question::BeginsSet(5), b"no"),
+    (Question::BeginsSet(7), b"no"),
+    (Question::NamedState(4), b"yes"),
+    (Question::NamedState(2), b"no"),
+    (Question::NamedState(7), b"no"),
     (Question::Level(4, b"b"), b"state set"),
     (Question::Level(4, b"a"), b"program"),
     (Question::Level(6, b"b"), b"program"),

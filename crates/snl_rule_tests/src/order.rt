@@ -32,19 +32,22 @@ fn what_is_found_by_order_and_names(rt: HostRuntime) -> Result<(), Fail> {
     Ok(())
 }
 
-// A code, its name, its message, and whether it is an error.
-static CODES: [(Code, &str, &str, bool); 4] = [
-    (Code::E10, "E10", "unknown state", true),
-    (Code::E22, "E22", "synced twice", true),
-    (Code::W01, "W01", "undeclared name", false),
-    (Code::W05, "W05", "monitored twice", false),
+// A code, its name, its message, whether it is an error, and how many bytes it quotes of a token of seven.
+static CODES: [(Code, &str, &str, bool, usize); 6] = [
+    (Code::E06, "E06", "state set or state is missing", true, 0),
+    (Code::E10, "E10", "unknown state", true, 7),
+    (Code::E22, "E22", "synced twice", true, 7),
+    (Code::W01, "W01", "undeclared name", false, 7),
+    (Code::W04, "W04", "unknown option letter", false, 1),
+    (Code::W05, "W05", "monitored twice", false, 7),
 ];
 
 #[test]
 fn tells_names_and_messages(rt: HostRuntime) {
-    for (code, name, message, is_error) in &CODES {
+    for (code, name, message, is_error, quoted) in &CODES {
         assert_eq!(rt; code.name(), *name);
         assert_eq!(rt; code.message(), *message);
         assert_eq!(rt; code.is_error(), *is_error, "{name}");
+        assert_eq!(rt; code.quoted_bytes(7), *quoted, "{name}");
     }
 }

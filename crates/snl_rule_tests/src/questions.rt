@@ -21,7 +21,11 @@ pub enum Question {
     /// The number of a declaration among the event flags.
     FlagNumber(usize),
     /// The state set in which an item is.
-    Place(usize),
+    EnclosingSet(usize),
+    /// Whether an item begins a state set.
+    BeginsSet(usize),
+    /// Whether an item begins as a state does, and has a name.
+    NamedState(usize),
     /// In which scope an item finds a name.
     Level(usize, &'static [u8]),
     /// What a name stands for in an item.
@@ -155,6 +159,8 @@ fn add_word_told(links: &Links, question: Question, words: &mut Vec<u8>) -> Resu
         Question::Base(item, name) => base_word(links.fact(item, name)),
         Question::Assigned(item, name) => assigned_word(links.fact(item, name)),
         Question::Target(item, name) => truth_word(links.has_target(item, name)),
+        Question::BeginsSet(item) => truth_word(links.begins_set(item)),
+        Question::NamedState(item) => truth_word(links.is_named_state(item)),
         Question::Monitored(number, element) => truth_word(links.is_monitored(number, element)),
         _ => b"",
     })?;
@@ -163,7 +169,7 @@ fn add_word_told(links: &Links, question: Question, words: &mut Vec<u8>) -> Resu
 
 fn number_told(links: &Links, question: Question) -> Option<usize> {
     match question {
-        Question::Place(item) => links.enclosing_set(item),
+        Question::EnclosingSet(item) => links.enclosing_set(item),
         Question::FlagNumber(declaration) => links.flag_number(declaration),
         Question::Meaning(item, name) => links.declaration(item, name),
         Question::Sync(declaration, element) => links.sync_number(declaration, element),
@@ -179,10 +185,12 @@ fn answer(alloc: Global, links: &Links, question: Question) -> Result<Vec<u8>, F
         Question::Clauses => add_clauses(links, &mut words)?,
         Question::Flags => add_flags(alloc, links, &mut words)?,
         Question::Declared(number) => add_declared(alloc, links.declared(number), &mut words)?,
-        Question::Place(_) | Question::FlagNumber(_) | Question::Meaning(..) | Question::Sync(..) =>
-            {
-                add_number(alloc, number_told(links, question), &mut words)?;
-            }
+        Question::EnclosingSet(_)
+        | Question::FlagNumber(_)
+        | Question::Meaning(..)
+        | Question::Sync(..) => {
+            add_number(alloc, number_told(links, question), &mut words)?;
+        }
         _ => add_word_told(links, question, &mut words)?,
     }
     Ok(words)

@@ -56,21 +56,21 @@ fn name_in<'a>(text: &'a [u8], tokens: &'a [Piece]) -> Option<&'a [u8]>
 }
 
 // The name of an item that is a state.
-fn name_of_state<'a>(listing: &RowSource<'a>, item: usize) -> Option<&'a [u8]>
-    requires { IsLinked listing.now }
-    ensures { option_copied result ≡ name_of_state listing.now.links.now.outlines item }
+fn name_of_state<'a>(row_source: &RowSource<'a>, item: usize) -> Option<&'a [u8]>
+    requires { IsLinked row_source.now }
+    ensures { option_copied result ≡ name_of_state row_source.now.links.now.outlines item }
 {
-    let source = listing.program.source(item);
+    let source = row_source.program.source(item);
     name_in(source.text, source.tokens)
 }
 
 /// Whether an item is faulty.
-pub(crate) fn is_faulty(listing: &RowSource, item: usize) -> bool
-    requires linked { IsLinked listing.now }
-    requires item { item < length listing.now.program.trees.now }
-    ensures { result ≡ is_faulty_item (items_in listing.now.program) item }
+pub(crate) fn is_faulty(row_source: &RowSource, item: usize) -> bool
+    requires linked { IsLinked row_source.now }
+    requires item { item < length row_source.now.program.trees.now }
+    ensures { result ≡ is_faulty_item (items_in row_source.now.program) item }
 {
-    listing.program.tree(item).is_none()
+    row_source.program.tree(item).is_none()
 }
 
 // Whether an item is in the state set that another begins.
@@ -101,20 +101,20 @@ fn end_of(links: &Links, set: usize, count: usize) -> usize
 }
 
 /// What is in the state set that an item begins.
-pub(crate) fn members_of(listing: &RowSource, set: usize) -> Result<Members, OutOfMemory>
-    requires linked { IsLinked listing.now }
-    requires set { set < length listing.now.program.trees.now }
-    ensures states { IfOk result (λ m. m.states.items ≡ states_in listing.now.links.now.outlines set) }
-    ensures faulty { IfOk result (λ m. m.has_faulty ≡ has_faulty (items_in listing.now.program) listing.now.links.now.outlines set) }
+pub(crate) fn members_of(row_source: &RowSource, set: usize) -> Result<Members, OutOfMemory>
+    requires linked { IsLinked row_source.now }
+    requires set { set < length row_source.now.program.trees.now }
+    ensures states { IfOk result (λ m. m.states.items ≡ states_in row_source.now.links.now.outlines set) }
+    ensures faulty { IfOk result (λ m. m.has_faulty ≡ has_faulty (items_in row_source.now.program) row_source.now.links.now.outlines set) }
 {
-    let end = end_of(listing.links, set, listing.program.trees.len());
-    let mut states = Vec::new(listing.program.alloc);
+    let end = end_of(row_source.links, set, row_source.program.trees.len());
+    let mut states = Vec::new(row_source.program.alloc);
     let mut has_faulty = false;
     for item in set + 1..end {
-        if is_faulty(listing, item) {
+        if is_faulty(row_source, item) {
             has_faulty = true;
         }
-        if name_of_state(listing, item).is_some() {
+        if name_of_state(row_source, item).is_some() {
             states.push(item)?;
         }
     }
@@ -148,14 +148,14 @@ fn target_numbers(
 ) -> Result<Vec<usize>, OutOfMemory>
     requires outline { IsOutline outline.now }
     requires rising { IsStrictlyIncreasing states.now }
-    ensures { IfOk result (λ v. v.items ≡ target_numbers outline.now.listing.program.text.now (items_in outline.now.listing.program) outline.now.listing.links.now.outlines states.now state) }
+    ensures { IfOk result (λ v. v.items ≡ target_numbers outline.now.row_source.program.text.now (items_in outline.now.row_source.program) outline.now.row_source.links.now.outlines states.now state) }
 {
-    let source = outline.listing.program.source(state);
+    let source = outline.row_source.program.source(state);
     let targets = outline.target_uses(state);
     let mut numbers = with_room(source.alloc, targets.len())?;
     for target in targets {
         let name = source.bytes(target.token);
-        if let Some(number) = target_number(outline.listing.links, states, state, name) {
+        if let Some(number) = target_number(outline.row_source.links, states, state, name) {
             numbers.push(number)?;
         }
     }
@@ -169,9 +169,9 @@ pub(crate) fn targets_among(
 ) -> Result<Vec<Vec<usize>>, OutOfMemory>
     requires outline { IsOutline outline.now }
     requires rising { IsStrictlyIncreasing states.now }
-    ensures { IfOk result (λ v. target_lists v.items ≡ targets_among outline.now.listing.program.text.now (items_in outline.now.listing.program) outline.now.listing.links.now.outlines states.now) }
+    ensures { IfOk result (λ v. target_lists v.items ≡ targets_among outline.now.row_source.program.text.now (items_in outline.now.row_source.program) outline.now.row_source.links.now.outlines states.now) }
 {
-    let mut targets = with_room(outline.listing.program.alloc, states.len())?;
+    let mut targets = with_room(outline.row_source.program.alloc, states.len())?;
     for state in states {
         targets.push(target_numbers(outline, states, *state)?)?;
     }
@@ -189,12 +189,12 @@ fn is_first_of(links: &Links, state: usize, name: &[u8]) -> bool
 }
 
 /// Whether a state is the first of its name in its set.
-pub(crate) fn is_first_state(listing: &RowSource, state: usize) -> bool
-    requires { IsLinked listing.now }
-    ensures { result ≡ is_first_state listing.now.links.now.outlines state }
+pub(crate) fn is_first_state(row_source: &RowSource, state: usize) -> bool
+    requires { IsLinked row_source.now }
+    ensures { result ≡ is_first_state row_source.now.links.now.outlines state }
 {
-    match name_of_state(listing, state) {
-        Some(name) => is_first_of(listing.links, state, name),
+    match name_of_state(row_source, state) {
+        Some(name) => is_first_of(row_source.links, state, name),
         None => false,
     }
 }

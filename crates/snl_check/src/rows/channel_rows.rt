@@ -15,34 +15,34 @@ use snl_tables::ChannelRow;
 use sqlite_items::Items;
 use std::alloc::Global;
 
-fn channel_row(listing: &RowSource, channel: AssignedChannel) -> Result<ChannelRow, OutOfMemory>
-    requires { IsRowSource listing.now }
-    ensures { IfOk result (λ row. row ≡ channel_row listing.now.program.text.now (items_in listing.now.program) listing.now.links.now.outlines (assigned channel.entry)) }
+fn channel_row(row_source: &RowSource, channel: AssignedChannel) -> Result<ChannelRow, OutOfMemory>
+    requires { IsRowSource row_source.now }
+    ensures { IfOk result (λ row. row ≡ channel_row row_source.now.program.text.now (items_in row_source.now.program) row_source.now.links.now.outlines (assigned channel.entry)) }
 {
     Ok(ChannelRow {
-        variable: listing.program.span(channel.item, channel.token),
+        variable: row_source.program.span(channel.item, channel.token),
         element: channel.element,
-        scope: listing.scope_of_variable(channel.variable),
-        pv: joined(&listing.program.source(channel.item), channel.strings)?,
-        is_monitored: listing
+        scope: row_source.scope_of_variable(channel.variable),
+        pv: joined(&row_source.program.source(channel.item), channel.strings)?,
+        is_monitored: row_source
             .links
             .is_monitored(channel.variable, channel.element),
-        sync: sync_of(listing, channel.variable, channel.element),
+        sync: sync_of(row_source, channel.variable, channel.element),
     })
 }
 
 /// The rows of channels.
 pub(crate) fn channel_rows(
-    listing: &RowSource,
+    row_source: &RowSource,
     channels: &[AssignedChannel],
 ) -> Result<Vec<ChannelRow>, OutOfMemory>
-    requires { IsRowSource listing.now }
+    requires { IsRowSource row_source.now }
     ensures { IfOk result (λ rows. rows.items
-        ≡ map (channel_row listing.now.program.text.now (items_in listing.now.program) listing.now.links.now.outlines) (map assigned channels.now)) }
+        ≡ map (channel_row row_source.now.program.text.now (items_in row_source.now.program) row_source.now.links.now.outlines) (map assigned channels.now)) }
 {
-    let mut rows = with_room(listing.program.alloc, channels.len())?;
+    let mut rows = with_room(row_source.program.alloc, channels.len())?;
     for channel in channels {
-        rows.push(channel_row(listing, *channel)?)?;
+        rows.push(channel_row(row_source, *channel)?)?;
     }
     Ok(rows)
 }

@@ -61,15 +61,15 @@ fn add_list<'a>(
 
 // Adds the channels that an `assign` names.
 fn add_channels<'a>(
-    listing: &RowSource<'a>,
+    row_source: &RowSource<'a>,
     assign: Assign,
     channel: &'a Channel,
     channels: &mut Vec<AssignedChannel<'a>>,
 ) -> Result<(), OutOfMemory>
-    requires { IsRowSource listing.now }
+    requires { IsRowSource row_source.now }
     ensures { OnOk result (map assigned channels.new.items
         ≡ map assigned channels.old.items ++ map (assigned_channel assign.item assign.token assign.variable)
-        (channels_in listing.now.program.text.now (tokens_in (items_in listing.now.program) assign.item) channel.now)) }
+        (channels_in row_source.now.program.text.now (tokens_in (items_in row_source.now.program) assign.item) channel.now)) }
 {
     match channel {
         Channel::Anonymous => channels.push(assign.channel(None, &[]))?,
@@ -79,7 +79,7 @@ fn add_channels<'a>(
             to: _,
             text,
         } => {
-            let source = listing.program.source(assign.item);
+            let source = row_source.program.source(assign.item);
             let element = source.value(*subscript).unwrap_or(0);
             channels.push(assign.channel(Some(element), text.as_slice()))?;
         }
@@ -94,13 +94,13 @@ fn add_channels<'a>(
 
 // Adds the channels of a clause: a sound `assign` has them.
 fn add_clause<'a>(
-    listing: &RowSource<'a>,
+    row_source: &RowSource<'a>,
     clause: ToldClause<'a>,
     channels: &mut Vec<AssignedChannel<'a>>,
 ) -> Result<(), OutOfMemory>
-    requires { IsRowSource listing.now }
+    requires { IsRowSource row_source.now }
     ensures { OnOk result (map assigned channels.new.items
-        ≡ map assigned channels.old.items ++ channels_of_clause listing.now.program.text.now (items_in listing.now.program) (told clause.entry)) }
+        ≡ map assigned channels.old.items ++ channels_of_clause row_source.now.program.text.now (items_in row_source.now.program) (told clause.entry)) }
 {
     if !clause.link.is_sound {
         return Ok(());
@@ -112,7 +112,7 @@ fn add_clause<'a>(
                 token: *name,
                 variable,
             };
-            add_channels(listing, assign, channel, channels)
+            add_channels(row_source, assign, channel, channels)
         }
         _ => Ok(()),
     }
@@ -120,15 +120,15 @@ fn add_clause<'a>(
 
 /// The channels in the order of the text.
 pub(crate) fn assigned_channels<'a>(
-    listing: &RowSource<'a>,
+    row_source: &RowSource<'a>,
 ) -> Result<Vec<AssignedChannel<'a>>, OutOfMemory>
-    requires { IsRowSource listing.now }
+    requires { IsRowSource row_source.now }
     ensures { IfOk result (λ channels. map assigned channels.items
-        ≡ assigned_channels listing.now.program.text.now (items_in listing.now.program) listing.now.links.now.outlines) }
+        ≡ assigned_channels row_source.now.program.text.now (items_in row_source.now.program) row_source.now.links.now.outlines) }
 {
-    let mut channels = Vec::new(listing.program.alloc);
-    for clause in listing.clauses {
-        add_clause(listing, *clause, &mut channels)?;
+    let mut channels = Vec::new(row_source.program.alloc);
+    for clause in row_source.clauses {
+        add_clause(row_source, *clause, &mut channels)?;
     }
     Ok(channels)
 }

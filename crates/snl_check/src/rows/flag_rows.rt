@@ -9,25 +9,25 @@ use snl_cut::OutOfMemory;
 use snl_tables::FlagRow;
 
 // The row of the flag that is the declaration with a number.
-fn flag_row_at(listing: &RowSource, number: usize) -> Option<FlagRow>
-    requires { IsRowSource listing.now }
-    ensures { result ≡ flag_row_at (items_in listing.now.program) listing.now.links.now.outlines number }
+fn flag_row_at(row_source: &RowSource, number: usize) -> Option<FlagRow>
+    requires { IsRowSource row_source.now }
+    ensures { result ≡ flag_row_at (items_in row_source.now.program) row_source.now.links.now.outlines number }
 {
-    let declaration = listing.links.declared(number)?;
+    let declaration = row_source.links.declared(number)?;
     Some(FlagRow {
-        name: listing.program.span(declaration.item, declaration.token),
-        scope: listing.scope_name(declaration.scope),
+        name: row_source.program.span(declaration.item, declaration.token),
+        scope: row_source.scope_name(declaration.scope),
     })
 }
 
 /// The event flags in the order of the text.
-pub(crate) fn flag_rows(listing: &RowSource) -> Result<Vec<FlagRow>, OutOfMemory>
-    requires { IsRowSource listing.now }
-    ensures { IfOk result (λ rows. rows.items ≡ flag_rows (items_in listing.now.program) listing.now.links.now.outlines) }
+pub(crate) fn flag_rows(row_source: &RowSource) -> Result<Vec<FlagRow>, OutOfMemory>
+    requires { IsRowSource row_source.now }
+    ensures { IfOk result (λ rows. rows.items ≡ flag_rows (items_in row_source.now.program) row_source.now.links.now.outlines) }
 {
-    let mut rows = Vec::new(listing.program.alloc);
-    for number in listing.links.flags() {
-        if let Some(row) = flag_row_at(listing, *number) {
+    let mut rows = Vec::new(row_source.program.alloc);
+    for number in row_source.links.flags() {
+        if let Some(row) = flag_row_at(row_source, *number) {
             rows.push(row)?;
         }
     }

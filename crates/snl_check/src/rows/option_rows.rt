@@ -75,31 +75,31 @@ fn option_rows(
 }
 
 // What an item sets for the program.
-fn setting_at<'a>(listing: &RowSource<'a>, item: usize) -> Option<LetterSetting<'a>>
-    requires { IsRowSource listing.now }
-    ensures { option_map told result ≡ setting_at listing.now.program.text.now (items_in listing.now.program) listing.now.links.now.outlines item }
+fn setting_at<'a>(row_source: &RowSource<'a>, item: usize) -> Option<LetterSetting<'a>>
+    requires { IsRowSource row_source.now }
+    ensures { option_map told result ≡ setting_at row_source.now.program.text.now (items_in row_source.now.program) row_source.now.links.now.outlines item }
 {
     let view = View {
-        links: listing.links,
+        links: row_source.links,
         item,
     };
     if view.is_in_set() {
         return None;
     }
-    match listing.program.tree(item)? {
-        Item::OptionLine(line) => Some(setting_of(&listing.program.source(item), *line)),
+    match row_source.program.tree(item)? {
+        Item::OptionLine(line) => Some(setting_of(&row_source.program.source(item), *line)),
         _ => None,
     }
 }
 
-fn program_settings<'a>(listing: &RowSource<'a>) -> Result<Vec<LetterSetting<'a>>, OutOfMemory>
-    requires { IsRowSource listing.now }
+fn program_settings<'a>(row_source: &RowSource<'a>) -> Result<Vec<LetterSetting<'a>>, OutOfMemory>
+    requires { IsRowSource row_source.now }
     ensures { IfOk result (λ settings. map told settings.items
-        ≡ program_settings listing.now.program.text.now (items_in listing.now.program) listing.now.links.now.outlines) }
+        ≡ program_settings row_source.now.program.text.now (items_in row_source.now.program) row_source.now.links.now.outlines) }
 {
-    let mut settings = Vec::new(listing.program.alloc);
-    for item in 0..listing.program.trees.len() {
-        if let Some(setting) = setting_at(listing, item) {
+    let mut settings = Vec::new(row_source.program.alloc);
+    for item in 0..row_source.program.trees.len() {
+        if let Some(setting) = setting_at(row_source, item) {
             settings.push(setting)?;
         }
     }
@@ -107,13 +107,13 @@ fn program_settings<'a>(listing: &RowSource<'a>) -> Result<Vec<LetterSetting<'a>
 }
 
 /// The options of a program.
-pub(crate) fn program_options(listing: &RowSource) -> Result<Vec<OptionRow>, OutOfMemory>
-    requires { IsRowSource listing.now }
+pub(crate) fn program_options(row_source: &RowSource) -> Result<Vec<OptionRow>, OutOfMemory>
+    requires { IsRowSource row_source.now }
     ensures { IfOk result (λ rows. rows.items
-        ≡ program_options listing.now.program.text.now (items_in listing.now.program) listing.now.links.now.outlines) }
+        ≡ program_options row_source.now.program.text.now (items_in row_source.now.program) row_source.now.links.now.outlines) }
 {
-    let settings = program_settings(listing)?;
-    option_rows(listing.program.alloc, PROGRAM_LETTERS, &settings)
+    let settings = program_settings(row_source)?;
+    option_rows(row_source.program.alloc, PROGRAM_LETTERS, &settings)
 }
 
 // Adds the settings among the members of a state.

@@ -12,7 +12,7 @@ use snl_walk::{TargetUse, WakeUse};
 /// The items of a text, its lines, what the check of each item gave that isn't faulty, and the numbers of channels.
 #[derive(Clone, Copy)]
 pub(crate) struct Outline<'a> {
-    pub listing: RowSource<'a>,
+    pub row_source: RowSource<'a>,
     pub lines: &'a LineList,
     pub checked: &'a [Option<&'a Checked>],
     pub numbers: &'a ChannelNumbers,
@@ -27,9 +27,9 @@ impl<'a> Outline<'a> {
     /// The line of the first token of an item.
     pub(crate) fn line(&self, item: usize) -> Line
         requires { IsOutline self.now }
-        ensures { result ≡ line_of_item self.now.listing.program.text.now (items_in self.now.listing.program) item }
+        ensures { result ≡ line_of_item self.now.row_source.program.text.now (items_in self.now.row_source.program) item }
     {
-        let program = &self.listing.program;
+        let program = &self.row_source.program;
         self.lines
             .line_by(program.text, program.span(item, 0).start)
     }
@@ -37,7 +37,7 @@ impl<'a> Outline<'a> {
     /// The uses of names in the conditions of an item.
     pub(crate) fn wake_uses(&self, item: usize) -> &'a [WakeUse]
         requires { IsOutline self.now }
-        ensures { result.now ≡ uses_in self.now.listing.program.text.now (items_in self.now.listing.program) item }
+        ensures { result.now ≡ uses_in self.now.row_source.program.text.now (items_in self.now.row_source.program) item }
     {
         if item >= self.checked.len() {
             return &[];
@@ -51,7 +51,7 @@ impl<'a> Outline<'a> {
     /// The names of the states that an item leads to.
     pub(crate) fn target_uses(&self, item: usize) -> &'a [TargetUse]
         requires { IsOutline self.now }
-        ensures { result.now ≡ (told_in self.now.listing.program.text.now (items_in self.now.listing.program) item).target_uses }
+        ensures { result.now ≡ (told_in self.now.row_source.program.text.now (items_in self.now.row_source.program) item).target_uses }
     {
         if item >= self.checked.len() {
             return &[];

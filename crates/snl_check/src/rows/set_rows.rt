@@ -13,21 +13,24 @@ use snl_syntax::tree::item::Item;
 use snl_tables::{Rows, SetRow};
 
 // Whether an item begins a state set.
-fn begins_set(listing: &RowSource, item: usize) -> bool
-    requires { IsLinked listing.now }
-    ensures { result ≡ is_set_begin listing.now.links.now.outlines item }
+fn begins_set(row_source: &RowSource, item: usize) -> bool
+    requires { IsLinked row_source.now }
+    ensures { result ≡ is_set_begin row_source.now.links.now.outlines item }
 {
-    matches!(listing.program.tree(item), Some(Item::SsBegin { name: _ }))
+    matches!(
+        row_source.program.tree(item),
+        Some(Item::SsBegin { name: _ })
+    )
 }
 
 fn set_row(outline: &Outline, set: usize) -> Result<SetRow, OutOfMemory>
     requires outline { IsOutline outline.now }
-    requires set { set < length outline.now.listing.program.trees.now }
+    requires set { set < length outline.now.row_source.program.trees.now }
     ensures { IfOk result (λ row. row
-        ≡ set_row outline.now.listing.program.text.now (items_in outline.now.listing.program) outline.now.listing.links.now.outlines set) }
+        ≡ set_row outline.now.row_source.program.text.now (items_in outline.now.row_source.program) outline.now.row_source.links.now.outlines set) }
 {
     Ok(SetRow {
-        name: outline.listing.item_name(set),
+        name: outline.row_source.item_name(set),
         line: outline.line(set),
         states: Rows::from_vec(state_rows(outline, set)?),
     })
@@ -37,11 +40,11 @@ fn set_row(outline: &Outline, set: usize) -> Result<SetRow, OutOfMemory>
 pub(crate) fn set_rows(outline: &Outline) -> Result<Vec<SetRow>, OutOfMemory>
     requires { IsOutline outline.now }
     ensures { IfOk result (λ rows. rows.items
-        ≡ set_rows outline.now.listing.program.text.now (items_in outline.now.listing.program) outline.now.listing.links.now.outlines) }
+        ≡ set_rows outline.now.row_source.program.text.now (items_in outline.now.row_source.program) outline.now.row_source.links.now.outlines) }
 {
-    let mut rows = Vec::new(outline.listing.program.alloc);
-    for item in 0..outline.listing.program.trees.len() {
-        if begins_set(&outline.listing, item) {
+    let mut rows = Vec::new(outline.row_source.program.alloc);
+    for item in 0..outline.row_source.program.trees.len() {
+        if begins_set(&outline.row_source, item) {
             rows.push(set_row(outline, item)?)?;
         }
     }

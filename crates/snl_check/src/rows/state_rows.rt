@@ -25,18 +25,18 @@ fn mark_of(
     number: usize,
     state: usize,
 ) -> StateMark
-    requires linked { IsLinked outline.now.listing }
-    requires state { state < length outline.now.listing.program.trees.now }
-    ensures { result ≡ (if is_faulty_item (items_in outline.now.listing.program) state then StateMark.Faulty
-        else if states.is_repeated outline.now.listing.links.now.outlines state then StateMark.Repeated
+    requires linked { IsLinked outline.now.row_source }
+    requires state { state < length outline.now.row_source.program.trees.now }
+    ensures { result ≡ (if is_faulty_item (items_in outline.now.row_source.program) state then StateMark.Faulty
+        else if states.is_repeated outline.now.row_source.links.now.outlines state then StateMark.Repeated
         else if members.now.has_faulty then StateMark.Unknown
         else if slice_index_or reached.now number false then StateMark.Reached
         else StateMark.Unreached) }
 {
-    if is_faulty(&outline.listing, state) {
+    if is_faulty(&outline.row_source, state) {
         return StateMark::Faulty;
     }
-    if !is_first_state(&outline.listing, state) {
+    if !is_first_state(&outline.row_source, state) {
         return StateMark::Repeated;
     }
     if members.has_faulty {
@@ -51,30 +51,30 @@ fn mark_of(
 // Of each state of a set whether it is reached. Where an item of the set is faulty, nothing is said.
 fn reached_among(outline: &Outline, members: &Members, set: usize) -> Result<Vec<bool>, OutOfMemory>
     requires outline { IsOutline outline.now }
-    requires states { members.now.states.items ≡ states_in outline.now.listing.links.now.outlines set }
+    requires states { members.now.states.items ≡ states_in outline.now.row_source.links.now.outlines set }
     ensures { IfOk result (λ reached. members.now.has_faulty ≡ false
-        → (number : ℕ) → number < length (states_in outline.now.listing.links.now.outlines set) → slice_index_or reached.items number false ≡ states.is_reached_in outline.now.listing.program.text.now (items_in outline.now.listing.program) outline.now.listing.links.now.outlines set number) }
+        → (number : ℕ) → number < length (states_in outline.now.row_source.links.now.outlines set) → slice_index_or reached.items number false ≡ states.is_reached_in outline.now.row_source.program.text.now (items_in outline.now.row_source.program) outline.now.row_source.links.now.outlines set number) }
 {
     if members.has_faulty {
-        return Ok(Vec::new(outline.listing.program.alloc));
+        return Ok(Vec::new(outline.row_source.program.alloc));
     }
     let targets = targets_among(outline, &members.states)?;
-    Ok(reach(outline.listing.program.alloc, &targets)?)
+    Ok(reach(outline.row_source.program.alloc, &targets)?)
 }
 
 // The body of the row of the state that an item is.
 fn body_at(outline: &Outline, item: usize) -> Result<StateBody, OutOfMemory>
     requires { IsOutline outline.now }
     ensures { IfOk result (λ body. body
-        ≡ states.state_body outline.now.listing.program.text.now outline.now.listing.links.now.outlines item (states.item_at (items_in outline.now.listing.program) item)) }
+        ≡ states.state_body outline.now.row_source.program.text.now outline.now.row_source.links.now.outlines item (states.item_at (items_in outline.now.row_source.program) item)) }
 {
-    let program = &outline.listing.program;
+    let program = &outline.row_source.program;
     state_body(
         program.alloc,
         program.text,
         program.own(item),
         program.tree(item),
-        outline.listing.links,
+        outline.row_source.links,
         item,
         outline.target_uses(item),
     )
@@ -82,13 +82,13 @@ fn body_at(outline: &Outline, item: usize) -> Result<StateBody, OutOfMemory>
 
 fn state_row(outline: &Outline, mark: StateMark, item: usize) -> Result<StateRow, OutOfMemory>
     requires outline { IsOutline outline.now }
-    requires item { item < length outline.now.listing.program.trees.now }
+    requires item { item < length outline.now.row_source.program.trees.now }
     ensures { IfOk result (λ row. row
-        ≡ states.state_row outline.now.listing.program.text.now (items_in outline.now.listing.program) outline.now.listing.links.now.outlines mark item) }
+        ≡ states.state_row outline.now.row_source.program.text.now (items_in outline.now.row_source.program) outline.now.row_source.links.now.outlines mark item) }
 {
     let body = body_at(outline, item)?;
     Ok(StateRow {
-        name: outline.listing.item_name(item),
+        name: outline.row_source.item_name(item),
         line: outline.line(item),
         mark,
         options: body.options,
@@ -101,13 +101,13 @@ fn state_row(outline: &Outline, mark: StateMark, item: usize) -> Result<StateRow
 /// The states of the set that an item begins, in the order of the text.
 pub(crate) fn state_rows(outline: &Outline, set: usize) -> Result<Vec<StateRow>, OutOfMemory>
     requires outline { IsOutline outline.now }
-    requires set { set < length outline.now.listing.program.trees.now }
+    requires set { set < length outline.now.row_source.program.trees.now }
     ensures { IfOk result (λ rows. rows.items
-        ≡ states.state_rows outline.now.listing.program.text.now (items_in outline.now.listing.program) outline.now.listing.links.now.outlines set) }
+        ≡ states.state_rows outline.now.row_source.program.text.now (items_in outline.now.row_source.program) outline.now.row_source.links.now.outlines set) }
 {
-    let members = members_of(&outline.listing, set)?;
+    let members = members_of(&outline.row_source, set)?;
     let reached = reached_among(outline, &members, set)?;
-    let mut rows = with_room(outline.listing.program.alloc, members.states.len())?;
+    let mut rows = with_room(outline.row_source.program.alloc, members.states.len())?;
     for (number, state) in members.states.iter().enumerate() {
         let mark = mark_of(outline, &members, &reached, number, *state);
         rows.push(state_row(outline, mark, *state)?)?;

@@ -32,11 +32,11 @@ fn flag_number(links: &Links, flag: Option<usize>) -> Option<usize>
 }
 
 // How a clause syncs what it speaks of.
-fn synced(listing: &RowSource, clause: ToldClause) -> Option<Synced>
-    requires { IsRowSource listing.now }
-    ensures { result ≡ tables.synced listing.now.program.text.now (items_in listing.now.program) listing.now.links.now.outlines (told clause.entry) }
+fn synced(row_source: &RowSource, clause: ToldClause) -> Option<Synced>
+    requires { IsRowSource row_source.now }
+    ensures { result ≡ tables.synced row_source.now.program.text.now (items_in row_source.now.program) row_source.now.links.now.outlines (told clause.entry) }
 {
-    let flag = flag_number(listing.links, clause.link.flag);
+    let flag = flag_number(row_source.links, clause.link.flag);
     match clause.clause {
         Clause::Sync {
             name: _,
@@ -53,7 +53,7 @@ fn synced(listing: &RowSource, clause: ToldClause) -> Option<Synced>
             flag: _,
             queue,
         } => {
-            let source = listing.program.source(clause.item);
+            let source = row_source.program.source(clause.item);
             Some(Synced {
                 flag,
                 queue: queue_of(&source, *queue),
@@ -64,11 +64,15 @@ fn synced(listing: &RowSource, clause: ToldClause) -> Option<Synced>
 }
 
 /// How a channel of a variable is synced: by the first sound clause that speaks of it.
-pub(crate) fn sync_of(listing: &RowSource, variable: usize, element: Option<u64>) -> Option<Synced>
-    requires { IsRowSource listing.now }
-    ensures { result ≡ tables.sync_of listing.now.program.text.now (items_in listing.now.program) listing.now.links.now.outlines variable element }
+pub(crate) fn sync_of(
+    row_source: &RowSource,
+    variable: usize,
+    element: Option<u64>,
+) -> Option<Synced>
+    requires { IsRowSource row_source.now }
+    ensures { result ≡ tables.sync_of row_source.now.program.text.now (items_in row_source.now.program) row_source.now.links.now.outlines variable element }
 {
-    let number = listing.links.sync_number(variable, element)?;
-    let clause = listing.clauses.get(number)?;
-    synced(listing, *clause)
+    let number = row_source.links.sync_number(variable, element)?;
+    let clause = row_source.clauses.get(number)?;
+    synced(row_source, *clause)
 }

@@ -30,30 +30,30 @@ use std::alloc::Global;
 
 // The rows of all tables.
 fn rows_of(
-    listing: &RowSource,
+    row_source: &RowSource,
     lines: &LineList,
     checked: &[Option<&Checked>],
 ) -> Result<Tables, OutOfMemory>
-    requires linked { IsLinked listing.now }
-    requires lines { IsLineList listing.now.program.text.now lines.now.ends.items lines.now.markers.items lines.now.naming.items }
-    requires checked { map told_seen checked.now ≡ map (told_in_item listing.now.program.text.now) (items_in listing.now.program) }
-    ensures { IfOk result (λ t. t ≡ tables_by listing.now.program.text.now (items_in listing.now.program) listing.now.links.now.outlines) }
+    requires linked { IsLinked row_source.now }
+    requires lines { IsLineList row_source.now.program.text.now lines.now.ends.items lines.now.markers.items lines.now.naming.items }
+    requires checked { map told_seen checked.now ≡ map (told_in_item row_source.now.program.text.now) (items_in row_source.now.program) }
+    ensures { IfOk result (λ t. t ≡ tables_by row_source.now.program.text.now (items_in row_source.now.program) row_source.now.links.now.outlines) }
 {
-    let alloc = listing.program.alloc;
-    let channels = assigned_channels(listing)?;
+    let alloc = row_source.program.alloc;
+    let channels = assigned_channels(row_source)?;
     let numbers = numbers_of(alloc, &channels)?;
     let outline = Outline {
-        listing: *listing,
+        row_source: *row_source,
         lines,
         checked,
         numbers: &numbers,
     };
-    let variables = variables(alloc, listing.links.declarations(), &channels)?;
+    let variables = variables(alloc, row_source.links.declarations(), &channels)?;
     Ok(Tables {
-        program: listing.program.name(),
-        options: Items::from_vec(program_options(listing)?),
-        flags: Rows::from_vec(flag_rows(listing)?),
-        channels: Rows::from_vec(channel_rows(listing, &channels)?),
+        program: row_source.program.name(),
+        options: Items::from_vec(program_options(row_source)?),
+        flags: Rows::from_vec(flag_rows(row_source)?),
+        channels: Rows::from_vec(channel_rows(row_source, &channels)?),
         variables: Items::from_vec(variables),
         sets: Rows::from_vec(set_rows(&outline)?),
     })
@@ -86,12 +86,12 @@ pub fn tables_by_tokens(
         alloc,
     };
     let clauses = told_clauses(&program, links)?;
-    let listing = RowSource {
+    let row_source = RowSource {
         program,
         clauses: &clauses,
         links,
     };
-    let tables = rows_of(&listing, lines, checked)?;
+    let tables = rows_of(&row_source, lines, checked)?;
     Ok(tables)
 }
 

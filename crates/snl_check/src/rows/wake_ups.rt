@@ -17,7 +17,7 @@ use snl_walk::WakeUse;
 fn covers_elements(outline: &Outline, variable: usize) -> bool
     requires { IsOutline outline.now }
     ensures { result ≡ covers_elements
-        (assigned_channels outline.now.listing.program.text.now (items_in outline.now.listing.program) outline.now.listing.links.now.outlines) variable }
+        (assigned_channels outline.now.row_source.program.text.now (items_in outline.now.row_source.program) outline.now.row_source.links.now.outlines) variable }
 {
     let any = Key {
         variable,
@@ -30,7 +30,7 @@ fn covers_elements(outline: &Outline, variable: usize) -> bool
 fn element_number(outline: &Outline, variable: usize, element: u64) -> Option<usize>
     requires { IsOutline outline.now }
     ensures { result ≡ element_number
-        (assigned_channels outline.now.listing.program.text.now (items_in outline.now.listing.program) outline.now.listing.links.now.outlines) variable (Some element) }
+        (assigned_channels outline.now.row_source.program.text.now (items_in outline.now.row_source.program) outline.now.row_source.links.now.outlines) variable (Some element) }
 {
     outline.numbers.number(Key {
         variable,
@@ -42,7 +42,7 @@ fn element_number(outline: &Outline, variable: usize, element: u64) -> Option<us
 fn on_variable(outline: &Outline, subscript: Option<u64>, variable: usize) -> Option<WakeUp>
     requires { IsOutline outline.now }
     ensures { result ≡ conditions.on_variable
-        (assigned_channels outline.now.listing.program.text.now (items_in outline.now.listing.program) outline.now.listing.links.now.outlines) subscript variable }
+        (assigned_channels outline.now.row_source.program.text.now (items_in outline.now.row_source.program) outline.now.row_source.links.now.outlines) subscript variable }
 {
     match subscript {
         Some(element) => {
@@ -59,11 +59,11 @@ fn on_variable(outline: &Outline, subscript: Option<u64>, variable: usize) -> Op
 // What a use of a name in an item means.
 fn wake_up(outline: &Outline, item: usize, used: WakeUse) -> Option<WakeUp>
     requires { IsOutline outline.now }
-    ensures { result ≡ conditions.wake_up outline.now.listing.program.text.now (items_in outline.now.listing.program) outline.now.listing.links.now.outlines
-        (assigned_channels outline.now.listing.program.text.now (items_in outline.now.listing.program) outline.now.listing.links.now.outlines) item used }
+    ensures { result ≡ conditions.wake_up outline.now.row_source.program.text.now (items_in outline.now.row_source.program) outline.now.row_source.links.now.outlines
+        (assigned_channels outline.now.row_source.program.text.now (items_in outline.now.row_source.program) outline.now.row_source.links.now.outlines) item used }
 {
-    let links = outline.listing.links;
-    let name = outline.listing.program.source(item).bytes(used.token);
+    let links = outline.row_source.links;
+    let name = outline.row_source.program.source(item).bytes(used.token);
     let declaration = links.declaration(item, name)?;
     match links.flag_number(declaration) {
         Some(flag) => Some(WakeUp::Flag(flag)),
@@ -75,12 +75,12 @@ fn wake_up(outline: &Outline, item: usize, used: WakeUse) -> Option<WakeUp>
 pub(crate) fn wake_ups(outline: &Outline, item: usize) -> Result<Vec<WakeUp>, OutOfMemory>
     requires { IsOutline outline.now }
     ensures { IfOk result (λ wake. wake.items
-        ≡ conditions.wake_ups outline.now.listing.program.text.now (items_in outline.now.listing.program) outline.now.listing.links.now.outlines
-        (assigned_channels outline.now.listing.program.text.now (items_in outline.now.listing.program) outline.now.listing.links.now.outlines) item
-        (conditions.uses_in outline.now.listing.program.text.now (items_in outline.now.listing.program) item)) }
+        ≡ conditions.wake_ups outline.now.row_source.program.text.now (items_in outline.now.row_source.program) outline.now.row_source.links.now.outlines
+        (assigned_channels outline.now.row_source.program.text.now (items_in outline.now.row_source.program) outline.now.row_source.links.now.outlines) item
+        (conditions.uses_in outline.now.row_source.program.text.now (items_in outline.now.row_source.program) item)) }
 {
     let uses = outline.wake_uses(item);
-    let mut wake = with_room(outline.listing.program.alloc, uses.len())?;
+    let mut wake = with_room(outline.row_source.program.alloc, uses.len())?;
     for used in uses {
         if let Some(meant) = wake_up(outline, item, *used) {
             wake.push(meant)?;

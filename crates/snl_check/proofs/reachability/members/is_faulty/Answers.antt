@@ -7,7 +7,7 @@ use Rattle.snl_check.proofs.reachability.members.is_faulty.Goals as goal
 
 pub returns : goal.returns
 returns c =
-    let program = c.args.listing.now.program in
+    let program = c.args.row_source.now.program in
     let xs = items_in program in
     turned _ _ c.is_none.ensures ∙ ap not (sym (copied_some c.tree.result) ∙ ap is_some c.tree.ensures)
-    ∙ sym (faulty_is xs c.args.item (omega (arith, c.requires.item, count_in program c.requires.linked.listing.program)))
+    ∙ sym (faulty_is xs c.args.item (omega (arith, c.requires.item, count_in program c.requires.linked.row_source.program)))

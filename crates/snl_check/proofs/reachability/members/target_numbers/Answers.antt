@@ -13,9 +13,9 @@ use Rattle.snl_check.proofs.reachability.members.target_numbers.Goals as goal
 
 pub returns : goal.returns
 returns c =
-    let program = c.args.outline.now.listing.program in
+    let program = c.args.outline.now.row_source.program in
     let xs = items_in program in
-    let ss = c.args.outline.now.listing.links.now.outlines in
+    let ss = c.args.outline.now.row_source.links.now.outlines in
     let kept = filter_map (target_number ss c.args.states.now c.args.state) in
     let source = c.source-source.result in
     let targets = c.target_uses-targets.result.now in

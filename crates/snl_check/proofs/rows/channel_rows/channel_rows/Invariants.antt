@@ -6,4 +6,4 @@ use Rattle.snl_check.proofs.rows.channel_rows.channel_rows.Given as goal
 -- the rows of the channels so far
 abbrev pub invariant-loop-channel : goal.invariant-loop-channel
 invariant-loop-channel l =
-    l.rows.items ≡ map (channel_row l.listing.program.text.now (items_in l.listing.program) l.listing.links.now.outlines) (map assigned (take l.channel-index l.channels))
+    l.rows.items ≡ map (channel_row l.row_source.program.text.now (items_in l.row_source.program) l.row_source.links.now.outlines) (map assigned (take l.channel-index l.channels))

@@ -7,5 +7,5 @@ use Rattle.snl_check.proofs.rows.flag_rows.flag_rows.Given as goal
 -- the rows so far and those of the rest are all
 abbrev pub invariant-loop-number : goal.invariant-loop-number
 invariant-loop-number l =
-    let row = flag_row_at (items_in l.listing.program) l.listing.links.now.outlines in
+    let row = flag_row_at (items_in l.row_source.program) l.row_source.links.now.outlines in
     l.rows.items ++ filter_map row (drop l.number-index l.number-items) ≡ filter_map row l.number-items

@@ -7,7 +7,7 @@ use Rattle.snl_check.proofs.rows.option_rows.program_settings.Goals as goal
 
 pub returns : goal.returns
 returns c =
-    let p = c.args.listing.now.program in
+    let p = c.args.row_source.now.program in
     let xs = items_in p in
     let all : c.loop-item.item ≡ length xs = omega (arith, count_in p c.requires.program, c.loop-item.auto.item-end, c.loop-item-test.false) in
-    c.loop-item.invariant ∙ ap (gathered (setting_at p.text.now xs c.args.listing.now.links.now.outlines)) all
+    c.loop-item.invariant ∙ ap (gathered (setting_at p.text.now xs c.args.row_source.now.links.now.outlines)) all

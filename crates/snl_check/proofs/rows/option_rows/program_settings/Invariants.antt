@@ -7,4 +7,4 @@ use Rattle.snl_check.proofs.rows.option_rows.program_settings.Given as goal
 
 -- the settings of the items so far are collected
 abbrev pub invariant-loop-item : goal.invariant-loop-item
-invariant-loop-item l = map told l.settings.items ≡ gathered (setting_at l.listing.program.text.now (items_in l.listing.program) l.listing.links.now.outlines) l.item
+invariant-loop-item l = map told l.settings.items ≡ gathered (setting_at l.row_source.program.text.now (items_in l.row_source.program) l.row_source.links.now.outlines) l.item

@@ -8,8 +8,8 @@ use Rattle.snl_check.proofs.rows.set_rows.set_rows.Goals as goal
 
 pub returns : goal.returns
 returns c =
-    let listing = c.args.outline.now.listing in
-    let ss = listing.links.now.outlines in
-    let count : length listing.program.trees.now ≡ length ss = counted listing.program ss c.requires.linked.listing.program c.requires.linked.outlines in
+    let row_source = c.args.outline.now.row_source in
+    let ss = row_source.links.now.outlines in
+    let count : length row_source.program.trees.now ≡ length ss = counted row_source.program ss c.requires.linked.row_source.program c.requires.linked.outlines in
     let at_end : c.loop-item.item ≡ length ss = omega (arith, c.loop-item-test.false, c.loop-item.auto.item-end, count) in
-    c.loop-item.invariant ∙ ap (λ n. map (set_row listing.program.text.now (items_in listing.program) ss) (all_below (is_set_begin ss) n)) at_end
+    c.loop-item.invariant ∙ ap (λ n. map (set_row row_source.program.text.now (items_in row_source.program) ss) (all_below (is_set_begin ss) n)) at_end

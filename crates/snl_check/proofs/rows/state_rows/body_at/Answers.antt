@@ -7,8 +7,8 @@ use Rattle.snl_check.proofs.rows.state_rows.body_at.Goals as goal
 
 pub returns : goal.returns
 returns c =
-    let listing = c.args.outline.now.listing in
+    let row_source = c.args.outline.now.row_source in
     let made = c.state_body.result in
     let item : List Piece → Option Item → ProgramItem = λ tokens tree. record { tokens = tokens; tree = tree } in
-    let Is : ProgramItem → Type 0 = λ x. IfOk made (λ body. body ≡ states.state_body listing.program.text.now listing.links.now.outlines c.args.item x) in
+    let Is : ProgramItem → Type 0 = λ x. IfOk made (λ body. body ≡ states.state_body row_source.program.text.now row_source.links.now.outlines c.args.item x) in
     subst Is (ap₂ item c.own.ensures.tokens c.tree.ensures) c.state_body.ensures.body

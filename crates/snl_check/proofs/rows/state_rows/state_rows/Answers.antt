@@ -14,34 +14,34 @@ use Rattle.snl_check.proofs.rows.state_rows.state_rows.Goals as goal
 
 pub mark_of-mark-requires-clause-state : goal.mark_of-mark-requires-clause-state
 mark_of-mark-requires-clause-state c =
-    let listing = c.args.outline.now.listing in
-    let ss = listing.links.now.outlines in
+    let row_source = c.args.outline.now.row_source in
+    let ss = row_source.links.now.outlines in
     let n = c.loop-number.number in
     let states = c.deref-state-items.result.now in
     let is : states ≡ states_in ss c.args.set = c.deref-state-items.ensures.value ∙ c.in_ok-members.ensures.states in
-    let count : length listing.program.trees.now ≡ length ss = counted listing.program ss c.requires.outline.linked.listing.program c.requires.outline.linked.outlines in
+    let count : length row_source.program.trees.now ≡ length ss = counted row_source.program ss c.requires.outline.linked.row_source.program c.requires.outline.linked.outlines in
     let within : get_or states n 0 < length ss =
     subst (λ l. get_or l n 0 < length ss) (sym is) (within_below (λ j. is_named_state ss j && stands_in ss c.args.set j) (length ss) n 0 (subst (λ l. n < length l) is c.loop-number-test.true)) in
     omega (arith, within, count)
 
 pub state_row-requires-clause-item : goal.state_row-requires-clause-item
 state_row-requires-clause-item c =
-    let listing = c.args.outline.now.listing in
-    let ss = listing.links.now.outlines in
+    let row_source = c.args.outline.now.row_source in
+    let ss = row_source.links.now.outlines in
     let n = c.loop-number.number in
     let states = c.deref-state-items.result.now in
     let is : states ≡ states_in ss c.args.set = c.deref-state-items.ensures.value ∙ c.in_ok-members.ensures.states in
-    let count : length listing.program.trees.now ≡ length ss = counted listing.program ss c.requires.outline.linked.listing.program c.requires.outline.linked.outlines in
+    let count : length row_source.program.trees.now ≡ length ss = counted row_source.program ss c.requires.outline.linked.row_source.program c.requires.outline.linked.outlines in
     let within : get_or states n 0 < length ss =
     subst (λ l. get_or l n 0 < length ss) (sym is) (within_below (λ j. is_named_state ss j && stands_in ss c.args.set j) (length ss) n 0 (subst (λ l. n < length l) is c.loop-number-test.true)) in
     omega (arith, within, count)
 
 pub loop-number-preserved : goal.loop-number-preserved
 loop-number-preserved c =
-    let listing = c.args.outline.now.listing in
-    let text = listing.program.text.now in
-    let xs = items_in listing.program in
-    let ss = listing.links.now.outlines in
+    let row_source = c.args.outline.now.row_source in
+    let text = row_source.program.text.now in
+    let xs = items_in row_source.program in
+    let ss = row_source.links.now.outlines in
     let k = c.args.set in
     let n = c.loop-number.number in
     let states = c.deref-state-items.result.now in

@@ -7,6 +7,6 @@ use Rattle.snl_check.proofs.rows.wake_ups.covers_elements.Goals as goal
 
 pub returns : goal.returns
 returns c =
-    let listing = c.args.outline.now.listing in
+    let row_source = c.args.outline.now.row_source in
     c.is_some.ensures ∙ ap is_some (c.number.ensures ∙ c.requires.numbered.each (record { variable = c.args.variable; which = which.Any }))
-    ∙ sym (any_position (is_element_of c.args.variable None) (assigned_channels listing.program.text.now (items_in listing.program) listing.links.now.outlines))
+    ∙ sym (any_position (is_element_of c.args.variable None) (assigned_channels row_source.program.text.now (items_in row_source.program) row_source.links.now.outlines))

@@ -10,8 +10,8 @@ use Rattle.snl_check.proofs.rows.wake_ups.wake_ups.Goals.{in-Some+in_ok-push, in
 
 pub loop-used-preserved : goal.loop-used-preserved
 loop-used-preserved c =
-    let program = c.args.outline.now.listing.program in
-    let ss = c.args.outline.now.listing.links.now.outlines in
+    let program = c.args.outline.now.row_source.program in
+    let ss = c.args.outline.now.row_source.links.now.outlines in
     let meant = wake_up program.text.now (items_in program) ss (assigned_channels program.text.now (items_in program) ss) c.args.item in
     let uses = c.wake_uses-uses.result.now in
     let n = c.loop-used.used-index in
