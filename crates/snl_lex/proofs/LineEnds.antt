@@ -1,12 +1,12 @@
 -- Line ends, counted, and parts of them.
-use Rattle.std.proofs.Common.{◌≡◌, ◌==◌, ℕ, zero, suc, ◌+◌, ◌-◌, ◌<◌, ◌≤◌, inl, inr, Bool, true, false, ◌||◌, cond, nat_lt, List, [], ◌∷◌, ◌++◌, length, take, drop, get_or, count_by, refl, sym, ap, ap₂, ◌∙◌, subst, arith, append_assoc, length-drop}
+use Rattle.std.proofs.Common.{◌≡◌, ◌==◌, ℕ, zero, suc, ◌+◌, ◌-◌, ◌<◌, ◌≤◌, inl, inr, Bool, true, false, ◌||◌, cond, nat_lt, List, [], ◌∷◌, ◌++◌, length, take, drop, get_or, count_by, map, refl, sym, ap, ap₂, ◌∙◌, subst, arith, append_assoc, length-drop}
 use Rattle.std.specs.Prelude.{slice_index}
 use Rattle.std.specs.List.{list_any}
 use Rattle.std.specs.List.Sorted.{IsNonDecreasing}
 use Rattle.std.proofs.Math.Seq.{take-append_seam, drop-append_seam}
-use Rattle.std.proofs.lemmas.List.{append-nil, length-take-le, take-append-drop, take_all, take_more}
+use Rattle.std.proofs.lemmas.List.{length-take-le, take-append-drop, take_all}
 use Rattle.std.proofs.lemmas.List.Sums.{count_by-le-length}
-use Rattle.std.proofs.lemmas.Bool.Decides.{nat_tests}
+use Rattle.memchr.specs.Find.{is_byte, places, places_from}
 use Rattle.snl_cut.specs.Cut.{IsEdit}
 use Rattle.snl_lists.specs.Moves.{moved, replaced_and_moved}
 use Rattle.snl_lex.specs.Lines.{has_line_between, lines_between, part_of}
@@ -79,12 +79,6 @@ below_more a b [] le = omega arith
 below_more a b (e ∷ es) le = omega (arith, bits a b e le, below_more a b es le, count_cons (λ x. nat_lt x a) e es, count_cons (λ x. nat_lt x b) e es)
 
 -- ---- line ends and counts of them
-
-ends_yes : (at b : ℕ) (bs : List ℕ) → (b == 10) ≡ true → line_ends_from at (b ∷ bs) ≡ at ∷ line_ends_from (suc at) bs
-ends_yes at b bs h = let l : List ℕ = line_ends_from (suc at) bs in ap (λ (t : Bool). cond t (at ∷ l) l) h
-
-ends_no : (at b : ℕ) (bs : List ℕ) → (b == 10) ≡ false → line_ends_from at (b ∷ bs) ≡ line_ends_from (suc at) bs
-ends_no at b bs h = let l : List ℕ = line_ends_from (suc at) bs in ap (λ (t : Bool). cond t (at ∷ l) l) h
 
 taken_none : (n : ℕ) → take {A = ℕ} n [] ≡ []
 taken_none n = take_all {A = ℕ} n [] (omega arith)
@@ -206,26 +200,6 @@ two_parts text place le =
     ap (line_ends_from 0) (sym (take-append-drop place text)) ∙ ends_append 0 (take place text) (drop place text)
     ∙ ap (λ (n : ℕ). line_ends_from 0 (take place text) ++ line_ends_from n (drop place text)) (omega (arith, length-take-le place text le))
 
--- One byte more.
-pub ends_more : (at : ℕ) (bs : List ℕ) (i : ℕ) → i < length bs → line_ends_from at (take (i + 1) bs) ≡ line_ends_from at (take i bs) ++ line_ends_from (at + i) (get_or bs i 0 ∷ [])
-ends_more at bs i lt =
-    ap (line_ends_from at) (take_more bs i 0 lt) ∙ ends_append at (take i bs) (get_or bs i 0 ∷ [])
-    ∙ ap (λ (n : ℕ). line_ends_from at (take i bs) ++ line_ends_from (at + n) (get_or bs i 0 ∷ [])) (length-take-le i bs (omega arith))
-
-is_yes : (b : ℕ) → b ≡ 10 → (b == 10) ≡ true
-is_yes b h = grind (arith, nat_tests)
-
-is_no : (b : ℕ) → (b ≡ 10 → ⊥) → (b == 10) ≡ false
-is_no b h = grind (arith, nat_tests)
-
-pub ends_put : (at : ℕ) (bs : List ℕ) (i : ℕ) → i < length bs → get_or bs i 0 ≡ 10 → line_ends_from at (take (i + 1) bs) ≡ line_ends_from at (take i bs) ++ (at + i) ∷ []
-ends_put at bs i lt h = ends_more at bs i lt ∙ ap (λ (l : List ℕ). line_ends_from at (take i bs) ++ l) (ends_yes (at + i) (get_or bs i 0) [] (is_yes (get_or bs i 0) h))
-
-pub ends_pass : (at : ℕ) (bs : List ℕ) (i : ℕ) → i < length bs → (get_or bs i 0 ≡ 10 → ⊥) → line_ends_from at (take (i + 1) bs) ≡ line_ends_from at (take i bs)
-ends_pass at bs i lt h =
-    ends_more at bs i lt ∙ ap (λ (l : List ℕ). line_ends_from at (take i bs) ++ l) (ends_no (at + i) (get_or bs i 0) [] (is_no (get_or bs i 0) h))
-    ∙ append-nil (line_ends_from at (take i bs))
-
 -- ---- an edit of the line ends
 
 place_parts : (text : List ℕ) (place : ℕ) → place ≤ length text
@@ -273,3 +247,34 @@ edited_ends old text start b c e =
     ∙ ends_append 0 (take start text) (part_of text start c) ∙ ap (λ (n : ℕ). line_ends_from 0 (take start text) ++ line_ends_from n (part_of text start c)) size in
     ap₂ (λ (x y : List ℕ). x ++ (line_ends_in text start c ++ y)) head tail
     ∙ sym (two_parts text c e.new_inside ∙ ap (λ (l : List ℕ). l ++ line_ends_from c (drop c text)) front ∙ append_assoc (line_ends_from 0 (take start text)) (line_ends_in text start c) (line_ends_from c (drop c text)))
+
+-- ---- where they are among the bytes
+
+first_of : (i n : ℕ) (bs : List ℕ) → i < length bs → take (suc n) (drop i bs) ≡ slice_index bs i ∷ take n (drop (suc i) bs)
+first_of i n [] lt = absurd (omega (arith, lt))
+first_of zero n (b ∷ bs) lt = refl
+first_of (suc i) n (b ∷ bs) lt = first_of i n bs (omega (arith, lt))
+
+places_are : (at i n : ℕ) (bs : List ℕ) → i + n ≤ length bs → line_ends_from (at + i) (take n (drop i bs)) ≡ map (λ p. at + p) (places_from (is_byte 10) bs i n)
+unfolding places_from
+places_are at i zero bs le = refl
+places_are at i (suc n) bs le =
+    let l : List ℕ = line_ends_from (suc (at + i)) (take n (drop (suc i) bs)) in
+    let later : List ℕ = places_from (is_byte 10) bs (i + 1) n in
+    let next : suc i ≡ i + 1 = omega arith in
+    let place : suc (at + i) ≡ at + (i + 1) = omega arith in
+    let rest : l ≡ map (λ p. at + p) later =
+    ap₂ (λ (m k : ℕ). line_ends_from m (take n (drop k bs))) place next ∙ places_are at (i + 1) n bs (omega (arith, le)) in
+    ap (line_ends_from (at + i)) (first_of i n bs (omega (arith, le)))
+    ∙ elim (slice_index bs i == 10) as (λ t. cond t ((at + i) ∷ l) l ≡ map (λ p. at + p) (cond t (i ∷ later) later)) [
+      | true ↦ ap (λ (r : List ℕ). (at + i) ∷ r) rest
+      | false ↦ rest
+    ]
+
+pub ends_are_places : (at : ℕ) (bs : List ℕ) → line_ends_from at bs ≡ map (λ p. at + p) (places (is_byte 10) bs)
+ends_are_places at bs =
+    let here : at ≡ at + 0 = omega arith in
+    let size : length bs ≡ length bs - 0 = omega arith in
+    ap₂ (λ (n : ℕ) (r : List ℕ). line_ends_from n r) here (sym (take_all (length bs) bs (omega arith)))
+    ∙ places_are at 0 (length bs) bs (omega arith)
+    ∙ ap (λ (n : ℕ). map (λ p. at + p) (places_from (is_byte 10) bs 0 n)) size

@@ -12,6 +12,7 @@ ghost use Rattle.std.specs.Prelude.{◌≡◌, ℕ, ◌+◌, ◌-◌, ◌^◌, �
 use crate::lines::{Line, marker_file, marker_number};
 use crate::piece::{Class, Piece};
 use crate::piece_list::{PieceChange, TextEdit};
+use memchr::memchr_iter;
 use snl_cut::OutOfMemory;
 use snl_lists::replace;
 use std::alloc::Global;
@@ -109,12 +110,8 @@ fn line_ends_in(
     ensures { IfOk result (λ ends. ends.items ≡ line_ends_in text.now from to) }
 {
     let mut ends = Vec::new(alloc);
-    let mut at = from;
-    for byte in &text[from..to] {
-        if *byte == b'\n' {
-            ends.push(at)?;
-        }
-        at += 1;
+    for place in memchr_iter(b'\n', &text[from..to]) {
+        ends.push(from + place)?;
     }
     Ok(ends)
 }

@@ -1,6 +1,6 @@
 //! Tests of the rules on names, on what is inside items and on tables, from the bytes of a text on. There is no code of the product here.
 //!
-//! Tables hold texts and the answers that the language's rules give, as words.
+//! Tables hold texts, or items alone, and the answers that the language's rules give, as words, reckoned by hand.
 #![tactic(auto)]
 
 #[cfg(test)]
@@ -9,6 +9,8 @@ mod clauses;
 mod conditions;
 #[cfg(test)]
 mod findings;
+#[cfg(test)]
+mod inside;
 #[cfg(test)]
 mod names;
 #[cfg(test)]

@@ -5,7 +5,7 @@ ghost use Rattle.std.specs.Prelude.{◌≡◌, IfOk, length};
 
 use crate::reading::summaries;
 use snl_reading::links_of;
-use snl_scope::{ItemKind, Links, Summary, same_outline, same_view};
+use snl_scope::{EditedNames, ItemKind, Links, Outline, Summary, same_outline, same_view};
 use std::alloc::Global;
 use std::process::Abort;
 use std::test::Fail;
@@ -166,6 +166,100 @@ fn what_an_edit_leaves_as_it_was(rt: HostRuntime) -> Result<(), Fail> {
         let old = summaries(alloc, old_text)?;
         let new = summaries(alloc, new_text)?;
         expect_row(&rt, alloc, &old, &new, *wanted, wanted_views)?;
+    }
+    Ok(())
+}
+
+/// An item in the place of another, another item, and whether it touches a name that they speak of; or that they bound other state
+/// sets.
+type NameRow = (&'static [u8], &'static [u8], &'static [u8], u8);
+
+static NAMES: [NameRow; 8] = [
+    // The variable gets another name: the old one and the new one are touched.
+    (
+        b"int a;",
+        b"int b;",
+        b"state s { when (a) { } state t }",
+        b'y',
+    ),
+    (
+        b"int a;",
+        b"int b;",
+        b"state s { when (b) { } state t }",
+        b'y',
+    ),
+    (
+        b"int a;",
+        b"int b;",
+        b"state s { when (c) { } state t }",
+        b'n',
+    ),
+    // It becomes two.
+    (
+        b"int a;",
+        b"int a, b;",
+        b"state s { when (c) { } state t }",
+        b'n',
+    ),
+    // A clause comes in the place of a declaration.
+    (
+        b"int a;",
+        b"monitor b;",
+        b"state s { when (b) { } state t }",
+        b'y',
+    ),
+    // The state gets another name.
+    (
+        b"state t { }",
+        b"state u { }",
+        b"state s { when () { } state t }",
+        b'y',
+    ),
+    (
+        b"state t { }",
+        b"state u { }",
+        b"state s { when () { } state s }",
+        b'n',
+    ),
+    // A state set begins.
+    (b"ss t", b"ss t {", b"state s { when () { } state s }", b'-'),
+];
+
+fn outlines_of<'a>(alloc: Global, summaries: &'a [Summary]) -> Result<Vec<&'a Outline>, Fail> {
+    let mut outlines = Vec::new(alloc);
+    for summary in summaries {
+        outlines.push(&summary.outline)?;
+    }
+    Ok(outlines)
+}
+
+fn touches_all(edited: &EditedNames, summaries: &[Summary]) -> bool {
+    summaries.iter().all(|summary| edited.touch(summary))
+}
+
+// Whether the items of a text touch the names that two others speak of, or `-` where these bound other state sets.
+fn touched(alloc: Global, old: &[Summary], new: &[Summary], items: &[Summary]) -> Result<u8, Fail> {
+    let old = outlines_of(alloc, old)?;
+    let new = outlines_of(alloc, new)?;
+    match EditedNames::of(alloc, &old, &new)? {
+        Some(edited) => Ok(if touches_all(&edited, items) {
+            b'y'
+        } else {
+            b'n'
+        }),
+        None => Ok(b'-'),
+    }
+}
+
+#[test]
+fn names_that_an_edit_speaks_of(rt: HostRuntime) -> Result<(), Fail> {
+    let alloc = rt.alloc();
+    for (old_text, new_text, item, wanted) in &NAMES {
+        let old = summaries(alloc, old_text)?;
+        let new = summaries(alloc, new_text)?;
+        let items = summaries(alloc, item)?;
+        let letter = touched(alloc, &old, &new, &items)?;
+        assert_eq!(&rt; letter, *wanted);
     }
     Ok(())
 }

@@ -3,7 +3,7 @@
 ghost use Rattle.std.specs.Prelude.{All, ◌<◌, length};
 ghost use Rattle.snl_lex.specs.Pieces.{LiesIn};
 
-use crate::told::told;
+use crate::inside::told::told;
 use snl_cut::Count;
 use snl_lex::Piece;
 use snl_reading::tokens_of;

@@ -2,7 +2,7 @@
 
 ghost use Rattle.std.specs.Prelude.{◌≡◌, ◌<◌, All, length};
 ghost use Rattle.snl_lex.specs.Pieces.{LiesIn};
-ghost use Rattle.snl_walk_tests.specs.Around.{misses, outer_of, passing};
+ghost use Rattle.snl_rule_tests.specs.Around.{misses, outer_of, passing};
 
 use snl_cut::Count;
 use snl_lex::Piece;
