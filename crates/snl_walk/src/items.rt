@@ -4,9 +4,9 @@ ghost use Rattle.std.specs.Prelude.{◌≡◌, ◌++◌, [], false, IfOk, OnOk, 
 ghost use Rattle.std.specs.List.{flat_map};
 ghost use Rattle.snl_walk.specs.Tokens.{IsSource, token_bytes};
 ghost use Rattle.snl_walk.specs.Items.{found_in_function, found_in_member, found_in_named, found_in_parameter, found_in_state, found_in_struct_member, found_in_target, found_in_transition, found_with_body, in_transition, occurrences, outside};
-ghost use Rattle.snl_walk.specs.Declares.{declared_by_parameter};
+ghost use Rattle.snl_walk.specs.Declares.{declared_by_parameter, declared_by_state};
 ghost use Rattle.snl_walk.specs.Scopes.{under_names};
-ghost use Rattle.snl_walk.specs.Statements.{declaration_at};
+ghost use Rattle.snl_walk.specs.Statements.{declaration_at, found_in_block, found_in_declaration};
 
 use crate::declares::{declared_by_parameters, declared_by_state};
 use crate::expressions::{add_lengths, add_optional};
@@ -15,7 +15,7 @@ use crate::source::Source;
 use crate::statements::{add_block, add_declaration, declaration_at, enter};
 use crate::visible::Visible;
 use snl_cut::OutOfMemory;
-use snl_syntax::tree::declaration::Parameter;
+use snl_syntax::tree::declaration::{Declaration, Parameter};
 use snl_syntax::tree::item::{Function, Item, StructMember};
 use snl_syntax::tree::state::{StateMember, Target, Transition};
 use snl_syntax::tree::statement::Member;
@@ -113,6 +113,34 @@ fn add_member<'a>(
     }
 }
 
+fn add_members<'a>(
+    source: &Source<'a>,
+    names: &mut Visible<'a>,
+    members: &[StateMember],
+    found: &mut Vec<Occurrence>,
+) -> Result<(), OutOfMemory>
+    requires { IsSource source.now.text.now source.now.tokens.now }
+    ensures { OnOk result (found.new.items ≡ found.old.items ++ flat_map (found_in_member (token_bytes source.now.text.now source.now.tokens.now) names.old) members.now) }
+{
+    for member in members {
+        add_member(source, names, member, found)?;
+    }
+    Ok(())
+}
+
+// The names that are visible in a state.
+fn names_of_state<'a>(
+    source: &Source<'a>,
+    members: &[StateMember],
+) -> Result<Visible<'a>, OutOfMemory>
+    requires { IsSource source.now.text.now source.now.tokens.now }
+    ensures { IfOk result (λ names. names ≡ under_names (token_bytes source.now.text.now source.now.tokens.now) (declared_by_state (token_bytes source.now.text.now source.now.tokens.now) members.now)) }
+{
+    let mut names = Visible::new(source.alloc);
+    enter(source, &declared_by_state(source, members)?, &mut names)?;
+    Ok(names)
+}
+
 fn add_state(
     source: &Source,
     members: &[StateMember],
@@ -121,12 +149,8 @@ fn add_state(
     requires { IsSource source.now.text.now source.now.tokens.now }
     ensures { OnOk result (found.new.items ≡ found.old.items ++ found_in_state (token_bytes source.now.text.now source.now.tokens.now) members.now) }
 {
-    let mut names = Visible::new(source.alloc);
-    enter(source, &declared_by_state(source, members)?, &mut names)?;
-    for member in members {
-        add_member(source, &mut names, member, found)?;
-    }
-    Ok(())
+    let mut names = names_of_state(source, members)?;
+    add_members(source, &mut names, members, found)
 }
 
 fn add_prototype(
@@ -226,6 +250,24 @@ fn add_function(
     }
 }
 
+fn add_struct_member(
+    source: &Source,
+    names: &Visible,
+    member: &StructMember,
+    found: &mut Vec<Occurrence>,
+) -> Result<(), OutOfMemory>
+    requires source { IsSource source.now.text.now source.now.tokens.now }
+    requires nothing { names.now ≡ [] }
+    ensures { OnOk result (found.new.items ≡ found.old.items ++ found_in_struct_member (token_bytes source.now.text.now source.now.tokens.now) member.now) }
+{
+    match member {
+        StructMember::Declaration(declaration) => {
+            add_declaration(source, names, false, declaration, found)
+        }
+        StructMember::CBlock(_) => Ok(()),
+    }
+}
+
 fn add_struct(
     source: &Source,
     members: &[StructMember],
@@ -236,41 +278,49 @@ fn add_struct(
 {
     let names = Visible::new(source.alloc);
     for member in members {
-        match member {
-            StructMember::Declaration(declaration) => {
-                add_declaration(source, &names, false, declaration, found)?;
-            }
-            StructMember::CBlock(_) => {}
-        }
+        add_struct_member(source, &names, member, found)?;
     }
     Ok(())
 }
 
-/// What is found in an item, in the order of its text.
-#[tactic(auto, unfolding(crate::specs::Items::occurrences))]
-pub fn occurrences(source: &Source, tree: &Item) -> Result<Vec<Occurrence>, OutOfMemory>
+// A definition sees no names here.
+fn add_definition(
+    source: &Source,
+    declaration: &Declaration,
+    found: &mut Vec<Occurrence>,
+) -> Result<(), OutOfMemory>
     requires { IsSource source.now.text.now source.now.tokens.now }
-    ensures { IfOk result (λ v. v.items ≡ occurrences (token_bytes source.now.text.now source.now.tokens.now) tree.now) }
+    ensures { OnOk result (found.new.items ≡ found.old.items ++ found_in_declaration (token_bytes source.now.text.now source.now.tokens.now) [] false declaration.now) }
 {
-    let mut found = Vec::new(source.alloc);
+    let names = Visible::new(source.alloc);
+    add_declaration(source, &names, false, declaration, found)
+}
+
+// A block at entry or exit of the program.
+fn add_outer_block(
+    source: &Source,
+    block: &[Member],
+    found: &mut Vec<Occurrence>,
+) -> Result<(), OutOfMemory>
+    requires { IsSource source.now.text.now source.now.tokens.now }
+    ensures { OnOk result (found.new.items ≡ found.old.items ++ found_in_block (token_bytes source.now.text.now source.now.tokens.now) block.now [] outside) }
+{
     let mut names = Visible::new(source.alloc);
+    add_block(source, &mut names, outside(), block, found)
+}
+
+#[tactic(auto, unfolding(crate::specs::Items::occurrences))]
+fn add_item(source: &Source, tree: &Item, found: &mut Vec<Occurrence>) -> Result<(), OutOfMemory>
+    requires { IsSource source.now.text.now source.now.tokens.now }
+    ensures { OnOk result (found.new.items ≡ found.old.items ++ occurrences (token_bytes source.now.text.now source.now.tokens.now) tree.now) }
+{
     match tree {
-        Item::Definition(declaration) => {
-            add_declaration(source, &names, false, declaration.get(), &mut found)?;
-        }
-        Item::Entry(block) => {
-            add_block(source, &mut names, outside(), block.as_slice(), &mut found)?;
-        }
-        Item::Exit(block) => {
-            add_block(source, &mut names, outside(), block.as_slice(), &mut found)?;
-        }
-        Item::StateBlock { name: _, members } => {
-            add_state(source, members.as_slice(), &mut found)?;
-        }
-        Item::Function(function) => add_function(source, function.get(), &mut found)?,
-        Item::StructDef { name: _, members } => {
-            add_struct(source, members.as_slice(), &mut found)?;
-        }
+        Item::Definition(declaration) => add_definition(source, declaration.get(), found),
+        Item::Entry(block) => add_outer_block(source, block.as_slice(), found),
+        Item::Exit(block) => add_outer_block(source, block.as_slice(), found),
+        Item::StateBlock { name: _, members } => add_state(source, members.as_slice(), found),
+        Item::Function(function) => add_function(source, function.get(), found),
+        Item::StructDef { name: _, members } => add_struct(source, members.as_slice(), found),
         Item::Header {
             name: _,
             parameters: _,
@@ -281,7 +331,16 @@ pub fn occurrences(source: &Source, tree: &Item) -> Result<Vec<Occurrence>, OutO
         | Item::SsBegin { name: _ }
         | Item::SsEnd
         | Item::CBlock(_)
-        | Item::Empty => {}
+        | Item::Empty => Ok(()),
     }
+}
+
+/// What is found in an item, in the order of its text.
+pub fn occurrences(source: &Source, tree: &Item) -> Result<Vec<Occurrence>, OutOfMemory>
+    requires { IsSource source.now.text.now source.now.tokens.now }
+    ensures { IfOk result (λ v. v.items ≡ occurrences (token_bytes source.now.text.now source.now.tokens.now) tree.now) }
+{
+    let mut found = Vec::new(source.alloc);
+    add_item(source, tree, &mut found)?;
     Ok(found)
 }

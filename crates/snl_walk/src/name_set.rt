@@ -10,9 +10,15 @@ use std::alloc::Global;
 use std::marker::Model;
 
 /// Different names, which contracts see as their list, in the order in which they came.
-#[derive(Drop)]
 pub struct NameSet<'a> {
     held: IndexSet<&'a [u8]>,
+}
+
+// By hand, so that whoever holds names need not know how they are held to let them go.
+impl Drop for NameSet<'_> {
+    fn drop(self) {
+        let NameSet { held: _ } = self;
+    }
 }
 
 impl<'a> Model for NameSet<'a> {

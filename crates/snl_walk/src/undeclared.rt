@@ -1,6 +1,8 @@
 //! Names that nothing declares.
 
-ghost use Rattle.std.specs.Prelude.{◌≡◌, IfOk};
+ghost use Rattle.std.specs.Prelude.{◌≡◌, [], ◌∷◌, ◌++◌, IfOk, OnOk, bytes_eq, if◌then◌else◌};
+ghost use Rattle.std.specs.List.{list_any};
+ghost use Rattle.snl_walk.specs.Once.{with_new};
 ghost use Rattle.snl_walk.specs.Undeclared.{is_built_in, is_channel_constant, is_constant, is_undeclared, undeclared};
 ghost use Rattle.snl_walk.specs.Tokens.{IsSource, token_bytes};
 
@@ -42,6 +44,22 @@ fn is_undeclared<O: OtherItems>(others: &O, name: &[u8], occurrence: Occurrence)
         && !is_built_in(name)
 }
 
+// Adds a token with a name, if that is no name of those before.
+fn add_first<'a>(
+    names: &mut NameSet<'a>,
+    name: &'a [u8],
+    token: usize,
+    firsts: &mut Vec<usize>,
+) -> Result<(), OutOfMemory>
+    ensures names { OnOk result (names.new ≡ with_new names.old name.now) }
+    ensures firsts { OnOk result (firsts.new.items ≡ firsts.old.items ++ (if list_any (bytes_eq name.now) names.old then [] else token ∷ [])) }
+{
+    if names.add(name)? {
+        firsts.push(token)?;
+    }
+    Ok(())
+}
+
 /// The first use of each name that nothing declares, in the item or outside.
 pub(crate) fn undeclared<O: OtherItems>(
     source: &Source,
@@ -56,9 +74,7 @@ pub(crate) fn undeclared<O: OtherItems>(
     for occurrence in found {
         let name = source.bytes(occurrence.token);
         if is_undeclared(others, name, *occurrence) {
-            if names.add(name)? {
-                firsts.push(occurrence.token)?;
-            }
+            add_first(&mut names, name, occurrence.token, &mut firsts)?;
         }
     }
     Ok(firsts)

@@ -19,10 +19,19 @@ struct Entry<'a> {
 
 /// Names with their declarations, the last one taken in first, which contracts see as that list. The last declaration of a
 /// name that was taken in counts; a table finds it at once.
-#[derive(Drop)]
 pub(crate) struct Visible<'a> {
     entries: Vec<Entry<'a>>,
     held: IndexMap<&'a [u8], Option<Local>>,
+}
+
+// By hand, so that whoever holds names need not know how they are held to let them go.
+impl Drop for Visible<'_> {
+    fn drop(self) {
+        let Visible {
+            entries: _,
+            held: _,
+        } = self;
+    }
 }
 
 impl<'a> Model for Visible<'a> {

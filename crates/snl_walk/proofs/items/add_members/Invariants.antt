@@ -2,7 +2,7 @@ use Rattle.std.proofs.Common.{◌≡◌, ◌++◌, drop}
 use Rattle.std.specs.List.{flat_map}
 use Rattle.snl_walk.specs.Tokens.{token_bytes}
 use Rattle.snl_walk.specs.Items.{found_in_member}
-use Rattle.snl_walk.proofs.items.add_state.Given as goal
+use Rattle.snl_walk.proofs.items.add_members.Given as goal
 
 abbrev pub invariant-loop-member : goal.invariant-loop-member
 invariant-loop-member l = record {
