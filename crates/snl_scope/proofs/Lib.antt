@@ -25,6 +25,8 @@ pub mod Overlaps
 pub mod SpokenChannels
 pub mod Judging
 pub mod Views
+pub mod FirstNamed
+pub mod Untouched
 pub mod AlikeTokens
 pub mod SpelledAlike
 pub mod FaultPlaces

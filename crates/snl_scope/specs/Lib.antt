@@ -9,6 +9,7 @@ pub mod Channels
 pub mod Flags
 pub mod Linked
 pub mod View
+pub mod Spoken
 pub mod NameTables
 pub mod Resolved
 pub mod Summaries

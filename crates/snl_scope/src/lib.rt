@@ -3,6 +3,7 @@
 #![tactic(auto)]
 
 mod clauses;
+mod edited_names;
 mod facts;
 mod findings;
 mod items;
@@ -13,6 +14,7 @@ mod names;
 mod summaries;
 mod view;
 
+pub use edited_names::{EditedNames, unspoken_names};
 pub use facts::{Assigned, Base, ClauseLink, Declaration, Fact, Level, LinkFault, Scope};
 pub use laws::once_laws::{
     each_fault_once, faults_have_places, outlines_speak_of_tokens, tokens_declared_once,
