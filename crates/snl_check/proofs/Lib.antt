@@ -27,3 +27,6 @@ pub mod ShiftedWhole
 pub mod ShiftedRows
 pub mod ShiftedAround
 pub mod SameUses
+pub mod SetMembers
+pub mod WakesTold
+pub mod WakesAfter

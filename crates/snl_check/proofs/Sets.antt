@@ -11,12 +11,14 @@ use Rattle.std.proofs.lemmas.List.Quantifiers.{position-Some}
 use Rattle.std.proofs.lemmas.List.FromFn.{filter_of_map_range_with_len_more, get_or-map-range_with_len, length-map-range_with_len}
 use Rattle.std.proofs.lemmas.List.Kept.{IsStrictlyIncreasing-filter}
 use borrow.Author.Tests.{eq-eqb, le-ltb, lt-ltb}
+use Rattle.snl_scope.specs.declared.summaries.summary.NameRef.{NameRef}
 use Rattle.snl_scope.specs.declared.summaries.summary.Outline.{Outline}
 use Rattle.snl_scope.specs.Below.{all_below, any_below}
 use Rattle.snl_scope.specs.Places.{begins_set, ends_set, item_is, open_before, enclosing_set, stands_in}
+use Rattle.snl_check.specs.declared.reachability.marks.SetMember.{SetMember}
 use Rattle.snl_check.specs.Items.{ProgramItem, summary_of_item}
 use Rattle.snl_check.specs.Reach.{AreStates}
-use Rattle.snl_check.specs.Members.{number_among, target_number, target_numbers, targets_among}
+use Rattle.snl_check.specs.Members.{number_among, numbers_told, target_number, target_numbers, targets_among}
 
 and_false : (b : Bool) → (b && false) ≡ false
 and_false true = refl
@@ -185,14 +187,23 @@ all_kept {Y = Y} f P h (x ∷ xs) = by (f x) refl (all_kept f P h xs)
     by None e rest = rest
     by (Some y) e rest = All-append P (y ∷ []) (filter_map f xs) (All-push P [] y (All-nil P) (h x y e)) rest
 
-module _ (text : List ℕ) (xs : List ProgramItem) (ss : List Outline) (states : List ℕ) where
+module _ (ss : List Outline) (states : List ℕ) where
   found_among : (o : Option ℕ) (n : ℕ) → number_among states o ≡ Some n → n < length states
   found_among None n e = absurd cc
   found_among (Some j) n e = (position-Some (nat_eq j) states n 0 e).0
 
+  kept_within : (j : ℕ) (targets : List NameRef) → All (λ n. n < length states) (filter_map (target_number ss states j) targets)
+  kept_within j targets = all_kept (target_number ss states j) (λ n. n < length states) (λ target n e. found_among _ n e) targets
+
+  pub told_are_states : (named : List SetMember) → length named ≡ length states → AreStates (map (numbers_told ss states) named)
+  told_are_states named count =
+      subst (λ n. All (All (λ t. t < n)) (map (numbers_told ss states) named)) (sym (length-map named (numbers_told ss states) ∙ count))
+      (All-map (All (λ t. t < length states)) (numbers_told ss states) named (λ i d l. kept_within (get_or named i d).item (get_or named i d).targets.now))
+
+module _ (text : List ℕ) (xs : List ProgramItem) (ss : List Outline) (states : List ℕ) where
   numbers_within : (o : Option ProgramItem) (j : ℕ) → All (λ n. n < length states) (option_map_or (λ x. filter_map (target_number ss states j) (summary_of_item text x).targets) o [])
   numbers_within None j = All-nil (λ n. n < length states)
-  numbers_within (Some x) j = all_kept (target_number ss states j) (λ n. n < length states) (λ target n e. found_among _ n e) (summary_of_item text x).targets
+  numbers_within (Some x) j = kept_within ss states j (summary_of_item text x).targets
 
   -- the targets of states are states
   pub targets_are_states : AreStates (targets_among text xs ss states)

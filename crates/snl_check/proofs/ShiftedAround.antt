@@ -1,4 +1,4 @@
--- The tables of a text after an edit inside one state: all other items keep their tokens.
+-- The tables of a text after an edit inside one item: all other items keep their tokens.
 use Rattle.std.proofs.Common.{◌≡◌, ◌≢◌, ℕ, zero, suc, ◌+◌, ◌<◌, ◌&&◌, ◌||◌, Bool, true, false, List, [], ◌∷◌, ◌++◌, length, map, slice_get, nat_eq, Option, Some, None, inl, inr, if◌then◌else◌, refl, sym, subst, ap, ap₂, ◌∙◌, arith, nat_lt, IfSome}
 use Rattle.std.specs.List.{AllByRecursion, enumerate_from, filter_map, flat_map}
 use Rattle.std.specs.Option.{is_none, option_and_then, option_map, option_map_or, option_to_list}
@@ -40,9 +40,10 @@ use Rattle.snl_scope.specs.Summaries.Declares.{declared_in}
 use Rattle.snl_walk.specs.Tokens.{token_bytes}
 use Rattle.snl_tables.specs.declared.rows.SetRow.{SetRow}
 use Rattle.snl_tables.specs.declared.rows.StateBody.{StateBody}
+use Rattle.snl_tables.specs.declared.rows.StateMark.{StateMark}
 use Rattle.snl_tables.specs.declared.rows.StateRow.{StateRow}
 use Rattle.snl_tables.specs.declared.rows.WakeUp.{WakeUp}
-use Rattle.snl_tables.specs.Shifted.{changed_at, shifted_flag, shifted_set, shifted_span, shifted_state, shifted_tables, with_body, with_body_in, with_own_body}
+use Rattle.snl_tables.specs.Shifted.{changed_at, shifted_flag, shifted_set, shifted_span, shifted_state, shifted_tables, marked, with_body, with_body_in, with_marks, with_marks_in, with_own_body, with_own_wake, with_wake, with_wake_in}
 use Rattle.snl_check.specs.Channels.{AssignedChannel, assigned_channel, assigned_channels, channels_in, channels_of_clause, channels_on}
 use Rattle.snl_check.specs.Clauses.{ItemClause, clause_in_member, clauses_in_tree, item_clause, item_clauses, item_clauses_before, item_clauses_if, told_clauses}
 use Rattle.snl_check.specs.Conditions.{on_declaration, uses_in, wake_ups}
@@ -53,17 +54,17 @@ use Rattle.snl_check.specs.Settings.{LetterSetting, setting_at, setting_in_tree}
 use Rattle.snl_check.specs.Shifted.{KeepsItem, KeepsItems, shifted_item, start_at}
 use Rattle.snl_check.specs.ShiftedAround.{IsPlacedAt, IsSoundAsItWas, ReplacesOne, ReplacesItem, SaysAlike, SaysAlikeAt, is_plain, set_number, state_number, used_by, wakes_of}
 use Rattle.snl_check.specs.Spans.{AreRead}
-use Rattle.snl_check.specs.States.{item_at, line_of_item, numbered_row, set_row, set_rows, state_body, state_rows}
+use Rattle.snl_check.specs.States.{item_at, line_of_item, mark_of, marks_of, numbered_row, set_row, set_rows, state_body, state_row, state_rows, wake_of}
 use Rattle.snl_check.specs.Tables.{flag_row_at, tables_by, tables_of}
 use Rattle.snl_check.specs.Told.{nothing, told_in_item}
 use Rattle.snl_check.proofs.Each.{each_join, each_of, each_weaker}
 use Rattle.snl_check.proofs.Linked.{outline_at}
-use Rattle.snl_check.proofs.ShiftLists.{map_shift}
+use Rattle.snl_check.proofs.ShiftLists.{map_shift, numbered_shift}
 use Rattle.snl_check.proofs.Sets.{false_if, get_here, is_within}
 use Rattle.snl_check.proofs.ShiftedItems.{IsKept, faulty_stays, header_at, header_at_shifts, span_at_shifts, tree_stays}
 use Rattle.snl_check.proofs.ShiftedClauses.{HasBytes, flag_shifts, setting_stays}
-use Rattle.snl_check.proofs.ShiftedStates.{has_faulty_stays, targets_stay}
-use Rattle.snl_check.proofs.ShiftedRows.{Parts, and_back, and_both, and_none, each_under, kept_map, map_twice, numbered_changed, parts_at, row_changed, same_by_gets, same_either}
+use Rattle.snl_check.proofs.ShiftedStates.{has_faulty_stays, state_row_shifts, targets_stay}
+use Rattle.snl_check.proofs.ShiftedRows.{Parts, and_back, and_both, and_none, changed_twice, each_under, kept_map, map_twice, marked_rows, numbered_changed, parts_at, row_changed, same_by_gets, same_either}
 use Rattle.snl_check.proofs.ShiftedTables.{IsLineKept, IsRowKept, MarksStay, RestStays, SpellingLaws, item_kept, outline_stays, same_channels, same_mark, set_line, set_named, set_shifts, state_line, state_shifts, tables_but_sets}
 use Rattle.snl_check.proofs.SpanLaws.{and_front, each_all, each_below, place_begins, each_beside, each_flat, each_got, tested, tokens_are}
 
@@ -100,7 +101,7 @@ module _ (text : List ℕ) (tokens : List Piece) where
 -- ---- the items but one are kept
 
 module _ (laws : SpellingLaws) (old text : List ℕ) (s : Shift) (xs ys : List ProgramItem) (j : ℕ) (before : 0 < s.start) (read : AreRead old xs) (rep : ReplacesOne old text s xs ys j) where
-  abbrev ss : List Outline
+  abbrev pub ss : List Outline
   ss = outlines_of old xs
 
   was : (x : ProgramItem) × (slice_get xs j ≡ Some x)
@@ -286,7 +287,7 @@ module _ (laws : SpellingLaws) (old text : List ℕ) (s : Shift) (xs ys : List P
 
   -- ---- rows
 
-  same : assigned_channels text ys ss ≡ assigned_channels old xs ss
+  pub same : assigned_channels text ys ss ≡ assigned_channels old xs ss
   same = same_channels old text s xs ys ss before rest_stays
 
   row_kept : (i : ℕ) → i ≢ j → is_named_state ss i ≡ true → IsRowKept old text s xs ys i
@@ -313,6 +314,12 @@ module _ (laws : SpellingLaws) (old text : List ℕ) (s : Shift) (xs ys : List P
       ap (λ (o : Option ProgramItem). option_map_or (λ (x : ProgramItem). filter_map (target_number ss states j) (summary_of_item bytes x).targets) o []) at
       ∙ kept_map (λ (m : NameRef). m.name) (λ name. number_among states (state_of ss j name)) (summary_of_item bytes z).targets
 
+  faulty_at : (zs : List ProgramItem) (z : ProgramItem) → slice_get zs j ≡ Some z → is_faulty_item zs j ≡ is_none z.tree
+  faulty_at zs z at = ap (λ (o : Option ProgramItem). option_map_or (λ (x : ProgramItem). is_none x.tree) o false) at
+
+  elsewhere : is_named_state ss j ≡ false → (i : ℕ) → is_named_state ss i ≡ true → i ≢ j
+  elsewhere unnamed i named here = false≢true (sym unnamed ∙ subst (λ m. is_named_state ss m ≡ true) here named)
+
   -- ---- the rows of sets that the state isn't in
 
   states_apart : (k : ℕ) → (stands_in ss k j ≡ true → ⊥) → AllByRecursion (λ i. i ≢ j) (states_in ss k)
@@ -336,25 +343,28 @@ module _ (laws : SpellingLaws) (old text : List ℕ) (s : Shift) (xs ys : List P
       (each_below (IsRowKept old text s xs ys) (is_state_in k) (length ss)
       (λ i in_set. row_kept i (λ here. out (subst (λ m. stands_in ss k m ≡ true) here (and_back (is_named_state ss i) (stands_in ss k i) in_set))) (and_front (is_named_state ss i) (stands_in ss k i) in_set)))
 
+  tables_if : (sets : List SetRow) → set_rows text ys ss ≡ sets → tables_of text ys ≡ record (shifted_tables s (tables_of old xs)) { sets = sets }
+  tables_if sets is = ap (tables_by text ys) outlines_stay ∙ tables_but_sets old text s xs ys ss before rest_stays sets is
+
+  tables_of_sets : ((k : ℕ) → is_set_begin ss k ≡ true → set_row text ys ss k ≡ shifted_set s (set_row old xs ss k)) → tables_of text ys ≡ shifted_tables s (tables_of old xs)
+  tables_of_sets each =
+      tables_if (map (shifted_set s) (set_rows old xs ss))
+      (map_shift (shifted_set s) (set_row old xs ss) (set_row text ys ss) (all_below (is_set_begin ss) (length ss))
+      (each_below (λ k. set_row text ys ss k ≡ shifted_set s (set_row old xs ss k)) (is_set_begin ss) (length ss) each))
+
+  -- ---- where it is in no set
+
+  pub tables_outside : enclosing_set ss j ≡ None → tables_of text ys ≡ shifted_tables s (tables_of old xs)
+  tables_outside nowhere = tables_of_sets (λ k is. set_shift k is (λ there. false≢true (sym (ap (λ o. option_map_or (nat_eq k) o false) nowhere) ∙ there)))
+
   -- ---- the row of its set
 
-  module _ (set : ℕ) (stands : enclosing_set ss j ≡ Some set) (named_here : is_named_state ss j ≡ true) where
-    abbrev number : ℕ
-    number = state_number ss set j
-
+  module _ (set : ℕ) (stands : enclosing_set ss j ≡ Some set) where
     stands_here : stands_in ss set j ≡ true
     stands_here = ap (λ o. option_map_or (nat_eq set) o false) stands ∙ eq-eqb set set refl
 
     other_set : (k : ℕ) → k ≢ set → stands_in ss k j ≡ true → ⊥
     other_set k apart h = apart (eqb-true k set (sym (ap (λ o. option_map_or (nat_eq k) o false) stands) ∙ h))
-
-    inside : j < length ss
-    inside = let count = length-map xs (outline_of_item old) in omega (arith, count, rep.there)
-
-    state_parts : Parts (λ i. IsRowKept old text s xs ys i) (is_state_in set) (length ss) j
-    state_parts =
-        parts_at (λ i. IsRowKept old text s xs ys i) (is_state_in set) (length ss) j inside (and_both (is_named_state ss j) (stands_in ss set j) named_here stands_here)
-        (λ i l m is. row_kept i (λ same. omega (arith, same, l)) (and_front (is_named_state ss i) (stands_in ss set i) is))
 
     set_begins : is_set_begin ss set ≡ true
     set_begins = place_begins ss j set stands
@@ -385,50 +395,59 @@ module _ (laws : SpellingLaws) (old text : List ℕ) (s : Shift) (xs ys : List P
         (map_twice (shifted_set s) (set_row old xs ss) (front ++ (set ∷ set_parts.after))
         ∙ ap (λ (l : List ℕ). map (shifted_set s) (map (set_row old xs ss) l)) (sym set_parts.whole))
 
-    tables_if : (sets : List SetRow) → set_rows text ys ss ≡ sets → tables_of text ys ≡ record (shifted_tables s (tables_of old xs)) { sets = sets }
-    tables_if sets is = ap (tables_by text ys) outlines_stay ∙ tables_but_sets old text s xs ys ss before rest_stays sets is
+    -- ---- its states, with the marks that they had
 
-    -- ---- where the state says what it said
+    abbrev unmarked : ℕ × ℕ → StateRow
+    unmarked (n, i) = state_row text ys ss (mark_of old xs ss set n i) i
 
-    module _ (y : ProgramItem) (here : slice_get ys j ≡ Some y) (says : SaysAlikeAt old text xs ys j) where
-      alike : SaysAlike old text was.0 y
-      alike = says was.0 y was.1 here
+    abbrev shifted_row : ℕ × ℕ → StateRow
+    shifted_row p = shifted_state s (numbered_row old xs ss set p)
 
-      faulty_is : (zs : List ProgramItem) (z : ProgramItem) → slice_get zs j ≡ Some z → is_faulty_item zs j ≡ is_none z.tree
-      faulty_is zs z at = ap (λ (o : Option ProgramItem). option_map_or (λ (x : ProgramItem). is_none x.tree) o false) at
+    abbrev marks : List StateMark
+    marks = marks_of text ys ss set
 
-      faulty : (i : ℕ) → is_faulty_item ys i ≡ is_faulty_item xs i
-      faulty =
-          everywhere (λ i. is_faulty_item ys i ≡ is_faulty_item xs i) (faulty_is ys y here ∙ alike.sound ∙ sym (faulty_is xs was.0 was.1))
-          (λ i apart. faulty_stays old text s xs ys i (kept i apart))
+    unmarked_shifts : (i : ℕ) → IsRowKept old text s xs ys i → (n : ℕ) → unmarked (n, i) ≡ shifted_row (n, i)
+    unfolding IsLineKept
+    unmarked_shifts i kept n = state_row_shifts old text s xs ys ss i kept.item before (mark_of old xs ss set n i) same kept.line
 
-      marks_stay : MarksStay old text xs ys ss set
-      marks_stay =
-          let name = λ (name : List ℕ). number_among (states_in ss set) (state_of ss j name) in
-          record {
-            some_faulty = has_faulty_stays old text s xs ys ss set (λ i. ap (λ b. b && stands_in ss set i) (faulty i));
-            targets = each_all (λ i. target_numbers text ys ss (states_in ss set) i ≡ target_numbers old xs ss (states_in ss set) i) (states_in ss set)
-                (everywhere (λ i. target_numbers text ys ss (states_in ss set) i ≡ target_numbers old xs ss (states_in ss set) i)
-                (targets_told text ys y here (states_in ss set) ∙ ap (filter_map name) alike.targets ∙ sym (targets_told old xs was.0 was.1 (states_in ss set)))
-                (λ i apart. targets_stay old text s xs ys ss i (kept i apart) before (states_in ss set)));
-          }
+    states_marked : (states : List StateRow) → map unmarked (enumerate_from 0 (states_in ss set)) ≡ states → state_rows text ys ss set ≡ marked marks states
+    states_marked states is =
+        marked_rows (mark_of text ys ss set) (numbered_row text ys ss set) unmarked (λ n i. refl) 0 (states_in ss set)
+        ∙ ap (marked marks) is
 
-      -- what wakes it, by what its conditions say
-      meant : List AssignedChannel → List ℕ × Option ℕ → Option WakeUp
-      meant cs said = option_and_then (on_declaration ss cs said.1) (resolve_in ss j said.0)
+    -- ---- where it is no state with a name
 
-      wakes_are : (bytes : List ℕ) (zs : List ProgramItem) (z : ProgramItem) → slice_get zs j ≡ Some z → (cs : List AssignedChannel) →
-          wake_ups bytes zs ss cs j (uses_in bytes zs j) ≡ filter_map (meant cs) (wakes_of bytes z)
-      unfolding meant
-      wakes_are bytes zs z at cs =
-          ap (λ (o : Option ProgramItem). filter_map (λ used. option_and_then (on_declaration ss cs used.subscript) (resolve_in ss j (token_bytes bytes (option_map_or (λ (x : ProgramItem). x.tokens) o []) used.token))) (option_map_or (told_in_item bytes) o nothing).wake_uses) at
-          ∙ kept_map (used_by (token_bytes bytes z.tokens)) (meant cs) (told_in_item bytes z).wake_uses
+    module _ (unnamed_here : is_named_state ss j ≡ false) where
+      other_states : AllByRecursion (λ i. (n : ℕ) → unmarked (n, i) ≡ shifted_row (n, i)) (states_in ss set)
+      other_states =
+          each_below (λ i. (n : ℕ) → unmarked (n, i) ≡ shifted_row (n, i)) (is_state_in set) (length ss)
+          (λ i in_set.
+          let named : is_named_state ss i ≡ true = and_front (is_named_state ss i) (stands_in ss set i) in_set in
+          unmarked_shifts i (row_kept i (elsewhere unnamed_here i named) named))
 
-      wakes_stay : wake_ups text ys ss (assigned_channels text ys ss) j (uses_in text ys j) ≡ wake_ups old xs ss (assigned_channels old xs ss) j (uses_in old xs j)
-      wakes_stay =
-          wakes_are text ys y here (assigned_channels text ys ss)
-          ∙ ap₂ (λ (cs : List AssignedChannel) (uses : List (List ℕ × Option ℕ)). filter_map (meant cs) uses) same alike.wakes
-          ∙ sym (wakes_are old xs was.0 was.1 (assigned_channels old xs ss))
+      pub tables_in_set : tables_of text ys ≡ with_marks (shifted_tables s (tables_of old xs)) (set_number ss set) marks
+      tables_in_set =
+          let states = map (shifted_state s) (state_rows old xs ss set) in
+          tables_if (changed_at (with_marks_in marks) (set_number ss set) (map (shifted_set s) (set_rows old xs ss)))
+          (sets_around (with_marks_in marks)
+          (set_around (marked marks states) (states_marked states (numbered_shift (shifted_state s) (numbered_row old xs ss set) unmarked 0 (states_in ss set) other_states))))
+
+    -- ---- where it is one
+
+    module _ (named_here : is_named_state ss j ≡ true) (y : ProgramItem) (here : slice_get ys j ≡ Some y) where
+      abbrev number : ℕ
+      number = state_number ss set j
+
+      abbrev body : StateBody
+      body = state_body text ss j y
+
+      inside : j < length ss
+      inside = let count = length-map xs (outline_of_item old) in omega (arith, count, rep.there)
+
+      state_parts : Parts (λ i. IsRowKept old text s xs ys i) (is_state_in set) (length ss) j
+      state_parts =
+          parts_at (λ i. IsRowKept old text s xs ys i) (is_state_in set) (length ss) j inside (and_both (is_named_state ss j) (stands_in ss set j) named_here stands_here)
+          (λ i l m is. row_kept i (λ same. omega (arith, same, l)) (and_front (is_named_state ss i) (stands_in ss set i) is))
 
       line_here : line_of_item text ys j ≡ shifted_line s (item_name xs j).start (line_of_item old xs j)
       line_here =
@@ -440,63 +459,115 @@ module _ (laws : SpellingLaws) (old text : List ℕ) (s : Shift) (xs ys : List P
           let item : Option ProgramItem → ProgramItem = λ o. record { tokens = option_map_or (λ (x : ProgramItem). x.tokens) o []; tree = option_and_then (λ (x : ProgramItem). x.tree) o } in
           ap item here
 
-      abbrev body : StateBody
-      body = state_body text ss j y
-
-      row_here : numbered_row text ys ss set (number, j) ≡ with_own_body body (shifted_state s (numbered_row old xs ss set (number, j)))
-      row_here =
+      row_here : (m : StateMark) → state_row text ys ss m j ≡ with_own_wake (wake_of text ys ss j) (with_own_body body (shifted_state s (state_row old xs ss m j)))
+      row_here m =
           let name = names j in
           let line = line_here in
-          let mark = same_mark old text s xs ys ss before same set marks_stay number j (faulty j) in
           let options = ap (λ (x : ProgramItem). (state_body text ss j x).options) item_here in
           let transitions = ap (λ (x : ProgramItem). (state_body text ss j x).transitions) item_here in
           let gotos = ap (λ (x : ProgramItem). (state_body text ss j x).gotos) item_here in
-          let wake = wakes_stay in
           cc
 
-      abbrev shifted_row : ℕ × ℕ → StateRow
-      shifted_row p = shifted_state s (numbered_row old xs ss set p)
-
-      abbrev IsShifted : ℕ → Type 0
-      IsShifted i = (n : ℕ) → numbered_row text ys ss set (n, i) ≡ shifted_row (n, i)
-
-      shifts : (i : ℕ) → IsRowKept old text s xs ys i → IsShifted i
-      shifts = state_shifts old text s xs ys ss before same set marks_stay
-
-      states_around : state_rows text ys ss set ≡ changed_at (with_own_body body) number (map (shifted_state s) (state_rows old xs ss set))
-      states_around =
+      -- rows that are shifted but for its own
+      rows_around : (row : ℕ × ℕ → StateRow) (c : StateRow → StateRow) → ((i : ℕ) → IsRowKept old text s xs ys i → (n : ℕ) → row (n, i) ≡ shifted_row (n, i)) →
+          row (number, j) ≡ c (shifted_row (number, j)) →
+          map row (enumerate_from 0 (states_in ss set)) ≡ changed_at c number (map (shifted_state s) (state_rows old xs ss set))
+      rows_around row c shifts own =
           let front = all_below (is_state_in set) j in
           let zero : number ≡ 0 + number = omega arith in
-          ap (λ (l : List ℕ). map (numbered_row text ys ss set) (enumerate_from 0 l)) state_parts.whole
-          ∙ numbered_changed (numbered_row text ys ss set) shifted_row (with_own_body body) 0 front j state_parts.after
+          let IsShifted : ℕ → Type 0 = λ i. (n : ℕ) → row (n, i) ≡ shifted_row (n, i) in
+          ap (λ (l : List ℕ). map row (enumerate_from 0 l)) state_parts.whole
+          ∙ numbered_changed row shifted_row c 0 front j state_parts.after
           (each_under IsShifted (is_state_in set) j (λ i l is. shifts i (row_kept i (λ same. omega (arith, same, l)) (and_front (is_named_state ss i) (stands_in ss set i) is))))
-          (subst (λ n. numbered_row text ys ss set (n, j) ≡ with_own_body body (shifted_row (n, j))) zero row_here)
+          (subst (λ n. row (n, j) ≡ c (shifted_row (n, j))) zero own)
           (each_weaker (IsRowKept old text s xs ys) IsShifted shifts state_parts.after state_parts.each)
-          ∙ ap (λ (l : List ℕ). changed_at (with_own_body body) number (map shifted_row (enumerate_from 0 l))) (sym state_parts.whole)
-          ∙ ap (changed_at (with_own_body body) number) (map_twice (shifted_state s) (numbered_row old xs ss set) (enumerate_from 0 (states_in ss set)))
+          ∙ ap (λ (l : List ℕ). changed_at c number (map shifted_row (enumerate_from 0 l))) (sym state_parts.whole)
+          ∙ ap (changed_at c number) (map_twice (shifted_state s) (numbered_row old xs ss set) (enumerate_from 0 (states_in ss set)))
 
-      pub tables_inside : tables_of text ys ≡ with_body (shifted_tables s (tables_of old xs)) (set_number ss set) number body
-      tables_inside =
-          let states = changed_at (with_own_body body) number (map (shifted_state s) (state_rows old xs ss set)) in
-          tables_if (changed_at (with_body_in number body) (set_number ss set) (map (shifted_set s) (set_rows old xs ss)))
-          (sets_around (with_body_in number body) (set_around states states_around))
+      abbrev wake : List WakeUp
+      wake = wake_of text ys ss j
+
+      pub tables_of_state : tables_of text ys ≡ with_marks (with_wake (with_body (shifted_tables s (tables_of old xs)) (set_number ss set) number body) (set_number ss set) number wake) (set_number ss set) marks
+      tables_of_state =
+          let k = set_number ss set in
+          let sets = map (shifted_set s) (set_rows old xs ss) in
+          let states = map (shifted_state s) (state_rows old xs ss set) in
+          let new : StateRow → StateRow = λ row. with_own_wake wake (with_own_body body row) in
+          let new_set : SetRow → SetRow = λ row. with_marks_in marks (with_wake_in number wake (with_body_in number body row)) in
+          let twice : changed_at new number states ≡ changed_at (with_own_wake wake) number (changed_at (with_own_body body) number states) =
+          sym (changed_twice (with_own_wake wake) (with_own_body body) number states) in
+          tables_if (changed_at (with_marks_in marks) k (changed_at (with_wake_in number wake) k (changed_at (with_body_in number body) k sets)))
+          (sets_around new_set
+          (set_around (marked marks (changed_at (with_own_wake wake) number (changed_at (with_own_body body) number states)))
+          (states_marked (changed_at (with_own_wake wake) number (changed_at (with_own_body body) number states))
+          (rows_around unmarked new unmarked_shifts (row_here (mark_of old xs ss set number j)) ∙ twice)))
+          ∙ sym (ap (changed_at (with_marks_in marks) k) (changed_twice (with_wake_in number wake) (with_body_in number body) k sets)
+          ∙ changed_twice (with_marks_in marks) (λ row. with_wake_in number wake (with_body_in number body row)) k sets))
+
+      -- ---- where it says what it said
+
+      module _ (says : SaysAlikeAt old text xs ys j) where
+        alike : SaysAlike old text was.0 y
+        alike = says was.0 y was.1 here
+
+        faulty : (i : ℕ) → is_faulty_item ys i ≡ is_faulty_item xs i
+        faulty =
+            everywhere (λ i. is_faulty_item ys i ≡ is_faulty_item xs i) (faulty_at ys y here ∙ alike.sound ∙ sym (faulty_at xs was.0 was.1))
+            (λ i apart. faulty_stays old text s xs ys i (kept i apart))
+
+        marks_stay : MarksStay old text xs ys ss set
+        marks_stay =
+            let name = λ (name : List ℕ). number_among (states_in ss set) (state_of ss j name) in
+            record {
+              some_faulty = has_faulty_stays old text s xs ys ss set (λ i. ap (λ b. b && stands_in ss set i) (faulty i));
+              targets = each_all (λ i. target_numbers text ys ss (states_in ss set) i ≡ target_numbers old xs ss (states_in ss set) i) (states_in ss set)
+                  (everywhere (λ i. target_numbers text ys ss (states_in ss set) i ≡ target_numbers old xs ss (states_in ss set) i)
+                  (targets_told text ys y here (states_in ss set) ∙ ap (filter_map name) alike.targets ∙ sym (targets_told old xs was.0 was.1 (states_in ss set)))
+                  (λ i apart. targets_stay old text s xs ys ss i (kept i apart) before (states_in ss set)));
+            }
+
+        -- what wakes it, by what its conditions say
+        meant : List AssignedChannel → List ℕ × Option ℕ → Option WakeUp
+        meant cs said = option_and_then (on_declaration ss cs said.1) (resolve_in ss j said.0)
+
+        wakes_are : (bytes : List ℕ) (zs : List ProgramItem) (z : ProgramItem) → slice_get zs j ≡ Some z → (cs : List AssignedChannel) →
+            wake_ups bytes zs ss cs j (uses_in bytes zs j) ≡ filter_map (meant cs) (wakes_of bytes z)
+        unfolding meant
+        wakes_are bytes zs z at cs =
+            ap (λ (o : Option ProgramItem). filter_map (λ used. option_and_then (on_declaration ss cs used.subscript) (resolve_in ss j (token_bytes bytes (option_map_or (λ (x : ProgramItem). x.tokens) o []) used.token))) (option_map_or (told_in_item bytes) o nothing).wake_uses) at
+            ∙ kept_map (used_by (token_bytes bytes z.tokens)) (meant cs) (told_in_item bytes z).wake_uses
+
+        wakes_stay : wake_ups text ys ss (assigned_channels text ys ss) j (uses_in text ys j) ≡ wake_ups old xs ss (assigned_channels old xs ss) j (uses_in old xs j)
+        wakes_stay =
+            wakes_are text ys y here (assigned_channels text ys ss)
+            ∙ ap₂ (λ (cs : List AssignedChannel) (uses : List (List ℕ × Option ℕ)). filter_map (meant cs) uses) same alike.wakes
+            ∙ sym (wakes_are old xs was.0 was.1 (assigned_channels old xs ss))
+
+        own_row : numbered_row text ys ss set (number, j) ≡ with_own_body body (shifted_row (number, j))
+        own_row =
+            let m = mark_of text ys ss set number j in
+            let mark = same_mark old text s xs ys ss before same set marks_stay number j (faulty j) in
+            let wake = wakes_stay in
+            let row = row_here m in
+            cc
+
+        pub tables_inside : tables_of text ys ≡ with_body (shifted_tables s (tables_of old xs)) (set_number ss set) number body
+        tables_inside =
+            let states = changed_at (with_own_body body) number (map (shifted_state s) (state_rows old xs ss set)) in
+            tables_if (changed_at (with_body_in number body) (set_number ss set) (map (shifted_set s) (set_rows old xs ss)))
+            (sets_around (with_body_in number body)
+            (set_around states (rows_around (numbered_row text ys ss set) (with_own_body body) (state_shifts old text s xs ys ss before same set marks_stay) own_row)))
 
   -- ---- where the item is no state with a name
 
   module _ (unnamed : is_named_state ss j ≡ false) (sound : IsSoundAsItWas xs ys j) where
-    faulty_at : (zs : List ProgramItem) (z : ProgramItem) → slice_get zs j ≡ Some z → is_faulty_item zs j ≡ is_none z.tree
-    faulty_at zs z at = ap (λ (o : Option ProgramItem). option_map_or (λ (x : ProgramItem). is_none x.tree) o false) at
-
     still_faulty : (i : ℕ) → is_faulty_item ys i ≡ is_faulty_item xs i
     still_faulty =
         everywhere (λ i. is_faulty_item ys i ≡ is_faulty_item xs i) (faulty_at ys is.0 is.1 ∙ sound was.0 is.0 was.1 is.1 ∙ sym (faulty_at xs was.0 was.1))
         (λ i apart. faulty_stays old text s xs ys i (kept i apart))
 
-    elsewhere : (i : ℕ) → is_named_state ss i ≡ true → i ≢ j
-    elsewhere i named here = false≢true (sym unnamed ∙ subst (λ m. is_named_state ss m ≡ true) here named)
-
     states_elsewhere : (k : ℕ) → AllByRecursion (λ i. i ≢ j) (states_in ss k)
-    states_elsewhere k = each_below (λ i. i ≢ j) (is_state_in k) (length ss) (λ i in_set. elsewhere i (and_front (is_named_state ss i) (stands_in ss k i) in_set))
+    states_elsewhere k = each_below (λ i. i ≢ j) (is_state_in k) (length ss) (λ i in_set. elsewhere unnamed i (and_front (is_named_state ss i) (stands_in ss k i) in_set))
 
     marks_all : (k : ℕ) → MarksStay old text xs ys ss k
     marks_all k = record {
@@ -509,15 +580,10 @@ module _ (laws : SpellingLaws) (old text : List ℕ) (s : Shift) (xs ys : List P
     set_stays k begins =
         set_shifts old text s xs ys ss before same k (marks_all k) (names k) (line_of_set k begins)
         (each_below (IsRowKept old text s xs ys) (is_state_in k) (length ss)
-        (λ i in_set. let named : is_named_state ss i ≡ true = and_front (is_named_state ss i) (stands_in ss k i) in_set in row_kept i (elsewhere i named) named))
-
-    sets_stay : set_rows text ys ss ≡ map (shifted_set s) (set_rows old xs ss)
-    sets_stay =
-        map_shift (shifted_set s) (set_row old xs ss) (set_row text ys ss) (all_below (is_set_begin ss) (length ss))
-        (each_below (λ k. set_row text ys ss k ≡ shifted_set s (set_row old xs ss k)) (is_set_begin ss) (length ss) set_stays)
+        (λ i in_set. let named : is_named_state ss i ≡ true = and_front (is_named_state ss i) (stands_in ss k i) in_set in row_kept i (elsewhere unnamed i named) named))
 
     pub tables_around : tables_of text ys ≡ shifted_tables s (tables_of old xs)
-    tables_around = ap (tables_by text ys) outlines_stay ∙ tables_but_sets old text s xs ys ss before rest_stays (map (shifted_set s) (set_rows old xs ss)) sets_stay
+    tables_around = tables_of_sets set_stays
 
 -- ---- one item between others
 

@@ -3,7 +3,9 @@ use Rattle.std.proofs.Common.{◌≡◌, ℕ, zero, suc, ◌+◌, ◌<◌, ◌&&
 use Rattle.std.specs.List.{AllByRecursion, cons_option, enumerate_from, filter_map}
 use Rattle.std.proofs.lemmas.Bool.{cases_eq, false≢true}
 use Rattle.snl_scope.specs.Below.{all_below}
-use Rattle.snl_tables.specs.Shifted.{changed_at}
+use Rattle.snl_tables.specs.declared.rows.StateMark.{StateMark}
+use Rattle.snl_tables.specs.declared.rows.StateRow.{StateRow}
+use Rattle.snl_tables.specs.Shifted.{changed_at, marked, with_own_mark}
 use Rattle.snl_check.proofs.Each.{each_join}
 use Rattle.snl_check.proofs.ShiftLists.{map_same}
 
@@ -66,6 +68,17 @@ numbered_changed {Y = Y} f g c n [] k after b e a =
 numbered_changed {Y = Y} f g c n (x ∷ xs) k after b e a =
     let here : n + suc (length xs) ≡ (n + 1) + length xs = omega arith in
     ap₂ (λ (y : Y) (ys : List Y). y ∷ ys) (b.0 n) (numbered_changed f g c (n + 1) xs k after b.1 (subst (λ (m : ℕ). f (m, k) ≡ c (g (m, k))) here e) a)
+
+pub changed_twice : {Y : Type 0} (f g : Y → Y) (n : ℕ) (ys : List Y) → changed_at f n (changed_at g n ys) ≡ changed_at (λ y. f (g y)) n ys
+changed_twice f g n [] = refl
+changed_twice f g zero (y ∷ ys) = refl
+changed_twice {Y = Y} f g (suc n) (y ∷ ys) = ap (λ (l : List Y). y ∷ l) (changed_twice f g n ys)
+
+-- rows that are others but for their marks
+pub marked_rows : (mark : ℕ → ℕ → StateMark) (f g : ℕ × ℕ → StateRow) → ((n j : ℕ) → f (n, j) ≡ with_own_mark (mark n j) (g (n, j))) → (n : ℕ) (js : List ℕ) →
+    map f (enumerate_from n js) ≡ marked (map (λ p. mark p.0 p.1) (enumerate_from n js)) (map g (enumerate_from n js))
+marked_rows mark f g each n [] = refl
+marked_rows mark f g each n (j ∷ js) = ap₂ (λ (row : StateRow) (rows : List StateRow). row ∷ rows) (each n j) (marked_rows mark f g each (n + 1) js)
 
 pub map_twice : {X Y Z : Type 0} (g : Y → Z) (f : X → Y) (xs : List X) → map (λ x. g (f x)) xs ≡ map g (map f xs)
 map_twice g f [] = refl

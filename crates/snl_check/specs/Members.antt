@@ -1,7 +1,7 @@
 -- What is in a state set: its states, what the targets of each mean, and whether an item is faulty. An item is told by its
 -- number among the outlines of all, and a state also by its number among the states of its set.
-use Rattle.std.specs.Prelude.{ℕ, Bool, false, ◌&&◌, List, [], length, map, slice_get, nat_eq, position, is_none, Option, option_and_then}
-use Rattle.std.specs.List.{filter_map}
+use Rattle.std.specs.Prelude.{◌≡◌, ℕ, Bool, false, ◌&&◌, List, [], length, map, slice_get, nat_eq, position, is_none, is_some, Option, option_and_then, option_copied}
+use Rattle.std.specs.List.{AllByRecursion, filter_map}
 use Rattle.std.specs.Option.{option_map_or}
 use Rattle.snl_scope.specs.declared.summaries.summary.NameRef.{NameRef}
 use Rattle.snl_scope.specs.declared.summaries.summary.Outline.{Outline}
@@ -9,6 +9,7 @@ use Rattle.snl_scope.specs.Below.{all_below, any_below}
 use Rattle.snl_scope.specs.Linked.{state_of}
 use Rattle.snl_scope.specs.Order.{is_named_state, state_name}
 use Rattle.snl_scope.specs.Places.{stands_in}
+use Rattle.snl_check.specs.declared.reachability.marks.SetMember.{SetMember}
 use Rattle.snl_check.specs.Items.{ProgramItem, summary_of_item}
 
 -- The states of the state set that item k begins, faulty or not.
@@ -45,3 +46,28 @@ name_of_state ss j = option_and_then state_name (slice_get ss j)
 -- State j is the first of its name in its set.
 abbrev pub is_first_state : List Outline → ℕ → Bool
 is_first_state ss j = option_map_or (λ name. option_map_or (nat_eq j) (state_of ss j name) false) (name_of_state ss j) false
+
+-- The targets of an item, as its summary has them.
+abbrev pub targets_of_item : List ℕ → List ProgramItem → ℕ → List NameRef
+targets_of_item text xs j = option_map_or (λ x. (summary_of_item text x).targets) (slice_get xs j) []
+
+-- What is told of an item is so.
+pub record IsSetMember (text : List ℕ) (xs : List ProgramItem) (ss : List Outline) (m : SetMember) : Type 0 where
+  pub faulty : m.is_faulty ≡ is_faulty_item xs m.item
+  pub name : option_copied m.name ≡ name_of_state ss m.item
+  pub targets : m.targets.now ≡ targets_of_item text xs m.item
+
+-- These are the items of the set that item k begins, in their order.
+pub record AreSetMembers (text : List ℕ) (xs : List ProgramItem) (ss : List Outline) (k : ℕ) (members : List SetMember) : Type 0 where
+  pub items : map (λ m. m.item) members ≡ all_below (stands_in ss k) (length ss)
+  pub each : AllByRecursion (IsSetMember text xs ss) members
+
+-- What is told of a set: whether an item of it is a state with a name, what its targets mean, and what is known of it.
+abbrev pub has_name : SetMember → Bool
+has_name m = is_some m.name
+
+abbrev pub numbers_told : List Outline → List ℕ → SetMember → List ℕ
+numbers_told ss states m = filter_map (target_number ss states m.item) m.targets.now
+
+abbrev pub is_first_told : List Outline → SetMember → Bool
+is_first_told ss m = option_map_or (λ name. option_map_or (nat_eq m.item) (state_of ss m.item name) false) (option_copied m.name) false

@@ -1,11 +1,22 @@
--- The table of channels by variable and element that the code keeps.
-use Rattle.std.specs.Prelude.{◌≡◌, ℕ, Bool, true, false, ◌&&◌, if◌then◌else◌, List, nat_eq, Option, None, Some}
+-- The table of channels by variable and element that the code keeps, how it is made of the rows of tables, and what uses mean by it.
+use Rattle.std.specs.Prelude.{◌≡◌, ℕ, ◌<◌, ◌≤◌, Bool, true, false, ◌&&◌, if◌then◌else◌, List, [], ◌∷◌, length, get_or, nat_eq, slice_get, Option, None, Some, is_some, option_and_then, option_map}
 use Rattle.std.specs.Map.{lookup}
 use Rattle.std.specs.Option.{option_or}
+use Rattle.snl_lex.specs.declared.piece.Piece.{Piece}
+use Rattle.snl_scope.specs.declared.summaries.summary.Outline.{Outline}
+use Rattle.snl_scope.specs.Clauses.{resolve_in}
+use Rattle.snl_scope.specs.Flags.{flag_number}
+use Rattle.snl_walk.specs.declared.used.WakeUse.{WakeUse}
+use Rattle.snl_walk.specs.Tokens.{token_bytes}
+use Rattle.snl_tables.specs.declared.rows.ChannelRow.{ChannelRow}
+use Rattle.snl_tables.specs.declared.rows.Tables.{Tables}
+use Rattle.snl_tables.specs.declared.rows.WakeUp.{WakeUp}
+use Rattle.snl_tables.specs.declared.rows.WakeUp.TheVariants as wake
 use Rattle.snl_check.specs.declared.rows.channel_numbers.Key.{Key}
 use Rattle.snl_check.specs.declared.rows.channel_numbers.Which.{Which}
 use Rattle.snl_check.specs.declared.rows.channel_numbers.Which.TheVariants as which
-use Rattle.snl_check.specs.Channels.{AssignedChannel, element_number, is_element_of}
+use Rattle.snl_check.specs.Channels.{AssignedChannel, element_number, is_element, is_element_of}
+use Rattle.snl_check.specs.Conditions.{by_flag}
 
 abbrev pub same_which : Which → Which → Bool
 same_which which.Any which.Any = true
@@ -31,3 +42,57 @@ pub record Numbered (held : List (Key × ℕ)) (cs : List AssignedChannel) : Typ
 -- The channel with a number has the keys that pass the test; an earlier one that had a key stays the first.
 pub record Adds (before after : List (Key × ℕ)) (has : Key → Bool) (number : ℕ) : Type 0 where
   pub each : (k : Key) → lookup (same_key k) after ≡ option_or (lookup (same_key k) before) (if has k then Some number else None)
+
+-- The key is one of a channel of the variable, by the channel's element.
+abbrev pub has_key : ℕ → Option ℕ → Key → Bool
+has_key variable element k = nat_eq variable k.variable && is_element (element_in k.which) element
+
+-- ---- the table, made of the rows of tables
+
+-- The first of some numbers that passes a test.
+abbrev pub first_of : (ℕ → Bool) → List ℕ → Option ℕ
+first_of test [] = None
+first_of test (n ∷ ns) = if test n then Some n else first_of test ns
+
+-- The element of the channel with a number.
+abbrev pub element_at : List ChannelRow → ℕ → Option ℕ
+element_at rows number = option_and_then (λ row. row.element) (slice_get rows number)
+
+-- The channels with these numbers, all of one variable, are added.
+pub record AddsAll (before after : List (Key × ℕ)) (variable : ℕ) (rows : List ChannelRow) (numbers : List ℕ) : Type 0 where
+  pub each : (k : Key) → lookup (same_key k) after ≡ option_or (lookup (same_key k) before) (first_of (λ n. has_key variable (element_at rows n) k) numbers)
+
+-- The first of some channels that has the element that is meant.
+abbrev pub first_meant : List ChannelRow → Which → List ℕ → Option ℕ
+first_meant rows w numbers = first_of (λ n. is_element (element_in w) (element_at rows n)) numbers
+
+-- The table has the channels of the first n variables.
+pub record TellsBelow (held : List (Key × ℕ)) (rows : List ChannelRow) (lists : List (List ℕ)) (n : ℕ) : Type 0 where
+  pub below : (k : Key) → k.variable < n → lookup (same_key k) held ≡ first_meant rows k.which (get_or lists k.variable [])
+  pub past : (k : Key) → n ≤ k.variable → lookup (same_key k) held ≡ None
+
+-- The table has the channels of the rows.
+abbrev pub Tells : List (Key × ℕ) → Tables → Type 0
+Tells held t = TellsBelow held t.channels t.variables (length t.variables)
+
+-- ---- what uses mean by the table
+
+abbrev pub any_of : ℕ → Key
+any_of variable = record { variable = variable; which = which.Any }
+
+abbrev pub one_of : ℕ → ℕ → Key
+one_of variable element = record { variable = variable; which = which.Element element }
+
+abbrev pub variable_by : List (Key × ℕ) → Option ℕ → ℕ → Option WakeUp
+variable_by held None variable = Some (wake.Variable variable)
+variable_by held (Some e) variable =
+    if is_some (lookup (same_key (any_of variable)) held) then option_map wake.Channel (lookup (same_key (one_of variable e)) held) else Some (wake.Variable variable)
+
+abbrev pub meant_by : List Outline → List (Key × ℕ) → Option ℕ → ℕ → Option WakeUp
+meant_by ss held subscript number = by_flag (flag_number ss number) (variable_by held subscript number)
+
+abbrev pub wake_by : List ℕ → List Piece → List Outline → List (Key × ℕ) → ℕ → WakeUse → Option WakeUp
+wake_by text tokens ss held item used = option_and_then (meant_by ss held used.subscript) (resolve_in ss item (token_bytes text tokens used.token))
+
+abbrev pub has_subscript : WakeUse → Bool
+has_subscript used = is_some used.subscript

@@ -1,5 +1,5 @@
 -- The rows of state sets and of their states.
-use Rattle.std.specs.Prelude.{ℕ, Bool, not, if◌then◌else◌, List, [], ◌∷◌, map, length, slice_get, Option, Some}
+use Rattle.std.specs.Prelude.{ℕ, Bool, false, not, if◌then◌else◌, List, [], ◌∷◌, map, length, slice_get, slice_index_or, Option, Some}
 use Rattle.std.specs.List.{enumerate_from, flat_map}
 use Rattle.snl_lex.specs.declared.lines.Line.{Line}
 use Rattle.snl_lex.specs.declared.piece.Piece.{Piece}
@@ -23,10 +23,12 @@ use Rattle.snl_tables.specs.declared.rows.StateBody.{StateBody}
 use Rattle.snl_tables.specs.declared.rows.StateMark.{StateMark}
 use Rattle.snl_tables.specs.declared.rows.StateMark.TheVariants as mark
 use Rattle.snl_tables.specs.declared.rows.StateRow.{StateRow}
+use Rattle.snl_tables.specs.declared.rows.WakeUp.{WakeUp}
+use Rattle.snl_check.specs.declared.reachability.marks.SetMember.{SetMember}
 use Rattle.snl_check.specs.Channels.{assigned_channels}
 use Rattle.snl_check.specs.Conditions.{uses_in, wake_ups}
 use Rattle.snl_check.specs.Items.{ProgramItem, item_name, item_start, span_of, tokens_in, tree_in}
-use Rattle.snl_check.specs.Members.{has_faulty, is_faulty_item, is_first_state, states_in, targets_among}
+use Rattle.snl_check.specs.Members.{has_faulty, is_faulty_item, is_first_state, is_first_told, states_in, targets_among}
 use Rattle.snl_check.specs.Reach.{is_reached}
 use Rattle.snl_check.specs.Settings.{state_options}
 use Rattle.snl_check.specs.Told.{by_statements, told_in_item}
@@ -80,14 +82,30 @@ is_repeated ss j = not (is_first_state ss j)
 abbrev pub is_reached_in : List ℕ → List ProgramItem → List Outline → ℕ → ℕ → Bool
 is_reached_in text xs ss k number = is_reached (targets_among text xs ss (states_in ss k)) number
 
--- What is known of state j, which has this number in the set that item k begins: the first that holds.
-abbrev pub mark_of : List ℕ → List ProgramItem → List Outline → ℕ → ℕ → ℕ → StateMark
-mark_of text xs ss k number j =
-    if is_faulty_item xs j then mark.Faulty
-    else if is_repeated ss j then mark.Repeated
-    else if has_faulty xs ss k then mark.Unknown
-    else if is_reached_in text xs ss k number then mark.Reached
+-- What is known of a state: the first that holds.
+abbrev pub first_mark : (faulty repeated unknown reached : Bool) → StateMark
+first_mark faulty repeated unknown reached =
+    if faulty then mark.Faulty
+    else if repeated then mark.Repeated
+    else if unknown then mark.Unknown
+    else if reached then mark.Reached
     else mark.Unreached
+
+-- What is known of state j, which has this number in the set that item k begins.
+abbrev pub mark_of : List ℕ → List ProgramItem → List Outline → ℕ → ℕ → ℕ → StateMark
+mark_of text xs ss k number j = first_mark (is_faulty_item xs j) (is_repeated ss j) (has_faulty xs ss k) (is_reached_in text xs ss k number)
+
+-- What is known of each state of the set that item k begins, in the order of the text.
+abbrev pub marks_of : List ℕ → List ProgramItem → List Outline → ℕ → List StateMark
+marks_of text xs ss k = map (λ p. mark_of text xs ss k p.0 p.1) (enumerate_from 0 (states_in ss k))
+
+-- The same, by what is told of the state and of its set.
+abbrev pub mark_told : List Outline → Bool → List Bool → ℕ → SetMember → StateMark
+mark_told ss some_faulty reached number m = first_mark m.is_faulty (not (is_first_told ss m)) some_faulty (slice_index_or reached number false)
+
+-- What wakes the state that an item is.
+abbrev pub wake_of : List ℕ → List ProgramItem → List Outline → ℕ → List WakeUp
+wake_of text xs ss item = wake_ups text xs ss (assigned_channels text xs ss) item (uses_in text xs item)
 
 -- The row of a state.
 abbrev pub state_row : List ℕ → List ProgramItem → List Outline → StateMark → ℕ → StateRow
@@ -98,7 +116,7 @@ state_row text xs ss m item = record {
   options = (state_body text ss item (item_at xs item)).options;
   transitions = (state_body text ss item (item_at xs item)).transitions;
   gotos = (state_body text ss item (item_at xs item)).gotos;
-  wake = wake_ups text xs ss (assigned_channels text xs ss) item (uses_in text xs item);
+  wake = wake_of text xs ss item;
 }
 
 abbrev pub numbered_row : List ℕ → List ProgramItem → List Outline → ℕ → ℕ × ℕ → StateRow

@@ -1,7 +1,7 @@
 //! Laws of what is found in items, of their clauses, of wake-up sets, of spans, of tables that an edit shifts and of walks.
 //! A function here does nothing: its contract is the law.
 
-ghost use Rattle.std.specs.Prelude.{◌≡◌, ◌≢◌, ◌<◌, ◌∷◌, ◌++◌, ◌↔◌, ℕ, All, Bool, false, true, List, Option, Some, length, map, slice_get};
+ghost use Rattle.std.specs.Prelude.{◌≡◌, ◌≢◌, ◌<◌, ◌∷◌, ◌++◌, ◌↔◌, ℕ, All, Bool, false, true, List, None, Option, Some, length, map, slice_get};
 ghost use Rattle.std.specs.List.{AllPairs};
 ghost use Rattle.snl_lex.specs.declared.piece.Piece.{Piece};
 ghost use Rattle.snl_lex.specs.declared.shift.Shift.{Shift};
@@ -17,10 +17,10 @@ ghost use Rattle.snl_check.specs.SeenNames.{Agree, SameTokens, target_names, use
 ghost use Rattle.snl_check.specs.ItemFaults.{StandsIn, faults_in};
 ghost use Rattle.snl_check.specs.Members.{states_in};
 ghost use Rattle.snl_check.specs.Reach.{AreStates, IsReached, is_reached};
-ghost use Rattle.snl_check.specs.States.{mark_of, state_body};
+ghost use Rattle.snl_check.specs.States.{mark_of, marks_of, state_body, wake_of};
 ghost use Rattle.snl_check.specs.Unreached.{IsUnreached};
 ghost use Rattle.snl_scope.specs.declared.summaries.summary.Outline.{Outline};
-ghost use Rattle.snl_tables.specs.Shifted.{shifted_tables, with_body};
+ghost use Rattle.snl_tables.specs.Shifted.{shifted_tables, with_body, with_marks, with_wake};
 ghost use Rattle.snl_tables.specs.declared.rows.StateMark.TheVariants.{Unreached};
 ghost use Rattle.snl_check.specs.Shifted.{KeepsItems, shifted_item};
 ghost use Rattle.snl_check.specs.ShiftedAround.{IsSoundAsItWas, ReplacesItem, ReplacesOne, SaysAlikeAt, set_number, state_number};
@@ -125,6 +125,40 @@ pub fn tables_shift_inside_a_state()
     ensures { (old text : List ℕ) (s : Shift) (xs ys : List ProgramItem) (j set : ℕ) (y : ProgramItem) → 0 < s.start → AreRead old xs → ReplacesOne old text s xs ys j
         → enclosing_set (outlines_of old xs) j ≡ Some set → is_named_state (outlines_of old xs) j ≡ true → slice_get ys j ≡ Some y → SaysAlikeAt old text xs ys j
         → tables_of text ys ≡ with_body (shifted_tables s (tables_of old xs)) (set_number (outlines_of old xs) set) (state_number (outlines_of old xs) set j) (state_body text (outlines_of old xs) j y) }
+{
+    names_are_tokens();
+    same_spelling_same_summary();
+}
+
+/// Where an edit changes no more than the inside of a state in a set, after the names that it declares, and it has no clauses, the rows
+/// are shifted, but for its body, what wakes it, and the marks of the states of its set.
+pub fn tables_shift_around_a_state()
+    ensures { (old text : List ℕ) (s : Shift) (xs ys : List ProgramItem) (j set : ℕ) (y : ProgramItem) → 0 < s.start → AreRead old xs → ReplacesOne old text s xs ys j
+        → enclosing_set (outlines_of old xs) j ≡ Some set → is_named_state (outlines_of old xs) j ≡ true → slice_get ys j ≡ Some y
+        → tables_of text ys ≡ with_marks (with_wake (with_body (shifted_tables s (tables_of old xs)) (set_number (outlines_of old xs) set) (state_number (outlines_of old xs) set j) (state_body text (outlines_of old xs) j y))
+        (set_number (outlines_of old xs) set) (state_number (outlines_of old xs) set j) (wake_of text ys (outlines_of old xs) j))
+        (set_number (outlines_of old xs) set) (marks_of text ys (outlines_of old xs) set) }
+{
+    names_are_tokens();
+    same_spelling_same_summary();
+}
+
+/// Where an edit changes no more than the inside of an item in a set that is no state with a name, after the names that it declares, and
+/// it is plain and has no clauses, the rows are shifted, but for the marks of the states of its set.
+pub fn tables_shift_in_a_set()
+    ensures { (old text : List ℕ) (s : Shift) (xs ys : List ProgramItem) (j set : ℕ) → 0 < s.start → AreRead old xs → ReplacesOne old text s xs ys j
+        → enclosing_set (outlines_of old xs) j ≡ Some set → is_named_state (outlines_of old xs) j ≡ false
+        → tables_of text ys ≡ with_marks (shifted_tables s (tables_of old xs)) (set_number (outlines_of old xs) set) (marks_of text ys (outlines_of old xs) set) }
+{
+    names_are_tokens();
+    same_spelling_same_summary();
+}
+
+/// Where an edit changes no more than the inside of an item that is in no set, after the names that it declares, and it is plain and has
+/// no clauses, the rows are shifted.
+pub fn tables_shift_outside_the_sets()
+    ensures { (old text : List ℕ) (s : Shift) (xs ys : List ProgramItem) (j : ℕ) → 0 < s.start → AreRead old xs → ReplacesOne old text s xs ys j
+        → enclosing_set (outlines_of old xs) j ≡ None → tables_of text ys ≡ shifted_tables s (tables_of old xs) }
 {
     names_are_tokens();
     same_spelling_same_summary();

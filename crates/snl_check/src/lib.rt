@@ -11,12 +11,15 @@ mod rules;
 pub use fault_laws::{faults_have_item_codes, outer_names_left_to_links};
 pub use laws::{
     each_item_finding_once, equal_views, faults_stand_at_tokens, faults_stand_in_tokens,
-    one_state_between, same_clauses, spans_lie_in_text, tables_shift, tables_shift_around_an_item,
-    tables_shift_inside_a_state, unreached_without_a_walk, wake_up_sets, walks_of_few_steps,
+    one_state_between, same_clauses, spans_lie_in_text, tables_shift, tables_shift_around_a_state,
+    tables_shift_around_an_item, tables_shift_in_a_set, tables_shift_inside_a_state,
+    tables_shift_outside_the_sets, unreached_without_a_walk, wake_up_sets, walks_of_few_steps,
 };
+pub use reachability::marks::{SetMember, state_marks};
 pub use reachability::reaching::reach;
 pub use rows::body::state_body;
 pub use rows::tables_of::{tables, tables_by_tokens};
+pub use rows::wake_after::wake_after;
 pub use rules::check::check_item;
 pub use rules::conditions::wakes_alike;
 pub use rules::findings::{Checked, ItemFault};

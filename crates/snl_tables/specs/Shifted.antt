@@ -1,4 +1,5 @@
--- The rows of tables after an edit that shifts what they point to, and changes nothing else of it.
+-- The rows of tables after an edit that shifts what they point to, and changes no more than the body of a state, what wakes it and what is
+-- known of the states of its set.
 use Rattle.std.specs.Prelude.{ℕ, zero, suc, List, [], ◌∷◌, map, option_map}
 use Rattle.snl_lex.specs.declared.shift.Shift.{Shift}
 use Rattle.snl_lex.specs.Shift.{shifted_line, shifted_offset}
@@ -12,8 +13,10 @@ use Rattle.snl_tables.specs.declared.rows.ScopeName.TheVariants as named
 use Rattle.snl_tables.specs.declared.rows.SetRow.{SetRow}
 use Rattle.snl_tables.specs.declared.rows.Span.{Span}
 use Rattle.snl_tables.specs.declared.rows.StateBody.{StateBody}
+use Rattle.snl_tables.specs.declared.rows.StateMark.{StateMark}
 use Rattle.snl_tables.specs.declared.rows.StateRow.{StateRow}
 use Rattle.snl_tables.specs.declared.rows.Tables.{Tables}
+use Rattle.snl_tables.specs.declared.rows.WakeUp.{WakeUp}
 
 abbrev pub shifted_span : Shift → Span → Span
 shifted_span s span = record { start = shifted_offset s span.start; len = span.len }
@@ -88,3 +91,30 @@ with_body_in number body row = record row { states = changed_at (with_own_body b
 -- The tables with another body of one state, by the number of its set and its own number among the states of the set.
 abbrev pub with_body : Tables → ℕ → ℕ → StateBody → Tables
 with_body t set number body = record t { sets = changed_at (with_body_in number body) set t.sets }
+
+-- The row of a state with what wakes it.
+abbrev pub with_own_wake : List WakeUp → StateRow → StateRow
+with_own_wake wake row = record row { wake = wake }
+
+abbrev pub with_wake_in : ℕ → List WakeUp → SetRow → SetRow
+with_wake_in number wake row = record row { states = changed_at (with_own_wake wake) number row.states }
+
+-- The tables with what wakes one state, by the number of its set and its own number among the states of the set.
+abbrev pub with_wake : Tables → ℕ → ℕ → List WakeUp → Tables
+with_wake t set number wake = record t { sets = changed_at (with_wake_in number wake) set t.sets }
+
+-- The row of a state with what is known of it.
+abbrev pub with_own_mark : StateMark → StateRow → StateRow
+with_own_mark m row = record row { mark = m }
+
+-- Rows of states with these marks, one by one, as far as there are both.
+abbrev pub marked : List StateMark → List StateRow → List StateRow
+marked (m ∷ ms) (row ∷ rows) = with_own_mark m row ∷ marked ms rows
+marked _ rows = rows
+
+abbrev pub with_marks_in : List StateMark → SetRow → SetRow
+with_marks_in marks row = record row { states = marked marks row.states }
+
+-- The tables with other marks of the states of one set, by the set's number.
+abbrev pub with_marks : Tables → ℕ → List StateMark → Tables
+with_marks t set marks = record t { sets = changed_at (with_marks_in marks) set t.sets }

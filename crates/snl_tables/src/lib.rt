@@ -6,6 +6,8 @@ mod change;
 mod number_set;
 mod row_list;
 mod rows;
+mod set_marks;
+mod set_wake;
 mod shift;
 mod wake_sets;
 

@@ -132,8 +132,13 @@ fn number_among(states: &[usize], item: usize) -> Option<usize>
     }
 }
 
-// What a target of a state means, by its number among the states of the set.
-fn target_number(links: &Links, states: &[usize], state: usize, name: &[u8]) -> Option<usize>
+/// What a target of a state means, by its number among the states of the set.
+pub(crate) fn target_number(
+    links: &Links,
+    states: &[usize],
+    state: usize,
+    name: &[u8],
+) -> Option<usize>
     requires { IsStrictlyIncreasing states.now }
     ensures { result ≡ number_among states.now (state_of links.now.outlines state name.now) }
 {
@@ -178,8 +183,8 @@ pub(crate) fn targets_among(
     Ok(targets)
 }
 
-// Whether a state is the first of a name in its set.
-fn is_first_of(links: &Links, state: usize, name: &[u8]) -> bool
+/// Whether a state is the first of a name in its set.
+pub(crate) fn is_first_of(links: &Links, state: usize, name: &[u8]) -> bool
     ensures { result ≡ option_map_or (nat_eq state) (state_of links.now.outlines state name.now) false }
 {
     match links.state(state, name) {

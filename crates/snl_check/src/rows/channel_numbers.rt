@@ -1,13 +1,15 @@
 //! The numbers of channels: a variable and an element come in, the number of the channel goes out.
 
-ghost use Rattle.std.specs.Prelude.{◌≡◌, [], IfOk, OnOk, map};
+ghost use Rattle.std.specs.Prelude.{◌≡◌, [], IfOk, OnOk, length, map};
 ghost use Rattle.std.specs.Map.{lookup};
 ghost use Rattle.snl_check.specs.Collected.{assigned};
-ghost use Rattle.snl_check.specs.Numbered.{Adds, Numbered, is_key_of, same_key};
+ghost use Rattle.snl_check.specs.Numbered.{Adds, AddsAll, Numbered, TellsBelow, element_at, has_key, same_key};
 
 use crate::rows::channels::AssignedChannel;
 use indexmap::IndexMap;
 use snl_cut::OutOfMemory;
+use snl_tables::ChannelRow;
+use sqlite_items::Items;
 use std::alloc::Global;
 use std::marker::Model;
 
@@ -43,7 +45,8 @@ impl Model for ChannelNumbers {
 }
 
 impl ChannelNumbers {
-    fn new(alloc: Global) -> ChannelNumbers
+    /// None.
+    pub(crate) fn new(alloc: Global) -> ChannelNumbers
         ensures { result ≡ [] }
     {
         ChannelNumbers {
@@ -68,14 +71,18 @@ impl ChannelNumbers {
         Ok(())
     }
 
-    // Adds the keys of the channel with a number.
-    fn add_channel(&mut self, channel: AssignedChannel, number: usize) -> Result<(), OutOfMemory>
-        ensures { OnOk result (Adds self.old self.new (is_key_of (assigned channel.entry)) number) }
+    // Adds the keys of the channel with a number: it is one of the variable, of this element, if it is that of one.
+    fn add_channel(
+        &mut self,
+        variable: usize,
+        element: Option<u64>,
+        number: usize,
+    ) -> Result<(), OutOfMemory>
+        ensures { OnOk result (Adds self.old self.new (has_key variable element) number) }
     {
-        let Some(element) = channel.element else {
+        let Some(element) = element else {
             return Ok(());
         };
-        let variable = channel.variable;
         let any = Key {
             variable,
             which: Which::Any,
@@ -87,6 +94,28 @@ impl ChannelNumbers {
         self.add(any, number)?;
         self.add(one, number)
     }
+
+    // Adds the channels of a variable, by their rows.
+    fn add_rows(
+        &mut self,
+        variable: usize,
+        rows: &[ChannelRow],
+        numbers: &[usize],
+    ) -> Result<(), OutOfMemory>
+        ensures { OnOk result (AddsAll self.old self.new variable rows.now numbers.now) }
+    {
+        for number in numbers {
+            self.add_channel(variable, element_at(rows, *number), *number)?;
+        }
+        Ok(())
+    }
+}
+
+// The element of the channel with a number.
+fn element_at(rows: &[ChannelRow], number: usize) -> Option<u64>
+    ensures { result ≡ element_at rows.now number }
+{
+    rows.get(number)?.element
 }
 
 /// The numbers of these channels.
@@ -98,7 +127,22 @@ pub(crate) fn numbers_of(
 {
     let mut numbers = ChannelNumbers::new(alloc);
     for (number, channel) in channels.iter().enumerate() {
-        numbers.add_channel(*channel, number)?;
+        numbers.add_channel(channel.variable, channel.element, number)?;
+    }
+    Ok(numbers)
+}
+
+/// The numbers of the channels of rows, by the lists of the channels of each variable.
+pub(crate) fn numbers_by_rows(
+    alloc: Global,
+    rows: &[ChannelRow],
+    lists: &[Items<usize>],
+) -> Result<ChannelNumbers, OutOfMemory>
+    ensures { IfOk result (λ numbers. TellsBelow numbers rows.now lists.now (length lists.now)) }
+{
+    let mut numbers = ChannelNumbers::new(alloc);
+    for (variable, list) in lists.iter().enumerate() {
+        numbers.add_rows(variable, rows, list.as_slice())?;
     }
     Ok(numbers)
 }

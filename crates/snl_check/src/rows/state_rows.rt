@@ -1,11 +1,11 @@
 //! The rows of states: a state set comes in, a row for each of its states goes out.
 
-ghost use Rattle.std.specs.Prelude.{◌≡◌, ◌<◌, ℕ, IfOk, false, if◌then◌else◌, length, slice_index_or};
-ghost use Rattle.snl_tables.specs.declared.rows.StateMark.TheVariants as StateMark;
+ghost use Rattle.std.specs.Prelude.{◌≡◌, ◌<◌, ℕ, IfOk, false, length, slice_index_or};
 ghost use Rattle.snl_check.specs.Collected.{IsLinked, IsOutline, items_in};
 ghost use Rattle.snl_check.specs.Members.{is_faulty_item, states_in};
 ghost use Rattle.snl_check.specs.States as states;
 
+use crate::reachability::marks::first_mark;
 use crate::reachability::members::{Members, is_faulty, is_first_state, members_of, targets_among};
 use crate::reachability::reaching::reach;
 use crate::rows::body::state_body;
@@ -16,8 +16,7 @@ use snl_cut::OutOfMemory;
 use snl_tables::{StateBody, StateMark, StateRow};
 use sqlite_items::Items;
 
-// What is known of a state, which has this number among the states of its set: the first that holds. `reached` is asked only
-// where no item of the set is faulty.
+// What is known of a state, which has this number among the states of its set.
 fn mark_of(
     outline: &Outline,
     members: &Members,
@@ -27,25 +26,12 @@ fn mark_of(
 ) -> StateMark
     requires linked { IsLinked outline.now.row_source }
     requires state { state < length outline.now.row_source.program.trees.now }
-    ensures { result ≡ (if is_faulty_item (items_in outline.now.row_source.program) state then StateMark.Faulty
-        else if states.is_repeated outline.now.row_source.links.now.outlines state then StateMark.Repeated
-        else if members.now.has_faulty then StateMark.Unknown
-        else if slice_index_or reached.now number false then StateMark.Reached
-        else StateMark.Unreached) }
+    ensures { result ≡ states.first_mark (is_faulty_item (items_in outline.now.row_source.program) state)
+        (states.is_repeated outline.now.row_source.links.now.outlines state) members.now.has_faulty (slice_index_or reached.now number false) }
 {
-    if is_faulty(&outline.row_source, state) {
-        return StateMark::Faulty;
-    }
-    if !is_first_state(&outline.row_source, state) {
-        return StateMark::Repeated;
-    }
-    if members.has_faulty {
-        return StateMark::Unknown;
-    }
-    match reached.get(number) {
-        Some(true) => StateMark::Reached,
-        _ => StateMark::Unreached,
-    }
+    let is_faulty = is_faulty(&outline.row_source, state);
+    let is_first = is_first_state(&outline.row_source, state);
+    first_mark(is_faulty, is_first, members.has_faulty, reached, number)
 }
 
 // Of each state of a set whether it is reached. Where an item of the set is faulty, nothing is said.

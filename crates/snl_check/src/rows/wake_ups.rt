@@ -1,53 +1,52 @@
 //! What wakes a state up: the uses of names in its conditions come in, the event flags, channels and variables that they mean go
 //! out.
 
-ghost use Rattle.std.specs.Prelude.{◌≡◌, IfOk, Some};
-ghost use Rattle.snl_check.specs.Channels.{assigned_channels, covers_elements, element_number};
+ghost use Rattle.std.specs.Prelude.{◌≡◌, IfOk, Some, is_some};
+ghost use Rattle.std.specs.List.{filter_map};
+ghost use Rattle.std.specs.Map.{lookup};
+ghost use Rattle.snl_walk.specs.Tokens.{IsSource};
+ghost use Rattle.snl_check.specs.Channels.{assigned_channels};
 ghost use Rattle.snl_check.specs.Collected.{IsOutline, items_in};
 ghost use Rattle.snl_check.specs.Conditions as conditions;
+ghost use Rattle.snl_check.specs.Numbered as numbered;
 
-use crate::rows::channel_numbers::{Key, Which};
+use crate::rows::channel_numbers::{ChannelNumbers, Key, Which};
 use crate::rows::outline::Outline;
 use crate::rows::room::with_room;
 use snl_cut::OutOfMemory;
+use snl_scope::Links;
 use snl_tables::WakeUp;
-use snl_walk::WakeUse;
+use snl_walk::{Source, WakeUse};
 
 // Whether elements of a variable are assigned.
-fn covers_elements(outline: &Outline, variable: usize) -> bool
-    requires { IsOutline outline.now }
-    ensures { result ≡ covers_elements
-        (assigned_channels outline.now.row_source.program.text.now (items_in outline.now.row_source.program) outline.now.row_source.links.now.outlines) variable }
+fn covers_elements(numbers: &ChannelNumbers, variable: usize) -> bool
+    ensures { result ≡ is_some (lookup (numbered.same_key (numbered.any_of variable)) numbers.now) }
 {
     let any = Key {
         variable,
         which: Which::Any,
     };
-    outline.numbers.number(any).is_some()
+    numbers.number(any).is_some()
 }
 
 // The channel of an element.
-fn element_number(outline: &Outline, variable: usize, element: u64) -> Option<usize>
-    requires { IsOutline outline.now }
-    ensures { result ≡ element_number
-        (assigned_channels outline.now.row_source.program.text.now (items_in outline.now.row_source.program) outline.now.row_source.links.now.outlines) variable (Some element) }
+fn element_number(numbers: &ChannelNumbers, variable: usize, element: u64) -> Option<usize>
+    ensures { result ≡ lookup (numbered.same_key (numbered.one_of variable element)) numbers.now }
 {
-    outline.numbers.number(Key {
+    numbers.number(Key {
         variable,
         which: Which::Element(element),
     })
 }
 
 // What a variable means, with the subscript that directly follows it.
-fn on_variable(outline: &Outline, subscript: Option<u64>, variable: usize) -> Option<WakeUp>
-    requires { IsOutline outline.now }
-    ensures { result ≡ conditions.on_variable
-        (assigned_channels outline.now.row_source.program.text.now (items_in outline.now.row_source.program) outline.now.row_source.links.now.outlines) subscript variable }
+fn on_variable(numbers: &ChannelNumbers, subscript: Option<u64>, variable: usize) -> Option<WakeUp>
+    ensures { result ≡ numbered.variable_by numbers.now subscript variable }
 {
     match subscript {
         Some(element) => {
-            if covers_elements(outline, variable) {
-                element_number(outline, variable, element).map(WakeUp::Channel)
+            if covers_elements(numbers, variable) {
+                element_number(numbers, variable, element).map(WakeUp::Channel)
             } else {
                 Some(WakeUp::Variable(variable))
             }
@@ -57,18 +56,41 @@ fn on_variable(outline: &Outline, subscript: Option<u64>, variable: usize) -> Op
 }
 
 // What a use of a name in an item means.
-fn wake_up(outline: &Outline, item: usize, used: WakeUse) -> Option<WakeUp>
-    requires { IsOutline outline.now }
-    ensures { result ≡ conditions.wake_up outline.now.row_source.program.text.now (items_in outline.now.row_source.program) outline.now.row_source.links.now.outlines
-        (assigned_channels outline.now.row_source.program.text.now (items_in outline.now.row_source.program) outline.now.row_source.links.now.outlines) item used }
+fn wake_up(
+    source: &Source,
+    links: &Links,
+    numbers: &ChannelNumbers,
+    item: usize,
+    used: WakeUse,
+) -> Option<WakeUp>
+    requires { IsSource source.now.text.now source.now.tokens.now }
+    ensures { result ≡ numbered.wake_by source.now.text.now source.now.tokens.now links.now.outlines numbers.now item used }
 {
-    let links = outline.row_source.links;
-    let name = outline.row_source.program.source(item).bytes(used.token);
-    let declaration = links.declaration(item, name)?;
+    let declaration = links.declaration(item, source.bytes(used.token))?;
     match links.flag_number(declaration) {
         Some(flag) => Some(WakeUp::Flag(flag)),
-        None => on_variable(outline, used.subscript, declaration),
+        None => on_variable(numbers, used.subscript, declaration),
     }
+}
+
+/// What the uses of names in the conditions of an item mean, in the order of the text, by the numbers of channels.
+pub(crate) fn wakes_by(
+    source: &Source,
+    links: &Links,
+    numbers: &ChannelNumbers,
+    item: usize,
+    uses: &[WakeUse],
+) -> Result<Vec<WakeUp>, OutOfMemory>
+    requires { IsSource source.now.text.now source.now.tokens.now }
+    ensures { IfOk result (λ wake. wake.items ≡ filter_map (numbered.wake_by source.now.text.now source.now.tokens.now links.now.outlines numbers.now item) uses.now) }
+{
+    let mut wake = with_room(source.alloc, uses.len())?;
+    for used in uses {
+        if let Some(meant) = wake_up(source, links, numbers, item, *used) {
+            wake.push(meant)?;
+        }
+    }
+    Ok(wake)
 }
 
 /// What the uses of names in the conditions of an item mean, in the order of the text.
@@ -79,12 +101,14 @@ pub(crate) fn wake_ups(outline: &Outline, item: usize) -> Result<Vec<WakeUp>, Ou
         (assigned_channels outline.now.row_source.program.text.now (items_in outline.now.row_source.program) outline.now.row_source.links.now.outlines) item
         (conditions.uses_in outline.now.row_source.program.text.now (items_in outline.now.row_source.program) item)) }
 {
+    let source = outline.row_source.program.source(item);
     let uses = outline.wake_uses(item);
-    let mut wake = with_room(outline.row_source.program.alloc, uses.len())?;
-    for used in uses {
-        if let Some(meant) = wake_up(outline, item, *used) {
-            wake.push(meant)?;
-        }
-    }
+    let wake = wakes_by(
+        &source,
+        outline.row_source.links,
+        outline.numbers,
+        item,
+        uses,
+    )?;
     Ok(wake)
 }

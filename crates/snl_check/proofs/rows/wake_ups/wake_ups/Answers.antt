@@ -1,27 +1,23 @@
-use Rattle.std.proofs.Common.{◌≡◌, ◌+◌, ◌++◌, drop, sym, ap, append_assoc, ◌∙◌}
-use Rattle.std.specs.List.{cons_option, filter_map}
-use Rattle.std.proofs.lemmas.Option.{slice_get-get_or}
+use Rattle.std.proofs.Common.{List, ap, ap₂, ◌∙◌}
+use Rattle.std.specs.List.{filter_map}
+use Rattle.snl_lex.specs.declared.piece.Piece.{Piece}
 use Rattle.snl_check.specs.Channels.{assigned_channels}
 use Rattle.snl_check.specs.Collected.{items_in}
-use Rattle.snl_check.specs.Conditions.{wake_up}
-use Rattle.snl_check.proofs.Beside.{kept_more}
+use Rattle.snl_check.specs.Conditions.{wake_ups}
+use Rattle.snl_check.specs.Numbered.{wake_by}
+use Rattle.snl_check.proofs.WakesTold.{wakes_same}
 use Rattle.snl_check.proofs.rows.wake_ups.wake_ups.Goals as goal
-use Rattle.snl_check.proofs.rows.wake_ups.wake_ups.Goals.{in-Some+in_ok-push, in_default}
 
-pub loop-used-preserved : goal.loop-used-preserved
-loop-used-preserved c =
-    let program = c.args.outline.now.row_source.program in
-    let ss = c.args.outline.now.row_source.links.now.outlines in
-    let meant = wake_up program.text.now (items_in program) ss (assigned_channels program.text.now (items_in program) ss) c.args.item in
-    let uses = c.wake_uses-uses.result.now in
-    let n = c.loop-used.used-index in
-    let so_far = c.loop-used.wake.items in
-    let rest = filter_map meant (drop (n + 1) uses) in
-    let more : filter_map meant (drop n uses) ≡ cons_option c.wake_up.result rest =
-    kept_more meant uses n _ (slice_get-get_or uses n _ c.loop-used-test.true) ∙ ap (λ o. cons_option o rest) (sym c.wake_up.ensures) in
-    elim c.match-wake_up.branch [
-      | in-Some+in_ok-push w ↦
-          ap (λ v. v.items ++ rest) w.wake-is ∙ ap (λ l. l ++ rest) w.in_ok-push.ensures.items ∙ append_assoc so_far _ rest
-          ∙ ap (λ l. so_far ++ l) (sym (more ∙ ap (λ o. cons_option o rest) w.in-Some.is)) ∙ c.loop-used.invariant
-      | in_default w ↦ ap (λ v. v.items ++ rest) w.wake-is ∙ ap (λ l. so_far ++ l) (sym (more ∙ ap (λ o. cons_option o rest) w.in_default.is)) ∙ c.loop-used.invariant
-    ]
+pub returns : goal.returns
+returns c =
+    let row_source = c.args.outline.now.row_source in
+    let text = row_source.program.text.now in
+    let xs = items_in row_source.program in
+    let ss = row_source.links.now.outlines in
+    let held = c.args.outline.now.numbers.now in
+    let source = c.source-source.result in
+    c.in_ok-wake.ensures
+    ∙ ap₂ (λ t (ts : List Piece). filter_map (wake_by t ts ss held c.args.item) c.wake_uses-uses.result.now) c.source-source.ensures.text c.source-source.ensures.tokens
+    ∙ wakes_same text xs ss (assigned_channels text xs ss) held c.args.item c.wake_uses-uses.result.now
+    (λ some v l w. c.requires.numbered.each (record { variable = v; which = w }))
+    ∙ ap (wake_ups text xs ss (assigned_channels text xs ss) c.args.item) c.wake_uses-uses.ensures

@@ -1,0 +1,76 @@
+//! What wakes a state up after an edit inside it: its tokens, the uses in its conditions and the rows of channels come in, the event
+//! flags, channels and variables that they mean go out. It asks no clause.
+
+ghost use Rattle.std.specs.Prelude.{◌≡◌, ◌<◌, ℕ, IfOk, List, length, true};
+ghost use Rattle.std.specs.List.{list_any};
+ghost use Rattle.snl_lex.specs.declared.shift.Shift.{Shift};
+ghost use Rattle.snl_walk.specs.Tokens.{IsSource};
+ghost use Rattle.snl_check.specs.Conditions.{uses_in};
+ghost use Rattle.snl_check.specs.Items.{ProgramItem, outlines_of, tokens_in};
+ghost use Rattle.snl_check.specs.Numbered.{Tells, has_subscript};
+ghost use Rattle.snl_check.specs.ShiftedAround.{ReplacesOne};
+ghost use Rattle.snl_check.specs.Spans.{AreRead};
+ghost use Rattle.snl_check.specs.States.{wake_of};
+ghost use Rattle.snl_check.specs.Tables.{tables_of};
+
+use crate::rows::channel_numbers::{ChannelNumbers, numbers_by_rows};
+use crate::rows::wake_ups::wakes_by;
+use snl_cut::OutOfMemory;
+use snl_lex::Piece;
+use snl_scope::{Links, names_are_tokens, same_spelling_same_summary};
+use snl_tables::{Tables, WakeUp};
+use snl_walk::{Source, WakeUse};
+use std::alloc::Global;
+
+fn some_subscript(uses: &[WakeUse]) -> bool
+    ensures { result ≡ list_any has_subscript uses.now }
+{
+    uses.iter().any(|used| used.subscript.is_some())
+}
+
+// The numbers of the channels of tables, if the uses ask for them.
+fn numbers_for(
+    alloc: Global,
+    uses: &[WakeUse],
+    tables: &Tables,
+) -> Result<ChannelNumbers, OutOfMemory>
+    ensures { IfOk result (λ numbers. list_any has_subscript uses.now ≡ true → Tells numbers tables.now) }
+{
+    if !some_subscript(uses) {
+        return Ok(ChannelNumbers::new(alloc));
+    }
+    let numbers = numbers_by_rows(
+        alloc,
+        tables.channels.as_slice(),
+        tables.variables.as_slice(),
+    )?;
+    Ok(numbers)
+}
+
+/// What wakes a state up, of which an edit changed the inside: `own` are its tokens after the edit, and `uses` those of names in its
+/// conditions. The tables are those before the edit: it changed no channel.
+pub fn wake_after(
+    alloc: Global,
+    text: &[u8],
+    own: &[Piece],
+    links: &Links,
+    item: usize,
+    uses: &[WakeUse],
+    tables: &Tables,
+) -> Result<Vec<WakeUp>, OutOfMemory>
+    requires { IsSource text.now own.now }
+    ensures { (old : List ℕ) (s : Shift) (xs ys : List ProgramItem) → 0 < s.start → AreRead old xs → ReplacesOne old text.now s xs ys item
+        → tables.now ≡ tables_of old xs → links.now.outlines ≡ outlines_of old xs → own.now ≡ tokens_in ys item → uses.now ≡ uses_in text.now ys item
+        → IfOk result (λ wake. wake.items ≡ wake_of text.now ys (outlines_of old xs) item) }
+{
+    names_are_tokens();
+    same_spelling_same_summary();
+    let source = Source {
+        text,
+        tokens: own,
+        alloc,
+    };
+    let numbers = numbers_for(alloc, uses, tables)?;
+    let wake = wakes_by(&source, links, &numbers, item, uses)?;
+    Ok(wake)
+}
