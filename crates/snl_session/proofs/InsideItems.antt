@@ -1,7 +1,7 @@
--- What a text says after an edit inside one state that says to the others what it said.
-use Rattle.std.proofs.Common.{◌≡◌, ◌↔◌, ℕ, suc, ◌+◌, ◌<◌, ◌≤◌, inl, inr, All, true, IsTrue, List, [], ◌∷◌, ◌++◌, length, map, take, drop, get_or, slice_get, Option, None, Some, option_map, refl, sym, ap, ap₂, ◌∙◌, subst, arith, length-append}
+-- What a text says after an edit inside one item that says to the others what it said.
+use Rattle.std.proofs.Common.{◌≡◌, ◌↔◌, ℕ, suc, ◌+◌, ◌<◌, ◌≤◌, inl, inr, All, true, IsTrue, List, [], ◌∷◌, ◌++◌, length, map, take, drop, get_or, slice_get, Option, None, Some, option_map, refl, sym, ap, ap₂, ◌∙◌, subst, append_assoc, arith, length-append}
 use Rattle.std.specs.List.{AllByRecursion}
-use Rattle.std.proofs.lemmas.List.{length-map, map-append}
+use Rattle.std.proofs.lemmas.List.{drop_at, length-map, map-append, take_at}
 use Rattle.std.proofs.lemmas.List.Elements.{All-drop, All-filter, All-take, recursion_from_All}
 use Rattle.snl_cut.specs.Cut.{Rises, ends_below, last_end}
 use Rattle.snl_lex.specs.declared.lines.Line.{Line}
@@ -16,7 +16,6 @@ use Rattle.snl_syntax.specs.Outcome.{parsed_by, parsed_in, sound_tree}
 use Rattle.snl_syntax.specs.declared.tree.item.Item.{Item}
 use Rattle.snl_items.specs.Changes.{LeavesAround}
 use Rattle.snl_items.specs.Items.{item_ends, spelled_items}
-use Rattle.snl_scope.specs.LinkedItems.{LinkedItems}
 use Rattle.snl_scope.specs.SpelledTokens.{summary_by}
 use Rattle.snl_scope.specs.Summaries.{kind_of, summary_in}
 use Rattle.snl_scope.specs.Summaries.Tokens.{token_bytes}
@@ -54,6 +53,13 @@ use Rattle.snl_session.proofs.InsideParts.{IsPastHead, are_parts, back_alike, ba
 both : {X : Type 0} (P Q R : X → Type 0) → ((x : X) → P x → Q x → R x) → (xs : List X) → AllByRecursion P xs → AllByRecursion Q xs → AllByRecursion R xs
 both P Q R f [] h g = tt
 both P Q R f (x ∷ xs) h g = (f x h.0 g.0, both P Q R f xs h.1 g.1)
+
+-- another element in the place of one
+replaced_at : {X : Type 0} (front : List X) (x y : X) (back : List X) (n : ℕ) → length front ≡ n → take n (front ++ (x ∷ back)) ++ (y ∷ drop (n + 1) (front ++ (x ∷ back))) ≡ front ++ (y ∷ back)
+replaced_at {X = X} front x y back n many =
+    let past : length (front ++ (x ∷ [])) ≡ n + 1 = omega (arith, length-append front (x ∷ []), many) in
+    ap₂ (λ (a b : List X). a ++ (y ∷ b)) (take_at front (x ∷ back) n many)
+    (ap (drop (n + 1)) (sym (append_assoc front (x ∷ []) back)) ∙ drop_at (front ++ (x ∷ [])) back (n + 1) past)
 
 module _ (old text : List ℕ) (start old_stop new_stop : ℕ) (c : Changes) (s : Shift) (x e : Entry) (is : IsInside old text start old_stop new_stop c s x e)
     -- what the laws of the layers below say
@@ -168,8 +174,8 @@ module _ (old text : List ℕ) (start old_stop new_stop : ℕ) (c : Changes) (s 
   outline_was : (summary_in old was_own (tree_in old was_own)).outline ≡ x.summary.outline
   outline_was = ap (λ (y : Summary). y.outline) summary_was
 
-  kind_same : kind_of (tree_in text is_own) ≡ kind_of (tree_in old was_own)
-  kind_same = ap (λ (y : Summary). y.kind) summary_is ∙ is.kind ∙ ap (λ (y : Summary). y.kind) (sym summary_was)
+  kind_is : kind_of (tree_in text is_own) ≡ e.summary.kind
+  kind_is = ap (λ (y : Summary). y.kind) summary_is
 
   -- ---- what they say to each other
 
@@ -185,17 +191,27 @@ module _ (old text : List ℕ) (start old_stop new_stop : ℕ) (c : Changes) (s 
   abbrev kinds_of : List ProgramItem → List ItemKind
   kinds_of xs = map (λ (y : ProgramItem). kind_of y.tree) xs
 
-  kinds_same : kinds_of (items_of text) ≡ kinds_of (items_of old)
-  kinds_same =
+  abbrev kinds_in_front : List ItemKind
+  kinds_in_front = kinds_of front
+
+  abbrev kinds_at_back : List ItemKind
+  kinds_at_back = kinds_of back
+
+  kinds_were : kinds_of (items_of old) ≡ kinds_in_front ++ (kind_of (tree_in old was_own) ∷ kinds_at_back)
+  kinds_were = ap kinds_of items_were ∙ map-append (λ (y : ProgramItem). kind_of y.tree) front (program_item old was_own ∷ back)
+
+  kinds_now : kinds_of (items_of text) ≡ kinds_in_front ++ (e.summary.kind ∷ kinds_at_back)
+  kinds_now =
       ap kinds_of items_are
       ∙ map-append (λ (y : ProgramItem). kind_of y.tree) (map (shifted_item s) front) (program_item text is_own ∷ map (shifted_item s) back)
       ∙ ap₂ (λ (a b : List ItemKind). a ++ b) (all_kinds old text s tree_told by_spelling summary_told front)
-      (ap₂ (λ (o : ItemKind) (l : List ItemKind). o ∷ l) kind_same (all_kinds old text s tree_told by_spelling summary_told back))
-      ∙ sym (map-append (λ (y : ProgramItem). kind_of y.tree) front (program_item old was_own ∷ back))
-      ∙ ap kinds_of (sym items_were)
+      (ap₂ (λ (o : ItemKind) (l : List ItemKind). o ∷ l) kind_is (all_kinds old text s tree_told by_spelling summary_told back))
 
-  links_same : links_in text ≡ links_in old
-  links_same = ap₂ (λ (os : List Outline) (ks : List ItemKind). let l : LinkedItems = record { outlines = os; kinds = ks } in l) outlines_same kinds_same
+  kinds_are : (links_in text).kinds ≡ take k (links_in old).kinds ++ (e.summary.kind ∷ drop (k + 1) (links_in old).kinds)
+  kinds_are =
+      kinds_now
+      ∙ sym (replaced_at kinds_in_front (kind_of (tree_in old was_own)) e.summary.kind kinds_at_back k (length-map front (λ (y : ProgramItem). kind_of y.tree) ∙ number))
+      ∙ ap (λ (ks : List ItemKind). take k ks ++ (e.summary.kind ∷ drop (k + 1) ks)) (sym kinds_were)
 
   -- ---- the tokens that the edit leaves
 
@@ -303,7 +319,7 @@ module _ (old text : List ℕ) (start old_stop new_stop : ℕ) (c : Changes) (s 
   replaces : ReplacesItem old text s (program_item old was_own) (program_item text is_own)
   replaces = record {
     was_plain = ap is_plain (ap (λ (y : Summary). y.kind) summary_was) ∙ is.plain;
-    is_plain_now = ap is_plain (ap (λ (y : Summary). y.kind) summary_is ∙ is.kind) ∙ is.plain;
+    is_plain_now = ap is_plain kind_is ∙ is.plain_now;
     outline = outline_same;
     declared = declared_placed;
     no_clause = ap (λ (o : Outline). o.clauses) outline_was ∙ is.no_clause;
@@ -316,7 +332,7 @@ module _ (old text : List ℕ) (start old_stop new_stop : ℕ) (c : Changes) (s 
     shift = shift;
     items_were = items_were;
     items_are = items_are;
-    links = links_same;
+    outlines = outlines_same;
     front_stays = front_stays;
     back_stays = back_stays;
     stays = head;
@@ -400,7 +416,7 @@ module _ (old text : List ℕ) (start old_stop new_stop : ℕ) (c : Changes) (s 
     within = omega (arith, lasts old, taken_to_last 0 (k + 1) (item_ends old) (rises old));
     own_now = own_now old text start old_stop new_stop c s past;
     outline_was = outline_was;
-    kind_same = kind_same;
+    kinds = kinds_are;
     was_spelled = was_spelled;
     spelled_so = spelled_so;
     checks = checks_are;

@@ -7,7 +7,7 @@ one_of : {X : Type 0} (x y : X) → Some x ≡ Some y → x ≡ y
 one_of x y e = cc
 
 -- what is left from an element on
-got_at : {Y : Type 0} (ys : List Y) (i : ℕ) (y : Y) → slice_get ys i ≡ Some y → drop i ys ≡ y ∷ drop (suc i) ys
+pub got_at : {Y : Type 0} (ys : List Y) (i : ℕ) (y : Y) → slice_get ys i ≡ Some y → drop i ys ≡ y ∷ drop (suc i) ys
 got_at [] i y e = absurd cc
 got_at {Y} (z ∷ ys) zero y e = ap (λ (a : Y). a ∷ ys) (one_of z y e)
 got_at (z ∷ ys) (suc i) y e = got_at ys i y e

@@ -1,6 +1,7 @@
 pub mod Ends
 pub mod Faults
 pub mod FreshNumbers
+pub mod InsideLaws
 pub mod InsideMade
 pub mod InsideTables
 pub mod InsideTold
@@ -8,6 +9,8 @@ pub mod KeptChecks
 pub mod KeptOutlines
 pub mod MadeChecks
 pub mod MemberParts
+pub mod MadeRows
+pub mod MarkedRows
 pub mod Members
 pub mod Offsets
 pub mod OnceAll
@@ -25,7 +28,9 @@ pub mod OwnPlaces
 pub mod Parts
 pub mod Ranks
 pub mod Rechecks
+pub mod Replaced
 pub mod Rising
+pub mod SetMembers
 pub mod ShiftPlans
 pub mod ShiftedFindings
 pub mod ShiftedItems

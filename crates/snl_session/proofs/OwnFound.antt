@@ -1,4 +1,4 @@
--- What is found after an edit inside one state.
+-- What is found after an edit inside one item.
 use Rattle.std.proofs.Common.{◌≡◌, ℕ, zero, suc, ◌+◌, ◌<◌, ◌≤◌, Bool, true, All, List, [], ◌∷◌, ◌++◌, length, map, Option, Some, None, option_map, refl, sym, ap, ap₂, ◌∙◌, arith}
 use Rattle.std.specs.List.{AllByRecursion, cons_option, enumerate_from, filter_map, flat_map}
 use Rattle.std.proofs.lemmas.List.{length-map}
@@ -14,7 +14,6 @@ use Rattle.snl_syntax.specs.Outcome.{parsed_by, parsed_in}
 use Rattle.snl_scope.specs.declared.facts.LinkFault.{LinkFault}
 use Rattle.snl_scope.specs.declared.summaries.summary.Outline.{Outline}
 use Rattle.snl_scope.specs.Linked as links
-use Rattle.snl_scope.specs.LinkedItems.{LinkedItems}
 use Rattle.snl_scope.specs.Summaries.{kind_of}
 use Rattle.snl_scope.specs.Summaries.Tokens.{token_bytes}
 use Rattle.snl_check.specs.Shifted.{shifted_item, shifted_tokens}
@@ -28,11 +27,11 @@ use Rattle.snl_session.specs.Linked.{finding_at, linked_faults, linked_finding, 
 use Rattle.snl_session.specs.ReplacedItem.{ReplacesInside, SparesInside, own_findings, own_shown}
 use Rattle.snl_session.specs.ReplacedItem as one
 use Rattle.snl_session.specs.Order.{in_order}
-use Rattle.snl_session.specs.OwnFindings.{found_around, without}
+use Rattle.snl_session.specs.OwnFindings.{WalksAround, found_around, without}
 use Rattle.snl_session.specs.Program.{ProgramItem, items_of}
 use Rattle.snl_session.specs.Shifted.{shifted_finding}
 use Rattle.snl_session.specs.Tables.{tables_in, walked_faults, walked_in}
-use Rattle.snl_session.specs.Warnings.{last_or, setting_in, setting_of_item, shows_warnings}
+use Rattle.snl_session.specs.Warnings.{last_or, setting_in, setting_of_item, shows_warnings, warns_in}
 use Rattle.snl_session.proofs.OwnElements.{total_append, total_filter_map, total_flat_map, total_map, total_option}
 use Rattle.snl_session.proofs.OwnOrder.{seen, total_shown, total_without}
 use Rattle.snl_session.proofs.Ranks.{one_order, total_in_order}
@@ -78,7 +77,7 @@ module _ (old text : List ℕ) (s : Shift) (head : ℕ) (front back : List Progr
   fits = omega (arith, is.shift.edit.new_inside, is.shift.old_short, is.shift.short)
 
   outlines_are : outlines_in text ≡ ss
-  outlines_are = ap (λ (l : LinkedItems). l.outlines) is.links
+  outlines_are = is.outlines
 
   abbrev Stays : ProgramItem → Type 0
   Stays z = StaysItem s is.shift.some_before old order fits text each_inside z
@@ -116,10 +115,11 @@ module _ (old text : List ℕ) (s : Shift) (head : ℕ) (front back : List Progr
       (ap (finding_at f.code) (token_around front f.item f.token h.0) ∙ finding_shifts s is.shift.some_before f.code (token_of (front ++ (x ∷ back)) f.item f.token))
       (placed_around fs h.1)
 
-  linked_around : SparesInside head n (links.faults_of (links_in old)) → linked_faults text (items_of text) ≡ map sh (linked_faults old (items_of old))
-  linked_around spares =
+  linked_around : SparesInside head n (links.faults_of (links_in old)) → links.faults_of (links_in text) ≡ links.faults_of (links_in old)
+      → linked_faults text (items_of text) ≡ map sh (linked_faults old (items_of old))
+  linked_around spares same =
       let faults : List LinkFault = links.faults_of (links_in old) in
-      ap₂ (λ (zs : List ProgramItem) (l : LinkedItems). map (linked_finding zs) (links.faults_of l)) is.items_are is.links
+      ap₂ (λ (zs : List ProgramItem) (fs : List LinkFault). map (linked_finding zs) fs) is.items_are same
       ∙ placed_around faults (recursion_from_All (λ (f : LinkFault). f.item ≡ n → f.token < head) faults spares)
       ∙ ap (λ (zs : List ProgramItem). map sh (map (linked_finding zs) faults)) (sym is.items_were)
 
@@ -136,9 +136,6 @@ module _ (old text : List ℕ) (s : Shift) (head : ℕ) (front back : List Progr
   abbrev checks_after : List Finding
   checks_after = flat_map (found_in_item old ss) (enumerate_from (n + 1) back)
 
-  abbrev others : List Finding
-  others = (faults_before ++ faults_after) ++ linked_faults old (items_of old) ++ (checks_before ++ checks_after) ++ walked_faults old (items_of old)
-
   here : n ≡ 0 + n
   here = omega arith
 
@@ -152,14 +149,6 @@ module _ (old text : List ℕ) (s : Shift) (head : ℕ) (front back : List Progr
 
   abbrev was : List Finding
   was = own_findings old ss n x
-
-  were : (f : Finding → ℕ) → total f (found old) ≡ total f was + total f others
-  unfolding found
-  were f =
-      let whole = total_four f (faults_of old (items_of old)) (linked_faults old (items_of old)) (checked_faults old (items_of old)) (walked_faults old (items_of old)) in
-      let rest = total_pairs f faults_before faults_after (linked_faults old (items_of old)) checks_before checks_after (walked_faults old (items_of old)) in
-      let own = total_option f (fault_in old x) (found_in_item old ss (n, x)) in
-      omega (arith, whole, rest, own, faults_were f, checks_were f)
 
   abbrev now : List Finding
   now = own_findings text (outlines_in text) n y
@@ -185,20 +174,42 @@ module _ (old text : List ℕ) (s : Shift) (head : ℕ) (front back : List Progr
       let own = ap (λ (ts : List Outline). total f (found_in_item text ts (n, y))) outlines_are in
       omega (arith, all, before, after, own)
 
-  module _ (spares : SparesInside head n (links.faults_of (links_in old))) (walks : walked_in (tables_in text) ≡ map sh (walked_in (tables_in old))) where
-    walks_are : walked_faults text (items_of text) ≡ map sh (walked_faults old (items_of old))
-    unfolding tables_in
-    walks_are = walks
+  -- what has gone and what has come by the walks, in one state set
+  module _ (spares : SparesInside head n (links.faults_of (links_in old))) (same : links.faults_of (links_in text) ≡ links.faults_of (links_in old))
+      (gone come : List Finding) (walks : WalksAround s gone come (walked_in (tables_in old)) (walked_in (tables_in text))) where
+    abbrev others : List Finding
+    others = (faults_before ++ faults_after) ++ linked_faults old (items_of old) ++ (checks_before ++ checks_after) ++ (walks.front ++ walks.back)
 
-    are : (f : Finding → ℕ) → total f (found text) ≡ total (λ z. f (sh z)) others + total f now
+    total_around : (f : Finding → ℕ) (a b c : List Finding) → total f (a ++ (b ++ c)) ≡ total f a + (total f b + total f c)
+    total_around f a b c = omega (arith, total_append f a (b ++ c), total_append f b c)
+
+    walks_were : (f : Finding → ℕ) → total f (walked_faults old (items_of old)) ≡ total f walks.front + (total f gone + total f walks.back)
+    unfolding tables_in
+    walks_were f = ap (total f) walks.were ∙ total_around f walks.front gone walks.back
+
+    walks_are : (f : Finding → ℕ) → total f (walked_faults text (items_of text)) ≡ total (λ z. f (sh z)) walks.front + (total f come + total (λ z. f (sh z)) walks.back)
+    unfolding tables_in
+    walks_are f =
+        let all : total f (walked_in (tables_in text)) ≡ total f (map sh walks.front) + (total f come + total f (map sh walks.back)) =
+        ap (total f) walks.are ∙ total_around f (map sh walks.front) come (map sh walks.back) in
+        all ∙ ap₂ (λ (m k : ℕ). m + (total f come + k)) (total_map f sh walks.front) (total_map f sh walks.back)
+
+    were : (f : Finding → ℕ) → total f (found old) ≡ (total f was + total f gone) + total f others
+    unfolding found
+    were f =
+        let whole = total_four f (faults_of old (items_of old)) (linked_faults old (items_of old)) (checked_faults old (items_of old)) (walked_faults old (items_of old)) in
+        let rest = total_pairs f faults_before faults_after (linked_faults old (items_of old)) checks_before checks_after (walks.front ++ walks.back) in
+        let own = total_option f (fault_in old x) (found_in_item old ss (n, x)) in
+        omega (arith, whole, rest, own, faults_were f, checks_were f, walks_were f, total_append f walks.front walks.back)
+
+    are : (f : Finding → ℕ) → total f (found text) ≡ total (λ z. f (sh z)) others + (total f now + total f come)
     unfolding found
     are f =
         let whole = total_four f (faults_of text (items_of text)) (linked_faults text (items_of text)) (checked_faults text (items_of text)) (walked_faults text (items_of text)) in
-        let rest = total_pairs (λ z. f (sh z)) faults_before faults_after (linked_faults old (items_of old)) checks_before checks_after (walked_faults old (items_of old)) in
+        let rest = total_pairs (λ z. f (sh z)) faults_before faults_after (linked_faults old (items_of old)) checks_before checks_after (walks.front ++ walks.back) in
         let own = total_option f (fault_in text y) (found_in_item text (outlines_in text) (n, y)) in
-        let linked = shifts f (linked_faults text (items_of text)) (linked_faults old (items_of old)) (linked_around spares) in
-        let walked = shifts f (walked_faults text (items_of text)) (walked_faults old (items_of old)) walks_are in
-        omega (arith, whole, rest, own, linked, walked, faults_are f, checks_are f)
+        let linked = shifts f (linked_faults text (items_of text)) (linked_faults old (items_of old)) (linked_around spares same) in
+        omega (arith, whole, rest, own, linked, faults_are f, checks_are f, walks_are f, total_append (λ z. f (sh z)) walks.front walks.back)
 
   -- what items say of warnings
   module _ (was_plain : is_plain (kind_of x.tree) ≡ true) (is_state : is_plain (kind_of y.tree) ≡ true) where
@@ -217,35 +228,46 @@ module _ (old text : List ℕ) (s : Shift) (head : ℕ) (front back : List Progr
         ∙ settings_around 0 front (stay front is.front_stays)
         ∙ ap (λ (zs : List ProgramItem). filter_map (setting_of_item old ss) (enumerate_from 0 zs)) (sym is.items_were))
 
-    module _ (spares : SparesInside head n (links.faults_of (links_in old))) (walks : walked_in (tables_in text) ≡ map sh (walked_in (tables_in old))) where
+    module _ (spares : SparesInside head n (links.faults_of (links_in old))) (same : links.faults_of (links_in text) ≡ links.faults_of (links_in old))
+        (gone come : List Finding) (walks : WalksAround s gone come (walked_in (tables_in old)) (walked_in (tables_in text))) where
       abbrev b : Bool
       b = shows_warnings old (items_of old)
 
-      abbrev gone : List Finding
-      gone = own_shown old (items_of old) n x
+      abbrev rest : List Finding
+      rest = shown_if b (others spares same gone come walks)
 
-      abbrev come : List Finding
-      come = own_shown text (items_of text) n y
+      abbrev all_gone : List Finding
+      all_gone = own_shown old (items_of old) n x ++ shown_if (warns_in old) gone
+
+      abbrev all_come : List Finding
+      all_come = own_shown text (items_of text) n y ++ shown_if (warns_in text) come
 
       abbrev left : List Finding
-      left = without gone (in_order (shown old))
+      left = without all_gone (in_order (shown old))
 
-      split : (f : Finding → ℕ) → total f (shown old) ≡ total f gone + total f (shown_if b others)
+      gone_are : (f : Finding → ℕ) → total f all_gone ≡ total (seen b f) was + total (seen b f) gone
+      gone_are f = total_append f (shown_if b was) (shown_if b gone) ∙ ap₂ (λ (m k : ℕ). m + k) (total_shown b f was) (total_shown b f gone)
+
+      come_are : (f : Finding → ℕ) → total f all_come ≡ total (seen b f) now + total (seen b f) come
+      come_are f =
+          ap (λ (v : Bool). total f (shown_if v now ++ shown_if v come)) warnings_stay
+          ∙ total_append f (shown_if b now) (shown_if b come) ∙ ap₂ (λ (m k : ℕ). m + k) (total_shown b f now) (total_shown b f come)
+
+      split : (f : Finding → ℕ) → total f (shown old) ≡ total f all_gone + total f rest
       unfolding shown
-      split f = omega (arith, total_shown b f (found old), total_shown b f was, total_shown b f others, were (seen b f))
+      split f = omega (arith, total_shown b f (found old), gone_are f, total_shown b f (others spares same gone come walks), were spares same gone come walks (seen b f))
 
-      left_are : (f : Finding → ℕ) → total f left ≡ total f (shown_if b others)
-      left_are = total_without gone (in_order (shown old)) (shown_if b others) (λ f. total_in_order f (shown old) ∙ split f)
+      left_are : (f : Finding → ℕ) → total f left ≡ total f rest
+      left_are = total_without all_gone (in_order (shown old)) rest (λ f. total_in_order f (shown old) ∙ split f)
 
-      joined : (f : Finding → ℕ) → total f (shown text) ≡ total (λ z. f (sh z)) (shown_if b others) + total f come
+      joined : (f : Finding → ℕ) → total f (shown text) ≡ total (λ z. f (sh z)) rest + total f all_come
       unfolding shown
       joined f =
           let all = ap (λ (v : Bool). total f (shown_if v (found text))) warnings_stay ∙ total_shown b f (found text) in
-          let own = ap (λ (v : Bool). total f (shown_if v now)) warnings_stay ∙ total_shown b f now in
-          omega (arith, all, own, are spares walks (seen b f), total_shown b (λ z. f (sh z)) others)
+          omega (arith, all, come_are f, are spares same gone come walks (seen b f), total_shown b (λ z. f (sh z)) (others spares same gone come walks))
 
-      sums : (f : Finding → ℕ) → total f (map sh left ++ come) ≡ total f (shown text)
-      sums f = omega (arith, total_append f (map sh left) come, total_map f sh left, left_are (λ z. f (sh z)), joined f)
+      sums : (f : Finding → ℕ) → total f (map sh left ++ all_come) ≡ total f (shown text)
+      sums f = omega (arith, total_append f (map sh left) all_come, total_map f sh left, left_are (λ z. f (sh z)), joined f)
 
-      pub found_is : found_around s gone come (in_order (shown old)) ≡ in_order (shown text)
-      found_is = one_order (map sh left ++ come) (shown text) sums
+      pub found_is : found_around s all_gone all_come (in_order (shown old)) ≡ in_order (shown text)
+      found_is = one_order (map sh left ++ all_come) (shown text) sums

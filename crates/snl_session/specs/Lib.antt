@@ -9,14 +9,17 @@ pub mod Kept
 pub mod Linked
 pub mod Listing
 pub mod ReplacedItem
+pub mod MadeRows
 pub mod Order
 pub mod OwnFindings
+pub mod OwnLinks
 pub mod OwnRows
 pub mod Parts
 pub mod Planned
 pub mod Program
 pub mod Rechecked
 pub mod Relinked
+pub mod SetMembers
 pub mod Shifted
 pub mod Stirred
 pub mod Tables

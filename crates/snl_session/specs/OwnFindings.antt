@@ -29,6 +29,13 @@ without (x ∷ xs) ys = without xs (taken_out x ys)
 abbrev pub found_around : Shift → List Finding → List Finding → List Finding → List Finding
 found_around s gone come found = in_order (map (shifted_finding s) (without gone found) ++ come)
 
+-- What is found by the walks is shifted, but for that in one state set.
+pub record WalksAround (s : Shift) (gone come before after : List Finding) : Type 0 where
+  pub front : List Finding
+  pub back : List Finding
+  pub were : before ≡ front ++ (gone ++ back)
+  pub are : after ≡ map (shifted_finding s) front ++ (come ++ map (shifted_finding s) back)
+
 -- What a check of an item gave that is spelled so: the one with some number, by what some items say to each other.
 pub record IsOwnCheck (text : List ℕ) (own : List Piece) (check : Option Checked) : Type 0 where
   pub outlines : List Outline

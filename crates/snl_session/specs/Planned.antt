@@ -83,13 +83,13 @@ pub record IsWholeWay (old text : List ℕ) (start old_stop new_stop : ℕ) (way
   pub tables : way.tables ≡ tables_in text
   pub cost : IsCost old text start old_stop new_stop way.work
 
--- An edit inside one item that says to the others what it said: the rows are shifted, but for the body of its own, if it is a state.
+-- An edit inside one item that says to the others what it said: the rows are shifted, but for this change.
 pub record IsItemWay (old text : List ℕ) (start old_stop new_stop : ℕ) (way : ItemWay) : Type 0 where
   pub changes : IsChanged old text start old_stop new_stop way.changes
   pub lines : IsLineList text way.lines.ends.items way.lines.markers.items way.lines.naming.items
   pub remade : IsRemade old text way.changes.items.kept_front way.changes.items.kept_back way.remade
   pub diagnostics : way.diagnostics.items ≡ diagnostics_of text
-  pub tables : tables_in text ≡ with_row (shifted_tables way.shift (tables_in old)) way.row
+  pub tables : tables_in text ≡ with_row (shifted_tables way.shift (tables_in old)) way.change
   pub cost : IsCost old text start old_stop new_stop way.work
 
 -- The plan of an edit is one of the three.

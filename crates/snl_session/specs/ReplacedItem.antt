@@ -1,5 +1,5 @@
 -- What a text says after an edit inside one item that says to the others what it said.
-use Rattle.std.specs.Prelude.{◌≡◌, ℕ, ◌+◌, ◌-◌, ◌^◌, ◌<◌, ◌≤◌, ◌⊎◌, All, true, List, [], ◌∷◌, ◌++◌, length, map, take, count_by, slice_get, Option, Some, option_map}
+use Rattle.std.specs.Prelude.{◌≡◌, ℕ, ◌+◌, ◌-◌, ◌^◌, ◌<◌, ◌≤◌, ◌⊎◌, All, true, List, [], ◌∷◌, ◌++◌, length, map, take, drop, count_by, slice_get, Option, Some, option_map}
 use Rattle.std.specs.List.{AllByRecursion, cons_option}
 use Rattle.snl_cut.specs.Cut.{IsEdit, last_end}
 use Rattle.snl_lex.specs.declared.piece.Piece.{Piece}
@@ -10,7 +10,6 @@ use Rattle.snl_lex.specs.Pieces.{LiesIn, piece_end, tokens_of}
 use Rattle.snl_lex.specs.Shift.{IsShift, marker_count, shifted_piece}
 use Rattle.snl_items.specs.Changes.{IsShiftOf}
 use Rattle.snl_items.specs.Items.{item_ends}
-use Rattle.snl_scope.specs.Summaries.{kind_of}
 use Rattle.snl_scope.specs.declared.facts.LinkFault.{LinkFault}
 use Rattle.snl_scope.specs.declared.summaries.summary.Outline.{Outline}
 use Rattle.snl_check.specs.declared.rules.findings.Checked.{Checked}
@@ -46,7 +45,7 @@ pub record ReplacesInside (old text : List ℕ) (s : Shift) (head : ℕ) (front 
   pub shift : IsShift old text s
   pub items_were : items_of old ≡ front ++ (x ∷ back)
   pub items_are : items_of text ≡ map (shifted_item s) front ++ (y ∷ map (shifted_item s) back)
-  pub links : links_in text ≡ links_in old
+  pub outlines : outlines_in text ≡ outlines_in old
   pub front_stays : AllByRecursion (StaysItem old text s) front
   pub back_stays : AllByRecursion (StaysItem old text s) back
   pub stays : (n : ℕ) → n < head → slice_get y.tokens n ≡ option_map (shifted_piece s) (slice_get x.tokens n)
@@ -92,10 +91,10 @@ pub record IsInside (old text : List ℕ) (start old_stop new_stop : ℕ) (c : C
   pub head : last_end 0 (take c.items.kept_front (item_ends old)) + 2 ≤ c.tokens.edit.start
   pub was : slice_get (entries_of old) c.items.kept_front ≡ Some x
   pub made : AreEntriesMade old text c.items.kept_front (e ∷ []) c.items.kept_back
-  -- a plain item in the place of another, each sound or faulty as the other: it says to the other items what that one said; what it declares is before the edit, and it has no clauses
+  -- a plain item in the place of another: it says to the other items what that one said; what it declares is before the edit, and it has no clauses
   pub outline : e.summary.outline ≡ x.summary.outline
-  pub kind : e.summary.kind ≡ x.summary.kind
   pub plain : is_plain x.summary.kind ≡ true
+  pub plain_now : is_plain e.summary.kind ≡ true
   pub declared : DeclaresInHead (own_head old c) x.summary.outline
   pub no_clause : x.summary.outline.clauses ≡ []
 
@@ -121,7 +120,8 @@ pub record IsOneReplaced (old text : List ℕ) (start old_stop new_stop : ℕ) (
   pub own_now : own_tokens text c.items.kept_front
       ≡ tokens_between (tokens_of text) (own_start old c.items.kept_front) ((own_start old (c.items.kept_front + 1) - c.tokens.edit.old_stop) + c.tokens.edit.new_stop)
   pub outline_was : outline_of_item old (program_item old (own_tokens old c.items.kept_front)) ≡ x.summary.outline
-  pub kind_same : kind_of (program_item text (own_tokens text c.items.kept_front)).tree ≡ kind_of (program_item old (own_tokens old c.items.kept_front)).tree
+  -- its kind may be another
+  pub kinds : (links_in text).kinds ≡ take c.items.kept_front (links_in old).kinds ++ (e.summary.kind ∷ drop (c.items.kept_front + 1) (links_in old).kinds)
   pub was_spelled : x ≡ entry_by (spelled old (own_tokens old c.items.kept_front))
   pub spelled_so : e ≡ entry_by (spelled text (own_tokens text c.items.kept_front))
   pub checks : AreChecksMade old text c.items.kept_front (nones c.items.made.items) c.items.kept_back (made_at c.items.kept_front (own_check old text c.items.kept_front))

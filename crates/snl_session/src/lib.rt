@@ -2,7 +2,7 @@
 //! Whatever edits led to a text, these are those that the text alone defines. An edit makes the fresh pieces, parses the fresh
 //! items and checks these and the items that see the others in another way, and no more; the links, the diagnostics and the tables
 //! are made anew, unless the edit leaves all tokens, lines and findings as they are, at their places or shifted: then these are
-//! shifted in place; or unless it is inside one item that says what it said: then all is shifted but for that item.
+//! shifted in place; or unless it is inside one item that says what it said: then all is shifted but for that item and the rows of its state set.
 //! Private below it: `ways` plans an edit and goes its way, `found` tells what is found in a text, `entries` parses items and sums
 //! them up, and `lists` takes over what is made. It knows nothing of scripts, of files or of how a diagnostic is printed.
 #![tactic(auto)]

@@ -182,7 +182,7 @@ impl Session {
             old_stop: stop,
             new_stop: start + new.len(),
         };
-        let plan = plan_of(alloc, &self.lists, &self.found, &edit)?;
+        let plan = plan_of(alloc, &self.lists, &self.tables, &self.found, &edit)?;
         let plan = plan.with_room_in(&mut self.lists)?;
         let work = plan.work();
         plan.commit(&edit, &mut self.lists, &mut self.found, &mut self.tables);

@@ -1,5 +1,5 @@
-//! Edits of white space and comments, which only shift what a session has, and edits that are nearly so. After each of them, and
-//! after it is undone, the session is held against one that gets the text in one edit.
+//! Edits of white space and comments, which only shift what a session has, edits that are nearly so, and edits inside items, which change
+//! what is found in their state set. After each of them, and after it is undone, the session is held against one that gets the text in one edit.
 
 use snl_session::Session;
 use std::alloc::Global;
@@ -8,7 +8,7 @@ use std::test::Fail;
 
 // Findings of each kind are in it: at faulty items, by links, in items, inside a token, and at a state that isn't reached.
 static TEXT: &str =
-    "/* first */ program p\noption +rz;\nint x; // a flag\nint x;\nint\n y;\nassign x to \"dev:x\";\nmonitor z;\nevflag f; sync x to f;\nstray @ item;\n%%local code\nss a {\nstate s1 {\noption -tq;\nwhen (efTest(f) && x > 3) {\npvPut(x); v = 1;\n} state s2\n}\n\nstate\ts2 { /* none */\nwhen () { } state s4\n}\nstate s3 { when () { } exit }\n}\n/* next */ ss /* b */ b { state t {\nwhen (delay(1)) { } exit } }\n";
+    "/* first */ program p\noption +rz;\nint x; // a flag\nint x;\nint\n y;\nassign x to \"dev:x\";\nmonitor z;\nevflag f; sync x to f;\nstray @ item;\nstruct r { int a; };\nstate lost { when () { } exit }\n%%local code\nss a {\nstruct q { int b; };\nstate s1 {\noption -tq;\nwhen (efTest(f) && x > 3) {\npvPut(x); v = 1;\n} state s2\n}\n\nstate\ts2 { /* none */\nwhen () { } state s4\n}\nstate s3 { when () { } exit }\n}\n/* next */ ss /* b */ b { state t {\nwhen (delay(1)) { } exit } }\n";
 
 // What may come before the text: nothing, or a line marker.
 static FRONTS: [&str; 2] = ["", "# 7 \"a.st\"\n"];
@@ -66,6 +66,31 @@ static ROWS: [(&str, usize, &str); 44] = [
     ("option -t", 0, " "),
     ("option +r", 0, "\n"),
     ("s", 0, ""),
+];
+
+// The same of edits inside items.
+static INSIDE: [(&str, usize, &str); 16] = [
+    // a state that says what it said
+    ("v = ", 1, "23"),
+    ("v = 1;", 0, " v = 2;"),
+    // a state that turns faulty, and sound again; it may be the first of its set, or the only one
+    ("pvPut(x)", 1, ""),
+    ("s3 { when () { } exi", 1, ""),
+    ("when () { } state ", 2, ""),
+    ("delay(1", 1, ""),
+    // one that leads elsewhere, nowhere, or to itself
+    ("} state s", 1, "3"),
+    ("when () { } state s", 1, "1"),
+    ("when () { } ", 8, "exit"),
+    ("s3 { when () { } ", 4, "state s3"),
+    // one that says something else in its conditions
+    ("&& ", 1, "y"),
+    ("x > 3", 0, " || x[2]"),
+    ("efTest(", 1, "x"),
+    // an item of a set that is no state, one in no set, and a state in no set
+    ("q { int b", 1, ""),
+    ("r { int a", 1, ""),
+    ("lost { when () { } exi", 1, ""),
 ];
 
 // A session over a text, and the text.
@@ -129,7 +154,7 @@ impl Edited {
 }
 
 // Makes an edit after the first place of some bytes in a text with this front, and undoes it.
-fn expect_shift(
+fn expect_as_new_after(
     rt: &impl Abort,
     alloc: Global,
     front: &str,
@@ -152,7 +177,17 @@ fn expect_shift(
 fn white_space_and_comments_shift_the_rest(rt: HostRuntime) -> Result<(), Fail> {
     for front in FRONTS {
         for (after, takes, puts) in &ROWS {
-            expect_shift(&rt, rt.alloc(), front, after, *takes, puts)?;
+            expect_as_new_after(&rt, rt.alloc(), front, after, *takes, puts)?;
+        }
+    }
+    Ok(())
+}
+
+#[test]
+fn edits_inside_items_change_their_set(rt: HostRuntime) -> Result<(), Fail> {
+    for front in FRONTS {
+        for (after, takes, puts) in &INSIDE {
+            expect_as_new_after(&rt, rt.alloc(), front, after, *takes, puts)?;
         }
     }
     Ok(())

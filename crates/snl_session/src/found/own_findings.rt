@@ -122,7 +122,8 @@ fn shifted_without(
     Ok(left)
 }
 
-fn add_all(come: &[Finding], found: &mut Vec<Finding>) -> Result<(), OutOfMemory>
+/// Adds findings to others.
+pub fn add_all(come: &[Finding], found: &mut Vec<Finding>) -> Result<(), OutOfMemory>
     ensures { OnOk result (found.new.items ≡ found.old.items ++ come.now) }
 {
     for finding in come {

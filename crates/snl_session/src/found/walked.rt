@@ -10,14 +10,15 @@ use snl_check::{StateMark, StateRow, Tables};
 use snl_cut::OutOfMemory;
 use snl_scope::Code;
 
-fn is_unreached(mark: StateMark) -> bool
+/// Whether no walk reaches a state, by its mark.
+pub fn is_unreached(mark: StateMark) -> bool
     ensures { result ≡ is_unreached mark }
 {
     matches!(mark, StateMark::Unreached)
 }
 
-// Adds the states of a set that are not reached.
-fn add_states(states: &[StateRow], found: &mut Vec<Finding>) -> Result<(), OutOfMemory>
+/// Adds the states of a set that are not reached.
+pub fn add_states(states: &[StateRow], found: &mut Vec<Finding>) -> Result<(), OutOfMemory>
     ensures { OnOk result (found.new.items ≡ found.old.items ++ flat_map found_at_state states.now) }
 {
     for state in states {

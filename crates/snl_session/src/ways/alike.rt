@@ -27,6 +27,13 @@ fn is_plain(kind: ItemKind) -> bool
     )
 }
 
+/// Whether two items are of one kind.
+pub fn is_same_kind(one: ItemKind, other: ItemKind) -> bool
+    ensures { IsTrue result → one ≡ other }
+{
+    one == other
+}
+
 // Whether all names that an item declares are among so many of its first tokens.
 fn declares_in_head(outline: &Outline, head: usize) -> bool
     ensures { IsTrue result → DeclaresInHead head outline.now }
@@ -45,8 +52,8 @@ pub fn says_the_same(was: &Entry, is: &Entry, head: usize) -> bool
 {
     let (was, is) = (&was.summary, &is.summary);
     same_outline(&is.outline, &was.outline)
-        && is.kind == was.kind
         && is_plain(was.kind)
+        && is_plain(is.kind)
         && declares_in_head(&was.outline, head)
         && was.outline.clauses.as_slice().is_empty()
 }
@@ -94,7 +101,7 @@ pub fn found_little(check: &Option<Boxed<Checked>>) -> bool {
     }
 }
 
-/// Whether a state leads where the one before it led, and says the same in its conditions.
+/// Whether a state is of the kind of the one before it, leads where that one led, and says the same in its conditions.
 pub fn says_alike(
     alloc: Global,
     edit: &TextEdit,
@@ -107,6 +114,9 @@ pub fn says_alike(
     requires is_within { All (LiesIn edit.now.text.now) own.now.is.items }
     ensures { IfOk result (λ alike. IsTrue alike → AreAlike edit.now.old.now edit.now.text.now own.now.was.items own.now.is.items was.now is.now check.now) }
 {
+    if !is_same_kind(is.summary.kind, was.summary.kind) {
+        return Ok(false);
+    }
     if !same_names(
         is.summary.targets.as_slice(),
         was.summary.targets.as_slice(),

@@ -1,45 +1,47 @@
-//! The plan of an edit inside one item that says to the others what it said: its findings, its row, if it is a state, and what is kept of it are
-//! made anew, all else stays or is shifted. What is kept of the old text and both texts come in; what is made goes out.
+//! The plan of an edit inside one item that says to the others what it said: its findings, its row, if it is a state, the marks of the states
+//! of its set, and what is kept of it are made anew, all else stays or is shifted. What is kept of the old text and both texts come in; what is made goes out.
 #![tactic(auto)]
 
-ghost use Rattle.std.specs.Prelude.{◌≡◌, ◌<◌, [], ◌∷◌, ℕ, All, IfOk, IfSome, IsTrue, List, length, map};
+ghost use Rattle.std.specs.Prelude.{◌≡◌, [], ◌∷◌, All, IfOk, IfSome, IsTrue, length};
 ghost use Rattle.snl_cut.specs.Cut.{after_ticks};
 ghost use Rattle.snl_lex.specs.LineList.{IsLineList};
 ghost use Rattle.snl_lex.specs.PieceList.{spelled};
 ghost use Rattle.snl_lex.specs.Pieces.{LiesIn};
-ghost use Rattle.snl_scope.specs.declared.summaries.summary.Outline.{Outline};
-ghost use Rattle.snl_check.specs.States.{state_body};
+ghost use Rattle.snl_items.specs.Changes.{IsShiftOf};
 ghost use Rattle.snl_session.specs.Checks.{check_by};
-ghost use Rattle.snl_session.specs.Diagnostics.{diagnostic, diagnostics_of, shown_if};
+ghost use Rattle.snl_session.specs.Diagnostics.{diagnostics_of};
 ghost use Rattle.snl_session.specs.Entries.{entry_by};
-ghost use Rattle.snl_session.specs.ItemPlan.{AreOwnTokens, FitsRow, IsMadeInside, IsOneItem, IsWas, SaysWhatItSaid, diagnostics_by};
+ghost use Rattle.snl_session.specs.ItemPlan.{AreOwnTokens, FitsRows, IsMadeInside, IsOneItem, IsWas, SaysWhatItSaid};
 ghost use Rattle.snl_session.specs.Kept.{HasRoomFor, IsListed};
-ghost use Rattle.snl_session.specs.ReplacedItem.{own_findings, own_head};
-ghost use Rattle.snl_session.specs.OwnFindings.{IsOwnCheck, found_around};
-ghost use Rattle.snl_session.specs.OwnRows.{row_told, with_row};
+ghost use Rattle.snl_session.specs.OwnLinks.{AreOwnLinks};
 ghost use Rattle.snl_session.specs.Planned.{AreEntriesMade, IsChanged, IsCost, IsItemWay};
-ghost use Rattle.snl_session.specs.Program.{program_item};
 ghost use Rattle.snl_session.specs.Rechecked.{made_at};
-ghost use Rattle.snl_session.specs.Shifted.{finding_of};
+ghost use Rattle.snl_session.specs.ReplacedItem.{IsInside, IsOneReplaced, own_head};
 ghost use Rattle.snl_session.specs.Warnings.{warns_in};
 ghost use Rattle.snl_session.specs.Tables.{tables_in};
 
 use crate::edits::Work;
 use crate::entries::Entry;
-use crate::found::diagnose::{keep_shown, on_lines};
-use crate::found::findings::{Diagnostic, Finding};
-use crate::found::own_findings::{findings_around, own_findings};
+use crate::found::findings::Diagnostic;
 use crate::found::program::items_end_in_order;
-use crate::laws::inside_laws::{edit_around_an_item, edit_inside_a_state};
+use crate::laws::inside_laws::{
+    edit_around_a_state, edit_around_an_item, edit_in_a_set, edit_inside_a_state,
+    edit_outside_the_sets,
+};
 use crate::laws::item_laws::one_item_replaced;
 use crate::lists::{Lists, Remade};
-use crate::ways::alike::{found_little, says_alike, says_the_same, spares_inside};
-use crate::ways::numbers::{RowPlace, is_named, row_of};
+use crate::ways::alike::{found_little, is_same_kind, says_alike, says_the_same, spares_inside};
+use crate::ways::numbers::{is_named, set_number};
 use crate::ways::one_item::OwnTokens;
+use crate::ways::own_diagnostics::own_diagnostics;
+use crate::ways::own_links::own_links;
+use crate::ways::own_rows::own_change;
 use crate::ways::plan::Changes;
 use crate::ways::recheck::{add_made, vacant_for};
 use crate::ways::relink::NewLinks;
-use snl_check::{Checked, StateBody, Tables, check_item, state_body};
+use crate::ways::row_change::{RowChange, Touched};
+use crate::ways::set_findings::few_unreached;
+use snl_check::{Checked, Tables, check_item};
 use snl_cut::{Count, OutOfMemory};
 use snl_lex::{LineList, Piece, Shift, TextEdit, text_in_pieces};
 use snl_scope::{Links, same_spelling_same_summary};
@@ -48,7 +50,7 @@ use sqlite_items::Boxed;
 use std::alloc::Global;
 
 /// The changes that an edit inside one item makes, the lines of the new text, what is made of all that is kept of the items, the
-/// diagnostics, how the rows are shifted, its own row, and the cost.
+/// diagnostics, how the rows are shifted and what changes in them, and the cost.
 #[derive(Drop)]
 pub struct ItemWay {
     pub changes: Changes,
@@ -56,7 +58,7 @@ pub struct ItemWay {
     pub remade: Remade,
     pub diagnostics: Vec<Diagnostic>,
     pub shift: Shift,
-    pub row: Option<OwnRow>,
+    pub change: RowChange,
     pub work: Work,
 }
 
@@ -67,21 +69,15 @@ pub struct Was<'a> {
     pub check: &'a Option<Boxed<Checked>>,
 }
 
-/// What an edit makes of an item, besides what is kept of it: its check, if it is sound, the diagnostics of the new text, how the rows of the other items are
-/// shifted, and its own row.
+/// What an edit makes of an item, besides what is kept of it: its check, if it is sound, the links, the diagnostics of the new text, how the rows are
+/// shifted, and what changes in them.
 #[derive(Drop)]
 pub struct ItemPlan {
     pub check: Option<Boxed<Checked>>,
+    pub links: NewLinks,
     pub diagnostics: Vec<Diagnostic>,
     pub shift: Shift,
-    pub row: Option<OwnRow>,
-}
-
-/// The row of a state: where it is, and what its body says.
-#[derive(Drop)]
-pub struct OwnRow {
-    pub place: RowPlace,
-    pub body: StateBody,
+    pub change: RowChange,
 }
 
 // The check of the item that is made, if it is sound. It is one tick then.
@@ -110,129 +106,25 @@ fn own_check(
     }
 }
 
-// What is found at an item, as far as it is shown.
-fn own_shown(
-    alloc: Global,
-    text: &[u8],
-    own: &[Piece],
-    entry: &Entry,
-    check: &Option<Boxed<Checked>>,
-    warns: bool,
-) -> Result<Vec<Finding>, OutOfMemory>
-    requires some { 0 < length own.now }
-    requires within { All (LiesIn text.now) own.now }
-    requires entry { entry.now ≡ entry_by (spelled text.now own.now) }
-    requires check { IsOwnCheck text.now own.now check.now }
-    ensures { IfOk result (λ v. (ss : List Outline) (i : ℕ) → check.now ≡ check_by ss i (spelled text.now own.now) → v.items ≡ shown_if warns (own_findings text.now ss i (program_item text.now own.now))) }
+// The edit is inside the item. This does nothing: its contract is the law of such an edit.
+fn replaces_inside(edit: &TextEdit, changes: &Changes, shift: Shift, was: Was, made: &Entry)
+    requires shift { IsShiftOf edit.now.old.now edit.now.text.now edit.now.start edit.now.old_stop edit.now.new_stop shift }
+    requires changes { IsChanged edit.now.old.now edit.now.text.now edit.now.start edit.now.old_stop edit.now.new_stop changes.now }
+    requires one { IsOneItem edit.now.old.now changes.now }
+    requires was { IsWas edit.now.old.now changes.now.items.kept_front was }
+    requires alone { AreEntriesMade edit.now.old.now edit.now.text.now changes.now.items.kept_front (made.now ∷ []) changes.now.items.kept_back }
+    requires says { SaysWhatItSaid edit.now.old.now (own_head edit.now.old.now changes.now) changes.now.items.kept_front was made.now }
+    ensures inside { IsInside edit.now.old.now edit.now.text.now edit.now.start edit.now.old_stop edit.now.new_stop changes.now shift was.entry.entry.now made.now }
+    ensures replaced { IsOneReplaced edit.now.old.now edit.now.text.now edit.now.start edit.now.old_stop edit.now.new_stop changes.now shift was.entry.entry.now made.now }
 {
-    let mut found = own_findings(alloc, text, own, &entry.parsed, check)?;
-    keep_shown(warns, &mut found);
-    Ok(found)
+    one_item_replaced();
 }
 
-// The diagnostics of the new text: what was found at the item goes, what is found at it comes, the others are shifted.
-fn diagnostics_around(
-    alloc: Global,
-    found: &[Diagnostic],
-    text: &[u8],
-    lines: &LineList,
-    shift: Shift,
-    gone: &[Finding],
-    come: &[Finding],
-) -> Result<Vec<Diagnostic>, OutOfMemory>
-    requires lines { IsLineList text.now lines.now.ends.items lines.now.markers.items lines.now.naming.items }
-    ensures { IfOk result (λ v. v.items ≡ map (diagnostic text.now) (found_around shift gone.now come.now (map finding_of found.now))) }
-{
-    let findings = findings_around(alloc, found, shift, gone, come)?;
-    on_lines(alloc, text, lines, &findings)
-}
-
-// The diagnostics of the new text, by what is found at the item before the edit and after it.
-fn own_diagnostics(
-    alloc: Global,
-    lists: &Lists,
-    found: &[Diagnostic],
-    edit: &TextEdit,
-    lines: &LineList,
-    shift: Shift,
-    own: &OwnTokens,
-    item: usize,
-    was: Was,
-    made: &Entry,
-    check: &Option<Boxed<Checked>>,
-) -> Result<Vec<Diagnostic>, OutOfMemory>
-    requires lines { IsLineList edit.now.text.now lines.now.ends.items lines.now.markers.items lines.now.naming.items }
-    requires was_some { 0 < length own.now.was.items }
-    requires was_within { All (LiesIn edit.now.old.now) own.now.was.items }
-    requires was_spelled { was.entry.now ≡ entry_by (spelled edit.now.old.now own.now.was.items) }
-    requires was_checked { was.check.now ≡ check_by lists.now.links.outlines item (spelled edit.now.old.now own.now.was.items) }
-    requires some { 0 < length own.now.is.items }
-    requires within { All (LiesIn edit.now.text.now) own.now.is.items }
-    requires spelled { made.now ≡ entry_by (spelled edit.now.text.now own.now.is.items) }
-    requires checked { check.now ≡ check_by lists.now.links.outlines item (spelled edit.now.text.now own.now.is.items) }
-    ensures { IfOk result (λ v. v.items ≡ diagnostics_by edit.now.old.now edit.now.text.now lists.now.links.outlines lists.now.warns shift item own.now (map finding_of found.now)) }
-{
-    let gone = own_shown(alloc, edit.old, &own.was, was.entry, was.check, lists.warns)?;
-    let come = own_shown(alloc, edit.text, &own.is, made, check, lists.warns)?;
-    diagnostics_around(alloc, found, edit.text, lines, shift, &gone, &come)
-}
-
-// The body of the row of the state that is made, by what its check told.
-fn own_body(
-    alloc: Global,
-    text: &[u8],
-    own: &[Piece],
-    entry: &Entry,
-    links: &Links,
-    item: usize,
-    check: &Option<Boxed<Checked>>,
-) -> Result<StateBody, OutOfMemory>
-    requires within { All (LiesIn text.now) own.now }
-    requires entry { entry.now ≡ entry_by (spelled text.now own.now) }
-    requires check { check.now ≡ check_by links.now.outlines item (spelled text.now own.now) }
-    ensures { IfOk result (λ b. b ≡ state_body text.now links.now.outlines item (program_item text.now own.now)) }
-{
-    outcome_told();
-    same_spelling_same_tree();
-    same_spelling_same_summary();
-    let tree = entry.parsed.tree();
-    match check {
-        Some(checked) => {
-            let targets = checked.get().target_uses.as_slice();
-            state_body(alloc, text, own, tree, links, item, targets)
-        }
-        None => state_body(alloc, text, own, tree, links, item, &[]),
-    }
-}
-
-// The row of the item that is made, if it is a state in this set.
-fn own_row(
-    alloc: Global,
-    lists: &Lists,
-    text: &[u8],
-    own: &[Piece],
-    entry: &Entry,
-    item: usize,
-    set: Option<usize>,
-    check: &Option<Boxed<Checked>>,
-) -> Result<Option<OwnRow>, OutOfMemory>
-    requires within { All (LiesIn text.now) own.now }
-    requires entry { entry.now ≡ entry_by (spelled text.now own.now) }
-    requires check { check.now ≡ check_by lists.now.links.outlines item (spelled text.now own.now) }
-    ensures { IfOk result (λ r. r ≡ row_told text.now lists.now.links.outlines item (program_item text.now own.now) set) }
-{
-    let Some(set) = set else {
-        return Ok(None);
-    };
-    let body = own_body(alloc, text, own, entry, &lists.links, item, check)?;
-    let place = row_of(&lists.links, set, item);
-    Ok(Some(OwnRow { place, body }))
-}
-
-// What an edit makes of an item that says what the one before it said, and of its row, if it is a state in this set.
+// What an edit makes of an item that says to the others what the one before it said, by the rows that it changes and what becomes of the links.
 fn made_inside(
     alloc: Global,
     lists: &Lists,
+    tables: &Tables,
     found: &[Diagnostic],
     edit: &TextEdit,
     changes: &Changes,
@@ -240,10 +132,12 @@ fn made_inside(
     own: &OwnTokens,
     was: Was,
     made: &Entry,
-    set: Option<usize>,
+    touched: Touched,
+    links: NewLinks,
     work: &mut Count,
 ) -> Result<ItemPlan, OutOfMemory>
     requires lists { IsListed edit.now.old.now lists.now }
+    requires tables { tables.now ≡ tables_in edit.now.old.now }
     requires found { found.now ≡ diagnostics_of edit.now.old.now }
     requires changes { IsChanged edit.now.old.now edit.now.text.now edit.now.start edit.now.old_stop edit.now.new_stop changes.now }
     requires lines { IsLineList edit.now.text.now lines.now.ends.items lines.now.markers.items lines.now.naming.items }
@@ -253,13 +147,16 @@ fn made_inside(
     requires made { made.now ≡ entry_by (spelled edit.now.text.now own.now.is.items) }
     requires alone { AreEntriesMade edit.now.old.now edit.now.text.now changes.now.items.kept_front (made.now ∷ []) changes.now.items.kept_back }
     requires says { SaysWhatItSaid edit.now.old.now (own_head edit.now.old.now changes.now) changes.now.items.kept_front was made.now }
-    requires row { FitsRow edit.now.old.now edit.now.text.now changes.now.items.kept_front own.now was made.now set }
+    requires row { FitsRows edit.now.old.now edit.now.text.now changes.now.items.kept_front own.now was made.now touched }
+    requires links { AreOwnLinks lists.now.links changes.now.items.kept_front made.now.summary.kind links }
     ensures inside { IfOk result (IsMadeInside edit.now.old.now edit.now.text.now edit.now.start edit.now.old_stop edit.now.new_stop changes.now) }
     ensures ticks { IfOk result (λ i. work.new ≡ after_ticks work.old (length (made_at changes.now.items.kept_front i.check))) }
 {
     edit_inside_a_state();
+    edit_around_a_state();
+    edit_in_a_set();
     edit_around_an_item();
-    one_item_replaced();
+    edit_outside_the_sets();
     text_in_pieces();
     items_end_in_order();
     outcome_told();
@@ -267,16 +164,20 @@ fn made_inside(
     same_spelling_same_summary();
     let item = changes.items.kept_front;
     let shift = Shift::of(edit);
+    replaces_inside(edit, changes, shift, was, made);
     let check = own_check(alloc, edit.text, &own.is, made, &lists.links, item, work)?;
-    let diagnostics = own_diagnostics(
-        alloc, lists, found, edit, lines, shift, own, item, was, made, &check,
+    let change = own_change(
+        alloc, lists, tables, edit, &own.is, made, item, touched, &check,
     )?;
-    let row = own_row(alloc, lists, edit.text, &own.is, made, item, set, &check)?;
+    let diagnostics = own_diagnostics(
+        alloc, lists, tables, found, edit, lines, shift, own, item, was, made, &check, &change,
+    )?;
     Ok(ItemPlan {
         check,
+        links,
         diagnostics,
         shift,
-        row,
+        change,
     })
 }
 
@@ -318,9 +219,9 @@ fn says_what_it_said(
         && found_little(was.check)
 }
 
-// The set in which an item is a state, if it is one with a name: none, or one in which it leads where it led, and says in its conditions
-// what it said.
-fn set_of_row(
+// Which rows the item changes: a state with a name its own, and the marks of its set, unless it says what the one before it said; another
+// item of a set the marks alone, if it is of another kind.
+fn touched_by(
     alloc: Global,
     lists: &Lists,
     edit: &TextEdit,
@@ -328,30 +229,42 @@ fn set_of_row(
     item: usize,
     was: Was,
     made: &Entry,
-) -> Result<Option<Option<usize>>, OutOfMemory>
+) -> Result<Touched, OutOfMemory>
     requires lists { IsListed edit.now.old.now lists.now }
     requires own { AreOwnTokens edit.now.old.now edit.now.text.now item own.now }
-    ensures { IfOk result (λ o. IfSome o (FitsRow edit.now.old.now edit.now.text.now item own.now was.entry made.now)) }
+    ensures { IfOk result (FitsRows edit.now.old.now edit.now.text.now item own.now was.entry made.now) }
 {
     text_in_pieces();
-    if !is_named(&was.entry.summary.outline) {
-        return Ok(Some(None));
-    }
     let Some(set) = lists.links.enclosing_set(item) else {
-        return Ok(None);
+        return Ok(Touched::Nothing);
     };
+    if !is_named(&was.entry.summary.outline) {
+        if is_same_kind(made.summary.kind, was.entry.summary.kind) {
+            return Ok(Touched::Nothing);
+        }
+        return Ok(Touched::Marks(set));
+    }
     if says_alike(alloc, edit, own, was.entry, was.check, made)? {
-        Ok(Some(Some(set)))
+        Ok(Touched::Body(set))
     } else {
-        Ok(None)
+        Ok(Touched::State(set))
     }
 }
 
-/// What an edit makes of the item in the place of which it makes this one, if it says to the others what that one said, and, if it is a
-/// state with a name, in its conditions too.
+// Whether little was found in the states that get other marks.
+fn touches_little(links: &Links, tables: &Tables, touched: Touched) -> bool {
+    match touched {
+        Touched::Nothing | Touched::Body(_) => true,
+        Touched::State(set) | Touched::Marks(set) => few_unreached(tables, set_number(links, set)),
+    }
+}
+
+/// What an edit makes of the item in the place of which it makes this one, if it says to the others what that one said, the links find
+/// what they found, and little comes and goes.
 pub fn inside_of(
     alloc: Global,
     lists: &Lists,
+    tables: &Tables,
     found: &[Diagnostic],
     edit: &TextEdit,
     changes: &Changes,
@@ -361,6 +274,7 @@ pub fn inside_of(
     work: &mut Count,
 ) -> Result<Option<ItemPlan>, OutOfMemory>
     requires lists { IsListed edit.now.old.now lists.now }
+    requires tables { tables.now ≡ tables_in edit.now.old.now }
     requires found { found.now ≡ diagnostics_of edit.now.old.now }
     requires changes { IsChanged edit.now.old.now edit.now.text.now edit.now.start edit.now.old_stop edit.now.new_stop changes.now }
     requires lines { IsLineList edit.now.text.now lines.now.ends.items lines.now.markers.items lines.now.naming.items }
@@ -379,11 +293,15 @@ pub fn inside_of(
     if !says_what_it_said(lists, edit.old, item, head, was, made) {
         return Ok(None);
     }
-    let Some(set) = set_of_row(alloc, lists, edit, own, item, was, made)? else {
+    let touched = touched_by(alloc, lists, edit, own, item, was, made)?;
+    if !touches_little(&lists.links, tables, touched) {
+        return Ok(None);
+    }
+    let Some(links) = own_links(alloc, lists, edit.old, item, was, made)? else {
         return Ok(None);
     };
     let inside = made_inside(
-        alloc, lists, found, edit, changes, lines, own, was, made, set, work,
+        alloc, lists, tables, found, edit, changes, lines, own, was, made, touched, links, work,
     )?;
     Ok(Some(inside))
 }
@@ -409,9 +327,10 @@ pub fn item_way(
 {
     let ItemPlan {
         check,
+        links,
         diagnostics,
         shift,
-        row,
+        change,
     } = inside;
     let vacant = vacant_for(alloc, &changes.items.made)?;
     let mut checks = Vec::new(alloc);
@@ -421,26 +340,16 @@ pub fn item_way(
         lines,
         remade: Remade {
             made,
-            links: NewLinks::Same,
+            links,
             vacant,
             checks,
             warns: lists.warns,
         },
         diagnostics,
         shift,
-        row,
+        change,
         work,
     })
-}
-
-// Puts the body of a row in place, if there is one.
-fn put_row(row: Option<OwnRow>, tables: &mut Tables)
-    ensures { tables.new ≡ with_row tables.old row }
-{
-    if let Some(row) = row {
-        let OwnRow { place, body } = row;
-        tables.set_body(place.set, place.state, body);
-    }
 }
 
 impl ItemWay {
@@ -467,12 +376,12 @@ impl ItemWay {
             remade,
             diagnostics,
             shift,
-            row,
+            change,
             work: _,
         } = self;
         lists.commit(edit, &changes, lines, remade);
         *found = diagnostics;
         tables.shift(shift);
-        put_row(row, tables);
+        change.put_in(tables);
     }
 }

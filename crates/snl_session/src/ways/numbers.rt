@@ -22,8 +22,8 @@ pub fn is_named(outline: &Outline) -> bool
     matches!(outline.opening, Opening::State) && outline.second.is_some()
 }
 
-// How many state sets begin before an item.
-fn set_number(links: &Links, item: usize) -> usize
+/// How many state sets begin before an item.
+pub fn set_number(links: &Links, item: usize) -> usize
     ensures { result ≡ set_number links.now.outlines item }
 {
     let mut count = 0;

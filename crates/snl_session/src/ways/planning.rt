@@ -141,6 +141,7 @@ fn way_of_one(
 fn plan_of_one(
     alloc: Global,
     lists: &Lists,
+    tables: &Tables,
     found: &[Diagnostic],
     edit: &TextEdit,
     changes: Changes,
@@ -148,6 +149,7 @@ fn plan_of_one(
     lexed: u64,
 ) -> Result<Plan, OutOfMemory>
     requires lists { IsListed edit.now.old.now lists.now }
+    requires tables { tables.now ≡ tables_in edit.now.old.now }
     requires found { found.now ≡ diagnostics_of edit.now.old.now }
     requires changes { IsChanged edit.now.old.now edit.now.text.now edit.now.start edit.now.old_stop edit.now.new_stop changes }
     requires lines { IsLineList edit.now.text.now lines.ends.items lines.markers.items lines.naming.items }
@@ -162,6 +164,7 @@ fn plan_of_one(
     let inside = inside_of(
         alloc,
         lists,
+        tables,
         found,
         edit,
         &changes,
@@ -187,6 +190,7 @@ fn plan_of_one(
 fn plan_anew(
     alloc: Global,
     lists: &Lists,
+    tables: &Tables,
     found: &[Diagnostic],
     edit: &TextEdit,
     changes: Changes,
@@ -194,6 +198,7 @@ fn plan_anew(
     lexed: u64,
 ) -> Result<Plan, OutOfMemory>
     requires lists { IsListed edit.now.old.now lists.now }
+    requires tables { tables.now ≡ tables_in edit.now.old.now }
     requires found { found.now ≡ diagnostics_of edit.now.old.now }
     requires changes { IsChanged edit.now.old.now edit.now.text.now edit.now.start edit.now.old_stop edit.now.new_stop changes }
     requires lines { IsLineList edit.now.text.now lines.ends.items lines.markers.items lines.naming.items }
@@ -201,20 +206,22 @@ fn plan_anew(
     ensures { IfOk result (IsPlan edit.now.old.now edit.now.text.now edit.now.start edit.now.old_stop edit.now.new_stop) }
 {
     if replaces_one(lists, edit, &changes) {
-        return plan_of_one(alloc, lists, found, edit, changes, lines, lexed);
+        return plan_of_one(alloc, lists, tables, found, edit, changes, lines, lexed);
     }
     let way = way_of_many(alloc, lists, edit, changes, lines, lexed)?;
     Ok(Plan::Whole(way))
 }
 
-/// The plan of an edit of the text that has these lists and diagnostics.
+/// The plan of an edit of the text that has these lists, tables and diagnostics.
 pub fn plan_of(
     alloc: Global,
     lists: &Lists,
+    tables: &Tables,
     found: &[Diagnostic],
     edit: &TextEdit,
 ) -> Result<Plan, OutOfMemory>
     requires lists { IsListed edit.now.old.now lists.now }
+    requires tables { tables.now ≡ tables_in edit.now.old.now }
     requires found { found.now ≡ diagnostics_of edit.now.old.now }
     ensures { IfOk result (IsPlan edit.now.old.now edit.now.text.now edit.now.start edit.now.old_stop edit.now.new_stop) }
 {
@@ -224,7 +231,16 @@ pub fn plan_of(
     let lines = lists.lines.after(alloc, edit, &changes.pieces)?;
     match shift_of(lists, found, edit, &changes) {
         Some(shifted) => Ok(Plan::Short(short_way(edit, changes, lines, shifted, lexed.ticks()))),
-        None => plan_anew(alloc, lists, found, edit, changes, lines, lexed.ticks()),
+        None => plan_anew(
+            alloc,
+            lists,
+            tables,
+            found,
+            edit,
+            changes,
+            lines,
+            lexed.ticks(),
+        ),
     }
 }
 

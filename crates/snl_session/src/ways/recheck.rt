@@ -2,10 +2,12 @@
 //! items that are to be checked anew go out. It knows nothing of the rules.
 #![tactic(auto)]
 
-ghost use Rattle.std.specs.Prelude.{◌≡◌, ◌+◌, ◌-◌, ◌^◌, ◌<◌, ◌≤◌, ◌++◌, All, IfOk, IsTrue, OnOk, drop, length, map, take};
+ghost use Rattle.std.specs.Prelude.{◌≡◌, ◌+◌, ◌-◌, ◌^◌, ◌<◌, ◌≤◌, ◌++◌, ℕ, All, IfOk, IfSome, IsTrue, OnOk, drop, length, map, take};
 ghost use Rattle.snl_cut.specs.Cut.{after_ticks};
 ghost use Rattle.snl_lex.specs.PieceList.{spelled};
 ghost use Rattle.snl_lex.specs.Pieces.{LiesIn};
+ghost use Rattle.snl_scope.specs.Spoken.{KeepsViews};
+ghost use Rattle.snl_scope.specs.View.{view};
 ghost use Rattle.snl_session.specs.Entries.{entry_by};
 ghost use Rattle.snl_session.specs.Parts.{IsPart, spelled_part};
 ghost use Rattle.snl_session.specs.Rechecked.{made_at, made_checks, made_for, nones, number_before, put, sees_as_before};
@@ -17,7 +19,9 @@ use snl_check::{Checked, check_item};
 use snl_cut::{Count, OutOfMemory};
 use snl_lex::Piece;
 use snl_lists::Ordered;
-use snl_scope::{Links, Summary, same_spelling_same_summary, same_view, views_told_apart};
+use snl_scope::{
+    EditedNames, Links, Summary, same_spelling_same_summary, same_view, views_told_apart,
+};
 use sqlite_items::Boxed;
 use std::alloc::Global;
 
@@ -30,12 +34,14 @@ pub struct KeptItems {
     pub back: usize,
 }
 
-/// What names mean before an edit and after it, whether that is known to be the same, and which items are kept.
+/// What names mean before an edit and after it, whether that is known to be the same, the names that its items speak of, if these are
+/// few, and which items are kept.
 #[derive(Clone, Copy)]
-pub struct Relinked<'a> {
+pub struct Relinked<'a, 'e> {
     pub before: &'a Links,
     pub after: &'a Links,
     pub keeps_names: bool,
+    pub edited: &'a Option<EditedNames<'e>>,
     pub kept: KeptItems,
 }
 
@@ -63,16 +69,34 @@ impl KeptItems {
     }
 }
 
+impl Relinked<'_, '_> {
+    // Whether an item that keeps its number is known to see what it saw: it uses no name of the items of the edit.
+    fn is_known_to_keep(self, summary: &Summary) -> bool
+        requires names { IsTrue self.keeps_names → self.before.now.outlines ≡ self.after.now.outlines }
+        requires edited { IfSome self.edited.now (KeepsViews self.before.now.outlines self.after.now.outlines) }
+        ensures { IsTrue result → (i : ℕ) → view self.entry.before.now.outlines i summary.now ≡ view self.entry.after.now.outlines i summary.now }
+    {
+        if self.keeps_names {
+            return true;
+        }
+        match self.edited {
+            Some(names) => !names.touch(summary),
+            None => false,
+        }
+    }
+}
+
 // Whether an item sees of the others what it saw before the edit. A fresh one saw nothing.
 fn sees_as_before(relinked: Relinked, item: usize, summary: &Summary) -> bool
     requires few { (item - relinked.kept.stop) + relinked.kept.back < 2 ^ 64 }
     requires names { IsTrue relinked.keeps_names → relinked.before.now.outlines ≡ relinked.after.now.outlines }
+    requires edited { IfSome relinked.edited.now (KeepsViews relinked.before.now.outlines relinked.after.now.outlines) }
     ensures { result ≡ sees_as_before relinked.entry.before.now.outlines (number_before relinked.entry.kept item) relinked.entry.after.now.outlines item summary.now }
 {
     views_told_apart();
     match relinked.kept.number_before(item) {
         Some(number) => {
-            relinked.keeps_names && number == item
+            number == item && relinked.is_known_to_keep(summary)
                 || same_view(relinked.before, number, relinked.after, item, summary)
         }
         None => false,
@@ -93,6 +117,7 @@ fn check_anew(
     requires entry { entry.now ≡ entry_by (spelled text.now own.now) }
     requires few { (item - relinked.kept.stop) + relinked.kept.back < 2 ^ 64 }
     requires names { IsTrue relinked.keeps_names → relinked.before.now.outlines ≡ relinked.after.now.outlines }
+    requires edited { IfSome relinked.edited.now (KeepsViews relinked.before.now.outlines relinked.after.now.outlines) }
     ensures made { IfOk result (λ c. made_at item c ≡ made_for relinked.entry.before.now.outlines relinked.entry.after.now.outlines relinked.entry.kept (item, spelled text.now own.now)) }
     ensures ticks { IfOk result (λ c. work.new ≡ after_ticks work.old (length (made_at item c))) }
 {
@@ -138,6 +163,7 @@ pub fn recheck(
     requires parts { All (IsPart text.now tokens.now) parts.now }
     requires few { (length parts.now - relinked.kept.stop) + relinked.kept.back < 2 ^ 64 }
     requires names { IsTrue relinked.keeps_names → relinked.before.now.outlines ≡ relinked.after.now.outlines }
+    requires edited { IfSome relinked.edited.now (KeepsViews relinked.before.now.outlines relinked.after.now.outlines) }
     ensures made { IfOk result (λ made. made.items ≡ made_checks relinked.entry.before.now.outlines relinked.entry.after.now.outlines relinked.entry.kept (map (spelled_part text.now tokens.now) parts.now)) }
     ensures ticks { IfOk result (λ made. work.new ≡ after_ticks work.old (length made.items)) }
 {

@@ -20,6 +20,7 @@ use crate::entries::Entry;
 use crate::found::judge::{Judgement, Told, judged, told_in};
 use crate::found::program::{CutText, Part, items_end_in_order, parts_along};
 use crate::lists::{Lists, Rechecked};
+use crate::ways::edited::edited_names;
 use crate::ways::plan::Changes;
 use crate::ways::recheck::{KeptItems, Relinked, checks_in, recheck, vacant_for};
 use crate::ways::relink::relink;
@@ -61,14 +62,14 @@ fn kept_items(old_count: usize, items: &ItemChange, count: usize) -> KeptItems
 }
 
 // What an edit makes of the links and the checks of a text that has these items. Each check that is made is one tick.
-fn recheck_after(
+fn recheck_after<'a>(
     alloc: Global,
-    lists: &Lists,
+    lists: &'a Lists,
     edit: &TextEdit,
     changes: &Changes,
     tokens: &[Piece],
     parts: &[Part],
-    made: &[Boxed<Entry>],
+    made: &'a [Boxed<Entry>],
     work: &mut Count,
 ) -> Result<Rechecked, OutOfMemory>
     requires lists { IsListed edit.now.old.now lists.now }
@@ -89,10 +90,12 @@ fn recheck_after(
     let kept = kept_items(lists.checks.len(), &changes.items, parts.len());
     let links = relink(alloc, lists, edit, changes, tokens, parts, made)?;
     let vacant = vacant_for(alloc, &changes.items.made)?;
+    let edited = edited_names(alloc, lists, edit, changes, made)?;
     let relinked = Relinked {
         before: &lists.links,
         after: links.after(&lists.links),
         keeps_names: links.keeps_names(),
+        edited: &edited,
         kept,
     };
     let made = recheck(alloc, edit.text, tokens, parts, relinked, work)?;

@@ -8,8 +8,8 @@ use snl_cut::OutOfMemory;
 use snl_lists::Ordered;
 use std::alloc::Global;
 
-// Adds the values from one number up to another.
-fn add_kept<'a, T>(
+/// Adds the values from one number up to another.
+pub fn add_kept<'a, T>(
     kept: &'a Ordered<T>,
     from: usize,
     to: usize,
@@ -27,8 +27,8 @@ fn add_kept<'a, T>(
     Ok(())
 }
 
-// Adds values that were made.
-fn add_made<'a, T>(made: &'a [T], values: &mut Vec<&'a T>) -> Result<(), OutOfMemory>
+/// Adds values that were made.
+pub fn add_made<'a, T>(made: &'a [T], values: &mut Vec<&'a T>) -> Result<(), OutOfMemory>
     ensures { OnOk result (map (λ v. v.now) values.new.items ≡ map (λ v. v.now) values.old.items ++ made.now) }
 {
     for value in made {

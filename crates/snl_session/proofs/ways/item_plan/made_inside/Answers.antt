@@ -3,23 +3,33 @@ use Rattle.snl_lex.specs.declared.piece.Piece.{Piece}
 use Rattle.snl_lex.specs.declared.shift.Shift.{Shift}
 use Rattle.snl_lex.specs.PieceList.{spelled}
 use Rattle.snl_lex.specs.Pieces.{LiesIn}
-use Rattle.snl_items.specs.Changes.{IsShiftOf}
+use Rattle.snl_scope.specs.Linked.{faults_of}
 use Rattle.snl_scope.specs.declared.summaries.summary.Outline.{Outline}
-use Rattle.snl_tables.specs.declared.rows.Tables.{Tables}
 use Rattle.snl_tables.specs.Shifted.{shifted_tables}
 use Rattle.snl_check.specs.declared.rules.findings.Checked.{Checked}
-use Rattle.snl_check.specs.ShiftedAround.{SaysAlike}
-use Rattle.snl_session.specs.Checks.{check_by, outlines_in}
+use Rattle.snl_session.specs.declared.ways.row_change.RowChange.{RowChange}
+use Rattle.snl_session.specs.Checks.{check_by, links_in, outlines_in}
 use Rattle.snl_session.specs.Entries.{entry_by}
-use Rattle.snl_session.specs.ItemPlan.{IsAfterInside, IsStateAlike, own_item}
-use Rattle.snl_session.specs.ReplacedItem.{own_check, own_head, own_tokens}
-use Rattle.snl_session.specs.OwnRows.{row_told, with_row}
-use Rattle.snl_session.specs.Program.{program_item}
+use Rattle.snl_session.specs.ItemPlan.{IsAfterInside, own_item}
+use Rattle.snl_session.specs.ReplacedItem.{own_check, own_tokens}
+use Rattle.snl_session.specs.OwnRows.{change_told, with_row}
+use Rattle.snl_session.specs.Program.{items_of, program_item}
 use Rattle.snl_session.specs.Rechecked.{AreChecksMade, made_at, nones}
 use Rattle.snl_session.specs.Tables.{tables_in}
-use Rattle.snl_session.proofs.InsideMade.{after_any, check_got, diagnostics_after, entry_got, is_inside, is_there, says_alike}
+use Rattle.snl_session.proofs.InsideMade.{check_got, diagnostics_after, entry_got, is_there, says_alike, sound_alike}
+use Rattle.snl_session.proofs.MadeRows.{after_any, faults_stay, in_place, items_after, links_after}
 use Rattle.snl_session.proofs.OneItem.{own_lie, own_some}
+use Rattle.snl_session.proofs.TextSpans.{items_are_read}
 use Rattle.snl_session.proofs.ways.item_plan.made_inside.Goals as goal
+
+pub replaces_inside-requires-clause-shift : goal.replaces_inside-requires-clause-shift
+replaces_inside-requires-clause-shift c = record {
+  start_is = c.of-shift.ensures.start;
+  old_stop_is = c.of-shift.ensures.old_stop;
+  new_stop_is = c.of-shift.ensures.new_stop;
+  old_lines_are = c.of-shift.ensures.old_lines;
+  new_lines_are = c.of-shift.ensures.new_lines;
+}
 
 pub own_check-requires-clause-within : goal.own_check-requires-clause-within
 own_check-requires-clause-within c =
@@ -58,10 +68,21 @@ own_diagnostics-requires-clause-within c =
     let text = c.args.edit.now.text.now in
     subst (All (LiesIn text)) (sym c.requires.own.is) (own_lie text c.args.changes.now.items.kept_front (c.text_in_pieces.ensures.inside text))
 
-pub own_row-requires-clause-within : goal.own_row-requires-clause-within
-own_row-requires-clause-within c =
+pub own_change-requires-clause-within : goal.own_change-requires-clause-within
+own_change-requires-clause-within c =
     let text = c.args.edit.now.text.now in
     subst (All (LiesIn text)) (sym (c.deref-2.ensures.value ∙ c.requires.own.is)) (own_lie text c.args.changes.now.items.kept_front (c.text_in_pieces.ensures.inside text))
+
+pub own_change-requires-clause-items : goal.own_change-requires-clause-items
+own_change-requires-clause-items c =
+    let edit = c.args.edit.now in
+    items_after edit.old.now edit.text.now c.args.changes.now c.args.lists.now c.args.made.now c.requires.lists c.requires.one c.requires.alone c.replaces_inside.ensures.replaced.inside.outlines
+
+pub own_change-requires-clause-place : goal.own_change-requires-clause-place
+own_change-requires-clause-place c =
+    let edit = c.args.edit.now in
+    in_place edit.old.now edit.text.now edit.start edit.old_stop edit.new_stop c.args.changes.now c.of-shift.result c.args.was.entry.now c.args.made.now c.replaces_inside.ensures.replaced
+    (items_are_read edit.old.now (c.text_in_pieces.ensures.inside edit.old.now)) c.deref-2.result.now (c.deref-2.ensures.value ∙ c.requires.own.is)
 
 pub returns-clause-inside : goal.returns-clause-inside
 returns-clause-inside c =
@@ -71,36 +92,37 @@ returns-clause-inside c =
     let changes = c.args.changes.now in
     let k : ℕ = changes.items.kept_front in
     let own = c.args.own.now in
-    let links = c.args.lists.now.links in
+    let before = c.args.lists.now.links in
     let s : Shift = c.of-shift.result in
-    let by : IsShiftOf old text edit.start edit.old_stop edit.new_stop s = record {
-      start_is = c.of-shift.ensures.start;
-      old_stop_is = c.of-shift.ensures.old_stop;
-      new_stop_is = c.of-shift.ensures.new_stop;
-      old_lines_are = c.of-shift.ensures.old_lines;
-      new_lines_are = c.of-shift.ensures.new_lines;
-    } in
     let there = is_there old changes c.requires.one in
     let w = c.args.was in
     let e = c.args.made.now in
-    let inside = is_inside old text edit.start edit.old_stop edit.new_stop changes s w e c.requires.changes edit.edit by edit.short.0 edit.short.1 c.requires.one c.requires.was c.requires.alone c.requires.says in
-    let state = c.one_item_replaced.ensures old text edit.start edit.old_stop edit.new_stop changes s w.entry.now e inside in
-    let alike : (n : ℕ) → IsStateAlike old text k own w e n → SaysAlike old text (own_item old k) (own_item text k) = λ n fits. says_alike c.outcome_told.ensures.tree c.same_spelling_same_tree.ensures.by_spelling c.same_spelling_same_summary.ensures.summary_by_spelling c.same_spelling_same_summary.ensures.bytes_by_spelling old text (own_head old changes) k n own w e there c.requires.was c.requires.own c.requires.made c.requires.says fits in
-    let rows : Tables = with_row (shifted_tables s (tables_in old)) (row_told text (outlines_in old) k (own_item text k) c.args.set) in
-    let after : IsAfterInside old text s k rows = after_any old text s k own w e c.args.set c.requires.row
-    (λ n fits. c.edit_inside_a_state.ensures old text edit.start edit.old_stop edit.new_stop changes s w.entry.now e n inside (alike n fits) c.requires.says.spared fits.named fits.placed)
-    (λ unnamed. c.edit_around_an_item.ensures old text edit.start edit.old_stop edit.new_stop changes s w.entry.now e inside c.requires.says.spared unnamed) in
-    let outlines : links.outlines ≡ outlines_in old = ap (λ l. l.outlines) c.requires.lists.links in
+    let inside = c.replaces_inside.ensures.inside in
+    let one = c.replaces_inside.ensures.replaced in
+    let spared = c.requires.says.spared in
+    let faults : faults_of (links_in text) ≡ faults_of (links_in old) =
+    faults_stay old text edit.start edit.old_stop edit.new_stop changes s w.entry.now e one before c.requires.lists.links c.args.links c.requires.links in
+    let change : RowChange = change_told text (items_of text) (outlines_in old) k (own_item text k) c.args.touched in
+    let after : IsAfterInside old text s k change = after_any old text s k own w e c.args.touched c.requires.row
+    (sound_alike c.outcome_told.ensures.tree c.same_spelling_same_tree.ensures.by_spelling c.same_spelling_same_summary.ensures.summary_by_spelling c.same_spelling_same_summary.ensures.bytes_by_spelling old text k own w e there c.requires.was c.requires.own c.requires.made)
+    (λ n fits. says_alike c.outcome_told.ensures.tree c.same_spelling_same_tree.ensures.by_spelling c.same_spelling_same_summary.ensures.summary_by_spelling c.same_spelling_same_summary.ensures.bytes_by_spelling old text k n own w e there c.requires.was c.requires.own c.requires.made fits)
+    (λ nowhere. c.edit_outside_the_sets.ensures old text edit.start edit.old_stop edit.new_stop changes s w.entry.now e inside spared faults nowhere)
+    (λ unnamed sound. c.edit_around_an_item.ensures old text edit.start edit.old_stop edit.new_stop changes s w.entry.now e inside spared faults unnamed sound)
+    (λ n named placed alike. c.edit_inside_a_state.ensures old text edit.start edit.old_stop edit.new_stop changes s w.entry.now e n inside spared faults named placed alike)
+    (λ n named placed. c.edit_around_a_state.ensures old text edit.start edit.old_stop edit.new_stop changes s w.entry.now e n inside spared faults named placed)
+    (λ n unnamed placed. c.edit_in_a_set.ensures old text edit.start edit.old_stop edit.new_stop changes s w.entry.now e n inside spared faults unnamed placed) in
+    let outlines : before.outlines ≡ outlines_in old = ap (λ l. l.outlines) c.requires.lists.links in
     let tokens : c.deref.result.now ≡ own_tokens text k = c.deref.ensures.value ∙ c.requires.own.is in
     let check : c.in_ok-check.check ≡ own_check old text k = c.in_ok-check.ensures.check ∙ ap₂ (λ (os : List Outline) (ts : List Piece). check_by os k (spelled text ts)) outlines tokens in
     let tokens_again : c.deref-2.result.now ≡ own_tokens text k = c.deref-2.ensures.value ∙ c.requires.own.is in
-    let row : c.in_ok-row.row ≡ row_told text (outlines_in old) k (own_item text k) c.args.set =
-    c.in_ok-row.ensures ∙ ap₂ (λ (os : List Outline) (ts : List Piece). row_told text os k (program_item text ts) c.args.set) outlines tokens_again in
+    let told : c.in_ok-change.change ≡ change =
+    c.in_ok-change.ensures ∙ ap₂ (λ (os : List Outline) (ts : List Piece). change_told text (items_of text) os k (program_item text ts) c.args.touched) outlines tokens_again in
     record {
-      links = after.links;
+      links = links_after old text edit.start edit.old_stop edit.new_stop changes s w.entry.now e one before c.requires.lists.links c.args.links c.requires.links;
       warns = after.warns;
-      checks = subst (λ (o : Option Checked). AreChecksMade old text k (nones changes.items.made.items) changes.items.kept_back (made_at k o)) (sym check) state.checks;
-      stirred = state.stirred ∙ ap (λ (o : Option Checked). length (made_at k o)) (sym check);
-      diagnostics = c.in_ok-diagnostics.ensures ∙ diagnostics_after old text s k rows own links.outlines c.args.lists.now.warns c.args.found.now after c.requires.own outlines c.requires.lists.warns c.requires.found;
-      tables = after.tables ∙ ap (with_row (shifted_tables s (tables_in old))) (sym row);
+      checks = subst (λ (o : Option Checked). AreChecksMade old text k (nones changes.items.made.items) changes.items.kept_back (made_at k o)) (sym check) one.checks;
+      stirred = one.stirred ∙ ap (λ (o : Option Checked). length (made_at k o)) (sym check);
+      diagnostics = c.in_ok-diagnostics.ensures
+          ∙ diagnostics_after old text s k c.in_ok-change.change own before.outlines c.args.lists.now.warns c.args.tables.now c.args.found.now (subst (IsAfterInside old text s k) (sym told) after) c.requires.own outlines c.requires.lists.warns c.requires.tables c.requires.found;
+      tables = after.tables ∙ ap (with_row (shifted_tables s (tables_in old))) (sym told);
     }

@@ -1,4 +1,4 @@
-use Rattle.std.proofs.Common.{arith, ◌≡◌, ℕ, ◌+◌, ◌-◌, List, length, map, take, Option, ap, sym, subst, ◌∙◌}
+use Rattle.std.proofs.Common.{arith, ◌≡◌, ℕ, ◌+◌, ◌-◌, List, length, map, take, IfSome, Option, ap, sym, subst, ◌∙◌}
 use Rattle.std.specs.List.{All}
 use Rattle.std.proofs.lemmas.List.Elements.{All-filter}
 use Rattle.snl_cut.specs.Cut.{ends_below, last_end}
@@ -6,6 +6,7 @@ use Rattle.snl_lex.specs.declared.piece.Piece.{Piece}
 use Rattle.snl_lex.specs.Pieces.{LiesIn, is_token, pieces_of}
 use Rattle.snl_items.specs.Items.{item_ends, marks_of, spelled_items}
 use Rattle.snl_scope.specs.LinkedItems.{LinkedItems}
+use Rattle.snl_scope.specs.Spoken.{KeepsViews}
 use Rattle.snl_scope.specs.declared.summaries.summary.Outline.{Outline}
 use Rattle.snl_check.specs.declared.rules.findings.Checked.{Checked}
 use Rattle.snl_session.specs.declared.found.program.Part.{Part}
@@ -52,6 +53,14 @@ recheck-requires-clause-few c =
     let stop : c.kept_items-kept.result.stop ≡ items.kept_front + length items.made.items = ap (λ k. k.stop) c.kept_items-kept.ensures in
     let back : c.kept_items-kept.result.back ≡ c.len.result - items.kept_back = ap (λ k. k.back) c.kept_items-kept.ensures in
     omega (arith, stop, back, c.len.ensures, parts_count text c.args.tokens.now c.args.parts.now c.requires.items, all, ap length c.requires.lists.checks, count_of_checks old, change.order)
+
+pub recheck-requires-clause-edited : goal.recheck-requires-clause-edited
+recheck-requires-clause-edited c =
+    let old = c.args.edit.now.old.now in
+    let after : c.after.result.now.outlines ≡ outlines_in c.args.edit.now.text.now = c.after.ensures ∙ ap (λ (l : LinkedItems). (links_now l c.in_ok-links.links).outlines) c.requires.lists.links ∙ ap (λ (l : LinkedItems). l.outlines) c.in_ok-links.ensures.are in
+    let before : c.args.lists.now.links.outlines ≡ outlines_in old = ap (λ (l : LinkedItems). l.outlines) c.requires.lists.links in
+    subst (λ (l : List Outline). IfSome c.in_ok-edited.edited (KeepsViews l c.after.result.now.outlines)) (sym before)
+    (subst (λ (l : List Outline). IfSome c.in_ok-edited.edited (KeepsViews (outlines_in old) l)) (sym after) c.in_ok-edited.ensures)
 
 -- so much is made for these links, items and tokens
 made_for_text : (old text : List ℕ) (tokens : List Piece) (parts : List Part) (ss ts : List Outline) (kept : KeptItems) (many front : ℕ) (made : List ℕ) (back : ℕ) (checks : List MadeCheck)

@@ -1,7 +1,7 @@
 use Rattle.std.proofs.Common.{All, sym, subst}
 use Rattle.snl_lex.specs.Pieces.{LiesIn}
 use Rattle.snl_session.proofs.OneItem.{own_lie}
-use Rattle.snl_session.proofs.ways.item_plan.set_of_row.Goals as goal
+use Rattle.snl_session.proofs.ways.item_plan.touched_by.Goals as goal
 
 pub says_alike-requires-clause-was_within : goal.says_alike-requires-clause-was_within
 says_alike-requires-clause-was_within c =
