@@ -57,7 +57,7 @@ refused old new start stop added work r same h = by_refusal (refusal_of old star
 
 -- ---- the first edit, which puts the source into the empty text
 
-abbrev version_with : (text : List ℕ) (work : Work) → Version
+abbrev pub version_with : (text : List ℕ) (work : Work) → Version
 version_with text work = record { text = text; work = work }
 
 pub begun : (source old new : List ℕ) (work : Work) → old ≡ [] → new ≡ spliced old 0 0 source → work ≡ work_of old 0 0 source → version_with new work ≡ first_version source

@@ -7,6 +7,7 @@ pub mod Clauses
 pub mod Claims
 pub mod Channels
 pub mod Flags
+pub mod HeldNames
 pub mod Linked
 pub mod View
 pub mod Spoken

@@ -1,7 +1,7 @@
 -- How the tables that links are made of follow the list of summaries.
 use Rattle.std.specs.Prelude.{◌≡◌, ℕ, zero, suc, ◌<◌, ◌≤◌, Bool, true, false, not, ◌&&◌, ◌||◌, if◌then◌else◌, List, [], ◌∷◌, ◌++◌, map, length, get_or, set, slice_get, nat_eq, nat_lt, bytes_eq, position, Option, None, Some, is_some, is_none, option_and_then}
 use Rattle.std.specs.Map.{lookup}
-use Rattle.std.specs.Option.{option_map_or}
+use Rattle.std.specs.Option.{option_map_or, option_or}
 use Rattle.snl_scope.specs.declared.facts.LinkFault.{LinkFault}
 use Rattle.snl_scope.specs.declared.items.heads.Head.{Head}
 use Rattle.snl_scope.specs.declared.items.phases.Before.{Before}
@@ -9,6 +9,7 @@ use Rattle.snl_scope.specs.declared.items.heads.Member.{Member}
 use Rattle.snl_scope.specs.declared.items.heads.Member.TheVariants as member
 use Rattle.snl_scope.specs.declared.names.namespaces.Key.{Key}
 use Rattle.snl_scope.specs.declared.names.namespaces.Namespace.{Namespace}
+use Rattle.snl_scope.specs.declared.names.namespaces.Namespace.TheVariants as namespace
 use Rattle.snl_scope.specs.declared.summaries.summary.ItemKind.{ItemKind}
 use Rattle.snl_scope.specs.declared.summaries.summary.Opening.{Opening}
 use Rattle.snl_scope.specs.declared.summaries.summary.Outline.{Outline}
@@ -105,6 +106,11 @@ same_key a b = same_namespace a.namespace b.namespace && nat_eq a.name b.name
 -- What the tables have for a name in a namespace.
 abbrev pub number_under : List (Key × ℕ) → Namespace → ℕ → Option ℕ
 number_under first s n = lookup (same_key (record { namespace = s; name = n })) first
+
+-- The same in the state set that is around it, or else in the program.
+abbrev pub nearest_under : List (Key × ℕ) → Option ℕ → ℕ → Option ℕ
+nearest_under first None name = number_under first namespace.Program name
+nearest_under first (Some k) name = option_or (number_under first (namespace.StateSet k) name) (number_under first namespace.Program name)
 
 abbrev pub number_by : List (List ℕ) → List (Key × ℕ) → Namespace → List ℕ → Option ℕ
 number_by names first s name = option_and_then (number_under first s) (position (bytes_eq name) names)

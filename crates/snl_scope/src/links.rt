@@ -301,18 +301,20 @@ pub fn link(alloc: Global, summaries: &[&Summary]) -> Result<Links, OutOfMemory>
 {
     let kinds = kinds_of(alloc, summaries)?;
     let outlines = outlines_of(alloc, summaries)?;
+    let names = linked_names(alloc, &outlines)?;
+    let made = linked_clauses(alloc, &names.scopes, &outlines)?;
+    let faults = all_faults(alloc, &names.scopes, &kinds, &names.repeated, &made.faults)?;
     let LinkedNames {
         scopes,
         flags,
         repeated,
-    } = linked_names(alloc, &outlines)?;
+    } = names;
     let LinkedClauses {
         clauses,
         claims,
         assigned,
         faults: at_clauses,
-    } = linked_clauses(alloc, &scopes, &outlines)?;
-    let faults = all_faults(alloc, &scopes, &kinds, &repeated, &at_clauses)?;
+    } = made;
     Ok(Links {
         scopes,
         kinds,

@@ -6,10 +6,11 @@ use Rattle.std.specs.declared.cmp.Ordering.{Ordering}
 use Rattle.snl_walk.specs.Codes.{name_of}
 use Rattle.snl_session.specs.declared.found.findings.Finding.{Finding}
 
+abbrev pub order_by_code : Finding → Finding → Ordering
+order_by_code x y = ordering_then (slice_cmp nat_cmp (name_of x.code) (name_of y.code)) (nat_cmp x.subject y.subject)
+
 abbrev pub order_of : Finding → Finding → Ordering
-order_of x y =
-    ordering_then (nat_cmp x.offset y.offset)
-    (ordering_then (slice_cmp nat_cmp (name_of x.code) (name_of y.code)) (nat_cmp x.subject y.subject))
+order_of x y = ordering_then (nat_cmp x.offset y.offset) (order_by_code x y)
 
 abbrev pub goes_before : Finding → Finding → Bool
 goes_before x y = is_lt (order_of x y)

@@ -1,5 +1,5 @@
 -- What an edit makes of what a session keeps of its text.
-use Rattle.std.specs.Prelude.{◌≡◌, ℕ, ◌-◌, IfSome, List, ◌++◌, length, take, drop}
+use Rattle.std.specs.Prelude.{◌≡◌, ℕ, ◌-◌, ◌≤◌, IfSome, List, ◌++◌, length, take, drop}
 use Rattle.snl_lex.specs.LineList.{IsLineList}
 use Rattle.snl_lex.specs.PieceList.{IsChange}
 use Rattle.snl_items.specs.declared.item_list.ItemChange.{ItemChange}
@@ -18,9 +18,10 @@ use Rattle.snl_session.specs.declared.ways.shift.ShortWay.{ShortWay}
 use Rattle.snl_session.specs.declared.ways.plan.WholeWay.{WholeWay}
 use Rattle.snl_session.specs.declared.ways.planning.Plan.{Plan}
 use Rattle.snl_session.specs.declared.ways.planning.Plan.TheVariants as plan
-use Rattle.snl_session.specs.Diagnostics.{diagnostics_of}
+use Rattle.snl_session.specs.Diagnostics.{diagnostics_of, shown}
 use Rattle.snl_session.specs.Entries.{entries_of}
 use Rattle.snl_session.specs.Kept.{HasRoomFor, HasRoomForPlaces}
+use Rattle.snl_session.specs.Order.{in_order}
 use Rattle.snl_session.specs.OwnRows.{with_row}
 use Rattle.snl_session.specs.Rechecked.{AreChecksMade}
 use Rattle.snl_session.specs.Relinked.{AreLinks}
@@ -70,7 +71,7 @@ pub record IsShortWay (old text : List ℕ) (start old_stop new_stop : ℕ) (way
 -- What is made anew of a text, where an edit makes so much of the items.
 pub record IsAnew (old text : List ℕ) (start old_stop new_stop : ℕ) (items : ItemChange) (anew : Anew) : Type 0 where
   pub remade : IsRemade old text items.kept_front items.kept_back anew.remade
-  pub diagnostics : anew.diagnostics.items ≡ diagnostics_of text
+  pub findings : anew.findings.items ≡ in_order (shown text)
   pub tables : anew.tables ≡ tables_in text
   pub cost : IsCost old text start old_stop new_stop anew.work
 
@@ -79,7 +80,7 @@ pub record IsWholeWay (old text : List ℕ) (start old_stop new_stop : ℕ) (way
   pub changes : IsChanged old text start old_stop new_stop way.changes
   pub lines : IsLineList text way.lines.ends.items way.lines.markers.items way.lines.naming.items
   pub remade : IsRemade old text way.changes.items.kept_front way.changes.items.kept_back way.remade
-  pub diagnostics : way.diagnostics.items ≡ diagnostics_of text
+  pub findings : way.findings.items ≡ in_order (shown text)
   pub tables : way.tables ≡ tables_in text
   pub cost : IsCost old text start old_stop new_stop way.work
 
@@ -98,11 +99,16 @@ IsPlan old text start old_stop new_stop (plan.Short way) = IsShortWay old text s
 IsPlan old text start old_stop new_stop (plan.Item way) = IsItemWay old text start old_stop new_stop way
 IsPlan old text start old_stop new_stop (plan.Whole way) = IsWholeWay old text start old_stop new_stop way
 
--- There is room for what it makes.
-abbrev pub HasRoom : Lists → Plan → Type 0
-HasRoom l (plan.Short way) = HasRoomForPlaces l way.changes
-HasRoom l (plan.Item way) = HasRoomFor l way.changes way.remade
-HasRoom l (plan.Whole way) = HasRoomFor l way.changes way.remade
+-- There is room for what the whole way makes, where so many diagnostics have room.
+pub record HasRoomForAll (l : Lists) (capacity : ℕ) (way : WholeWay) : Type 0 where
+  pub lists : HasRoomFor l way.changes way.remade
+  pub findings : length way.findings.items ≤ capacity
+
+-- There is room for what the plan makes.
+abbrev pub HasRoom : Lists → ℕ → Plan → Type 0
+HasRoom l capacity (plan.Short way) = HasRoomForPlaces l way.changes
+HasRoom l capacity (plan.Item way) = HasRoomFor l way.changes way.remade
+HasRoom l capacity (plan.Whole way) = HasRoomForAll l capacity way
 
 abbrev pub work_of : Plan → Work
 work_of (plan.Short way) = way.work

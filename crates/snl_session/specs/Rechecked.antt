@@ -33,6 +33,10 @@ abbrev pub is_rechecked : List Outline → List Outline → KeptItems → ℕ ×
 is_rechecked ss ts kept (i, tokens) =
     is_some (sound_tree (parsed_by tokens)) && not (sees_as_before ss (number_before kept i) ts i (entry_by tokens).summary)
 
+-- What the check of an item gives in which nothing is found.
+abbrev pub clean_check : Checked
+clean_check = record { faults = []; wake_uses = []; target_uses = [] }
+
 -- A check of item i, if one is made.
 abbrev pub made_at : ℕ → Option Checked → List MadeCheck
 made_at i None = []

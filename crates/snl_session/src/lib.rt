@@ -13,6 +13,7 @@ mod found;
 mod laws;
 mod lists;
 mod sessions;
+mod shared;
 mod ways;
 
 pub use edits::{Refused, Work};

@@ -8,6 +8,7 @@ ghost use Rattle.snl_session.specs.Kept.{ArePlaces, HasRoomFor, HasRoomForPlaces
 ghost use Rattle.snl_session.specs.Planned.{IsChanged, IsRemade};
 
 use crate::entries::Entry;
+use crate::shared::Shared;
 use crate::ways::plan::Changes;
 use crate::ways::recheck::{MadeCheck, put};
 use crate::ways::relink::NewLinks;
@@ -17,7 +18,6 @@ use snl_items::ItemList;
 use snl_lex::{LineList, PieceList, TextEdit};
 use snl_lists::Ordered;
 use snl_scope::Links;
-use sqlite_items::Boxed;
 
 /// The pieces of a text, its lines, the marks of its tokens, where its items end among them, what is kept of each item, what names mean among
 /// the items, what the check of each item gave, and whether warnings are shown.
@@ -26,9 +26,9 @@ pub struct Lists {
     pub pieces: PieceList,
     pub lines: LineList,
     pub items: ItemList,
-    pub entries: Ordered<Boxed<Entry>>,
+    pub entries: Ordered<Shared<Entry>>,
     pub links: Links,
-    pub checks: Ordered<Option<Boxed<Checked>>>,
+    pub checks: Ordered<Shared<Option<Checked>>>,
     pub warns: bool,
 }
 
@@ -36,7 +36,7 @@ pub struct Lists {
 #[derive(Drop)]
 pub struct Rechecked {
     pub links: NewLinks,
-    pub vacant: Vec<Option<Boxed<Checked>>>,
+    pub vacant: Vec<Shared<Option<Checked>>>,
     pub made: Vec<MadeCheck>,
 }
 
@@ -44,9 +44,9 @@ pub struct Rechecked {
 /// for the checks of the items that are made, the checks, and whether warnings are shown.
 #[derive(Drop)]
 pub struct Remade {
-    pub made: Vec<Boxed<Entry>>,
+    pub made: Vec<Shared<Entry>>,
     pub links: NewLinks,
-    pub vacant: Vec<Option<Boxed<Checked>>>,
+    pub vacant: Vec<Shared<Option<Checked>>>,
     pub checks: Vec<MadeCheck>,
     pub warns: bool,
 }

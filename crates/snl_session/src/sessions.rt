@@ -183,7 +183,7 @@ impl Session {
             new_stop: start + new.len(),
         };
         let plan = plan_of(alloc, &self.lists, &self.tables, &self.found, &edit)?;
-        let plan = plan.with_room_in(&mut self.lists)?;
+        let plan = plan.with_room_in(&mut self.lists, &mut self.found)?;
         let work = plan.work();
         plan.commit(&edit, &mut self.lists, &mut self.found, &mut self.tables);
         self.text = text;

@@ -1,6 +1,6 @@
 //! Reads expressions.
 
-ghost use Rattle.std.specs.Prelude.{◌≡◌, ◌<◌, ◌-◌, ◌++◌, [], ◌∷◌, IfOk, option_to_list};
+ghost use Rattle.std.specs.Prelude.{◌≡◌, ◌<◌, ◌-◌, ◌++◌, [], ◌∷◌, false, IfOk, None, option_to_list, ℕ};
 ghost use Rattle.snl_syntax.specs.Nests.{Nests};
 ghost use Rattle.snl_syntax.specs.Reading.Expressions as spec;
 ghost use Rattle.snl_syntax.specs.Steps as read;
@@ -113,6 +113,16 @@ fn binary_at(kinds: &[Kind], at: usize, wanted: usize) -> Option<Binary>
 {
     let op = binary_of(kind_at(kinds, at)?)?;
     if tier(op) == wanted { Some(op) } else { None }
+}
+
+/// Whether an operator with two operands comes next, of whatever tier.
+fn is_binary_next(kinds: &[Kind], at: usize) -> bool
+    ensures { result ≡ false → (tier : ℕ) → spec.binary_in tier (read.kind_at (ahead kinds.now at)) ≡ None }
+{
+    match kind_at(kinds, at) {
+        Some(kind) => binary_of(kind).is_some(),
+        None => false,
+    }
 }
 
 /// The operator that assigns which comes next.
@@ -630,6 +640,10 @@ impl<F: Fn(Global, &[Kind], usize, usize) -> Result<(Expr, usize), Stop>> Expres
         ensures { Reads kinds.now result (spec.tiers_from (spec.assignx self.now.depth) (spec.type_within self.now.depth) tier first (ahead kinds.now at)) }
     {
         if tier == 0 {
+            return Ok((first, at));
+        }
+        // Most operands are alone: no tier has an operator for them.
+        if !is_binary_next(kinds, at) {
             return Ok((first, at));
         }
         let (first, at) = self.tiers_from(kinds, at, tier - 1, first)?;

@@ -219,6 +219,13 @@ fn for_head(
     for_within(alloc, kinds, at, depth)
 }
 
+// The statement that a condition and a body make.
+fn while_of(alloc: Global, condition: Expr, body: Stmt) -> Result<Stmt, AllocError>
+    ensures { IfOk result (λ s. s ≡ tree.While condition body) }
+{
+    Ok(Stmt::While(condition, Boxed::new(alloc, body)?))
+}
+
 // The statement that a head and a body make.
 fn for_of(alloc: Global, head: ForHead, body: Stmt) -> Result<Stmt, AllocError>
     ensures { IfOk result (λ s. s ≡ tree.For head body) }
@@ -343,7 +350,7 @@ impl<F: Fn(Global, &[Kind], usize, usize) -> Result<(Stmt, usize), Stop>> Statem
         let at = expect(kinds, at, Kind::While)?;
         let (e, at) = condition(self.alloc, kinds, at, self.depth)?;
         let (body, at) = self.body(kinds, at)?;
-        Ok((Stmt::While(e, Boxed::new(self.alloc, body)?), at))
+        Ok((while_of(self.alloc, e, body)?, at))
     }
 
     #[tactic(auto, unfolding(crate::specs::Reading::Statements::for_loop, crate::specs::Steps::and_then))]

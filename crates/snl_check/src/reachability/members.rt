@@ -114,7 +114,7 @@ pub(crate) fn members_of(row_source: &RowSource, set: usize) -> Result<Members, 
         if is_faulty(row_source, item) {
             has_faulty = true;
         }
-        if name_of_state(row_source, item).is_some() {
+        if row_source.links.is_named_state(item) {
             states.push(item)?;
         }
     }

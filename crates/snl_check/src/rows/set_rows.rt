@@ -1,27 +1,13 @@
 //! The rows of state sets: the items of a text come in, a row for each state set goes out.
 
 ghost use Rattle.std.specs.Prelude.{◌≡◌, ◌<◌, IfOk, length};
-ghost use Rattle.snl_scope.specs.Places.{is_set_begin};
-ghost use Rattle.snl_check.specs.Collected.{IsLinked, IsOutline, items_in};
+ghost use Rattle.snl_check.specs.Collected.{IsOutline, items_in};
 ghost use Rattle.snl_check.specs.States.{set_row, set_rows};
 
 use crate::rows::outline::Outline;
-use crate::rows::row_source::RowSource;
 use crate::rows::state_rows::state_rows;
 use snl_cut::OutOfMemory;
-use snl_syntax::tree::item::Item;
 use snl_tables::{Rows, SetRow};
-
-// Whether an item begins a state set.
-fn begins_set(row_source: &RowSource, item: usize) -> bool
-    requires { IsLinked row_source.now }
-    ensures { result ≡ is_set_begin row_source.now.links.now.outlines item }
-{
-    matches!(
-        row_source.program.tree(item),
-        Some(Item::SsBegin { name: _ })
-    )
-}
 
 fn set_row(outline: &Outline, set: usize) -> Result<SetRow, OutOfMemory>
     requires outline { IsOutline outline.now }
@@ -44,7 +30,7 @@ pub(crate) fn set_rows(outline: &Outline) -> Result<Vec<SetRow>, OutOfMemory>
 {
     let mut rows = Vec::new(outline.row_source.program.alloc);
     for item in 0..outline.row_source.program.trees.len() {
-        if begins_set(&outline.row_source, item) {
+        if outline.row_source.links.begins_set(item) {
             rows.push(set_row(outline, item)?)?;
         }
     }

@@ -7,7 +7,7 @@ ghost use Rattle.snl_scope.specs.Places as Places;
 ghost use Rattle.snl_scope.specs.declared.summaries.summary.Outline.{Outline};
 ghost use Rattle.snl_walk.specs.declared.codes.Code.{Code};
 ghost use Rattle.snl_scope.specs.declared.names.namespaces.Namespace.{Namespace};
-ghost use Rattle.snl_scope.specs.NameTables.{Follows, Placed, entry_of, number_by, number_under, symbol_of};
+ghost use Rattle.snl_scope.specs.NameTables.{Follows, Placed, entry_of, nearest_under, number_by, number_under, symbol_of};
 
 use crate::facts::LinkFault;
 use crate::names::name_set::Names;
@@ -69,6 +69,23 @@ pub(crate) fn number_under(
     ensures { result ≡ number_under first.now.entries namespace name }
 {
     first.get(&Key { namespace, name }).copied()
+}
+
+/// The number of the first that came with the name that has this number, in the state set or else in the program.
+pub(crate) fn nearest_under(
+    first: &IndexMap<Key, usize>,
+    enclosing_set: Option<usize>,
+    name: usize,
+) -> Option<usize>
+    ensures { result ≡ nearest_under first.now.entries enclosing_set name }
+{
+    if let Some(set) = enclosing_set {
+        let inside = number_under(first, Namespace::StateSet(set), name);
+        if inside.is_some() {
+            return inside;
+        }
+    }
+    number_under(first, Namespace::Program, name)
 }
 
 /// The number of the first that came with a name in a namespace.

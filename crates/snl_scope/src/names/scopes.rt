@@ -5,7 +5,7 @@ ghost use Rattle.std.specs.Prelude.{◌≡◌};
 use crate::items::heads::{Head, Member, is_member};
 use crate::names::ghost_outlines::GhostOutlines;
 use crate::names::name_set::Names;
-use crate::names::name_tables::{Symbol, number_in, number_under};
+use crate::names::name_tables::{Symbol, nearest_under, number_in, number_under};
 use crate::names::namespaces::{Key, Namespace};
 use crate::summaries::summary::{Role, Variable};
 use indexmap::IndexMap;
@@ -116,25 +116,19 @@ impl Scopes {
     pub(crate) fn resolve(&self, enclosing_set: Option<usize>, name: &[u8]) -> Option<usize>
         ensures { result ≡ resolve (entries self.now) enclosing_set name.now }
     {
-        let name = self.names.number(name)?;
-        if let Some(set) = enclosing_set {
-            let inside = number_under(&self.first, Namespace::StateSet(set), name);
-            if inside.is_some() {
-                return inside;
-            }
-        }
-        number_under(&self.first, Namespace::Program, name)
+        nearest_under(&self.first, enclosing_set, self.names.number(name)?)
     }
 
     /// The number of what a name resolves to that is in an item outside its blocks.
     pub(crate) fn resolve_in(&self, item: usize, name: &[u8]) -> Option<usize>
         ensures { result ≡ resolve_in self.now item name.now }
     {
-        let own = self.number_in(Namespace::State(item), name);
+        let name = self.names.number(name)?;
+        let own = number_under(&self.first, Namespace::State(item), name);
         if own.is_some() {
             return own;
         }
-        self.resolve(self.enclosing_set(item), name)
+        nearest_under(&self.first, self.enclosing_set(item), name)
     }
 
     /// The first state with a name in a state set, by the number of its item.

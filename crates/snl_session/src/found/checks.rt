@@ -11,10 +11,10 @@ ghost use Rattle.snl_session.specs.Parts.{IsPart, item_of_part};
 use crate::found::findings::Finding;
 use crate::found::linked::finding_at;
 use crate::found::program::Part;
+use crate::shared::Shared;
 use snl_check::{Checked, ItemFault, faults_stand_in_tokens};
 use snl_cut::OutOfMemory;
 use snl_lex::Piece;
-use sqlite_items::Boxed;
 
 // A finding of an item, at its byte in its token.
 fn at_own_token(own: &[Piece], fault: ItemFault) -> Finding
@@ -46,14 +46,14 @@ fn add_at_tokens(
 /// Adds what the check of an item has found.
 pub fn add_item(
     own: &[Piece],
-    check: &Option<Boxed<Checked>>,
+    check: &Option<Checked>,
     found: &mut Vec<Finding>,
 ) -> Result<(), OutOfMemory>
     requires { All (HasOffset own.now) (faults_kept check.now) }
     ensures { OnOk result (found.new.items ≡ found.old.items ++ map (at_own_token own.now) (faults_kept check.now)) }
 {
     if let Some(checked) = check {
-        add_at_tokens(own, checked.get().faults.as_slice(), found)?;
+        add_at_tokens(own, checked.faults.as_slice(), found)?;
     }
     Ok(())
 }
@@ -63,7 +63,7 @@ pub fn add_checked_faults(
     text: &[u8],
     tokens: &[Piece],
     parts: &[Part],
-    checks: &[&Option<Boxed<Checked>>],
+    checks: &[&Shared<Option<Checked>>],
     found: &mut Vec<Finding>,
 ) -> Result<(), OutOfMemory>
     requires tokens { All (LiesIn text.now) tokens.now }
@@ -74,7 +74,7 @@ pub fn add_checked_faults(
     faults_stand_in_tokens();
     for (item, part) in parts.iter().enumerate() {
         let own = &tokens[part.start..part.stop];
-        add_item(own, checks[item], found)?;
+        add_item(own, checks[item].get(), found)?;
     }
     Ok(())
 }

@@ -2,7 +2,7 @@
 //! out, and with its lines. It knows nothing of tables.
 #![tactic(auto)]
 
-ghost use Rattle.std.specs.Prelude.{◌≡◌, ◌++◌, All, IfOk, OnOk, map};
+ghost use Rattle.std.specs.Prelude.{◌≡◌, ◌≤◌, ◌++◌, All, IfOk, OnOk, length, map, vec_capacity};
 ghost use Rattle.snl_lex.specs.LineList.{IsLineList};
 ghost use Rattle.snl_scope.specs.Linked.{faults_of};
 ghost use Rattle.snl_session.specs.Diagnostics.{diagnostic, on_line, shown_if};
@@ -68,4 +68,30 @@ pub fn on_lines(
         diagnostics.push(on_line(*finding, lines.line_by(text, finding.offset)))?;
     }
     Ok(diagnostics)
+}
+
+/// Makes room for so many diagnostics in all. An error leaves them as they were.
+pub fn make_room(found: &mut Vec<Diagnostic>, count: usize) -> Result<(), OutOfMemory>
+    ensures found { found.new.items ≡ found.old.items }
+    ensures room { OnOk result (count ≤ vec_capacity found.new) }
+{
+    found.reserve(count.saturating_sub(found.len()))?;
+    Ok(())
+}
+
+/// Puts findings, each with its line, in the place of other diagnostics. There is room for them, so it can't fail.
+pub fn put_on_lines(
+    text: &[u8],
+    lines: &LineList,
+    findings: &[Finding],
+    found: &mut Vec<Diagnostic>,
+)
+    requires lines { IsLineList text.now lines.now.ends.items lines.now.markers.items lines.now.naming.items }
+    requires room { length findings.now ≤ vec_capacity found.old }
+    ensures { found.new.items ≡ map (diagnostic text.now) findings.now }
+{
+    found.clear();
+    for finding in findings {
+        found.push_reserved(on_line(*finding, lines.line_by(text, finding.offset)));
+    }
 }

@@ -11,6 +11,7 @@ ghost use Rattle.snl_check.specs.Tables.{tables_of};
 ghost use Rattle.snl_session.specs.Checks.{checks_of, checks_over, links_in, outlines_in};
 ghost use Rattle.snl_session.specs.Diagnostics.{diagnostics_of, shown};
 ghost use Rattle.snl_session.specs.Linked.{linked_of, outlines_of};
+ghost use Rattle.snl_session.specs.Order.{in_order};
 ghost use Rattle.snl_session.specs.Parts.{IsPart, item_of_part};
 ghost use Rattle.snl_session.specs.Program.{program_item};
 ghost use Rattle.snl_session.specs.Tables.{tables_in};
@@ -24,12 +25,12 @@ use crate::found::program::{CutText, Part, add_faults, items_end_in_order};
 use crate::found::tables::tables_of;
 use crate::found::walked::add_walked_faults;
 use crate::found::warnings::shows_warnings;
+use crate::shared::Shared;
 use snl_check::{Checked, Tables};
 use snl_cut::OutOfMemory;
 use snl_lex::{LineList, text_in_pieces};
 use snl_scope::{LinkFault, Links, same_spelling_same_summary};
 use snl_syntax::{outcome_told, same_spelling_same_tree};
-use sqlite_items::Boxed;
 use std::alloc::Global;
 
 /// What a text is judged to say: its diagnostics, its tables, and whether warnings are shown.
@@ -40,7 +41,7 @@ pub struct Judgement {
     pub warns: bool,
 }
 
-/// The same, with findings that have no order and no lines yet.
+/// The same, with findings that have no lines yet.
 #[derive(Drop)]
 pub struct Told {
     pub shown: Vec<Finding>,
@@ -55,7 +56,7 @@ fn shown_by(
     cut: &CutText,
     parts: &[Part],
     faults: &[LinkFault],
-    checks: &[&Option<Boxed<Checked>>],
+    checks: &[&Shared<Option<Checked>>],
     tables: &Tables,
     warns: bool,
 ) -> Result<Vec<Finding>, OutOfMemory>
@@ -86,7 +87,7 @@ fn told_by(
     parts: &[Part],
     links: &Links,
     faults: &[LinkFault],
-    checks: &[&Option<Boxed<Checked>>],
+    checks: &[&Shared<Option<Checked>>],
 ) -> Result<Told, OutOfMemory>
     requires items { map (item_of_part cut.now.tokens.now) parts.now ≡ map (program_item cut.now.text.now) (members cut.now.tokens.now 0 cut.now.ends.now) }
     requires parts { All (IsPart cut.now.text.now cut.now.tokens.now) parts.now }
@@ -123,7 +124,7 @@ pub fn told_in(
     parts: &[Part],
     links: &Links,
     faults: &[LinkFault],
-    checks: &[&Option<Boxed<Checked>>],
+    checks: &[&Shared<Option<Checked>>],
 ) -> Result<Told, OutOfMemory>
     requires items { map (item_of_part cut.now.tokens.now) parts.now ≡ map (program_item cut.now.text.now) (members cut.now.tokens.now 0 cut.now.ends.now) }
     requires parts { All (IsPart cut.now.text.now cut.now.tokens.now) parts.now }
@@ -140,9 +141,28 @@ pub fn told_in(
     told_by(alloc, cut, parts, links, faults, checks)
 }
 
-/// What a text is judged to say, by what is shown of what is found in it.
+/// The same with the findings in order.
+pub fn in_order(told: Told) -> Result<Told, OutOfMemory>
+    ensures shown { IfOk result (λ t. t.shown.items ≡ in_order told.shown.items) }
+    ensures tables { IfOk result (λ t. t.tables ≡ told.tables) }
+    ensures warns { IfOk result (λ t. t.warns ≡ told.warns) }
+{
+    let Told {
+        mut shown,
+        tables,
+        warns,
+    } = told;
+    sort(&mut shown)?;
+    Ok(Told {
+        shown,
+        tables,
+        warns,
+    })
+}
+
+// What a text is judged to say, by what is shown of what is found in it.
 #[tactic(auto, unfolding(crate::specs::Diagnostics::diagnostics_of))]
-pub fn judged(
+fn judged(
     alloc: Global,
     text: &[u8],
     lines: &LineList,
@@ -155,11 +175,10 @@ pub fn judged(
     ensures warns { IfOk result (λ j. j.warns ≡ told.warns) }
 {
     let Told {
-        mut shown,
+        shown,
         tables,
         warns,
-    } = told;
-    sort(&mut shown)?;
+    } = in_order(told)?;
     Ok(Judgement {
         diagnostics: on_lines(alloc, text, lines, &shown)?,
         tables,
@@ -174,7 +193,7 @@ pub fn judge(
     parts: &[Part],
     links: &Links,
     faults: &[LinkFault],
-    checks: &[&Option<Boxed<Checked>>],
+    checks: &[&Shared<Option<Checked>>],
 ) -> Result<Judgement, OutOfMemory>
     requires items { map (item_of_part cut.now.tokens.now) parts.now ≡ map (program_item cut.now.text.now) (members cut.now.tokens.now 0 cut.now.ends.now) }
     requires parts { All (IsPart cut.now.text.now cut.now.tokens.now) parts.now }

@@ -58,6 +58,7 @@ pub fn add_placed(
     requires { All (IsPart text.now tokens.now) parts.now }
     ensures { OnOk result (found.new.items ≡ found.old.items ++ map (linked_finding (map (item_of_part tokens.now) parts.now)) faults.now) }
 {
+    found.reserve(faults.len())?;
     for fault in faults {
         let token = token_of(text, tokens, parts, fault.item, fault.token);
         found.push(finding_at(fault.code, token))?;

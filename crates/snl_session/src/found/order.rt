@@ -4,21 +4,28 @@
 
 ghost use Rattle.std.specs.Prelude.{◌≡◌, OnOk, map};
 ghost use Rattle.std.specs.List.Sorted.{IsNonDecreasing};
-ghost use Rattle.snl_session.specs.Order.{in_order, order_of};
+ghost use Rattle.snl_session.specs.Order.{in_order, order_by_code, order_of};
 ghost use Rattle.snl_session.specs.OwnFindings.{is_same};
 
 use crate::found::findings::Finding;
 use snl_cut::OutOfMemory;
 use std::cmp::Ordering;
 
+// Which of two findings at one offset comes first.
+fn order_by_code(a: &Finding, b: &Finding) -> Ordering
+    ensures { result ≡ order_by_code a.now b.now }
+{
+    a.code
+        .name()
+        .cmp(b.code.name())
+        .then(a.subject.cmp(&b.subject))
+}
+
 // Which of two findings comes first.
 fn order_of(a: &Finding, b: &Finding) -> Ordering
     ensures { result ≡ order_of a.now b.now }
 {
-    a.offset
-        .cmp(&b.offset)
-        .then(a.code.name().cmp(b.code.name()))
-        .then(a.subject.cmp(&b.subject))
+    a.offset.cmp(&b.offset).then_with(|| order_by_code(a, b))
 }
 
 /// Whether two findings have one offset, one code and one subject.

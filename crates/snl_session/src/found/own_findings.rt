@@ -23,7 +23,6 @@ use snl_cut::OutOfMemory;
 use snl_lex::{Piece, Shift};
 use snl_scope::same_spelling_same_summary;
 use snl_syntax::{Parsed, outcome_told, same_spelling_same_tree};
-use sqlite_items::Boxed;
 use std::alloc::Global;
 
 /// What is found at an item that consists of these tokens: where the parser left it faulty, and by its check.
@@ -32,7 +31,7 @@ pub fn own_findings(
     text: &[u8],
     own: &[Piece],
     parsed: &Parsed,
-    check: &Option<Boxed<Checked>>,
+    check: &Option<Checked>,
 ) -> Result<Vec<Finding>, OutOfMemory>
     requires some { 0 < length own.now }
     requires tokens { All (LiesIn text.now) own.now }

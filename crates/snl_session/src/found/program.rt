@@ -18,11 +18,11 @@ ghost use Rattle.snl_session.specs.Program.{program_item};
 
 use crate::entries::Entry;
 use crate::found::findings::Finding;
+use crate::shared::Shared;
 use snl_cut::{OutOfMemory, one_cut};
 use snl_lex::{LineList, Piece};
 use snl_scope::{Code, same_spelling_same_summary};
 use snl_syntax::{Parsed, Tokens, outcome_told, same_spelling_same_tree};
-use sqlite_items::Boxed;
 use std::alloc::Global;
 
 /// A text as it is cut: its lines, its tokens, where its items end among these, and what is kept of each item.
@@ -32,7 +32,7 @@ pub struct CutText<'a> {
     pub lines: &'a LineList,
     pub tokens: &'a [Piece],
     pub ends: &'a [u32],
-    pub entries: &'a [&'a Boxed<Entry>],
+    pub entries: &'a [&'a Shared<Entry>],
     ghost lines_are: { IsLineList text.now lines.now.ends.items lines.now.markers.items lines.now.naming.items },
     ghost tokens_are: { tokens.now ≡ tokens_of text.now },
     ghost ends_are: { ends.now ≡ item_ends text.now },
@@ -60,7 +60,7 @@ pub fn parts_along<'a>(
     text: &[u8],
     tokens: &[Piece],
     ends: &[u32],
-    entries: &[&'a Boxed<Entry>],
+    entries: &[&'a Shared<Entry>],
 ) -> Result<Vec<Part<'a>>, OutOfMemory>
     requires ends { EndsWithin 0 ends.now (length tokens.now) }
     requires entries { map (λ e. e.now) entries.now ≡ map entry_by (members (spelled text.now tokens.now) 0 ends.now) }

@@ -12,12 +12,12 @@ ghost use Rattle.snl_session.specs.Checks.{checks_over};
 ghost use Rattle.snl_session.specs.Parts.{item_of_part, tree_of_part};
 
 use crate::found::program::Part;
+use crate::shared::Shared;
 use snl_check::{Checked, Tables, tables_by_tokens};
 use snl_cut::OutOfMemory;
 use snl_lex::{LineList, Piece};
 use snl_scope::Links;
 use snl_syntax::tree::item::Item;
-use sqlite_items::Boxed;
 use std::alloc::Global;
 
 // The trees of the items. A faulty one has none.
@@ -32,11 +32,11 @@ fn trees_of<'a>(alloc: Global, parts: &[Part<'a>]) -> Result<Vec<Option<&'a Item
 }
 
 // What the check of an item gave, if it isn't faulty.
-fn told_by<'a>(check: &'a Option<Boxed<Checked>>) -> Option<&'a Checked>
+fn told_by<'a>(check: &'a Option<Checked>) -> Option<&'a Checked>
     ensures { told_seen result ≡ told_kept check.now }
 {
     match check {
-        Some(checked) => Some(checked.get()),
+        Some(checked) => Some(checked),
         None => None,
     }
 }
@@ -44,13 +44,13 @@ fn told_by<'a>(check: &'a Option<Boxed<Checked>>) -> Option<&'a Checked>
 // What the check of each item gave, if it isn't faulty.
 fn told_checks<'a>(
     alloc: Global,
-    checks: &[&'a Option<Boxed<Checked>>],
+    checks: &[&'a Shared<Option<Checked>>],
 ) -> Result<Vec<Option<&'a Checked>>, OutOfMemory>
     ensures { IfOk result (λ told. map told_seen told.items ≡ map told_kept (map (λ c. c.now) checks.now)) }
 {
     let mut told = Vec::with_capacity(alloc, checks.len())?;
     for check in checks {
-        told.push(told_by(check))?;
+        told.push(told_by(check.get()))?;
     }
     Ok(told)
 }
@@ -75,7 +75,7 @@ pub fn tables_of(
     ends: &[u32],
     parts: &[Part],
     links: &Links,
-    checks: &[&Option<Boxed<Checked>>],
+    checks: &[&Shared<Option<Checked>>],
 ) -> Result<Tables, OutOfMemory>
     requires lines { IsLineList text.now lines.now.ends.items lines.now.markers.items lines.now.naming.items }
     requires tokens { tokens.now ≡ tokens_of text.now }

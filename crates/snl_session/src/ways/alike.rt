@@ -15,7 +15,6 @@ use snl_check::{Checked, wakes_alike};
 use snl_cut::OutOfMemory;
 use snl_lex::TextEdit;
 use snl_scope::{ItemKind, Links, NameRef, Outline, same_outline};
-use sqlite_items::Boxed;
 use std::alloc::Global;
 
 fn is_plain(kind: ItemKind) -> bool
@@ -94,9 +93,9 @@ fn same_names(ones: &[NameRef], others: &[NameRef]) -> bool
 const FEW: usize = 16;
 
 /// Whether the check of an item found little.
-pub fn found_little(check: &Option<Boxed<Checked>>) -> bool {
+pub fn found_little(check: &Option<Checked>) -> bool {
     match check {
-        Some(checked) => checked.get().faults.len() <= FEW,
+        Some(checked) => checked.faults.len() <= FEW,
         None => true,
     }
 }
@@ -107,7 +106,7 @@ pub fn says_alike(
     edit: &TextEdit,
     own: &OwnTokens,
     was: &Entry,
-    check: &Option<Boxed<Checked>>,
+    check: &Option<Checked>,
     is: &Entry,
 ) -> Result<bool, OutOfMemory>
     requires was_within { All (LiesIn edit.now.old.now) own.now.was.items }
@@ -124,7 +123,7 @@ pub fn says_alike(
         return Ok(false);
     }
     let uses = match check {
-        Some(checked) => checked.get().wake_uses.as_slice(),
+        Some(checked) => checked.wake_uses.as_slice(),
         None => &[],
     };
     let alike = wakes_alike(

@@ -11,6 +11,7 @@ ghost use Rattle.snl_session.specs.Planned.{AreEntriesMade, IsChanged};
 
 use crate::entries::Entry;
 use crate::lists::Lists;
+use crate::shared::Shared;
 use crate::ways::plan::Changes;
 use crate::ways::values::{add_kept, add_made};
 use snl_cut::OutOfMemory;
@@ -18,7 +19,6 @@ use snl_lex::TextEdit;
 use snl_lists::Ordered;
 use snl_scope::{EditedNames, Outline, same_spelling_same_summary, unspoken_names};
 use snl_syntax::{outcome_told, same_spelling_same_tree};
-use sqlite_items::Boxed;
 use std::alloc::Global;
 
 /// The names of more items than these are many.
@@ -27,7 +27,7 @@ const MANY: usize = 8;
 // What these items say to the others.
 fn outlines_of<'a>(
     alloc: Global,
-    entries: &[&'a Boxed<Entry>],
+    entries: &[&'a Shared<Entry>],
 ) -> Result<Vec<&'a Outline>, OutOfMemory>
     ensures { IfOk result (λ outlines. map (λ s. s.now) outlines.items ≡ outlines_kept (map (λ e. e.now) entries.now)) }
 {
@@ -41,9 +41,9 @@ fn outlines_of<'a>(
 // The names that the items from one number up to another speak of, and those that are made in their place.
 fn edited_between<'a>(
     alloc: Global,
-    entries: &'a Ordered<Boxed<Entry>>,
+    entries: &'a Ordered<Shared<Entry>>,
     front: usize,
-    made: &'a [Boxed<Entry>],
+    made: &'a [Shared<Entry>],
     back: usize,
 ) -> Result<Option<EditedNames<'a>>, OutOfMemory>
     requires order { front ≤ back }
@@ -68,7 +68,7 @@ pub fn edited_names<'a>(
     lists: &'a Lists,
     edit: &TextEdit,
     changes: &Changes,
-    made: &'a [Boxed<Entry>],
+    made: &'a [Shared<Entry>],
 ) -> Result<Option<EditedNames<'a>>, OutOfMemory>
     requires lists { IsListed edit.now.old.now lists.now }
     requires changes { IsChanged edit.now.old.now edit.now.text.now edit.now.start edit.now.old_stop edit.now.new_stop changes.now }

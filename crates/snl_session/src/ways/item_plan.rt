@@ -30,6 +30,7 @@ use crate::laws::inside_laws::{
 };
 use crate::laws::item_laws::one_item_replaced;
 use crate::lists::{Lists, Remade};
+use crate::shared::Shared;
 use crate::ways::alike::{found_little, is_same_kind, says_alike, says_the_same, spares_inside};
 use crate::ways::numbers::{is_named, set_number};
 use crate::ways::one_item::OwnTokens;
@@ -37,7 +38,7 @@ use crate::ways::own_diagnostics::own_diagnostics;
 use crate::ways::own_links::own_links;
 use crate::ways::own_rows::own_change;
 use crate::ways::plan::Changes;
-use crate::ways::recheck::{add_made, vacant_for};
+use crate::ways::recheck::{add_made, clean_check, vacant_for};
 use crate::ways::relink::NewLinks;
 use crate::ways::row_change::{RowChange, Touched};
 use crate::ways::set_findings::few_unreached;
@@ -46,7 +47,6 @@ use snl_cut::{Count, OutOfMemory};
 use snl_lex::{LineList, Piece, Shift, TextEdit, text_in_pieces};
 use snl_scope::{Links, same_spelling_same_summary};
 use snl_syntax::{outcome_told, same_spelling_same_tree};
-use sqlite_items::Boxed;
 use std::alloc::Global;
 
 /// The changes that an edit inside one item makes, the lines of the new text, what is made of all that is kept of the items, the
@@ -66,14 +66,14 @@ pub struct ItemWay {
 #[derive(Clone, Copy)]
 pub struct Was<'a> {
     pub entry: &'a Entry,
-    pub check: &'a Option<Boxed<Checked>>,
+    pub check: &'a Option<Checked>,
 }
 
 /// What an edit makes of an item, besides what is kept of it: its check, if it is sound, the links, the diagnostics of the new text, how the rows are
 /// shifted, and what changes in them.
 #[derive(Drop)]
 pub struct ItemPlan {
-    pub check: Option<Boxed<Checked>>,
+    pub check: Option<Checked>,
     pub links: NewLinks,
     pub diagnostics: Vec<Diagnostic>,
     pub shift: Shift,
@@ -89,7 +89,7 @@ fn own_check(
     links: &Links,
     item: usize,
     work: &mut Count,
-) -> Result<Option<Boxed<Checked>>, OutOfMemory>
+) -> Result<Option<Checked>, OutOfMemory>
     requires within { All (LiesIn text.now) own.now }
     requires entry { entry.now ≡ entry_by (spelled text.now own.now) }
     ensures check { IfOk result (λ c. c ≡ check_by links.now.outlines item (spelled text.now own.now)) }
@@ -99,8 +99,7 @@ fn own_check(
     match entry.parsed.tree() {
         Some(tree) => {
             let checked = check_item(alloc, text, own, tree, links, item, work)?;
-            let kept = Boxed::new(alloc, checked)?;
-            Ok(Some(kept))
+            Ok(Some(checked))
         }
         None => Ok(None),
     }
@@ -188,7 +187,7 @@ fn item_that_was<'a>(lists: &'a Lists, text: &[u8], item: usize) -> Option<Was<'
 {
     Some(Was {
         entry: lists.entries.get(item)?.get(),
-        check: lists.checks.get(item)?,
+        check: lists.checks.get(item)?.get(),
     })
 }
 
@@ -313,7 +312,7 @@ pub fn item_way(
     edit: &TextEdit,
     changes: Changes,
     lines: LineList,
-    made: Vec<Boxed<Entry>>,
+    made: Vec<Shared<Entry>>,
     inside: ItemPlan,
     work: Work,
 ) -> Result<ItemWay, OutOfMemory>
@@ -334,7 +333,8 @@ pub fn item_way(
     } = inside;
     let vacant = vacant_for(alloc, &changes.items.made)?;
     let mut checks = Vec::new(alloc);
-    add_made(changes.items.kept_front, check, &mut checks)?;
+    let clean = clean_check(alloc)?;
+    add_made(alloc, changes.items.kept_front, check, &clean, &mut checks)?;
     Ok(ItemWay {
         changes,
         lines,

@@ -12,12 +12,12 @@ ghost use Rattle.snl_session.specs.Planned.{AreEntriesMade, IsChanged};
 use crate::entries::{Entry, entry_of};
 use crate::found::program::items_end_in_order;
 use crate::lists::Lists;
+use crate::shared::Shared;
 use crate::ways::plan::Changes;
 use crate::ways::shift::marks_no_line;
 use snl_cut::{Count, OutOfMemory};
 use snl_items::{own_tokens_after, own_tokens_before};
 use snl_lex::{Piece, TextEdit, text_in_pieces};
-use sqlite_items::Boxed;
 use std::alloc::Global;
 
 /// The tokens of an item before and after an edit.
@@ -83,11 +83,11 @@ pub fn own_tokens(
 }
 
 // An entry alone in a list.
-fn alone(alloc: Global, entry: Boxed<Entry>) -> Result<Vec<Boxed<Entry>>, OutOfMemory>
+fn alone(alloc: Global, entry: Entry) -> Result<Vec<Shared<Entry>>, OutOfMemory>
     ensures { IfOk result (λ v. v.items ≡ entry ∷ []) }
 {
     let mut entries = Vec::new(alloc);
-    entries.push(entry)?;
+    entries.push(Shared::new(alloc, entry)?)?;
     Ok(entries)
 }
 
@@ -98,7 +98,7 @@ pub fn made_alone(
     changes: &Changes,
     own: &OwnTokens,
     work: &mut Count,
-) -> Result<Vec<Boxed<Entry>>, OutOfMemory>
+) -> Result<Vec<Shared<Entry>>, OutOfMemory>
     requires changes { IsChanged edit.now.old.now edit.now.text.now edit.now.start edit.now.old_stop edit.now.new_stop changes.now }
     requires one { IsOneItem edit.now.old.now changes.now }
     requires own { AreOwnTokens edit.now.old.now edit.now.text.now changes.now.items.kept_front own.now }

@@ -28,7 +28,6 @@ use crate::ways::set_findings::{add_shown_come, add_shown_gone};
 use snl_check::{Checked, Tables};
 use snl_cut::OutOfMemory;
 use snl_lex::{LineList, Piece, Shift, TextEdit};
-use sqlite_items::Boxed;
 use std::alloc::Global;
 
 // What is found at an item, as far as it is shown.
@@ -37,7 +36,7 @@ fn own_shown(
     text: &[u8],
     own: &[Piece],
     entry: &Entry,
-    check: &Option<Boxed<Checked>>,
+    check: &Option<Checked>,
     warns: bool,
 ) -> Result<Vec<Finding>, OutOfMemory>
     requires some { 0 < length own.now }
@@ -81,7 +80,7 @@ pub fn own_diagnostics(
     item: usize,
     was: Was,
     made: &Entry,
-    check: &Option<Boxed<Checked>>,
+    check: &Option<Checked>,
     change: &RowChange,
 ) -> Result<Vec<Diagnostic>, OutOfMemory>
     requires lines { IsLineList edit.now.text.now lines.now.ends.items lines.now.markers.items lines.now.naming.items }

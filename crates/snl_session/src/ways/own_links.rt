@@ -10,6 +10,7 @@ ghost use Rattle.snl_session.specs.OwnLinks.{AreOwnLinks};
 
 use crate::entries::Entry;
 use crate::lists::Lists;
+use crate::shared::Shared;
 use crate::ways::alike::is_same_kind;
 use crate::ways::item_plan::Was;
 use crate::ways::relink::{NewKinds, NewLinks};
@@ -17,11 +18,10 @@ use snl_cut::OutOfMemory;
 use snl_lists::Ordered;
 use snl_scope::{ItemKind, LinkFault, Links, same_spelling_same_summary};
 use snl_syntax::{outcome_told, same_spelling_same_tree};
-use sqlite_items::Boxed;
 use std::alloc::Global;
 
 // What each item is, as it is kept.
-fn kinds_kept(alloc: Global, entries: &Ordered<Boxed<Entry>>) -> Result<Vec<ItemKind>, OutOfMemory>
+fn kinds_kept(alloc: Global, entries: &Ordered<Shared<Entry>>) -> Result<Vec<ItemKind>, OutOfMemory>
     ensures { IfOk result (λ v. v.items ≡ kinds_kept entries.now.values) }
 {
     let mut kinds = Vec::with_capacity(alloc, entries.len())?;
@@ -36,7 +36,7 @@ fn kinds_kept(alloc: Global, entries: &Ordered<Boxed<Entry>>) -> Result<Vec<Item
 // The same, where one item is of another kind.
 fn with_kind(
     alloc: Global,
-    entries: &Ordered<Boxed<Entry>>,
+    entries: &Ordered<Shared<Entry>>,
     item: usize,
     kind: ItemKind,
 ) -> Result<Vec<ItemKind>, OutOfMemory>

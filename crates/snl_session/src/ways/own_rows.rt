@@ -25,7 +25,7 @@ use snl_cut::OutOfMemory;
 use snl_lex::{Piece, TextEdit};
 use snl_scope::{Links, same_spelling_same_summary};
 use snl_syntax::{outcome_told, same_spelling_same_tree};
-use sqlite_items::{Boxed, Items};
+use sqlite_items::Items;
 use std::alloc::Global;
 
 // The body of the row of the state that is made, by what its check told.
@@ -36,7 +36,7 @@ fn own_body(
     entry: &Entry,
     links: &Links,
     item: usize,
-    check: &Option<Boxed<Checked>>,
+    check: &Option<Checked>,
 ) -> Result<StateBody, OutOfMemory>
     requires within { All (LiesIn text.now) own.now }
     requires entry { entry.now ≡ entry_by (spelled text.now own.now) }
@@ -49,7 +49,7 @@ fn own_body(
     let tree = entry.parsed.tree();
     match check {
         Some(checked) => {
-            let targets = checked.get().target_uses.as_slice();
+            let targets = checked.target_uses.as_slice();
             state_body(alloc, text, own, tree, links, item, targets)
         }
         None => state_body(alloc, text, own, tree, links, item, &[]),
@@ -57,11 +57,11 @@ fn own_body(
 }
 
 // The uses of names in the conditions of an item, as its check told them.
-fn wake_uses(check: &Option<Boxed<Checked>>) -> &[WakeUse]
+fn wake_uses(check: &Option<Checked>) -> &[WakeUse]
     ensures { result.now ≡ (told_kept check.now).wake_uses }
 {
     match check {
-        Some(checked) => checked.get().wake_uses.as_slice(),
+        Some(checked) => checked.wake_uses.as_slice(),
         None => &[],
     }
 }
@@ -74,7 +74,7 @@ fn own_wake(
     own: &[Piece],
     links: &Links,
     item: usize,
-    check: &Option<Boxed<Checked>>,
+    check: &Option<Checked>,
 ) -> Result<Items<WakeUp>, OutOfMemory>
     requires within { All (LiesIn edit.now.text.now) own.now }
     requires tables { tables.now ≡ tables_in edit.now.old.now }
@@ -119,7 +119,7 @@ pub fn own_change(
     entry: &Entry,
     item: usize,
     touched: Touched,
-    check: &Option<Boxed<Checked>>,
+    check: &Option<Checked>,
 ) -> Result<RowChange, OutOfMemory>
     requires within { All (LiesIn edit.now.text.now) own.now }
     requires tables { tables.now ≡ tables_in edit.now.old.now }

@@ -2,27 +2,28 @@
 //! is made, and then taken over.
 #![tactic(auto)]
 
-ghost use Rattle.std.specs.Prelude.{◌≡◌, IfOk, length};
+ghost use Rattle.std.specs.Prelude.{◌≡◌, IfOk, OnOk, length, vec_capacity};
 ghost use Rattle.snl_cut.specs.Cut.{after_ticks};
 ghost use Rattle.snl_items.specs.Fresh.{fresh_items_between, fresh_pieces_between};
 ghost use Rattle.snl_lex.specs.LineList.{IsLineList};
 ghost use Rattle.snl_lex.specs.Pieces.{tokens_of};
 ghost use Rattle.snl_session.specs.Diagnostics.{diagnostics_of};
-ghost use Rattle.snl_session.specs.Kept.{HasRoomFor, IsListed};
-ghost use Rattle.snl_session.specs.Planned.{AreEntriesMade, IsAnew, IsChanged, IsWholeWay};
+ghost use Rattle.snl_session.specs.Kept.{IsListed, SameLists};
+ghost use Rattle.snl_session.specs.Planned.{AreEntriesMade, HasRoomForAll, IsAnew, IsChanged, IsWholeWay};
 ghost use Rattle.snl_session.specs.Tables.{tables_in};
 
 use crate::edits::Work;
 use crate::entries::{Entry, entries_along};
-use crate::found::findings::Diagnostic;
+use crate::found::diagnose::{make_room, put_on_lines};
+use crate::found::findings::{Diagnostic, Finding};
 use crate::found::program::items_end_in_order;
 use crate::lists::{Lists, Remade};
+use crate::shared::Shared;
 use crate::ways::rejudge::rejudge;
 use snl_check::Tables;
 use snl_cut::{Count, OutOfMemory};
 use snl_items::{ItemChange, TokenChange};
 use snl_lex::{LineList, Piece, PieceChange, TextEdit, text_in_pieces};
-use sqlite_items::Boxed;
 use std::alloc::Global;
 
 /// What an edit makes of the pieces, the tokens and the items.
@@ -33,23 +34,24 @@ pub struct Changes {
     pub items: ItemChange,
 }
 
-/// What an edit makes anew: what is made of all that is kept of the items, what the new text is judged to say, and the cost.
+/// What an edit makes anew: what is made of all that is kept of the items, what is shown of what is found in the new text, in
+/// order, its tables, and the cost.
 #[derive(Drop)]
 pub struct Anew {
     pub remade: Remade,
-    pub diagnostics: Vec<Diagnostic>,
+    pub findings: Vec<Finding>,
     pub tables: Tables,
     pub work: Work,
 }
 
-/// The changes that an edit makes, the lines of the new text, what is made of all that is kept of the items, what the new text is
-/// judged to say, and the cost.
+/// The changes that an edit makes, the lines of the new text, what is made of all that is kept of the items, what is shown of what
+/// is found in the new text, in order, its tables, and the cost.
 #[derive(Drop)]
 pub struct WholeWay {
     pub changes: Changes,
     pub lines: LineList,
     pub remade: Remade,
-    pub diagnostics: Vec<Diagnostic>,
+    pub findings: Vec<Finding>,
     pub tables: Tables,
     pub work: Work,
 }
@@ -83,7 +85,7 @@ pub fn made_entries(
     changes: &Changes,
     tokens: &[Piece],
     work: &mut Count,
-) -> Result<Vec<Boxed<Entry>>, OutOfMemory>
+) -> Result<Vec<Shared<Entry>>, OutOfMemory>
     requires lists { IsListed edit.now.old.now lists.now }
     requires changes { IsChanged edit.now.old.now edit.now.text.now edit.now.start edit.now.old_stop edit.now.new_stop changes.now }
     requires tokens { tokens.now ≡ tokens_of edit.now.text.now }
@@ -107,7 +109,7 @@ pub fn anew_by(
     changes: &Changes,
     lines: &LineList,
     tokens: &[Piece],
-    made: Vec<Boxed<Entry>>,
+    made: Vec<Shared<Entry>>,
     lexed: u64,
     parsed: u64,
 ) -> Result<Anew, OutOfMemory>
@@ -137,10 +139,10 @@ pub fn anew_by(
             links: rejudged.rechecked.links,
             vacant: rejudged.rechecked.vacant,
             checks: rejudged.rechecked.made,
-            warns: rejudged.judgement.warns,
+            warns: rejudged.told.warns,
         },
-        diagnostics: rejudged.judgement.diagnostics,
-        tables: rejudged.judgement.tables,
+        findings: rejudged.told.shown,
+        tables: rejudged.told.tables,
         work: Work {
             lexed,
             parsed,
@@ -154,13 +156,13 @@ pub fn whole_way(changes: Changes, lines: LineList, anew: Anew) -> WholeWay
     ensures changes { result.changes ≡ changes }
     ensures lines { result.lines ≡ lines }
     ensures remade { result.remade ≡ anew.remade }
-    ensures diagnostics { result.diagnostics ≡ anew.diagnostics }
+    ensures findings { result.findings ≡ anew.findings }
     ensures tables { result.tables ≡ anew.tables }
     ensures work { result.work ≡ anew.work }
 {
     let Anew {
         remade,
-        diagnostics,
+        findings,
         tables,
         work,
     } = anew;
@@ -168,15 +170,30 @@ pub fn whole_way(changes: Changes, lines: LineList, anew: Anew) -> WholeWay
         changes,
         lines,
         remade,
-        diagnostics,
+        findings,
         tables,
         work,
     }
 }
 
 impl WholeWay {
+    /// Makes room in the lists and among the diagnostics for what is made. An error leaves all as it was.
+    pub fn make_room(
+        &self,
+        lists: &mut Lists,
+        found: &mut Vec<Diagnostic>,
+    ) -> Result<(), OutOfMemory>
+        ensures lists { SameLists lists.old lists.new }
+        ensures found { found.new.items ≡ found.old.items }
+        ensures room { OnOk result (HasRoomForAll lists.new (vec_capacity found.new) self.now) }
+    {
+        lists.reserve(&self.changes, &self.remade)?;
+        make_room(found, self.findings.len())
+    }
+
     /// Makes the lists of the old text those of the new one, and gives what the new text says. There is room for what is made, so it
     /// can't fail.
+    #[tactic(auto, unfolding(crate::specs::Diagnostics::diagnostics_of))]
     pub fn commit(
         self,
         edit: &TextEdit,
@@ -186,7 +203,7 @@ impl WholeWay {
     )
         requires way { IsWholeWay edit.now.old.now edit.now.text.now edit.now.start edit.now.old_stop edit.now.new_stop self }
         requires lists { IsListed edit.now.old.now lists.old }
-        requires room { HasRoomFor lists.old self.changes self.remade }
+        requires room { HasRoomForAll lists.old (vec_capacity found.old) self }
         ensures lists { IsListed edit.now.text.now lists.new }
         ensures found { found.new.items ≡ diagnostics_of edit.now.text.now }
         ensures tables { tables.new ≡ tables_in edit.now.text.now }
@@ -195,12 +212,12 @@ impl WholeWay {
             changes,
             lines,
             remade,
-            diagnostics,
+            findings,
             tables: rows,
             work: _,
         } = self;
+        put_on_lines(edit.text, &lines, &findings, found);
         lists.commit(edit, &changes, lines, remade);
-        *found = diagnostics;
         *tables = rows;
     }
 }

@@ -2,7 +2,7 @@
 //! where it changes the inside of an item that says to the others what it said; and the whole one, where all is made anew. What is kept of the old text and both texts come in; then what is kept of the new one is put in its place.
 #![tactic(auto)]
 
-ghost use Rattle.std.specs.Prelude.{◌≡◌, IfOk, IsTrue, OnOk, length};
+ghost use Rattle.std.specs.Prelude.{◌≡◌, IfOk, IsTrue, OnOk, length, vec_capacity};
 ghost use Rattle.snl_session.specs.Diagnostics.{diagnostics_of};
 ghost use Rattle.snl_session.specs.Kept.{IsListed, SameLists};
 ghost use Rattle.snl_session.specs.ItemPlan.{IsOneItem};
@@ -16,6 +16,7 @@ use crate::edits::Work;
 use crate::entries::Entry;
 use crate::found::findings::Diagnostic;
 use crate::lists::Lists;
+use crate::shared::Shared;
 use crate::ways::item_plan::{ItemWay, inside_of, item_way};
 use crate::ways::one_item::{made_alone, own_tokens, replaces_one};
 use crate::ways::plan::{Anew, Changes, WholeWay, anew_by, changes_of, made_entries, whole_way};
@@ -24,7 +25,6 @@ use snl_check::Tables;
 use snl_cut::{Count, OutOfMemory};
 use snl_items::pieces_are_fresh;
 use snl_lex::{LineList, Piece, TextEdit};
-use sqlite_items::Boxed;
 use std::alloc::Global;
 
 /// What an edit makes that takes memory.
@@ -118,7 +118,7 @@ fn way_of_one(
     edit: &TextEdit,
     changes: Changes,
     lines: LineList,
-    made: Vec<Boxed<Entry>>,
+    made: Vec<Shared<Entry>>,
     lexed: u64,
     parsed: u64,
 ) -> Result<WholeWay, OutOfMemory>
@@ -174,6 +174,7 @@ fn plan_of_one(
         &mut checked,
     )?;
     let Some(inside) = inside else {
+        drop(own);
         let way = way_of_one(alloc, lists, edit, changes, lines, made, lexed, parsed)?;
         return Ok(Plan::Whole(way));
     };
@@ -256,25 +257,31 @@ impl Plan {
         }
     }
 
-    // Makes room in the lists for what the plan makes. An error leaves the lists as they were.
-    fn make_room(&self, lists: &mut Lists) -> Result<(), OutOfMemory>
+    // Makes room for what the plan makes. An error leaves all as it was.
+    fn make_room(&self, lists: &mut Lists, found: &mut Vec<Diagnostic>) -> Result<(), OutOfMemory>
         ensures lists { SameLists lists.old lists.new }
-        ensures room { OnOk result (HasRoom lists.new self.now) }
+        ensures found { found.new.items ≡ found.old.items }
+        ensures room { OnOk result (HasRoom lists.new (vec_capacity found.new) self.now) }
     {
         match self {
             Plan::Short(way) => lists.reserve_places(&way.changes),
             Plan::Item(way) => lists.reserve(&way.changes, &way.remade),
-            Plan::Whole(way) => lists.reserve(&way.changes, &way.remade),
+            Plan::Whole(way) => way.make_room(lists, found),
         }
     }
 
-    /// Makes room in the lists for what the plan makes. An error leaves the lists as they were, and lets the plan go.
-    pub fn with_room_in(self, lists: &mut Lists) -> Result<Plan, OutOfMemory>
+    /// Makes room for what the plan makes. An error leaves all as it was, and lets the plan go.
+    pub fn with_room_in(
+        self,
+        lists: &mut Lists,
+        found: &mut Vec<Diagnostic>,
+    ) -> Result<Plan, OutOfMemory>
         ensures lists { SameLists lists.old lists.new }
+        ensures found { found.new.items ≡ found.old.items }
         ensures plan { IfOk result (λ p. p ≡ self) }
-        ensures room { OnOk result (HasRoom lists.new self) }
+        ensures room { OnOk result (HasRoom lists.new (vec_capacity found.new) self) }
     {
-        self.make_room(lists)?;
+        self.make_room(lists, found)?;
         Ok(self)
     }
 
@@ -290,7 +297,7 @@ impl Plan {
         requires lists { IsListed edit.now.old.now lists.old }
         requires found { found.old.items ≡ diagnostics_of edit.now.old.now }
         requires tables { tables.old ≡ tables_in edit.now.old.now }
-        requires room { HasRoom lists.old self }
+        requires room { HasRoom lists.old (vec_capacity found.old) self }
         ensures lists { IsListed edit.now.text.now lists.new }
         ensures found { found.new.items ≡ diagnostics_of edit.now.text.now }
         ensures tables { tables.new ≡ tables_in edit.now.text.now }

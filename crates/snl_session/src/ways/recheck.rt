@@ -2,7 +2,7 @@
 //! items that are to be checked anew go out. It knows nothing of the rules.
 #![tactic(auto)]
 
-ghost use Rattle.std.specs.Prelude.{◌≡◌, ◌+◌, ◌-◌, ◌^◌, ◌<◌, ◌≤◌, ◌++◌, ℕ, All, IfOk, IfSome, IsTrue, OnOk, drop, length, map, take};
+ghost use Rattle.std.specs.Prelude.{◌≡◌, ◌+◌, ◌-◌, ◌^◌, ◌<◌, ◌≤◌, ◌++◌, ℕ, All, IfOk, IfSome, IsTrue, OnOk, Some, drop, length, map, take};
 ghost use Rattle.snl_cut.specs.Cut.{after_ticks};
 ghost use Rattle.snl_lex.specs.PieceList.{spelled};
 ghost use Rattle.snl_lex.specs.Pieces.{LiesIn};
@@ -10,19 +10,19 @@ ghost use Rattle.snl_scope.specs.Spoken.{KeepsViews};
 ghost use Rattle.snl_scope.specs.View.{view};
 ghost use Rattle.snl_session.specs.Entries.{entry_by};
 ghost use Rattle.snl_session.specs.Parts.{IsPart, spelled_part};
-ghost use Rattle.snl_session.specs.Rechecked.{made_at, made_checks, made_for, nones, number_before, put, sees_as_before};
+ghost use Rattle.snl_session.specs.Rechecked.{clean_check, made_at, made_checks, made_for, nones, number_before, put, sees_as_before};
 
 use crate::entries::Entry;
 use crate::found::program::Part;
+use crate::shared::Shared;
 use crate::ways::values::values_after;
 use snl_check::{Checked, check_item};
 use snl_cut::{Count, OutOfMemory};
 use snl_lex::Piece;
-use snl_lists::Ordered;
+use snl_lists::{Few, Ordered};
 use snl_scope::{
     EditedNames, Links, Summary, same_spelling_same_summary, same_view, views_told_apart,
 };
-use sqlite_items::Boxed;
 use std::alloc::Global;
 
 /// Which items of the new text are kept: those before `front`, with their numbers, and those from `stop` on, with the numbers from
@@ -50,7 +50,7 @@ pub struct Relinked<'a, 'e> {
 pub struct MadeCheck {
     pub item: usize,
     /// There is always one; it is held as its place holds it.
-    pub check: Option<Boxed<Checked>>,
+    pub check: Shared<Option<Checked>>,
 }
 
 impl KeptItems {
@@ -112,7 +112,7 @@ fn check_anew(
     relinked: Relinked,
     item: usize,
     work: &mut Count,
-) -> Result<Option<Boxed<Checked>>, OutOfMemory>
+) -> Result<Option<Checked>, OutOfMemory>
     requires within { All (LiesIn text.now) own.now }
     requires entry { entry.now ≡ entry_by (spelled text.now own.now) }
     requires few { (item - relinked.kept.stop) + relinked.kept.back < 2 ^ 64 }
@@ -129,23 +129,59 @@ fn check_anew(
         return Ok(None);
     }
     let checked = check_item(alloc, text, own, tree, relinked.after, item, work)?;
-    let kept = Boxed::new(alloc, checked)?;
-    Ok(Some(kept))
+    Ok(Some(checked))
+}
+
+/// The check of an item in which nothing is found, which all such items share.
+pub fn clean_check(alloc: Global) -> Result<Shared<Option<Checked>>, OutOfMemory>
+    ensures { IfOk result (λ clean. clean ≡ Some clean_check) }
+{
+    let clean = Checked {
+        faults: Few::new(),
+        wake_uses: Few::new(),
+        target_uses: Few::new(),
+    };
+    Ok(Shared::new(alloc, Some(clean))?)
+}
+
+// Whether nothing is found in an item.
+fn is_clean(checked: &Checked) -> bool
+    ensures { IsTrue result → checked.now ≡ clean_check }
+{
+    checked.faults.as_slice().is_empty()
+        && checked.wake_uses.as_slice().is_empty()
+        && checked.target_uses.as_slice().is_empty()
+}
+
+// A check to be kept.
+fn kept_check(
+    alloc: Global,
+    checked: Checked,
+    clean: &Shared<Option<Checked>>,
+) -> Result<Shared<Option<Checked>>, OutOfMemory>
+    requires { clean.now ≡ Some clean_check }
+    ensures { IfOk result (λ kept. kept ≡ Some checked) }
+{
+    if is_clean(&checked) {
+        return Ok(clean.share()?);
+    }
+    Ok(Shared::new(alloc, Some(checked))?)
 }
 
 /// Adds the check of an item, if one was made.
 pub fn add_made(
+    alloc: Global,
     item: usize,
-    check: Option<Boxed<Checked>>,
+    check: Option<Checked>,
+    clean: &Shared<Option<Checked>>,
     made: &mut Vec<MadeCheck>,
 ) -> Result<(), OutOfMemory>
+    requires { clean.now ≡ Some clean_check }
     ensures { OnOk result (made.new.items ≡ made.old.items ++ made_at item check) }
 {
     if let Some(checked) = check {
-        made.push(MadeCheck {
-            item,
-            check: Some(checked),
-        })?;
+        let check = kept_check(alloc, checked, clean)?;
+        made.push(MadeCheck { item, check })?;
     }
     Ok(())
 }
@@ -167,28 +203,30 @@ pub fn recheck(
     ensures made { IfOk result (λ made. made.items ≡ made_checks relinked.entry.before.now.outlines relinked.entry.after.now.outlines relinked.entry.kept (map (spelled_part text.now tokens.now) parts.now)) }
     ensures ticks { IfOk result (λ made. work.new ≡ after_ticks work.old (length made.items)) }
 {
+    let clean = clean_check(alloc)?;
     let mut made = Vec::new(alloc);
     for (item, part) in parts.iter().enumerate() {
         let own = &tokens[part.start..part.stop];
         let check = check_anew(alloc, text, own, part.entry, relinked, item, work)?;
-        add_made(item, check, &mut made)?;
+        add_made(alloc, item, check, &clean, &mut made)?;
     }
     Ok(made)
 }
 
 /// A place for each item that ends at one of these tokens, with no check yet.
-pub fn vacant_for(alloc: Global, ends: &[u32]) -> Result<Vec<Option<Boxed<Checked>>>, OutOfMemory>
+pub fn vacant_for(alloc: Global, ends: &[u32]) -> Result<Vec<Shared<Option<Checked>>>, OutOfMemory>
     ensures { IfOk result (λ v. v.items ≡ nones ends.now) }
 {
+    let none = Shared::new(alloc, None)?;
     let mut vacant = Vec::with_capacity(alloc, ends.len())?;
     for _end in ends {
-        vacant.push(None)?;
+        vacant.push(none.share()?)?;
     }
     Ok(vacant)
 }
 
 // Looks at the checks that were made in place of the others.
-fn look_at<'a>(made: &'a [MadeCheck], checks: &mut Vec<&'a Option<Boxed<Checked>>>)
+fn look_at<'a>(made: &'a [MadeCheck], checks: &mut Vec<&'a Shared<Option<Checked>>>)
     ensures { map (λ c. c.now) checks.new.items ≡ put (map (λ c. c.now) checks.old.items) made.now }
 {
     for one in made {
@@ -202,12 +240,12 @@ fn look_at<'a>(made: &'a [MadeCheck], checks: &mut Vec<&'a Option<Boxed<Checked>
 /// number on, and those that were made in their places.
 pub fn checks_in<'a>(
     alloc: Global,
-    kept: &'a Ordered<Option<Boxed<Checked>>>,
+    kept: &'a Ordered<Shared<Option<Checked>>>,
     front: usize,
-    vacant: &'a [Option<Boxed<Checked>>],
+    vacant: &'a [Shared<Option<Checked>>],
     back: usize,
     made: &'a [MadeCheck],
-) -> Result<Vec<&'a Option<Boxed<Checked>>>, OutOfMemory>
+) -> Result<Vec<&'a Shared<Option<Checked>>>, OutOfMemory>
     requires order { front ≤ back }
     requires inside { back ≤ length kept.now.values }
     ensures { IfOk result (λ cs. map (λ c. c.now) cs.items ≡ put (take front kept.now.values ++ (vacant.now ++ drop back kept.now.values)) made.now) }
@@ -218,7 +256,7 @@ pub fn checks_in<'a>(
 }
 
 /// Puts checks that were made in their places.
-pub fn put(checks: &mut Ordered<Option<Boxed<Checked>>>, made: Vec<MadeCheck>)
+pub fn put(checks: &mut Ordered<Shared<Option<Checked>>>, made: Vec<MadeCheck>)
     ensures { checks.new.values ≡ put checks.old.values made.items }
 {
     for one in made {

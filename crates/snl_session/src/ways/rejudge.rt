@@ -6,8 +6,9 @@ ghost use Rattle.std.specs.Prelude.{◌≡◌, ◌+◌, ◌-◌, ◌≤◌, All,
 ghost use Rattle.snl_cut.specs.Cut.{after_ticks, members};
 ghost use Rattle.snl_lex.specs.LineList.{IsLineList};
 ghost use Rattle.snl_lex.specs.Pieces.{tokens_of};
-ghost use Rattle.snl_session.specs.Diagnostics.{diagnostics_of, shown};
+ghost use Rattle.snl_session.specs.Diagnostics.{shown};
 ghost use Rattle.snl_session.specs.Kept.{IsListed};
+ghost use Rattle.snl_session.specs.Order.{in_order};
 ghost use Rattle.snl_session.specs.Parts.{IsPart, item_of_part};
 ghost use Rattle.snl_session.specs.Planned.{AreEntriesMade, IsChanged, IsRechecked};
 ghost use Rattle.snl_session.specs.Program.{items_of, program_item};
@@ -17,9 +18,10 @@ ghost use Rattle.snl_session.specs.Tables.{tables_in};
 ghost use Rattle.snl_session.specs.Warnings.{warns_in};
 
 use crate::entries::Entry;
-use crate::found::judge::{Judgement, Told, judged, told_in};
+use crate::found::judge::{Told, in_order, told_in};
 use crate::found::program::{CutText, Part, items_end_in_order, parts_along};
 use crate::lists::{Lists, Rechecked};
+use crate::shared::Shared;
 use crate::ways::edited::edited_names;
 use crate::ways::plan::Changes;
 use crate::ways::recheck::{KeptItems, Relinked, checks_in, recheck, vacant_for};
@@ -31,21 +33,13 @@ use snl_items::ItemChange;
 use snl_lex::{LineList, Piece, TextEdit, text_in_pieces};
 use snl_scope::{same_spelling_same_summary, views_told_apart};
 use snl_syntax::Tokens;
-use sqlite_items::Boxed;
 use std::alloc::Global;
 
-/// What the new text is judged to say, and what is made of the links and the checks.
+/// What is shown of what is found in the new text and its tables, and what is made of the links and the checks.
 #[derive(Drop)]
 pub struct Rejudged {
-    pub judgement: Judgement,
+    pub told: Told,
     pub rechecked: Rechecked,
-}
-
-// What is shown of what is found in the new text and its tables, and what is made of the links and the checks.
-#[derive(Drop)]
-struct Retold {
-    told: Told,
-    rechecked: Rechecked,
 }
 
 // Which items are kept of so many, and where they are among so many.
@@ -69,7 +63,7 @@ fn recheck_after<'a>(
     changes: &Changes,
     tokens: &[Piece],
     parts: &[Part],
-    made: &'a [Boxed<Entry>],
+    made: &'a [Shared<Entry>],
     work: &mut Count,
 ) -> Result<Rechecked, OutOfMemory>
     requires lists { IsListed edit.now.old.now lists.now }
@@ -147,9 +141,9 @@ fn retell_cut(
     edit: &TextEdit,
     changes: &Changes,
     cut: &CutText,
-    made: &[Boxed<Entry>],
+    made: &[Shared<Entry>],
     work: &mut Count,
-) -> Result<Retold, OutOfMemory>
+) -> Result<Rejudged, OutOfMemory>
     requires lists { IsListed edit.now.old.now lists.now }
     requires changes { IsChanged edit.now.old.now edit.now.text.now edit.now.start edit.now.old_stop edit.now.new_stop changes.now }
     requires text { cut.now.text.now ≡ edit.now.text.now }
@@ -165,10 +159,10 @@ fn retell_cut(
     let parts = parts_along(alloc, cut.text, cut.tokens, cut.ends, cut.entries)?;
     let rechecked = recheck_after(alloc, lists, edit, changes, cut.tokens, &parts, made, work)?;
     let told = told_after(alloc, lists, edit, changes, cut, &parts, &rechecked)?;
-    Ok(Retold { told, rechecked })
+    Ok(Rejudged { told, rechecked })
 }
 
-// The same by the lines and tokens of the new text. What is listed of its items is let go here, before the findings get their lines.
+// The same by the lines and tokens of the new text. What is listed of its items is let go here, before the findings are put in order.
 fn retell(
     alloc: Global,
     lists: &Lists,
@@ -176,9 +170,9 @@ fn retell(
     changes: &Changes,
     lines: &LineList,
     tokens: &[Piece],
-    made: &[Boxed<Entry>],
+    made: &[Shared<Entry>],
     work: &mut Count,
-) -> Result<Retold, OutOfMemory>
+) -> Result<Rejudged, OutOfMemory>
     requires lists { IsListed edit.now.old.now lists.now }
     requires changes { IsChanged edit.now.old.now edit.now.text.now edit.now.start edit.now.old_stop edit.now.new_stop changes.now }
     requires lines { IsLineList edit.now.text.now lines.now.ends.items lines.now.markers.items lines.now.naming.items }
@@ -209,7 +203,7 @@ fn retell(
     retell_cut(alloc, lists, edit, changes, &cut, made, work)
 }
 
-/// What the new text says, by its lines and tokens and what is kept of the fresh items. Each check that is made is one tick.
+/// What the new text says, by its lines and tokens and what is kept of the fresh items. What is shown is in order. Each check that is made is one tick.
 pub fn rejudge(
     alloc: Global,
     lists: &Lists,
@@ -217,7 +211,7 @@ pub fn rejudge(
     changes: &Changes,
     lines: &LineList,
     tokens: &[Piece],
-    made: &[Boxed<Entry>],
+    made: &[Shared<Entry>],
     work: &mut Count,
 ) -> Result<Rejudged, OutOfMemory>
     requires lists { IsListed edit.now.old.now lists.now }
@@ -225,18 +219,16 @@ pub fn rejudge(
     requires lines { IsLineList edit.now.text.now lines.now.ends.items lines.now.markers.items lines.now.naming.items }
     requires tokens { tokens.now ≡ tokens_of edit.now.text.now }
     requires made { AreEntriesMade edit.now.old.now edit.now.text.now changes.now.items.kept_front made.now changes.now.items.kept_back }
-    ensures diagnostics { IfOk result (λ r. r.judgement.diagnostics.items ≡ diagnostics_of edit.now.text.now) }
-    ensures tables { IfOk result (λ r. r.judgement.tables ≡ tables_in edit.now.text.now) }
-    ensures warns { IfOk result (λ r. r.judgement.warns ≡ warns_in edit.now.text.now) }
+    ensures shown { IfOk result (λ r. r.told.shown.items ≡ in_order (shown edit.now.text.now)) }
+    ensures tables { IfOk result (λ r. r.told.tables ≡ tables_in edit.now.text.now) }
+    ensures warns { IfOk result (λ r. r.told.warns ≡ warns_in edit.now.text.now) }
     ensures rechecked { IfOk result (λ r. IsRechecked edit.now.old.now edit.now.text.now changes.now.items.kept_front changes.now.items.kept_back r.rechecked) }
     ensures stirred { IfOk result (λ r. length r.rechecked.made.items ≡ stirred_between edit.now.old.now edit.now.text.now edit.now.start edit.now.old_stop edit.now.new_stop) }
     ensures ticks { IfOk result (λ r. work.new ≡ after_ticks work.old (length r.rechecked.made.items)) }
 {
-    let Retold { told, rechecked } = retell(
+    let Rejudged { told, rechecked } = retell(
         alloc, lists, edit, changes, lines, tokens, made, work,
     )?;
-    Ok(Rejudged {
-        judgement: judged(alloc, edit.text, lines, told)?,
-        rechecked,
-    })
+    let told = in_order(told)?;
+    Ok(Rejudged { told, rechecked })
 }

@@ -18,13 +18,13 @@ use crate::entries::Entry;
 use crate::found::program::Part;
 use crate::found::summaries::{kinds_of, links_of};
 use crate::lists::Lists;
+use crate::shared::Shared;
 use crate::ways::plan::Changes;
 use snl_cut::OutOfMemory;
 use snl_lex::{Piece, TextEdit};
 use snl_lists::Ordered;
 use snl_scope::{ItemKind, LinkFault, Links, same_outline, same_spelling_same_summary};
 use snl_syntax::{outcome_told, same_spelling_same_tree};
-use sqlite_items::Boxed;
 use std::alloc::Global;
 
 /// Other kinds of the items, and what the links find where the items are of these kinds.
@@ -92,7 +92,7 @@ impl NewLinks {
 }
 
 // Whether the item with a number said to the others what this one says.
-fn says_the_same_at(entries: &Ordered<Boxed<Entry>>, item: usize, entry: &Boxed<Entry>) -> bool
+fn says_the_same_at(entries: &Ordered<Shared<Entry>>, item: usize, entry: &Shared<Entry>) -> bool
     ensures { IsTrue result → slice_get (outlines_kept entries.now.values) item ≡ Some entry.now.summary.outline }
 {
     match entries.get(item) {
@@ -103,9 +103,9 @@ fn says_the_same_at(entries: &Ordered<Boxed<Entry>>, item: usize, entry: &Boxed<
 
 // Whether the items from one number up to another said to the others what these say.
 fn say_the_same(
-    entries: &Ordered<Boxed<Entry>>,
+    entries: &Ordered<Shared<Entry>>,
     front: usize,
-    made: &[Boxed<Entry>],
+    made: &[Shared<Entry>],
     back: usize,
 ) -> bool
     requires order { front ≤ back }
@@ -124,7 +124,7 @@ fn say_the_same(
 }
 
 // Whether each item of the new text says to the others what it said.
-fn keeps_outlines(lists: &Lists, edit: &TextEdit, changes: &Changes, made: &[Boxed<Entry>]) -> bool
+fn keeps_outlines(lists: &Lists, edit: &TextEdit, changes: &Changes, made: &[Shared<Entry>]) -> bool
     requires lists { IsListed edit.now.old.now lists.now }
     requires changes { IsChanged edit.now.old.now edit.now.text.now edit.now.start edit.now.old_stop edit.now.new_stop changes.now }
     requires made { AreEntriesMade edit.now.old.now edit.now.text.now changes.now.items.kept_front made.now changes.now.items.kept_back }
@@ -164,7 +164,7 @@ pub fn relink(
     changes: &Changes,
     tokens: &[Piece],
     parts: &[Part],
-    made: &[Boxed<Entry>],
+    made: &[Shared<Entry>],
 ) -> Result<NewLinks, OutOfMemory>
     requires lists { IsListed edit.now.old.now lists.now }
     requires changes { IsChanged edit.now.old.now edit.now.text.now edit.now.start edit.now.old_stop edit.now.new_stop changes.now }

@@ -12,17 +12,17 @@ ghost use Rattle.snl_session.specs.Program.{items_of};
 ghost use Rattle.snl_session.specs.SetMembers.{AreMembersBelow};
 
 use crate::entries::Entry;
+use crate::shared::Shared;
 use snl_check::SetMember;
 use snl_cut::OutOfMemory;
 use snl_lists::Ordered;
 use snl_scope::{Links, Opening, Outline, same_spelling_same_summary};
 use snl_syntax::{outcome_told, same_spelling_same_tree};
-use sqlite_items::Boxed;
 use std::alloc::Global;
 
 // What is kept of the item with a number after an edit that makes this one in the place of another.
 fn entry_after<'a>(
-    entries: &'a Ordered<Boxed<Entry>>,
+    entries: &'a Ordered<Shared<Entry>>,
     item: usize,
     made: &'a Entry,
     number: usize,
@@ -80,7 +80,7 @@ fn stands_in(links: &Links, set: usize, item: usize) -> bool
 fn add_member<'a>(
     text: &[u8],
     links: &Links,
-    entries: &'a Ordered<Boxed<Entry>>,
+    entries: &'a Ordered<Shared<Entry>>,
     set: usize,
     item: usize,
     made: &'a Entry,
@@ -107,7 +107,7 @@ pub fn set_members<'a>(
     alloc: Global,
     text: &[u8],
     links: &Links,
-    entries: &'a Ordered<Boxed<Entry>>,
+    entries: &'a Ordered<Shared<Entry>>,
     set: usize,
     item: usize,
     made: &'a Entry,

@@ -5,8 +5,8 @@ use Rattle.snl_scope.proofs.links.link.Goals as goal
 pub returns : goal.returns
 returns c =
     let summaries = c.args.summaries.now in
-    let outlines : c.in_ok-scopes.field-0.scopes ≡ map (λ s. s.outline) (map (λ s. s.now) summaries) =
-    c.in_ok-scopes.ensures.scopes ∙ ap (map (λ s. s.now)) c.deref.ensures.value ∙ c.in_ok-outlines.ensures ∙ sym (map-map (λ s. s.outline) (λ s. s.now) summaries) in
+    let outlines : c.in_ok-names.names.scopes ≡ map (λ s. s.outline) (map (λ s. s.now) summaries) =
+    c.in_ok-names.ensures.scopes ∙ ap (map (λ s. s.now)) c.deref.ensures.value ∙ c.in_ok-outlines.ensures ∙ sym (map-map (λ s. s.outline) (λ s. s.now) summaries) in
     let kinds : c.in_ok-kinds.kinds.items ≡ map (λ s. s.kind) (map (λ s. s.now) summaries) =
     c.in_ok-kinds.ensures ∙ sym (map-map (λ s. s.kind) (λ s. s.now) summaries) in
     λ j. record { outlines = outlines j; kinds = kinds j }

@@ -19,14 +19,14 @@ loop-end-preserved c =
     let rest = map entry_by (members (spelled text tokens) stop (drop (i + 1) ends)) in
     let here = drop_at ends i 0 c.loop-end-test.true in
     let left : EndsWithin start (stop ∷ drop (i + 1) ends) (length tokens) = subst (λ l. EndsWithin start l (length tokens)) here c.loop-end.invariant.ends in
-    let first = c.in_ok-entry_of.ensures.entry ∙ ap entry_by (sym (spelled_between text tokens start stop)) in
+    let first = c.in_ok-keep.ensures ∙ c.in_ok-entry.ensures.entry ∙ ap entry_by (sym (spelled_between text tokens start stop)) in
     record {
       ends = left.2;
       entries =
           ap (λ l. l ++ rest) c.in_ok-push.ensures.items
-          ∙ append_assoc done (c.in_ok-entry_of.field-0 ∷ []) rest
+          ∙ append_assoc done (c.in_ok-keep.field-0 ∷ []) rest
           ∙ ap (λ e. done ++ e ∷ rest) first
           ∙ sym (ap (λ l. done ++ map entry_by (members (spelled text tokens) start l)) here)
           ∙ c.loop-end.invariant.entries;
-      ticks = c.in_ok-entry_of.ensures.ticks ∙ ap ticked c.loop-end.invariant.ticks ∙ sym (ap (after_ticks c.args.work.now) (add-one i));
+      ticks = c.in_ok-entry.ensures.ticks ∙ ap ticked c.loop-end.invariant.ticks ∙ sym (ap (after_ticks c.args.work.now) (add-one i));
     }

@@ -1,6 +1,7 @@
-use Rattle.std.proofs.Common.{◌≡◌, ap, arith}
+use Rattle.std.proofs.Common.{◌≡◌, ap, arith, subst, sym}
 use Rattle.snl_syntax.specs.Tokens.{ahead}
 use Rattle.snl_syntax.specs.Reading.Statements.{block}
+use Rattle.snl_syntax.specs.Steps.{Reads}
 use Rattle.snl_syntax.proofs.Depths.{block_deeper}
 use Rattle.snl_syntax.proofs.statement.block.Goals as goal
 
@@ -9,4 +10,4 @@ unfolding block
 returns-then-depth-eq0 c = let none : c.args.depth ≡ 0 = omega arith in ap (λ n. block n (ahead c.args.kinds.now c.args.at)) none
 
 pub returns : goal.returns
-returns c = rw (block_deeper c.args.depth (ahead c.args.kinds.now c.args.at) (omega arith)) c.block_of.ensures
+returns c = subst (Reads c.args.kinds.now c.block_of.result) (sym (block_deeper c.args.depth (ahead c.args.kinds.now c.args.at) (omega arith))) c.block_of.ensures

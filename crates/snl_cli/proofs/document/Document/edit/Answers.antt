@@ -1,13 +1,24 @@
-use Rattle.snl_cli.proofs.DocumentLemmas.{made, refused, work_is}
+use Rattle.std.proofs.Common.{None, Some, subst}
+use Rattle.snl_cli.specs.Run.{IsEdited}
+use Rattle.snl_cli.specs.Version.{Version}
+use Rattle.snl_cli.proofs.DocumentLemmas.{made, refused, version_with, work_is}
 use Rattle.snl_cli.proofs.document.Document.edit.Goals as goal
 
 pub returns-in-Ok : goal.returns-in-Ok
 returns-in-Ok c =
     let e = c.in-Ok.ensures in
-    let cost = work_is c.self.inside.session c.args.start c.args.stop c.args.new.now c.in-Ok.work e.lexed e.parsed e.checked in
-    rw (← c.self.view_is) (made c.self.inside.session _ c.args.start c.args.stop c.args.new.now c.self.inside.work c.in-Ok.work e.ok cost e.refused)
+    let old = c.self.inside.session in
+    let new = c.edit.new.self in
+    let work = c.in-Ok.work in
+    let cost = work_is old c.args.start c.args.stop c.args.new.now work e.lexed e.parsed e.checked in
+    subst (λ (v : Version). IsEdited v (version_with new work) c.args.start c.args.stop c.args.new.now None) c.self.view_is
+    (made old new c.args.start c.args.stop c.args.new.now c.self.inside.work work e.ok cost e.refused)
 
 pub returns-in-Err : goal.returns-in-Err
 returns-in-Err c =
     let e = c.in-Err.ensures in
-    rw (← c.self.view_is) (refused c.self.inside.session _ c.args.start c.args.stop c.args.new.now c.self.inside.work c.in-Err.refused e.err e.refused)
+    let old = c.self.inside.session in
+    let new = c.edit.new.self in
+    let work = c.self.inside.work in
+    subst (λ (v : Version). IsEdited v (version_with new work) c.args.start c.args.stop c.args.new.now (Some c.in-Err.refused)) c.self.view_is
+    (refused old new c.args.start c.args.stop c.args.new.now work c.in-Err.refused e.err e.refused)

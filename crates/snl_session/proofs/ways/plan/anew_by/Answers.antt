@@ -15,7 +15,7 @@ returns c =
         checks = judged.rechecked.checks;
         warns = judged.warns;
       };
-      diagnostics = judged.diagnostics;
+      findings = judged.shown;
       tables = judged.tables;
       cost = record {
         lexed = c.requires.lexed;

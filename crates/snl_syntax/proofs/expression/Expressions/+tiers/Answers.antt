@@ -3,7 +3,7 @@ use Rattle.std.proofs.lemmas.Result.{err_from_is_err_and}
 use Rattle.snl_syntax.specs.Tokens.{ahead}
 use Rattle.snl_syntax.specs.Steps.{many}
 use Rattle.snl_syntax.specs.Reading.Expressions.{assignx, type_within, operand, next_link}
-use Rattle.snl_syntax.proofs.Tiers.{tiers_read, tiers_err}
+use Rattle.snl_syntax.proofs.Tiers.{tiers_alone, tiers_read, tiers_err}
 use Rattle.snl_syntax.proofs.Turns.{turns_begin, turn_err, turn_end, turn_more, turns_over}
 use Rattle.snl_syntax.proofs.expression.Expressions.+tiers.Goals as goal
 
@@ -25,6 +25,10 @@ links-loop-turn-preserved g t c =
 
 pub links-returns : goal.links-returns
 links-returns g t c = turns_over (next_link c.args.tier (operand (assignx c.args.self.now.depth) (type_within c.args.self.now.depth) (c.args.tier - 1))) (many (next_link c.args.tier (operand (assignx c.args.self.now.depth) (type_within c.args.self.now.depth) (c.args.tier - 1))) [] (ahead c.args.kinds.now c.args.start)) c.turns-turn-end.result c.loop-turn._turn c.loop-turn.found (ahead c.args.kinds.now c.loop-turn.at) c.loop-turn-test.false c.loop-turn.invariant
+
+pub tiers_from-returns-then-not-is_binary_next : goal.tiers_from-returns-then-not-is_binary_next
+tiers_from-returns-then-not-is_binary_next g t c =
+    tiers_alone (assignx c.args.self.now.depth) (type_within c.args.self.now.depth) c.args.tier c.args.first (ahead c.args.kinds.now c.args.at) (c.is_binary_next.ensures c.if-not-is_binary_next.true)
 
 pub tiers_from-returns-in_err-links : goal.tiers_from-returns-in_err-links
 tiers_from-returns-in_err-links g t c =
