@@ -15,7 +15,7 @@ use crate::tree::expression::Expr;
 use crate::tree::types::{Pointer, QualifiedType};
 use crate::types::{stars, type_of};
 use snl_lex::Kind;
-use sqlite_items::Items;
+use sqlite_items::{Boxed, Items};
 use std::alloc::Global;
 
 #[tactic(auto, unfolding(crate::specs::Reading::Declarations::some_length, crate::specs::Steps::and_then))]
@@ -223,12 +223,12 @@ fn some_init(
     kinds: &[Kind],
     at: usize,
     depth: usize,
-) -> Result<(Option<Init>, usize), Stop>
+) -> Result<(Option<Boxed<Init>>, usize), Stop>
     ensures { Reads kinds.now result (spec.some_init (spec.init depth) (ahead kinds.now at)) }
 {
     let at = expect(kinds, at, Kind::Equal)?;
     let (value, at) = init(alloc, kinds, at, depth)?;
-    Ok((Some(value), at))
+    Ok((Some(Boxed::new(alloc, value)?), at))
 }
 
 #[tactic(auto, unfolding(crate::specs::Reading::Declarations::init_part, crate::specs::Steps::and_then))]
@@ -237,7 +237,7 @@ fn init_part(
     kinds: &[Kind],
     at: usize,
     depth: usize,
-) -> Result<(Option<Init>, usize), Stop>
+) -> Result<(Option<Boxed<Init>>, usize), Stop>
     ensures { Reads kinds.now result (spec.init_part (spec.init depth) (ahead kinds.now at)) }
 {
     match kind_at(kinds, at) {

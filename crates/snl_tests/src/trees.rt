@@ -76,7 +76,7 @@ fn init_value(init: &Init) -> Option<&Expr> {
 // The value of the first variable that an item declares.
 fn value_of(item: &Item) -> Option<&Expr> {
     let declarator = declaration_of(item)?.declarators.get(0)?;
-    init_value(declarator.init.as_ref()?)
+    init_value(declarator.init.as_ref()?.get())
 }
 
 // What an expression is, with the length of its list.

@@ -14,6 +14,7 @@ use snl_cut::OutOfMemory;
 use snl_syntax::tree::declaration::Init;
 use snl_syntax::tree::expression::{Expr, Suffix};
 use snl_syntax::{Assignment, Binary};
+use sqlite_items::Boxed;
 
 // The name that an expression is, if it is a name alone.
 fn name_of(expr: &Expr) -> Option<usize>
@@ -395,14 +396,14 @@ fn add_inits(
 pub(crate) fn add_value(
     source: &Source,
     names: &Visible,
-    value: &Option<Init>,
+    value: &Option<Boxed<Init>>,
     found: &mut Vec<Occurrence>,
 ) -> Result<(), OutOfMemory>
     requires { IsSource source.now.text.now source.now.tokens.now }
     ensures { OnOk result (found.new.items ≡ found.old.items ++ map (seen (token_bytes source.now.text.now source.now.tokens.now) names.now false) (names_in_value value.now)) }
 {
     match value {
-        Some(init) => add_init(source, names, init, found),
+        Some(init) => add_init(source, names, init.get(), found),
         None => Ok(()),
     }
 }

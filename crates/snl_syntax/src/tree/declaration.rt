@@ -2,7 +2,7 @@
 
 use crate::tree::expression::Expr;
 use crate::tree::types::{Pointer, QualifiedType};
-use sqlite_items::Items;
+use sqlite_items::{Boxed, Items};
 
 /// The value that a declarator begins with.
 #[derive(Drop)]
@@ -18,7 +18,7 @@ pub struct Declarator {
     pub pointers: Items<Pointer>,
     pub name: usize,
     pub lengths: Items<Option<Expr>>,
-    pub init: Option<Init>,
+    pub init: Option<Boxed<Init>>,
 }
 
 /// A type, and one declarator or more.
