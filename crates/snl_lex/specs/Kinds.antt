@@ -36,27 +36,49 @@ words_of_2 = (codes "ss" is kind.Ss) ∷ (codes "to" is kind.To) ∷ (codes "if"
 abbrev pub words_of_3 : List Entry
 words_of_3 = (codes "for" is kind.For) ∷ (codes "int" is kind.Int) ∷ []
 
+-- The rest of the words of four letters.
+abbrev pub more_words_of_4 : List Entry
+more_words_of_4 =
+    (codes "void" is kind.Void) ∷ (codes "char" is kind.Char) ∷ (codes "long" is kind.Long) ∷ (codes "enum" is kind.Enum) ∷ []
+
 abbrev pub words_of_4 : List Entry
 words_of_4 =
     (codes "exit" is kind.Exit) ∷ (codes "when" is kind.When) ∷ (codes "sync" is kind.Sync) ∷ (codes "else" is kind.Else)
-    ∷ (codes "void" is kind.Void) ∷ (codes "char" is kind.Char) ∷ (codes "long" is kind.Long) ∷ (codes "enum" is kind.Enum) ∷ []
+    ∷ more_words_of_4
+
+-- The rest of the words of five letters.
+abbrev pub more_words_of_5 : List Entry
+more_words_of_5 =
+    (codes "break" is kind.Break) ∷ (codes "const" is kind.Const) ∷ (codes "short" is kind.Short)
+    ∷ (codes "float" is kind.Float) ∷ (codes "union" is kind.Union) ∷ []
 
 abbrev pub words_of_5 : List Entry
 words_of_5 =
     (codes "state" is kind.State) ∷ (codes "entry" is kind.Entry) ∷ (codes "syncq" is kind.Syncq) ∷ (codes "syncQ" is kind.SyncqCapital)
-    ∷ (codes "while" is kind.While) ∷ (codes "break" is kind.Break) ∷ (codes "const" is kind.Const) ∷ (codes "short" is kind.Short)
-    ∷ (codes "float" is kind.Float) ∷ (codes "union" is kind.Union) ∷ []
+    ∷ (codes "while" is kind.While)
+    ∷ more_words_of_5
+
+-- The rest of the words of six letters.
+abbrev pub more_words_of_6 : List Entry
+more_words_of_6 =
+    (codes "struct" is kind.Struct) ∷ (codes "return" is kind.Return) ∷ (codes "sizeof" is kind.Sizeof)
+    ∷ (codes "int8_t" is kind.Int8) ∷ []
 
 abbrev pub words_of_6 : List Entry
 words_of_6 =
     (codes "assign" is kind.Assign) ∷ (codes "string" is kind.String) ∷ (codes "double" is kind.Double) ∷ (codes "evflag" is kind.Evflag)
-    ∷ (codes "option" is kind.Option) ∷ (codes "struct" is kind.Struct) ∷ (codes "return" is kind.Return) ∷ (codes "sizeof" is kind.Sizeof)
-    ∷ (codes "int8_t" is kind.Int8) ∷ []
+    ∷ (codes "option" is kind.Option)
+    ∷ more_words_of_6
+
+-- The rest of the words of seven letters.
+abbrev pub more_words_of_7 : List Entry
+more_words_of_7 =
+    (codes "uint8_t" is kind.Uint8) ∷ (codes "int16_t" is kind.Int16) ∷ (codes "int32_t" is kind.Int32) ∷ []
 
 abbrev pub words_of_7 : List Entry
 words_of_7 =
     (codes "program" is kind.Program) ∷ (codes "monitor" is kind.Monitor) ∷ (codes "foreign" is kind.Foreign)
-    ∷ (codes "uint8_t" is kind.Uint8) ∷ (codes "int16_t" is kind.Int16) ∷ (codes "int32_t" is kind.Int32) ∷ []
+    ∷ more_words_of_7
 
 abbrev pub words_of_8 : List Entry
 words_of_8 =

@@ -1,6 +1,6 @@
 //! The words of the language: the bytes of a word come in, what it is to the grammar goes out.
 
-ghost use Rattle.snl_lex.specs.Kinds.{is_word, look_up, words, words_of_2, words_of_3, words_of_4, words_of_5, words_of_6, words_of_7, words_of_8};
+ghost use Rattle.snl_lex.specs.Kinds.{is_word, look_up, words, more_words_of_4, more_words_of_5, more_words_of_6, more_words_of_7, words_of_2, words_of_3, words_of_4, words_of_5, words_of_6, words_of_7, words_of_8};
 ghost use Rattle.std.specs.Prelude.{◌≡◌};
 
 use crate::kind::Kind;
@@ -26,37 +26,87 @@ fn word_of_three(word: &[u8]) -> Kind
     }
 }
 
+fn other_word_of_four(word: &[u8]) -> Kind
+    ensures { result ≡ look_up more_words_of_4 word.now }
+{
+    if word == b"void".as_slice() {
+        Kind::Void
+    } else if word == b"char".as_slice() {
+        Kind::Char
+    } else if word == b"long".as_slice() {
+        Kind::Long
+    } else if word == b"enum".as_slice() {
+        Kind::Enum
+    } else {
+        Kind::Bad
+    }
+}
+
 fn word_of_four(word: &[u8]) -> Kind
     ensures { result ≡ look_up words_of_4 word.now }
 {
-    match word {
-        b"exit" => Kind::Exit,
-        b"when" => Kind::When,
-        b"sync" => Kind::Sync,
-        b"else" => Kind::Else,
-        b"void" => Kind::Void,
-        b"char" => Kind::Char,
-        b"long" => Kind::Long,
-        b"enum" => Kind::Enum,
-        _ => Kind::Bad,
+    if word == b"exit".as_slice() {
+        Kind::Exit
+    } else if word == b"when".as_slice() {
+        Kind::When
+    } else if word == b"sync".as_slice() {
+        Kind::Sync
+    } else if word == b"else".as_slice() {
+        Kind::Else
+    } else {
+        other_word_of_four(word)
+    }
+}
+
+fn other_word_of_five(word: &[u8]) -> Kind
+    ensures { result ≡ look_up more_words_of_5 word.now }
+{
+    if word == b"break".as_slice() {
+        Kind::Break
+    } else if word == b"const".as_slice() {
+        Kind::Const
+    } else if word == b"short".as_slice() {
+        Kind::Short
+    } else if word == b"float".as_slice() {
+        Kind::Float
+    } else if word == b"union".as_slice() {
+        Kind::Union
+    } else {
+        Kind::Bad
     }
 }
 
 fn word_of_five(word: &[u8]) -> Kind
     ensures { result ≡ look_up words_of_5 word.now }
 {
-    match word {
-        b"state" => Kind::State,
-        b"entry" => Kind::Entry,
-        b"syncq" => Kind::Syncq,
-        b"syncQ" => Kind::SyncqCapital,
-        b"while" => Kind::While,
-        b"break" => Kind::Break,
-        b"const" => Kind::Const,
-        b"short" => Kind::Short,
-        b"float" => Kind::Float,
-        b"union" => Kind::Union,
-        _ => Kind::Bad,
+    if word == b"state".as_slice() {
+        Kind::State
+    } else if word == b"entry".as_slice() {
+        Kind::Entry
+    } else if word == b"syncq".as_slice() {
+        Kind::Syncq
+    } else if word == b"syncQ".as_slice() {
+        Kind::SyncqCapital
+    } else if word == b"while".as_slice() {
+        Kind::While
+    } else {
+        other_word_of_five(word)
+    }
+}
+
+fn other_word_of_six(word: &[u8]) -> Kind
+    ensures { result ≡ look_up more_words_of_6 word.now }
+{
+    if word == b"struct".as_slice() {
+        Kind::Struct
+    } else if word == b"return".as_slice() {
+        Kind::Return
+    } else if word == b"sizeof".as_slice() {
+        Kind::Sizeof
+    } else if word == b"int8_t".as_slice() {
+        Kind::Int8
+    } else {
+        Kind::Bad
     }
 }
 
@@ -73,14 +123,20 @@ fn word_of_six(word: &[u8]) -> Kind
         Kind::Evflag
     } else if word == b"option".as_slice() {
         Kind::Option
-    } else if word == b"struct".as_slice() {
-        Kind::Struct
-    } else if word == b"return".as_slice() {
-        Kind::Return
-    } else if word == b"sizeof".as_slice() {
-        Kind::Sizeof
-    } else if word == b"int8_t".as_slice() {
-        Kind::Int8
+    } else {
+        other_word_of_six(word)
+    }
+}
+
+fn other_word_of_seven(word: &[u8]) -> Kind
+    ensures { result ≡ look_up more_words_of_7 word.now }
+{
+    if word == b"uint8_t".as_slice() {
+        Kind::Uint8
+    } else if word == b"int16_t".as_slice() {
+        Kind::Int16
+    } else if word == b"int32_t".as_slice() {
+        Kind::Int32
     } else {
         Kind::Bad
     }
@@ -95,14 +151,8 @@ fn word_of_seven(word: &[u8]) -> Kind
         Kind::Monitor
     } else if word == b"foreign".as_slice() {
         Kind::Foreign
-    } else if word == b"uint8_t".as_slice() {
-        Kind::Uint8
-    } else if word == b"int16_t".as_slice() {
-        Kind::Int16
-    } else if word == b"int32_t".as_slice() {
-        Kind::Int32
     } else {
-        Kind::Bad
+        other_word_of_seven(word)
     }
 }
 
