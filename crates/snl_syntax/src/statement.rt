@@ -1,6 +1,6 @@
 //! Reads statements and blocks.
 
-ghost use Rattle.std.specs.Prelude.{◌≡◌, [], IfOk};
+ghost use Rattle.std.specs.Prelude.{◌≡◌, [], IfOk, Some};
 ghost use Rattle.snl_syntax.specs.NestsStatement.{NestsStatement};
 ghost use Rattle.snl_syntax.specs.Reading.Expressions as exprs;
 ghost use Rattle.snl_syntax.specs.Reading.Statements as spec;
@@ -8,6 +8,7 @@ ghost use Rattle.snl_syntax.specs.Steps as read;
 ghost use Rattle.snl_syntax.specs.Steps.{Reads};
 ghost use Rattle.snl_syntax.specs.Tokens.{ahead};
 ghost use Rattle.snl_lex.specs.declared.kind.Kind.TheVariants as kind;
+ghost use Rattle.snl_syntax.specs.declared.stop.Step.TheVariants as steps;
 ghost use Rattle.snl_syntax.specs.declared.tree.statement.Stmt.TheVariants as tree;
 
 use crate::declaration::declaration;
@@ -234,6 +235,17 @@ fn for_of(alloc: Global, head: ForHead, body: Stmt) -> Result<Stmt, AllocError>
     Ok(Stmt::For(head, Boxed::new(alloc, body)?))
 }
 
+// The last step over the arms of an `if`: an arm, and a body that comes after its `else`.
+fn last_of(
+    alloc: Global,
+    arm: (Expr, Stmt),
+    body: Stmt,
+) -> Result<Step<(Expr, Stmt), Option<Boxed<Stmt>>>, AllocError>
+    ensures { IfOk result (λ s. s ≡ steps.Last (Some arm) (Some body)) }
+{
+    Ok(Step::Last(Some(arm), Some(Boxed::new(alloc, body)?)))
+}
+
 /// The rules of statements that hold others, with the reader of those one level deeper.
 #[derive(Clone, Copy)]
 pub struct Statements<F> {
@@ -375,8 +387,7 @@ impl<F: Fn(Global, &[Kind], usize, usize) -> Result<(Stmt, usize), Stop>> Statem
         ensures { Reads kinds.now result (spec.last_body self.now.depth (spec.stmt self.now.depth) arm (ahead kinds.now at)) }
     {
         let (body, at) = self.body(kinds, at)?;
-        let body = Boxed::new(self.alloc, body)?;
-        Ok((Step::Last(Some(arm), Some(body)), at))
+        Ok((last_of(self.alloc, arm, body)?, at))
     }
 
     #[tactic(auto, unfolding(crate::specs::Reading::Statements::after_else, crate::specs::Steps::and_then))]
