@@ -5,8 +5,8 @@ use Rattle.std.specs.List.{flat_map}
 use Rattle.std.specs.Str.{bytes_eq}
 use Rattle.snl_walk.specs.declared.codes.Code.{Code}
 use Rattle.snl_walk.specs.declared.codes.Code.TheVariants.{E07, E10, E17, E18, E19, E20, E21, W01, W03}
-use Rattle.snl_walk.specs.declared.occurrence.Asked.{Asked}
-use Rattle.snl_walk.specs.declared.occurrence.Asked.TheVariants as asked
+use Rattle.snl_walk.specs.declared.occurrence.ArgumentRole.{ArgumentRole}
+use Rattle.snl_walk.specs.declared.occurrence.ArgumentRole.TheVariants as role
 use Rattle.snl_walk.specs.declared.occurrence.Follows.{Follows}
 use Rattle.snl_walk.specs.declared.occurrence.Follows.TheVariants as follows
 use Rattle.snl_walk.specs.declared.occurrence.Local.{Local}
@@ -32,13 +32,13 @@ abbrev pub is_nothing : Follows → Bool
 is_nothing follows.Nothing = true
 is_nothing _ = false
 
-abbrev pub asks_flag : Asked → Bool
-asks_flag asked.EventFlag = true
-asks_flag _ = false
+abbrev pub wants_flag : ArgumentRole → Bool
+wants_flag role.EventFlag = true
+wants_flag _ = false
 
-abbrev pub asks_channel : Asked → Bool
-asks_channel asked.Channel = true
-asks_channel _ = false
+abbrev pub wants_channel : ArgumentRole → Bool
+wants_channel role.Channel = true
+wants_channel _ = false
 
 -- At a name that is called.
 abbrev pub rules_at_call : List ℕ → Manner → List Code
@@ -47,7 +47,7 @@ rules_at_call name m = when (not m.in_condition && bytes_eq name (codes "delay")
 -- At a name that is used: an event flag has to be a name alone, and a variable with a channel may have subscripts.
 abbrev pub rules_at_use : Option Outer → Manner → List Code
 rules_at_use passed m =
-    when (asks_flag m.asked && is_nothing m.follows && lacks_flag passed) E20 ++ when (asks_channel m.asked && lacks_channel passed) E21
+    when (wants_flag m.role && is_nothing m.follows && lacks_flag passed) E20 ++ when (wants_channel m.role && lacks_channel passed) E21
 
 abbrev pub rules_at_name : List ℕ → Option Outer → Manner → List Code
 rules_at_name name passed m = if is_call m.follows then rules_at_call name m else rules_at_use passed m

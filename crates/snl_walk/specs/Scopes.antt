@@ -9,7 +9,7 @@ use Rattle.snl_walk.specs.declared.occurrence.Named.{Named}
 use Rattle.snl_walk.specs.declared.occurrence.Occurrence.{Occurrence}
 use Rattle.snl_walk.specs.declared.occurrence.Setting.{Setting}
 use Rattle.snl_walk.specs.declared.occurrence.What.TheVariants as what
-use Rattle.snl_walk.specs.Calls.{asked_of}
+use Rattle.snl_walk.specs.Calls.{role_in}
 
 -- Names with their declarations, the nearest first.
 abbrev pub Names : Type 0
@@ -29,7 +29,7 @@ resolve bytes visible n = look_up (bytes n) visible
 
 -- How a name occurs, told by what the name that is called before it asks for.
 abbrev pub manner_of : (ℕ → List ℕ) → Bool → Setting → Manner
-manner_of bytes in_condition s = record { follows = s.follows; asked = asked_of bytes s.argument_of; in_condition = in_condition }
+manner_of bytes in_condition s = record { follows = s.follows; role = role_in bytes s.argument_of; in_condition = in_condition }
 
 -- A name in an expression, where these names are visible.
 abbrev pub seen : (ℕ → List ℕ) → Names → Bool → Named → Occurrence

@@ -1,10 +1,10 @@
-//! What the built-in functions ask of their first argument.
+//! What the built-in functions want as their first argument.
 
 ghost use Rattle.std.specs.Prelude.{◌≡◌};
-ghost use Rattle.snl_walk.specs.Calls.{asked_by, asked_of, asks_for_channel, asks_for_flag};
+ghost use Rattle.snl_walk.specs.Calls.{asks_for_channel, asks_for_flag, role_by, role_in};
 ghost use Rattle.snl_walk.specs.Tokens.{IsSource, token_bytes};
 
-use crate::occurrence::Asked;
+use crate::occurrence::ArgumentRole;
 use crate::source::Source;
 
 fn asks_for_flag(name: &[u8]) -> bool
@@ -31,25 +31,25 @@ fn asks_for_channel(name: &[u8]) -> bool
         || name == b"pvTimeStamp".as_slice()
 }
 
-fn asked_by(name: &[u8]) -> Asked
-    ensures { result ≡ asked_by name.now }
+fn role_by(name: &[u8]) -> ArgumentRole
+    ensures { result ≡ role_by name.now }
 {
     if asks_for_flag(name) {
-        Asked::EventFlag
+        ArgumentRole::EventFlag
     } else if asks_for_channel(name) {
-        Asked::Channel
+        ArgumentRole::Channel
     } else {
-        Asked::Nothing
+        ArgumentRole::Any
     }
 }
 
-/// What is asked of the first argument of the call of the name at this token, if it is one.
-pub(crate) fn asked_of(source: &Source, call: Option<usize>) -> Asked
+/// The role of the first argument in the call of the name at this token, if it is one.
+pub(crate) fn role_in(source: &Source, call: Option<usize>) -> ArgumentRole
     requires { IsSource source.now.text.now source.now.tokens.now }
-    ensures { result ≡ asked_of (token_bytes source.now.text.now source.now.tokens.now) call }
+    ensures { result ≡ role_in (token_bytes source.now.text.now source.now.tokens.now) call }
 {
     match call {
-        Some(call) => asked_by(source.bytes(call)),
-        None => Asked::Nothing,
+        Some(call) => role_by(source.bytes(call)),
+        None => ArgumentRole::Any,
     }
 }

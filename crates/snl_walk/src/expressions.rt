@@ -6,7 +6,7 @@ ghost use Rattle.snl_walk.specs.Tokens.{IsSource, token_bytes};
 ghost use Rattle.snl_walk.specs.Scopes.{manner_of, seen};
 ghost use Rattle.snl_walk.specs.Expressions.{are_subscripts, before, following, names_if, names_in_all, names_in_arguments, names_in_arms, names_in_expr, names_in_init, names_in_links, names_in_tails, names_in_targets, names_in_value, names_in_values, operand, plain, subscript_by, tail_of};
 
-use crate::calls::asked_of;
+use crate::calls::role_in;
 use crate::occurrence::{Follows, Manner, Named, Occurrence, Setting, What};
 use crate::source::Source;
 use crate::visible::Visible;
@@ -116,7 +116,7 @@ fn manner_of(source: &Source, in_condition: bool, setting: Setting) -> Manner
 {
     Manner {
         follows: setting.follows,
-        asked: asked_of(source, setting.argument_of),
+        role: role_in(source, setting.argument_of),
         in_condition,
     }
 }

@@ -26,7 +26,7 @@ pub use laws::{
     same_answers_same_findings, same_bytes_same_occurrences, subscripts_stand_second, tokens_rise,
 };
 pub use name_set::NameSet;
-pub use occurrence::{Asked, Follows, Local, Manner, Occurrence, What};
+pub use occurrence::{ArgumentRole, Follows, Local, Manner, Occurrence, What};
 pub use other_items::{OtherItems, Outer};
 pub use rules::{Finding, findings};
 pub use source::Source;

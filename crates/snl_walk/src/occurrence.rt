@@ -22,10 +22,11 @@ pub enum Follows {
     Other,
 }
 
-/// What a built-in function asks of its first argument.
+/// What a built-in function wants as its first argument.
 #[derive(Clone, Copy, Debug, PartialEq, Eq)]
-pub enum Asked {
-    Nothing,
+pub enum ArgumentRole {
+    /// Whatever comes.
+    Any,
     EventFlag,
     Channel,
 }
@@ -34,8 +35,8 @@ pub enum Asked {
 #[derive(Clone, Copy, Debug, PartialEq, Eq)]
 pub struct Manner {
     pub follows: Follows,
-    /// What the function asks of it whose first argument it is, alone or with subscripts alone after it.
-    pub asked: Asked,
+    /// What the function wants whose first argument it is, alone or with subscripts alone after it.
+    pub role: ArgumentRole,
     /// In the condition of a transition.
     pub in_condition: bool,
 }

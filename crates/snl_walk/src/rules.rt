@@ -4,11 +4,11 @@ ghost use Rattle.std.specs.Prelude.{◌≡◌, ◌++◌, IfOk, OnOk, map};
 ghost use Rattle.std.specs.List.{flat_map};
 ghost use Rattle.snl_walk.specs.declared.codes.Code.{Code};
 ghost use Rattle.snl_walk.specs.Passing.{lacks_channel, lacks_flag, passes};
-ghost use Rattle.snl_walk.specs.Rules.{asks_channel, asks_flag, finding, findings, found_wrong, is_nothing, is_repeated, rules_at, rules_at_call, rules_at_name, rules_at_use, when};
+ghost use Rattle.snl_walk.specs.Rules.{finding, findings, found_wrong, is_nothing, is_repeated, rules_at, rules_at_call, rules_at_name, rules_at_use, wants_channel, wants_flag, when};
 ghost use Rattle.snl_walk.specs.Tokens.{IsSource, token_bytes};
 
 use crate::codes::Code;
-use crate::occurrence::{Asked, Follows, Local, Manner, Occurrence, What};
+use crate::occurrence::{ArgumentRole, Follows, Local, Manner, Occurrence, What};
 use crate::other_items::{OtherItems, Outer};
 use crate::source::Source;
 use crate::undeclared::undeclared;
@@ -37,16 +37,16 @@ fn is_nothing(follows: Follows) -> bool
     matches!(follows, Follows::Nothing)
 }
 
-fn asks_flag(asked: Asked) -> bool
-    ensures { result ≡ asks_flag asked }
+fn wants_flag(role: ArgumentRole) -> bool
+    ensures { result ≡ wants_flag role }
 {
-    matches!(asked, Asked::EventFlag)
+    matches!(role, ArgumentRole::EventFlag)
 }
 
-fn asks_channel(asked: Asked) -> bool
-    ensures { result ≡ asks_channel asked }
+fn wants_channel(role: ArgumentRole) -> bool
+    ensures { result ≡ wants_channel role }
 {
-    matches!(asked, Asked::Channel)
+    matches!(role, ArgumentRole::Channel)
 }
 
 /// What a name passes for, which may resolve to a declaration in the item.
@@ -117,8 +117,8 @@ fn add_at_use(
 ) -> Result<(), OutOfMemory>
     ensures { OnOk result (findings.new.items ≡ findings.old.items ++ map (finding token) (rules_at_use passes manner)) }
 {
-    let no_flag = asks_flag(manner.asked) && is_nothing(manner.follows) && lacks_flag(passes);
-    let no_channel = asks_channel(manner.asked) && lacks_channel(passes);
+    let no_flag = wants_flag(manner.role) && is_nothing(manner.follows) && lacks_flag(passes);
+    let no_channel = wants_channel(manner.role) && lacks_channel(passes);
     add_when(no_flag, token, Code::E20, findings)?;
     add_when(no_channel, token, Code::E21, findings)
 }

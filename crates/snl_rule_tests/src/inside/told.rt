@@ -3,7 +3,7 @@
 ghost use Rattle.std.specs.Prelude.{All};
 ghost use Rattle.snl_lex.specs.Pieces.{LiesIn};
 
-use snl_walk::{Asked, Follows, Local, Manner, Occurrence, Source, What};
+use snl_walk::{ArgumentRole, Follows, Local, Manner, Occurrence, Source, What};
 use std::test::Fail;
 
 fn follows_letter(follows: Follows) -> u8 {
@@ -16,13 +16,13 @@ fn follows_letter(follows: Follows) -> u8 {
     }
 }
 
-// How a name occurs: what follows it, what is asked of it, and a question mark in a condition.
+// How a name occurs: what follows it, its role as an argument, and a question mark in a condition.
 fn add_manner(words: &mut Vec<u8>, manner: Manner) -> Result<(), Fail> {
     words.push(follows_letter(manner.follows))?;
-    match manner.asked {
-        Asked::Nothing => {}
-        Asked::EventFlag => words.push(b'f')?,
-        Asked::Channel => words.push(b'v')?,
+    match manner.role {
+        ArgumentRole::Any => {}
+        ArgumentRole::EventFlag => words.push(b'f')?,
+        ArgumentRole::Channel => words.push(b'v')?,
     }
     if manner.in_condition {
         words.push(b'?')?;
