@@ -25,8 +25,8 @@ pub use laws::summary_laws::{names_kept_once, plain_state_outline};
 pub use laws::token_laws::{names_are_tokens, targets_rise};
 pub use links::{Links, link};
 pub use snl_walk::{Code, Source};
-pub use summaries::alike::same_outline;
 pub use summaries::name::Name;
+pub use summaries::same_outline::same_outline;
 pub use summaries::summarize::summary_of;
 pub use summaries::summary::{
     ClauseKind, Coverage, Declared, Dims, ItemKind, NameRef, Opening, Outline, Role, Summary,
