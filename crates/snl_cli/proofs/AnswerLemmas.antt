@@ -1,8 +1,8 @@
 -- The pieces of an answer make the answer.
 use Rattle.std.proofs.Common.{◌≡◌, ℕ, List, [], ◌++◌, refl, sym, ap, ◌∙◌, append_assoc}
 use Rattle.std.specs.List.{flat_map}
-use Rattle.snl_session.specs.declared.found.findings.Diagnostic.{Diagnostic}
-use Rattle.snl_session.specs.Diagnostics.{diagnostics_of, errors_of, warnings_of}
+use Rattle.snl_kept.specs.declared.found.findings.Diagnostic.{Diagnostic}
+use Rattle.snl_kept.specs.Diagnostics.{diagnostics_of, errors_of, warnings_of}
 use Rattle.snl_cli.specs.Answers.{line_text, report_of, sum_text}
 
 -- the lines and the sum, said after an empty page, are the report

@@ -6,9 +6,9 @@ use Rattle.std.proofs.lemmas.List.{append-nil}
 use Rattle.snl_items.specs.Fresh.{fresh_items, fresh_pieces}
 use Rattle.snl_session.specs.declared.edits.Refused.{Refused}
 use Rattle.snl_session.specs.declared.edits.Refused.TheVariants.{Memory, Size}
-use Rattle.snl_session.specs.declared.edits.Work.{Work}
+use Rattle.snl_kept.specs.declared.work.Work.{Work}
 use Rattle.snl_session.specs.Edit.{limit, refusal_of, spliced}
-use Rattle.snl_session.specs.Stirred.{stirred}
+use Rattle.snl_kept.specs.Stirred.{stirred}
 use Rattle.snl_cli.specs.Run.{IsEdited, NoStart, start_fault}
 use Rattle.snl_cli.specs.Transcript.{or_memory}
 use Rattle.snl_cli.specs.Version.{Version, first_version, work_of}

@@ -4,10 +4,10 @@ use Rattle.std.specs.Char.{digit_char}
 use Rattle.std.specs.List.{concat}
 use Rattle.snl_session.specs.declared.edits.Refused.{Refused}
 use Rattle.snl_session.specs.declared.edits.Refused.TheVariants.{Range, Size, Memory}
-use Rattle.snl_session.specs.declared.edits.Work.{Work}
-use Rattle.snl_session.specs.declared.found.findings.Diagnostic.{Diagnostic}
+use Rattle.snl_kept.specs.declared.work.Work.{Work}
+use Rattle.snl_kept.specs.declared.found.findings.Diagnostic.{Diagnostic}
 use Rattle.snl_session.specs.Listing.{listing_text}
-use Rattle.snl_session.specs.Diagnostics.{diagnostics_of, errors_of, message_of, name_of, warnings_of}
+use Rattle.snl_kept.specs.Diagnostics.{diagnostics_of, errors_of, message_of, name_of, warnings_of}
 
 -- So many bytes of a text from an offset on.
 abbrev pub slice_of : (text : List ℕ) (start len : ℕ) → List ℕ

@@ -3,7 +3,7 @@ use Rattle.std.specs.Prelude.{◌≡◌, ◌≢◌, ℕ, ◌==◌, List, [], ◌
 use Rattle.std.specs.Bool.{OnTrue}
 use Rattle.snl_session.specs.declared.edits.Refused.{Refused}
 use Rattle.snl_session.specs.declared.edits.Refused.TheVariants.{Memory}
-use Rattle.snl_session.specs.Diagnostics.{errors_of}
+use Rattle.snl_kept.specs.Diagnostics.{errors_of}
 use Rattle.snl_session.specs.Edit.{refusal_of}
 use Rattle.snl_cli.specs.declared.faults.Status.{Status}
 use Rattle.snl_cli.specs.declared.faults.Status.TheVariants.{Clean, Errors}

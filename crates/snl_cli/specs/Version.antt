@@ -1,9 +1,9 @@
 -- What the answers to commands go by: a text, and what the edit cost that made it.
 use Rattle.std.specs.Prelude.{ℕ, List, [], length}
 use Rattle.snl_items.specs.Fresh.{fresh_items, fresh_pieces}
-use Rattle.snl_session.specs.declared.edits.Work.{Work}
+use Rattle.snl_kept.specs.declared.work.Work.{Work}
 use Rattle.snl_session.specs.Edit.{spliced}
-use Rattle.snl_session.specs.Stirred.{stirred}
+use Rattle.snl_kept.specs.Stirred.{stirred}
 
 -- What an edit of a text costs: how many pieces of the new text are fresh, how many items are, and how many items it makes to be checked.
 unfoldable pub work_of : (text : List ℕ) (start stop : ℕ) (new : List ℕ) → Work

@@ -3,7 +3,7 @@
 
 ghost use Rattle.std.specs.Prelude.{◌≡◌, ℕ, ◌||◌, [], false, is_err};
 ghost use Rattle.snl_listing.specs.Lister.{IsFor};
-ghost use Rattle.snl_session.specs.Tables.{tables_in};
+ghost use Rattle.snl_kept.specs.Tables.{tables_in};
 ghost use Rattle.snl_cli.specs.Answers.{list_text};
 ghost use Rattle.snl_cli.specs.Paged.{Listed, desk_of};
 ghost use Rattle.snl_cli.specs.Said.{Written};

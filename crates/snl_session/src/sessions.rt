@@ -5,21 +5,12 @@
 ghost use Rattle.std.specs.Prelude.{◌≡◌, ℕ, ◌+◌, ◌≤◌, [], List, length, IfOk, OnOk, OnErr, IsErrOf, IsOkUnless, MatchOption, None, string_bytes, true};
 ghost use Rattle.snl_session.specs.Edit.{spliced};
 
-use crate::edits::{Refused, Work};
-use crate::found::findings::Diagnostic;
-use crate::found::judge::judge;
-use crate::found::program::CutText;
-use crate::laws::once_laws::found_once;
-use crate::laws::text_laws::rows_have_bytes;
-use crate::lists::Lists;
-use crate::ways::planning::plan_of;
+use crate::edits::Refused;
 use snl_check::Tables;
 use snl_cut::OutOfMemory;
-use snl_items::ItemList;
-use snl_lex::{LineList, PieceList, TextEdit};
+use snl_kept::{Diagnostic, Kept, Work, found_once, rows_have_bytes};
+use snl_lex::TextEdit;
 use snl_listing::{Lister, listing};
-use snl_lists::Ordered;
-use snl_scope::link;
 use std::alloc::Global;
 use std::marker::Model;
 
@@ -29,44 +20,37 @@ const LIMIT: usize = 1_048_576;
 /// A text, its diagnostics and its tables. Its value is the text: all that it answers is what the text alone defines.
 pub struct Session {
     text: Vec<u8>,
-    lists: Lists,
-    found: Vec<Diagnostic>,
-    tables: Tables,
+    kept: Kept,
 }
 
 // By hand, so that whoever holds a session need not know what is in it to let it go.
 impl Drop for Session {
     fn drop(self) {
-        let Session {
-            text: _,
-            lists: _,
-            found: _,
-            tables: _,
-        } = self;
+        let Session { text: _, kept: _ } = self;
     }
 }
 
 impl Model for Session {
     ghost use Rattle.std.specs.Prelude.{ℕ, List};
-    ghost use Rattle.snl_session.specs.Kept.{IsJudged, IsListed};
+    ghost use Rattle.snl_session.specs.Held.{IsHeld};
 
     ghost Value = { List ℕ };
 
     ghost view = { λ s. s.text.items };
 
-    ghost invariant = { λ s. IsListed s.text.items s.lists × IsJudged s.text.items s.found.items s.tables };
+    ghost invariant = { λ s. IsHeld s.text.items s.kept };
 }
 
 impl Session {
-    ghost use Rattle.snl_session.specs.Diagnostics.{diagnostics_of, errors_of, stands_before, warnings_of};
+    ghost use Rattle.snl_kept.specs.Diagnostics.{diagnostics_of, errors_of, stands_before, warnings_of};
     ghost use Rattle.std.specs.List.{AllPairs};
     ghost use Rattle.snl_check.specs.Spans.{TablesHaveBytes, TablesLieIn};
     ghost use Rattle.snl_session.specs.Edit.{limit, refusal_of};
     ghost use Rattle.snl_items.specs.Fresh.{fresh_items, fresh_pieces};
     ghost use Rattle.snl_listing.specs.Lister.{IsFor};
     ghost use Rattle.snl_session.specs.Listing.{listing_text};
-    ghost use Rattle.snl_session.specs.Stirred.{stirred};
-    ghost use Rattle.snl_session.specs.Tables.{tables_in};
+    ghost use Rattle.snl_kept.specs.Stirred.{stirred};
+    ghost use Rattle.snl_kept.specs.Tables.{tables_in};
 
     /// A session over the empty text. The only refusal is that of memory.
     pub fn new(alloc: Global) -> Result<Session, Refused>
@@ -106,7 +90,7 @@ impl Session {
         ensures rising { AllPairs (λ x y. stands_before x y ≡ true) result.now }
     {
         found_once();
-        self.found.as_slice()
+        self.kept.found.as_slice()
     }
 
     /// The tables of the text. The bytes that their rows speak of lie in it, at least one for each name.
@@ -116,7 +100,7 @@ impl Session {
         ensures bytes { TablesHaveBytes result.now }
     {
         rows_have_bytes();
-        &self.tables
+        &self.kept.tables
     }
 
     /// A writer of the text's listing, which has all the memory that it needs. The only refusal is that of memory.
@@ -124,7 +108,7 @@ impl Session {
         ensures ok { IfOk result (IsFor (tables_in self.now)) }
         ensures refused { IsOkUnless result Refused.Memory }
     {
-        Lister::new(*self.text.allocator(), &self.tables).map_err(|_| Refused::Memory)
+        Lister::new(*self.text.allocator(), &self.kept.tables).map_err(|_| Refused::Memory)
     }
 
     /// The listing of the text. The only refusal is that of memory.
@@ -136,19 +120,23 @@ impl Session {
     }
 
     /// How many of the diagnostics are errors.
-    #[tactic(auto, unfolding(crate::specs::Diagnostics::errors_of))]
+    #[tactic(auto, unfolding(snl_kept::specs::Diagnostics::errors_of))]
     pub fn errors(&self) -> usize
         ensures { result ≡ errors_of self.now }
     {
-        self.found.iter().filter(|d| d.code.is_error()).count()
+        self.kept.found.iter().filter(|d| d.code.is_error()).count()
     }
 
     /// How many of the diagnostics are warnings.
-    #[tactic(auto, unfolding(crate::specs::Diagnostics::warnings_of))]
+    #[tactic(auto, unfolding(snl_kept::specs::Diagnostics::warnings_of))]
     pub fn warnings(&self) -> usize
         ensures { result ≡ warnings_of self.now }
     {
-        self.found.iter().filter(|d| !d.code.is_error()).count()
+        self.kept
+            .found
+            .iter()
+            .filter(|d| !d.code.is_error())
+            .count()
     }
 
     // Why an edit is refused before any memory is asked for.
@@ -182,49 +170,19 @@ impl Session {
             old_stop: stop,
             new_stop: start + new.len(),
         };
-        let plan = plan_of(alloc, &self.lists, &self.tables, &self.found, &edit)?;
-        let plan = plan.with_room_in(&mut self.lists, &mut self.found)?;
-        let work = plan.work();
-        plan.commit(&edit, &mut self.lists, &mut self.found, &mut self.tables);
+        let work = self.kept.edit(&edit)?;
         self.text = text;
         Ok(work)
     }
 
-    // A session over the empty text, which has no pieces and no items.
+    // A session over the empty text.
     fn empty(alloc: Global) -> Result<Session, OutOfMemory>
         ensures { IfOk result (λ s. s ≡ []) }
     {
-        let lines = LineList::of(alloc, &[], &[])?;
-        let cut = CutText {
-            text: &[],
-            lines: &lines,
-            tokens: &[],
-            ends: &[],
-            entries: &[],
-        };
-        let links = link(alloc, &[])?;
-        let judgement = judge(alloc, &cut, &[], &links, links.faults(), &[])?;
-        let lists = Lists {
-            pieces: PieceList {
-                ends: Vec::new(alloc),
-                kinds: Vec::new(alloc),
-                markers: 0,
-            },
-            lines,
-            items: ItemList {
-                marks: Vec::new(alloc),
-                ends: Vec::new(alloc),
-            },
-            entries: Ordered::new(alloc),
-            links,
-            checks: Ordered::new(alloc),
-            warns: judgement.warns,
-        };
+        let kept = Kept::empty(alloc)?;
         Ok(Session {
             text: Vec::new(alloc),
-            lists,
-            found: judgement.diagnostics,
-            tables: judgement.tables,
+            kept,
         })
     }
 }

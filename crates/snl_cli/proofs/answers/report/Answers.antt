@@ -1,5 +1,5 @@
 use Rattle.std.proofs.Common.{refl}
-use Rattle.snl_session.specs.Diagnostics.{errors_of, warnings_of}
+use Rattle.snl_kept.specs.Diagnostics.{errors_of, warnings_of}
 use Rattle.snl_cli.proofs.AnswerLemmas.{report_is}
 use Rattle.snl_cli.proofs.SaidLemmas.{AppendsPart-on, AppendsPart-same, Says-on, Written-err, Written-finished, Written-part}
 use Rattle.snl_cli.proofs.answers.report.Goals as goal

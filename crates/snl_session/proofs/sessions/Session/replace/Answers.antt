@@ -2,15 +2,10 @@ use Rattle.std.proofs.Common.{arith, ◌≡◌, ℕ, ◌+◌, ◌-◌, ◌≤◌
 use Rattle.std.proofs.lemmas.Bool.{ltb-false}
 use Rattle.std.proofs.lemmas.List.{length-take-le}
 use Rattle.snl_items.specs.Fresh.{fresh_items_between, fresh_pieces_between}
-use Rattle.snl_session.specs.declared.ways.planning.Plan.{Plan}
-use Rattle.snl_session.specs.declared.ways.planning.Plan.TheVariants as plan
 use Rattle.snl_session.specs.declared.edits.Refused.TheVariants.{Range, Size}
-use Rattle.snl_session.specs.Diagnostics.{diagnostics_of}
 use Rattle.snl_session.specs.Edit.{limit, refusal_of, spliced}
-use Rattle.snl_session.specs.Kept.{IsListed}
-use Rattle.snl_session.specs.Planned.{IsCost, IsPlan, work_of}
-use Rattle.snl_session.specs.Stirred.{stirred_between}
-use Rattle.snl_session.specs.Tables.{tables_in}
+use Rattle.snl_kept.specs.Kept.{IsKept}
+use Rattle.snl_kept.specs.Stirred.{stirred_between}
 use Rattle.snl_session.proofs.sessions.Session.replace.Goals as goal
 
 -- an edit that isn't refused gives a text that isn't too long
@@ -28,24 +23,15 @@ short_of text new start stop h =
     let few : length text - (stop - start) + length new ≤ limit = ltb-false limit (length text - (stop - start) + length new) tests.2 in
     omega (arith, few, order, inside, length-append (take start text ++ new) (drop stop text), length-append (take start text) new, length-take-le start text (omega (arith, order, inside)), length-drop stop text)
 
--- whichever way the plan goes, its cost is that of the edit
-cost_of : (old text : List ℕ) (start old_stop new_stop : ℕ) (p : Plan) → IsPlan old text start old_stop new_stop p → IsCost old text start old_stop new_stop (work_of p)
-cost_of old text start old_stop new_stop (plan.Short way) is = is.cost
-cost_of old text start old_stop new_stop (plan.Item way) is = is.cost
-cost_of old text start old_stop new_stop (plan.Whole way) is = is.cost
-
 pub invariant_of-self-2 : goal.invariant_of-self-2
 invariant_of-self-2 c =
     let text = c.in_ok-text.text.items in
     let text_is : text ≡ spliced c.args.self.now c.args.start c.args.stop c.args.new.now =
-    c.in_ok-text.ensures ∙ ap (λ (t : List ℕ). spliced t c.args.start c.args.stop c.args.new.now) (c.deref.ensures.value ∙ c.self.view_is) in (
-      subst (λ (t : List ℕ). IsListed t c.commit.new.lists) c.deref-3.ensures.value c.commit.ensures.lists,
-      record {
-        short = subst (λ (t : List ℕ). length t ≤ limit) (sym text_is) (short_of c.args.self.now c.args.new.now c.args.start c.args.stop c.requires);
-        found = c.commit.ensures.found ∙ ap diagnostics_of c.deref-3.ensures.value;
-        tables = c.commit.ensures.tables ∙ ap tables_in c.deref-3.ensures.value;
-      },
-    )
+    c.in_ok-text.ensures ∙ ap (λ (t : List ℕ). spliced t c.args.start c.args.stop c.args.new.now) (c.deref.ensures.value ∙ c.self.view_is) in
+    record {
+      short = subst (λ (t : List ℕ). length t ≤ limit) (sym text_is) (short_of c.args.self.now c.args.new.now c.args.start c.args.stop c.requires);
+      kept = subst (λ (t : List ℕ). IsKept t c.edit.new.self) c.deref-3.ensures.value c.in_ok-work.ensures.kept;
+    }
 
 pub returns : goal.returns
 returns c =
@@ -54,10 +40,7 @@ returns c =
     let old_is : c.deref-2.result.now ≡ c.args.self.now = c.deref-2.ensures.value ∙ c.self.view_is in
     let new_is : c.deref-3.result.now ≡ spliced c.args.self.now c.args.start c.args.stop c.args.new.now = c.deref-3.ensures.value ∙ text_is in
     let new_stop : ℕ = c.args.start + length c.args.new.now in
-    let work_is : c.work-work.result ≡ work_of c.in_ok-plan.plan = c.work-work.ensures ∙ ap work_of c.in_ok-plan-2.ensures.plan in
-    let cost : IsCost c.deref-2.result.now c.deref-3.result.now c.args.start c.args.stop new_stop c.work-work.result =
-    subst (IsCost c.deref-2.result.now c.deref-3.result.now c.args.start c.args.stop new_stop) (sym work_is)
-    (cost_of c.deref-2.result.now c.deref-3.result.now c.args.start c.args.stop new_stop c.in_ok-plan.plan c.in_ok-plan.ensures) in
+    let cost = c.in_ok-work.ensures.cost in
     record {
       ok = text_is;
       lexed = cost.lexed ∙ ap₂ (λ (old text : List ℕ). fresh_pieces_between old text c.args.start c.args.stop new_stop) old_is new_is;

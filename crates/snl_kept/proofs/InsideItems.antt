@@ -1,0 +1,424 @@
+-- What a text says after an edit inside one item that says to the others what it said.
+use Rattle.std.proofs.Common.{◌≡◌, ◌↔◌, ℕ, suc, ◌+◌, ◌<◌, ◌≤◌, inl, inr, All, true, IsTrue, List, [], ◌∷◌, ◌++◌, length, map, take, drop, get_or, slice_get, Option, None, Some, option_map, refl, sym, ap, ap₂, ◌∙◌, subst, append_assoc, arith, length-append}
+use Rattle.std.specs.List.{AllByRecursion}
+use Rattle.std.proofs.lemmas.List.{drop_at, length-map, map-append, take_at}
+use Rattle.std.proofs.lemmas.List.Elements.{All-drop, All-filter, All-take, recursion_from_All}
+use Rattle.snl_cut.specs.Cut.{Rises, ends_below, last_end}
+use Rattle.snl_lex.specs.declared.lines.Line.{Line}
+use Rattle.snl_lex.specs.declared.piece.Class.TheVariants.{White}
+use Rattle.snl_lex.specs.declared.piece.Piece.{Piece}
+use Rattle.snl_lex.specs.declared.shift.Shift.{Shift}
+use Rattle.snl_lex.specs.Lines.{line_at}
+use Rattle.snl_lex.specs.PieceList.{spelled}
+use Rattle.snl_lex.specs.Pieces.{LiesIn, is_token, pieces_of, tokens_of}
+use Rattle.snl_lex.specs.Shift.{IsOutside, IsShift, shifted_line, shifted_offset, shifted_piece}
+use Rattle.snl_syntax.specs.Outcome.{parsed_by, parsed_in, sound_tree}
+use Rattle.snl_syntax.specs.declared.tree.item.Item.{Item}
+use Rattle.snl_items.specs.Changes.{LeavesAround}
+use Rattle.snl_items.specs.Items.{item_ends, spelled_items}
+use Rattle.snl_scope.specs.SpelledTokens.{summary_by}
+use Rattle.snl_scope.specs.Summaries.{kind_of, summary_in}
+use Rattle.snl_scope.specs.Summaries.Tokens.{token_bytes}
+use Rattle.snl_scope.specs.View.{same_view, view}
+use Rattle.snl_scope.specs.declared.summaries.summary.ItemKind.{ItemKind}
+use Rattle.snl_scope.specs.declared.summaries.summary.Outline.{Outline}
+use Rattle.snl_scope.specs.declared.summaries.summary.Summary.{Summary}
+use Rattle.snl_tables.specs.declared.rows.Span.{Span}
+use Rattle.snl_tables.specs.Shifted.{shifted_span}
+use Rattle.snl_check.specs.Items.{outline_of_item, span_of}
+use Rattle.snl_check.specs.Shifted.{KeepsItem, shifted_item, shifted_tokens, start_at}
+use Rattle.snl_check.specs.ShiftedAround.{IsPlacedAt, ReplacesOne, ReplacesItem, is_plain}
+use Rattle.snl_kept.specs.declared.entries.Entry.{Entry}
+use Rattle.snl_kept.specs.declared.ways.plan.Changes.{Changes}
+use Rattle.snl_kept.specs.declared.ways.recheck.MadeCheck.{MadeCheck}
+use Rattle.snl_kept.specs.Checks.{check_by, links_in, outlines_in}
+use Rattle.snl_kept.specs.Entries.{entry_by}
+use Rattle.snl_kept.specs.Linked.{outlines_of}
+use Rattle.snl_kept.specs.ReplacedItem.{DeclaresInHead, IsInside, IsLeft, IsOneReplaced, ReplacesInside, StaysItem, own_check, own_head, own_tokens}
+use Rattle.snl_kept.specs.Program.{ProgramItem, item_tokens, items_of, program_item, tree_in}
+use Rattle.snl_kept.specs.Rechecked.{AreChecksMade, kept_of, made_at, made_checks, nones}
+use Rattle.snl_kept.specs.Stirred.{stirred_between}
+use Rattle.snl_kept.proofs.MadeChecks.{checks_made, made_are_stirred, stirred_told}
+use Rattle.snl_kept.proofs.MemberParts.{element_at, got, got_other, others_mapped, taken_to_last}
+use Rattle.snl_kept.proofs.Rechecks.{Spelled}
+use Rattle.snl_kept.proofs.ShiftPlans.{none_marked, shift_is}
+use Rattle.snl_kept.proofs.ShiftedFindings.{stays}
+use Rattle.snl_kept.proofs.ShiftedItems.{all_items, all_kinds, all_outlines}
+use Rattle.snl_kept.proofs.ShiftedLines.{IsAfter, IsInFront, KeepsLine, all_after, all_in_front, in_front}
+use Rattle.snl_kept.proofs.ShiftedText.{along}
+use Rattle.snl_kept.proofs.InsideChecks.{one_check}
+use Rattle.snl_kept.proofs.InsideParts.{IsPastHead, are_parts, back_alike, back_each, before_count, entry_is, entry_was, front_alike, front_each, front_olds_count, fronts_count, head_before, head_shifts, own_now, spelled_parts, stops_after, were_parts}
+
+-- two facts of each
+both : {X : Type 0} (P Q R : X → Type 0) → ((x : X) → P x → Q x → R x) → (xs : List X) → AllByRecursion P xs → AllByRecursion Q xs → AllByRecursion R xs
+both P Q R f [] h g = tt
+both P Q R f (x ∷ xs) h g = (f x h.0 g.0, both P Q R f xs h.1 g.1)
+
+-- another element in the place of one
+replaced_at : {X : Type 0} (front : List X) (x y : X) (back : List X) (n : ℕ) → length front ≡ n → take n (front ++ (x ∷ back)) ++ (y ∷ drop (n + 1) (front ++ (x ∷ back))) ≡ front ++ (y ∷ back)
+replaced_at {X = X} front x y back n many =
+    let past : length (front ++ (x ∷ [])) ≡ n + 1 = omega (arith, length-append front (x ∷ []), many) in
+    ap₂ (λ (a b : List X). a ++ (y ∷ b)) (take_at front (x ∷ back) n many)
+    (ap (drop (n + 1)) (sym (append_assoc front (x ∷ []) back)) ∙ drop_at (front ++ (x ∷ [])) back (n + 1) past)
+
+module _ (old text : List ℕ) (start old_stop new_stop : ℕ) (c : Changes) (s : Shift) (x e : Entry) (is : IsInside old text start old_stop new_stop c s x e)
+    -- what the laws of the layers below say
+    (inside : (text : List ℕ) → All (LiesIn text) (pieces_of text))
+    (tree_told : (text : List ℕ) (tokens : List Piece) → sound_tree (parsed_in text tokens) ≡ tree_in text tokens)
+    (by_spelling : (text : List ℕ) (tokens : List Piece) → parsed_in text tokens ≡ parsed_by (spelled text tokens))
+    (summary_told : (text : List ℕ) (tokens : List Piece) (tree : Option Item) → summary_in text tokens tree ≡ summary_by (spelled text tokens) tree)
+    (bytes_same : (text moved : List ℕ) (tokens shifted : List Piece) → spelled text tokens ≡ spelled moved shifted → token_bytes text tokens ≡ token_bytes moved shifted)
+    (views : (ss : List Outline) (i : ℕ) (ts : List Outline) (j : ℕ) (s : Summary) → IsTrue (same_view ss i ts j s) ↔ (view ss i s ≡ view ts j s))
+    (lines : (old text : List ℕ) (s : Shift) (o : ℕ) → IsShift old text s → IsOutside old s o → line_at text (shifted_offset s o) ≡ shifted_line s o (line_at old o))
+    (checks_stay : (ss ts : List Outline) (j i : ℕ) (x : Spelled) → same_view ss j ts i (entry_by x).summary ≡ true → check_by ss j x ≡ check_by ts i x)
+    (rises : (text : List ℕ) → Rises 0 (item_ends text))
+    (lasts : (text : List ℕ) → last_end 0 (item_ends text) ≡ length (tokens_of text))
+    (around : LeavesAround s (tokens_of old) (tokens_of text) c.tokens.made.items c.tokens.edit) where
+  abbrev k : ℕ
+  k = c.items.kept_front
+
+  past : IsPastHead old text start old_stop new_stop c s
+  past = record {
+    tokens = is.changed.tokens;
+    items = is.changed.items;
+    one_made = is.one_made;
+    one_gone = is.one_gone;
+    around = around;
+    head = is.head;
+    rises = rises old;
+  }
+
+  tokens_lie : All (LiesIn old) (tokens_of old)
+  tokens_lie = All-filter is_token (LiesIn old) (pieces_of old) (inside old)
+
+  abbrev before : List Piece
+  before = take c.tokens.edit.start (tokens_of old)
+
+  abbrev after : List Piece
+  after = drop c.tokens.edit.old_stop (tokens_of old)
+
+  -- the head of the item is before the edit, so that is not at the text's beginning
+  some_before : 0 < start
+  some_before =
+      let none : Piece = record { kind = White; start = 0; len = 0 } in
+      let some : 0 < length before = omega (arith, is.head, before_count old text start old_stop new_stop c s past) in
+      let lies = All-take (LiesIn old) c.tokens.edit.start (tokens_of old) tokens_lie 0 none some in
+      omega (arith, around.in_front 0 none some, lies.0, is.by.start_is)
+
+  shift : IsShift old text s
+  shift =
+      shift_is old text start old_stop new_stop s is.by is.edit some_before is.no_marker
+      (none_marked old text start old_stop new_stop c.pieces.kept_front c.pieces.made.items c.pieces.kept_back c.pieces.kept_from c.pieces.list.ends.items c.pieces.list.kinds.items is.changed.pieces is.no_marker is.no_marker_made)
+      is.old_short is.short
+
+  -- ---- the items
+
+  abbrev front_tokens : List (List Piece)
+  front_tokens = take k (item_tokens old)
+
+  abbrev back_tokens : List (List Piece)
+  back_tokens = drop (suc k) (item_tokens old)
+
+  abbrev was_own : List Piece
+  was_own = own_tokens old k
+
+  abbrev is_own : List Piece
+  is_own = own_tokens text k
+
+  abbrev front : List ProgramItem
+  front = map (program_item old) front_tokens
+
+  abbrev back : List ProgramItem
+  back = map (program_item old) back_tokens
+
+  number : length front ≡ k
+  number = length-map front_tokens (program_item old) ∙ fronts_count old text start old_stop new_stop c s past
+
+  items_were : items_of old ≡ front ++ (program_item old was_own ∷ back)
+  items_were = ap (map (program_item old)) (were_parts old text start old_stop new_stop c s past) ∙ map-append (program_item old) front_tokens (was_own ∷ back_tokens)
+
+  alike_in_front : AllByRecursion (λ m. spelled text (shifted_tokens s m) ≡ spelled old m) front_tokens
+  alike_in_front = front_alike old text start old_stop new_stop c s past
+
+  alike_at_back : AllByRecursion (λ m. spelled text (shifted_tokens s m) ≡ spelled old m) back_tokens
+  alike_at_back = back_alike old text start old_stop new_stop c s past
+
+  items_are : items_of text ≡ map (shifted_item s) front ++ (program_item text is_own ∷ map (shifted_item s) back)
+  items_are =
+      ap (map (program_item text)) (are_parts old text start old_stop new_stop c s past)
+      ∙ map-append (program_item text) (map (shifted_tokens s) front_tokens) (is_own ∷ map (shifted_tokens s) back_tokens)
+      ∙ ap₂ (λ (a b : List ProgramItem). a ++ (program_item text is_own ∷ b)) (all_items old text s tree_told by_spelling summary_told front_tokens alike_in_front)
+      (all_items old text s tree_told by_spelling summary_told back_tokens alike_at_back)
+
+  -- ---- the item that is replaced
+
+  was_spelled : x ≡ entry_by (spelled old was_own)
+  was_spelled = entry_was old text start old_stop new_stop c s past x is.was
+
+  spelled_so : e ≡ entry_by (spelled text is_own)
+  spelled_so = entry_is old text start old_stop new_stop c s past e is.made
+
+  own_summary : (text : List ℕ) (m : List Piece) → summary_in text m (tree_in text m) ≡ (entry_by (spelled text m)).summary
+  own_summary text m =
+      ap (summary_in text m) (sym (tree_told text m) ∙ ap sound_tree (by_spelling text m)) ∙ summary_told text m (sound_tree (parsed_by (spelled text m)))
+
+  summary_was : summary_in old was_own (tree_in old was_own) ≡ x.summary
+  summary_was = own_summary old was_own ∙ ap (λ (y : Entry). y.summary) (sym was_spelled)
+
+  summary_is : summary_in text is_own (tree_in text is_own) ≡ e.summary
+  summary_is = own_summary text is_own ∙ ap (λ (y : Entry). y.summary) (sym spelled_so)
+
+  outline_same : (summary_in text is_own (tree_in text is_own)).outline ≡ (summary_in old was_own (tree_in old was_own)).outline
+  outline_same = ap (λ (y : Summary). y.outline) summary_is ∙ is.outline ∙ ap (λ (y : Summary). y.outline) (sym summary_was)
+
+  outline_was : (summary_in old was_own (tree_in old was_own)).outline ≡ x.summary.outline
+  outline_was = ap (λ (y : Summary). y.outline) summary_was
+
+  kind_is : kind_of (tree_in text is_own) ≡ e.summary.kind
+  kind_is = ap (λ (y : Summary). y.kind) summary_is
+
+  -- ---- what they say to each other
+
+  outlines_same : outlines_in text ≡ outlines_in old
+  outlines_same =
+      ap (outlines_of text) items_are
+      ∙ map-append (outline_of_item text) (map (shifted_item s) front) (program_item text is_own ∷ map (shifted_item s) back)
+      ∙ ap₂ (λ (a b : List Outline). a ++ b) (all_outlines old text s tree_told by_spelling summary_told front_tokens alike_in_front)
+      (ap₂ (λ (o : Outline) (l : List Outline). o ∷ l) outline_same (all_outlines old text s tree_told by_spelling summary_told back_tokens alike_at_back))
+      ∙ sym (map-append (outline_of_item old) front (program_item old was_own ∷ back))
+      ∙ ap (outlines_of old) (sym items_were)
+
+  abbrev kinds_of : List ProgramItem → List ItemKind
+  kinds_of xs = map (λ (y : ProgramItem). kind_of y.tree) xs
+
+  abbrev kinds_in_front : List ItemKind
+  kinds_in_front = kinds_of front
+
+  abbrev kinds_at_back : List ItemKind
+  kinds_at_back = kinds_of back
+
+  kinds_were : kinds_of (items_of old) ≡ kinds_in_front ++ (kind_of (tree_in old was_own) ∷ kinds_at_back)
+  kinds_were = ap kinds_of items_were ∙ map-append (λ (y : ProgramItem). kind_of y.tree) front (program_item old was_own ∷ back)
+
+  kinds_now : kinds_of (items_of text) ≡ kinds_in_front ++ (e.summary.kind ∷ kinds_at_back)
+  kinds_now =
+      ap kinds_of items_are
+      ∙ map-append (λ (y : ProgramItem). kind_of y.tree) (map (shifted_item s) front) (program_item text is_own ∷ map (shifted_item s) back)
+      ∙ ap₂ (λ (a b : List ItemKind). a ++ b) (all_kinds old text s tree_told by_spelling summary_told front)
+      (ap₂ (λ (o : ItemKind) (l : List ItemKind). o ∷ l) kind_is (all_kinds old text s tree_told by_spelling summary_told back))
+
+  kinds_are : (links_in text).kinds ≡ take k (links_in old).kinds ++ (e.summary.kind ∷ drop (k + 1) (links_in old).kinds)
+  kinds_are =
+      kinds_now
+      ∙ sym (replaced_at kinds_in_front (kind_of (tree_in old was_own)) e.summary.kind kinds_at_back k (length-map front (λ (y : ProgramItem). kind_of y.tree) ∙ number))
+      ∙ ap (λ (ks : List ItemKind). take k ks ++ (e.summary.kind ∷ drop (k + 1) ks)) (sym kinds_were)
+
+  -- ---- the tokens that the edit leaves
+
+  left_before : All (IsLeft old s) before
+  left_before = λ n d lt. (inl (around.in_front n d lt), All-take (LiesIn old) c.tokens.edit.start (tokens_of old) tokens_lie n d lt)
+
+  left_after : All (IsLeft old s) after
+  left_after = λ n d lt. (inr (around.after n d lt), All-drop (LiesIn old) c.tokens.edit.old_stop (tokens_of old) tokens_lie n d lt)
+
+  abbrev order : s.start ≤ s.old_stop
+  order = shift.edit.old_order
+
+  line_of : (o : ℕ) → IsOutside old s o → line_at text (shifted_offset s o) ≡ shifted_line s o (line_at old o)
+  line_of o h = lines old text s o shift h
+
+  starts_before : All (IsInFront old text s order line_of) before
+  starts_before = λ n d lt.
+      let lies = All-take (LiesIn old) c.tokens.edit.start (tokens_of old) tokens_lie n d lt in
+      omega (arith, around.in_front n d lt, lies.0)
+
+  starts_after : All (IsAfter old text s order line_of) after
+  starts_after = λ n d lt.
+      let lies = All-drop (LiesIn old) c.tokens.edit.old_stop (tokens_of old) tokens_lie n d lt in
+      (around.after n d lt, omega (arith, lies.1))
+
+  stays_one : (m : List Piece) → spelled text (shifted_tokens s m) ≡ spelled old m → AllByRecursion (IsLeft old s) m → StaysItem old text s (program_item old m)
+  stays_one m same left = record { spelled_same = same; left = left }
+
+  front_stays : AllByRecursion (StaysItem old text s) front
+  front_stays =
+      along old (StaysItem old text s) front_tokens
+      (both (λ m. spelled text (shifted_tokens s m) ≡ spelled old m) (AllByRecursion (IsLeft old s)) (λ m. StaysItem old text s (program_item old m)) stays_one front_tokens alike_in_front
+      (front_each old text start old_stop new_stop c s past (IsLeft old s) left_before))
+
+  back_stays : AllByRecursion (StaysItem old text s) back
+  back_stays =
+      along old (StaysItem old text s) back_tokens
+      (both (λ m. spelled text (shifted_tokens s m) ≡ spelled old m) (AllByRecursion (IsLeft old s)) (λ m. StaysItem old text s (program_item old m)) stays_one back_tokens alike_at_back
+      (back_each old text start old_stop new_stop c s past (IsLeft old s) left_after))
+
+  -- ---- each of the others keeps its bytes and its line
+
+  keeps_one : (m : List Piece) → spelled text (shifted_tokens s m) ≡ spelled old m → KeepsLine old text s order line_of m → KeepsItem old text s (program_item old m)
+  keeps_one m same line = record {
+    bytes = λ n. ap (λ (f : ℕ → List ℕ). f n) (bytes_same text old (shifted_tokens s m) m same);
+    line = λ lined. line;
+  }
+
+  front_keeps : AllByRecursion (KeepsItem old text s) front
+  front_keeps =
+      along old (KeepsItem old text s) front_tokens
+      (both (λ m. spelled text (shifted_tokens s m) ≡ spelled old m) (AllByRecursion (IsInFront old text s order line_of)) (λ m. KeepsItem old text s (program_item old m))
+      (λ m same there. keeps_one m same (all_in_front old text s order line_of m there)) front_tokens alike_in_front
+      (front_each old text start old_stop new_stop c s past (IsInFront old text s order line_of) starts_before))
+
+  back_keeps : AllByRecursion (KeepsItem old text s) back
+  back_keeps =
+      along old (KeepsItem old text s) back_tokens
+      (both (λ m. spelled text (shifted_tokens s m) ≡ spelled old m) (AllByRecursion (IsAfter old text s order line_of)) (λ m. KeepsItem old text s (program_item old m))
+      (λ m same there. keeps_one m same (all_after old text s order line_of m there)) back_tokens alike_at_back
+      (back_each old text start old_stop new_stop c s past (IsAfter old text s order line_of) starts_after))
+
+  -- ---- the tokens before the edit of the one that is replaced
+
+  abbrev many : ℕ
+  many = own_head old c
+
+  two : (n : ℕ) → n < 2 → n < many
+  two n lt = omega (arith, is.head)
+
+  head : (n : ℕ) → n < many → slice_get is_own n ≡ option_map (shifted_piece s) (slice_get was_own n)
+  head = head_shifts old text start old_stop new_stop c s past
+
+  of_head : (P : Piece → Type 0) → All P before → (n : ℕ) (p : Piece) → n < many → slice_get was_own n ≡ Some p → P p
+  of_head P h n p lt there =
+      got P before (last_end 0 (take k (item_ends old)) + n) p (recursion_from_All P before h) (head_before old text start old_stop new_stop c s past n p lt there)
+
+  name_at : (o : Option Piece) → span_of (option_map (shifted_piece s) o) ≡ shifted_span s (span_of o)
+  name_at None = let at : ℕ → Span = λ n. record { start = n; len = 0 } in ap at (sym (stays s 0 shift.some_before))
+  name_at (Some p) = refl
+
+  head_begins : (n : ℕ) → n < 2 → start_at was_own n < s.start
+  head_begins n lt = by (slice_get was_own n) refl
+    where
+      by : (o : Option Piece) → slice_get was_own n ≡ o → (span_of o).start < s.start
+      by None there = shift.some_before
+      by (Some p) there = of_head (IsInFront old text s order line_of) starts_before n p (two n lt) there
+
+  line_is : line_at text (start_at is_own 0) ≡ shifted_line s (start_at was_own 1) (line_at old (start_at was_own 0))
+  line_is =
+      let line : Line = line_at old (start_at was_own 0) in
+      ap (λ (o : Span). line_at text o.start) (ap span_of (head 0 (two 0 (omega arith))) ∙ name_at (slice_get was_own 0))
+      ∙ line_of (start_at was_own 0) (inl (head_begins 0 (omega arith)))
+      ∙ in_front old text s order line_of line (start_at was_own 0) (head_begins 0 (omega arith))
+      ∙ sym (in_front old text s order line_of line (start_at was_own 1) (head_begins 1 (omega arith)))
+
+  placed : (n : ℕ) → n < many → IsPlacedAt s (program_item old was_own) (program_item text is_own) n
+  placed n lt = ap span_of (head n lt) ∙ name_at (slice_get was_own n)
+
+  declared_placed : AllByRecursion (λ d. IsPlacedAt s (program_item old was_own) (program_item text is_own) d.token) (summary_in old was_own (tree_in old was_own)).outline.declares
+  declared_placed =
+      recursion_from_All (λ d. IsPlacedAt s (program_item old was_own) (program_item text is_own) d.token) (summary_in old was_own (tree_in old was_own)).outline.declares
+      (λ n d lt. placed (get_or (summary_in old was_own (tree_in old was_own)).outline.declares n d).token (subst (DeclaresInHead many) (sym outline_was) is.declared n d lt))
+
+  replaces : ReplacesItem old text s (program_item old was_own) (program_item text is_own)
+  replaces = record {
+    was_plain = ap is_plain (ap (λ (y : Summary). y.kind) summary_was) ∙ is.plain;
+    is_plain_now = ap is_plain kind_is ∙ is.plain_now;
+    outline = outline_same;
+    declared = declared_placed;
+    no_clause = ap (λ (o : Outline). o.clauses) outline_was ∙ is.no_clause;
+    name = placed 1 (two 1 (omega arith));
+    line = line_is;
+  }
+
+  replaces_inside : ReplacesInside old text s many front (program_item old was_own) (program_item text is_own) back
+  replaces_inside = record {
+    shift = shift;
+    items_were = items_were;
+    items_are = items_are;
+    outlines = outlines_same;
+    front_stays = front_stays;
+    back_stays = back_stays;
+    stays = head;
+    left = λ n p lt there. of_head (IsLeft old s) left_before n p lt there;
+  }
+
+  -- ---- the items as the tables see them
+
+  abbrev px : ProgramItem
+  px = program_item old was_own
+
+  abbrev py : ProgramItem
+  py = program_item text is_own
+
+  this : {X : Type 0} (P : X → Type 0) (a b : X) (o : Option X) → o ≡ Some a → o ≡ Some b → P a → P b
+  this P a b o h g there = let same : a ≡ b = cc in subst P same there
+
+  one_in_parts : ReplacesOne old text s (front ++ (px ∷ back)) (map (shifted_item s) front ++ (py ∷ map (shifted_item s) back)) k
+  one_in_parts =
+      let many : length (map (shifted_item s) front) ≡ k = length-map front (shifted_item s) ∙ number in
+      record {
+        count = omega (
+          arith,
+          length-append (map (shifted_item s) front) (py ∷ map (shifted_item s) back),
+          length-append front (px ∷ back),
+          length-map front (shifted_item s),
+          length-map back (shifted_item s),
+        );
+        there = omega (arith, length-append front (px ∷ back), number);
+        others = λ i ne. others_mapped (shifted_item s) front px py back i (λ q. ne (q ∙ number));
+        kept = λ i z ne there. got_other (KeepsItem old text s) front px back i z front_keeps back_keeps (λ q. ne (q ∙ number)) there;
+        replaced = λ a b was_a is_b.
+            this (λ (z : ProgramItem). ReplacesItem old text s z b) px a (slice_get (front ++ (px ∷ back)) k) (element_at front px back k number) was_a
+            (this (λ (z : ProgramItem). ReplacesItem old text s px z) py b (slice_get (map (shifted_item s) front ++ (py ∷ map (shifted_item s) back)) k)
+            (element_at (map (shifted_item s) front) py (map (shifted_item s) back) k many) is_b replaces);
+      }
+
+  replaces_one : ReplacesOne old text s (items_of old) (items_of text) k
+  replaces_one =
+      subst (λ (ys : List ProgramItem). ReplacesOne old text s (items_of old) ys k) (sym items_are)
+      (subst (λ (xs : List ProgramItem). ReplacesOne old text s xs (map (shifted_item s) front ++ (py ∷ map (shifted_item s) back)) k) (sym items_were) one_in_parts)
+
+  -- ---- the checks
+
+  abbrev made : List ℕ
+  made = c.items.made.items
+
+  abbrev count : ℕ
+  count = length (item_ends old)
+
+  made_is : made_checks (outlines_in old) (outlines_in text) (kept_of count k made c.items.kept_back) (spelled_items text) ≡ made_at k (own_check old text k)
+  made_is =
+      let kept = kept_of count k made c.items.kept_back in
+      ap (λ (ts : List Outline). made_checks (outlines_in old) ts kept (spelled_items text)) outlines_same
+      ∙ ap (made_checks (outlines_in old) (outlines_in old) kept) (spelled_parts old text start old_stop new_stop c s past)
+      ∙ one_check views (outlines_in old) count k made c.items.kept_back is.one_made is.one_gone (take k (spelled_items old)) (spelled text is_own) (drop (suc k) (spelled_items old))
+      (front_olds_count old text start old_stop new_stop c s past)
+
+  checks_are : AreChecksMade old text k (nones made) c.items.kept_back (made_at k (own_check old text k))
+  checks_are =
+      subst (λ (m : List MadeCheck). AreChecksMade old text k (nones made) c.items.kept_back m) made_is
+      (checks_made old text c.tokens.edit.old_stop c.tokens.edit.new_stop k (last_end 0 (take k (item_ends old))) made c.items.kept_back (ends_below c.tokens.edit.start (item_ends old))
+      is.changed.items.order is.changed.items.ends (rises text) is.changed.items.before is.changed.items.items (checks_stay (outlines_in old) (outlines_in text)))
+
+  stirred_are : stirred_between old text start old_stop new_stop ≡ length (made_at k (own_check old text k))
+  stirred_are =
+      sym (made_are_stirred old text c.tokens.edit.old_stop c.tokens.edit.new_stop k (last_end 0 (take k (item_ends old))) made c.items.kept_back (ends_below c.tokens.edit.start (item_ends old))
+      is.changed.items.order is.changed.items.ends (rises text) is.changed.items.before is.changed.items.items (checks_stay (outlines_in old) (outlines_in text))
+      ∙ stirred_told old text start old_stop new_stop c.tokens.edit made is.changed.tokens.edit_is is.changed.items.fresh)
+      ∙ ap length made_is
+
+  pub one_replaced : IsOneReplaced old text start old_stop new_stop c s x e
+  one_replaced = record {
+    front = front;
+    back = back;
+    number = number;
+    inside = replaces_inside;
+    one = replaces_one;
+    first = omega (arith, is.head);
+    stop = stops_after old text start old_stop new_stop c s past;
+    within = omega (arith, lasts old, taken_to_last 0 (k + 1) (item_ends old) (rises old));
+    own_now = own_now old text start old_stop new_stop c s past;
+    outline_was = outline_was;
+    kinds = kinds_are;
+    was_spelled = was_spelled;
+    spelled_so = spelled_so;
+    checks = checks_are;
+    stirred = stirred_are;
+  }

@@ -1,0 +1,167 @@
+-- What is made of an edit inside one item that says to the others what it said.
+use Rattle.std.specs.Prelude.{◌≡◌, ℕ, ◌+◌, ◌≤◌, ◌⊎◌, Bool, true, false, List, [], ◌++◌, length, map, take, count_by, slice_get, Option, Some, None, is_some}
+use Rattle.snl_cut.specs.Cut.{last_end}
+use Rattle.snl_lex.specs.declared.piece.Piece.{Piece}
+use Rattle.snl_lex.specs.declared.shift.Shift.{Shift}
+use Rattle.snl_lex.specs.Lines.{is_marker}
+use Rattle.snl_lex.specs.Shift.{marker_count}
+use Rattle.snl_items.specs.Items.{item_ends}
+use Rattle.snl_syntax.specs.Outcome.{sound_tree}
+use Rattle.snl_scope.specs.Linked.{faults_of}
+use Rattle.snl_scope.specs.Order.{state_name}
+use Rattle.snl_scope.specs.Places.{enclosing_set}
+use Rattle.snl_scope.specs.Summaries.Tokens.{token_bytes}
+use Rattle.snl_scope.specs.declared.summaries.summary.ItemKind.{ItemKind}
+use Rattle.snl_scope.specs.declared.summaries.summary.Outline.{Outline}
+use Rattle.snl_tables.specs.declared.rows.Tables.{Tables}
+use Rattle.snl_tables.specs.Shifted.{shifted_tables}
+use Rattle.snl_check.specs.declared.rules.findings.Checked.{Checked}
+use Rattle.snl_check.specs.ShiftedAround.{is_plain, used_by, wakes_of}
+use Rattle.snl_kept.specs.declared.entries.Entry.{Entry}
+use Rattle.snl_kept.specs.declared.found.findings.Diagnostic.{Diagnostic}
+use Rattle.snl_kept.specs.declared.found.findings.Finding.{Finding}
+use Rattle.snl_kept.specs.declared.ways.item_plan.ItemPlan.{ItemPlan}
+use Rattle.snl_kept.specs.declared.ways.item_plan.Was.{Was}
+use Rattle.snl_kept.specs.declared.ways.one_item.OwnTokens.{OwnTokens}
+use Rattle.snl_kept.specs.declared.ways.plan.Changes.{Changes}
+use Rattle.snl_kept.specs.declared.ways.relink.NewLinks.{NewLinks}
+use Rattle.snl_kept.specs.declared.ways.row_change.RowChange.{RowChange}
+use Rattle.snl_kept.specs.declared.ways.row_change.Touched.{Touched}
+use Rattle.snl_kept.specs.declared.ways.row_change.Touched.TheVariants as touched
+use Rattle.snl_kept.specs.Checks.{checks_of, links_in, outlines_in}
+use Rattle.snl_kept.specs.Diagnostics.{diagnostic, diagnostics_of, shown, shown_if}
+use Rattle.snl_kept.specs.Entries.{entries_of}
+use Rattle.snl_kept.specs.ReplacedItem.{DeclaresInHead, SparesInside, own_findings, own_shown, own_tokens}
+use Rattle.snl_kept.specs.Order.{in_order}
+use Rattle.snl_kept.specs.OwnFindings.{found_around}
+use Rattle.snl_kept.specs.OwnRows.{come_of, gone_of, with_row}
+use Rattle.snl_kept.specs.Program.{ProgramItem, items_of, program_item}
+use Rattle.snl_kept.specs.Rechecked.{AreChecksMade, made_at, nones}
+use Rattle.snl_kept.specs.Relinked.{AreLinks}
+use Rattle.snl_kept.specs.Shifted.{finding_of}
+use Rattle.snl_kept.specs.Stirred.{stirred_between}
+use Rattle.snl_kept.specs.Tables.{tables_in}
+use Rattle.snl_kept.specs.Warnings.{warns_in}
+
+-- What the items say to each other, as it is kept.
+abbrev pub outlines_kept : List Entry → List Outline
+outlines_kept entries = map (λ e. e.summary.outline) entries
+
+-- An edit makes one item in the place of one, whose first two tokens are before the edit. Neither text has line markers.
+pub record IsOneItem (old : List ℕ) (c : Changes) : Type 0 where
+  pub no_marker : marker_count old ≡ 0
+  pub no_marker_made : count_by is_marker c.pieces.list.kinds.items ≡ 0
+  pub one_made : length c.items.made.items ≡ 1
+  pub one_gone : c.items.kept_front + 1 + c.items.kept_back ≡ length (item_ends old)
+  pub head : last_end 0 (take c.items.kept_front (item_ends old)) + 2 ≤ c.tokens.edit.start
+
+-- A plain item in the place of another: it says to the other items what that one said, what it declares is among its first `head`
+-- tokens, and it has no clauses.
+pub record SaysTheSame (head : ℕ) (x e : Entry) : Type 0 where
+  pub outline : e.summary.outline ≡ x.summary.outline
+  pub plain : is_plain x.summary.kind ≡ true
+  pub plain_now : is_plain e.summary.kind ≡ true
+  pub declared : DeclaresInHead head x.summary.outline
+  pub no_clause : x.summary.outline.clauses ≡ []
+
+-- What the conditions of an item say, use by use, as its check told it.
+abbrev pub wakes_told : (ℕ → List ℕ) → Option Checked → List (List ℕ × Option ℕ)
+wakes_told bytes None = []
+wakes_told bytes (Some c) = map (used_by bytes) c.wake_uses
+
+-- It is of the same kind, leads to states of the same names, and says in its conditions what that one said, of which this is the check.
+pub record AreAlike (old text : List ℕ) (was is : List Piece) (x e : Entry) (check : Option Checked) : Type 0 where
+  pub kind : e.summary.kind ≡ x.summary.kind
+  pub targets : map (λ m. m.name) e.summary.targets ≡ map (λ m. m.name) x.summary.targets
+  pub wakes : wakes_of text (record { tokens = is; tree = sound_tree e.parsed }) ≡ wakes_told (token_bytes old was) check
+
+-- The item with a number.
+abbrev pub own_item : List ℕ → ℕ → ProgramItem
+own_item text i = program_item text (own_tokens text i)
+
+-- The items of a text by their kinds, as they are kept.
+abbrev pub kinds_kept : List Entry → List ItemKind
+kinds_kept entries = map (λ e. e.summary.kind) entries
+
+-- What a text says after an edit inside item i: what it said, shifted, but for what is found at the item itself, this change of the rows,
+-- and what is found in the states by that.
+pub record IsAfterInside (old text : List ℕ) (s : Shift) (i : ℕ) (change : RowChange) : Type 0 where
+  pub outlines : outlines_in text ≡ outlines_in old
+  pub faults : faults_of (links_in text) ≡ faults_of (links_in old)
+  pub warns : warns_in text ≡ warns_in old
+  pub found : found_around s
+      (own_shown old (items_of old) i (own_item old i) ++ shown_if (warns_in old) (gone_of (tables_in old) change))
+      (own_shown text (items_of text) i (own_item text i) ++ shown_if (warns_in text) (come_of s (tables_in old) change))
+      (map finding_of (diagnostics_of old))
+      ≡ in_order (shown text)
+  pub tables : tables_in text ≡ with_row (shifted_tables s (tables_in old)) change
+
+-- What is made of the links, where they find what they found.
+pub record AreLinksInside (old text : List ℕ) (made : NewLinks) : Type 0 where
+  pub links : AreLinks old text made
+  pub faults : faults_of (links_in text) ≡ faults_of (links_in old)
+
+-- What is made of the item, besides what is kept of it: its check, the links, the diagnostics of the new text, and the rows.
+pub record IsMadeInside (old text : List ℕ) (start old_stop new_stop : ℕ) (c : Changes) (i : ItemPlan) : Type 0 where
+  pub links : AreLinks old text i.links
+  pub warns : warns_in text ≡ warns_in old
+  pub checks : AreChecksMade old text c.items.kept_front (nones c.items.made.items) c.items.kept_back (made_at c.items.kept_front i.check)
+  pub stirred : stirred_between old text start old_stop new_stop ≡ length (made_at c.items.kept_front i.check)
+  pub diagnostics : i.diagnostics.items ≡ diagnostics_of text
+  pub tables : tables_in text ≡ with_row (shifted_tables i.shift (tables_in old)) i.change
+
+-- The item that an edit replaces, by its number.
+pub record IsWas (old : List ℕ) (item : ℕ) (w : Was) : Type 0 where
+  pub entry : slice_get (entries_of old) item ≡ Some w.entry.now
+  pub check : slice_get (checks_of old) item ≡ Some w.check.now
+
+-- The item in its place says to the others what that one said; what it declares, and what the links find in it, is among its first `head`
+-- tokens.
+pub record SaysWhatItSaid (old : List ℕ) (head item : ℕ) (w : Was) (e : Entry) : Type 0 where
+  pub same : SaysTheSame head w.entry.now e
+  pub spared : SparesInside head item (faults_of (links_in old))
+
+-- A state with a name, in this set.
+pub record IsNamedIn (old : List ℕ) (item : ℕ) (w : Was) (set : ℕ) : Type 0 where
+  pub named : is_some (state_name w.entry.now.summary.outline) ≡ true
+  pub placed : enclosing_set (outlines_in old) item ≡ Some set
+
+-- An item that is no state with a name, in this set.
+pub record IsUnnamedIn (old : List ℕ) (item : ℕ) (w : Was) (set : ℕ) : Type 0 where
+  pub unnamed : is_some (state_name w.entry.now.summary.outline) ≡ false
+  pub placed : enclosing_set (outlines_in old) item ≡ Some set
+
+-- An item that is no state with a name, in the place of one of its kind.
+pub record IsUnnamedAlike (w : Was) (e : Entry) : Type 0 where
+  pub unnamed : is_some (state_name w.entry.now.summary.outline) ≡ false
+  pub kind : e.summary.kind ≡ w.entry.now.summary.kind
+
+-- A state with a name, in this set, leads where the one before it led, and says in its conditions what that one said.
+pub record IsStateAlike (old text : List ℕ) (item : ℕ) (own : OwnTokens) (w : Was) (e : Entry) (set : ℕ) : Type 0 where
+  pub state : IsNamedIn old item w set
+  pub alike : AreAlike old text own.was.items own.is.items w.entry.now e w.check.now
+
+-- The item changes no more than these rows.
+abbrev pub FitsRows : (old text : List ℕ) (item : ℕ) → OwnTokens → Was → Entry → Touched → Type 0
+FitsRows old text item own w e touched.Nothing = (enclosing_set (outlines_in old) item ≡ None) ⊎ IsUnnamedAlike w e
+FitsRows old text item own w e (touched.Body set) = IsStateAlike old text item own w e set
+FitsRows old text item own w e (touched.State set) = IsNamedIn old item w set
+FitsRows old text item own w e (touched.Marks set) = IsUnnamedIn old item w set
+
+-- These are the tokens of an item before and after an edit.
+pub record AreOwnTokens (old text : List ℕ) (item : ℕ) (own : OwnTokens) : Type 0 where
+  pub was : own.was.items ≡ own_tokens old item
+  pub is : own.is.items ≡ own_tokens text item
+
+-- What was shown of the item, and of the states that get other marks, by the tables before the edit.
+abbrev pub gone_by : (old : List ℕ) → List Outline → Bool → ℕ → List Piece → Tables → RowChange → List Finding
+gone_by old ss warns item own tables change = shown_if warns (own_findings old ss item (program_item old own)) ++ shown_if warns (gone_of tables change)
+
+-- What is shown of them after it.
+abbrev pub come_by : (text : List ℕ) → List Outline → Bool → Shift → ℕ → List Piece → Tables → RowChange → List Finding
+come_by text ss warns s item own tables change = shown_if warns (own_findings text ss item (program_item text own)) ++ shown_if warns (come_of s tables change)
+
+-- The diagnostics of the new text: what is gone is taken out, what has come is put in, the others are shifted.
+abbrev pub diagnostics_by : (old text : List ℕ) → List Outline → Bool → Shift → ℕ → OwnTokens → Tables → RowChange → List Finding → List Diagnostic
+diagnostics_by old text ss warns s item own tables change found =
+    map (diagnostic text) (found_around s (gone_by old ss warns item own.was.items tables change) (come_by text ss warns s item own.is.items tables change) found)

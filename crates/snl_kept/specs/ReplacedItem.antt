@@ -1,0 +1,128 @@
+-- What a text says after an edit inside one item that says to the others what it said.
+use Rattle.std.specs.Prelude.{◌≡◌, ℕ, ◌+◌, ◌-◌, ◌^◌, ◌<◌, ◌≤◌, ◌⊎◌, All, true, List, [], ◌∷◌, ◌++◌, length, map, take, drop, count_by, slice_get, Option, Some, option_map}
+use Rattle.std.specs.List.{AllByRecursion, cons_option}
+use Rattle.snl_cut.specs.Cut.{IsEdit, last_end}
+use Rattle.snl_lex.specs.declared.piece.Piece.{Piece}
+use Rattle.snl_lex.specs.declared.shift.Shift.{Shift}
+use Rattle.snl_lex.specs.Lines.{is_marker}
+use Rattle.snl_lex.specs.PieceList.{spelled}
+use Rattle.snl_lex.specs.Pieces.{LiesIn, piece_end, tokens_of}
+use Rattle.snl_lex.specs.Shift.{IsShift, marker_count, shifted_piece}
+use Rattle.snl_items.specs.Changes.{IsShiftOf}
+use Rattle.snl_items.specs.Items.{item_ends}
+use Rattle.snl_scope.specs.declared.facts.LinkFault.{LinkFault}
+use Rattle.snl_scope.specs.declared.summaries.summary.Outline.{Outline}
+use Rattle.snl_check.specs.declared.rules.findings.Checked.{Checked}
+use Rattle.snl_check.specs.Items.{outline_of_item}
+use Rattle.snl_check.specs.Shifted.{shifted_item, shifted_tokens}
+use Rattle.snl_check.specs.ShiftedAround.{ReplacesOne, is_plain}
+use Rattle.snl_kept.specs.declared.entries.Entry.{Entry}
+use Rattle.snl_kept.specs.declared.found.findings.Finding.{Finding}
+use Rattle.snl_kept.specs.declared.ways.plan.Changes.{Changes}
+use Rattle.snl_kept.specs.Checked.{found_in_item}
+use Rattle.snl_kept.specs.Checks.{check_by, links_in, outlines_in}
+use Rattle.snl_kept.specs.Diagnostics.{shown_of}
+use Rattle.snl_kept.specs.Entries.{entries_of, entry_by}
+use Rattle.snl_kept.specs.Faults.{fault_in}
+use Rattle.snl_kept.specs.Planned.{AreEntriesMade, IsChanged}
+use Rattle.snl_kept.specs.Parts.{tokens_between}
+use Rattle.snl_kept.specs.Program.{ProgramItem, items_of, program_item}
+use Rattle.snl_kept.specs.Rechecked.{AreChecksMade, made_at, nones}
+use Rattle.snl_kept.specs.Stirred.{stirred_between}
+
+-- The edit leaves a token of the old text: it is before the edit or after it.
+abbrev pub IsLeft : List ℕ → Shift → Piece → Type 0
+IsLeft old s p = ((piece_end p ≤ s.start) ⊎ (s.old_stop ≤ p.start)) × LiesIn old p
+
+-- An item is spelled as it was, and the edit leaves its tokens.
+pub record StaysItem (old text : List ℕ) (s : Shift) (x : ProgramItem) : Type 0 where
+  pub spelled_same : spelled text (shifted_tokens s x.tokens) ≡ spelled old x.tokens
+  pub left : AllByRecursion (IsLeft old s) x.tokens
+
+-- The items of a text before and after an edit inside one of them, which is between `front` and `back`: the others are shifted, and so
+-- are the first `head` tokens of that one.
+pub record ReplacesInside (old text : List ℕ) (s : Shift) (head : ℕ) (front : List ProgramItem) (x y : ProgramItem) (back : List ProgramItem) : Type 0 where
+  pub shift : IsShift old text s
+  pub items_were : items_of old ≡ front ++ (x ∷ back)
+  pub items_are : items_of text ≡ map (shifted_item s) front ++ (y ∷ map (shifted_item s) back)
+  pub outlines : outlines_in text ≡ outlines_in old
+  pub front_stays : AllByRecursion (StaysItem old text s) front
+  pub back_stays : AllByRecursion (StaysItem old text s) back
+  pub stays : (n : ℕ) → n < head → slice_get y.tokens n ≡ option_map (shifted_piece s) (slice_get x.tokens n)
+  pub left : (n : ℕ) (p : Piece) → n < head → slice_get x.tokens n ≡ Some p → IsLeft old s p
+
+-- What is found at an item itself: where it is faulty, and by its check.
+abbrev pub own_findings : List ℕ → List Outline → ℕ → ProgramItem → List Finding
+own_findings text ss i x = cons_option (fault_in text x) (found_in_item text ss (i, x))
+
+-- What of it is shown.
+abbrev pub own_shown : List ℕ → List ProgramItem → ℕ → ProgramItem → List Finding
+own_shown text xs i x = shown_of text xs (own_findings text (outlines_in text) i x)
+
+-- The links find nothing in an item past its first `head` tokens.
+abbrev pub SparesInside : ℕ → ℕ → List LinkFault → Type 0
+SparesInside head item faults = All (λ f. f.item ≡ item → f.token < head) faults
+
+-- The number of the first token of the item with a number; the one after that item begins where it ends.
+abbrev pub own_start : List ℕ → ℕ → ℕ
+own_start text i = last_end 0 (take i (item_ends text))
+
+-- How many tokens of the item in the place of which an edit makes another are before those that the edit replaces.
+abbrev pub own_head : List ℕ → Changes → ℕ
+own_head old c = c.tokens.edit.start - own_start old c.items.kept_front
+
+-- All names that an item declares are among its first `head` tokens.
+abbrev pub DeclaresInHead : ℕ → Outline → Type 0
+DeclaresInHead head o = All (λ d. d.token < head) o.declares
+
+-- What is known, by tests, of an edit inside one item: `x` is what was kept of the item, `e` what is made of it.
+pub record IsInside (old text : List ℕ) (start old_stop new_stop : ℕ) (c : Changes) (s : Shift) (x e : Entry) : Type 0 where
+  pub changed : IsChanged old text start old_stop new_stop c
+  pub edit : IsEdit old text start old_stop new_stop
+  pub by : IsShiftOf old text start old_stop new_stop s
+  pub old_short : length old < 2 ^ 32
+  pub short : length text < 2 ^ 32
+  pub no_marker : marker_count old ≡ 0
+  pub no_marker_made : count_by is_marker c.pieces.list.kinds.items ≡ 0
+  -- one item is made in the place of one
+  pub one_made : length c.items.made.items ≡ 1
+  pub one_gone : c.items.kept_front + 1 + c.items.kept_back ≡ length (item_ends old)
+  -- its first two tokens are before the edit
+  pub head : last_end 0 (take c.items.kept_front (item_ends old)) + 2 ≤ c.tokens.edit.start
+  pub was : slice_get (entries_of old) c.items.kept_front ≡ Some x
+  pub made : AreEntriesMade old text c.items.kept_front (e ∷ []) c.items.kept_back
+  -- a plain item in the place of another: it says to the other items what that one said; what it declares is before the edit, and it has no clauses
+  pub outline : e.summary.outline ≡ x.summary.outline
+  pub plain : is_plain x.summary.kind ≡ true
+  pub plain_now : is_plain e.summary.kind ≡ true
+  pub declared : DeclaresInHead (own_head old c) x.summary.outline
+  pub no_clause : x.summary.outline.clauses ≡ []
+
+-- The tokens of the item with a number.
+abbrev pub own_tokens : List ℕ → ℕ → List Piece
+own_tokens text i = tokens_between (tokens_of text) (own_start text i) (own_start text (i + 1))
+
+-- The check of the state that is made, if it is sound.
+abbrev pub own_check : List ℕ → List ℕ → ℕ → Option Checked
+own_check old text i = check_by (outlines_in old) i (spelled text (own_tokens text i))
+
+-- What such an edit does: the state is replaced inside, and no other item is to be checked.
+pub record IsOneReplaced (old text : List ℕ) (start old_stop new_stop : ℕ) (c : Changes) (s : Shift) (x e : Entry) : Type 0 where
+  pub front : List ProgramItem
+  pub back : List ProgramItem
+  pub number : length front ≡ c.items.kept_front
+  pub inside : ReplacesInside old text s (own_head old c) front (program_item old (own_tokens old c.items.kept_front)) (program_item text (own_tokens text c.items.kept_front)) back
+  pub one : ReplacesOne old text s (items_of old) (items_of text) c.items.kept_front
+  -- the edit of the tokens is among its own
+  pub first : own_start old c.items.kept_front ≤ c.tokens.edit.start
+  pub stop : c.tokens.edit.old_stop ≤ own_start old (c.items.kept_front + 1)
+  pub within : own_start old (c.items.kept_front + 1) ≤ length (tokens_of old)
+  pub own_now : own_tokens text c.items.kept_front
+      ≡ tokens_between (tokens_of text) (own_start old c.items.kept_front) ((own_start old (c.items.kept_front + 1) - c.tokens.edit.old_stop) + c.tokens.edit.new_stop)
+  pub outline_was : outline_of_item old (program_item old (own_tokens old c.items.kept_front)) ≡ x.summary.outline
+  -- its kind may be another
+  pub kinds : (links_in text).kinds ≡ take c.items.kept_front (links_in old).kinds ++ (e.summary.kind ∷ drop (c.items.kept_front + 1) (links_in old).kinds)
+  pub was_spelled : x ≡ entry_by (spelled old (own_tokens old c.items.kept_front))
+  pub spelled_so : e ≡ entry_by (spelled text (own_tokens text c.items.kept_front))
+  pub checks : AreChecksMade old text c.items.kept_front (nones c.items.made.items) c.items.kept_back (made_at c.items.kept_front (own_check old text c.items.kept_front))
+  pub stirred : stirred_between old text start old_stop new_stop ≡ length (made_at c.items.kept_front (own_check old text c.items.kept_front))

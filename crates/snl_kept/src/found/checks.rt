@@ -1,0 +1,80 @@
+//! What is found in each item by itself: the items of a program and what the check of each gave come in, findings at offsets go out.
+//! It knows nothing of the rules.
+#![tactic(auto)]
+
+ghost use Rattle.std.specs.Prelude.{◌≡◌, ◌++◌, All, OnOk, map};
+ghost use Rattle.snl_lex.specs.Pieces.{LiesIn};
+ghost use Rattle.snl_kept.specs.Checked.{HasOffset, at_own_token, checked_faults, faults_kept};
+ghost use Rattle.snl_kept.specs.Checks.{checks_over};
+ghost use Rattle.snl_kept.specs.Parts.{IsPart, item_of_part};
+
+use crate::found::findings::Finding;
+use crate::found::linked::finding_at;
+use crate::found::program::Part;
+use crate::shared::Shared;
+use snl_check::{Checked, ItemFault, faults_stand_in_tokens};
+use snl_cut::OutOfMemory;
+use snl_lex::Piece;
+
+// A finding of an item, at its byte in its token.
+fn at_own_token(own: &[Piece], fault: ItemFault) -> Finding
+    requires { HasOffset own.now fault }
+    ensures { result ≡ at_own_token own.now fault }
+{
+    let found = finding_at(fault.code, own.get(fault.token).copied());
+    Finding {
+        offset: found.offset + fault.byte,
+        ..found
+    }
+}
+
+// Adds findings of an item, at their tokens.
+fn add_at_tokens(
+    own: &[Piece],
+    faults: &[ItemFault],
+    found: &mut Vec<Finding>,
+) -> Result<(), OutOfMemory>
+    requires { All (HasOffset own.now) faults.now }
+    ensures { OnOk result (found.new.items ≡ found.old.items ++ map (at_own_token own.now) faults.now) }
+{
+    for fault in faults {
+        found.push(at_own_token(own, *fault))?;
+    }
+    Ok(())
+}
+
+/// Adds what the check of an item has found.
+pub fn add_item(
+    own: &[Piece],
+    check: &Option<Checked>,
+    found: &mut Vec<Finding>,
+) -> Result<(), OutOfMemory>
+    requires { All (HasOffset own.now) (faults_kept check.now) }
+    ensures { OnOk result (found.new.items ≡ found.old.items ++ map (at_own_token own.now) (faults_kept check.now)) }
+{
+    if let Some(checked) = check {
+        add_at_tokens(own, checked.faults.as_slice(), found)?;
+    }
+    Ok(())
+}
+
+/// Adds what is found in each item by itself, as the check of each gave it.
+pub fn add_checked_faults(
+    text: &[u8],
+    tokens: &[Piece],
+    parts: &[Part],
+    checks: &[&Shared<Option<Checked>>],
+    found: &mut Vec<Finding>,
+) -> Result<(), OutOfMemory>
+    requires tokens { All (LiesIn text.now) tokens.now }
+    requires parts { All (IsPart text.now tokens.now) parts.now }
+    requires checks { map (λ c. c.now) checks.now ≡ checks_over text.now (map (item_of_part tokens.now) parts.now) }
+    ensures { OnOk result (found.new.items ≡ found.old.items ++ checked_faults text.now (map (item_of_part tokens.now) parts.now)) }
+{
+    faults_stand_in_tokens();
+    for (item, part) in parts.iter().enumerate() {
+        let own = &tokens[part.start..part.stop];
+        add_item(own, checks[item].get(), found)?;
+    }
+    Ok(())
+}

@@ -1,0 +1,123 @@
+//! The lists that a session keeps of its text: its pieces, its lines, its tokens and items, and what is kept of each item.
+//! In: what an edit makes of them. Out: the lists, those of the new text after a change that can't fail.
+#![tactic(auto)]
+
+ghost use Rattle.std.specs.Prelude.{◌≡◌, OnOk};
+ghost use Rattle.snl_lex.specs.LineList.{IsLineList};
+ghost use Rattle.snl_kept.specs.Kept.{ArePlaces, HasRoomFor, HasRoomForPlaces, IsListed, SameItems, SameLists};
+ghost use Rattle.snl_kept.specs.Planned.{IsChanged, IsRemade};
+
+use crate::entries::Entry;
+use crate::shared::Shared;
+use crate::ways::plan::Changes;
+use crate::ways::recheck::{MadeCheck, put};
+use crate::ways::relink::NewLinks;
+use snl_check::Checked;
+use snl_cut::OutOfMemory;
+use snl_items::ItemList;
+use snl_lex::{LineList, PieceList, TextEdit};
+use snl_lists::Ordered;
+use snl_scope::Links;
+
+/// The pieces of a text, its lines, the marks of its tokens, where its items end among them, what is kept of each item, what names mean among
+/// the items, what the check of each item gave, and whether warnings are shown.
+#[derive(Drop)]
+pub struct Lists {
+    pub pieces: PieceList,
+    pub lines: LineList,
+    pub items: ItemList,
+    pub entries: Ordered<Shared<Entry>>,
+    pub links: Links,
+    pub checks: Ordered<Shared<Option<Checked>>>,
+    pub warns: bool,
+}
+
+/// What an edit makes of the links and the checks: what becomes of the links, places for the checks of the items that are made, and the checks.
+#[derive(Drop)]
+pub struct Rechecked {
+    pub links: NewLinks,
+    pub vacant: Vec<Shared<Option<Checked>>>,
+    pub made: Vec<MadeCheck>,
+}
+
+/// What an edit makes of all that is kept of the items: what is kept of those that are made, what becomes of the links, places
+/// for the checks of the items that are made, the checks, and whether warnings are shown.
+#[derive(Drop)]
+pub struct Remade {
+    pub made: Vec<Shared<Entry>>,
+    pub links: NewLinks,
+    pub vacant: Vec<Shared<Option<Checked>>>,
+    pub checks: Vec<MadeCheck>,
+    pub warns: bool,
+}
+
+// Puts other lines in the place of these, which are let go here, apart from all else.
+fn renew_lines(lines: &mut LineList, new: LineList)
+    ensures { lines.new ≡ new }
+{
+    *lines = new;
+}
+
+impl Lists {
+    /// Makes room for the places that an edit makes. An error leaves the lists as they were.
+    pub fn reserve_places(&mut self, changes: &Changes) -> Result<(), OutOfMemory>
+        ensures lists { SameLists self.old self.new }
+        ensures items { SameItems self.old self.new }
+        ensures room { OnOk result (HasRoomForPlaces self.new changes.now) }
+    {
+        self.pieces.reserve(changes.pieces.made.len())?;
+        self.items
+            .reserve(changes.tokens.marks.len(), changes.items.made.len())?;
+        Ok(())
+    }
+
+    /// Makes room for what an edit makes. An error leaves the lists as they were.
+    pub fn reserve(&mut self, changes: &Changes, remade: &Remade) -> Result<(), OutOfMemory>
+        ensures lists { SameLists self.old self.new }
+        ensures room { OnOk result (HasRoomFor self.new changes.now remade.now) }
+    {
+        self.reserve_places(changes)?;
+        self.entries.reserve(remade.made.len())?;
+        self.checks.reserve(remade.vacant.len())?;
+        Ok(())
+    }
+
+    /// Makes the places in the old text those in the new one. There is room for those that are made, so it can't fail.
+    pub fn commit_places(&mut self, edit: &TextEdit, changes: &Changes, lines: LineList)
+        requires places { ArePlaces edit.now.old.now self.old }
+        requires changes { IsChanged edit.now.old.now edit.now.text.now edit.now.start edit.now.old_stop edit.now.new_stop changes.now }
+        requires lines { IsLineList edit.now.text.now lines.ends.items lines.markers.items lines.naming.items }
+        requires room { HasRoomForPlaces self.old changes.now }
+        ensures places { ArePlaces edit.now.text.now self.new }
+        ensures items { SameItems self.old self.new }
+    {
+        self.pieces.commit(edit, &changes.pieces);
+        renew_lines(&mut self.lines, lines);
+        self.items.commit(edit, &changes.tokens, &changes.items);
+    }
+
+    /// Makes the lists of the old text those of the new one. There is room for what is made, so it can't fail.
+    pub fn commit(&mut self, edit: &TextEdit, changes: &Changes, lines: LineList, remade: Remade)
+        requires lists { IsListed edit.now.old.now self.old }
+        requires changes { IsChanged edit.now.old.now edit.now.text.now edit.now.start edit.now.old_stop edit.now.new_stop changes.now }
+        requires lines { IsLineList edit.now.text.now lines.ends.items lines.markers.items lines.naming.items }
+        requires remade { IsRemade edit.now.old.now edit.now.text.now changes.now.items.kept_front changes.now.items.kept_back remade }
+        requires room { HasRoomFor self.old changes.now remade }
+        ensures { IsListed edit.now.text.now self.new }
+    {
+        let Remade {
+            made,
+            links,
+            vacant,
+            checks,
+            warns,
+        } = remade;
+        let back = self.entries.len() - changes.items.kept_back;
+        self.commit_places(edit, changes, lines);
+        self.entries.replace(changes.items.kept_front, back, made);
+        links.put_in(&mut self.links);
+        self.checks.replace(changes.items.kept_front, back, vacant);
+        put(&mut self.checks, checks);
+        self.warns = warns;
+    }
+}

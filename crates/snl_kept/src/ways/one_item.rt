@@ -1,0 +1,114 @@
+//! An edit that makes one item in the place of one: what is kept of the old text comes in, the item and its tokens go out.
+#![tactic(auto)]
+
+ghost use Rattle.std.specs.Prelude.{◌≡◌, ◌+◌, ◌<◌, ◌≤◌, [], ◌∷◌, IfOk, IfSome, IsTrue, length, take};
+ghost use Rattle.snl_cut.specs.Cut.{last_end, ticked};
+ghost use Rattle.snl_lex.specs.PieceList.{spelled};
+ghost use Rattle.snl_kept.specs.Entries.{entry_by};
+ghost use Rattle.snl_kept.specs.ItemPlan.{AreOwnTokens, IsOneItem};
+ghost use Rattle.snl_kept.specs.Kept.{IsListed};
+ghost use Rattle.snl_kept.specs.Planned.{AreEntriesMade, IsChanged};
+
+use crate::entries::{Entry, entry_of};
+use crate::found::program::items_end_in_order;
+use crate::lists::Lists;
+use crate::shared::Shared;
+use crate::ways::plan::Changes;
+use crate::ways::shift::marks_no_line;
+use snl_cut::{Count, OutOfMemory};
+use snl_items::{own_tokens_after, own_tokens_before};
+use snl_lex::{Piece, TextEdit, text_in_pieces};
+use std::alloc::Global;
+
+/// The tokens of an item before and after an edit.
+#[derive(Drop)]
+pub struct OwnTokens {
+    pub was: Vec<Piece>,
+    pub is: Vec<Piece>,
+}
+
+// Whether the first two tokens of an item are before those that an edit replaces.
+fn head_is_before(lists: &Lists, changes: &Changes, item: usize) -> bool
+    requires lists { item ≤ length lists.now.items.ends.items }
+    ensures { IsTrue result → last_end 0 (take item lists.now.items.ends.items) + 2 ≤ changes.now.tokens.edit.start }
+{
+    let start = changes.tokens.edit.start;
+    start >= 2 && lists.items.start_of(item) <= start - 2
+}
+
+/// Whether an edit makes one item in the place of one, whose first two tokens are before the edit, where neither text has line
+/// markers.
+pub fn replaces_one(lists: &Lists, edit: &TextEdit, changes: &Changes) -> bool
+    requires lists { IsListed edit.now.old.now lists.now }
+    ensures { IsTrue result → IsOneItem edit.now.old.now changes.now }
+{
+    let items = &changes.items;
+    let item = items.kept_front;
+    let count = lists.items.ends.len();
+    lists.pieces.markers == 0
+        && marks_no_line(&changes.pieces.list.kinds)
+        && item < count
+        && items.kept_back == count - item - 1
+        && items.made.len() == 1
+        && head_is_before(lists, changes, item)
+}
+
+/// The tokens of the item in the place of which an edit makes one, before and after it.
+pub fn own_tokens(
+    alloc: Global,
+    lists: &Lists,
+    edit: &TextEdit,
+    changes: &Changes,
+) -> Result<OwnTokens, OutOfMemory>
+    requires lists { IsListed edit.now.old.now lists.now }
+    requires changes { IsChanged edit.now.old.now edit.now.text.now edit.now.start edit.now.old_stop edit.now.new_stop changes.now }
+    requires one { IsOneItem edit.now.old.now changes.now }
+    ensures own { IfOk result (AreOwnTokens edit.now.old.now edit.now.text.now changes.now.items.kept_front) }
+{
+    items_end_in_order();
+    let item = changes.items.kept_front;
+    let first = lists.items.start_of(item);
+    let stop = lists.items.start_of(item + 1);
+    let was = own_tokens_before(
+        alloc,
+        &lists.pieces,
+        edit,
+        &changes.pieces,
+        &changes.tokens,
+        first,
+        stop,
+    )?;
+    let is = own_tokens_after(alloc, edit, &changes.tokens, &was, first, stop)?;
+    Ok(OwnTokens { was, is })
+}
+
+// An entry alone in a list.
+fn alone(alloc: Global, entry: Entry) -> Result<Vec<Shared<Entry>>, OutOfMemory>
+    ensures { IfOk result (λ v. v.items ≡ entry ∷ []) }
+{
+    let mut entries = Vec::new(alloc);
+    entries.push(Shared::new(alloc, entry)?)?;
+    Ok(entries)
+}
+
+/// What is kept of the item that an edit makes, alone in a list. It is parsed once.
+pub fn made_alone(
+    alloc: Global,
+    edit: &TextEdit,
+    changes: &Changes,
+    own: &OwnTokens,
+    work: &mut Count,
+) -> Result<Vec<Shared<Entry>>, OutOfMemory>
+    requires changes { IsChanged edit.now.old.now edit.now.text.now edit.now.start edit.now.old_stop edit.now.new_stop changes.now }
+    requires one { IsOneItem edit.now.old.now changes.now }
+    requires own { AreOwnTokens edit.now.old.now edit.now.text.now changes.now.items.kept_front own.now }
+    ensures one { IfOk result (λ es. es.items ≡ entry_by (spelled edit.now.text.now own.now.is.items) ∷ []) }
+    ensures made { IfOk result (λ es. AreEntriesMade edit.now.old.now edit.now.text.now changes.now.items.kept_front es.items changes.now.items.kept_back) }
+    ensures ticks { IfOk result (λ es. work.new ≡ ticked work.old) }
+{
+    items_end_in_order();
+    text_in_pieces();
+    let entry = entry_of(alloc, edit.text, &own.is, work)?;
+    let made = alone(alloc, entry)?;
+    Ok(made)
+}

@@ -1,6 +1,0 @@
-use Rattle.std.proofs.Common.{◌≡◌, drop}
-use Rattle.snl_session.specs.OwnFindings.{without}
-use Rattle.snl_session.proofs.found.own_findings.take_out_all.Given as goal
-
-abbrev pub invariant-loop-finding : goal.invariant-loop-finding
-invariant-loop-finding l = without (drop l.finding-index l.gone) l.found.items ≡ without l.gone l.initial.found.items
