@@ -73,7 +73,7 @@ pub fn add_checked_faults(
 {
     faults_stand_in_tokens();
     for (item, part) in parts.iter().enumerate() {
-        let own = &tokens[part.start..part.stop];
+        let own = &tokens[part.start as usize..part.stop as usize];
         add_item(own, checks[item].get(), found)?;
     }
     Ok(())

@@ -42,7 +42,9 @@ fn token_of(
     ensures { result ≡ token_of (map (item_of_part tokens.now) parts.now) item number }
 {
     match parts.get(item) {
-        Some(part) => tokens[part.start..part.stop].get(number).copied(),
+        Some(part) => tokens[part.start as usize..part.stop as usize]
+            .get(number)
+            .copied(),
         None => None,
     }
 }

@@ -39,11 +39,11 @@ pub struct CutText<'a> {
     ghost entries_are: { map (λ e. e.now) entries.now ≡ entries_of text.now },
 }
 
-/// An item of a text: which of the text's tokens are its own, and what is kept of it.
+/// An item of a text: which of the text's tokens are its own, by their numbers, and what is kept of it.
 #[derive(Clone, Copy)]
 pub struct Part<'a> {
-    pub start: usize,
-    pub stop: usize,
+    pub start: u32,
+    pub stop: u32,
     pub entry: &'a Entry,
 }
 
@@ -73,7 +73,7 @@ pub fn parts_along<'a>(
     let mut parts = Vec::with_capacity(alloc, ends.len())?;
     let mut start = 0;
     for (number, end) in ends.iter().enumerate() {
-        let stop = *end as usize;
+        let stop = *end;
         let entry = entries[number].get();
         parts.push(Part { start, stop, entry })?;
         start = stop;
@@ -116,7 +116,7 @@ pub fn add_faults(
 {
     outcome_told();
     for part in parts {
-        let own = &tokens[part.start..part.stop];
+        let own = &tokens[part.start as usize..part.stop as usize];
         if let Some(fault) = fault_at(own, &part.entry.parsed) {
             found.push(fault)?;
         }

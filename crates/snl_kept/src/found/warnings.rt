@@ -44,7 +44,7 @@ pub fn shows_warnings(
     for (item, part) in parts.iter().enumerate() {
         let source = Source {
             text,
-            tokens: &tokens[part.start..part.stop],
+            tokens: &tokens[part.start as usize..part.stop as usize],
             alloc,
         };
         if let Some(setting) = setting_in(&source, part.entry.parsed.tree(), links, item) {

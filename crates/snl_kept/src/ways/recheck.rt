@@ -206,7 +206,7 @@ pub fn recheck(
     let clean = clean_check(alloc)?;
     let mut made = Vec::new(alloc);
     for (item, part) in parts.iter().enumerate() {
-        let own = &tokens[part.start..part.stop];
+        let own = &tokens[part.start as usize..part.stop as usize];
         let check = check_anew(alloc, text, own, part.entry, relinked, item, work)?;
         add_made(alloc, item, check, &clean, &mut made)?;
     }
