@@ -2,6 +2,7 @@ pub mod SameView
 pub mod Each
 pub mod Pairs
 pub mod Within
+mod Bare
 pub mod FaultsOnce
 pub mod LeftToLinks
 pub mod Searching

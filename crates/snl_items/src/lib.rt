@@ -15,4 +15,5 @@ pub use item_list::{ItemChange, ItemList};
 pub use laws::{pieces_are_fresh, tokens_around_stay};
 pub use own_tokens::{own_tokens_after, own_tokens_before};
 pub use shifted::Shifted;
+pub use spelled::are_spelled_alike;
 pub use tokens::{TokenChange, TokenEdit};

@@ -1,5 +1,5 @@
 -- What an edit inside one item makes of the links and the rows, from what is kept of the text and what is known by tests.
-use Rattle.std.proofs.Common.{◌≡◌, ℕ, ◌+◌, ◌-◌, ◌<◌, ◌⊎◌, ◌++◌, List, [], ◌∷◌, length, map, take, drop, slice_get, Option, Some, None, false, true, is_none, is_some, inl, inr, sym, ap, ap₂, subst, ◌∙◌, arith}
+use Rattle.std.proofs.Common.{◌≡◌, ℕ, ◌+◌, ◌-◌, ◌<◌, ◌++◌, List, [], ◌∷◌, length, take, drop, slice_get, Option, Some, None, false, true, is_none, is_some, inl, inr, sym, ap, ap₂, subst, ◌∙◌, arith}
 use Rattle.std.specs.List.{slice_set}
 use Rattle.std.specs.Option.{option_map_or}
 use Rattle.snl_lex.specs.declared.piece.Piece.{Piece}
@@ -43,7 +43,6 @@ use Rattle.snl_kept.specs.Program.{items_of, program_item, tree_in}
 use Rattle.snl_kept.specs.Relinked.{AreLinks, links_now}
 use Rattle.snl_kept.specs.ReplacedItem.{IsOneReplaced, own_tokens}
 use Rattle.snl_kept.proofs.InsideLaws.{got_is}
-use Rattle.snl_kept.proofs.InsideMade.{is_there, kinds_after}
 use Rattle.snl_kept.proofs.InsideTold.{told_is}
 use Rattle.snl_kept.proofs.Members.{entries_count}
 use Rattle.snl_kept.proofs.Replaced.{replaced_parts}

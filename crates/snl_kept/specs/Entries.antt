@@ -1,9 +1,12 @@
 -- The items of a text as a session keeps them: what is kept of an item goes by the spelling of its tokens alone.
-use Rattle.std.specs.Prelude.{ℕ, List, map}
+use Rattle.std.specs.Prelude.{◌≡◌, ◌-◌, ◌≤◌, ℕ, List, drop, length, map, take}
 use Rattle.snl_lex.specs.declared.piece.Class.{Class}
 use Rattle.snl_items.specs.Items.{spelled_items}
+use Rattle.snl_lex.specs.PieceList.{spelled}
+use Rattle.snl_lex.specs.declared.piece.Piece.{Piece}
 use Rattle.snl_scope.specs.SpelledTokens.{summary_by}
 use Rattle.snl_syntax.specs.Outcome.{parsed_by, sound_tree}
+use Rattle.snl_kept.specs.declared.entries.CommonEntry.{CommonEntry}
 use Rattle.snl_kept.specs.declared.entries.Entry.{Entry}
 
 abbrev pub entry_by : List (Class × List ℕ) → Entry
@@ -12,3 +15,9 @@ entry_by tokens = record { parsed = parsed_by tokens; summary = summary_by token
 -- What is kept of each item of a text.
 abbrev pub entries_of : List ℕ → List Entry
 entries_of text = map entry_by (spelled_items text)
+
+-- An entry that others share is that of its item, which is among the tokens of a text.
+pub record IsCommon (text : List ℕ) (tokens : List Piece) (common : CommonEntry) : Type 0 where
+  pub range : common.start ≤ common.stop
+  pub inside : common.stop ≤ length tokens
+  pub entry : common.entry ≡ entry_by (spelled text (take (common.stop - common.start) (drop common.start tokens)))

@@ -20,7 +20,7 @@ use Rattle.snl_check.specs.ShiftedAround.{is_plain, used_by, wakes_of}
 use Rattle.snl_kept.specs.declared.entries.Entry.{Entry}
 use Rattle.snl_kept.specs.declared.found.findings.Diagnostic.{Diagnostic}
 use Rattle.snl_kept.specs.declared.found.findings.Finding.{Finding}
-use Rattle.snl_kept.specs.declared.ways.item_plan.ItemPlan.{ItemPlan}
+use Rattle.snl_kept.specs.declared.ways.item_plan.Inside.{Inside}
 use Rattle.snl_kept.specs.declared.ways.item_plan.Was.{Was}
 use Rattle.snl_kept.specs.declared.ways.one_item.OwnTokens.{OwnTokens}
 use Rattle.snl_kept.specs.declared.ways.plan.Changes.{Changes}
@@ -36,7 +36,7 @@ use Rattle.snl_kept.specs.Order.{in_order}
 use Rattle.snl_kept.specs.OwnFindings.{found_around}
 use Rattle.snl_kept.specs.OwnRows.{come_of, gone_of, with_row}
 use Rattle.snl_kept.specs.Program.{ProgramItem, items_of, program_item}
-use Rattle.snl_kept.specs.Rechecked.{AreChecksMade, made_at, nones}
+use Rattle.snl_kept.specs.Rechecked.{AreChecksMade}
 use Rattle.snl_kept.specs.Relinked.{AreLinks}
 use Rattle.snl_kept.specs.Shifted.{finding_of}
 use Rattle.snl_kept.specs.Stirred.{stirred_between}
@@ -101,12 +101,12 @@ pub record AreLinksInside (old text : List ℕ) (made : NewLinks) : Type 0 where
   pub links : AreLinks old text made
   pub faults : faults_of (links_in text) ≡ faults_of (links_in old)
 
--- What is made of the item, besides what is kept of it: its check, the links, the diagnostics of the new text, and the rows.
-pub record IsMadeInside (old text : List ℕ) (start old_stop new_stop : ℕ) (c : Changes) (i : ItemPlan) : Type 0 where
-  pub links : AreLinks old text i.links
+-- What is made of the item, besides what is kept of it: the links, its check, the diagnostics of the new text, and the rows.
+pub record IsMadeInside (old text : List ℕ) (start old_stop new_stop : ℕ) (c : Changes) (links : NewLinks) (i : Inside) : Type 0 where
+  pub are_links : AreLinks old text links
   pub warns : warns_in text ≡ warns_in old
-  pub checks : AreChecksMade old text c.items.kept_front (nones c.items.made.items) c.items.kept_back (made_at c.items.kept_front i.check)
-  pub stirred : stirred_between old text start old_stop new_stop ≡ length (made_at c.items.kept_front i.check)
+  pub checks : AreChecksMade old text c.items.kept_front i.checks.vacant.items c.items.kept_back i.checks.made.items
+  pub stirred : stirred_between old text start old_stop new_stop ≡ length i.checks.made.items
   pub diagnostics : i.diagnostics.items ≡ diagnostics_of text
   pub tables : tables_in text ≡ with_row (shifted_tables i.shift (tables_in old)) i.change
 

@@ -1,6 +1,5 @@
 -- What an edit makes of what a session keeps of its text.
 use Rattle.std.specs.Prelude.{◌≡◌, ℕ, ◌-◌, ◌≤◌, IfSome, List, ◌++◌, length, take, drop}
-use Rattle.snl_lex.specs.LineList.{IsLineList}
 use Rattle.snl_lex.specs.PieceList.{IsChange}
 use Rattle.snl_items.specs.declared.item_list.ItemChange.{ItemChange}
 use Rattle.snl_items.specs.Changes.{AreShifted, IsItemChange, IsTokenChange}
@@ -8,27 +7,21 @@ use Rattle.snl_tables.specs.Shifted.{shifted_tables}
 use Rattle.snl_kept.specs.declared.work.Work.{Work}
 use Rattle.snl_kept.specs.declared.entries.Entry.{Entry}
 use Rattle.snl_kept.specs.declared.ways.item_plan.ItemAnew.{ItemAnew}
-use Rattle.snl_kept.specs.declared.ways.item_plan.ItemWay.{ItemWay}
 use Rattle.snl_kept.specs.declared.lists.Lists.{Lists}
 use Rattle.snl_kept.specs.declared.lists.Rechecked.{Rechecked}
 use Rattle.snl_kept.specs.declared.lists.Remade.{Remade}
 use Rattle.snl_kept.specs.declared.ways.plan.Anew.{Anew}
 use Rattle.snl_kept.specs.declared.ways.plan.Changes.{Changes}
-use Rattle.snl_kept.specs.declared.ways.shift.ShortWay.{ShortWay}
-use Rattle.snl_kept.specs.declared.ways.plan.WholeWay.{WholeWay}
 use Rattle.snl_kept.specs.declared.ways.planning.Made.{Made}
 use Rattle.snl_kept.specs.declared.ways.planning.Made.TheVariants as made
-use Rattle.snl_kept.specs.declared.ways.planning.Plan.{Plan}
-use Rattle.snl_kept.specs.declared.ways.planning.Plan.TheVariants as plan
 use Rattle.snl_kept.specs.Cost.{IsCost}
 use Rattle.snl_kept.specs.Diagnostics.{diagnostics_of, shown}
 use Rattle.snl_kept.specs.Entries.{entries_of}
-use Rattle.snl_kept.specs.Kept.{HasRoomFor, HasRoomForPlaces}
+use Rattle.snl_kept.specs.Kept.{HasRoomFor}
 use Rattle.snl_kept.specs.Order.{in_order}
 use Rattle.snl_kept.specs.OwnRows.{with_row}
 use Rattle.snl_kept.specs.Rechecked.{AreChecksMade}
 use Rattle.snl_kept.specs.Relinked.{AreLinks}
-use Rattle.snl_kept.specs.Shifted.{IsShifted}
 use Rattle.snl_kept.specs.Tables.{tables_in}
 use Rattle.snl_kept.specs.Warnings.{warns_in}
 
@@ -57,13 +50,6 @@ pub record IsRemade (old text : List ℕ) (front back : ℕ) (r : Remade) : Type
   pub checks : AreChecksMade old text front r.vacant.items back r.checks.items
   pub warns : r.warns ≡ warns_in text
 
--- The edit shifts all that the text says.
-pub record IsShortWay (old text : List ℕ) (start old_stop new_stop : ℕ) (way : ShortWay) : Type 0 where
-  pub changes : IsChanged old text start old_stop new_stop way.changes
-  pub lines : IsLineList text way.lines.ends.items way.lines.markers.items way.lines.naming.items
-  pub shifted : IsShifted old text start old_stop new_stop way.shift
-  pub cost : IsCost old text start old_stop new_stop way.work
-
 -- What is made anew of a text, where an edit makes so much of the items.
 pub record IsAnew (old text : List ℕ) (start old_stop new_stop : ℕ) (items : ItemChange) (anew : Anew) : Type 0 where
   pub remade : IsRemade old text items.kept_front items.kept_back anew.remade
@@ -83,42 +69,15 @@ abbrev pub IsMade : (old text : List ℕ) (start old_stop new_stop : ℕ) → It
 IsMade old text start old_stop new_stop items (made.Item anew) = IsItemAnew old text start old_stop new_stop items anew
 IsMade old text start old_stop new_stop items (made.Whole anew) = IsAnew old text start old_stop new_stop items anew
 
--- What the text says is made anew.
-pub record IsWholeWay (old text : List ℕ) (start old_stop new_stop : ℕ) (way : WholeWay) : Type 0 where
-  pub changes : IsChanged old text start old_stop new_stop way.changes
-  pub lines : IsLineList text way.lines.ends.items way.lines.markers.items way.lines.naming.items
-  pub remade : IsRemade old text way.changes.items.kept_front way.changes.items.kept_back way.remade
-  pub findings : way.findings.items ≡ in_order (shown text)
-  pub tables : way.tables ≡ tables_in text
-  pub cost : IsCost old text start old_stop new_stop way.work
+-- There is room for what is made anew, where so many diagnostics have room.
+pub record HasRoomForAll (l : Lists) (capacity : ℕ) (c : Changes) (anew : Anew) : Type 0 where
+  pub lists : HasRoomFor l c anew.remade
+  pub findings : length anew.findings.items ≤ capacity
 
--- An edit inside one item that says to the others what it said: the rows are shifted, but for this change.
-pub record IsItemWay (old text : List ℕ) (start old_stop new_stop : ℕ) (way : ItemWay) : Type 0 where
-  pub changes : IsChanged old text start old_stop new_stop way.changes
-  pub lines : IsLineList text way.lines.ends.items way.lines.markers.items way.lines.naming.items
-  pub remade : IsRemade old text way.changes.items.kept_front way.changes.items.kept_back way.remade
-  pub diagnostics : way.diagnostics.items ≡ diagnostics_of text
-  pub tables : tables_in text ≡ with_row (shifted_tables way.shift (tables_in old)) way.change
-  pub cost : IsCost old text start old_stop new_stop way.work
+abbrev pub HasRoom : Lists → ℕ → Changes → Made → Type 0
+HasRoom l capacity c (made.Item anew) = HasRoomFor l c anew.remade
+HasRoom l capacity c (made.Whole anew) = HasRoomForAll l capacity c anew
 
--- The plan of an edit is one of the three.
-abbrev pub IsPlan : (old text : List ℕ) (start old_stop new_stop : ℕ) → Plan → Type 0
-IsPlan old text start old_stop new_stop (plan.Short way) = IsShortWay old text start old_stop new_stop way
-IsPlan old text start old_stop new_stop (plan.Item way) = IsItemWay old text start old_stop new_stop way
-IsPlan old text start old_stop new_stop (plan.Whole way) = IsWholeWay old text start old_stop new_stop way
-
--- There is room for what the whole way makes, where so many diagnostics have room.
-pub record HasRoomForAll (l : Lists) (capacity : ℕ) (way : WholeWay) : Type 0 where
-  pub lists : HasRoomFor l way.changes way.remade
-  pub findings : length way.findings.items ≤ capacity
-
--- There is room for what the plan makes.
-abbrev pub HasRoom : Lists → ℕ → Plan → Type 0
-HasRoom l capacity (plan.Short way) = HasRoomForPlaces l way.changes
-HasRoom l capacity (plan.Item way) = HasRoomFor l way.changes way.remade
-HasRoom l capacity (plan.Whole way) = HasRoomForAll l capacity way
-
-abbrev pub work_of : Plan → Work
-work_of (plan.Short way) = way.work
-work_of (plan.Item way) = way.work
-work_of (plan.Whole way) = way.work
+abbrev pub work_of : Made → Work
+work_of (made.Item anew) = anew.work
+work_of (made.Whole anew) = anew.work

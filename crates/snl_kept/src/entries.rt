@@ -1,22 +1,25 @@
 //! What a session keeps of an item: what the parser made of it, and what it says to the others.
 //! In: tokens of a text, and where its items end among them. Out: an entry for each item, which goes by the spelling of its tokens
-//! alone, so that an edit elsewhere leaves it as it is. Items with nothing in them, as `}` and `;`, share their entries.
+//! alone, so that an edit elsewhere leaves it as it is. Items with nothing in them that are spelled alike, as `}` and `;`, share their entries.
 #![tactic(auto)]
 
-ghost use Rattle.std.specs.Prelude.{◌≡◌, ◌<◌, All, IfOk, IfSome, IsTrue, length, map};
+ghost use Rattle.std.specs.Prelude.{◌≡◌, ◌-◌, ◌<◌, ◌≤◌, All, IfOk, IfSome, drop, length, map, take};
 ghost use Rattle.snl_cut.specs.Cut.{after_ticks, members, ticked};
 ghost use Rattle.snl_lex.specs.PieceList.{spelled};
 ghost use Rattle.snl_lex.specs.Pieces.{LiesIn};
+ghost use Rattle.snl_syntax.specs.Outcome.{parsed_by};
 ghost use Rattle.snl_kept.specs.Entries.{entry_by};
 ghost use Rattle.snl_kept.specs.Parts.{EndsWithin};
 
 use crate::shared::Shared;
 use snl_cut::{Count, OutOfMemory};
+use snl_items::are_spelled_alike;
 use snl_lex::Piece;
-use snl_scope::{ItemKind, Summary, same_outline, same_spelling_same_summary, summary_of};
+use snl_scope::{Summary, same_spelling_same_summary, summary_of};
 use snl_syntax::tree::item::Item;
 use snl_syntax::{Parsed, parsed, same_spelling_same_tree};
 use std::alloc::Global;
+use std::marker::Model;
 
 /// An item as it is kept.
 #[derive(Drop)]
@@ -28,10 +31,33 @@ pub struct Entry {
 // The most entries that others share.
 const FEW: usize = 8;
 
-// Entries of items with nothing in them, each once.
+// Where an item is among the tokens of a text, and its entry, which others that are spelled alike share.
 #[derive(Drop)]
-struct CommonEntries {
-    entries: Vec<Shared<Entry>>,
+struct CommonEntry {
+    start: usize,
+    stop: usize,
+    entry: Shared<Entry>,
+}
+
+// The entries of items with nothing in them, each once, among the tokens of a text.
+#[derive(Drop)]
+struct CommonEntries<'a> {
+    text: &'a [u8],
+    tokens: &'a [Piece],
+    entries: Vec<CommonEntry>,
+}
+
+impl<'a> Model for CommonEntries<'a> {
+    ghost use Rattle.std.specs.Prelude.{All, List, ℕ};
+    ghost use Rattle.snl_lex.specs.Pieces.{LiesIn};
+    ghost use Rattle.snl_lex.specs.declared.piece.Piece.{Piece};
+    ghost use Rattle.snl_kept.specs.Entries.{IsCommon};
+
+    ghost Value = { List ℕ × List Piece };
+
+    ghost view = { λ c. (c.text.now, c.tokens.now) };
+
+    ghost invariant = { λ c. All (LiesIn c.text.now) c.tokens.now × All (IsCommon c.text.now c.tokens.now) c.entries.items };
 }
 
 // Whether the tree of an item has nothing in it, or there is none.
@@ -42,79 +68,61 @@ fn is_leaf(parsed: &Parsed) -> bool {
     }
 }
 
-// Whether two items have the same tree, which has nothing in it, or are faulty at the same token.
-fn is_same_leaf(one: &Parsed, other: &Parsed) -> bool
-    ensures { IsTrue result → one.now ≡ other.now }
-{
-    match (one, other) {
-        (Parsed::Sound(Item::SsEnd), Parsed::Sound(Item::SsEnd)) => true,
-        (Parsed::Sound(Item::Empty), Parsed::Sound(Item::Empty)) => true,
-        (Parsed::BadToken(at), Parsed::BadToken(other_at)) => at == other_at,
-        (Parsed::NoItem(at), Parsed::NoItem(other_at)) => at == other_at,
-        _ => false,
-    }
-}
-
-fn is_same_kind(one: ItemKind, other: ItemKind) -> bool
-    ensures { IsTrue result → one ≡ other }
-{
-    one == other
-}
-
-// Whether two items that ask nothing of the others say the same to them.
-fn is_same_summary(one: &Summary, other: &Summary) -> bool
-    ensures { IsTrue result → one.now ≡ other.now }
-{
-    is_same_kind(one.kind, other.kind)
-        && one.uses.as_slice().is_empty()
-        && other.uses.as_slice().is_empty()
-        && one.targets.as_slice().is_empty()
-        && other.targets.as_slice().is_empty()
-        && same_outline(&one.outline, &other.outline)
-}
-
-// Whether two items with nothing in them are kept alike.
-fn is_same_entry(one: &Entry, other: &Entry) -> bool
-    ensures { IsTrue result → one.now ≡ other.now }
-{
-    is_same_leaf(&one.parsed, &other.parsed) && is_same_summary(&one.summary, &other.summary)
-}
-
-impl CommonEntries {
-    fn new(alloc: Global) -> CommonEntries {
+impl<'a> CommonEntries<'a> {
+    fn new(alloc: Global, text: &'a [u8], tokens: &'a [Piece]) -> CommonEntries<'a>
+        requires { All (LiesIn text.now) tokens.now }
+        ensures { result ≡ (text.now, tokens.now) }
+    {
         CommonEntries {
+            text,
+            tokens,
             entries: Vec::new(alloc),
         }
     }
 
-    // The one of these entries that is the same.
-    fn same_as(&self, entry: &Entry) -> Option<&Shared<Entry>>
-        ensures { IfSome result (λ same. same.now ≡ entry.now) }
+    // The entry of an item with these tokens, if one of these items is spelled alike.
+    fn entry_of(&self, own: &[Piece]) -> Option<&Shared<Entry>>
+        requires { All (LiesIn self.now.0) own.now }
+        ensures { IfSome result (λ same. same.now ≡ entry_by (spelled self.now.0 own.now)) }
     {
-        for one in &self.entries {
-            if is_same_entry(one.get(), entry) {
-                return Some(one);
+        for common in &self.entries {
+            let others = &self.tokens[common.start..common.stop];
+            if are_spelled_alike(self.text, others, self.text, own) {
+                return Some(&common.entry);
             }
         }
         None
     }
 
-    // An entry to be kept, one of these if there is the same.
-    fn keep(&mut self, alloc: Global, entry: Entry) -> Result<Shared<Entry>, OutOfMemory>
-        ensures { IfOk result (λ kept. kept ≡ entry) }
+    // Takes in the entry of the item that has the tokens from `start` up to `stop`, while there are few.
+    fn add(&mut self, start: usize, stop: usize, entry: &Shared<Entry>) -> Result<(), OutOfMemory>
+        requires range { start ≤ stop }
+        requires inside { stop ≤ length self.old.1 }
+        requires entry { entry.now ≡ entry_by (spelled self.old.0 (take (stop - start) (drop start self.old.1))) }
+        ensures { self.new ≡ self.old }
     {
-        if !is_leaf(&entry.parsed) {
-            return Ok(Shared::new(alloc, entry)?);
-        }
-        if let Some(same) = self.same_as(&entry) {
-            return Ok(same.share()?);
-        }
-        let kept = Shared::new(alloc, entry)?;
         if self.entries.len() < FEW {
-            self.entries.push(kept.share()?)?;
+            let entry = entry.share()?;
+            self.entries.push(CommonEntry { start, stop, entry })?;
         }
-        Ok(kept)
+        Ok(())
     }
+}
+
+// The entry of the item that consists of these tokens, by what the parser made of them.
+fn entry_with(
+    alloc: Global,
+    text: &[u8],
+    tokens: &[Piece],
+    parsed: Parsed,
+) -> Result<Entry, OutOfMemory>
+    requires parsed { parsed ≡ parsed_by (spelled text.now tokens.now) }
+    requires within { All (LiesIn text.now) tokens.now }
+    ensures { IfOk result (λ e. e ≡ entry_by (spelled text.now tokens.now)) }
+{
+    same_spelling_same_summary();
+    let summary = summary_of(alloc, text, tokens, parsed.tree())?;
+    Ok(Entry { parsed, summary })
 }
 
 /// The entry of the item that consists of these tokens. It is parsed once.
@@ -130,10 +138,37 @@ pub fn entry_of(
     ensures ticks { work.new ≡ ticked work.old }
 {
     same_spelling_same_tree();
-    same_spelling_same_summary();
     let parsed = parsed(alloc, text, tokens, work)?;
-    let summary = summary_of(alloc, text, tokens, parsed.tree())?;
-    Ok(Entry { parsed, summary })
+    entry_with(alloc, text, tokens, parsed)
+}
+
+// The entry of the item that has the tokens from `start` up to `stop`, shared where nothing is in it. It is parsed once.
+fn shared_entry(
+    alloc: Global,
+    common: &mut CommonEntries,
+    start: usize,
+    stop: usize,
+    work: &mut Count,
+) -> Result<Shared<Entry>, OutOfMemory>
+    requires some { start < stop }
+    requires inside { stop ≤ length common.old.1 }
+    ensures common { common.new ≡ common.old }
+    ensures entry { IfOk result (λ e. e ≡ entry_by (spelled common.old.0 (take (stop - start) (drop start common.old.1)))) }
+    ensures ticks { work.new ≡ ticked work.old }
+{
+    same_spelling_same_tree();
+    let (text, own) = (common.text, &common.tokens[start..stop]);
+    let parsed = parsed(alloc, text, own, work)?;
+    if !is_leaf(&parsed) {
+        let entry = entry_with(alloc, text, own, parsed)?;
+        return Ok(Shared::new(alloc, entry)?);
+    }
+    if let Some(same) = common.entry_of(own) {
+        return Ok(same.share()?);
+    }
+    let entry = Shared::new(alloc, entry_with(alloc, text, own, parsed)?)?;
+    common.add(start, stop, &entry)?;
+    Ok(entry)
 }
 
 /// The entries of the items that end at these tokens, the first of which begins at token `from`. Each is parsed once.
@@ -151,12 +186,12 @@ pub fn entries_along(
     ensures ticks { IfOk result (λ es. work.new ≡ after_ticks work.old (length ends.now)) }
 {
     let mut entries = Vec::with_capacity(alloc, ends.len())?;
-    let mut common = CommonEntries::new(alloc);
+    let mut common = CommonEntries::new(alloc, text, tokens);
     let mut start = from;
     for end in ends {
         let stop = *end as usize;
-        let entry = entry_of(alloc, text, &tokens[start..stop], work)?;
-        entries.push(common.keep(alloc, entry)?)?;
+        let entry = shared_entry(alloc, &mut common, start, stop, work)?;
+        entries.push(entry)?;
         start = stop;
     }
     Ok(entries)

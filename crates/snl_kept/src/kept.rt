@@ -1,21 +1,32 @@
 //! What is kept of a text: its lists, its diagnostics and its tables. An edit of the text comes in, what it cost goes out.
-//! An edit has two steps: all that takes memory, and the change, which cannot fail.
+//! An edit has two steps: all that takes memory, and the change, which can't fail. It goes one of three ways: the short one, where it
+//! shifts all that the text says; that of one item, where it changes the inside of an item that says to the others what it said; and
+//! the whole one, where all is made anew.
 #![tactic(auto)]
 
-ghost use Rattle.std.specs.Prelude.{[], IfOk, OnErr, OnOk};
+ghost use Rattle.std.specs.Prelude.{◌≡◌, [], IfOk, OnErr, OnOk, vec_capacity};
+ghost use Rattle.snl_items.specs.Fresh.{fresh_pieces_between};
+ghost use Rattle.snl_lex.specs.LineList.{IsLineList};
 ghost use Rattle.snl_kept.specs.Cost.{IsCost};
-ghost use Rattle.snl_kept.specs.Kept.{IsKept};
+ghost use Rattle.snl_kept.specs.Kept.{HasRoomFor, HasRoomForPlaces, IsKept};
+ghost use Rattle.snl_kept.specs.Planned.{HasRoom, HasRoomForAll, IsAnew, IsChanged, IsItemAnew, IsMade};
+ghost use Rattle.snl_kept.specs.Shifted.{IsShifted, ShiftsAll};
 
+use crate::found::diagnose::put_on_lines;
 use crate::found::findings::Diagnostic;
 use crate::found::judge::judge;
 use crate::found::program::CutText;
+use crate::laws::shift_laws::edit_shifts_all;
 use crate::lists::Lists;
-use crate::ways::planning::plan_of;
+use crate::ways::item_plan::ItemAnew;
+use crate::ways::plan::{Anew, Changes, changes_of};
+use crate::ways::planning::{Made, made_by};
+use crate::ways::shift::{shift_diagnostics, shift_of};
 use crate::work::Work;
 use snl_check::Tables;
-use snl_cut::OutOfMemory;
-use snl_items::ItemList;
-use snl_lex::{LineList, PieceList, TextEdit};
+use snl_cut::{Count, OutOfMemory};
+use snl_items::{ItemList, Shifted, pieces_are_fresh};
+use snl_lex::{LineList, PieceList, Shift, TextEdit};
 use snl_lists::Ordered;
 use snl_scope::link;
 use std::alloc::Global;
@@ -76,6 +87,139 @@ impl Kept {
         })
     }
 
+    // Shifts what is kept, by an edit that shifts all that the text says. There is room for the places that it makes, so it can't fail.
+    fn shift(&mut self, edit: &TextEdit, changes: &Changes, lines: LineList, shift: Shift)
+        requires kept { IsKept edit.now.old.now self.old }
+        requires changes { IsChanged edit.now.old.now edit.now.text.now edit.now.start edit.now.old_stop edit.now.new_stop changes.now }
+        requires lines { IsLineList edit.now.text.now lines.ends.items lines.markers.items lines.naming.items }
+        requires shifted { IsShifted edit.now.old.now edit.now.text.now edit.now.start edit.now.old_stop edit.now.new_stop shift }
+        requires room { HasRoomForPlaces self.old.lists changes.now }
+        ensures { IsKept edit.now.text.now self.new }
+    {
+        self.lists.commit_places(edit, changes, lines);
+        shift_diagnostics(&mut self.found, shift);
+        self.tables.shift(shift);
+    }
+
+    // Puts what an edit inside one item makes anew in its place, and shifts the rest. There is room for it, so it can't fail.
+    fn put_item(&mut self, edit: &TextEdit, changes: &Changes, lines: LineList, anew: ItemAnew)
+        requires kept { IsKept edit.now.old.now self.old }
+        requires changes { IsChanged edit.now.old.now edit.now.text.now edit.now.start edit.now.old_stop edit.now.new_stop changes.now }
+        requires lines { IsLineList edit.now.text.now lines.ends.items lines.markers.items lines.naming.items }
+        requires anew { IsItemAnew edit.now.old.now edit.now.text.now edit.now.start edit.now.old_stop edit.now.new_stop changes.now.items anew }
+        requires room { HasRoomFor self.old.lists changes.now anew.remade }
+        ensures { IsKept edit.now.text.now self.new }
+    {
+        let ItemAnew {
+            remade,
+            diagnostics,
+            shift,
+            change,
+            work: _,
+        } = anew;
+        self.lists.commit(edit, changes, lines, remade);
+        self.found = diagnostics;
+        self.tables.shift(shift);
+        change.put_in(&mut self.tables);
+    }
+
+    // Puts all that an edit makes anew in its place. There is room for it, so it can't fail.
+    #[tactic(auto, unfolding(crate::specs::Diagnostics::diagnostics_of))]
+    fn put_all(&mut self, edit: &TextEdit, changes: &Changes, lines: LineList, anew: Anew)
+        requires kept { IsKept edit.now.old.now self.old }
+        requires changes { IsChanged edit.now.old.now edit.now.text.now edit.now.start edit.now.old_stop edit.now.new_stop changes.now }
+        requires lines { IsLineList edit.now.text.now lines.ends.items lines.markers.items lines.naming.items }
+        requires anew { IsAnew edit.now.old.now edit.now.text.now edit.now.start edit.now.old_stop edit.now.new_stop changes.now.items anew }
+        requires room { HasRoomForAll self.old.lists (vec_capacity self.old.found) changes.now anew }
+        ensures { IsKept edit.now.text.now self.new }
+    {
+        let Anew {
+            remade,
+            findings,
+            tables,
+            work: _,
+        } = anew;
+        put_on_lines(edit.text, &lines, &findings, &mut self.found);
+        self.lists.commit(edit, changes, lines, remade);
+        self.tables = tables;
+    }
+
+    // Puts what an edit makes anew in its place. There is room for it, so it can't fail.
+    fn put(&mut self, edit: &TextEdit, changes: &Changes, lines: LineList, made: Made)
+        requires kept { IsKept edit.now.old.now self.old }
+        requires changes { IsChanged edit.now.old.now edit.now.text.now edit.now.start edit.now.old_stop edit.now.new_stop changes.now }
+        requires lines { IsLineList edit.now.text.now lines.ends.items lines.markers.items lines.naming.items }
+        requires made { IsMade edit.now.old.now edit.now.text.now edit.now.start edit.now.old_stop edit.now.new_stop changes.now.items made }
+        requires room { HasRoom self.old.lists (vec_capacity self.old.found) changes.now made }
+        ensures { IsKept edit.now.text.now self.new }
+    {
+        match made {
+            Made::Item(anew) => self.put_item(edit, changes, lines, anew),
+            Made::Whole(anew) => self.put_all(edit, changes, lines, anew),
+        }
+    }
+
+    // The short way of an edit, which shifts all that the text says.
+    fn edit_by_shift(
+        &mut self,
+        edit: &TextEdit,
+        changes: &Changes,
+        lines: LineList,
+        shifted: Shifted,
+        lexed: u64,
+    ) -> Result<Work, OutOfMemory>
+        requires kept { IsKept edit.now.old.now self.old }
+        requires changes { IsChanged edit.now.old.now edit.now.text.now edit.now.start edit.now.old_stop edit.now.new_stop changes.now }
+        requires lines { IsLineList edit.now.text.now lines.ends.items lines.markers.items lines.naming.items }
+        requires shifted { ShiftsAll edit.now.old.now edit.now.text.now edit.now.start edit.now.old_stop edit.now.new_stop shifted }
+        requires lexed { lexed ≡ fresh_pieces_between edit.now.old.now edit.now.text.now edit.now.start edit.now.old_stop edit.now.new_stop }
+        ensures kept { OnOk result (IsKept edit.now.text.now self.new) }
+        ensures cost { IfOk result (IsCost edit.now.old.now edit.now.text.now edit.now.start edit.now.old_stop edit.now.new_stop) }
+        ensures err { OnErr result (IsKept edit.now.old.now self.new) }
+    {
+        edit_shifts_all();
+        self.lists.reserve_places(changes)?;
+        self.shift(edit, changes, lines, shifted.by);
+        Ok(Work {
+            lexed,
+            parsed: 0,
+            checked: 0,
+        })
+    }
+
+    // The other ways of an edit, which changes what some item says.
+    fn edit_anew(
+        &mut self,
+        edit: &TextEdit,
+        changes: &Changes,
+        lines: LineList,
+        lexed: u64,
+    ) -> Result<Work, OutOfMemory>
+        requires kept { IsKept edit.now.old.now self.old }
+        requires changes { IsChanged edit.now.old.now edit.now.text.now edit.now.start edit.now.old_stop edit.now.new_stop changes.now }
+        requires lines { IsLineList edit.now.text.now lines.ends.items lines.markers.items lines.naming.items }
+        requires lexed { lexed ≡ fresh_pieces_between edit.now.old.now edit.now.text.now edit.now.start edit.now.old_stop edit.now.new_stop }
+        ensures kept { OnOk result (IsKept edit.now.text.now self.new) }
+        ensures cost { IfOk result (IsCost edit.now.old.now edit.now.text.now edit.now.start edit.now.old_stop edit.now.new_stop) }
+        ensures err { OnErr result (IsKept edit.now.old.now self.new) }
+    {
+        let alloc = *self.found.allocator();
+        let made = made_by(
+            alloc,
+            &self.lists,
+            &self.tables,
+            &self.found,
+            edit,
+            changes,
+            &lines,
+            lexed,
+        )?;
+        made.make_room(changes, &mut self.lists, &mut self.found)?;
+        let work = made.work();
+        self.put(edit, changes, lines, made);
+        Ok(work)
+    }
+
     /// Makes what is kept of the text before an edit that of the text after it, and tells what that cost. An error leaves all as it was.
     pub fn edit(&mut self, edit: &TextEdit) -> Result<Work, OutOfMemory>
         requires { IsKept edit.now.old.now self.old }
@@ -83,11 +227,15 @@ impl Kept {
         ensures cost { IfOk result (IsCost edit.now.old.now edit.now.text.now edit.now.start edit.now.old_stop edit.now.new_stop) }
         ensures err { OnErr result (IsKept edit.now.old.now self.new) }
     {
+        pieces_are_fresh();
         let alloc = *self.found.allocator();
-        let plan = plan_of(alloc, &self.lists, &self.tables, &self.found, edit)?;
-        plan.make_room(&mut self.lists, &mut self.found)?;
-        let work = plan.work();
-        plan.commit(edit, &mut self.lists, &mut self.found, &mut self.tables);
-        Ok(work)
+        let mut lexed = Count::new();
+        let changes = changes_of(alloc, &self.lists, edit, &mut lexed)?;
+        let lines = self.lists.lines.after(alloc, edit, &changes.pieces)?;
+        let lexed = lexed.ticks();
+        match shift_of(&self.lists, &self.found, edit, &changes) {
+            Some(shifted) => self.edit_by_shift(edit, &changes, lines, shifted, lexed),
+            None => self.edit_anew(edit, &changes, lines, lexed),
+        }
     }
 }

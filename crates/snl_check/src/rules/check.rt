@@ -49,6 +49,26 @@ fn faults_of(
     Ok(faults)
 }
 
+// What the check of an item gives, by what it sees of the other items.
+fn checked_by(source: &Source, tree: &Item, view: &View) -> Result<Checked, OutOfMemory>
+    requires source { IsSource source.now.text.now source.now.tokens.now }
+    ensures faults { IfOk result (λ c. c.faults ≡ faults_in (token_bytes source.now.text.now source.now.tokens.now) tree.now (is_in_set view.now.links.now.outlines view.now.item) (known_of view.now.links.now.outlines view.now.item) (leads_to view.now.links.now.outlines view.now.item)) }
+    ensures within { IfOk result (λ c. All (StandsIn (token_bytes source.now.text.now source.now.tokens.now)) c.faults) }
+    ensures wake_uses { IfOk result (λ c. c.wake_uses ≡ wake_uses (token_bytes source.now.text.now source.now.tokens.now) tree.now) }
+    ensures target_uses { IfOk result (λ c. c.target_uses ≡ target_uses (token_bytes source.now.text.now source.now.tokens.now) tree.now) }
+{
+    let alloc = source.alloc;
+    let found = occurrences(source, tree)?;
+    let faults = Few::from_vec(alloc, faults_of(source, tree, view, &found)?)?;
+    let wake_uses = Few::from_vec(alloc, wake_uses(source, &found)?)?;
+    let target_uses = Few::from_vec(alloc, target_uses(alloc, &found)?)?;
+    Ok(Checked {
+        faults,
+        wake_uses,
+        target_uses,
+    })
+}
+
 /// Checks the item that consists of these tokens, of which each lies in the text, and has this tree and this number among the
 /// linked ones. Its findings go by its tokens, its tree and what it sees of the other items alone.
 pub fn check_item(
@@ -73,14 +93,8 @@ pub fn check_item(
         tokens,
         alloc,
     };
-    let view = View { links, item };
-    let found = occurrences(&source, tree)?;
-    let faults = Few::from_vec(alloc, faults_of(&source, tree, &view, &found)?)?;
-    let wake_uses = Few::from_vec(alloc, wake_uses(&source, &found)?)?;
-    let target_uses = Few::from_vec(alloc, target_uses(alloc, &found)?)?;
-    Ok(Checked {
-        faults,
-        wake_uses,
-        target_uses,
-    })
+    match tree {
+        Item::Empty | Item::SsEnd => Ok(Checked::clean()),
+        _ => checked_by(&source, tree, &View { links, item }),
+    }
 }

@@ -1,5 +1,7 @@
 //! What a check of an item gives.
 
+ghost use Rattle.std.specs.Prelude.{◌≡◌, []};
+
 use snl_lists::Few;
 use snl_scope::Code;
 use snl_walk::{TargetUse, WakeUse};
@@ -20,6 +22,19 @@ pub struct Checked {
     pub wake_uses: Few<WakeUse>,
     /// The names of the states that it leads to, in the order of the text.
     pub target_uses: Few<TargetUse>,
+}
+
+impl Checked {
+    /// What the check gives of an item in which nothing is found, and nothing used.
+    pub fn clean() -> Checked
+        ensures { result ≡ record { faults = []; wake_uses = []; target_uses = [] } }
+    {
+        Checked {
+            faults: Few::new(),
+            wake_uses: Few::new(),
+            target_uses: Few::new(),
+        }
+    }
 }
 
 // By hand, so that whoever holds a check need not know what is in it to let it go.

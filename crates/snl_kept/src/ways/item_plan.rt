@@ -13,10 +13,10 @@ ghost use Rattle.snl_kept.specs.Cost.{IsCost};
 ghost use Rattle.snl_kept.specs.Diagnostics.{diagnostics_of};
 ghost use Rattle.snl_kept.specs.Entries.{entry_by};
 ghost use Rattle.snl_kept.specs.ItemPlan.{AreOwnTokens, FitsRows, IsMadeInside, IsOneItem, IsWas, SaysWhatItSaid};
-ghost use Rattle.snl_kept.specs.Kept.{HasRoomFor, IsListed};
+ghost use Rattle.snl_kept.specs.Kept.{IsListed};
 ghost use Rattle.snl_kept.specs.OwnLinks.{AreOwnLinks};
-ghost use Rattle.snl_kept.specs.Planned.{AreEntriesMade, IsChanged, IsItemAnew, IsItemWay};
-ghost use Rattle.snl_kept.specs.Rechecked.{made_at};
+ghost use Rattle.snl_kept.specs.Planned.{AreEntriesMade, IsChanged, IsItemAnew};
+ghost use Rattle.snl_kept.specs.Rechecked.{made_at, nones};
 ghost use Rattle.snl_kept.specs.ReplacedItem.{IsInside, IsOneReplaced, own_head};
 ghost use Rattle.snl_kept.specs.Warnings.{warns_in};
 ghost use Rattle.snl_kept.specs.Tables.{tables_in};
@@ -38,7 +38,7 @@ use crate::ways::own_diagnostics::own_diagnostics;
 use crate::ways::own_links::own_links;
 use crate::ways::own_rows::own_change;
 use crate::ways::plan::Changes;
-use crate::ways::recheck::{add_made, clean_check, vacant_for};
+use crate::ways::recheck::{MadeCheck, add_made, clean_check, vacant_for};
 use crate::ways::relink::NewLinks;
 use crate::ways::row_change::{RowChange, Touched};
 use crate::ways::set_findings::few_unreached;
@@ -49,19 +49,6 @@ use snl_lex::{LineList, Piece, Shift, TextEdit, text_in_pieces};
 use snl_scope::{Links, same_spelling_same_summary};
 use snl_syntax::{outcome_told, same_spelling_same_tree};
 use std::alloc::Global;
-
-/// The changes that an edit inside one item makes, the lines of the new text, what is made of all that is kept of the items, the
-/// diagnostics, how the rows are shifted and what changes in them, and the cost.
-#[derive(Drop)]
-pub struct ItemWay {
-    pub changes: Changes,
-    pub lines: LineList,
-    pub remade: Remade,
-    pub diagnostics: Vec<Diagnostic>,
-    pub shift: Shift,
-    pub change: RowChange,
-    pub work: Work,
-}
 
 /// What an edit inside one item makes anew: all that is kept of the items, the diagnostics, how the rows are shifted and what changes in
 /// them, and the cost.
@@ -81,15 +68,28 @@ pub struct Was<'a> {
     pub check: &'a Option<Checked>,
 }
 
-/// What an edit makes of an item, besides what is kept of it: its check, if it is sound, the links, the diagnostics of the new text, how the rows are
-/// shifted, and what changes in them.
+/// What an edit makes of an item, besides what is kept of it and the links: a place for its check and the check, if it is sound, the
+/// diagnostics of the new text, how the rows are shifted, and what changes in them.
 #[derive(Drop)]
-pub struct ItemPlan {
-    pub check: Option<Checked>,
-    pub links: NewLinks,
+pub struct Inside {
+    pub checks: OwnChecks,
     pub diagnostics: Vec<Diagnostic>,
     pub shift: Shift,
     pub change: RowChange,
+}
+
+/// A place for the check of each item that is made, and the check of the one, if it is sound.
+#[derive(Drop)]
+pub struct OwnChecks {
+    pub vacant: Vec<Shared<Option<Checked>>>,
+    pub made: Vec<MadeCheck>,
+}
+
+/// What an edit makes of an item, and what becomes of the links.
+#[derive(Drop)]
+pub struct ItemPlan {
+    pub inside: Inside,
+    pub links: NewLinks,
 }
 
 // The check of the item that is made, if it is sound. It is one tick then.
@@ -115,6 +115,23 @@ fn own_check(
         }
         None => Ok(None),
     }
+}
+
+// The check of the item with this number as it is kept.
+fn own_checks(
+    alloc: Global,
+    changes: &Changes,
+    item: usize,
+    check: Option<Checked>,
+) -> Result<OwnChecks, OutOfMemory>
+    ensures vacant { IfOk result (λ c. c.vacant.items ≡ nones changes.now.items.made.items) }
+    ensures made { IfOk result (λ c. c.made.items ≡ made_at item check) }
+{
+    let vacant = vacant_for(alloc, &changes.items.made)?;
+    let clean = clean_check(alloc)?;
+    let mut made = Vec::new(alloc);
+    add_made(alloc, item, check, &clean, &mut made)?;
+    Ok(OwnChecks { vacant, made })
 }
 
 // The edit is inside the item. This does nothing: its contract is the law of such an edit.
@@ -144,9 +161,9 @@ fn made_inside(
     was: Was,
     made: &Entry,
     touched: Touched,
-    links: NewLinks,
+    links: &NewLinks,
     work: &mut Count,
-) -> Result<ItemPlan, OutOfMemory>
+) -> Result<Inside, OutOfMemory>
     requires lists { IsListed edit.now.old.now lists.now }
     requires tables { tables.now ≡ tables_in edit.now.old.now }
     requires found { found.now ≡ diagnostics_of edit.now.old.now }
@@ -159,9 +176,9 @@ fn made_inside(
     requires alone { AreEntriesMade edit.now.old.now edit.now.text.now changes.now.items.kept_front (made.now ∷ []) changes.now.items.kept_back }
     requires says { SaysWhatItSaid edit.now.old.now (own_head edit.now.old.now changes.now) changes.now.items.kept_front was made.now }
     requires row { FitsRows edit.now.old.now edit.now.text.now changes.now.items.kept_front own.now was made.now touched }
-    requires links { AreOwnLinks lists.now.links changes.now.items.kept_front made.now.summary.kind links }
-    ensures inside { IfOk result (IsMadeInside edit.now.old.now edit.now.text.now edit.now.start edit.now.old_stop edit.now.new_stop changes.now) }
-    ensures ticks { IfOk result (λ i. work.new ≡ after_ticks work.old (length (made_at changes.now.items.kept_front i.check))) }
+    requires links { AreOwnLinks lists.now.links changes.now.items.kept_front made.now.summary.kind links.now }
+    ensures inside { IfOk result (IsMadeInside edit.now.old.now edit.now.text.now edit.now.start edit.now.old_stop edit.now.new_stop changes.now links.now) }
+    ensures ticks { IfOk result (λ i. work.new ≡ after_ticks work.old (length i.checks.made.items)) }
 {
     edit_inside_a_state();
     edit_around_a_state();
@@ -183,9 +200,9 @@ fn made_inside(
     let diagnostics = own_diagnostics(
         alloc, lists, tables, found, edit, lines, shift, own, item, was, made, &check, &change,
     )?;
-    Ok(ItemPlan {
-        check,
-        links,
+    let checks = own_checks(alloc, changes, item, check)?;
+    Ok(Inside {
+        checks,
         diagnostics,
         shift,
         change,
@@ -293,8 +310,8 @@ pub fn inside_of(
     requires own { AreOwnTokens edit.now.old.now edit.now.text.now changes.now.items.kept_front own.now }
     requires made { made.now ≡ entry_by (spelled edit.now.text.now own.now.is.items) }
     requires alone { AreEntriesMade edit.now.old.now edit.now.text.now changes.now.items.kept_front (made.now ∷ []) changes.now.items.kept_back }
-    ensures inside { IfOk result (λ o. IfSome o (IsMadeInside edit.now.old.now edit.now.text.now edit.now.start edit.now.old_stop edit.now.new_stop changes.now)) }
-    ensures ticks { IfOk result (λ o. IfSome o (λ i. work.new ≡ after_ticks work.old (length (made_at changes.now.items.kept_front i.check)))) }
+    ensures inside { IfOk result (λ o. IfSome o (λ p. IsMadeInside edit.now.old.now edit.now.text.now edit.now.start edit.now.old_stop edit.now.new_stop changes.now p.links p.inside)) }
+    ensures ticks { IfOk result (λ o. IfSome o (λ p. work.new ≡ after_ticks work.old (length p.inside.checks.made.items))) }
 {
     let item = changes.items.kept_front;
     let Some(was) = item_that_was(lists, edit.old, item) else {
@@ -312,83 +329,38 @@ pub fn inside_of(
         return Ok(None);
     };
     let inside = made_inside(
-        alloc, lists, tables, found, edit, changes, lines, own, was, made, touched, links, work,
+        alloc, lists, tables, found, edit, changes, lines, own, was, made, touched, &links, work,
     )?;
-    Ok(Some(inside))
+    Ok(Some(ItemPlan { inside, links }))
 }
 
 /// What an edit inside one item makes anew, by what it makes of that, and what it cost.
 pub fn item_anew(
-    alloc: Global,
     lists: &Lists,
     edit: &TextEdit,
     changes: &Changes,
     made: Vec<Shared<Entry>>,
-    inside: ItemPlan,
+    plan: ItemPlan,
     work: Work,
-) -> Result<ItemAnew, OutOfMemory>
+) -> ItemAnew
     requires warns { lists.now.warns ≡ warns_in edit.now.old.now }
     requires made { AreEntriesMade edit.now.old.now edit.now.text.now changes.now.items.kept_front made.items changes.now.items.kept_back }
-    requires inside { IsMadeInside edit.now.old.now edit.now.text.now edit.now.start edit.now.old_stop edit.now.new_stop changes.now inside }
+    requires inside { IsMadeInside edit.now.old.now edit.now.text.now edit.now.start edit.now.old_stop edit.now.new_stop changes.now plan.links plan.inside }
     requires cost { IsCost edit.now.old.now edit.now.text.now edit.now.start edit.now.old_stop edit.now.new_stop work }
-    ensures { IfOk result (IsItemAnew edit.now.old.now edit.now.text.now edit.now.start edit.now.old_stop edit.now.new_stop changes.now.items) }
+    ensures { IsItemAnew edit.now.old.now edit.now.text.now edit.now.start edit.now.old_stop edit.now.new_stop changes.now.items result }
 {
-    let ItemPlan {
-        check,
-        links,
-        diagnostics,
-        shift,
-        change,
-    } = inside;
-    let vacant = vacant_for(alloc, &changes.items.made)?;
-    let mut checks = Vec::new(alloc);
-    let clean = clean_check(alloc)?;
-    add_made(alloc, changes.items.kept_front, check, &clean, &mut checks)?;
-    Ok(ItemAnew {
+    let ItemPlan { inside, links } = plan;
+    ItemAnew {
         remade: Remade {
             made,
             links,
-            vacant,
-            checks,
+            vacant: inside.checks.vacant,
+            checks: inside.checks.made,
             warns: lists.warns,
         },
-        diagnostics,
-        shift,
-        change,
+        diagnostics: inside.diagnostics,
+        shift: inside.shift,
+        change: inside.change,
         work,
-    })
-}
-
-impl ItemWay {
-    /// Makes the lists of the old text those of the new one, and gives what the new text says. There is room for what is made, so it
-    /// can't fail.
-    pub fn commit(
-        self,
-        edit: &TextEdit,
-        lists: &mut Lists,
-        found: &mut Vec<Diagnostic>,
-        tables: &mut Tables,
-    )
-        requires way { IsItemWay edit.now.old.now edit.now.text.now edit.now.start edit.now.old_stop edit.now.new_stop self }
-        requires lists { IsListed edit.now.old.now lists.old }
-        requires tables { tables.old ≡ tables_in edit.now.old.now }
-        requires room { HasRoomFor lists.old self.changes self.remade }
-        ensures lists { IsListed edit.now.text.now lists.new }
-        ensures found { found.new.items ≡ diagnostics_of edit.now.text.now }
-        ensures tables { tables.new ≡ tables_in edit.now.text.now }
-    {
-        let ItemWay {
-            changes,
-            lines,
-            remade,
-            diagnostics,
-            shift,
-            change,
-            work: _,
-        } = self;
-        lists.commit(edit, &changes, lines, remade);
-        *found = diagnostics;
-        tables.shift(shift);
-        change.put_in(tables);
     }
 }

@@ -1,5 +1,5 @@
-//! The plan of an edit that makes anew what the text says: what is kept of the old text and both texts come in, all that takes memory
-//! is made, and then taken over.
+//! What an edit makes of the parts of a text, and what it makes anew where all that the text says is made anew. What is kept of the old
+//! text and both texts come in; what is made goes out.
 #![tactic(auto)]
 
 ghost use Rattle.std.specs.Prelude.{◌≡◌, IfOk, OnOk, length, vec_capacity};
@@ -7,13 +7,11 @@ ghost use Rattle.snl_cut.specs.Cut.{after_ticks};
 ghost use Rattle.snl_items.specs.Fresh.{fresh_items_between, fresh_pieces_between};
 ghost use Rattle.snl_lex.specs.LineList.{IsLineList};
 ghost use Rattle.snl_lex.specs.Pieces.{tokens_of};
-ghost use Rattle.snl_kept.specs.Diagnostics.{diagnostics_of};
 ghost use Rattle.snl_kept.specs.Kept.{IsListed, SameLists};
-ghost use Rattle.snl_kept.specs.Planned.{AreEntriesMade, HasRoomForAll, IsAnew, IsChanged, IsWholeWay};
-ghost use Rattle.snl_kept.specs.Tables.{tables_in};
+ghost use Rattle.snl_kept.specs.Planned.{AreEntriesMade, HasRoomForAll, IsAnew, IsChanged};
 
 use crate::entries::{Entry, entries_along};
-use crate::found::diagnose::{make_room, put_on_lines};
+use crate::found::diagnose::make_room;
 use crate::found::findings::{Diagnostic, Finding};
 use crate::found::program::items_end_in_order;
 use crate::lists::{Lists, Remade};
@@ -38,18 +36,6 @@ pub struct Changes {
 /// order, its tables, and the cost.
 #[derive(Drop)]
 pub struct Anew {
-    pub remade: Remade,
-    pub findings: Vec<Finding>,
-    pub tables: Tables,
-    pub work: Work,
-}
-
-/// The changes that an edit makes, the lines of the new text, what is made of all that is kept of the items, what is shown of what
-/// is found in the new text, in order, its tables, and the cost.
-#[derive(Drop)]
-pub struct WholeWay {
-    pub changes: Changes,
-    pub lines: LineList,
     pub remade: Remade,
     pub findings: Vec<Finding>,
     pub tables: Tables,
@@ -151,48 +137,19 @@ pub fn anew_by(
     })
 }
 
-impl WholeWay {
+impl Anew {
     /// Makes room in the lists and among the diagnostics for what is made. An error leaves all as it was.
     pub fn make_room(
         &self,
+        changes: &Changes,
         lists: &mut Lists,
         found: &mut Vec<Diagnostic>,
     ) -> Result<(), OutOfMemory>
         ensures lists { SameLists lists.old lists.new }
         ensures found { found.new.items ≡ found.old.items }
-        ensures room { OnOk result (HasRoomForAll lists.new (vec_capacity found.new) self.now) }
+        ensures room { OnOk result (HasRoomForAll lists.new (vec_capacity found.new) changes.now self.now) }
     {
-        lists.reserve(&self.changes, &self.remade)?;
+        lists.reserve(changes, &self.remade)?;
         make_room(found, self.findings.len())
-    }
-
-    /// Makes the lists of the old text those of the new one, and gives what the new text says. There is room for what is made, so it
-    /// can't fail.
-    #[tactic(auto, unfolding(crate::specs::Diagnostics::diagnostics_of))]
-    pub fn commit(
-        self,
-        edit: &TextEdit,
-        lists: &mut Lists,
-        found: &mut Vec<Diagnostic>,
-        tables: &mut Tables,
-    )
-        requires way { IsWholeWay edit.now.old.now edit.now.text.now edit.now.start edit.now.old_stop edit.now.new_stop self }
-        requires lists { IsListed edit.now.old.now lists.old }
-        requires room { HasRoomForAll lists.old (vec_capacity found.old) self }
-        ensures lists { IsListed edit.now.text.now lists.new }
-        ensures found { found.new.items ≡ diagnostics_of edit.now.text.now }
-        ensures tables { tables.new ≡ tables_in edit.now.text.now }
-    {
-        let WholeWay {
-            changes,
-            lines,
-            remade,
-            findings,
-            tables: rows,
-            work: _,
-        } = self;
-        put_on_lines(edit.text, &lines, &findings, found);
-        lists.commit(edit, &changes, lines, remade);
-        *tables = rows;
     }
 }

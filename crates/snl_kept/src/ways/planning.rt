@@ -1,12 +1,12 @@
-//! The plan of an edit, which goes one of three ways: the short one, where the edit shifts all that the text says; that of one item,
-//! where it changes the inside of an item that says to the others what it said; and the whole one, where all is made anew. What is kept of the old text and both texts come in; then what is kept of the new one is put in its place.
+//! What an edit makes anew that changes what some item says: little, where it changes the inside of an item that says to the others what
+//! it said, or all that the text says. What is kept of the old text and both texts come in, what is made goes out.
 #![tactic(auto)]
 
 ghost use Rattle.std.specs.Prelude.{◌≡◌, IfOk, IsTrue, OnOk, length, vec_capacity};
 ghost use Rattle.snl_kept.specs.Diagnostics.{diagnostics_of};
 ghost use Rattle.snl_kept.specs.Kept.{IsListed, SameLists};
 ghost use Rattle.snl_kept.specs.ItemPlan.{IsOneItem};
-ghost use Rattle.snl_kept.specs.Planned.{AreEntriesMade, HasRoom, IsAnew, IsChanged, IsMade, IsPlan, work_of};
+ghost use Rattle.snl_kept.specs.Planned.{AreEntriesMade, HasRoom, IsAnew, IsChanged, IsMade, work_of};
 ghost use Rattle.snl_items.specs.Fresh.{fresh_items_between, fresh_pieces_between};
 ghost use Rattle.snl_lex.specs.LineList.{IsLineList};
 ghost use Rattle.snl_lex.specs.Pieces.{tokens_of};
@@ -16,24 +16,14 @@ use crate::entries::Entry;
 use crate::found::findings::Diagnostic;
 use crate::lists::Lists;
 use crate::shared::Shared;
-use crate::ways::item_plan::{ItemAnew, ItemWay, inside_of, item_anew};
+use crate::ways::item_plan::{ItemAnew, inside_of, item_anew};
 use crate::ways::one_item::{made_alone, own_tokens, replaces_one};
-use crate::ways::plan::{Anew, Changes, WholeWay, anew_by, changes_of, made_entries};
-use crate::ways::shift::{ShortWay, shift_of, short_way};
+use crate::ways::plan::{Anew, Changes, anew_by, made_entries};
 use crate::work::Work;
 use snl_check::Tables;
 use snl_cut::{Count, OutOfMemory};
-use snl_items::pieces_are_fresh;
 use snl_lex::{LineList, Piece, TextEdit};
 use std::alloc::Global;
-
-/// What an edit makes that takes memory.
-#[derive(Drop)]
-pub enum Plan {
-    Short(ShortWay),
-    Item(ItemWay),
-    Whole(WholeWay),
-}
 
 /// What is made anew by an edit that changes what some item says.
 #[derive(Drop)]
@@ -162,14 +152,13 @@ fn made_of_one(
     )?;
     drop(own);
     match inside {
-        Some(inside) => {
+        Some(plan) => {
             let work = Work {
                 lexed,
                 parsed,
                 checked: checked.ticks(),
             };
-            let anew = item_anew(alloc, lists, edit, changes, made, inside, work)?;
-            Ok(Made::Item(anew))
+            Ok(Made::Item(item_anew(lists, edit, changes, made, plan, work)))
         }
         None => {
             let anew = anew_of_one(alloc, lists, edit, changes, lines, made, lexed, parsed)?;
@@ -178,8 +167,8 @@ fn made_of_one(
     }
 }
 
-// What an edit makes anew that changes what some item says.
-fn made_by(
+/// What an edit makes anew that changes what some item says.
+pub fn made_by(
     alloc: Global,
     lists: &Lists,
     tables: &Tables,
@@ -204,145 +193,31 @@ fn made_by(
     Ok(Made::Whole(anew))
 }
 
-// The plan of an edit that changes what some item says.
-fn plan_anew(
-    alloc: Global,
-    lists: &Lists,
-    tables: &Tables,
-    found: &[Diagnostic],
-    edit: &TextEdit,
-    changes: Changes,
-    lines: LineList,
-    lexed: u64,
-) -> Result<Plan, OutOfMemory>
-    requires lists { IsListed edit.now.old.now lists.now }
-    requires tables { tables.now ≡ tables_in edit.now.old.now }
-    requires found { found.now ≡ diagnostics_of edit.now.old.now }
-    requires changes { IsChanged edit.now.old.now edit.now.text.now edit.now.start edit.now.old_stop edit.now.new_stop changes }
-    requires lines { IsLineList edit.now.text.now lines.ends.items lines.markers.items lines.naming.items }
-    requires lexed { lexed ≡ fresh_pieces_between edit.now.old.now edit.now.text.now edit.now.start edit.now.old_stop edit.now.new_stop }
-    ensures { IfOk result (IsPlan edit.now.old.now edit.now.text.now edit.now.start edit.now.old_stop edit.now.new_stop) }
-{
-    match made_by(alloc, lists, tables, found, edit, &changes, &lines, lexed)? {
-        Made::Item(anew) => {
-            let ItemAnew {
-                remade,
-                diagnostics,
-                shift,
-                change,
-                work,
-            } = anew;
-            Ok(Plan::Item(ItemWay {
-                changes,
-                lines,
-                remade,
-                diagnostics,
-                shift,
-                change,
-                work,
-            }))
-        }
-        Made::Whole(anew) => {
-            let Anew {
-                remade,
-                findings,
-                tables,
-                work,
-            } = anew;
-            Ok(Plan::Whole(WholeWay {
-                changes,
-                lines,
-                remade,
-                findings,
-                tables,
-                work,
-            }))
-        }
-    }
-}
-
-/// The plan of an edit of the text that has these lists, tables and diagnostics.
-pub fn plan_of(
-    alloc: Global,
-    lists: &Lists,
-    tables: &Tables,
-    found: &[Diagnostic],
-    edit: &TextEdit,
-) -> Result<Plan, OutOfMemory>
-    requires lists { IsListed edit.now.old.now lists.now }
-    requires tables { tables.now ≡ tables_in edit.now.old.now }
-    requires found { found.now ≡ diagnostics_of edit.now.old.now }
-    ensures { IfOk result (IsPlan edit.now.old.now edit.now.text.now edit.now.start edit.now.old_stop edit.now.new_stop) }
-{
-    pieces_are_fresh();
-    let mut lexed = Count::new();
-    let changes = changes_of(alloc, lists, edit, &mut lexed)?;
-    let lines = lists.lines.after(alloc, edit, &changes.pieces)?;
-    match shift_of(lists, found, edit, &changes) {
-        Some(shifted) => Ok(Plan::Short(short_way(edit, changes, lines, shifted, lexed.ticks()))),
-        None => plan_anew(
-            alloc,
-            lists,
-            tables,
-            found,
-            edit,
-            changes,
-            lines,
-            lexed.ticks(),
-        ),
-    }
-}
-
-impl Plan {
-    /// What the edit cost.
+impl Made {
+    /// What the edit costs.
     pub fn work(&self) -> Work
         ensures { result ≡ work_of self.now }
     {
         match self {
-            Plan::Short(way) => way.work,
-            Plan::Item(way) => way.work,
-            Plan::Whole(way) => way.work,
+            Made::Item(anew) => anew.work,
+            Made::Whole(anew) => anew.work,
         }
     }
 
-    /// Makes room for what the plan makes. An error leaves all as it was.
+    /// Makes room in the lists and among the diagnostics for what is made. An error leaves all as it was.
     pub fn make_room(
         &self,
+        changes: &Changes,
         lists: &mut Lists,
         found: &mut Vec<Diagnostic>,
     ) -> Result<(), OutOfMemory>
         ensures lists { SameLists lists.old lists.new }
         ensures found { found.new.items ≡ found.old.items }
-        ensures room { OnOk result (HasRoom lists.new (vec_capacity found.new) self.now) }
+        ensures room { OnOk result (HasRoom lists.new (vec_capacity found.new) changes.now self.now) }
     {
         match self {
-            Plan::Short(way) => lists.reserve_places(&way.changes),
-            Plan::Item(way) => lists.reserve(&way.changes, &way.remade),
-            Plan::Whole(way) => way.make_room(lists, found),
-        }
-    }
-
-    /// Makes what is kept of the old text that of the new one. There is room for what is made, so it can't fail.
-    pub fn commit(
-        self,
-        edit: &TextEdit,
-        lists: &mut Lists,
-        found: &mut Vec<Diagnostic>,
-        tables: &mut Tables,
-    )
-        requires plan { IsPlan edit.now.old.now edit.now.text.now edit.now.start edit.now.old_stop edit.now.new_stop self }
-        requires lists { IsListed edit.now.old.now lists.old }
-        requires found { found.old.items ≡ diagnostics_of edit.now.old.now }
-        requires tables { tables.old ≡ tables_in edit.now.old.now }
-        requires room { HasRoom lists.old (vec_capacity found.old) self }
-        ensures lists { IsListed edit.now.text.now lists.new }
-        ensures found { found.new.items ≡ diagnostics_of edit.now.text.now }
-        ensures tables { tables.new ≡ tables_in edit.now.text.now }
-    {
-        match self {
-            Plan::Short(way) => way.commit(edit, lists, found, tables),
-            Plan::Item(way) => way.commit(edit, lists, found, tables),
-            Plan::Whole(way) => way.commit(edit, lists, found, tables),
+            Made::Item(anew) => lists.reserve(changes, &anew.remade),
+            Made::Whole(anew) => anew.make_room(changes, lists, found),
         }
     }
 }

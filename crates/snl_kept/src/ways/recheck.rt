@@ -19,7 +19,7 @@ use crate::ways::values::values_after;
 use snl_check::{Checked, check_item};
 use snl_cut::{Count, OutOfMemory};
 use snl_lex::Piece;
-use snl_lists::{Few, Ordered};
+use snl_lists::Ordered;
 use snl_scope::{
     EditedNames, Links, Summary, same_spelling_same_summary, same_view, views_told_apart,
 };
@@ -136,12 +136,7 @@ fn check_anew(
 pub fn clean_check(alloc: Global) -> Result<Shared<Option<Checked>>, OutOfMemory>
     ensures { IfOk result (λ clean. clean ≡ Some clean_check) }
 {
-    let clean = Checked {
-        faults: Few::new(),
-        wake_uses: Few::new(),
-        target_uses: Few::new(),
-    };
-    Ok(Shared::new(alloc, Some(clean))?)
+    Ok(Shared::new(alloc, Some(Checked::clean()))?)
 }
 
 // Whether nothing is found in an item.

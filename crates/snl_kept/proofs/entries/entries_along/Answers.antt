@@ -1,6 +1,7 @@
-use Rattle.std.proofs.Common.{◌+◌, ◌++◌, ◌∷◌, [], length, map, drop, get_or, ap, sym, subst, ◌∙◌, append_assoc, add-one}
+use Rattle.std.proofs.Common.{ℕ, List, take, ◌-◌, ◌+◌, ◌++◌, ◌∷◌, [], length, map, drop, get_or, ap, sym, subst, ◌∙◌, append_assoc, add-one}
 use Rattle.snl_cut.specs.Cut.{after_ticks, members, ticked}
 use Rattle.snl_lex.specs.PieceList.{spelled}
+use Rattle.snl_lex.specs.declared.piece.Piece.{Piece}
 use Rattle.snl_kept.specs.Entries.{entry_by}
 use Rattle.snl_kept.specs.Parts.{EndsWithin}
 use Rattle.snl_kept.proofs.Members.{spelled_between}
@@ -19,12 +20,15 @@ loop-end-preserved c =
     let rest = map entry_by (members (spelled text tokens) stop (drop (i + 1) ends)) in
     let here = drop_at ends i 0 c.loop-end-test.true in
     let left : EndsWithin start (stop ∷ drop (i + 1) ends) (length tokens) = subst (λ l. EndsWithin start l (length tokens)) here c.loop-end.invariant.ends in
-    let first = c.in_ok-keep.ensures ∙ c.in_ok-entry.ensures.entry ∙ ap entry_by (sym (spelled_between text tokens start stop)) in
+    let same = c.loop-end.invariant.common in
+    let own = ap (λ (l : List ℕ × List Piece). entry_by (spelled l.0 (take (stop - start) (drop start l.1)))) same in
+    let first = c.in_ok-entry.ensures.entry ∙ own ∙ ap entry_by (sym (spelled_between text tokens start stop)) in
     record {
+      common = c.in_ok-entry.ensures.common ∙ same;
       ends = left.2;
       entries =
           ap (λ l. l ++ rest) c.in_ok-push.ensures.items
-          ∙ append_assoc done (c.in_ok-keep.field-0 ∷ []) rest
+          ∙ append_assoc done (c.in_ok-entry.entry ∷ []) rest
           ∙ ap (λ e. done ++ e ∷ rest) first
           ∙ sym (ap (λ l. done ++ map entry_by (members (spelled text tokens) start l)) here)
           ∙ c.loop-end.invariant.entries;

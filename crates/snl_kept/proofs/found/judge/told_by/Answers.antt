@@ -1,4 +1,4 @@
-use Rattle.std.proofs.Common.{◌≡◌, ℕ, List, ◌++◌, length, map, ap, sym, subst, ◌∙◌}
+use Rattle.std.proofs.Common.{◌≡◌, ℕ, List, length, map, ap, sym, subst, ◌∙◌}
 use Rattle.snl_lex.specs.Pieces.{tokens_of}
 use Rattle.snl_tables.specs.declared.rows.Tables.{Tables}
 use Rattle.snl_check.specs.Tables.{tables_of}

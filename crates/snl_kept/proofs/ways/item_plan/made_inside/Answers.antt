@@ -7,6 +7,7 @@ use Rattle.snl_scope.specs.Linked.{faults_of}
 use Rattle.snl_scope.specs.declared.summaries.summary.Outline.{Outline}
 use Rattle.snl_tables.specs.Shifted.{shifted_tables}
 use Rattle.snl_check.specs.declared.rules.findings.Checked.{Checked}
+use Rattle.snl_kept.specs.declared.ways.recheck.MadeCheck.{MadeCheck}
 use Rattle.snl_kept.specs.declared.ways.row_change.RowChange.{RowChange}
 use Rattle.snl_kept.specs.Checks.{check_by, links_in, outlines_in}
 use Rattle.snl_kept.specs.Entries.{entry_by}
@@ -101,7 +102,7 @@ returns-clause-inside c =
     let one = c.replaces_inside.ensures.replaced in
     let spared = c.requires.says.spared in
     let faults : faults_of (links_in text) ≡ faults_of (links_in old) =
-    faults_stay old text edit.start edit.old_stop edit.new_stop changes s w.entry.now e one before c.requires.lists.links c.args.links c.requires.links in
+    faults_stay old text edit.start edit.old_stop edit.new_stop changes s w.entry.now e one before c.requires.lists.links c.args.links.now c.requires.links in
     let change : RowChange = change_told text (items_of text) (outlines_in old) k (own_item text k) c.args.touched in
     let after : IsAfterInside old text s k change = after_any old text s k own w e c.args.touched c.requires.row
     (sound_alike c.outcome_told.ensures.tree c.same_spelling_same_tree.ensures.by_spelling c.same_spelling_same_summary.ensures.summary_by_spelling c.same_spelling_same_summary.ensures.bytes_by_spelling old text k own w e there c.requires.was c.requires.own c.requires.made)
@@ -117,11 +118,15 @@ returns-clause-inside c =
     let tokens_again : c.deref-2.result.now ≡ own_tokens text k = c.deref-2.ensures.value ∙ c.requires.own.is in
     let told : c.in_ok-change.change ≡ change =
     c.in_ok-change.ensures ∙ ap₂ (λ (os : List Outline) (ts : List Piece). change_told text (items_of text) os k (program_item text ts) c.args.touched) outlines tokens_again in
+    let kept = c.in_ok-checks.ensures in
+    let vacant : c.in_ok-checks.checks.vacant.items ≡ nones changes.items.made.items = kept.vacant in
+    let made : c.in_ok-checks.checks.made.items ≡ made_at k (own_check old text k) = kept.made ∙ ap (made_at k) check in
     record {
-      links = links_after old text edit.start edit.old_stop edit.new_stop changes s w.entry.now e one before c.requires.lists.links c.args.links c.requires.links;
+      are_links = links_after old text edit.start edit.old_stop edit.new_stop changes s w.entry.now e one before c.requires.lists.links c.args.links.now c.requires.links;
       warns = after.warns;
-      checks = subst (λ (o : Option Checked). AreChecksMade old text k (nones changes.items.made.items) changes.items.kept_back (made_at k o)) (sym check) one.checks;
-      stirred = one.stirred ∙ ap (λ (o : Option Checked). length (made_at k o)) (sym check);
+      checks = subst (λ (ms : List MadeCheck). AreChecksMade old text k c.in_ok-checks.checks.vacant.items changes.items.kept_back ms) (sym made)
+          (subst (λ (vs : List (Option Checked)). AreChecksMade old text k vs changes.items.kept_back (made_at k (own_check old text k))) (sym vacant) one.checks);
+      stirred = one.stirred ∙ ap (λ (ms : List MadeCheck). length ms) (sym made);
       diagnostics = c.in_ok-diagnostics.ensures
           ∙ diagnostics_after old text s k c.in_ok-change.change own before.outlines c.args.lists.now.warns c.args.tables.now c.args.found.now (subst (IsAfterInside old text s k) (sym told) after) c.requires.own outlines c.requires.lists.warns c.requires.tables c.requires.found;
       tables = after.tables ∙ ap (with_row (shifted_tables s (tables_in old))) (sym told);
