@@ -81,7 +81,7 @@ impl<'a> CommonEntries<'a> {
     }
 
     // The entry of an item with these tokens, if one of these items is spelled alike.
-    fn entry_of(&self, own: &[Piece]) -> Option<&Shared<Entry>>
+    fn spelled_as(&self, own: &[Piece]) -> Option<&Shared<Entry>>
         requires { All (LiesIn self.now.0) own.now }
         ensures { IfSome result (λ same. same.now ≡ entry_by (spelled self.now.0 own.now)) }
     {
@@ -94,17 +94,24 @@ impl<'a> CommonEntries<'a> {
         None
     }
 
-    // Takes in the entry of the item that has the tokens from `start` up to `stop`, while there are few.
+    // Lets all go where there are too many: what comes next is more likely like what came last.
+    fn keep_few(&mut self)
+        ensures { self.new ≡ self.old }
+    {
+        if self.entries.len() >= FEW {
+            self.entries.clear();
+        }
+    }
+
+    // Takes in the entry of the item that has the tokens from `start` up to `stop`.
     fn add(&mut self, start: usize, stop: usize, entry: &Shared<Entry>) -> Result<(), OutOfMemory>
         requires range { start ≤ stop }
         requires inside { stop ≤ length self.old.1 }
         requires entry { entry.now ≡ entry_by (spelled self.old.0 (take (stop - start) (drop start self.old.1))) }
         ensures { self.new ≡ self.old }
     {
-        if self.entries.len() < FEW {
-            let entry = entry.share()?;
-            self.entries.push(CommonEntry { start, stop, entry })?;
-        }
+        let entry = entry.share()?;
+        self.entries.push(CommonEntry { start, stop, entry })?;
         Ok(())
     }
 }
@@ -163,10 +170,11 @@ fn shared_entry(
         let entry = entry_with(alloc, text, own, parsed)?;
         return Ok(Shared::new(alloc, entry)?);
     }
-    if let Some(same) = common.entry_of(own) {
+    if let Some(same) = common.spelled_as(own) {
         return Ok(same.share()?);
     }
     let entry = Shared::new(alloc, entry_with(alloc, text, own, parsed)?)?;
+    common.keep_few();
     common.add(start, stop, &entry)?;
     Ok(entry)
 }

@@ -6,8 +6,8 @@ use Rattle.snl_kept.specs.declared.entries.CommonEntry.{CommonEntry}
 use Rattle.snl_kept.specs.Entries.{IsCommon, entry_by}
 use Rattle.snl_kept.proofs.entries.CommonEntries.add.Goals as goal
 
-pub invariant_of-self : goal.invariant_of-self
-invariant_of-self c =
+pub invariant_of-self-2 : goal.invariant_of-self-2
+invariant_of-self-2 c =
     let text = c.self.inside.text.now in
     let tokens = c.self.inside.tokens.now in
     let start = c.args.start in
