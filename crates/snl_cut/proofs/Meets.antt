@@ -5,7 +5,7 @@ use Rattle.std.proofs.lemmas.Bool.Decides.{nat_tests}
 use Rattle.snl_cut.specs.Cut.{IsFront, IsCut, IsBoundary, IsMeet, Walks, last_end, is_boundary, meet_from}
 use Rattle.snl_cut.proofs.Below.{split}
 use Rattle.snl_cut.proofs.Steps.{walks_push}
-use Rattle.snl_cut.proofs.Agreeing.{boundary_count, none_inside, some_left, walks_front}
+use Rattle.snl_cut.proofs.Agreeing.{boundary_count, none_inside, some_left}
 
 either : (t : Bool) → (t ≡ true) ⊎ (t ≡ false)
 either true = inl refl

@@ -4,7 +4,7 @@ ghost use Rattle.snl_cut.specs.Cut.{Counted, IsCut, after_ticks, ends_of, ticked
 ghost use Rattle.std.specs.Prelude.{◌≡◌, ◌+◌, ◌<◌, ◌≤◌, IfOk, drop, length};
 
 use crate::memory::OutOfMemory;
-use crate::trait_front::Front;
+use crate::trait_front::{Front, Noting};
 use crate::work::Count;
 use std::alloc::Global;
 
@@ -17,6 +17,24 @@ pub fn next_end<F: Front>(front: &F, units: &[F::Unit], at: usize, work: &mut Co
     ensures ticks { work.new ≡ ticked work.old }
 {
     at + front.first(&units[at..], work)
+}
+
+// Where the member that begins at `at` ends, and what is noted of it.
+pub fn next_noted<F: Noting>(
+    front: &F,
+    units: &[F::Unit],
+    at: usize,
+    work: &mut Count,
+) -> (usize, F::Note)
+    requires { at < length units.now }
+    ensures end { result.0 ≡ at + F.first_of (drop at units.now) }
+    ensures note { result.1 ≡ F.note_of (drop at units.now) }
+    ensures further { at < result.0 }
+    ensures inside { result.0 ≤ length units.now }
+    ensures ticks { work.new ≡ ticked work.old }
+{
+    let (length, note) = front.first_noted(&units[at..], work);
+    (at + length, note)
 }
 
 /// The ends of the members of the cut of `units`, each as a number of units from the front of the list.

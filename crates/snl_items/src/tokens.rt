@@ -3,6 +3,7 @@
 
 ghost use Rattle.snl_items.specs.Changes.{AreShifted, IsTokenChange};
 ghost use Rattle.snl_items.specs.Items.{mark_in};
+ghost use Rattle.snl_lex.specs.Made.{made_pieces};
 ghost use Rattle.snl_lex.specs.PieceList.{IsChange, is_token_class, piece_ends, piece_kinds};
 ghost use Rattle.snl_lex.specs.Pieces.{LiesIn};
 ghost use Rattle.std.specs.Prelude.{◌≡◌, ◌≤◌, All, IfOk, IfSome, count_by, length, map};
@@ -12,7 +13,7 @@ use crate::spelled::are_spelled_alike;
 use snl_cut::{OutOfMemory, ends_in_order, meets_where_sought, one_cut};
 use snl_lex::{
     Bytes, Class, Piece, PieceChange, PieceList, TextEdit, kept_as_spelled, pieces_as_listed,
-    text_in_pieces, tokens_among,
+    text_in_pieces,
 };
 use snl_syntax::{Mark, mark};
 use std::alloc::Global;
@@ -90,7 +91,7 @@ impl TokenChange {
     ) -> Result<TokenChange, OutOfMemory>
         requires ends { pieces.now.ends.items ≡ piece_ends edit.now.old.now }
         requires kinds { pieces.now.kinds.items ≡ piece_kinds edit.now.old.now }
-        requires change { IsChange edit.now.old.now edit.now.text.now edit.now.start edit.now.old_stop edit.now.new_stop change.now.kept_front change.now.made.items change.now.kept_back change.now.kept_from change.now.list.ends.items change.now.list.kinds.items }
+        requires change { IsChange edit.now.old.now edit.now.text.now edit.now.start edit.now.old_stop edit.now.new_stop change.now.kept_front (made_pieces change.now) change.now.kept_back change.now.kept_from change.now.list.ends.items change.now.list.kinds.items }
         ensures change { IfOk
             result
             (λ r. IsTokenChange edit.now.old.now edit.now.text.now edit.now.start edit.now.old_stop edit.now.new_stop r.edit r.made.items r.marks.items r.same) }
@@ -107,7 +108,7 @@ impl TokenChange {
         let front = change.kept_front;
         let back = pieces.ends.len() - change.kept_back;
         let replaced = pieces.tokens_between(alloc, front, back)?;
-        let made = tokens_among(alloc, &change.made)?;
+        let made = change.made_tokens(alloc)?;
         let marks = marks_of(alloc, edit.text, &made)?;
         let alike = are_spelled_alike(edit.old, &replaced, edit.text, &made);
         let start = count_tokens(&pieces.kinds[..front]);

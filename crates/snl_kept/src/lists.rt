@@ -65,7 +65,7 @@ impl Lists {
         ensures items { SameItems self.old self.new }
         ensures room { OnOk result (HasRoomForPlaces self.new changes.now) }
     {
-        self.pieces.reserve(changes.pieces.made.len())?;
+        self.pieces.reserve(changes.pieces.list.ends.len())?;
         self.items
             .reserve(changes.tokens.marks.len(), changes.items.made.len())?;
         Ok(())

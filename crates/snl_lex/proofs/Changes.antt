@@ -1,11 +1,12 @@
 -- What an edit makes of the lists of the pieces.
 use Rattle.std.proofs.Common.{◌≡◌, ℕ, zero, suc, ◌+◌, ◌-◌, ◌<◌, ◌≤◌, List, [], ◌∷◌, ◌++◌, length, take, drop, map, get_or, refl, sym, ap, ap₂, ◌∙◌, subst, arith, append_assoc, length-append, length-drop}
 use Rattle.std.specs.Prelude.{slice_index}
-use Rattle.std.proofs.lemmas.List.{drop-map, get_or_append_left, get_or-append-add, length-map, map-append, take-append-drop, take-map}
-use Rattle.snl_cut.specs.Cut.{IsEdit, Walks, joined, last_end, moved}
+use Rattle.std.proofs.lemmas.List.{drop-map, get_or-map, get_or_append_left, get_or-append-add, length-map, map-append, take-append-drop, take-map}
+use Rattle.snl_cut.specs.Cut.{IsEdit, IsRecut, Walks, joined, last_end, moved}
 use Rattle.snl_lex.specs.declared.piece.Class.{Class}
+use Rattle.snl_lex.specs.declared.piece.Class.TheVariants.{Bad}
 use Rattle.snl_lex.specs.declared.piece.Piece.{Piece}
-use Rattle.snl_lex.specs.PieceList.{IsChange, last_pieces, piece_ends, piece_kinds}
+use Rattle.snl_lex.specs.PieceList.{IsChange, IsRelexed, last_pieces, listed_pieces, piece_ends, piece_kinds, relexed_pieces}
 use Rattle.snl_lex.specs.Pieces.{LiesIn, moved_piece, piece_end, piece_length, pieces_along, pieces_of}
 use Rattle.snl_lex.proofs.Members.{along_ends, leads_inside, leads_pieces, leads_walk, pieces_lead, walk_back, walk_le, walk_leads}
 
@@ -52,9 +53,45 @@ edit_lengths old text start b c e =
     let same : length old - b ≡ length text - c = sym (length-drop b old) ∙ ap length e.after ∙ length-drop c text in
     omega (arith, same, e.old_inside, e.new_inside)
 
+-- ---- what is kept and made of the pieces
+
+-- What is kept at the front ends in the text.
+pub front_ends : (text : List ℕ) (k : ℕ) → last_end 0 (take k (piece_ends text)) ≤ length text
+front_ends text k = walk_le text (last_end 0 (take k (piece_ends text))) (drop k (piece_ends text)) (length text) (rest_walk text k)
+
+module _ (old text : List ℕ) (start b c front : ℕ) (ends : List ℕ) (kinds : List Class) (back : ℕ) (is : IsRelexed old text start b c front ends kinds back) where
+  pub ends_inside : (k d : ℕ) → k < length ends → get_or ends k d ≤ length text
+  ends_inside k d lt =
+      let ps : List Piece = relexed_pieces old front ends kinds in
+      let few : k < length ps = omega (arith, lt, ap length is.ends, length-map ps piece_end) in
+      let p : Piece = record { kind = Bad; start = 0; len = 0 } in
+      let there : get_or ends k d ≡ piece_end (get_or ps k p) = ap (λ (l : List ℕ). get_or l k d) is.ends ∙ get_or-map piece_end ps k p d few in
+      omega (arith, there, (part_lies text (take front (pieces_of old)) ps (map (moved_piece b c) (last_pieces old back)) is.pieces k p few).1)
+
+  pub as_many_kinds : length ends ≡ length kinds
+  as_many_kinds =
+      let ps : List Piece = relexed_pieces old front ends kinds in
+      ap length is.ends ∙ length-map ps piece_end ∙ sym (ap length is.kinds ∙ length-map ps (λ p. p.kind))
+
+  pub relexed_change : (from kept_from : ℕ) → from ≡ last_end 0 (take front (piece_ends old)) → kept_from ≡ last_end 0 (take (length (piece_ends old) - back) (piece_ends old))
+      → IsChange old text start b c front (listed_pieces from ends kinds) back kept_from ends kinds
+  relexed_change from kept_from e k =
+      let change : IsChange old text start b c front (relexed_pieces old front ends kinds) back kept_from ends kinds = record {
+        order = is.order;
+        recut = subst (λ (m : List ℕ). IsRecut piece_length old (piece_ends old) text start b c front m back) is.ends is.recut;
+        pieces = is.pieces;
+        from = k;
+        ends = is.ends;
+        kinds = is.kinds;
+      } in
+      subst (λ (n : ℕ). IsChange old text start b c front (listed_pieces n ends kinds) back kept_from ends kinds) (sym e) change
+
 -- ---- what a change says
 
 module _ (old text : List ℕ) (start b c front : ℕ) (made : List Piece) (back kept_from : ℕ) (made_ends : List ℕ) (made_kinds : List Class) (is : IsChange old text start b c front made back kept_from made_ends made_kinds) where
+  pub as_many : length made_ends ≡ length made_kinds
+  as_many = ap length is.ends ∙ length-map made piece_end ∙ sym (ap length is.kinds ∙ length-map made (λ p. p.kind))
+
   pub made_lies : (k : ℕ) (d : Piece) → k < length made → LiesIn text (get_or made k d)
   made_lies = part_lies text (take front (pieces_of old)) made (map (moved_piece b c) (last_pieces old back)) is.pieces
 

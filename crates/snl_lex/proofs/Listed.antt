@@ -1,12 +1,12 @@
 -- The pieces of a text, as two lists say them.
 use Rattle.std.proofs.Common.{◌≡◌, ℕ, zero, suc, ◌+◌, ◌-◌, ◌<◌, ◌≤◌, Bool, true, false, cond, List, [], ◌∷◌, ◌++◌, length, take, drop, map, filter, get_or, refl, sym, ap, ap₂, ◌∙◌, subst, arith}
-use Rattle.std.proofs.lemmas.List.{map-append, take_more, get_or-drop, length-drop}
+use Rattle.std.proofs.lemmas.List.{map-append, take_all, take_more, get_or-drop, length-drop}
 use Rattle.std.proofs.lemmas.List.Elements.{filter-append}
-use Rattle.snl_cut.specs.Cut.{last_end}
+use Rattle.snl_cut.specs.Cut.{Walks, last_end, notes_along}
 use Rattle.snl_lex.specs.declared.piece.Class.{Class}
 use Rattle.snl_lex.specs.declared.piece.Piece.{Piece}
 use Rattle.snl_lex.specs.PieceList.{listed_pieces, piece_ends, piece_kinds, pieces_between}
-use Rattle.snl_lex.specs.Pieces.{is_token, moved_piece, piece_at, piece_end, piece_length, pieces_of}
+use Rattle.snl_lex.specs.Pieces.{is_token, moved_piece, piece_at, piece_class, piece_end, piece_length, pieces_along, pieces_of}
 use Rattle.snl_lex.proofs.Members.{Leads, end_at, pieces_lead}
 
 -- A piece of a text by its end.
@@ -43,6 +43,28 @@ listed_length from [] kinds (suc n) h i = absurd (omega arith)
 listed_length from (e ∷ ends) [] (suc n) h i = absurd (omega arith)
 listed_length from (e ∷ ends) (x ∷ kinds) (suc n) h i = omega (arith, listed_length e ends kinds n (omega arith) (omega arith))
 
+listed_few : (from : ℕ) (ends : List ℕ) (kinds : List Class) → length (listed_pieces from ends kinds) ≤ length ends
+listed_few from [] kinds = omega arith
+listed_few from (e ∷ ends) [] = omega arith
+listed_few from (e ∷ ends) (k ∷ kinds) = omega (arith, listed_few e ends kinds)
+
+-- All pieces that the lists say.
+pub between_all : (from : ℕ) (ends : List ℕ) (kinds : List Class) → pieces_between (listed_pieces from ends kinds) 0 (length ends) ≡ listed_pieces from ends kinds
+between_all from ends kinds = take_all (length ends - 0) (listed_pieces from ends kinds) (omega (arith, listed_few from ends kinds))
+
+-- The members of a walk and their classes are its pieces.
+pub noted_pieces : (text : List ℕ) (from : ℕ) (es : List ℕ) (to : ℕ) → Walks piece_length text from es to → listed_pieces from es (notes_along piece_class text from es) ≡ pieces_along text from es
+unfolding piece_at
+noted_pieces text from [] to w = refl
+noted_pieces text from (e ∷ es) to w =
+    let long : e - from ≡ piece_length (drop from text) = omega (arith, w.1) in
+    ap₂ (λ (n : ℕ) (l : List Piece). let p : Piece = record { kind = piece_class (drop from text); start = from; len = n } in p ∷ l) long (noted_pieces text e es to w.2)
+
+pub noted_kinds : (text : List ℕ) (from : ℕ) (es : List ℕ) → notes_along piece_class text from es ≡ map (λ p. p.kind) (pieces_along text from es)
+unfolding piece_at
+noted_kinds text from [] = refl
+noted_kinds text from (e ∷ es) = ap (λ (l : List Class). piece_class (drop from text) ∷ l) (noted_kinds text e es)
+
 -- One piece more.
 pub between_more : (ps : List Piece) (from n : ℕ) (d : Piece) → from ≤ n → n < length ps
     → pieces_between ps from (n + 1) ≡ pieces_between ps from n ++ get_or ps n d ∷ []
@@ -60,19 +82,30 @@ same_piece : (k : Class) (s t m n : ℕ) → s ≡ t → m ≡ n → let p : Pie
 same_piece k s t m n h i = ap₂ (λ (a b : ℕ). let p : Piece = record { kind = k; start = a; len = b } in p) h i
 
 -- One piece more, by its end, its class and where it begins.
-pub listed_more : (ends : List ℕ) (kinds : List Class) (from n : ℕ) (end : ℕ) (kind : Class) (start : ℕ)
-    → from ≤ n → n < length ends → n < length kinds → end ≡ get_or ends n 0 → kind ≡ get_or kinds n kind → start ≡ last_end 0 (take n ends)
-    → pieces_between (listed_pieces 0 ends kinds) from (n + 1) ≡ pieces_between (listed_pieces 0 ends kinds) from n ++ record { kind = kind; start = start; len = end - start } ∷ []
-listed_more ends kinds from n end kind start le lt lt_kinds end_is kind_is start_is =
-    let ps : List Piece = listed_pieces 0 ends kinds in
+pub listed_more : (begin : ℕ) (ends : List ℕ) (kinds : List Class) (from n : ℕ) (end : ℕ) (kind : Class) (start : ℕ)
+    → from ≤ n → n < length ends → n < length kinds → end ≡ get_or ends n 0 → kind ≡ get_or kinds n kind → start ≡ last_end begin (take n ends)
+    → pieces_between (listed_pieces begin ends kinds) from (n + 1) ≡ pieces_between (listed_pieces begin ends kinds) from n ++ record { kind = kind; start = start; len = end - start } ∷ []
+listed_more begin ends kinds from n end kind start le lt lt_kinds end_is kind_is start_is =
+    let ps : List Piece = listed_pieces begin ends kinds in
     let p : Piece = record { kind = kind; start = start; len = end - start } in
-    let first : ℕ = last_end 0 (take n ends) in
+    let first : ℕ = last_end begin (take n ends) in
     let long : get_or ends n 0 - first ≡ end - start = omega arith in
     let there : get_or ps n p ≡ p =
-    listed_at 0 ends kinds n kind p lt lt_kinds
+    listed_at begin ends kinds n kind p lt lt_kinds
     ∙ ap (λ (k : Class). let q : Piece = record { kind = k; start = first; len = get_or ends n 0 - first } in q) (sym kind_is)
     ∙ same_piece kind first start (get_or ends n 0 - first) (end - start) (sym start_is) long in
-    between_more ps from n p le (listed_length 0 ends kinds (suc n) (omega arith) (omega arith)) ∙ ap (λ (q : Piece). pieces_between ps from n ++ q ∷ []) there
+    between_more ps from n p le (listed_length begin ends kinds (suc n) (omega arith) (omega arith)) ∙ ap (λ (q : Piece). pieces_between ps from n ++ q ∷ []) there
+
+-- The piece with a number, by its end, its class and where it begins.
+pub listed_piece : (begin : ℕ) (ends : List ℕ) (kinds : List Class) (n end : ℕ) (kind : Class) (start len : ℕ) (d : Piece) → n < length ends → n < length kinds
+    → end ≡ get_or ends n 0 → kind ≡ get_or kinds n kind → start ≡ last_end begin (take n ends) → len ≡ end - start
+    → get_or (listed_pieces begin ends kinds) n d ≡ record { kind = kind; start = start; len = len }
+listed_piece begin ends kinds n end kind start len d lt lt_kinds end_is kind_is start_is len_is =
+    let first : ℕ = last_end begin (take n ends) in
+    let long : get_or ends n 0 - first ≡ len = omega arith in
+    listed_at begin ends kinds n kind d lt lt_kinds
+    ∙ ap (λ (k : Class). let q : Piece = record { kind = k; start = first; len = get_or ends n 0 - first } in q) (sym kind_is)
+    ∙ same_piece kind first start (get_or ends n 0 - first) len (sym start_is) long
 
 -- The same piece, moved.
 pub pushed_piece : (kind : Class) (start end b c s m : ℕ) → s ≡ start - b → m ≡ end - start
@@ -105,3 +138,10 @@ tokens_moved b c (p ∷ ps) =
     let step : (t : Bool) → cond t (moved_piece b c p ∷ filter is_token (map (moved_piece b c) ps)) (filter is_token (map (moved_piece b c) ps)) ≡ map (moved_piece b c) (cond t (p ∷ filter is_token ps) (filter is_token ps)) =
     elim [ true ↦ ap (λ (l : List Piece). moved_piece b c p ∷ l) rest | false ↦ rest ] in
     step (is_token p)
+
+-- All tokens among the pieces that the lists say.
+pub listed_all : (from : ℕ) (ends : List ℕ) (kinds : List Class) (n : ℕ) → n ≡ length ends
+    → map (moved_piece 0 0) (filter is_token (pieces_between (listed_pieces from ends kinds) 0 n)) ≡ filter is_token (listed_pieces from ends kinds)
+listed_all from ends kinds n all =
+    not_moved (filter is_token (pieces_between (listed_pieces from ends kinds) 0 n))
+    ∙ ap (filter is_token) (ap (λ (m : ℕ). pieces_between (listed_pieces from ends kinds) 0 m) all ∙ between_all from ends kinds)

@@ -1,5 +1,5 @@
 -- The markers of a text as a list: its order, its parts, and what an edit makes of it.
-use Rattle.std.proofs.Common.{◌≡◌, ℕ, zero, suc, ◌+◌, ◌-◌, ◌^◌, ◌<◌, ◌≤◌, inl, inr, ◌⊎◌, Bool, true, false, ◌&&◌, cond, nat_lt, List, [], ◌∷◌, ◌++◌, length, take, drop, map, get_or, count_by, filter, Option, Some, None, refl, sym, ap, ap₂, ◌∙◌, subst, arith, append_assoc, length-append, length-take}
+use Rattle.std.proofs.Common.{◌≡◌, ℕ, zero, suc, is_some, ◌+◌, ◌-◌, ◌^◌, ◌<◌, ◌≤◌, inl, inr, ◌⊎◌, Bool, true, false, ◌&&◌, cond, nat_lt, List, [], ◌∷◌, ◌++◌, length, take, drop, map, get_or, count_by, filter, Option, Some, None, refl, sym, ap, ap₂, ◌∙◌, subst, arith, append_assoc, length-append, length-take}
 use Rattle.std.specs.Prelude.{All, IfSome, slice_index, unwrap_or}
 use Rattle.std.specs.Option.{option_map}
 use Rattle.std.specs.List.{AllByRecursion}
@@ -12,8 +12,8 @@ use Rattle.snl_cut.specs.Cut.{IsEdit, ends_below, last_end}
 use Rattle.snl_lex.specs.declared.line_list.Marker.{Marker}
 use Rattle.snl_lex.specs.declared.piece.Class.{Class}
 use Rattle.snl_lex.specs.declared.piece.Piece.{Piece}
-use Rattle.snl_lex.specs.Lines.{gap_end, last_or, marker_file, marker_number, number_stop, place_from}
-use Rattle.snl_lex.specs.LineList.{IsShort, marked, marker_of, moved_marker}
+use Rattle.snl_lex.specs.Lines.{gap_end, is_marker, last_or, marker_file, marker_number, number_stop, place_from}
+use Rattle.snl_lex.specs.LineList.{IsShort, marked, marker_of, moved_marker, names, numbers}
 use Rattle.snl_lex.specs.PieceList.{IsChange, last_pieces, piece_ends}
 use Rattle.snl_lex.specs.Pieces.{bytes_at, moved_piece, piece_end, piece_length, pieces_of, string_joins}
 use Rattle.snl_lex.specs.Runs.{run_by}
@@ -95,6 +95,21 @@ starts_above text from low (p ∷ ps) to h le =
 
 pub marked_append : (passes : Piece → Bool) (text : List ℕ) (xs ys : List Piece) → marked passes text (xs ++ ys) ≡ marked passes text xs ++ marked passes text ys
 marked_append passes text xs ys = ap (map (marker_of text)) (filter-append passes xs ys) ∙ map-append (marker_of text) (filter passes xs) (filter passes ys)
+
+-- One piece more among the markers.
+pub marked_more : (passes : Piece → Bool) (text : List ℕ) (before now : List Marker) (ps all : List Piece) (p : Piece) → now ≡ before ++ marked passes text ps → all ≡ ps ++ p ∷ []
+    → now ++ marked passes text (p ∷ []) ≡ before ++ marked passes text all
+marked_more passes text before now ps all p is more =
+    ap (λ (l : List Marker). l ++ marked passes text (p ∷ [])) is
+    ∙ append_assoc before (marked passes text ps) (marked passes text (p ∷ []))
+    ∙ ap (λ (l : List Marker). before ++ l) (sym (ap (marked passes text) more ∙ marked_append passes text ps (p ∷ [])))
+
+-- A piece of another class sets no line.
+pub no_number : (text : List ℕ) (p : Piece) → is_marker p.kind ≡ false → marked (numbers text) text (p ∷ []) ≡ []
+no_number text p e = ap (λ (b : Bool). map (marker_of text) (cond (b && is_some (marker_number (bytes_at text p))) (p ∷ []) [])) e
+
+pub no_name : (text : List ℕ) (p : Piece) → is_marker p.kind ≡ false → marked (names text) text (p ∷ []) ≡ []
+no_name text p e = ap (λ (b : Bool). map (marker_of text) (cond ((b && is_some (marker_number (bytes_at text p))) && is_some (marker_file (bytes_at text p))) (p ∷ []) [])) e
 
 marked_cons : (passes : Piece → Bool) (text : List ℕ) (p : Piece) (ps : List Piece) → marked passes text (p ∷ ps) ≡ cond (passes p) (marker_of text p ∷ marked passes text ps) (marked passes text ps)
 marked_cons passes text p ps =

@@ -125,11 +125,6 @@ pub walk_back : (text : List ℕ) (from : ℕ) (xs ys : List ℕ) (to : ℕ) →
 walk_back text from [] ys to h = h
 walk_back text from (e ∷ xs) ys to h = walk_back text e xs ys to h.2
 
-pub walk_at : (text : List ℕ) (from : ℕ) (es : List ℕ) (to i : ℕ) → Walks piece_length text from es to → i < length es → last_end from (take i es) < length text
-walk_at text from [] to i h lt = absurd (omega arith)
-walk_at text from (e ∷ es) to zero h lt = h.0
-walk_at text from (e ∷ es) to (suc i) h lt = walk_at text e es to i h.2 (omega arith)
-
 pub last_push : (from : ℕ) (xs : List ℕ) (e : ℕ) → last_end from (xs ++ e ∷ []) ≡ e
 last_push from [] e = refl
 last_push from (x ∷ xs) e = last_push x xs e

@@ -102,6 +102,9 @@ first_piece u = piece_by (start_of (slice_index u 0)) u
 abbrev pub piece_length : List ℕ → ℕ
 piece_length u = (first_piece u).1
 
+abbrev pub piece_class : List ℕ → Class
+piece_class u = (first_piece u).0
+
 -- The piece that begins at an offset of the text.
 unfoldable pub piece_at : List ℕ → ℕ → Piece
 piece_at text at = record { kind = (first_piece (drop at text)).0; start = at; len = piece_length (drop at text) }

@@ -2,15 +2,16 @@
 //! In: a text; after an edit also the old text and its pieces. Out: the pieces, or what is kept and made of them.
 //! It knows of a piece only that it is the first one of what is left.
 
-ghost use Rattle.snl_cut.specs.Cut.{Counted, IsCut, IsEdit, IsRecut, Walks, after_ticks, last_end};
+ghost use Rattle.snl_cut.specs.Cut.{Counted, IsCut, IsEdit, IsRecut, after_ticks, last_end};
 ghost use Rattle.snl_lex.specs.Local.{piece_front, piece_local};
-ghost use Rattle.snl_lex.specs.Pieces.{HasOwnBytes, LiesIn, bytes_at, moved_piece, piece_at, piece_end, piece_length, pieces_along, pieces_of};
+ghost use Rattle.snl_lex.specs.PieceList.{IsRelexed, listed_pieces};
+ghost use Rattle.snl_lex.specs.Pieces.{HasOwnBytes, LiesIn, bytes_at, moved_piece, piece_at, piece_class, piece_end, piece_length, pieces_of};
 ghost use Rattle.std.specs.List.{flat_map};
 ghost use Rattle.std.specs.Prelude.{◌≡◌, ◌+◌, ◌-◌, ◌^◌, ◌<◌, ◌≤◌, ◌++◌, All, IfOk, drop, length, map, take};
 
-use crate::piece::Piece;
+use crate::piece::{Class, Piece};
 use crate::scan::first_piece;
-use snl_cut::{Count, Ends, Front, OutOfMemory, recut_by};
+use snl_cut::{Count, Ends, Front, NotedRecut, Noting, OutOfMemory, recut_noted};
 use std::alloc::Global;
 
 /// The front that cuts a text into pieces: its units are bytes.
@@ -28,6 +29,19 @@ impl Front for Bytes {
     fn first(&self, rest: &[u8], work: &mut Count) -> usize {
         work.tick();
         first_piece(rest).1
+    }
+}
+
+// It notes the class of each piece.
+impl Noting for Bytes {
+    type Note = Class;
+
+    ghost note_of = { piece_class };
+
+    fn first_noted(&self, rest: &[u8], work: &mut Count) -> (usize, Class) {
+        work.tick();
+        let (class, length) = first_piece(rest);
+        (length, class)
     }
 }
 
@@ -73,34 +87,31 @@ pub fn lex(alloc: Global, text: &[u8], work: &mut Count) -> Result<Vec<Piece>, O
     Ok(pieces)
 }
 
-/// What is kept and made of the pieces of an old text: so many at the front, the new ones, and so many at the back, which moved with the bytes.
-#[derive(Drop)]
-pub struct Relexed {
-    pub kept_front: usize,
-    pub made: Vec<Piece>,
-    pub kept_back: usize,
-}
-
-// The pieces that end one after another at these places.
-fn pieces_along(
+// The pieces that these lists say, the first of which begins at a place.
+fn listed_pieces(
     alloc: Global,
-    text: &[u8],
     from: usize,
     ends: &[usize],
+    kinds: &[Class],
 ) -> Result<Vec<Piece>, OutOfMemory>
-    requires { Walks piece_length text.now from ends.now (last_end from ends.now) }
-    ensures { IfOk result (λ pieces. pieces.items ≡ pieces_along text.now from ends.now) }
+    requires { length ends.now ≡ length kinds.now }
+    ensures { IfOk result (λ pieces. pieces.items ≡ listed_pieces from ends.now kinds.now) }
 {
-    let mut pieces = Vec::new(alloc);
-    let mut at = from;
-    for end in ends {
-        pieces.push(piece_at(text, at))?;
-        at = *end;
+    let mut pieces = Vec::with_capacity(alloc, ends.len())?;
+    let mut start = from;
+    for number in 0..ends.len() {
+        let end = ends[number];
+        pieces.push(Piece {
+            kind: kinds[number],
+            start,
+            len: end.saturating_sub(start),
+        })?;
+        start = end;
     }
     Ok(pieces)
 }
 
-/// The pieces of `text` from the ends of those of `old_text`, however these ends are kept, of which text the bytes from `start` to `old_stop` were replaced by those up to `new_stop`. Each piece that is made is one tick. The only error is want of memory.
+/// What is kept of the pieces of `old_text`, however their ends are kept, and the ends and classes of those that are made for `text`, in which the bytes from `start` to `old_stop` were replaced by those up to `new_stop`. Each piece that is made is one tick. The only error is want of memory.
 pub fn relex_by<E: Ends>(
     alloc: Global,
     old_text: &[u8],
@@ -110,29 +121,19 @@ pub fn relex_by<E: Ends>(
     old_stop: usize,
     new_stop: usize,
     work: &mut Count,
-) -> Result<Relexed, OutOfMemory>
+) -> Result<NotedRecut<Class>, OutOfMemory>
     requires old_ends { E.listed old.now ≡ map piece_end (pieces_of old_text.now) }
     requires edit { IsEdit old_text.now text.now start old_stop new_stop }
-    ensures recut { IfOk
+    ensures relexed { IfOk
         result
-        (λ r. IsRecut piece_length old_text.now (map piece_end (pieces_of old_text.now)) text.now start old_stop new_stop r.kept_front (map piece_end r.made.items) r.kept_back) }
-    ensures order { IfOk result (λ r. r.kept_front + r.kept_back ≤ length (pieces_of old_text.now)) }
-    ensures pieces { IfOk
-        result
-        (λ r. pieces_of text.now ≡ (take r.kept_front (pieces_of old_text.now) ++ r.made.items) ++ map (moved_piece old_stop new_stop) (drop (length (pieces_of old_text.now) - r.kept_back) (pieces_of old_text.now))) }
+        (λ r. IsRelexed old_text.now text.now start old_stop new_stop r.kept_front r.made.items r.notes.items r.kept_back) }
     ensures ticks { IfOk result (λ r. work.new ≡ after_ticks work.old (length r.made.items)) }
     ensures counted { Counted work.old work.new }
 {
-    let cut = recut_by(
+    let relexed = recut_noted(
         alloc, &Bytes, old_text, old, text, start, old_stop, new_stop, work,
     )?;
-    let from = end_by(old, cut.kept_front);
-    let made = pieces_along(alloc, text, from, &cut.made)?;
-    Ok(Relexed {
-        kept_front: cut.kept_front,
-        made,
-        kept_back: cut.kept_back,
-    })
+    Ok(relexed)
 }
 
 // Where the first `count` members end.
@@ -141,6 +142,14 @@ pub fn end_by<E: Ends>(ends: &E, count: usize) -> usize
     ensures { result ≡ last_end 0 (take count (E.listed ends.now)) }
 {
     if count == 0 { 0 } else { ends.end(count - 1) }
+}
+
+/// What is kept and made of the pieces of an old text: so many at the front, the new ones, and so many at the back, which moved with the bytes.
+#[derive(Drop)]
+pub struct Relexed {
+    pub kept_front: usize,
+    pub made: Vec<Piece>,
+    pub kept_back: usize,
 }
 
 // Pieces, as the places where they end. None is too far off.
@@ -185,14 +194,15 @@ pub fn relex(
     ensures ticks { IfOk result (λ r. work.new ≡ after_ticks work.old (length r.made.items)) }
     ensures counted { Counted work.old work.new }
 {
-    relex_by(
-        alloc,
-        old_text,
-        &Placed { pieces: old },
-        text,
-        start,
-        old_stop,
-        new_stop,
-        work,
-    )
+    let ends = Placed { pieces: old };
+    let relexed = relex_by(
+        alloc, old_text, &ends, text, start, old_stop, new_stop, work,
+    )?;
+    let from = end_by(&ends, relexed.kept_front);
+    let made = listed_pieces(alloc, from, &relexed.made, &relexed.notes)?;
+    Ok(Relexed {
+        kept_front: relexed.kept_front,
+        made,
+        kept_back: relexed.kept_back,
+    })
 }

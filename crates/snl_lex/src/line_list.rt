@@ -3,7 +3,8 @@
 
 ghost use Rattle.snl_lex.specs.LineList.{IsLineList, IsLinePart, IsShort, last_before, line_begin, line_ends, line_ends_in, marked, marker_of, moved_marker, names, number_after, numbers, replaced_markers};
 ghost use Rattle.snl_lex.specs.Lines.{line_at, marker_number};
-ghost use Rattle.snl_lex.specs.PieceList.{IsChange};
+ghost use Rattle.snl_lex.specs.Made.{made_pieces};
+ghost use Rattle.snl_lex.specs.PieceList.{IsChange, listed_pieces};
 ghost use Rattle.snl_lex.specs.Pieces.{LiesIn, bytes_at, pieces_of};
 ghost use Rattle.snl_lists.specs.Moves.{moved, replaced_and_moved};
 ghost use Rattle.std.specs.List.Sorted.{IsNonDecreasing, IsNonDecreasingBy};
@@ -224,33 +225,48 @@ fn list_marker(
     Ok(())
 }
 
+// Lists those of the pieces that an edit makes that are markers.
+fn list_made(
+    text: &[u8],
+    change: &PieceChange,
+    markers: &mut Vec<Marker>,
+    naming: &mut Vec<Marker>,
+) -> Result<(), OutOfMemory>
+    requires kinds { vec_len change.now.list.ends ≡ vec_len change.now.list.kinds }
+    requires inside { All (LiesIn text.now) (made_pieces change.now) }
+    ensures markers { OnOk result (markers.new.items ≡ markers.old.items ++ marked (numbers text.now) text.now (made_pieces change.now)) }
+    ensures naming { OnOk result (naming.new.items ≡ naming.old.items ++ marked (names text.now) text.now (made_pieces change.now)) }
+{
+    let mut start = change.made_from as usize;
+    for number in 0..change.list.ends.len() {
+        let end = change.list.ends[number] as usize;
+        let kind = change.list.kinds[number];
+        if kind.is_marker() {
+            let piece = Piece {
+                kind,
+                start,
+                len: end.saturating_sub(start),
+            };
+            list_marker(text, piece, markers, naming)?;
+        }
+        start = end;
+    }
+    Ok(())
+}
+
 impl LineList {
     /// The lines of a text.
     pub fn of(alloc: Global, text: &[u8], pieces: &[Piece]) -> Result<LineList, OutOfMemory>
         requires pieces { pieces.now ≡ pieces_of text.now }
         ensures { IfOk result (λ l. IsLineList text.now l.ends.items l.markers.items l.naming.items) }
     {
-        LineList::part(alloc, text, 0, text.len(), pieces)
-    }
-
-    /// The lines of a part of a text, which these pieces are.
-    fn part(
-        alloc: Global,
-        text: &[u8],
-        from: usize,
-        to: usize,
-        pieces: &[Piece],
-    ) -> Result<LineList, OutOfMemory>
-        requires order { from ≤ to }
-        requires inside { to ≤ length text.now }
-        requires pieces { All (LiesIn text.now) pieces.now }
-        ensures { IfOk result (λ l. IsLinePart text.now from to pieces.now l.ends.items l.markers.items l.naming.items) }
-    {
-        let ends = line_ends_in(alloc, text, from, to)?;
+        let ends = line_ends_in(alloc, text, 0, text.len())?;
         let mut markers = Vec::new(alloc);
         let mut naming = Vec::new(alloc);
         for piece in pieces {
-            list_marker(text, *piece, &mut markers, &mut naming)?;
+            if piece.kind.is_marker() {
+                list_marker(text, *piece, &mut markers, &mut naming)?;
+            }
         }
         Ok(LineList {
             ends,
@@ -265,10 +281,18 @@ impl LineList {
         edit: &TextEdit,
         change: &PieceChange,
     ) -> Result<LineList, OutOfMemory>
-        requires { IsChange edit.now.old.now edit.now.text.now edit.now.start edit.now.old_stop edit.now.new_stop change.now.kept_front change.now.made.items change.now.kept_back change.now.kept_from change.now.list.ends.items change.now.list.kinds.items }
-        ensures { IfOk result (λ l. IsLinePart edit.now.text.now edit.now.start edit.now.new_stop change.now.made.items l.ends.items l.markers.items l.naming.items) }
+        requires { IsChange edit.now.old.now edit.now.text.now edit.now.start edit.now.old_stop edit.now.new_stop change.now.kept_front (made_pieces change.now) change.now.kept_back change.now.kept_from change.now.list.ends.items change.now.list.kinds.items }
+        ensures { IfOk result (λ l. IsLinePart edit.now.text.now edit.now.start edit.now.new_stop (made_pieces change.now) l.ends.items l.markers.items l.naming.items) }
     {
-        LineList::part(alloc, edit.text, edit.start, edit.new_stop, &change.made)
+        let ends = line_ends_in(alloc, edit.text, edit.start, edit.new_stop)?;
+        let mut markers = Vec::new(alloc);
+        let mut naming = Vec::new(alloc);
+        list_made(edit.text, change, &mut markers, &mut naming)?;
+        Ok(LineList {
+            ends,
+            markers,
+            naming,
+        })
     }
 
     /// The line of an offset, which may be any number; one after the text counts as its end. It takes no memory, and looks at few places of the lists.
@@ -314,7 +338,7 @@ impl LineList {
         change: &PieceChange,
     ) -> Result<LineList, OutOfMemory>
         requires lines { IsLineList edit.now.old.now self.now.ends.items self.now.markers.items self.now.naming.items }
-        requires change { IsChange edit.now.old.now edit.now.text.now edit.now.start edit.now.old_stop edit.now.new_stop change.now.kept_front change.now.made.items change.now.kept_back change.now.kept_from change.now.list.ends.items change.now.list.kinds.items }
+        requires change { IsChange edit.now.old.now edit.now.text.now edit.now.start edit.now.old_stop edit.now.new_stop change.now.kept_front (made_pieces change.now) change.now.kept_back change.now.kept_from change.now.list.ends.items change.now.list.kinds.items }
         ensures { IfOk result (λ l. IsLineList edit.now.text.now l.ends.items l.markers.items l.naming.items) }
     {
         let made = LineList::made(alloc, edit, change)?;
@@ -342,8 +366,8 @@ impl LineList {
     /// Makes the list of the old text's lines that of the new one's. There is room for what was made, so it can't fail.
     pub fn commit(&mut self, edit: &TextEdit, change: &PieceChange, made: &LineList)
         requires lines { IsLineList edit.now.old.now self.old.ends.items self.old.markers.items self.old.naming.items }
-        requires change { IsChange edit.now.old.now edit.now.text.now edit.now.start edit.now.old_stop edit.now.new_stop change.now.kept_front change.now.made.items change.now.kept_back change.now.kept_from change.now.list.ends.items change.now.list.kinds.items }
-        requires made { IsLinePart edit.now.text.now edit.now.start edit.now.new_stop change.now.made.items made.now.ends.items made.now.markers.items made.now.naming.items }
+        requires change { IsChange edit.now.old.now edit.now.text.now edit.now.start edit.now.old_stop edit.now.new_stop change.now.kept_front (made_pieces change.now) change.now.kept_back change.now.kept_from change.now.list.ends.items change.now.list.kinds.items }
+        requires made { IsLinePart edit.now.text.now edit.now.start edit.now.new_stop (made_pieces change.now) made.now.ends.items made.now.markers.items made.now.naming.items }
         requires ends_room { vec_len self.old.ends + vec_len made.now.ends ≤ vec_capacity self.old.ends }
         requires markers_room { vec_len self.old.markers + vec_len made.now.markers ≤ vec_capacity self.old.markers }
         requires naming_room { vec_len self.old.naming + vec_len made.now.naming ≤ vec_capacity self.old.naming }

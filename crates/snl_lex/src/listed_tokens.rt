@@ -2,6 +2,7 @@
 //! In: the list; after an edit also what is made of the pieces. Out: tokens, each with its place.
 
 ghost use Rattle.snl_cut.specs.Cut.{last_end};
+ghost use Rattle.snl_lex.specs.Made.{made_pieces};
 ghost use Rattle.snl_lex.specs.PieceList.{IsChange, listed_pieces, piece_ends, piece_kinds, pieces_between};
 ghost use Rattle.snl_lex.specs.Pieces.{is_token, moved_piece, pieces_of, tokens_of};
 ghost use Rattle.std.specs.Prelude.{◌≡◌, ℕ, List, ◌^◌, ◌<◌, ◌≤◌, ◌++◌, IfOk, OnOk, filter, map, take, vec_len};
@@ -11,21 +12,22 @@ use crate::piece_list::{PieceChange, PieceList, TextEdit};
 use snl_cut::OutOfMemory;
 use std::alloc::Global;
 
-// Where the piece with this number begins.
-fn start_at(list: &PieceList, number: usize) -> u32
+// Where the piece with this number begins, if the first one begins at a place.
+fn start_at(list: &PieceList, begin: u32, number: usize) -> u32
     requires { number ≤ vec_len list.now.ends }
-    ensures { result ≡ last_end 0 (take number list.now.ends.items) }
+    ensures { result ≡ last_end begin (take number list.now.ends.items) }
 {
     if number == 0 {
-        0
+        begin
     } else {
         list.ends[number - 1]
     }
 }
 
-// Adds those of the pieces from one number up to another that are tokens, moved as the bytes from `old_stop` on are moved to `new_stop`.
+// Adds those of the pieces from one number up to another that are tokens, moved as the bytes from `old_stop` on are moved to `new_stop`. The first piece of the list begins at a place.
 fn add_listed_tokens(
     list: &PieceList,
+    begin: u32,
     from: usize,
     stop: usize,
     old_stop: usize,
@@ -36,9 +38,9 @@ fn add_listed_tokens(
     requires ends { stop ≤ vec_len list.now.ends }
     requires kinds { stop ≤ vec_len list.now.kinds }
     requires fits { new_stop < 2 ^ 32 }
-    ensures { OnOk result (tokens.new.items ≡ tokens.old.items ++ map (moved_piece old_stop new_stop) (filter is_token (pieces_between (listed_pieces 0 list.now.ends.items list.now.kinds.items) from stop))) }
+    ensures { OnOk result (tokens.new.items ≡ tokens.old.items ++ map (moved_piece old_stop new_stop) (filter is_token (pieces_between (listed_pieces begin list.now.ends.items list.now.kinds.items) from stop))) }
 {
-    let mut start = start_at(list, from);
+    let mut start = start_at(list, begin, from);
     for number in from..stop {
         let end = list.ends[number];
         let kind = list.kinds[number];
@@ -75,6 +77,19 @@ pub fn tokens_among(alloc: Global, pieces: &[Piece]) -> Result<Vec<Piece>, OutOf
     Ok(tokens)
 }
 
+impl PieceChange {
+    /// The tokens among the pieces that are made. The only error is want of memory.
+    pub fn made_tokens(&self, alloc: Global) -> Result<Vec<Piece>, OutOfMemory>
+        requires { vec_len self.now.list.ends ≡ vec_len self.now.list.kinds }
+        ensures { IfOk result (λ tokens. tokens.items ≡ filter is_token (made_pieces self.now)) }
+    {
+        let made = self.list.ends.len();
+        let mut tokens = Vec::with_capacity(alloc, made)?;
+        add_listed_tokens(&self.list, self.made_from, 0, made, 0, 0, &mut tokens)?;
+        Ok(tokens)
+    }
+}
+
 impl PieceList {
     /// The tokens among the pieces from one number up to another. The only error is want of memory.
     pub fn tokens_between(
@@ -91,7 +106,7 @@ impl PieceList {
             (λ tokens. (text : List ℕ) → self.now.ends.items ≡ piece_ends text → self.now.kinds.items ≡ piece_kinds text → tokens.items ≡ filter is_token (pieces_between (pieces_of text) from stop)) }
     {
         let mut tokens = Vec::with_capacity(alloc, stop - from)?;
-        add_listed_tokens(self, from, stop, 0, 0, &mut tokens)?;
+        add_listed_tokens(self, 0, from, stop, 0, 0, &mut tokens)?;
         Ok(tokens)
     }
 
@@ -114,16 +129,25 @@ impl PieceList {
     ) -> Result<Vec<Piece>, OutOfMemory>
         requires ends { self.now.ends.items ≡ piece_ends edit.now.old.now }
         requires kinds { self.now.kinds.items ≡ piece_kinds edit.now.old.now }
-        requires change { IsChange edit.now.old.now edit.now.text.now edit.now.start edit.now.old_stop edit.now.new_stop change.now.kept_front change.now.made.items change.now.kept_back change.now.kept_from change.now.list.ends.items change.now.list.kinds.items }
+        requires change { IsChange edit.now.old.now edit.now.text.now edit.now.start edit.now.old_stop edit.now.new_stop change.now.kept_front (made_pieces change.now) change.now.kept_back change.now.kept_from change.now.list.ends.items change.now.list.kinds.items }
         ensures { IfOk result (λ tokens. tokens.items ≡ tokens_of edit.now.text.now) }
     {
         let count = self.ends.len();
         let back = count - change.kept_back;
-        let room = count.saturating_add(change.made.len());
+        let room = count.saturating_add(change.list.ends.len());
         let mut tokens = Vec::with_capacity(alloc, room)?;
-        add_listed_tokens(self, 0, change.kept_front, 0, 0, &mut tokens)?;
-        add_tokens(&change.made, &mut tokens)?;
-        add_listed_tokens(self, back, count, edit.old_stop, edit.new_stop, &mut tokens)?;
+        add_listed_tokens(self, 0, 0, change.kept_front, 0, 0, &mut tokens)?;
+        let made = change.list.ends.len();
+        add_listed_tokens(&change.list, change.made_from, 0, made, 0, 0, &mut tokens)?;
+        add_listed_tokens(
+            self,
+            0,
+            back,
+            count,
+            edit.old_stop,
+            edit.new_stop,
+            &mut tokens,
+        )?;
         Ok(tokens)
     }
 }

@@ -3,6 +3,7 @@
 
 ghost use Rattle.snl_cut.specs.Cut.{Counted, IsEdit, after_ticks};
 ghost use Rattle.snl_lex.specs.Lines.{is_marker};
+ghost use Rattle.snl_lex.specs.Made.{made_pieces};
 ghost use Rattle.snl_lex.specs.PieceList.{IsChange, piece_ends, piece_kinds};
 ghost use Rattle.snl_lex.specs.Pieces.{piece_end};
 ghost use Rattle.snl_lex.specs.Shift.{marker_count};
@@ -36,14 +37,26 @@ pub struct TextEdit<'a> {
     ghost short: { (length old.now < 2 ^ 32) × (length text.now < 2 ^ 32) },
 }
 
-/// What an edit makes of the pieces: so many are kept at the front, the made ones follow, also as lists, and so many are kept at the back, from `kept_from` of the old text on.
+/// What an edit makes of the pieces: so many are kept at the front, those that are made follow, from `made_from` of the new text on, and so many are kept at the back, from `kept_from` of the old text on.
 #[derive(Drop)]
 pub struct PieceChange {
     pub kept_front: usize,
-    pub made: Vec<Piece>,
+    pub made_from: u32,
     pub list: PieceList,
     pub kept_back: usize,
     pub kept_from: usize,
+}
+
+// The places in four bytes each.
+fn narrow(alloc: Global, places: &[usize]) -> Result<Vec<u32>, OutOfMemory>
+    requires { All (λ p. p < 2 ^ 32) places.now }
+    ensures { IfOk result (λ narrow. narrow.items ≡ places.now) }
+{
+    let mut narrow = Vec::with_capacity(alloc, places.len())?;
+    for place in places {
+        narrow.push(*place as u32)?;
+    }
+    Ok(narrow)
 }
 
 // How many of these classes are line markers.
@@ -106,8 +119,8 @@ impl PieceList {
         requires { self.now.ends.items ≡ piece_ends edit.now.old.now }
         ensures change { IfOk
             result
-            (λ r. IsChange edit.now.old.now edit.now.text.now edit.now.start edit.now.old_stop edit.now.new_stop r.kept_front r.made.items r.kept_back r.kept_from r.list.ends.items r.list.kinds.items) }
-        ensures ticks { IfOk result (λ r. work.new ≡ after_ticks work.old (length r.made.items)) }
+            (λ r. IsChange edit.now.old.now edit.now.text.now edit.now.start edit.now.old_stop edit.now.new_stop r.kept_front (made_pieces r) r.kept_back r.kept_from r.list.ends.items r.list.kinds.items) }
+        ensures ticks { IfOk result (λ r. work.new ≡ after_ticks work.old (vec_len r.list.ends)) }
         ensures counted { Counted work.old work.new }
     {
         let old = Narrow { ends: &self.ends };
@@ -121,12 +134,19 @@ impl PieceList {
             edit.new_stop,
             work,
         )?;
+        let made_from = end_by(&old, relexed.kept_front) as u32;
         let kept_from = end_by(&old, self.ends.len() - relexed.kept_back);
-        let list = PieceList::of(alloc, &relexed.made)?;
+        let ends = narrow(alloc, &relexed.made)?;
+        let kinds = relexed.notes;
+        let markers = count_markers(&kinds);
         Ok(PieceChange {
             kept_front: relexed.kept_front,
-            made: relexed.made,
-            list,
+            made_from,
+            list: PieceList {
+                ends,
+                kinds,
+                markers,
+            },
             kept_back: relexed.kept_back,
             kept_from,
         })
@@ -150,9 +170,9 @@ impl PieceList {
         requires ends { self.old.ends.items ≡ piece_ends edit.now.old.now }
         requires kinds { self.old.kinds.items ≡ piece_kinds edit.now.old.now }
         requires markers { self.old.markers ≡ marker_count edit.now.old.now }
-        requires change { IsChange edit.now.old.now edit.now.text.now edit.now.start edit.now.old_stop edit.now.new_stop change.now.kept_front change.now.made.items change.now.kept_back change.now.kept_from change.now.list.ends.items change.now.list.kinds.items }
-        requires ends_room { vec_len self.old.ends + vec_len change.now.made ≤ vec_capacity self.old.ends }
-        requires kinds_room { vec_len self.old.kinds + vec_len change.now.made ≤ vec_capacity self.old.kinds }
+        requires change { IsChange edit.now.old.now edit.now.text.now edit.now.start edit.now.old_stop edit.now.new_stop change.now.kept_front (made_pieces change.now) change.now.kept_back change.now.kept_from change.now.list.ends.items change.now.list.kinds.items }
+        requires ends_room { vec_len self.old.ends + vec_len change.now.list.ends ≤ vec_capacity self.old.ends }
+        requires kinds_room { vec_len self.old.kinds + vec_len change.now.list.ends ≤ vec_capacity self.old.kinds }
         ensures ends { self.new.ends.items ≡ piece_ends edit.now.text.now }
         ensures kinds { self.new.kinds.items ≡ piece_kinds edit.now.text.now }
         ensures markers { self.new.markers ≡ marker_count edit.now.text.now }

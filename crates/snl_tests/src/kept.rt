@@ -44,7 +44,7 @@ fn change(alloc: Global, lists: &mut Lists, edit: &TextEdit) -> Result<(), Fail>
 {
     let change = lists.pieces.change(alloc, edit, &mut Count::new())?;
     let made = LineList::made(alloc, edit, &change)?;
-    lists.pieces.reserve(change.made.len())?;
+    lists.pieces.reserve(change.list.ends.len())?;
     lists.lines.reserve(&made)?;
     lists.pieces.commit(edit, &change);
     lists.lines.commit(edit, &change, &made);

@@ -51,7 +51,7 @@ pub fn changes_of(
 ) -> Result<Changes, OutOfMemory>
     requires lists { IsListed edit.now.old.now lists.now }
     ensures changes { IfOk result (IsChanged edit.now.old.now edit.now.text.now edit.now.start edit.now.old_stop edit.now.new_stop) }
-    ensures ticks { IfOk result (λ c. work.new ≡ after_ticks work.old (length c.pieces.made.items)) }
+    ensures ticks { IfOk result (λ c. work.new ≡ after_ticks work.old (vec_len c.pieces.list.ends)) }
 {
     let pieces = lists.pieces.change(alloc, edit, work)?;
     let tokens = TokenChange::of(alloc, &lists.pieces, edit, &pieces)?;

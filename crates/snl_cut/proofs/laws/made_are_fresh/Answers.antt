@@ -1,4 +1,4 @@
-use Rattle.std.proofs.Common.{ℕ, List, sym, ap, ap₂, ◌∙◌}
+use Rattle.std.proofs.Common.{ℕ, List, sym, ap₂, ◌∙◌}
 use Rattle.snl_cut.specs.Cut.{ends_of, fresh}
 use Rattle.snl_cut.proofs.Only.{cut_made}
 use Rattle.snl_cut.proofs.OneCut.{again_is}

@@ -1,5 +1,4 @@
-use Rattle.std.proofs.Common.{◌≡◌, ℕ, arith, ap, ◌∙◌, sym, add-one, get_or}
-use Rattle.snl_cut.specs.Cut.{ends_below}
+use Rattle.std.proofs.Common.{arith, ap, ◌∙◌, sym, add-one, get_or}
 use Rattle.snl_cut.proofs.Below.{last_taken, exact}
 use Rattle.snl_cut.proofs.places.members_to.Goals as goal
 

@@ -11,16 +11,16 @@ use Rattle.snl_lex.proofs.listed_tokens.add_listed_tokens.Goals as goal
 use Rattle.snl_lex.proofs.listed_tokens.add_listed_tokens.Goals.{then-is_token+in_ok-push, else-is_token}
 
 -- One piece more: its token, if it is one, is added.
-one_more : (ends : List ℕ) (kinds : List Class) (from n b c : ℕ) (end : ℕ) (kind : Class) (start : ℕ) (before : List Piece)
-    → from ≤ n → n < length ends → n < length kinds → end ≡ get_or ends n 0 → kind ≡ get_or kinds n kind → start ≡ last_end 0 (take n ends)
+one_more : (begin : ℕ) (ends : List ℕ) (kinds : List Class) (from n b c : ℕ) (end : ℕ) (kind : Class) (start : ℕ) (before : List Piece)
+    → from ≤ n → n < length ends → n < length kinds → end ≡ get_or ends n 0 → kind ≡ get_or kinds n kind → start ≡ last_end begin (take n ends)
     → (t : Bool) (s m : ℕ) → t ≡ is_token_class kind → s ≡ start - b → m ≡ end - start
-    → (before ++ map (moved_piece b c) (filter is_token (pieces_between (listed_pieces 0 ends kinds) from n))) ++ cond t (record { kind = kind; start = s + c; len = m } ∷ []) []
-    ≡ before ++ map (moved_piece b c) (filter is_token (pieces_between (listed_pieces 0 ends kinds) from (n + 1)))
-one_more ends kinds from n b c end kind start before le lt lt_kinds end_is kind_is start_is t s m t_is s_is m_is =
-    let ps : List Piece = listed_pieces 0 ends kinds in
+    → (before ++ map (moved_piece b c) (filter is_token (pieces_between (listed_pieces begin ends kinds) from n))) ++ cond t (record { kind = kind; start = s + c; len = m } ∷ []) []
+    ≡ before ++ map (moved_piece b c) (filter is_token (pieces_between (listed_pieces begin ends kinds) from (n + 1)))
+one_more begin ends kinds from n b c end kind start before le lt lt_kinds end_is kind_is start_is t s m t_is s_is m_is =
+    let ps : List Piece = listed_pieces begin ends kinds in
     let old : List Piece = before ++ map (moved_piece b c) (filter is_token (pieces_between ps from n)) in
     let p : Piece = record { kind = kind; start = start; len = end - start } in
-    let more : pieces_between ps from (n + 1) ≡ pieces_between ps from n ++ p ∷ [] = listed_more ends kinds from n end kind start le lt lt_kinds end_is kind_is start_is in
+    let more : pieces_between ps from (n + 1) ≡ pieces_between ps from n ++ p ∷ [] = listed_more begin ends kinds from n end kind start le lt lt_kinds end_is kind_is start_is in
     ap₂ (λ (u : Bool) (q : Piece). old ++ cond u (q ∷ []) []) t_is (pushed_piece kind start end b c s m s_is m_is)
     ∙ append_assoc before (map (moved_piece b c) (filter is_token (pieces_between ps from n))) (cond (is_token_class kind) (moved_piece b c p ∷ []) [])
     ∙ ap (λ (l : List Piece). before ++ l) (sym (tokens_and_one b c (pieces_between ps from n) p) ∙ ap (λ (l : List Piece). map (moved_piece b c) (filter is_token l)) (sym more))
@@ -28,7 +28,7 @@ one_more ends kinds from n b c end kind start before le lt lt_kinds end_is kind_
 pub loop-number-init : goal.loop-number-init
 loop-number-init c =
     let before : List Piece = c.args.tokens.now.items in
-    let ps : List Piece = listed_pieces 0 c.args.list.now.ends.items c.args.list.now.kinds.items in
+    let ps : List Piece = listed_pieces c.args.begin c.args.list.now.ends.items c.args.list.now.kinds.items in
     record {
       begun = c.start_at-start.ensures;
       added = sym (ap (λ (l : List Piece). before ++ map (moved_piece c.args.old_stop c.args.new_stop) (filter is_token l)) (between_none ps c.args.from) ∙ append-nil before);
@@ -43,10 +43,10 @@ loop-number-preserved c =
     let lt_kinds : n < length kinds = omega (arith, c.args.list.now.kinds.ok) in
     let end_is : c.index-end.result.now ≡ get_or ends n 0 = get_or_read ends n _ lt c.index-end.ensures 0 in
     let taken : suc n ≡ n + 1 = omega arith in
-    let next = one_more ends kinds c.args.from n c.args.old_stop c.args.new_stop c.index-end.result.now c.index-kind.result.now c.loop-number.start c.args.tokens.now.items
+    let next = one_more c.args.begin ends kinds c.args.from n c.args.old_stop c.args.new_stop c.index-end.result.now c.index-kind.result.now c.loop-number.start c.args.tokens.now.items
     c.loop-number.auto.number lt lt_kinds end_is c.index-kind.ensures c.loop-number.invariant.begun in
     record {
-      begun = end_is ∙ sym (last_taken 0 ends n lt) ∙ ap (λ (m : ℕ). last_end 0 (take m ends)) taken;
+      begun = end_is ∙ sym (last_taken c.args.begin ends n lt) ∙ ap (λ (m : ℕ). last_end c.args.begin (take m ends)) taken;
       added =
           elim c.if-is_token.branch [
             | then-is_token+in_ok-push w ↦

@@ -6,6 +6,6 @@ use Rattle.snl_lex.proofs.listed_tokens.add_listed_tokens.Given as goal
 
 abbrev pub invariant-loop-number : goal.invariant-loop-number
 invariant-loop-number l = record {
-  begun : l.start ≡ last_end 0 (take l.number l.list.ends.items);
-  added : l.tokens.items ≡ l.fn.tokens.items ++ map (moved_piece l.old_stop l.new_stop) (filter is_token (pieces_between (listed_pieces 0 l.list.ends.items l.list.kinds.items) l.from l.number));
+  begun : l.start ≡ last_end l.begin (take l.number l.list.ends.items);
+  added : l.tokens.items ≡ l.fn.tokens.items ++ map (moved_piece l.old_stop l.new_stop) (filter is_token (pieces_between (listed_pieces l.begin l.list.ends.items l.list.kinds.items) l.from l.number));
 }

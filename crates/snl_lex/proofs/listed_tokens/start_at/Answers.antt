@@ -9,5 +9,5 @@ returns-else-number-eq0 c =
     let ends = c.args.list.now.ends.items in
     let one : suc (c.args.number - 1) ≡ c.args.number = omega arith in
     get_or_read ends (c.args.number - 1) _ (omega (arith, c.args.list.now.ends.ok)) c.index.ensures 0
-    ∙ sym (last_taken 0 ends (c.args.number - 1) (omega (arith, c.args.list.now.ends.ok)))
-    ∙ ap (λ n. last_end 0 (take n ends)) one
+    ∙ sym (last_taken c.args.begin ends (c.args.number - 1) (omega (arith, c.args.list.now.ends.ok)))
+    ∙ ap (λ n. last_end c.args.begin (take n ends)) one

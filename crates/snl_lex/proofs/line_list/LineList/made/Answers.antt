@@ -1,9 +1,10 @@
-use Rattle.std.proofs.Common.{List, sym, subst}
-use Rattle.std.specs.Prelude.{All}
-use Rattle.snl_lex.specs.declared.piece.Piece.{Piece}
-use Rattle.snl_lex.specs.Pieces.{LiesIn}
-use Rattle.snl_lex.proofs.Changes.{made_lies}
+use Rattle.std.proofs.Common.{arith}
+use Rattle.snl_lex.proofs.Changes.{as_many, made_lies}
 use Rattle.snl_lex.proofs.line_list.LineList.made.Goals as goal
 
-pub part-requires-clause-pieces : goal.part-requires-clause-pieces
-part-requires-clause-pieces c = subst (λ (ps : List Piece). All (LiesIn c.args.edit.now.text.now) ps) (sym c.deref.ensures.value) (made_lies _ _ _ _ _ _ _ _ _ _ _ c.requires)
+pub list_made-requires-clause-inside : goal.list_made-requires-clause-inside
+list_made-requires-clause-inside c = made_lies _ _ _ _ _ _ _ _ _ _ _ c.requires
+
+pub list_made-requires-clause-kinds : goal.list_made-requires-clause-kinds
+list_made-requires-clause-kinds c =
+    omega (arith, as_many _ _ _ _ _ _ _ _ _ _ _ c.requires, c.args.change.now.list.ends.ok, c.args.change.now.list.kinds.ok)

@@ -2,9 +2,10 @@ use Rattle.std.proofs.Common.{◌≡◌, ℕ, ◌-◌, ◌≤◌, List, ◌++◌
 use Rattle.std.proofs.lemmas.List.{length-drop, length-map, take_all}
 use Rattle.std.proofs.lemmas.List.Elements.{filter-append}
 use Rattle.snl_lex.specs.declared.piece.Piece.{Piece}
+use Rattle.snl_lex.specs.Made.{made_pieces}
 use Rattle.snl_lex.specs.PieceList.{listed_pieces, pieces_between}
 use Rattle.snl_lex.specs.Pieces.{is_token, moved_piece, piece_end, pieces_of}
-use Rattle.snl_lex.proofs.Listed.{listed_are, not_moved, tokens_moved}
+use Rattle.snl_lex.proofs.Listed.{listed_all, listed_are, not_moved, tokens_moved}
 use Rattle.snl_lex.proofs.piece_list.PieceList.tokens_after.Goals as goal
 
 -- The tokens of what is kept at the front, of what is made and of what is kept at the back.
@@ -32,9 +33,11 @@ returns c =
     let ps : List Piece = pieces_of edit.old.now in
     let listed : listed_pieces 0 l.ends.items l.kinds.items ≡ ps = listed_are edit.old.now l.ends.items l.kinds.items c.requires.ends c.requires.kinds in
     let many : count ≡ length ps = omega (arith, c.len-count.ensures, l.ends.ok, ap length c.requires.ends, length-map ps piece_end) in
+    let fresh : List Piece = made_pieces change in
+    let all : c.len-made.result ≡ length change.list.ends.items = omega (arith, c.len-made.ensures, change.list.ends.ok) in
     let front = rw c.in_ok-tokens.ensures.items at c.in_ok-add_listed_tokens.ensures in
-    let made = rw c.deref.ensures.value at c.in_ok-add_tokens.ensures in
-    c.in_ok-add_listed_tokens-2.ensures
-    ∙ ap (λ (k : List Piece). k ++ map (moved_piece b d) (filter is_token (pieces_between (listed_pieces 0 l.ends.items l.kinds.items) (count - change.kept_back) count))) (made ∙ ap (λ (k : List Piece). k ++ filter is_token change.made.items) front)
-    ∙ ap (λ (qs : List Piece). (map (moved_piece 0 0) (filter is_token (pieces_between qs 0 change.kept_front)) ++ filter is_token change.made.items) ++ map (moved_piece b d) (filter is_token (pieces_between qs (count - change.kept_back) count))) listed
-    ∙ parts ps change.made.items (pieces_of edit.text.now) b d change.kept_front change.kept_back count many (omega (arith, c.requires.change.order)) c.requires.change.pieces
+    let made = c.in_ok-add_listed_tokens-2.ensures ∙ ap (λ (k : List Piece). c.add_listed_tokens.new.tokens.items ++ k) (listed_all change.made_from change.list.ends.items change.list.kinds.items c.len-made.result all) in
+    c.in_ok-add_listed_tokens-3.ensures
+    ∙ ap (λ (k : List Piece). k ++ map (moved_piece b d) (filter is_token (pieces_between (listed_pieces 0 l.ends.items l.kinds.items) (count - change.kept_back) count))) (made ∙ ap (λ (k : List Piece). k ++ filter is_token fresh) front)
+    ∙ ap (λ (qs : List Piece). (map (moved_piece 0 0) (filter is_token (pieces_between qs 0 change.kept_front)) ++ filter is_token fresh) ++ map (moved_piece b d) (filter is_token (pieces_between qs (count - change.kept_back) count))) listed
+    ∙ parts ps fresh (pieces_of edit.text.now) b d change.kept_front change.kept_back count many (omega (arith, c.requires.change.order)) c.requires.change.pieces

@@ -1,9 +1,9 @@
 use Rattle.std.proofs.Common.{◌++◌, length, suc, take, ℕ, arith, sym, ap, ◌∙◌, refl}
 use Rattle.snl_cut.specs.Cut.{ticked, last_end}
-use Rattle.snl_cut.proofs.Steps.{walks_on, walks_push, length_push}
+use Rattle.snl_cut.proofs.Steps.{walks_on, walks_push, notes_push, length_push}
 use Rattle.snl_cut.proofs.Agreeing.{walks_rise, walks_last, still_unmet, not_at_end, same_length}
-use Rattle.snl_cut.proofs.Fresh.{early, head_walk, last_fits, all_together}
-use Rattle.snl_cut.proofs.again.recut_by.Goals as goal
+use Rattle.snl_cut.proofs.Fresh.{early, head_walk, all_together}
+use Rattle.snl_cut.proofs.again.recut_noted.Goals as goal
 
 pub count_below-kept_front-requires : goal.count_below-kept_front-requires
 count_below-kept_front-requires g c =
@@ -14,6 +14,7 @@ loop-kept-init g c =
     let low = early (g.E.Ends.listed c.args.old_ends.now) c.args.start c.count_below-kept_front.result c.end_of-at.result c.count_below-kept_front.ensures.count c.end_of-at.ensures in
     record {
       walked = rw c.new-made.ensures.items (sym c.end_of-at.ensures);
+      noted = rw (c.new-made.ensures.items, c.new-notes.ensures.items) refl;
       inside = omega (arith, low, c.requires.edit.new_order, c.requires.edit.new_inside);
       unmet = λ place lt after in_new in_old. omega (arith, low, c.requires.edit.new_order);
       ticked = rw c.new-made.ensures.items refl;
@@ -35,8 +36,8 @@ returns-in-Some-clause-recut g c =
     c.requires.edit c.requires.old_cut c.count_below-kept_front.result c.count_below-kept_front.ensures.count c.loop-kept.made.items c.loop-kept.at
     c.loop-kept.invariant.walked c.loop-kept.invariant.inside c.loop-kept.invariant.unmet c.in-Some.kept c.in-Some.ensures.0 c.in-Some.ensures.1 c.in-Some.ensures.2)
 
-pub next_end-at-requires : goal.next_end-at-requires
-next_end-at-requires g c =
+pub next_noted-end-requires : goal.next_noted-end-requires
+next_noted-end-requires g c =
     not_at_end g.F.Front.first_of c.args.old_units.now c.args.units.now (g.E.Ends.listed c.args.old_ends.now) c.args.start c.args.old_stop c.args.new_stop c.loop-kept.at
     c.requires.edit c.requires.old_cut c.loop-kept.invariant.inside c.in_default.ensures
 
@@ -49,13 +50,20 @@ loop-kept-preserved g c =
     c.requires.edit c.requires.old_cut kept c.count_below-kept_front.ensures.count in
     let upto = walks_on g.F.Front.first_of c.args.units.now 0 (take kept (g.E.Ends.listed c.args.old_ends.now)) (last_end 0 (take kept (g.E.Ends.listed c.args.old_ends.now))) c.loop-kept.made.items c.loop-kept.at head c.loop-kept.invariant.walked in
     record {
-      walked = rw c.in_ok-push.ensures.items (walks_push g.F.Front.first_of c.args.units.now (last_end 0 (take kept (g.E.Ends.listed c.args.old_ends.now))) c.loop-kept.made.items c.loop-kept.at c.next_end-at.result c.loop-kept.invariant.walked inside c.next_end-at.ensures.end);
-      inside = c.next_end-at.ensures.inside;
-      unmet = still_unmet g.F.Front.first_of c.args.old_units.now c.args.units.now (g.E.Ends.listed c.args.old_ends.now) c.args.old_stop c.args.new_stop (take kept (g.E.Ends.listed c.args.old_ends.now) ++ c.loop-kept.made.items) c.loop-kept.at c.next_end-at.result
-          c.requires.old_cut upto c.loop-kept.invariant.unmet c.in_default.ensures c.next_end-at.ensures.end;
-      ticked = rw c.in_ok-push.ensures.items (rw (length_push c.loop-kept.made.items c.next_end-at.result) (c.next_end-at.ensures.ticks ∙ ap ticked c.loop-kept.invariant.ticked));
+      walked = rw c.in_ok-push.ensures.items (walks_push g.F.Front.first_of c.args.units.now (last_end 0 (take kept (g.E.Ends.listed c.args.old_ends.now))) c.loop-kept.made.items c.loop-kept.at c.next_noted-end.result.0 c.loop-kept.invariant.walked inside c.next_noted-end.ensures.end);
+      noted = rw (c.in_ok-push.ensures.items, c.in_ok-push-2.ensures.items)
+          (notes_push g.F.Front.first_of g.F.Noting.note_of c.args.units.now (last_end 0 (take kept (g.E.Ends.listed c.args.old_ends.now))) c.loop-kept.made.items c.loop-kept.at c.next_noted-end.result.0 c.loop-kept.notes.items c.next_noted-end.result.1
+          c.loop-kept.invariant.walked c.loop-kept.invariant.noted c.next_noted-end.ensures.note);
+      inside = c.next_noted-end.ensures.inside;
+      unmet = still_unmet g.F.Front.first_of c.args.old_units.now c.args.units.now (g.E.Ends.listed c.args.old_ends.now) c.args.old_stop c.args.new_stop (take kept (g.E.Ends.listed c.args.old_ends.now) ++ c.loop-kept.made.items) c.loop-kept.at c.next_noted-end.result.0
+          c.requires.old_cut upto c.loop-kept.invariant.unmet c.in_default.ensures c.next_noted-end.ensures.end;
+      ticked = rw c.in_ok-push.ensures.items (rw (length_push c.loop-kept.made.items c.next_noted-end.result.0) (c.next_noted-end.ensures.ticks ∙ ap ticked c.loop-kept.invariant.ticked));
     }
 
 pub returns-in_err-push-clause-counted : goal.returns-in_err-push-clause-counted
 returns-in_err-push-clause-counted g c =
-    record { calls = suc (length c.loop-kept.made.items); ticks = c.next_end-at.ensures.ticks ∙ ap ticked c.loop-kept.invariant.ticked }
+    record { calls = suc (length c.loop-kept.made.items); ticks = c.next_noted-end.ensures.ticks ∙ ap ticked c.loop-kept.invariant.ticked }
+
+pub returns-in_err-push-2-clause-counted : goal.returns-in_err-push-2-clause-counted
+returns-in_err-push-2-clause-counted g c =
+    record { calls = suc (length c.loop-kept.made.items); ticks = c.next_noted-end.ensures.ticks ∙ ap ticked c.loop-kept.invariant.ticked }

@@ -1,6 +1,6 @@
 use Rattle.std.proofs.Common.{◌≡◌, take}
 use Rattle.snl_lex.specs.LineList.{marked, names, numbers}
-use Rattle.snl_lex.proofs.line_list.LineList.part.Given as goal
+use Rattle.snl_lex.proofs.line_list.LineList.of.Given as goal
 
 abbrev pub invariant-loop-piece : goal.invariant-loop-piece
 invariant-loop-piece l = record {
