@@ -3,7 +3,7 @@ use Rattle.std.specs.Prelude.{◌≡◌, List, map, length, option_copied}
 use Rattle.snl_lex.specs.LineList.{IsLineList}
 use Rattle.snl_scope.specs.declared.facts.ClauseLink.{ClauseLink}
 use Rattle.snl_check.specs.declared.rows.channels.AssignedChannel.{AssignedChannel}
-use Rattle.snl_check.specs.declared.rows.item_clauses.Placed.{Placed}
+use Rattle.snl_check.specs.declared.rows.item_clauses.PlacedClause.{PlacedClause}
 use Rattle.snl_check.specs.declared.rows.item_clauses.ToldClause.{ToldClause}
 use Rattle.snl_check.specs.declared.rows.row_source.RowSource.{RowSource}
 use Rattle.snl_check.specs.declared.rows.outline.Outline.{Outline}
@@ -20,7 +20,7 @@ items_in p = program_items p.tokens.now p.ends.now (map option_copied p.trees.no
 abbrev pub AreTextItems : TextItems → Type 0
 AreTextItems p = IsCutUp p.text.now p.tokens.now p.ends.now (length p.trees.now)
 
-abbrev pub placed : Placed → ItemClause
+abbrev pub placed : PlacedClause → ItemClause
 placed p = record { item = p.item; clause = p.clause.now }
 
 abbrev pub told : ToldClause → ItemClause × ClauseLink

@@ -2,8 +2,8 @@
 use Rattle.std.specs.Prelude.{ℕ, Bool, true, false, not, ◌&&◌, ◌||◌, List, Option, is_some, option_map}
 use Rattle.snl_scope.specs.declared.facts.Assigned.{Assigned}
 use Rattle.snl_scope.specs.declared.facts.Assigned.TheVariants as assigned
-use Rattle.snl_scope.specs.declared.facts.Base.{Base}
-use Rattle.snl_scope.specs.declared.facts.Base.TheVariants as base
+use Rattle.snl_scope.specs.declared.facts.NameKind.{NameKind}
+use Rattle.snl_scope.specs.declared.facts.NameKind.TheVariants as name_kind
 use Rattle.snl_scope.specs.declared.facts.Fact.{Fact}
 use Rattle.snl_scope.specs.declared.summaries.summary.Outline.{Outline}
 use Rattle.snl_scope.specs.Linked.{fact_of, has_target}
@@ -22,13 +22,13 @@ known_of ss item name = fact_of ss item name
 unfoldable pub leads_to : List Outline → ℕ → List ℕ → Bool
 leads_to ss item name = has_target ss item name
 
-abbrev pub is_foreign : Base → Bool
-is_foreign base.Foreign = true
+abbrev pub is_foreign : NameKind → Bool
+is_foreign name_kind.Foreign = true
 is_foreign _ = false
 
 -- A foreign name may be anything.
-abbrev pub may_be_flag : Base → Bool
-may_be_flag base.EventFlag = true
+abbrev pub may_be_flag : NameKind → Bool
+may_be_flag name_kind.EventFlag = true
 may_be_flag b = is_foreign b
 
 abbrev pub is_assigned : Assigned → Bool
@@ -37,7 +37,7 @@ is_assigned _ = true
 
 -- What a name passes for of which this is known.
 abbrev pub outer_of : Fact → Outer
-outer_of fact = record { flag = may_be_flag fact.base; channel = is_assigned fact.assigned || is_foreign fact.base }
+outer_of fact = record { flag = may_be_flag fact.kind; channel = is_assigned fact.assigned || is_foreign fact.kind }
 
 -- What names pass for of which `fact` says what is known.
 abbrev pub outer_by : (List ℕ → Option Fact) → List ℕ → Option Outer

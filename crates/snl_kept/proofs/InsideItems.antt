@@ -9,6 +9,7 @@ use Rattle.snl_lex.specs.declared.piece.Class.TheVariants.{White}
 use Rattle.snl_lex.specs.declared.piece.Piece.{Piece}
 use Rattle.snl_lex.specs.declared.shift.Shift.{Shift}
 use Rattle.snl_lex.specs.Lines.{line_at}
+use Rattle.snl_lex.specs.Made.{made_pieces}
 use Rattle.snl_lex.specs.PieceList.{spelled}
 use Rattle.snl_lex.specs.Pieces.{LiesIn, is_token, pieces_of, tokens_of}
 use Rattle.snl_lex.specs.Shift.{IsOutside, IsShift, shifted_line, shifted_offset, shifted_piece}
@@ -108,7 +109,7 @@ module _ (old text : List ℕ) (start old_stop new_stop : ℕ) (c : Changes) (s 
   shift : IsShift old text s
   shift =
       shift_is old text start old_stop new_stop s is.by is.edit some_before is.no_marker
-      (none_marked old text start old_stop new_stop c.pieces.kept_front c.pieces.made.items c.pieces.kept_back c.pieces.kept_from c.pieces.list.ends.items c.pieces.list.kinds.items is.changed.pieces is.no_marker is.no_marker_made)
+      (none_marked old text start old_stop new_stop c.pieces.kept_front (made_pieces c.pieces) c.pieces.kept_back c.pieces.kept_from c.pieces.list.ends.items c.pieces.list.kinds.items is.changed.pieces is.no_marker is.no_marker_made)
       is.old_short is.short
 
   -- ---- the items

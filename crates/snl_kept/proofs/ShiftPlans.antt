@@ -1,6 +1,6 @@
 -- An edit is a shift of a text where neither text has line markers.
 use Rattle.std.proofs.Common.{◌≡◌, ℕ, ◌+◌, ◌-◌, ◌^◌, ◌<◌, cond, List, ◌++◌, length, map, take, drop, count_by, sym, ap, ◌∙◌, subst, arith}
-use Rattle.std.proofs.lemmas.List.{map-append, take-append-drop}
+use Rattle.std.proofs.lemmas.List.{length-map, map-append, take-append-drop}
 use Rattle.std.proofs.lemmas.List.Sums.{sum_by-append}
 use Rattle.std.proofs.lemmas.Simd.{map-map}
 use Rattle.snl_cut.specs.Cut.{IsEdit}
@@ -9,7 +9,7 @@ use Rattle.snl_lex.specs.declared.piece.Piece.{Piece}
 use Rattle.snl_lex.specs.declared.shift.Shift.{Shift}
 use Rattle.snl_lex.specs.Lines.{is_marker, lines_between}
 use Rattle.snl_lex.specs.PieceList.{IsChange, last_pieces}
-use Rattle.snl_lex.specs.Pieces.{moved_piece, pieces_of}
+use Rattle.snl_lex.specs.Pieces.{moved_piece, piece_end, pieces_of}
 use Rattle.snl_lex.specs.Shift.{IsShift, marker_count}
 use Rattle.snl_items.specs.Changes.{IsShiftOf}
 
@@ -23,6 +23,11 @@ marked_append ps qs =
 
 marked_parts : (n : ℕ) (ps : List Piece) → marked ps ≡ marked (take n ps) + marked (drop n ps)
 marked_parts n ps = ap marked (sym (take-append-drop n ps)) ∙ marked_append (take n ps) (drop n ps)
+
+-- As many pieces are made as their ends are listed.
+pub as_many_ends : (old text : List ℕ) (start b c front : ℕ) (made : List Piece) (back kept_from : ℕ) (made_ends : List ℕ) (made_kinds : List Class)
+    → IsChange old text start b c front made back kept_from made_ends made_kinds → length made_ends ≡ length made
+as_many_ends old text start b c front made back kept_from made_ends made_kinds is = ap length is.ends ∙ length-map made piece_end
 
 -- No markers come where there are none, and none is made.
 pub none_marked : (old text : List ℕ) (start b c front : ℕ) (made : List Piece) (back kept_from : ℕ) (made_ends : List ℕ) (made_kinds : List Class)

@@ -70,8 +70,8 @@ pub record SameLists (l m : Lists) : Type 0 where
 
 -- There is room for the places that an edit makes.
 pub record HasRoomForPlaces (l : Lists) (c : Changes) : Type 0 where
-  pub ends : vec_len l.pieces.ends + vec_len c.pieces.made ≤ vec_capacity l.pieces.ends
-  pub kinds : vec_len l.pieces.kinds + vec_len c.pieces.made ≤ vec_capacity l.pieces.kinds
+  pub ends : vec_len l.pieces.ends + vec_len c.pieces.list.ends ≤ vec_capacity l.pieces.ends
+  pub kinds : vec_len l.pieces.kinds + vec_len c.pieces.list.ends ≤ vec_capacity l.pieces.kinds
   pub marks : vec_len l.items.marks + vec_len c.tokens.marks ≤ vec_capacity l.items.marks
   pub items : vec_len l.items.ends + vec_len c.items.made ≤ vec_capacity l.items.ends
 

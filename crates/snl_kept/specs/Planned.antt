@@ -1,5 +1,6 @@
 -- What an edit makes of what a session keeps of its text.
 use Rattle.std.specs.Prelude.{◌≡◌, ℕ, ◌-◌, ◌≤◌, IfSome, List, ◌++◌, length, take, drop}
+use Rattle.snl_lex.specs.Made.{made_pieces}
 use Rattle.snl_lex.specs.PieceList.{IsChange}
 use Rattle.snl_items.specs.declared.item_list.ItemChange.{ItemChange}
 use Rattle.snl_items.specs.Changes.{AreShifted, IsItemChange, IsTokenChange}
@@ -27,7 +28,7 @@ use Rattle.snl_kept.specs.Warnings.{warns_in}
 
 -- What an edit makes of the pieces, the tokens and the items of a text.
 pub record IsChanged (old text : List ℕ) (start old_stop new_stop : ℕ) (c : Changes) : Type 0 where
-  pub pieces : IsChange old text start old_stop new_stop c.pieces.kept_front c.pieces.made.items c.pieces.kept_back c.pieces.kept_from c.pieces.list.ends.items c.pieces.list.kinds.items
+  pub pieces : IsChange old text start old_stop new_stop c.pieces.kept_front (made_pieces c.pieces) c.pieces.kept_back c.pieces.kept_from c.pieces.list.ends.items c.pieces.list.kinds.items
   pub tokens : IsTokenChange old text start old_stop new_stop c.tokens.edit c.tokens.made.items c.tokens.marks.items c.tokens.same
   -- if the edit leaves all tokens, it shifts them
   pub shifted : IfSome c.tokens.shifted (λ t. AreShifted old text start old_stop new_stop t.by t.before)

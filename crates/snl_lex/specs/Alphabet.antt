@@ -1,8 +1,8 @@
 -- What single bytes are, and what a piece begins with.
 -- In: a byte, or the bytes of a mark. Out: tests, and what the first byte says of a piece.
 use Rattle.std.specs.Prelude.{ℕ, Bool, not, ◌&&◌, ◌||◌, ◌==◌, nat_le, List, [], ◌∷◌, if◌then◌else◌}
-use Rattle.snl_lex.specs.declared.alphabet.Base.{Base}
-use Rattle.snl_lex.specs.declared.alphabet.Base.TheVariants.{Octal, Decimal, Hexadecimal}
+use Rattle.snl_lex.specs.declared.alphabet.NumberBase.{NumberBase}
+use Rattle.snl_lex.specs.declared.alphabet.NumberBase.TheVariants.{Octal, Decimal, Hexadecimal}
 use Rattle.snl_lex.specs.declared.alphabet.Set.{Set}
 use Rattle.snl_lex.specs.declared.alphabet.Set.TheVariants.{Blanks, NameBytes, LineBytes, Strays, Gaps, Plains, Digits}
 use Rattle.snl_lex.specs.declared.alphabet.Start.{Start}
@@ -66,7 +66,7 @@ unfoldable pub is_plain : ℕ → Bool
 is_plain b = is_digit b || b == 46
 
 -- A digit of the base.
-abbrev pub is_digit_in : Base → ℕ → Bool
+abbrev pub is_digit_in : NumberBase → ℕ → Bool
 is_digit_in Octal b = is_octal_digit b
 is_digit_in Decimal b = is_digit b
 is_digit_in Hexadecimal b = is_hexadecimal_digit b

@@ -3,7 +3,7 @@
 use Rattle.std.specs.Prelude.{ℕ, ◌+◌, ◌-◌, Bool, true, false, ◌&&◌, ◌||◌, ◌==◌, nat_lt, nat_le, List, [], ◌∷◌, length, take, drop, filter, count_by, slice_index, codes, Option, Some, None, is_some, unwrap_or, if◌then◌else◌}
 use Rattle.std.specs.List.{list_any}
 use Rattle.std.specs.Str.{bytes_eq}
-use Rattle.snl_lex.specs.declared.alphabet.Base.TheVariants.{Decimal}
+use Rattle.snl_lex.specs.declared.alphabet.NumberBase.TheVariants.{Decimal}
 use Rattle.snl_lex.specs.declared.piece.Class.{Class}
 use Rattle.snl_lex.specs.declared.piece.Class.TheVariants.{Marker}
 use Rattle.snl_lex.specs.declared.piece.Piece.{Piece}

@@ -3,8 +3,8 @@
 use Rattle.std.specs.Prelude.{ℕ, ◌+◌, ◌*◌, ◌-◌, Bool, false, ◌&&◌, ◌||◌, ◌==◌, nat_lt, nat_le, List, [], ◌∷◌, take, drop, slice_index, count_by, Option, Some, None, is_some, codes, if◌then◌else◌}
 use Rattle.std.specs.List.{list_any, list_all}
 use Rattle.std.specs.Str.{bytes_eq}
-use Rattle.snl_lex.specs.declared.alphabet.Base.{Base}
-use Rattle.snl_lex.specs.declared.alphabet.Base.TheVariants.{Octal, Decimal, Hexadecimal}
+use Rattle.snl_lex.specs.declared.alphabet.NumberBase.{NumberBase}
+use Rattle.snl_lex.specs.declared.alphabet.NumberBase.TheVariants.{Octal, Decimal, Hexadecimal}
 use Rattle.snl_lex.specs.declared.piece.Class.{Class}
 use Rattle.snl_lex.specs.declared.piece.Class.TheVariants.{Int, Float, Bad}
 use Rattle.snl_lex.specs.Alphabet.{is_digit, is_word_byte, is_plain, is_digit_in}
@@ -34,13 +34,13 @@ is_number_byte b = is_word_byte b || b == 46 || is_sign b
 unfoldable pub digit_value : ℕ → ℕ
 digit_value b = if is_digit b then b - 48 else (if nat_le 97 b then b - 87 else b - 55)
 
-abbrev pub radix : Base → ℕ
+abbrev pub radix : NumberBase → ℕ
 radix Octal = 8
 radix Decimal = 10
 radix Hexadecimal = 16
 
 -- What the digits are worth after others that are worth `value`.
-abbrev pub value_after : Base → ℕ → List ℕ → ℕ
+abbrev pub value_after : NumberBase → ℕ → List ℕ → ℕ
 value_after base value [] = value
 value_after base value (d ∷ ds) = value_after base (value * radix base + digit_value d) ds
 
@@ -59,18 +59,18 @@ unfoldable pub is_int_suffix : List ℕ → Bool
 is_int_suffix bytes = list_any (bytes_eq bytes) int_suffixes
 
 -- Hexadecimal digits are after `0x` or `0X`; else a first `0` says octal.
-unfoldable pub base_of : List ℕ → Base
+unfoldable pub base_of : List ℕ → NumberBase
 base_of bytes =
     if slice_index bytes 0 == 48 then (if slice_index bytes 1 == 120 || slice_index bytes 1 == 88 then Hexadecimal else Octal) else Decimal
 
 -- The bytes from the first digit on.
-abbrev pub from_digits : Base → List ℕ → List ℕ
+abbrev pub from_digits : NumberBase → List ℕ → List ℕ
 from_digits Octal bytes = bytes
 from_digits Decimal bytes = bytes
 from_digits Hexadecimal bytes = drop 2 bytes
 
 -- The value of digits of the base that one of the suffixes follows: there is a digit, and the value is at most 2^64 - 1.
-unfoldable pub value_in : Base → List ℕ → Option ℕ
+unfoldable pub value_in : NumberBase → List ℕ → Option ℕ
 value_in base bytes =
     let count = run_of (is_digit_in base) bytes in
     if nat_lt 0 count && is_int_suffix (drop count bytes) then checked_value (value_after base 0 (take count bytes)) else None

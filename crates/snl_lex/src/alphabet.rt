@@ -55,7 +55,7 @@ pub fn start_of(byte: u8) -> Start
 
 // What digits count in.
 #[derive(Clone, Copy, PartialEq, Eq)]
-pub enum Base {
+pub enum NumberBase {
     Octal,
     Decimal,
     Hexadecimal,
@@ -70,7 +70,7 @@ pub enum Set {
     Strays,
     Gaps,
     Plains,
-    Digits(Base),
+    Digits(NumberBase),
 }
 
 pub fn is_blank(byte: u8) -> bool
@@ -120,13 +120,13 @@ pub fn is_plain(byte: u8) -> bool
 }
 
 #[tactic(auto, unfolding(crate::specs::Alphabet::is_digit, crate::specs::Alphabet::is_octal_digit, crate::specs::Alphabet::is_hexadecimal_digit))]
-fn is_digit_in(base: Base, byte: u8) -> bool
+fn is_digit_in(base: NumberBase, byte: u8) -> bool
     ensures { result ≡ is_digit_in base byte }
 {
     match base {
-        Base::Octal => matches!(byte, b'0'..=b'7'),
-        Base::Decimal => is_digit(byte),
-        Base::Hexadecimal => matches!(byte, b'0'..=b'9' | b'a'..=b'f' | b'A'..=b'F'),
+        NumberBase::Octal => matches!(byte, b'0'..=b'7'),
+        NumberBase::Decimal => is_digit(byte),
+        NumberBase::Hexadecimal => matches!(byte, b'0'..=b'9' | b'a'..=b'f' | b'A'..=b'F'),
     }
 }
 

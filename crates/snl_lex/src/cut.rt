@@ -154,12 +154,12 @@ pub struct Relexed {
 
 // Pieces, as the places where they end. None is too far off.
 #[derive(Clone, Copy)]
-struct Placed<'a> {
+struct PieceEnds<'a> {
     pieces: &'a [Piece],
     ghost near: { All (λ p. piece_end p < 2 ^ 64) pieces.now },
 }
 
-impl Ends for Placed<'_> {
+impl Ends for PieceEnds<'_> {
     ghost listed = { λ p. map piece_end p.pieces.now };
 
     fn count(&self) -> usize {
@@ -194,7 +194,7 @@ pub fn relex(
     ensures ticks { IfOk result (λ r. work.new ≡ after_ticks work.old (length r.made.items)) }
     ensures counted { Counted work.old work.new }
 {
-    let ends = Placed { pieces: old };
+    let ends = PieceEnds { pieces: old };
     let relexed = relex_by(
         alloc, old_text, &ends, text, start, old_stop, new_stop, work,
     )?;

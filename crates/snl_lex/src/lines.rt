@@ -6,7 +6,7 @@ ghost use Rattle.snl_lex.specs.Lines.{file_by, has_line_between, last_that, line
 ghost use Rattle.snl_lex.specs.Pieces.{LiesIn, pieces_of};
 ghost use Rattle.std.specs.Prelude.{◌≡◌, ◌+◌, ◌<◌, ◌≤◌, IfSome, length};
 
-use crate::alphabet::{Base, Set, after, byte_at, is_blank, is_gap, run_end};
+use crate::alphabet::{NumberBase, Set, after, byte_at, is_blank, is_gap, run_end};
 use crate::numbers::value_of;
 use crate::piece::{Class, Piece};
 use crate::scan::string_end;
@@ -41,11 +41,11 @@ pub fn marker_number(marker: &[u8]) -> Option<u64>
     ensures small { IfSome result (λ number. number ≤ 2147483647) }
 {
     let begin = number_place(marker);
-    let stop = run_end(marker, begin, Set::Digits(Base::Decimal));
+    let stop = run_end(marker, begin, Set::Digits(NumberBase::Decimal));
     if begin == stop || stop - begin > 10 || (stop < marker.len() && !is_blank(marker[stop])) {
         return None;
     }
-    value_of(&marker[begin..stop], Base::Decimal).filter(|number| *number <= 2_147_483_647)
+    value_of(&marker[begin..stop], NumberBase::Decimal).filter(|number| *number <= 2_147_483_647)
 }
 
 // Where in a marker its file is.
@@ -55,7 +55,11 @@ pub fn marker_file(marker: &[u8]) -> Option<(usize, usize)>
     ensures file { result ≡ marker_file marker.now }
     ensures inside { IfSome result (λ place. place.0 + place.1 ≤ length marker.now) }
 {
-    let stop = run_end(marker, number_place(marker), Set::Digits(Base::Decimal));
+    let stop = run_end(
+        marker,
+        number_place(marker),
+        Set::Digits(NumberBase::Decimal),
+    );
     let quote = run_end(marker, stop, Set::Gaps);
     if quote == marker.len() || marker[quote] != b'"' {
         return None;

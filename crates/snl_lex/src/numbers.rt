@@ -7,7 +7,7 @@ ghost use Rattle.snl_lex.specs.Numbers.{base_of, checked_value, digit_value, dot
 ghost use Rattle.snl_lex.specs.Runs.{run_by};
 ghost use Rattle.std.specs.Prelude.{◌≡◌, ◌==◌, ◌+◌, ◌<◌, ◌≤◌, ◌&&◌, ◌||◌, drop, length, take};
 
-use crate::alphabet::{Base, Set, after, byte_at, is_digit, is_plain, is_word_byte, run_end};
+use crate::alphabet::{NumberBase, Set, after, byte_at, is_digit, is_plain, is_word_byte, run_end};
 use crate::piece::Class;
 
 #[tactic(auto, unfolding(crate::specs::Numbers::is_sign))]
@@ -48,13 +48,13 @@ fn joins(byte: u8, awaits_sign: bool) -> bool
     is_word_byte(byte) || byte == b'.' || (is_sign(byte) && awaits_sign)
 }
 
-fn radix(base: Base) -> u64
+fn radix(base: NumberBase) -> u64
     ensures { result ≡ radix base }
 {
     match base {
-        Base::Octal => 8,
-        Base::Decimal => 10,
-        Base::Hexadecimal => 16,
+        NumberBase::Octal => 8,
+        NumberBase::Decimal => 10,
+        NumberBase::Hexadecimal => 16,
     }
 }
 
@@ -73,7 +73,7 @@ fn digit_value(digit: u8) -> u64
 }
 
 /// The value of digits, if it is at most 2^64 - 1.
-pub fn value_of(digits: &[u8], base: Base) -> Option<u64>
+pub fn value_of(digits: &[u8], base: NumberBase) -> Option<u64>
     ensures { result ≡ checked_value (value_after base 0 digits.now) }
 {
     let mut value: u64 = 0;
@@ -117,7 +117,7 @@ fn is_int_suffix(bytes: &[u8]) -> bool
 }
 
 #[tactic(auto, unfolding(crate::specs::Numbers::value_in))]
-fn value_in(base: Base, bytes: &[u8]) -> Option<u64>
+fn value_in(base: NumberBase, bytes: &[u8]) -> Option<u64>
     ensures { result ≡ value_in base bytes.now }
 {
     let count = run_end(bytes, 0, Set::Digits(base));
@@ -129,15 +129,15 @@ fn value_in(base: Base, bytes: &[u8]) -> Option<u64>
 }
 
 #[tactic(auto, unfolding(crate::specs::Numbers::base_of))]
-fn base_of(bytes: &[u8]) -> Base
+fn base_of(bytes: &[u8]) -> NumberBase
     ensures { result ≡ base_of bytes.now }
 {
     if byte_at(bytes, 0) != b'0' {
-        Base::Decimal
+        NumberBase::Decimal
     } else if matches!(byte_at(bytes, 1), b'x' | b'X') {
-        Base::Hexadecimal
+        NumberBase::Hexadecimal
     } else {
-        Base::Octal
+        NumberBase::Octal
     }
 }
 
@@ -149,9 +149,9 @@ pub fn int_value(bytes: &[u8]) -> Option<u64>
     ensures { result ≡ int_value_of bytes.now }
 {
     match base_of(bytes) {
-        Base::Octal => value_in(Base::Octal, bytes),
-        Base::Decimal => value_in(Base::Decimal, bytes),
-        Base::Hexadecimal => value_in(Base::Hexadecimal, after(bytes, 2)),
+        NumberBase::Octal => value_in(NumberBase::Octal, bytes),
+        NumberBase::Decimal => value_in(NumberBase::Decimal, bytes),
+        NumberBase::Hexadecimal => value_in(NumberBase::Hexadecimal, after(bytes, 2)),
     }
 }
 
@@ -173,7 +173,7 @@ fn is_exponent(bytes: &[u8]) -> bool
     ensures { result ≡ is_exponent bytes.now }
 {
     let digits = after(bytes, sign_length(bytes));
-    let count = run_end(digits, 0, Set::Digits(Base::Decimal));
+    let count = run_end(digits, 0, Set::Digits(NumberBase::Decimal));
     count > 0 && is_float_suffix(&digits[count..])
 }
 

@@ -26,7 +26,7 @@ static IN_SCOPES: [Row; 21] = [
     (Question::Target(4, b"i"), b"yes"),
     (Question::Target(4, b"s"), b"no"),
     (Question::Target(6, b"i"), b"no"),
-    (Question::Base(6, b"b"), b"other"),
+    (Question::Kind(6, b"b"), b"other"),
 ];
 
 // Its declarations have the numbers 0 to 4, 6 and 8 to 10; 5 is the state set and 7 its state.
@@ -67,11 +67,11 @@ fn what_names_mean(rt: HostRuntime) -> Result<(), Fail> {
 
 // A text, and what the name `n` stands for in its first item.
 static BASES: [(&[u8], Row); 5] = [
-    (b"int n;", (Question::Base(0, b"n"), b"other")),
-    (b"evflag n;", (Question::Base(0, b"n"), b"event flag")),
-    (b"foreign n;", (Question::Base(0, b"n"), b"foreign")),
-    (b"int n() { }", (Question::Base(0, b"n"), b"function")),
-    (b"int m;", (Question::Base(0, b"n"), b"-")),
+    (b"int n;", (Question::Kind(0, b"n"), b"other")),
+    (b"evflag n;", (Question::Kind(0, b"n"), b"event flag")),
+    (b"foreign n;", (Question::Kind(0, b"n"), b"foreign")),
+    (b"int n() { }", (Question::Kind(0, b"n"), b"function")),
+    (b"int m;", (Question::Kind(0, b"n"), b"-")),
 ];
 
 #[test]

@@ -2,7 +2,7 @@
 
 use crate::reading::links;
 use crate::words::{add_digit, add_number, add_option, add_variable};
-use snl_scope::{Assigned, Base, Code, Declaration, Fact, Level, Links, Scope};
+use snl_scope::{Assigned, Code, Declaration, Fact, Level, Links, NameKind, Scope};
 use std::alloc::Global;
 use std::process::Abort;
 use std::test::Fail;
@@ -29,7 +29,7 @@ pub enum Question {
     /// In which scope an item finds a name.
     Level(usize, &'static [u8]),
     /// What a name stands for in an item.
-    Base(usize, &'static [u8]),
+    Kind(usize, &'static [u8]),
     /// To what a name is assigned, as an item sees it.
     Assigned(usize, &'static [u8]),
     /// Whether the state set of an item has a state of the name.
@@ -95,13 +95,13 @@ fn level_word(fact: Option<Fact>) -> &'static [u8] {
     }
 }
 
-fn base_word(fact: Option<Fact>) -> &'static [u8] {
+fn kind_word(fact: Option<Fact>) -> &'static [u8] {
     match fact {
-        Some(fact) => match fact.base {
-            Base::EventFlag => b"event flag",
-            Base::Foreign => b"foreign",
-            Base::Function => b"function",
-            Base::Other => b"other",
+        Some(fact) => match fact.kind {
+            NameKind::EventFlag => b"event flag",
+            NameKind::Foreign => b"foreign",
+            NameKind::Function => b"function",
+            NameKind::Other => b"other",
         },
         None => b"-",
     }
@@ -156,7 +156,7 @@ fn add_declared(
 fn add_word_told(links: &Links, question: Question, words: &mut Vec<u8>) -> Result<(), Fail> {
     words.extend_from_slice(match question {
         Question::Level(item, name) => level_word(links.fact(item, name)),
-        Question::Base(item, name) => base_word(links.fact(item, name)),
+        Question::Kind(item, name) => kind_word(links.fact(item, name)),
         Question::Assigned(item, name) => assigned_word(links.fact(item, name)),
         Question::Target(item, name) => truth_word(links.has_target(item, name)),
         Question::BeginsSet(item) => truth_word(links.begins_set(item)),

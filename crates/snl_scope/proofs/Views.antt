@@ -4,8 +4,8 @@ use Rattle.std.specs.List.{list_all}
 use Rattle.std.proofs.lemmas.Bool.Decides.{Decides-eqb}
 use Rattle.snl_scope.specs.declared.facts.Assigned.{Assigned}
 use Rattle.snl_scope.specs.declared.facts.Assigned.TheVariants as assigned
-use Rattle.snl_scope.specs.declared.facts.Base.{Base}
-use Rattle.snl_scope.specs.declared.facts.Base.TheVariants as base
+use Rattle.snl_scope.specs.declared.facts.NameKind.{NameKind}
+use Rattle.snl_scope.specs.declared.facts.NameKind.TheVariants as name_kind
 use Rattle.snl_scope.specs.declared.facts.Fact.{Fact}
 use Rattle.snl_scope.specs.declared.facts.Level.{Level}
 use Rattle.snl_scope.specs.declared.facts.Level.TheVariants as level
@@ -15,7 +15,7 @@ use Rattle.snl_scope.specs.declared.summaries.summary.Outline.{Outline}
 use Rattle.snl_scope.specs.declared.summaries.summary.Summary.{Summary}
 use Rattle.snl_scope.specs.Linked.{fact_of, has_target}
 use Rattle.snl_scope.specs.Places.{enclosing_set}
-use Rattle.snl_scope.specs.View.{same_assigned, same_base, same_bool, same_dims, same_facts, same_known, same_level, same_view, view}
+use Rattle.snl_scope.specs.View.{same_assigned, same_name_kind, same_bool, same_dims, same_facts, same_known, same_level, same_view, view}
 
 both : (a b : Bool) → (a && b) ≡ true → (a ≡ true) × (b ≡ true)
 both true b h = (refl, h)
@@ -54,18 +54,18 @@ level_same : (a : Level) → same_level a a ≡ true
 level_same level.Program = refl
 level_same level.StateSet = refl
 
-base_equal : (a b : Base) → same_base a b ≡ true → a ≡ b
-base_equal base.EventFlag base.EventFlag h = refl
-base_equal base.Foreign base.Foreign h = refl
-base_equal base.Function base.Function h = refl
-base_equal base.Other base.Other h = refl
-base_equal _ _ h = absurd (true≢false (sym h))
+name_kind_equal : (a b : NameKind) → same_name_kind a b ≡ true → a ≡ b
+name_kind_equal name_kind.EventFlag name_kind.EventFlag h = refl
+name_kind_equal name_kind.Foreign name_kind.Foreign h = refl
+name_kind_equal name_kind.Function name_kind.Function h = refl
+name_kind_equal name_kind.Other name_kind.Other h = refl
+name_kind_equal _ _ h = absurd (true≢false (sym h))
 
-base_same : (a : Base) → same_base a a ≡ true
-base_same base.EventFlag = refl
-base_same base.Foreign = refl
-base_same base.Function = refl
-base_same base.Other = refl
+name_kind_same : (a : NameKind) → same_name_kind a a ≡ true
+name_kind_same name_kind.EventFlag = refl
+name_kind_same name_kind.Foreign = refl
+name_kind_same name_kind.Function = refl
+name_kind_same name_kind.Other = refl
 
 assigned_equal : (a b : Assigned) → same_assigned a b ≡ true → a ≡ b
 assigned_equal assigned.Unassigned assigned.Unassigned h = refl
@@ -80,21 +80,21 @@ assigned_same assigned.Elements = refl
 
 facts_equal : (a b : Fact) → same_facts a b ≡ true → a ≡ b
 facts_equal a b h =
-    let last = both (same_dims a.dims b.dims && same_level a.level b.level && same_base a.base b.base) (same_assigned a.assigned b.assigned) h in
-    let third = both (same_dims a.dims b.dims && same_level a.level b.level) (same_base a.base b.base) last.0 in
+    let last = both (same_dims a.dims b.dims && same_level a.level b.level && same_name_kind a.kind b.kind) (same_assigned a.assigned b.assigned) h in
+    let third = both (same_dims a.dims b.dims && same_level a.level b.level) (same_name_kind a.kind b.kind) last.0 in
     let first = both (same_dims a.dims b.dims) (same_level a.level b.level) third.0 in
     λ j. record {
       dims = dims_equal a.dims b.dims first.0 j;
       level = level_equal a.level b.level first.1 j;
-      base = base_equal a.base b.base third.1 j;
+      kind = name_kind_equal a.kind b.kind third.1 j;
       assigned = assigned_equal a.assigned b.assigned last.1 j;
     }
 
 facts_same : (a : Fact) → same_facts a a ≡ true
 facts_same a =
-    ap (λ b. b && same_level a.level a.level && same_base a.base a.base && same_assigned a.assigned a.assigned) (dims_same a.dims)
-    ∙ ap (λ b. b && same_base a.base a.base && same_assigned a.assigned a.assigned) (level_same a.level)
-    ∙ ap (λ b. b && same_assigned a.assigned a.assigned) (base_same a.base) ∙ assigned_same a.assigned
+    ap (λ b. b && same_level a.level a.level && same_name_kind a.kind a.kind && same_assigned a.assigned a.assigned) (dims_same a.dims)
+    ∙ ap (λ b. b && same_name_kind a.kind a.kind && same_assigned a.assigned a.assigned) (level_same a.level)
+    ∙ ap (λ b. b && same_assigned a.assigned a.assigned) (name_kind_same a.kind) ∙ assigned_same a.assigned
 
 known_equal : (a b : Option Fact) → same_known a b ≡ true → a ≡ b
 known_equal None None h = refl

@@ -2,8 +2,8 @@
 use Rattle.std.specs.Prelude.{ℕ, Bool, false, if◌then◌else◌, List, ◌++◌, length, slice_get, nat_lt, Option, None, Some, is_some, option_map, option_and_then}
 use Rattle.std.specs.Option.{option_map_or}
 use Rattle.snl_scope.specs.declared.facts.Assigned.{Assigned}
-use Rattle.snl_scope.specs.declared.facts.Base.{Base}
-use Rattle.snl_scope.specs.declared.facts.Base.TheVariants as base
+use Rattle.snl_scope.specs.declared.facts.NameKind.{NameKind}
+use Rattle.snl_scope.specs.declared.facts.NameKind.TheVariants as name_kind
 use Rattle.snl_scope.specs.declared.facts.Declaration.{Declaration}
 use Rattle.snl_scope.specs.declared.facts.Fact.{Fact}
 use Rattle.snl_scope.specs.declared.facts.Level.{Level}
@@ -28,15 +28,15 @@ abbrev pub level_of : Namespace → Level
 level_of (namespace.StateSet k) = level.StateSet
 level_of _ = level.Program
 
-abbrev pub base_of : SymbolKind → Base
-base_of symbol_kind.EventFlag = base.EventFlag
-base_of symbol_kind.Foreign = base.Foreign
-base_of symbol_kind.Function = base.Function
-base_of symbol_kind.Assignable = base.Other
-base_of symbol_kind.Unassignable = base.Other
+abbrev pub name_kind_of : SymbolKind → NameKind
+name_kind_of symbol_kind.EventFlag = name_kind.EventFlag
+name_kind_of symbol_kind.Foreign = name_kind.Foreign
+name_kind_of symbol_kind.Function = name_kind.Function
+name_kind_of symbol_kind.Assignable = name_kind.Other
+name_kind_of symbol_kind.Unassignable = name_kind.Other
 
 abbrev pub variable_fact : Assigned → Namespace → Variable → Fact
-variable_fact a s v = record { level = level_of s; base = base_of v.symbol_kind; dims = v.dims; assigned = a }
+variable_fact a s v = record { level = level_of s; kind = name_kind_of v.symbol_kind; dims = v.dims; assigned = a }
 
 -- What is known of an entry, where it is a declaration.
 abbrev pub entry_fact : Assigned → Entry → Option Fact

@@ -3,8 +3,8 @@ use Rattle.std.specs.Prelude.{ℕ, Bool, true, false, ◌&&◌, List, map, nat_e
 use Rattle.std.specs.List.{list_all}
 use Rattle.snl_scope.specs.declared.facts.Assigned.{Assigned}
 use Rattle.snl_scope.specs.declared.facts.Assigned.TheVariants as assigned
-use Rattle.snl_scope.specs.declared.facts.Base.{Base}
-use Rattle.snl_scope.specs.declared.facts.Base.TheVariants as base
+use Rattle.snl_scope.specs.declared.facts.NameKind.{NameKind}
+use Rattle.snl_scope.specs.declared.facts.NameKind.TheVariants as name_kind
 use Rattle.snl_scope.specs.declared.facts.Fact.{Fact}
 use Rattle.snl_scope.specs.declared.facts.Level.{Level}
 use Rattle.snl_scope.specs.declared.facts.Level.TheVariants as level
@@ -46,12 +46,12 @@ same_level level.Program level.Program = true
 same_level level.StateSet level.StateSet = true
 same_level _ _ = false
 
-abbrev pub same_base : Base → Base → Bool
-same_base base.EventFlag base.EventFlag = true
-same_base base.Foreign base.Foreign = true
-same_base base.Function base.Function = true
-same_base base.Other base.Other = true
-same_base _ _ = false
+abbrev pub same_name_kind : NameKind → NameKind → Bool
+same_name_kind name_kind.EventFlag name_kind.EventFlag = true
+same_name_kind name_kind.Foreign name_kind.Foreign = true
+same_name_kind name_kind.Function name_kind.Function = true
+same_name_kind name_kind.Other name_kind.Other = true
+same_name_kind _ _ = false
 
 abbrev pub same_assigned : Assigned → Assigned → Bool
 same_assigned assigned.Unassigned assigned.Unassigned = true
@@ -60,7 +60,7 @@ same_assigned assigned.Elements assigned.Elements = true
 same_assigned _ _ = false
 
 abbrev pub same_facts : Fact → Fact → Bool
-same_facts a b = same_dims a.dims b.dims && same_level a.level b.level && same_base a.base b.base && same_assigned a.assigned b.assigned
+same_facts a b = same_dims a.dims b.dims && same_level a.level b.level && same_name_kind a.kind b.kind && same_assigned a.assigned b.assigned
 
 -- The same is known of a name.
 abbrev pub same_known : Option Fact → Option Fact → Bool

@@ -12,7 +12,7 @@ pub enum Level {
 
 /// What a declared name stands for, as far as other items can tell.
 #[derive(Clone, Copy, Debug, PartialEq, Eq)]
-pub enum Base {
+pub enum NameKind {
     EventFlag,
     Foreign,
     Function,
@@ -32,7 +32,7 @@ pub enum Assigned {
 pub struct Fact {
     pub dims: Dims,
     pub level: Level,
-    pub base: Base,
+    pub kind: NameKind,
     pub assigned: Assigned,
 }
 

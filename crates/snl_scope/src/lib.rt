@@ -15,7 +15,7 @@ mod summaries;
 mod view;
 
 pub use edited_names::{EditedNames, unspoken_names};
-pub use facts::{Assigned, Base, ClauseLink, Declaration, Fact, Level, LinkFault, Scope};
+pub use facts::{Assigned, ClauseLink, Declaration, Fact, Level, LinkFault, NameKind, Scope};
 pub use laws::once_laws::{
     each_fault_once, faults_have_places, outlines_speak_of_tokens, tokens_declared_once,
 };

@@ -2,12 +2,12 @@
 //! All but the findings goes by the outlines alone, so links stay where no outline changes; other kinds can be put in place.
 
 ghost use Rattle.std.specs.Prelude.{◌≡◌, map, IfOk, option_and_then, option_map};
-ghost use Rattle.snl_scope.specs.Linked.{base_of, entry_fact, level_of, scope_in, variable_declaration, variable_fact};
+ghost use Rattle.snl_scope.specs.Linked.{name_kind_of, entry_fact, level_of, scope_in, variable_declaration, variable_fact};
 ghost use Rattle.snl_scope.specs.LinkedItems.{linked_items};
 
 use crate::clauses::clause_index::{ClauseIndex, Purpose};
 use crate::clauses::flags::flag_number;
-use crate::facts::{Assigned, Base, ClauseLink, Declaration, Fact, Level, LinkFault, Scope};
+use crate::facts::{Assigned, ClauseLink, Declaration, Fact, Level, LinkFault, NameKind, Scope};
 use crate::findings::all_faults;
 use crate::items::linked_items::{kinds_of, outlines_of};
 use crate::linking::{LinkedClauses, LinkedNames, linked_clauses, linked_names};
@@ -247,14 +247,14 @@ fn level_of(namespace: Namespace) -> Level
     }
 }
 
-fn base_of(symbol_kind: SymbolKind) -> Base
-    ensures { result ≡ base_of symbol_kind }
+fn name_kind_of(symbol_kind: SymbolKind) -> NameKind
+    ensures { result ≡ name_kind_of symbol_kind }
 {
     match symbol_kind {
-        SymbolKind::EventFlag => Base::EventFlag,
-        SymbolKind::Foreign => Base::Foreign,
-        SymbolKind::Function => Base::Function,
-        SymbolKind::Assignable | SymbolKind::Unassignable => Base::Other,
+        SymbolKind::EventFlag => NameKind::EventFlag,
+        SymbolKind::Foreign => NameKind::Foreign,
+        SymbolKind::Function => NameKind::Function,
+        SymbolKind::Assignable | SymbolKind::Unassignable => NameKind::Other,
     }
 }
 
@@ -266,7 +266,7 @@ fn known_of(symbol: Symbol, assigned: Assigned) -> Option<Fact>
     Some(Fact {
         dims: variable.dims,
         level: level_of(symbol.namespace),
-        base: base_of(variable.symbol_kind),
+        kind: name_kind_of(variable.symbol_kind),
         assigned,
     })
 }

@@ -6,9 +6,9 @@ ghost use Rattle.std.specs.List.{list_all};
 ghost use Rattle.snl_scope.specs.Linked.{fact_of, has_target};
 ghost use Rattle.snl_scope.specs.declared.summaries.summary.Outline.{Outline};
 ghost use Rattle.snl_scope.specs.declared.summaries.summary.Summary.{Summary};
-ghost use Rattle.snl_scope.specs.View.{same_assigned, same_base, same_bool, same_dims, same_facts, same_known, same_level, same_view, view};
+ghost use Rattle.snl_scope.specs.View.{same_assigned, same_name_kind, same_bool, same_dims, same_facts, same_known, same_level, same_view, view};
 
-use crate::facts::{Assigned, Base, Fact, Level};
+use crate::facts::{Assigned, Fact, Level, NameKind};
 use crate::links::Links;
 use crate::summaries::name::Name;
 use crate::summaries::summary::{Dims, NameRef, Summary};
@@ -38,14 +38,14 @@ fn is_same_level(one: Level, other: Level) -> bool
     }
 }
 
-fn is_same_base(one: Base, other: Base) -> bool
-    ensures { result ≡ same_base one other }
+fn is_same_name_kind(one: NameKind, other: NameKind) -> bool
+    ensures { result ≡ same_name_kind one other }
 {
     match one {
-        Base::EventFlag => matches!(other, Base::EventFlag),
-        Base::Foreign => matches!(other, Base::Foreign),
-        Base::Function => matches!(other, Base::Function),
-        Base::Other => matches!(other, Base::Other),
+        NameKind::EventFlag => matches!(other, NameKind::EventFlag),
+        NameKind::Foreign => matches!(other, NameKind::Foreign),
+        NameKind::Function => matches!(other, NameKind::Function),
+        NameKind::Other => matches!(other, NameKind::Other),
     }
 }
 
@@ -64,7 +64,7 @@ fn is_same_fact(one: Fact, other: Fact) -> bool
 {
     is_same_dims(one.dims, other.dims)
         && is_same_level(one.level, other.level)
-        && is_same_base(one.base, other.base)
+        && is_same_name_kind(one.kind, other.kind)
         && is_same_assigned(one.assigned, other.assigned)
 }
 

@@ -15,7 +15,7 @@ use snl_syntax::tree::state::StateMember;
 
 // A clause, and the number of its item.
 #[derive(Clone, Copy)]
-struct Placed<'a> {
+struct PlacedClause<'a> {
     item: usize,
     clause: &'a Clause,
 }
@@ -32,13 +32,13 @@ pub(crate) struct ToldClause<'a> {
 fn add_members<'a>(
     item: usize,
     members: &'a [StateMember],
-    clauses: &mut Vec<Placed<'a>>,
+    clauses: &mut Vec<PlacedClause<'a>>,
 ) -> Result<(), OutOfMemory>
     ensures { OnOk result (map placed clauses.new.items ≡ map placed clauses.old.items ++ map (item_clause item) (flat_map clause_in_member members.now)) }
 {
     for member in members {
         if let StateMember::Clause(clause) = member {
-            clauses.push(Placed { item, clause })?;
+            clauses.push(PlacedClause { item, clause })?;
         }
     }
     Ok(())
@@ -48,13 +48,13 @@ fn add_members<'a>(
 fn add_item<'a>(
     item: usize,
     tree: Option<&'a Item>,
-    clauses: &mut Vec<Placed<'a>>,
+    clauses: &mut Vec<PlacedClause<'a>>,
 ) -> Result<(), OutOfMemory>
     ensures { OnOk result (map placed clauses.new.items ≡ map placed clauses.old.items ++ item_clauses_if item (option_copied tree.entry)) }
 {
     match tree {
         Some(Item::Clause(clause)) => {
-            clauses.push(Placed {
+            clauses.push(PlacedClause {
                 item,
                 clause: clause.get(),
             })?;
@@ -68,7 +68,7 @@ fn add_item<'a>(
 }
 
 // The clauses of all items, in the order of the text.
-fn item_clauses<'a>(program: &TextItems<'a>) -> Result<Vec<Placed<'a>>, OutOfMemory>
+fn item_clauses<'a>(program: &TextItems<'a>) -> Result<Vec<PlacedClause<'a>>, OutOfMemory>
     requires { AreTextItems program.now }
     ensures { IfOk result (λ clauses. map placed clauses.items ≡ item_clauses (items_in program.now)) }
 {

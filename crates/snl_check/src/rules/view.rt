@@ -3,19 +3,19 @@
 ghost use Rattle.std.specs.Prelude.{◌≡◌};
 ghost use Rattle.snl_check.specs.View.{is_assigned, is_foreign, may_be_flag, outer_of};
 
-use snl_scope::{Assigned, Base, Fact, Links};
+use snl_scope::{Assigned, Fact, Links, NameKind};
 use snl_walk::{OtherItems, Outer};
 
-fn is_foreign(base: Base) -> bool
-    ensures { result ≡ is_foreign base }
+fn is_foreign(kind: NameKind) -> bool
+    ensures { result ≡ is_foreign kind }
 {
-    matches!(base, Base::Foreign)
+    matches!(kind, NameKind::Foreign)
 }
 
-fn may_be_flag(base: Base) -> bool
-    ensures { result ≡ may_be_flag base }
+fn may_be_flag(kind: NameKind) -> bool
+    ensures { result ≡ may_be_flag kind }
 {
-    matches!(base, Base::EventFlag | Base::Foreign)
+    matches!(kind, NameKind::EventFlag | NameKind::Foreign)
 }
 
 fn is_assigned(assigned: Assigned) -> bool
@@ -32,8 +32,8 @@ fn outer_of(fact: Fact) -> Outer
     ensures { result ≡ outer_of fact }
 {
     Outer {
-        flag: may_be_flag(fact.base),
-        channel: is_assigned(fact.assigned) || is_foreign(fact.base),
+        flag: may_be_flag(fact.kind),
+        channel: is_assigned(fact.assigned) || is_foreign(fact.kind),
     }
 }
 

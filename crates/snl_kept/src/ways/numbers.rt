@@ -6,7 +6,7 @@ ghost use Rattle.snl_scope.specs.Order.{state_name};
 ghost use Rattle.snl_scope.specs.Places.{stands_in};
 ghost use Rattle.snl_check.specs.ShiftedAround.{set_number, state_number};
 
-use snl_scope::{Links, Opening, Outline};
+use snl_scope::{Links, Opening, Outline, sets_open_in_turn};
 
 /// Where a state has its row: the number of its set among the state sets, and its own number among the states of the set.
 #[derive(Clone, Copy, Debug, PartialEq, Eq)]
@@ -42,12 +42,13 @@ fn stands_in(links: &Links, set: usize, item: usize) -> bool
     links.enclosing_set(item) == Some(set)
 }
 
-// How many states of a set are before an item.
+// How many states of a set are before an item. No item before the one that begins the set is in it.
 fn state_number(links: &Links, set: usize, item: usize) -> usize
     ensures { result ≡ state_number links.now.outlines set item }
 {
+    sets_open_in_turn();
     let mut count = 0;
-    for number in 0..item {
+    for number in set.min(item)..item {
         if links.is_named_state(number) && stands_in(links, set, number) {
             count += 1;
         }

@@ -2,7 +2,7 @@
 //! text and both texts come in; what is made goes out.
 #![tactic(auto)]
 
-ghost use Rattle.std.specs.Prelude.{◌≡◌, IfOk, OnOk, length, vec_capacity};
+ghost use Rattle.std.specs.Prelude.{◌≡◌, IfOk, OnOk, length, vec_capacity, vec_len};
 ghost use Rattle.snl_cut.specs.Cut.{after_ticks};
 ghost use Rattle.snl_items.specs.Fresh.{fresh_items_between, fresh_pieces_between};
 ghost use Rattle.snl_lex.specs.LineList.{IsLineList};

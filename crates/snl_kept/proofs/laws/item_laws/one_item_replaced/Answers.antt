@@ -1,5 +1,6 @@
 use Rattle.std.proofs.Common.{◌∙◌}
 use Rattle.std.proofs.lemmas.List.{length-map}
+use Rattle.snl_lex.specs.Made.{made_pieces}
 use Rattle.snl_lex.specs.Pieces.{tokens_of}
 use Rattle.snl_items.specs.Items.{mark_in, marks_of}
 use Rattle.snl_kept.proofs.KeptChecks.{check_stays}
@@ -19,5 +20,5 @@ returns c = λ old text start old_stop new_stop ch s x e is.
     (check_stays c.views_told_apart.ensures c.equal_views.ensures.faults c.same_spelling_same_summary.ensures.bytes_by_spelling c.same_spelling_same_summary.ensures.alone)
     (λ t. c.ends_in_order.ensures.rise (marks_of t))
     (λ t. c.ends_in_order.ensures.last (marks_of t) ∙ length-map (tokens_of t) (mark_in t))
-    (c.tokens_around_stay.ensures old text start old_stop new_stop ch.pieces.kept_front ch.pieces.made.items ch.pieces.kept_back ch.pieces.kept_from ch.pieces.list.ends.items ch.pieces.list.kinds.items
+    (c.tokens_around_stay.ensures old text start old_stop new_stop ch.pieces.kept_front (made_pieces ch.pieces) ch.pieces.kept_back ch.pieces.kept_from ch.pieces.list.ends.items ch.pieces.list.kinds.items
     is.edit is.old_short is.short is.changed.pieces ch.tokens.edit ch.tokens.made.items ch.tokens.marks.items ch.tokens.same is.changed.tokens s is.by)

@@ -1,5 +1,6 @@
 use Rattle.std.proofs.Common.{◌≡◌, All, IfSome, List, ℕ, count_by, Option, subst, sym, ap, ◌∙◌}
 use Rattle.snl_lex.specs.Lines.{is_marker}
+use Rattle.snl_lex.specs.Made.{made_pieces}
 use Rattle.snl_lex.specs.Shift.{IsOutside, marker_count}
 use Rattle.snl_items.specs.Changes.{AreShifted}
 use Rattle.snl_items.specs.declared.shifted.Shifted.{Shifted}
@@ -20,7 +21,7 @@ returns-then-leaves_all c =
     let none_old : marker_count old ≡ 0 = sym c.requires.lists.markers ∙ c.if-lists-eq0.true in
     let none_made : count_by is_marker change.list.kinds.items ≡ 0 = sym (ap (count_by is_marker) c.deref.ensures.value) ∙ c.marks_no_line.ensures c.if-marks_no_line.true in
     let none : marker_count text ≡ 0 =
-    none_marked old text edit.start edit.old_stop edit.new_stop change.kept_front change.made.items change.kept_back change.kept_from change.list.ends.items change.list.kinds.items c.requires.changes.pieces none_old none_made in
+    none_marked old text edit.start edit.old_stop edit.new_stop change.kept_front (made_pieces change) change.kept_back change.kept_from change.list.ends.items change.list.kinds.items c.requires.changes.pieces none_old none_made in
     record {
       lines = shift_is old text edit.start edit.old_stop edit.new_stop t.by tokens.by edit.edit c.if-edit-gt0.true none_old none edit.short.0 edit.short.1;
       tokens = tokens;
