@@ -1,41 +1,17 @@
-//! The script engine and the program: the script comes on standard input, the answers go to standard output.
-//! `watched` counts calls, `file` reads the source, `ahead` the script, `script` tells commands, `document` is edited, `answers` and `page` write,
-//! and `run` joins them.
+//! The program: the script comes on standard input, the answers go to standard output.
+//! The words of the command line name the file of the source, which is read before the script.
 //! The program's status is 0 where the last text has no errors, 1 where it has some, and 2 at a fault, which it names on standard error.
 #![tactic(auto)]
-
-pub mod ahead;
-pub mod answers;
-pub mod document;
-#[cfg(test)]
-mod fakes;
-#[cfg(test)]
-mod fault_tests;
-pub mod faults;
-pub mod file;
-#[cfg(test)]
-mod file_tests;
-pub mod listing;
-pub mod page;
-pub mod paged;
-pub mod run;
-pub mod script;
-#[cfg(test)]
-mod tests;
-pub mod watched;
 
 ghost use Rattle.std.specs.Prelude.{◌≡◌, false, map, option_map, IfOk, IsErrOf, string_bytes};
 ghost use Rattle.snl_words.specs.Source.{source_in, takes_words};
 
-use faults::{RunFault, Status};
-use file::{SourceFault, read_source};
-use run::run;
-use snl_words::{WordsFault, source_of};
+pub use snl_run::{RunFault, SourceFault, Status, Watched, read_source, run};
+pub use snl_words::{WordsFault, source_of};
 use std::io::ErrorKind;
 use std::process::ExitCode;
 use std::{env, fs};
 use thiserror::Error;
-use watched::Watched;
 
 /// Why the program gives no status of a text. The message is its line on standard error.
 #[derive(Clone, Copy, Debug, PartialEq, Eq, Error)]

@@ -1,0 +1,7 @@
+pub mod Answers
+pub mod Faults
+pub mod Paged
+pub mod PagedLaws
+pub mod Run
+pub mod Transcript
+pub mod Version

@@ -1,0 +1,167 @@
+-- The words of a line, and the first line of the bytes of a script.
+use Rattle.std.proofs.Common.{◌≡◌, ℕ, suc, ◌+◌, ◌-◌, ◌<◌, ◌≤◌, min, List, [], ◌∷◌, ◌++◌, length, take, drop, Bool, true, false, not, cond, ltb, leb, Option, Some, None, refl, sym, ap, ◌∙◌, arith, length-append, length-drop, position, ◌==◌}
+use Rattle.std.proofs.lemmas.Bool.{le-leb}
+use Rattle.std.proofs.lemmas.Bool.Decides.{nat_tests}
+use Rattle.std.proofs.lemmas.List.{append-nil, append_assoc, drop-drop, drop-append-le, length-take, take_all, take-append-drop, take-append-le}
+use Rattle.std.proofs.lemmas.List.Folds.{prefix_len-append}
+use Rattle.std.proofs.lemmas.List.Splits.{slice_split_first}
+use Rattle.std.specs.List.{onto_first, position_or_len, slice_split}
+use Rattle.snl_script.specs.declared.script.Front.{Front}
+use Rattle.snl_script.specs.declared.script.Front.TheVariants.{Short, Malformed, Whole}
+use Rattle.snl_script.specs.declared.script.Heading.{Heading}
+use Rattle.snl_script.specs.Front.{IsFront, IsFrontAfter, request_of, unfinished}
+use Rattle.snl_script.specs.Script.{Unknown, Then, edit_of, headed, heading_of, lined, lone, next_of, words_of}
+
+-- where a place is found
+found_place : (a n i : ℕ) → cond (ltb a n) (Some a) None ≡ Some i → (a ≡ i) × (i < n)
+found_place a n i h = grind (arith, nat_tests)
+
+-- where none is found
+no_place : (a n : ℕ) → cond (ltb a n) (Some a) None ≡ None → n ≤ a
+no_place a n h = grind (arith, nat_tests)
+
+-- a line with no space is one word
+pub words_of-none : (line : List ℕ) → position (λ b. b == 32) line ≡ None → words_of line ≡ line ∷ []
+words_of-none line h = one line (no_place (position_or_len (λ b. b == 32) line) (length line) h)
+  where
+    split : (c : Bool) (x : ℕ) (xs : List ℕ) → (length xs ≤ position_or_len (λ b. b == 32) xs → slice_split (λ b. b == 32) xs ≡ xs ∷ []) → suc (length xs) ≤ cond (not c) (1 + position_or_len (λ b. b == 32) xs) 0 → cond c ([] ∷ slice_split (λ b. b == 32) xs) (onto_first x (slice_split (λ b. b == 32) xs)) ≡ (x ∷ xs) ∷ []
+    split true x xs more h = absurd (omega arith)
+    split false x xs more h = ap (onto_first x) (more (omega arith))
+
+    one : (xs : List ℕ) → length xs ≤ position_or_len (λ b. b == 32) xs → slice_split (λ b. b == 32) xs ≡ xs ∷ []
+    one [] h = refl
+    one (x ∷ xs) h = split (x == 32) x xs (one xs) h
+
+-- the first word ends at the first space
+pub words_of-some : (line : List ℕ) (end : ℕ) → position (λ b. b == 32) line ≡ Some end → words_of line ≡ take end line ∷ words_of (drop (end + 1) line)
+words_of-some line end h =
+    let at = found_place (position_or_len (λ b. b == 32) line) (length line) end h in
+    let at_end : position_or_len (λ b. b == 32) line ≡ end = at.0 in
+    let inside : position_or_len (λ b. b == 32) line < length line = omega (arith, at.0, at.1) in
+    let split : slice_split (λ b. b == 32) line ≡ take (position_or_len (λ b. b == 32) line) line ∷ slice_split (λ b. b == 32) (drop (position_or_len (λ b. b == 32) line + 1) line) = slice_split_first (λ b. b == 32) line 0 inside in
+    split ∙ ap (λ (e : ℕ). take e line ∷ words_of (drop (e + 1) line)) at_end
+
+-- a line has a word, if an empty one
+one_word : (line : List ℕ) → (word : List ℕ) × (words : List (List ℕ)) × (words_of line ≡ word ∷ words)
+one_word [] = ([], [], refl)
+one_word (b ∷ bytes) = split (b == 32)
+  where
+    onto : (parts : List (List ℕ)) → (word : List ℕ) × (words : List (List ℕ)) × (onto_first b parts ≡ word ∷ words)
+    onto [] = (b ∷ [], [], refl)
+    onto (p ∷ ps) = (b ∷ p, ps, refl)
+
+    split : (c : Bool) → (word : List ℕ) × (words : List (List ℕ)) × (cond c ([] ∷ slice_split (λ x. x == 32) bytes) (onto_first b (slice_split (λ x. x == 32) bytes)) ≡ word ∷ words)
+    split true = ([], slice_split (λ x. x == 32) bytes, refl)
+    split false = onto (slice_split (λ x. x == 32) bytes)
+
+-- an edit has no fourth word
+pub edit_of_more : (a b c more : List ℕ) → edit_of (a ∷ b ∷ c ∷ words_of more) ≡ None
+edit_of_more a b c more = let w = one_word more in ap (λ (l : List (List ℕ)). edit_of (a ∷ b ∷ c ∷ l)) w.2
+
+-- a lone command has no second word
+pub lone_more : (heading : Heading) (more : List ℕ) → lone heading (words_of more) ≡ None
+lone_more heading more = let w = one_word more in ap (lone heading) w.2
+
+-- the place of the first LF
+abbrev feed_place : List ℕ → ℕ
+feed_place bytes = position_or_len (λ c. c == 10) bytes
+
+-- a list, by a front of it
+by_front : (n : ℕ) (bytes more : List ℕ) → bytes ++ more ≡ take n bytes ++ (drop n bytes ++ more)
+by_front n bytes more = ap (λ (l : List ℕ). l ++ more) (sym (take-append-drop n bytes)) ∙ append_assoc (take n bytes) (drop n bytes) more
+
+-- an LF in a front of the bytes is their first, whatever follows them
+feed_inside : (n : ℕ) (bytes more : List ℕ) → feed_place (take n bytes) < length (take n bytes) → feed_place (bytes ++ more) ≡ feed_place (take n bytes)
+feed_inside n bytes more h =
+    let front : feed_place (take n bytes ++ (drop n bytes ++ more)) ≡ feed_place (take n bytes) =
+    prefix_len-append (λ c. not (c == 10)) (take n bytes) (drop n bytes ++ more) ∙ grind (arith, nat_tests) in
+    ap feed_place (by_front n bytes more) ∙ front
+
+-- where there is none in a front, the first is after it
+feed_after : (n : ℕ) (bytes more : List ℕ) → length (take n bytes) ≤ feed_place (take n bytes) → length (take n bytes) ≤ feed_place (bytes ++ more)
+feed_after n bytes more h =
+    let e : feed_place (bytes ++ more) ≡ feed_place (take n bytes ++ (drop n bytes ++ more)) = ap feed_place (by_front n bytes more) in
+    let f = prefix_len-append (λ c. not (c == 10)) (take n bytes) (drop n bytes ++ more) in
+    grind (arith, nat_tests)
+
+-- some bytes begin with their first line
+next_of-lined : (bytes : List ℕ) → 0 < length bytes → next_of bytes ≡ lined (position (λ c. c == 10) bytes) bytes
+next_of-lined [] h = absurd (omega arith)
+next_of-lined (b ∷ bytes) h = refl
+
+unfinished-some : (bytes : List ℕ) → 0 < length bytes → unfinished bytes ≡ Unknown
+unfinished-some [] h = absurd (omega arith)
+unfinished-some (b ∷ bytes) h = refl
+
+-- a place that is found
+position-at : (a n : ℕ) → a < n → cond (ltb a n) (Some a) None ≡ Some a
+position-at a n h = grind (arith, nat_tests)
+
+-- the line at the front of the bytes, which ends within 80 bytes
+pub next_of-line : (n : ℕ) (bytes more : List ℕ) (end : ℕ) → n ≤ 81 → position (λ c. c == 10) (take n bytes) ≡ Some end → next_of (bytes ++ more) ≡ headed (heading_of (words_of (take end bytes))) (drop (end + 1) bytes ++ more)
+next_of-line n bytes more end few h =
+    let at = found_place (feed_place (take n bytes)) (length (take n bytes)) end h in
+    let short : end < 81 = omega (arith, at.1, length-take n bytes) in
+    let inside : end < length bytes = omega (arith, at.1, length-take n bytes) in
+    let place : feed_place (bytes ++ more) ≡ end = feed_inside n bytes more (omega (arith, at.0, at.1)) ∙ at.0 in
+    let long : length (bytes ++ more) ≡ length bytes + length more = length-append bytes more in
+    let found : position (λ c. c == 10) (bytes ++ more) ≡ Some end = position-at (feed_place (bytes ++ more)) (length (bytes ++ more)) (omega arith) ∙ ap Some place in
+    let line : lined (Some end) (bytes ++ more) ≡ headed (heading_of (words_of (take end (bytes ++ more)))) (drop (end + 1) (bytes ++ more)) = rw (le-leb end 80 (omega arith)) refl in
+    next_of-lined (bytes ++ more) (omega arith) ∙ ap (λ (o : Option ℕ). lined o (bytes ++ more)) found ∙ line ∙
+    ap (λ (l : List ℕ). headed (heading_of (words_of l)) (drop (end + 1) (bytes ++ more))) (take-append-le end bytes more (omega arith)) ∙
+    ap (λ (l : List ℕ). headed (heading_of (words_of (take end bytes))) l) (drop-append-le (end + 1) bytes more (omega arith))
+
+-- a line of more than 80 bytes is no command
+pub next_of-long : (n : ℕ) (bytes more : List ℕ) → n ≡ min (length bytes) 81 → position (λ c. c == 10) (take n bytes) ≡ None → 80 < length bytes → next_of (bytes ++ more) ≡ Unknown
+next_of-long n bytes more few h long =
+    let none = no_place (feed_place (take n bytes)) (length (take n bytes)) h in
+    let size : length (take n bytes) ≡ min n (length bytes) = length-take n bytes in
+    let after = feed_after n bytes more none in
+    let whole : length (bytes ++ more) ≡ length bytes + length more = length-append bytes more in
+    next_of-lined (bytes ++ more) (omega arith) ∙ too_long (feed_place (bytes ++ more)) (length (bytes ++ more)) (bytes ++ more) (omega arith)
+  where
+    too_long : (a m : ℕ) (all : List ℕ) → 80 < a → lined (cond (ltb a m) (Some a) None) all ≡ Unknown
+    too_long a m all big = split (ltb a m)
+      where
+        big_test : leb a 80 ≡ false
+        big_test = grind (arith, nat_tests)
+
+        split : (b : Bool) → lined (cond b (Some a) None) all ≡ Unknown
+        split true = rw big_test refl
+        split false = refl
+
+-- a line that has not ended yet
+pub next_of-short : (n : ℕ) (bytes : List ℕ) → n ≡ min (length bytes) 81 → position (λ c. c == 10) (take n bytes) ≡ None → length bytes ≤ 80 → next_of bytes ≡ unfinished bytes
+next_of-short n [] few h short = refl
+next_of-short n (b ∷ bytes) few h short =
+    let all : take n (b ∷ bytes) ≡ b ∷ bytes = take_all n (b ∷ bytes) (omega arith) in
+    let none : position (λ c. c == 10) (b ∷ bytes) ≡ None = ap (λ (l : List ℕ). position (λ c. c == 10) l) (sym all) ∙ h in
+    ap (λ (o : Option ℕ). lined o (b ∷ bytes)) none
+
+-- what is at the front of the bytes, from what comes after their line
+pub IsFront-after : (n : ℕ) (bytes : List ℕ) (end : ℕ) (heading : Option Heading) (front : Front) → n ≤ 81 → position (λ c. c == 10) (take n bytes) ≡ Some end → heading ≡ heading_of (words_of (take end bytes)) → IsFrontAfter (headed heading) (end + 1) (drop (end + 1) bytes) front → IsFront bytes front
+IsFront-after n bytes end heading Short few h is f =
+    let at = found_place (feed_place (take n bytes)) (length (take n bytes)) end h in
+    let inside : end < length bytes = omega (arith, at.1, length-take n bytes) in
+    ap next_of (sym (append-nil bytes)) ∙ next_of-line n bytes [] end few h ∙ ap (λ (o : Option Heading). headed o (drop (end + 1) bytes ++ [])) (sym is) ∙ ap (headed heading) (append-nil (drop (end + 1) bytes)) ∙ f ∙ sym (unfinished-some bytes (omega arith))
+IsFront-after n bytes end heading Malformed few h is f = λ more. next_of-line n bytes more end few h ∙ ap (λ (o : Option Heading). headed o (drop (end + 1) bytes ++ more)) (sym is) ∙ f more
+IsFront-after n bytes end heading (Whole command len) few h is f =
+    let at = found_place (feed_place (take n bytes)) (length (take n bytes)) end h in
+    let inside : end < length bytes = omega (arith, at.1, length-take n bytes) in
+    let rest : length (drop (end + 1) bytes) ≡ length bytes - (end + 1) = length-drop (end + 1) bytes in
+    let from : end + 1 ≤ len = f.from in
+    let within : len ≤ end + 1 + length (drop (end + 1) bytes) = f.inside in
+    let both : drop (len - (end + 1)) (drop (end + 1) bytes) ≡ drop len bytes = drop-drop (len - (end + 1)) (end + 1) bytes ∙ ap (λ (k : ℕ). drop k bytes) (omega arith) in
+    record {
+      some = omega arith;
+      inside = omega arith;
+      next = λ more. next_of-line n bytes more end few h ∙ ap (λ (o : Option Heading). headed o (drop (end + 1) bytes ++ more)) (sym is) ∙ f.next_is more ∙ ap (λ (l : List ℕ). Then (request_of command) (l ++ more)) both;
+    }
+
+-- the first LF stays the first, whatever follows
+pub place_grows : (bytes more : List ℕ) (end : ℕ) → position (λ c. c == 10) bytes ≡ Some end → (position (λ c. c == 10) (bytes ++ more) ≡ Some end) × (end < length bytes)
+place_grows bytes more end h =
+    let at = found_place (feed_place bytes) (length bytes) end h in
+    let front : feed_place (bytes ++ more) ≡ feed_place bytes = prefix_len-append (λ c. not (c == 10)) bytes more ∙ grind (arith, nat_tests) in
+    let long : length (bytes ++ more) ≡ length bytes + length more = length-append bytes more in
+    (position-at (feed_place (bytes ++ more)) (length (bytes ++ more)) (omega (arith, at.0, at.1)) ∙ ap Some (front ∙ at.0), at.1)
