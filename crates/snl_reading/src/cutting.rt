@@ -50,3 +50,12 @@ pub fn ends_of(alloc: Global, marks: &[Mark]) -> Result<Vec<usize>, OutOfMemory>
     let ends = cut_all(alloc, &Tokens, marks, &mut Count::new())?;
     Ok(ends)
 }
+
+/// The numbers of the tokens at which items end.
+pub fn item_ends_of(alloc: Global, text: &[u8], tokens: &[Piece]) -> Result<Vec<usize>, OutOfMemory>
+    requires { All (LiesIn text.now) tokens.now }
+    ensures { IfOk result (λ ends. EndsWithin 0 ends.items (length tokens.now)) }
+{
+    let marks = marks_of(alloc, text, tokens)?;
+    ends_of(alloc, &marks)
+}

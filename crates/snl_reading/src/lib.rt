@@ -6,12 +6,10 @@ mod checking;
 mod cutting;
 mod items;
 mod linking;
-mod measuring;
 mod tabling;
 
 pub use checking::checks_of;
-pub use cutting::{ends_of, marks_of, pieces_of, tokens_of};
+pub use cutting::{item_ends_of, pieces_of, tokens_of};
 pub use items::{ReadItem, items_of, tree_of, trees_of};
 pub use linking::{links_among, links_of, summaries_along, summaries_of};
-pub use measuring::{Stop, micros};
 pub use tabling::{borrowed_checks, tables_in, tables_of, trees_among};

@@ -41,8 +41,7 @@ pub fn summaries_along(
 {
     let trees = trees_of(alloc, text, tokens, ends)?;
     let items = items_of(alloc, tokens, ends, &trees)?;
-    let summaries = summaries_of(alloc, text, &items)?;
-    Ok(summaries)
+    summaries_of(alloc, text, &items)
 }
 
 /// What names mean among the items that these summaries tell of.
@@ -62,6 +61,5 @@ pub fn links_among(alloc: Global, text: &[u8], items: &[ReadItem]) -> Result<Lin
     ensures { IfOk result (λ links. links.outlines ≡ outlines_of text.now (items_read items.now)) }
 {
     let summaries = summaries_of(alloc, text, items)?;
-    let links = links_of(alloc, &summaries)?;
-    Ok(links)
+    links_of(alloc, &summaries)
 }

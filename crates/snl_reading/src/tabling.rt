@@ -8,7 +8,7 @@ ghost use Rattle.snl_lex.specs.Pieces.{LiesIn, pieces_of, tokens_of};
 ghost use Rattle.snl_reading.specs.ItemsRead.{AreItems, ReadFrom, items_read, trees_of_items};
 
 use crate::checking::checks_of;
-use crate::cutting::{ends_of, marks_of, pieces_of, tokens_of};
+use crate::cutting::{item_ends_of, pieces_of, tokens_of};
 use crate::items::{ReadItem, items_of, trees_of};
 use crate::linking::links_among;
 use snl_check::{Checked, Tables, tables};
@@ -68,6 +68,25 @@ pub fn tables_of(
     Ok(tables)
 }
 
+// The tables of a text that has these items, and links among them.
+fn tables_by_links(
+    alloc: Global,
+    text: &[u8],
+    pieces: &[Piece],
+    ends: &[usize],
+    items: &[ReadItem],
+    links: &Links,
+) -> Result<Tables, OutOfMemory>
+    requires pieces { pieces.now ≡ pieces_of text.now }
+    requires items { AreItems text.now ends.now (items_read items.now) }
+    requires inside { All (ReadFrom text.now) items.now }
+    requires links { links.now.outlines ≡ outlines_of text.now (items_read items.now) }
+    ensures { IfOk result (λ t. t ≡ tables_of text.now (items_read items.now)) }
+{
+    let checks = checks_of(alloc, text, items, links)?;
+    tables_of(alloc, text, pieces, ends, items, links, &checks)
+}
+
 // The tables of a text that has these items.
 fn tables_by_items(
     alloc: Global,
@@ -82,9 +101,7 @@ fn tables_by_items(
     ensures { IfOk result (λ t. t ≡ tables_of text.now (items_read items.now)) }
 {
     let links = links_among(alloc, text, items)?;
-    let checks = checks_of(alloc, text, items, &links)?;
-    let tables = tables_of(alloc, text, pieces, ends, items, &links, &checks)?;
-    Ok(tables)
+    tables_by_links(alloc, text, pieces, ends, items, &links)
 }
 
 // The tables of a text that has these tokens, and items that end at these of them.
@@ -102,16 +119,13 @@ fn tables_by_ends(
 {
     let trees = trees_of(alloc, text, tokens, ends)?;
     let items = items_of(alloc, tokens, ends, &trees)?;
-    let tables = tables_by_items(alloc, text, pieces, ends, &items)?;
-    Ok(tables)
+    tables_by_items(alloc, text, pieces, ends, &items)
 }
 
 /// The tables of a text, read from its bytes.
 pub fn tables_in(alloc: Global, text: &[u8]) -> Result<Tables, OutOfMemory> {
     let pieces = pieces_of(alloc, text)?;
     let tokens = tokens_of(alloc, text)?;
-    let marks = marks_of(alloc, text, &tokens)?;
-    let ends = ends_of(alloc, &marks)?;
-    let tables = tables_by_ends(alloc, text, &pieces, &tokens, &ends)?;
-    Ok(tables)
+    let ends = item_ends_of(alloc, text, &tokens)?;
+    tables_by_ends(alloc, text, &pieces, &tokens, &ends)
 }

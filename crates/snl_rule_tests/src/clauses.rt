@@ -1,9 +1,6 @@
 //! Texts with what is found at their clauses, and with what these say of variables and channels, told from the language's rules.
 
 use crate::questions::{Question, Row, expect_answers};
-use crate::reading::links;
-use snl_scope::{ClauseKind, ClauseLink, Coverage};
-use std::alloc::Global;
 use std::test::Fail;
 
 // A text with an item on each line, what is found at its clauses, and what its clauses are.
@@ -113,26 +110,10 @@ fn what_clauses_say_of_channels(rt: HostRuntime) -> Result<(), Fail> {
 static COVERED: &[u8] =
     b"assign a to {\"p\", \"q\"};\nsyncq a;\nstate i { assign a[3] to \"r\"; monitor a[3]; sync a[2] to f; when () { } exit }";
 
-// The token of a clause's variable in its item, its kind, and what it covers.
-static COVERAGES: [(usize, ClauseKind, Coverage); 5] = [
-    (1, ClauseKind::Assign, Coverage::Front(2)),
-    (1, ClauseKind::Syncq, Coverage::Whole),
-    (4, ClauseKind::Assign, Coverage::Element(3)),
-    (12, ClauseKind::Monitor, Coverage::Element(3)),
-    (18, ClauseKind::Sync, Coverage::Element(2)),
-];
-
-fn clauses_of(alloc: Global, text: &[u8]) -> Result<Vec<ClauseLink>, Fail> {
-    let links = links(alloc, text)?;
-    Ok(Vec::from_slice(alloc, links.clauses())?)
-}
+// The token of each clause's variable in its item, its kind, and what it covers.
+static COVERAGES: [Row; 1] = [(Question::Coverages, b"1=#2 1q.. 4=@3 12m@3 18s@2 ")];
 
 #[test]
 fn what_clauses_cover_and_where_they_stand(rt: HostRuntime) -> Result<(), Fail> {
-    let clauses = clauses_of(rt.alloc(), COVERED)?;
-    assert_eq!(rt; clauses.len(), COVERAGES.len());
-    for (clause, wanted) in clauses.iter().zip(&COVERAGES) {
-        assert_eq!(rt; (clause.token, clause.kind, clause.coverage), *wanted);
-    }
-    Ok(())
+    expect_answers(&rt, rt.alloc(), COVERED, &COVERAGES)
 }

@@ -1,13 +1,16 @@
 //! Items with what is found in them, told from the language's rules.
 
-ghost use Rattle.std.specs.Prelude.{All};
+ghost use Rattle.std.specs.Prelude.{All, ◌≡◌, ◌<◌, length};
+ghost use Rattle.snl_check.specs.Items.{EndsWithin};
 ghost use Rattle.snl_lex.specs.Pieces.{LiesIn};
+ghost use Rattle.snl_reading.specs.ItemsRead.{ReadFrom};
 
-use crate::reading::{LastItem, last_item};
 use crate::words::add_word;
 use snl_check::{ItemFault, check_item, warning_setting};
 use snl_cut::Count;
 use snl_lex::Piece;
+use snl_reading::{ReadItem, item_ends_of, items_of, links_among, tokens_of, trees_of};
+use snl_scope::Links;
 use snl_walk::Source;
 use std::alloc::Global;
 use std::process::Abort;
@@ -16,16 +19,15 @@ use std::test::Fail;
 /// A text, and what is found in its last item: each code, and what is at its place in its token.
 type Row = (&'static [u8], &'static [u8]);
 
-// The tokens of the last item.
-fn own_tokens<'a>(text: &[u8], last: &'a LastItem) -> &'a [Piece]
-    requires { All (LiesIn text.now) last.now.tokens.items }
-    ensures { All (LiesIn text.now) result.now }
-{
-    last.tokens.get(last.start..).unwrap_or(&[])
+// What is told of the last item of a text: its findings, and what it says of warnings.
+#[derive(Drop)]
+struct Told {
+    found: Vec<u8>,
+    setting: Option<bool>,
 }
 
 // Findings: each code, and what is at its place in its token.
-fn told(source: &Source, faults: &[ItemFault]) -> Result<Vec<u8>, Fail>
+fn words_of(source: &Source, faults: &[ItemFault]) -> Result<Vec<u8>, Fail>
     requires { All (LiesIn source.now.text.now) source.now.tokens.now }
 {
     let mut words = Vec::new(source.alloc);
@@ -38,48 +40,87 @@ fn told(source: &Source, faults: &[ItemFault]) -> Result<Vec<u8>, Fail>
     Ok(words)
 }
 
-fn found_in(alloc: Global, text: &[u8], last: &LastItem) -> Result<Vec<u8>, Fail>
-    requires { All (LiesIn text.now) last.now.tokens.items }
+// What is told of the item with a number.
+fn told_of(
+    alloc: Global,
+    text: &[u8],
+    item: &ReadItem,
+    links: &Links,
+    number: usize,
+) -> Result<Told, Fail>
+    requires { ReadFrom text.now item.now }
 {
-    let tokens = own_tokens(text, last);
-    let mut work = Count::new();
-    let checked = check_item(
-        alloc,
-        text,
-        tokens,
-        &last.tree,
-        &last.links,
-        last.number,
-        &mut work,
-    )?;
+    let Some(tree) = item.tree else {
+        return Err("no tree")?;
+    };
     let source = Source {
         text,
-        tokens,
+        tokens: item.tokens,
         alloc,
     };
-    told(&source, checked.faults.as_slice())
+    let mut work = Count::new();
+    let checked = check_item(alloc, text, item.tokens, tree, links, number, &mut work)?;
+    Ok(Told {
+        found: words_of(&source, checked.faults.as_slice())?,
+        setting: warning_setting(&source, tree, links, number),
+    })
 }
 
-fn found(alloc: Global, text: &[u8]) -> Result<Vec<u8>, Fail> {
-    let last = last_item(alloc, text)?;
-    found_in(alloc, text, &last)
+// What is told of the last of these items.
+fn told_of_last(alloc: Global, text: &[u8], items: &[ReadItem]) -> Result<Told, Fail>
+    requires { All (ReadFrom text.now) items.now }
+{
+    if items.is_empty() {
+        return Err("no item")?;
+    }
+    let links = links_among(alloc, text, items)?;
+    let number = items.len() - 1;
+    told_of(alloc, text, &items[number], &links, number)
+}
+
+// What is told of the last of the items that end at these tokens.
+fn told_along(alloc: Global, text: &[u8], tokens: &[Piece], ends: &[usize]) -> Result<Told, Fail>
+    requires tokens { All (LiesIn text.now) tokens.now }
+    requires ends { EndsWithin 0 ends.now (length tokens.now) }
+{
+    let trees = trees_of(alloc, text, tokens, ends)?;
+    let items = items_of(alloc, tokens, ends, &trees)?;
+    told_of_last(alloc, text, &items)
+}
+
+// What is told of the last item of a text.
+fn told_in(alloc: Global, text: &[u8]) -> Result<Told, Fail> {
+    let tokens = tokens_of(alloc, text)?;
+    let ends = item_ends_of(alloc, text, &tokens)?;
+    told_along(alloc, text, &tokens, &ends)
 }
 
 // What comes before the items of most tables: a state set that has a state `z`, after a declaration.
-static BEFORE: &[u8] = b"int y; ss s { state z { } ";
+const BEFORE: &[u8] = b"int y; ss s { state z { } ";
+
+fn expect_row(rt: &impl Abort, alloc: Global, before: &[u8], row: &Row) -> Result<(), Fail> {
+    let (text, wanted) = row;
+    let mut whole = Vec::from_slice(alloc, before)?;
+    whole.extend_from_slice(text)?;
+    let told = told_in(alloc, &whole)?;
+    assert!(rt;
+        told.found.as_slice() == *wanted,
+        "{text:?} has {:?}",
+        told.found
+    );
+    Ok(())
+}
 
 // Each text after those parts.
 fn expect_found(rt: &impl Abort, alloc: Global, before: &[u8], rows: &[Row]) -> Result<(), Fail> {
-    for (text, wanted) in rows {
-        let mut whole = Vec::from_slice(alloc, before)?;
-        whole.extend_from_slice(text)?;
-        assert_eq!(rt; found(alloc, &whole)?.as_slice(), *wanted, "{text:?}");
+    for row in rows {
+        expect_row(rt, alloc, before, row)?;
     }
     Ok(())
 }
 
 // States with several findings.
-static STATES: [Row; 3] = [
+const STATES: [Row; 3] = [
     (
         b"state i { int x; when (y && u && u) { int x; int x; evflag h; } exit }",
         b"E07:x E17:h W01:u ",
@@ -95,7 +136,7 @@ static STATES: [Row; 3] = [
 ];
 
 // Event flags that are declared wrongly.
-static EVENT_FLAGS: [Row; 5] = [
+const EVENT_FLAGS: [Row; 5] = [
     (b"evflag g[2], h, *p, k = 1;", b"E17:g E17:p E17:k "),
     (b"const evflag f;", b""),
     (b"struct s { evflag f; evflag g[1]; };", b"E17:g "),
@@ -104,7 +145,7 @@ static EVENT_FLAGS: [Row; 5] = [
 ];
 
 // Names that are declared twice in a scope.
-static TWICE: [Row; 5] = [
+const TWICE: [Row; 5] = [
     (
         b"state i { int a, a; foreign b, a; entry { int b; { int b, b; } } }",
         b"E07:a E07:a E07:b ",
@@ -116,7 +157,7 @@ static TWICE: [Row; 5] = [
 ];
 
 // Names that nothing declares.
-static UNDECLARED: [Row; 7] = [
+const UNDECLARED: [Row; 7] = [
     (b"int f(int n, int a[n]);", b"W01:n "),
     (b"int f(int n, int a[n]) { a = n + m; }", b"W01:m "),
     (
@@ -139,7 +180,7 @@ static UNDECLARED: [Row; 7] = [
 ];
 
 // Changes of the state outside transitions.
-static STATE_CHANGES: [Row; 3] = [
+const STATE_CHANGES: [Row; 3] = [
     (
         b"state i { when () { if (y) state z; { while (y) state z; } } exit exit { if (y) ; else state q; } }",
         b"E18:state ",
@@ -152,7 +193,7 @@ static STATE_CHANGES: [Row; 3] = [
 ];
 
 // Jumps in no loop.
-static JUMPS: [Row; 3] = [
+const JUMPS: [Row; 3] = [
     (b"exit { while (1) { } break; }", b"E19:break "),
     (
         b"int f() { while (y) { if (y) break; { continue; } } for (;;) continue; if (y) continue; else { break; } }",
@@ -165,7 +206,7 @@ static JUMPS: [Row; 3] = [
 ];
 
 // Delays outside conditions.
-static DELAYS: [Row; 5] = [
+const DELAYS: [Row; 5] = [
     (
         b"state i { when (y && (delay(1) || !delay(delay(2)))) { } exit }",
         b"",
@@ -183,13 +224,13 @@ static DELAYS: [Row; 5] = [
 ];
 
 // Letters of options.
-static LETTERS: [Row; 2] = [
+const LETTERS: [Row; 2] = [
     (b"state i { option +tex; option -ta_; }", b"W04:a_ W04:_ "),
     (b"option +xyz;", b""),
 ];
 
 // Arguments of calls, by scopes too.
-static ARGUMENTS: [Row; 7] = [
+const ARGUMENTS: [Row; 7] = [
     (
         b"state i { int x; evflag f; entry { efSet(x); pvPut(x); efSet(f); pvPut(f); efSet(y); pvGet(y); efSet(u); } }",
         b"E20:x E21:x E21:f E20:y E21:y W01:u ",
@@ -221,7 +262,7 @@ static ARGUMENTS: [Row; 7] = [
 ];
 
 // Texts of which nothing is in a state set.
-static ALONE: [Row; 5] = [
+const ALONE: [Row; 5] = [
     (b"option -acdeilmrswW;", b""),
     (b"option +tax0;", b"W04:tax0 W04:x0 W04:0 "),
     (b"state i { option +w; }", b"W04:w "),
@@ -232,19 +273,26 @@ static ALONE: [Row; 5] = [
     ),
 ];
 
+// The tables of items, and what comes before their texts.
+static TABLES: [(&[u8], &[Row]); 10] = [
+    (BEFORE, &STATES),
+    (BEFORE, &EVENT_FLAGS),
+    (BEFORE, &TWICE),
+    (BEFORE, &UNDECLARED),
+    (BEFORE, &STATE_CHANGES),
+    (BEFORE, &JUMPS),
+    (BEFORE, &DELAYS),
+    (BEFORE, &LETTERS),
+    (BEFORE, &ARGUMENTS),
+    (b"", &ALONE),
+];
+
 #[test]
 fn what_is_found_in_items(rt: HostRuntime) -> Result<(), Fail> {
-    let alloc = rt.alloc();
-    expect_found(&rt, alloc, BEFORE, &STATES)?;
-    expect_found(&rt, alloc, BEFORE, &EVENT_FLAGS)?;
-    expect_found(&rt, alloc, BEFORE, &TWICE)?;
-    expect_found(&rt, alloc, BEFORE, &UNDECLARED)?;
-    expect_found(&rt, alloc, BEFORE, &STATE_CHANGES)?;
-    expect_found(&rt, alloc, BEFORE, &JUMPS)?;
-    expect_found(&rt, alloc, BEFORE, &DELAYS)?;
-    expect_found(&rt, alloc, BEFORE, &LETTERS)?;
-    expect_found(&rt, alloc, BEFORE, &ARGUMENTS)?;
-    expect_found(&rt, alloc, b"", &ALONE)
+    for (before, rows) in &TABLES {
+        expect_found(&rt, rt.alloc(), before, rows)?;
+    }
+    Ok(())
 }
 
 // A text, and what its last item says of warnings.
@@ -259,27 +307,11 @@ static SETTINGS: [(&[u8], Option<bool>); 8] = [
     (b"state i { option -w; when () { } exit }", None),
 ];
 
-fn setting_of(alloc: Global, text: &[u8], last: &LastItem) -> Option<bool>
-    requires { All (LiesIn text.now) last.now.tokens.items }
-{
-    let tokens = last.tokens.get(last.start..).unwrap_or(&[]);
-    let source = Source {
-        text,
-        tokens,
-        alloc,
-    };
-    warning_setting(&source, &last.tree, &last.links, last.number)
-}
-
-fn setting_in(alloc: Global, text: &[u8]) -> Result<Option<bool>, Fail> {
-    let last = last_item(alloc, text)?;
-    Ok(setting_of(alloc, text, &last))
-}
-
 #[test]
 fn what_options_say_of_warnings(rt: HostRuntime) -> Result<(), Fail> {
     for (text, wanted) in &SETTINGS {
-        assert_eq!(rt; setting_in(rt.alloc(), text)?, *wanted, "{text:?}");
+        let setting = told_in(rt.alloc(), text)?.setting;
+        assert!(rt; setting == *wanted, "{text:?}");
     }
     Ok(())
 }

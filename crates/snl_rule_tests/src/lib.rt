@@ -6,8 +6,6 @@
 #[cfg(test)]
 mod clauses;
 #[cfg(test)]
-mod conditions;
-#[cfg(test)]
 mod findings;
 #[cfg(test)]
 mod inside;

@@ -106,66 +106,85 @@ fn views(alloc: Global, old: &Links, new: &Links, summaries: &[Summary]) -> Resu
     Ok(letters)
 }
 
-// The links of some items with the kinds of other ones.
-fn links_with(alloc: Global, outlines: &[Summary], kinds: &[Summary]) -> Result<Links, Fail> {
-    let mut links = links_of(alloc, outlines)?;
-    if outlines.len() == kinds.len() {
-        let kinds = kinds_of(alloc, kinds)?;
-        let faults = links.order_faults_for(alloc, &kinds)?;
-        links.set_kinds(kinds, faults);
-    }
-    Ok(links)
-}
-
-fn expect_findings(
-    rt: &impl Abort,
-    alloc: Global,
-    old: &[Summary],
-    new: &[Summary],
-    links: &Links,
-) -> Result<(), Fail> {
-    let kept = links_with(alloc, old, new)?;
-    assert_eq!(rt; kept.faults(), links.faults());
+fn put_kinds(alloc: Global, links: &mut Links, summaries: &[Summary]) -> Result<(), Fail>
+    requires { length links.old.outlines ≡ length summaries.now }
+{
+    let kinds = kinds_of(alloc, summaries)?;
+    let faults = links.order_faults_for(alloc, &kinds)?;
+    links.set_kinds(kinds, faults);
     Ok(())
 }
 
 fn expect_views(
     rt: &impl Abort,
     alloc: Global,
-    old: &[Summary],
+    old_links: &Links,
     links: &Links,
+    old: &[Summary],
     wanted: &[u8],
 ) -> Result<(), Fail> {
-    let old_links = links_of(alloc, old)?;
-    let letters = views(alloc, &old_links, links, old)?;
-    assert_eq!(rt; letters.as_slice(), wanted);
+    let letters = views(alloc, old_links, links, old)?;
+    assert!(rt; letters.as_slice() == wanted, "{letters:?}");
     Ok(())
 }
 
-fn expect_row(
+// What is wanted of the links of the old text, then with the kinds of the new one.
+fn expect_linked(
     rt: &impl Abort,
     alloc: Global,
+    old_links: &mut Links,
+    links: &Links,
     old: &[Summary],
     new: &[Summary],
-    wanted: bool,
-    wanted_views: &[u8],
-) -> Result<(), Fail> {
-    assert_eq!(rt; all_alike(old, new), wanted);
-    let links = links_of(alloc, new)?;
-    expect_views(rt, alloc, old, &links, wanted_views)?;
-    if wanted {
-        expect_findings(rt, alloc, old, new, &links)?;
+    row: &Row,
+) -> Result<(), Fail>
+    requires { length old_links.old.outlines ≡ length old.now }
+{
+    let (_old, _new, wanted, wanted_views) = row;
+    expect_views(rt, alloc, old_links, links, old, wanted_views)?;
+    if *wanted {
+        assert!(rt; old.len() == new.len());
+        put_kinds(alloc, old_links, new)?;
+        assert!(rt; old_links.faults() == links.faults());
     }
     Ok(())
 }
 
+// What is wanted of the links of the new text.
+fn expect_old_links(
+    rt: &impl Abort,
+    alloc: Global,
+    links: &Links,
+    old: &[Summary],
+    new: &[Summary],
+    row: &Row,
+) -> Result<(), Fail> {
+    let mut old_links = links_of(alloc, old)?;
+    expect_linked(rt, alloc, &mut old_links, links, old, new, row)
+}
+
+fn expect_same(
+    rt: &impl Abort,
+    alloc: Global,
+    old: &[Summary],
+    new: &[Summary],
+    row: &Row,
+) -> Result<(), Fail> {
+    assert!(rt; all_alike(old, new) == row.2);
+    let links = links_of(alloc, new)?;
+    expect_old_links(rt, alloc, &links, old, new, row)
+}
+
+fn expect_row(rt: &impl Abort, alloc: Global, row: &Row) -> Result<(), Fail> {
+    let old = summaries(alloc, row.0)?;
+    let new = summaries(alloc, row.1)?;
+    expect_same(rt, alloc, &old, &new, row)
+}
+
 #[test]
 fn what_an_edit_leaves_as_it_was(rt: HostRuntime) -> Result<(), Fail> {
-    let alloc = rt.alloc();
-    for (old_text, new_text, wanted, wanted_views) in &EDITS {
-        let old = summaries(alloc, old_text)?;
-        let new = summaries(alloc, new_text)?;
-        expect_row(&rt, alloc, &old, &new, *wanted, wanted_views)?;
+    for row in &EDITS {
+        expect_row(&rt, rt.alloc(), row)?;
     }
     Ok(())
 }
@@ -251,15 +270,19 @@ fn touched(alloc: Global, old: &[Summary], new: &[Summary], items: &[Summary]) -
     }
 }
 
+fn touched_in(alloc: Global, row: &NameRow) -> Result<u8, Fail> {
+    let (old, new, items, _wanted) = row;
+    let old = summaries(alloc, old)?;
+    let new = summaries(alloc, new)?;
+    let items = summaries(alloc, items)?;
+    touched(alloc, &old, &new, &items)
+}
+
 #[test]
 fn names_that_an_edit_speaks_of(rt: HostRuntime) -> Result<(), Fail> {
-    let alloc = rt.alloc();
-    for (old_text, new_text, item, wanted) in &NAMES {
-        let old = summaries(alloc, old_text)?;
-        let new = summaries(alloc, new_text)?;
-        let items = summaries(alloc, item)?;
-        let letter = touched(alloc, &old, &new, &items)?;
-        assert_eq!(&rt; letter, *wanted);
+    for row in &NAMES {
+        let letter = touched_in(rt.alloc(), row)?;
+        assert!(rt; letter == row.3, "{row:?}");
     }
     Ok(())
 }

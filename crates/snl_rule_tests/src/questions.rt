@@ -1,7 +1,7 @@
 //! What the links of a text are asked, and their answers as words.
 
 use crate::reading::links;
-use crate::words::{add_digit, add_number, add_option, add_variable};
+use crate::words::{add_coverage, add_digit, add_number, add_option, add_variable, clause_letter};
 use snl_scope::{Assigned, Code, Declaration, Fact, Level, Links, NameKind, Scope};
 use std::alloc::Global;
 use std::process::Abort;
@@ -16,6 +16,8 @@ pub enum Question {
     ClauseFaults,
     /// Each clause: its item, what its variable and its flag resolve to, and whether it is sound.
     Clauses,
+    /// Each clause: the token of its variable in its item, its kind, and what it covers.
+    Coverages,
     /// The declarations of the event flags.
     Flags,
     /// The number of a declaration among the event flags.
@@ -73,6 +75,16 @@ fn add_clauses(links: &Links, words: &mut Vec<u8>) -> Result<(), Fail> {
         add_option(words, clause.variable)?;
         add_option(words, clause.flag)?;
         words.extend_from_slice(if clause.is_sound { b"+ " } else { b"! " })?;
+    }
+    Ok(())
+}
+
+fn add_coverages(alloc: Global, links: &Links, words: &mut Vec<u8>) -> Result<(), Fail> {
+    for clause in links.clauses() {
+        add_number(alloc, Some(clause.token), words)?;
+        words.push(clause_letter(clause.kind))?;
+        add_coverage(clause.coverage, words)?;
+        words.push(b' ')?;
     }
     Ok(())
 }
@@ -183,6 +195,7 @@ fn answer(alloc: Global, links: &Links, question: Question) -> Result<Vec<u8>, F
         Question::Faults => add_faults(links, false, &mut words)?,
         Question::ClauseFaults => add_faults(links, true, &mut words)?,
         Question::Clauses => add_clauses(links, &mut words)?,
+        Question::Coverages => add_coverages(alloc, links, &mut words)?,
         Question::Flags => add_flags(alloc, links, &mut words)?,
         Question::Declared(number) => add_declared(alloc, links.declared(number), &mut words)?,
         Question::EnclosingSet(_)
@@ -204,6 +217,16 @@ fn told(alloc: Global, text: &[u8], question: Question) -> Result<Vec<u8>, Fail>
 /// A question, and what is answered.
 pub type Row = (Question, &'static [u8]);
 
+fn expect_answer(rt: &impl Abort, alloc: Global, text: &[u8], row: &Row) -> Result<(), Fail> {
+    let (question, wanted) = row;
+    let words = told(alloc, text, *question)?;
+    assert!(rt;
+        words.as_slice() == *wanted,
+        "{question:?} of {text:?}: {words:?}"
+    );
+    Ok(())
+}
+
 /// Asks the links of a text each question.
 pub fn expect_answers(
     rt: &impl Abort,
@@ -211,9 +234,8 @@ pub fn expect_answers(
     text: &[u8],
     rows: &[Row],
 ) -> Result<(), Fail> {
-    for (question, wanted) in rows {
-        let words = told(alloc, text, *question)?;
-        assert_eq!(rt; words.as_slice(), *wanted, "{question:?} of {text:?}");
+    for row in rows {
+        expect_answer(rt, alloc, text, row)?;
     }
     Ok(())
 }

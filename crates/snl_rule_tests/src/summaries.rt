@@ -1,8 +1,8 @@
 //! Items with what their summaries say, told from the language's rules.
 
 use crate::reading::summary;
-use crate::words::{add_digit, add_variable, add_word};
-use snl_scope::{ClauseKind, Coverage, ItemKind, Opening, Summary};
+use crate::words::{add_coverage, add_variable, add_word, clause_letter};
+use snl_scope::{ItemKind, Opening, Summary};
 use std::alloc::Global;
 use std::process::Abort;
 use std::test::Fail;
@@ -35,10 +35,16 @@ fn told(alloc: Global, text: &[u8], part: Part) -> Result<Vec<u8>, Fail> {
 /// An item, and what is told of it.
 type Row = (&'static [u8], &'static [u8]);
 
+fn expect_row(rt: &impl Abort, alloc: Global, part: Part, row: &Row) -> Result<(), Fail> {
+    let (text, wanted) = row;
+    let words = told(alloc, text, part)?;
+    assert!(rt; words.as_slice() == *wanted, "{text:?} has {words:?}");
+    Ok(())
+}
+
 fn expect_told(rt: &impl Abort, alloc: Global, part: Part, rows: &[Row]) -> Result<(), Fail> {
-    for (text, wanted) in rows {
-        let words = told(alloc, text, part)?;
-        assert_eq!(rt; words.as_slice(), *wanted, "{text:?}");
+    for row in rows {
+        expect_row(rt, alloc, part, row)?;
     }
     Ok(())
 }
@@ -51,7 +57,7 @@ fn add_uses(summary: &Summary, words: &mut Vec<u8>) -> Result<(), Fail> {
 }
 
 // An item, and the names that it uses.
-static USES: [Row; 22] = [
+const USES: [Row; 22] = [
     (b"int a = b + c * b, d[e][f] = {g, {h}};", b"b c e f g h "),
     (b"int a[b];", b"b "),
     (b"int f(int n, int a[n]);", b"n "),
@@ -102,7 +108,7 @@ fn add_declares(summary: &Summary, words: &mut Vec<u8>) -> Result<(), Fail> {
 }
 
 // An item, and the names that it declares outside its blocks.
-static DECLARES: [Row; 14] = [
+const DECLARES: [Row; 14] = [
     (
         b"int a, *b, c[3], d[0x4][2], *e[5], f[], g[n], h[(1)], i[1 + 1];",
         b"a.a b?a c3a d4a e5a f?a g?a h?a i?a ",
@@ -125,29 +131,10 @@ static DECLARES: [Row; 14] = [
     (b"entry { int a; }", b""),
 ];
 
-fn add_coverage(coverage: Coverage, words: &mut Vec<u8>) -> Result<(), Fail> {
-    match coverage {
-        Coverage::Whole => Ok(words.extend_from_slice(b"..")?),
-        Coverage::Element(value) => {
-            words.push(b'@')?;
-            add_digit(words, value as usize)
-        }
-        Coverage::Front(count) => {
-            words.push(b'#')?;
-            add_digit(words, count)
-        }
-    }
-}
-
 // Each clause: its kind, its variable, what it covers, and its flag.
 fn add_clauses(summary: &Summary, words: &mut Vec<u8>) -> Result<(), Fail> {
     for clause in summary.outline.clauses.as_slice() {
-        words.push(match clause.kind {
-            ClauseKind::Assign => b'=',
-            ClauseKind::Monitor => b'm',
-            ClauseKind::Sync => b's',
-            ClauseKind::Syncq => b'q',
-        })?;
+        words.push(clause_letter(clause.kind))?;
         words.extend_from_slice(clause.variable.name.bytes())?;
         add_coverage(clause.coverage, words)?;
         if let Some(flag) = &clause.flag {
@@ -159,7 +146,7 @@ fn add_clauses(summary: &Summary, words: &mut Vec<u8>) -> Result<(), Fail> {
 }
 
 // An item, and its clauses.
-static CLAUSES: [Row; 12] = [
+const CLAUSES: [Row; 12] = [
     (b"assign a;", b"=a.. "),
     (b"assign a to \"x\";", b"=a.. "),
     (b"assign a[2] to \"x\" \"y\";", b"=a@2 "),
@@ -185,7 +172,7 @@ fn add_targets(summary: &Summary, words: &mut Vec<u8>) -> Result<(), Fail> {
 }
 
 // An item, and the states that it leads to.
-static TARGETS: [Row; 5] = [
+const TARGETS: [Row; 5] = [
     (
         b"state i { when () { } state j when () { } state i when () { } exit }",
         b"j i ",
@@ -199,12 +186,20 @@ static TARGETS: [Row; 5] = [
     (b"state i { when () { } state }", b""),
 ];
 
+// What is asked of the summaries of items.
+static TABLES: [(Part, &[Row]); 4] = [
+    (Part::Uses, &USES),
+    (Part::Declares, &DECLARES),
+    (Part::Clauses, &CLAUSES),
+    (Part::Targets, &TARGETS),
+];
+
 #[test]
 fn what_items_say(rt: HostRuntime) -> Result<(), Fail> {
-    expect_told(&rt, rt.alloc(), Part::Uses, &USES)?;
-    expect_told(&rt, rt.alloc(), Part::Declares, &DECLARES)?;
-    expect_told(&rt, rt.alloc(), Part::Clauses, &CLAUSES)?;
-    expect_told(&rt, rt.alloc(), Part::Targets, &TARGETS)
+    for (part, rows) in &TABLES {
+        expect_told(&rt, rt.alloc(), *part, rows)?;
+    }
+    Ok(())
 }
 
 // A text, its second token if that is a name, what it is as an item, and how it begins.
@@ -230,17 +225,19 @@ static BEGINNINGS: [(&[u8], &[u8], ItemKind, Opening); 19] = [
     (b"a @", b"", ItemKind::Faulty, Opening::Other),
 ];
 
+fn second_of(summary: &Summary) -> &[u8] {
+    match &summary.outline.second {
+        Some(name) => name.get().bytes(),
+        None => &[],
+    }
+}
+
 #[test]
 fn beginnings(rt: HostRuntime) -> Result<(), Fail> {
     for (text, second, kind, opening) in &BEGINNINGS {
         let summary = summary(rt.alloc(), text)?;
-        assert_eq!(rt; summary.kind, *kind, "{text:?}");
-        assert_eq!(rt; summary.outline.opening, *opening, "{text:?}");
-        let name = match &summary.outline.second {
-            Some(name) => name.get().bytes(),
-            None => &[],
-        };
-        assert_eq!(rt; name, *second, "{text:?}");
+        let are_told = summary.kind == *kind && summary.outline.opening == *opening;
+        assert!(rt; are_told && second_of(&summary) == *second, "{text:?}");
     }
     Ok(())
 }

@@ -1,6 +1,6 @@
 //! What the tests share to write answers as words.
 
-use snl_scope::{Dims, SymbolKind, Variable};
+use snl_scope::{ClauseKind, Coverage, Dims, SymbolKind, Variable};
 use std::alloc::Global;
 use std::test::Fail;
 
@@ -52,4 +52,29 @@ pub fn add_variable(variable: Variable, words: &mut Vec<u8>) -> Result<(), Fail>
     }
     words.push(symbol_kind_letter(variable.symbol_kind))?;
     Ok(())
+}
+
+/// A letter for the kind of a clause.
+pub fn clause_letter(kind: ClauseKind) -> u8 {
+    match kind {
+        ClauseKind::Assign => b'=',
+        ClauseKind::Monitor => b'm',
+        ClauseKind::Sync => b's',
+        ClauseKind::Syncq => b'q',
+    }
+}
+
+/// Adds what a clause covers: `..` for all, or a sign before the element, or before how many from the first on.
+pub fn add_coverage(coverage: Coverage, words: &mut Vec<u8>) -> Result<(), Fail> {
+    match coverage {
+        Coverage::Whole => Ok(words.extend_from_slice(b"..")?),
+        Coverage::Element(value) => {
+            words.push(b'@')?;
+            add_digit(words, value as usize)
+        }
+        Coverage::Front(count) => {
+            words.push(b'#')?;
+            add_digit(words, count)
+        }
+    }
 }

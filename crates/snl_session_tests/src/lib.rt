@@ -1,6 +1,6 @@
 //! Tests of the session's public calls, and of those of the program over it: runs of scripts, sources and words. There is no code of
 //! the product here. What is found in whole texts is tested on the built program, by the cases of tests/cases; what long lists of
-//! edits lead to, by snl_fixed_edits and snl_random_edits.
+//! edits lead to, by snl_edits.
 #![tactic(auto)]
 
 #[cfg(test)]

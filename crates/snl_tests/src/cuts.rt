@@ -5,6 +5,8 @@ ghost use Rattle.snl_cut.specs.Cut.{IsEdit, ticked};
 ghost use Rattle.std.specs.Prelude.{◌≡◌, ◌<◌, drop, length, take, true};
 
 use snl_cut::{Count, Front, cut_all, recut};
+use std::alloc::Global;
+use std::process::Abort;
 use std::test::Fail;
 
 // The first byte of a member says how many more it has.
@@ -36,18 +38,18 @@ struct Outcome {
 
 // The ends of the cut, and how many members were counted, through the front's bound.
 fn ends_by<F: Front>(
-    rt: &HostRuntime,
+    alloc: Global,
     front: &F,
     units: &[F::Unit],
 ) -> Result<(Vec<usize>, u64), Fail> {
     let mut work = Count::new();
-    let ends = cut_all(rt.alloc(), front, units, &mut work)?;
+    let ends = cut_all(alloc, front, units, &mut work)?;
     Ok((ends, work.ticks()))
 }
 
 // The same of a recut.
 fn again_by<F: Front>(
-    rt: &HostRuntime,
+    alloc: Global,
     front: &F,
     old: &[F::Unit],
     units: &[F::Unit],
@@ -57,18 +59,10 @@ fn again_by<F: Front>(
 ) -> Result<Outcome, Fail>
     requires { IsEdit old.now units.now start old_stop new_stop }
 {
-    let ends = cut_all(rt.alloc(), front, old, &mut Count::new())?;
+    let ends = cut_all(alloc, front, old, &mut Count::new())?;
     let mut work = Count::new();
     let again = recut(
-        rt.alloc(),
-        front,
-        old,
-        &ends,
-        units,
-        start,
-        old_stop,
-        new_stop,
-        &mut work,
+        alloc, front, old, &ends, units, start, old_stop, new_stop, &mut work,
     )?;
     Ok(Outcome {
         kept_front: again.kept_front,
@@ -86,7 +80,7 @@ fn alike(left: &[u8], right: &[u8]) -> bool
 
 // An edit of one list to another, if the first `start` bytes and the last `after` bytes stay.
 fn edit(
-    rt: &HostRuntime,
+    alloc: Global,
     old: &[u8],
     new: &[u8],
     start: usize,
@@ -106,18 +100,22 @@ fn edit(
     if !before || !after {
         return Ok(None);
     }
-    Ok(Some(again_by(rt, &Counted, old, new, start, old_stop, new_stop)?))
+    Ok(Some(again_by(alloc, &Counted, old, new, start, old_stop, new_stop)?))
+}
+
+fn expect_ends(rt: &impl Abort, alloc: Global, units: &[u8], wanted: &[usize]) -> Result<(), Fail> {
+    let (ends, ticks) = ends_by(alloc, &Counted, units)?;
+    assert!(rt;
+        ends.as_slice() == wanted && ticks == wanted.len() as u64,
+        "{ends:?}"
+    );
+    Ok(())
 }
 
 #[test]
 fn cuts_by_the_count_in_front(rt: HostRuntime) -> Result<(), Fail> {
-    let (ends, ticks) = ends_by(&rt, &Counted, &[0, 2, 7, 7, 1, 7, 9, 8])?;
-    assert_eq!(rt; ends.as_slice(), [1, 4, 6, 8].as_slice());
-    assert_eq!(rt; ticks, 4);
-    let (none, ticks) = ends_by(&rt, &Counted, &[])?;
-    assert_eq!(rt; none.len(), 0);
-    assert_eq!(rt; ticks, 0);
-    Ok(())
+    expect_ends(&rt, rt.alloc(), &[0, 2, 7, 7, 1, 7, 9, 8], &[1, 4, 6, 8])?;
+    expect_ends(&rt, rt.alloc(), &[], &[])
 }
 
 // The lists before and after the edit, how many units stay at the front and the back, and what is wanted.
@@ -213,17 +211,23 @@ static CASES: [Case; 8] = [
     },
 ];
 
+fn expect_case(rt: &impl Abort, alloc: Global, case: &Case) -> Result<(), Fail> {
+    match edit(alloc, case.old, case.new, case.start, case.after)? {
+        Some(outcome) => {
+            assert!(rt; outcome.kept_front == case.front && outcome.kept_back == case.back);
+            assert!(rt;
+                outcome.made.as_slice() == case.made && outcome.ticks == case.made.len() as u64
+            );
+        }
+        None => assert!(rt; false, "no edit"),
+    }
+    Ok(())
+}
+
 #[test]
 fn recuts_what_is_fresh(rt: HostRuntime) -> Result<(), Fail> {
     for case in &CASES {
-        let Some(outcome) = edit(&rt, case.old, case.new, case.start, case.after)? else {
-            assert!(rt; false, "no edit");
-            continue;
-        };
-        assert_eq!(rt; outcome.kept_front, case.front);
-        assert_eq!(rt; outcome.made.as_slice(), case.made);
-        assert_eq!(rt; outcome.kept_back, case.back);
-        assert_eq!(rt; outcome.ticks, case.made.len() as u64);
+        expect_case(&rt, rt.alloc(), case)?;
     }
     Ok(())
 }

@@ -1,6 +1,6 @@
 //! Declarations, functions and structs: which tokens make one, and which number is blamed where they don't.
 
-use crate::reading::{Row, read_row, read_rows};
+use crate::reading::{Row, read_row, read_tables};
 use std::test::Fail;
 
 // Each base of a type.
@@ -55,7 +55,7 @@ fn reads_bases(rt: HostRuntime) -> Result<(), Fail> {
     Ok(())
 }
 
-static TYPES: [Row; 16] = [
+const TYPES: [Row; 16] = [
     ("int ;", Some(1)),
     ("enum ;", Some(1)),
     ("struct s;", Some(2)),
@@ -74,7 +74,7 @@ static TYPES: [Row; 16] = [
     ("int * const const x;", Some(3)),
 ];
 
-static DECLARATIONS: [Row; 30] = [
+const DECLARATIONS: [Row; 30] = [
     ("int a, *b[3] = {1, 2,};", None),
     ("int a[], b[2][c + 1];", None),
     ("int a = 1, b = c = d;", None),
@@ -107,7 +107,7 @@ static DECLARATIONS: [Row; 30] = [
     ("int a = b + = c;", Some(5)),
 ];
 
-static FUNCTIONS: [Row; 21] = [
+const FUNCTIONS: [Row; 21] = [
     ("int f();", None),
     ("int f(void);", None),
     ("int f(int);", None),
@@ -134,7 +134,7 @@ static FUNCTIONS: [Row; 21] = [
     ("f();", Some(0)),
 ];
 
-static STRUCTS: [Row; 13] = [
+const STRUCTS: [Row; 13] = [
     ("struct s { };", None),
     ("struct s { int x, *y[2]; %{c}% struct t *z; };", None),
     ("struct s { int x = 1; };", None),
@@ -150,10 +150,9 @@ static STRUCTS: [Row; 13] = [
     ("const struct s { int x; };", Some(3)),
 ];
 
+static TABLES: [&[Row]; 4] = [&TYPES, &DECLARATIONS, &FUNCTIONS, &STRUCTS];
+
 #[test]
 fn reads_declarations(rt: HostRuntime) -> Result<(), Fail> {
-    read_rows(&rt, rt.alloc(), &TYPES)?;
-    read_rows(&rt, rt.alloc(), &DECLARATIONS)?;
-    read_rows(&rt, rt.alloc(), &FUNCTIONS)?;
-    read_rows(&rt, rt.alloc(), &STRUCTS)
+    read_tables(&rt, rt.alloc(), &TABLES)
 }

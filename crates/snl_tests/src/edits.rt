@@ -43,6 +43,33 @@ pub fn edited(
     Ok(now)
 }
 
+// How many pieces a text has.
+fn count_in(alloc: Global, text: &[u8]) -> Result<usize, Fail> {
+    let pieces = lex(alloc, text, &mut Count::new())?;
+    Ok(pieces.len())
+}
+
+// Says how many pieces an edit makes anew, and that as many are there after it as without the old ones.
+fn made_by(
+    rt: &impl Abort,
+    alloc: Global,
+    text: &[u8],
+    now: &[u8],
+    start: usize,
+    stop: usize,
+    new_stop: usize,
+) -> Result<u64, Fail>
+    requires { IsEdit text.now now.now start stop new_stop }
+{
+    let old = lex(alloc, text, &mut Count::new())?;
+    let mut work = Count::new();
+    let made = relex(alloc, text, &old, now, start, stop, new_stop, &mut work)?;
+    assert_eq!(rt; made.made.len() as u64, work.ticks());
+    let kept = made.kept_front.saturating_add(made.kept_back);
+    assert_eq!(rt; kept.saturating_add(made.made.len()), count_in(alloc, now)?);
+    Ok(work.ticks())
+}
+
 // Edits a text, and says how many pieces were made anew.
 fn relexed(
     rt: &impl Abort,
@@ -54,23 +81,7 @@ fn relexed(
 ) -> Result<u64, Fail> {
     assert!(rt; start <= stop && stop <= text.len() && new.len() < 1000 && start < 1000);
     let now = edited(alloc, text, start, stop, new)?;
-    let old = lex(alloc, text, &mut Count::new())?;
-    let pieces = lex(alloc, &now, &mut Count::new())?;
-    let mut work = Count::new();
-    let made = relex(
-        alloc,
-        text,
-        &old,
-        &now,
-        start,
-        stop,
-        start + new.len(),
-        &mut work,
-    )?;
-    assert_eq!(rt; made.made.len() as u64, work.ticks());
-    let kept = made.kept_front.saturating_add(made.kept_back);
-    assert_eq!(rt; kept.saturating_add(made.made.len()), pieces.len());
-    Ok(work.ticks())
+    made_by(rt, alloc, text, &now, start, stop, start + new.len())
 }
 
 // What is put into the program before the edit, and where; the edit's range and its new bytes; how many pieces it makes.
@@ -146,13 +157,18 @@ static CASES: [Case; 7] = [
     },
 ];
 
+fn expect_made(rt: &impl Abort, alloc: Global, case: &Case) -> Result<(), Fail> {
+    assert!(rt; case.at <= PROGRAM.len());
+    let text = spliced(alloc, PROGRAM, case.at, case.at, case.before)?;
+    let made = relexed(rt, alloc, &text, case.start, case.stop, case.new)?;
+    assert!(rt; made == case.made, "at {}", case.start);
+    Ok(())
+}
+
 #[test]
 fn makes_fresh_pieces_alone(rt: HostRuntime) -> Result<(), Fail> {
     for case in &CASES {
-        assert!(rt; case.at <= PROGRAM.len());
-        let text = spliced(rt.alloc(), PROGRAM, case.at, case.at, case.before)?;
-        let made = relexed(&rt, rt.alloc(), &text, case.start, case.stop, case.new)?;
-        assert_eq!(rt; made, case.made, "at {}", case.start);
+        expect_made(&rt, rt.alloc(), case)?;
     }
     Ok(())
 }

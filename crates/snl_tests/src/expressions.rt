@@ -1,10 +1,10 @@
 //! Expressions, mostly as the value of a variable, whose first token has number 3: which tokens make them, and which number
 //! is blamed where they don't.
 
-use crate::reading::{Row, read_row, read_rows};
+use crate::reading::{Row, read_row, read_tables};
 use std::test::Fail;
 
-static PRIMARIES: [Row; 17] = [
+const PRIMARIES: [Row; 17] = [
     ("int x = a;", None),
     ("int x = 1;", None),
     ("int x = 1.5;", None),
@@ -24,7 +24,7 @@ static PRIMARIES: [Row; 17] = [
     ("int x = %{c}%;", Some(3)),
 ];
 
-static POSTFIXES: [Row; 20] = [
+const POSTFIXES: [Row; 20] = [
     ("int x = a[1];", None),
     ("int x = a[1, 2];", None),
     ("int x = f();", None),
@@ -47,7 +47,7 @@ static POSTFIXES: [Row; 20] = [
     ("int x = a->1;", Some(5)),
 ];
 
-static PREFIXES: [Row; 18] = [
+const PREFIXES: [Row; 18] = [
     ("int x = + - ! ~ * & ++ -- a;", None),
     ("int x = sizeof a;", None),
     ("int x = sizeof sizeof -a++;", None),
@@ -68,7 +68,7 @@ static PREFIXES: [Row; 18] = [
     ("int x = (a) b;", Some(6)),
 ];
 
-static LOOSE: [Row; 24] = [
+const LOOSE: [Row; 24] = [
     ("int x = a ? b : c;", None),
     ("int x = a ? b, c : d;", None),
     ("int x = a ? b : c ? d : e;", None),
@@ -95,12 +95,11 @@ static LOOSE: [Row; 24] = [
     ("int x = a == b != c < d >= e << f - g % h;", None),
 ];
 
+static TABLES: [&[Row]; 4] = [&PRIMARIES, &POSTFIXES, &PREFIXES, &LOOSE];
+
 #[test]
 fn reads_expressions(rt: HostRuntime) -> Result<(), Fail> {
-    read_rows(&rt, rt.alloc(), &PRIMARIES)?;
-    read_rows(&rt, rt.alloc(), &POSTFIXES)?;
-    read_rows(&rt, rt.alloc(), &PREFIXES)?;
-    read_rows(&rt, rt.alloc(), &LOOSE)
+    read_tables(&rt, rt.alloc(), &TABLES)
 }
 
 // Each operator between two operands.

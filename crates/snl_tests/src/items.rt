@@ -1,12 +1,11 @@
 //! Items: which tokens make one, which number is blamed where they don't, and the faulty pieces among them.
 
-use crate::reading::{Row, fault_of, read_rows};
+use crate::reading::{Row, fault_of, read_tables, tokens_of};
 use snl_cut::Count;
-use snl_reading::tokens_of;
 use snl_syntax::{ParseFault, parse_item};
 use std::test::Fail;
 
-static HEADERS: [Row; 10] = [
+const HEADERS: [Row; 10] = [
     ("program p", None),
     ("program p (\"x\")", None),
     ("program p (\"x\" \"y\")", None),
@@ -19,7 +18,7 @@ static HEADERS: [Row; 10] = [
     ("program p;", Some(2)),
 ];
 
-static SETS: [Row; 6] = [
+const SETS: [Row; 6] = [
     ("ss a {", None),
     ("ss {", Some(1)),
     ("ss a;", Some(2)),
@@ -28,7 +27,7 @@ static SETS: [Row; 6] = [
     ("};", Some(1)),
 ];
 
-static SMALL: [Row; 11] = [
+const SMALL: [Row; 11] = [
     (";", None),
     (";;", Some(1)),
     ("%{c}%", None),
@@ -42,7 +41,7 @@ static SMALL: [Row; 11] = [
     ("if (a) ;", Some(0)),
 ];
 
-static CLAUSES: [Row; 44] = [
+const CLAUSES: [Row; 44] = [
     ("assign a;", None),
     ("assign a to \"x\" \"y\";", None),
     ("assign a \"x\";", None),
@@ -89,7 +88,7 @@ static CLAUSES: [Row; 44] = [
     ("syncq a to f 3 4;", Some(5)),
 ];
 
-static OPTIONS: [Row; 12] = [
+const OPTIONS: [Row; 12] = [
     ("option +a;", None),
     ("option -abc;", None),
     ("option a;", Some(1)),
@@ -104,7 +103,7 @@ static OPTIONS: [Row; 12] = [
     ("foreign a b;", Some(2)),
 ];
 
-static STATES: [Row; 30] = [
+const STATES: [Row; 30] = [
     ("entry { a = 1; }", None),
     ("entry ;", Some(1)),
     ("entry { };", Some(3)),
@@ -143,14 +142,11 @@ static STATES: [Row; 30] = [
     ("state i { when () { a = b + = c; } exit }", Some(11)),
 ];
 
+static TABLES: [&[Row]; 6] = [&HEADERS, &SETS, &SMALL, &CLAUSES, &OPTIONS, &STATES];
+
 #[test]
 fn reads_items(rt: HostRuntime) -> Result<(), Fail> {
-    read_rows(&rt, rt.alloc(), &HEADERS)?;
-    read_rows(&rt, rt.alloc(), &SETS)?;
-    read_rows(&rt, rt.alloc(), &SMALL)?;
-    read_rows(&rt, rt.alloc(), &CLAUSES)?;
-    read_rows(&rt, rt.alloc(), &OPTIONS)?;
-    read_rows(&rt, rt.alloc(), &STATES)
+    read_tables(&rt, rt.alloc(), &TABLES)
 }
 
 // A text with faulty pieces, and the number of the first one.

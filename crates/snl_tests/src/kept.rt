@@ -81,6 +81,38 @@ static EDITS: [(&[u8], usize, usize, &[u8]); 18] = [
     (b"a\n\n\nb\n# 9\nc\nd", 1, 4, b" "),
 ];
 
+fn expect_same(rt: &impl Abort, kept: &Lists, anew: &Lists) {
+    assert!(rt; kept.pieces.ends == anew.pieces.ends && kept.pieces.kinds == anew.pieces.kinds);
+    assert!(rt; kept.lines.ends == anew.lines.ends && kept.lines.markers == anew.lines.markers);
+    assert!(rt; kept.lines.naming == anew.lines.naming);
+}
+
+// The line of each offset, by the lists and by the pieces.
+fn expect_lines(rt: &impl Abort, alloc: Global, kept: &LineList, text: &[u8]) -> Result<(), Fail>
+    requires small { length text.now < 2000 }
+    requires lines { IsLineList text.now kept.now.ends.items kept.now.markers.items kept.now.naming.items }
+{
+    let pieces = lex(alloc, text, &mut Count::new())?;
+    for offset in 0..text.len() + 2 {
+        let wanted = line_of(text, &pieces, offset);
+        assert!(rt;
+            kept.line_by(text, offset) == wanted,
+            "{text:?} at {offset}"
+        );
+    }
+    Ok(())
+}
+
+fn expect_edited(rt: &impl Abort, alloc: Global, edit: &TextEdit) -> Result<(), Fail>
+    requires old { length edit.now.old.now < 1000 }
+    requires text { length edit.now.text.now < 2000 }
+{
+    let mut kept = lists_of(alloc, edit.old)?;
+    change(alloc, &mut kept, edit)?;
+    expect_same(rt, &kept, &lists_of(alloc, edit.text)?);
+    expect_lines(rt, alloc, &kept.lines, edit.text)
+}
+
 fn check(
     rt: &impl Abort,
     alloc: Global,
@@ -99,43 +131,7 @@ fn check(
         old_stop: stop,
         new_stop: start + new.len(),
     };
-    let mut kept = lists_of(alloc, text)?;
-    change(alloc, &mut kept, &edit)?;
-    let anew = lists_of(alloc, &now)?;
-    assert_eq!(rt;
-        kept.pieces.ends.as_slice(),
-        anew.pieces.ends.as_slice(),
-        "{now:?}"
-    );
-    assert_eq!(rt;
-        kept.pieces.kinds.as_slice(),
-        anew.pieces.kinds.as_slice(),
-        "{now:?}"
-    );
-    assert_eq!(rt;
-        kept.lines.ends.as_slice(),
-        anew.lines.ends.as_slice(),
-        "{now:?}"
-    );
-    assert_eq!(rt;
-        kept.lines.markers.as_slice(),
-        anew.lines.markers.as_slice(),
-        "{now:?}"
-    );
-    assert_eq!(rt;
-        kept.lines.naming.as_slice(),
-        anew.lines.naming.as_slice(),
-        "{now:?}"
-    );
-    let pieces = lex(alloc, &now, &mut Count::new())?;
-    for offset in 0..now.len() + 2 {
-        assert_eq!(rt;
-            kept.lines.line_by(&now, offset),
-            line_of(&now, &pieces, offset),
-            "{now:?} at {offset}"
-        );
-    }
-    Ok(())
+    expect_edited(rt, alloc, &edit)
 }
 
 #[test]

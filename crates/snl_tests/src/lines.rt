@@ -2,6 +2,7 @@
 
 use snl_cut::Count;
 use snl_lex::{Line, LineList, lex, line_of};
+use std::alloc::Global;
 use std::test::Fail;
 
 // A text, an offset, the number of its line, and where the name of its file is.
@@ -39,6 +40,13 @@ static LINES: [(&[u8], usize, usize, Option<(usize, usize)>); 31] = [
     (b"/*\n# 5\n*/ x", 10, 3, None),
 ];
 
+// The line of an offset by the pieces of a text, and by its lists.
+fn lines_at(alloc: Global, text: &[u8], offset: usize) -> Result<[Line; 2], Fail> {
+    let pieces = lex(alloc, text, &mut Count::new())?;
+    let lines = LineList::of(alloc, text, &pieces)?;
+    Ok([line_of(text, &pieces, offset), lines.line_by(text, offset)])
+}
+
 #[test]
 fn tells_the_line_of_an_offset(rt: HostRuntime) -> Result<(), Fail> {
     for (text, offset, number, file) in &LINES {
@@ -46,18 +54,8 @@ fn tells_the_line_of_an_offset(rt: HostRuntime) -> Result<(), Fail> {
             number: *number,
             file: *file,
         };
-        let pieces = lex(rt.alloc(), text, &mut Count::new())?;
-        assert_eq!(rt;
-            line_of(text, &pieces, *offset),
-            wanted,
-            "{text:?} at {offset}"
-        );
-        let lines = LineList::of(rt.alloc(), text, &pieces)?;
-        assert_eq!(rt;
-            lines.line_by(text, *offset),
-            wanted,
-            "{text:?} by lists at {offset}"
-        );
+        let told = lines_at(rt.alloc(), text, *offset)?;
+        assert_eq!(rt; told, [wanted, wanted], "{text:?} at {offset}");
     }
     Ok(())
 }

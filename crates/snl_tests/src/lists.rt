@@ -86,15 +86,19 @@ static REPLACEMENTS: [Replacement; 9] = [
     },
 ];
 
+fn expect_part(rt: &impl Abort, alloc: Global, row: &Replacement) -> Result<(), Fail> {
+    let mut list = Vec::from_slice(alloc, row.list)?;
+    list.reserve(row.made.len())?;
+    assert!(rt; row.start <= row.stop && row.stop <= list.len());
+    replace(&mut list, row.start, row.stop, row.made);
+    assert!(rt; list.as_slice() == row.wanted, "{list:?}");
+    Ok(())
+}
+
 #[test]
 fn replaces_a_part(rt: HostRuntime) -> Result<(), Fail> {
     for row in &REPLACEMENTS {
-        let mut list = Vec::new(rt.alloc());
-        list.extend_from_slice(row.list)?;
-        list.reserve(row.made.len())?;
-        assert!(rt; row.start <= row.stop && row.stop <= list.len());
-        replace(&mut list, row.start, row.stop, row.made);
-        assert_eq!(rt; list.as_slice(), row.wanted);
+        expect_part(&rt, rt.alloc(), row)?;
     }
     Ok(())
 }
@@ -193,27 +197,37 @@ fn roomy(alloc: Global, places: &[u32], more: usize) -> Result<Vec<u32>, AllocEr
     Ok(list)
 }
 
+fn expect_replaced(rt: &impl Abort, alloc: Global, row: &Shift) -> Result<(), Fail> {
+    assert!(rt; row.start <= row.stop && row.stop <= row.places.len() && row.new_stop < 1000);
+    assert!(rt; can_shift(&row.places[row.stop..], row.old_stop));
+    let mut places = roomy(alloc, row.places, row.made.len())?;
+    replace_and_shift(
+        &mut places,
+        row.start,
+        row.stop,
+        row.made,
+        row.old_stop,
+        row.new_stop,
+    );
+    assert!(rt; places.as_slice() == row.wanted, "{places:?}");
+    Ok(())
+}
+
+fn expect_moved(rt: &impl Abort, alloc: Global, row: &Shift) -> Result<(), Fail> {
+    assert!(rt; row.stop <= row.places.len() && row.new_stop < 1000);
+    assert!(rt; can_shift(&row.places[row.stop..], row.old_stop));
+    let mut places = roomy(alloc, row.places, 0)?;
+    shift(&mut places, row.stop, row.old_stop, row.new_stop);
+    let wanted = row.wanted.get(row.start.saturating_add(row.made.len())..);
+    assert!(rt; places.get(row.stop..) == wanted, "{places:?}");
+    Ok(())
+}
+
 #[test]
 fn moves_what_is_after(rt: HostRuntime) -> Result<(), Fail> {
     for row in &SHIFTS {
-        assert!(rt; row.start <= row.stop && row.stop <= row.places.len() && row.new_stop < 1000);
-        assert!(rt; can_shift(&row.places[row.stop..], row.old_stop));
-        let mut both = roomy(rt.alloc(), row.places, row.made.len())?;
-        replace_and_shift(
-            &mut both,
-            row.start,
-            row.stop,
-            row.made,
-            row.old_stop,
-            row.new_stop,
-        );
-        assert_eq!(rt; both.as_slice(), row.wanted);
-        let mut moved = roomy(rt.alloc(), row.places, 0)?;
-        shift(&mut moved, row.stop, row.old_stop, row.new_stop);
-        assert_eq!(rt;
-            &moved[row.stop..],
-            &row.wanted[row.start + row.made.len()..]
-        );
+        expect_replaced(&rt, rt.alloc(), row)?;
+        expect_moved(&rt, rt.alloc(), row)?;
     }
     Ok(())
 }
@@ -253,31 +267,43 @@ fn replace_in(
     Ok(())
 }
 
-fn values(alloc: Global, order: &Ordered<u8>) -> Result<Vec<u8>, AllocError> {
-    let mut values = Vec::new(alloc);
-    for number in 0..order.len() {
-        if let Some(value) = order.get(number) {
-            values.push(*value)?;
+fn set_in(rt: &impl Abort, order: &mut Ordered<u8>, number: usize, value: u8) {
+    assert!(rt; number < order.len());
+    order.set(number, value);
+}
+
+fn change_in(
+    rt: &impl Abort,
+    alloc: Global,
+    order: &mut Ordered<u8>,
+    change: &Change,
+) -> Result<(), Fail> {
+    match change {
+        Change::Replace(start, stop, made) => replace_in(rt, alloc, order, *start, *stop, made),
+        Change::Set(number, value) => Ok(set_in(rt, order, *number, *value)),
+    }
+}
+
+// Whether these are the values.
+fn has_values(order: &Ordered<u8>, wanted: &[u8]) -> bool {
+    for (number, value) in wanted.iter().enumerate() {
+        if order.get(number) != Some(value) {
+            return false;
         }
     }
-    Ok(values)
+    order.len() == wanted.len() && order.get(wanted.len()) == None
+}
+
+fn make_changes(rt: &impl Abort, alloc: Global, order: &mut Ordered<u8>) -> Result<(), Fail> {
+    for (change, wanted) in &CHANGES {
+        change_in(rt, alloc, order, change)?;
+        assert!(rt; has_values(order, wanted), "no {wanted:?}");
+    }
+    Ok(())
 }
 
 #[test]
 fn keeps_values_in_order(rt: HostRuntime) -> Result<(), Fail> {
     let mut order = Ordered::new(rt.alloc());
-    for (change, wanted) in &CHANGES {
-        match change {
-            Change::Replace(start, stop, made) => {
-                replace_in(&rt, rt.alloc(), &mut order, *start, *stop, made)?;
-            }
-            Change::Set(number, value) => {
-                assert!(rt; *number < order.len());
-                order.set(*number, *value);
-            }
-        }
-        assert_eq!(rt; values(rt.alloc(), &order)?.as_slice(), *wanted);
-        assert_eq!(rt; order.get(wanted.len()), None);
-    }
-    Ok(())
+    make_changes(&rt, rt.alloc(), &mut order)
 }

@@ -1,10 +1,14 @@
 //! What tokens are to the cut into items, and where the items of their lists end.
 
-use crate::reading::fault_of;
+ghost use Rattle.snl_lex.specs.Pieces.{LiesIn};
+ghost use Rattle.std.specs.Prelude.{All};
+
+use crate::reading::{fault_of, tokens_of};
 use snl_cut::{Count, Front, cut_all};
-use snl_reading::{marks_of, tokens_of};
-use snl_syntax::{Mark, ParseFault, Tokens};
+use snl_lex::Piece;
+use snl_syntax::{Mark, ParseFault, Tokens, mark};
 use std::alloc::Global;
+use std::process::Abort;
 use std::test::Fail;
 
 // Tokens, and their marks.
@@ -47,11 +51,20 @@ static MARKS: [(&str, &[Mark]); 12] = [
     ),
 ];
 
+// The marks of the tokens of a text.
+fn marks_in(alloc: Global, text: &[u8]) -> Result<Vec<Mark>, Fail> {
+    let tokens = tokens_of(alloc, text)?;
+    let mut marks = Vec::new(alloc);
+    for token in &tokens {
+        marks.push(mark(text, *token))?;
+    }
+    Ok(marks)
+}
+
 #[test]
 fn tells_marks(rt: HostRuntime) -> Result<(), Fail> {
     for (text, wanted) in &MARKS {
-        let tokens = tokens_of(rt.alloc(), text.as_bytes())?;
-        let marks = marks_of(rt.alloc(), text.as_bytes(), &tokens)?;
+        let marks = marks_in(rt.alloc(), text.as_bytes())?;
         assert_eq!(rt; marks.as_slice(), *wanted, "at {text}");
     }
     Ok(())
@@ -66,6 +79,12 @@ fn ends_by<F: Front>(
     let mut work = Count::new();
     let ends = cut_all(alloc, front, units, &mut work)?;
     Ok((ends, work.ticks()))
+}
+
+// Where the items of a text end, and how many were counted.
+fn ends_in(alloc: Global, text: &[u8]) -> Result<(Vec<usize>, u64), Fail> {
+    let marks = marks_in(alloc, text)?;
+    ends_by(alloc, &Tokens, &marks)
 }
 
 // Texts, and where their items end.
@@ -117,14 +136,19 @@ static CUTS: [(&str, &[usize]); 36] = [
     ("@ x; ' ", &[3, 4]),
 ];
 
+fn expect_ends(rt: &impl Abort, alloc: Global, text: &str, wanted: &[usize]) -> Result<(), Fail> {
+    let (ends, ticks) = ends_in(alloc, text.as_bytes())?;
+    assert!(rt;
+        ends.as_slice() == wanted && ticks == wanted.len() as u64,
+        "{ends:?} in {text}"
+    );
+    Ok(())
+}
+
 #[test]
 fn cuts_texts(rt: HostRuntime) -> Result<(), Fail> {
     for (text, wanted) in &CUTS {
-        let tokens = tokens_of(rt.alloc(), text.as_bytes())?;
-        let marks = marks_of(rt.alloc(), text.as_bytes(), &tokens)?;
-        let (ends, ticks) = ends_by(rt.alloc(), &Tokens, &marks)?;
-        assert_eq!(rt; ends.as_slice(), *wanted, "at {text}");
-        assert_eq!(rt; ticks, wanted.len() as u64, "at {text}");
+        expect_ends(&rt, rt.alloc(), text, wanted)?;
     }
     Ok(())
 }
@@ -144,14 +168,18 @@ static FAULTS: [(&str, &[usize]); 11] = [
     ("program p (\"x", &[2]),
 ];
 
-// The numbers, among all tokens, of those that are blamed.
-fn blamed_in(alloc: Global, text: &[u8]) -> Result<Vec<usize>, Fail> {
-    let tokens = tokens_of(alloc, text)?;
-    let marks = marks_of(alloc, text, &tokens)?;
-    let (ends, _ticks) = ends_by(alloc, &Tokens, &marks)?;
+// The numbers, among all tokens, of those that are blamed in the items that end at these.
+fn blamed_in(
+    alloc: Global,
+    text: &[u8],
+    tokens: &[Piece],
+    ends: &[usize],
+) -> Result<Vec<usize>, Fail>
+    requires { All (LiesIn text.now) tokens.now }
+{
     let mut blamed = Vec::new(alloc);
     let mut start: usize = 0;
-    for end in &ends {
+    for end in ends {
         let item = tokens.get(start..*end).unwrap_or(&[]);
         if let Some(ParseFault::NoItem { at }) = fault_of(alloc, text, item) {
             blamed.push(start.saturating_add(at))?;
@@ -161,11 +189,18 @@ fn blamed_in(alloc: Global, text: &[u8]) -> Result<Vec<usize>, Fail> {
     Ok(blamed)
 }
 
+fn expect_blamed(rt: &impl Abort, alloc: Global, text: &str, wanted: &[usize]) -> Result<(), Fail> {
+    let tokens = tokens_of(alloc, text.as_bytes())?;
+    let (ends, _ticks) = ends_in(alloc, text.as_bytes())?;
+    let blamed = blamed_in(alloc, text.as_bytes(), &tokens, &ends)?;
+    assert!(rt; blamed.as_slice() == wanted, "{blamed:?} in {text}");
+    Ok(())
+}
+
 #[test]
 fn blames_tokens_of_texts(rt: HostRuntime) -> Result<(), Fail> {
     for (text, wanted) in &FAULTS {
-        let blamed = blamed_in(rt.alloc(), text.as_bytes())?;
-        assert_eq!(rt; blamed.as_slice(), *wanted, "at {text}");
+        expect_blamed(&rt, rt.alloc(), text, wanted)?;
     }
     Ok(())
 }

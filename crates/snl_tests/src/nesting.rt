@@ -1,7 +1,6 @@
 //! Nesting: a hundred levels of each kind are read and let go on the stack that a program has, and one level more is refused.
 
-use crate::reading::fault_of;
-use snl_reading::tokens_of;
+use crate::reading::{fault_of, tokens_of};
 use snl_syntax::ParseFault;
 use std::alloc::Global;
 use std::test::Fail;
@@ -86,17 +85,23 @@ fn fault_in(alloc: Global, text: &[u8]) -> Result<Option<ParseFault>, Fail> {
     Ok(fault_of(alloc, text, &tokens))
 }
 
+// What is answered where the opening part is in the text so many times.
+fn fault_at(alloc: Global, nest: &Nest, times: usize) -> Result<Option<ParseFault>, Fail> {
+    let text = text_of(alloc, nest, times)?;
+    fault_in(alloc, &text)
+}
+
 #[test]
 fn a_hundred_levels_are_read(rt: HostRuntime) -> Result<(), Fail> {
     for nest in &NESTS {
         let (head, open, inner, _close, _tail, most, blamed) = *nest;
-        let text = text_of(rt.alloc(), nest, most)?;
-        let found = fault_in(rt.alloc(), &text)?;
-        assert_eq!(rt; found, None, "at {head} {open} {inner}");
-        let text = text_of(rt.alloc(), nest, most.saturating_add(1))?;
-        let found = fault_in(rt.alloc(), &text)?;
+        let found = fault_at(rt.alloc(), nest, most)?;
+        let found_beyond = fault_at(rt.alloc(), nest, most.saturating_add(1))?;
         let wanted = Some(ParseFault::NoItem { at: blamed });
-        assert_eq!(rt; found, wanted, "at {head} {open} {inner}");
+        assert!(rt;
+            found == None && found_beyond == wanted,
+            "at {head} {open} {inner}"
+        );
     }
     Ok(())
 }
@@ -115,8 +120,8 @@ static CHAINS: [(&str, &str, &str); 5] = [
 #[test]
 fn chains_have_no_levels(rt: HostRuntime) -> Result<(), Fail> {
     for (head, part, tail) in &CHAINS {
-        let text = text_of(rt.alloc(), &(head, part, tail, "", "", 0, 0), 1000)?;
-        assert_eq!(rt; fault_in(rt.alloc(), &text)?, None, "at {head} {part}");
+        let found = fault_at(rt.alloc(), &(head, part, tail, "", "", 0, 0), 1000)?;
+        assert!(rt; found == None, "at {head} {part}");
     }
     Ok(())
 }

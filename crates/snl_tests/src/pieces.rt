@@ -3,6 +3,8 @@
 use Class::*;
 use snl_cut::{Count, Front};
 use snl_lex::{Bytes, Class, Piece, int_value, lex, token_text};
+use std::alloc::Global;
+use std::process::Abort;
 use std::test::Fail;
 
 /// A small program without faults.
@@ -84,20 +86,42 @@ static PIECES: [(&[u8], &[(Class, usize)]); 45] = [
     (b"", &[]),
 ];
 
+// Where pieces end that follow one another from the first byte on.
+fn joined_end(pieces: &[Piece]) -> Option<usize> {
+    let mut end = 0;
+    for piece in pieces {
+        if piece.start != end {
+            return None;
+        }
+        end = piece.start.saturating_add(piece.len);
+    }
+    Some(end)
+}
+
+// Whether pieces have these classes and lengths.
+fn are_these(pieces: &[Piece], wanted: &[(Class, usize)]) -> bool {
+    pieces.len() == wanted.len()
+        && pieces.iter().zip(wanted).all(|(piece, (kind, len))| piece.kind == *kind
+            && piece.len == *len)
+}
+
+fn expect_pieces(
+    rt: &impl Abort,
+    alloc: Global,
+    text: &[u8],
+    wanted: &[(Class, usize)],
+) -> Result<(), Fail> {
+    let mut work = Count::new();
+    let pieces = lex(alloc, text, &mut work)?;
+    assert!(rt; are_these(&pieces, wanted), "{text:?} has {pieces:?}");
+    assert!(rt; joined_end(&pieces) == Some(text.len()) && work.ticks() == wanted.len() as u64);
+    Ok(())
+}
+
 #[test]
 fn cuts_to_pieces(rt: HostRuntime) -> Result<(), Fail> {
     for (text, wanted) in &PIECES {
-        let mut work = Count::new();
-        let mut made = Vec::new(rt.alloc());
-        let mut end = 0;
-        for piece in &lex(rt.alloc(), text, &mut work)? {
-            assert_eq!(rt; piece.start, end, "{text:?}");
-            made.push((piece.kind, piece.len))?;
-            end = piece.start.saturating_add(piece.len);
-        }
-        assert_eq!(rt; made.as_slice(), *wanted, "{text:?}");
-        assert_eq!(rt; end, text.len(), "{text:?}");
-        assert_eq!(rt; work.ticks(), wanted.len() as u64);
+        expect_pieces(&rt, rt.alloc(), text, wanted)?;
     }
     Ok(())
 }
@@ -120,11 +144,21 @@ static CLASSES: [(&[u8], Class, usize); 6] = [
     (PROGRAM, Bad, 0),
 ];
 
+// How many pieces of a class a text has.
+fn count_of(alloc: Global, text: &[u8], kind: Class) -> Result<usize, Fail> {
+    let mut count: usize = 0;
+    for piece in &lex(alloc, text, &mut Count::new())? {
+        if piece.kind == kind {
+            count = count.wrapping_add(1);
+        }
+    }
+    Ok(count)
+}
+
 #[test]
 fn tells_classes(rt: HostRuntime) -> Result<(), Fail> {
     for (text, kind, wanted) in &CLASSES {
-        let pieces = lex(rt.alloc(), text, &mut Count::new())?;
-        let count = pieces.iter().filter(|piece| piece.kind == *kind).count();
+        let count = count_of(rt.alloc(), text, *kind)?;
         assert_eq!(rt; count, *wanted, "{kind:?} in {text:?}");
     }
     Ok(())
@@ -154,18 +188,13 @@ fn tells_values(rt: HostRuntime) {
 }
 
 #[test]
-fn tells_the_bytes_of_a_token(rt: HostRuntime) {
+fn tells_a_token_and_its_length(rt: HostRuntime) {
     let name = Piece {
         kind: Name,
         start: 4,
         len: 1,
     };
-    assert_eq!(rt; token_text(b"int x;", name), b"x".as_slice());
-}
-
-#[test]
-fn tells_the_first_length(rt: HostRuntime) {
+    assert!(rt; token_text(b"int x;", name) == b"x".as_slice());
     let mut work = Count::new();
-    assert_eq!(rt; Bytes.first(b"int x;", &mut work), 3);
-    assert_eq!(rt; work.ticks(), 1);
+    assert!(rt; Bytes.first(b"int x;", &mut work) == 3 && work.ticks() == 1);
 }

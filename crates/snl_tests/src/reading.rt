@@ -1,16 +1,24 @@
 //! What the tests of the parser share: a text comes in, its tokens, and what is answered for them as one item, go out.
 
 ghost use Rattle.snl_lex.specs.Pieces.{LiesIn};
-ghost use Rattle.std.specs.Prelude.{All};
+ghost use Rattle.std.specs.Prelude.{All, IfOk};
 
 use snl_cut::Count;
-use snl_lex::Piece;
-use snl_reading::tokens_of;
+use snl_lex::{Piece, lex, tokens_among};
 use snl_syntax::tree::item::Item;
 use snl_syntax::{ParseFault, parse_item};
 use std::alloc::Global;
 use std::process::Abort;
 use std::test::Fail;
+
+/// The tokens of a text.
+pub fn tokens_of(alloc: Global, text: &[u8]) -> Result<Vec<Piece>, Fail>
+    ensures { IfOk result (λ tokens. All (LiesIn text.now) tokens.items) }
+{
+    let pieces = lex(alloc, text, &mut Count::new())?;
+    let tokens = tokens_among(alloc, &pieces)?;
+    Ok(tokens)
+}
 
 /// The fault that is answered for these tokens of a text; none for no tokens.
 pub fn fault_of(alloc: Global, text: &[u8], tokens: &[Piece]) -> Option<ParseFault>
@@ -34,10 +42,17 @@ pub fn item_of(alloc: Global, text: &[u8]) -> Result<Item, Fail> {
 /// A text, and the number of the token that is blamed, where it is no item.
 pub type Row = (&'static str, Option<usize>);
 
-/// Reads each text as one item. Without its last token an item is none, and the token before that is blamed.
-pub fn read_rows(rt: &impl Abort, alloc: Global, rows: &[Row]) -> Result<(), Fail> {
+fn read_rows(rt: &impl Abort, alloc: Global, rows: &[Row]) -> Result<(), Fail> {
     for (text, blamed) in rows {
         read_row(rt, alloc, text, *blamed)?;
+    }
+    Ok(())
+}
+
+/// Reads each text of some tables as one item. Without its last token an item is none, and the token before that is blamed.
+pub fn read_tables(rt: &impl Abort, alloc: Global, tables: &[&[Row]]) -> Result<(), Fail> {
+    for rows in tables {
+        read_rows(rt, alloc, rows)?;
     }
     Ok(())
 }
@@ -52,12 +67,12 @@ pub fn read_row(
     let bytes = text.as_bytes();
     let tokens = tokens_of(alloc, bytes)?;
     let wanted = blamed.map(|at| ParseFault::NoItem { at });
-    assert_eq!(rt; fault_of(alloc, bytes, &tokens), wanted, "at {text}");
+    assert!(rt; fault_of(alloc, bytes, &tokens) == wanted, "at {text}");
     if wanted.is_none() && tokens.len() > 1 {
         let last = tokens.len() - 1;
         let shorter = fault_of(alloc, bytes, &tokens[..last]);
         let wanted = Some(ParseFault::NoItem { at: last - 1 });
-        assert_eq!(rt; shorter, wanted, "at {text} without its last token");
+        assert!(rt; shorter == wanted, "at {text} without its last token");
     }
     Ok(())
 }

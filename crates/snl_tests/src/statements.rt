@@ -1,9 +1,9 @@
 //! Blocks and statements, each in the block of an `exit`: which tokens make them, and which number is blamed where they don't.
 
-use crate::reading::{Row, read_rows};
+use crate::reading::{Row, read_tables};
 use std::test::Fail;
 
-static PLAIN: [Row; 34] = [
+const PLAIN: [Row; 34] = [
     ("exit { ; }", None),
     ("exit { a; }", None),
     ("exit { a = 1, b = 2; }", None),
@@ -40,7 +40,7 @@ static PLAIN: [Row; 34] = [
     ("exit { program p }", Some(2)),
 ];
 
-static CONDITIONS: [Row; 18] = [
+const CONDITIONS: [Row; 18] = [
     ("exit { if (a) ; }", None),
     ("exit { if (a, b) ; else ; }", None),
     ("exit { if (a) { } else { } }", None),
@@ -64,7 +64,7 @@ static CONDITIONS: [Row; 18] = [
     ("exit { else ; }", Some(2)),
 ];
 
-static LOOPS: [Row; 20] = [
+const LOOPS: [Row; 20] = [
     ("exit { while (a) ; }", None),
     ("exit { while (a, b) { break; } }", None),
     ("exit { for (;;) ; }", None),
@@ -87,9 +87,9 @@ static LOOPS: [Row; 20] = [
     ("exit { for (int i; ;) ; }", Some(4)),
 ];
 
+static TABLES: [&[Row]; 3] = [&PLAIN, &CONDITIONS, &LOOPS];
+
 #[test]
 fn reads_statements(rt: HostRuntime) -> Result<(), Fail> {
-    read_rows(&rt, rt.alloc(), &PLAIN)?;
-    read_rows(&rt, rt.alloc(), &CONDITIONS)?;
-    read_rows(&rt, rt.alloc(), &LOOPS)
+    read_tables(&rt, rt.alloc(), &TABLES)
 }

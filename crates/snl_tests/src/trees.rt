@@ -9,6 +9,7 @@ use snl_syntax::tree::state::{StateMember, Target, Transition};
 use snl_syntax::tree::statement::{Member, Stmt};
 use sqlite_items::Items;
 use std::alloc::Global;
+use std::process::Abort;
 use std::test::Fail;
 
 fn form_of(item: &Item) -> &'static str {
@@ -53,8 +54,8 @@ static FORMS: [(&str, &str); 17] = [
 #[test]
 fn items_have_their_form(rt: HostRuntime) -> Result<(), Fail> {
     for (text, wanted) in &FORMS {
-        let item = item_of(rt.alloc(), text.as_bytes())?;
-        assert_eq!(rt; form_of(&item), *wanted, "at {text}");
+        let form = form_of(&item_of(rt.alloc(), text.as_bytes())?);
+        assert!(rt; form == *wanted, "{text} is no {wanted}");
     }
     Ok(())
 }
@@ -113,13 +114,20 @@ static EXPRESSIONS: [(&str, &str, usize); 17] = [
     ("a = (b = c)", "assigned", 1),
 ];
 
+// What the value of a variable is.
+fn form_in(alloc: Global, text: &str) -> Result<Option<(&'static str, usize)>, Fail> {
+    let item = item_of(alloc, format!(in alloc; "int x = {text};")?.as_bytes())?;
+    Ok(value_of(&item).map(form_of_expression))
+}
+
 #[test]
 fn expressions_have_their_form(rt: HostRuntime) -> Result<(), Fail> {
     for (text, form, count) in &EXPRESSIONS {
-        let whole = format!(in rt.alloc(); "int x = {text};")?;
-        let item = item_of(rt.alloc(), whole.as_bytes())?;
-        let found = value_of(&item).map(form_of_expression);
-        assert_eq!(rt; found, Some((*form, *count)), "at {text}");
+        let found = form_in(rt.alloc(), text)?;
+        assert!(rt;
+            found == Some((*form, *count)),
+            "{text} is no {form} of {count}"
+        );
     }
     Ok(())
 }
@@ -152,22 +160,22 @@ fn operator_in(alloc: Global, text: &str) -> Result<Option<Binary>, Fail> {
     Ok(value_of(&item).and_then(operator_of))
 }
 
+// The operator that holds the other one, where the first of two stands before the second.
+fn outer_of(alloc: Global, first: &str, second: &str) -> Result<Option<Binary>, Fail> {
+    let text = format!(in alloc; "int x = a {first} b {second} c;")?;
+    operator_in(alloc, &text)
+}
+
 #[test]
 fn a_looser_operator_holds_a_tighter_one(rt: HostRuntime) -> Result<(), Fail> {
     for i in 1..LEVELS.len() {
         let (loose, wanted) = LEVELS[i - 1];
         let (tight, _) = LEVELS[i];
-        let before = format!(in rt.alloc(); "int x = a {loose} b {tight} c;")?;
-        assert_eq!(rt;
-            operator_in(rt.alloc(), &before)?,
-            Some(wanted),
-            "at {before}"
-        );
-        let after = format!(in rt.alloc(); "int x = a {tight} b {loose} c;")?;
-        assert_eq!(rt;
-            operator_in(rt.alloc(), &after)?,
-            Some(wanted),
-            "at {after}"
+        let before = outer_of(rt.alloc(), loose, tight)?;
+        let after = outer_of(rt.alloc(), tight, loose)?;
+        assert!(rt;
+            before == Some(wanted) && after == Some(wanted),
+            "at {loose} and {tight}"
         );
     }
     Ok(())
@@ -228,19 +236,26 @@ fn statement_of(transition: &Transition) -> Option<&Stmt> {
     }
 }
 
+// The name that is the only condition of the outer `if` of a transition, whether that has an `else`, and the same of the inner one.
+fn choices(transition: &Transition) -> Option<[(usize, bool); 2]> {
+    let (name, body, has_else) = choice(statement_of(transition)?)?;
+    let (inner, _body, inner_has_else) = choice(body)?;
+    Some([(name, has_else), (inner, inner_has_else)])
+}
+
+fn expect_choices(rt: &impl Abort, transition: Option<&Transition>) {
+    let choices = transition.and_then(choices);
+    assert_eq!(rt; choices, Some([(14, false), (18, true)]));
+    let target = transition.map(|one| one.target);
+    assert_eq!(rt; target, Some(Target::Exit));
+    let condition = transition.and_then(|one| one.condition.as_ref());
+    assert_eq!(rt; condition.and_then(differences), Some([5, 7, 9]));
+}
+
 #[test]
 fn an_else_belongs_to_the_nearest_if(rt: HostRuntime) -> Result<(), Fail> {
     let text = b"state i { when (a - b - c) { if (p) if (q) x = 1; else x = 2; } exit }";
     let item = item_of(rt.alloc(), text)?;
-    let members = members_of(&item).ok_or("no state")?;
-    let transition = first_transition(members).ok_or("no transition")?;
-    assert_eq!(rt; transition.target, Target::Exit);
-    let condition = transition.condition.as_ref().ok_or("no condition")?;
-    assert_eq!(rt; differences(condition), Some([5, 7, 9]));
-    let outer = statement_of(transition).ok_or("no statement")?;
-    let (name, body, has_else) = choice(outer).ok_or("no if")?;
-    assert_eq!(rt; (name, has_else), (14, false));
-    let (name, _body, has_else) = choice(body).ok_or("no inner if")?;
-    assert_eq!(rt; (name, has_else), (18, true));
+    expect_choices(&rt, members_of(&item).and_then(first_transition));
     Ok(())
 }

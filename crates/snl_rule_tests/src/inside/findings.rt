@@ -1,15 +1,12 @@
 //! Items with what is found wrong in them.
 
-ghost use Rattle.std.specs.Prelude.{◌≡◌, ◌<◌, All, length};
+ghost use Rattle.std.specs.Prelude.{◌≡◌, All};
 ghost use Rattle.snl_lex.specs.Pieces.{LiesIn};
 ghost use Rattle.snl_rule_tests.specs.Around.{misses, outer_of, passing};
 
-use snl_cut::Count;
-use snl_lex::Piece;
-use snl_reading::tokens_of;
-use snl_syntax::parse_item;
-use snl_walk::{Finding, OtherItems, Outer, Source, findings, occurrences};
-use std::alloc::Global;
+use crate::inside::asked::{Asked, Row, expect_answers};
+use crate::words::add_word;
+use snl_walk::{Finding, Occurrence, OtherItems, Outer, Source, findings};
 use std::test::Fail;
 
 /// Around the items of these tests there are an event flag `e`, a variable `c` with a channel and one without, `v`, and a foreign
@@ -46,43 +43,25 @@ impl OtherItems for Around {
     }
 }
 
-// Each finding: its code, and its token.
-fn told(source: &Source, found: &[Finding]) -> Result<Vec<u8>, Fail>
+fn add_finding(source: &Source, words: &mut Vec<u8>, one: &Finding) -> Result<(), Fail>
     requires { All (LiesIn source.now.text.now) source.now.tokens.now }
 {
-    let mut words = Vec::new(source.alloc);
-    for one in found {
-        words.extend_from_slice(one.code.name().as_bytes())?;
-        words.push(b':')?;
-        words.extend_from_slice(source.bytes(one.token))?;
-        words.push(b' ')?;
-    }
-    Ok(words)
+    words.extend_from_slice(one.code.name().as_bytes())?;
+    words.push(b':')?;
+    add_word(words, source.bytes(one.token))
 }
 
-fn wrong_at(alloc: Global, text: &[u8], tokens: &[Piece]) -> Result<Vec<u8>, Fail>
-    requires lie_in { All (LiesIn text.now) tokens.now }
-    requires some { 0 < length tokens.now }
+/// Adds each finding: its code, and its token.
+pub fn add_findings(source: &Source, words: &mut Vec<u8>, found: &[Occurrence]) -> Result<(), Fail>
+    requires { All (LiesIn source.now.text.now) source.now.tokens.now }
 {
-    let tree = parse_item(alloc, text, tokens, &mut Count::new())?;
-    let source = Source {
-        text,
-        tokens,
-        alloc,
-    };
-    let found = occurrences(&source, &tree)?;
-    told(&source, &findings(&source, &Around, &found)?)
-}
-
-fn wrong(alloc: Global, text: &[u8]) -> Result<Vec<u8>, Fail> {
-    let tokens = tokens_of(alloc, text)?;
-    if tokens.is_empty() {
-        return Err("no item")?;
+    for one in &findings(source, &Around, found)? {
+        add_finding(source, words, one)?;
     }
-    wrong_at(alloc, text, &tokens)
+    Ok(())
 }
 
-static ITEMS: [(&str, &str); 6] = [
+static ITEMS: [Row; 6] = [
     (
         "state i { int x; when (v && u && u) { int x; int x; evflag h; } exit }",
         "E07:x E17:h W01:u ",
@@ -108,9 +87,5 @@ static ITEMS: [(&str, &str); 6] = [
 
 #[test]
 fn what_is_wrong_in_items(rt: HostRuntime) -> Result<(), Fail> {
-    for (text, wanted) in &ITEMS {
-        let wrong = wrong(rt.alloc(), text.as_bytes())?;
-        assert_eq!(rt; wrong.as_slice(), wanted.as_bytes(), "{text}");
-    }
-    Ok(())
+    expect_answers(&rt, rt.alloc(), Asked::Findings, &ITEMS)
 }

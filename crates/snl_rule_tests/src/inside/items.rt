@@ -1,41 +1,9 @@
 //! Items with what is found in them.
 
-ghost use Rattle.std.specs.Prelude.{All, ◌<◌, length};
-ghost use Rattle.snl_lex.specs.Pieces.{LiesIn};
-
-use crate::inside::told::told;
-use snl_cut::Count;
-use snl_lex::Piece;
-use snl_reading::tokens_of;
-use snl_syntax::parse_item;
-use snl_walk::{Source, occurrences};
-use std::alloc::Global;
+use crate::inside::asked::{Asked, Row, expect_answers};
 use std::test::Fail;
 
-/// An item, and what is found in it.
-type Row = (&'static str, &'static str);
-
-fn found_at(alloc: Global, text: &[u8], tokens: &[Piece]) -> Result<Vec<u8>, Fail>
-    requires lie_in { All (LiesIn text.now) tokens.now }
-    requires some { 0 < length tokens.now }
-{
-    let tree = parse_item(alloc, text, tokens, &mut Count::new())?;
-    let source = Source {
-        text,
-        tokens,
-        alloc,
-    };
-    told(&source, &occurrences(&source, &tree)?)
-}
-
-fn found(alloc: Global, text: &[u8]) -> Result<Vec<u8>, Fail> {
-    let tokens = tokens_of(alloc, text)?;
-    if tokens.is_empty() {
-        return Err("no item")?;
-    }
-    found_at(alloc, text, &tokens)
-}
-
+// An item, and what occurs in it.
 static ITEMS: [Row; 14] = [
     ("program p", ""),
     ("int x[y] = { z, 1 }, *w;", "x:d y:n z:n w:d "),
@@ -81,10 +49,6 @@ static ITEMS: [Row; 14] = [
 ];
 
 #[test]
-fn items(rt: HostRuntime) -> Result<(), Fail> {
-    for (text, wanted) in &ITEMS {
-        let found = found(rt.alloc(), text.as_bytes())?;
-        assert_eq!(rt; found.as_slice(), wanted.as_bytes(), "{text}");
-    }
-    Ok(())
+fn what_occurs_in_items(rt: HostRuntime) -> Result<(), Fail> {
+    expect_answers(&rt, rt.alloc(), Asked::Occurrences, &ITEMS)
 }

@@ -67,13 +67,16 @@ fn add_occurrence(source: &Source, words: &mut Vec<u8>, one: Occurrence) -> Resu
     Ok(words.push(b' ')?)
 }
 
-/// Each occurrence: its token, what is there, and the declaration that the name resolves to.
-pub fn told(source: &Source, found: &[Occurrence]) -> Result<Vec<u8>, Fail>
+/// Adds each occurrence: its token, what is there, and the declaration that the name resolves to.
+pub fn add_occurrences(
+    source: &Source,
+    words: &mut Vec<u8>,
+    found: &[Occurrence],
+) -> Result<(), Fail>
     requires { All (LiesIn source.now.text.now) source.now.tokens.now }
 {
-    let mut words = Vec::new(source.alloc);
     for one in found {
-        add_occurrence(source, &mut words, *one)?;
+        add_occurrence(source, words, *one)?;
     }
-    Ok(words)
+    Ok(())
 }

@@ -1,14 +1,11 @@
 //! Items with the names that they use, the states that they lead to, and what can wake them.
 
-ghost use Rattle.std.specs.Prelude.{All, ◌<◌, length};
+ghost use Rattle.std.specs.Prelude.{All};
 ghost use Rattle.snl_lex.specs.Pieces.{LiesIn};
 
-use snl_cut::Count;
-use snl_lex::Piece;
-use snl_reading::tokens_of;
-use snl_syntax::parse_item;
-use snl_walk::{Occurrence, Source, WakeUse, occurrences, targets, uses, wake_uses};
-use std::alloc::Global;
+use crate::inside::asked::{Asked, Row, expect_answers};
+use crate::words::add_word;
+use snl_walk::{Occurrence, Source, WakeUse, targets, uses, wake_uses};
 use std::test::Fail;
 
 // The tokens with these numbers.
@@ -16,61 +13,43 @@ fn add_tokens(source: &Source, words: &mut Vec<u8>, tokens: &[usize]) -> Result<
     requires { All (LiesIn source.now.text.now) source.now.tokens.now }
 {
     for token in tokens {
-        words.extend_from_slice(source.bytes(*token))?;
-        words.push(b' ')?;
+        add_word(words, source.bytes(*token))?;
     }
     Ok(())
 }
 
-// Each use with its subscript.
-fn add_wake_uses(source: &Source, words: &mut Vec<u8>, found: &[WakeUse]) -> Result<(), Fail>
+fn add_wake_use(source: &Source, words: &mut Vec<u8>, one: &WakeUse) -> Result<(), Fail>
     requires { All (LiesIn source.now.text.now) source.now.tokens.now }
 {
-    for one in found {
-        words.extend_from_slice(source.bytes(one.token))?;
-        if let Some(value) = one.subscript {
-            words.extend_from_slice(format!(in source.alloc; "[{value}]")?.as_bytes())?;
-        }
-        words.push(b' ')?;
+    words.extend_from_slice(source.bytes(one.token))?;
+    if let Some(value) = one.subscript {
+        words.extend_from_slice(format!(in source.alloc; "[{value}]")?.as_bytes())?;
+    }
+    Ok(words.push(b' ')?)
+}
+
+/// Adds what can wake an item: each use in its conditions, with its subscript in brackets.
+pub fn add_wake_uses(source: &Source, words: &mut Vec<u8>, found: &[Occurrence]) -> Result<(), Fail>
+    requires { All (LiesIn source.now.text.now) source.now.tokens.now }
+{
+    for one in &wake_uses(source, found)? {
+        add_wake_use(source, words, one)?;
     }
     Ok(())
 }
 
-// What an item uses; after a bar the states that it leads to; after another what can wake it.
-fn said_by(source: &Source, found: &[Occurrence]) -> Result<Vec<u8>, Fail>
+/// Adds what an item uses; after a bar the states that it leads to; after another what can wake it.
+pub fn add_uses(source: &Source, words: &mut Vec<u8>, found: &[Occurrence]) -> Result<(), Fail>
     requires { All (LiesIn source.now.text.now) source.now.tokens.now }
 {
-    let mut words = Vec::new(source.alloc);
-    add_tokens(source, &mut words, &uses(source.alloc, found)?)?;
+    add_tokens(source, words, &uses(source.alloc, found)?)?;
     words.extend_from_slice(b"| ")?;
-    add_tokens(source, &mut words, &targets(source.alloc, found)?)?;
+    add_tokens(source, words, &targets(source.alloc, found)?)?;
     words.extend_from_slice(b"| ")?;
-    add_wake_uses(source, &mut words, &wake_uses(source, found)?)?;
-    Ok(words)
+    add_wake_uses(source, words, found)
 }
 
-fn said_at(alloc: Global, text: &[u8], tokens: &[Piece]) -> Result<Vec<u8>, Fail>
-    requires lie_in { All (LiesIn text.now) tokens.now }
-    requires some { 0 < length tokens.now }
-{
-    let tree = parse_item(alloc, text, tokens, &mut Count::new())?;
-    let source = Source {
-        text,
-        tokens,
-        alloc,
-    };
-    said_by(&source, &occurrences(&source, &tree)?)
-}
-
-fn said(alloc: Global, text: &[u8]) -> Result<Vec<u8>, Fail> {
-    let tokens = tokens_of(alloc, text)?;
-    if tokens.is_empty() {
-        return Err("no item")?;
-    }
-    said_at(alloc, text, &tokens)
-}
-
-static ITEMS: [(&str, &str); 4] = [
+static ITEMS: [Row; 4] = [
     ("int x = y;", "y | | "),
     ("entry { f(a, a); state j; }", "a a | | "),
     (
@@ -85,9 +64,5 @@ static ITEMS: [(&str, &str); 4] = [
 
 #[test]
 fn what_items_say(rt: HostRuntime) -> Result<(), Fail> {
-    for (text, wanted) in &ITEMS {
-        let found = said(rt.alloc(), text.as_bytes())?;
-        assert_eq!(rt; found.as_slice(), wanted.as_bytes(), "{text}");
-    }
-    Ok(())
+    expect_answers(&rt, rt.alloc(), Asked::Uses, &ITEMS)
 }
