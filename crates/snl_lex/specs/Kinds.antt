@@ -1,5 +1,5 @@
 -- The words and punctuators of the language, 43 and 45, and what a token is to the grammar, by its class and its bytes.
-use Rattle.std.specs.Prelude.{ℕ, Bool, List, [], ◌∷◌, ◌++◌, codes, cond, map}
+use Rattle.std.specs.Prelude.{ℕ, Bool, List, [], ◌∷◌, ◌++◌, codes, cond, filter, length, map, take}
 use Rattle.std.specs.List.{list_any}
 use Rattle.std.specs.Str.{bytes_eq}
 use Rattle.snl_lex.specs.declared.piece.Class.{Class}
@@ -88,6 +88,10 @@ words_of_8 =
 -- All words, from the shortest on. Case counts.
 abbrev pub words : List Entry
 words = words_of_2 ++ (words_of_3 ++ (words_of_4 ++ (words_of_5 ++ (words_of_6 ++ (words_of_7 ++ words_of_8)))))
+
+-- The words that begin with these bytes.
+abbrev pub words_on : List ℕ → List Entry
+words_on front = filter (λ (e : Entry). bytes_eq (take (length front) e.bytes) front) words
 
 -- The bytes spell one of the words.
 unfoldable pub is_word : List ℕ → Bool

@@ -1,176 +1,178 @@
 //! The words of the language: the bytes of a word come in, what it is to the grammar goes out.
+//! A word is looked for among the few that begin as it does: most names are told by their first byte and their length.
 
-ghost use Rattle.snl_lex.specs.Kinds.{is_word, look_up, words, more_words_of_4, more_words_of_5, more_words_of_6, more_words_of_7, words_of_2, words_of_3, words_of_4, words_of_5, words_of_6, words_of_7, words_of_8};
-ghost use Rattle.std.specs.Prelude.{◌≡◌};
+ghost use Rattle.snl_lex.specs.Kinds.{◌is◌, is_word, look_up, words, words_on};
+ghost use Rattle.std.specs.Prelude.{◌≡◌, [], ◌∷◌, codes, slice_index};
+ghost use Rattle.std.specs.Str.{bytes_eq};
 
+use crate::alphabet::byte_at;
 use crate::kind::Kind;
 
-fn word_of_two(word: &[u8]) -> Kind
-    ensures { result ≡ look_up words_of_2 word.now }
+// Inlined, so that the length of the spelling, a constant, makes a compare or two of it.
+#[inline(always)]
+fn is_spelled(word: &[u8], spelling: &[u8]) -> bool
+    ensures { result ≡ bytes_eq word.now spelling.now }
 {
-    match word {
-        b"ss" => Kind::Ss,
-        b"to" => Kind::To,
-        b"if" => Kind::If,
-        _ => Kind::Bad,
+    word.len() == spelling.len() && word.starts_with(spelling)
+}
+
+// The word that alone begins with its first byte.
+#[inline(always)]
+fn lone_word(word: &[u8], spelling: &[u8], kind: Kind) -> Kind
+    ensures { result ≡ look_up ((spelling.now is kind) ∷ []) word.now }
+{
+    if is_spelled(word, spelling) {
+        kind
+    } else {
+        Kind::Bad
     }
 }
 
-fn word_of_three(word: &[u8]) -> Kind
-    ensures { result ≡ look_up words_of_3 word.now }
+fn word_on_c(word: &[u8]) -> Kind
+    ensures { result ≡ look_up (words_on (codes "c")) word.now }
 {
-    match word {
-        b"for" => Kind::For,
-        b"int" => Kind::Int,
-        _ => Kind::Bad,
-    }
-}
-
-fn other_word_of_four(word: &[u8]) -> Kind
-    ensures { result ≡ look_up more_words_of_4 word.now }
-{
-    if word == b"void".as_slice() {
-        Kind::Void
-    } else if word == b"char".as_slice() {
+    if is_spelled(word, b"char") {
         Kind::Char
-    } else if word == b"long".as_slice() {
-        Kind::Long
-    } else if word == b"enum".as_slice() {
-        Kind::Enum
-    } else {
-        Kind::Bad
-    }
-}
-
-fn word_of_four(word: &[u8]) -> Kind
-    ensures { result ≡ look_up words_of_4 word.now }
-{
-    if word == b"exit".as_slice() {
-        Kind::Exit
-    } else if word == b"when".as_slice() {
-        Kind::When
-    } else if word == b"sync".as_slice() {
-        Kind::Sync
-    } else if word == b"else".as_slice() {
-        Kind::Else
-    } else {
-        other_word_of_four(word)
-    }
-}
-
-fn other_word_of_five(word: &[u8]) -> Kind
-    ensures { result ≡ look_up more_words_of_5 word.now }
-{
-    if word == b"break".as_slice() {
-        Kind::Break
-    } else if word == b"const".as_slice() {
+    } else if is_spelled(word, b"const") {
         Kind::Const
-    } else if word == b"short".as_slice() {
-        Kind::Short
-    } else if word == b"float".as_slice() {
-        Kind::Float
-    } else if word == b"union".as_slice() {
-        Kind::Union
+    } else if is_spelled(word, b"continue") {
+        Kind::Continue
     } else {
         Kind::Bad
     }
 }
 
-fn word_of_five(word: &[u8]) -> Kind
-    ensures { result ≡ look_up words_of_5 word.now }
+fn word_on_e(word: &[u8]) -> Kind
+    ensures { result ≡ look_up (words_on (codes "e")) word.now }
 {
-    if word == b"state".as_slice() {
-        Kind::State
-    } else if word == b"entry".as_slice() {
+    if is_spelled(word, b"exit") {
+        Kind::Exit
+    } else if is_spelled(word, b"else") {
+        Kind::Else
+    } else if is_spelled(word, b"enum") {
+        Kind::Enum
+    } else if is_spelled(word, b"entry") {
         Kind::Entry
-    } else if word == b"syncq".as_slice() {
-        Kind::Syncq
-    } else if word == b"syncQ".as_slice() {
-        Kind::SyncqCapital
-    } else if word == b"while".as_slice() {
-        Kind::While
-    } else {
-        other_word_of_five(word)
-    }
-}
-
-fn other_word_of_six(word: &[u8]) -> Kind
-    ensures { result ≡ look_up more_words_of_6 word.now }
-{
-    if word == b"struct".as_slice() {
-        Kind::Struct
-    } else if word == b"return".as_slice() {
-        Kind::Return
-    } else if word == b"sizeof".as_slice() {
-        Kind::Sizeof
-    } else if word == b"int8_t".as_slice() {
-        Kind::Int8
+    } else if is_spelled(word, b"evflag") {
+        Kind::Evflag
     } else {
         Kind::Bad
     }
 }
 
-fn word_of_six(word: &[u8]) -> Kind
-    ensures { result ≡ look_up words_of_6 word.now }
+fn word_on_f(word: &[u8]) -> Kind
+    ensures { result ≡ look_up (words_on (codes "f")) word.now }
 {
-    if word == b"assign".as_slice() {
-        Kind::Assign
-    } else if word == b"string".as_slice() {
-        Kind::String
-    } else if word == b"double".as_slice() {
-        Kind::Double
-    } else if word == b"evflag".as_slice() {
-        Kind::Evflag
-    } else if word == b"option".as_slice() {
-        Kind::Option
+    if is_spelled(word, b"for") {
+        Kind::For
+    } else if is_spelled(word, b"float") {
+        Kind::Float
+    } else if is_spelled(word, b"foreign") {
+        Kind::Foreign
     } else {
-        other_word_of_six(word)
+        Kind::Bad
     }
 }
 
-fn other_word_of_seven(word: &[u8]) -> Kind
-    ensures { result ≡ look_up more_words_of_7 word.now }
+fn word_on_i(word: &[u8]) -> Kind
+    ensures { result ≡ look_up (words_on (codes "i")) word.now }
 {
-    if word == b"uint8_t".as_slice() {
-        Kind::Uint8
-    } else if word == b"int16_t".as_slice() {
+    if is_spelled(word, b"if") {
+        Kind::If
+    } else if is_spelled(word, b"int") {
+        Kind::Int
+    } else if is_spelled(word, b"int8_t") {
+        Kind::Int8
+    } else if is_spelled(word, b"int16_t") {
         Kind::Int16
-    } else if word == b"int32_t".as_slice() {
+    } else if is_spelled(word, b"int32_t") {
         Kind::Int32
     } else {
         Kind::Bad
     }
 }
 
-fn word_of_seven(word: &[u8]) -> Kind
-    ensures { result ≡ look_up words_of_7 word.now }
+fn word_on_st(word: &[u8]) -> Kind
+    ensures { result ≡ look_up (words_on (codes "st")) word.now }
 {
-    if word == b"program".as_slice() {
-        Kind::Program
-    } else if word == b"monitor".as_slice() {
-        Kind::Monitor
-    } else if word == b"foreign".as_slice() {
-        Kind::Foreign
+    if is_spelled(word, b"state") {
+        Kind::State
+    } else if is_spelled(word, b"string") {
+        Kind::String
+    } else if is_spelled(word, b"struct") {
+        Kind::Struct
     } else {
-        other_word_of_seven(word)
+        Kind::Bad
     }
 }
 
-fn word_of_eight(word: &[u8]) -> Kind
-    ensures { result ≡ look_up words_of_8 word.now }
+fn word_on_sy(word: &[u8]) -> Kind
+    ensures { result ≡ look_up (words_on (codes "sy")) word.now }
 {
-    if word == b"continue".as_slice() {
-        Kind::Continue
-    } else if word == b"unsigned".as_slice() {
-        Kind::Unsigned
-    } else if word == b"uint16_t".as_slice() {
-        Kind::Uint16
-    } else if word == b"uint32_t".as_slice() {
-        Kind::Uint32
-    } else if word == b"typename".as_slice() {
+    if is_spelled(word, b"sync") {
+        Kind::Sync
+    } else if is_spelled(word, b"syncq") {
+        Kind::Syncq
+    } else if is_spelled(word, b"syncQ") {
+        Kind::SyncqCapital
+    } else {
+        Kind::Bad
+    }
+}
+
+fn word_on_t(word: &[u8]) -> Kind
+    ensures { result ≡ look_up (words_on (codes "t")) word.now }
+{
+    if is_spelled(word, b"to") {
+        Kind::To
+    } else if is_spelled(word, b"typename") {
         Kind::Typename
     } else {
         Kind::Bad
+    }
+}
+
+fn word_on_u(word: &[u8]) -> Kind
+    ensures { result ≡ look_up (words_on (codes "u")) word.now }
+{
+    if is_spelled(word, b"union") {
+        Kind::Union
+    } else if is_spelled(word, b"uint8_t") {
+        Kind::Uint8
+    } else if is_spelled(word, b"unsigned") {
+        Kind::Unsigned
+    } else if is_spelled(word, b"uint16_t") {
+        Kind::Uint16
+    } else if is_spelled(word, b"uint32_t") {
+        Kind::Uint32
+    } else {
+        Kind::Bad
+    }
+}
+
+fn word_on_w(word: &[u8]) -> Kind
+    ensures { result ≡ look_up (words_on (codes "w")) word.now }
+{
+    if is_spelled(word, b"when") {
+        Kind::When
+    } else if is_spelled(word, b"while") {
+        Kind::While
+    } else {
+        Kind::Bad
+    }
+}
+
+fn word_on_s(word: &[u8]) -> Kind
+    requires { slice_index word.now 0 ≡ 115 }
+    ensures { result ≡ look_up words word.now }
+{
+    match byte_at(word, 1) {
+        b's' => lone_word(word, b"ss", Kind::Ss),
+        b't' => word_on_st(word),
+        b'y' => word_on_sy(word),
+        b'h' => lone_word(word, b"short", Kind::Short),
+        b'i' => lone_word(word, b"sizeof", Kind::Sizeof),
+        _ => Kind::Bad,
     }
 }
 
@@ -178,14 +180,24 @@ fn word_of_eight(word: &[u8]) -> Kind
 pub fn word_kind(word: &[u8]) -> Kind
     ensures { result ≡ look_up words word.now }
 {
-    match word.len() {
-        2 => word_of_two(word),
-        3 => word_of_three(word),
-        4 => word_of_four(word),
-        5 => word_of_five(word),
-        6 => word_of_six(word),
-        7 => word_of_seven(word),
-        8 => word_of_eight(word),
+    match byte_at(word, 0) {
+        b'a' => lone_word(word, b"assign", Kind::Assign),
+        b'b' => lone_word(word, b"break", Kind::Break),
+        b'c' => word_on_c(word),
+        b'd' => lone_word(word, b"double", Kind::Double),
+        b'e' => word_on_e(word),
+        b'f' => word_on_f(word),
+        b'i' => word_on_i(word),
+        b'l' => lone_word(word, b"long", Kind::Long),
+        b'm' => lone_word(word, b"monitor", Kind::Monitor),
+        b'o' => lone_word(word, b"option", Kind::Option),
+        b'p' => lone_word(word, b"program", Kind::Program),
+        b'r' => lone_word(word, b"return", Kind::Return),
+        b's' => word_on_s(word),
+        b't' => word_on_t(word),
+        b'u' => word_on_u(word),
+        b'v' => lone_word(word, b"void", Kind::Void),
+        b'w' => word_on_w(word),
         _ => Kind::Bad,
     }
 }
