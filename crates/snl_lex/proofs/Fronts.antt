@@ -1,24 +1,14 @@
 -- A word is looked for among those that begin as it does.
-use Rattle.std.proofs.Common.{◌≡◌, ℕ, suc, Bool, true, false, nat_eq, cond, List, [], ◌∷◌, length, take, filter, slice_index, ap, sym, ◌∙◌, refl, arith}
+use Rattle.std.proofs.Common.{◌≡◌, ◌≤◌, ℕ, suc, Bool, true, false, cond, List, [], ◌∷◌, length, take, filter, slice_index, ap, sym, ◌∙◌, refl, arith}
 use Rattle.std.specs.Str.{bytes_eq}
-use Rattle.std.proofs.lemmas.Bool.Decides.{nat_tests}
 use Rattle.std.proofs.lemmas.List.{take_all}
 use Rattle.std.proofs.lemmas.Slice.Eq.{bytes_eq-Decides}
 use Rattle.snl_lex.specs.Kinds.{Entry, look_up, words, words_on}
 
--- Either list may come first.
-mirrored : (xs ys : List ℕ) → bytes_eq xs ys ≡ bytes_eq ys xs
-mirrored [] [] = refl
-mirrored [] (y ∷ ys) = refl
-mirrored (x ∷ xs) [] = refl
-mirrored (x ∷ xs) (y ∷ ys) =
-    let same : nat_eq x y ≡ nat_eq y x = grind (arith, nat_tests) in
-    let rest : bytes_eq xs ys ≡ bytes_eq ys xs = mirrored xs ys in
-    cc
-
--- The bytes are those of the spelling, if they are as many and begin with it.
-pub spelled : (word spelling : List ℕ) → length word ≡ length spelling → bytes_eq spelling (take (length spelling) word) ≡ bytes_eq word spelling
-spelled word spelling e = ap (bytes_eq spelling) (take_all (length spelling) word (omega arith)) ∙ mirrored spelling word
+-- Lists of one length are the same, if as many elements are.
+pub equal : (xs ys : List ℕ) (n : ℕ) → length xs ≡ length ys → length ys ≤ n → take n xs ≡ take n ys → true ≡ bytes_eq xs ys
+equal xs ys n many whole same =
+    sym ((bytes_eq-Decides xs ys).1 (sym (take_all n xs (omega arith)) ∙ same ∙ take_all n ys (omega arith)))
 
 -- A list is not one that begins otherwise.
 begins_otherwise : (n : ℕ) (front xs ys : List ℕ) (b : Bool) → bytes_eq xs ys ≡ b → take n xs ≡ front → bytes_eq (take n ys) front ≡ false → b ≡ false

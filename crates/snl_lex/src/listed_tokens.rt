@@ -5,7 +5,7 @@ ghost use Rattle.snl_cut.specs.Cut.{last_end};
 ghost use Rattle.snl_lex.specs.Made.{made_pieces};
 ghost use Rattle.snl_lex.specs.PieceList.{IsChange, listed_pieces, piece_ends, piece_kinds, pieces_between};
 ghost use Rattle.snl_lex.specs.Pieces.{is_token, moved_piece, pieces_of, tokens_of};
-ghost use Rattle.std.specs.Prelude.{◌≡◌, ℕ, List, ◌^◌, ◌<◌, ◌≤◌, ◌++◌, IfOk, OnOk, filter, map, take, vec_len};
+ghost use Rattle.std.specs.Prelude.{◌≡◌, ℕ, List, ◌+◌, ◌-◌, ◌^◌, ◌<◌, ◌≤◌, ◌++◌, IfOk, filter, length, map, take, vec_capacity, vec_len};
 
 use crate::piece::Piece;
 use crate::piece_list::{PieceChange, PieceList, TextEdit};
@@ -25,56 +25,62 @@ fn start_at(list: &PieceList, begin: u32, number: usize) -> u32
 }
 
 // Adds those of the pieces from one number up to another that are tokens, moved as the bytes from `old_stop` on are moved to `new_stop`. The first piece of the list begins at a place.
-fn add_listed_tokens(
+// The tokens come by value, and there is room for all: so their place and number stay in registers, and no room is looked for at each.
+fn with_listed_tokens(
+    mut tokens: Vec<Piece>,
     list: &PieceList,
     begin: u32,
     from: usize,
     stop: usize,
     old_stop: usize,
     new_stop: usize,
-    tokens: &mut Vec<Piece>,
-) -> Result<(), OutOfMemory>
+) -> Vec<Piece>
     requires order { from ≤ stop }
     requires ends { stop ≤ vec_len list.now.ends }
     requires kinds { stop ≤ vec_len list.now.kinds }
     requires fits { new_stop < 2 ^ 32 }
-    ensures { OnOk result (tokens.new.items ≡ tokens.old.items ++ map (moved_piece old_stop new_stop) (filter is_token (pieces_between (listed_pieces begin list.now.ends.items list.now.kinds.items) from stop))) }
+    requires room { vec_len tokens + (stop - from) ≤ vec_capacity tokens }
+    ensures tokens { result.items ≡ tokens.items ++ map (moved_piece old_stop new_stop) (filter is_token (pieces_between (listed_pieces begin list.now.ends.items list.now.kinds.items) from stop)) }
+    ensures length { vec_len result ≤ vec_len tokens + (stop - from) }
+    ensures capacity { vec_capacity result ≡ vec_capacity tokens }
 {
+    let ends = list.ends.as_slice();
+    let kinds = list.kinds.as_slice();
     let mut start = start_at(list, begin, from);
     for number in from..stop {
-        let end = list.ends[number];
-        let kind = list.kinds[number];
+        let end = ends[number];
+        let kind = kinds[number];
         if kind.is_token() {
-            tokens.push(Piece {
+            tokens.push_reserved(Piece {
                 kind,
                 start: (start as usize).saturating_sub(old_stop) + new_stop,
                 len: end.saturating_sub(start) as usize,
-            })?;
+            });
         }
         start = end;
     }
-    Ok(())
+    tokens
 }
 
-// Adds those of the pieces that are tokens.
-fn add_tokens(pieces: &[Piece], tokens: &mut Vec<Piece>) -> Result<(), OutOfMemory>
-    ensures { OnOk result (tokens.new.items ≡ tokens.old.items ++ filter is_token pieces.now) }
+// Adds those of the pieces that are tokens. There is room for all.
+fn with_tokens(mut tokens: Vec<Piece>, pieces: &[Piece]) -> Vec<Piece>
+    requires { vec_len tokens + length pieces.now ≤ vec_capacity tokens }
+    ensures { result.items ≡ tokens.items ++ filter is_token pieces.now }
 {
     for piece in pieces {
         if piece.kind.is_token() {
-            tokens.push(*piece)?;
+            tokens.push_reserved(*piece);
         }
     }
-    Ok(())
+    tokens
 }
 
 /// Those of the pieces that are tokens. The only error is want of memory.
 pub fn tokens_among(alloc: Global, pieces: &[Piece]) -> Result<Vec<Piece>, OutOfMemory>
     ensures { IfOk result (λ tokens. tokens.items ≡ filter is_token pieces.now) }
 {
-    let mut tokens = Vec::with_capacity(alloc, pieces.len())?;
-    add_tokens(pieces, &mut tokens)?;
-    Ok(tokens)
+    let tokens = Vec::with_capacity(alloc, pieces.len())?;
+    Ok(with_tokens(tokens, pieces))
 }
 
 impl PieceChange {
@@ -84,9 +90,8 @@ impl PieceChange {
         ensures { IfOk result (λ tokens. tokens.items ≡ filter is_token (made_pieces self.now)) }
     {
         let made = self.list.ends.len();
-        let mut tokens = Vec::with_capacity(alloc, made)?;
-        add_listed_tokens(&self.list, self.made_from, 0, made, 0, 0, &mut tokens)?;
-        Ok(tokens)
+        let tokens = Vec::with_capacity(alloc, made)?;
+        Ok(with_listed_tokens(tokens, &self.list, self.made_from, 0, made, 0, 0))
     }
 }
 
@@ -105,9 +110,8 @@ impl PieceList {
             result
             (λ tokens. (text : List ℕ) → self.now.ends.items ≡ piece_ends text → self.now.kinds.items ≡ piece_kinds text → tokens.items ≡ filter is_token (pieces_between (pieces_of text) from stop)) }
     {
-        let mut tokens = Vec::with_capacity(alloc, stop - from)?;
-        add_listed_tokens(self, 0, from, stop, 0, 0, &mut tokens)?;
-        Ok(tokens)
+        let tokens = Vec::with_capacity(alloc, stop - from)?;
+        Ok(with_listed_tokens(tokens, self, 0, from, stop, 0, 0))
     }
 
     /// The tokens of the text of which this is the list. The only error is want of memory.
@@ -135,19 +139,10 @@ impl PieceList {
         let count = self.ends.len();
         let back = count - change.kept_back;
         let room = count.saturating_add(change.list.ends.len());
-        let mut tokens = Vec::with_capacity(alloc, room)?;
-        add_listed_tokens(self, 0, 0, change.kept_front, 0, 0, &mut tokens)?;
+        let tokens = Vec::with_capacity(alloc, room)?;
+        let tokens = with_listed_tokens(tokens, self, 0, 0, change.kept_front, 0, 0);
         let made = change.list.ends.len();
-        add_listed_tokens(&change.list, change.made_from, 0, made, 0, 0, &mut tokens)?;
-        add_listed_tokens(
-            self,
-            0,
-            back,
-            count,
-            edit.old_stop,
-            edit.new_stop,
-            &mut tokens,
-        )?;
-        Ok(tokens)
+        let tokens = with_listed_tokens(tokens, &change.list, change.made_from, 0, made, 0, 0);
+        Ok(with_listed_tokens(tokens, self, 0, back, count, edit.old_stop, edit.new_stop))
     }
 }

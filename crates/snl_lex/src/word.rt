@@ -8,12 +8,20 @@ ghost use Rattle.std.specs.Str.{bytes_eq};
 use crate::alphabet::byte_at;
 use crate::kind::Kind;
 
-// Inlined, so that the length of the spelling, a constant, makes a compare or two of it.
+// Inlined, so that the length of the spelling, a constant, unrolls the loop.
 #[inline(always)]
 fn is_spelled(word: &[u8], spelling: &[u8]) -> bool
     ensures { result ≡ bytes_eq word.now spelling.now }
 {
-    word.len() == spelling.len() && word.starts_with(spelling)
+    if word.len() != spelling.len() {
+        return false;
+    }
+    for at in 0..spelling.len() {
+        if word[at] != spelling[at] {
+            return false;
+        }
+    }
+    true
 }
 
 // The word that alone begins with its first byte.

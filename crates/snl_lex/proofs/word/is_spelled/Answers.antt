@@ -1,6 +1,6 @@
-use Rattle.std.proofs.Common.{◌∙◌}
-use Rattle.snl_lex.proofs.Fronts.{spelled}
+use Rattle.std.proofs.Common.{arith}
+use Rattle.snl_lex.proofs.Fronts.{equal}
 use Rattle.snl_lex.proofs.word.is_spelled.Goals as goal
 
-pub returns-then-word-spelling : goal.returns-then-word-spelling
-returns-then-word-spelling c = c.starts_with.ensures.value ∙ spelled c.args.word.now c.args.spelling.now c.if-word-spelling.true
+pub returns : goal.returns
+returns c = equal c.args.word.now c.args.spelling.now c.loop-at.at (omega arith) (omega arith) c.loop-at.invariant

@@ -35,9 +35,9 @@ returns c =
     let many : count ≡ length ps = omega (arith, c.len-count.ensures, l.ends.ok, ap length c.requires.ends, length-map ps piece_end) in
     let fresh : List Piece = made_pieces change in
     let all : c.len-made.result ≡ length change.list.ends.items = omega (arith, c.len-made.ensures, change.list.ends.ok) in
-    let front = rw c.in_ok-tokens.ensures.items at c.in_ok-add_listed_tokens.ensures in
-    let made = c.in_ok-add_listed_tokens-2.ensures ∙ ap (λ (k : List Piece). c.add_listed_tokens.new.tokens.items ++ k) (listed_all change.made_from change.list.ends.items change.list.kinds.items c.len-made.result all) in
-    c.in_ok-add_listed_tokens-3.ensures
+    let front = rw c.in_ok-tokens.ensures.items at c.with_listed_tokens-tokens.ensures.tokens in
+    let made = c.with_listed_tokens-tokens-2.ensures.tokens ∙ ap (λ (k : List Piece). c.with_listed_tokens-tokens.result.items ++ k) (listed_all change.made_from change.list.ends.items change.list.kinds.items c.len-made.result all) in
+    c.with_listed_tokens.ensures.tokens
     ∙ ap (λ (k : List Piece). k ++ map (moved_piece b d) (filter is_token (pieces_between (listed_pieces 0 l.ends.items l.kinds.items) (count - change.kept_back) count))) (made ∙ ap (λ (k : List Piece). k ++ filter is_token fresh) front)
     ∙ ap (λ (qs : List Piece). (map (moved_piece 0 0) (filter is_token (pieces_between qs 0 change.kept_front)) ++ filter is_token fresh) ++ map (moved_piece b d) (filter is_token (pieces_between qs (count - change.kept_back) count))) listed
     ∙ parts ps fresh (pieces_of edit.text.now) b d change.kept_front change.kept_back count many (omega (arith, c.requires.change.order)) c.requires.change.pieces

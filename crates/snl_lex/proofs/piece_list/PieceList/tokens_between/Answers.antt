@@ -8,6 +8,6 @@ use Rattle.snl_lex.proofs.piece_list.PieceList.tokens_between.Goals as goal
 pub returns : goal.returns
 returns c = λ text ends kinds.
     let l = c.args.self.now in
-    rw c.in_ok-tokens.ensures.items at c.in_ok-add_listed_tokens.ensures
+    rw c.in_ok-tokens.ensures.items at c.with_listed_tokens.ensures.tokens
     ∙ not_moved (filter is_token (pieces_between (listed_pieces 0 l.ends.items l.kinds.items) c.args.from c.args.stop))
     ∙ ap (λ (ps : List Piece). filter is_token (pieces_between ps c.args.from c.args.stop)) (listed_are text l.ends.items l.kinds.items ends kinds)
