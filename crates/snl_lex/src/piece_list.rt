@@ -47,14 +47,14 @@ pub struct PieceChange {
     pub kept_from: usize,
 }
 
-// The places in four bytes each.
+// The places in four bytes each. There is room for all before the loop, so that no place looks for it.
 fn narrow(alloc: Global, places: &[usize]) -> Result<Vec<u32>, OutOfMemory>
     requires { All (λ p. p < 2 ^ 32) places.now }
     ensures { IfOk result (λ narrow. narrow.items ≡ places.now) }
 {
     let mut narrow = Vec::with_capacity(alloc, places.len())?;
     for place in places {
-        narrow.push(*place as u32)?;
+        narrow.push_reserved(*place as u32);
     }
     Ok(narrow)
 }
