@@ -95,16 +95,14 @@ fn string_piece(rest: &[u8], kind: Class, quote: u8) -> (Class, usize)
     }
 }
 
+// Asked of the first byte first, since most marks begin no longer one.
 fn is_mark_of_two(a: u8, b: u8) -> bool
     ensures { result ≡ has punctuators_of_2 (a ∷ b ∷ []) }
 {
-    match b {
-        b'=' => matches!(
-            a,
-            b'+' | b'-' | b'*' | b'/' | b'%' | b'&' | b'|' | b'^' | b'<' | b'>' | b'=' | b'!'
-        ),
-        b'>' => a == b'-' || a == b'>',
-        b'+' | b'-' | b'&' | b'|' | b'<' => a == b,
+    match a {
+        b'+' | b'&' | b'|' | b'<' | b'>' | b'=' => b == a || b == b'=',
+        b'-' => b == b'-' || b == b'=' || b == b'>',
+        b'!' | b'*' | b'/' | b'%' | b'^' => b == b'=',
         _ => false,
     }
 }
@@ -121,12 +119,12 @@ fn mark_length(rest: &[u8]) -> usize
 {
     let a = byte_at(rest, 0);
     let b = byte_at(rest, 1);
-    if is_mark_of_three(a, b, byte_at(rest, 2)) {
-        3
-    } else if is_mark_of_two(a, b) {
-        2
-    } else {
+    if !is_mark_of_two(a, b) {
         1
+    } else if is_mark_of_three(a, b, byte_at(rest, 2)) {
+        3
+    } else {
+        2
     }
 }
 
