@@ -42,7 +42,7 @@ use Rattle.snl_kept.specs.Stirred.{stirred_between}
 use Rattle.snl_kept.proofs.MadeChecks.{checks_made, made_are_stirred, stirred_told}
 use Rattle.snl_kept.proofs.MemberParts.{element_at, got, got_other, others_mapped, taken_to_last}
 use Rattle.snl_kept.proofs.Rechecks.{Spelled}
-use Rattle.snl_kept.proofs.ShiftPlans.{none_marked, shift_is}
+use Rattle.snl_kept.proofs.ShiftPlans.{shift_is}
 use Rattle.snl_kept.proofs.ShiftedFindings.{stays}
 use Rattle.snl_kept.proofs.ShiftedItems.{all_items, all_kinds, all_outlines}
 use Rattle.snl_kept.proofs.ShiftedLines.{IsAfter, IsInFront, KeepsLine, all_after, all_in_front, in_front}
@@ -108,9 +108,7 @@ module _ (old text : List ℕ) (start old_stop new_stop : ℕ) (c : Changes) (s 
 
   shift : IsShift old text s
   shift =
-      shift_is old text start old_stop new_stop s is.by is.edit some_before is.no_marker
-      (none_marked old text start old_stop new_stop c.pieces.kept_front (made_pieces c.pieces) c.pieces.kept_back c.pieces.kept_from c.pieces.list.ends.items c.pieces.list.kinds.items is.changed.pieces is.no_marker is.no_marker_made)
-      is.old_short is.short
+      shift_is old text start old_stop new_stop s is.by is.edit some_before is.markers is.old_short is.short
 
   -- ---- the items
 

@@ -89,7 +89,7 @@ check_got text k c lt got =
 
 pub is_inside : (old text : List ℕ) (start old_stop new_stop : ℕ) (c : Changes) (s : Shift) (w : Was) (e : Entry)
     → IsChanged old text start old_stop new_stop c → IsEdit old text start old_stop new_stop → IsShiftOf old text start old_stop new_stop s → length old < 2 ^ 32 → length text < 2 ^ 32
-    → IsOneItem old c → IsWas old c.items.kept_front w → AreEntriesMade old text c.items.kept_front (e ∷ []) c.items.kept_back
+    → IsOneItem old text start c → IsWas old c.items.kept_front w → AreEntriesMade old text c.items.kept_front (e ∷ []) c.items.kept_back
     → SaysWhatItSaid old (own_head old c) c.items.kept_front w e → IsInside old text start old_stop new_stop c s w.entry.now e
 is_inside old text start old_stop new_stop c s w e changed edit by old_short short one was made says = record {
   changed = changed;
@@ -97,8 +97,7 @@ is_inside old text start old_stop new_stop c s w e changed edit by old_short sho
   by = by;
   old_short = old_short;
   short = short;
-  no_marker = one.no_marker;
-  no_marker_made = one.no_marker_made;
+  markers = one.markers;
   one_made = one.one_made;
   one_gone = one.one_gone;
   head = one.head;
@@ -111,8 +110,8 @@ is_inside old text start old_stop new_stop c s w e changed edit by old_short sho
   no_clause = says.same.no_clause;
 }
 
-pub is_there : (old : List ℕ) (c : Changes) → IsOneItem old c → c.items.kept_front < length (item_ends old)
-is_there old c one = omega (arith, one.one_gone)
+pub is_there : (old text : List ℕ) (start : ℕ) (c : Changes) → IsOneItem old text start c → c.items.kept_front < length (item_ends old)
+is_there old text start c one = omega (arith, one.one_gone)
 
 module _ (tree_told : (text : List ℕ) (tokens : List Piece) → sound_tree (parsed_in text tokens) ≡ tree_in text tokens)
     (by_spelling : (text : List ℕ) (tokens : List Piece) → parsed_in text tokens ≡ parsed_by (spelled text tokens))

@@ -68,9 +68,9 @@ module _ (old text : List ℕ) (start old_stop new_stop : ℕ) (c : Changes) (s 
 
 -- ---- what the rows go by
 
-pub items_after : (old text : List ℕ) (c : Changes) (l : Lists) (e : Entry) → IsListed old l → IsOneItem old c → AreEntriesMade old text c.items.kept_front (e ∷ []) c.items.kept_back → outlines_in text ≡ outlines_in old
+pub items_after : (old text : List ℕ) (start : ℕ) (c : Changes) (l : Lists) (e : Entry) → IsListed old l → IsOneItem old text start c → AreEntriesMade old text c.items.kept_front (e ∷ []) c.items.kept_back → outlines_in text ≡ outlines_in old
     → AreItemsAfter old text l c.items.kept_front e
-items_after old text c l e listed one made same =
+items_after old text start c l e listed one made same =
     let k : ℕ = c.items.kept_front in
     let olds : List Entry = entries_of old in
     let many = entries_count old in

@@ -3,8 +3,7 @@ use Rattle.std.specs.Prelude.{◌≡◌, ℕ, ◌+◌, ◌≤◌, ◌⊎◌, Boo
 use Rattle.snl_cut.specs.Cut.{last_end}
 use Rattle.snl_lex.specs.declared.piece.Piece.{Piece}
 use Rattle.snl_lex.specs.declared.shift.Shift.{Shift}
-use Rattle.snl_lex.specs.Lines.{is_marker}
-use Rattle.snl_lex.specs.Shift.{marker_count}
+use Rattle.snl_lex.specs.Shift.{KeepsMarkers}
 use Rattle.snl_items.specs.Items.{item_ends}
 use Rattle.snl_syntax.specs.Outcome.{sound_tree}
 use Rattle.snl_scope.specs.Linked.{faults_of}
@@ -47,10 +46,9 @@ use Rattle.snl_kept.specs.Warnings.{warns_in}
 abbrev pub outlines_kept : List Entry → List Outline
 outlines_kept entries = map (λ e. e.summary.outline) entries
 
--- An edit makes one item in the place of one, whose first two tokens are before the edit. Neither text has line markers.
-pub record IsOneItem (old : List ℕ) (c : Changes) : Type 0 where
-  pub no_marker : marker_count old ≡ 0
-  pub no_marker_made : count_by is_marker c.pieces.list.kinds.items ≡ 0
+-- An edit makes one item in the place of one, whose first two tokens are before the edit. All line markers are before it.
+pub record IsOneItem (old text : List ℕ) (start : ℕ) (c : Changes) : Type 0 where
+  pub markers : KeepsMarkers old text start
   pub one_made : length c.items.made.items ≡ 1
   pub one_gone : c.items.kept_front + 1 + c.items.kept_back ≡ length (item_ends old)
   pub head : last_end 0 (take c.items.kept_front (item_ends old)) + 2 ≤ c.tokens.edit.start

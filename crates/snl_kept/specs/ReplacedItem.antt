@@ -4,10 +4,9 @@ use Rattle.std.specs.List.{AllByRecursion, cons_option}
 use Rattle.snl_cut.specs.Cut.{IsEdit, last_end}
 use Rattle.snl_lex.specs.declared.piece.Piece.{Piece}
 use Rattle.snl_lex.specs.declared.shift.Shift.{Shift}
-use Rattle.snl_lex.specs.Lines.{is_marker}
 use Rattle.snl_lex.specs.PieceList.{spelled}
 use Rattle.snl_lex.specs.Pieces.{LiesIn, piece_end, tokens_of}
-use Rattle.snl_lex.specs.Shift.{IsShift, marker_count, shifted_piece}
+use Rattle.snl_lex.specs.Shift.{IsShift, KeepsMarkers, shifted_piece}
 use Rattle.snl_items.specs.Changes.{IsShiftOf}
 use Rattle.snl_items.specs.Items.{item_ends}
 use Rattle.snl_scope.specs.declared.facts.LinkFault.{LinkFault}
@@ -82,8 +81,7 @@ pub record IsInside (old text : List ℕ) (start old_stop new_stop : ℕ) (c : C
   pub by : IsShiftOf old text start old_stop new_stop s
   pub old_short : length old < 2 ^ 32
   pub short : length text < 2 ^ 32
-  pub no_marker : marker_count old ≡ 0
-  pub no_marker_made : count_by is_marker c.pieces.list.kinds.items ≡ 0
+  pub markers : KeepsMarkers old text start
   -- one item is made in the place of one
   pub one_made : length c.items.made.items ≡ 1
   pub one_gone : c.items.kept_front + 1 + c.items.kept_back ≡ length (item_ends old)

@@ -233,7 +233,7 @@ impl Kept {
         let changes = changes_of(alloc, &self.lists, edit, &mut lexed)?;
         let lines = self.lists.lines.after(alloc, edit, &changes.pieces)?;
         let lexed = lexed.ticks();
-        match shift_of(&self.lists, &self.found, edit, &changes) {
+        match shift_of(&self.lists, &self.found, edit, &changes, &lines) {
             Some(shifted) => self.edit_by_shift(edit, &changes, lines, shifted, lexed),
             None => self.edit_anew(edit, &changes, lines, lexed),
         }

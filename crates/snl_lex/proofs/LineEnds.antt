@@ -117,7 +117,7 @@ between_is text a place =
       | inr more ↦ omega (arith, below_is text a, below_is text place, count_split text 0 a place (omega arith) more)
     ]
 
-any_counted : (p : ℕ → Bool) (xs : List ℕ) → list_any p xs ≡ nat_lt 0 (count_by p xs)
+pub any_counted : (p : ℕ → Bool) (xs : List ℕ) → list_any p xs ≡ nat_lt 0 (count_by p xs)
 any_counted p [] = refl
 any_counted p (x ∷ xs) =
     let rest : ℕ = count_by p xs in

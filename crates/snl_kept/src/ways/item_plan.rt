@@ -138,7 +138,7 @@ fn own_checks(
 fn replaces_inside(edit: &TextEdit, changes: &Changes, shift: Shift, was: Was, made: &Entry)
     requires shift { IsShiftOf edit.now.old.now edit.now.text.now edit.now.start edit.now.old_stop edit.now.new_stop shift }
     requires changes { IsChanged edit.now.old.now edit.now.text.now edit.now.start edit.now.old_stop edit.now.new_stop changes.now }
-    requires one { IsOneItem edit.now.old.now changes.now }
+    requires one { IsOneItem edit.now.old.now edit.now.text.now edit.now.start changes.now }
     requires was { IsWas edit.now.old.now changes.now.items.kept_front was }
     requires alone { AreEntriesMade edit.now.old.now edit.now.text.now changes.now.items.kept_front (made.now ∷ []) changes.now.items.kept_back }
     requires says { SaysWhatItSaid edit.now.old.now (own_head edit.now.old.now changes.now) changes.now.items.kept_front was made.now }
@@ -169,7 +169,7 @@ fn made_inside(
     requires found { found.now ≡ diagnostics_of edit.now.old.now }
     requires changes { IsChanged edit.now.old.now edit.now.text.now edit.now.start edit.now.old_stop edit.now.new_stop changes.now }
     requires lines { IsLineList edit.now.text.now lines.now.ends.items lines.now.markers.items lines.now.naming.items }
-    requires one { IsOneItem edit.now.old.now changes.now }
+    requires one { IsOneItem edit.now.old.now edit.now.text.now edit.now.start changes.now }
     requires own { AreOwnTokens edit.now.old.now edit.now.text.now changes.now.items.kept_front own.now }
     requires was { IsWas edit.now.old.now changes.now.items.kept_front was }
     requires made { made.now ≡ entry_by (spelled edit.now.text.now own.now.is.items) }
@@ -223,7 +223,7 @@ fn item_that_was<'a>(lists: &'a Lists, text: &[u8], item: usize) -> Option<Was<'
 // How many tokens of the item in the place of which an edit makes another are before those that it replaces.
 fn own_head(lists: &Lists, edit: &TextEdit, changes: &Changes) -> usize
     requires lists { IsListed edit.now.old.now lists.now }
-    requires one { IsOneItem edit.now.old.now changes.now }
+    requires one { IsOneItem edit.now.old.now edit.now.text.now edit.now.start changes.now }
     ensures { result ≡ own_head edit.now.old.now changes.now }
 {
     let first = lists.items.start_of(changes.items.kept_front);
@@ -306,7 +306,7 @@ pub fn inside_of(
     requires found { found.now ≡ diagnostics_of edit.now.old.now }
     requires changes { IsChanged edit.now.old.now edit.now.text.now edit.now.start edit.now.old_stop edit.now.new_stop changes.now }
     requires lines { IsLineList edit.now.text.now lines.now.ends.items lines.now.markers.items lines.now.naming.items }
-    requires one { IsOneItem edit.now.old.now changes.now }
+    requires one { IsOneItem edit.now.old.now edit.now.text.now edit.now.start changes.now }
     requires own { AreOwnTokens edit.now.old.now edit.now.text.now changes.now.items.kept_front own.now }
     requires made { made.now ≡ entry_by (spelled edit.now.text.now own.now.is.items) }
     requires alone { AreEntriesMade edit.now.old.now edit.now.text.now changes.now.items.kept_front (made.now ∷ []) changes.now.items.kept_back }

@@ -3,6 +3,7 @@
 
 ghost use Rattle.std.specs.Prelude.{◌≡◌, ◌+◌, ◌<◌, ◌≤◌, [], ◌∷◌, IfOk, IfSome, IsTrue, length, take};
 ghost use Rattle.snl_cut.specs.Cut.{last_end, ticked};
+ghost use Rattle.snl_lex.specs.LineList.{IsLineList};
 ghost use Rattle.snl_lex.specs.PieceList.{spelled};
 ghost use Rattle.snl_kept.specs.Entries.{entry_by};
 ghost use Rattle.snl_kept.specs.ItemPlan.{AreOwnTokens, IsOneItem};
@@ -14,10 +15,9 @@ use crate::found::program::items_end_in_order;
 use crate::lists::Lists;
 use crate::shared::Shared;
 use crate::ways::plan::Changes;
-use crate::ways::shift::marks_no_line;
 use snl_cut::{Count, OutOfMemory};
 use snl_items::{own_tokens_after, own_tokens_before};
-use snl_lex::{Piece, TextEdit, text_in_pieces};
+use snl_lex::{LineList, Piece, TextEdit, text_in_pieces};
 use std::alloc::Global;
 
 /// The tokens of an item before and after an edit.
@@ -36,21 +36,25 @@ fn head_is_before(lists: &Lists, changes: &Changes, item: usize) -> bool
     start >= 2 && lists.items.start_of(item) <= start - 2
 }
 
-/// Whether an edit makes one item in the place of one, whose first two tokens are before the edit, where neither text has line
-/// markers.
-pub fn replaces_one(lists: &Lists, edit: &TextEdit, changes: &Changes) -> bool
+/// Whether an edit makes one item in the place of one, whose first two tokens are before the edit, as all line markers are.
+pub fn replaces_one(
+    lists: &Lists,
+    edit: &TextEdit,
+    changes: &Changes,
+    lines: &LineList,
+) -> bool
     requires lists { IsListed edit.now.old.now lists.now }
-    ensures { IsTrue result → IsOneItem edit.now.old.now changes.now }
+    requires lines { IsLineList edit.now.text.now lines.now.ends.items lines.now.markers.items lines.now.naming.items }
+    ensures { IsTrue result → IsOneItem edit.now.old.now edit.now.text.now edit.now.start changes.now }
 {
     let items = &changes.items;
     let item = items.kept_front;
     let count = lists.items.ends.len();
-    lists.pieces.markers == 0
-        && marks_no_line(&changes.pieces.list.kinds)
-        && item < count
+    item < count
         && items.kept_back == count - item - 1
         && items.made.len() == 1
         && head_is_before(lists, changes, item)
+        && lists.lines.keeps_markers(lines, edit)
 }
 
 /// The tokens of the item in the place of which an edit makes one, before and after it.
@@ -62,7 +66,7 @@ pub fn own_tokens(
 ) -> Result<OwnTokens, OutOfMemory>
     requires lists { IsListed edit.now.old.now lists.now }
     requires changes { IsChanged edit.now.old.now edit.now.text.now edit.now.start edit.now.old_stop edit.now.new_stop changes.now }
-    requires one { IsOneItem edit.now.old.now changes.now }
+    requires one { IsOneItem edit.now.old.now edit.now.text.now edit.now.start changes.now }
     ensures own { IfOk result (AreOwnTokens edit.now.old.now edit.now.text.now changes.now.items.kept_front) }
 {
     items_end_in_order();
@@ -100,7 +104,7 @@ pub fn made_alone(
     work: &mut Count,
 ) -> Result<Vec<Shared<Entry>>, OutOfMemory>
     requires changes { IsChanged edit.now.old.now edit.now.text.now edit.now.start edit.now.old_stop edit.now.new_stop changes.now }
-    requires one { IsOneItem edit.now.old.now changes.now }
+    requires one { IsOneItem edit.now.old.now edit.now.text.now edit.now.start changes.now }
     requires own { AreOwnTokens edit.now.old.now edit.now.text.now changes.now.items.kept_front own.now }
     ensures one { IfOk result (λ es. es.items ≡ entry_by (spelled edit.now.text.now own.now.is.items) ∷ []) }
     ensures made { IfOk result (λ es. AreEntriesMade edit.now.old.now edit.now.text.now changes.now.items.kept_front es.items changes.now.items.kept_back) }

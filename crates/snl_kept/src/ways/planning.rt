@@ -130,7 +130,7 @@ fn made_of_one(
     requires found { found.now ≡ diagnostics_of edit.now.old.now }
     requires changes { IsChanged edit.now.old.now edit.now.text.now edit.now.start edit.now.old_stop edit.now.new_stop changes.now }
     requires lines { IsLineList edit.now.text.now lines.now.ends.items lines.now.markers.items lines.now.naming.items }
-    requires one { IsOneItem edit.now.old.now changes.now }
+    requires one { IsOneItem edit.now.old.now edit.now.text.now edit.now.start changes.now }
     requires lexed { lexed ≡ fresh_pieces_between edit.now.old.now edit.now.text.now edit.now.start edit.now.old_stop edit.now.new_stop }
     ensures { IfOk result (IsMade edit.now.old.now edit.now.text.now edit.now.start edit.now.old_stop edit.now.new_stop changes.now.items) }
 {
@@ -186,7 +186,7 @@ pub fn made_by(
     requires lexed { lexed ≡ fresh_pieces_between edit.now.old.now edit.now.text.now edit.now.start edit.now.old_stop edit.now.new_stop }
     ensures { IfOk result (IsMade edit.now.old.now edit.now.text.now edit.now.start edit.now.old_stop edit.now.new_stop changes.now.items) }
 {
-    if replaces_one(lists, edit, changes) {
+    if replaces_one(lists, edit, changes, lines) {
         return made_of_one(alloc, lists, tables, found, edit, changes, lines, lexed);
     }
     let anew = anew_among_all(alloc, lists, edit, changes, lines, lexed)?;

@@ -2,8 +2,8 @@
 //! kept of the old text and what an edit makes of its parts come in; whether it is such an edit goes out.
 #![tactic(auto)]
 
-ghost use Rattle.std.specs.Prelude.{◌≡◌, All, IfSome, IsTrue, count_by, map};
-ghost use Rattle.snl_lex.specs.Lines.{is_marker};
+ghost use Rattle.std.specs.Prelude.{◌≡◌, All, IfSome, IsTrue, map};
+ghost use Rattle.snl_lex.specs.LineList.{IsLineList};
 ghost use Rattle.snl_lex.specs.Shift.{IsOutside};
 ghost use Rattle.snl_kept.specs.Diagnostics.{diagnostics_of};
 ghost use Rattle.snl_kept.specs.Kept.{IsListed};
@@ -14,14 +14,7 @@ use crate::found::findings::Diagnostic;
 use crate::lists::Lists;
 use crate::ways::plan::Changes;
 use snl_items::Shifted;
-use snl_lex::{Class, Line, Shift, TextEdit};
-
-/// Whether none of the pieces is a line marker.
-pub fn marks_no_line(kinds: &[Class]) -> bool
-    ensures { IsTrue result → count_by is_marker kinds.now ≡ 0 }
-{
-    kinds.iter().filter(|kind| kind.is_marker()).count() == 0
-}
+use snl_lex::{Line, LineList, Shift, TextEdit};
 
 // Whether no item has its first token alone among so many.
 fn parts_no_item(before: usize, ends: &[u32]) -> bool
@@ -50,16 +43,17 @@ pub fn shift_of(
     found: &[Diagnostic],
     edit: &TextEdit,
     changes: &Changes,
+    lines: &LineList,
 ) -> Option<Shifted>
     requires lists { IsListed edit.now.old.now lists.now }
     requires found { found.now ≡ diagnostics_of edit.now.old.now }
     requires changes { IsChanged edit.now.old.now edit.now.text.now edit.now.start edit.now.old_stop edit.now.new_stop changes.now }
+    requires lines { IsLineList edit.now.text.now lines.now.ends.items lines.now.markers.items lines.now.naming.items }
     ensures { IfSome result (ShiftsAll edit.now.old.now edit.now.text.now edit.now.start edit.now.old_stop edit.now.new_stop) }
 {
     let shifted = changes.tokens.shifted?;
     if edit.start > 0
-        && lists.pieces.markers == 0
-        && marks_no_line(&changes.pieces.list.kinds)
+        && lists.lines.keeps_markers(lines, edit)
         && parts_no_item(shifted.before, &lists.items.ends)
         && leaves_all(shifted.by, edit.old, found)
     {

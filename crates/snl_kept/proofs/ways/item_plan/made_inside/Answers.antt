@@ -41,7 +41,7 @@ pub own_diagnostics-requires-clause-was_some : goal.own_diagnostics-requires-cla
 own_diagnostics-requires-clause-was_some c =
     let old = c.args.edit.now.old.now in
     let changes = c.args.changes.now in
-    subst (λ (ts : List Piece). 0 < length ts) (sym c.requires.own.was) (own_some old changes.items.kept_front (is_there old changes c.requires.one) (c.items_end_in_order.ensures old))
+    subst (λ (ts : List Piece). 0 < length ts) (sym c.requires.own.was) (own_some old changes.items.kept_front (is_there old c.args.edit.now.text.now c.args.edit.now.start changes c.requires.one) (c.items_end_in_order.ensures old))
 
 pub own_diagnostics-requires-clause-was_within : goal.own_diagnostics-requires-clause-was_within
 own_diagnostics-requires-clause-was_within c =
@@ -52,7 +52,7 @@ pub own_diagnostics-requires-clause-was_spelled : goal.own_diagnostics-requires-
 own_diagnostics-requires-clause-was_spelled c =
     let old = c.args.edit.now.old.now in
     let changes = c.args.changes.now in
-    entry_got old changes.items.kept_front c.args.was.entry.now (is_there old changes c.requires.one) c.requires.was.entry
+    entry_got old changes.items.kept_front c.args.was.entry.now (is_there old c.args.edit.now.text.now c.args.edit.now.start changes c.requires.one) c.requires.was.entry
     ∙ ap (λ (ts : List Piece). entry_by (spelled old ts)) (sym c.requires.own.was)
 
 pub own_diagnostics-requires-clause-was_checked : goal.own_diagnostics-requires-clause-was_checked
@@ -60,7 +60,7 @@ own_diagnostics-requires-clause-was_checked c =
     let old = c.args.edit.now.old.now in
     let changes = c.args.changes.now in
     let k = changes.items.kept_front in
-    check_got old k c.args.was.check.now (is_there old changes c.requires.one) c.requires.was.check
+    check_got old k c.args.was.check.now (is_there old c.args.edit.now.text.now c.args.edit.now.start changes c.requires.one) c.requires.was.check
     ∙ ap (λ (ts : List Piece). check_by (outlines_in old) k (spelled old ts)) (sym c.requires.own.was)
     ∙ ap (λ l. check_by l.outlines k (spelled old c.args.own.now.was.items)) (sym c.requires.lists.links)
 
@@ -77,7 +77,7 @@ own_change-requires-clause-within c =
 pub own_change-requires-clause-items : goal.own_change-requires-clause-items
 own_change-requires-clause-items c =
     let edit = c.args.edit.now in
-    items_after edit.old.now edit.text.now c.args.changes.now c.args.lists.now c.args.made.now c.requires.lists c.requires.one c.requires.alone c.replaces_inside.ensures.replaced.inside.outlines
+    items_after edit.old.now edit.text.now edit.start c.args.changes.now c.args.lists.now c.args.made.now c.requires.lists c.requires.one c.requires.alone c.replaces_inside.ensures.replaced.inside.outlines
 
 pub own_change-requires-clause-place : goal.own_change-requires-clause-place
 own_change-requires-clause-place c =
@@ -95,7 +95,7 @@ returns-clause-inside c =
     let own = c.args.own.now in
     let before = c.args.lists.now.links in
     let s : Shift = c.of-shift.result in
-    let there = is_there old changes c.requires.one in
+    let there = is_there old c.args.edit.now.text.now c.args.edit.now.start changes c.requires.one in
     let w = c.args.was in
     let e = c.args.made.now in
     let inside = c.replaces_inside.ensures.inside in

@@ -1,0 +1,292 @@
+-- Lines that an edit shifts, where all line markers are before it.
+use Rattle.std.proofs.Common.{◌≡◌, ◌==◌, ℕ, ◌+◌, ◌-◌, ◌*◌, ◌^◌, ◌<◌, ◌≤◌, inl, inr, Bool, true, false, ◌&&◌, ◌||◌, cond, nat_lt, List, [], ◌∷◌, length, take, drop, map, min, count_by, get_or, drop-cons, suc, filter, Option, None, Some, refl, sym, ap, ap₂, ◌∙◌, subst, arith, length-drop}
+use Rattle.std.specs.Prelude.{All, IfSome, if◌then◌else◌, nat_le, slice_index, unwrap_or}
+use Rattle.std.specs.List.{AllByRecursion, list_any}
+use Rattle.std.proofs.lemmas.Bool.Decides.{nat_tests}
+use Rattle.std.proofs.lemmas.List.{drop-take, length-take-le, take-take}
+use Rattle.std.proofs.lemmas.List.Elements.{recursion_from_All}
+use Rattle.std.proofs.lemmas.List.Sums.{count_by-le-length}
+use Rattle.snl_lex.specs.declared.line_list.Marker.{Marker}
+use Rattle.snl_lex.specs.declared.lines.Line.{Line}
+use Rattle.snl_lex.specs.declared.piece.Piece.{Piece}
+use Rattle.snl_lex.specs.declared.shift.Shift.{Shift}
+use Rattle.snl_lex.specs.Alphabet.{is_white}
+use Rattle.snl_lex.specs.LineList.{ends_before, last_before, line_begin, line_ends, marked, marker_of, naming_markers, number_after, numbers, setting_markers}
+use Rattle.snl_lex.specs.Lines.{digit_count, has_line_between, last_of, last_or, line_at, lines_between, marker_number, number_stop, part_of, written_number}
+use Rattle.snl_lex.specs.Pieces.{bytes_at, pieces_of}
+use Rattle.snl_lex.specs.Shift.{CountsAfter, IsOutside, IsShift, most, shifted_line, shifted_offset}
+use Rattle.snl_lex.proofs.Along.{count_split}
+use Rattle.snl_lex.proofs.Changes.{edit_lengths}
+use Rattle.snl_lex.proofs.Halving.{count_yes, lt_no, lt_yes}
+use Rattle.snl_lex.proofs.LineBy.{begin_told, file_in, line_told, line_with}
+use Rattle.snl_lex.proofs.LineEnds.{any_counted, below_is, between_is}
+use Rattle.snl_lex.proofs.Members.{split}
+
+-- ---- a line by the last marker that counts
+
+-- The last marker that counts for an offset.
+abbrev last_for : List ℕ → ℕ → List Marker → Option Marker
+last_for text offset ms = last_of (filter (λ m. has_line_between text m.end offset) ms)
+
+-- The number of the offset's line by that marker.
+abbrev number_from : List ℕ → ℕ → Option Marker → ℕ
+number_from text offset None = 1 + lines_between text 0 offset
+number_from text offset (Some m) = (m.number + lines_between text m.end offset) - 1
+
+filter_same : (p q : Marker → Bool) → (ms : List Marker) → AllByRecursion (λ m. p m ≡ q m) ms → filter p ms ≡ filter q ms
+filter_same p q [] h = refl
+filter_same p q (m ∷ ms) h = ap₂ (λ (b : Bool) (l : List Marker). cond b (m ∷ l) l) h.0 (filter_same p q ms h.1)
+
+each : (P : Marker → Type 0) → ((m : Marker) → P m) → (ms : List Marker) → AllByRecursion P ms
+each P h [] = tt
+each P h (m ∷ ms) = (h m, each P h ms)
+
+last_is : (text : List ℕ) (offset : ℕ) (ms : List Marker) → last_before (line_begin (line_ends text) (ends_before (line_ends text) offset)) ms ≡ last_for text offset ms
+last_is text offset ms =
+    let begin : ℕ = line_begin (line_ends text) (ends_before (line_ends text) offset) in
+    ap last_of (filter_same (λ m. nat_lt m.end begin) (λ m. has_line_between text m.end offset) ms
+    (each (λ m. nat_lt m.end begin ≡ has_line_between text m.end offset) (λ m. sym (begin_told text m.end offset (ends_before (line_ends text) offset) refl)) ms))
+
+number_is : (text : List ℕ) (offset : ℕ) (o : Option Marker) → number_after (line_ends text) (ends_before (line_ends text) offset) o ≡ number_from text offset o
+number_is text offset None = ap (λ (n : ℕ). 1 + n) (below_is text offset)
+number_is text offset (Some m) = ap (λ (n : ℕ). (m.number + n) - 1) (sym (between_is text m.end offset))
+
+-- The line of an offset, by the markers of its text.
+abbrev line_by : List ℕ → ℕ → List Marker → List Marker → Line
+line_by text offset setting naming = line_with (number_from text offset (last_for text offset setting)) (file_in (last_for text offset naming))
+
+line_is : (text : List ℕ) (offset : ℕ) → line_at text offset ≡ line_by text offset (setting_markers text) (naming_markers text)
+line_is text offset =
+    let es : List ℕ = line_ends text in
+    let n : ℕ = ends_before es offset in
+    let from : ℕ = line_begin es n in
+    let setter : Option Marker = last_before from (setting_markers text) in
+    let namer : Option Marker = last_before from (naming_markers text) in
+    sym (line_told text offset es es es (setting_markers text) (naming_markers text) n from (number_after es n setter) setter namer refl refl refl refl refl refl refl refl refl refl)
+    ∙ ap₂ line_with (number_is text offset setter ∙ ap (number_from text offset) (last_is text offset (setting_markers text))) (ap file_in (last_is text offset (naming_markers text)))
+
+-- ---- numbers of markers are small
+
+abbrev small : ℕ
+small = 2147483647
+
+picked : (a b c d : Bool) (w : ℕ) → (c ≡ true → w ≤ small) → unwrap_or (if a && b && c && d then Some w else None) 0 ≤ small
+picked true true true true w h = h refl
+picked true true true false w h = omega arith
+picked true true false d w h = omega arith
+picked true false c d w h = omega arith
+picked false b c d w h = omega arith
+
+le_told : (a b : ℕ) → nat_le a b ≡ true → a ≤ b
+le_told a b h = grind (arith, nat_tests)
+
+number_small : (bytes : List ℕ) → unwrap_or (marker_number bytes) 0 ≤ small
+unfolding marker_number
+number_small bytes =
+    picked (nat_lt 0 (digit_count bytes)) (nat_le (digit_count bytes) 10) (nat_le (written_number bytes) small)
+    (nat_le (length bytes) (number_stop bytes) || is_white (slice_index bytes (number_stop bytes))) (written_number bytes) (le_told (written_number bytes) small)
+
+marker_small : (text : List ℕ) (p : Piece) → (marker_of text p).number ≤ small
+marker_small text p = number_small (bytes_at text p)
+
+-- ---- what the last of some markers keeps
+
+last_keeps : (P : Marker → Type 0) (found : Option Marker) (ms : List Marker) → IfSome found P → AllByRecursion P ms → IfSome (last_or found ms) P
+last_keeps P found [] h all = h
+last_keeps P found (m ∷ ms) h all = last_keeps P (Some m) ms all.0 all.1
+
+filter_keeps : (P : Marker → Type 0) (p : Marker → Bool) (ms : List Marker) → AllByRecursion P ms → AllByRecursion P (filter p ms)
+filter_keeps P p [] all = tt
+filter_keeps P p (m ∷ ms) all =
+    elim (p m) as (λ b. AllByRecursion P (cond b (m ∷ filter p ms) (filter p ms))) [ true ↦ (all.0, filter_keeps P p ms all.1) | false ↦ filter_keeps P p ms all.1 ]
+
+abbrev IsSmall : Marker → Type 0
+IsSmall m = m.number ≤ small
+
+all_small : (text : List ℕ) (ps : List Piece) → AllByRecursion IsSmall (map (marker_of text) ps)
+all_small text [] = tt
+all_small text (p ∷ ps) = (marker_small text p, all_small text ps)
+
+-- ---- what an edit leaves
+
+-- A line after the edit.
+abbrev later : Shift → Line → Line
+later s line = line_with (min (line.number + s.new_lines) most - s.old_lines) line.file
+
+none_between : (text : List ℕ) (a b : ℕ) → b - a ≡ 0 → lines_between text a b ≡ 0
+none_between text a b h = ap (λ (n : ℕ). count_by (λ x. x == 10) (take n (drop a text))) h
+
+-- The byte at a place before another ends a line.
+pub line_here : (text : List ℕ) (a place : ℕ) → a < place → place ≤ length text → get_or text a 0 ≡ 10 → 0 < lines_between text a place
+line_here text a place order inside h =
+    let next : place - a ≡ suc (place - suc a) = omega arith in
+    let some : part_of text a place ≡ get_or text a 0 ∷ take (place - suc a) (drop (suc a) text) =
+    ap (λ (n : ℕ). take n (drop a text)) next ∙ ap (take (suc (place - suc a))) (drop-cons text a 0 (omega (arith, order, inside))) in
+    let rest : List ℕ = take (place - suc a) (drop (suc a) text) in
+    let whole : lines_between text a place ≡ suc (count_by (λ x. x == 10) rest) =
+    ap (count_by (λ x. x == 10)) (some ∙ ap (λ (x : ℕ). x ∷ rest) h) ∙ count_yes (λ x. x == 10) 10 rest refl in
+    omega (arith, whole)
+
+few_lines : (text : List ℕ) (a b : ℕ) → b ≤ length text → lines_between text a b ≤ b - a
+few_lines text a b inside =
+    elim (split b a) [
+      | inl less ↦ omega (arith, none_between text a b (omega arith))
+      | inr more ↦
+          let size : length (part_of text a b) ≡ b - a = length-take-le (b - a) (drop a text) (omega (arith, length-drop a text)) in
+          omega (arith, size, count_by-le-length (λ x. x == 10) (part_of text a b))
+    ]
+
+module _ (old text : List ℕ) (s : Shift) (is : IsShift old text s) where
+  -- Before the edit both texts have the same bytes.
+  same_part : (a offset : ℕ) → offset ≤ s.start → part_of text a offset ≡ part_of old a offset
+  same_part a offset h =
+      elim (split offset a) [
+        | inl less ↦
+            let none : offset - a ≡ 0 = omega arith in
+            ap (λ (n : ℕ). take n (drop a text)) none ∙ sym (ap (λ (n : ℕ). take n (drop a old)) none)
+        | inr more ↦
+            let whole : a + (offset - a) ≡ offset = omega arith in
+            let front : take offset text ≡ take offset old = sym (take-take offset s.start text h) ∙ (ap (take offset) (sym is.edit.before) ∙ take-take offset s.start old h) in
+            sym (drop-take a (offset - a) text) ∙ ap (λ (n : ℕ). drop a (take n text)) whole ∙ ap (drop a) front
+            ∙ sym (ap (λ (n : ℕ). drop a (take n old)) whole) ∙ drop-take a (offset - a) old
+      ]
+
+  same_count : (a offset : ℕ) → offset ≤ s.start → lines_between text a offset ≡ lines_between old a offset
+  same_count a offset h = ap (count_by (λ x. x == 10)) (same_part a offset h)
+
+  same_back : (offset : ℕ) → s.old_stop ≤ offset → lines_between text s.new_stop ((offset - s.old_stop) + s.new_stop) ≡ lines_between old s.old_stop offset
+  same_back offset h =
+      let way : ((offset - s.old_stop) + s.new_stop) - s.new_stop ≡ offset - s.old_stop = omega arith in
+      ap₂ (λ (n : ℕ) (l : List ℕ). count_by (λ x. x == 10) (take n l)) way (sym is.edit.after)
+
+  -- What is counted from a place before the edit up to an offset after it.
+  counted : (a offset : ℕ) → a ≤ s.start → s.old_stop ≤ offset → lines_between text a ((offset - s.old_stop) + s.new_stop) + s.old_lines ≡ lines_between old a offset + s.new_lines
+  counted a offset low h =
+      let b = s.old_stop in
+      let c = s.new_stop in
+      let to : ℕ = (offset - b) + c in
+      omega (
+        arith,
+        is.old_lines,
+        is.new_lines,
+        same_count a s.start (omega arith),
+        same_back offset h,
+        count_split old a s.start offset low (omega (arith, h, is.edit.old_order)),
+        count_split old s.start b offset is.edit.old_order h,
+        count_split text a s.start to low (omega (arith, is.edit.new_order)),
+        count_split text s.start c to is.edit.new_order (omega arith),
+      )
+
+  -- ---- the last marker that counts
+
+  last_in_front : (offset : ℕ) → offset ≤ s.start → (ms : List Marker) → last_for text offset ms ≡ last_for old offset ms
+  last_in_front offset h ms =
+      ap last_of (filter_same (λ m. has_line_between text m.end offset) (λ m. has_line_between old m.end offset) ms
+      (each (λ m. has_line_between text m.end offset ≡ has_line_between old m.end offset) (λ m. ap (list_any (λ b. b == 10)) (same_part m.end offset h)) ms))
+
+  -- A marker with a line's end before the edit is before the edit.
+  ends_early : (m : Marker) → CountsAfter old s.start m → m.end ≤ s.start
+  ends_early m h = omega (arith, h, few_lines old m.end s.start (omega (arith, is.edit.old_order, is.edit.old_inside)))
+
+  counts_in_both : (offset : ℕ) → s.old_stop ≤ offset → (m : Marker) → CountsAfter old s.start m
+      → has_line_between text m.end ((offset - s.old_stop) + s.new_stop) ≡ has_line_between old m.end offset
+  counts_in_both offset h m counts =
+      let to : ℕ = (offset - s.old_stop) + s.new_stop in
+      let early = ends_early m counts in
+      let some_old : 0 < lines_between old m.end offset = omega (arith, counts, count_split old m.end s.start offset early (omega (arith, h, is.edit.old_order))) in
+      let some : 0 < lines_between text m.end to =
+      omega (arith, counts, same_count m.end s.start (omega arith), count_split text m.end s.start to early (omega (arith, is.edit.new_order))) in
+      any_counted (λ b. b == 10) (part_of text m.end to) ∙ lt_yes 0 (lines_between text m.end to) some
+      ∙ sym (any_counted (λ b. b == 10) (part_of old m.end offset) ∙ lt_yes 0 (lines_between old m.end offset) some_old)
+
+  each_counts : (offset : ℕ) → s.old_stop ≤ offset → (ms : List Marker) → AllByRecursion (CountsAfter old s.start) ms
+      → AllByRecursion (λ m. has_line_between text m.end ((offset - s.old_stop) + s.new_stop) ≡ has_line_between old m.end offset) ms
+  each_counts offset h [] all = tt
+  each_counts offset h (m ∷ ms) all = (counts_in_both offset h m all.0, each_counts offset h ms all.1)
+
+  last_in_back : (offset : ℕ) → s.old_stop ≤ offset → (ms : List Marker) → AllByRecursion (CountsAfter old s.start) ms → last_for text ((offset - s.old_stop) + s.new_stop) ms ≡ last_for old offset ms
+  last_in_back offset h ms all =
+      ap last_of (filter_same (λ m. has_line_between text m.end ((offset - s.old_stop) + s.new_stop)) (λ m. has_line_between old m.end offset) ms (each_counts offset h ms all))
+
+  -- ---- the line
+
+  same_markers : (offset : ℕ) → line_at text offset ≡ line_by text offset (setting_markers old) (naming_markers old)
+  same_markers offset = line_is text offset ∙ ap₂ (line_by text offset) is.markers.setting is.markers.naming
+
+  number_in_front : (offset : ℕ) → offset ≤ s.start → (o : Option Marker) → number_from text offset o ≡ number_from old offset o
+  number_in_front offset h None = ap (λ (n : ℕ). 1 + n) (same_count 0 offset h)
+  number_in_front offset h (Some m) = ap (λ (n : ℕ). (m.number + n) - 1) (same_count m.end offset h)
+
+  before : (offset : ℕ) → offset < s.start → line_at text (shifted_offset s offset) ≡ shifted_line s offset (line_at old offset)
+  before offset h =
+      let early : nat_lt offset s.start ≡ true = lt_yes offset s.start h in
+      let le : offset ≤ s.start = omega (arith, h) in
+      let setting : List Marker = setting_markers old in
+      let naming : List Marker = naming_markers old in
+      ap (λ (b : Bool). line_at text (if b then offset else min ((offset - s.old_stop) + s.new_stop) most)) early
+      ∙ same_markers offset
+      ∙ ap₂ line_with (ap (number_from text offset) (last_in_front offset le setting) ∙ number_in_front offset le (last_for old offset setting)) (ap file_in (last_in_front offset le naming))
+      ∙ sym (line_is old offset)
+      ∙ sym (ap (λ (b : Bool). if b then line_at old offset else later s (line_at old offset)) early)
+
+  abbrev Good : Marker → Type 0
+  Good m = CountsAfter old s.start m × IsSmall m
+
+  all_good : (ms : List Marker) → AllByRecursion (CountsAfter old s.start) ms → AllByRecursion IsSmall ms → AllByRecursion Good ms
+  all_good [] counts smalls = tt
+  all_good (m ∷ ms) counts smalls = ((counts.0, smalls.0), all_good ms counts.1 smalls.1)
+
+  number_in_back : (offset : ℕ) → s.old_stop ≤ offset → offset ≤ length old → (o : Option Marker) → IfSome o Good
+      → number_from text ((offset - s.old_stop) + s.new_stop) o ≡ min (number_from old offset o + s.new_lines) most - s.old_lines
+  number_in_back offset h inside None good =
+      omega (
+        arith,
+        counted 0 offset (omega arith) h,
+        few_lines old 0 offset inside,
+        few_lines text s.start s.new_stop is.edit.new_inside,
+        inside,
+        is.new_lines,
+        is.short,
+        is.old_short,
+        is.edit.new_inside,
+      )
+  number_in_back offset h inside (Some m) good =
+      let early = ends_early m good.0 in
+      omega (
+        arith,
+        counted m.end offset early h,
+        good.0,
+        good.1,
+        is.old_lines,
+        count_split old m.end s.start offset early (omega (arith, h, is.edit.old_order)),
+        count_split old s.start s.old_stop offset is.edit.old_order h,
+        few_lines old m.end offset inside,
+        few_lines text s.start s.new_stop is.edit.new_inside,
+        inside,
+        is.new_lines,
+        is.short,
+        is.old_short,
+        is.edit.new_inside,
+      )
+
+  after : (offset : ℕ) → s.old_stop ≤ offset → offset ≤ length old → line_at text (shifted_offset s offset) ≡ shifted_line s offset (line_at old offset)
+  after offset h inside =
+      let to : ℕ = (offset - s.old_stop) + s.new_stop in
+      let setting : List Marker = setting_markers old in
+      let naming : List Marker = naming_markers old in
+      let last : Option Marker = last_for old offset setting in
+      let counts = recursion_from_All (CountsAfter old s.start) setting is.markers.setting_before in
+      let named = recursion_from_All (CountsAfter old s.start) naming is.markers.naming_before in
+      let all = all_good setting counts (all_small old (filter (numbers old) (pieces_of old))) in
+      let good : IfSome last Good = last_keeps Good None (filter (λ m. has_line_between old m.end offset) setting) tt (filter_keeps Good (λ m. has_line_between old m.end offset) setting all) in
+      let late : nat_lt offset s.start ≡ false = lt_no offset s.start (omega (arith, h, is.edit.old_order)) in
+      let fits : min to most ≡ to = omega (arith, inside, h, is.short, edit_lengths old text s.start s.old_stop s.new_stop is.edit) in
+      ap (λ (b : Bool). line_at text (if b then offset else min to most)) late
+      ∙ ap (line_at text) fits
+      ∙ same_markers to
+      ∙ ap₂ line_with (ap (number_from text to) (last_in_back offset h setting counts) ∙ number_in_back offset h inside last good) (ap file_in (last_in_back offset h naming named))
+      ∙ sym (ap (later s) (line_is old offset))
+      ∙ sym (ap (λ (b : Bool). if b then line_at old offset else later s (line_at old offset)) late)
+
+  pub lines_shifted : (offset : ℕ) → IsOutside old s offset → line_at text (shifted_offset s offset) ≡ shifted_line s offset (line_at old offset)
+  lines_shifted offset h = elim h [ inl less ↦ before offset less | inr more ↦ after offset more.0 more.1 ]
