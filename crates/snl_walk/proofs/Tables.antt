@@ -6,26 +6,27 @@ use Rattle.std.proofs.lemmas.List.{reverse-append}
 use Rattle.std.proofs.lemmas.Slice.Eq.{bytes_eq-Decides}
 use Rattle.std.proofs.lemmas.Option.{slice_get-get_or, slice_get_within}
 use Rattle.indexmap.specs.IndexMap.{insert_entry}
+use Rattle.snl_walk.specs.declared.name_key.NameKey.{NameKey}
 use Rattle.snl_walk.specs.declared.occurrence.Local.{Local}
 use Rattle.snl_walk.specs.declared.visible.Entry.{Entry}
 use Rattle.snl_walk.specs.Scopes.{look_up}
 use Rattle.snl_walk.specs.Stack.{IsStacked, KeepsEarlier, newest_first, shown, told_by}
 
 abbrev Table : Type 0
-Table = List (Bor (List ℕ) × Option Local)
+Table = List (NameKey × Option Local)
 
-abbrev pub same_names : Bor (List ℕ) → Bor (List ℕ) → Bool
-same_names a b = bytes_eq a.now b.now
+abbrev pub same_names : NameKey → NameKey → Bool
+same_names a b = bytes_eq a.bytes.now b.bytes.now
 
 -- what a look-up answers, where nothing and a name that means nothing are one
 abbrev pub flat : Option (Option Local) → Option Local
 flat None = None
 flat (Some o) = o
 
-pub told-lookup : (name : List ℕ) (table : Table) → flat (lookup (λ k. bytes_eq name k.now) table) ≡ told_by table name
+pub told-lookup : (name : List ℕ) (table : Table) → flat (lookup (λ k. bytes_eq name k.bytes.now) table) ≡ told_by table name
 told-lookup name [] = refl
 told-lookup name (e ∷ es) =
-    elim (bytes_eq name e.0.now) as (λ b. flat (cond b (Some e.1) (lookup (λ k. bytes_eq name k.now) es)) ≡ cond b e.1 (told_by es name)) [ true ↦ refl | false ↦ told-lookup name es ]
+    elim (bytes_eq name e.0.bytes.now) as (λ b. flat (cond b (Some e.1) (lookup (λ k. bytes_eq name k.bytes.now) es)) ≡ cond b e.1 (told_by es name)) [ true ↦ refl | false ↦ told-lookup name es ]
 
 -- a name stands for itself alone
 apart : (name key other : List ℕ) → bytes_eq name key ≡ false → bytes_eq other key ≡ true → bytes_eq other name ≡ false
@@ -38,31 +39,31 @@ apart name key other differ is = by (bytes_eq other name) refl
         let key_too : other ≡ key = (bytes_eq-Decides other key).0 is in
         absurd (true≢false (sym ((bytes_eq-Decides name key).1 (sym same ∙ key_too)) ∙ differ))
 
-pub told-insert : (table : Table) (name : Bor (List ℕ)) (v : Option Local) (other : List ℕ) →
-    told_by (insert_entry same_names table name v) other ≡ (if bytes_eq other name.now then v else told_by table other)
+pub told-insert : (table : Table) (name : NameKey) (v : Option Local) (other : List ℕ) →
+    told_by (insert_entry same_names table name v) other ≡ (if bytes_eq other name.bytes.now then v else told_by table other)
 told-insert [] name v other = refl
-told-insert (e ∷ es) name v other = by (told-insert es name v other) (bytes_eq name.now e.0.now) refl
+told-insert (e ∷ es) name v other = by (told-insert es name v other) (bytes_eq name.bytes.now e.0.bytes.now) refl
   where
     each : (b : Bool) → cond b v (told_by es other) ≡ cond b v (cond b e.1 (told_by es other))
     each true = refl
     each false = refl
 
-    there : bytes_eq name.now e.0.now ≡ true → cond (bytes_eq other e.0.now) v (told_by es other) ≡ cond (bytes_eq other name.now) v (cond (bytes_eq other e.0.now) e.1 (told_by es other))
+    there : bytes_eq name.bytes.now e.0.bytes.now ≡ true → cond (bytes_eq other e.0.bytes.now) v (told_by es other) ≡ cond (bytes_eq other name.bytes.now) v (cond (bytes_eq other e.0.bytes.now) e.1 (told_by es other))
     there h =
-        let same : name.now ≡ e.0.now = (bytes_eq-Decides name.now e.0.now).0 h in
+        let same : name.bytes.now ≡ e.0.bytes.now = (bytes_eq-Decides name.bytes.now e.0.bytes.now).0 h in
         ap (λ n. cond (bytes_eq other n) v (told_by es other)) (sym same)
-        ∙ each (bytes_eq other name.now)
-        ∙ ap (λ n. cond (bytes_eq other name.now) v (cond (bytes_eq other n) e.1 (told_by es other))) same
+        ∙ each (bytes_eq other name.bytes.now)
+        ∙ ap (λ n. cond (bytes_eq other name.bytes.now) v (cond (bytes_eq other n) e.1 (told_by es other))) same
 
-    later : bytes_eq name.now e.0.now ≡ false → (b : Bool) → bytes_eq other e.0.now ≡ b →
-        cond b e.1 (cond (bytes_eq other name.now) v (told_by es other)) ≡ cond (bytes_eq other name.now) v (cond b e.1 (told_by es other))
-    later differ true h = ap (λ b. cond b v e.1) (sym (apart name.now e.0.now other differ h))
+    later : bytes_eq name.bytes.now e.0.bytes.now ≡ false → (b : Bool) → bytes_eq other e.0.bytes.now ≡ b →
+        cond b e.1 (cond (bytes_eq other name.bytes.now) v (told_by es other)) ≡ cond (bytes_eq other name.bytes.now) v (cond b e.1 (told_by es other))
+    later differ true h = ap (λ b. cond b v e.1) (sym (apart name.bytes.now e.0.bytes.now other differ h))
     later differ false h = refl
 
-    by : told_by (insert_entry same_names es name v) other ≡ cond (bytes_eq other name.now) v (told_by es other) → (b : Bool) → bytes_eq name.now e.0.now ≡ b →
-        told_by (if b then (e.0, v) ∷ es else e ∷ insert_entry same_names es name v) other ≡ cond (bytes_eq other name.now) v (cond (bytes_eq other e.0.now) e.1 (told_by es other))
+    by : told_by (insert_entry same_names es name v) other ≡ cond (bytes_eq other name.bytes.now) v (told_by es other) → (b : Bool) → bytes_eq name.bytes.now e.0.bytes.now ≡ b →
+        told_by (if b then (e.0, v) ∷ es else e ∷ insert_entry same_names es name v) other ≡ cond (bytes_eq other name.bytes.now) v (cond (bytes_eq other e.0.bytes.now) e.1 (told_by es other))
     by rest true h = there h
-    by rest false h = ap (λ t. cond (bytes_eq other e.0.now) e.1 t) rest ∙ later h (bytes_eq other e.0.now) refl
+    by rest false h = ap (λ t. cond (bytes_eq other e.0.bytes.now) e.1 t) rest ∙ later h (bytes_eq other e.0.bytes.now) refl
 
 -- one more entry is before the others
 pub newest-push : (es : List Entry) (e : Entry) → newest_first (es ++ e ∷ []) ≡ shown e ∷ newest_first es
@@ -71,11 +72,14 @@ newest-push es e = ap (λ (l : List Entry). map shown l) (reverse-append es (e �
 kept-push : (es : List Entry) (e : Entry) → reverse (es ++ e ∷ []) ≡ e ∷ reverse es
 kept-push es e = reverse-append es (e ∷ [])
 
+abbrev pub key_of : Bor (List ℕ) → NameKey
+key_of name = record { bytes = name }
+
 -- a declaration is taken in
 pub stack-push : (es : List Entry) (table : Table) (e : Entry) (name : Bor (List ℕ)) → e.name ≡ name → e.earlier ≡ look_up name.now (newest_first es) → IsStacked es table →
-    IsStacked (es ++ e ∷ []) (insert_entry same_names table name (Some e.declared))
+    IsStacked (es ++ e ∷ []) (insert_entry same_names table (key_of name) (Some e.declared))
 stack-push es table e name is before h = record {
-  told = λ n. told-insert table name (Some e.declared) n
+  told = λ n. told-insert table (key_of name) (Some e.declared) n
       ∙ ap (λ t. cond (bytes_eq n name.now) (Some e.declared) t) (h.told n)
       ∙ ap (λ (k : Bor (List ℕ)). cond (bytes_eq n k.now) (Some e.declared) (look_up n (newest_first es))) (sym is)
       ∙ ap (look_up n) (sym (newest-push es e));
@@ -83,9 +87,9 @@ stack-push es table e name is before h = record {
 }
 
 -- the last declaration is let go
-pub stack-pop : (es : List Entry) (table : Table) (e : Entry) → IsStacked (es ++ e ∷ []) table → IsStacked es (insert_entry same_names table e.name e.earlier)
+pub stack-pop : (es : List Entry) (table : Table) (e : Entry) → IsStacked (es ++ e ∷ []) table → IsStacked es (insert_entry same_names table (key_of e.name) e.earlier)
 stack-pop es table e h = record {
-  told = λ n. told-insert table e.name e.earlier n ∙ by n (bytes_eq n e.name.now) refl;
+  told = λ n. told-insert table (key_of e.name) e.earlier n ∙ by n (bytes_eq n e.name.now) refl;
   kept = kept.1;
 }
   where

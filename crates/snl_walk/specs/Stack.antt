@@ -1,7 +1,7 @@
 -- What a table and a stack of declarations say of names.
 use Rattle.std.specs.Prelude.{◌≡◌, ℕ, List, [], ◌∷◌, map, reverse, Option, None, if◌then◌else◌}
-use Rattle.std.specs.Borrow.{Bor}
 use Rattle.std.specs.Str.{bytes_eq}
+use Rattle.snl_walk.specs.declared.name_key.NameKey.{NameKey}
 use Rattle.snl_walk.specs.declared.occurrence.Local.{Local}
 use Rattle.snl_walk.specs.declared.visible.Entry.{Entry}
 use Rattle.snl_walk.specs.Scopes.{look_up}
@@ -19,11 +19,11 @@ KeepsEarlier [] = Unit {0}
 KeepsEarlier (e ∷ es) = (e.earlier ≡ look_up e.name.now (map shown es)) × KeepsEarlier es
 
 -- What a table says of a name.
-abbrev pub told_by : List (Bor (List ℕ) × Option Local) → List ℕ → Option Local
+abbrev pub told_by : List (NameKey × Option Local) → List ℕ → Option Local
 told_by [] name = None
-told_by (e ∷ es) name = if bytes_eq name e.0.now then e.1 else told_by es name
+told_by (e ∷ es) name = if bytes_eq name e.0.bytes.now then e.1 else told_by es name
 
 -- The table says of each name what the stack says.
-pub record IsStacked (es : List Entry) (table : List (Bor (List ℕ) × Option Local)) : Type 0 where
+pub record IsStacked (es : List Entry) (table : List (NameKey × Option Local)) : Type 0 where
   pub told : (name : List ℕ) → told_by table name ≡ look_up name (newest_first es)
   pub kept : KeepsEarlier (reverse es)

@@ -4,6 +4,7 @@ ghost use Rattle.std.specs.Prelude.{◌≡◌, [], IfOk, OnOk, bytes_eq, not};
 ghost use Rattle.std.specs.List.{list_any};
 ghost use Rattle.snl_walk.specs.Once.{with_new};
 
+use crate::name_key::NameKey;
 use indexmap::IndexSet;
 use snl_cut::OutOfMemory;
 use std::alloc::Global;
@@ -11,7 +12,7 @@ use std::marker::Model;
 
 /// Different names, which contracts see as their list, in the order in which they came.
 pub struct NameSet<'a> {
-    held: IndexSet<&'a [u8]>,
+    held: IndexSet<NameKey<'a>>,
 }
 
 // By hand, so that whoever holds names need not know how they are held to let them go.
@@ -26,7 +27,7 @@ impl<'a> Model for NameSet<'a> {
 
     ghost Value = { List (List ℕ) };
 
-    ghost view = { λ a. map (λ k. k.now) a.held.keys };
+    ghost view = { λ a. map (λ k. k.bytes.now) a.held.keys };
 }
 
 impl<'a> NameSet<'a> {
@@ -43,13 +44,13 @@ impl<'a> NameSet<'a> {
         ensures names { OnOk result (self.new ≡ with_new self.old name.now) }
         ensures added { IfOk result (λ added. added ≡ not (list_any (bytes_eq name.now) self.old)) }
     {
-        Ok(self.held.insert(name)?)
+        Ok(self.held.insert(NameKey { bytes: name })?)
     }
 
     /// Whether a name is among them.
     pub fn contains(&self, name: &[u8]) -> bool
         ensures { result ≡ list_any (bytes_eq name.now) self.now }
     {
-        self.held.contains(name)
+        self.held.contains(&NameKey { bytes: name })
     }
 }

@@ -3,6 +3,7 @@
 ghost use Rattle.std.specs.Prelude.{◌≡◌, [], ◌∷◌, drop, OnOk};
 ghost use Rattle.snl_walk.specs.Scopes.{look_up};
 
+use crate::name_key::NameKey;
 use crate::occurrence::Local;
 use indexmap::IndexMap;
 use snl_cut::OutOfMemory;
@@ -21,7 +22,7 @@ struct Entry<'a> {
 /// name that was taken in counts; a table finds it at once.
 pub(crate) struct Visible<'a> {
     entries: Vec<Entry<'a>>,
-    held: IndexMap<&'a [u8], Option<Local>>,
+    held: IndexMap<NameKey<'a>, Option<Local>>,
 }
 
 // By hand, so that whoever holds names need not know how they are held to let them go.
@@ -60,7 +61,7 @@ impl<'a> Visible<'a> {
     pub(crate) fn get(&self, name: &[u8]) -> Option<Local>
         ensures { result ≡ look_up name.now self.now }
     {
-        match self.held.get(name) {
+        match self.held.get(&NameKey { bytes: name }) {
             Some(declared) => *declared,
             None => None,
         }
@@ -76,7 +77,7 @@ impl<'a> Visible<'a> {
             declared,
             earlier,
         })?;
-        match self.held.insert(name, Some(declared)) {
+        match self.held.insert(NameKey { bytes: name }, Some(declared)) {
             Ok(_) => Ok(()),
             Err(_) => {
                 self.entries.pop();
@@ -92,7 +93,7 @@ impl<'a> Visible<'a> {
         if let Some(last) = self.entries.last() {
             let name = last.name;
             let earlier = last.earlier;
-            self.held.insert(name, earlier)?;
+            self.held.insert(NameKey { bytes: name }, earlier)?;
             self.entries.pop();
         }
         Ok(())

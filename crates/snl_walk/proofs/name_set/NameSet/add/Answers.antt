@@ -7,8 +7,8 @@ use Rattle.snl_walk.proofs.name_set.NameSet.add.Goals as goal
 
 pub returns-clause-names : goal.returns-clause-names
 returns-clause-names c =
-    ap (map (λ k. k.now)) c.in_ok-insert.ensures.keys
-    ∙ names-with_new c.self.inside.held.keys c.args.name
+    ap (map (λ k. k.bytes.now)) c.in_ok-insert.ensures.keys
+    ∙ names-with_new c.self.inside.held.keys (record { bytes = c.args.name })
     ∙ ap (λ l. with_new l c.args.name.now) c.self.view_is
 
 pub returns-clause-added : goal.returns-clause-added
