@@ -4,7 +4,8 @@ use Rattle.std.specs.List.{list_any, position, position_from, position_or_len}
 use Rattle.std.specs.Option.{option_or}
 use Rattle.std.specs.Str.{bytes_eq}
 use Rattle.std.proofs.lemmas.Bool.Decides.{nat_tests}
-use borrow.Author.Tests.{lt-ltb, lt-leb}
+use Rattle.std.proofs.lemmas.List.Sums.{prefix_len-le-length}
+use borrow.Author.Tests.{lt-ltb, lt-leb, ltb-false}
 use Rattle.std.proofs.lemmas.Slice.Eq.{bytes_eq-Decides}
 use Rattle.snl_scope.specs.Claims.{lesser}
 use Rattle.snl_scope.specs.NameTables.{with_name}
@@ -134,3 +135,19 @@ with_name-known names name n h = ap (λ o. cond (is_some o) names (names ++ name
 
 pub with_name-new : (names : List (List ℕ)) (name : List ℕ) → None ≡ position (bytes_eq name) names → names ++ name ∷ [] ≡ with_name names name
 with_name-new names name h = ap (λ o. cond (is_some o) names (names ++ name ∷ [])) h
+
+-- a name that is taken in stays where it is known, and comes last where it is new
+pub with_name-taken : (names : List (List ℕ)) (name : List ℕ) → (if list_any (bytes_eq name) names then names else names ++ name ∷ []) ≡ with_name names name
+with_name-taken names name = ap (λ b. if b then names else names ++ name ∷ []) (any-position (bytes_eq name) names)
+
+pub name-taken : (names : List (List ℕ)) (name : List ℕ) → position (bytes_eq name) (with_name names name) ≡ Some (position_or_len (bytes_eq name) names)
+name-taken names name = by (nat_lt (position_or_len (bytes_eq name) names) (length names)) refl
+  where
+    is : (b : Bool) → nat_lt (position_or_len (bytes_eq name) names) (length names) ≡ b → position (bytes_eq name) names ≡ cond b (Some (position_or_len (bytes_eq name) names)) None
+    is b h = ap (λ c. cond c (Some (position_or_len (bytes_eq name) names)) None) h
+
+    by : (b : Bool) → nat_lt (position_or_len (bytes_eq name) names) (length names) ≡ b → position (bytes_eq name) (with_name names name) ≡ Some (position_or_len (bytes_eq name) names)
+    by true h = ap (λ o. position (bytes_eq name) (if is_some o then names else names ++ name ∷ [])) (is true h) ∙ is true h
+    by false h =
+        let whole : length names ≡ position_or_len (bytes_eq name) names = omega (arith, prefix_len-le-length (λ x. not (bytes_eq name x)) names, ltb-false (position_or_len (bytes_eq name) names) (length names) h) in
+        ap (λ o. position (bytes_eq name) (if is_some o then names else names ++ name ∷ [])) (is false h) ∙ name-new names name (sym (is false h)) ∙ ap Some whole

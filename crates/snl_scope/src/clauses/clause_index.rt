@@ -5,6 +5,7 @@ ghost use Rattle.std.specs.Prelude.{◌≡◌, ◌&&◌, [], nat_eq, OnOk};
 ghost use Rattle.std.specs.Map.{lookup};
 ghost use Rattle.snl_scope.specs.Below.{any_below};
 ghost use Rattle.snl_scope.specs.Claims.{Adds, claim_number, claims, first_clause, has_claim, lesser, overlaps_claims, purpose_of, same_claim, same_purpose};
+ghost use Rattle.snl_scope.specs.Hashed.{claim_fed, extent_number, purpose_number, same_claim_fed};
 ghost use Rattle.snl_scope.specs.declared.clauses.clause_index.Extent.{Extent};
 ghost use Rattle.snl_scope.specs.declared.clauses.clause_index.Extent.TheVariants as extent;
 
@@ -12,10 +13,11 @@ use crate::summaries::summary::{ClauseKind, Coverage};
 use indexmap::IndexMap;
 use snl_cut::OutOfMemory;
 use std::alloc::Global;
+use std::hash::{Hash, Hasher};
 use std::marker::Model;
 
 /// What a clause is for. `sync` and `syncq` have one purpose.
-#[derive(Clone, Copy, Debug, PartialEq, Eq, Hash)]
+#[derive(Clone, Copy, Debug, PartialEq, Eq)]
 pub(crate) enum Purpose {
     Assign,
     Monitor,
@@ -23,7 +25,7 @@ pub(crate) enum Purpose {
 }
 
 /// How much of a variable is claimed.
-#[derive(Clone, Copy, Debug, PartialEq, Eq, Hash)]
+#[derive(Clone, Copy, Debug, PartialEq, Eq)]
 pub(crate) enum Extent {
     /// Anything at all, be it no element.
     Any,
@@ -34,11 +36,44 @@ pub(crate) enum Extent {
 }
 
 /// A claim on the variable with a number.
-#[derive(Clone, Copy, Debug, PartialEq, Eq, Hash)]
+#[derive(Clone, Copy, Debug, PartialEq, Eq)]
 pub(crate) struct Claim {
     pub purpose: Purpose,
     pub variable: usize,
     pub extent: Extent,
+}
+
+fn purpose_number(purpose: Purpose) -> u8
+    ensures { result ≡ purpose_number purpose }
+{
+    match purpose {
+        Purpose::Assign => 0,
+        Purpose::Monitor => 1,
+        Purpose::Sync => 2,
+    }
+}
+
+fn extent_number(extent: Extent) -> u64
+    ensures { result ≡ extent_number extent }
+{
+    match extent {
+        Extent::Any => u64::MAX,
+        Extent::Whole => u64::MAX - 1,
+        Extent::Element(number) => number,
+    }
+}
+
+// By two writes of numbers, where the variants and their fields would take four.
+impl Hash for Claim {
+    ghost hash_input = { claim_fed };
+
+    ghost respects_eq = { same_claim_fed };
+
+    fn hash<H: Hasher>(&self, state: &mut H) {
+        state.write_u8(purpose_number(self.purpose));
+        let extent = extent_number(self.extent) as u128;
+        state.write_u128(self.variable as u128 * (1 << 64) + extent);
+    }
 }
 
 pub(crate) fn purpose_of(kind: ClauseKind) -> Purpose

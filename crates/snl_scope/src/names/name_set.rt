@@ -3,33 +3,25 @@
 ghost use Rattle.std.specs.Prelude.{◌≡◌, [], OnOk, IfOk, Some, bytes_eq, position};
 ghost use Rattle.snl_scope.specs.NameTables.{with_name};
 
+use crate::summaries::name::Name;
 use indexmap::IndexSet;
 use snl_cut::OutOfMemory;
+use snl_walk::NameKey;
 use std::alloc::Global;
 use std::marker::Model;
-
-// The bytes of a name, in a buffer of their own.
-fn copied(alloc: Global, name: &[u8]) -> Result<Vec<u8>, OutOfMemory>
-    ensures { IfOk result (λ v. v.items ≡ name.now) }
-{
-    match Vec::from_slice(alloc, name) {
-        Ok(held) => Ok(held),
-        Err(_) => Err(OutOfMemory),
-    }
-}
 
 /// Different names, which contracts see as their list. The number of a name is its place in it.
 #[derive(Drop)]
 pub(crate) struct Names {
-    held: IndexSet<Vec<u8>>,
+    held: IndexSet<Name>,
 }
 
 impl Model for Names {
-    ghost use Rattle.std.specs.Prelude.{ℕ, List, map};
+    ghost use Rattle.std.specs.Prelude.{ℕ, List};
 
     ghost Value = { List (List ℕ) };
 
-    ghost view = { λ a. map (λ k. k.items) a.held.keys };
+    ghost view = { λ a. a.held.keys };
 }
 
 impl Names {
@@ -44,7 +36,7 @@ impl Names {
     pub(crate) fn number(&self, name: &[u8]) -> Option<usize>
         ensures { result ≡ position (bytes_eq name.now) self.now }
     {
-        self.held.get_index_of(name)
+        self.held.get_index_of(NameKey { bytes: name })
     }
 
     /// The number of a name, which is taken in if it is new.
@@ -52,13 +44,7 @@ impl Names {
         ensures names { OnOk result (self.new ≡ with_name self.old name.now) }
         ensures number { IfOk result (λ n. position (bytes_eq name.now) self.new ≡ Some n) }
     {
-        match self.held.get_index_of(name) {
-            Some(number) => Ok(number),
-            None => {
-                let number = self.held.len();
-                self.held.insert(copied(alloc, name)?)?;
-                Ok(number)
-            }
-        }
+        let (number, _) = self.held.insert_full(Name::new(alloc, name)?)?;
+        Ok(number)
     }
 }

@@ -1,13 +1,15 @@
 //! The names of all namespaces, with where each comes first.
 
-ghost use Rattle.std.specs.Prelude.{◌≡◌, ◌++◌, ◌∷◌, [], List, OnOk, IfOk, Option, if◌then◌else◌, is_some, length, map, option_copied};
+ghost use Rattle.std.specs.Prelude.{◌≡◌, ◌++◌, ◌∷◌, [], List, OnOk, IfOk, Option, Some, false, true, if◌then◌else◌, is_some, length, map, option_copied};
+ghost use Rattle.std.specs.Map.{lookup};
 ghost use Rattle.snl_scope.specs.Names.{Entry, declared_entry, entries, entries_of, has_own_scope, repetition_at, scope_at, scope_code, scope_of, set_entries, set_name, state_entries};
 ghost use Rattle.snl_scope.specs.Order.{state_name};
 ghost use Rattle.snl_scope.specs.Places as Places;
 ghost use Rattle.snl_scope.specs.declared.summaries.summary.Outline.{Outline};
 ghost use Rattle.snl_walk.specs.declared.codes.Code.{Code};
+ghost use Rattle.snl_scope.specs.declared.names.namespaces.Key.{Key};
 ghost use Rattle.snl_scope.specs.declared.names.namespaces.Namespace.{Namespace};
-ghost use Rattle.snl_scope.specs.NameTables.{Follows, Placed, entry_of, nearest_under, number_by, number_under, symbol_of};
+ghost use Rattle.snl_scope.specs.NameTables.{Follows, Placed, entry_of, nearest_under, number_by, number_under, same_key, symbol_of};
 
 use crate::facts::LinkFault;
 use crate::names::name_set::Names;
@@ -100,6 +102,24 @@ pub(crate) fn number_in(
     number_under(first, namespace, names.number(name)?)
 }
 
+// Adds the number of the first that came with a key, and tells whether one came before, which then stays the first. A new
+// key, as nearly all are, takes one look-up.
+fn add_first(first: &mut IndexMap<Key, usize>, key: Key, number: usize) -> Result<bool, OutOfMemory>
+    ensures seen { IfOk result (λ seen. seen ≡ is_some (lookup (same_key key) first.old.entries)) }
+    ensures stays { IfOk result (λ seen. seen ≡ true → first.new.entries ≡ first.old.entries) }
+    ensures last { IfOk result (λ seen. seen ≡ false → first.new.entries ≡ first.old.entries ++ (key, number) ∷ []) }
+    ensures put { IfOk result (λ seen. seen ≡ false → (q : Key) →
+        lookup (same_key q) first.new.entries ≡ (if same_key key q then Some number else lookup (same_key q) first.old.entries)) }
+{
+    match first.insert(key, number)? {
+        None => Ok(false),
+        Some(earlier) => {
+            first.insert(key, earlier)?;
+            Ok(true)
+        }
+    }
+}
+
 // Adds what a name gives that came again.
 fn add_repetition(named: Named, faults: &mut Vec<LinkFault>) -> Result<(), OutOfMemory>
     ensures { OnOk result (faults.new.items ≡ faults.old.items ++ repetition_at (entry_of named.entry)) }
@@ -186,10 +206,9 @@ impl NameTables {
             namespace: named.namespace,
             name,
         };
-        if self.first.contains_key(&key) {
+        let came_before = add_first(&mut self.first, key, number)?;
+        if came_before {
             add_repetition(named, &mut self.faults)?;
-        } else {
-            self.first.insert(key, number)?;
         }
         self.symbols.push(symbol_of(named))?;
         Ok(())
