@@ -1,6 +1,7 @@
 -- A table of names beside a stack of declarations: both say the same of each name.
-use Rattle.std.proofs.Common.{◌≡◌, ℕ, Bool, true, false, cond, List, [], ◌∷◌, ◌++◌, ◌-◌, ◌<◌, slice_get, get_or, length, map, reverse, Bor, Option, Some, None, option_to_list, refl, sym, ap, ◌∙◌, subst, true≢false, if◌then◌else◌, arith}
+use Rattle.std.proofs.Common.{◌≡◌, ℕ, Bool, true, false, cond, List, [], ◌∷◌, ◌++◌, ◌-◌, ◌<◌, slice_get, get_or, length, map, reverse, Bor, Option, Some, option_to_list, refl, sym, ap, ◌∙◌, subst, true≢false, if◌then◌else◌, arith}
 use Rattle.std.specs.Map.{lookup}
+use Rattle.std.specs.Option.{option_flatten}
 use Rattle.std.specs.Str.{bytes_eq}
 use Rattle.std.proofs.lemmas.List.{reverse-append}
 use Rattle.std.proofs.lemmas.Slice.Eq.{bytes_eq-Decides}
@@ -19,14 +20,10 @@ abbrev pub same_names : NameKey → NameKey → Bool
 same_names a b = bytes_eq a.bytes.now b.bytes.now
 
 -- what a look-up answers, where nothing and a name that means nothing are one
-abbrev pub flat : Option (Option Local) → Option Local
-flat None = None
-flat (Some o) = o
-
-pub told-lookup : (name : List ℕ) (table : Table) → flat (lookup (λ k. bytes_eq name k.bytes.now) table) ≡ told_by table name
+pub told-lookup : (name : List ℕ) (table : Table) → option_flatten (lookup (λ k. bytes_eq name k.bytes.now) table) ≡ told_by table name
 told-lookup name [] = refl
 told-lookup name (e ∷ es) =
-    elim (bytes_eq name e.0.bytes.now) as (λ b. flat (cond b (Some e.1) (lookup (λ k. bytes_eq name k.bytes.now) es)) ≡ cond b e.1 (told_by es name)) [ true ↦ refl | false ↦ told-lookup name es ]
+    elim (bytes_eq name e.0.bytes.now) as (λ b. option_flatten (cond b (Some e.1) (lookup (λ k. bytes_eq name k.bytes.now) es)) ≡ cond b e.1 (told_by es name)) [ true ↦ refl | false ↦ told-lookup name es ]
 
 -- a name stands for itself alone
 apart : (name key other : List ℕ) → bytes_eq name key ≡ false → bytes_eq other key ≡ true → bytes_eq other name ≡ false

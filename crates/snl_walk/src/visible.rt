@@ -61,6 +61,10 @@ impl<'a> Visible<'a> {
     pub(crate) fn get(&self, name: &[u8]) -> Option<Local>
         ensures { result ≡ look_up name.now self.now }
     {
+        // Most items declare nothing, and then no name needs to be hashed.
+        if self.entries.is_empty() {
+            return None;
+        }
         match self.held.get(&NameKey { bytes: name }) {
             Some(declared) => *declared,
             None => None,
@@ -71,19 +75,14 @@ impl<'a> Visible<'a> {
     pub(crate) fn push(&mut self, name: &'a [u8], declared: Local) -> Result<(), OutOfMemory>
         ensures { OnOk result (self.new ≡ (name.now, declared) ∷ self.old) }
     {
-        let earlier = self.get(name);
-        self.entries.push(Entry {
+        self.entries.reserve(1)?;
+        let held = self.held.insert(NameKey { bytes: name }, Some(declared))?;
+        self.entries.push_reserved(Entry {
             name,
             declared,
-            earlier,
-        })?;
-        match self.held.insert(NameKey { bytes: name }, Some(declared)) {
-            Ok(_) => Ok(()),
-            Err(_) => {
-                self.entries.pop();
-                Err(OutOfMemory)
-            }
-        }
+            earlier: held.flatten(),
+        });
+        Ok(())
     }
 
     // Lets go of the declaration that was taken in last.

@@ -1,10 +1,16 @@
-use Rattle.std.proofs.Common.{ap, refl, sym, ◌∙◌}
+use Rattle.std.proofs.Common.{◌≡◌, ap, refl, ◌∙◌}
+use Rattle.std.specs.Option.{option_flatten}
 use Rattle.snl_walk.specs.Scopes.{look_up}
-use Rattle.snl_walk.proofs.Tables.{stack-push}
+use Rattle.snl_walk.specs.Stack.{newest_first}
+use Rattle.snl_walk.proofs.Tables.{stack-push, told-lookup}
 use Rattle.snl_walk.proofs.visible.Visible.push.Goals as goal
 
-pub invariant_of-self-in-Ok : goal.invariant_of-self-in-Ok
-invariant_of-self-in-Ok c =
-    let before = c.get-earlier.ensures ∙ ap (λ v. look_up c.args.name.now v) (sym c.self.view_is) in
-    let now = stack-push c.self.inside.entries.items c.self.inside.held.entries (record { name = c.args.name; declared = c.args.declared; earlier = c.get-earlier.result }) c.args.name refl before c.self.invariant in
-    rw (c.in_ok-push.ensures.items, c.in-Ok.ensures.entries) now
+pub invariant_of-self-2 : goal.invariant_of-self-2
+invariant_of-self-2 c =
+    let name = c.args.name in
+    let es = c.self.inside.entries.items in
+    let table = c.self.inside.held.entries in
+    let earlier : c.flatten.result ≡ look_up name.now (newest_first es) =
+    c.flatten.ensures ∙ ap option_flatten c.in_ok-held.ensures.old ∙ told-lookup name.now table ∙ c.self.invariant.told name.now in
+    let now = stack-push es table (record { name = name; declared = c.args.declared; earlier = c.flatten.result }) name refl earlier c.self.invariant in
+    rw (c.push_reserved.ensures.items, c.reserve.ensures.items, c.in_ok-held.ensures.entries) now
