@@ -10,6 +10,7 @@ pub mod Clauses
 pub mod Channels
 pub mod Conditions
 pub mod Numbered
+pub mod Hashed
 pub mod Tables
 pub mod Collected
 pub mod Settings

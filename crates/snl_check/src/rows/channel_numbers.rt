@@ -1,8 +1,11 @@
 //! The numbers of channels: a variable and an element come in, the number of the channel goes out.
 
 ghost use Rattle.std.specs.Prelude.{◌≡◌, [], IfOk, OnOk, length, map};
+ghost use Rattle.std.specs.Hash as fed;
 ghost use Rattle.std.specs.Map.{lookup};
+ghost use Rattle.std.proofs.Common.{ap};
 ghost use Rattle.snl_check.specs.Collected.{assigned};
+ghost use Rattle.snl_check.specs.Hashed.{key_number, same_key_number, which_number};
 ghost use Rattle.snl_check.specs.Numbered.{Adds, AddsAll, Numbered, TellsBelow, element_at, has_key, same_key};
 
 use crate::rows::channels::AssignedChannel;
@@ -11,10 +14,11 @@ use snl_cut::OutOfMemory;
 use snl_tables::ChannelRow;
 use sqlite_items::Items;
 use std::alloc::Global;
+use std::hash::{Hash, Hasher};
 use std::marker::Model;
 
 /// Which element of a variable is meant.
-#[derive(Clone, Copy, Debug, PartialEq, Eq, Hash)]
+#[derive(Clone, Copy, Debug, PartialEq, Eq)]
 pub(crate) enum Which {
     Any,
     /// The element with this number.
@@ -22,10 +26,31 @@ pub(crate) enum Which {
 }
 
 /// An element of the variable that is the declaration with a number.
-#[derive(Clone, Copy, Debug, PartialEq, Eq, Hash)]
+#[derive(Clone, Copy, Debug, PartialEq, Eq)]
 pub(crate) struct Key {
     pub variable: usize,
     pub which: Which,
+}
+
+fn which_number(which: Which) -> u64
+    ensures { result ≡ which_number which }
+{
+    match which {
+        Which::Any => u64::MAX,
+        Which::Element(number) => number,
+    }
+}
+
+// By one write of a number, where the variant and the fields would take a write each.
+impl Hash for Key {
+    ghost hash_input = { λ k. fed.u128 (key_number k) };
+
+    ghost respects_eq = { λ a b h. ap fed.u128 (same_key_number a b h) };
+
+    fn hash<H: Hasher>(&self, state: &mut H) {
+        let which = which_number(self.which) as u128;
+        state.write_u128(self.variable as u128 * (1 << 64) + which);
+    }
 }
 
 /// For each element that has a channel the number of the channel, and for each variable of such elements the number of the
