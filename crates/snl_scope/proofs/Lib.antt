@@ -4,6 +4,7 @@ pub mod OpenSets
 pub mod OrderSteps
 pub mod Marks
 pub mod Numbering
+pub mod Prints
 pub mod Equality
 pub mod Rising
 pub mod FirstEntries

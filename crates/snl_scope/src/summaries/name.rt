@@ -1,17 +1,10 @@
 //! Names of their own memory.
 
-ghost use Rattle.std.specs.Prelude.{◌≡◌, ◌≤◌, [], ◌∷◌, IfOk, bytes_eq, length};
-ghost use Rattle.std.specs.Cmp.{partial_equiv_from_equiv};
-ghost use Rattle.std.specs.Cmp.Lexicographic.{bytes_decides, nat_list_eq_equiv};
-ghost use Rattle.std.specs.Cmp.Rules.{hashing};
-ghost use Rattle.std.proofs.Common.{ap, rules};
+ghost use Rattle.std.specs.Prelude.{◌≡◌, ◌≤◌, IfOk, length};
 ghost use Rattle.snl_scope.specs.HeldNames.{Fits, held_bytes};
 
-use indexmap::Equivalent;
 use snl_cut::OutOfMemory;
-use snl_walk::NameKey;
 use std::alloc::Global;
-use std::hash::{Hash, Hasher};
 use std::marker::Model;
 
 /// So many bytes of a name are held in place, and take no memory besides.
@@ -75,42 +68,5 @@ impl Name {
             Held::Short { row, count } => &row[..*count as usize],
             Held::Long(bytes) => bytes.as_slice(),
         }
-    }
-}
-
-impl PartialEq for Name {
-    ghost eq = { bytes_eq };
-
-    ghost laws = { partial_equiv_from_equiv nat_list_eq_equiv };
-
-    fn eq(&self, other: &Self) -> bool {
-        self.bytes() == other.bytes()
-    }
-}
-
-impl Eq for Name {
-    ghost laws = { nat_list_eq_equiv };
-}
-
-// By one write, as a `NameKey` is hashed, where a slice takes a write for each byte.
-impl Hash for Name {
-    ghost hash_input = { λ a. a ∷ [] };
-
-    ghost respects_eq = { Prim.search (hashing, rules) };
-
-    fn hash<H: Hasher>(&self, state: &mut H) {
-        state.write(self.bytes());
-    }
-}
-
-impl Equivalent<Name> for NameKey<'_> {
-    ghost equivalent = { λ q k. bytes_eq q.bytes.now k };
-
-    ghost respects_hash = { λ q k h. ap (λ b. b ∷ []) ((bytes_decides q.bytes.now k).0 h) };
-
-    ghost respects_eq = { λ q x y. nat_list_eq_equiv.congr q.bytes.now x y };
-
-    fn equivalent(&self, key: &Name) -> bool {
-        self.bytes == key.bytes()
     }
 }

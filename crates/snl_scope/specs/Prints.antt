@@ -1,0 +1,20 @@
+-- Names under prints: a number that the bytes of a name give, by which names are found.
+use Rattle.std.specs.Prelude.{◌≡◌, ℕ, zero, suc, ◌<◌, ◌==◌, if◌then◌else◌, nat_eq, List, [], length, get_or, slice_get, Option, Some, None}
+use Rattle.std.specs.Hash.FoldHasher as fold
+use Rattle.std.specs.Map.{lookup}
+
+-- The print of a name. Names of different prints are different.
+unfoldable pub print_of : List ℕ → ℕ
+print_of name = fold.finish (fold.write fold.initial name)
+
+-- The last of the first n names that has a print.
+abbrev pub last_with : List (List ℕ) → ℕ → ℕ → Option ℕ
+last_with names print zero = None
+last_with names print (suc n) = if print_of (get_or names n []) == print then Some n else last_with names print n
+
+-- The names are found by their prints: `last` has the number of the last one with each print, and `earlier` for each name that of the one
+-- before it with the same print.
+pub record AreFound (names : List (List ℕ)) (earlier : List (Option ℕ)) (last : List (ℕ × ℕ)) : Type 0 where
+  pub count : length earlier ≡ length names
+  pub by_print : (print : ℕ) → lookup (nat_eq print) last ≡ last_with names print (length names)
+  pub before : (n : ℕ) → n < length names → slice_get earlier n ≡ Some (last_with names (print_of (get_or names n [])) n)
