@@ -37,12 +37,7 @@ fn head_is_before(lists: &Lists, changes: &Changes, item: usize) -> bool
 }
 
 /// Whether an edit makes one item in the place of one, whose first two tokens are before the edit, as all line markers are.
-pub fn replaces_one(
-    lists: &Lists,
-    edit: &TextEdit,
-    changes: &Changes,
-    lines: &LineList,
-) -> bool
+pub fn replaces_one(lists: &Lists, edit: &TextEdit, changes: &Changes, lines: &LineList) -> bool
     requires lists { IsListed edit.now.old.now lists.now }
     requires lines { IsLineList edit.now.text.now lines.now.ends.items lines.now.markers.items lines.now.naming.items }
     ensures { IsTrue result → IsOneItem edit.now.old.now edit.now.text.now edit.now.start changes.now }
