@@ -1,14 +1,14 @@
--- The tables of a text after an edit inside one item: all other items keep their tokens.
+-- The tables of a text after an edit inside one item: all other items keep their tokens. `line` says what becomes of the line of an offset.
 use Rattle.std.proofs.Common.{◌≡◌, ◌≢◌, ℕ, zero, suc, ◌+◌, ◌<◌, ◌&&◌, ◌||◌, Bool, true, false, List, [], ◌∷◌, ◌++◌, length, map, slice_get, nat_eq, Option, Some, None, inl, inr, if◌then◌else◌, refl, sym, subst, ap, ap₂, ◌∙◌, arith, nat_lt, IfSome}
 use Rattle.std.specs.List.{AllByRecursion, enumerate_from, filter_map, flat_map}
 use Rattle.std.specs.Option.{is_none, option_and_then, option_map, option_map_or, option_to_list}
 use Rattle.std.proofs.lemmas.Bool.{cases_eq, eq-eqb, eqb-true, false≢true}
 use Rattle.std.proofs.lemmas.List.{length-append, length-map}
 use Rattle.std.proofs.lemmas.Option.{slice_get-map}
+use Rattle.snl_lex.specs.declared.lines.Line.{Line}
 use Rattle.snl_lex.specs.declared.piece.Piece.{Piece}
 use Rattle.snl_lex.specs.declared.shift.Shift.{Shift}
 use Rattle.snl_lex.specs.Lines.{line_at}
-use Rattle.snl_lex.specs.Shift.{shifted_line}
 use Rattle.snl_syntax.specs.declared.tree.clause.Clause.{Clause}
 use Rattle.snl_syntax.specs.declared.tree.clause.Clause.TheVariants as clauses
 use Rattle.snl_syntax.specs.declared.tree.item.Item.{Item}
@@ -43,16 +43,18 @@ use Rattle.snl_tables.specs.declared.rows.StateBody.{StateBody}
 use Rattle.snl_tables.specs.declared.rows.StateMark.{StateMark}
 use Rattle.snl_tables.specs.declared.rows.StateRow.{StateRow}
 use Rattle.snl_tables.specs.declared.rows.WakeUp.{WakeUp}
-use Rattle.snl_tables.specs.Shifted.{changed_at, shifted_flag, shifted_set, shifted_span, shifted_state, shifted_tables, marked, with_body, with_body_in, with_marks, with_marks_in, with_own_body, with_own_wake, with_wake, with_wake_in}
+use Rattle.snl_tables.specs.Moved.{moved_set, moved_state, moved_tables}
+use Rattle.snl_tables.specs.Shifted.{changed_at, shifted_flag, shifted_span, marked, with_body, with_body_in, with_marks, with_marks_in, with_own_body, with_own_wake, with_wake, with_wake_in}
 use Rattle.snl_check.specs.Channels.{AssignedChannel, assigned_channel, assigned_channels, channels_in, channels_of_clause, channels_on}
 use Rattle.snl_check.specs.Clauses.{ItemClause, clause_in_member, clauses_in_tree, item_clause, item_clauses, item_clauses_before, item_clauses_if, told_clauses}
 use Rattle.snl_check.specs.Conditions.{on_declaration, uses_in, wake_ups}
 use Rattle.snl_check.specs.Items.{ProgramItem, header_name, named_by, span_of, item_name, outline_of_item, outlines_of, summary_of_item, tokens_in, tree_in}
 use Rattle.snl_check.specs.Members.{is_faulty_item, number_among, states_in, target_number, target_numbers}
+use Rattle.snl_check.specs.Moved.{KeepsItemBy, KeepsItemsBy, ReplacesItemBy, ReplacesOneBy}
 use Rattle.snl_check.specs.View.{is_in_set}
 use Rattle.snl_check.specs.Settings.{LetterSetting, setting_at, setting_in_tree}
-use Rattle.snl_check.specs.Shifted.{KeepsItem, KeepsItems, shifted_item, start_at}
-use Rattle.snl_check.specs.ShiftedAround.{IsPlacedAt, IsSoundAsItWas, ReplacesOne, ReplacesItem, SaysAlike, SaysAlikeAt, is_plain, set_number, state_number, used_by, wakes_of}
+use Rattle.snl_check.specs.Shifted.{shifted_item, start_at}
+use Rattle.snl_check.specs.ShiftedAround.{IsPlacedAt, IsSoundAsItWas, SaysAlike, SaysAlikeAt, is_plain, set_number, state_number, used_by, wakes_of}
 use Rattle.snl_check.specs.Spans.{AreRead}
 use Rattle.snl_check.specs.States.{item_at, line_of_item, mark_of, marks_of, numbered_row, set_row, set_rows, state_body, state_row, state_rows, wake_of}
 use Rattle.snl_check.specs.Tables.{flag_row_at, tables_by, tables_of}
@@ -100,7 +102,7 @@ module _ (text : List ℕ) (tokens : List Piece) where
 
 -- ---- the items but one are kept
 
-module _ (laws : SpellingLaws) (old text : List ℕ) (s : Shift) (xs ys : List ProgramItem) (j : ℕ) (before : 0 < s.start) (read : AreRead old xs) (rep : ReplacesOne old text s xs ys j) where
+module _ (laws : SpellingLaws) (old text : List ℕ) (s : Shift) (line : ℕ → Line → Line) (xs ys : List ProgramItem) (j : ℕ) (before : 0 < s.start) (read : AreRead old xs) (rep : ReplacesOneBy old text s line xs ys j) where
   abbrev pub ss : List Outline
   ss = outlines_of old xs
 
@@ -110,14 +112,14 @@ module _ (laws : SpellingLaws) (old text : List ℕ) (s : Shift) (xs ys : List P
   is : (y : ProgramItem) × (slice_get ys j ≡ Some y)
   is = get_here ys j (omega (arith, rep.there, rep.count))
 
-  replaced : ReplacesItem old text s was.0 is.0
+  replaced : ReplacesItemBy old text s line was.0 is.0
   replaced = rep.replaced was.0 is.0 was.1 is.1
 
   everywhere : (P : ℕ → Type 0) → P j → ((i : ℕ) → i ≢ j → P i) → (i : ℕ) → P i
   everywhere P here apart i = elim (cases_eq i j) [ inl same ↦ subst P (sym same) here | inr other ↦ apart i other ]
 
   kept : (i : ℕ) → i ≢ j → IsKept old text s xs ys i
-  kept i apart = item_kept old text s xs ys i (rep.others i apart) (λ x at. rep.kept i x apart at)
+  kept i apart = item_kept old text s line xs ys i (rep.others i apart) (λ x at. rep.kept i x apart at)
 
   tree_at : (zs : List ProgramItem) (z : ProgramItem) → slice_get zs j ≡ Some z → tree_in zs j ≡ z.tree
   tree_at zs z at = ap (λ (o : Option ProgramItem). option_and_then (λ (x : ProgramItem). x.tree) o) at
@@ -279,7 +281,7 @@ module _ (laws : SpellingLaws) (old text : List ℕ) (s : Shift) (xs ys : List P
 
       by : (i : ℕ) → i ≢ j → (o : Option ProgramItem) → slice_get xs i ≡ o → option_map (outline_of_item text) (option_map (shifted_item s) o) ≡ option_map (outline_of_item old) o
       by i apart None at = refl
-      by i apart (Some x) at = ap Some (outline_stays laws old text s x (rep.kept i x apart at))
+      by i apart (Some x) at = ap Some (outline_stays laws old text s line x (rep.kept i x apart at))
 
       other : (i : ℕ) → i ≢ j → slice_get (outlines_of text ys) i ≡ slice_get ss i
       other i apart =
@@ -290,8 +292,8 @@ module _ (laws : SpellingLaws) (old text : List ℕ) (s : Shift) (xs ys : List P
   pub same : assigned_channels text ys ss ≡ assigned_channels old xs ss
   same = same_channels old text s xs ys ss before rest_stays
 
-  row_kept : (i : ℕ) → i ≢ j → is_named_state ss i ≡ true → IsRowKept old text s xs ys i
-  row_kept i apart is = record { item = kept i apart; line = state_line old text s xs ys i (rep.others i apart) (λ x at. rep.kept i x apart at) is }
+  row_kept : (i : ℕ) → i ≢ j → is_named_state ss i ≡ true → IsRowKept old text s line xs ys i
+  row_kept i apart is = record { item = kept i apart; lined = state_line old text s line xs ys i (rep.others i apart) (λ x at. rep.kept i x apart at) is }
 
   set_apart : (k : ℕ) → is_set_begin ss k ≡ true → k ≢ j
   set_apart k is same =
@@ -301,9 +303,9 @@ module _ (laws : SpellingLaws) (old text : List ℕ) (s : Shift) (xs ys : List P
       let state : is_plain (kind_of found.0.tree) ≡ true = ap (λ (x : ProgramItem). is_plain (kind_of x.tree)) item ∙ replaced.was_plain in
       no_set (kind_of found.0.tree) (nat_lt 0 (length (declared_in old found.0.tokens found.0.tree)) || nat_lt 0 (length (summary.clauses_in old found.0.tokens found.0.tree))) state found.2
 
-  line_of_set : (k : ℕ) → is_set_begin ss k ≡ true → IsLineKept old text s xs ys k
+  line_of_set : (k : ℕ) → is_set_begin ss k ≡ true → IsLineKept old text line xs ys k
   line_of_set k is =
-      set_line old text s xs ys k (rep.others k (set_apart k is)) (λ x at. rep.kept k x (set_apart k is) at) (set_named laws old xs read k is) is
+      set_line old text s line xs ys k (rep.others k (set_apart k is)) (λ x at. rep.kept k x (set_apart k is) at) (set_named laws old xs read k is) is
 
   abbrev is_state_in : ℕ → ℕ → Bool
   is_state_in k i = is_named_state ss i && stands_in ss k i
@@ -337,24 +339,24 @@ module _ (laws : SpellingLaws) (old text : List ℕ) (s : Shift) (xs ys : List P
         (λ i apart. targets_stay old text s xs ys ss i (kept i apart) before (states_in ss k)) (states_in ss k) (states_apart k out);
   }
 
-  set_shift : (k : ℕ) → is_set_begin ss k ≡ true → (stands_in ss k j ≡ true → ⊥) → set_row text ys ss k ≡ shifted_set s (set_row old xs ss k)
+  set_shift : (k : ℕ) → is_set_begin ss k ≡ true → (stands_in ss k j ≡ true → ⊥) → set_row text ys ss k ≡ moved_set s line (set_row old xs ss k)
   set_shift k is out =
-      set_shifts old text s xs ys ss before same k (marks_outside k out) (names k) (line_of_set k is)
-      (each_below (IsRowKept old text s xs ys) (is_state_in k) (length ss)
+      set_shifts old text s xs ys ss before same k (marks_outside k out) line (names k) (line_of_set k is)
+      (each_below (IsRowKept old text s line xs ys) (is_state_in k) (length ss)
       (λ i in_set. row_kept i (λ here. out (subst (λ m. stands_in ss k m ≡ true) here (and_back (is_named_state ss i) (stands_in ss k i) in_set))) (and_front (is_named_state ss i) (stands_in ss k i) in_set)))
 
-  tables_if : (sets : List SetRow) → set_rows text ys ss ≡ sets → tables_of text ys ≡ record (shifted_tables s (tables_of old xs)) { sets = sets }
-  tables_if sets is = ap (tables_by text ys) outlines_stay ∙ tables_but_sets old text s xs ys ss before rest_stays sets is
+  tables_if : (sets : List SetRow) → set_rows text ys ss ≡ sets → tables_of text ys ≡ record (moved_tables s line (tables_of old xs)) { sets = sets }
+  tables_if sets is = ap (tables_by text ys) outlines_stay ∙ tables_but_sets old text s xs ys ss before rest_stays line sets is
 
-  tables_of_sets : ((k : ℕ) → is_set_begin ss k ≡ true → set_row text ys ss k ≡ shifted_set s (set_row old xs ss k)) → tables_of text ys ≡ shifted_tables s (tables_of old xs)
+  tables_of_sets : ((k : ℕ) → is_set_begin ss k ≡ true → set_row text ys ss k ≡ moved_set s line (set_row old xs ss k)) → tables_of text ys ≡ moved_tables s line (tables_of old xs)
   tables_of_sets each =
-      tables_if (map (shifted_set s) (set_rows old xs ss))
-      (map_shift (shifted_set s) (set_row old xs ss) (set_row text ys ss) (all_below (is_set_begin ss) (length ss))
-      (each_below (λ k. set_row text ys ss k ≡ shifted_set s (set_row old xs ss k)) (is_set_begin ss) (length ss) each))
+      tables_if (map (moved_set s line) (set_rows old xs ss))
+      (map_shift (moved_set s line) (set_row old xs ss) (set_row text ys ss) (all_below (is_set_begin ss) (length ss))
+      (each_below (λ k. set_row text ys ss k ≡ moved_set s line (set_row old xs ss k)) (is_set_begin ss) (length ss) each))
 
   -- ---- where it is in no set
 
-  pub tables_outside : enclosing_set ss j ≡ None → tables_of text ys ≡ shifted_tables s (tables_of old xs)
+  pub tables_outside : enclosing_set ss j ≡ None → tables_of text ys ≡ moved_tables s line (tables_of old xs)
   tables_outside nowhere = tables_of_sets (λ k is. set_shift k is (λ there. false≢true (sym (ap (λ o. option_map_or (nat_eq k) o false) nowhere) ∙ there)))
 
   -- ---- the row of its set
@@ -369,31 +371,31 @@ module _ (laws : SpellingLaws) (old text : List ℕ) (s : Shift) (xs ys : List P
     set_begins : is_set_begin ss set ≡ true
     set_begins = place_begins ss j set stands
 
-    set_around : (states : List StateRow) → state_rows text ys ss set ≡ states → set_row text ys ss set ≡ record (shifted_set s (set_row old xs ss set)) { states = states }
+    set_around : (states : List StateRow) → state_rows text ys ss set ≡ states → set_row text ys ss set ≡ record (moved_set s line (set_row old xs ss set)) { states = states }
     unfolding IsLineKept
     set_around states is =
         let name = names set in
-        let line = line_of_set set set_begins in
+        let lined = line_of_set set set_begins in
         cc
 
     set_inside : set < length ss
     set_inside = is_within (λ s. begins_set s.role) ss set set_begins
 
-    set_parts : Parts (λ k. set_row text ys ss k ≡ shifted_set s (set_row old xs ss k)) (is_set_begin ss) (length ss) set
+    set_parts : Parts (λ k. set_row text ys ss k ≡ moved_set s line (set_row old xs ss k)) (is_set_begin ss) (length ss) set
     set_parts =
-        parts_at (λ k. set_row text ys ss k ≡ shifted_set s (set_row old xs ss k)) (is_set_begin ss) (length ss) set set_inside set_begins
+        parts_at (λ k. set_row text ys ss k ≡ moved_set s line (set_row old xs ss k)) (is_set_begin ss) (length ss) set set_inside set_begins
         (λ k l m is. set_shift k is (other_set k (λ same. omega (arith, same, l))))
 
-    sets_around : (c : SetRow → SetRow) → set_row text ys ss set ≡ c (shifted_set s (set_row old xs ss set)) → set_rows text ys ss ≡ changed_at c (set_number ss set) (map (shifted_set s) (set_rows old xs ss))
+    sets_around : (c : SetRow → SetRow) → set_row text ys ss set ≡ c (moved_set s line (set_row old xs ss set)) → set_rows text ys ss ≡ changed_at c (set_number ss set) (map (moved_set s line) (set_rows old xs ss))
     sets_around c here =
         let front = all_below (is_set_begin ss) set in
         ap (map (set_row text ys ss)) set_parts.whole
-        ∙ row_changed (set_row text ys ss) (λ k. shifted_set s (set_row old xs ss k)) c front set set_parts.after
-        (each_under (λ k. set_row text ys ss k ≡ shifted_set s (set_row old xs ss k)) (is_set_begin ss) set (λ k l is. set_shift k is (other_set k (λ same. omega (arith, same, l)))))
+        ∙ row_changed (set_row text ys ss) (λ k. moved_set s line (set_row old xs ss k)) c front set set_parts.after
+        (each_under (λ k. set_row text ys ss k ≡ moved_set s line (set_row old xs ss k)) (is_set_begin ss) set (λ k l is. set_shift k is (other_set k (λ same. omega (arith, same, l)))))
         here set_parts.each
         ∙ ap (changed_at c (set_number ss set))
-        (map_twice (shifted_set s) (set_row old xs ss) (front ++ (set ∷ set_parts.after))
-        ∙ ap (λ (l : List ℕ). map (shifted_set s) (map (set_row old xs ss) l)) (sym set_parts.whole))
+        (map_twice (moved_set s line) (set_row old xs ss) (front ++ (set ∷ set_parts.after))
+        ∙ ap (λ (l : List ℕ). map (moved_set s line) (map (set_row old xs ss) l)) (sym set_parts.whole))
 
     -- ---- its states, with the marks that they had
 
@@ -401,14 +403,14 @@ module _ (laws : SpellingLaws) (old text : List ℕ) (s : Shift) (xs ys : List P
     unmarked (n, i) = state_row text ys ss (mark_of old xs ss set n i) i
 
     abbrev shifted_row : ℕ × ℕ → StateRow
-    shifted_row p = shifted_state s (numbered_row old xs ss set p)
+    shifted_row p = moved_state s line (numbered_row old xs ss set p)
 
     abbrev marks : List StateMark
     marks = marks_of text ys ss set
 
-    unmarked_shifts : (i : ℕ) → IsRowKept old text s xs ys i → (n : ℕ) → unmarked (n, i) ≡ shifted_row (n, i)
+    unmarked_shifts : (i : ℕ) → IsRowKept old text s line xs ys i → (n : ℕ) → unmarked (n, i) ≡ shifted_row (n, i)
     unfolding IsLineKept
-    unmarked_shifts i kept n = state_row_shifts old text s xs ys ss i kept.item before (mark_of old xs ss set n i) same kept.line
+    unmarked_shifts i kept n = state_row_shifts old text s xs ys ss i kept.item before line (mark_of old xs ss set n i) same kept.lined
 
     states_marked : (states : List StateRow) → map unmarked (enumerate_from 0 (states_in ss set)) ≡ states → state_rows text ys ss set ≡ marked marks states
     states_marked states is =
@@ -425,12 +427,12 @@ module _ (laws : SpellingLaws) (old text : List ℕ) (s : Shift) (xs ys : List P
           let named : is_named_state ss i ≡ true = and_front (is_named_state ss i) (stands_in ss set i) in_set in
           unmarked_shifts i (row_kept i (elsewhere unnamed_here i named) named))
 
-      pub tables_in_set : tables_of text ys ≡ with_marks (shifted_tables s (tables_of old xs)) (set_number ss set) marks
+      pub tables_in_set : tables_of text ys ≡ with_marks (moved_tables s line (tables_of old xs)) (set_number ss set) marks
       tables_in_set =
-          let states = map (shifted_state s) (state_rows old xs ss set) in
-          tables_if (changed_at (with_marks_in marks) (set_number ss set) (map (shifted_set s) (set_rows old xs ss)))
+          let states = map (moved_state s line) (state_rows old xs ss set) in
+          tables_if (changed_at (with_marks_in marks) (set_number ss set) (map (moved_set s line) (set_rows old xs ss)))
           (sets_around (with_marks_in marks)
-          (set_around (marked marks states) (states_marked states (numbered_shift (shifted_state s) (numbered_row old xs ss set) unmarked 0 (states_in ss set) other_states))))
+          (set_around (marked marks states) (states_marked states (numbered_shift (moved_state s line) (numbered_row old xs ss set) unmarked 0 (states_in ss set) other_states))))
 
     -- ---- where it is one
 
@@ -444,34 +446,34 @@ module _ (laws : SpellingLaws) (old text : List ℕ) (s : Shift) (xs ys : List P
       inside : j < length ss
       inside = let count = length-map xs (outline_of_item old) in omega (arith, count, rep.there)
 
-      state_parts : Parts (λ i. IsRowKept old text s xs ys i) (is_state_in set) (length ss) j
+      state_parts : Parts (λ i. IsRowKept old text s line xs ys i) (is_state_in set) (length ss) j
       state_parts =
-          parts_at (λ i. IsRowKept old text s xs ys i) (is_state_in set) (length ss) j inside (and_both (is_named_state ss j) (stands_in ss set j) named_here stands_here)
+          parts_at (λ i. IsRowKept old text s line xs ys i) (is_state_in set) (length ss) j inside (and_both (is_named_state ss j) (stands_in ss set j) named_here stands_here)
           (λ i l m is. row_kept i (λ same. omega (arith, same, l)) (and_front (is_named_state ss i) (stands_in ss set i) is))
 
-      line_here : line_of_item text ys j ≡ shifted_line s (item_name xs j).start (line_of_item old xs j)
+      line_here : line_of_item text ys j ≡ line (item_name xs j).start (line_of_item old xs j)
       line_here =
-          ap (λ (ts : List Piece). line_at text (start_at ts 0)) (tokens_are ys j is.0 is.1) ∙ replaced.line
-          ∙ sym (ap (λ (ts : List Piece). shifted_line s (start_at ts 1) (line_at old (start_at ts 0))) (tokens_are xs j was.0 was.1))
+          ap (λ (ts : List Piece). line_at text (start_at ts 0)) (tokens_are ys j is.0 is.1) ∙ replaced.lined
+          ∙ sym (ap (λ (ts : List Piece). line (start_at ts 1) (line_at old (start_at ts 0))) (tokens_are xs j was.0 was.1))
 
       item_here : item_at ys j ≡ y
       item_here =
           let item : Option ProgramItem → ProgramItem = λ o. record { tokens = option_map_or (λ (x : ProgramItem). x.tokens) o []; tree = option_and_then (λ (x : ProgramItem). x.tree) o } in
           ap item here
 
-      row_here : (m : StateMark) → state_row text ys ss m j ≡ with_own_wake (wake_of text ys ss j) (with_own_body body (shifted_state s (state_row old xs ss m j)))
+      row_here : (m : StateMark) → state_row text ys ss m j ≡ with_own_wake (wake_of text ys ss j) (with_own_body body (moved_state s line (state_row old xs ss m j)))
       row_here m =
           let name = names j in
-          let line = line_here in
+          let lined = line_here in
           let options = ap (λ (x : ProgramItem). (state_body text ss j x).options) item_here in
           let transitions = ap (λ (x : ProgramItem). (state_body text ss j x).transitions) item_here in
           let gotos = ap (λ (x : ProgramItem). (state_body text ss j x).gotos) item_here in
           cc
 
       -- rows that are shifted but for its own
-      rows_around : (row : ℕ × ℕ → StateRow) (c : StateRow → StateRow) → ((i : ℕ) → IsRowKept old text s xs ys i → (n : ℕ) → row (n, i) ≡ shifted_row (n, i)) →
+      rows_around : (row : ℕ × ℕ → StateRow) (c : StateRow → StateRow) → ((i : ℕ) → IsRowKept old text s line xs ys i → (n : ℕ) → row (n, i) ≡ shifted_row (n, i)) →
           row (number, j) ≡ c (shifted_row (number, j)) →
-          map row (enumerate_from 0 (states_in ss set)) ≡ changed_at c number (map (shifted_state s) (state_rows old xs ss set))
+          map row (enumerate_from 0 (states_in ss set)) ≡ changed_at c number (map (moved_state s line) (state_rows old xs ss set))
       rows_around row c shifts own =
           let front = all_below (is_state_in set) j in
           let zero : number ≡ 0 + number = omega arith in
@@ -480,18 +482,18 @@ module _ (laws : SpellingLaws) (old text : List ℕ) (s : Shift) (xs ys : List P
           ∙ numbered_changed row shifted_row c 0 front j state_parts.after
           (each_under IsShifted (is_state_in set) j (λ i l is. shifts i (row_kept i (λ same. omega (arith, same, l)) (and_front (is_named_state ss i) (stands_in ss set i) is))))
           (subst (λ n. row (n, j) ≡ c (shifted_row (n, j))) zero own)
-          (each_weaker (IsRowKept old text s xs ys) IsShifted shifts state_parts.after state_parts.each)
+          (each_weaker (IsRowKept old text s line xs ys) IsShifted shifts state_parts.after state_parts.each)
           ∙ ap (λ (l : List ℕ). changed_at c number (map shifted_row (enumerate_from 0 l))) (sym state_parts.whole)
-          ∙ ap (changed_at c number) (map_twice (shifted_state s) (numbered_row old xs ss set) (enumerate_from 0 (states_in ss set)))
+          ∙ ap (changed_at c number) (map_twice (moved_state s line) (numbered_row old xs ss set) (enumerate_from 0 (states_in ss set)))
 
       abbrev wake : List WakeUp
       wake = wake_of text ys ss j
 
-      pub tables_of_state : tables_of text ys ≡ with_marks (with_wake (with_body (shifted_tables s (tables_of old xs)) (set_number ss set) number body) (set_number ss set) number wake) (set_number ss set) marks
+      pub tables_of_state : tables_of text ys ≡ with_marks (with_wake (with_body (moved_tables s line (tables_of old xs)) (set_number ss set) number body) (set_number ss set) number wake) (set_number ss set) marks
       tables_of_state =
           let k = set_number ss set in
-          let sets = map (shifted_set s) (set_rows old xs ss) in
-          let states = map (shifted_state s) (state_rows old xs ss set) in
+          let sets = map (moved_set s line) (set_rows old xs ss) in
+          let states = map (moved_state s line) (state_rows old xs ss set) in
           let new : StateRow → StateRow = λ row. with_own_wake wake (with_own_body body row) in
           let new_set : SetRow → SetRow = λ row. with_marks_in marks (with_wake_in number wake (with_body_in number body row)) in
           let twice : changed_at new number states ≡ changed_at (with_own_wake wake) number (changed_at (with_own_body body) number states) =
@@ -551,12 +553,12 @@ module _ (laws : SpellingLaws) (old text : List ℕ) (s : Shift) (xs ys : List P
             let row = row_here m in
             cc
 
-        pub tables_inside : tables_of text ys ≡ with_body (shifted_tables s (tables_of old xs)) (set_number ss set) number body
+        pub tables_inside : tables_of text ys ≡ with_body (moved_tables s line (tables_of old xs)) (set_number ss set) number body
         tables_inside =
-            let states = changed_at (with_own_body body) number (map (shifted_state s) (state_rows old xs ss set)) in
-            tables_if (changed_at (with_body_in number body) (set_number ss set) (map (shifted_set s) (set_rows old xs ss)))
+            let states = changed_at (with_own_body body) number (map (moved_state s line) (state_rows old xs ss set)) in
+            tables_if (changed_at (with_body_in number body) (set_number ss set) (map (moved_set s line) (set_rows old xs ss)))
             (sets_around (with_body_in number body)
-            (set_around states (rows_around (numbered_row text ys ss set) (with_own_body body) (state_shifts old text s xs ys ss before same set marks_stay) own_row)))
+            (set_around states (rows_around (numbered_row text ys ss set) (with_own_body body) (state_shifts old text s xs ys ss before same set marks_stay line) own_row)))
 
   -- ---- where the item is no state with a name
 
@@ -576,18 +578,18 @@ module _ (laws : SpellingLaws) (old text : List ℕ) (s : Shift) (xs ys : List P
           (λ i apart. targets_stay old text s xs ys ss i (kept i apart) before (states_in ss k)) (states_in ss k) (states_elsewhere k);
     }
 
-    set_stays : (k : ℕ) → is_set_begin ss k ≡ true → set_row text ys ss k ≡ shifted_set s (set_row old xs ss k)
+    set_stays : (k : ℕ) → is_set_begin ss k ≡ true → set_row text ys ss k ≡ moved_set s line (set_row old xs ss k)
     set_stays k begins =
-        set_shifts old text s xs ys ss before same k (marks_all k) (names k) (line_of_set k begins)
-        (each_below (IsRowKept old text s xs ys) (is_state_in k) (length ss)
+        set_shifts old text s xs ys ss before same k (marks_all k) line (names k) (line_of_set k begins)
+        (each_below (IsRowKept old text s line xs ys) (is_state_in k) (length ss)
         (λ i in_set. let named : is_named_state ss i ≡ true = and_front (is_named_state ss i) (stands_in ss k i) in_set in row_kept i (elsewhere unnamed i named) named))
 
-    pub tables_around : tables_of text ys ≡ shifted_tables s (tables_of old xs)
+    pub tables_around : tables_of text ys ≡ moved_tables s line (tables_of old xs)
     tables_around = tables_of_sets set_stays
 
 -- ---- one item between others
 
-module _ (old text : List ℕ) (s : Shift) (x y : ProgramItem) where
+module _ (old text : List ℕ) (s : Shift) (line : ℕ → Line → Line) (x y : ProgramItem) where
   at_seam : (z : ProgramItem) (front back : List ProgramItem) → slice_get (front ++ (z ∷ back)) (length front) ≡ Some z
   at_seam z [] back = refl
   at_seam z (a ∷ front) back = at_seam z front back
@@ -599,15 +601,15 @@ module _ (old text : List ℕ) (s : Shift) (x y : ProgramItem) where
   others (a ∷ front) back zero apart = refl
   others (a ∷ front) back (suc i) apart = others front back i (λ e. apart (ap suc e))
 
-  keeps_others : (front back : List ProgramItem) → KeepsItems old text s front → KeepsItems old text s back → (i : ℕ) (z : ProgramItem) → i ≢ length front →
-      slice_get (front ++ (x ∷ back)) i ≡ Some z → KeepsItem old text s z
+  keeps_others : (front back : List ProgramItem) → KeepsItemsBy old text s line front → KeepsItemsBy old text s line back → (i : ℕ) (z : ProgramItem) → i ≢ length front →
+      slice_get (front ++ (x ∷ back)) i ≡ Some z → KeepsItemBy old text s line z
   keeps_others [] back f b zero z apart at = absurd (apart refl)
   keeps_others [] back f b (suc i) z apart at = b i z at
   keeps_others (a ∷ front) back f b zero z apart at = f 0 z at
   keeps_others (a ∷ front) back f b (suc i) z apart at = keeps_others front back (λ n. f (suc n)) b i z (λ e. apart (ap suc e)) at
 
-  pub one_between : (front back : List ProgramItem) → KeepsItems old text s front → KeepsItems old text s back → ReplacesItem old text s x y →
-      ReplacesOne old text s (front ++ (x ∷ back)) (map (shifted_item s) front ++ (y ∷ map (shifted_item s) back)) (length front)
+  pub one_between : (front back : List ProgramItem) → KeepsItemsBy old text s line front → KeepsItemsBy old text s line back → ReplacesItemBy old text s line x y →
+      ReplacesOneBy old text s line (front ++ (x ∷ back)) (map (shifted_item s) front ++ (y ∷ map (shifted_item s) back)) (length front)
   one_between front back f b replaces = record {
     count = simp (length-append, length-map);
     there = omega (arith, length-append front (x ∷ back));
@@ -619,5 +621,5 @@ module _ (old text : List ℕ) (s : Shift) (x y : ProgramItem) where
         let is : Some y ≡ Some c = sym (at_seam y (map (shifted_item s) front) (map (shifted_item s) back)) ∙ ap (slice_get (map (shifted_item s) front ++ (y ∷ map (shifted_item s) back))) place ∙ at_c in
         let old_item : x ≡ a = cc in
         let new_item : y ≡ c = cc in
-        subst (λ z. ReplacesItem old text s z c) old_item (subst (λ z. ReplacesItem old text s x z) new_item replaces);
+        subst (λ z. ReplacesItemBy old text s line z c) old_item (subst (λ z. ReplacesItemBy old text s line x z) new_item replaces);
   }

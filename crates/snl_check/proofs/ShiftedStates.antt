@@ -1,9 +1,9 @@
--- The rows of states and of state sets after an edit that shifts tokens.
+-- The rows of states and of state sets after an edit that shifts tokens. `line` says what becomes of the line of an offset.
 use Rattle.std.proofs.Common.{◌≡◌, ℕ, ◌<◌, ◌&&◌, Bool, List, [], ◌∷◌, length, map, slice_get, Option, Some, None, if◌then◌else◌, refl, sym, ap, ap₂, ◌∙◌}
 use Rattle.std.specs.List.{AllByRecursion, filter_map, flat_map}
 use Rattle.std.specs.Option.{option_and_then, option_map_or}
+use Rattle.snl_lex.specs.declared.lines.Line.{Line}
 use Rattle.snl_lex.specs.declared.shift.Shift.{Shift}
-use Rattle.snl_lex.specs.Shift.{shifted_line}
 use Rattle.snl_syntax.specs.declared.tree.item.Item.{Item}
 use Rattle.snl_syntax.specs.declared.tree.state.StateMember.{StateMember}
 use Rattle.snl_syntax.specs.declared.tree.state.StateMember.TheVariants as members
@@ -22,7 +22,8 @@ use Rattle.snl_tables.specs.declared.rows.Span.{Span}
 use Rattle.snl_tables.specs.declared.rows.StateMark.{StateMark}
 use Rattle.snl_tables.specs.declared.rows.StateMark.TheVariants as mark
 use Rattle.snl_tables.specs.declared.rows.WakeUp.{WakeUp}
-use Rattle.snl_tables.specs.Shifted.{shifted_destination, shifted_named, shifted_set, shifted_span, shifted_state}
+use Rattle.snl_tables.specs.Moved.{moved_set, moved_state}
+use Rattle.snl_tables.specs.Shifted.{shifted_destination, shifted_named, shifted_span}
 use Rattle.snl_check.specs.Channels.{AssignedChannel, assigned_channels}
 use Rattle.snl_check.specs.Conditions.{on_declaration, uses_in, wake_ups}
 use Rattle.snl_check.specs.Items.{ProgramItem, item_name, tokens_in, tree_in}
@@ -107,10 +108,10 @@ module _ (old text : List ℕ) (s : Shift) (xs ys : List ProgramItem) (ss : List
         ap₂ (λ (cs : List AssignedChannel) (us : List WakeUse). wakes_by ss cs i (token_bytes text (tokens_in ys i)) us) assigned uses_stay
         ∙ ap (λ (b : ℕ → List ℕ). wakes_by ss (assigned_channels old xs ss) i b (uses_in old xs i)) kept.bytes
 
-    pub state_row_shifts : (m : StateMark) → assigned_channels text ys ss ≡ assigned_channels old xs ss →
-        line_of_item text ys i ≡ shifted_line s (item_name xs i).start (line_of_item old xs i) →
-        state_row text ys ss m i ≡ shifted_state s (state_row old xs ss m i)
-    state_row_shifts m assigned line =
+    pub state_row_shifts : (line : ℕ → Line → Line) (m : StateMark) → assigned_channels text ys ss ≡ assigned_channels old xs ss →
+        line_of_item text ys i ≡ line (item_name xs i).start (line_of_item old xs i) →
+        state_row text ys ss m i ≡ moved_state s line (state_row old xs ss m i)
+    state_row_shifts line m assigned lined =
         let name = span_at_shifts old text s xs ys i kept before 1 in
         let options = options_stay in
         let transitions = transitions_shift in
@@ -149,12 +150,12 @@ module _ (old text : List ℕ) (s : Shift) (xs ys : List ProgramItem) (ss : List
 
   -- ---- the row of a state set
 
-  pub state_rows_shift : (k : ℕ) → AllByRecursion (λ j. (number : ℕ) → numbered_row text ys ss k (number, j) ≡ shifted_state s (numbered_row old xs ss k (number, j))) (states_in ss k) →
-      state_rows text ys ss k ≡ map (shifted_state s) (state_rows old xs ss k)
-  state_rows_shift k each = numbered_shift (shifted_state s) (numbered_row old xs ss k) (numbered_row text ys ss k) 0 (states_in ss k) each
+  pub state_rows_shift : (line : ℕ → Line → Line) (k : ℕ) → AllByRecursion (λ j. (number : ℕ) → numbered_row text ys ss k (number, j) ≡ moved_state s line (numbered_row old xs ss k (number, j))) (states_in ss k) →
+      state_rows text ys ss k ≡ map (moved_state s line) (state_rows old xs ss k)
+  state_rows_shift line k each = numbered_shift (moved_state s line) (numbered_row old xs ss k) (numbered_row text ys ss k) 0 (states_in ss k) each
 
-  pub set_row_shifts : (k : ℕ) → item_name ys k ≡ shifted_span s (item_name xs k) →
-      line_of_item text ys k ≡ shifted_line s (item_name xs k).start (line_of_item old xs k) →
-      state_rows text ys ss k ≡ map (shifted_state s) (state_rows old xs ss k) →
-      set_row text ys ss k ≡ shifted_set s (set_row old xs ss k)
-  set_row_shifts k name line states = cc
+  pub set_row_shifts : (line : ℕ → Line → Line) (k : ℕ) → item_name ys k ≡ shifted_span s (item_name xs k) →
+      line_of_item text ys k ≡ line (item_name xs k).start (line_of_item old xs k) →
+      state_rows text ys ss k ≡ map (moved_state s line) (state_rows old xs ss k) →
+      set_row text ys ss k ≡ moved_set s line (set_row old xs ss k)
+  set_row_shifts line k name lined states = cc

@@ -1,15 +1,15 @@
--- The tables of a text after an edit that shifts tokens.
+-- The tables of a text after an edit that shifts tokens. `line` says what becomes of the line of an offset.
 use Rattle.std.proofs.Common.{◌≡◌, ℕ, suc, ◌<◌, ◌||◌, nat_lt, Bool, true, false, List, [], ◌∷◌, length, slice_get, Option, Some, None, refl, sym, subst, ap, ap₂, ◌∙◌}
 use Rattle.std.proofs.Math.Path.{fun_ext}
 use Rattle.std.proofs.lemmas.Bool.{false≢true}
 use Rattle.std.specs.List.{AllByRecursion}
 use Rattle.std.specs.Option.{option_and_then, option_map, option_map_or, is_some}
+use Rattle.snl_lex.specs.declared.lines.Line.{Line}
 use Rattle.snl_lex.specs.declared.piece.Class.{Class}
 use Rattle.snl_lex.specs.declared.piece.Piece.{Piece}
 use Rattle.snl_lex.specs.declared.shift.Shift.{Shift}
 use Rattle.snl_lex.specs.Lines.{line_at}
 use Rattle.snl_lex.specs.PieceList.{spelled}
-use Rattle.snl_lex.specs.Shift.{shifted_line}
 use Rattle.snl_syntax.specs.declared.tree.item.Item.{Item}
 use Rattle.snl_syntax.specs.declared.tree.item.Item.TheVariants as items
 use Rattle.snl_syntax.specs.Parsing.{kinds_in}
@@ -25,13 +25,15 @@ use Rattle.snl_scope.specs.Summaries.Clauses.{clauses_in}
 use Rattle.snl_scope.specs.Summaries.Declares.{declared_in}
 use Rattle.snl_walk.specs.Tokens.{token_bytes}
 use Rattle.snl_tables.specs.declared.rows.SetRow.{SetRow}
-use Rattle.snl_tables.specs.Shifted.{shifted_flag, shifted_set, shifted_span, shifted_state, shifted_tables}
+use Rattle.snl_tables.specs.Moved.{moved_set, moved_state, moved_tables}
+use Rattle.snl_tables.specs.Shifted.{shifted_flag, shifted_span}
 use Rattle.snl_check.specs.Channels.{assigned_channels}
 use Rattle.snl_check.specs.Clauses.{item_clauses_if, told_clauses}
 use Rattle.snl_check.specs.Items.{ProgramItem, outline_of_item, item_name, outlines_of, tokens_in, tree_in}
 use Rattle.snl_check.specs.Members.{has_faulty, is_faulty_item, states_in, target_numbers}
+use Rattle.snl_check.specs.Moved.{KeepsItemBy}
 use Rattle.snl_check.specs.Settings.{setting_at}
-use Rattle.snl_check.specs.Shifted.{KeepsItem, has_line, shifted_item, start_at, shifted_tokens}
+use Rattle.snl_check.specs.Shifted.{has_line, shifted_item, start_at, shifted_tokens}
 use Rattle.snl_check.specs.Spans.{AreRead}
 use Rattle.snl_check.specs.States.{line_of_item, mark_of, numbered_row, set_row, set_rows, state_row}
 use Rattle.snl_check.specs.Tables.{flag_row_at, tables_by}
@@ -68,8 +70,8 @@ module _ (old text : List ℕ) (s : Shift) (xs ys : List ProgramItem) (ss : List
     syncs = sync_stays old text xs ys ss same_clauses stays.told;
   }
 
-  pub tables_but_sets : (sets : List SetRow) → set_rows text ys ss ≡ sets → tables_by text ys ss ≡ record (shifted_tables s (tables_by old xs ss)) { sets = sets }
-  tables_but_sets sets is =
+  pub tables_but_sets : (line : ℕ → Line → Line) (sets : List SetRow) → set_rows text ys ss ≡ sets → tables_by text ys ss ≡ record (moved_tables s line (tables_by old xs ss)) { sets = sets }
+  tables_but_sets line sets is =
       let program = program_shifts s xs ys stays.headers in
       let options = options_stay old text s xs ys ss stays.count stays.settings in
       let flags = flags_shift s xs ys ss stays.names stays.flags in
@@ -79,14 +81,14 @@ module _ (old text : List ℕ) (s : Shift) (xs ys : List ProgramItem) (ss : List
 
 -- ---- the rows of state sets
 
--- An item's line is shifted as its name is.
-unfoldable pub IsLineKept : (old text : List ℕ) → Shift → (xs ys : List ProgramItem) → ℕ → Type 0
-IsLineKept old text s xs ys i = line_of_item text ys i ≡ shifted_line s (item_name xs i).start (line_of_item old xs i)
+-- An item's line moves as that of its name.
+unfoldable pub IsLineKept : (old text : List ℕ) → (ℕ → Line → Line) → (xs ys : List ProgramItem) → ℕ → Type 0
+IsLineKept old text line xs ys i = line_of_item text ys i ≡ line (item_name xs i).start (line_of_item old xs i)
 
 -- An item is kept, and so is its line.
-pub record IsRowKept (old text : List ℕ) (s : Shift) (xs ys : List ProgramItem) (i : ℕ) : Type 0 where
+pub record IsRowKept (old text : List ℕ) (s : Shift) (line : ℕ → Line → Line) (xs ys : List ProgramItem) (i : ℕ) : Type 0 where
   pub item : IsKept old text s xs ys i
-  pub line : IsLineKept old text s xs ys i
+  pub lined : IsLineKept old text line xs ys i
 
 -- What the marks of a set's states go by.
 pub record MarksStay (old text : List ℕ) (xs ys : List ProgramItem) (ss : List Outline) (k : ℕ) : Type 0 where
@@ -98,19 +100,19 @@ module _ (old text : List ℕ) (s : Shift) (xs ys : List ProgramItem) (ss : List
   pub same_mark : (number j : ℕ) → is_faulty_item ys j ≡ is_faulty_item xs j → mark_of text ys ss k number j ≡ mark_of old xs ss k number j
   same_mark = mark_stays old text s xs ys ss k marks.some_faulty marks.targets
 
-  pub state_shifts : (j : ℕ) → IsRowKept old text s xs ys j → (number : ℕ) → numbered_row text ys ss k (number, j) ≡ shifted_state s (numbered_row old xs ss k (number, j))
+  pub state_shifts : (line : ℕ → Line → Line) (j : ℕ) → IsRowKept old text s line xs ys j → (number : ℕ) → numbered_row text ys ss k (number, j) ≡ moved_state s line (numbered_row old xs ss k (number, j))
   unfolding IsLineKept
-  state_shifts j kept number =
+  state_shifts line j kept number =
       ap (λ m. state_row text ys ss m j) (same_mark number j (faulty_stays old text s xs ys j kept.item))
-      ∙ state_row_shifts old text s xs ys ss j kept.item before (mark_of old xs ss k number j) assigned kept.line
+      ∙ state_row_shifts old text s xs ys ss j kept.item before line (mark_of old xs ss k number j) assigned kept.lined
 
-  pub set_shifts : item_name ys k ≡ shifted_span s (item_name xs k) → IsLineKept old text s xs ys k → AllByRecursion (IsRowKept old text s xs ys) (states_in ss k) →
-      set_row text ys ss k ≡ shifted_set s (set_row old xs ss k)
+  pub set_shifts : (line : ℕ → Line → Line) → item_name ys k ≡ shifted_span s (item_name xs k) → IsLineKept old text line xs ys k → AllByRecursion (IsRowKept old text s line xs ys) (states_in ss k) →
+      set_row text ys ss k ≡ moved_set s line (set_row old xs ss k)
   unfolding IsLineKept
-  set_shifts name line states =
-      set_row_shifts old text s xs ys ss k name line
-      (state_rows_shift old text s xs ys ss k
-      (each_weaker (IsRowKept old text s xs ys) (λ j. (number : ℕ) → numbered_row text ys ss k (number, j) ≡ shifted_state s (numbered_row old xs ss k (number, j))) state_shifts (states_in ss k) states))
+  set_shifts line name lined states =
+      set_row_shifts old text s xs ys ss line k name lined
+      (state_rows_shift old text s xs ys ss line k
+      (each_weaker (IsRowKept old text s line xs ys) (λ j. (number : ℕ) → numbered_row text ys ss k (number, j) ≡ moved_state s line (numbered_row old xs ss k (number, j))) (state_shifts line) (states_in ss k) states))
 
 -- ---- items that have a name
 
@@ -136,8 +138,8 @@ set_has_second text xs k own h =
 
 -- ---- an item that keeps its tokens is kept, and so is its line
 
-module _ (old text : List ℕ) (s : Shift) (xs ys : List ProgramItem) (i : ℕ) (item : slice_get ys i ≡ option_map (shifted_item s) (slice_get xs i))
-    (keeps : (x : ProgramItem) → slice_get xs i ≡ Some x → KeepsItem old text s x) where
+module _ (old text : List ℕ) (s : Shift) (line : ℕ → Line → Line) (xs ys : List ProgramItem) (i : ℕ) (item : slice_get ys i ≡ option_map (shifted_item s) (slice_get xs i))
+    (keeps : (x : ProgramItem) → slice_get xs i ≡ Some x → KeepsItemBy old text s line x) where
   bytes_kept : token_bytes text (tokens_in ys i) ≡ token_bytes old (tokens_in xs i)
   unfolding token_bytes
   bytes_kept = ap (λ (o : Option ProgramItem). token_bytes text (option_map_or (λ (x : ProgramItem). x.tokens) o [])) item ∙ by (slice_get xs i) refl
@@ -150,20 +152,20 @@ module _ (old text : List ℕ) (s : Shift) (xs ys : List ProgramItem) (i : ℕ) 
   pub item_kept : IsKept old text s xs ys i
   item_kept = record { item = item; bytes = bytes_kept }
 
-  line_kept : (x : ProgramItem) → slice_get xs i ≡ Some x → has_line (outline_of_item old x) ≡ true → 1 < length (tokens_in xs i) → IsLineKept old text s xs ys i
+  line_kept : (x : ProgramItem) → slice_get xs i ≡ Some x → has_line (outline_of_item old x) ≡ true → 1 < length (tokens_in xs i) → IsLineKept old text line xs ys i
   unfolding IsLineKept
   line_kept x at is many =
       let same = tokens_are xs i x at in
       ap (λ (ts : List Piece). line_at text (start_at ts 0)) (tokens_shift old text s xs ys i item_kept ∙ ap (shifted_tokens s) same)
-      ∙ (keeps x at).line is (subst (λ (ts : List Piece). 1 < length ts) same many)
-      ∙ sym (ap (λ (ts : List Piece). shifted_line s (start_at ts 1) (line_at old (start_at ts 0))) same)
+      ∙ (keeps x at).lined is (subst (λ (ts : List Piece). 1 < length ts) same many)
+      ∙ sym (ap (λ (ts : List Piece). line (start_at ts 1) (line_at old (start_at ts 0))) same)
 
-  pub set_line : 1 < length (tokens_in xs i) → is_set_begin (outlines_of old xs) i ≡ true → IsLineKept old text s xs ys i
+  pub set_line : 1 < length (tokens_in xs i) → is_set_begin (outlines_of old xs) i ≡ true → IsLineKept old text line xs ys i
   set_line many h =
       let found = tested old xs (λ s. begins_set s.role) i h in
       line_kept found.0 found.1 (ap (λ b. b || is_some (state_name (outline_of_item old found.0))) found.2) many
 
-  pub state_line : is_named_state (outlines_of old xs) i ≡ true → IsLineKept old text s xs ys i
+  pub state_line : is_named_state (outlines_of old xs) i ≡ true → IsLineKept old text line xs ys i
   state_line h =
       let found = tested old xs (λ s. is_some (state_name s)) i h in
       line_kept found.0 found.1 (by (begins_set (outline_of_item old found.0).role) (is_some (state_name (outline_of_item old found.0))) found.2) (named_has_second old xs i h)
@@ -184,8 +186,8 @@ pub record SpellingLaws : Type 0 where
   pub named : (text : List ℕ) (tokens : List Piece) (t : Item) → item_of (kinds_in text tokens) ≡ Some t → NamesItsTokens text tokens t
   pub summaries : (text moved : List ℕ) (tokens shifted : List Piece) → spelled text tokens ≡ spelled moved shifted → (tree : Option Item) → summary_in text tokens tree ≡ summary_in moved shifted tree
 
-pub outline_stays : SpellingLaws → (old text : List ℕ) (s : Shift) (x : ProgramItem) → KeepsItem old text s x → outline_of_item text (shifted_item s x) ≡ outline_of_item old x
-outline_stays laws old text s x keeps =
+pub outline_stays : SpellingLaws → (old text : List ℕ) (s : Shift) (line : ℕ → Line → Line) (x : ProgramItem) → KeepsItemBy old text s line x → outline_of_item text (shifted_item s x) ≡ outline_of_item old x
+outline_stays laws old text s line x keeps =
     ap (λ (m : Summary). m.outline) (laws.summaries text old (shifted_tokens s x.tokens) x.tokens (alike old text s x.tokens keeps.bytes) x.tree)
 
 pub set_named : SpellingLaws → (text : List ℕ) (xs : List ProgramItem) → AreRead text xs → (k : ℕ) → is_set_begin (outlines_of text xs) k ≡ true → 1 < length (tokens_in xs k)

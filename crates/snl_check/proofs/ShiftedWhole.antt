@@ -1,20 +1,23 @@
--- The tables of a text after an edit that keeps all tokens.
+-- The tables of a text after an edit that keeps all tokens. `line` says what becomes of the line of an offset.
 use Rattle.std.proofs.Common.{◌≡◌, ℕ, suc, ◌<◌, ◌&&◌, true, List, [], ◌∷◌, length, map, slice_get, ap, ap₂, ◌∙◌, refl}
 use Rattle.std.proofs.lemmas.List.{length-map}
 use Rattle.std.proofs.lemmas.Option.{slice_get-map}
 use Rattle.std.specs.Option.{option_map}
+use Rattle.snl_lex.specs.declared.lines.Line.{Line}
 use Rattle.snl_lex.specs.declared.shift.Shift.{Shift}
 use Rattle.snl_scope.specs.declared.summaries.summary.Outline.{Outline}
 use Rattle.snl_scope.specs.Below.{all_below}
 use Rattle.snl_scope.specs.Flags.{flags_of}
 use Rattle.snl_scope.specs.Order.{is_named_state}
 use Rattle.snl_scope.specs.Places.{is_set_begin, stands_in}
-use Rattle.snl_tables.specs.Shifted.{shifted_flag, shifted_set, shifted_span, shifted_tables}
+use Rattle.snl_tables.specs.Moved.{moved_set, moved_tables}
+use Rattle.snl_tables.specs.Shifted.{shifted_flag, shifted_span}
 use Rattle.snl_check.specs.Channels.{assigned_channels}
 use Rattle.snl_check.specs.Clauses.{item_clauses_if, told_clauses}
 use Rattle.snl_check.specs.Items.{ProgramItem, item_name, outlines_of}
 use Rattle.snl_check.specs.Members.{states_in, target_numbers}
-use Rattle.snl_check.specs.Shifted.{KeepsItems, shifted_item}
+use Rattle.snl_check.specs.Moved.{KeepsItemsBy}
+use Rattle.snl_check.specs.Shifted.{shifted_item}
 use Rattle.snl_check.specs.Spans.{AreRead}
 use Rattle.snl_check.specs.States.{set_row, set_rows}
 use Rattle.snl_check.specs.Tables.{flag_row_at, tables_by, tables_of}
@@ -25,7 +28,7 @@ use Rattle.snl_check.proofs.ShiftedStates.{has_faulty_stays, targets_stay}
 use Rattle.snl_check.proofs.ShiftedTables.{IsRowKept, MarksStay, RestStays, SpellingLaws, item_kept, outline_stays, same_channels, set_line, set_named, set_shifts, state_line, tables_but_sets}
 use Rattle.snl_check.proofs.SpanLaws.{and_front, each_all, each_below}
 
-module _ (old text : List ℕ) (s : Shift) (xs : List ProgramItem) (keeps : KeepsItems old text s xs) where
+module _ (old text : List ℕ) (s : Shift) (line : ℕ → Line → Line) (xs : List ProgramItem) (keeps : KeepsItemsBy old text s line xs) where
   abbrev ys : List ProgramItem
   ys = map (shifted_item s) xs
 
@@ -33,7 +36,7 @@ module _ (old text : List ℕ) (s : Shift) (xs : List ProgramItem) (keeps : Keep
   at i = slice_get-map (shifted_item s) xs i
 
   kept : (i : ℕ) → IsKept old text s xs ys i
-  kept i = item_kept old text s xs ys i (at i) (keeps i)
+  kept i = item_kept old text s line xs ys i (at i) (keeps i)
 
   module _ (ss : List Outline) (before : 0 < s.start) where
     rest_stays : RestStays old text s xs ys ss
@@ -59,12 +62,12 @@ module _ (old text : List ℕ) (s : Shift) (xs : List ProgramItem) (keeps : Keep
           (λ j. targets_stay old text s xs ys ss j (kept j) before (states_in ss k));
     }
 
-outlines_stay : SpellingLaws → (old text : List ℕ) (s : Shift) (xs : List ProgramItem) → KeepsItems old text s xs → outlines_of text (map (shifted_item s) xs) ≡ outlines_of old xs
-outlines_stay laws old text s [] keeps = refl
-outlines_stay laws old text s (x ∷ xs) keeps =
-    ap₂ (λ (o : Outline) (os : List Outline). o ∷ os) (outline_stays laws old text s x (keeps 0 x refl)) (outlines_stay laws old text s xs (λ i. keeps (suc i)))
+outlines_stay : SpellingLaws → (old text : List ℕ) (s : Shift) (line : ℕ → Line → Line) (xs : List ProgramItem) → KeepsItemsBy old text s line xs → outlines_of text (map (shifted_item s) xs) ≡ outlines_of old xs
+outlines_stay laws old text s line [] keeps = refl
+outlines_stay laws old text s line (x ∷ xs) keeps =
+    ap₂ (λ (o : Outline) (os : List Outline). o ∷ os) (outline_stays laws old text s line x (keeps 0 x refl)) (outlines_stay laws old text s line xs (λ i. keeps (suc i)))
 
-module _ (laws : SpellingLaws) (old text : List ℕ) (s : Shift) (xs : List ProgramItem) (before : 0 < s.start) (read : AreRead old xs) (keeps : KeepsItems old text s xs) where
+module _ (laws : SpellingLaws) (old text : List ℕ) (s : Shift) (line : ℕ → Line → Line) (xs : List ProgramItem) (before : 0 < s.start) (read : AreRead old xs) (keeps : KeepsItemsBy old text s line xs) where
   abbrev ss : List Outline
   ss = outlines_of old xs
 
@@ -72,24 +75,24 @@ module _ (laws : SpellingLaws) (old text : List ℕ) (s : Shift) (xs : List Prog
   shifted = map (shifted_item s) xs
 
   same : assigned_channels text shifted ss ≡ assigned_channels old xs ss
-  same = same_channels old text s xs shifted ss before (rest_stays old text s xs keeps ss before)
+  same = same_channels old text s xs shifted ss before (rest_stays old text s line xs keeps ss before)
 
-  row_kept : (j : ℕ) → is_named_state ss j ≡ true → IsRowKept old text s xs shifted j
-  row_kept j is = record { item = kept old text s xs keeps j; line = state_line old text s xs shifted j (at old text s xs keeps j) (keeps j) is }
+  row_kept : (j : ℕ) → is_named_state ss j ≡ true → IsRowKept old text s line xs shifted j
+  row_kept j is = record { item = kept old text s line xs keeps j; lined = state_line old text s line xs shifted j (at old text s line xs keeps j) (keeps j) is }
 
-  set_shift : (k : ℕ) → is_set_begin ss k ≡ true → set_row text shifted ss k ≡ shifted_set s (set_row old xs ss k)
+  set_shift : (k : ℕ) → is_set_begin ss k ≡ true → set_row text shifted ss k ≡ moved_set s line (set_row old xs ss k)
   set_shift k is =
-      set_shifts old text s xs shifted ss before same k (marks_stay old text s xs keeps ss before k)
-      (span_at_shifts old text s xs shifted k (kept old text s xs keeps k) before 1)
-      (set_line old text s xs shifted k (at old text s xs keeps k) (keeps k) (set_named laws old xs read k is) is)
-      (each_below (IsRowKept old text s xs shifted) (λ j. is_named_state ss j && stands_in ss k j) (length ss) (λ j is. row_kept j (and_front (is_named_state ss j) (stands_in ss k j) is)))
+      set_shifts old text s xs shifted ss before same k (marks_stay old text s line xs keeps ss before k) line
+      (span_at_shifts old text s xs shifted k (kept old text s line xs keeps k) before 1)
+      (set_line old text s line xs shifted k (at old text s line xs keeps k) (keeps k) (set_named laws old xs read k is) is)
+      (each_below (IsRowKept old text s line xs shifted) (λ j. is_named_state ss j && stands_in ss k j) (length ss) (λ j is. row_kept j (and_front (is_named_state ss j) (stands_in ss k j) is)))
 
-  sets_shift : set_rows text shifted ss ≡ map (shifted_set s) (set_rows old xs ss)
+  sets_shift : set_rows text shifted ss ≡ map (moved_set s line) (set_rows old xs ss)
   sets_shift =
-      map_shift (shifted_set s) (set_row old xs ss) (set_row text shifted ss) (all_below (is_set_begin ss) (length ss))
-      (each_below (λ k. set_row text shifted ss k ≡ shifted_set s (set_row old xs ss k)) (is_set_begin ss) (length ss) set_shift)
+      map_shift (moved_set s line) (set_row old xs ss) (set_row text shifted ss) (all_below (is_set_begin ss) (length ss))
+      (each_below (λ k. set_row text shifted ss k ≡ moved_set s line (set_row old xs ss k)) (is_set_begin ss) (length ss) set_shift)
 
-  pub tables_kept : tables_of text (map (shifted_item s) xs) ≡ shifted_tables s (tables_of old xs)
+  pub tables_kept : tables_of text (map (shifted_item s) xs) ≡ moved_tables s line (tables_of old xs)
   tables_kept =
-      ap (tables_by text shifted) (outlines_stay laws old text s xs keeps)
-      ∙ tables_but_sets old text s xs shifted ss before (rest_stays old text s xs keeps ss before) (map (shifted_set s) (set_rows old xs ss)) sets_shift
+      ap (tables_by text shifted) (outlines_stay laws old text s line xs keeps)
+      ∙ tables_but_sets old text s xs shifted ss before (rest_stays old text s line xs keeps ss before) line (map (moved_set s line) (set_rows old xs ss)) sets_shift

@@ -2,6 +2,7 @@
 use Rattle.std.proofs.Common.{◌≡◌, ℕ, ◌<◌, true, List, length, map, sym, subst, ap, ◌∙◌}
 use Rattle.std.specs.List.{filter_map, list_any}
 use Rattle.std.specs.Map.{lookup}
+use Rattle.snl_lex.specs.declared.lines.Line.{Line}
 use Rattle.snl_lex.specs.declared.shift.Shift.{Shift}
 use Rattle.snl_lex.specs.declared.piece.Piece.{Piece}
 use Rattle.snl_scope.specs.declared.summaries.summary.Outline.{Outline}
@@ -14,8 +15,8 @@ use Rattle.snl_check.specs.declared.rows.channel_numbers.Which.{Which}
 use Rattle.snl_check.specs.Channels.{AssignedChannel, assigned_channels, element_number}
 use Rattle.snl_check.specs.Conditions.{uses_in, wake_ups}
 use Rattle.snl_check.specs.Items.{ProgramItem, outlines_of, tokens_in}
+use Rattle.snl_check.specs.Moved.{ReplacesOneBy}
 use Rattle.snl_check.specs.Numbered.{Tells, element_in, has_subscript, same_key, wake_by}
-use Rattle.snl_check.specs.ShiftedAround.{ReplacesOne}
 use Rattle.snl_check.specs.Spans.{AreRead}
 use Rattle.snl_check.specs.States.{wake_of}
 use Rattle.snl_check.specs.Tables.{channel_row, tables_of}
@@ -24,7 +25,7 @@ use Rattle.snl_check.proofs.ShiftedRows.{map_twice}
 use Rattle.snl_check.proofs.ShiftedTables.{SpellingLaws}
 use Rattle.snl_check.proofs.WakesTold.{numbered_by_rows, wakes_same}
 
-module _ (laws : SpellingLaws) (old text : List ℕ) (s : Shift) (xs ys : List ProgramItem) (item : ℕ) (before : 0 < s.start) (read : AreRead old xs) (rep : ReplacesOne old text s xs ys item) where
+module _ (laws : SpellingLaws) (old text : List ℕ) (s : Shift) (line : ℕ → Line → Line) (xs ys : List ProgramItem) (item : ℕ) (before : 0 < s.start) (read : AreRead old xs) (rep : ReplacesOneBy old text s line xs ys item) where
   abbrev ss : List Outline
   ss = outlines_of old xs
 
@@ -36,7 +37,7 @@ module _ (laws : SpellingLaws) (old text : List ℕ) (s : Shift) (xs ys : List P
   numbered held t is tells v l w =
       numbered_by_rows (map (channel_row old xs ss) cs) cs (sym (map_twice (λ (r : ChannelRow). r.element) (channel_row old xs ss) cs)) held (length (entries ss))
       (subst (Tells held) is tells) v l w
-      ∙ ap (λ (l : List AssignedChannel). element_number l v (element_in w)) (sym (same laws old text s xs ys item before read rep))
+      ∙ ap (λ (l : List AssignedChannel). element_number l v (element_in w)) (sym (same laws old text s line xs ys item before read rep))
 
   pub wakes_after : (held : List (Key × ℕ)) (t : Tables) (outlines : List Outline) (own : List Piece) (uses : List WakeUse) → t ≡ tables_of old xs → outlines ≡ ss →
       own ≡ tokens_in ys item → uses ≡ uses_in text ys item → (list_any has_subscript uses ≡ true → Tells held t) →

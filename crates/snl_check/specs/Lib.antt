@@ -21,4 +21,5 @@ pub mod WakeSets
 pub mod Spans
 pub mod Shifted
 pub mod ShiftedAround
+pub mod Moved
 pub mod FaultCodes

@@ -4,6 +4,7 @@
 
 mod fault_laws;
 mod laws;
+mod moved_laws;
 mod reachability;
 mod rows;
 mod rules;
@@ -15,11 +16,15 @@ pub use laws::{
     tables_shift_around_an_item, tables_shift_in_a_set, tables_shift_inside_a_state,
     tables_shift_outside_the_sets, unreached_without_a_walk, wake_up_sets, walks_of_few_steps,
 };
+pub use moved_laws::{
+    one_item_between, tables_move, tables_move_around_a_state, tables_move_around_an_item,
+    tables_move_in_a_set, tables_move_inside_a_state, tables_move_outside_the_sets,
+};
 pub use reachability::marks::{SetMember, state_marks};
 pub use reachability::reaching::reach;
 pub use rows::body::state_body;
 pub use rows::tables_of::{tables, tables_by_tokens};
-pub use rows::wake_after::wake_after;
+pub use rows::wake_after::{wake_after, wake_inside};
 pub use rules::check::check_item;
 pub use rules::conditions::wakes_alike;
 pub use rules::findings::{Checked, ItemFault};

@@ -7,3 +7,4 @@ pub mod EndPlaces
 pub mod ItemParts
 pub mod OwnParts
 mod ShiftedTokens
+mod InFront

@@ -17,14 +17,14 @@ pub all_tokens : (ps : List Piece) → count_by is_token_class (map (λ p. p.kin
 all_tokens ps = by_class ps
 
 -- the tokens among the first pieces are the first tokens
-taken_tokens : (ps : List Piece) (n : ℕ) → take (length (filter is_token (take n ps))) (filter is_token ps) ≡ filter is_token (take n ps)
+pub taken_tokens : (ps : List Piece) (n : ℕ) → take (length (filter is_token (take n ps))) (filter is_token ps) ≡ filter is_token (take n ps)
 taken_tokens ps n =
     let first : List Piece = filter is_token (take n ps) in
     ap (λ (l : List Piece). take (length first) (filter is_token l)) (sym (take-append-drop n ps))
     ∙ ap (take (length first)) (filter-append is_token (take n ps) (drop n ps))
     ∙ take_at first (filter is_token (drop n ps)) (length first) refl
 
-dropped_tokens : (ps : List Piece) (n : ℕ) → drop (length (filter is_token (take n ps))) (filter is_token ps) ≡ filter is_token (drop n ps)
+pub dropped_tokens : (ps : List Piece) (n : ℕ) → drop (length (filter is_token (take n ps))) (filter is_token ps) ≡ filter is_token (drop n ps)
 dropped_tokens ps n =
     let first : List Piece = filter is_token (take n ps) in
     ap (λ (l : List Piece). drop (length first) (filter is_token l)) (sym (take-append-drop n ps))

@@ -33,7 +33,7 @@ first_end place (p ∷ ps) =
           subst (λ (n : ℕ). AllByRecursion (λ (q : Piece). piece_end q ≤ place) (take n (p ∷ ps))) (sym (below_no (piece_end p) place (map piece_end ps) more)) tt
     ]
 
-begin_after : (place from : ℕ) (ends : List ℕ) (kinds : List Class) → Rises from ends → place ≤ from → AllByRecursion (λ p. place ≤ p.start) (listed_pieces from ends kinds)
+pub begin_after : (place from : ℕ) (ends : List ℕ) (kinds : List Class) → Rises from ends → place ≤ from → AllByRecursion (λ p. place ≤ p.start) (listed_pieces from ends kinds)
 begin_after place from [] kinds r le = tt
 begin_after place from (e ∷ es) [] r le = tt
 begin_after place from (e ∷ es) (k ∷ ks) r le = (le, begin_after place e es ks r.1 (omega (arith, r.0)))

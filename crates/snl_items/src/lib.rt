@@ -4,6 +4,7 @@
 //! spelled as before are kept as they are. The crate knows nothing of trees.
 #![tactic(auto)]
 
+mod in_front;
 mod item_list;
 mod laws;
 mod own_tokens;
@@ -11,6 +12,7 @@ mod shifted;
 mod spelled;
 mod tokens;
 
+pub use in_front::tokens_in_front;
 pub use item_list::{ItemChange, ItemList};
 pub use laws::{pieces_are_fresh, tokens_around_stay};
 pub use own_tokens::{own_tokens_after, own_tokens_before};

@@ -56,7 +56,7 @@ fn count_few(kinds: &[Class]) -> u8
 }
 
 // How many of the pieces of these classes are tokens.
-fn count_tokens(kinds: &[Class]) -> usize
+pub(crate) fn count_tokens(kinds: &[Class]) -> usize
     ensures { result ≡ count_by is_token_class kinds.now }
 {
     let mut count = 0;

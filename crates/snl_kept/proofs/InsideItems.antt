@@ -1,18 +1,19 @@
 -- What a text says after an edit inside one item that says to the others what it said.
-use Rattle.std.proofs.Common.{◌≡◌, ◌↔◌, ℕ, suc, ◌+◌, ◌<◌, ◌≤◌, inl, inr, All, true, IsTrue, List, [], ◌∷◌, ◌++◌, length, map, take, drop, get_or, slice_get, Option, None, Some, option_map, refl, sym, ap, ap₂, ◌∙◌, subst, append_assoc, arith, length-append}
+use Rattle.std.proofs.Common.{◌≡◌, ◌↔◌, ℕ, zero, suc, false, ◌+◌, ◌<◌, ◌≤◌, inl, inr, All, true, IsTrue, List, [], ◌∷◌, ◌++◌, length, map, take, drop, get_or, slice_get, Option, None, Some, option_map, refl, sym, ap, ap₂, ◌∙◌, subst, append_assoc, arith, length-append}
+use Rattle.std.specs.Prelude.{nat_le}
 use Rattle.std.specs.List.{AllByRecursion}
 use Rattle.std.proofs.lemmas.List.{drop_at, length-map, map-append, take_at}
 use Rattle.std.proofs.lemmas.List.Elements.{All-drop, All-filter, All-take, recursion_from_All}
 use Rattle.snl_cut.specs.Cut.{Rises, ends_below, last_end}
+use Rattle.snl_lex.specs.declared.line_shift.LineShift.{LineShift}
 use Rattle.snl_lex.specs.declared.lines.Line.{Line}
-use Rattle.snl_lex.specs.declared.piece.Class.TheVariants.{White}
 use Rattle.snl_lex.specs.declared.piece.Piece.{Piece}
 use Rattle.snl_lex.specs.declared.shift.Shift.{Shift}
 use Rattle.snl_lex.specs.Lines.{line_at}
-use Rattle.snl_lex.specs.Made.{made_pieces}
 use Rattle.snl_lex.specs.PieceList.{spelled}
 use Rattle.snl_lex.specs.Pieces.{LiesIn, is_token, pieces_of, tokens_of}
-use Rattle.snl_lex.specs.Shift.{IsOutside, IsShift, shifted_line, shifted_offset, shifted_piece}
+use Rattle.snl_lex.specs.LineShift.{IsLineShift, moved_line}
+use Rattle.snl_lex.specs.Shift.{IsOutside, shifted_offset, shifted_piece}
 use Rattle.snl_syntax.specs.Outcome.{parsed_by, parsed_in, sound_tree}
 use Rattle.snl_syntax.specs.declared.tree.item.Item.{Item}
 use Rattle.snl_items.specs.Changes.{LeavesAround}
@@ -27,8 +28,9 @@ use Rattle.snl_scope.specs.declared.summaries.summary.Summary.{Summary}
 use Rattle.snl_tables.specs.declared.rows.Span.{Span}
 use Rattle.snl_tables.specs.Shifted.{shifted_span}
 use Rattle.snl_check.specs.Items.{outline_of_item, span_of}
-use Rattle.snl_check.specs.Shifted.{KeepsItem, shifted_item, shifted_tokens, start_at}
-use Rattle.snl_check.specs.ShiftedAround.{IsPlacedAt, ReplacesOne, ReplacesItem, is_plain}
+use Rattle.snl_check.specs.Moved.{KeepsItemBy, ReplacesItemBy, ReplacesOneBy}
+use Rattle.snl_check.specs.Shifted.{shifted_item, shifted_tokens, start_at}
+use Rattle.snl_check.specs.ShiftedAround.{IsPlacedAt, is_plain}
 use Rattle.snl_kept.specs.declared.entries.Entry.{Entry}
 use Rattle.snl_kept.specs.declared.ways.plan.Changes.{Changes}
 use Rattle.snl_kept.specs.declared.ways.recheck.MadeCheck.{MadeCheck}
@@ -38,22 +40,33 @@ use Rattle.snl_kept.specs.Linked.{outlines_of}
 use Rattle.snl_kept.specs.ReplacedItem.{DeclaresInHead, IsInside, IsLeft, IsOneReplaced, ReplacesInside, StaysItem, own_check, own_head, own_tokens}
 use Rattle.snl_kept.specs.Program.{ProgramItem, item_tokens, items_of, program_item, tree_in}
 use Rattle.snl_kept.specs.Rechecked.{AreChecksMade, kept_of, made_at, made_checks, nones}
+use Rattle.snl_kept.specs.Shifted.{IsOnOneSide}
 use Rattle.snl_kept.specs.Stirred.{stirred_between}
 use Rattle.snl_kept.proofs.MadeChecks.{checks_made, made_are_stirred, stirred_told}
 use Rattle.snl_kept.proofs.MemberParts.{element_at, got, got_other, others_mapped, taken_to_last}
 use Rattle.snl_kept.proofs.Rechecks.{Spelled}
-use Rattle.snl_kept.proofs.ShiftPlans.{shift_is}
 use Rattle.snl_kept.proofs.ShiftedFindings.{stays}
 use Rattle.snl_kept.proofs.ShiftedItems.{all_items, all_kinds, all_outlines}
 use Rattle.snl_kept.proofs.ShiftedLines.{IsAfter, IsInFront, KeepsLine, all_after, all_in_front, in_front}
 use Rattle.snl_kept.proofs.ShiftedText.{along}
+use Rattle.snl_kept.proofs.Sides.{not_le}
 use Rattle.snl_kept.proofs.InsideChecks.{one_check}
-use Rattle.snl_kept.proofs.InsideParts.{IsPastHead, are_parts, back_alike, back_each, before_count, entry_is, entry_was, front_alike, front_each, front_olds_count, fronts_count, head_before, head_shifts, own_now, spelled_parts, stops_after, were_parts}
+use Rattle.snl_kept.proofs.InsideParts.{IsPastHead, are_parts, back_alike, back_each, entry_is, entry_was, front_alike, front_each, front_olds_count, fronts_count, head_before, head_shifts, own_now, spelled_parts, stops_after, were_parts}
 
 -- two facts of each
 both : {X : Type 0} (P Q R : X → Type 0) → ((x : X) → P x → Q x → R x) → (xs : List X) → AllByRecursion P xs → AllByRecursion Q xs → AllByRecursion R xs
 both P Q R f [] h g = tt
 both P Q R f (x ∷ xs) h g = (f x h.0 g.0, both P Q R f xs h.1 g.1)
+
+each_taken : {X : Type 0} (P : X → Type 0) (n : ℕ) (xs : List X) → AllByRecursion P xs → AllByRecursion P (take n xs)
+each_taken P zero xs h = tt
+each_taken P (suc n) [] h = tt
+each_taken P (suc n) (x ∷ xs) h = (h.0, each_taken P n xs h.1)
+
+each_dropped : {X : Type 0} (P : X → Type 0) (n : ℕ) (xs : List X) → AllByRecursion P xs → AllByRecursion P (drop n xs)
+each_dropped P zero xs h = h
+each_dropped P (suc n) [] h = tt
+each_dropped P (suc n) (x ∷ xs) h = each_dropped P n xs h.1
 
 -- another element in the place of one
 replaced_at : {X : Type 0} (front : List X) (x y : X) (back : List X) (n : ℕ) → length front ≡ n → take n (front ++ (x ∷ back)) ++ (y ∷ drop (n + 1) (front ++ (x ∷ back))) ≡ front ++ (y ∷ back)
@@ -62,7 +75,7 @@ replaced_at {X = X} front x y back n many =
     ap₂ (λ (a b : List X). a ++ (y ∷ b)) (take_at front (x ∷ back) n many)
     (ap (drop (n + 1)) (sym (append_assoc front (x ∷ []) back)) ∙ drop_at (front ++ (x ∷ [])) back (n + 1) past)
 
-module _ (old text : List ℕ) (start old_stop new_stop : ℕ) (c : Changes) (s : Shift) (x e : Entry) (is : IsInside old text start old_stop new_stop c s x e)
+module _ (old text : List ℕ) (start old_stop new_stop : ℕ) (c : Changes) (t : LineShift) (x e : Entry) (is : IsInside old text start old_stop new_stop c t x e)
     -- what the laws of the layers below say
     (inside : (text : List ℕ) → All (LiesIn text) (pieces_of text))
     (tree_told : (text : List ℕ) (tokens : List Piece) → sound_tree (parsed_in text tokens) ≡ tree_in text tokens)
@@ -70,11 +83,14 @@ module _ (old text : List ℕ) (start old_stop new_stop : ℕ) (c : Changes) (s 
     (summary_told : (text : List ℕ) (tokens : List Piece) (tree : Option Item) → summary_in text tokens tree ≡ summary_by (spelled text tokens) tree)
     (bytes_same : (text moved : List ℕ) (tokens shifted : List Piece) → spelled text tokens ≡ spelled moved shifted → token_bytes text tokens ≡ token_bytes moved shifted)
     (views : (ss : List Outline) (i : ℕ) (ts : List Outline) (j : ℕ) (s : Summary) → IsTrue (same_view ss i ts j s) ↔ (view ss i s ≡ view ts j s))
-    (lines : (old text : List ℕ) (s : Shift) (o : ℕ) → IsShift old text s → IsOutside old s o → line_at text (shifted_offset s o) ≡ shifted_line s o (line_at old o))
+    (lines : (old text : List ℕ) (t : LineShift) (o : ℕ) → IsLineShift old text t → IsOutside old t.by o → line_at text (shifted_offset t.by o) ≡ moved_line t o (line_at old o))
     (checks_stay : (ss ts : List Outline) (j i : ℕ) (x : Spelled) → same_view ss j ts i (entry_by x).summary ≡ true → check_by ss j x ≡ check_by ts i x)
     (rises : (text : List ℕ) → Rises 0 (item_ends text))
     (lasts : (text : List ℕ) → last_end 0 (item_ends text) ≡ length (tokens_of text))
-    (around : LeavesAround s (tokens_of old) (tokens_of text) c.tokens.made.items c.tokens.edit) where
+    (around : LeavesAround t.by (tokens_of old) (tokens_of text) c.tokens.made.items c.tokens.edit) where
+  abbrev s : Shift
+  s = t.by
+
   abbrev k : ℕ
   k = c.items.kept_front
 
@@ -97,18 +113,6 @@ module _ (old text : List ℕ) (start old_stop new_stop : ℕ) (c : Changes) (s 
 
   abbrev after : List Piece
   after = drop c.tokens.edit.old_stop (tokens_of old)
-
-  -- the head of the item is before the edit, so that is not at the text's beginning
-  some_before : 0 < start
-  some_before =
-      let none : Piece = record { kind = White; start = 0; len = 0 } in
-      let some : 0 < length before = omega (arith, is.head, before_count old text start old_stop new_stop c s past) in
-      let lies = All-take (LiesIn old) c.tokens.edit.start (tokens_of old) tokens_lie 0 none some in
-      omega (arith, around.in_front 0 none some, lies.0, is.by.start_is)
-
-  shift : IsShift old text s
-  shift =
-      shift_is old text start old_stop new_stop s is.by is.edit some_before is.markers is.old_short is.short
 
   -- ---- the items
 
@@ -221,17 +225,17 @@ module _ (old text : List ℕ) (start old_stop new_stop : ℕ) (c : Changes) (s 
   left_after = λ n d lt. (inr (around.after n d lt), All-drop (LiesIn old) c.tokens.edit.old_stop (tokens_of old) tokens_lie n d lt)
 
   abbrev order : s.start ≤ s.old_stop
-  order = shift.edit.old_order
+  order = is.lines.lines.edit.old_order
 
-  line_of : (o : ℕ) → IsOutside old s o → line_at text (shifted_offset s o) ≡ shifted_line s o (line_at old o)
-  line_of o h = lines old text s o shift h
+  line_of : (o : ℕ) → IsOutside old s o → line_at text (shifted_offset s o) ≡ moved_line t o (line_at old o)
+  line_of o h = lines old text t o is.lines.lines h
 
-  starts_before : All (IsInFront old text s order line_of) before
+  starts_before : All (IsInFront old text t order line_of) before
   starts_before = λ n d lt.
       let lies = All-take (LiesIn old) c.tokens.edit.start (tokens_of old) tokens_lie n d lt in
       omega (arith, around.in_front n d lt, lies.0)
 
-  starts_after : All (IsAfter old text s order line_of) after
+  starts_after : All (IsAfter old text t order line_of) after
   starts_after = λ n d lt.
       let lies = All-drop (LiesIn old) c.tokens.edit.old_stop (tokens_of old) tokens_lie n d lt in
       (around.after n d lt, omega (arith, lies.1))
@@ -253,25 +257,27 @@ module _ (old text : List ℕ) (start old_stop new_stop : ℕ) (c : Changes) (s 
 
   -- ---- each of the others keeps its bytes and its line
 
-  keeps_one : (m : List Piece) → spelled text (shifted_tokens s m) ≡ spelled old m → KeepsLine old text s order line_of m → KeepsItem old text s (program_item old m)
+  keeps_one : (m : List Piece) → spelled text (shifted_tokens s m) ≡ spelled old m → KeepsLine old text t order line_of m → KeepsItemBy old text s (moved_line t) (program_item old m)
   keeps_one m same line = record {
     bytes = λ n. ap (λ (f : ℕ → List ℕ). f n) (bytes_same text old (shifted_tokens s m) m same);
-    line = λ lined. line;
+    lined = λ named. line;
   }
 
-  front_keeps : AllByRecursion (KeepsItem old text s) front
+  front_keeps : AllByRecursion (KeepsItemBy old text s (moved_line t)) front
   front_keeps =
-      along old (KeepsItem old text s) front_tokens
-      (both (λ m. spelled text (shifted_tokens s m) ≡ spelled old m) (AllByRecursion (IsInFront old text s order line_of)) (λ m. KeepsItem old text s (program_item old m))
-      (λ m same there. keeps_one m same (all_in_front old text s order line_of m there)) front_tokens alike_in_front
-      (front_each old text start old_stop new_stop c s past (IsInFront old text s order line_of) starts_before))
+      along old (KeepsItemBy old text s (moved_line t)) front_tokens
+      (both (λ m. spelled text (shifted_tokens s m) ≡ spelled old m) (λ m. AllByRecursion (IsInFront old text t order line_of) m × IsOnOneSide t.until m) (λ m. KeepsItemBy old text s (moved_line t) (program_item old m))
+      (λ m same there. keeps_one m same (all_in_front old text t order line_of m there.0 there.1)) front_tokens alike_in_front
+      (both (AllByRecursion (IsInFront old text t order line_of)) (IsOnOneSide t.until) (λ m. AllByRecursion (IsInFront old text t order line_of) m × IsOnOneSide t.until m) (λ m in_front side. (in_front, side)) front_tokens
+      (front_each old text start old_stop new_stop c s past (IsInFront old text t order line_of) starts_before) (each_taken (IsOnOneSide t.until) k (item_tokens old) is.lines.numbered)))
 
-  back_keeps : AllByRecursion (KeepsItem old text s) back
+  back_keeps : AllByRecursion (KeepsItemBy old text s (moved_line t)) back
   back_keeps =
-      along old (KeepsItem old text s) back_tokens
-      (both (λ m. spelled text (shifted_tokens s m) ≡ spelled old m) (AllByRecursion (IsAfter old text s order line_of)) (λ m. KeepsItem old text s (program_item old m))
-      (λ m same there. keeps_one m same (all_after old text s order line_of m there)) back_tokens alike_at_back
-      (back_each old text start old_stop new_stop c s past (IsAfter old text s order line_of) starts_after))
+      along old (KeepsItemBy old text s (moved_line t)) back_tokens
+      (both (λ m. spelled text (shifted_tokens s m) ≡ spelled old m) (λ m. AllByRecursion (IsAfter old text t order line_of) m × IsOnOneSide t.until m) (λ m. KeepsItemBy old text s (moved_line t) (program_item old m))
+      (λ m same there. keeps_one m same (all_after old text t order line_of m there.0 there.1)) back_tokens alike_at_back
+      (both (AllByRecursion (IsAfter old text t order line_of)) (IsOnOneSide t.until) (λ m. AllByRecursion (IsAfter old text t order line_of) m × IsOnOneSide t.until m) (λ m after side. (after, side)) back_tokens
+      (back_each old text start old_stop new_stop c s past (IsAfter old text t order line_of) starts_after) (each_dropped (IsOnOneSide t.until) (suc k) (item_tokens old) is.lines.numbered)))
 
   -- ---- the tokens before the edit of the one that is replaced
 
@@ -289,23 +295,27 @@ module _ (old text : List ℕ) (start old_stop new_stop : ℕ) (c : Changes) (s 
       got P before (last_end 0 (take k (item_ends old)) + n) p (recursion_from_All P before h) (head_before old text start old_stop new_stop c s past n p lt there)
 
   name_at : (o : Option Piece) → span_of (option_map (shifted_piece s) o) ≡ shifted_span s (span_of o)
-  name_at None = let at : ℕ → Span = λ n. record { start = n; len = 0 } in ap at (sym (stays s 0 shift.some_before))
+  name_at None = let at : ℕ → Span = λ n. record { start = n; len = 0 } in ap at (sym (stays s 0 is.lines.lines.some_before))
   name_at (Some p) = refl
 
   head_begins : (n : ℕ) → n < 2 → start_at was_own n < s.start
   head_begins n lt = by (slice_get was_own n) refl
     where
       by : (o : Option Piece) → slice_get was_own n ≡ o → (span_of o).start < s.start
-      by None there = shift.some_before
-      by (Some p) there = of_head (IsInFront old text s order line_of) starts_before n p (two n lt) there
+      by None there = is.lines.lines.some_before
+      by (Some p) there = of_head (IsInFront old text t order line_of) starts_before n p (two n lt) there
 
-  line_is : line_at text (start_at is_own 0) ≡ shifted_line s (start_at was_own 1) (line_at old (start_at was_own 0))
+  -- the line that the next marker numbers is after the edit
+  early : (n : ℕ) → n < 2 → nat_le t.until (start_at was_own n) ≡ false
+  early n lt = not_le t.until (start_at was_own n) (omega (arith, head_begins n lt, is.lines.lines.until_after, order))
+
+  line_is : line_at text (start_at is_own 0) ≡ moved_line t (start_at was_own 1) (line_at old (start_at was_own 0))
   line_is =
       let line : Line = line_at old (start_at was_own 0) in
       ap (λ (o : Span). line_at text o.start) (ap span_of (head 0 (two 0 (omega arith))) ∙ name_at (slice_get was_own 0))
       ∙ line_of (start_at was_own 0) (inl (head_begins 0 (omega arith)))
-      ∙ in_front old text s order line_of line (start_at was_own 0) (head_begins 0 (omega arith))
-      ∙ sym (in_front old text s order line_of line (start_at was_own 1) (head_begins 1 (omega arith)))
+      ∙ in_front old text t order line_of line (start_at was_own 0) (start_at was_own 1) (head_begins 0 (omega arith)) (head_begins 1 (omega arith))
+      (early 0 (omega arith) ∙ sym (early 1 (omega arith)))
 
   placed : (n : ℕ) → n < many → IsPlacedAt s (program_item old was_own) (program_item text is_own) n
   placed n lt = ap span_of (head n lt) ∙ name_at (slice_get was_own n)
@@ -315,7 +325,7 @@ module _ (old text : List ℕ) (start old_stop new_stop : ℕ) (c : Changes) (s 
       recursion_from_All (λ d. IsPlacedAt s (program_item old was_own) (program_item text is_own) d.token) (summary_in old was_own (tree_in old was_own)).outline.declares
       (λ n d lt. placed (get_or (summary_in old was_own (tree_in old was_own)).outline.declares n d).token (subst (DeclaresInHead many) (sym outline_was) is.declared n d lt))
 
-  replaces : ReplacesItem old text s (program_item old was_own) (program_item text is_own)
+  replaces : ReplacesItemBy old text s (moved_line t) (program_item old was_own) (program_item text is_own)
   replaces = record {
     was_plain = ap is_plain (ap (λ (y : Summary). y.kind) summary_was) ∙ is.plain;
     is_plain_now = ap is_plain kind_is ∙ is.plain_now;
@@ -323,12 +333,13 @@ module _ (old text : List ℕ) (start old_stop new_stop : ℕ) (c : Changes) (s 
     declared = declared_placed;
     no_clause = ap (λ (o : Outline). o.clauses) outline_was ∙ is.no_clause;
     name = placed 1 (two 1 (omega arith));
-    line = line_is;
+    lined = line_is;
   }
 
   replaces_inside : ReplacesInside old text s many front (program_item old was_own) (program_item text is_own) back
   replaces_inside = record {
-    shift = shift;
+    until = t.until;
+    shift = is.lines.lines;
     items_were = items_were;
     items_are = items_are;
     outlines = outlines_same;
@@ -349,7 +360,7 @@ module _ (old text : List ℕ) (start old_stop new_stop : ℕ) (c : Changes) (s 
   this : {X : Type 0} (P : X → Type 0) (a b : X) (o : Option X) → o ≡ Some a → o ≡ Some b → P a → P b
   this P a b o h g there = let same : a ≡ b = cc in subst P same there
 
-  one_in_parts : ReplacesOne old text s (front ++ (px ∷ back)) (map (shifted_item s) front ++ (py ∷ map (shifted_item s) back)) k
+  one_in_parts : ReplacesOneBy old text s (moved_line t) (front ++ (px ∷ back)) (map (shifted_item s) front ++ (py ∷ map (shifted_item s) back)) k
   one_in_parts =
       let many : length (map (shifted_item s) front) ≡ k = length-map front (shifted_item s) ∙ number in
       record {
@@ -362,17 +373,17 @@ module _ (old text : List ℕ) (start old_stop new_stop : ℕ) (c : Changes) (s 
         );
         there = omega (arith, length-append front (px ∷ back), number);
         others = λ i ne. others_mapped (shifted_item s) front px py back i (λ q. ne (q ∙ number));
-        kept = λ i z ne there. got_other (KeepsItem old text s) front px back i z front_keeps back_keeps (λ q. ne (q ∙ number)) there;
+        kept = λ i z ne there. got_other (KeepsItemBy old text s (moved_line t)) front px back i z front_keeps back_keeps (λ q. ne (q ∙ number)) there;
         replaced = λ a b was_a is_b.
-            this (λ (z : ProgramItem). ReplacesItem old text s z b) px a (slice_get (front ++ (px ∷ back)) k) (element_at front px back k number) was_a
-            (this (λ (z : ProgramItem). ReplacesItem old text s px z) py b (slice_get (map (shifted_item s) front ++ (py ∷ map (shifted_item s) back)) k)
+            this (λ (z : ProgramItem). ReplacesItemBy old text s (moved_line t) z b) px a (slice_get (front ++ (px ∷ back)) k) (element_at front px back k number) was_a
+            (this (λ (z : ProgramItem). ReplacesItemBy old text s (moved_line t) px z) py b (slice_get (map (shifted_item s) front ++ (py ∷ map (shifted_item s) back)) k)
             (element_at (map (shifted_item s) front) py (map (shifted_item s) back) k many) is_b replaces);
       }
 
-  replaces_one : ReplacesOne old text s (items_of old) (items_of text) k
+  replaces_one : ReplacesOneBy old text s (moved_line t) (items_of old) (items_of text) k
   replaces_one =
-      subst (λ (ys : List ProgramItem). ReplacesOne old text s (items_of old) ys k) (sym items_are)
-      (subst (λ (xs : List ProgramItem). ReplacesOne old text s xs (map (shifted_item s) front ++ (py ∷ map (shifted_item s) back)) k) (sym items_were) one_in_parts)
+      subst (λ (ys : List ProgramItem). ReplacesOneBy old text s (moved_line t) (items_of old) ys k) (sym items_are)
+      (subst (λ (xs : List ProgramItem). ReplacesOneBy old text s (moved_line t) xs (map (shifted_item s) front ++ (py ∷ map (shifted_item s) back)) k) (sym items_were) one_in_parts)
 
   -- ---- the checks
 
@@ -403,7 +414,7 @@ module _ (old text : List ℕ) (start old_stop new_stop : ℕ) (c : Changes) (s 
       ∙ stirred_told old text start old_stop new_stop c.tokens.edit made is.changed.tokens.edit_is is.changed.items.fresh)
       ∙ ap length made_is
 
-  pub one_replaced : IsOneReplaced old text start old_stop new_stop c s x e
+  pub one_replaced : IsOneReplaced old text start old_stop new_stop c t x e
   one_replaced = record {
     front = front;
     back = back;

@@ -3,13 +3,15 @@ use Rattle.std.proofs.Common.{◌≡◌, ℕ, ◌++◌, Bool, true, false, List,
 use Rattle.std.specs.Option.{option_map_or}
 use Rattle.std.proofs.lemmas.List.{length-map}
 use Rattle.std.proofs.lemmas.Option.{slice_get-map}
+use Rattle.snl_lex.specs.declared.line_shift.LineShift.{LineShift}
 use Rattle.snl_lex.specs.declared.shift.Shift.{Shift}
+use Rattle.snl_lex.specs.LineShift.{moved_line}
 use Rattle.snl_scope.specs.declared.summaries.summary.Outline.{Outline}
 use Rattle.snl_scope.specs.Linked.{faults_of}
 use Rattle.snl_scope.specs.Order.{is_named_state, state_name}
 use Rattle.snl_scope.specs.Summaries.{kind_of}
 use Rattle.snl_tables.specs.declared.rows.Tables.{Tables}
-use Rattle.snl_tables.specs.Shifted.{shifted_tables}
+use Rattle.snl_tables.specs.Moved.{moved_tables}
 use Rattle.snl_check.specs.Items.{outline_of_item, outlines_of}
 use Rattle.snl_check.specs.Shifted.{shifted_item}
 use Rattle.snl_check.specs.ShiftedAround.{IsSoundAsItWas, SaysAlike, SaysAlikeAt, is_plain}
@@ -38,7 +40,10 @@ between (y ∷ front) x back = between front x back
 same_one : {X : Type 0} (x y : X) → Some x ≡ Some y → x ≡ y
 same_one x y e = cc
 
-module _ (old text : List ℕ) (start old_stop new_stop : ℕ) (c : Changes) (s : Shift) (x e : Entry) (one : IsOneReplaced old text start old_stop new_stop c s x e) where
+module _ (old text : List ℕ) (start old_stop new_stop : ℕ) (c : Changes) (t : LineShift) (x e : Entry) (one : IsOneReplaced old text start old_stop new_stop c t x e) where
+  abbrev s : Shift
+  s = t.by
+
   abbrev j : ℕ
   j = c.items.kept_front
 
@@ -89,14 +94,14 @@ module _ (old text : List ℕ) (start old_stop new_stop : ℕ) (c : Changes) (s 
       → ReplacesInside old text s head front x y back → is_plain (kind_of x.tree) ≡ true → is_plain (kind_of y.tree) ≡ true → shows_warnings text (items_of text) ≡ shows_warnings old (items_of old))
       (told : (text : List ℕ) → map finding_of (diagnostics_of text) ≡ in_order (shown text)) where
     pub after_change : (change : RowChange) → SparesInside (own_head old c) j (faults_of (links_in old)) → faults_of (links_in text) ≡ faults_of (links_in old)
-        → tables_in text ≡ with_row (shifted_tables s (tables_in old)) change → IsAfterInside old text s j change
+        → tables_in text ≡ with_row (moved_tables s (moved_line t) (tables_in old)) change → IsAfterInside old text t j change
     after_change change spares faults tables =
         let replaced = one.one.replaced was is got_was got_is in
         let head : ℕ = own_head old c in
         let gone : List Finding = gone_of (tables_in old) change in
         let come : List Finding = come_of s (tables_in old) change in
         let walks : WalksAround s gone come (walked_in (tables_in old)) (walked_in (tables_in text)) =
-        subst (λ (t : Tables). WalksAround s gone come (walked_in (tables_in old)) (walked_in t)) (sym tables) (walks_around s (tables_in old) change) in
+        subst (λ (t : Tables). WalksAround s gone come (walked_in (tables_in old)) (walked_in t)) (sym tables) (walks_around s (moved_line t) (tables_in old) change) in
         let spared : SparesInside head (length one.front) (faults_of (links_in old)) = subst (λ (n : ℕ). SparesInside head n (faults_of (links_in old))) (sym one.number) spares in
         record {
           outlines = one.inside.outlines;

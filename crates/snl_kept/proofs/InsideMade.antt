@@ -1,11 +1,11 @@
 -- What is made of an edit inside one item, from what is kept of the text and what is known by tests.
-use Rattle.std.proofs.Common.{◌≡◌, ℕ, zero, suc, ◌+◌, ◌-◌, ◌^◌, ◌<◌, Bool, List, [], ◌∷◌, ◌++◌, length, map, take, drop, slice_get, Option, Some, is_none, option_map, refl, sym, ap, ap₂, ◌∙◌, arith, add-one}
+use Rattle.std.proofs.Common.{◌≡◌, ℕ, zero, suc, ◌+◌, ◌-◌, ◌<◌, Bool, List, [], ◌∷◌, ◌++◌, length, map, take, drop, slice_get, Option, Some, is_none, option_map, refl, sym, ap, ap₂, ◌∙◌, arith, add-one}
 use Rattle.std.proofs.lemmas.List.{length-take-le}
 use Rattle.std.proofs.lemmas.Option.{slice_get-map}
 use Rattle.snl_cut.specs.Cut.{IsEdit, last_end, members}
 use Rattle.snl_lex.specs.declared.piece.Class.{Class}
 use Rattle.snl_lex.specs.declared.piece.Piece.{Piece}
-use Rattle.snl_lex.specs.declared.shift.Shift.{Shift}
+use Rattle.snl_lex.specs.declared.line_shift.LineShift.{LineShift}
 use Rattle.snl_lex.specs.PieceList.{spelled}
 use Rattle.snl_lex.specs.Pieces.{tokens_of}
 use Rattle.snl_items.specs.Changes.{IsShiftOf}
@@ -39,7 +39,7 @@ use Rattle.snl_kept.specs.OwnFindings.{found_around}
 use Rattle.snl_kept.specs.OwnRows.{come_of, gone_of}
 use Rattle.snl_kept.specs.Planned.{AreEntriesMade, IsChanged}
 use Rattle.snl_kept.specs.Program.{ProgramItem, item_tokens, items_of, program_item, tree_in}
-use Rattle.snl_kept.specs.Shifted.{finding_of}
+use Rattle.snl_kept.specs.Shifted.{ShiftsLines, finding_of}
 use Rattle.snl_kept.specs.Tables.{tables_in}
 use Rattle.snl_kept.specs.Warnings.{warns_in}
 use Rattle.snl_kept.proofs.InsideTold.{same_sound, summary_is, tree_is, wakes_are}
@@ -87,17 +87,15 @@ check_got text k c lt got =
 
 -- ---- an edit inside one item
 
-pub is_inside : (old text : List ℕ) (start old_stop new_stop : ℕ) (c : Changes) (s : Shift) (w : Was) (e : Entry)
-    → IsChanged old text start old_stop new_stop c → IsEdit old text start old_stop new_stop → IsShiftOf old text start old_stop new_stop s → length old < 2 ^ 32 → length text < 2 ^ 32
-    → IsOneItem old text start c → IsWas old c.items.kept_front w → AreEntriesMade old text c.items.kept_front (e ∷ []) c.items.kept_back
-    → SaysWhatItSaid old (own_head old c) c.items.kept_front w e → IsInside old text start old_stop new_stop c s w.entry.now e
-is_inside old text start old_stop new_stop c s w e changed edit by old_short short one was made says = record {
+pub is_inside : (old text : List ℕ) (start old_stop new_stop : ℕ) (c : Changes) (t : LineShift) (w : Was) (e : Entry)
+    → IsChanged old text start old_stop new_stop c → IsEdit old text start old_stop new_stop → IsShiftOf old text start old_stop new_stop t.by
+    → ShiftsLines old text t → IsOneItem old c → IsWas old c.items.kept_front w → AreEntriesMade old text c.items.kept_front (e ∷ []) c.items.kept_back
+    → SaysWhatItSaid old (own_head old c) c.items.kept_front w e → IsInside old text start old_stop new_stop c t w.entry.now e
+is_inside old text start old_stop new_stop c t w e changed edit by lines one was made says = record {
   changed = changed;
   edit = edit;
   by = by;
-  old_short = old_short;
-  short = short;
-  markers = one.markers;
+  lines = lines;
   one_made = one.one_made;
   one_gone = one.one_gone;
   head = one.head;
@@ -110,8 +108,8 @@ is_inside old text start old_stop new_stop c s w e changed edit by old_short sho
   no_clause = says.same.no_clause;
 }
 
-pub is_there : (old text : List ℕ) (start : ℕ) (c : Changes) → IsOneItem old text start c → c.items.kept_front < length (item_ends old)
-is_there old text start c one = omega (arith, one.one_gone)
+pub is_there : (old : List ℕ) (c : Changes) → IsOneItem old c → c.items.kept_front < length (item_ends old)
+is_there old c one = omega (arith, one.one_gone)
 
 module _ (tree_told : (text : List ℕ) (tokens : List Piece) → sound_tree (parsed_in text tokens) ≡ tree_in text tokens)
     (by_spelling : (text : List ℕ) (tokens : List Piece) → parsed_in text tokens ≡ parsed_by (spelled text tokens))
@@ -168,9 +166,9 @@ module _ (tree_told : (text : List ℕ) (tokens : List Piece) → sound_tree (pa
 -- ---- the links after an edit inside one item
 
 -- the kinds of the items after it
-pub kinds_after : (old text : List ℕ) (start old_stop new_stop : ℕ) (c : Changes) (s : Shift) (x e : Entry) → IsOneReplaced old text start old_stop new_stop c s x e → (ks : List ItemKind) → ks ≡ (links_in old).kinds
+pub kinds_after : (old text : List ℕ) (start old_stop new_stop : ℕ) (c : Changes) (t : LineShift) (x e : Entry) → IsOneReplaced old text start old_stop new_stop c t x e → (ks : List ItemKind) → ks ≡ (links_in old).kinds
     → take c.items.kept_front ks ++ (e.summary.kind ∷ drop (c.items.kept_front + 1) ks) ≡ (links_in text).kinds
-kinds_after old text start old_stop new_stop c s x e one ks is =
+kinds_after old text start old_stop new_stop c t x e one ks is =
     ap (λ (l : List ItemKind). take c.items.kept_front l ++ (e.summary.kind ∷ drop (c.items.kept_front + 1) l)) is ∙ sym one.kinds
 
 put_back : {X : Type 0} (x : X) (k : ℕ) (xs : List X) → slice_get xs k ≡ Some x → take k xs ++ (x ∷ drop (suc k) xs) ≡ xs
@@ -179,9 +177,9 @@ put_back {X = X} x zero (y ∷ ys) there = let same : x ≡ y = cc in ap (λ (z 
 put_back {X = X} x (suc k) (y ∷ ys) there = ap (λ (l : List X). y ∷ l) (put_back x k ys there)
 
 -- where the item is of the kind that it was, they stay
-pub links_stay : (old text : List ℕ) (start old_stop new_stop : ℕ) (c : Changes) (s : Shift) (x e : Entry) → IsOneReplaced old text start old_stop new_stop c s x e
+pub links_stay : (old text : List ℕ) (start old_stop new_stop : ℕ) (c : Changes) (t : LineShift) (x e : Entry) → IsOneReplaced old text start old_stop new_stop c t x e
     → slice_get (links_in old).kinds c.items.kept_front ≡ Some e.summary.kind → links_in text ≡ links_in old
-links_stay old text start old_stop new_stop c s x e one same =
+links_stay old text start old_stop new_stop c t x e one same =
     ap₂ (λ (os : List Outline) (ks : List ItemKind). let l : LinkedItems = record { outlines = os; kinds = ks } in l) one.inside.outlines
     (one.kinds
     ∙ ap (λ (n : ℕ). take c.items.kept_front (links_in old).kinds ++ (e.summary.kind ∷ drop n (links_in old).kinds)) (add-one c.items.kept_front)
@@ -190,12 +188,12 @@ links_stay old text start old_stop new_stop c s x e one same =
 -- ---- what the text says after it
 
 -- the diagnostics of the new text
-pub diagnostics_after : (old text : List ℕ) (s : Shift) (k : ℕ) (change : RowChange) (own : OwnTokens) (ss : List Outline) (warns : Bool) (tables : Tables) (found : List Diagnostic)
-    → IsAfterInside old text s k change → AreOwnTokens old text k own
+pub diagnostics_after : (old text : List ℕ) (t : LineShift) (k : ℕ) (change : RowChange) (own : OwnTokens) (ss : List Outline) (warns : Bool) (tables : Tables) (found : List Diagnostic)
+    → IsAfterInside old text t k change → AreOwnTokens old text k own
     → ss ≡ outlines_in old → warns ≡ warns_in old → tables ≡ tables_in old → found ≡ diagnostics_of old
-    → diagnostics_by old text ss warns s k own tables change (map finding_of found) ≡ diagnostics_of text
+    → diagnostics_by old text ss warns t.by k own tables change (map finding_of found) ≡ diagnostics_of text
 unfolding diagnostics_of
-diagnostics_after old text s k change own ss warns tables found after own_are ss_is warns_is tables_is found_is =
+diagnostics_after old text t k change own ss warns tables found after own_are ss_is warns_is tables_is found_is =
     let own_come : shown_if warns (own_findings text ss k (program_item text own.is.items)) ≡ own_shown text (items_of text) k (own_item text k) =
     ap₂ (λ (w : Bool) (ts : List Piece). shown_if w (own_findings text ss k (program_item text ts))) (warns_is ∙ sym after.warns) own_are.is
     ∙ ap (λ (os : List Outline). shown_if (warns_in text) (own_findings text os k (own_item text k))) (ss_is ∙ sym after.outlines) in
@@ -204,12 +202,12 @@ diagnostics_after old text s k change own ss warns tables found after own_are ss
     ∙ ap (λ (os : List Outline). shown_if (warns_in old) (own_findings old os k (own_item old k))) ss_is in
     let gone : gone_by old ss warns k own.was.items tables change ≡ own_shown old (items_of old) k (own_item old k) ++ shown_if (warns_in old) (gone_of (tables_in old) change) =
     ap₂ (λ (a b : List Finding). a ++ b) own_gone (ap₂ (λ (w : Bool) (t : Tables). shown_if w (gone_of t change)) warns_is tables_is) in
-    let come : come_by text ss warns s k own.is.items tables change ≡ own_shown text (items_of text) k (own_item text k) ++ shown_if (warns_in text) (come_of s (tables_in old) change) =
-    ap₂ (λ (a b : List Finding). a ++ b) own_come (ap₂ (λ (w : Bool) (t : Tables). shown_if w (come_of s t change)) (warns_is ∙ sym after.warns) tables_is) in
+    let come : come_by text ss warns t.by k own.is.items tables change ≡ own_shown text (items_of text) k (own_item text k) ++ shown_if (warns_in text) (come_of t.by (tables_in old) change) =
+    ap₂ (λ (a b : List Finding). a ++ b) own_come (ap₂ (λ (w : Bool) (l : Tables). shown_if w (come_of t.by l change)) (warns_is ∙ sym after.warns) tables_is) in
     ap (map (diagnostic text))
-    (ap₂ (λ (g c : List Finding). found_around s g c (map finding_of found)) gone come
-    ∙ ap (λ (d : List Diagnostic). found_around s
+    (ap₂ (λ (g c : List Finding). found_around t.by g c (map finding_of found)) gone come
+    ∙ ap (λ (d : List Diagnostic). found_around t.by
     (own_shown old (items_of old) k (own_item old k) ++ shown_if (warns_in old) (gone_of (tables_in old) change))
-    (own_shown text (items_of text) k (own_item text k) ++ shown_if (warns_in text) (come_of s (tables_in old) change))
+    (own_shown text (items_of text) k (own_item text k) ++ shown_if (warns_in text) (come_of t.by (tables_in old) change))
     (map finding_of d)) found_is
     ∙ after.found)

@@ -4,6 +4,7 @@ use Rattle.std.proofs.Common.{◌≡◌, ℕ, zero, suc, List, [], ◌∷◌, �
 use Rattle.std.specs.List.{flat_map}
 use Rattle.std.specs.Option.{option_map_or}
 use Rattle.std.proofs.lemmas.List.{append-nil, map-append}
+use Rattle.snl_lex.specs.declared.lines.Line.{Line}
 use Rattle.snl_lex.specs.declared.shift.Shift.{Shift}
 use Rattle.snl_tables.specs.declared.rows.SetRow.{SetRow}
 use Rattle.snl_tables.specs.declared.rows.StateBody.{StateBody}
@@ -11,7 +12,8 @@ use Rattle.snl_tables.specs.declared.rows.StateMark.{StateMark}
 use Rattle.snl_tables.specs.declared.rows.StateRow.{StateRow}
 use Rattle.snl_tables.specs.declared.rows.Tables.{Tables}
 use Rattle.snl_tables.specs.declared.rows.WakeUp.{WakeUp}
-use Rattle.snl_tables.specs.Shifted.{changed_at, marked, shifted_set, shifted_tables, with_body, with_body_in, with_marks_in, with_own_body, with_own_mark, with_own_wake, with_wake_in}
+use Rattle.snl_tables.specs.Moved.{moved_set, moved_state, moved_tables}
+use Rattle.snl_tables.specs.Shifted.{changed_at, marked, shifted_set, shifted_state, with_body, with_body_in, with_marks_in, with_own_body, with_own_mark, with_own_wake, with_wake_in}
 use Rattle.snl_kept.specs.declared.found.findings.Finding.{Finding}
 use Rattle.snl_kept.specs.declared.ways.row_change.RowChange.{RowChange}
 use Rattle.snl_kept.specs.declared.ways.row_change.RowChange.TheVariants as changes
@@ -60,12 +62,21 @@ changed_twice f g n [] = refl
 changed_twice f g zero (x ∷ xs) = refl
 changed_twice {X = X} f g (suc n) (x ∷ xs) = ap (λ (l : List X). x ∷ l) (changed_twice f g n xs)
 
-module _ (s : Shift) where
+-- what is found at states by other marks is the same, whatever becomes of lines
+module _ (s : Shift) (line : ℕ → Line → Line) where
+  marks_tell_moved : (marks : List StateMark) (rows : List StateRow)
+      → flat_map found_at_state (marked marks (map (moved_state s line) rows)) ≡ flat_map found_at_state (marked marks (map (shifted_state s) rows))
+  marks_tell_moved [] [] = refl
+  marks_tell_moved [] (row ∷ rows) = ap (λ (l : List Finding). found_at_state (shifted_state s row) ++ l) (marks_tell_moved [] rows)
+  marks_tell_moved (m ∷ marks) [] = refl
+  marks_tell_moved (m ∷ marks) (row ∷ rows) = ap (λ (l : List Finding). found_at_state (with_own_mark m (shifted_state s row)) ++ l) (marks_tell_moved marks rows)
+
+module _ (s : Shift) (line : ℕ → Line → Line) where
   abbrev sh : Finding → Finding
   sh = shifted_finding s
 
   -- the set with a number is changed, the others are shifted
-  module _ (g : SetRow → SetRow) (come : SetRow → List Finding) (comes : (row : SetRow) → found_in_set (g row) ≡ come row) where
+  module _ (g : SetRow → SetRow) (come : SetRow → List Finding) (comes : (row : SetRow) → found_in_set (g (moved_set s line row)) ≡ come (shifted_set s row)) where
     abbrev gone_at : ℕ → List SetRow → List Finding
     gone_at k sets = option_map_or found_in_set (slice_get sets k) []
 
@@ -73,13 +84,13 @@ module _ (s : Shift) where
     come_at k sets = option_map_or (λ row. come (shifted_set s row)) (slice_get sets k) []
 
     sets_around : (k : ℕ) (sets : List SetRow)
-        → WalksAround s (gone_at k sets) (come_at k sets) (flat_map found_in_set sets) (flat_map found_in_set (changed_at g k (map (shifted_set s) sets)))
+        → WalksAround s (gone_at k sets) (come_at k sets) (flat_map found_in_set sets) (flat_map found_in_set (changed_at g k (map (moved_set s line) sets)))
     sets_around k [] = record { front = []; back = []; were = refl; are = refl }
     sets_around zero (row ∷ rows) = record {
       front = [];
       back = flat_map found_in_set rows;
       were = refl;
-      are = ap₂ (λ (a b : List Finding). a ++ b) (comes (shifted_set s row)) (sets_shift s rows);
+      are = ap₂ (λ (a b : List Finding). a ++ b) (comes row) (sets_shift s line rows);
     }
     sets_around (suc k) (row ∷ rows) =
         let rest = sets_around k rows in
@@ -87,7 +98,7 @@ module _ (s : Shift) where
           front = found_in_set row ++ rest.front;
           back = rest.back;
           were = ap (λ (l : List Finding). found_in_set row ++ l) rest.were ∙ sym (append_assoc (found_in_set row) rest.front (gone_at k rows ++ rest.back));
-          are = ap₂ (λ (a b : List Finding). a ++ b) (states_shift s row.states) rest.are
+          are = ap₂ (λ (a b : List Finding). a ++ b) (states_shift s line row.states) rest.are
               ∙ sym (append_assoc (map sh (found_in_set row)) (map sh rest.front) (come_at k rows ++ map sh rest.back))
               ∙ ap (λ (l : List Finding). l ++ (come_at k rows ++ map sh rest.back)) (sym (map-append sh (found_in_set row) rest.front));
         }
@@ -101,17 +112,18 @@ module _ (s : Shift) where
     are = shifts ∙ sym (append-nil (map sh before));
   }
 
-  pub walks_around : (t : Tables) (change : RowChange) → WalksAround s (gone_of t change) (come_of s t change) (walked_in t) (walked_in (with_row (shifted_tables s t) change))
-  walks_around t changes.Nothing = none_around (walked_in t) (walked_in (shifted_tables s t)) (walked_shift s t)
+  pub walks_around : (t : Tables) (change : RowChange) → WalksAround s (gone_of t change) (come_of s t change) (walked_in t) (walked_in (with_row (moved_tables s line t) change))
+  walks_around t changes.Nothing = none_around (walked_in t) (walked_in (moved_tables s line t)) (walked_shift s line t)
   walks_around t (changes.Body place body) =
-      none_around (walked_in t) (walked_in (with_body (shifted_tables s t) place.set place.state body)) (walked_stay (shifted_tables s t) place.set place.state body ∙ walked_shift s t)
+      none_around (walked_in t) (walked_in (with_body (moved_tables s line t) place.set place.state body)) (walked_stay (moved_tables s line t) place.set place.state body ∙ walked_shift s line t)
   walks_around t (changes.State place body wake marks) =
       let k : ℕ = place.set in
       let n : ℕ = place.state in
-      let sets : List SetRow = map (shifted_set s) t.sets in
+      let sets : List SetRow = map (moved_set s line) t.sets in
       let joined : changed_at (with_marks_in marks) k (changed_at (with_wake_in n wake) k (changed_at (with_body_in n body) k sets)) ≡ changed_at (remade n body wake marks) k sets =
       changed_twice (with_marks_in marks) (with_wake_in n wake) k (changed_at (with_body_in n body) k sets)
       ∙ changed_twice (λ (r : SetRow). with_marks_in marks (with_wake_in n wake r)) (with_body_in n body) k sets in
       subst (λ (l : List SetRow). WalksAround s (gone_of t (changes.State place body wake marks)) (come_of s t (changes.State place body wake marks)) (walked_in t) (flat_map found_in_set l)) (sym joined)
-      (sets_around (remade n body wake marks) (λ (r : SetRow). found_in_set (with_marks_in marks r)) (marks_tell_set n body wake marks) k t.sets)
-  walks_around t (changes.Marks set marks) = sets_around (with_marks_in marks) (λ (r : SetRow). found_in_set (with_marks_in marks r)) (λ (r : SetRow). refl) set t.sets
+      (sets_around (remade n body wake marks) (λ (r : SetRow). found_in_set (with_marks_in marks r))
+      (λ (r : SetRow). marks_tell_set n body wake marks (moved_set s line r) ∙ marks_tell_moved s line marks r.states) k t.sets)
+  walks_around t (changes.Marks set marks) = sets_around (with_marks_in marks) (λ (r : SetRow). found_in_set (with_marks_in marks r)) (λ (r : SetRow). marks_tell_moved s line marks r.states) set t.sets

@@ -32,6 +32,7 @@ pub mod Replaced
 pub mod Rising
 pub mod SetMembers
 pub mod ShiftPlans
+pub mod Sides
 pub mod ShiftedFindings
 pub mod ShiftedItems
 pub mod ShiftedLines

@@ -3,7 +3,7 @@ use Rattle.std.proofs.Common.{◌≡◌, ℕ, ◌+◌, ◌-◌, ◌<◌, ◌++�
 use Rattle.std.specs.List.{slice_set}
 use Rattle.std.specs.Option.{option_map_or}
 use Rattle.snl_lex.specs.declared.piece.Piece.{Piece}
-use Rattle.snl_lex.specs.declared.shift.Shift.{Shift}
+use Rattle.snl_lex.specs.declared.line_shift.LineShift.{LineShift}
 use Rattle.snl_lex.specs.PieceList.{spelled}
 use Rattle.snl_syntax.specs.Outcome.{parsed_by, parsed_in, sound_tree}
 use Rattle.snl_syntax.specs.declared.tree.item.Item.{Item}
@@ -49,7 +49,7 @@ use Rattle.snl_kept.proofs.Replaced.{replaced_parts}
 
 -- ---- the links
 
-module _ (old text : List ℕ) (start old_stop new_stop : ℕ) (c : Changes) (s : Shift) (x e : Entry) (one : IsOneReplaced old text start old_stop new_stop c s x e) (before : LinkedItems) (is : before ≡ links_in old) (links : NewLinks)
+module _ (old text : List ℕ) (start old_stop new_stop : ℕ) (c : Changes) (t : LineShift) (x e : Entry) (one : IsOneReplaced old text start old_stop new_stop c t x e) (before : LinkedItems) (is : before ≡ links_in old) (links : NewLinks)
     (own : AreOwnLinks before c.items.kept_front e.summary.kind links) where
   own_links_are : AreOwnLinks (links_in old) c.items.kept_front e.summary.kind links
   own_links_are = subst (λ (l : LinkedItems). AreOwnLinks l c.items.kept_front e.summary.kind links) is own
@@ -68,9 +68,9 @@ module _ (old text : List ℕ) (start old_stop new_stop : ℕ) (c : Changes) (s 
 
 -- ---- what the rows go by
 
-pub items_after : (old text : List ℕ) (start : ℕ) (c : Changes) (l : Lists) (e : Entry) → IsListed old l → IsOneItem old text start c → AreEntriesMade old text c.items.kept_front (e ∷ []) c.items.kept_back → outlines_in text ≡ outlines_in old
+pub items_after : (old text : List ℕ) (c : Changes) (l : Lists) (e : Entry) → IsListed old l → IsOneItem old c → AreEntriesMade old text c.items.kept_front (e ∷ []) c.items.kept_back → outlines_in text ≡ outlines_in old
     → AreItemsAfter old text l c.items.kept_front e
-items_after old text start c l e listed one made same =
+items_after old text c l e listed one made same =
     let k : ℕ = c.items.kept_front in
     let olds : List Entry = entries_of old in
     let many = entries_count old in
@@ -87,15 +87,15 @@ items_after old text start c l e listed one made same =
       outlines_are = were ∙ sym same;
     }
 
-pub in_place : (old text : List ℕ) (start old_stop new_stop : ℕ) (c : Changes) (s : Shift) (x e : Entry) → IsOneReplaced old text start old_stop new_stop c s x e → AreRead old (items_of old) → (own : List Piece)
+pub in_place : (old text : List ℕ) (start old_stop new_stop : ℕ) (c : Changes) (t : LineShift) (x e : Entry) → IsOneReplaced old text start old_stop new_stop c t x e → AreRead old (items_of old) → (own : List Piece)
     → own ≡ own_tokens text c.items.kept_front → IsInPlace old text c.items.kept_front own
-in_place old text start old_stop new_stop c s x e one read own is =
+in_place old text start old_stop new_stop c t x e one read own is =
     subst (IsInPlace old text c.items.kept_front) (sym is) (record {
-      by = s;
+      shift = t;
       some_before = one.inside.shift.some_before;
       read = read;
       one = one.one;
-      got = got_is old text start old_stop new_stop c s x e one;
+      got = got_is old text start old_stop new_stop c t x e one;
     })
 
 -- its tokens, and the uses in its conditions, among the items
@@ -116,21 +116,21 @@ module _ (tree_told : (text : List ℕ) (tokens : List Piece) → sound_tree (pa
 
 -- ---- what the text says, whichever rows change
 
-pub after_any : (old text : List ℕ) (s : Shift) (k : ℕ) (own : OwnTokens) (w : Was) (e : Entry) (rows : Touched) → FitsRows old text k own w e rows
+pub after_any : (old text : List ℕ) (t : LineShift) (k : ℕ) (own : OwnTokens) (w : Was) (e : Entry) (rows : Touched) → FitsRows old text k own w e rows
     → (e.summary.kind ≡ w.entry.now.summary.kind → is_none (own_item text k).tree ≡ is_none (own_item old k).tree)
     → ((n : ℕ) → IsStateAlike old text k own w e n → SaysAlike old text (own_item old k) (own_item text k))
-    → (enclosing_set (outlines_in old) k ≡ None → IsAfterInside old text s k (change_told text (items_of text) (outlines_in old) k (own_item text k) touched.Nothing))
+    → (enclosing_set (outlines_in old) k ≡ None → IsAfterInside old text t k (change_told text (items_of text) (outlines_in old) k (own_item text k) touched.Nothing))
     → (is_some (state_name w.entry.now.summary.outline) ≡ false → is_none (own_item text k).tree ≡ is_none (own_item old k).tree
-    → IsAfterInside old text s k (change_told text (items_of text) (outlines_in old) k (own_item text k) touched.Nothing))
+    → IsAfterInside old text t k (change_told text (items_of text) (outlines_in old) k (own_item text k) touched.Nothing))
     → ((n : ℕ) → is_some (state_name w.entry.now.summary.outline) ≡ true → enclosing_set (outlines_in old) k ≡ Some n → SaysAlike old text (own_item old k) (own_item text k)
-    → IsAfterInside old text s k (change_told text (items_of text) (outlines_in old) k (own_item text k) (touched.Body n)))
+    → IsAfterInside old text t k (change_told text (items_of text) (outlines_in old) k (own_item text k) (touched.Body n)))
     → ((n : ℕ) → is_some (state_name w.entry.now.summary.outline) ≡ true → enclosing_set (outlines_in old) k ≡ Some n
-    → IsAfterInside old text s k (change_told text (items_of text) (outlines_in old) k (own_item text k) (touched.State n)))
+    → IsAfterInside old text t k (change_told text (items_of text) (outlines_in old) k (own_item text k) (touched.State n)))
     → ((n : ℕ) → is_some (state_name w.entry.now.summary.outline) ≡ false → enclosing_set (outlines_in old) k ≡ Some n
-    → IsAfterInside old text s k (change_told text (items_of text) (outlines_in old) k (own_item text k) (touched.Marks n)))
-    → IsAfterInside old text s k (change_told text (items_of text) (outlines_in old) k (own_item text k) rows)
-after_any old text s k own w e touched.Nothing (inl nowhere) sound alike outside around inside of_state in_set = outside nowhere
-after_any old text s k own w e touched.Nothing (inr unnamed) sound alike outside around inside of_state in_set = around unnamed.unnamed (sound unnamed.kind)
-after_any old text s k own w e (touched.Body n) fits sound alike outside around inside of_state in_set = inside n fits.state.named fits.state.placed (alike n fits)
-after_any old text s k own w e (touched.State n) fits sound alike outside around inside of_state in_set = of_state n fits.named fits.placed
-after_any old text s k own w e (touched.Marks n) fits sound alike outside around inside of_state in_set = in_set n fits.unnamed fits.placed
+    → IsAfterInside old text t k (change_told text (items_of text) (outlines_in old) k (own_item text k) (touched.Marks n)))
+    → IsAfterInside old text t k (change_told text (items_of text) (outlines_in old) k (own_item text k) rows)
+after_any old text t k own w e touched.Nothing (inl nowhere) sound alike outside around inside of_state in_set = outside nowhere
+after_any old text t k own w e touched.Nothing (inr unnamed) sound alike outside around inside of_state in_set = around unnamed.unnamed (sound unnamed.kind)
+after_any old text t k own w e (touched.Body n) fits sound alike outside around inside of_state in_set = inside n fits.state.named fits.state.placed (alike n fits)
+after_any old text t k own w e (touched.State n) fits sound alike outside around inside of_state in_set = of_state n fits.named fits.placed
+after_any old text t k own w e (touched.Marks n) fits sound alike outside around inside of_state in_set = in_set n fits.unnamed fits.placed

@@ -6,6 +6,7 @@ use Rattle.std.proofs.lemmas.Bool.{le-ltb, lt-ltb}
 use Rattle.std.proofs.lemmas.List.{length-take, map-append}
 use Rattle.std.proofs.lemmas.List.Elements.{recursion_from_All}
 use Rattle.std.proofs.lemmas.Option.{slice_get-map}
+use Rattle.snl_lex.specs.declared.lines.Line.{Line}
 use Rattle.snl_lex.specs.declared.piece.Piece.{Piece}
 use Rattle.snl_lex.specs.declared.shift.Shift.{Shift}
 use Rattle.snl_lex.specs.Pieces.{LiesIn, piece_end}
@@ -20,7 +21,7 @@ use Rattle.snl_scope.specs.declared.summaries.summary.Outline.{Outline}
 use Rattle.snl_tables.specs.declared.rows.SetRow.{SetRow}
 use Rattle.snl_tables.specs.declared.rows.StateRow.{StateRow}
 use Rattle.snl_tables.specs.declared.rows.Tables.{Tables}
-use Rattle.snl_tables.specs.Shifted.{shifted_set, shifted_state, shifted_tables}
+use Rattle.snl_tables.specs.Moved.{moved_set, moved_state, moved_tables}
 use Rattle.snl_check.specs.declared.rules.findings.ItemFault.{ItemFault}
 use Rattle.snl_check.specs.Options.{warning_setting}
 use Rattle.snl_check.specs.View.{is_in_set}
@@ -72,26 +73,27 @@ module _ (s : Shift) where
   fault_shifts ts (parsed.BadToken at) = number_shifts _ ts at
   fault_shifts ts (parsed.NoItem at) = number_shifts _ ts at
 
-  -- by the walks of state sets
-  state_shifts : (row : StateRow) → found_at_state (shifted_state s row) ≡ map (shifted_finding s) (found_at_state row)
-  state_shifts row = by (is_unreached row.mark)
-    where
-      by : (b : Bool) → (if b then at_state (shifted_state s row) ∷ [] else []) ≡ map (shifted_finding s) (if b then at_state row ∷ [] else [])
-      by true = refl
-      by false = refl
+  -- by the walks of state sets, whatever becomes of lines
+  module _ (line : ℕ → Line → Line) where
+    state_shifts : (row : StateRow) → found_at_state (moved_state s line row) ≡ map (shifted_finding s) (found_at_state row)
+    state_shifts row = by (is_unreached row.mark)
+      where
+        by : (b : Bool) → (if b then at_state (moved_state s line row) ∷ [] else []) ≡ map (shifted_finding s) (if b then at_state row ∷ [] else [])
+        by true = refl
+        by false = refl
 
-  pub states_shift : (rows : List StateRow) → flat_map found_at_state (map (shifted_state s) rows) ≡ map (shifted_finding s) (flat_map found_at_state rows)
-  states_shift [] = refl
-  states_shift (row ∷ rows) =
-      ap₂ (λ (x y : List Finding). x ++ y) (state_shifts row) (states_shift rows) ∙ sym (map-append (shifted_finding s) (found_at_state row) (flat_map found_at_state rows))
+    pub states_shift : (rows : List StateRow) → flat_map found_at_state (map (moved_state s line) rows) ≡ map (shifted_finding s) (flat_map found_at_state rows)
+    states_shift [] = refl
+    states_shift (row ∷ rows) =
+        ap₂ (λ (x y : List Finding). x ++ y) (state_shifts row) (states_shift rows) ∙ sym (map-append (shifted_finding s) (found_at_state row) (flat_map found_at_state rows))
 
-  pub sets_shift : (rows : List SetRow) → flat_map found_in_set (map (shifted_set s) rows) ≡ map (shifted_finding s) (flat_map found_in_set rows)
-  sets_shift [] = refl
-  sets_shift (row ∷ rows) =
-      ap₂ (λ (x y : List Finding). x ++ y) (states_shift row.states) (sets_shift rows) ∙ sym (map-append (shifted_finding s) (found_in_set row) (flat_map found_in_set rows))
+    pub sets_shift : (rows : List SetRow) → flat_map found_in_set (map (moved_set s line) rows) ≡ map (shifted_finding s) (flat_map found_in_set rows)
+    sets_shift [] = refl
+    sets_shift (row ∷ rows) =
+        ap₂ (λ (x y : List Finding). x ++ y) (states_shift row.states) (sets_shift rows) ∙ sym (map-append (shifted_finding s) (found_in_set row) (flat_map found_in_set rows))
 
-  pub walked_shift : (t : Tables) → walked_in (shifted_tables s t) ≡ map (shifted_finding s) (walked_in t)
-  walked_shift t = sets_shift t.sets
+    pub walked_shift : (t : Tables) → walked_in (moved_tables s line t) ≡ map (shifted_finding s) (walked_in t)
+    walked_shift t = sets_shift t.sets
 
   -- by the links: what has no token is at the beginning, which stays
   module _ (before : 0 < s.start) where

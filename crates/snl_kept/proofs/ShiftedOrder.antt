@@ -8,9 +8,11 @@ use Rattle.std.specs.declared.cmp.Ordering.{Ordering}
 use Rattle.std.specs.declared.cmp.Ordering.TheVariants.{Less, Equal, Greater}
 use Rattle.std.proofs.lemmas.Cmp.{ranked}
 use Rattle.std.proofs.lemmas.List.Elements.{recursion_from_All}
+use Rattle.snl_lex.specs.declared.line_shift.LineShift.{LineShift}
 use Rattle.snl_lex.specs.declared.shift.Shift.{Shift}
 use Rattle.snl_lex.specs.Lines.{line_at}
-use Rattle.snl_lex.specs.Shift.{IsOutside, most, shifted_line, shifted_offset}
+use Rattle.snl_lex.specs.LineShift.{moved_line}
+use Rattle.snl_lex.specs.Shift.{IsOutside, most, shifted_offset}
 use Rattle.snl_walk.specs.Codes.{name_of}
 use Rattle.snl_kept.specs.declared.found.findings.Diagnostic.{Diagnostic}
 use Rattle.snl_kept.specs.declared.found.findings.Finding.{Finding}
@@ -74,8 +76,11 @@ module _ (old : List ℕ) (s : Shift) (before : s.start ≤ s.old_stop) (after :
       ap (put_in_order (shifted_finding s x)) (order_shifts xs parts.1) ∙ put_shifts x (in_order xs) parts.0 parts.1
 
   -- the lines
-  module _ (text : List ℕ) (lines : (o : ℕ) → IsOutside old s o → line_at text (shifted_offset s o) ≡ shifted_line s o (line_at old o)) where
-    on_lines_shift : (xs : List Finding) → AllByRecursion Out xs → map (diagnostic text) (map (shifted_finding s) xs) ≡ map (shifted_diagnostic s) (map (diagnostic old) xs)
+  module _ (text : List ℕ) (until : ℕ) (lines : (o : ℕ) → IsOutside old s o → line_at text (shifted_offset s o) ≡ moved_line (record { by = s; until = until }) o (line_at old o)) where
+    abbrev t : LineShift
+    t = record { by = s; until = until }
+
+    on_lines_shift : (xs : List Finding) → AllByRecursion Out xs → map (diagnostic text) (map (shifted_finding s) xs) ≡ map (shifted_diagnostic t) (map (diagnostic old) xs)
     on_lines_shift [] h = refl
     on_lines_shift (x ∷ xs) h =
         ap₂ (λ (d : Diagnostic) (ds : List Diagnostic). d ∷ ds) (ap (on_line (shifted_finding s x)) (lines x.offset h.0)) (on_lines_shift xs h.1)
@@ -86,7 +91,7 @@ module _ (old : List ℕ) (s : Shift) (before : s.start ≤ s.old_stop) (after :
 
     -- Findings that are shifted are the diagnostics shifted.
     pub told_shift : (xs : List Finding) → All (λ (d : Diagnostic). IsOutside old s d.offset) (map (diagnostic old) (in_order xs))
-        → map (diagnostic text) (in_order (map (shifted_finding s) xs)) ≡ map (shifted_diagnostic s) (map (diagnostic old) (in_order xs))
+        → map (diagnostic text) (in_order (map (shifted_finding s) xs)) ≡ map (shifted_diagnostic t) (map (diagnostic old) (in_order xs))
     told_shift xs h =
         let out : AllByRecursion Out (in_order xs) = out_from (in_order xs) (recursion_from_All (λ (d : Diagnostic). IsOutside old s d.offset) (map (diagnostic old) (in_order xs)) h) in
         ap (map (diagnostic text)) (order_shifts xs out) ∙ on_lines_shift (in_order xs) out

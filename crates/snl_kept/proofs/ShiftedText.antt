@@ -1,20 +1,22 @@
 -- What a text says after an edit that shifts all of it.
-use Rattle.std.proofs.Common.{◌≡◌, ◌≢◌, ◌↔◌, ℕ, ◌+◌, ◌-◌, ◌<◌, ◌≤◌, ◌&&◌, ◌||◌, Bool, true, false, not, cond, if◌then◌else◌, nat_lt, All, IsTrue, List, [], ◌∷◌, ◌++◌, length, map, filter, take, drop, count_by, get_or, is_some, option_map, Option, Some, None, refl, sym, ap, ap₂, ◌∙◌, arith}
+use Rattle.std.proofs.Common.{◌≡◌, ◌↔◌, ℕ, inl, inr, ◌+◌, ◌-◌, ◌<◌, ◌≤◌, ◌&&◌, ◌||◌, Bool, true, false, not, cond, if◌then◌else◌, nat_lt, All, IsTrue, List, [], ◌∷◌, ◌++◌, length, map, filter, count_by, is_some, option_map, Option, Some, None, refl, sym, ap, ap₂, ◌∙◌, arith}
 use Rattle.std.specs.List.{AllByRecursion, cons_option, enumerate_from, filter_map, flat_map}
 use Rattle.std.proofs.lemmas.List.{map-append}
-use Rattle.std.proofs.lemmas.List.Elements.{All-drop, All-filter, All-take, recursion_from_All}
+use Rattle.std.proofs.lemmas.List.Elements.{All-filter}
 use Rattle.std.proofs.lemmas.List.Sums.{length-filter}
 use Rattle.snl_cut.specs.Cut.{ends_below}
 use Rattle.snl_lex.specs.declared.piece.Class.{Class}
 use Rattle.snl_lex.specs.declared.piece.Piece.{Piece}
+use Rattle.snl_lex.specs.declared.line_shift.LineShift.{LineShift}
+use Rattle.snl_lex.specs.declared.lines.Line.{Line}
 use Rattle.snl_lex.specs.declared.shift.Shift.{Shift}
 use Rattle.snl_lex.specs.Lines.{line_at}
 use Rattle.snl_lex.specs.PieceList.{spelled}
 use Rattle.snl_lex.specs.Pieces.{LiesIn, is_token, pieces_of, tokens_of}
-use Rattle.snl_lex.specs.Shift.{IsOutside, IsShift, most, shifted_line, shifted_offset}
+use Rattle.snl_lex.specs.LineShift.{IsLineShift, moved_line}
+use Rattle.snl_lex.specs.Shift.{IsOutside, most, shifted_offset}
 use Rattle.snl_syntax.specs.Outcome.{parsed_by, parsed_in, sound_tree}
 use Rattle.snl_syntax.specs.declared.tree.item.Item.{Item}
-use Rattle.snl_items.specs.declared.shifted.Shifted.{Shifted}
 use Rattle.snl_items.specs.Fresh.{token_edit_between}
 use Rattle.snl_items.specs.Items.{item_ends, spelled_items}
 use Rattle.snl_walk.specs.Codes.{is_error}
@@ -26,8 +28,9 @@ use Rattle.snl_scope.specs.Summaries.Tokens.{token_bytes}
 use Rattle.snl_scope.specs.View.{same_view, view}
 use Rattle.snl_scope.specs.declared.summaries.summary.Outline.{Outline}
 use Rattle.snl_scope.specs.declared.summaries.summary.Summary.{Summary}
-use Rattle.snl_tables.specs.Shifted.{shifted_tables}
-use Rattle.snl_check.specs.Shifted.{KeepsItems, shifted_item, shifted_tokens}
+use Rattle.snl_tables.specs.Moved.{moved_tables}
+use Rattle.snl_check.specs.Moved.{KeepsItemsBy}
+use Rattle.snl_check.specs.Shifted.{shifted_item, shifted_tokens}
 use Rattle.snl_check.specs.Spans.{AreRead}
 use Rattle.snl_check.specs.Tables.{tables_of}
 use Rattle.snl_kept.specs.declared.entries.Entry.{Entry}
@@ -47,7 +50,7 @@ use Rattle.snl_kept.specs.Warnings.{last_or, setting_of_item, shows_warnings}
 use Rattle.snl_kept.proofs.MemberParts.{got, in_members}
 use Rattle.snl_kept.proofs.ShiftedFindings.{IsInside, IsLeft, StaysItem, checked_shift, fault_shifts, placed_shift, settings_stay, walked_shift}
 use Rattle.snl_kept.proofs.ShiftedItems.{each_alike, each_left, items_shift, links_stay, outlines_stay, spelled_stay}
-use Rattle.snl_kept.proofs.ShiftedLines.{IsAfter, IsInFront, KeepsLine, lines_kept}
+use Rattle.snl_kept.proofs.ShiftedLines.{KeepsLine, lines_kept}
 use Rattle.snl_kept.proofs.ShiftedOrder.{told_shift}
 use Rattle.snl_kept.proofs.TextSpans.{items_are_read}
 
@@ -87,18 +90,18 @@ pub along : (text : List ℕ) (P : ProgramItem → Type 0) (ms : List (List Piec
 along text P [] h = tt
 along text P (m ∷ ms) h = (h.0, along text P ms h.1)
 
-module _ (old text : List ℕ) (a b c : ℕ) (t : Shifted) (is : ShiftsAll old text a b c t)
+module _ (old text : List ℕ) (a b c : ℕ) (t : LineShift) (is : ShiftsAll old text a b c t)
     -- what the laws of the layers below say
     (inside : (text : List ℕ) → All (LiesIn text) (pieces_of text))
     (tree_told : (text : List ℕ) (tokens : List Piece) → sound_tree (parsed_in text tokens) ≡ tree_in text tokens)
     (by_spelling : (text : List ℕ) (tokens : List Piece) → parsed_in text tokens ≡ parsed_by (spelled text tokens))
     (summary_told : (text : List ℕ) (tokens : List Piece) (tree : Option Item) → summary_in text tokens tree ≡ summary_by (spelled text tokens) tree)
     (bytes_same : (text moved : List ℕ) (tokens shifted : List Piece) → spelled text tokens ≡ spelled moved shifted → token_bytes text tokens ≡ token_bytes moved shifted)
-    (each_inside : (ss : List Outline) (i : ℕ) (bytes : ℕ → List ℕ) (tree : Item) → All (IsInside t.by is.lines.some_before bytes) (checked_by ss i bytes tree).faults)
+    (each_inside : (ss : List Outline) (i : ℕ) (bytes : ℕ → List ℕ) (tree : Item) → All (IsInside t.by is.lines.lines.some_before bytes) (checked_by ss i bytes tree).faults)
     (views : (ss : List Outline) (i : ℕ) (ts : List Outline) (j : ℕ) (s : Summary) → IsTrue (same_view ss i ts j s) ↔ (view ss i s ≡ view ts j s))
-    (lines : (old text : List ℕ) (s : Shift) (o : ℕ) → IsShift old text s → IsOutside old s o → line_at text (shifted_offset s o) ≡ shifted_line s o (line_at old o))
-    (tables : (old text : List ℕ) (s : Shift) (xs : List ProgramItem) → 0 < s.start → AreRead old xs → KeepsItems old text s xs
-    → tables_of text (map (shifted_item s) xs) ≡ shifted_tables s (tables_of old xs)) where
+    (lines : (old text : List ℕ) (t : LineShift) (o : ℕ) → IsLineShift old text t → IsOutside old t.by o → line_at text (shifted_offset t.by o) ≡ moved_line t o (line_at old o))
+    (tables : (old text : List ℕ) (s : Shift) (line : ℕ → Line → Line) (xs : List ProgramItem) → 0 < s.start → AreRead old xs → KeepsItemsBy old text s line xs
+    → tables_of text (map (shifted_item s) xs) ≡ moved_tables s line (tables_of old xs)) where
   abbrev s : Shift
   s = t.by
 
@@ -106,13 +109,13 @@ module _ (old text : List ℕ) (a b c : ℕ) (t : Shifted) (is : ShiftsAll old t
   xs = items_of old
 
   order : s.start ≤ s.old_stop
-  order = is.lines.edit.old_order
+  order = is.lines.lines.edit.old_order
 
   fits : length old + s.new_stop ≤ most
-  fits = omega (arith, is.lines.edit.new_inside, is.lines.old_short, is.lines.short)
+  fits = omega (arith, is.lines.lines.edit.new_inside, is.lines.lines.old_short, is.lines.lines.short)
 
-  line_of : (o : ℕ) → IsOutside old s o → line_at text (shifted_offset s o) ≡ shifted_line s o (line_at old o)
-  line_of o h = lines old text s o is.lines h
+  line_of : (o : ℕ) → IsOutside old s o → line_at text (shifted_offset s o) ≡ moved_line t o (line_at old o)
+  line_of o h = lines old text t o is.lines.lines h
 
   items_are : items_of text ≡ map (shifted_item s) xs
   items_are = items_shift old text s is.tokens.spelled is.tokens.items is.tokens.left.made_are tree_told by_spelling summary_told
@@ -133,53 +136,52 @@ module _ (old text : List ℕ) (a b c : ℕ) (t : Shifted) (is : ShiftsAll old t
   tokens_lie : All (LiesIn old) (tokens_of old)
   tokens_lie = All-filter is_token (LiesIn old) (pieces_of old) (inside old)
 
-  tokens_left : All (IsLeft s is.lines.some_before old order fits) (tokens_of old)
-  tokens_left = λ k d lt. (each_left s (tokens_of old) (tokens_of text) t.before is.tokens.left k d lt, tokens_lie k d lt)
+  tokens_left : All (IsLeft s is.lines.lines.some_before old order fits) (tokens_of old)
+  tokens_left = λ k d lt. (each_left s (tokens_of old) (tokens_of text) is.before is.tokens.left k d lt, tokens_lie k d lt)
 
-  members_left : AllByRecursion (AllByRecursion (IsLeft s is.lines.some_before old order fits)) (item_tokens old)
+  members_left : AllByRecursion (AllByRecursion (IsLeft s is.lines.lines.some_before old order fits)) (item_tokens old)
   unfolding item_tokens
-  members_left = in_members (IsLeft s is.lines.some_before old order fits) (tokens_of old) tokens_left 0 (item_ends old)
+  members_left = in_members (IsLeft s is.lines.lines.some_before old order fits) (tokens_of old) tokens_left 0 (item_ends old)
 
   same_bytes : (ms : List (List Piece)) → AllByRecursion (λ m. spelled text (shifted_tokens s m) ≡ spelled old m) ms → AllByRecursion (λ m. token_bytes text (shifted_tokens s m) ≡ token_bytes old m) ms
   same_bytes [] h = tt
   same_bytes (m ∷ ms) h = (bytes_same text old (shifted_tokens s m) m h.0, same_bytes ms h.1)
 
   abbrev Stays : ProgramItem → Type 0
-  Stays x = StaysItem s is.lines.some_before old order fits text each_inside x
+  Stays x = StaysItem s is.lines.lines.some_before old order fits text each_inside x
 
   items_stay : AllByRecursion Stays xs
   items_stay =
       along old Stays (item_tokens old)
-      (both (λ m. token_bytes text (shifted_tokens s m) ≡ token_bytes old m) (AllByRecursion (IsLeft s is.lines.some_before old order fits)) (item_tokens old) (same_bytes (item_tokens old) alike) members_left)
+      (both (λ m. token_bytes text (shifted_tokens s m) ≡ token_bytes old m) (AllByRecursion (IsLeft s is.lines.lines.some_before old order fits)) (item_tokens old) (same_bytes (item_tokens old) alike) members_left)
 
-  front_begins : All (IsInFront old text s order line_of) (take t.before (tokens_of old))
-  front_begins = λ k d lt.
-      let lies : LiesIn old (get_or (take t.before (tokens_of old)) k d) = All-take (LiesIn old) t.before (tokens_of old) tokens_lie k d lt in
-      omega (arith, is.tokens.left.in_front k d lt, lies.0)
+  -- where the edit leaves it
+  outside : (p : Piece) → IsLeft s is.lines.lines.some_before old order fits p → IsOutside old s p.start
+  outside p (inl early, lies) = inl (omega (arith, early, lies.0))
+  outside p (inr late, lies) = inr (late, omega (arith, lies.1))
 
-  back_begins : All (IsAfter old text s order line_of) (drop t.before (tokens_of old))
-  back_begins = λ k d lt.
-      let lies : LiesIn old (get_or (drop t.before (tokens_of old)) k d) = All-drop (LiesIn old) t.before (tokens_of old) tokens_lie k d lt in
-      (is.tokens.left.after k d lt, omega (arith, lies.1))
+  all_outside : (ps : List Piece) → AllByRecursion (IsLeft s is.lines.lines.some_before old order fits) ps → AllByRecursion (λ p. IsOutside old s p.start) ps
+  all_outside [] h = tt
+  all_outside (p ∷ ps) h = (outside p h.0, all_outside ps h.1)
 
-  lines_stay : AllByRecursion (λ (x : ProgramItem). KeepsLine old text s order line_of x.tokens) xs
-  unfolding item_tokens
+  members_outside : (ms : List (List Piece)) → AllByRecursion (AllByRecursion (IsLeft s is.lines.lines.some_before old order fits)) ms → AllByRecursion (AllByRecursion (λ p. IsOutside old s p.start)) ms
+  members_outside [] h = tt
+  members_outside (m ∷ ms) h = (all_outside m h.0, members_outside ms h.1)
+
+  lines_stay : AllByRecursion (λ (x : ProgramItem). KeepsLine old text t order line_of x.tokens) xs
   lines_stay =
-      along old (λ (x : ProgramItem). KeepsLine old text s order line_of x.tokens) (item_tokens old)
-      (lines_kept old text s order line_of t.before (tokens_of old)
-      (recursion_from_All (IsInFront old text s order line_of) (take t.before (tokens_of old)) front_begins)
-      (recursion_from_All (IsAfter old text s order line_of) (drop t.before (tokens_of old)) back_begins)
-      0 (item_ends old) (omega (arith, is.items.0)) (recursion_from_All (λ e. t.before ≢ e + 1) (item_ends old) is.items.1))
+      along old (λ (x : ProgramItem). KeepsLine old text t order line_of x.tokens) (item_tokens old)
+      (lines_kept old text t order line_of (item_tokens old) (members_outside (item_tokens old) members_left) is.items is.lines.numbered)
 
-  keeps : KeepsItems old text s xs
+  keeps : KeepsItemsBy old text s (moved_line t) xs
   keeps i x there = record {
     bytes = λ n. ap (λ (f : ℕ → List ℕ). f n) (got Stays xs i x items_stay there).0;
-    line = λ lined. got (λ (y : ProgramItem). KeepsLine old text s order line_of y.tokens) xs i x lines_stay there;
+    lined = λ named. got (λ (y : ProgramItem). KeepsLine old text t order line_of y.tokens) xs i x lines_stay there;
   }
 
-  tables_are : tables_in text ≡ shifted_tables s (tables_in old)
+  tables_are : tables_in text ≡ moved_tables s (moved_line t) (tables_in old)
   unfolding tables_in
-  tables_are = ap (tables_of text) items_are ∙ tables old text s xs is.lines.some_before (items_are_read old (inside old)) keeps
+  tables_are = ap (tables_of text) items_are ∙ tables old text s (moved_line t) xs is.lines.lines.some_before (items_are_read old (inside old)) keeps
 
   -- what is found
   one_fault : (m : List Piece) → spelled text (shifted_tokens s m) ≡ spelled old m → fault_in text (shifted_item s (program_item old m)) ≡ option_map (shifted_finding s) (fault_in old (program_item old m))
@@ -200,16 +202,16 @@ module _ (old text : List ℕ) (a b c : ℕ) (t : Shifted) (is : ShiftsAll old t
   linked_shift : linked_faults text (items_of text) ≡ map (shifted_finding s) (linked_faults old xs)
   linked_shift =
       ap₂ (λ (ys : List ProgramItem) (l : LinkedItems). map (linked_finding ys) (links.faults_of l)) items_are links_are
-      ∙ placed_shift s is.lines.some_before xs (links.faults_of (links_in old))
+      ∙ placed_shift s is.lines.lines.some_before xs (links.faults_of (links_in old))
 
   checks_shift : checked_faults text (items_of text) ≡ map (shifted_finding s) (checked_faults old xs)
   checks_shift =
       ap₂ (λ (ss : List Outline) (ys : List ProgramItem). flat_map (found_in_item text ss) (enumerate_from 0 ys)) outlines_are items_are
-      ∙ checked_shift s is.lines.some_before old order fits text each_inside (outlines_in old) 0 xs items_stay
+      ∙ checked_shift s is.lines.lines.some_before old order fits text each_inside (outlines_in old) 0 xs items_stay
 
   walks_shift : walked_faults text (items_of text) ≡ map (shifted_finding s) (walked_faults old xs)
   unfolding tables_in
-  walks_shift = ap walked_in tables_are ∙ walked_shift s (tables_of old xs)
+  walks_shift = ap walked_in tables_are ∙ walked_shift s (moved_line t) (tables_of old xs)
 
   found_shifts : found text ≡ map (shifted_finding s) (found old)
   unfolding found
@@ -222,7 +224,7 @@ module _ (old text : List ℕ) (a b c : ℕ) (t : Shifted) (is : ShiftsAll old t
   warnings_stay =
       ap (last_or true)
       (ap₂ (λ (ss : List Outline) (ys : List ProgramItem). filter_map (setting_of_item text ss) (enumerate_from 0 ys)) outlines_are items_are
-      ∙ settings_stay s is.lines.some_before old order fits text each_inside (outlines_in old) 0 xs items_stay)
+      ∙ settings_stay s is.lines.lines.some_before old order fits text each_inside (outlines_in old) 0 xs items_stay)
 
   shown_by : (b : Bool) (l : List Finding) → (if b then map (shifted_finding s) l else filter (λ (x : Finding). is_error x.code) (map (shifted_finding s) l))
       ≡ map (shifted_finding s) (if b then l else filter (λ (x : Finding). is_error x.code) l)
@@ -234,10 +236,10 @@ module _ (old text : List ℕ) (a b c : ℕ) (t : Shifted) (is : ShiftsAll old t
   shown_shifts =
       ap₂ (λ (b : Bool) (l : List Finding). if b then l else filter (λ (x : Finding). is_error x.code) l) warnings_stay found_shifts ∙ shown_by (shows_warnings old xs) (found old)
 
-  diagnostics_shift : diagnostics_of text ≡ map (shifted_diagnostic s) (diagnostics_of old)
+  diagnostics_shift : diagnostics_of text ≡ map (shifted_diagnostic t) (diagnostics_of old)
   unfolding diagnostics_of
   diagnostics_shift =
-      ap (λ (l : List Finding). map (diagnostic text) (in_order l)) shown_shifts ∙ told_shift old s order is.lines.edit.new_order fits text line_of (shown old) is.found
+      ap (λ (l : List Finding). map (diagnostic text) (in_order l)) shown_shifts ∙ told_shift old s order is.lines.lines.edit.new_order fits text t.until line_of (shown old) is.found
 
   -- no item is to be checked
   sees : (ss : List Outline) (i : ℕ) (y : Summary) → same_view ss i ss i y ≡ true
@@ -265,7 +267,7 @@ module _ (old text : List ℕ) (a b c : ℕ) (t : Shifted) (is : ShiftsAll old t
       ap (λ (fresh : List ℕ). count_by (is_stirred old text before fresh) (enumerate_from 0 (entries_of text))) is.tokens.none_fresh
       ∙ none_counted (is_stirred old text before []) (enumerate_from 0 (entries_of text)) (all_not before (enumerate_from 0 (entries_of text)))
 
-  pub all_shifts : IsShifted old text a b c s
+  pub all_shifts : IsShifted old text a b c t
   all_shifts = record {
     entries = ap (map entry_by) spelled_are;
     links = links_are;

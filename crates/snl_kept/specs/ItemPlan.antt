@@ -1,9 +1,10 @@
 -- What is made of an edit inside one item that says to the others what it said.
-use Rattle.std.specs.Prelude.{◌≡◌, ℕ, ◌+◌, ◌≤◌, ◌⊎◌, Bool, true, false, List, [], ◌++◌, length, map, take, count_by, slice_get, Option, Some, None, is_some}
+use Rattle.std.specs.Prelude.{◌≡◌, ℕ, ◌+◌, ◌≤◌, ◌⊎◌, Bool, true, false, List, [], ◌++◌, length, map, take, slice_get, Option, Some, None, is_some}
 use Rattle.snl_cut.specs.Cut.{last_end}
 use Rattle.snl_lex.specs.declared.piece.Piece.{Piece}
+use Rattle.snl_lex.specs.declared.line_shift.LineShift.{LineShift}
 use Rattle.snl_lex.specs.declared.shift.Shift.{Shift}
-use Rattle.snl_lex.specs.Shift.{KeepsMarkers}
+use Rattle.snl_lex.specs.LineShift.{moved_line}
 use Rattle.snl_items.specs.Items.{item_ends}
 use Rattle.snl_syntax.specs.Outcome.{sound_tree}
 use Rattle.snl_scope.specs.Linked.{faults_of}
@@ -13,7 +14,7 @@ use Rattle.snl_scope.specs.Summaries.Tokens.{token_bytes}
 use Rattle.snl_scope.specs.declared.summaries.summary.ItemKind.{ItemKind}
 use Rattle.snl_scope.specs.declared.summaries.summary.Outline.{Outline}
 use Rattle.snl_tables.specs.declared.rows.Tables.{Tables}
-use Rattle.snl_tables.specs.Shifted.{shifted_tables}
+use Rattle.snl_tables.specs.Moved.{moved_tables}
 use Rattle.snl_check.specs.declared.rules.findings.Checked.{Checked}
 use Rattle.snl_check.specs.ShiftedAround.{is_plain, used_by, wakes_of}
 use Rattle.snl_kept.specs.declared.entries.Entry.{Entry}
@@ -46,9 +47,8 @@ use Rattle.snl_kept.specs.Warnings.{warns_in}
 abbrev pub outlines_kept : List Entry → List Outline
 outlines_kept entries = map (λ e. e.summary.outline) entries
 
--- An edit makes one item in the place of one, whose first two tokens are before the edit. All line markers are before it.
-pub record IsOneItem (old text : List ℕ) (start : ℕ) (c : Changes) : Type 0 where
-  pub markers : KeepsMarkers old text start
+-- An edit makes one item in the place of one, whose first two tokens are before the edit.
+pub record IsOneItem (old : List ℕ) (c : Changes) : Type 0 where
   pub one_made : length c.items.made.items ≡ 1
   pub one_gone : c.items.kept_front + 1 + c.items.kept_back ≡ length (item_ends old)
   pub head : last_end 0 (take c.items.kept_front (item_ends old)) + 2 ≤ c.tokens.edit.start
@@ -83,16 +83,16 @@ kinds_kept entries = map (λ e. e.summary.kind) entries
 
 -- What a text says after an edit inside item i: what it said, shifted, but for what is found at the item itself, this change of the rows,
 -- and what is found in the states by that.
-pub record IsAfterInside (old text : List ℕ) (s : Shift) (i : ℕ) (change : RowChange) : Type 0 where
+pub record IsAfterInside (old text : List ℕ) (t : LineShift) (i : ℕ) (change : RowChange) : Type 0 where
   pub outlines : outlines_in text ≡ outlines_in old
   pub faults : faults_of (links_in text) ≡ faults_of (links_in old)
   pub warns : warns_in text ≡ warns_in old
-  pub found : found_around s
+  pub found : found_around t.by
       (own_shown old (items_of old) i (own_item old i) ++ shown_if (warns_in old) (gone_of (tables_in old) change))
-      (own_shown text (items_of text) i (own_item text i) ++ shown_if (warns_in text) (come_of s (tables_in old) change))
+      (own_shown text (items_of text) i (own_item text i) ++ shown_if (warns_in text) (come_of t.by (tables_in old) change))
       (map finding_of (diagnostics_of old))
       ≡ in_order (shown text)
-  pub tables : tables_in text ≡ with_row (shifted_tables s (tables_in old)) change
+  pub tables : tables_in text ≡ with_row (moved_tables t.by (moved_line t) (tables_in old)) change
 
 -- What is made of the links, where they find what they found.
 pub record AreLinksInside (old text : List ℕ) (made : NewLinks) : Type 0 where
@@ -106,7 +106,7 @@ pub record IsMadeInside (old text : List ℕ) (start old_stop new_stop : ℕ) (c
   pub checks : AreChecksMade old text c.items.kept_front i.checks.vacant.items c.items.kept_back i.checks.made.items
   pub stirred : stirred_between old text start old_stop new_stop ≡ length i.checks.made.items
   pub diagnostics : i.diagnostics.items ≡ diagnostics_of text
-  pub tables : tables_in text ≡ with_row (shifted_tables i.shift (tables_in old)) i.change
+  pub tables : tables_in text ≡ with_row (moved_tables i.shift.by (moved_line i.shift) (tables_in old)) i.change
 
 -- The item that an edit replaces, by its number.
 pub record IsWas (old : List ℕ) (item : ℕ) (w : Was) : Type 0 where

@@ -4,7 +4,8 @@ use Rattle.snl_lex.specs.Made.{made_pieces}
 use Rattle.snl_lex.specs.PieceList.{IsChange}
 use Rattle.snl_items.specs.declared.item_list.ItemChange.{ItemChange}
 use Rattle.snl_items.specs.Changes.{AreShifted, IsItemChange, IsTokenChange}
-use Rattle.snl_tables.specs.Shifted.{shifted_tables}
+use Rattle.snl_lex.specs.LineShift.{moved_line}
+use Rattle.snl_tables.specs.Moved.{moved_tables}
 use Rattle.snl_kept.specs.declared.work.Work.{Work}
 use Rattle.snl_kept.specs.declared.entries.Entry.{Entry}
 use Rattle.snl_kept.specs.declared.ways.item_plan.ItemAnew.{ItemAnew}
@@ -62,7 +63,7 @@ pub record IsAnew (old text : List ℕ) (start old_stop new_stop : ℕ) (items :
 pub record IsItemAnew (old text : List ℕ) (start old_stop new_stop : ℕ) (items : ItemChange) (anew : ItemAnew) : Type 0 where
   pub remade : IsRemade old text items.kept_front items.kept_back anew.remade
   pub diagnostics : anew.diagnostics.items ≡ diagnostics_of text
-  pub tables : tables_in text ≡ with_row (shifted_tables anew.shift (tables_in old)) anew.change
+  pub tables : tables_in text ≡ with_row (moved_tables anew.shift.by (moved_line anew.shift) (tables_in old)) anew.change
   pub cost : IsCost old text start old_stop new_stop anew.work
 
 -- What is made anew is either of the two.

@@ -1,12 +1,14 @@
 -- What a text says after an edit inside one item that says to the others what it said.
-use Rattle.std.specs.Prelude.{◌≡◌, ℕ, ◌+◌, ◌-◌, ◌^◌, ◌<◌, ◌≤◌, ◌⊎◌, All, true, List, [], ◌∷◌, ◌++◌, length, map, take, drop, count_by, slice_get, Option, Some, option_map}
+use Rattle.std.specs.Prelude.{◌≡◌, ℕ, ◌+◌, ◌-◌, ◌<◌, ◌≤◌, ◌⊎◌, All, true, List, [], ◌∷◌, ◌++◌, length, map, take, drop, slice_get, Option, Some, option_map}
 use Rattle.std.specs.List.{AllByRecursion, cons_option}
 use Rattle.snl_cut.specs.Cut.{IsEdit, last_end}
 use Rattle.snl_lex.specs.declared.piece.Piece.{Piece}
+use Rattle.snl_lex.specs.declared.line_shift.LineShift.{LineShift}
 use Rattle.snl_lex.specs.declared.shift.Shift.{Shift}
 use Rattle.snl_lex.specs.PieceList.{spelled}
 use Rattle.snl_lex.specs.Pieces.{LiesIn, piece_end, tokens_of}
-use Rattle.snl_lex.specs.Shift.{IsShift, KeepsMarkers, shifted_piece}
+use Rattle.snl_lex.specs.LineShift.{IsLineShift, moved_line}
+use Rattle.snl_lex.specs.Shift.{shifted_piece}
 use Rattle.snl_items.specs.Changes.{IsShiftOf}
 use Rattle.snl_items.specs.Items.{item_ends}
 use Rattle.snl_scope.specs.declared.facts.LinkFault.{LinkFault}
@@ -14,7 +16,8 @@ use Rattle.snl_scope.specs.declared.summaries.summary.Outline.{Outline}
 use Rattle.snl_check.specs.declared.rules.findings.Checked.{Checked}
 use Rattle.snl_check.specs.Items.{outline_of_item}
 use Rattle.snl_check.specs.Shifted.{shifted_item, shifted_tokens}
-use Rattle.snl_check.specs.ShiftedAround.{ReplacesOne, is_plain}
+use Rattle.snl_check.specs.Moved.{ReplacesOneBy}
+use Rattle.snl_check.specs.ShiftedAround.{is_plain}
 use Rattle.snl_kept.specs.declared.entries.Entry.{Entry}
 use Rattle.snl_kept.specs.declared.found.findings.Finding.{Finding}
 use Rattle.snl_kept.specs.declared.ways.plan.Changes.{Changes}
@@ -27,6 +30,7 @@ use Rattle.snl_kept.specs.Planned.{AreEntriesMade, IsChanged}
 use Rattle.snl_kept.specs.Parts.{tokens_between}
 use Rattle.snl_kept.specs.Program.{ProgramItem, items_of, program_item}
 use Rattle.snl_kept.specs.Rechecked.{AreChecksMade, made_at, nones}
+use Rattle.snl_kept.specs.Shifted.{ShiftsLines}
 use Rattle.snl_kept.specs.Stirred.{stirred_between}
 
 -- The edit leaves a token of the old text: it is before the edit or after it.
@@ -41,7 +45,8 @@ pub record StaysItem (old text : List ℕ) (s : Shift) (x : ProgramItem) : Type 
 -- The items of a text before and after an edit inside one of them, which is between `front` and `back`: the others are shifted, and so
 -- are the first `head` tokens of that one.
 pub record ReplacesInside (old text : List ℕ) (s : Shift) (head : ℕ) (front : List ProgramItem) (x y : ProgramItem) (back : List ProgramItem) : Type 0 where
-  pub shift : IsShift old text s
+  pub until : ℕ
+  pub shift : IsLineShift old text (record { by = s; until = until })
   pub items_were : items_of old ≡ front ++ (x ∷ back)
   pub items_are : items_of text ≡ map (shifted_item s) front ++ (y ∷ map (shifted_item s) back)
   pub outlines : outlines_in text ≡ outlines_in old
@@ -75,13 +80,11 @@ abbrev pub DeclaresInHead : ℕ → Outline → Type 0
 DeclaresInHead head o = All (λ d. d.token < head) o.declares
 
 -- What is known, by tests, of an edit inside one item: `x` is what was kept of the item, `e` what is made of it.
-pub record IsInside (old text : List ℕ) (start old_stop new_stop : ℕ) (c : Changes) (s : Shift) (x e : Entry) : Type 0 where
+pub record IsInside (old text : List ℕ) (start old_stop new_stop : ℕ) (c : Changes) (t : LineShift) (x e : Entry) : Type 0 where
   pub changed : IsChanged old text start old_stop new_stop c
   pub edit : IsEdit old text start old_stop new_stop
-  pub by : IsShiftOf old text start old_stop new_stop s
-  pub old_short : length old < 2 ^ 32
-  pub short : length text < 2 ^ 32
-  pub markers : KeepsMarkers old text start
+  pub by : IsShiftOf old text start old_stop new_stop t.by
+  pub lines : ShiftsLines old text t
   -- one item is made in the place of one
   pub one_made : length c.items.made.items ≡ 1
   pub one_gone : c.items.kept_front + 1 + c.items.kept_back ≡ length (item_ends old)
@@ -105,12 +108,12 @@ abbrev pub own_check : List ℕ → List ℕ → ℕ → Option Checked
 own_check old text i = check_by (outlines_in old) i (spelled text (own_tokens text i))
 
 -- What such an edit does: the state is replaced inside, and no other item is to be checked.
-pub record IsOneReplaced (old text : List ℕ) (start old_stop new_stop : ℕ) (c : Changes) (s : Shift) (x e : Entry) : Type 0 where
+pub record IsOneReplaced (old text : List ℕ) (start old_stop new_stop : ℕ) (c : Changes) (t : LineShift) (x e : Entry) : Type 0 where
   pub front : List ProgramItem
   pub back : List ProgramItem
   pub number : length front ≡ c.items.kept_front
-  pub inside : ReplacesInside old text s (own_head old c) front (program_item old (own_tokens old c.items.kept_front)) (program_item text (own_tokens text c.items.kept_front)) back
-  pub one : ReplacesOne old text s (items_of old) (items_of text) c.items.kept_front
+  pub inside : ReplacesInside old text t.by (own_head old c) front (program_item old (own_tokens old c.items.kept_front)) (program_item text (own_tokens text c.items.kept_front)) back
+  pub one : ReplacesOneBy old text t.by (moved_line t) (items_of old) (items_of text) c.items.kept_front
   -- the edit of the tokens is among its own
   pub first : own_start old c.items.kept_front ≤ c.tokens.edit.start
   pub stop : c.tokens.edit.old_stop ≤ own_start old (c.items.kept_front + 1)

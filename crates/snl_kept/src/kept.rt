@@ -25,8 +25,8 @@ use crate::ways::shift::{shift_diagnostics, shift_of};
 use crate::work::Work;
 use snl_check::Tables;
 use snl_cut::{Count, OutOfMemory};
-use snl_items::{ItemList, Shifted, pieces_are_fresh};
-use snl_lex::{LineList, PieceList, Shift, TextEdit};
+use snl_items::{ItemList, pieces_are_fresh};
+use snl_lex::{LineList, LineShift, PieceList, TextEdit};
 use snl_lists::Ordered;
 use snl_scope::link;
 use std::alloc::Global;
@@ -88,7 +88,7 @@ impl Kept {
     }
 
     // Shifts what is kept, by an edit that shifts all that the text says. There is room for the places that it makes, so it can't fail.
-    fn shift(&mut self, edit: &TextEdit, changes: &Changes, lines: LineList, shift: Shift)
+    fn shift(&mut self, edit: &TextEdit, changes: &Changes, lines: LineList, shift: LineShift)
         requires kept { IsKept edit.now.old.now self.old }
         requires changes { IsChanged edit.now.old.now edit.now.text.now edit.now.start edit.now.old_stop edit.now.new_stop changes.now }
         requires lines { IsLineList edit.now.text.now lines.ends.items lines.markers.items lines.naming.items }
@@ -98,7 +98,7 @@ impl Kept {
     {
         self.lists.commit_places(edit, changes, lines);
         shift_diagnostics(&mut self.found, shift);
-        self.tables.shift(shift);
+        self.tables.shift_lines(shift);
     }
 
     // Puts what an edit inside one item makes anew in its place, and shifts the rest. There is room for it, so it can't fail.
@@ -119,7 +119,7 @@ impl Kept {
         } = anew;
         self.lists.commit(edit, changes, lines, remade);
         self.found = diagnostics;
-        self.tables.shift(shift);
+        self.tables.shift_lines(shift);
         change.put_in(&mut self.tables);
     }
 
@@ -165,13 +165,13 @@ impl Kept {
         edit: &TextEdit,
         changes: &Changes,
         lines: LineList,
-        shifted: Shifted,
+        shift: LineShift,
         lexed: u64,
     ) -> Result<Work, OutOfMemory>
         requires kept { IsKept edit.now.old.now self.old }
         requires changes { IsChanged edit.now.old.now edit.now.text.now edit.now.start edit.now.old_stop edit.now.new_stop changes.now }
         requires lines { IsLineList edit.now.text.now lines.ends.items lines.markers.items lines.naming.items }
-        requires shifted { ShiftsAll edit.now.old.now edit.now.text.now edit.now.start edit.now.old_stop edit.now.new_stop shifted }
+        requires shift { ShiftsAll edit.now.old.now edit.now.text.now edit.now.start edit.now.old_stop edit.now.new_stop shift }
         requires lexed { lexed ≡ fresh_pieces_between edit.now.old.now edit.now.text.now edit.now.start edit.now.old_stop edit.now.new_stop }
         ensures kept { OnOk result (IsKept edit.now.text.now self.new) }
         ensures cost { IfOk result (IsCost edit.now.old.now edit.now.text.now edit.now.start edit.now.old_stop edit.now.new_stop) }
@@ -179,7 +179,7 @@ impl Kept {
     {
         edit_shifts_all();
         self.lists.reserve_places(changes)?;
-        self.shift(edit, changes, lines, shifted.by);
+        self.shift(edit, changes, lines, shift);
         Ok(Work {
             lexed,
             parsed: 0,
@@ -234,7 +234,7 @@ impl Kept {
         let lines = self.lists.lines.after(alloc, edit, &changes.pieces)?;
         let lexed = lexed.ticks();
         match shift_of(&self.lists, &self.found, edit, &changes, &lines) {
-            Some(shifted) => self.edit_by_shift(edit, &changes, lines, shifted, lexed),
+            Some(shift) => self.edit_by_shift(edit, &changes, lines, shift, lexed),
             None => self.edit_anew(edit, &changes, lines, lexed),
         }
     }

@@ -1,11 +1,9 @@
 -- How an edit shifts what is outside the bytes that it replaces: offsets, pieces and lines.
-use Rattle.std.specs.Prelude.{◌≡◌, ℕ, ◌+◌, ◌-◌, ◌^◌, ◌<◌, ◌≤◌, ◌⊎◌, All, if◌then◌else◌, List, length, min, nat_lt, count_by}
+use Rattle.std.specs.Prelude.{◌≡◌, ℕ, ◌+◌, ◌-◌, ◌^◌, ◌<◌, ◌≤◌, ◌⊎◌, if◌then◌else◌, List, length, min, nat_lt, count_by}
 use Rattle.snl_cut.specs.Cut.{IsEdit}
-use Rattle.snl_lex.specs.declared.line_list.Marker.{Marker}
 use Rattle.snl_lex.specs.declared.lines.Line.{Line}
 use Rattle.snl_lex.specs.declared.piece.Piece.{Piece}
 use Rattle.snl_lex.specs.declared.shift.Shift.{Shift}
-use Rattle.snl_lex.specs.LineList.{naming_markers, setting_markers}
 use Rattle.snl_lex.specs.Lines.{is_marker, lines_between}
 use Rattle.snl_lex.specs.PieceList.{piece_kinds}
 
@@ -33,23 +31,13 @@ IsOutside old s offset = (offset < s.start) ⊎ ((s.old_stop ≤ offset) × (off
 abbrev pub marker_count : List ℕ → ℕ
 marker_count text = count_by is_marker (piece_kinds text)
 
--- A line ends between a marker and a place: so the marker counts for all that comes after the place, unless a later one does.
-abbrev pub CountsAfter : List ℕ → ℕ → Marker → Type 0
-CountsAfter text place m = 0 < lines_between text m.end place
-
--- The line markers that count are the same in both texts, and all of them count before a place.
-pub record KeepsMarkers (old text : List ℕ) (place : ℕ) : Type 0 where
-  pub setting : setting_markers text ≡ setting_markers old
-  pub naming : naming_markers text ≡ naming_markers old
-  pub setting_before : All (CountsAfter old place) (setting_markers old)
-  pub naming_before : All (CountsAfter old place) (naming_markers old)
-
--- An edit of a text, with how many line ends it takes out and puts in. It is not at the beginning of the text, and after all line markers of both texts.
+-- An edit of a text, with how many line ends it takes out and puts in. It is not at the beginning of the text, and neither text has line markers.
 pub record IsShift (old text : List ℕ) (s : Shift) : Type 0 where
   pub edit : IsEdit old text s.start s.old_stop s.new_stop
   pub some_before : 0 < s.start
   pub old_lines : s.old_lines ≡ lines_between old s.start s.old_stop
   pub new_lines : s.new_lines ≡ lines_between text s.start s.new_stop
-  pub markers : KeepsMarkers old text s.start
+  pub no_old_marker : marker_count old ≡ 0
+  pub no_marker : marker_count text ≡ 0
   pub old_short : length old < 2 ^ 32
   pub short : length text < 2 ^ 32

@@ -8,6 +8,7 @@ mod cut;
 mod kind;
 mod laws;
 mod line_list;
+mod line_shift;
 mod lines;
 mod listed_tokens;
 mod numbers;
@@ -25,6 +26,7 @@ pub use laws::{
     first_piece_reaches, kept_as_spelled, pieces_as_listed, text_in_pieces, tokens_have_kinds,
 };
 pub use line_list::{LineList, Marker};
+pub use line_shift::{LineShift, lines_move};
 pub use lines::{Line, line_of};
 pub use listed_tokens::tokens_among;
 pub use numbers::int_value;

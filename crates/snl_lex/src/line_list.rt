@@ -6,10 +6,9 @@ ghost use Rattle.snl_lex.specs.Lines.{line_at, marker_number};
 ghost use Rattle.snl_lex.specs.Made.{made_pieces};
 ghost use Rattle.snl_lex.specs.PieceList.{IsChange, listed_pieces};
 ghost use Rattle.snl_lex.specs.Pieces.{LiesIn, bytes_at, pieces_of};
-ghost use Rattle.snl_lex.specs.Shift.{CountsAfter, KeepsMarkers};
 ghost use Rattle.snl_lists.specs.Moves.{moved, replaced_and_moved};
 ghost use Rattle.std.specs.List.Sorted.{IsNonDecreasing, IsNonDecreasingBy};
-ghost use Rattle.std.specs.Prelude.{◌≡◌, ℕ, ◌+◌, ◌-◌, ◌^◌, ◌<◌, ◌≤◌, ◌++◌, [], ◌∷◌, All, IfOk, IfSome, IsTrue, OnOk, None, Some, count_by, drop, if◌then◌else◌, is_some, length, map, take, nat_lt, slice_index, vec_capacity, vec_len};
+ghost use Rattle.std.specs.Prelude.{◌≡◌, ℕ, ◌+◌, ◌-◌, ◌^◌, ◌<◌, ◌≤◌, ◌++◌, [], ◌∷◌, All, IfOk, IfSome, OnOk, None, Some, count_by, drop, if◌then◌else◌, is_some, length, map, take, nat_lt, slice_index, vec_capacity, vec_len};
 
 use crate::lines::{Line, marker_file, marker_number};
 use crate::piece::{Class, Piece};
@@ -255,50 +254,6 @@ fn list_made(
     Ok(())
 }
 
-// Whether a marker ends at a line's end before a place.
-#[tactic(auto, using(crate::proofs::ShiftedLines::line_here))]
-fn counts_after(text: &[u8], place: usize, marker: Marker) -> bool
-    requires { place ≤ length text.now }
-    ensures { IsTrue result → CountsAfter text.now place marker }
-{
-    if marker.end < place {
-        text[marker.end] == b'\n'
-    } else {
-        false
-    }
-}
-
-// Whether all markers do.
-fn count_after(text: &[u8], place: usize, markers: &[Marker]) -> bool
-    requires { place ≤ length text.now }
-    ensures { IsTrue result → All (CountsAfter text.now place) markers.now }
-{
-    markers
-        .iter()
-        .all(|marker| counts_after(text, place, *marker))
-}
-
-fn is_same_marker(one: &Marker, other: &Marker) -> bool
-    ensures { IsTrue result → one.now ≡ other.now }
-{
-    one == other
-}
-
-// Whether two lists have the same markers.
-fn same_markers(ones: &[Marker], others: &[Marker]) -> bool
-    ensures { IsTrue result → ones.now ≡ others.now }
-{
-    if ones.len() != others.len() {
-        return false;
-    }
-    for (number, one) in ones.iter().enumerate() {
-        if !is_same_marker(one, &others[number]) {
-            return false;
-        }
-    }
-    true
-}
-
 impl LineList {
     /// The lines of a text.
     pub fn of(alloc: Global, text: &[u8], pieces: &[Piece]) -> Result<LineList, OutOfMemory>
@@ -318,24 +273,6 @@ impl LineList {
             markers,
             naming,
         })
-    }
-
-    /// Whether the line markers that count are the same after an edit, of which these are the lines, and all are on lines before it.
-    pub fn keeps_markers(&self, after: &LineList, edit: &TextEdit) -> bool
-        requires before { IsLineList edit.now.old.now self.now.ends.items self.now.markers.items self.now.naming.items }
-        requires after { IsLineList edit.now.text.now after.now.ends.items after.now.markers.items after.now.naming.items }
-        ensures { IsTrue result → KeepsMarkers edit.now.old.now edit.now.text.now edit.now.start }
-    {
-        if !same_markers(&after.markers, &self.markers) {
-            return false;
-        }
-        if !same_markers(&after.naming, &self.naming) {
-            return false;
-        }
-        if !count_after(edit.old, edit.start, &self.markers) {
-            return false;
-        }
-        count_after(edit.old, edit.start, &self.naming)
     }
 
     /// What an edit makes of the lines: the line ends among the new bytes, and the markers among the made pieces.

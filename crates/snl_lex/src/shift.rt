@@ -78,7 +78,7 @@ impl Shift {
     }
 }
 
-/// After all line markers of a text, an edit shifts lines by the line ends that it takes out and puts in.
+/// Where there are no line markers, an edit shifts lines by the line ends that it takes out and puts in.
 pub fn lines_shift()
     ensures { (old text : List ℕ) (s : Shift) (offset : ℕ) → IsShift old text s → IsOutside old s offset
         → line_at text (shifted_offset s offset) ≡ shifted_line s offset (line_at old offset) }

@@ -1,3 +1,4 @@
 pub mod Marks
 pub mod WakeSets
 pub mod Shifted
+pub mod Moved

@@ -9,6 +9,7 @@ mod rows;
 mod set_marks;
 mod set_wake;
 mod shift;
+mod shift_lines;
 mod wake_sets;
 
 pub use number_set::NumberSet;

@@ -98,7 +98,7 @@ impl Shifts for SetRow {
     }
 }
 
-fn shift_any(span: &mut Option<Span>, shift: Shift)
+pub(crate) fn shift_any(span: &mut Option<Span>, shift: Shift)
     ensures { span.new ≡ option_map (rows.shifted_span shift) span.old }
 {
     if let Some(span) = span {

@@ -3,10 +3,12 @@
 
 ghost use Rattle.std.specs.Prelude.{◌≡◌, ◌<◌, ℕ, IfOk, List, length, true};
 ghost use Rattle.std.specs.List.{list_any};
+ghost use Rattle.snl_lex.specs.declared.lines.Line.{Line};
 ghost use Rattle.snl_lex.specs.declared.shift.Shift.{Shift};
 ghost use Rattle.snl_walk.specs.Tokens.{IsSource};
 ghost use Rattle.snl_check.specs.Conditions.{uses_in};
 ghost use Rattle.snl_check.specs.Items.{ProgramItem, outlines_of, tokens_in};
+ghost use Rattle.snl_check.specs.Moved.{ReplacesOneBy};
 ghost use Rattle.snl_check.specs.Numbered.{Tells, has_subscript};
 ghost use Rattle.snl_check.specs.ShiftedAround.{ReplacesOne};
 ghost use Rattle.snl_check.specs.Spans.{AreRead};
@@ -47,6 +49,34 @@ fn numbers_for(
     Ok(numbers)
 }
 
+/// What wakes a state up, of which an edit changed the inside, whatever became of lines: `own` are its tokens after the edit, and `uses`
+/// those of names in its conditions. The tables are those before the edit: it changed no channel.
+pub fn wake_inside(
+    alloc: Global,
+    text: &[u8],
+    own: &[Piece],
+    links: &Links,
+    item: usize,
+    uses: &[WakeUse],
+    tables: &Tables,
+) -> Result<Vec<WakeUp>, OutOfMemory>
+    requires { IsSource text.now own.now }
+    ensures { (old : List ℕ) (s : Shift) (line : ℕ → Line → Line) (xs ys : List ProgramItem) → 0 < s.start → AreRead old xs → ReplacesOneBy old text.now s line xs ys item
+        → tables.now ≡ tables_of old xs → links.now.outlines ≡ outlines_of old xs → own.now ≡ tokens_in ys item → uses.now ≡ uses_in text.now ys item
+        → IfOk result (λ wake. wake.items ≡ wake_of text.now ys (outlines_of old xs) item) }
+{
+    names_are_tokens();
+    same_spelling_same_summary();
+    let source = Source {
+        text,
+        tokens: own,
+        alloc,
+    };
+    let numbers = numbers_for(alloc, uses, tables)?;
+    let wake = wakes_by(&source, links, &numbers, item, uses)?;
+    Ok(wake)
+}
+
 /// What wakes a state up, of which an edit changed the inside: `own` are its tokens after the edit, and `uses` those of names in its
 /// conditions. The tables are those before the edit: it changed no channel.
 pub fn wake_after(
@@ -63,14 +93,5 @@ pub fn wake_after(
         → tables.now ≡ tables_of old xs → links.now.outlines ≡ outlines_of old xs → own.now ≡ tokens_in ys item → uses.now ≡ uses_in text.now ys item
         → IfOk result (λ wake. wake.items ≡ wake_of text.now ys (outlines_of old xs) item) }
 {
-    names_are_tokens();
-    same_spelling_same_summary();
-    let source = Source {
-        text,
-        tokens: own,
-        alloc,
-    };
-    let numbers = numbers_for(alloc, uses, tables)?;
-    let wake = wakes_by(&source, links, &numbers, item, uses)?;
-    Ok(wake)
+    wake_inside(alloc, text, own, links, item, uses, tables)
 }

@@ -1,17 +1,17 @@
 //! The law of an edit that shifts all that a text says. A function here does nothing: its contract is the law.
 
-ghost use Rattle.snl_items.specs.declared.shifted.Shifted.{Shifted};
+ghost use Rattle.snl_lex.specs.declared.line_shift.LineShift.{LineShift};
 ghost use Rattle.snl_kept.specs.Shifted.{IsShifted, ShiftsAll};
 ghost use Rattle.std.specs.Prelude.{ℕ, List};
 
-use snl_check::{faults_stand_in_tokens, tables_shift};
-use snl_lex::{lines_shift, text_in_pieces};
+use snl_check::{faults_stand_in_tokens, tables_move};
+use snl_lex::{lines_move, text_in_pieces};
 use snl_scope::{same_spelling_same_summary, views_told_apart};
 use snl_syntax::{outcome_told, same_spelling_same_tree};
 
 /// Where an edit shifts all that a text says, the new text says the same, shifted.
 pub fn edit_shifts_all()
-    ensures { (old text : List ℕ) (start old_stop new_stop : ℕ) (t : Shifted) → ShiftsAll old text start old_stop new_stop t → IsShifted old text start old_stop new_stop t.by }
+    ensures { (old text : List ℕ) (start old_stop new_stop : ℕ) (t : LineShift) → ShiftsAll old text start old_stop new_stop t → IsShifted old text start old_stop new_stop t }
 {
     text_in_pieces();
     outcome_told();
@@ -19,6 +19,6 @@ pub fn edit_shifts_all()
     same_spelling_same_summary();
     faults_stand_in_tokens();
     views_told_apart();
-    lines_shift();
-    tables_shift();
+    lines_move();
+    tables_move();
 }

@@ -18,6 +18,7 @@ ghost use Rattle.snl_kept.specs.OwnLinks.{AreOwnLinks};
 ghost use Rattle.snl_kept.specs.Planned.{AreEntriesMade, IsChanged, IsItemAnew};
 ghost use Rattle.snl_kept.specs.Rechecked.{made_at, nones};
 ghost use Rattle.snl_kept.specs.ReplacedItem.{IsInside, IsOneReplaced, own_head};
+ghost use Rattle.snl_kept.specs.Shifted.{ShiftsLines};
 ghost use Rattle.snl_kept.specs.Warnings.{warns_in};
 ghost use Rattle.snl_kept.specs.Tables.{tables_in};
 
@@ -45,7 +46,7 @@ use crate::ways::set_findings::few_unreached;
 use crate::work::Work;
 use snl_check::{Checked, Tables, check_item};
 use snl_cut::{Count, OutOfMemory};
-use snl_lex::{LineList, Piece, Shift, TextEdit, text_in_pieces};
+use snl_lex::{LineList, LineShift, Piece, TextEdit, text_in_pieces};
 use snl_scope::{Links, same_spelling_same_summary};
 use snl_syntax::{outcome_told, same_spelling_same_tree};
 use std::alloc::Global;
@@ -56,7 +57,7 @@ use std::alloc::Global;
 pub struct ItemAnew {
     pub remade: Remade,
     pub diagnostics: Vec<Diagnostic>,
-    pub shift: Shift,
+    pub shift: LineShift,
     pub change: RowChange,
     pub work: Work,
 }
@@ -74,7 +75,7 @@ pub struct Was<'a> {
 pub struct Inside {
     pub checks: OwnChecks,
     pub diagnostics: Vec<Diagnostic>,
-    pub shift: Shift,
+    pub shift: LineShift,
     pub change: RowChange,
 }
 
@@ -135,10 +136,11 @@ fn own_checks(
 }
 
 // The edit is inside the item. This does nothing: its contract is the law of such an edit.
-fn replaces_inside(edit: &TextEdit, changes: &Changes, shift: Shift, was: Was, made: &Entry)
-    requires shift { IsShiftOf edit.now.old.now edit.now.text.now edit.now.start edit.now.old_stop edit.now.new_stop shift }
+fn replaces_inside(edit: &TextEdit, changes: &Changes, shift: LineShift, was: Was, made: &Entry)
+    requires by { IsShiftOf edit.now.old.now edit.now.text.now edit.now.start edit.now.old_stop edit.now.new_stop shift.by }
+    requires shift { ShiftsLines edit.now.old.now edit.now.text.now shift }
     requires changes { IsChanged edit.now.old.now edit.now.text.now edit.now.start edit.now.old_stop edit.now.new_stop changes.now }
-    requires one { IsOneItem edit.now.old.now edit.now.text.now edit.now.start changes.now }
+    requires one { IsOneItem edit.now.old.now changes.now }
     requires was { IsWas edit.now.old.now changes.now.items.kept_front was }
     requires alone { AreEntriesMade edit.now.old.now edit.now.text.now changes.now.items.kept_front (made.now ∷ []) changes.now.items.kept_back }
     requires says { SaysWhatItSaid edit.now.old.now (own_head edit.now.old.now changes.now) changes.now.items.kept_front was made.now }
@@ -157,6 +159,7 @@ fn made_inside(
     edit: &TextEdit,
     changes: &Changes,
     lines: &LineList,
+    shift: LineShift,
     own: &OwnTokens,
     was: Was,
     made: &Entry,
@@ -169,7 +172,9 @@ fn made_inside(
     requires found { found.now ≡ diagnostics_of edit.now.old.now }
     requires changes { IsChanged edit.now.old.now edit.now.text.now edit.now.start edit.now.old_stop edit.now.new_stop changes.now }
     requires lines { IsLineList edit.now.text.now lines.now.ends.items lines.now.markers.items lines.now.naming.items }
-    requires one { IsOneItem edit.now.old.now edit.now.text.now edit.now.start changes.now }
+    requires by { IsShiftOf edit.now.old.now edit.now.text.now edit.now.start edit.now.old_stop edit.now.new_stop shift.by }
+    requires shift { ShiftsLines edit.now.old.now edit.now.text.now shift }
+    requires one { IsOneItem edit.now.old.now changes.now }
     requires own { AreOwnTokens edit.now.old.now edit.now.text.now changes.now.items.kept_front own.now }
     requires was { IsWas edit.now.old.now changes.now.items.kept_front was }
     requires made { made.now ≡ entry_by (spelled edit.now.text.now own.now.is.items) }
@@ -191,14 +196,13 @@ fn made_inside(
     same_spelling_same_tree();
     same_spelling_same_summary();
     let item = changes.items.kept_front;
-    let shift = Shift::of(edit);
     replaces_inside(edit, changes, shift, was, made);
     let check = own_check(alloc, edit.text, &own.is, made, &lists.links, item, work)?;
     let change = own_change(
         alloc, lists, tables, edit, &own.is, made, item, touched, &check,
     )?;
     let diagnostics = own_diagnostics(
-        alloc, lists, tables, found, edit, lines, shift, own, item, was, made, &check, &change,
+        alloc, lists, tables, found, edit, lines, shift.by, own, item, was, made, &check, &change,
     )?;
     let checks = own_checks(alloc, changes, item, check)?;
     Ok(Inside {
@@ -223,7 +227,7 @@ fn item_that_was<'a>(lists: &'a Lists, text: &[u8], item: usize) -> Option<Was<'
 // How many tokens of the item in the place of which an edit makes another are before those that it replaces.
 fn own_head(lists: &Lists, edit: &TextEdit, changes: &Changes) -> usize
     requires lists { IsListed edit.now.old.now lists.now }
-    requires one { IsOneItem edit.now.old.now edit.now.text.now edit.now.start changes.now }
+    requires one { IsOneItem edit.now.old.now changes.now }
     ensures { result ≡ own_head edit.now.old.now changes.now }
 {
     let first = lists.items.start_of(changes.items.kept_front);
@@ -297,6 +301,7 @@ pub fn inside_of(
     edit: &TextEdit,
     changes: &Changes,
     lines: &LineList,
+    shift: LineShift,
     own: &OwnTokens,
     made: &Entry,
     work: &mut Count,
@@ -306,7 +311,9 @@ pub fn inside_of(
     requires found { found.now ≡ diagnostics_of edit.now.old.now }
     requires changes { IsChanged edit.now.old.now edit.now.text.now edit.now.start edit.now.old_stop edit.now.new_stop changes.now }
     requires lines { IsLineList edit.now.text.now lines.now.ends.items lines.now.markers.items lines.now.naming.items }
-    requires one { IsOneItem edit.now.old.now edit.now.text.now edit.now.start changes.now }
+    requires by { IsShiftOf edit.now.old.now edit.now.text.now edit.now.start edit.now.old_stop edit.now.new_stop shift.by }
+    requires shift { ShiftsLines edit.now.old.now edit.now.text.now shift }
+    requires one { IsOneItem edit.now.old.now changes.now }
     requires own { AreOwnTokens edit.now.old.now edit.now.text.now changes.now.items.kept_front own.now }
     requires made { made.now ≡ entry_by (spelled edit.now.text.now own.now.is.items) }
     requires alone { AreEntriesMade edit.now.old.now edit.now.text.now changes.now.items.kept_front (made.now ∷ []) changes.now.items.kept_back }
@@ -329,7 +336,8 @@ pub fn inside_of(
         return Ok(None);
     };
     let inside = made_inside(
-        alloc, lists, tables, found, edit, changes, lines, own, was, made, touched, &links, work,
+        alloc, lists, tables, found, edit, changes, lines, shift, own, was, made, touched, &links,
+        work,
     )?;
     Ok(Some(ItemPlan { inside, links }))
 }

@@ -3,21 +3,24 @@
 
 ghost use Rattle.std.specs.Prelude.{◌≡◌, ◌+◌, ◌<◌, ◌≤◌, [], ◌∷◌, IfOk, IfSome, IsTrue, length, take};
 ghost use Rattle.snl_cut.specs.Cut.{last_end, ticked};
+ghost use Rattle.snl_items.specs.Changes.{IsShiftOf};
 ghost use Rattle.snl_lex.specs.LineList.{IsLineList};
 ghost use Rattle.snl_lex.specs.PieceList.{spelled};
 ghost use Rattle.snl_kept.specs.Entries.{entry_by};
 ghost use Rattle.snl_kept.specs.ItemPlan.{AreOwnTokens, IsOneItem};
 ghost use Rattle.snl_kept.specs.Kept.{IsListed};
 ghost use Rattle.snl_kept.specs.Planned.{AreEntriesMade, IsChanged};
+ghost use Rattle.snl_kept.specs.Shifted.{ShiftsLines};
 
 use crate::entries::{Entry, entry_of};
 use crate::found::program::items_end_in_order;
 use crate::lists::Lists;
 use crate::shared::Shared;
 use crate::ways::plan::Changes;
+use crate::ways::shift::lines_of;
 use snl_cut::{Count, OutOfMemory};
 use snl_items::{own_tokens_after, own_tokens_before};
-use snl_lex::{LineList, Piece, TextEdit, text_in_pieces};
+use snl_lex::{LineList, LineShift, Piece, Shift, TextEdit, text_in_pieces};
 use std::alloc::Global;
 
 /// The tokens of an item before and after an edit.
@@ -36,11 +39,11 @@ fn head_is_before(lists: &Lists, changes: &Changes, item: usize) -> bool
     start >= 2 && lists.items.start_of(item) <= start - 2
 }
 
-/// Whether an edit makes one item in the place of one, whose first two tokens are before the edit, as all line markers are.
-pub fn replaces_one(lists: &Lists, edit: &TextEdit, changes: &Changes, lines: &LineList) -> bool
-    requires lists { IsListed edit.now.old.now lists.now }
-    requires lines { IsLineList edit.now.text.now lines.now.ends.items lines.now.markers.items lines.now.naming.items }
-    ensures { IsTrue result → IsOneItem edit.now.old.now edit.now.text.now edit.now.start changes.now }
+// Whether an edit makes one item in the place of one, whose first two tokens are before the edit.
+fn makes_one(lists: &Lists, changes: &Changes) -> bool
+    ensures made { IsTrue result → length changes.now.items.made.items ≡ 1 }
+    ensures gone { IsTrue result → changes.now.items.kept_front + 1 + changes.now.items.kept_back ≡ length lists.now.items.ends.items }
+    ensures head { IsTrue result → last_end 0 (take changes.now.items.kept_front lists.now.items.ends.items) + 2 ≤ changes.now.tokens.edit.start }
 {
     let items = &changes.items;
     let item = items.kept_front;
@@ -49,7 +52,25 @@ pub fn replaces_one(lists: &Lists, edit: &TextEdit, changes: &Changes, lines: &L
         && items.kept_back == count - item - 1
         && items.made.len() == 1
         && head_is_before(lists, changes, item)
-        && lists.lines.keeps_markers(lines, edit)
+}
+
+/// How an edit shifts lines that makes one item in the place of one, whose first two tokens are before the edit, if it leaves the line markers.
+pub fn replaces_one(
+    lists: &Lists,
+    edit: &TextEdit,
+    changes: &Changes,
+    lines: &LineList,
+) -> Option<LineShift>
+    requires lists { IsListed edit.now.old.now lists.now }
+    requires lines { IsLineList edit.now.text.now lines.now.ends.items lines.now.markers.items lines.now.naming.items }
+    ensures by { IfSome result (λ t. IsShiftOf edit.now.old.now edit.now.text.now edit.now.start edit.now.old_stop edit.now.new_stop t.by) }
+    ensures lines { IfSome result (ShiftsLines edit.now.old.now edit.now.text.now) }
+    ensures one { IfSome result (λ t. IsOneItem edit.now.old.now changes.now) }
+{
+    if !makes_one(lists, changes) {
+        return None;
+    }
+    lines_of(Shift::of(edit), lists, edit, lines)
 }
 
 /// The tokens of the item in the place of which an edit makes one, before and after it.
@@ -61,7 +82,7 @@ pub fn own_tokens(
 ) -> Result<OwnTokens, OutOfMemory>
     requires lists { IsListed edit.now.old.now lists.now }
     requires changes { IsChanged edit.now.old.now edit.now.text.now edit.now.start edit.now.old_stop edit.now.new_stop changes.now }
-    requires one { IsOneItem edit.now.old.now edit.now.text.now edit.now.start changes.now }
+    requires one { IsOneItem edit.now.old.now changes.now }
     ensures own { IfOk result (AreOwnTokens edit.now.old.now edit.now.text.now changes.now.items.kept_front) }
 {
     items_end_in_order();
@@ -99,7 +120,7 @@ pub fn made_alone(
     work: &mut Count,
 ) -> Result<Vec<Shared<Entry>>, OutOfMemory>
     requires changes { IsChanged edit.now.old.now edit.now.text.now edit.now.start edit.now.old_stop edit.now.new_stop changes.now }
-    requires one { IsOneItem edit.now.old.now edit.now.text.now edit.now.start changes.now }
+    requires one { IsOneItem edit.now.old.now changes.now }
     requires own { AreOwnTokens edit.now.old.now edit.now.text.now changes.now.items.kept_front own.now }
     ensures one { IfOk result (λ es. es.items ≡ entry_by (spelled edit.now.text.now own.now.is.items) ∷ []) }
     ensures made { IfOk result (λ es. AreEntriesMade edit.now.old.now edit.now.text.now changes.now.items.kept_front es.items changes.now.items.kept_back) }

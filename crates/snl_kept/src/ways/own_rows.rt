@@ -19,7 +19,7 @@ use crate::ways::numbers::{row_of, set_number};
 use crate::ways::row_change::{RowChange, Touched};
 use crate::ways::set_members::set_members;
 use snl_check::{
-    Checked, StateBody, StateMark, Tables, WakeUp, WakeUse, state_body, state_marks, wake_after,
+    Checked, StateBody, StateMark, Tables, WakeUp, WakeUse, state_body, state_marks, wake_inside,
 };
 use snl_cut::OutOfMemory;
 use snl_lex::{Piece, TextEdit};
@@ -87,7 +87,7 @@ fn own_wake(
     same_spelling_same_tree();
     same_spelling_same_summary();
     let uses = wake_uses(check);
-    let wake = wake_after(alloc, edit.text, own, links, item, uses, tables)?;
+    let wake = wake_inside(alloc, edit.text, own, links, item, uses, tables)?;
     Ok(Items::from_vec(wake))
 }
 

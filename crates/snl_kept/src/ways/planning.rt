@@ -7,9 +7,11 @@ ghost use Rattle.snl_kept.specs.Diagnostics.{diagnostics_of};
 ghost use Rattle.snl_kept.specs.Kept.{IsListed, SameLists};
 ghost use Rattle.snl_kept.specs.ItemPlan.{IsOneItem};
 ghost use Rattle.snl_kept.specs.Planned.{AreEntriesMade, HasRoom, IsAnew, IsChanged, IsMade, work_of};
+ghost use Rattle.snl_items.specs.Changes.{IsShiftOf};
 ghost use Rattle.snl_items.specs.Fresh.{fresh_items_between, fresh_pieces_between};
 ghost use Rattle.snl_lex.specs.LineList.{IsLineList};
 ghost use Rattle.snl_lex.specs.Pieces.{tokens_of};
+ghost use Rattle.snl_kept.specs.Shifted.{ShiftsLines};
 ghost use Rattle.snl_kept.specs.Tables.{tables_in};
 
 use crate::entries::Entry;
@@ -22,7 +24,7 @@ use crate::ways::plan::{Anew, Changes, anew_by, made_entries};
 use crate::work::Work;
 use snl_check::Tables;
 use snl_cut::{Count, OutOfMemory};
-use snl_lex::{LineList, Piece, TextEdit};
+use snl_lex::{LineList, LineShift, Piece, TextEdit};
 use std::alloc::Global;
 
 /// What is made anew by an edit that changes what some item says.
@@ -123,6 +125,7 @@ fn made_of_one(
     edit: &TextEdit,
     changes: &Changes,
     lines: &LineList,
+    shift: LineShift,
     lexed: u64,
 ) -> Result<Made, OutOfMemory>
     requires lists { IsListed edit.now.old.now lists.now }
@@ -130,7 +133,9 @@ fn made_of_one(
     requires found { found.now ≡ diagnostics_of edit.now.old.now }
     requires changes { IsChanged edit.now.old.now edit.now.text.now edit.now.start edit.now.old_stop edit.now.new_stop changes.now }
     requires lines { IsLineList edit.now.text.now lines.now.ends.items lines.now.markers.items lines.now.naming.items }
-    requires one { IsOneItem edit.now.old.now edit.now.text.now edit.now.start changes.now }
+    requires by { IsShiftOf edit.now.old.now edit.now.text.now edit.now.start edit.now.old_stop edit.now.new_stop shift.by }
+    requires shift { ShiftsLines edit.now.old.now edit.now.text.now shift }
+    requires one { IsOneItem edit.now.old.now changes.now }
     requires lexed { lexed ≡ fresh_pieces_between edit.now.old.now edit.now.text.now edit.now.start edit.now.old_stop edit.now.new_stop }
     ensures { IfOk result (IsMade edit.now.old.now edit.now.text.now edit.now.start edit.now.old_stop edit.now.new_stop changes.now.items) }
 {
@@ -146,6 +151,7 @@ fn made_of_one(
         edit,
         changes,
         lines,
+        shift,
         &own,
         made[0].get(),
         &mut checked,
@@ -186,8 +192,10 @@ pub fn made_by(
     requires lexed { lexed ≡ fresh_pieces_between edit.now.old.now edit.now.text.now edit.now.start edit.now.old_stop edit.now.new_stop }
     ensures { IfOk result (IsMade edit.now.old.now edit.now.text.now edit.now.start edit.now.old_stop edit.now.new_stop changes.now.items) }
 {
-    if replaces_one(lists, edit, changes, lines) {
-        return made_of_one(alloc, lists, tables, found, edit, changes, lines, lexed);
+    if let Some(shift) = replaces_one(lists, edit, changes, lines) {
+        return made_of_one(
+            alloc, lists, tables, found, edit, changes, lines, shift, lexed,
+        );
     }
     let anew = anew_among_all(alloc, lists, edit, changes, lines, lexed)?;
     Ok(Made::Whole(anew))

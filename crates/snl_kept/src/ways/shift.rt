@@ -1,20 +1,25 @@
-//! Edits that shift all that a text says: the tokens are where they were or shifted, and so are the lines and what is found. What is
+//! Edits that shift all that a text says: the tokens are where they were or shifted, and so is what is found, with its lines. What is
 //! kept of the old text and what an edit makes of its parts come in; whether it is such an edit goes out.
 #![tactic(auto)]
 
-ghost use Rattle.std.specs.Prelude.{◌≡◌, All, IfSome, IsTrue, map};
+ghost use Rattle.std.specs.Prelude.{◌≡◌, ◌<◌, ◌≤◌, All, IfSome, IsTrue, drop, map, nat_eq, take};
+ghost use Rattle.std.specs.List.{list_any};
+ghost use Rattle.snl_items.specs.Changes.{IsShiftOf};
 ghost use Rattle.snl_lex.specs.LineList.{IsLineList};
+ghost use Rattle.snl_lex.specs.Pieces.{tokens_of};
 ghost use Rattle.snl_lex.specs.Shift.{IsOutside};
 ghost use Rattle.snl_kept.specs.Diagnostics.{diagnostics_of};
 ghost use Rattle.snl_kept.specs.Kept.{IsListed};
 ghost use Rattle.snl_kept.specs.Planned.{IsChanged};
-ghost use Rattle.snl_kept.specs.Shifted.{PartsNoItem, ShiftsAll, shifted_diagnostic};
+ghost use Rattle.snl_kept.specs.Shifted.{AreOnOneSide, PartsNoItem, ShiftsAll, ShiftsLines, shifted_diagnostic};
 
 use crate::found::findings::Diagnostic;
 use crate::lists::Lists;
 use crate::ways::plan::Changes;
-use snl_items::Shifted;
-use snl_lex::{Line, LineList, Shift, TextEdit};
+use snl_cut::ends_in_order;
+use snl_items::tokens_in_front;
+use snl_lex::{Line, LineList, LineShift, Shift, TextEdit, text_in_pieces};
+use snl_syntax::Tokens;
 
 // Whether no item has its first token alone among so many.
 fn parts_no_item(before: usize, ends: &[u32]) -> bool
@@ -37,6 +42,56 @@ fn leaves_all(shift: Shift, old: &[u8], found: &[Diagnostic]) -> bool
     found.iter().all(|d| leaves(shift, old, d.offset))
 }
 
+// Whether an item ends after so many tokens.
+fn is_end(before: usize, ends: &[u32]) -> bool
+    ensures { result ≡ list_any (λ e. nat_eq e before) ends.now }
+{
+    ends.iter().any(|end| *end as usize == before)
+}
+
+// Whether no item has its first token alone before a place, before which so many tokens begin.
+fn parts_none(lists: &Lists, text: &[u8], place: usize, before: usize) -> bool
+    requires lists { IsListed text.now lists.now }
+    requires front { All (λ p. p.start < place) (take before (tokens_of text.now)) }
+    requires back { All (λ p. place ≤ p.start) (drop before (tokens_of text.now)) }
+    ensures { IsTrue result → AreOnOneSide place text.now }
+{
+    ends_in_order::<Tokens>();
+    is_end(before, &lists.items.ends) || parts_no_item(before, &lists.items.ends)
+}
+
+// Whether the line that begins at a place, where a line marker numbers it, is not between the two first tokens of an item. A place after the
+// text is none.
+fn numbers_whole_items(lists: &Lists, text: &[u8], place: usize) -> bool
+    requires lists { IsListed text.now lists.now }
+    requires some { 0 < place }
+    ensures { IsTrue result → AreOnOneSide place text.now }
+{
+    text_in_pieces();
+    if place > text.len() {
+        return true;
+    }
+    let before = tokens_in_front(&lists.pieces, place);
+    parts_none(lists, text, place, before)
+}
+
+/// How an edit that is this shift shifts lines, if it leaves the line markers, and the line that the next one numbers is not between
+/// the two first tokens of an item.
+pub fn lines_of(by: Shift, lists: &Lists, edit: &TextEdit, lines: &LineList) -> Option<LineShift>
+    requires by { IsShiftOf edit.now.old.now edit.now.text.now edit.now.start edit.now.old_stop edit.now.new_stop by }
+    requires lists { IsListed edit.now.old.now lists.now }
+    requires lines { IsLineList edit.now.text.now lines.now.ends.items lines.now.markers.items lines.now.naming.items }
+    ensures by { IfSome result (λ t. t.by ≡ by) }
+    ensures lines { IfSome result (ShiftsLines edit.now.old.now edit.now.text.now) }
+{
+    let shift = LineShift::along(by, edit, &lists.lines, lines)?;
+    if numbers_whole_items(lists, edit.old, shift.until) {
+        Some(shift)
+    } else {
+        None
+    }
+}
+
 /// An edit as a shift, if it shifts all that the text says.
 pub fn shift_of(
     lists: &Lists,
@@ -44,27 +99,25 @@ pub fn shift_of(
     edit: &TextEdit,
     changes: &Changes,
     lines: &LineList,
-) -> Option<Shifted>
+) -> Option<LineShift>
     requires lists { IsListed edit.now.old.now lists.now }
     requires found { found.now ≡ diagnostics_of edit.now.old.now }
     requires changes { IsChanged edit.now.old.now edit.now.text.now edit.now.start edit.now.old_stop edit.now.new_stop changes.now }
     requires lines { IsLineList edit.now.text.now lines.now.ends.items lines.now.markers.items lines.now.naming.items }
     ensures { IfSome result (ShiftsAll edit.now.old.now edit.now.text.now edit.now.start edit.now.old_stop edit.now.new_stop) }
 {
+    text_in_pieces();
     let shifted = changes.tokens.shifted?;
-    if edit.start > 0
-        && lists.lines.keeps_markers(lines, edit)
-        && parts_no_item(shifted.before, &lists.items.ends)
-        && leaves_all(shifted.by, edit.old, found)
-    {
-        Some(shifted)
+    let by = shifted.by;
+    if parts_none(lists, edit.old, by.start, shifted.before) && leaves_all(by, edit.old, found) {
+        lines_of(by, lists, edit, lines)
     } else {
         None
     }
 }
 
 // A diagnostic after the edit.
-fn shifted_diagnostic(shift: Shift, diagnostic: Diagnostic) -> Diagnostic
+fn shifted_diagnostic(shift: LineShift, diagnostic: Diagnostic) -> Diagnostic
     ensures { result ≡ shifted_diagnostic shift diagnostic }
 {
     let line = Line {
@@ -81,7 +134,7 @@ fn shifted_diagnostic(shift: Shift, diagnostic: Diagnostic) -> Diagnostic
 }
 
 /// Shifts diagnostics.
-pub fn shift_diagnostics(found: &mut [Diagnostic], shift: Shift)
+pub fn shift_diagnostics(found: &mut [Diagnostic], shift: LineShift)
     ensures { found.new ≡ map (shifted_diagnostic shift) found.old }
 {
     for diagnostic in found.iter_mut() {

@@ -1,3 +1,5 @@
+use Rattle.snl_lex.specs.Shift.{shifted_line}
+use Rattle.snl_check.proofs.ByShift.{one_by_shift}
 use Rattle.snl_check.proofs.ShiftedAround.{tables_of_state}
 use Rattle.snl_check.proofs.ShiftedTables.{SpellingLaws}
 use Rattle.snl_check.proofs.laws.tables_shift_around_a_state.Goals as goal
@@ -5,4 +7,4 @@ use Rattle.snl_check.proofs.laws.tables_shift_around_a_state.Goals as goal
 pub returns : goal.returns
 returns c =
     let laws : SpellingLaws = record { named = c.names_are_tokens.ensures; summaries = c.same_spelling_same_summary.ensures.summary } in
-    λ old text s xs ys j set y before read rep stands named here. tables_of_state laws old text s xs ys j before read rep set stands named y here
+    λ old text s xs ys j set y before read rep stands named here. tables_of_state laws old text s (shifted_line s) xs ys j before read (one_by_shift old text s xs ys j rep) set stands named y here

@@ -1,4 +1,4 @@
-use Rattle.snl_lex.proofs.ShiftedLines.{lines_shifted}
+use Rattle.snl_lex.proofs.PlainLines.{lines_shifted}
 use Rattle.snl_lex.proofs.shift.lines_shift.Goals as goal
 
 pub returns : goal.returns

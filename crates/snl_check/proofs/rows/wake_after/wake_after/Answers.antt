@@ -1,11 +1,6 @@
-use Rattle.std.proofs.Common.{◌∙◌}
-use Rattle.snl_check.proofs.ShiftedTables.{SpellingLaws}
-use Rattle.snl_check.proofs.WakesAfter.{wakes_after}
+use Rattle.snl_lex.specs.Shift.{shifted_line}
+use Rattle.snl_check.proofs.ByShift.{one_by_shift}
 use Rattle.snl_check.proofs.rows.wake_after.wake_after.Goals as goal
 
 pub returns : goal.returns
-returns c =
-    let laws : SpellingLaws = record { named = c.names_are_tokens.ensures; summaries = c.same_spelling_same_summary.ensures.summary } in
-    λ old s xs ys before read rep is linked tokens told.
-    c.in_ok-wake.ensures
-    ∙ wakes_after laws old c.args.text.now s xs ys c.args.item before read rep c.in_ok-numbers.numbers c.args.tables.now c.args.links.now.outlines c.args.own.now c.args.uses.now is linked tokens told c.in_ok-numbers.ensures
+returns c = λ old s xs ys before read rep. c.wake_inside.ensures old s (shifted_line s) xs ys before read (one_by_shift old c.args.text.now s xs ys c.args.item rep)

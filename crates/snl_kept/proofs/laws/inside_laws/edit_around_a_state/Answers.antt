@@ -1,4 +1,5 @@
 use Rattle.std.proofs.Common.{ℕ, true}
+use Rattle.snl_lex.specs.LineShift.{moved_line}
 use Rattle.snl_kept.specs.Checks.{outlines_in}
 use Rattle.snl_kept.specs.ItemPlan.{own_item}
 use Rattle.snl_kept.specs.OwnRows.{change_told}
@@ -11,12 +12,12 @@ use Rattle.snl_kept.proofs.laws.inside_laws.edit_around_a_state.Goals as goal
 
 pub returns : goal.returns
 unfolding tables_in
-returns c = λ old text start old_stop new_stop changes s x e set inside spares faults named placed.
-    let one = c.one_item_replaced.ensures old text start old_stop new_stop changes s x e inside in
+returns c = λ old text start old_stop new_stop changes t x e set inside spares faults named placed.
+    let one = c.one_item_replaced.ensures old text start old_stop new_stop changes t x e inside in
     let j : ℕ = changes.items.kept_front in
     let read = items_are_read old (c.text_in_pieces.ensures.inside old) in
-    let named_here = named_as old text start old_stop new_stop changes s x e one true named in
-    let got = got_is old text start old_stop new_stop changes s x e one in
-    let tables = c.tables_shift_around_a_state.ensures old text s (items_of old) (items_of text) j set (own_item text j) one.inside.shift.some_before read one.one placed named_here got in
-    after_change old text start old_stop new_stop changes s x e one c.findings_around_an_item.ensures.found c.findings_around_an_item.ensures.warnings c.diagnostics_are_found.ensures
+    let named_here = named_as old text start old_stop new_stop changes t x e one true named in
+    let got = got_is old text start old_stop new_stop changes t x e one in
+    let tables = c.tables_move_around_a_state.ensures old text t.by (moved_line t) (items_of old) (items_of text) j set (own_item text j) one.inside.shift.some_before read one.one placed named_here got in
+    after_change old text start old_stop new_stop changes t x e one c.findings_around_an_item.ensures.found c.findings_around_an_item.ensures.warnings c.diagnostics_are_found.ensures
     (change_told text (items_of text) (outlines_in old) j (own_item text j) (touched.State set)) spares faults tables

@@ -12,5 +12,5 @@ returns c = λ old text start old_stop new_stop t is.
     c.same_spelling_same_summary.ensures.bytes
     (λ ss i bytes tree. c.faults_stand_in_tokens.ensures bytes tree (is_in_set ss i) (known_of ss i) (leads_to ss i))
     c.views_told_apart.ensures
-    c.lines_shift.ensures
-    c.tables_shift.ensures
+    c.lines_move.ensures
+    c.tables_move.ensures

@@ -1,11 +1,12 @@
 use Rattle.std.proofs.Common.{◌≡◌, ℕ, ◌<◌, All, List, length, Option, sym, ap, ap₂, subst, ◌∙◌}
 use Rattle.snl_lex.specs.declared.piece.Piece.{Piece}
-use Rattle.snl_lex.specs.declared.shift.Shift.{Shift}
+use Rattle.snl_lex.specs.declared.line_shift.LineShift.{LineShift}
+use Rattle.snl_lex.specs.LineShift.{moved_line}
 use Rattle.snl_lex.specs.PieceList.{spelled}
 use Rattle.snl_lex.specs.Pieces.{LiesIn}
 use Rattle.snl_scope.specs.Linked.{faults_of}
 use Rattle.snl_scope.specs.declared.summaries.summary.Outline.{Outline}
-use Rattle.snl_tables.specs.Shifted.{shifted_tables}
+use Rattle.snl_tables.specs.Moved.{moved_tables}
 use Rattle.snl_check.specs.declared.rules.findings.Checked.{Checked}
 use Rattle.snl_kept.specs.declared.ways.recheck.MadeCheck.{MadeCheck}
 use Rattle.snl_kept.specs.declared.ways.row_change.RowChange.{RowChange}
@@ -23,15 +24,6 @@ use Rattle.snl_kept.proofs.OneItem.{own_lie, own_some}
 use Rattle.snl_kept.proofs.TextSpans.{items_are_read}
 use Rattle.snl_kept.proofs.ways.item_plan.made_inside.Goals as goal
 
-pub replaces_inside-requires-clause-shift : goal.replaces_inside-requires-clause-shift
-replaces_inside-requires-clause-shift c = record {
-  start_is = c.of-shift.ensures.start;
-  old_stop_is = c.of-shift.ensures.old_stop;
-  new_stop_is = c.of-shift.ensures.new_stop;
-  old_lines_are = c.of-shift.ensures.old_lines;
-  new_lines_are = c.of-shift.ensures.new_lines;
-}
-
 pub own_check-requires-clause-within : goal.own_check-requires-clause-within
 own_check-requires-clause-within c =
     let text = c.args.edit.now.text.now in
@@ -41,7 +33,7 @@ pub own_diagnostics-requires-clause-was_some : goal.own_diagnostics-requires-cla
 own_diagnostics-requires-clause-was_some c =
     let old = c.args.edit.now.old.now in
     let changes = c.args.changes.now in
-    subst (λ (ts : List Piece). 0 < length ts) (sym c.requires.own.was) (own_some old changes.items.kept_front (is_there old c.args.edit.now.text.now c.args.edit.now.start changes c.requires.one) (c.items_end_in_order.ensures old))
+    subst (λ (ts : List Piece). 0 < length ts) (sym c.requires.own.was) (own_some old changes.items.kept_front (is_there old changes c.requires.one) (c.items_end_in_order.ensures old))
 
 pub own_diagnostics-requires-clause-was_within : goal.own_diagnostics-requires-clause-was_within
 own_diagnostics-requires-clause-was_within c =
@@ -52,7 +44,7 @@ pub own_diagnostics-requires-clause-was_spelled : goal.own_diagnostics-requires-
 own_diagnostics-requires-clause-was_spelled c =
     let old = c.args.edit.now.old.now in
     let changes = c.args.changes.now in
-    entry_got old changes.items.kept_front c.args.was.entry.now (is_there old c.args.edit.now.text.now c.args.edit.now.start changes c.requires.one) c.requires.was.entry
+    entry_got old changes.items.kept_front c.args.was.entry.now (is_there old changes c.requires.one) c.requires.was.entry
     ∙ ap (λ (ts : List Piece). entry_by (spelled old ts)) (sym c.requires.own.was)
 
 pub own_diagnostics-requires-clause-was_checked : goal.own_diagnostics-requires-clause-was_checked
@@ -60,7 +52,7 @@ own_diagnostics-requires-clause-was_checked c =
     let old = c.args.edit.now.old.now in
     let changes = c.args.changes.now in
     let k = changes.items.kept_front in
-    check_got old k c.args.was.check.now (is_there old c.args.edit.now.text.now c.args.edit.now.start changes c.requires.one) c.requires.was.check
+    check_got old k c.args.was.check.now (is_there old changes c.requires.one) c.requires.was.check
     ∙ ap (λ (ts : List Piece). check_by (outlines_in old) k (spelled old ts)) (sym c.requires.own.was)
     ∙ ap (λ l. check_by l.outlines k (spelled old c.args.own.now.was.items)) (sym c.requires.lists.links)
 
@@ -77,12 +69,12 @@ own_change-requires-clause-within c =
 pub own_change-requires-clause-items : goal.own_change-requires-clause-items
 own_change-requires-clause-items c =
     let edit = c.args.edit.now in
-    items_after edit.old.now edit.text.now edit.start c.args.changes.now c.args.lists.now c.args.made.now c.requires.lists c.requires.one c.requires.alone c.replaces_inside.ensures.replaced.inside.outlines
+    items_after edit.old.now edit.text.now c.args.changes.now c.args.lists.now c.args.made.now c.requires.lists c.requires.one c.requires.alone c.replaces_inside.ensures.replaced.inside.outlines
 
 pub own_change-requires-clause-place : goal.own_change-requires-clause-place
 own_change-requires-clause-place c =
     let edit = c.args.edit.now in
-    in_place edit.old.now edit.text.now edit.start edit.old_stop edit.new_stop c.args.changes.now c.of-shift.result c.args.was.entry.now c.args.made.now c.replaces_inside.ensures.replaced
+    in_place edit.old.now edit.text.now edit.start edit.old_stop edit.new_stop c.args.changes.now c.args.shift c.args.was.entry.now c.args.made.now c.replaces_inside.ensures.replaced
     (items_are_read edit.old.now (c.text_in_pieces.ensures.inside edit.old.now)) c.deref-2.result.now (c.deref-2.ensures.value ∙ c.requires.own.is)
 
 pub returns-clause-inside : goal.returns-clause-inside
@@ -94,24 +86,24 @@ returns-clause-inside c =
     let k : ℕ = changes.items.kept_front in
     let own = c.args.own.now in
     let before = c.args.lists.now.links in
-    let s : Shift = c.of-shift.result in
-    let there = is_there old c.args.edit.now.text.now c.args.edit.now.start changes c.requires.one in
+    let t : LineShift = c.args.shift in
+    let there = is_there old changes c.requires.one in
     let w = c.args.was in
     let e = c.args.made.now in
     let inside = c.replaces_inside.ensures.inside in
     let one = c.replaces_inside.ensures.replaced in
     let spared = c.requires.says.spared in
     let faults : faults_of (links_in text) ≡ faults_of (links_in old) =
-    faults_stay old text edit.start edit.old_stop edit.new_stop changes s w.entry.now e one before c.requires.lists.links c.args.links.now c.requires.links in
+    faults_stay old text edit.start edit.old_stop edit.new_stop changes t w.entry.now e one before c.requires.lists.links c.args.links.now c.requires.links in
     let change : RowChange = change_told text (items_of text) (outlines_in old) k (own_item text k) c.args.touched in
-    let after : IsAfterInside old text s k change = after_any old text s k own w e c.args.touched c.requires.row
+    let after : IsAfterInside old text t k change = after_any old text t k own w e c.args.touched c.requires.row
     (sound_alike c.outcome_told.ensures.tree c.same_spelling_same_tree.ensures.by_spelling c.same_spelling_same_summary.ensures.summary_by_spelling c.same_spelling_same_summary.ensures.bytes_by_spelling old text k own w e there c.requires.was c.requires.own c.requires.made)
     (λ n fits. says_alike c.outcome_told.ensures.tree c.same_spelling_same_tree.ensures.by_spelling c.same_spelling_same_summary.ensures.summary_by_spelling c.same_spelling_same_summary.ensures.bytes_by_spelling old text k n own w e there c.requires.was c.requires.own c.requires.made fits)
-    (λ nowhere. c.edit_outside_the_sets.ensures old text edit.start edit.old_stop edit.new_stop changes s w.entry.now e inside spared faults nowhere)
-    (λ unnamed sound. c.edit_around_an_item.ensures old text edit.start edit.old_stop edit.new_stop changes s w.entry.now e inside spared faults unnamed sound)
-    (λ n named placed alike. c.edit_inside_a_state.ensures old text edit.start edit.old_stop edit.new_stop changes s w.entry.now e n inside spared faults named placed alike)
-    (λ n named placed. c.edit_around_a_state.ensures old text edit.start edit.old_stop edit.new_stop changes s w.entry.now e n inside spared faults named placed)
-    (λ n unnamed placed. c.edit_in_a_set.ensures old text edit.start edit.old_stop edit.new_stop changes s w.entry.now e n inside spared faults unnamed placed) in
+    (λ nowhere. c.edit_outside_the_sets.ensures old text edit.start edit.old_stop edit.new_stop changes t w.entry.now e inside spared faults nowhere)
+    (λ unnamed sound. c.edit_around_an_item.ensures old text edit.start edit.old_stop edit.new_stop changes t w.entry.now e inside spared faults unnamed sound)
+    (λ n named placed alike. c.edit_inside_a_state.ensures old text edit.start edit.old_stop edit.new_stop changes t w.entry.now e n inside spared faults named placed alike)
+    (λ n named placed. c.edit_around_a_state.ensures old text edit.start edit.old_stop edit.new_stop changes t w.entry.now e n inside spared faults named placed)
+    (λ n unnamed placed. c.edit_in_a_set.ensures old text edit.start edit.old_stop edit.new_stop changes t w.entry.now e n inside spared faults unnamed placed) in
     let outlines : before.outlines ≡ outlines_in old = ap (λ l. l.outlines) c.requires.lists.links in
     let tokens : c.deref.result.now ≡ own_tokens text k = c.deref.ensures.value ∙ c.requires.own.is in
     let check : c.in_ok-check.check ≡ own_check old text k = c.in_ok-check.ensures.check ∙ ap₂ (λ (os : List Outline) (ts : List Piece). check_by os k (spelled text ts)) outlines tokens in
@@ -122,12 +114,12 @@ returns-clause-inside c =
     let vacant : c.in_ok-checks.checks.vacant.items ≡ nones changes.items.made.items = kept.vacant in
     let made : c.in_ok-checks.checks.made.items ≡ made_at k (own_check old text k) = kept.made ∙ ap (made_at k) check in
     record {
-      are_links = links_after old text edit.start edit.old_stop edit.new_stop changes s w.entry.now e one before c.requires.lists.links c.args.links.now c.requires.links;
+      are_links = links_after old text edit.start edit.old_stop edit.new_stop changes t w.entry.now e one before c.requires.lists.links c.args.links.now c.requires.links;
       warns = after.warns;
       checks = subst (λ (ms : List MadeCheck). AreChecksMade old text k c.in_ok-checks.checks.vacant.items changes.items.kept_back ms) (sym made)
           (subst (λ (vs : List (Option Checked)). AreChecksMade old text k vs changes.items.kept_back (made_at k (own_check old text k))) (sym vacant) one.checks);
       stirred = one.stirred ∙ ap (λ (ms : List MadeCheck). length ms) (sym made);
       diagnostics = c.in_ok-diagnostics.ensures
-          ∙ diagnostics_after old text s k c.in_ok-change.change own before.outlines c.args.lists.now.warns c.args.tables.now c.args.found.now (subst (IsAfterInside old text s k) (sym told) after) c.requires.own outlines c.requires.lists.warns c.requires.tables c.requires.found;
-      tables = after.tables ∙ ap (with_row (shifted_tables s (tables_in old))) (sym told);
+          ∙ diagnostics_after old text t k c.in_ok-change.change own before.outlines c.args.lists.now.warns c.args.tables.now c.args.found.now (subst (IsAfterInside old text t k) (sym told) after) c.requires.own outlines c.requires.lists.warns c.requires.tables c.requires.found;
+      tables = after.tables ∙ ap (with_row (moved_tables t.by (moved_line t) (tables_in old))) (sym told);
     }

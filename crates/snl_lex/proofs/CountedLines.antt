@@ -1,23 +1,23 @@
--- Lines that an edit shifts, where all line markers are before it.
-use Rattle.std.proofs.Common.{◌≡◌, ◌==◌, ℕ, ◌+◌, ◌-◌, ◌*◌, ◌^◌, ◌<◌, ◌≤◌, inl, inr, Bool, true, false, ◌&&◌, ◌||◌, cond, nat_lt, List, [], ◌∷◌, length, take, drop, map, min, count_by, get_or, drop-cons, suc, filter, Option, None, Some, refl, sym, ap, ap₂, ◌∙◌, subst, arith, length-drop}
-use Rattle.std.specs.Prelude.{All, IfSome, if◌then◌else◌, nat_le, slice_index, unwrap_or}
-use Rattle.std.specs.List.{AllByRecursion, list_any}
+-- A line by the last marker that counts for it, and what an edit leaves of the lines that are counted.
+use Rattle.std.proofs.Common.{◌≡◌, ◌==◌, ℕ, ◌+◌, ◌-◌, ◌^◌, ◌<◌, ◌≤◌, inl, inr, Bool, true, false, ◌&&◌, ◌||◌, cond, nat_lt, List, [], ◌∷◌, length, take, drop, map, min, count_by, get_or, drop-cons, suc, filter, Option, None, Some, refl, sym, ap, ap₂, ◌∙◌, arith, length-drop}
+use Rattle.std.specs.Prelude.{IfSome, if◌then◌else◌, nat_le, slice_index, unwrap_or}
+use Rattle.std.specs.List.{AllByRecursion}
 use Rattle.std.proofs.lemmas.Bool.Decides.{nat_tests}
 use Rattle.std.proofs.lemmas.List.{drop-take, length-take-le, take-take}
-use Rattle.std.proofs.lemmas.List.Elements.{recursion_from_All}
 use Rattle.std.proofs.lemmas.List.Sums.{count_by-le-length}
+use Rattle.snl_cut.specs.Cut.{IsEdit}
 use Rattle.snl_lex.specs.declared.line_list.Marker.{Marker}
 use Rattle.snl_lex.specs.declared.lines.Line.{Line}
 use Rattle.snl_lex.specs.declared.piece.Piece.{Piece}
 use Rattle.snl_lex.specs.declared.shift.Shift.{Shift}
 use Rattle.snl_lex.specs.Alphabet.{is_white}
-use Rattle.snl_lex.specs.LineList.{ends_before, last_before, line_begin, line_ends, marked, marker_of, naming_markers, number_after, numbers, setting_markers}
+use Rattle.snl_lex.specs.LineList.{ends_before, last_before, line_begin, line_ends, marker_of, naming_markers, number_after, setting_markers}
 use Rattle.snl_lex.specs.Lines.{digit_count, has_line_between, last_of, last_or, line_at, lines_between, marker_number, number_stop, part_of, written_number}
-use Rattle.snl_lex.specs.Pieces.{bytes_at, pieces_of}
-use Rattle.snl_lex.specs.Shift.{CountsAfter, IsOutside, IsShift, most, shifted_line, shifted_offset}
+use Rattle.snl_lex.specs.Pieces.{bytes_at}
+use Rattle.snl_lex.specs.LineShift.{CountsAfter}
+use Rattle.snl_lex.specs.Shift.{most}
 use Rattle.snl_lex.proofs.Along.{count_split}
-use Rattle.snl_lex.proofs.Changes.{edit_lengths}
-use Rattle.snl_lex.proofs.Halving.{count_yes, lt_no, lt_yes}
+use Rattle.snl_lex.proofs.Halving.{count_yes, lt_yes}
 use Rattle.snl_lex.proofs.LineBy.{begin_told, file_in, line_told, line_with}
 use Rattle.snl_lex.proofs.LineEnds.{any_counted, below_is, between_is}
 use Rattle.snl_lex.proofs.Members.{split}
@@ -25,15 +25,15 @@ use Rattle.snl_lex.proofs.Members.{split}
 -- ---- a line by the last marker that counts
 
 -- The last marker that counts for an offset.
-abbrev last_for : List ℕ → ℕ → List Marker → Option Marker
+abbrev pub last_for : List ℕ → ℕ → List Marker → Option Marker
 last_for text offset ms = last_of (filter (λ m. has_line_between text m.end offset) ms)
 
 -- The number of the offset's line by that marker.
-abbrev number_from : List ℕ → ℕ → Option Marker → ℕ
+abbrev pub number_from : List ℕ → ℕ → Option Marker → ℕ
 number_from text offset None = 1 + lines_between text 0 offset
 number_from text offset (Some m) = (m.number + lines_between text m.end offset) - 1
 
-filter_same : (p q : Marker → Bool) → (ms : List Marker) → AllByRecursion (λ m. p m ≡ q m) ms → filter p ms ≡ filter q ms
+pub filter_same : (p q : Marker → Bool) → (ms : List Marker) → AllByRecursion (λ m. p m ≡ q m) ms → filter p ms ≡ filter q ms
 filter_same p q [] h = refl
 filter_same p q (m ∷ ms) h = ap₂ (λ (b : Bool) (l : List Marker). cond b (m ∷ l) l) h.0 (filter_same p q ms h.1)
 
@@ -52,10 +52,10 @@ number_is text offset None = ap (λ (n : ℕ). 1 + n) (below_is text offset)
 number_is text offset (Some m) = ap (λ (n : ℕ). (m.number + n) - 1) (sym (between_is text m.end offset))
 
 -- The line of an offset, by the markers of its text.
-abbrev line_by : List ℕ → ℕ → List Marker → List Marker → Line
+abbrev pub line_by : List ℕ → ℕ → List Marker → List Marker → Line
 line_by text offset setting naming = line_with (number_from text offset (last_for text offset setting)) (file_in (last_for text offset naming))
 
-line_is : (text : List ℕ) (offset : ℕ) → line_at text offset ≡ line_by text offset (setting_markers text) (naming_markers text)
+pub line_is : (text : List ℕ) (offset : ℕ) → line_at text offset ≡ line_by text offset (setting_markers text) (naming_markers text)
 line_is text offset =
     let es : List ℕ = line_ends text in
     let n : ℕ = ends_before es offset in
@@ -91,29 +91,25 @@ marker_small text p = number_small (bytes_at text p)
 
 -- ---- what the last of some markers keeps
 
-last_keeps : (P : Marker → Type 0) (found : Option Marker) (ms : List Marker) → IfSome found P → AllByRecursion P ms → IfSome (last_or found ms) P
+pub last_keeps : (P : Marker → Type 0) (found : Option Marker) (ms : List Marker) → IfSome found P → AllByRecursion P ms → IfSome (last_or found ms) P
 last_keeps P found [] h all = h
 last_keeps P found (m ∷ ms) h all = last_keeps P (Some m) ms all.0 all.1
 
-filter_keeps : (P : Marker → Type 0) (p : Marker → Bool) (ms : List Marker) → AllByRecursion P ms → AllByRecursion P (filter p ms)
+pub filter_keeps : (P : Marker → Type 0) (p : Marker → Bool) (ms : List Marker) → AllByRecursion P ms → AllByRecursion P (filter p ms)
 filter_keeps P p [] all = tt
 filter_keeps P p (m ∷ ms) all =
     elim (p m) as (λ b. AllByRecursion P (cond b (m ∷ filter p ms) (filter p ms))) [ true ↦ (all.0, filter_keeps P p ms all.1) | false ↦ filter_keeps P p ms all.1 ]
 
-abbrev IsSmall : Marker → Type 0
+abbrev pub IsSmall : Marker → Type 0
 IsSmall m = m.number ≤ small
 
-all_small : (text : List ℕ) (ps : List Piece) → AllByRecursion IsSmall (map (marker_of text) ps)
+pub all_small : (text : List ℕ) (ps : List Piece) → AllByRecursion IsSmall (map (marker_of text) ps)
 all_small text [] = tt
 all_small text (p ∷ ps) = (marker_small text p, all_small text ps)
 
 -- ---- what an edit leaves
 
--- A line after the edit.
-abbrev later : Shift → Line → Line
-later s line = line_with (min (line.number + s.new_lines) most - s.old_lines) line.file
-
-none_between : (text : List ℕ) (a b : ℕ) → b - a ≡ 0 → lines_between text a b ≡ 0
+pub none_between : (text : List ℕ) (a b : ℕ) → b - a ≡ 0 → lines_between text a b ≡ 0
 none_between text a b h = ap (λ (n : ℕ). count_by (λ x. x == 10) (take n (drop a text))) h
 
 -- The byte at a place before another ends a line.
@@ -127,7 +123,7 @@ line_here text a place order inside h =
     ap (count_by (λ x. x == 10)) (some ∙ ap (λ (x : ℕ). x ∷ rest) h) ∙ count_yes (λ x. x == 10) 10 rest refl in
     omega (arith, whole)
 
-few_lines : (text : List ℕ) (a b : ℕ) → b ≤ length text → lines_between text a b ≤ b - a
+pub few_lines : (text : List ℕ) (a b : ℕ) → b ≤ length text → lines_between text a b ≤ b - a
 few_lines text a b inside =
     elim (split b a) [
       | inl less ↦ omega (arith, none_between text a b (omega arith))
@@ -136,9 +132,17 @@ few_lines text a b inside =
           omega (arith, size, count_by-le-length (λ x. x == 10) (part_of text a b))
     ]
 
-module _ (old text : List ℕ) (s : Shift) (is : IsShift old text s) where
+-- An edit, with how many line ends it takes out and puts in.
+pub record IsCounted (old text : List ℕ) (s : Shift) : Type 0 where
+  pub edit : IsEdit old text s.start s.old_stop s.new_stop
+  pub old_lines : s.old_lines ≡ lines_between old s.start s.old_stop
+  pub new_lines : s.new_lines ≡ lines_between text s.start s.new_stop
+  pub old_short : length old < 2 ^ 32
+  pub short : length text < 2 ^ 32
+
+module _ (old text : List ℕ) (s : Shift) (is : IsCounted old text s) where
   -- Before the edit both texts have the same bytes.
-  same_part : (a offset : ℕ) → offset ≤ s.start → part_of text a offset ≡ part_of old a offset
+  pub same_part : (a offset : ℕ) → offset ≤ s.start → part_of text a offset ≡ part_of old a offset
   same_part a offset h =
       elim (split offset a) [
         | inl less ↦
@@ -151,10 +155,10 @@ module _ (old text : List ℕ) (s : Shift) (is : IsShift old text s) where
             ∙ sym (ap (λ (n : ℕ). drop a (take n old)) whole) ∙ drop-take a (offset - a) old
       ]
 
-  same_count : (a offset : ℕ) → offset ≤ s.start → lines_between text a offset ≡ lines_between old a offset
+  pub same_count : (a offset : ℕ) → offset ≤ s.start → lines_between text a offset ≡ lines_between old a offset
   same_count a offset h = ap (count_by (λ x. x == 10)) (same_part a offset h)
 
-  same_back : (offset : ℕ) → s.old_stop ≤ offset → lines_between text s.new_stop ((offset - s.old_stop) + s.new_stop) ≡ lines_between old s.old_stop offset
+  pub same_back : (offset : ℕ) → s.old_stop ≤ offset → lines_between text s.new_stop ((offset - s.old_stop) + s.new_stop) ≡ lines_between old s.old_stop offset
   same_back offset h =
       let way : ((offset - s.old_stop) + s.new_stop) - s.new_stop ≡ offset - s.old_stop = omega arith in
       ap₂ (λ (n : ℕ) (l : List ℕ). count_by (λ x. x == 10) (take n l)) way (sym is.edit.after)
@@ -179,16 +183,11 @@ module _ (old text : List ℕ) (s : Shift) (is : IsShift old text s) where
 
   -- ---- the last marker that counts
 
-  last_in_front : (offset : ℕ) → offset ≤ s.start → (ms : List Marker) → last_for text offset ms ≡ last_for old offset ms
-  last_in_front offset h ms =
-      ap last_of (filter_same (λ m. has_line_between text m.end offset) (λ m. has_line_between old m.end offset) ms
-      (each (λ m. has_line_between text m.end offset ≡ has_line_between old m.end offset) (λ m. ap (list_any (λ b. b == 10)) (same_part m.end offset h)) ms))
-
   -- A marker with a line's end before the edit is before the edit.
-  ends_early : (m : Marker) → CountsAfter old s.start m → m.end ≤ s.start
+  pub ends_early : (m : Marker) → CountsAfter old s.start m → m.end ≤ s.start
   ends_early m h = omega (arith, h, few_lines old m.end s.start (omega (arith, is.edit.old_order, is.edit.old_inside)))
 
-  counts_in_both : (offset : ℕ) → s.old_stop ≤ offset → (m : Marker) → CountsAfter old s.start m
+  pub counts_in_both : (offset : ℕ) → s.old_stop ≤ offset → (m : Marker) → CountsAfter old s.start m
       → has_line_between text m.end ((offset - s.old_stop) + s.new_stop) ≡ has_line_between old m.end offset
   counts_in_both offset h m counts =
       let to : ℕ = (offset - s.old_stop) + s.new_stop in
@@ -199,44 +198,10 @@ module _ (old text : List ℕ) (s : Shift) (is : IsShift old text s) where
       any_counted (λ b. b == 10) (part_of text m.end to) ∙ lt_yes 0 (lines_between text m.end to) some
       ∙ sym (any_counted (λ b. b == 10) (part_of old m.end offset) ∙ lt_yes 0 (lines_between old m.end offset) some_old)
 
-  each_counts : (offset : ℕ) → s.old_stop ≤ offset → (ms : List Marker) → AllByRecursion (CountsAfter old s.start) ms
-      → AllByRecursion (λ m. has_line_between text m.end ((offset - s.old_stop) + s.new_stop) ≡ has_line_between old m.end offset) ms
-  each_counts offset h [] all = tt
-  each_counts offset h (m ∷ ms) all = (counts_in_both offset h m all.0, each_counts offset h ms all.1)
-
-  last_in_back : (offset : ℕ) → s.old_stop ≤ offset → (ms : List Marker) → AllByRecursion (CountsAfter old s.start) ms → last_for text ((offset - s.old_stop) + s.new_stop) ms ≡ last_for old offset ms
-  last_in_back offset h ms all =
-      ap last_of (filter_same (λ m. has_line_between text m.end ((offset - s.old_stop) + s.new_stop)) (λ m. has_line_between old m.end offset) ms (each_counts offset h ms all))
-
-  -- ---- the line
-
-  same_markers : (offset : ℕ) → line_at text offset ≡ line_by text offset (setting_markers old) (naming_markers old)
-  same_markers offset = line_is text offset ∙ ap₂ (line_by text offset) is.markers.setting is.markers.naming
-
-  number_in_front : (offset : ℕ) → offset ≤ s.start → (o : Option Marker) → number_from text offset o ≡ number_from old offset o
-  number_in_front offset h None = ap (λ (n : ℕ). 1 + n) (same_count 0 offset h)
-  number_in_front offset h (Some m) = ap (λ (n : ℕ). (m.number + n) - 1) (same_count m.end offset h)
-
-  before : (offset : ℕ) → offset < s.start → line_at text (shifted_offset s offset) ≡ shifted_line s offset (line_at old offset)
-  before offset h =
-      let early : nat_lt offset s.start ≡ true = lt_yes offset s.start h in
-      let le : offset ≤ s.start = omega (arith, h) in
-      let setting : List Marker = setting_markers old in
-      let naming : List Marker = naming_markers old in
-      ap (λ (b : Bool). line_at text (if b then offset else min ((offset - s.old_stop) + s.new_stop) most)) early
-      ∙ same_markers offset
-      ∙ ap₂ line_with (ap (number_from text offset) (last_in_front offset le setting) ∙ number_in_front offset le (last_for old offset setting)) (ap file_in (last_in_front offset le naming))
-      ∙ sym (line_is old offset)
-      ∙ sym (ap (λ (b : Bool). if b then line_at old offset else later s (line_at old offset)) early)
-
-  abbrev Good : Marker → Type 0
+  abbrev pub Good : Marker → Type 0
   Good m = CountsAfter old s.start m × IsSmall m
 
-  all_good : (ms : List Marker) → AllByRecursion (CountsAfter old s.start) ms → AllByRecursion IsSmall ms → AllByRecursion Good ms
-  all_good [] counts smalls = tt
-  all_good (m ∷ ms) counts smalls = ((counts.0, smalls.0), all_good ms counts.1 smalls.1)
-
-  number_in_back : (offset : ℕ) → s.old_stop ≤ offset → offset ≤ length old → (o : Option Marker) → IfSome o Good
+  pub number_in_back : (offset : ℕ) → s.old_stop ≤ offset → offset ≤ length old → (o : Option Marker) → IfSome o Good
       → number_from text ((offset - s.old_stop) + s.new_stop) o ≡ min (number_from old offset o + s.new_lines) most - s.old_lines
   number_in_back offset h inside None good =
       omega (
@@ -268,25 +233,3 @@ module _ (old text : List ℕ) (s : Shift) (is : IsShift old text s) where
         is.old_short,
         is.edit.new_inside,
       )
-
-  after : (offset : ℕ) → s.old_stop ≤ offset → offset ≤ length old → line_at text (shifted_offset s offset) ≡ shifted_line s offset (line_at old offset)
-  after offset h inside =
-      let to : ℕ = (offset - s.old_stop) + s.new_stop in
-      let setting : List Marker = setting_markers old in
-      let naming : List Marker = naming_markers old in
-      let last : Option Marker = last_for old offset setting in
-      let counts = recursion_from_All (CountsAfter old s.start) setting is.markers.setting_before in
-      let named = recursion_from_All (CountsAfter old s.start) naming is.markers.naming_before in
-      let all = all_good setting counts (all_small old (filter (numbers old) (pieces_of old))) in
-      let good : IfSome last Good = last_keeps Good None (filter (λ m. has_line_between old m.end offset) setting) tt (filter_keeps Good (λ m. has_line_between old m.end offset) setting all) in
-      let late : nat_lt offset s.start ≡ false = lt_no offset s.start (omega (arith, h, is.edit.old_order)) in
-      let fits : min to most ≡ to = omega (arith, inside, h, is.short, edit_lengths old text s.start s.old_stop s.new_stop is.edit) in
-      ap (λ (b : Bool). line_at text (if b then offset else min to most)) late
-      ∙ ap (line_at text) fits
-      ∙ same_markers to
-      ∙ ap₂ line_with (ap (number_from text to) (last_in_back offset h setting counts) ∙ number_in_back offset h inside last good) (ap file_in (last_in_back offset h naming named))
-      ∙ sym (ap (later s) (line_is old offset))
-      ∙ sym (ap (λ (b : Bool). if b then line_at old offset else later s (line_at old offset)) late)
-
-  pub lines_shifted : (offset : ℕ) → IsOutside old s offset → line_at text (shifted_offset s offset) ≡ shifted_line s offset (line_at old offset)
-  lines_shifted offset h = elim h [ inl less ↦ before offset less | inr more ↦ after offset more.0 more.1 ]

@@ -1,0 +1,11 @@
+use Rattle.std.proofs.Common.{◌∙◌}
+use Rattle.snl_check.proofs.ShiftedTables.{SpellingLaws}
+use Rattle.snl_check.proofs.WakesAfter.{wakes_after}
+use Rattle.snl_check.proofs.rows.wake_after.wake_inside.Goals as goal
+
+pub returns : goal.returns
+returns c =
+    let laws : SpellingLaws = record { named = c.names_are_tokens.ensures; summaries = c.same_spelling_same_summary.ensures.summary } in
+    λ old s line xs ys before read rep is linked tokens told.
+    c.in_ok-wake.ensures
+    ∙ wakes_after laws old c.args.text.now s line xs ys c.args.item before read rep c.in_ok-numbers.numbers c.args.tables.now c.args.links.now.outlines c.args.own.now c.args.uses.now is linked tokens told c.in_ok-numbers.ensures
