@@ -40,9 +40,9 @@ impl Model for Scopes {
 impl Scopes {
     ghost use Rattle.snl_scope.specs.Clauses.{resolve_in, variable_at};
     ghost use Rattle.snl_scope.specs.Linked.{state_in};
-    ghost use Rattle.snl_scope.specs.Names.{entries, number_in, resolve};
+    ghost use Rattle.snl_scope.specs.Names.{entries, has_own_scope, number_in, resolve};
     ghost use Rattle.snl_scope.specs.Order.{is_named_state};
-    ghost use Rattle.snl_scope.specs.Places.{enclosing_set, is_set_begin};
+    ghost use Rattle.snl_scope.specs.Places.{enclosing_set, is_set_begin, item_is};
     ghost use Rattle.snl_scope.specs.NameTables.{head_of, symbol_of};
     ghost use Rattle.std.specs.Prelude.{Some, ◌<◌, length, map, option_map, slice_get};
 
@@ -119,14 +119,26 @@ impl Scopes {
         nearest_under(&self.first, enclosing_set, self.names.number(name)?)
     }
 
+    // Whether an item has a scope of its own.
+    fn has_own_scope(&self, item: usize) -> bool
+        ensures { result ≡ item_is (λ s. has_own_scope s.role) self.now item }
+    {
+        match self.heads.get(item) {
+            Some(head) => matches!(head.role, Role::State),
+            None => false,
+        }
+    }
+
     /// The number of what a name resolves to that is in an item outside its blocks.
     pub(crate) fn resolve_in(&self, item: usize, name: &[u8]) -> Option<usize>
         ensures { result ≡ resolve_in self.now item name.now }
     {
         let name = self.names.number(name)?;
-        let own = number_under(&self.first, Namespace::State(item), name);
-        if own.is_some() {
-            return own;
+        if self.has_own_scope(item) {
+            let own = number_under(&self.first, Namespace::State(item), name);
+            if own.is_some() {
+                return own;
+            }
         }
         nearest_under(&self.first, self.enclosing_set(item), name)
     }
