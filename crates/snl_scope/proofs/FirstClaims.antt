@@ -91,43 +91,43 @@ or-nothing : (o : Option ℕ) → option_or o None ≡ o
 or-nothing None = refl
 or-nothing (Some k) = refl
 
-or-known : (o p : Option ℕ) → is_some o ≡ true → option_or o p ≡ o
-or-known None p h = absurd (true≢false (sym h))
-or-known (Some k) p h = refl
-
-or-new : (o p : Option ℕ) → is_some o ≡ false → option_or o p ≡ p
-or-new None p h = refl
-or-new (Some k) p h = absurd (true≢false h)
-
 -- what is known of a claim is known of an equal one
-known-same : (one q : Claim) (held : List (Claim × ℕ)) (b : Bool) → is_some (lookup (claim_eq.eq-value.it one) held) ≡ b → same_claim one q ≡ true
-    → is_some (lookup (same_claim q) held) ≡ b
-known-same one q held b h t = ap (λ c. is_some (lookup (same_claim c) held)) (sym (claim_true one q t)) ∙ ap is_some (sym (lookup_is one held)) ∙ h
+known-same : (one q : Claim) (held : List (Claim × ℕ)) (o : Option ℕ) → lookup (claim_eq.eq-value.it one) held ≡ o → same_claim one q ≡ true → lookup (same_claim q) held ≡ o
+known-same one q held o h t = ap (λ c. lookup (same_claim c) held) (sym (claim_true one q t)) ∙ sym (lookup_is one held) ∙ h
 
 -- a claim that no clause has made yet
-pub adds-new : (one : Claim) (number : ℕ) (before after : List (Claim × ℕ)) → is_some (lookup (claim_eq.eq-value.it one) before) ≡ false
+pub adds-new : (one : Claim) (number : ℕ) (before after : List (Claim × ℕ)) → lookup (claim_eq.eq-value.it one) before ≡ None
     → ((q : Claim) → lookup (claim_eq.eq-value.it q) after ≡ cond (claim_eq.eq-value.it one q) (Some number) (lookup (claim_eq.eq-value.it q) before))
     → Adds before after (same_claim one) number
 adds-new one number before after absent put =
     record {
       each = λ q.
           sym (lookup_is q after) ∙ put q ∙ ap (λ b. cond b (Some number) (lookup (claim_eq.eq-value.it q) before)) (claim_is one q)
-          ∙ ap (cond (same_claim one q) (Some number)) (lookup_is q before) ∙ by q (same_claim one q) (known-same one q before false absent);
+          ∙ ap (cond (same_claim one q) (Some number)) (lookup_is q before) ∙ by q (same_claim one q) (known-same one q before None absent);
     }
   where
-    by : (q : Claim) (b : Bool) → (b ≡ true → is_some (lookup (same_claim q) before) ≡ false)
+    by : (q : Claim) (b : Bool) → (b ≡ true → lookup (same_claim q) before ≡ None)
         → cond b (Some number) (lookup (same_claim q) before) ≡ option_or (lookup (same_claim q) before) (if b then Some number else None)
-    by q true h = sym (or-new (lookup (same_claim q) before) (Some number) (h refl))
+    by q true h = sym (ap (λ o. option_or o (Some number)) (h refl))
     by q false h = sym (or-nothing (lookup (same_claim q) before))
 
--- a claim that an earlier clause has made
-pub adds-known : (one : Claim) (number : ℕ) (held : List (Claim × ℕ)) → is_some (lookup (claim_eq.eq-value.it one) held) ≡ true → Adds held held (same_claim one) number
-adds-known one number held there = record { each = λ q. by q (same_claim one q) (known-same one q held true there) }
+-- a claim that an earlier clause has made: the number that is put in its place is taken back
+pub adds-known : (one : Claim) (number earlier : ℕ) (before between after : List (Claim × ℕ)) → lookup (claim_eq.eq-value.it one) before ≡ Some earlier
+    → ((q : Claim) → lookup (claim_eq.eq-value.it q) between ≡ cond (claim_eq.eq-value.it one q) (Some number) (lookup (claim_eq.eq-value.it q) before))
+    → ((q : Claim) → lookup (claim_eq.eq-value.it q) after ≡ cond (claim_eq.eq-value.it one q) (Some earlier) (lookup (claim_eq.eq-value.it q) between))
+    → Adds before after (same_claim one) number
+adds-known one number earlier before between after there put back =
+    record {
+      each = λ q.
+          sym (lookup_is q after) ∙ back q ∙ ap (λ b. cond b (Some earlier) (lookup (claim_eq.eq-value.it q) between)) (claim_is one q)
+          ∙ ap (cond (same_claim one q) (Some earlier)) (put q ∙ ap (λ b. cond b (Some number) (lookup (claim_eq.eq-value.it q) before)) (claim_is one q)
+          ∙ ap (cond (same_claim one q) (Some number)) (lookup_is q before)) ∙ by q (same_claim one q) (known-same one q before (Some earlier) there);
+    }
   where
-    by : (q : Claim) (b : Bool) → (b ≡ true → is_some (lookup (same_claim q) held) ≡ true)
-        → lookup (same_claim q) held ≡ option_or (lookup (same_claim q) held) (if b then Some number else None)
-    by q true h = sym (or-known (lookup (same_claim q) held) (Some number) (h refl))
-    by q false h = sym (or-nothing (lookup (same_claim q) held))
+    by : (q : Claim) (b : Bool) → (b ≡ true → lookup (same_claim q) before ≡ Some earlier)
+        → cond b (Some earlier) (cond b (Some number) (lookup (same_claim q) before)) ≡ option_or (lookup (same_claim q) before) (if b then Some number else None)
+    by q true h = sym (ap (λ o. option_or o (Some number)) (h refl))
+    by q false h = sym (or-nothing (lookup (same_claim q) before))
 
 pub adds-same : (before after : List (Claim × ℕ)) (p q : Claim → Bool) (number : ℕ) → ((m : Claim) → p m ≡ q m) → Adds before after p number → Adds before after q number
 adds-same before after p q number h a = record { each = λ m. a.each m ∙ ap (λ b. option_or (lookup (same_claim m) before) (if b then Some number else None)) (h m) }

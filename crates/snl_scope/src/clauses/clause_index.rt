@@ -186,7 +186,8 @@ impl ClauseIndex {
         }
     }
 
-    // Adds a claim of the clause with a number. One that made it before stays the first.
+    // Adds a claim of the clause with a number. One that made it before stays the first. A new claim, as nearly all are,
+    // takes one look-up.
     fn add(
         &mut self,
         purpose: Purpose,
@@ -202,10 +203,13 @@ impl ClauseIndex {
             variable,
             extent,
         };
-        if !self.held.contains_key(&claim) {
-            self.held.insert(claim, number)?;
+        match self.held.insert(claim, number)? {
+            None => Ok(()),
+            Some(earlier) => {
+                self.held.insert(claim, earlier)?;
+                Ok(())
+            }
         }
-        Ok(())
     }
 
     // Claims the first elements.
