@@ -1,7 +1,7 @@
 //! What sound clauses claim of variables: a clause comes in, and whether it overlaps an earlier one goes out, and which was
 //! the first to speak of a channel.
 
-ghost use Rattle.std.specs.Prelude.{◌≡◌, ◌&&◌, [], nat_eq, OnOk};
+ghost use Rattle.std.specs.Prelude.{◌≡◌, ◌&&◌, [], nat_eq, IfOk, OnOk};
 ghost use Rattle.std.specs.Map.{lookup};
 ghost use Rattle.snl_scope.specs.Below.{any_below};
 ghost use Rattle.snl_scope.specs.Claims.{Adds, claim_number, claims, first_clause, has_claim, lesser, overlaps_claims, purpose_of, same_claim, same_purpose};
@@ -113,12 +113,12 @@ impl Model for ClauseIndex {
 }
 
 impl ClauseIndex {
-    pub(crate) fn new(alloc: Global) -> ClauseIndex
-        ensures { result ≡ [] }
+    /// With room for so many claims.
+    pub(crate) fn new(alloc: Global, room: usize) -> Result<ClauseIndex, OutOfMemory>
+        ensures { IfOk result (λ claims. claims ≡ []) }
     {
-        ClauseIndex {
-            held: IndexMap::new(alloc),
-        }
+        let held = IndexMap::with_capacity(alloc, room)?;
+        Ok(ClauseIndex { held })
     }
 
     // The number of the first clause that makes the claim.

@@ -234,8 +234,9 @@ pub(crate) fn judged_clauses(
     ensures found { OnOk result (faults.new.items ≡ faults.old.items
         ++ found_after (entries scopes.now) (map linked clauses.now) [] (map linked clauses.now)) }
 {
-    let mut claims = ClauseIndex::new(alloc);
-    let mut links = Vec::new(alloc);
+    // a sound clause makes two claims, if no other has made one of them
+    let mut claims = ClauseIndex::new(alloc, clauses.len().saturating_mul(2))?;
+    let mut links = Vec::with_capacity(alloc, clauses.len())?;
     for clause in clauses {
         let code = variable_code(scopes, assigned, &claims, *clause);
         let is_flag_wrong = has_wrong_flag(scopes, *clause);

@@ -184,15 +184,16 @@ fn state_name(outline: &Outline) -> Option<&[u8]>
 }
 
 impl NameTables {
-    pub(crate) fn new(alloc: Global) -> NameTables
-        ensures { Follows result.names result.first.entries result.symbols.items result.faults.items [] }
+    /// With room for so many symbols. How many names there are among them isn't known.
+    pub(crate) fn new(alloc: Global, room: usize) -> Result<NameTables, OutOfMemory>
+        ensures { IfOk result (λ t. Follows t.names t.first.entries t.symbols.items t.faults.items []) }
     {
-        NameTables {
+        Ok(NameTables {
             names: Names::new(alloc),
             first: IndexMap::new(alloc),
-            symbols: Vec::new(alloc),
+            symbols: Vec::with_capacity(alloc, room)?,
             faults: Vec::new(alloc),
-        }
+        })
     }
 
     fn add(&mut self, alloc: Global, named: Named) -> Result<(), OutOfMemory>
@@ -311,6 +312,15 @@ impl NameTables {
     }
 }
 
+// How many symbols the items declare, for which room is made.
+fn declared_count(outlines: &[&Outline]) -> usize {
+    let mut count = 0usize;
+    for outline in outlines {
+        count = count.saturating_add(outline.declares.len());
+    }
+    count
+}
+
 /// The tables of all items.
 pub(crate) fn tables_of(
     alloc: Global,
@@ -320,7 +330,7 @@ pub(crate) fn tables_of(
     requires { Placed places.now (map (λ s. s.now) outlines.now) (length outlines.now) }
     ensures { IfOk result (λ t. Follows t.names t.first.entries t.symbols.items t.faults.items (entries (map (λ s. s.now) outlines.now))) }
 {
-    let mut tables = NameTables::new(alloc);
+    let mut tables = NameTables::new(alloc, declared_count(outlines))?;
     for item in 0..outlines.len() {
         let outline = outlines[item];
         tables.add_item(alloc, places[item], item, outline)?;
