@@ -94,7 +94,7 @@ either a b c d e f = ap₂ (λ (x y : Bool). x || y) e f
 le_yes : (a b : ℕ) → a ≤ b → nat_le a b ≡ true
 le_yes a b h = grind (arith, nat_tests)
 
-le_no : (a b : ℕ) → b < a → nat_le a b ≡ false
+pub le_no : (a b : ℕ) → b < a → nat_le a b ≡ false
 le_no a b h = grind (arith, nat_tests)
 
 -- ---- an edit by its places

@@ -1,18 +1,21 @@
--- Lines of texts that have no line markers, and what an edit shifts of them.
-use Rattle.std.proofs.Common.{◌≡◌, ◌==◌, ℕ, suc, ◌+◌, ◌-◌, ◌<◌, ◌≤◌, inl, inr, ◌⊎◌, Bool, true, false, ◌&&◌, cond, nat_lt, List, [], ◌∷◌, length, take, drop, map, min, count_by, filter, Option, None, refl, sym, ap, ap₂, ◌∙◌, arith, length-drop}
-use Rattle.std.specs.Prelude.{is_some, if◌then◌else◌}
-use Rattle.std.proofs.lemmas.List.{length-take-le, take-take}
-use Rattle.std.proofs.lemmas.List.Sums.{count_by-le-length}
+-- Lines of texts that have no line markers, and what an edit shifts of them: all lines are before the next marker.
+use Rattle.std.proofs.Common.{◌≡◌, ℕ, suc, ◌+◌, ◌-◌, ◌≤◌, inl, inr, ◌⊎◌, Bool, true, false, ◌&&◌, ◌||◌, cond, nat_lt, List, [], ◌∷◌, length, map, min, count_by, filter, slice_get, take, Option, None, refl, sym, ap, ap₂, ◌∙◌, subst, arith}
+use Rattle.std.specs.Prelude.{All, is_some, if◌then◌else◌, nat_le}
+use Rattle.snl_lex.specs.declared.line_list.Marker.{Marker}
+use Rattle.snl_lex.specs.declared.line_shift.LineShift.{LineShift}
 use Rattle.snl_lex.specs.declared.lines.Line.{Line}
 use Rattle.snl_lex.specs.declared.piece.Class.{Class}
 use Rattle.snl_lex.specs.declared.piece.Piece.{Piece}
 use Rattle.snl_lex.specs.declared.shift.Shift.{Shift}
-use Rattle.snl_lex.specs.Lines.{file_by, has_line_between, is_marker, last_of, line_at, lines_between, marker_file, marker_number, names_file, number_by, part_of, sets_line}
-use Rattle.snl_lex.specs.Pieces.{bytes_at, piece_end, pieces_of}
+use Rattle.snl_lex.specs.LineList.{marker_of, names, naming_markers, numbers, setting_markers}
+use Rattle.snl_lex.specs.LineShift.{CountsAfter, IsApart, IsLineShift, NumbersFrom, moved_line, shifted_file, shifted_marker}
+use Rattle.snl_lex.specs.Lines.{is_marker, line_at, marker_file, marker_number}
+use Rattle.snl_lex.specs.Pieces.{bytes_at, pieces_of}
 use Rattle.snl_lex.specs.Shift.{IsOutside, IsShift, marker_count, most, shifted_line, shifted_offset}
-use Rattle.snl_lex.proofs.Along.{count_split}
-use Rattle.snl_lex.proofs.Changes.{edit_lengths}
+use Rattle.snl_lex.proofs.CountedLines.{last_for, line_is}
 use Rattle.snl_lex.proofs.Halving.{count_no, count_yes, lt_no, lt_yes}
+use Rattle.snl_lex.proofs.LineBy.{file_in, line_with}
+use Rattle.snl_lex.proofs.MovedLines.{le_no, lines_moved}
 
 told : (b : Bool) → (b ≡ true) ⊎ (b ≡ false)
 told true = inl refl
@@ -32,95 +35,68 @@ none_passes passes quiet (p ∷ ps) h =
       | inr more ↦ absurd (omega (arith, more))
     ]
 
-sets_none : (text : List ℕ) (offset : ℕ) (p : Piece) → is_marker p.kind ≡ false → sets_line text offset p ≡ false
-unfolding sets_line
-sets_none text offset p h = ap (λ (b : Bool). b && is_some (marker_number (bytes_at text p)) && has_line_between text (piece_end p) offset) h
+numbers_none : (text : List ℕ) (p : Piece) → is_marker p.kind ≡ false → numbers text p ≡ false
+numbers_none text p h = ap (λ (b : Bool). b && is_some (marker_number (bytes_at text p))) h
 
-names_none : (text : List ℕ) (offset : ℕ) (p : Piece) → is_marker p.kind ≡ false → names_file text offset p ≡ false
-unfolding names_file
-names_none text offset p h = ap (λ (b : Bool). b && is_some (marker_file (bytes_at text p))) (sets_none text offset p h)
+names_none : (text : List ℕ) (p : Piece) → is_marker p.kind ≡ false → names text p ≡ false
+names_none text p h = ap (λ (b : Bool). b && is_some (marker_file (bytes_at text p))) (numbers_none text p h)
 
-abbrev with_file : ℕ → Option (ℕ × ℕ) → Line
-with_file number file = record { number = number; file = file }
+no_setting : (text : List ℕ) → marker_count text ≡ 0 → setting_markers text ≡ []
+no_setting text none = ap (map (marker_of text)) (none_passes (numbers text) (numbers_none text) (pieces_of text) none)
 
--- The line with a number, of no file.
-abbrev plain : ℕ → Line
-plain number = with_file number None
+no_naming : (text : List ℕ) → marker_count text ≡ 0 → naming_markers text ≡ []
+no_naming text none = ap (map (marker_of text)) (none_passes (names text) (names_none text) (pieces_of text) none)
 
--- A line after the edit.
-abbrev later : Shift → Line → Line
-later s line = with_file (min (line.number + s.new_lines) most - s.old_lines) line.file
+-- So no offset has a file.
+no_file : (text : List ℕ) → marker_count text ≡ 0 → (offset : ℕ) → (line_at text offset).file ≡ None
+no_file text none offset = ap (λ (l : Line). l.file) (line_is text offset) ∙ ap (λ (ms : List Marker). file_in (last_for text offset ms)) (no_naming text none)
 
-plain_line : (text : List ℕ) → marker_count text ≡ 0 → (offset : ℕ) → line_at text offset ≡ plain (1 + lines_between text 0 offset)
-unfolding line_at
-plain_line text h offset =
-    ap₂ (λ (sets names : List Piece). with_file (number_by text offset (last_of sets)) (file_by text (last_of names)))
-    (none_passes (sets_line text offset) (sets_none text offset) (pieces_of text) h)
-    (none_passes (names_file text offset) (names_none text offset) (pieces_of text) h)
+none : (P : Marker → Type 0) (ms : List Marker) → ms ≡ [] → All P ms
+none P ms is = subst (All P) (sym is) (λ k d lt. absurd (omega (arith, lt)))
 
-abbrev count : List ℕ → ℕ
-count bytes = count_by (λ x. x == 10) bytes
-
-few_lines : (text : List ℕ) (a b : ℕ) → a ≤ b → b ≤ length text → lines_between text a b ≤ b - a
-few_lines text a b order inside =
-    let size : length (part_of text a b) ≡ b - a = length-take-le (b - a) (drop a text) (omega (arith, length-drop a text)) in
-    omega (arith, size, count_by-le-length (λ x. x == 10) (part_of text a b))
-
+-- It leaves the line markers, of which there are none.
 module _ (old text : List ℕ) (s : Shift) (is : IsShift old text s) where
-  -- Before the edit both texts have the same lines.
-  same_front : (offset : ℕ) → offset ≤ s.start → lines_between text 0 offset ≡ lines_between old 0 offset
-  same_front offset h =
-      let n : ℕ = offset - 0 in
-      let le : n ≤ s.start = omega (arith, h) in
-      ap count (sym (take-take n s.start text le) ∙ (ap (take n) (sym is.edit.before) ∙ take-take n s.start old le))
+  abbrev whole : LineShift
+  whole = record { by = s; until = length old + 1 }
 
-  same_back : (offset : ℕ) → s.old_stop ≤ offset → lines_between text s.new_stop ((offset - s.old_stop) + s.new_stop) ≡ lines_between old s.old_stop offset
-  same_back offset h =
-      let way : ((offset - s.old_stop) + s.new_stop) - s.new_stop ≡ offset - s.old_stop = omega arith in
-      ap₂ (λ (n : ℕ) (l : List ℕ). count (take n l)) way (sym is.edit.after)
+  setting : setting_markers old ≡ []
+  setting = no_setting old is.no_old_marker
 
-  -- What is counted up to an offset after the edit.
-  counted : (offset : ℕ) → s.old_stop ≤ offset → lines_between text 0 ((offset - s.old_stop) + s.new_stop) + s.old_lines ≡ lines_between old 0 offset + s.new_lines
-  counted offset h =
-      let b = s.old_stop in
-      let c = s.new_stop in
-      let to : ℕ = (offset - b) + c in
-      omega (
-        arith,
-        is.old_lines,
-        is.new_lines,
-        same_front s.start (omega arith),
-        same_back offset h,
-        count_split old 0 s.start offset (omega arith) (omega (arith, h, is.edit.old_order)),
-        count_split old s.start b offset is.edit.old_order h,
-        count_split text 0 s.start to (omega arith) (omega (arith, is.edit.new_order)),
-        count_split text s.start c to is.edit.new_order (omega arith),
-      )
+  naming : naming_markers old ≡ []
+  naming = no_naming old is.no_old_marker
 
-  before : (offset : ℕ) → offset < s.start → line_at text (shifted_offset s offset) ≡ shifted_line s offset (line_at old offset)
-  before offset h =
-      let early : nat_lt offset s.start ≡ true = lt_yes offset s.start h in
-      ap (λ (b : Bool). line_at text (if b then offset else min ((offset - s.old_stop) + s.new_stop) most)) early
-      ∙ (plain_line text is.no_marker offset
-      ∙ (ap (λ (n : ℕ). plain (1 + n)) (same_front offset (omega (arith, h)))
-      ∙ (sym (plain_line old is.no_old_marker offset)
-      ∙ sym (ap (λ (b : Bool). if b then line_at old offset else later s (line_at old offset)) early))))
+  leaves : IsLineShift old text whole
+  leaves = record {
+    edit = is.edit;
+    some_before = is.some_before;
+    old_lines = is.old_lines;
+    new_lines = is.new_lines;
+    setting = no_setting text is.no_marker ∙ sym (ap (map (shifted_marker s)) setting);
+    naming = no_naming text is.no_marker ∙ sym (ap (map (shifted_marker s)) naming);
+    early = 0;
+    setting_before = none (CountsAfter old s.start) (take 0 (setting_markers old)) refl;
+    setting_after = none (λ m. length old + 1 ≤ m.end + 1) (setting_markers old) setting;
+    until_after = omega (arith, is.edit.old_inside);
+    until_marker = subst (λ (ms : List Marker). NumbersFrom old (length old + 1) (slice_get ms 0)) (sym setting) (omega arith);
+    naming_apart = none (IsApart old s) (naming_markers old) naming;
+    old_short = is.old_short;
+    short = is.short;
+  }
 
-  after : (offset : ℕ) → s.old_stop ≤ offset → offset ≤ length old → line_at text (shifted_offset s offset) ≡ shifted_line s offset (line_at old offset)
-  after offset h inside =
-      let to : ℕ = (offset - s.old_stop) + s.new_stop in
-      let late : nat_lt offset s.start ≡ false = lt_no offset s.start (omega (arith, h, is.edit.old_order)) in
-      let fits : min to most ≡ to = omega (arith, inside, h, is.short, edit_lengths old text s.start s.old_stop s.new_stop is.edit) in
-      let few : lines_between old 0 offset ≤ offset - 0 = few_lines old 0 offset (omega arith) inside in
-      let fewer : lines_between text s.start s.new_stop ≤ s.new_stop - s.start = few_lines text s.start s.new_stop is.edit.new_order is.edit.new_inside in
-      let number : 1 + lines_between text 0 to ≡ min ((1 + lines_between old 0 offset) + s.new_lines) most - s.old_lines =
-      omega (arith, counted offset h, few, fewer, inside, is.new_lines, is.short, is.old_short, is.edit.new_inside) in
-      ap (λ (b : Bool). line_at text (if b then offset else min to most)) late
-      ∙ (ap (line_at text) fits
-      ∙ (plain_line text is.no_marker to
-      ∙ (ap plain number
-      ∙ (sym (ap (later s) (plain_line old is.no_old_marker offset))
-      ∙ sym (ap (λ (b : Bool). if b then line_at old offset else later s (line_at old offset)) late)))))
+  -- A line of no file, before the next marker.
+  same_line : (offset : ℕ) (line : Line) → IsOutside old s offset → line.file ≡ None → moved_line whole offset line ≡ shifted_line s offset line
+  same_line offset line (inl less) none =
+      let early : nat_lt offset s.start ≡ true = lt_yes offset s.start less in
+      ap₂ (λ (b : Bool) (file : Option (ℕ × ℕ)). line_with (if b || nat_le (length old + 1) offset then line.number else min (line.number + s.new_lines) most - s.old_lines) (shifted_file s file)) early none
+      ∙ ap (line_with line.number) (sym none)
+      ∙ sym (ap (λ (b : Bool). if b then line else line_with (min (line.number + s.new_lines) most - s.old_lines) line.file) early)
+  same_line offset line (inr more) none =
+      let late : nat_lt offset s.start ≡ false = lt_no offset s.start (omega (arith, more.0, is.edit.old_order)) in
+      let within : nat_le (length old + 1) offset ≡ false = le_no (length old + 1) offset (omega (arith, more.1)) in
+      ap₂ (λ (a b : Bool). line_with (if a || b then line.number else min (line.number + s.new_lines) most - s.old_lines) (shifted_file s line.file)) late within
+      ∙ ap (λ (file : Option (ℕ × ℕ)). line_with (min (line.number + s.new_lines) most - s.old_lines) (shifted_file s file)) none
+      ∙ ap (line_with (min (line.number + s.new_lines) most - s.old_lines)) (sym none)
+      ∙ sym (ap (λ (b : Bool). if b then line else line_with (min (line.number + s.new_lines) most - s.old_lines) line.file) late)
 
   pub lines_shifted : (offset : ℕ) → IsOutside old s offset → line_at text (shifted_offset s offset) ≡ shifted_line s offset (line_at old offset)
-  lines_shifted offset h = elim h [ inl less ↦ before offset less | inr more ↦ after offset more.0 more.1 ]
+  lines_shifted offset h = lines_moved old text whole leaves offset h ∙ same_line offset (line_at old offset) h (no_file old is.no_old_marker offset)

@@ -88,11 +88,10 @@ fn count_after(text: &[u8], place: usize, markers: &[Marker]) -> bool
 fn count_before(markers: &[Marker], place: usize) -> usize
     ensures { result ≤ length markers.now }
 {
-    let mut count = 0;
-    while count < markers.len() && markers[count].end < place {
-        count += 1;
-    }
-    count
+    markers
+        .iter()
+        .position(|marker| place <= marker.end)
+        .unwrap_or(markers.len())
 }
 
 fn marker_at(markers: &[Marker], number: usize) -> Option<Marker>

@@ -2,6 +2,7 @@
 //! place. No memory is asked for.
 
 ghost use Rattle.std.specs.Prelude.{◌≡◌, map};
+ghost use Rattle.snl_lex.specs.declared.line_shift.LineShift.{LineShift};
 ghost use Rattle.snl_lex.specs.LineShift.{moved_line};
 ghost use Rattle.snl_tables.specs.Moved.{moved_set, moved_state, moved_tables};
 ghost use Rattle.snl_tables.specs.Shifted.{shifted_span};
@@ -10,6 +11,43 @@ use crate::row_list::Rows;
 use crate::rows::{SetRow, Span, StateRow, Tables};
 use crate::shift::{Shifts, shift_any};
 use snl_lex::{Line, LineShift};
+
+// What has lines that an edit shifts.
+trait ShiftsLines {
+    ghost moved: { LineShift → Self → Self };
+
+    fn shift_lines(&mut self, shift: LineShift)
+        ensures { self.new ≡ moved shift self.old };
+}
+
+impl ShiftsLines for StateRow {
+    ghost moved = { λ t row. moved_state t.by (moved_line t) row };
+
+    fn shift_lines(&mut self, shift: LineShift) {
+        shift_head(&mut self.name, &mut self.line, shift);
+        self.transitions.shift(shift.by);
+        self.gotos.shift(shift.by);
+    }
+}
+
+impl ShiftsLines for SetRow {
+    ghost moved = { λ t row. moved_set t.by (moved_line t) row };
+
+    fn shift_lines(&mut self, shift: LineShift) {
+        shift_head(&mut self.name, &mut self.line, shift);
+        self.states.shift_lines(shift);
+    }
+}
+
+impl<T: ShiftsLines> ShiftsLines for Rows<T> {
+    ghost moved = { λ t rows. map (T.moved t) rows };
+
+    fn shift_lines(&mut self, shift: LineShift) {
+        for row in self.rows.iter_mut() {
+            row.shift_lines(shift);
+        }
+    }
+}
 
 // The name of an item, and its line, which moves as that of the name does.
 fn shift_head(name: &mut Span, line: &mut Line, shift: LineShift)
@@ -20,37 +58,6 @@ fn shift_head(name: &mut Span, line: &mut Line, shift: LineShift)
     name.shift(shift.by);
 }
 
-fn shift_state(row: &mut StateRow, shift: LineShift)
-    ensures { row.new ≡ moved_state shift.by (moved_line shift) row.old }
-{
-    shift_head(&mut row.name, &mut row.line, shift);
-    row.transitions.shift(shift.by);
-    row.gotos.shift(shift.by);
-}
-
-fn shift_states(states: &mut Rows<StateRow>, shift: LineShift)
-    ensures { states.new ≡ map (moved_state shift.by (moved_line shift)) states.old }
-{
-    for row in states.rows.iter_mut() {
-        shift_state(row, shift);
-    }
-}
-
-fn shift_set(row: &mut SetRow, shift: LineShift)
-    ensures { row.new ≡ moved_set shift.by (moved_line shift) row.old }
-{
-    shift_head(&mut row.name, &mut row.line, shift);
-    shift_states(&mut row.states, shift);
-}
-
-fn shift_sets(sets: &mut Rows<SetRow>, shift: LineShift)
-    ensures { sets.new ≡ map (moved_set shift.by (moved_line shift)) sets.old }
-{
-    for row in sets.rows.iter_mut() {
-        shift_set(row, shift);
-    }
-}
-
 impl Tables {
     /// Shifts what the rows point to, and their lines, as an edit shifts them that changes nothing else of these tables.
     pub fn shift_lines(&mut self, shift: LineShift)
@@ -59,6 +66,6 @@ impl Tables {
         shift_any(&mut self.program, shift.by);
         self.flags.shift(shift.by);
         self.channels.shift(shift.by);
-        shift_sets(&mut self.sets, shift);
+        self.sets.shift_lines(shift);
     }
 }

@@ -57,7 +57,7 @@ fn parts_none(lists: &Lists, text: &[u8], place: usize, before: usize) -> bool
     ensures { IsTrue result → AreOnOneSide place text.now }
 {
     ends_in_order::<Tokens>();
-    is_end(before, &lists.items.ends) || parts_no_item(before, &lists.items.ends)
+    parts_no_item(before, &lists.items.ends) || is_end(before, &lists.items.ends)
 }
 
 // Whether the line that begins at a place, where a line marker numbers it, is not between the two first tokens of an item. A place after the

@@ -11,6 +11,10 @@ use Rattle.snl_kept.specs.Shifted.{AreOnOneSide, ShiftsAll, ShiftsLines}
 use Rattle.snl_kept.proofs.Sides.{left_after, left_in_front}
 use Rattle.snl_kept.proofs.ways.shift.shift_of.Goals as goal
 
+-- what is known of a shift, if there is one, is known of this one
+told : (old text : List ℕ) (a b c : ℕ) (o : Option Shifted) (u : Shifted) → o ≡ Some u → IfSome o (λ v. AreShifted old text a b c v.by v.before) → AreShifted old text a b c u.by u.before
+told old text a b c o u is known = subst (λ (o : Option Shifted). IfSome o (λ v. AreShifted old text a b c v.by v.before)) is known
+
 pub returns-then-leaves_all : goal.returns-then-leaves_all
 returns-then-leaves_all c = by c.lines_of.result c.lines_of.ensures.by c.lines_of.ensures.lines
   where
@@ -22,8 +26,7 @@ returns-then-leaves_all c = by c.lines_of.result c.lines_of.ensures.by c.lines_o
         let old : List ℕ = edit.old.now in
         let text : List ℕ = edit.text.now in
         let u : Shifted = c.in_ok-shifted.shifted in
-        let tokens : AreShifted old text edit.start edit.old_stop edit.new_stop u.by u.before =
-        subst (λ (o : Option Shifted). IfSome o (λ v. AreShifted old text edit.start edit.old_stop edit.new_stop v.by v.before)) c.in_ok-shifted.was c.requires.changes.shifted in
+        let tokens = told old text edit.start edit.old_stop edit.new_stop c.args.changes.now.tokens.shifted u c.in_ok-shifted.was c.requires.changes.shifted in
         let found : All (λ (d : Diagnostic). IsOutside old u.by d.offset) (diagnostics_of old) =
         subst (All (λ (d : Diagnostic). IsOutside old u.by d.offset)) c.requires.found (c.leaves_all.ensures c.if-leaves_all.true) in
         record {
@@ -38,14 +41,12 @@ pub parts_none-requires-clause-front : goal.parts_none-requires-clause-front
 parts_none-requires-clause-front c =
     let edit = c.args.edit.now in
     let u : Shifted = c.in_ok-shifted.shifted in
-    let tokens : AreShifted edit.old.now edit.text.now edit.start edit.old_stop edit.new_stop u.by u.before =
-    subst (λ (o : Option Shifted). IfSome o (λ v. AreShifted edit.old.now edit.text.now edit.start edit.old_stop edit.new_stop v.by v.before)) c.in_ok-shifted.was c.requires.changes.shifted in
+    let tokens = told edit.old.now edit.text.now edit.start edit.old_stop edit.new_stop c.args.changes.now.tokens.shifted u c.in_ok-shifted.was c.requires.changes.shifted in
     left_in_front edit.old.now u.by (tokens_of edit.text.now) u.before (c.text_in_pieces.ensures.inside edit.old.now) tokens.left
 
 pub parts_none-requires-clause-back : goal.parts_none-requires-clause-back
 parts_none-requires-clause-back c =
     let edit = c.args.edit.now in
     let u : Shifted = c.in_ok-shifted.shifted in
-    let tokens : AreShifted edit.old.now edit.text.now edit.start edit.old_stop edit.new_stop u.by u.before =
-    subst (λ (o : Option Shifted). IfSome o (λ v. AreShifted edit.old.now edit.text.now edit.start edit.old_stop edit.new_stop v.by v.before)) c.in_ok-shifted.was c.requires.changes.shifted in
+    let tokens = told edit.old.now edit.text.now edit.start edit.old_stop edit.new_stop c.args.changes.now.tokens.shifted u c.in_ok-shifted.was c.requires.changes.shifted in
     left_after edit.old.now u.by (tokens_of edit.text.now) u.before (omega (arith, tokens.by.start_is, tokens.by.old_stop_is, edit.edit.old_order)) tokens.left
