@@ -9,7 +9,8 @@ use Rattle.std.proofs.lemmas.Bool.Decides.{nat_tests}
 use Rattle.std.proofs.lemmas.List.{get_or_append_left, length-take-le, take_all}
 use Rattle.std.proofs.lemmas.Slice.Eq.{bytes_eq-Decides}
 use Rattle.std.proofs.Math.Seq.{get_or-append_seam, take-suc}
-use Rattle.snl_scope.specs.Prints.{AreFound, last_with, print_of}
+use Rattle.snl_walk.specs.Prints.{print_of}
+use Rattle.snl_scope.specs.Prints.{AreFound, last_with}
 use Rattle.snl_scope.proofs.Numbering.{position-push}
 
 abbrev Name : Type 0

@@ -1,11 +1,7 @@
--- Names under prints: a number that the bytes of a name give, by which names are found.
+-- Names that are found by their prints. Names of different prints are different.
 use Rattle.std.specs.Prelude.{◌≡◌, ℕ, zero, suc, ◌<◌, ◌==◌, if◌then◌else◌, nat_eq, List, [], length, get_or, slice_get, Option, Some, None}
-use Rattle.std.specs.Hash.FoldHasher as fold
 use Rattle.std.specs.Map.{lookup}
-
--- The print of a name. Names of different prints are different.
-unfoldable pub print_of : List ℕ → ℕ
-print_of name = fold.finish (fold.write fold.initial name)
+use Rattle.snl_walk.specs.Prints.{print_of}
 
 -- The last of the first n names that has a print.
 abbrev pub last_with : List (List ℕ) → ℕ → ℕ → Option ℕ

@@ -14,3 +14,4 @@ pub mod Passing
 pub mod Undeclared
 pub mod Rules
 pub mod Repeated
+pub mod Prints

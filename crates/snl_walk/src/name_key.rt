@@ -1,17 +1,34 @@
 //! Names as keys of tables.
 
-ghost use Rattle.std.specs.Prelude.{◌≡◌, [], ◌∷◌, bytes_eq};
+ghost use Rattle.std.specs.Prelude.{◌≡◌, bytes_eq};
 ghost use Rattle.std.specs.Cmp.{on_equiv, on_per, partial_equiv_from_equiv};
 ghost use Rattle.std.specs.Cmp.Lexicographic.{nat_list_eq_equiv};
-ghost use Rattle.std.specs.Cmp.Rules.{hashing};
-ghost use Rattle.std.proofs.Common.{rules};
+ghost use Rattle.std.specs.Hash as fed;
+ghost use Rattle.std.proofs.Common.{ap};
+ghost use Rattle.std.proofs.lemmas.Slice.Eq.{bytes_eq-Decides};
+ghost use Rattle.snl_walk.specs.Prints.{print_of};
 
-use std::hash::{Hash, Hasher};
+use std::hash::{FoldHasher, Hash, Hasher};
 
-/// A name as a key of a table. Its bytes are hashed by one write, where those of a slice take a write each.
+/// A name as a key of a table. It is hashed by its print, where the bytes of a slice take a write each.
 #[derive(Clone, Copy)]
 pub struct NameKey<'a> {
     pub bytes: &'a [u8],
+}
+
+/// The print of a name, which is a hash of all its bytes, eight at a time: each write is multiplied by a constant. In a longer write
+/// some bytes would be multiplied by others, so names could be chosen of which each product is nothing: many names with one print.
+#[tactic(auto, unfolding(crate::specs::Prints::print_of))]
+pub fn print_of(name: &[u8]) -> u64
+    ensures { result ≡ print_of name.now }
+{
+    let (words, rest) = name.as_chunks::<8>();
+    let mut state = FoldHasher::default();
+    for word in words {
+        state.write(word);
+    }
+    state.write(rest);
+    state.finish()
 }
 
 impl PartialEq for NameKey<'_> {
@@ -29,11 +46,11 @@ impl Eq for NameKey<'_> {
 }
 
 impl Hash for NameKey<'_> {
-    ghost hash_input = { λ a. a.bytes.now ∷ [] };
+    ghost hash_input = { λ a. fed.u64 (print_of a.bytes.now) };
 
-    ghost respects_eq = { Prim.search (hashing, rules) };
+    ghost respects_eq = { λ a b h. ap (λ n. fed.u64 (print_of n)) ((bytes_eq-Decides a.bytes.now b.bytes.now).0 h) };
 
     fn hash<H: Hasher>(&self, state: &mut H) {
-        state.write(self.bytes);
+        state.write_u64(print_of(self.bytes));
     }
 }

@@ -2,13 +2,14 @@
 
 ghost use Rattle.std.specs.Prelude.{◌≡◌, [], ◌∷◌, ◌++◌, OnErr, OnOk, IfOk, None, Some, bytes_eq, length, position};
 ghost use Rattle.snl_scope.specs.NameTables.{with_name};
-ghost use Rattle.snl_scope.specs.Prints.{last_with, print_of};
+ghost use Rattle.snl_scope.specs.Prints.{last_with};
+ghost use Rattle.snl_walk.specs.Prints.{print_of};
 
 use crate::summaries::name::Name;
 use indexmap::IndexMap;
 use snl_cut::OutOfMemory;
+use snl_walk::print_of;
 use std::alloc::Global;
-use std::hash::{FoldHasher, Hasher};
 use std::marker::Model;
 
 /// Different names, which contracts see as their list. The number of a name is its place in it. A name is found by its print, which is
@@ -31,16 +32,6 @@ impl Model for Names {
     ghost view = { λ a. a.names.items };
 
     ghost invariant = { λ a. AreFound a.names.items a.earlier.items a.last.entries };
-}
-
-// The print of a name.
-#[tactic(auto, unfolding(crate::specs::Prints::print_of))]
-fn print_of(name: &[u8]) -> u64
-    ensures { result ≡ print_of name.now }
-{
-    let mut state = FoldHasher::default();
-    state.write(name);
-    state.finish()
 }
 
 impl Names {

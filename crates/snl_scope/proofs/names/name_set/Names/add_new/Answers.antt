@@ -1,7 +1,8 @@
 use Rattle.std.proofs.Common.{◌≡◌, ℕ, ◌++◌, ◌∷◌, [], List, length, Option, nat_eq, Some, sym, ap, ap₂, subst, ◌∙◌, arith}
 use Rattle.std.specs.Map.{lookup}
 use Rattle.std.specs.Prelude.{if◌then◌else◌}
-use Rattle.snl_scope.specs.Prints.{AreFound, last_with, print_of}
+use Rattle.snl_walk.specs.Prints.{print_of}
+use Rattle.snl_scope.specs.Prints.{AreFound, last_with}
 use Rattle.snl_scope.proofs.Prints.{found_with}
 use Rattle.snl_scope.proofs.names.name_set.Names.add_new.Goals as goal
 

@@ -1,7 +1,8 @@
 use Rattle.std.proofs.Common.{◌≡◌, ℕ, ◌<◌, Bool, List, [], length, get_or, None, Some, sym, ap, ap₂, ◌∙◌, arith}
 use Rattle.std.specs.Prelude.{if◌then◌else◌}
 use Rattle.std.specs.Str.{bytes_eq}
-use Rattle.snl_scope.specs.Prints.{last_with, print_of}
+use Rattle.snl_walk.specs.Prints.{print_of}
+use Rattle.snl_scope.specs.Prints.{last_with}
 use Rattle.snl_scope.proofs.Prints.{IsLast, got, last_found, none_found, same_got, scan, scan_whole}
 use Rattle.snl_scope.proofs.names.name_set.Names.number_among.Goals as goal
 use Rattle.snl_scope.proofs.names.name_set.Names.number_among.Goals.{then-eq, else-eq}

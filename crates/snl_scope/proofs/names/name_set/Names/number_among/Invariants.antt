@@ -1,7 +1,8 @@
 use Rattle.std.proofs.Common.{◌≡◌, ◌≤◌, length}
 use Rattle.std.specs.List.{position}
 use Rattle.std.specs.Str.{bytes_eq}
-use Rattle.snl_scope.specs.Prints.{last_with, print_of}
+use Rattle.snl_walk.specs.Prints.{print_of}
+use Rattle.snl_scope.specs.Prints.{last_with}
 use Rattle.snl_scope.proofs.Prints.{scan}
 use Rattle.snl_scope.proofs.names.name_set.Names.number_among.Given as goal
 
