@@ -8,8 +8,8 @@ use Rattle.std.specs.Map.{lookup}
 use Rattle.std.specs.Option.{option_and_then, option_or}
 use Rattle.std.specs.Str.{bytes_eq}
 use Rattle.indexmap.specs.IndexMap.{insert_entry}
-use Rattle.indexmap.proofs.MapLemmas.{absent_from_lookup, insert_entry-absent}
 use Rattle.snl_scope.specs.declared.facts.LinkFault.{LinkFault}
+use Rattle.snl_scope.specs.declared.names.first_numbers.FirstNumbers.{FirstNumbers}
 use Rattle.snl_scope.specs.declared.names.namespaces.Key.{Key}
 use Rattle.snl_scope.specs.declared.names.namespaces.Namespace.{Namespace}
 use Rattle.snl_scope.specs.declared.names.name_tables.Symbol.{Symbol}
@@ -17,7 +17,7 @@ use Rattle.snl_scope.specs.contracts.names.namespaces.KeyPartialEq.TheImpl as ke
 use Rattle.snl_scope.specs.Below.{all_below}
 use Rattle.snl_scope.specs.Flags.{is_first_at}
 use Rattle.snl_scope.specs.Names.{Entry, has_name, number_in, repetition, repetition_at, repetitions}
-use Rattle.snl_scope.specs.NameTables.{Follows, number_by, same_key, symbol_of, with_name}
+use Rattle.snl_scope.specs.NameTables.{AreSame, Follows, IsPut, number_by, number_under, same_key, symbol_of, with_name}
 use Rattle.snl_scope.proofs.Equality.{key_is, key_true, key_same, name_same, name_true}
 use Rattle.snl_scope.proofs.FirstEntries.{firsts-new, firsts-seen}
 use Rattle.snl_scope.proofs.Numbering.{position-push}
@@ -45,20 +45,24 @@ or-none (Some x) = refl
 abbrev key : Namespace → ℕ → Key
 key s n = record { namespace = s; name = n }
 
-module _ (names : List (List ℕ)) (first : List (Key × ℕ)) (symbols : List Symbol) (faults : List LinkFault) (es : List Entry) (f : Follows names first symbols faults es) where
+under_same : (first first' : FirstNumbers) → AreSame first first' → (s : Namespace) (o : Option ℕ) → option_and_then (number_under first' s) o ≡ option_and_then (number_under first s) o
+under_same first first' same s None = refl
+under_same first first' same s (Some n) = same.under s n
+
+module _ (names : List (List ℕ)) (first : FirstNumbers) (symbols : List Symbol) (faults : List LinkFault) (es : List Entry) (f : Follows names first symbols faults es) where
   -- a new name that nothing is declared by yet
   same_numbers : (name : List ℕ) (s : Namespace) (other : List ℕ) → number_by (with_name names name) first s other ≡ number_by names first s other
   same_numbers name s other = by (position (bytes_eq name) names)
     where
       later : (o : Option ℕ) (b : Bool)
-          → option_and_then (λ n. lookup (same_key (key s n)) first) (option_or o (cond b (Some (length names)) None))
-          ≡ option_and_then (λ n. lookup (same_key (key s n)) first) o
+          → option_and_then (number_under first s) (option_or o (cond b (Some (length names)) None))
+          ≡ option_and_then (number_under first s) o
       later None true = f.fresh s (length names) (omega arith)
       later None false = refl
       later (Some n) b = refl
 
       by : (o : Option ℕ) → number_by (if is_some o then names else names ++ name ∷ []) first s other ≡ number_by names first s other
-      by None = ap (option_and_then (λ n. lookup (same_key (key s n)) first)) (position-push (bytes_eq other) names name) ∙ later (position (bytes_eq other) names) (bytes_eq other name)
+      by None = ap (option_and_then (number_under first s)) (position-push (bytes_eq other) names name) ∙ later (position (bytes_eq other) names) (bytes_eq other name)
       by (Some n) = refl
 
   longer : (name : List ℕ) → length names ≤ length (with_name names name)
@@ -70,7 +74,7 @@ module _ (names : List (List ℕ)) (first : List (Key × ℕ)) (symbols : List S
 
   pub follows_name : (name : List ℕ) → Follows (with_name names name) first symbols faults es
   follows_name name = record {
-    tabled = record { found = λ s other. same_numbers name s other ∙ f.tabled.found s other; known = f.tabled.known };
+    tabled = record { found = λ s other. same_numbers name s other ∙ f.tabled.found s other; inner = f.tabled.inner; known = f.tabled.known };
     fresh = λ s n h. f.fresh s n (omega (arith, h, longer name));
     again = f.again;
     firsts = f.firsts;
@@ -78,14 +82,14 @@ module _ (names : List (List ℕ)) (first : List (Key × ℕ)) (symbols : List S
 
   module _ (e : Entry) (k : ℕ) (numbered : position (bytes_eq e.name) names ≡ Some k) where
     -- what the tables have for the entry's name
-    here : number_by names first e.namespace e.name ≡ lookup (same_key (key e.namespace k)) first
-    here = ap (option_and_then (λ n. lookup (same_key (key e.namespace n)) first)) numbered
+    here : number_by names first e.namespace e.name ≡ number_under first e.namespace k
+    here = ap (option_and_then (number_under first e.namespace)) numbered
 
     known_here : (symbols' : List Symbol) → symbols' ≡ symbols ++ symbol_of e ∷ [] → symbols' ≡ map symbol_of (es ++ e ∷ [])
     known_here symbols' h = h ∙ ap (λ l. l ++ symbol_of e ∷ []) f.tabled.known ∙ sym (map-append symbol_of es (e ∷ []))
 
     -- the entry's name is there: the tables stay, and a finding is added
-    module _ (there : is_some (lookup (same_key (key e.namespace k)) first) ≡ true) where
+    module _ (there : is_some (number_under first e.namespace k) ≡ true) where
       seen : is_some (number_in es e.namespace e.name) ≡ true
       seen = ap is_some (sym (f.tabled.found e.namespace e.name)) ∙ ap is_some here ∙ there
 
@@ -99,20 +103,25 @@ module _ (names : List (List ℕ)) (first : List (Key × ℕ)) (symbols : List S
               (ap (λ t. is_some (number_in es t name)) p.0 ∙ ap (λ n. is_some (number_in es e.namespace n)) p.1 ∙ seen)
           by false h = ap (λ b. option_or (number_in es s name) (cond b (Some (length es)) None)) h ∙ or-none (number_in es s name)
 
-      pub follows_again : (symbols' : List Symbol) (faults' : List LinkFault) → symbols' ≡ symbols ++ symbol_of e ∷ [] → faults' ≡ faults ++ repetition_at e
-          → Follows names first symbols' faults' (es ++ e ∷ [])
-      follows_again symbols' faults' h g = record {
-        tabled = record { found = λ s name. f.tabled.found s name ∙ stays s name; known = known_here symbols' h };
-        fresh = f.fresh;
+      pub follows_again : (first' : FirstNumbers) → AreSame first first' → first'.numbers.items ≡ first.numbers.items
+          → (symbols' : List Symbol) (faults' : List LinkFault) → symbols' ≡ symbols ++ symbol_of e ∷ [] → faults' ≡ faults ++ repetition_at e
+          → Follows names first' symbols' faults' (es ++ e ∷ [])
+      follows_again first' same numbers symbols' faults' h g = record {
+        tabled = record {
+          found = λ s name. under_same first first' same s (position (bytes_eq name) names) ∙ f.tabled.found s name ∙ stays s name;
+          inner = λ s n t p. same.under s n ∙ f.tabled.inner s n t (sym (same.inner n) ∙ p);
+          known = known_here symbols' h;
+        };
+        fresh = λ s n l. same.under s n ∙ f.fresh s n l;
         again = g ∙ ap (λ l. l ++ repetition_at e) f.again
             ∙ sym (repetitions-push [] es e ∙ ap (λ b. repetitions [] es ++ (if b then repetition_at e else [])) seen);
-        firsts = f.firsts ∙ sym (firsts-seen es e seen);
+        firsts = numbers ∙ f.firsts ∙ sym (firsts-seen es e seen);
       }
 
     -- it is new: the tables have it, and there is no finding
-    module _ (first' : List (Key × ℕ)) (number : ℕ) (absent : is_some (lookup (same_key (key e.namespace k)) first) ≡ false)
-        (put : (q : Key) → lookup (same_key q) first' ≡ cond (same_key (key e.namespace k) q) (Some number) (lookup (same_key q) first))
-        (listed : first' ≡ first ++ (key e.namespace k, number) ∷ []) (counted : number ≡ length es) where
+    module _ (first' : FirstNumbers) (number : ℕ) (absent : is_some (number_under first e.namespace k) ≡ false)
+        (is : IsPut first first' (key e.namespace k) number)
+        (listed : first'.numbers.items ≡ first.numbers.items ++ number ∷ []) (counted : number ≡ length es) where
       unseen : is_some (number_in es e.namespace e.name) ≡ false
       unseen = ap is_some (sym (f.tabled.found e.namespace e.name)) ∙ ap is_some here ∙ absent
 
@@ -125,14 +134,14 @@ module _ (names : List (List ℕ)) (first : List (Key × ℕ)) (symbols : List S
       found : (s : Namespace) (name : List ℕ) → number_by names first' s name ≡ number_in (es ++ e ∷ []) s name
       found s name = by (position (bytes_eq name) names) refl ∙ sym (position-push (has_name s name) es e)
         where
-          before : (o : Option ℕ) → position (bytes_eq name) names ≡ o → number_in es s name ≡ option_and_then (λ n. lookup (same_key (key s n)) first) o
-          before o h = sym (f.tabled.found s name) ∙ ap (option_and_then (λ n. lookup (same_key (key s n)) first)) h
+          before : (o : Option ℕ) → position (bytes_eq name) names ≡ o → number_in es s name ≡ option_and_then (number_under first s) o
+          before o h = sym (f.tabled.found s name) ∙ ap (option_and_then (number_under first s)) h
 
           other : has_name s name e ≡ false → option_or (number_in es s name) (cond (has_name s name e) (Some (length es)) None) ≡ number_in es s name
           other h = ap (λ b. option_or (number_in es s name) (cond b (Some (length es)) None)) h ∙ or-none (number_in es s name)
 
           by : (o : Option ℕ) → position (bytes_eq name) names ≡ o
-              → option_and_then (λ n. lookup (same_key (key s n)) first') o ≡ option_or (number_in es s name) (cond (has_name s name e) (Some (length es)) None)
+              → option_and_then (number_under first' s) o ≡ option_or (number_in es s name) (cond (has_name s name e) (Some (length es)) None)
           by None h = no_number (has_name s name e) refl
             where
               no_number : (b : Bool) → has_name s name e ≡ b → None ≡ option_or (number_in es s name) (cond (has_name s name e) (Some (length es)) None)
@@ -140,20 +149,20 @@ module _ (names : List (List ℕ)) (first : List (Key × ℕ)) (symbols : List S
                   let p = name_true s name e g in
                   let clash : None ≡ Some k = sym h ∙ ap (λ n. position (bytes_eq n) names) p.1 ∙ numbered in absurd (cc)
               no_number false g = sym (other g ∙ before None h)
-          by (Some j) h = put (key s j) ∙ compared (same_key (key e.namespace k) (key s j)) refl
+          by (Some j) h = is.under s j ∙ compared (same_key (key e.namespace k) (key s j)) refl
             where
               compared : (b : Bool) → same_key (key e.namespace k) (key s j) ≡ b
-                  → cond (same_key (key e.namespace k) (key s j)) (Some number) (lookup (same_key (key s j)) first)
+                  → cond (same_key (key e.namespace k) (key s j)) (Some number) (number_under first s j)
                   ≡ option_or (number_in es s name) (cond (has_name s name e) (Some (length es)) None)
               compared true g =
                   let p = key_true (key e.namespace k) (key s j) g in
                   let n = one_name name (h ∙ ap Some (sym p.1)) in
                   let same : has_name s name e ≡ true = ap (λ t. has_name t name e) (sym p.0) ∙ ap (λ m. has_name e.namespace m e) n ∙ name_same e in
                   let gone : is_some (number_in es s name) ≡ false = ap (λ t. is_some (number_in es t name)) (sym p.0) ∙ ap (λ m. is_some (number_in es e.namespace m)) n ∙ unseen in
-                  ap (λ b. cond b (Some number) (lookup (same_key (key s j)) first)) g ∙ ap Some counted
+                  ap (λ b. cond b (Some number) (number_under first s j)) g ∙ ap Some counted
                   ∙ sym (none-or (number_in es s name) (cond (has_name s name e) (Some (length es)) None) gone ∙ ap (λ b. cond b (Some (length es)) None) same)
               compared false g =
-                  ap (λ b. cond b (Some number) (lookup (same_key (key s j)) first)) g ∙ sym (before (Some j) h) ∙ sym (differs (has_name s name e) refl)
+                  ap (λ b. cond b (Some number) (number_under first s j)) g ∙ sym (before (Some j) h) ∙ sym (differs (has_name s name e) refl)
                 where
                   differs : (b : Bool) → has_name s name e ≡ b → option_or (number_in es s name) (cond (has_name s name e) (Some (length es)) None) ≡ number_in es s name
                   differs true t =
@@ -163,20 +172,19 @@ module _ (names : List (List ℕ)) (first : List (Key × ℕ)) (symbols : List S
                       absurd (true≢false (sym (key_same (key s j)) ∙ ap (λ n. same_key (key s n) (key s j)) m ∙ ap (λ t. same_key (key t k) (key s j)) p.0 ∙ g))
                   differs false t = other t
 
-      none_there : (s : Namespace) (n : ℕ) → length names ≤ n → cond (same_key (key e.namespace k) (key s n)) (Some number) (lookup (same_key (key s n)) first) ≡ None
+      none_there : (s : Namespace) (n : ℕ) → length names ≤ n → cond (same_key (key e.namespace k) (key s n)) (Some number) (number_under first s n) ≡ None
       none_there s n l = by (same_key (key e.namespace k) (key s n)) refl
         where
-          by : (b : Bool) → same_key (key e.namespace k) (key s n) ≡ b → cond (same_key (key e.namespace k) (key s n)) (Some number) (lookup (same_key (key s n)) first) ≡ None
+          by : (b : Bool) → same_key (key e.namespace k) (key s n) ≡ b → cond (same_key (key e.namespace k) (key s n)) (Some number) (number_under first s n) ≡ None
           by true h = let p = (key_true (key e.namespace k) (key s n) h).1 in let w = (position-Some (bytes_eq e.name) names k [] numbered).0 in absurd (omega (arith, l, p, w))
-          by false h = ap (λ b. cond b (Some number) (lookup (same_key (key s n)) first)) h ∙ f.fresh s n l
+          by false h = ap (λ b. cond b (Some number) (number_under first s n)) h ∙ f.fresh s n l
 
       pub follows_new : (symbols' : List Symbol) → symbols' ≡ symbols ++ symbol_of e ∷ [] → Follows names first' symbols' faults (es ++ e ∷ [])
       follows_new symbols' h = record {
-        tabled = record { found = found; known = known_here symbols' h };
-        fresh = λ s n l. put (key s n) ∙ none_there s n l;
+        tabled = record { found = found; inner = is.inner f.tabled.inner; known = known_here symbols' h };
+        fresh = λ s n l. is.under s n ∙ none_there s n l;
         again = f.again ∙ sym (repetitions-push [] es e ∙ ap (λ b. repetitions [] es ++ (if b then repetition_at e else [])) unseen ∙ append-nil (repetitions [] es));
-        firsts = ap (map (λ p. p.1)) listed ∙ map-append (λ p. p.1) first ((key e.namespace k, number) ∷ [])
-            ∙ ap (λ l. l ++ number ∷ []) f.firsts ∙ ap (λ n. all_below (is_first_at es) (length es) ++ n ∷ []) counted ∙ sym (firsts-new es e unseen);
+        firsts = listed ∙ ap (λ l. l ++ number ∷ []) f.firsts ∙ ap (λ n. all_below (is_first_at es) (length es) ++ n ∷ []) counted ∙ sym (firsts-new es e unseen);
       }
 
 -- the table is read by the test that the code derives
@@ -200,15 +208,6 @@ put-back eq k v w (e ∷ es) h = by (λ f. put-back eq k v w es f) (eq k e.0) re
 pub first_stays : (k : Key) (number first : ℕ) (entries : List (Key × ℕ)) → Some first ≡ lookup (key_eq.eq-value.it k) entries
     → insert_entry key_eq.eq-value.it (insert_entry key_eq.eq-value.it entries k number) k first ≡ entries
 first_stays k number first entries h = put-back key_eq.eq-value.it k number first entries (sym h)
-
--- a new key goes last
-pub listed_last : (k : Key) (number : ℕ) (entries : List (Key × ℕ)) → is_some (lookup (same_key k) entries) ≡ false
-    → insert_entry key_eq.eq-value.it entries k number ≡ entries ++ (k, number) ∷ []
-listed_last k number entries absent = insert_entry-absent key_eq.eq-value.it k number entries (absent_from_lookup (key_eq.eq-value.it k) entries (gone (lookup (key_eq.eq-value.it k) entries) (ap is_some (lookup_is k entries) ∙ absent)))
-  where
-    gone : (o : Option ℕ) → is_some o ≡ false → o ≡ None
-    gone None h = refl
-    gone (Some n) h = absurd (true≢false h)
 
 pub put_is : (k : Key) (number : ℕ) (before after : List (Key × ℕ))
     → ((q : Key) → lookup (key_eq.eq-value.it q) after ≡ cond (key_eq.eq-value.it k q) (Some number) (lookup (key_eq.eq-value.it q) before))

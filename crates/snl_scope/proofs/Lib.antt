@@ -10,7 +10,7 @@ pub mod Rising
 pub mod FirstEntries
 pub mod Entries
 pub mod Pairs
-pub mod OwnScopes
+pub mod Resolving
 pub mod Leaves
 pub mod Mentioned
 pub mod SomeTokens

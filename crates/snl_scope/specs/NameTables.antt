@@ -7,6 +7,8 @@ use Rattle.snl_scope.specs.declared.items.heads.Head.{Head}
 use Rattle.snl_scope.specs.declared.items.phases.Before.{Before}
 use Rattle.snl_scope.specs.declared.items.heads.Member.{Member}
 use Rattle.snl_scope.specs.declared.items.heads.Member.TheVariants as member
+use Rattle.snl_scope.specs.declared.names.first_numbers.FirstNumbers.{FirstNumbers}
+use Rattle.snl_scope.specs.declared.names.first_numbers.NameHead.{NameHead}
 use Rattle.snl_scope.specs.declared.names.namespaces.Key.{Key}
 use Rattle.snl_scope.specs.declared.names.namespaces.Namespace.{Namespace}
 use Rattle.snl_scope.specs.declared.names.namespaces.Namespace.TheVariants as namespace
@@ -103,16 +105,49 @@ with_name names name = if is_some (position (bytes_eq name) names) then names el
 abbrev pub same_key : Key → Key → Bool
 same_key a b = same_namespace a.namespace b.namespace && nat_eq a.name b.name
 
+abbrev pub is_program : Namespace → Bool
+is_program namespace.Program = true
+is_program (namespace.StateSet k) = false
+is_program (namespace.State k) = false
+is_program namespace.Sets = false
+is_program (namespace.States k) = false
+
+-- The scope of a state set or of a state.
+abbrev pub is_inner : Namespace → Bool
+is_inner namespace.Program = false
+is_inner (namespace.StateSet k) = true
+is_inner (namespace.State k) = true
+is_inner namespace.Sets = false
+is_inner (namespace.States k) = false
+
+-- What is known of the name with a number.
+abbrev pub name_head : List NameHead → ℕ → NameHead
+name_head heads n = get_or heads n (record { in_program = None; is_inner = false })
+
 -- What the tables have for a name in a namespace.
-abbrev pub number_under : List (Key × ℕ) → Namespace → ℕ → Option ℕ
-number_under first s n = lookup (same_key (record { namespace = s; name = n })) first
+abbrev pub number_under : FirstNumbers → Namespace → ℕ → Option ℕ
+number_under first s n = if is_program s then (name_head first.heads.items n).in_program else lookup (same_key (record { namespace = s; name = n })) first.elsewhere.entries
+
+-- A name that nothing inner is known of has nothing in the scope of a state set or of a state.
+abbrev pub TellsInner : FirstNumbers → Type 0
+TellsInner first = (s : Namespace) (n : ℕ) → is_inner s ≡ true → (name_head first.heads.items n).is_inner ≡ false → number_under first s n ≡ None
+
+-- The tables say the same.
+pub record AreSame (old new : FirstNumbers) : Type 0 where
+  pub under : (s : Namespace) (n : ℕ) → number_under new s n ≡ number_under old s n
+  pub inner : (n : ℕ) → (name_head new.heads.items n).is_inner ≡ (name_head old.heads.items n).is_inner
+
+-- A key has come that is new.
+pub record IsPut (old new : FirstNumbers) (key : Key) (number : ℕ) : Type 0 where
+  pub under : (s : Namespace) (n : ℕ) → number_under new s n ≡ (if same_key key (record { namespace = s; name = n }) then Some number else number_under old s n)
+  pub inner : TellsInner old → TellsInner new
 
 -- The same in the state set that is around it, or else in the program.
-abbrev pub nearest_under : List (Key × ℕ) → Option ℕ → ℕ → Option ℕ
+abbrev pub nearest_under : FirstNumbers → Option ℕ → ℕ → Option ℕ
 nearest_under first None name = number_under first namespace.Program name
 nearest_under first (Some k) name = option_or (number_under first (namespace.StateSet k) name) (number_under first namespace.Program name)
 
-abbrev pub number_by : List (List ℕ) → List (Key × ℕ) → Namespace → List ℕ → Option ℕ
+abbrev pub number_by : List (List ℕ) → FirstNumbers → Namespace → List ℕ → Option ℕ
 number_by names first s name = option_and_then (number_under first s) (position (bytes_eq name) names)
 
 -- Where an entry is, and what it declares.
@@ -124,17 +159,18 @@ abbrev pub flag_stands : List Symbol → ℕ → Bool
 flag_stands symbols number = option_map_or (λ s. declares_flag s.variable) (slice_get symbols number) false
 
 -- The tables tell of a list of entries the first of each name in a namespace, and where each is.
-pub record Tabled (names : List (List ℕ)) (first : List (Key × ℕ)) (symbols : List Symbol) (es : List Entry) : Type 0 where
+pub record Tabled (names : List (List ℕ)) (first : FirstNumbers) (symbols : List Symbol) (es : List Entry) : Type 0 where
   pub found : (s : Namespace) (name : List ℕ) → number_by names first s name ≡ number_in es s name
+  pub inner : TellsInner first
   pub known : symbols ≡ map symbol_of es
 
 -- And more can be added, with findings at the names that came again. The table of the first has them in the order in
 -- which they came.
-pub record Follows (names : List (List ℕ)) (first : List (Key × ℕ)) (symbols : List Symbol) (faults : List LinkFault) (es : List Entry) : Type 0 where
+pub record Follows (names : List (List ℕ)) (first : FirstNumbers) (symbols : List Symbol) (faults : List LinkFault) (es : List Entry) : Type 0 where
   pub tabled : Tabled names first symbols es
-  pub fresh : (s : Namespace) (n : ℕ) → length names ≤ n → lookup (same_key (record { namespace = s; name = n })) first ≡ None
+  pub fresh : (s : Namespace) (n : ℕ) → length names ≤ n → number_under first s n ≡ None
   pub again : faults ≡ repetitions [] es
-  pub firsts : map (λ p. p.1) first ≡ all_below (is_first_at es) (length es)
+  pub firsts : first.numbers.items ≡ all_below (is_first_at es) (length es)
 
 -- A name that is handed in, as an entry.
 abbrev pub entry_of : Named → Entry

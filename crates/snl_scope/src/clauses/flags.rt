@@ -37,11 +37,12 @@ fn flag_stands(symbols: &[Symbol], number: usize) -> bool
 /// the text.
 pub(crate) fn flags_of(alloc: Global, tables: &NameTables) -> Result<Vec<usize>, OutOfMemory>
     ensures { IfOk result (λ flags. (ss : List Outline)
-        → Follows tables.now.names tables.now.first.entries tables.now.symbols.items tables.now.faults.items (entries ss)
+        → Follows tables.now.names tables.now.first tables.now.symbols.items tables.now.faults.items (entries ss)
         → flags.items ≡ flags_of ss) }
 {
     let mut flags = Vec::new(alloc);
-    for number in tables.first.values() {
+    let numbers = tables.first.numbers.as_slice();
+    for number in numbers {
         if flag_stands(&tables.symbols, *number) {
             flags.push(*number)?;
         }

@@ -1,21 +1,19 @@
 //! The names of all namespaces, with where each comes first.
 
 ghost use Rattle.std.specs.Prelude.{◌≡◌, ◌++◌, ◌∷◌, [], List, OnOk, IfOk, Option, Some, false, true, if◌then◌else◌, is_some, length, map, option_copied};
-ghost use Rattle.std.specs.Map.{lookup};
 ghost use Rattle.snl_scope.specs.Names.{Entry, declared_entry, entries, entries_of, has_own_scope, repetition_at, scope_at, scope_code, scope_of, set_entries, set_name, state_entries};
 ghost use Rattle.snl_scope.specs.Order.{state_name};
 ghost use Rattle.snl_scope.specs.Places as Places;
 ghost use Rattle.snl_scope.specs.declared.summaries.summary.Outline.{Outline};
 ghost use Rattle.snl_walk.specs.declared.codes.Code.{Code};
-ghost use Rattle.snl_scope.specs.declared.names.namespaces.Key.{Key};
 ghost use Rattle.snl_scope.specs.declared.names.namespaces.Namespace.{Namespace};
-ghost use Rattle.snl_scope.specs.NameTables.{Follows, Placed, entry_of, nearest_under, number_by, number_under, same_key, symbol_of};
+ghost use Rattle.snl_scope.specs.NameTables.{Follows, Placed, entry_of, number_by, symbol_of};
 
 use crate::facts::LinkFault;
+use crate::names::first_numbers::FirstNumbers;
 use crate::names::name_set::Names;
 use crate::names::namespaces::{Key, Namespace};
 use crate::summaries::summary::{Declared, Opening, Outline, Role, Variable};
-use indexmap::IndexMap;
 use snl_cut::OutOfMemory;
 use snl_walk::Code;
 use std::alloc::Global;
@@ -46,7 +44,7 @@ pub(crate) struct Symbol {
 #[derive(Drop)]
 pub(crate) struct NameTables {
     pub names: Names,
-    pub first: IndexMap<Key, usize>,
+    pub first: FirstNumbers,
     pub symbols: Vec<Symbol>,
     pub faults: Vec<LinkFault>,
 }
@@ -62,62 +60,16 @@ fn symbol_of(named: Named) -> Symbol
     }
 }
 
-/// The number of the first that came in a namespace with the name that has this number.
-pub(crate) fn number_under(
-    first: &IndexMap<Key, usize>,
-    namespace: Namespace,
-    name: usize,
-) -> Option<usize>
-    ensures { result ≡ number_under first.now.entries namespace name }
-{
-    first.get(&Key { namespace, name }).copied()
-}
-
-/// The number of the first that came with the name that has this number, in the state set or else in the program.
-pub(crate) fn nearest_under(
-    first: &IndexMap<Key, usize>,
-    enclosing_set: Option<usize>,
-    name: usize,
-) -> Option<usize>
-    ensures { result ≡ nearest_under first.now.entries enclosing_set name }
-{
-    if let Some(set) = enclosing_set {
-        let inside = number_under(first, Namespace::StateSet(set), name);
-        if inside.is_some() {
-            return inside;
-        }
-    }
-    number_under(first, Namespace::Program, name)
-}
-
 /// The number of the first that came with a name in a namespace.
 pub(crate) fn number_in(
     names: &Names,
-    first: &IndexMap<Key, usize>,
+    first: &FirstNumbers,
     namespace: Namespace,
     name: &[u8],
 ) -> Option<usize>
-    ensures { result ≡ number_by names.now first.now.entries namespace name.now }
+    ensures { result ≡ number_by names.now first.now namespace name.now }
 {
-    number_under(first, namespace, names.number(name)?)
-}
-
-// Adds the number of the first that came with a key, and tells whether one came before, which then stays the first. A new
-// key, as nearly all are, takes one look-up.
-fn add_first(first: &mut IndexMap<Key, usize>, key: Key, number: usize) -> Result<bool, OutOfMemory>
-    ensures seen { IfOk result (λ seen. seen ≡ is_some (lookup (same_key key) first.old.entries)) }
-    ensures stays { IfOk result (λ seen. seen ≡ true → first.new.entries ≡ first.old.entries) }
-    ensures last { IfOk result (λ seen. seen ≡ false → first.new.entries ≡ first.old.entries ++ (key, number) ∷ []) }
-    ensures put { IfOk result (λ seen. seen ≡ false → (q : Key) →
-        lookup (same_key q) first.new.entries ≡ (if same_key key q then Some number else lookup (same_key q) first.old.entries)) }
-{
-    match first.insert(key, number)? {
-        None => Ok(false),
-        Some(earlier) => {
-            first.insert(key, earlier)?;
-            Ok(true)
-        }
-    }
+    first.number_under(namespace, names.number(name)?)
 }
 
 // Adds what a name gives that came again.
@@ -186,11 +138,11 @@ fn state_name(outline: &Outline) -> Option<&[u8]>
 impl NameTables {
     /// With room for so many symbols. How many names there are among them isn't known.
     pub(crate) fn new(alloc: Global, room: usize) -> Result<NameTables, OutOfMemory>
-        ensures { IfOk result (λ t. Follows t.names t.first.entries t.symbols.items t.faults.items []) }
+        ensures { IfOk result (λ t. Follows t.names t.first t.symbols.items t.faults.items []) }
     {
         Ok(NameTables {
             names: Names::new(alloc),
-            first: IndexMap::new(alloc),
+            first: FirstNumbers::new(alloc),
             symbols: Vec::with_capacity(alloc, room)?,
             faults: Vec::new(alloc),
         })
@@ -198,8 +150,8 @@ impl NameTables {
 
     fn add(&mut self, alloc: Global, named: Named) -> Result<(), OutOfMemory>
         ensures { OnOk result ((es : List Entry)
-            → Follows self.old.names self.old.first.entries self.old.symbols.items self.old.faults.items es
-            → Follows self.new.names self.new.first.entries self.new.symbols.items self.new.faults.items (es ++ entry_of named.entry ∷ [])) }
+            → Follows self.old.names self.old.first self.old.symbols.items self.old.faults.items es
+            → Follows self.new.names self.new.first self.new.symbols.items self.new.faults.items (es ++ entry_of named.entry ∷ [])) }
     {
         let number = self.symbols.len();
         let name = self.names.add(alloc, named.name)?;
@@ -207,7 +159,7 @@ impl NameTables {
             namespace: named.namespace,
             name,
         };
-        let came_before = add_first(&mut self.first, key, number)?;
+        let came_before = self.first.add(key, number)?;
         if came_before {
             add_repetition(named, &mut self.faults)?;
         }
@@ -218,8 +170,8 @@ impl NameTables {
     // Adds the name of the state set that an item begins.
     fn add_set(&mut self, alloc: Global, item: usize, outline: &Outline) -> Result<(), OutOfMemory>
         ensures { OnOk result ((es : List Entry)
-            → Follows self.old.names self.old.first.entries self.old.symbols.items self.old.faults.items es
-            → Follows self.new.names self.new.first.entries self.new.symbols.items self.new.faults.items (es ++ set_entries item outline.now)) }
+            → Follows self.old.names self.old.first self.old.symbols.items self.old.faults.items es
+            → Follows self.new.names self.new.first self.new.symbols.items self.new.faults.items (es ++ set_entries item outline.now)) }
     {
         match set_name(outline) {
             None => Ok(()),
@@ -246,8 +198,8 @@ impl NameTables {
         outline: &Outline,
     ) -> Result<(), OutOfMemory>
         ensures { OnOk result ((es : List Entry)
-            → Follows self.old.names self.old.first.entries self.old.symbols.items self.old.faults.items es
-            → Follows self.new.names self.new.first.entries self.new.symbols.items self.new.faults.items (es ++ state_entries enclosing_set item outline.now)) }
+            → Follows self.old.names self.old.first self.old.symbols.items self.old.faults.items es
+            → Follows self.new.names self.new.first self.new.symbols.items self.new.faults.items (es ++ state_entries enclosing_set item outline.now)) }
     {
         match (enclosing_set, state_name(outline)) {
             (Some(set), Some(name)) => self.add(
@@ -274,8 +226,8 @@ impl NameTables {
         declares: &[Declared],
     ) -> Result<(), OutOfMemory>
         ensures { OnOk result ((es : List Entry)
-            → Follows self.old.names self.old.first.entries self.old.symbols.items self.old.faults.items es
-            → Follows self.new.names self.new.first.entries self.new.symbols.items self.new.faults.items (es ++ map (declared_entry scope item) declares.now)) }
+            → Follows self.old.names self.old.first self.old.symbols.items self.old.faults.items es
+            → Follows self.new.names self.new.first self.new.symbols.items self.new.faults.items (es ++ map (declared_entry scope item) declares.now)) }
     {
         for declared in declares {
             self.add(
@@ -301,8 +253,8 @@ impl NameTables {
         outline: &Outline,
     ) -> Result<(), OutOfMemory>
         ensures { OnOk result ((ss : List Outline) → enclosing_set ≡ Places.enclosing_set ss item → (es : List Entry)
-            → Follows self.old.names self.old.first.entries self.old.symbols.items self.old.faults.items es
-            → Follows self.new.names self.new.first.entries self.new.symbols.items self.new.faults.items (es ++ entries_of ss item outline.now)) }
+            → Follows self.old.names self.old.first self.old.symbols.items self.old.faults.items es
+            → Follows self.new.names self.new.first self.new.symbols.items self.new.faults.items (es ++ entries_of ss item outline.now)) }
     {
         self.add_set(alloc, item, outline)?;
         self.add_state(alloc, enclosing_set, item, outline)?;
@@ -328,7 +280,7 @@ pub(crate) fn tables_of(
     places: &[Option<usize>],
 ) -> Result<NameTables, OutOfMemory>
     requires { Placed places.now (map (λ s. s.now) outlines.now) (length outlines.now) }
-    ensures { IfOk result (λ t. Follows t.names t.first.entries t.symbols.items t.faults.items (entries (map (λ s. s.now) outlines.now))) }
+    ensures { IfOk result (λ t. Follows t.names t.first t.symbols.items t.faults.items (entries (map (λ s. s.now) outlines.now))) }
 {
     let mut tables = NameTables::new(alloc, declared_count(outlines))?;
     for item in 0..outlines.len() {

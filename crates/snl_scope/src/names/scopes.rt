@@ -3,12 +3,12 @@
 ghost use Rattle.std.specs.Prelude.{◌≡◌};
 
 use crate::items::heads::{Head, Member, is_member};
+use crate::names::first_numbers::FirstNumbers;
 use crate::names::ghost_outlines::GhostOutlines;
 use crate::names::name_set::Names;
-use crate::names::name_tables::{Symbol, nearest_under, number_in, number_under};
-use crate::names::namespaces::{Key, Namespace};
+use crate::names::name_tables::{Symbol, number_in};
+use crate::names::namespaces::Namespace;
 use crate::summaries::summary::{Role, Variable};
-use indexmap::IndexMap;
 use std::marker::Model;
 
 /// The finished tables of all items, which contracts see as the list of their outlines.
@@ -17,7 +17,7 @@ pub(crate) struct Scopes {
     pub places: Vec<Option<usize>>,
     pub heads: Vec<Head>,
     pub names: Names,
-    pub first: IndexMap<Key, usize>,
+    pub first: FirstNumbers,
     pub symbols: Vec<Symbol>,
     pub made_of: GhostOutlines,
 }
@@ -34,15 +34,15 @@ impl Model for Scopes {
 
     ghost invariant = { λ a. Placed a.places.items a.made_of.outlines (length a.made_of.outlines)
         × (a.heads.items ≡ map head_of a.made_of.outlines)
-        × Tabled a.names a.first.entries a.symbols.items (entries a.made_of.outlines) };
+        × Tabled a.names a.first a.symbols.items (entries a.made_of.outlines) };
 }
 
 impl Scopes {
     ghost use Rattle.snl_scope.specs.Clauses.{resolve_in, variable_at};
     ghost use Rattle.snl_scope.specs.Linked.{state_in};
-    ghost use Rattle.snl_scope.specs.Names.{entries, has_own_scope, number_in, resolve};
+    ghost use Rattle.snl_scope.specs.Names.{entries, number_in, resolve};
     ghost use Rattle.snl_scope.specs.Order.{is_named_state};
-    ghost use Rattle.snl_scope.specs.Places.{enclosing_set, is_set_begin, item_is};
+    ghost use Rattle.snl_scope.specs.Places.{enclosing_set, is_set_begin};
     ghost use Rattle.snl_scope.specs.NameTables.{head_of, symbol_of};
     ghost use Rattle.std.specs.Prelude.{Some, ◌<◌, length, map, option_map, slice_get};
 
@@ -116,17 +116,8 @@ impl Scopes {
     pub(crate) fn resolve(&self, enclosing_set: Option<usize>, name: &[u8]) -> Option<usize>
         ensures { result ≡ resolve (entries self.now) enclosing_set name.now }
     {
-        nearest_under(&self.first, enclosing_set, self.names.number(name)?)
-    }
-
-    // Whether an item has a scope of its own.
-    fn has_own_scope(&self, item: usize) -> bool
-        ensures { result ≡ item_is (λ s. has_own_scope s.role) self.now item }
-    {
-        match self.heads.get(item) {
-            Some(head) => matches!(head.role, Role::State),
-            None => false,
-        }
+        self.first
+            .nearest_under(enclosing_set, self.names.number(name)?)
     }
 
     /// The number of what a name resolves to that is in an item outside its blocks.
@@ -134,13 +125,7 @@ impl Scopes {
         ensures { result ≡ resolve_in self.now item name.now }
     {
         let name = self.names.number(name)?;
-        if self.has_own_scope(item) {
-            let own = number_under(&self.first, Namespace::State(item), name);
-            if own.is_some() {
-                return own;
-            }
-        }
-        nearest_under(&self.first, self.enclosing_set(item), name)
+        self.first.nearest_to(item, self.enclosing_set(item), name)
     }
 
     /// The first state with a name in a state set, by the number of its item.

@@ -13,7 +13,7 @@ invariant_of-scopes c =
     let places = c.in_ok-places.places.items in
     let heads = c.in_ok-heads.heads.items in
     let t = c.in_ok-tables.tables in
-    let Fit : List Outline → Type 0 = λ os. Placed places os (length os) × (heads ≡ map head_of os) × Tabled t.names t.first.entries t.symbols.items (entries os) in
+    let Fit : List Outline → Type 0 = λ os. Placed places os (length os) × (heads ≡ map head_of os) × Tabled t.names t.first t.symbols.items (entries os) in
     let placed : Placed places ss (length ss) = subst (Placed places ss) (sym (length-map outlines (λ s. s.now))) c.in_ok-places.ensures in
     let headed : heads ≡ map head_of ss = c.in_ok-heads.ensures ∙ sym (map-map head_of (λ s. s.now) outlines) in
     subst Fit (sym c.ghost_of.ensures) (placed, headed, c.in_ok-tables.ensures.tabled)

@@ -1,5 +1,5 @@
-use Rattle.std.proofs.Common.{◌≡◌, ℕ, ◌&&◌, List, None, Option, Some, false, length, map, option_map, refl, slice_get, ap, ◌∙◌}
-use Rattle.std.proofs.lemmas.Map.Iter.{iter_end}
+use Rattle.std.proofs.Common.{◌≡◌, ℕ, ◌&&◌, List, None, Option, Some, false, length, map, option_map, refl, slice_get, ap, ◌∙◌, arith}
+use Rattle.std.proofs.lemmas.List.{take_all}
 use Rattle.std.proofs.lemmas.Option.{slice_get-map}
 use Rattle.std.specs.List.{filter}
 use Rattle.std.specs.Option.{option_map_or}
@@ -22,10 +22,7 @@ flag_at es k = ap (λ o. option_map_or (λ s. declares_flag s.variable) o false 
 pub returns : goal.returns
 returns c = λ ss f.
     let es = entries ss in
-    let first = map (λ p. p.1) c.args.tables.now.first.entries in
     let symbols = c.args.tables.now.symbols.items in
-    let start = c.into_iter-number-iterator.ensures.into_iter_gives ∙ c.values-number-items.ensures.rest in
-    let seen = iter_end (λ n. n.now) first c.loop-number.yielded _ c.loop-number.number-iterator c.next.new.self c.next.result start c.loop-number.yielded_by c.in-None.is c.next.ensures.steps in
-    c.loop-number.invariant ∙ ap (filter (flag_stands symbols)) (seen.0 ∙ f.firsts) ∙ filter-all_below (flag_stands symbols) (is_first_at es) (length es)
+    c.loop-number.invariant ∙ ap (filter (flag_stands symbols)) (take_all c.loop-number.number-index c.as_slice-numbers.result.now (omega (arith, c.loop-number-test.false)) ∙ c.as_slice-numbers.ensures.value ∙ f.firsts) ∙ filter-all_below (flag_stands symbols) (is_first_at es) (length es)
     ∙ ap (λ l. all_below (λ k. flag_stands l k && is_first_at es k) (length es)) f.tabled.known
     ∙ all_below-same (λ k. flag_stands (map symbol_of es) k && is_first_at es k) (is_flag es) (length es) (λ k l. flag_at es k)

@@ -6,6 +6,6 @@ use Rattle.snl_scope.proofs.names.name_tables.tables_of.Given as goal
 -- the tables follow the entries of the items so far
 abbrev pub invariant-loop-item : goal.invariant-loop-item
 invariant-loop-item l = record {
-  follows : Follows l.tables.names l.tables.first.entries l.tables.symbols.items l.tables.faults.items (entries_before (map (λ s. s.now) l.outlines) l.item);
+  follows : Follows l.tables.names l.tables.first l.tables.symbols.items l.tables.faults.items (entries_before (map (λ s. s.now) l.outlines) l.item);
   within : l.item ≤ length l.outlines;
 }

@@ -1,6 +1,6 @@
 use Rattle.std.proofs.Common.{◌≡◌, ◌++◌, ◌∷◌, [], ℕ, List, ap, length, subst, sym, ◌∙◌}
-use Rattle.std.proofs.lemmas.List.{length-map}
-use Rattle.snl_scope.specs.declared.names.namespaces.Key.{Key}
+use Rattle.std.proofs.lemmas.List.{append-nil, length-map}
+use Rattle.std.specs.Prelude.{if◌then◌else◌}
 use Rattle.snl_scope.specs.declared.names.name_tables.NameTables.{NameTables}
 use Rattle.snl_scope.specs.NameTables.{Follows, entry_of, symbol_of}
 use Rattle.snl_scope.proofs.Entries.{follows_again, follows_name, follows_new}
@@ -13,26 +13,27 @@ returns c = λ es f.
     let e = entry_of c.args.named in
     let k = c.in_ok-name.name in
     let symbols = c.push.new.self.items in
-    let first = c.add_first.new.first.entries in
+    let first = c.add-2.new.self in
     let added = c.in_ok-came_before.ensures in
-    let g : Follows c.add.new.self old.first.entries old.symbols.items old.faults.items es =
-    subst (λ names. Follows names old.first.entries old.symbols.items old.faults.items es) (sym c.in_ok-name.ensures.names)
-    (follows_name old.names old.first.entries old.symbols.items old.faults.items es f e.name) in
-    let P : NameTables → Type 0 = λ t. Follows t.names t.first.entries symbols t.faults.items (es ++ e ∷ []) in
+    let g : Follows c.add.new.self old.first old.symbols.items old.faults.items es =
+    subst (λ names. Follows names old.first old.symbols.items old.faults.items es) (sym c.in_ok-name.ensures.names)
+    (follows_name old.names old.first old.symbols.items old.faults.items es f e.name) in
+    let P : NameTables → Type 0 = λ t. Follows t.names t.first symbols t.faults.items (es ++ e ∷ []) in
     let F : NameTables → Type 0 = λ t. symbols ≡ t.symbols.items ++ symbol_of e ∷ [] in
     let pushed : symbols ≡ c.if-came_before.self.symbols.items ++ symbol_of e ∷ [] =
     c.in_ok-push.ensures.items ∙ ap (λ x. c.if-came_before.self.symbols.items ++ x ∷ []) c.symbol_of.ensures in
     elim c.if-came_before.branch [
       | then-came_before+in_ok-add_repetition w ↦
-          let S : List (Key × ℕ) → Type 0 = λ l. Follows c.add.new.self l symbols w.add_repetition.new.faults.items (es ++ e ∷ []) in
           subst P (sym w.self-is)
-          (subst S (sym (added.stays w.if-came_before.true))
-          (follows_again c.add.new.self old.first.entries old.symbols.items old.faults.items es g e k c.in_ok-name.ensures.number
-          (sym added.seen ∙ w.if-came_before.true) symbols w.add_repetition.new.faults.items (subst F w.self-is pushed) w.in_ok-add_repetition.ensures))
+          (follows_again c.add.new.self old.first old.symbols.items old.faults.items es g e k c.in_ok-name.ensures.number
+          (sym added.seen ∙ w.if-came_before.true) first (added.stays w.if-came_before.true)
+          (added.numbers ∙ ap (λ b. old.first.numbers.items ++ (if b then [] else c.len-number.result ∷ [])) w.if-came_before.true ∙ append-nil old.first.numbers.items)
+          symbols w.add_repetition.new.faults.items (subst F w.self-is pushed) w.in_ok-add_repetition.ensures)
       | else-came_before w ↦
           subst P (sym w.self-is)
-          (follows_new c.add.new.self old.first.entries old.symbols.items old.faults.items es g e k c.in_ok-name.ensures.number
+          (follows_new c.add.new.self old.first old.symbols.items old.faults.items es g e k c.in_ok-name.ensures.number
           first c.len-number.result (sym added.seen ∙ w.if-came_before.false)
-          (added.put w.if-came_before.false) (added.last w.if-came_before.false)
+          (added.put w.if-came_before.false)
+          (added.numbers ∙ ap (λ b. old.first.numbers.items ++ (if b then [] else c.len-number.result ∷ [])) w.if-came_before.false)
           (c.len-number.ensures ∙ old.symbols.ok.0 ∙ ap length f.tabled.known ∙ length-map es symbol_of) symbols (subst F w.self-is pushed))
     ]

@@ -7,5 +7,5 @@ use Rattle.snl_scope.proofs.names.name_tables.NameTables.add_declared.Given as g
 abbrev pub invariant-loop-declared : goal.invariant-loop-declared
 invariant-loop-declared l =
     (es : List Entry)
-    → Follows l.initial.self.names l.initial.self.first.entries l.initial.self.symbols.items l.initial.self.faults.items es
-    → Follows l.self.names l.self.first.entries l.self.symbols.items l.self.faults.items (es ++ map (declared_entry l.scope l.item) (take l.declared-index l.declares))
+    → Follows l.initial.self.names l.initial.self.first l.initial.self.symbols.items l.initial.self.faults.items es
+    → Follows l.self.names l.self.first l.self.symbols.items l.self.faults.items (es ++ map (declared_entry l.scope l.item) (take l.declared-index l.declares))

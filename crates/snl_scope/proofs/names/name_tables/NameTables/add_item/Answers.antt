@@ -13,7 +13,7 @@ returns c = λ ss p es f.
     let first = set_entries i s in
     let second = state_entries c.args.enclosing_set i s in
     let made = c.in_ok-add_declared.ensures ((es ++ first) ++ second) (c.in_ok-add_state.ensures (es ++ first) (c.in_ok-add_set.ensures es f)) in
-    let Q : List Entry → Type 0 = λ l. Follows new.names new.first.entries new.symbols.items new.faults.items l in
+    let Q : List Entry → Type 0 = λ l. Follows new.names new.first new.symbols.items new.faults.items l in
     let scope : c.scope_of-scope.result ≡ (if has_own_scope s.role then namespace.State i else scope_at (enclosing_set ss i)) =
     c.scope_of-scope.ensures ∙ ap (λ q. if has_own_scope s.role then namespace.State i else scope_at q) p in
     let joined : ((es ++ first) ++ second) ++ map (declared_entry c.scope_of-scope.result i) c.as_slice.result.now ≡ es ++ (first ++ second ++ map (declared_entry c.scope_of-scope.result i) c.as_slice.result.now) =
