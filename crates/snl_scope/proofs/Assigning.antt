@@ -2,10 +2,10 @@
 use Rattle.std.proofs.Common.{◌≡◌, ℕ, Bool, true, false, ◌&&◌, ◌||◌, cond, List, [], ◌∷◌, ◌++◌, nat_eq, Option, None, Some, is_none, is_some, refl, sym, ap, ◌∙◌, true≢false, if◌then◌else◌}
 use Rattle.std.proofs.lemmas.Bool.Decides.{Decides-eqb}
 use Rattle.std.specs.List.{list_any}
-use Rattle.std.specs.Map.{lookup}
 use Rattle.std.specs.Option.{option_or, unwrap_or}
 use Rattle.snl_scope.specs.declared.facts.Assigned.{Assigned}
 use Rattle.snl_scope.specs.declared.facts.Assigned.TheVariants.{Unassigned}
+use Rattle.snl_scope.specs.ByNumber.{at_number}
 use Rattle.snl_scope.specs.Clauses.{LinkedClause, assigned_as, assigned_by, assigns, is_assign, same_number}
 use Rattle.snl_scope.specs.Resolved.{Assigns, first_assign}
 
@@ -56,7 +56,7 @@ assigns-number : (c : LinkedClause) (q v : ℕ) → c.variable ≡ Some v → as
 assigns-number c q v is h = numbers (Some q) c.variable q v refl is (both-true (is_assign c.clause.kind) (same_number (Some q) c.variable) h).1
 
 -- the table stays where each declaration that the clause assigns is in it
-stays : (held : List (ℕ × Assigned)) (cs : List LinkedClause) (c : LinkedClause) → Assigns held cs
+stays : (held : List (Option Assigned)) (cs : List LinkedClause) (c : LinkedClause) → Assigns held cs
     → ((q : ℕ) → assigns (Some q) c ≡ true → is_some (first_assign cs q) ≡ true) → Assigns held (cs ++ c ∷ [])
 stays held cs c f known = record { each = λ q. f.each q ∙ sym (first_assign-push cs c q ∙ by q (assigns (Some q) c) (first_assign cs q) (known q)) }
   where
@@ -65,17 +65,17 @@ stays held cs c f known = record { each = λ q. f.each q ∙ sym (first_assign-p
     by q true None h = absurd (true≢false (sym (h refl)))
     by q false None h = refl
 
-pub no_variable : (held : List (ℕ × Assigned)) (cs : List LinkedClause) (c : LinkedClause) → Assigns held cs → c.variable ≡ None → Assigns held (cs ++ c ∷ [])
+pub no_variable : (held : List (Option Assigned)) (cs : List LinkedClause) (c : LinkedClause) → Assigns held cs → c.variable ≡ None → Assigns held (cs ++ c ∷ [])
 no_variable held cs c f h =
     stays held cs c f (λ q t.
     absurd (true≢false (sym (both-true (is_assign c.clause.kind) (same_number (Some q) c.variable) t).1 ∙ ap (λ o. same_number (Some q) o) h)))
 
 -- the clause assigns nothing, or something that the table tells of
-pub not_first : (held : List (ℕ × Assigned)) (cs : List LinkedClause) (c : LinkedClause) (v : ℕ) → Assigns held cs → c.variable ≡ Some v
-    → (is_assign c.clause.kind && is_none (lookup (nat_eq v) held)) ≡ false → Assigns held (cs ++ c ∷ [])
+pub not_first : (held : List (Option Assigned)) (cs : List LinkedClause) (c : LinkedClause) (v : ℕ) → Assigns held cs → c.variable ≡ Some v
+    → (is_assign c.clause.kind && is_none (at_number held v)) ≡ false → Assigns held (cs ++ c ∷ [])
 not_first held cs c v f is h =
     stays held cs c f (λ q t.
-    there (is_assign c.clause.kind) (lookup (nat_eq v) held) (assigns-kind c q t) h (f.each v ∙ ap (first_assign cs) (sym (assigns-number c q v is t))))
+    there (is_assign c.clause.kind) (at_number held v) (assigns-kind c q t) h (f.each v ∙ ap (first_assign cs) (sym (assigns-number c q v is t))))
   where
     there : (b : Bool) (o : Option Assigned) {p : Option Assigned} → b ≡ true → (b && is_none o) ≡ false → o ≡ p → is_some p ≡ true
     there true (Some x) g n e = ap is_some (sym e)
@@ -83,20 +83,20 @@ not_first held cs c v f is h =
     there false o g n e = absurd (true≢false (sym g))
 
 -- the clause is the first that assigns its variable
-pub assigned_now : (held held' : List (ℕ × Assigned)) (cs : List LinkedClause) (c : LinkedClause) (v : ℕ) → Assigns held cs → c.variable ≡ Some v
-    → (is_assign c.clause.kind && is_none (lookup (nat_eq v) held)) ≡ true
-    → ((q : ℕ) → lookup (nat_eq q) held' ≡ cond (nat_eq v q) (Some (assigned_as c.clause.coverage)) (lookup (nat_eq q) held)) → Assigns held' (cs ++ c ∷ [])
+pub assigned_now : (held held' : List (Option Assigned)) (cs : List LinkedClause) (c : LinkedClause) (v : ℕ) → Assigns held cs → c.variable ≡ Some v
+    → (is_assign c.clause.kind && is_none (at_number held v)) ≡ true
+    → ((q : ℕ) → at_number held' q ≡ cond (nat_eq v q) (Some (assigned_as c.clause.coverage)) (at_number held q)) → Assigns held' (cs ++ c ∷ [])
 assigned_now held held' cs c v f is first put = record { each = λ q. put q ∙ by q (nat_eq v q) refl ∙ sym (first_assign-push cs c q) }
   where
     kind : is_assign c.clause.kind ≡ true
-    kind = (both-true (is_assign c.clause.kind) (is_none (lookup (nat_eq v) held)) first).0
+    kind = (both-true (is_assign c.clause.kind) (is_none (at_number held v)) first).0
 
     missing : (o : Option Assigned) → is_none o ≡ true → is_some o ≡ false
     missing None h = refl
     missing (Some x) h = absurd (true≢false (sym h))
 
-    absent : is_some (lookup (nat_eq v) held) ≡ false
-    absent = missing (lookup (nat_eq v) held) (both-true (is_assign c.clause.kind) (is_none (lookup (nat_eq v) held)) first).1
+    absent : is_some (at_number held v) ≡ false
+    absent = missing (at_number held v) (both-true (is_assign c.clause.kind) (is_none (at_number held v)) first).1
 
     test : (q : ℕ) → assigns (Some q) c ≡ nat_eq q v
     test q = ap (λ b. b && same_number (Some q) c.variable) kind ∙ ap (λ o. same_number (Some q) o) is
@@ -109,16 +109,16 @@ assigned_now held held' cs c v f is first put = record { each = λ q. put q ∙ 
     or-nothing None = refl
     or-nothing (Some x) = refl
 
-    other : (q : ℕ) (b : Bool) → nat_eq q v ≡ b → nat_eq v q ≡ false → lookup (nat_eq q) held ≡ option_or (first_assign cs q) (assigned_if b c)
+    other : (q : ℕ) (b : Bool) → nat_eq q v ≡ b → nat_eq v q ≡ false → at_number held q ≡ option_or (first_assign cs q) (assigned_if b c)
     other q true g h = absurd (true≢false (sym ((Decides-eqb v q).1 (sym ((Decides-eqb q v).0 g))) ∙ h))
     other q false g h = f.each q ∙ sym (or-nothing (first_assign cs q))
 
-    by : (q : ℕ) (b : Bool) → nat_eq v q ≡ b → cond (nat_eq v q) (Some (assigned_as c.clause.coverage)) (lookup (nat_eq q) held) ≡ option_or (first_assign cs q) (assigned_if (assigns (Some q) c) c)
+    by : (q : ℕ) (b : Bool) → nat_eq v q ≡ b → cond (nat_eq v q) (Some (assigned_as c.clause.coverage)) (at_number held q) ≡ option_or (first_assign cs q) (assigned_if (assigns (Some q) c) c)
     by q true h =
         let same : v ≡ q = (Decides-eqb v q).0 h in
         let gone : is_some (first_assign cs q) ≡ false = ap (λ n. is_some (first_assign cs n)) (sym same) ∙ ap is_some (sym (f.each v)) ∙ absent in
-        ap (λ b. cond b (Some (assigned_as c.clause.coverage)) (lookup (nat_eq q) held)) h
+        ap (λ b. cond b (Some (assigned_as c.clause.coverage)) (at_number held q)) h
         ∙ sym (none (first_assign cs q) (assigned_if (assigns (Some q) c) c) gone ∙ ap (λ b. assigned_if b c) (test q ∙ (Decides-eqb q v).1 (sym same)))
     by q false h =
-        ap (λ b. cond b (Some (assigned_as c.clause.coverage)) (lookup (nat_eq q) held)) h
+        ap (λ b. cond b (Some (assigned_as c.clause.coverage)) (at_number held q)) h
         ∙ other q (nat_eq q v) refl h ∙ ap (λ b. option_or (first_assign cs q) (assigned_if b c)) (sym (test q))

@@ -6,6 +6,7 @@ use Rattle.std.specs.List.{list_any, position}
 use Rattle.std.specs.Map.{lookup}
 use Rattle.std.specs.Option.{option_or}
 use Rattle.snl_scope.specs.declared.clauses.clause_index.Claim.{Claim}
+use Rattle.snl_scope.specs.declared.clauses.clause_index.ClauseIndex.{ClauseIndex}
 use Rattle.snl_scope.specs.declared.clauses.clause_index.Extent.{Extent}
 use Rattle.snl_scope.specs.declared.clauses.clause_index.Extent.TheVariants as extent
 use Rattle.snl_scope.specs.declared.clauses.clause_index.Purpose.{Purpose}
@@ -13,7 +14,7 @@ use Rattle.snl_scope.specs.declared.clauses.clause_index.Purpose.TheVariants as 
 use Rattle.snl_scope.specs.contracts.clauses.clause_index.ClaimPartialEq.TheImpl as claim_eq
 use Rattle.snl_scope.specs.contracts.clauses.clause_index.ExtentPartialEq.TheImpl as extent_eq
 use Rattle.snl_scope.specs.contracts.clauses.clause_index.PurposePartialEq.TheImpl as purpose_eq
-use Rattle.snl_scope.specs.Claims.{Adds, Claimed, claims, makes, purpose_of, same_claim, same_extent, same_purpose, sound_among}
+use Rattle.snl_scope.specs.Claims.{Adds, Claimed, claim_in, claims, makes, purpose_of, same_claim, same_extent, same_purpose, sound_among}
 use Rattle.snl_scope.specs.Clauses.{LinkedClause, same_number}
 use Rattle.snl_scope.proofs.Numbering.{any-position, position-push}
 
@@ -95,16 +96,17 @@ or-nothing (Some k) = refl
 known-same : (one q : Claim) (held : List (Claim × ℕ)) (o : Option ℕ) → lookup (claim_eq.eq-value.it one) held ≡ o → same_claim one q ≡ true → lookup (same_claim q) held ≡ o
 known-same one q held o h t = ap (λ c. lookup (same_claim c) held) (sym (claim_true one q t)) ∙ sym (lookup_is one held) ∙ h
 
+-- What a claim more is to the table of those on elements.
+abbrev PutsFirst : List (Claim × ℕ) → List (Claim × ℕ) → Claim → ℕ → Type 0
+PutsFirst before after one number = (q : Claim) → lookup (same_claim q) after ≡ option_or (lookup (same_claim q) before) (if same_claim one q then Some number else None)
+
 -- a claim that no clause has made yet
-pub adds-new : (one : Claim) (number : ℕ) (before after : List (Claim × ℕ)) → lookup (claim_eq.eq-value.it one) before ≡ None
+pub puts-new : (one : Claim) (number : ℕ) (before after : List (Claim × ℕ)) → lookup (claim_eq.eq-value.it one) before ≡ None
     → ((q : Claim) → lookup (claim_eq.eq-value.it q) after ≡ cond (claim_eq.eq-value.it one q) (Some number) (lookup (claim_eq.eq-value.it q) before))
-    → Adds before after (same_claim one) number
-adds-new one number before after absent put =
-    record {
-      each = λ q.
-          sym (lookup_is q after) ∙ put q ∙ ap (λ b. cond b (Some number) (lookup (claim_eq.eq-value.it q) before)) (claim_is one q)
-          ∙ ap (cond (same_claim one q) (Some number)) (lookup_is q before) ∙ by q (same_claim one q) (known-same one q before None absent);
-    }
+    → PutsFirst before after one number
+puts-new one number before after absent put = λ q.
+    sym (lookup_is q after) ∙ put q ∙ ap (λ b. cond b (Some number) (lookup (claim_eq.eq-value.it q) before)) (claim_is one q)
+    ∙ ap (cond (same_claim one q) (Some number)) (lookup_is q before) ∙ by q (same_claim one q) (known-same one q before None absent)
   where
     by : (q : Claim) (b : Bool) → (b ≡ true → lookup (same_claim q) before ≡ None)
         → cond b (Some number) (lookup (same_claim q) before) ≡ option_or (lookup (same_claim q) before) (if b then Some number else None)
@@ -112,32 +114,29 @@ adds-new one number before after absent put =
     by q false h = sym (or-nothing (lookup (same_claim q) before))
 
 -- a claim that an earlier clause has made: the number that is put in its place is taken back
-pub adds-known : (one : Claim) (number earlier : ℕ) (before between after : List (Claim × ℕ)) → lookup (claim_eq.eq-value.it one) before ≡ Some earlier
+pub puts-known : (one : Claim) (number earlier : ℕ) (before between after : List (Claim × ℕ)) → lookup (claim_eq.eq-value.it one) before ≡ Some earlier
     → ((q : Claim) → lookup (claim_eq.eq-value.it q) between ≡ cond (claim_eq.eq-value.it one q) (Some number) (lookup (claim_eq.eq-value.it q) before))
     → ((q : Claim) → lookup (claim_eq.eq-value.it q) after ≡ cond (claim_eq.eq-value.it one q) (Some earlier) (lookup (claim_eq.eq-value.it q) between))
-    → Adds before after (same_claim one) number
-adds-known one number earlier before between after there put back =
-    record {
-      each = λ q.
-          sym (lookup_is q after) ∙ back q ∙ ap (λ b. cond b (Some earlier) (lookup (claim_eq.eq-value.it q) between)) (claim_is one q)
-          ∙ ap (cond (same_claim one q) (Some earlier)) (put q ∙ ap (λ b. cond b (Some number) (lookup (claim_eq.eq-value.it q) before)) (claim_is one q)
-          ∙ ap (cond (same_claim one q) (Some number)) (lookup_is q before)) ∙ by q (same_claim one q) (known-same one q before (Some earlier) there);
-    }
+    → PutsFirst before after one number
+puts-known one number earlier before between after there put back = λ q.
+    sym (lookup_is q after) ∙ back q ∙ ap (λ b. cond b (Some earlier) (lookup (claim_eq.eq-value.it q) between)) (claim_is one q)
+    ∙ ap (cond (same_claim one q) (Some earlier)) (put q ∙ ap (λ b. cond b (Some number) (lookup (claim_eq.eq-value.it q) before)) (claim_is one q)
+    ∙ ap (cond (same_claim one q) (Some number)) (lookup_is q before)) ∙ by q (same_claim one q) (known-same one q before (Some earlier) there)
   where
     by : (q : Claim) (b : Bool) → (b ≡ true → lookup (same_claim q) before ≡ Some earlier)
         → cond b (Some earlier) (cond b (Some number) (lookup (same_claim q) before)) ≡ option_or (lookup (same_claim q) before) (if b then Some number else None)
     by q true h = sym (ap (λ o. option_or o (Some number)) (h refl))
     by q false h = sym (or-nothing (lookup (same_claim q) before))
 
-pub adds-same : (before after : List (Claim × ℕ)) (p q : Claim → Bool) (number : ℕ) → ((m : Claim) → p m ≡ q m) → Adds before after p number → Adds before after q number
-adds-same before after p q number h a = record { each = λ m. a.each m ∙ ap (λ b. option_or (lookup (same_claim m) before) (if b then Some number else None)) (h m) }
+pub adds-same : (before after : ClauseIndex) (p q : Claim → Bool) (number : ℕ) → ((m : Claim) → p m ≡ q m) → Adds before after p number → Adds before after q number
+adds-same before after p q number h a = record { each = λ m. a.each m ∙ ap (λ b. option_or (claim_in before m) (if b then Some number else None)) (h m) }
 
-pub adds-then : (before between after : List (Claim × ℕ)) (p q : Claim → Bool) (number : ℕ) → Adds before between p number → Adds between after q number
+pub adds-then : (before between after : ClauseIndex) (p q : Claim → Bool) (number : ℕ) → Adds before between p number → Adds between after q number
     → Adds before after (λ m. q m || p m) number
 adds-then before between after p q number a b =
     record {
       each = λ m.
-          b.each m ∙ ap (λ o. option_or o (if q m then Some number else None)) (a.each m) ∙ by (lookup (same_claim m) before) (p m) (q m);
+          b.each m ∙ ap (λ o. option_or o (if q m then Some number else None)) (a.each m) ∙ by (claim_in before m) (p m) (q m);
     }
   where
     by : (o : Option ℕ) (x y : Bool)
@@ -149,7 +148,7 @@ adds-then before between after p q number a b =
     by None false false = refl
 
 -- the claims with those of a further sound clause
-pub claimed-sound : (judged : List (LinkedClause × Bool)) (c : LinkedClause) (before after : List (Claim × ℕ)) (v number : ℕ) → Claimed before judged
+pub claimed-sound : (judged : List (LinkedClause × Bool)) (c : LinkedClause) (before after : ClauseIndex) (v number : ℕ) → Claimed before judged
     → c.variable ≡ Some v → number ≡ length judged
     → Adds before after (λ m. same_purpose (purpose_of c.clause.kind) m.purpose && nat_eq v m.variable && claims c.clause.coverage m.extent) number
     → Claimed after (judged ++ (c, true) ∷ [])
@@ -164,7 +163,7 @@ claimed-sound judged c before after v number f is last a =
     made m o = same_purpose (purpose_of c.clause.kind) m.purpose && same_number o (Some m.variable) && claims c.clause.coverage m.extent
 
     put : Claim → Bool → ℕ → Option ℕ
-    put m b n = option_or (lookup (same_claim m) before) (if b then Some n else None)
+    put m b n = option_or (claim_in before m) (if b then Some n else None)
 
 -- some sound clause passes where the first that does has a number
 pub any-among : (q : LinkedClause → Bool) (judged : List (LinkedClause × Bool)) → is_some (position (λ p. p.1 && q p.0) judged) ≡ list_any q (sound_among judged)
@@ -180,6 +179,6 @@ any-among q judged = sym (any-position (λ p. p.1 && q p.0) judged) ∙ among ju
         by false h = h
 
 -- a claim is known where a sound clause makes it
-pub claimed-told : (held : List (Claim × ℕ)) (judged : List (LinkedClause × Bool)) → Claimed held judged → (m : Claim)
-    → is_some (lookup (same_claim m) held) ≡ list_any (λ c. makes c m) (sound_among judged)
+pub claimed-told : (held : ClauseIndex) (judged : List (LinkedClause × Bool)) → Claimed held judged → (m : Claim)
+    → is_some (claim_in held m) ≡ list_any (λ c. makes c m) (sound_among judged)
 claimed-told held judged f m = ap is_some (f.each m) ∙ any-among (λ c. makes c m) judged

@@ -4,6 +4,7 @@ pub mod OpenSets
 pub mod OrderSteps
 pub mod Marks
 pub mod Numbering
+pub mod Numbered
 pub mod Prints
 pub mod Equality
 pub mod Rising
@@ -23,6 +24,7 @@ pub mod Once
 pub mod Firsts
 pub mod Assigning
 pub mod FirstClaims
+pub mod ClaimPlaces
 pub mod Overlaps
 pub mod SpokenChannels
 pub mod Judging

@@ -4,6 +4,7 @@ use Rattle.std.proofs.Math.Bool.{or_comm, or-false}
 use Rattle.std.proofs.lemmas.Bool.Decides.{Decides-eqb, nat_tests}
 use Rattle.std.specs.List.{list_any}
 use Rattle.snl_scope.specs.declared.clauses.clause_index.Claim.{Claim}
+use Rattle.snl_scope.specs.declared.clauses.clause_index.ClauseIndex.{ClauseIndex}
 use Rattle.snl_scope.specs.declared.clauses.clause_index.Extent.{Extent}
 use Rattle.snl_scope.specs.declared.clauses.clause_index.Extent.TheVariants as extent
 use Rattle.snl_scope.specs.declared.clauses.clause_index.Purpose.{Purpose}
@@ -68,12 +69,22 @@ and-or true true a b = refl
 and-or true false a b = refl
 and-or false n a b = refl
 
+whole_claims : (e : Extent) → (same_extent extent.Whole e || same_extent extent.Any e) ≡ claims coverage.Whole e
+whole_claims extent.Any = refl
+whole_claims extent.Whole = refl
+whole_claims (extent.Element j) = refl
+
+element_claims : (k : ℕ) (e : Extent) → (same_extent (extent.Element k) e || same_extent extent.Any e) ≡ claims (coverage.Element k) e
+element_claims k extent.Any = refl
+element_claims k extent.Whole = refl
+element_claims k (extent.Element j) = or-false (nat_eq k j)
+
 front_claims : (n : ℕ) (e : Extent) → (any_below (λ k. same_extent (extent.Element k) e) n || same_extent extent.Any e) ≡ claims (coverage.Front n) e
 front_claims n extent.Any = or_comm (any_below (λ k. false) n) true
 front_claims n extent.Whole = ap (λ b. b || false) (below-nothing n)
 front_claims n (extent.Element j) = or-false (any_below (λ k. nat_eq k j) n) ∙ below-one j n
 
-module _ (p : Purpose) (v : ℕ) (before any after : List (Claim × ℕ)) (number : ℕ)
+module _ (p : Purpose) (v : ℕ) (before any after : ClauseIndex) (number : ℕ)
     (first : Adds before any (same_claim (record { purpose = p; variable = v; extent = extent.Any })) number) where
   abbrev claims_of : (Extent → Bool) → Claim → Bool
   claims_of test m = same_purpose p m.purpose && nat_eq v m.variable && test m.extent
@@ -85,6 +96,12 @@ module _ (p : Purpose) (v : ℕ) (before any after : List (Claim × ℕ)) (numbe
       and-or (same_purpose p m.purpose) (nat_eq v m.variable) (test m.extent) (same_extent extent.Any m.extent)
       ∙ ap (λ b. same_purpose p m.purpose && nat_eq v m.variable && b) (h m.extent))
       (adds-then before any after (claims_of (same_extent extent.Any)) (claims_of test) number first more)
+
+  pub makes_whole : Adds any after (claims_of (same_extent extent.Whole)) number → Adds before after (claims_of (claims coverage.Whole)) number
+  makes_whole more = together (same_extent extent.Whole) coverage.Whole whole_claims more
+
+  pub makes_element : (k : ℕ) → Adds any after (claims_of (same_extent (extent.Element k))) number → Adds before after (claims_of (claims (coverage.Element k))) number
+  makes_element k more = together (same_extent (extent.Element k)) (coverage.Element k) (element_claims k) more
 
   pub makes_front : (n : ℕ) → Adds any after (λ m. any_below (λ k. claims_of (same_extent (extent.Element k)) m) n) number
       → Adds before after (claims_of (claims (coverage.Front n))) number
@@ -150,7 +167,7 @@ below-any p xs zero = sym (none xs)
     none (y ∷ ys) = none ys
 below-any p xs (suc n) = ap (λ b. list_any (p n) xs || b) (below-any p xs n) ∙ or-any (p n) (λ x. any_below (λ k. p k x) n) xs
 
-module _ (held : List (Claim × ℕ)) (judged : List (LinkedClause × Bool)) (c : LinkedClause) (v : ℕ) (f : Claimed held judged) (is : c.variable ≡ Some v) where
+module _ (held : ClauseIndex) (judged : List (LinkedClause × Bool)) (c : LinkedClause) (v : ℕ) (f : Claimed held judged) (is : c.variable ≡ Some v) where
   abbrev sound : List LinkedClause
   sound = sound_among judged
 

@@ -3,6 +3,7 @@ use Rattle.std.proofs.Common.{◌≡◌, ℕ, Bool, true, false, ◌&&◌, ◌||
 use Rattle.std.proofs.Math.Bool.{and_assoc}
 use Rattle.std.specs.List.{list_any, position, zip}
 use Rattle.snl_scope.specs.declared.clauses.clause_index.Claim.{Claim}
+use Rattle.snl_scope.specs.declared.clauses.clause_index.ClauseIndex.{ClauseIndex}
 use Rattle.snl_scope.specs.declared.clauses.clause_index.Extent.{Extent}
 use Rattle.snl_scope.specs.declared.clauses.clause_index.Extent.TheVariants as extent
 use Rattle.snl_scope.specs.declared.clauses.clause_index.Purpose.{Purpose}
@@ -43,7 +44,7 @@ element_speaks coverage.Whole e = refl
 element_speaks (coverage.Element k) e = refl
 element_speaks (coverage.Front n) e = refl
 
-module _ (held : List (Claim × ℕ)) (judged : List (LinkedClause × Bool)) (f : Claimed held judged) (p : Purpose) (v : ℕ)
+module _ (held : ClauseIndex) (judged : List (LinkedClause × Bool)) (f : Claimed held judged) (p : Purpose) (v : ℕ)
     (test : ClauseKind → Bool) (is : (k : ClauseKind) → same_purpose (purpose_of k) p ≡ test k) where
   abbrev claim : Extent → Claim
   claim e = record { purpose = p; variable = v; extent = e }
@@ -87,7 +88,7 @@ module _ (held : List (Claim × ℕ)) (judged : List (LinkedClause × Bool)) (f 
   channel-any element = ap is_some (channel-first element) ∙ any-among (speaks element) judged
 
 -- what the claims of all sound clauses tell
-module _ (ss : List Outline) (held : List (Claim × ℕ)) (f : Claimed held (zip (clauses_of ss) (soundness ss))) (v : ℕ) (element : Option ℕ) where
+module _ (ss : List Outline) (held : ClauseIndex) (f : Claimed held (zip (clauses_of ss) (soundness ss))) (v : ℕ) (element : Option ℕ) where
   pub monitored-claims : is_some (first_clause held purpose.Monitor v element) ≡ is_monitored ss v element
   monitored-claims =
       channel-any held (zip (clauses_of ss) (soundness ss)) f purpose.Monitor v is_monitor monitors element

@@ -1,8 +1,8 @@
 -- How the clauses that the code has resolved, and the table of what is assigned, follow the clauses of a text.
-use Rattle.std.specs.Prelude.{◌≡◌, ℕ, if◌then◌else◌, List, [], ◌∷◌, nat_eq, Option, None, Some}
-use Rattle.std.specs.Map.{lookup}
+use Rattle.std.specs.Prelude.{◌≡◌, ℕ, if◌then◌else◌, List, [], ◌∷◌, Option, None, Some}
 use Rattle.snl_scope.specs.declared.facts.Assigned.{Assigned}
 use Rattle.snl_scope.specs.declared.clauses.resolved.Resolved.{Resolved}
+use Rattle.snl_scope.specs.ByNumber.{at_number}
 use Rattle.snl_scope.specs.Clauses.{LinkedClause, assigned_as, assigns}
 
 -- A clause that is resolved.
@@ -15,5 +15,5 @@ first_assign [] number = None
 first_assign (c ∷ cs) number = if assigns (Some number) c then Some (assigned_as c.clause.coverage) else first_assign cs number
 
 -- The table tells, by number, to what each declaration is assigned that is.
-pub record Assigns (held : List (ℕ × Assigned)) (cs : List LinkedClause) : Type 0 where
-  pub each : (number : ℕ) → lookup (nat_eq number) held ≡ first_assign cs number
+pub record Assigns (held : List (Option Assigned)) (cs : List LinkedClause) : Type 0 where
+  pub each : (number : ℕ) → at_number held number ≡ first_assign cs number

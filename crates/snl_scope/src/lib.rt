@@ -2,6 +2,7 @@
 //! there, and which names and items are out of order. It knows nothing of bytes' offsets, nor of what an item does.
 #![tactic(auto)]
 
+mod by_number;
 mod clauses;
 mod edited_names;
 mod facts;

@@ -20,7 +20,6 @@ use crate::names::ghost_outlines::GhostOutlines;
 use crate::names::name_tables::{NameTables, tables_of};
 use crate::names::scopes::Scopes;
 use crate::summaries::summary::Outline;
-use indexmap::IndexMap;
 use snl_cut::OutOfMemory;
 use std::alloc::Global;
 
@@ -37,7 +36,7 @@ pub(crate) struct LinkedNames {
 pub(crate) struct LinkedClauses {
     pub clauses: Vec<ClauseLink>,
     pub claims: ClauseIndex,
-    pub assigned: IndexMap<usize, Assigned>,
+    pub assigned: Vec<Option<Assigned>>,
     pub faults: Vec<LinkFault>,
 }
 
@@ -91,7 +90,7 @@ pub(crate) fn linked_clauses(
     requires { scopes.now ≡ map (λ s. s.now) outlines.now }
     ensures clauses { IfOk result (λ made. made.clauses.items ≡ clause_links scopes.now) }
     ensures claims { IfOk result (λ made. Claimed made.claims (zip (clauses_of scopes.now) (soundness scopes.now))) }
-    ensures assigned { IfOk result (λ made. Assigns made.assigned.entries (clauses_of scopes.now)) }
+    ensures assigned { IfOk result (λ made. Assigns made.assigned.items (clauses_of scopes.now)) }
     ensures found { IfOk result (λ made. made.faults.items ≡ clause_faults scopes.now) }
 {
     let resolved = resolved_clauses(alloc, scopes, outlines)?;

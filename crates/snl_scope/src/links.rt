@@ -5,6 +5,7 @@ ghost use Rattle.std.specs.Prelude.{◌≡◌, map, IfOk, option_and_then, optio
 ghost use Rattle.snl_scope.specs.Linked.{name_kind_of, entry_fact, level_of, scope_in, variable_declaration, variable_fact};
 ghost use Rattle.snl_scope.specs.LinkedItems.{linked_items};
 
+use crate::by_number::at_number;
 use crate::clauses::clause_index::{ClauseIndex, Purpose};
 use crate::clauses::flags::flag_number;
 use crate::facts::{Assigned, ClauseLink, Declaration, Fact, Level, LinkFault, NameKind, Scope};
@@ -15,7 +16,6 @@ use crate::names::name_tables::Symbol;
 use crate::names::namespaces::Namespace;
 use crate::names::scopes::Scopes;
 use crate::summaries::summary::{ItemKind, Summary, SymbolKind};
-use indexmap::IndexMap;
 use snl_cut::OutOfMemory;
 use std::alloc::Global;
 use std::marker::Model;
@@ -28,7 +28,7 @@ pub struct Links {
     kinds: Vec<ItemKind>,
     clauses: Vec<ClauseLink>,
     claims: ClauseIndex,
-    assigned: IndexMap<usize, Assigned>,
+    assigned: Vec<Option<Assigned>>,
     flags: Vec<usize>,
     /// The names that came again, those of faulty states among them.
     repeated: Vec<LinkFault>,
@@ -52,7 +52,7 @@ impl Model for Links {
     ghost view = { λ a. record { outlines = a.scopes; kinds = a.kinds.items } };
 
     ghost invariant = { λ a. (a.clauses.items ≡ clause_links a.scopes)
-        × Assigns a.assigned.entries (clauses_of a.scopes)
+        × Assigns a.assigned.items (clauses_of a.scopes)
         × (a.flags.items ≡ flags_of a.scopes)
         × (a.faults.items ≡ faults_of (record { outlines = a.scopes; kinds = a.kinds.items }))
         × Claimed a.claims (zip (clauses_of a.scopes) (soundness a.scopes))
@@ -95,10 +95,7 @@ impl Links {
     fn assigned_to(&self, number: usize) -> Assigned
         ensures { result ≡ assigned_by (clauses_of self.now.outlines) number }
     {
-        match self.assigned.get(&number) {
-            Some(assigned) => *assigned,
-            None => Assigned::Unassigned,
-        }
+        at_number(&self.assigned, number).unwrap_or(Assigned::Unassigned)
     }
 
     // What is known of the declaration with a number.

@@ -1,14 +1,14 @@
 //! To what each declaration is assigned: resolved clauses come in, a table by the numbers of declarations goes out.
 
-ghost use Rattle.std.specs.Prelude.{◌≡◌, ◌&&◌, ◌++◌, ◌∷◌, [], List, map, nat_eq, is_none, IfOk, OnOk};
-ghost use Rattle.std.specs.Map.{lookup};
+ghost use Rattle.std.specs.Prelude.{◌≡◌, ◌&&◌, ◌++◌, ◌∷◌, [], List, map, is_none, IfOk, OnOk};
+ghost use Rattle.snl_scope.specs.ByNumber.{at_number};
 ghost use Rattle.snl_scope.specs.Clauses.{LinkedClause, assigned_as, is_assign};
 ghost use Rattle.snl_scope.specs.Resolved.{Assigns, linked};
 
+use crate::by_number::{at_number, put_at};
 use crate::clauses::resolved::Resolved;
 use crate::facts::Assigned;
 use crate::summaries::summary::{ClauseKind, Coverage};
-use indexmap::IndexMap;
 use snl_cut::OutOfMemory;
 use std::alloc::Global;
 
@@ -29,19 +29,19 @@ pub(crate) fn is_assign(kind: ClauseKind) -> bool
 }
 
 // Whether a clause of a kind is the first that assigns the declaration with a number.
-fn is_first(assigned: &IndexMap<usize, Assigned>, variable: usize, kind: ClauseKind) -> bool
-    ensures { result ≡ (is_assign kind && is_none (lookup (nat_eq variable) assigned.now.entries)) }
+fn is_first(assigned: &[Option<Assigned>], variable: usize, kind: ClauseKind) -> bool
+    ensures { result ≡ (is_assign kind && is_none (at_number assigned.now variable)) }
 {
-    is_assign(kind) && !assigned.contains_key(&variable)
+    is_assign(kind) && at_number(assigned, variable).is_none()
 }
 
 // Notes a clause, where it is the first that assigns its variable.
-fn note(assigned: &mut IndexMap<usize, Assigned>, clause: Resolved) -> Result<(), OutOfMemory>
-    ensures { OnOk result ((cs : List LinkedClause) → Assigns assigned.old.entries cs → Assigns assigned.new.entries (cs ++ linked clause.entry ∷ [])) }
+fn note(assigned: &mut Vec<Option<Assigned>>, clause: Resolved) -> Result<(), OutOfMemory>
+    ensures { OnOk result ((cs : List LinkedClause) → Assigns assigned.old.items cs → Assigns assigned.new.items (cs ++ linked clause.entry ∷ [])) }
 {
     if let Some(variable) = clause.variable {
         if is_first(assigned, variable, clause.clause.kind) {
-            assigned.insert(variable, assigned_as(clause.clause.coverage))?;
+            put_at(assigned, variable, assigned_as(clause.clause.coverage))?;
         }
     }
     Ok(())
@@ -51,10 +51,10 @@ fn note(assigned: &mut IndexMap<usize, Assigned>, clause: Resolved) -> Result<()
 pub(crate) fn assigned_in(
     alloc: Global,
     clauses: &[Resolved],
-) -> Result<IndexMap<usize, Assigned>, OutOfMemory>
-    ensures { IfOk result (λ assigned. Assigns assigned.entries (map linked clauses.now)) }
+) -> Result<Vec<Option<Assigned>>, OutOfMemory>
+    ensures { IfOk result (λ assigned. Assigns assigned.items (map linked clauses.now)) }
 {
-    let mut assigned = IndexMap::new(alloc);
+    let mut assigned = Vec::new(alloc);
     for clause in clauses {
         note(&mut assigned, *clause)?;
     }

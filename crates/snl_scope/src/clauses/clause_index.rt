@@ -1,20 +1,22 @@
 //! What sound clauses claim of variables: a clause comes in, and whether it overlaps an earlier one goes out, and which was
 //! the first to speak of a channel.
 
-ghost use Rattle.std.specs.Prelude.{◌≡◌, ◌&&◌, [], nat_eq, IfOk, OnOk};
+ghost use Rattle.std.specs.Prelude.{◌≡◌, ◌&&◌, nat_eq, if◌then◌else◌, IfOk, None, OnOk, Some};
 ghost use Rattle.std.specs.Map.{lookup};
+ghost use Rattle.std.specs.Option.{option_or};
 ghost use Rattle.snl_scope.specs.Below.{any_below};
-ghost use Rattle.snl_scope.specs.Claims.{Adds, claim_number, claims, first_clause, has_claim, lesser, overlaps_claims, purpose_of, same_claim, same_purpose};
+ghost use Rattle.snl_scope.specs.Claims.{Adds, AddsOn, KeepsExtents, claim_in, claim_number, claims, extents_for, extents_on, first_clause, has_claim, lesser, overlaps_claims, place_of, purpose_of, same_claim, same_purpose, with_extent, with_extents};
 ghost use Rattle.snl_scope.specs.Hashed.{claim_fed, extent_number, purpose_number, same_claim_fed};
+ghost use Rattle.snl_scope.specs.declared.clauses.clause_index.Claim.{Claim};
 ghost use Rattle.snl_scope.specs.declared.clauses.clause_index.Extent.{Extent};
 ghost use Rattle.snl_scope.specs.declared.clauses.clause_index.Extent.TheVariants as extent;
 
+use crate::by_number::{at_number, put_at};
 use crate::summaries::summary::{ClauseKind, Coverage};
 use indexmap::IndexMap;
 use snl_cut::OutOfMemory;
 use std::alloc::Global;
 use std::hash::{Hash, Hasher};
-use std::marker::Model;
 
 /// What a clause is for. `sync` and `syncq` have one purpose.
 #[derive(Clone, Copy, Debug, PartialEq, Eq)]
@@ -97,40 +99,144 @@ fn lesser(first: Option<usize>, second: Option<usize>) -> Option<usize>
     }
 }
 
-/// The claims of clauses, each with the number of the first that makes it, which contracts see as the list of these pairs.
-#[derive(Drop)]
-pub(crate) struct ClauseIndex {
-    held: IndexMap<Claim, usize>,
+/// What is claimed of a variable for a purpose, but for its elements, by the numbers of the first clauses that do.
+#[derive(Clone, Copy)]
+pub(crate) struct Extents {
+    pub any: Option<usize>,
+    pub whole: Option<usize>,
 }
 
-impl Model for ClauseIndex {
-    ghost use Rattle.std.specs.Prelude.{ℕ, List};
-    ghost use Rattle.snl_scope.specs.declared.clauses.clause_index.Claim.{Claim};
+/// What is claimed of a variable, but for its elements.
+#[derive(Clone, Copy)]
+pub(crate) struct VariableClaims {
+    pub variable: usize,
+    pub assign: Extents,
+    pub monitor: Extents,
+    pub sync: Extents,
+}
 
-    ghost Value = { List (Claim × ℕ) };
+/// The claims of clauses, each with the number of the first that makes it. Only those on elements are sought in a table.
+#[derive(Drop)]
+pub(crate) struct ClauseIndex {
+    // for each variable its place among those that are claimed
+    pub places: Vec<Option<usize>>,
+    pub claimed: Vec<VariableClaims>,
+    pub elements: IndexMap<Claim, usize>,
+}
 
-    ghost view = { λ a. a.held.entries };
+const NO_EXTENTS: Extents = Extents {
+    any: None,
+    whole: None,
+};
+
+fn extents_for(claims: VariableClaims, purpose: Purpose) -> Extents
+    ensures { result ≡ extents_for claims purpose }
+{
+    match purpose {
+        Purpose::Assign => claims.assign,
+        Purpose::Monitor => claims.monitor,
+        Purpose::Sync => claims.sync,
+    }
+}
+
+fn with_extents(claims: VariableClaims, purpose: Purpose, extents: Extents) -> VariableClaims
+    ensures { result ≡ with_extents claims purpose extents }
+{
+    let mut claims = claims;
+    match purpose {
+        Purpose::Assign => claims.assign = extents,
+        Purpose::Monitor => claims.monitor = extents,
+        Purpose::Sync => claims.sync = extents,
+    }
+    claims
+}
+
+// What is claimed with one claim more, which an earlier one of the same stays before.
+fn with_extent(extents: Extents, extent: Extent, number: usize) -> Extents
+    ensures { result ≡ with_extent extents extent number }
+{
+    let Extents { any, whole } = extents;
+    match extent {
+        Extent::Any => Extents {
+            any: any.or(Some(number)),
+            whole,
+        },
+        Extent::Whole => Extents {
+            any,
+            whole: whole.or(Some(number)),
+        },
+        Extent::Element(_) => extents,
+    }
+}
+
+// The place of a variable among those that are claimed, if it is one of them.
+fn place_of(places: &[Option<usize>], claimed: &[VariableClaims], variable: usize) -> Option<usize>
+    ensures { result ≡ place_of places.now claimed.now variable }
+{
+    let place = at_number(places, variable)?;
+    if claimed.get(place)?.variable == variable {
+        Some(place)
+    } else {
+        None
+    }
+}
+
+// Adds the number of the first clause that makes a claim on an element. A new claim, as nearly all are, takes one look-up.
+fn add_element(
+    elements: &mut IndexMap<Claim, usize>,
+    claim: Claim,
+    number: usize,
+) -> Result<(), OutOfMemory>
+    ensures { OnOk result ((m : Claim) → lookup (same_claim m) elements.new.entries
+        ≡ option_or (lookup (same_claim m) elements.old.entries) (if same_claim claim m then Some number else None)) }
+{
+    match elements.insert(claim, number)? {
+        None => Ok(()),
+        Some(earlier) => {
+            elements.insert(claim, earlier)?;
+            Ok(())
+        }
+    }
 }
 
 impl ClauseIndex {
-    /// With room for so many claims.
-    pub(crate) fn new(alloc: Global, room: usize) -> Result<ClauseIndex, OutOfMemory>
-        ensures { IfOk result (λ claims. claims ≡ []) }
+    /// No claims.
+    pub(crate) fn new(alloc: Global) -> ClauseIndex
+        ensures { (m : Claim) → claim_in result m ≡ None }
     {
-        let held = IndexMap::with_capacity(alloc, room)?;
-        Ok(ClauseIndex { held })
+        ClauseIndex {
+            places: Vec::new(alloc),
+            claimed: Vec::new(alloc),
+            elements: IndexMap::new(alloc),
+        }
+    }
+
+    // What is claimed of a variable for a purpose, but for its elements.
+    fn extents(&self, purpose: Purpose, variable: usize) -> Extents
+        ensures { result ≡ extents_on self.now.places.items self.now.claimed.items variable purpose }
+    {
+        match place_of(&self.places, &self.claimed, variable) {
+            Some(place) => extents_for(self.claimed[place], purpose),
+            None => NO_EXTENTS,
+        }
     }
 
     // The number of the first clause that makes the claim.
     fn number(&self, purpose: Purpose, variable: usize, extent: Extent) -> Option<usize>
         ensures { result ≡ claim_number self.now purpose variable extent }
     {
-        let claim = Claim {
-            purpose,
-            variable,
-            extent,
-        };
-        self.held.get(&claim).copied()
+        match extent {
+            Extent::Any => self.extents(purpose, variable).any,
+            Extent::Whole => self.extents(purpose, variable).whole,
+            Extent::Element(_) => {
+                let claim = Claim {
+                    purpose,
+                    variable,
+                    extent,
+                };
+                self.elements.get(&claim).copied()
+            }
+        }
     }
 
     fn has(&self, purpose: Purpose, variable: usize, extent: Extent) -> bool
@@ -186,8 +292,45 @@ impl ClauseIndex {
         }
     }
 
-    // Adds a claim of the clause with a number. One that made it before stays the first. A new claim, as nearly all are,
-    // takes one look-up.
+    // The place of a variable among those that are claimed, which it gets if it has none.
+    fn claim(&mut self, variable: usize) -> Result<usize, OutOfMemory>
+        ensures same { OnOk result (KeepsExtents self.old self.new) }
+        ensures elements { OnOk result (self.new.elements ≡ self.old.elements) }
+        ensures place { IfOk result (λ place. place_of self.new.places.items self.new.claimed.items variable ≡ Some place) }
+    {
+        if let Some(place) = place_of(&self.places, &self.claimed, variable) {
+            return Ok(place);
+        }
+        let place = self.claimed.len();
+        self.claimed.reserve(1)?;
+        put_at(&mut self.places, variable, place)?;
+        self.claimed.push_reserved(VariableClaims {
+            variable,
+            assign: NO_EXTENTS,
+            monitor: NO_EXTENTS,
+            sync: NO_EXTENTS,
+        });
+        Ok(place)
+    }
+
+    // Adds a claim on a variable that is none on an element.
+    fn add_on(
+        &mut self,
+        purpose: Purpose,
+        variable: usize,
+        extent: Extent,
+        number: usize,
+    ) -> Result<(), OutOfMemory>
+        ensures { OnOk result (AddsOn self.old self.new (record { purpose = purpose; variable = variable; extent = extent }) number) }
+    {
+        let place = self.claim(variable)?;
+        let claims = self.claimed[place];
+        let extents = with_extent(extents_for(claims, purpose), extent, number);
+        self.claimed[place] = with_extents(claims, purpose, extents);
+        Ok(())
+    }
+
+    // Adds a claim of the clause with a number. One that made it before stays the first.
     fn add(
         &mut self,
         purpose: Purpose,
@@ -198,16 +341,15 @@ impl ClauseIndex {
         ensures { OnOk result (Adds self.old self.new
             (same_claim (record { purpose = purpose; variable = variable; extent = extent })) number) }
     {
-        let claim = Claim {
-            purpose,
-            variable,
-            extent,
-        };
-        match self.held.insert(claim, number)? {
-            None => Ok(()),
-            Some(earlier) => {
-                self.held.insert(claim, earlier)?;
-                Ok(())
+        match extent {
+            Extent::Any | Extent::Whole => self.add_on(purpose, variable, extent, number),
+            Extent::Element(_) => {
+                let claim = Claim {
+                    purpose,
+                    variable,
+                    extent,
+                };
+                add_element(&mut self.elements, claim, number)
             }
         }
     }

@@ -11,13 +11,13 @@ ghost use Rattle.snl_scope.specs.Names.{entries};
 ghost use Rattle.snl_scope.specs.Resolved.{Assigns, linked};
 ghost use Rattle.snl_walk.specs.declared.codes.Code.{Code};
 
+use crate::by_number::at_number;
 use crate::clauses::assigned::is_assign;
 use crate::clauses::clause_index::{ClauseIndex, purpose_of};
 use crate::clauses::resolved::Resolved;
 use crate::facts::{Assigned, ClauseLink, LinkFault};
 use crate::names::scopes::Scopes;
 use crate::summaries::summary::{ClauseKind, Coverage, Dims, SymbolKind, Variable, VariableClause};
-use indexmap::IndexMap;
 use snl_cut::OutOfMemory;
 use snl_walk::Code;
 use std::alloc::Global;
@@ -89,11 +89,11 @@ fn code_on(
 // What a clause gives at its variable, by all clauses and the claims of the sound ones before it.
 fn variable_code(
     scopes: &Scopes,
-    assigned: &IndexMap<usize, Assigned>,
+    assigned: &[Option<Assigned>],
     claims: &ClauseIndex,
     clause: Resolved,
 ) -> Option<Code>
-    ensures { (cs : List LinkedClause) → (judged : List (LinkedClause × Bool)) → Assigns assigned.now.entries cs → Claimed claims.now judged
+    ensures { (cs : List LinkedClause) → (judged : List (LinkedClause × Bool)) → Assigns assigned.now cs → Claimed claims.now judged
         → result ≡ variable_code (entries scopes.now) cs (sound_among judged) (linked clause.entry) }
 {
     let number = match clause.variable {
@@ -102,7 +102,7 @@ fn variable_code(
     };
     match scopes.variable_at(Some(number)) {
         Some(variable) => {
-            let is_assigned = assigned.contains_key(&number);
+            let is_assigned = at_number(assigned, number).is_some();
             let purpose = purpose_of(clause.clause.kind);
             let is_repeated = claims.overlap(purpose, number, clause.clause.coverage);
             code_on(clause.clause, variable, is_assigned, is_repeated)
@@ -222,11 +222,11 @@ pub(crate) struct JudgedClauses {
 pub(crate) fn judged_clauses(
     alloc: Global,
     scopes: &Scopes,
-    assigned: &IndexMap<usize, Assigned>,
+    assigned: &[Option<Assigned>],
     clauses: &[Resolved],
     faults: &mut Vec<LinkFault>,
 ) -> Result<JudgedClauses, OutOfMemory>
-    requires { Assigns assigned.now.entries (map linked clauses.now) }
+    requires { Assigns assigned.now (map linked clauses.now) }
     ensures links { IfOk result (λ judged. judged.links.items ≡ map (λ p. clause_link p.0 p.1)
         (zip (map linked clauses.now) (soundness_after (entries scopes.now) (map linked clauses.now) [] (map linked clauses.now)))) }
     ensures claims { IfOk result (λ judged. Claimed judged.claims
@@ -234,8 +234,7 @@ pub(crate) fn judged_clauses(
     ensures found { OnOk result (faults.new.items ≡ faults.old.items
         ++ found_after (entries scopes.now) (map linked clauses.now) [] (map linked clauses.now)) }
 {
-    // a sound clause makes two claims, if no other has made one of them
-    let mut claims = ClauseIndex::new(alloc, clauses.len().saturating_mul(2))?;
+    let mut claims = ClauseIndex::new(alloc);
     let mut links = Vec::with_capacity(alloc, clauses.len())?;
     for clause in clauses {
         let code = variable_code(scopes, assigned, &claims, *clause);

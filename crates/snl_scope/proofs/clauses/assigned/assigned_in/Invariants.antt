@@ -4,4 +4,4 @@ use Rattle.snl_scope.proofs.clauses.assigned.assigned_in.Given as goal
 
 -- the table follows the clauses so far
 abbrev pub invariant-loop-clause : goal.invariant-loop-clause
-invariant-loop-clause l = Assigns l.assigned.entries (map linked (take l.clause-index l.clauses))
+invariant-loop-clause l = Assigns l.assigned.items (map linked (take l.clause-index l.clauses))

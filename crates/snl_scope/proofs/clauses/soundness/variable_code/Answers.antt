@@ -16,8 +16,8 @@ returns-in-Some-variable_at c = λ cs judged f g.
     let d = linked c.args.clause in
     let number = c.in-Some.number in
     let v = c.in-Some-variable_at.variable in
-    let is_assigned : c.contains_key-is_assigned.result ≡ list_any (assigns d.variable) cs =
-    c.contains_key-is_assigned.ensures ∙ ap is_some (f.each number) ∙ assigns-first cs number ∙ ap (λ o. list_any (assigns o) cs) (sym c.in-Some.is) in
+    let is_assigned : c.is_some-is_assigned.result ≡ list_any (assigns d.variable) cs =
+    c.is_some-is_assigned.ensures ∙ ap is_some c.at_number.ensures ∙ ap is_some (f.each number) ∙ assigns-first cs number ∙ ap (λ o. list_any (assigns o) cs) (sym c.in-Some.is) in
     let is_repeated : c.overlap-is_repeated.result ≡ list_any (clash d) (sound_among judged) =
     c.overlap-is_repeated.ensures ∙ ap (λ p. overlaps_claims c.args.claims.now p number d.clause.coverage) c.purpose_of-purpose.ensures
     ∙ overlap_clash c.args.claims.now judged d number g c.in-Some.is in
