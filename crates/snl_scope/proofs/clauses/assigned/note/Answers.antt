@@ -1,4 +1,4 @@
-use Rattle.std.proofs.Common.{◌≡◌, ◌&&◌, List, Bool, Option, ap, cond, is_none, nat_eq, sym, ◌∙◌, Some}
+use Rattle.std.proofs.Common.{◌&&◌, List, Option, ap, cond, is_none, nat_eq, sym, ◌∙◌, Some}
 use Rattle.snl_scope.specs.declared.facts.Assigned.{Assigned}
 use Rattle.snl_scope.specs.ByNumber.{at_number}
 use Rattle.snl_scope.specs.Clauses.{is_assign}

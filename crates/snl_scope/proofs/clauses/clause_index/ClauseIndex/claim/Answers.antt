@@ -1,7 +1,7 @@
 use Rattle.std.proofs.Common.{◌≡◌, ◌∙◌, ◌++◌, ◌∷◌, [], ℕ, List, Option, None, Some, length, ap, ap₂, subst, sym}
 use Rattle.snl_scope.specs.declared.clauses.clause_index.VariableClaims.{VariableClaims}
 use Rattle.snl_scope.specs.ByNumber.{IsPutAt}
-use Rattle.snl_scope.specs.Claims.{extents_on, no_extents, place_of}
+use Rattle.snl_scope.specs.Claims.{extents_on, place_of}
 use Rattle.snl_scope.proofs.ClaimPlaces.{fresh, own_now, placed_keeps}
 use Rattle.snl_scope.proofs.clauses.clause_index.ClauseIndex.claim.Goals as goal
 
