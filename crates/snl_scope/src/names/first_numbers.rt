@@ -1,6 +1,6 @@
 //! For each name in a namespace, the number of the first that came with it. The names are told by their numbers.
 
-ghost use Rattle.std.specs.Prelude.{◌≡◌, ◌++◌, ◌∷◌, [], ◌<◌, ℕ, IfOk, OnOk, Option, Some, None, false, true, if◌then◌else◌, is_some, vec_len};
+ghost use Rattle.std.specs.Prelude.{◌≡◌, ◌++◌, ◌∷◌, [], ◌<◌, ℕ, IfOk, OnOk, Some, false, true, if◌then◌else◌, is_some, vec_len};
 ghost use Rattle.std.specs.Map.{lookup};
 ghost use Rattle.std.specs.Option.{option_or};
 ghost use Rattle.snl_scope.specs.declared.names.namespaces.Key.{Key};
