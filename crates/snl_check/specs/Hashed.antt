@@ -1,5 +1,7 @@
--- The number by which a key of the channels is hashed, and that equal keys have equal numbers.
-use Rattle.std.specs.Prelude.{◌≡◌, ℕ, ◌+◌, ◌*◌, true}
+-- The numbers by which a key of the channels is hashed, and that equal keys have equal ones.
+use Rattle.std.specs.Prelude.{◌≡◌, ℕ, ◌++◌, true}
+use Rattle.std.specs.Hash as fed
+use Rattle.std.specs.Hash.{HashWrites}
 use Rattle.std.proofs.Common.{refl, sym, ap, ◌∙◌, true≢false}
 use Rattle.std.specs.Cmp.{first_so, second_so}
 use Rattle.std.proofs.lemmas.Bool.Decides.{Decides-eqb}
@@ -13,8 +15,8 @@ abbrev pub which_number : Which → ℕ
 which_number which.Any = 18446744073709551615
 which_number (which.Element n) = n
 
-abbrev pub key_number : Key → ℕ
-key_number k = k.variable * 18446744073709551616 + which_number k.which
+abbrev pub key_fed : Key → HashWrites
+key_fed k = fed.usize k.variable ++ fed.u64 (which_number k.which)
 
 same_number : (a b : Which) → which_eq.eq-value.it a b ≡ true → which_number a ≡ which_number b
 same_number which.Any which.Any h = refl
@@ -22,8 +24,8 @@ same_number which.Any (which.Element b) h = absurd (true≢false (sym h))
 same_number (which.Element a) which.Any h = absurd (true≢false (sym h))
 same_number (which.Element a) (which.Element b) h = (Decides-eqb a b).0 h
 
-pub same_key_number : (a b : Key) → key_eq.eq-value.it a b ≡ true → key_number a ≡ key_number b
-same_key_number a b h =
+pub same_key_fed : (a b : Key) → key_eq.eq-value.it a b ≡ true → key_fed a ≡ key_fed b
+same_key_fed a b h =
     let variables = (Decides-eqb a.variable b.variable).0 (first_so _ _ h) in
     let elements = same_number a.which b.which (second_so _ _ h) in
-    ap (λ n. n * 18446744073709551616 + which_number a.which) variables ∙ ap (λ n. b.variable * 18446744073709551616 + n) elements
+    ap (λ n. fed.usize n ++ fed.u64 (which_number a.which)) variables ∙ ap (λ n. fed.usize b.variable ++ fed.u64 n) elements

@@ -73,12 +73,8 @@ extent_number extent.Any = 18446744073709551615
 extent_number extent.Whole = 18446744073709551614
 extent_number (extent.Element k) = k
 
--- That of a variable and of how much of it is claimed.
-abbrev pub place_number : Claim → ℕ
-place_number m = m.variable * 18446744073709551616 + extent_number m.extent
-
 abbrev pub claim_fed : Claim → HashWrites
-claim_fed m = fed.u8 (purpose_number m.purpose) ++ fed.u128 (place_number m)
+claim_fed m = fed.u8 (purpose_number m.purpose) ++ (fed.usize m.variable ++ fed.u64 (extent_number m.extent))
 
 same_purpose_number : (a b : Purpose) → purpose_eq.eq-value.it a b ≡ true → purpose_number a ≡ purpose_number b
 same_purpose_number purpose.Assign purpose.Assign h = refl
@@ -108,6 +104,6 @@ same_claim_fed a b h =
     let rest = second_so _ _ h in
     let variables = (Decides-eqb a.variable b.variable).0 (first_so _ _ rest) in
     let extents = same_extent_number a.extent b.extent (second_so _ _ rest) in
-    ap (λ n. fed.u8 n ++ fed.u128 (place_number a)) purposes
-    ∙ ap (λ n. fed.u8 (purpose_number b.purpose) ++ fed.u128 (n * 18446744073709551616 + extent_number a.extent)) variables
-    ∙ ap (λ n. fed.u8 (purpose_number b.purpose) ++ fed.u128 (b.variable * 18446744073709551616 + n)) extents
+    ap (λ n. fed.u8 n ++ (fed.usize a.variable ++ fed.u64 (extent_number a.extent))) purposes
+    ∙ ap (λ n. fed.u8 (purpose_number b.purpose) ++ (fed.usize n ++ fed.u64 (extent_number a.extent))) variables
+    ∙ ap (λ n. fed.u8 (purpose_number b.purpose) ++ (fed.usize b.variable ++ fed.u64 n)) extents

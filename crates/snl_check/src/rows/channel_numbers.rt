@@ -1,11 +1,9 @@
 //! The numbers of channels: a variable and an element come in, the number of the channel goes out.
 
 ghost use Rattle.std.specs.Prelude.{◌≡◌, [], IfOk, OnOk, length, map};
-ghost use Rattle.std.specs.Hash as fed;
 ghost use Rattle.std.specs.Map.{lookup};
-ghost use Rattle.std.proofs.Common.{ap};
 ghost use Rattle.snl_check.specs.Collected.{assigned};
-ghost use Rattle.snl_check.specs.Hashed.{key_number, same_key_number, which_number};
+ghost use Rattle.snl_check.specs.Hashed.{key_fed, same_key_fed, which_number};
 ghost use Rattle.snl_check.specs.Numbered.{Adds, AddsAll, Numbered, TellsBelow, element_at, has_key, same_key};
 
 use crate::rows::channels::AssignedChannel;
@@ -41,15 +39,15 @@ fn which_number(which: Which) -> u64
     }
 }
 
-// By one write of a number, where the variant and the fields would take a write each.
+// Each number has a write of its own: in one write of both, an element could be chosen that gives all variables one hash.
 impl Hash for Key {
-    ghost hash_input = { λ k. fed.u128 (key_number k) };
+    ghost hash_input = { key_fed };
 
-    ghost respects_eq = { λ a b h. ap fed.u128 (same_key_number a b h) };
+    ghost respects_eq = { same_key_fed };
 
     fn hash<H: Hasher>(&self, state: &mut H) {
-        let which = which_number(self.which) as u128;
-        state.write_u128(self.variable as u128 * (1 << 64) + which);
+        state.write_usize(self.variable);
+        state.write_u64(which_number(self.which));
     }
 }
 

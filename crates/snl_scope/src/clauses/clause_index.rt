@@ -65,7 +65,7 @@ fn extent_number(extent: Extent) -> u64
     }
 }
 
-// By two writes of numbers, where the variants and their fields would take four.
+// Each number has a write of its own: in one write of both, an element could be chosen that gives all variables one hash.
 impl Hash for Claim {
     ghost hash_input = { claim_fed };
 
@@ -73,8 +73,8 @@ impl Hash for Claim {
 
     fn hash<H: Hasher>(&self, state: &mut H) {
         state.write_u8(purpose_number(self.purpose));
-        let extent = extent_number(self.extent) as u128;
-        state.write_u128(self.variable as u128 * (1 << 64) + extent);
+        state.write_usize(self.variable);
+        state.write_u64(extent_number(self.extent));
     }
 }
 
