@@ -1,67 +1,30 @@
 -- What is claimed of variables: a place more, and a claim more.
-use Rattle.std.proofs.Common.{◌≡◌, ℕ, zero, suc, ◌⊎◌, inl, inr, Bool, true, false, ◌&&◌, List, [], ◌∷◌, ◌++◌, length, get_or, set, nat_eq, Option, None, Some, refl, sym, ap, ◌∙◌, arith, true≢false, if◌then◌else◌}
+use Rattle.std.proofs.Common.{◌≡◌, ℕ, inl, inr, Bool, true, false, ◌&&◌, List, [], ◌∷◌, ◌++◌, length, get_or, set, nat_eq, Option, None, Some, refl, sym, ap, ◌∙◌, arith, true≢false, if◌then◌else◌}
 use Rattle.std.specs.Prelude.{slice_get}
 use Rattle.std.proofs.lemmas.Bool.Decides.{Decides-eqb, nat_tests}
-use Rattle.std.specs.Option.{option_and_then, option_map_or, option_or}
+use Rattle.std.specs.Option.{option_and_then, option_map_or}
 use Rattle.snl_scope.specs.declared.clauses.clause_index.Claim.{Claim}
 use Rattle.snl_scope.specs.declared.clauses.clause_index.Extents.{Extents}
 use Rattle.snl_scope.specs.declared.clauses.clause_index.Purpose.{Purpose}
 use Rattle.snl_scope.specs.declared.clauses.clause_index.Purpose.TheVariants as purpose
 use Rattle.snl_scope.specs.declared.clauses.clause_index.VariableClaims.{VariableClaims}
+use Rattle.std.proofs.lemmas.Option.{get_or_from_slice_get}
 use Rattle.snl_scope.specs.ByNumber.{IsPutAt, at_number}
 use Rattle.snl_scope.specs.Claims.{extents_at, extents_for, extents_on, no_extents, own_place, place_of, same_purpose, with_extent, with_extents}
+use Rattle.snl_scope.proofs.Elements.{get_after, get_kept, get_last, set_other, set_there, told}
+use Rattle.snl_scope.proofs.FirstClaims.{purpose_true}
 
 self_eq : (n : ℕ) → nat_eq n n ≡ true
 self_eq n = grind (arith, nat_tests)
-
-or_none : (o : Option ℕ) → option_or o None ≡ o
-or_none None = refl
-or_none (Some n) = refl
-
-told : (b : Bool) → (b ≡ true) ⊎ (b ≡ false)
-told true = inl refl
-told false = inr refl
-
--- ---- elements of lists
-
-front : {A : Type 0} (xs : List A) (x c : A) (r : ℕ) → slice_get xs r ≡ Some c → slice_get (xs ++ x ∷ []) r ≡ Some c
-front [] x c r h = cc
-front (y ∷ ys) x c zero h = h
-front (y ∷ ys) x c (suc r) h = front ys x c r h
-
-last : {A : Type 0} (xs : List A) (x : A) → slice_get (xs ++ x ∷ []) (length xs) ≡ Some x
-last [] x = refl
-last (y ∷ ys) x = last ys x
-
-after : {A : Type 0} (xs : List A) (x : A) (r : ℕ) → slice_get xs r ≡ None → (slice_get (xs ++ x ∷ []) r ≡ None) ⊎ (slice_get (xs ++ x ∷ []) r ≡ Some x)
-after [] x zero h = inr refl
-after [] x (suc r) h = inl refl
-after (y ∷ ys) x zero h = cc
-after (y ∷ ys) x (suc r) h = after ys x r h
-
-set_there : {A : Type 0} (xs : List A) (i : ℕ) (a c : A) → slice_get xs i ≡ Some c → slice_get (set xs i a) i ≡ Some a
-set_there [] i a c h = cc
-set_there (x ∷ xs) zero a c h = refl
-set_there (x ∷ xs) (suc i) a c h = set_there xs i a c h
-
-eq_suc : (i r : ℕ) → nat_eq (suc i) (suc r) ≡ nat_eq i r
-eq_suc i r = grind (arith, nat_tests)
-
-set_other : {A : Type 0} (xs : List A) (i r : ℕ) (a : A) → nat_eq i r ≡ false → slice_get (set xs i a) r ≡ slice_get xs r
-set_other [] i r a h = refl
-set_other (x ∷ xs) zero zero a h = absurd (true≢false h)
-set_other (x ∷ xs) zero (suc r) a h = refl
-set_other (x ∷ xs) (suc i) zero a h = refl
-set_other (x ∷ xs) (suc i) (suc r) a h = set_other xs i r a (sym (eq_suc i r) ∙ h)
 
 -- ---- a place more
 
 module _ (claimed : List VariableClaims) (c : VariableClaims) (v : ℕ) (apart : nat_eq c.variable v ≡ false) where
   -- the new place isn't another variable's own
   not_own : (r : ℕ) (o : Option VariableClaims) → slice_get claimed r ≡ o → own_place (claimed ++ c ∷ []) v (Some r) ≡ own_place claimed v (Some r)
-  not_own r (Some d) h = ap (option_and_then (λ e. if nat_eq e.variable v then Some r else None)) (front claimed c d r h ∙ sym h)
+  not_own r (Some d) h = ap (option_and_then (λ e. if nat_eq e.variable v then Some r else None)) (get_kept claimed c d r h ∙ sym h)
   not_own r None h =
-      elim (after claimed c r h) [
+      elim (get_after claimed c r h) [
         | inl none ↦ ap (option_and_then (λ e. if nat_eq e.variable v then Some r else None)) (none ∙ sym h)
         | inr some ↦
             ap (option_and_then (λ e. if nat_eq e.variable v then Some r else None)) some
@@ -79,7 +42,7 @@ kept_at claimed c v p None = refl
 kept_at claimed c v p (Some r) = by (slice_get claimed r) refl
   where
     at : (d : VariableClaims) → slice_get claimed r ≡ Some d → (b : Bool) → extents_at (claimed ++ c ∷ []) p (if b then Some r else None) ≡ extents_at claimed p (if b then Some r else None)
-    at d h true = ap (λ q. option_map_or (λ e. extents_for e p) q no_extents) (front claimed c d r h ∙ sym h)
+    at d h true = ap (λ q. option_map_or (λ e. extents_for e p) q no_extents) (get_kept claimed c d r h ∙ sym h)
     at d h false = refl
 
     by : (q : Option VariableClaims) → slice_get claimed r ≡ q
@@ -99,7 +62,7 @@ module _ (places places' : List (Option ℕ)) (claimed : List VariableClaims) (v
   pub own_now : place_of places' (claimed ++ fresh ∷ []) variable ≡ Some (length claimed)
   own_now =
       ap (λ o. own_place (claimed ++ fresh ∷ []) variable (option_and_then (λ p. p) o)) is.own
-      ∙ ap (option_and_then (λ e. if nat_eq e.variable variable then Some (length claimed) else None)) (last claimed fresh)
+      ∙ ap (option_and_then (λ e. if nat_eq e.variable variable then Some (length claimed) else None)) (get_last claimed fresh)
       ∙ ap (λ (b : Bool). if b then Some (length claimed) else None) (self_eq variable)
 
   pub placed_keeps : place_of places claimed variable ≡ None → (v : ℕ) (p : Purpose) → extents_on places' (claimed ++ fresh ∷ []) v p ≡ extents_on places claimed v p
@@ -108,7 +71,7 @@ module _ (places places' : List (Option ℕ)) (claimed : List VariableClaims) (v
         let e : variable ≡ v = (Decides-eqb variable v).0 same in
         ap (λ (w : ℕ). extents_on places' (claimed ++ fresh ∷ []) w p) (sym e)
         ∙ ap (extents_at (claimed ++ fresh ∷ []) p) own_now
-        ∙ ap (λ q. option_map_or (λ d. extents_for d p) q no_extents) (last claimed fresh)
+        ∙ ap (λ q. option_map_or (λ d. extents_for d p) q no_extents) (get_last claimed fresh)
         ∙ none_yet variable p
         ∙ sym (ap (extents_at claimed p) none)
         ∙ ap (λ (w : ℕ). extents_on places claimed w p) e
@@ -137,11 +100,6 @@ own_at claimed v place (Some r) h c at = by (slice_get claimed r) refl h
           cc
     ]
 
-got : {A : Type 0} (xs : List A) (i : ℕ) (x d : A) → slice_get xs i ≡ Some x → get_or xs i d ≡ x
-got [] i x d h = cc
-got (y ∷ ys) zero x d h = cc
-got (y ∷ ys) (suc i) x d h = got ys i x d h
-
 own_there : (claimed : List VariableClaims) (v place : ℕ) (o : Option ℕ) → own_place claimed v o ≡ Some place → (c : VariableClaims) → c ≡ get_or claimed place c → slice_get claimed place ≡ Some c
 own_there claimed v place None h c at = cc
 own_there claimed v place (Some r) h c at = by (slice_get claimed r) refl h
@@ -153,7 +111,7 @@ own_there claimed v place (Some r) h c at = by (slice_get claimed r) refl h
           let s : Some r ≡ Some place = sym (ap (λ (b : Bool). if b then Some r else None) own) ∙ t in
           let e : r ≡ place = cc in
           let there : slice_get claimed place ≡ Some d = ap (slice_get claimed) (sym e) ∙ g in
-          there ∙ ap Some (sym (at ∙ got claimed place d c there))
+          there ∙ ap Some (sym (at ∙ get_or_from_slice_get claimed place d c there))
       | inr apart ↦
           let n : None ≡ Some place = sym (ap (λ (b : Bool). if b then Some r else None) apart) ∙ t in
           cc
@@ -177,17 +135,6 @@ same_variable : (c : VariableClaims) (p : Purpose) (e : Extents) → (with_exten
 same_variable c purpose.Assign e = refl
 same_variable c purpose.Monitor e = refl
 same_variable c purpose.Sync e = refl
-
-purpose_is : (p q : Purpose) → same_purpose p q ≡ true → p ≡ q
-purpose_is purpose.Assign purpose.Assign h = refl
-purpose_is purpose.Assign purpose.Monitor h = absurd (true≢false (sym h))
-purpose_is purpose.Assign purpose.Sync h = absurd (true≢false (sym h))
-purpose_is purpose.Monitor purpose.Assign h = absurd (true≢false (sym h))
-purpose_is purpose.Monitor purpose.Monitor h = refl
-purpose_is purpose.Monitor purpose.Sync h = absurd (true≢false (sym h))
-purpose_is purpose.Sync purpose.Assign h = absurd (true≢false (sym h))
-purpose_is purpose.Sync purpose.Monitor h = absurd (true≢false (sym h))
-purpose_is purpose.Sync purpose.Sync h = refl
 
 module _ (claimed : List VariableClaims) (place : ℕ) (c d : VariableClaims) (at : slice_get claimed place ≡ Some c) (kept : d.variable ≡ c.variable) where
   -- the places stay the variables' own
@@ -249,7 +196,7 @@ module _ (places : List (Option ℕ)) (claimed : List VariableClaims) (one : Cla
 
   same_purposes : (p : Purpose) (b : Bool) → same_purpose one.purpose p ≡ b
       → (if b then with_extent (extents_for c one.purpose) one.extent number else extents_for c p) ≡ (if b && true then with_extent (extents_for c p) one.extent number else extents_for c p)
-  same_purposes p true h = ap (λ (q : Purpose). with_extent (extents_for c q) one.extent number) (purpose_is one.purpose p h)
+  same_purposes p true h = ap (λ (q : Purpose). with_extent (extents_for c q) one.extent number) (purpose_true one.purpose p h)
   same_purposes p false h = refl
 
   abbrev expected : Bool → Bool → ℕ → Purpose → Extents

@@ -47,7 +47,7 @@ claim_is a b =
     ∙ ap (λ p. p && nat_eq a.variable b.variable && extent_eq.eq-value.it a.extent b.extent) (purpose_is a.purpose b.purpose)
     ∙ ap (λ e. same_purpose a.purpose b.purpose && nat_eq a.variable b.variable && e) (extent_is a.extent b.extent)
 
-purpose_true : (a b : Purpose) → same_purpose a b ≡ true → a ≡ b
+pub purpose_true : (a b : Purpose) → same_purpose a b ≡ true → a ≡ b
 purpose_true purpose.Assign purpose.Assign h = refl
 purpose_true purpose.Assign purpose.Monitor h = absurd (true≢false (sym h))
 purpose_true purpose.Assign purpose.Sync h = absurd (true≢false (sym h))

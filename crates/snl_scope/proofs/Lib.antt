@@ -3,6 +3,7 @@ pub mod Searches
 pub mod OpenSets
 pub mod OrderSteps
 pub mod Marks
+pub mod Elements
 pub mod Numbering
 pub mod Numbered
 pub mod Prints

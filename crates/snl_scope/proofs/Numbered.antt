@@ -1,12 +1,9 @@
 -- What a list has for numbers, after one is put.
-use Rattle.std.proofs.Common.{◌≡◌, ℕ, ◌⊎◌, inl, inr, Bool, true, false, cond, List, nat_eq, Option, Some, refl, sym, ap, ◌∙◌}
+use Rattle.std.proofs.Common.{◌≡◌, ℕ, inl, inr, Bool, cond, List, nat_eq, Option, Some, sym, ap, ◌∙◌}
 use Rattle.std.proofs.lemmas.Bool.Decides.{Decides-eqb}
 use Rattle.std.specs.Option.{option_and_then}
 use Rattle.snl_scope.specs.ByNumber.{IsPutAt, at_number}
-
-told : (b : Bool) → (b ≡ true) ⊎ (b ≡ false)
-told true = inl refl
-told false = inr refl
+use Rattle.snl_scope.proofs.Elements.{told}
 
 pub put_told : {A : Type 0} (old new : List (Option A)) (number : ℕ) (value : A) → IsPutAt old new number value → (n : ℕ) → at_number new n ≡ cond (nat_eq number n) (Some value) (at_number old n)
 put_told old new number value is n = elim (told (nat_eq number n)) [

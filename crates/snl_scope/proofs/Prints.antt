@@ -11,6 +11,7 @@ use Rattle.std.proofs.lemmas.Slice.Eq.{bytes_eq-Decides}
 use Rattle.std.proofs.Math.Seq.{get_or-append_seam, take-suc}
 use Rattle.snl_walk.specs.Prints.{print_of}
 use Rattle.snl_scope.specs.Prints.{AreFound, last_with}
+use Rattle.snl_scope.proofs.Elements.{get_last, told}
 use Rattle.snl_scope.proofs.Numbering.{position-push}
 
 abbrev Name : Type 0
@@ -50,10 +51,6 @@ scan_whole name names =
     scan_is name names (length names) None (omega arith)
     ∙ or_none (position (bytes_eq name) (take (length names) names))
     ∙ ap (position (bytes_eq name)) (take_all (length names) names (omega arith))
-
-told : (b : Bool) → (b ≡ true) ⊎ (b ≡ false)
-told true = inl refl
-told false = inr refl
 
 self_eq : (n : ℕ) → (n == n) ≡ true
 self_eq n = grind (arith, nat_tests)
@@ -116,11 +113,6 @@ last_found name names (suc n) k h =
 
 -- ---- elements of lists
 
-pub got : (xs : List (Option ℕ)) (n : ℕ) (x d : Option ℕ) → slice_get xs n ≡ Some x → get_or xs n d ≡ x
-got [] n x d h = cc
-got (y ∷ ys) zero x d h = cc
-got (y ∷ ys) (suc n) x d h = got ys n x d h
-
 pub same_got : (xs : List Name) (n : ℕ) (d e : Name) → n < length xs → get_or xs n d ≡ get_or xs n e
 same_got [] n d e h = absurd (omega (arith, h))
 same_got (x ∷ xs) zero d e h = refl
@@ -147,10 +139,6 @@ get_front : (xs : List (Option ℕ)) (x : Option ℕ) (n : ℕ) → n < length x
 get_front [] x n h = absurd (omega (arith, h))
 get_front (y ∷ ys) x zero h = refl
 get_front (y ∷ ys) x (suc n) h = get_front ys x n (omega (arith, h))
-
-get_last : (xs : List (Option ℕ)) (x : Option ℕ) → slice_get (xs ++ x ∷ []) (length xs) ≡ Some x
-get_last [] x = refl
-get_last (y ∷ ys) x = get_last ys x
 
 below_or_last : (n m : ℕ) → n < suc m → (n < m) ⊎ (n ≡ m)
 below_or_last n m h = elim (told (nat_lt n m)) [ inl less ↦ inl (lt_told n m less) | inr more ↦ inr (omega (arith, h, ge_told n m more)) ]

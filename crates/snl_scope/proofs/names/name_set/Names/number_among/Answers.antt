@@ -1,9 +1,10 @@
 use Rattle.std.proofs.Common.{◌≡◌, ℕ, ◌<◌, Bool, List, [], length, get_or, None, Some, sym, ap, ap₂, ◌∙◌, arith}
 use Rattle.std.specs.Prelude.{if◌then◌else◌}
 use Rattle.std.specs.Str.{bytes_eq}
+use Rattle.std.proofs.lemmas.Option.{get_or_from_slice_get}
 use Rattle.snl_walk.specs.Prints.{print_of}
 use Rattle.snl_scope.specs.Prints.{last_with}
-use Rattle.snl_scope.proofs.Prints.{IsLast, got, last_found, none_found, same_got, scan, scan_whole}
+use Rattle.snl_scope.proofs.Prints.{IsLast, last_found, none_found, same_got, scan, scan_whole}
 use Rattle.snl_scope.proofs.names.name_set.Names.number_among.Goals as goal
 use Rattle.snl_scope.proofs.names.name_set.Names.number_among.Goals.{then-eq, else-eq}
 
@@ -42,7 +43,7 @@ loop-at-preserved c =
     let is : IsLast name names c.loop-at.below k = last_found name names c.loop-at.below k (sym c.loop-at.invariant.next ∙ c.in-Some.is) in
     let there : k < length held = omega (arith, is.below, c.loop-at.invariant.within, ap length c.self.view_is) in
     let here : get_or held k [] ≡ get_or names k [] = ap (λ (ns : List (List ℕ)). get_or ns k []) c.self.view_is in
-    let next : c.index-at.result.now ≡ last_with held (print_of (get_or held k [])) k = c.index-at.ensures ∙ got c.self.inside.earlier.items k (last_with held (print_of (get_or held k [])) k) c.index-at.result.now (c.self.invariant.before k there) in
+    let next : c.index-at.result.now ≡ last_with held (print_of (get_or held k [])) k = c.index-at.ensures ∙ get_or_from_slice_get c.self.inside.earlier.items k (last_with held (print_of (get_or held k [])) k) c.index-at.result.now (c.self.invariant.before k there) in
     let same : c.eq.result ≡ bytes_eq name (get_or names k []) =
     c.eq.ensures ∙ ap (bytes_eq name) (c.bytes.ensures ∙ c.index.ensures ∙ same_got held k c.index.result.now [] there ∙ here) in
     let picked : c.if-eq.found ≡ (if bytes_eq name (get_or names k []) then Some k else c.loop-at.found) =
