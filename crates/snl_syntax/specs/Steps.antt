@@ -46,6 +46,11 @@ abbrev pub ReadsToken : List Kind → ℕ → Result ℕ Stop → Outcome ℕ �
 ReadsToken kinds at (Ok after) read = read ≡ Ok (at, ahead kinds after)
 ReadsToken kinds at (Err s) read = Fails kinds s read
 
+-- the same beside a value
+abbrev pub ReadsPast : {A : Type 0} → List Kind → ℕ → Result (A × ℕ) Stop → Outcome ℕ → Type 0
+ReadsPast kinds at (Ok x) read = read ≡ Ok (at, ahead kinds x.1)
+ReadsPast kinds at (Err s) read = Fails kinds s read
+
 -- ---- tokens
 
 unfoldable pub kind_at : List NumberedKind → Option Kind
@@ -65,6 +70,10 @@ accept x (s ∷ k) = if same s.0 x then Ok (true, k) else Ok (false, s ∷ k)
 -- a word or mark that means a value
 abbrev pub word : {A : Type 0} → Kind → A → Reader A
 word x a = expect x >> pure a
+
+-- what is read, beside a value
+abbrev pub beside : {A B : Type 0} → A → Reader B → Reader (A × B)
+beside a p = p >>= (λ b. pure (a, b))
 
 -- ---- lists: element after element, until one answers that there is none
 

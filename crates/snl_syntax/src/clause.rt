@@ -11,7 +11,7 @@ ghost use Rattle.snl_syntax.specs.declared.tree.clause.OptionSign.TheVariants as
 
 use crate::expression::{ended, texts};
 use crate::stop::{Step, Stop};
-use crate::token_steps::{accept, expect, kind_at, turns};
+use crate::token_steps::{accept, expect, kind_at, past, turns};
 use crate::tree::clause::{Channel, Clause, Flag, OptionLine, OptionSign};
 use snl_lex::Kind;
 use sqlite_items::Items;
@@ -70,8 +70,7 @@ pub fn foreign(alloc: Global, kinds: &[Kind], at: usize) -> Result<(Items<usize>
 {
     let at = expect(kinds, at, Kind::Foreign)?;
     let (names, at) = names(alloc, kinds, at)?;
-    let at = expect(kinds, at, Kind::Semicolon)?;
-    Ok((names, at))
+    past(kinds, at, Kind::Semicolon, names)
 }
 
 #[tactic(auto, unfolding(crate::specs::Reading::Clauses::sign, crate::specs::Steps::and_then))]
@@ -237,13 +236,12 @@ fn some_elements(
     let mut found = Items::new(alloc);
     found.push(first)?;
     let ((texts, trailing), at) = more_elements(alloc, kinds, at, found)?;
-    let at = expect(kinds, at, Kind::CloseBrace)?;
     let channel = Channel::Elements {
         to,
         texts,
         trailing,
     };
-    Ok((channel, at))
+    past(kinds, at, Kind::CloseBrace, channel)
 }
 
 #[tactic(auto, unfolding(crate::specs::Steps::and_then))]
@@ -330,8 +328,7 @@ fn assign(alloc: Global, kinds: &[Kind], at: usize) -> Result<(Clause, usize), S
     let name = at;
     let at = expect(kinds, at, Kind::Name)?;
     let (channel, at) = channel(alloc, kinds, at)?;
-    let at = expect(kinds, at, Kind::Semicolon)?;
-    Ok((Clause::Assign { name, channel }, at))
+    past(kinds, at, Kind::Semicolon, Clause::Assign { name, channel })
 }
 
 #[tactic(auto, unfolding(crate::specs::Reading::Clauses::monitor, crate::specs::Steps::and_then))]

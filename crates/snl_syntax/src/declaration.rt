@@ -9,7 +9,7 @@ ghost use Rattle.snl_syntax.specs.Tokens.{ahead};
 
 use crate::expression::{assignx, ended, expr};
 use crate::stop::{Step, Stop};
-use crate::token_steps::{expect, kind_at, turns};
+use crate::token_steps::{expect, kind_at, past, turns};
 use crate::tree::declaration::{Declaration, Declarator, Init};
 use crate::tree::expression::Expr;
 use crate::tree::types::{Pointer, QualifiedType};
@@ -28,8 +28,7 @@ fn some_length(
     ensures { Reads kinds.now result (spec.some_length (exprs.assignx depth) (ahead kinds.now at)) }
 {
     let (length, at) = expr(alloc, kinds, at, depth)?;
-    let at = expect(kinds, at, Kind::CloseBracket)?;
-    Ok((Some(Some(length)), at))
+    past(kinds, at, Kind::CloseBracket, Some(Some(length)))
 }
 
 #[tactic(auto, unfolding(crate::specs::Reading::Declarations::bracketed_length, crate::specs::Steps::and_then))]
@@ -161,8 +160,7 @@ fn some_values(
     let mut found = Items::new(alloc);
     found.push(first)?;
     let ((all, trailing), at) = more_values(alloc, kinds, at, depth, found)?;
-    let at = expect(kinds, at, Kind::CloseBrace)?;
-    Ok((Init::List(all, trailing), at))
+    past(kinds, at, Kind::CloseBrace, Init::List(all, trailing))
 }
 
 #[cycle(init)]
@@ -344,8 +342,7 @@ fn more_declarators(
     let mut found = Items::new(alloc);
     found.push(first)?;
     let (declarators, at) = declarators(alloc, kinds, at, depth, found)?;
-    let at = expect(kinds, at, Kind::Semicolon)?;
-    Ok((Declaration { of, declarators }, at))
+    past(kinds, at, Kind::Semicolon, Declaration { of, declarators })
 }
 
 /// A declaration after its first name.

@@ -15,7 +15,7 @@ use crate::operator::{
     tier,
 };
 use crate::stop::{Step, Stop};
-use crate::token_steps::{expect, kind_at, turns};
+use crate::token_steps::{expect, kind_at, past, turns};
 use crate::tree::expression::{Expr, Prefix, Suffix};
 use crate::tree::types::TypeName;
 use crate::types::{begins_type, type_name};
@@ -35,6 +35,30 @@ pub fn ended<T: Drop>(found: Items<T>, last: Option<T>) -> Result<Items<T>, Allo
         found.push(item)?;
     }
     Ok(found)
+}
+
+// The same, with a value that comes after them.
+fn ended_beside<T: Drop, A: Drop>(
+    found: Items<T>,
+    last: Option<T>,
+    value: A,
+) -> Result<(Items<T>, A), AllocError>
+    ensures { IfOk result (λ all. all ≡ (found ++ option_to_list last, value)) }
+{
+    let all = ended(found, last)?;
+    Ok((all, value))
+}
+
+/// A value beside another in a box.
+pub fn one_boxed<A: Drop, B: Drop>(
+    alloc: Global,
+    one: A,
+    other: B,
+) -> Result<(A, Boxed<B>), AllocError>
+    ensures { IfOk result (λ r. r ≡ (one, other)) }
+{
+    let other = Boxed::new(alloc, other)?;
+    Ok((one, other))
 }
 
 /// An operand with what comes after it.
@@ -357,6 +381,21 @@ impl<F: Fn(Global, &[Kind], usize, usize) -> Result<(Expr, usize), Stop>> Expres
         self.more(kinds, at, found)
     }
 
+    // The expressions after commas are read while a value is held.
+    #[tactic(auto, unfolding(crate::specs::Steps::and_then))]
+    fn with_more<T: Drop>(
+        &self,
+        kinds: &[Kind],
+        at: usize,
+        held: T,
+    ) -> Result<((T, Items<Expr>), usize), Stop>
+        requires { Nests self.now.depth (F.pre self.now.single) (F.post self.now.single) }
+        ensures { Reads kinds.now result (read.beside held (read.many (spec.next_comma (spec.assignx self.now.depth)) []) (ahead kinds.now at)) }
+    {
+        let (rest, at) = self.more(kinds, at, Items::new(self.alloc))?;
+        Ok(((held, rest), at))
+    }
+
     /// Expressions with commas between.
     #[tactic(auto, unfolding(crate::specs::Reading::Expressions::sequence, crate::specs::Steps::and_then))]
     pub fn sequence(&self, kinds: &[Kind], at: usize) -> Result<(Expr, usize), Stop>
@@ -364,7 +403,7 @@ impl<F: Fn(Global, &[Kind], usize, usize) -> Result<(Expr, usize), Stop>> Expres
         ensures { Reads kinds.now result (spec.sequence (spec.assignx self.now.depth) (ahead kinds.now at)) }
     {
         let (first, at) = self.nested(kinds, at)?;
-        let (rest, at) = self.more(kinds, at, Items::new(self.alloc))?;
+        let ((first, rest), at) = self.with_more(kinds, at, first)?;
         Ok((sequenced(self.alloc, first, rest)?, at))
     }
 
@@ -374,8 +413,7 @@ impl<F: Fn(Global, &[Kind], usize, usize) -> Result<(Expr, usize), Stop>> Expres
         ensures { Reads kinds.now result (spec.some_arguments (spec.assignx self.now.depth) (spec.type_within self.now.depth) (ahead kinds.now at)) }
     {
         let (all, at) = self.commas(kinds, at)?;
-        let at = expect(kinds, at, Kind::CloseParen)?;
-        Ok((all, at))
+        past(kinds, at, Kind::CloseParen, all)
     }
 
     #[tactic(auto, unfolding(crate::specs::Reading::Expressions::arguments, crate::specs::Steps::and_then))]
@@ -399,8 +437,7 @@ impl<F: Fn(Global, &[Kind], usize, usize) -> Result<(Expr, usize), Stop>> Expres
     {
         let at = expect(kinds, at, Kind::OpenBracket)?;
         let (x, at) = self.sequence(kinds, at)?;
-        let at = expect(kinds, at, Kind::CloseBracket)?;
-        Ok((Some(Suffix::Subscript(x)), at))
+        past(kinds, at, Kind::CloseBracket, Some(Suffix::Subscript(x)))
     }
 
     #[tactic(auto, unfolding(crate::specs::Reading::Expressions::call, crate::specs::Steps::and_then))]
@@ -457,9 +494,9 @@ impl<F: Fn(Global, &[Kind], usize, usize) -> Result<(Expr, usize), Stop>> Expres
         ensures { Reads kinds.now result (spec.group (spec.assignx self.now.depth) (spec.type_within self.now.depth) before (ahead kinds.now at)) }
     {
         let (x, at) = self.sequence(kinds, at)?;
-        let at = expect(kinds, at, Kind::CloseParen)?;
-        let group = Expr::Group(Boxed::new(self.alloc, x)?);
-        Ok((Step::Last(before, group), at))
+        let ((before, x), at) = past(kinds, at, Kind::CloseParen, (before, x))?;
+        let (before, x) = one_boxed(self.alloc, before, x)?;
+        Ok((Step::Last(before, Expr::Group(x)), at))
     }
 
     #[tactic(auto, unfolding(crate::specs::Reading::Expressions::sizeof_type, crate::specs::Steps::and_then))]
@@ -468,7 +505,7 @@ impl<F: Fn(Global, &[Kind], usize, usize) -> Result<(Expr, usize), Stop>> Expres
         ensures { Reads kinds.now result (spec.sizeof_type (spec.assignx self.now.depth) (spec.type_within self.now.depth) (ahead kinds.now at)) }
     {
         let (name, at) = self.nested_type(kinds, at)?;
-        let at = expect(kinds, at, Kind::CloseParen)?;
+        let (name, at) = past(kinds, at, Kind::CloseParen, name)?;
         let size = Expr::SizeofType(Boxed::new(self.alloc, name)?);
         Ok((Step::Last(None, size), at))
     }
@@ -479,7 +516,7 @@ impl<F: Fn(Global, &[Kind], usize, usize) -> Result<(Expr, usize), Stop>> Expres
         ensures { Reads kinds.now result (spec.cast (spec.assignx self.now.depth) (spec.type_within self.now.depth) (ahead kinds.now at)) }
     {
         let (name, at) = self.nested_type(kinds, at)?;
-        let at = expect(kinds, at, Kind::CloseParen)?;
+        let (name, at) = past(kinds, at, Kind::CloseParen, name)?;
         let cast = Prefix::Cast(Boxed::new(self.alloc, name)?);
         Ok((Step::More(cast), at))
     }
@@ -566,7 +603,7 @@ impl<F: Fn(Global, &[Kind], usize, usize) -> Result<(Expr, usize), Stop>> Expres
             at = after;
             match step {
                 Step::More(item) => found.push(item)?,
-                Step::Last(last, value) => return Ok(((ended(found, last)?, value), at)),
+                Step::Last(last, value) => return Ok((ended_beside(found, last, value)?, at)),
             }
         }
         Err(Stop::Here(at))
@@ -661,6 +698,22 @@ impl<F: Fn(Global, &[Kind], usize, usize) -> Result<(Expr, usize), Stop>> Expres
         self.tiers_from(kinds, at, tier, first)
     }
 
+    // An operand is read while a value is held.
+    #[tactic(auto, unfolding(crate::specs::Steps::and_then))]
+    fn with_operand<T: Drop>(
+        &self,
+        kinds: &[Kind],
+        at: usize,
+        tier: usize,
+        held: T,
+    ) -> Result<((T, Expr), usize), Stop>
+        requires { Nests self.now.depth (F.pre self.now.single) (F.post self.now.single) }
+        ensures { Reads kinds.now result (read.beside held (spec.operand (spec.assignx self.now.depth) (spec.type_within self.now.depth) tier) (ahead kinds.now at)) }
+    {
+        let (x, at) = self.operand(kinds, at, tier)?;
+        Ok(((held, x), at))
+    }
+
     #[tactic(auto, unfolding(crate::specs::Reading::Expressions::next_arm, crate::specs::Steps::and_then))]
     fn next_arm(&self, kinds: &[Kind], at: usize) -> Result<(Option<(Expr, Expr)>, usize), Stop>
         requires { Nests self.now.depth (F.pre self.now.single) (F.post self.now.single) }
@@ -670,9 +723,9 @@ impl<F: Fn(Global, &[Kind], usize, usize) -> Result<(Expr, usize), Stop>> Expres
             Some(Kind::Question) => {
                 let at = expect(kinds, at, Kind::Question)?;
                 let (x, at) = self.sequence(kinds, at)?;
-                let at = expect(kinds, at, Kind::Colon)?;
-                let (y, at) = self.operand(kinds, at, LOOSEST)?;
-                Ok((Some((x, y)), at))
+                let (x, at) = past(kinds, at, Kind::Colon, x)?;
+                let (arm, at) = self.with_operand(kinds, at, LOOSEST, x)?;
+                Ok((Some(arm), at))
             }
             _ => Ok((None, at)),
         }
@@ -695,6 +748,21 @@ impl<F: Fn(Global, &[Kind], usize, usize) -> Result<(Expr, usize), Stop>> Expres
         Ok((found, at))
     }
 
+    // The arms are read while a value is held.
+    #[tactic(auto, unfolding(crate::specs::Steps::and_then))]
+    fn with_arms<T: Drop>(
+        &self,
+        kinds: &[Kind],
+        at: usize,
+        held: T,
+    ) -> Result<((T, Items<(Expr, Expr)>), usize), Stop>
+        requires { Nests self.now.depth (F.pre self.now.single) (F.post self.now.single) }
+        ensures { Reads kinds.now result (read.beside held (read.many (spec.next_arm (spec.assignx self.now.depth) (spec.type_within self.now.depth)) []) (ahead kinds.now at)) }
+    {
+        let (arms, at) = self.arms(kinds, at)?;
+        Ok(((held, arms), at))
+    }
+
     #[tactic(auto, unfolding(crate::specs::Reading::Expressions::conditional_from, crate::specs::Steps::and_then))]
     fn conditional_from(
         &self,
@@ -706,7 +774,7 @@ impl<F: Fn(Global, &[Kind], usize, usize) -> Result<(Expr, usize), Stop>> Expres
         ensures { Reads kinds.now result (spec.conditional_from (spec.assignx self.now.depth) (spec.type_within self.now.depth) first (ahead kinds.now at)) }
     {
         let (first, at) = self.tiers_from(kinds, at, LOOSEST, first)?;
-        let (arms, at) = self.arms(kinds, at)?;
+        let ((first, arms), at) = self.with_arms(kinds, at, first)?;
         Ok((conditional(self.alloc, first, arms)?, at))
     }
 
@@ -721,10 +789,7 @@ impl<F: Fn(Global, &[Kind], usize, usize) -> Result<(Expr, usize), Stop>> Expres
     {
         let (x, at) = self.prefix(kinds, at)?;
         match assignment_at(kinds, at) {
-            Some(op) => {
-                let at = expect(kinds, at, assignment_mark(op))?;
-                Ok((Step::More((x, op)), at))
-            }
+            Some(op) => past(kinds, at, assignment_mark(op), Step::More((x, op))),
             None => {
                 let (value, at) = self.conditional_from(kinds, at, x)?;
                 Ok((Step::Last(None, value), at))
@@ -747,7 +812,7 @@ impl<F: Fn(Global, &[Kind], usize, usize) -> Result<(Expr, usize), Stop>> Expres
             at = after;
             match step {
                 Step::More(item) => found.push(item)?,
-                Step::Last(last, value) => return Ok(((ended(found, last)?, value), at)),
+                Step::Last(last, value) => return Ok((ended_beside(found, last, value)?, at)),
             }
         }
         Err(Stop::Here(at))

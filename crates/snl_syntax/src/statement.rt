@@ -12,9 +12,9 @@ ghost use Rattle.snl_syntax.specs.declared.stop.Step.TheVariants as steps;
 ghost use Rattle.snl_syntax.specs.declared.tree.statement.Stmt.TheVariants as tree;
 
 use crate::declaration::declaration;
-use crate::expression::{ended, expr};
+use crate::expression::{ended, expr, one_boxed};
 use crate::stop::{Step, Stop};
-use crate::token_steps::{expect, kind_at, turns};
+use crate::token_steps::{expect, kind_at, past, turns};
 use crate::tree::expression::Expr;
 use crate::tree::statement::{ForHead, Member, Stmt};
 use crate::types::begins_type;
@@ -32,8 +32,7 @@ fn some_before_semicolon(
     ensures { Reads kinds.now result (spec.some_before kind.Semicolon (exprs.expr depth) (ahead kinds.now at)) }
 {
     let (e, at) = expr(alloc, kinds, at, depth)?;
-    let at = expect(kinds, at, Kind::Semicolon)?;
-    Ok((Some(e), at))
+    past(kinds, at, Kind::Semicolon, Some(e))
 }
 
 /// An expression or none, and the semicolon after it.
@@ -65,8 +64,7 @@ fn some_before_paren(
     ensures { Reads kinds.now result (spec.some_before kind.CloseParen (exprs.expr depth) (ahead kinds.now at)) }
 {
     let (e, at) = expr(alloc, kinds, at, depth)?;
-    let at = expect(kinds, at, Kind::CloseParen)?;
-    Ok((Some(e), at))
+    past(kinds, at, Kind::CloseParen, Some(e))
 }
 
 /// An expression or none, and the closing bracket after it.
@@ -156,8 +154,7 @@ fn evaluation(alloc: Global, kinds: &[Kind], at: usize, depth: usize) -> Result<
     ensures { Reads kinds.now result (spec.evaluation depth (ahead kinds.now at)) }
 {
     let (e, at) = expr(alloc, kinds, at, depth)?;
-    let at = expect(kinds, at, Kind::Semicolon)?;
-    Ok((Stmt::Expr(e), at))
+    past(kinds, at, Kind::Semicolon, Stmt::Expr(e))
 }
 
 /// An expression in brackets, within which so many levels are left.
@@ -167,8 +164,37 @@ fn condition(alloc: Global, kinds: &[Kind], at: usize, depth: usize) -> Result<(
 {
     let at = expect(kinds, at, Kind::OpenParen)?;
     let (e, at) = expr(alloc, kinds, at, depth)?;
-    let at = expect(kinds, at, Kind::CloseParen)?;
-    Ok((e, at))
+    past(kinds, at, Kind::CloseParen, e)
+}
+
+// What is before a semicolon is read while a value is held.
+#[tactic(auto, unfolding(crate::specs::Steps::and_then))]
+fn then_semicolon<T: Drop>(
+    alloc: Global,
+    kinds: &[Kind],
+    at: usize,
+    depth: usize,
+    held: T,
+) -> Result<((T, Option<Expr>), usize), Stop>
+    ensures { Reads kinds.now result (read.beside held (spec.before_semicolon (exprs.expr depth)) (ahead kinds.now at)) }
+{
+    let (e, at) = before_semicolon(alloc, kinds, at, depth)?;
+    Ok(((held, e), at))
+}
+
+// What is before a closing bracket is read while a value is held.
+#[tactic(auto, unfolding(crate::specs::Steps::and_then))]
+fn then_paren<T: Drop>(
+    alloc: Global,
+    kinds: &[Kind],
+    at: usize,
+    depth: usize,
+    held: T,
+) -> Result<((T, Option<Expr>), usize), Stop>
+    ensures { Reads kinds.now result (read.beside held (spec.before_paren (exprs.expr depth)) (ahead kinds.now at)) }
+{
+    let (e, at) = before_paren(alloc, kinds, at, depth)?;
+    Ok(((held, e), at))
 }
 
 #[tactic(auto, unfolding(crate::specs::Reading::Statements::for_parts, crate::specs::Steps::and_then))]
@@ -181,8 +207,8 @@ fn for_parts(
     ensures { Reads kinds.now result (spec.for_parts depth (ahead kinds.now at)) }
 {
     let (first, at) = before_semicolon(alloc, kinds, at, depth)?;
-    let (condition, at) = before_semicolon(alloc, kinds, at, depth)?;
-    let (step, at) = before_paren(alloc, kinds, at, depth)?;
+    let ((first, condition), at) = then_semicolon(alloc, kinds, at, depth, first)?;
+    let (((first, condition), step), at) = then_paren(alloc, kinds, at, depth, (first, condition))?;
     let head = ForHead {
         first,
         condition,
@@ -220,19 +246,33 @@ fn for_head(
     for_within(alloc, kinds, at, depth)
 }
 
+// Two values in a box each.
+fn both_boxed<A: Drop, B: Drop>(
+    alloc: Global,
+    one: A,
+    other: B,
+) -> Result<(Boxed<A>, Boxed<B>), AllocError>
+    ensures { IfOk result (λ r. r ≡ (one, other)) }
+{
+    let one = Boxed::new(alloc, one)?;
+    let other = Boxed::new(alloc, other)?;
+    Ok((one, other))
+}
+
 // The statement that a condition and a body make.
 fn while_of(alloc: Global, condition: Expr, body: Stmt) -> Result<Stmt, AllocError>
     ensures { IfOk result (λ s. s ≡ tree.While condition body) }
 {
-    Ok(Stmt::While(condition, Boxed::new(alloc, body)?))
+    let (condition, body) = one_boxed(alloc, condition, body)?;
+    Ok(Stmt::While(condition, body))
 }
 
 // The statement that a head and a body make.
 fn for_of(alloc: Global, head: ForHead, body: Stmt) -> Result<Stmt, AllocError>
     ensures { IfOk result (λ s. s ≡ tree.For head body) }
 {
-    let head = Boxed::new(alloc, head)?;
-    Ok(Stmt::For(head, Boxed::new(alloc, body)?))
+    let (head, body) = both_boxed(alloc, head, body)?;
+    Ok(Stmt::For(head, body))
 }
 
 // The last step over the arms of an `if`: an arm, and a body that comes after its `else`.
@@ -243,7 +283,8 @@ fn last_of(
 ) -> Result<Step<(Expr, Stmt), Option<Boxed<Stmt>>>, AllocError>
     ensures { IfOk result (λ s. s ≡ steps.Last (Some arm) (Some body)) }
 {
-    Ok(Step::Last(Some(arm), Some(Boxed::new(alloc, body)?)))
+    let (arm, body) = one_boxed(alloc, arm, body)?;
+    Ok(Step::Last(Some(arm), Some(body)))
 }
 
 /// The rules of statements that hold others, with the reader of those one level deeper.
@@ -329,8 +370,7 @@ impl<F: Fn(Global, &[Kind], usize, usize) -> Result<(Stmt, usize), Stop>> Statem
     {
         let at = expect(kinds, at, Kind::OpenBrace)?;
         let (members, at) = self.members(kinds, at)?;
-        let at = expect(kinds, at, Kind::CloseBrace)?;
-        Ok((members, at))
+        past(kinds, at, Kind::CloseBrace, members)
     }
 
     #[tactic(auto, unfolding(crate::specs::Reading::Statements::block_statement, crate::specs::Steps::and_then))]
@@ -354,6 +394,21 @@ impl<F: Fn(Global, &[Kind], usize, usize) -> Result<(Stmt, usize), Stop>> Statem
         }
     }
 
+    // A body is read while a value is held.
+    #[tactic(auto, unfolding(crate::specs::Steps::and_then))]
+    fn with_body<T: Drop>(
+        &self,
+        kinds: &[Kind],
+        at: usize,
+        held: T,
+    ) -> Result<((T, Stmt), usize), Stop>
+        requires { NestsStatement self.now.depth (F.pre self.now.inner) (F.post self.now.inner) }
+        ensures { Reads kinds.now result (read.beside held (spec.body self.now.depth (spec.stmt self.now.depth)) (ahead kinds.now at)) }
+    {
+        let (body, at) = self.body(kinds, at)?;
+        Ok(((held, body), at))
+    }
+
     #[tactic(auto, unfolding(crate::specs::Reading::Statements::while_loop, crate::specs::Steps::and_then))]
     fn while_loop(&self, kinds: &[Kind], at: usize) -> Result<(Stmt, usize), Stop>
         requires { NestsStatement self.now.depth (F.pre self.now.inner) (F.post self.now.inner) }
@@ -361,7 +416,7 @@ impl<F: Fn(Global, &[Kind], usize, usize) -> Result<(Stmt, usize), Stop>> Statem
     {
         let at = expect(kinds, at, Kind::While)?;
         let (e, at) = condition(self.alloc, kinds, at, self.depth)?;
-        let (body, at) = self.body(kinds, at)?;
+        let ((e, body), at) = self.with_body(kinds, at, e)?;
         Ok((while_of(self.alloc, e, body)?, at))
     }
 
@@ -372,7 +427,7 @@ impl<F: Fn(Global, &[Kind], usize, usize) -> Result<(Stmt, usize), Stop>> Statem
     {
         let at = expect(kinds, at, Kind::For)?;
         let (head, at) = for_head(self.alloc, kinds, at, self.depth)?;
-        let (body, at) = self.body(kinds, at)?;
+        let ((head, body), at) = self.with_body(kinds, at, head)?;
         Ok((for_of(self.alloc, head, body)?, at))
     }
 
@@ -386,7 +441,7 @@ impl<F: Fn(Global, &[Kind], usize, usize) -> Result<(Stmt, usize), Stop>> Statem
         requires { NestsStatement self.now.depth (F.pre self.now.inner) (F.post self.now.inner) }
         ensures { Reads kinds.now result (spec.last_body self.now.depth (spec.stmt self.now.depth) arm (ahead kinds.now at)) }
     {
-        let (body, at) = self.body(kinds, at)?;
+        let ((arm, body), at) = self.with_body(kinds, at, arm)?;
         Ok((last_of(self.alloc, arm, body)?, at))
     }
 
@@ -400,7 +455,7 @@ impl<F: Fn(Global, &[Kind], usize, usize) -> Result<(Stmt, usize), Stop>> Statem
         requires { NestsStatement self.now.depth (F.pre self.now.inner) (F.post self.now.inner) }
         ensures { Reads kinds.now result (spec.after_else self.now.depth (spec.stmt self.now.depth) arm (ahead kinds.now at)) }
     {
-        let at = expect(kinds, at, Kind::Else)?;
+        let (arm, at) = past(kinds, at, Kind::Else, arm)?;
         match kind_at(kinds, at) {
             Some(Kind::If) => Ok((Step::More(arm), at)),
             _ => self.last_body(kinds, at, arm),
@@ -414,8 +469,7 @@ impl<F: Fn(Global, &[Kind], usize, usize) -> Result<(Stmt, usize), Stop>> Statem
     {
         let at = expect(kinds, at, Kind::If)?;
         let (e, at) = condition(self.alloc, kinds, at, self.depth)?;
-        let (body, at) = self.body(kinds, at)?;
-        Ok(((e, body), at))
+        self.with_body(kinds, at, e)
     }
 
     #[tactic(auto, unfolding(crate::specs::Reading::Statements::arm_step, crate::specs::Steps::and_then))]

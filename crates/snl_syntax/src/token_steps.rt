@@ -1,10 +1,10 @@
 //! Steps over the tokens of an item.
 
-ghost use Rattle.std.specs.Prelude.{◌≡◌, ◌<◌, get_or, length, suc, Ok};
+ghost use Rattle.std.specs.Prelude.{◌≡◌, ◌<◌, get_or, length, suc, IfOk, Ok};
 ghost use Rattle.snl_syntax.specs.Tokens as spec;
 ghost use Rattle.snl_syntax.specs.Tokens.{ahead};
 ghost use Rattle.snl_syntax.specs.Steps as read;
-ghost use Rattle.snl_syntax.specs.Steps.{Reads, ReadsToken};
+ghost use Rattle.snl_syntax.specs.Steps.{Reads, ReadsPast, ReadsToken};
 
 use crate::stop::Stop;
 use snl_lex::Kind;
@@ -139,6 +139,16 @@ pub fn expect(kinds: &[Kind], at: usize, kind: Kind) -> Result<usize, Stop>
     } else {
         Err(Stop::Here(at))
     }
+}
+
+/// The place after a token of this kind, beside a value that is held until then. Its type is any, so that the proof of what is freed
+/// on the way out looks into no tree.
+pub fn past<T: Drop>(kinds: &[Kind], at: usize, kind: Kind, held: T) -> Result<(T, usize), Stop>
+    ensures token { ReadsPast kinds.now at result (read.expect kind (ahead kinds.now at)) }
+    ensures held { IfOk result (λ r. r.0 ≡ held) }
+{
+    let at = expect(kinds, at, kind)?;
+    Ok((held, at))
 }
 
 /// Whether a token of this kind comes next, and the place after it then.

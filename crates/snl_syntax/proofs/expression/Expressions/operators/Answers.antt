@@ -19,7 +19,7 @@ returns g c = until_over (prefix_step (assignx c.args.self.now.depth) (type_with
 
 pub returns-in-Last : goal.returns-in-Last
 returns-in-Last g c =
-    rw c.in_ok-ended-in-Last.ensures (until_last (prefix_step (assignx c.args.self.now.depth) (type_within c.args.self.now.depth)) (until (prefix_step (assignx c.args.self.now.depth) (type_within c.args.self.now.depth)) [] (ahead c.args.kinds.now c.args.start)) c.turns-turn-end.result c.loop-turn._turn c.loop-turn.found (ahead c.args.kinds.now c.loop-turn.at) c.in-Last.last c.in-Last.value (ahead c.args.kinds.now c.in_ok-step.after) c.loop-turn-test.true c.loop-turn.invariant (c.in_ok-step.ensures ∙ ap (λ o. Ok (o, ahead c.args.kinds.now c.in_ok-step.after)) c.in-Last.is))
+    rw c.in_ok-ended_beside-in-Last.ensures (until_last (prefix_step (assignx c.args.self.now.depth) (type_within c.args.self.now.depth)) (until (prefix_step (assignx c.args.self.now.depth) (type_within c.args.self.now.depth)) [] (ahead c.args.kinds.now c.args.start)) c.turns-turn-end.result c.loop-turn._turn c.loop-turn.found (ahead c.args.kinds.now c.loop-turn.at) c.in-Last.last c.in-Last.value (ahead c.args.kinds.now c.in_ok-step.after) c.loop-turn-test.true c.loop-turn.invariant (c.in_ok-step.ensures ∙ ap (λ o. Ok (o, ahead c.args.kinds.now c.in_ok-step.after)) c.in-Last.is))
 
 pub loop-turn-preserved : goal.loop-turn-preserved
 loop-turn-preserved g c =
