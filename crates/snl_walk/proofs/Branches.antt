@@ -1,15 +1,20 @@
--- What is found in a choice or a loop: the fold at a variant.
-use Rattle.std.proofs.Common.{◌≡◌, ℕ, List, ◌++◌, Option, Some, None, ap, sym, ◌∙◌}
+-- What is found in a choice or a loop, and what a member of a block declares: the fold at a variant.
+use Rattle.std.proofs.Common.{◌≡◌, ℕ, List, [], ◌++◌, Option, Some, None, ap, sym, ◌∙◌}
 use Rattle.snl_syntax.specs.declared.tree.expression.Expr.{Expr}
+use Rattle.snl_syntax.specs.declared.tree.declaration.Declaration.{Declaration}
 use Rattle.snl_syntax.specs.declared.tree.statement.ForHead.{ForHead}
-use Rattle.snl_syntax.specs.declared.tree.statement.Member.TheOpen.{Stmt-F}
-use Rattle.snl_syntax.specs.declared.tree.statement.Member.TheFolds.{fold-roll-Stmt}
+use Rattle.snl_syntax.specs.declared.tree.statement.Member.{Member}
+use Rattle.snl_syntax.specs.declared.tree.statement.Member.TheVariants as members
+use Rattle.snl_syntax.specs.declared.tree.statement.Member.TheOpen.{Member-F, Stmt-F}
+use Rattle.snl_syntax.specs.declared.tree.statement.Member.TheFolds.{fold-roll-Member, fold-roll-Stmt}
 use Rattle.snl_syntax.specs.declared.tree.statement.Stmt.{Stmt}
 use Rattle.snl_syntax.specs.declared.tree.statement.Stmt.TheVariants as tree
+use Rattle.snl_walk.specs.Declares.{declared_in_block}
+use Rattle.snl_walk.specs.declared.occurrence.Local.{Local}
 use Rattle.snl_walk.specs.declared.occurrence.Occurrence.{Occurrence}
 use Rattle.snl_walk.specs.declared.occurrence.Place.{Place}
 use Rattle.snl_walk.specs.Scopes.{Names}
-use Rattle.snl_walk.specs.Statements.{Content, Found, arms_of, found_in_branches, found_in_expr, found_in_head, found_in_stmt, in_loop, last_of, member_step, stmt_step}
+use Rattle.snl_walk.specs.Statements.{Content, Found, arms_of, content_of, found_in_branches, found_in_expr, found_in_head, found_in_stmt, in_loop, last_of, member_step, stmt_step}
 
 -- what is found in a statement at a place
 abbrev pub in_place : (ℕ → List ℕ) → Names → Place → Stmt → List Occurrence
@@ -31,3 +36,15 @@ pub found-For : (bytes : ℕ → List ℕ) (visible : Names) (place : Place) (he
     in_place bytes visible place (tree.For head body) ≡ found_in_head bytes visible head ++ in_place bytes visible (in_loop place) body
 found-For bytes visible place head body =
     ap (in_place bytes visible place) (sym (tree.rolls-For head body)) ∙ ap (λ (f : Found). f visible place) (fold-roll-Stmt Content Found (member_step bytes) (stmt_step bytes) (Stmt-F.For head body))
+
+-- what a member of a block declares
+abbrev pub declares : (ℕ → List ℕ) → Member → List Local
+declares bytes m = (content_of bytes m).declares
+
+pub declares-Declaration : (bytes : ℕ → List ℕ) (d : Declaration) → declares bytes (members.Declaration d) ≡ declared_in_block d
+declares-Declaration bytes d =
+    ap (declares bytes) (sym (members.rolls-Declaration d)) ∙ ap (λ (c : Content). c.declares) (fold-roll-Member Content Found (member_step bytes) (stmt_step bytes) (Member-F.Declaration d))
+
+pub declares-Statement : (bytes : ℕ → List ℕ) (s : Stmt) → declares bytes (members.Statement s) ≡ []
+declares-Statement bytes s =
+    ap (declares bytes) (sym (members.rolls-Statement s)) ∙ ap (λ (c : Content). c.declares) (fold-roll-Member Content Found (member_step bytes) (stmt_step bytes) (Member-F.Statement s))

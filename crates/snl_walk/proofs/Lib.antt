@@ -1,5 +1,7 @@
 pub mod Kept
 pub mod Tables
+pub mod Loops
+pub mod OccurrenceLoops
 pub mod Operands
 pub mod Branches
 pub mod Pairs

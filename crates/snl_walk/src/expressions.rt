@@ -211,25 +211,39 @@ fn add_suffixes(
 {
     let mut call = name;
     for suffix in suffixes {
-        match suffix {
-            Suffix::Subscript(index) => {
-                add_expr(source, names, in_condition, index, plain(), found)?;
-            }
-            Suffix::Call(arguments) => {
-                add_arguments(
-                    source,
-                    names,
-                    in_condition,
-                    arguments.as_slice(),
-                    call,
-                    found,
-                )?;
-            }
-            Suffix::Member(_) | Suffix::Arrow(_) | Suffix::Increment | Suffix::Decrement => {}
-        }
+        add_suffix(source, names, in_condition, suffix, call, found)?;
         call = None;
     }
     Ok(())
+}
+
+// Adds the names in a suffix, after a name or not.
+#[cycle(expressions)]
+fn add_suffix(
+    source: &Source,
+    names: &Visible,
+    in_condition: bool,
+    suffix: &Suffix,
+    call: Option<usize>,
+    found: &mut Vec<Occurrence>,
+) -> Result<(), OutOfMemory>
+    requires { IsSource source.now.text.now source.now.tokens.now }
+    ensures { OnOk result (found.new.items ≡ found.old.items ++ map (seen (token_bytes source.now.text.now source.now.tokens.now) names.now in_condition) ((tail_of suffix.now).names call)) }
+{
+    match suffix {
+        Suffix::Subscript(index) => add_expr(source, names, in_condition, index, plain(), found),
+        Suffix::Call(arguments) => {
+            add_arguments(
+                source,
+                names,
+                in_condition,
+                arguments.as_slice(),
+                call,
+                found,
+            )
+        }
+        Suffix::Member(_) | Suffix::Arrow(_) | Suffix::Increment | Suffix::Decrement => Ok(()),
+    }
 }
 
 // Adds the names in the arguments of a call, of a name or not.

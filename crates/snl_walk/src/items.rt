@@ -136,8 +136,9 @@ fn names_of_state<'a>(
     requires { IsSource source.now.text.now source.now.tokens.now }
     ensures { IfOk result (λ names. names ≡ under_names (token_bytes source.now.text.now source.now.tokens.now) (declared_by_state (token_bytes source.now.text.now source.now.tokens.now) members.now)) }
 {
+    let declared = declared_by_state(source, members)?;
     let mut names = Visible::new(source.alloc);
-    enter(source, &declared_by_state(source, members)?, &mut names)?;
+    enter(source, &declared, &mut names)?;
     Ok(names)
 }
 
@@ -206,12 +207,9 @@ fn names_of_parameters<'a>(
     requires { IsSource source.now.text.now source.now.tokens.now }
     ensures { IfOk result (λ names. names ≡ under_names (token_bytes source.now.text.now source.now.tokens.now) (flat_map declared_by_parameter parameters.now)) }
 {
+    let declared = declared_by_parameters(source, parameters)?;
     let mut names = Visible::new(source.alloc);
-    enter(
-        source,
-        &declared_by_parameters(source, parameters)?,
-        &mut names,
-    )?;
+    enter(source, &declared, &mut names)?;
     Ok(names)
 }
 

@@ -69,7 +69,7 @@ pub struct Occurrence {
 const _: () = prove!(size_of::<Occurrence>() <= 40);
 
 /// Where an operand is.
-#[derive(Clone, Copy, Debug, PartialEq, Eq)]
+#[derive(Clone, Copy)]
 pub(crate) struct Setting {
     pub follows: Follows,
     /// The called name whose first argument it is, alone or with subscripts alone after it.
@@ -77,14 +77,14 @@ pub(crate) struct Setting {
 }
 
 /// A name in an expression, before it is known what it resolves to.
-#[derive(Clone, Copy, Debug, PartialEq, Eq)]
+#[derive(Clone, Copy)]
 pub(crate) struct Named {
     pub token: usize,
     pub setting: Setting,
 }
 
 /// Where a statement is.
-#[derive(Clone, Copy, Debug, PartialEq, Eq)]
+#[derive(Clone, Copy)]
 pub(crate) struct Place {
     pub in_loop: bool,
     /// In the block of a transition.
