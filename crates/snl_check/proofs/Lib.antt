@@ -1,5 +1,6 @@
 pub mod SameView
 pub mod Each
+pub mod Loops
 pub mod Pairs
 pub mod Within
 mod Bare

@@ -16,7 +16,7 @@ use std::hash::{Hash, Hasher};
 use std::marker::Model;
 
 /// Which element of a variable is meant.
-#[derive(Clone, Copy, Debug, PartialEq, Eq)]
+#[derive(Clone, Copy, PartialEq, Eq)]
 pub(crate) enum Which {
     Any,
     /// The element with this number.
@@ -24,7 +24,7 @@ pub(crate) enum Which {
 }
 
 /// An element of the variable that is the declaration with a number.
-#[derive(Clone, Copy, Debug, PartialEq, Eq)]
+#[derive(Clone, Copy, PartialEq, Eq)]
 pub(crate) struct Key {
     pub variable: usize,
     pub which: Which,

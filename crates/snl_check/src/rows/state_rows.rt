@@ -2,7 +2,7 @@
 
 ghost use Rattle.std.specs.Prelude.{◌≡◌, ◌<◌, ℕ, IfOk, false, length, slice_index_or};
 ghost use Rattle.snl_check.specs.Collected.{IsLinked, IsOutline, items_in};
-ghost use Rattle.snl_check.specs.Members.{is_faulty_item, states_in};
+ghost use Rattle.snl_check.specs.Members.{has_faulty, is_faulty_item, states_in};
 ghost use Rattle.snl_check.specs.States as states;
 
 use crate::reachability::marks::first_mark;
@@ -84,6 +84,30 @@ fn state_row(outline: &Outline, mark: StateMark, item: usize) -> Result<StateRow
     })
 }
 
+// The states of a set, of which these are the members, and this is known of each that is reached.
+fn rows_among(
+    outline: &Outline,
+    set: usize,
+    members: &Members,
+    reached: &[bool],
+) -> Result<Vec<StateRow>, OutOfMemory>
+    requires outline { IsOutline outline.now }
+    requires set { set < length outline.now.row_source.program.trees.now }
+    requires states { members.now.states.items ≡ states_in outline.now.row_source.links.now.outlines set }
+    requires faulty { members.now.has_faulty ≡ has_faulty (items_in outline.now.row_source.program) outline.now.row_source.links.now.outlines set }
+    requires reached { members.now.has_faulty ≡ false
+        → (number : ℕ) → number < length (states_in outline.now.row_source.links.now.outlines set) → slice_index_or reached.now number false ≡ states.is_reached_in outline.now.row_source.program.text.now (items_in outline.now.row_source.program) outline.now.row_source.links.now.outlines set number }
+    ensures { IfOk result (λ rows. rows.items
+        ≡ states.state_rows outline.now.row_source.program.text.now (items_in outline.now.row_source.program) outline.now.row_source.links.now.outlines set) }
+{
+    let mut rows = with_room(outline.row_source.program.alloc, members.states.len())?;
+    for (number, state) in members.states.iter().enumerate() {
+        let mark = mark_of(outline, members, reached, number, *state);
+        rows.push(state_row(outline, mark, *state)?)?;
+    }
+    Ok(rows)
+}
+
 /// The states of the set that an item begins, in the order of the text.
 pub(crate) fn state_rows(outline: &Outline, set: usize) -> Result<Vec<StateRow>, OutOfMemory>
     requires outline { IsOutline outline.now }
@@ -93,10 +117,6 @@ pub(crate) fn state_rows(outline: &Outline, set: usize) -> Result<Vec<StateRow>,
 {
     let members = members_of(&outline.row_source, set)?;
     let reached = reached_among(outline, &members, set)?;
-    let mut rows = with_room(outline.row_source.program.alloc, members.states.len())?;
-    for (number, state) in members.states.iter().enumerate() {
-        let mark = mark_of(outline, &members, &reached, number, *state);
-        rows.push(state_row(outline, mark, *state)?)?;
-    }
+    let rows = rows_among(outline, set, &members, &reached)?;
     Ok(rows)
 }

@@ -4,14 +4,16 @@
 ghost use Rattle.std.specs.Prelude.{◌≡◌, IfOk, length, map, option_copied};
 ghost use Rattle.snl_lex.specs.LineList.{IsLineList};
 ghost use Rattle.snl_lex.specs.Pieces.{pieces_of, tokens_of};
-ghost use Rattle.snl_check.specs.Collected.{IsLinked, items_in};
+ghost use Rattle.snl_check.specs.Channels.{assigned_channels};
+ghost use Rattle.snl_check.specs.Collected.{IsLinked, IsOutline, assigned, items_in};
 ghost use Rattle.snl_check.specs.Items.{IsCutUp, program_items, outlines_of};
+ghost use Rattle.snl_check.specs.States.{set_rows};
 ghost use Rattle.snl_check.specs.Tables.{tables_by, tables_of};
 ghost use Rattle.snl_check.specs.Told.{told_in_item, told_seen};
 
 use crate::rows::channel_numbers::numbers_of;
 use crate::rows::channel_rows::{channel_rows, variables};
-use crate::rows::channels::assigned_channels;
+use crate::rows::channels::{AssignedChannel, assigned_channels};
 use crate::rows::flag_rows::flag_rows;
 use crate::rows::item_clauses::told_clauses;
 use crate::rows::option_rows::program_options;
@@ -24,7 +26,7 @@ use snl_cut::OutOfMemory;
 use snl_lex::{LineList, Piece, tokens_among};
 use snl_scope::Links;
 use snl_syntax::tree::item::Item;
-use snl_tables::{Rows, Tables};
+use snl_tables::{Rows, SetRow, Tables};
 use sqlite_items::Items;
 use std::alloc::Global;
 
@@ -39,23 +41,69 @@ fn rows_of(
     requires checked { map told_seen checked.now ≡ map (told_in_item row_source.now.program.text.now) (items_in row_source.now.program) }
     ensures { IfOk result (λ t. t ≡ tables_by row_source.now.program.text.now (items_in row_source.now.program) row_source.now.links.now.outlines) }
 {
-    let alloc = row_source.program.alloc;
     let channels = assigned_channels(row_source)?;
-    let numbers = numbers_of(alloc, &channels)?;
+    let tables = rows_by_channels(row_source, lines, checked, &channels)?;
+    Ok(tables)
+}
+
+// The rows of all tables, by the channels of the text.
+fn rows_by_channels(
+    row_source: &RowSource,
+    lines: &LineList,
+    checked: &[Option<&Checked>],
+    channels: &[AssignedChannel],
+) -> Result<Tables, OutOfMemory>
+    requires linked { IsLinked row_source.now }
+    requires lines { IsLineList row_source.now.program.text.now lines.now.ends.items lines.now.markers.items lines.now.naming.items }
+    requires checked { map told_seen checked.now ≡ map (told_in_item row_source.now.program.text.now) (items_in row_source.now.program) }
+    requires channels { map assigned channels.now ≡ assigned_channels row_source.now.program.text.now (items_in row_source.now.program) row_source.now.links.now.outlines }
+    ensures { IfOk result (λ t. t ≡ tables_by row_source.now.program.text.now (items_in row_source.now.program) row_source.now.links.now.outlines) }
+{
+    let numbers = numbers_of(row_source.program.alloc, channels)?;
     let outline = Outline {
         row_source: *row_source,
         lines,
         checked,
         numbers: &numbers,
     };
-    let variables = variables(alloc, row_source.links.declarations(), &channels)?;
+    let tables = rows_by_outline(&outline, channels)?;
+    Ok(tables)
+}
+
+// The rows of state sets, while other rows are held.
+fn then_sets<T: Drop>(outline: &Outline, held: T) -> Result<(T, Vec<SetRow>), OutOfMemory>
+    requires { IsOutline outline.now }
+    ensures held { IfOk result (λ both. both.0 ≡ held) }
+    ensures sets { IfOk result (λ both. both.1.items
+        ≡ set_rows outline.now.row_source.program.text.now (items_in outline.now.row_source.program) outline.now.row_source.links.now.outlines) }
+{
+    let sets = set_rows(outline)?;
+    Ok((held, sets))
+}
+
+// The rows of all tables, by what those of state sets are made from.
+fn rows_by_outline(outline: &Outline, channels: &[AssignedChannel]) -> Result<Tables, OutOfMemory>
+    requires outline { IsOutline outline.now }
+    requires channels { map assigned channels.now
+        ≡ assigned_channels outline.now.row_source.program.text.now (items_in outline.now.row_source.program) outline.now.row_source.links.now.outlines }
+    ensures { IfOk result (λ t. t ≡ tables_by outline.now.row_source.program.text.now (items_in outline.now.row_source.program) outline.now.row_source.links.now.outlines) }
+{
+    let row_source = &outline.row_source;
+    let alloc = row_source.program.alloc;
+    let variables = variables(alloc, row_source.links.declarations(), channels)?;
+    let program = row_source.program.name();
+    let options = program_options(row_source)?;
+    let flags = flag_rows(row_source)?;
+    let channels = channel_rows(row_source, channels)?;
+    let held = (variables, options, flags, channels);
+    let ((variables, options, flags, channels), sets) = then_sets(outline, held)?;
     Ok(Tables {
-        program: row_source.program.name(),
-        options: Items::from_vec(program_options(row_source)?),
-        flags: Rows::from_vec(flag_rows(row_source)?),
-        channels: Rows::from_vec(channel_rows(row_source, &channels)?),
+        program,
+        options: Items::from_vec(options),
+        flags: Rows::from_vec(flags),
+        channels: Rows::from_vec(channels),
         variables: Items::from_vec(variables),
-        sets: Rows::from_vec(set_rows(&outline)?),
+        sets: Rows::from_vec(sets),
     })
 }
 

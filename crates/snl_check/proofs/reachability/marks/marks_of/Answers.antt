@@ -1,10 +1,11 @@
-use Rattle.std.proofs.Common.{◌≡◌, ℕ, ◌+◌, ◌++◌, ◌∷◌, [], Some, map, slice_get, take, sym, ap, ◌∙◌, arith}
+use Rattle.std.proofs.Common.{◌≡◌, List, ℕ, ◌+◌, ◌++◌, ◌∷◌, [], Some, map, slice_get, take, sym, ap, ◌∙◌, arith}
 use Rattle.std.specs.List.{enumerate_from}
 use Rattle.std.proofs.lemmas.Option.{slice_get-get_or}
 use Rattle.snl_tables.specs.declared.rows.StateMark.{StateMark}
 use Rattle.snl_check.specs.declared.reachability.marks.SetMember.{SetMember}
 use Rattle.snl_check.specs.States.{mark_told}
 use Rattle.snl_check.proofs.Beside.{enumerated_more}
+use Rattle.snl_check.proofs.Loops.{all_taken}
 use Rattle.snl_check.proofs.reachability.marks.marks_of.Goals as goal
 
 pub loop-number-preserved : goal.loop-number-preserved
@@ -19,3 +20,8 @@ loop-number-preserved c =
     c.in_ok-push.ensures.items ∙ ap (λ l. l ++ c.mark_of.result ∷ []) c.loop-number.invariant
     ∙ ap (λ m. so_far ++ m ∷ []) (c.mark_of.ensures ∙ ap (λ k. mark (k, member)) zero)
     ∙ sym (enumerated_more mark 0 named n member here)
+
+pub returns : goal.returns
+returns c =
+    let mark : ℕ × SetMember → StateMark = λ p. mark_told c.args.links.now.outlines c.args.has_faulty c.args.reached.now p.0 p.1 in
+    all_taken (λ (ms : List SetMember). map mark (enumerate_from 0 ms)) c.args.named.now c.loop-number.number c.loop-number.marks.items c.loop-number-test.false c.loop-number.invariant

@@ -1,8 +1,9 @@
-use Rattle.std.proofs.Common.{◌≡◌, ◌+◌, ◌++◌, drop, sym, ap, append_assoc, ◌∙◌}
+use Rattle.std.proofs.Common.{◌≡◌, ◌+◌, ◌++◌, drop, sym, ap, append_assoc, ◌∙◌, refl}
 use Rattle.std.specs.List.{cons_option, filter_map}
 use Rattle.std.proofs.lemmas.Option.{slice_get-get_or}
 use Rattle.snl_check.specs.Numbered.{wake_by}
 use Rattle.snl_check.proofs.Beside.{kept_more}
+use Rattle.snl_check.proofs.Loops.{at_end}
 use Rattle.snl_check.proofs.rows.wake_ups.wakes_by.Goals as goal
 use Rattle.snl_check.proofs.rows.wake_ups.wakes_by.Goals.{in-Some+in_ok-push, in_default}
 
@@ -22,3 +23,7 @@ loop-used-preserved c =
           ∙ ap (λ l. so_far ++ l) (sym (more ∙ ap (λ o. cons_option o rest) w.in-Some.is)) ∙ c.loop-used.invariant
       | in_default w ↦ ap (λ v. v.items ++ rest) w.wake-is ∙ ap (λ l. so_far ++ l) (sym (more ∙ ap (λ o. cons_option o rest) w.in_default.is)) ∙ c.loop-used.invariant
     ]
+
+pub returns : goal.returns
+returns c =
+    at_end (filter_map (wake_by c.args.source.now.text.now c.args.source.now.tokens.now c.args.links.now.outlines c.args.numbers.now c.args.item)) refl c.args.uses.now c.loop-used.used-index c.loop-used.wake.items _ c.loop-used-test.false c.loop-used.invariant

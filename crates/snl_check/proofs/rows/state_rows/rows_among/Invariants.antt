@@ -2,7 +2,7 @@ use Rattle.std.proofs.Common.{◌≡◌, map, take}
 use Rattle.std.specs.List.{enumerate_from}
 use Rattle.snl_check.specs.Collected.{items_in}
 use Rattle.snl_check.specs.States.{numbered_row}
-use Rattle.snl_check.proofs.rows.state_rows.state_rows.Given as goal
+use Rattle.snl_check.proofs.rows.state_rows.rows_among.Given as goal
 
 -- the rows of the states so far
 abbrev pub invariant-loop-number : goal.invariant-loop-number
