@@ -19,7 +19,7 @@ use std::alloc::Global;
 use std::hash::{Hash, Hasher};
 
 /// What a clause is for. `sync` and `syncq` have one purpose.
-#[derive(Clone, Copy, Debug, PartialEq, Eq)]
+#[derive(Clone, Copy, PartialEq, Eq)]
 pub(crate) enum Purpose {
     Assign,
     Monitor,
@@ -27,7 +27,7 @@ pub(crate) enum Purpose {
 }
 
 /// How much of a variable is claimed.
-#[derive(Clone, Copy, Debug, PartialEq, Eq)]
+#[derive(Clone, Copy, PartialEq, Eq)]
 pub(crate) enum Extent {
     /// Anything at all, be it no element.
     Any,
@@ -38,7 +38,7 @@ pub(crate) enum Extent {
 }
 
 /// A claim on the variable with a number.
-#[derive(Clone, Copy, Debug, PartialEq, Eq)]
+#[derive(Clone, Copy, PartialEq, Eq)]
 pub(crate) struct Claim {
     pub purpose: Purpose,
     pub variable: usize,

@@ -8,7 +8,7 @@ use snl_cut::OutOfMemory;
 use std::alloc::Global;
 
 /// What an outline says of the order of items.
-#[derive(Clone, Copy, Debug, PartialEq, Eq)]
+#[derive(Clone, Copy)]
 pub(crate) struct Head {
     pub role: Role,
     pub opening: Opening,
@@ -38,7 +38,7 @@ pub(crate) fn heads_of(alloc: Global, outlines: &[&Outline]) -> Result<Vec<Head>
 }
 
 /// What a state set is searched for.
-#[derive(Clone, Copy, Debug)]
+#[derive(Clone, Copy)]
 pub(crate) enum Member {
     /// The `}` that closes it.
     End,

@@ -31,7 +31,7 @@ pub(crate) struct Named<'a> {
 }
 
 /// Where a name is that has come, and what a declaration says of it.
-#[derive(Clone, Copy, Debug, PartialEq, Eq)]
+#[derive(Clone, Copy)]
 pub(crate) struct Symbol {
     pub namespace: Namespace,
     pub item: usize,
