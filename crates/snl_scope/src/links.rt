@@ -1,9 +1,15 @@
 //! The links of items: their summaries come in, and what names mean to each item goes out.
 //! All but the findings goes by the outlines alone, so links stay where no outline changes; other kinds can be put in place.
 
-ghost use Rattle.std.specs.Prelude.{◌≡◌, map, IfOk, option_and_then, option_map};
-ghost use Rattle.snl_scope.specs.Linked.{name_kind_of, entry_fact, level_of, scope_in, variable_declaration, variable_fact};
+ghost use Rattle.std.specs.Prelude.{◌≡◌, [], length, map, IfOk, option_and_then, option_map};
+ghost use Rattle.std.specs.List.{zip};
+ghost use Rattle.snl_scope.specs.Claims.{Claimed};
+ghost use Rattle.snl_scope.specs.Clauses.{clause_faults, clause_links, clauses_of, soundness};
+ghost use Rattle.snl_scope.specs.Flags.{flags_of};
+ghost use Rattle.snl_scope.specs.Linked.{name_kind_of, entry_fact, faults_of, level_of, scope_in, variable_declaration, variable_fact};
 ghost use Rattle.snl_scope.specs.LinkedItems.{linked_items};
+ghost use Rattle.snl_scope.specs.Names.{entries, repetitions};
+ghost use Rattle.snl_scope.specs.Resolved.{Assigns};
 
 use crate::by_number::at_number;
 use crate::clauses::clause_index::{ClauseIndex, Purpose};
@@ -15,7 +21,7 @@ use crate::linking::{LinkedClauses, LinkedNames, linked_clauses, linked_names};
 use crate::names::name_tables::Symbol;
 use crate::names::namespaces::Namespace;
 use crate::names::scopes::Scopes;
-use crate::summaries::summary::{ItemKind, Summary, SymbolKind};
+use crate::summaries::summary::{ItemKind, Outline, Summary, SymbolKind};
 use snl_cut::OutOfMemory;
 use std::alloc::Global;
 use std::marker::Model;
@@ -292,15 +298,22 @@ fn declaration_of(symbol: Symbol) -> Option<Declaration>
     })
 }
 
-/// What names mean among the items that these summaries tell of.
-pub fn link(alloc: Global, summaries: &[&Summary]) -> Result<Links, OutOfMemory>
-    ensures { IfOk result (λ l. l ≡ linked_items (map (λ s. s.now) summaries.now)) }
+// Puts together what was found of the items.
+fn links_of(
+    kinds: Vec<ItemKind>,
+    names: LinkedNames,
+    made: LinkedClauses,
+    faults: Vec<LinkFault>,
+) -> Links
+    requires flags { names.flags.items ≡ flags_of names.scopes }
+    requires repeated { names.repeated.items ≡ repetitions [] (entries names.scopes) }
+    requires clauses { made.clauses.items ≡ clause_links names.scopes }
+    requires claims { Claimed made.claims (zip (clauses_of names.scopes) (soundness names.scopes)) }
+    requires assigned { Assigns made.assigned.items (clauses_of names.scopes) }
+    requires at_clauses { made.faults.items ≡ clause_faults names.scopes }
+    requires faults { faults.items ≡ faults_of (record { outlines = names.scopes; kinds = kinds.items }) }
+    ensures { result ≡ record { outlines = names.scopes; kinds = kinds.items } }
 {
-    let kinds = kinds_of(alloc, summaries)?;
-    let outlines = outlines_of(alloc, summaries)?;
-    let names = linked_names(alloc, &outlines)?;
-    let made = linked_clauses(alloc, &names.scopes, &outlines)?;
-    let faults = all_faults(alloc, &names.scopes, &kinds, &names.repeated, &made.faults)?;
     let LinkedNames {
         scopes,
         flags,
@@ -312,7 +325,7 @@ pub fn link(alloc: Global, summaries: &[&Summary]) -> Result<Links, OutOfMemory>
         assigned,
         faults: at_clauses,
     } = made;
-    Ok(Links {
+    Links {
         scopes,
         kinds,
         clauses,
@@ -322,5 +335,48 @@ pub fn link(alloc: Global, summaries: &[&Summary]) -> Result<Links, OutOfMemory>
         repeated,
         at_clauses,
         faults,
-    })
+    }
+}
+
+// What the clauses of all items say, and all that is found.
+fn clauses_and_faults(
+    alloc: Global,
+    kinds: &[ItemKind],
+    names: &LinkedNames,
+    outlines: &[&Outline],
+) -> Result<(LinkedClauses, Vec<LinkFault>), OutOfMemory>
+    requires scopes { names.now.scopes ≡ map (λ s. s.now) outlines.now }
+    requires repeated { names.now.repeated.items ≡ repetitions [] (entries names.now.scopes) }
+    requires kinds { length kinds.now ≡ length names.now.scopes }
+    ensures clauses { IfOk result (λ made. made.0.clauses.items ≡ clause_links names.now.scopes) }
+    ensures claims { IfOk result (λ made. Claimed made.0.claims (zip (clauses_of names.now.scopes) (soundness names.now.scopes))) }
+    ensures assigned { IfOk result (λ made. Assigns made.0.assigned.items (clauses_of names.now.scopes)) }
+    ensures at_clauses { IfOk result (λ made. made.0.faults.items ≡ clause_faults names.now.scopes) }
+    ensures faults { IfOk result (λ made. made.1.items ≡ faults_of (record { outlines = names.now.scopes; kinds = kinds.now })) }
+{
+    let made = linked_clauses(alloc, &names.scopes, outlines)?;
+    let faults = all_faults(alloc, &names.scopes, kinds, &names.repeated, &made.faults)?;
+    Ok((made, faults))
+}
+
+fn link_outlines(
+    alloc: Global,
+    kinds: Vec<ItemKind>,
+    outlines: &[&Outline],
+) -> Result<Links, OutOfMemory>
+    requires { length kinds.items ≡ length outlines.now }
+    ensures { IfOk result (λ l. l ≡ record { outlines = map (λ s. s.now) outlines.now; kinds = kinds.items }) }
+{
+    let names = linked_names(alloc, outlines)?;
+    let (made, faults) = clauses_and_faults(alloc, &kinds, &names, outlines)?;
+    Ok(links_of(kinds, names, made, faults))
+}
+
+/// What names mean among the items that these summaries tell of.
+pub fn link(alloc: Global, summaries: &[&Summary]) -> Result<Links, OutOfMemory>
+    ensures { IfOk result (λ l. l ≡ linked_items (map (λ s. s.now) summaries.now)) }
+{
+    let kinds = kinds_of(alloc, summaries)?;
+    let outlines = outlines_of(alloc, summaries)?;
+    link_outlines(alloc, kinds, &outlines)
 }

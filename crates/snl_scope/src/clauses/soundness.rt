@@ -218,6 +218,37 @@ pub(crate) struct JudgedClauses {
     pub claims: ClauseIndex,
 }
 
+// Adds the links and the claims of all clauses, and what is found at them.
+fn judge_all(
+    scopes: &Scopes,
+    assigned: &[Option<Assigned>],
+    clauses: &[Resolved],
+    links: &mut Vec<ClauseLink>,
+    claims: &mut ClauseIndex,
+    faults: &mut Vec<LinkFault>,
+) -> Result<(), OutOfMemory>
+    requires assigned { Assigns assigned.now (map linked clauses.now) }
+    requires no_links { links.old.items ≡ [] }
+    requires no_claims { Claimed claims.old [] }
+    ensures links { OnOk result (links.new.items ≡ map (λ p. clause_link p.0 p.1)
+        (zip (map linked clauses.now) (soundness_after (entries scopes.now) (map linked clauses.now) [] (map linked clauses.now)))) }
+    ensures claims { OnOk result (Claimed claims.new
+        (zip (map linked clauses.now) (soundness_after (entries scopes.now) (map linked clauses.now) [] (map linked clauses.now)))) }
+    ensures found { OnOk result (faults.new.items ≡ faults.old.items
+        ++ found_after (entries scopes.now) (map linked clauses.now) [] (map linked clauses.now)) }
+{
+    for clause in clauses {
+        let code = variable_code(scopes, assigned, claims, *clause);
+        let is_flag_wrong = has_wrong_flag(scopes, *clause);
+        let is_sound = is_sound(code, is_flag_wrong);
+        add_at_variable(*clause, code, faults)?;
+        add_at_flag(*clause, is_flag_wrong, faults)?;
+        make_claims(claims, *clause, links.len(), is_sound)?;
+        links.push(link_of(*clause, is_sound))?;
+    }
+    Ok(())
+}
+
 /// Judges all clauses; what is found at them is added.
 pub(crate) fn judged_clauses(
     alloc: Global,
@@ -234,16 +265,17 @@ pub(crate) fn judged_clauses(
     ensures found { OnOk result (faults.new.items ≡ faults.old.items
         ++ found_after (entries scopes.now) (map linked clauses.now) [] (map linked clauses.now)) }
 {
-    let mut claims = ClauseIndex::new(alloc);
-    let mut links = Vec::with_capacity(alloc, clauses.len())?;
-    for clause in clauses {
-        let code = variable_code(scopes, assigned, &claims, *clause);
-        let is_flag_wrong = has_wrong_flag(scopes, *clause);
-        let is_sound = is_sound(code, is_flag_wrong);
-        add_at_variable(*clause, code, faults)?;
-        add_at_flag(*clause, is_flag_wrong, faults)?;
-        make_claims(&mut claims, *clause, links.len(), is_sound)?;
-        links.push(link_of(*clause, is_sound))?;
-    }
-    Ok(JudgedClauses { links, claims })
+    let mut judged = JudgedClauses {
+        links: Vec::with_capacity(alloc, clauses.len())?,
+        claims: ClauseIndex::new(alloc),
+    };
+    judge_all(
+        scopes,
+        assigned,
+        clauses,
+        &mut judged.links,
+        &mut judged.claims,
+        faults,
+    )?;
+    Ok(judged)
 }

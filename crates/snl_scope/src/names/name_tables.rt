@@ -140,10 +140,11 @@ impl NameTables {
     pub(crate) fn new(alloc: Global, room: usize) -> Result<NameTables, OutOfMemory>
         ensures { IfOk result (λ t. Follows t.names t.first t.symbols.items t.faults.items []) }
     {
+        let symbols = Vec::with_capacity(alloc, room)?;
         Ok(NameTables {
             names: Names::new(alloc),
             first: FirstNumbers::new(alloc),
-            symbols: Vec::with_capacity(alloc, room)?,
+            symbols,
             faults: Vec::new(alloc),
         })
     }

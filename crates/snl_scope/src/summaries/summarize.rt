@@ -2,6 +2,8 @@
 //! It knows nothing of the other items.
 
 ghost use Rattle.snl_scope.specs.Summaries.{kind_of, kind_of_tree, occurrences_in, opening_by_word, opening_in, role_of, second_in, summary_in};
+ghost use Rattle.snl_scope.specs.Summaries.Clauses.{clauses_in};
+ghost use Rattle.snl_scope.specs.Summaries.Declares.{declared_in};
 ghost use Rattle.snl_scope.specs.Summaries.Tokens.{name_ref_at};
 ghost use Rattle.snl_walk.specs.Once.{once};
 ghost use Rattle.snl_walk.specs.Tokens.{IsSource, token_bytes};
@@ -11,7 +13,9 @@ ghost use Rattle.std.specs.Prelude.{◌≡◌, IfOk, map, option_copied};
 use crate::summaries::clauses_of::clauses_in;
 use crate::summaries::declarations::declared_in;
 use crate::summaries::name::Name;
-use crate::summaries::summary::{ItemKind, NameRef, Opening, Outline, Role, Summary};
+use crate::summaries::summary::{
+    Declared, ItemKind, NameRef, Opening, Outline, Role, Summary, VariableClause,
+};
 use crate::summaries::token_names::{name_refs, names_once};
 use snl_cut::OutOfMemory;
 use snl_lex::{Class, Piece, token_text};
@@ -144,6 +148,37 @@ fn target_names(source: &Source, found: &[Occurrence]) -> Result<Few<NameRef>, O
     name_refs(source, &targets(source.alloc, found)?)
 }
 
+// The names that the item uses, and the states that it leads to.
+fn asked_names(
+    source: &Source,
+    tree: Option<&Item>,
+) -> Result<(Few<Name>, Few<NameRef>), OutOfMemory>
+    requires { IsSource source.now.text.now source.now.tokens.now }
+    ensures uses { IfOk result (λ asked. asked.0 ≡ once (map (token_bytes source.now.text.now source.now.tokens.now)
+        (uses (occurrences_in (token_bytes source.now.text.now source.now.tokens.now) (option_copied tree.entry))))) }
+    ensures targets { IfOk result (λ asked. asked.1 ≡ map (name_ref_at source.now.text.now source.now.tokens.now)
+        (targets (occurrences_in (token_bytes source.now.text.now source.now.tokens.now) (option_copied tree.entry)))) }
+{
+    let found = occurrences_in(source, tree)?;
+    let uses = used_names(source, &found)?;
+    let targets = target_names(source, &found)?;
+    Ok((uses, targets))
+}
+
+fn few_declared(source: &Source, tree: Option<&Item>) -> Result<Few<Declared>, OutOfMemory>
+    requires { IsSource source.now.text.now source.now.tokens.now }
+    ensures { IfOk result (λ few. few ≡ declared_in source.now.text.now source.now.tokens.now (option_copied tree.entry)) }
+{
+    Ok(Few::from_vec(source.alloc, declared_in(source, tree)?)?)
+}
+
+fn few_clauses(source: &Source, tree: Option<&Item>) -> Result<Few<VariableClause>, OutOfMemory>
+    requires { IsSource source.now.text.now source.now.tokens.now }
+    ensures { IfOk result (λ few. few ≡ clauses_in source.now.text.now source.now.tokens.now (option_copied tree.entry)) }
+{
+    Ok(Few::from_vec(source.alloc, clauses_in(source, tree)?)?)
+}
+
 /// The summary of the item that consists of these tokens, of which each lies in the text. `tree` is the item's tree; an item
 /// without one is faulty, and declares and uses nothing.
 pub fn summary_of(
@@ -160,17 +195,16 @@ pub fn summary_of(
         tokens,
         alloc,
     };
-    let declares = Few::from_vec(alloc, declared_in(&source, tree)?)?;
-    let clauses = Few::from_vec(alloc, clauses_in(&source, tree)?)?;
-    let found = occurrences_in(&source, tree)?;
-    let uses = used_names(&source, &found)?;
-    let targets = target_names(&source, &found)?;
+    let declares = few_declared(&source, tree)?;
+    let clauses = few_clauses(&source, tree)?;
+    let (uses, targets) = asked_names(&source, tree)?;
+    let second = second_of(&source)?;
     let kind = kind_of(tree);
     let has_some = 0 < declares.len() || 0 < clauses.len();
     let outline = Outline {
         declares,
         clauses,
-        second: second_of(&source)?,
+        second,
         role: role_of(kind, has_some),
         opening: opening_of(&source),
     };

@@ -4,7 +4,7 @@ use Rattle.snl_scope.specs.Clauses.{found_after}
 use Rattle.snl_scope.specs.Names.{entries}
 use Rattle.snl_scope.specs.Resolved.{linked}
 use Rattle.snl_scope.proofs.Judging.{judged_after, links_after}
-use Rattle.snl_scope.proofs.clauses.soundness.judged_clauses.Given as goal
+use Rattle.snl_scope.proofs.clauses.soundness.judge_all.Given as goal
 
 -- the claims are those of the sound clauses so far, and the clauses so far are judged
 abbrev pub invariant-loop-clause : goal.invariant-loop-clause

@@ -1,5 +1,5 @@
 use Rattle.std.proofs.Common.{◌≡◌, ◌+◌, ◌++◌, ◌∷◌, [], ◌&&◌, Bool, false, not, List, Option, length, length-append, map, take, ap, append_assoc, arith, subst, sym, ◌∙◌, if◌then◌else◌}
-use Rattle.std.proofs.lemmas.List.{map-append, take_more}
+use Rattle.std.proofs.lemmas.List.{map-append, take_all, take_more}
 use Rattle.std.specs.Option.{option_map_or, option_to_list}
 use Rattle.snl_walk.specs.declared.codes.Code.{Code}
 use Rattle.snl_walk.specs.declared.codes.Code.TheVariants.{E14}
@@ -10,7 +10,7 @@ use Rattle.snl_walk.specs.Codes.{is_error}
 use Rattle.snl_scope.specs.Names.{entries}
 use Rattle.snl_scope.specs.Resolved.{linked}
 use Rattle.snl_scope.proofs.Judging.{found-push, judged-push, judged_after, links-push, links_after, sound-judged}
-use Rattle.snl_scope.proofs.clauses.soundness.judged_clauses.Goals as goal
+use Rattle.snl_scope.proofs.clauses.soundness.judge_all.Goals as goal
 
 pub loop-clause-preserved : goal.loop-clause-preserved
 loop-clause-preserved c =
@@ -26,7 +26,7 @@ loop-clause-preserved c =
     ∙ map-append linked (take i c.args.clauses.now) (c.clause-item.result ∷ [])) in
     let judged_here : List (LinkedClause × Bool) = judged_after es cs [] here in
     let code : c.variable_code-code.result ≡ variable_code es cs sound d =
-    c.variable_code-code.ensures cs judged_here c.requires known.claimed ∙ ap (λ l. variable_code es cs l d) (sound-judged es cs [] here) in
+    c.variable_code-code.ensures cs judged_here c.requires.assigned known.claimed ∙ ap (λ l. variable_code es cs l d) (sound-judged es cs [] here) in
     let wrong : c.has_wrong_flag-is_flag_wrong.result ≡ has_wrong_flag es d = c.has_wrong_flag-is_flag_wrong.ensures in
     let judged : c.is_sound-is_sound.result ≡ is_sound es cs sound d =
     c.is_sound-is_sound.ensures ∙ ap (λ (o : Option Code). not (option_map_or is_error o false) && not c.has_wrong_flag-is_flag_wrong.result) code
@@ -53,3 +53,22 @@ loop-clause-preserved c =
           ∙ append_assoc before (found_after es cs [] here) (found_at es cs sound d)
           ∙ ap (λ l. before ++ l) (sym (found-push es cs [] here d) ∙ ap (found_after es cs []) more);
     }
+
+pub returns-clause-links : goal.returns-clause-links
+returns-clause-links c =
+    let clauses = c.args.clauses.now in
+    c.loop-clause.invariant.links
+    ∙ ap (λ l. links_after (entries c.args.scopes.now) (map linked clauses) [] (map linked l)) (take_all c.loop-clause.clause-index clauses (omega (arith, c.loop-clause-test.false)))
+
+pub returns-clause-claims : goal.returns-clause-claims
+returns-clause-claims c =
+    let clauses = c.args.clauses.now in
+    subst (λ l. Claimed c.loop-clause.claims (judged_after (entries c.args.scopes.now) (map linked clauses) [] (map linked l)))
+    (take_all c.loop-clause.clause-index clauses (omega (arith, c.loop-clause-test.false))) c.loop-clause.invariant.claimed
+
+pub returns-clause-found : goal.returns-clause-found
+returns-clause-found c =
+    let clauses = c.args.clauses.now in
+    c.loop-clause.invariant.found
+    ∙ ap (λ l. c.args.faults.now.items ++ found_after (entries c.args.scopes.now) (map linked clauses) [] (map linked l))
+    (take_all c.loop-clause.clause-index clauses (omega (arith, c.loop-clause-test.false)))
