@@ -1,4 +1,5 @@
 pub mod Empty
+pub mod Gets
 pub mod Searches
 pub mod OpenSets
 pub mod OrderSteps

@@ -1,5 +1,6 @@
-use Rattle.std.proofs.Common.{◌≡◌, ℕ, ◌&&◌, List, None, Option, Some, false, length, map, option_map, refl, slice_get, ap, ◌∙◌, arith}
-use Rattle.std.proofs.lemmas.List.{take_all}
+use Rattle.std.proofs.Common.{◌≡◌, ℕ, ◌+◌, ◌++◌, ◌∷◌, [], ◌&&◌, Bool, cond, get_or, Global, List, None, Option, Some, Vec, false, length, map, option_map, refl, slice_get, sym, take, ap, ◌∙◌, arith}
+use Rattle.std.proofs.lemmas.List.{append-nil, take_all}
+use Rattle.std.proofs.lemmas.List.Elements.{filter_more}
 use Rattle.std.proofs.lemmas.Option.{slice_get-map}
 use Rattle.std.specs.List.{filter}
 use Rattle.std.specs.Option.{option_map_or}
@@ -9,6 +10,7 @@ use Rattle.snl_scope.specs.Names.{Entry, entries}
 use Rattle.snl_scope.specs.NameTables.{flag_stands, symbol_of}
 use Rattle.snl_scope.proofs.Rising.{all_below-same, filter-all_below}
 use Rattle.snl_scope.proofs.clauses.flags.flags_of.Goals as goal
+use Rattle.snl_scope.proofs.clauses.flags.flags_of.Goals.{then-flag_stands+in_ok-push, else-flag_stands}
 
 -- a flag by what the tables have at its number
 flag_at : (es : List Entry) (k : ℕ) → (flag_stands (map symbol_of es) k && is_first_at es k) ≡ is_flag es k
@@ -18,6 +20,25 @@ flag_at es k = ap (λ o. option_map_or (λ s. declares_flag s.variable) o false 
         ≡ option_map_or (λ e. declares_flag e.variable && is_first es k e) o false
     by None = refl
     by (Some e) = refl
+
+pub loop-number-preserved : goal.loop-number-preserved
+loop-number-preserved c =
+    let stands = flag_stands c.args.tables.now.symbols.items in
+    let numbers = c.as_slice-numbers.result.now in
+    let i = c.loop-number.number-index in
+    let number = get_or numbers i 0 in
+    let here : List ℕ = filter stands (take i numbers) in
+    let more : filter stands (take (i + 1) numbers) ≡ here ++ cond c.flag_stands.result (number ∷ []) [] =
+    filter_more stands numbers i 0 (omega (arith, c.loop-number-test.true))
+    ∙ ap (λ (b : Bool). here ++ cond b (number ∷ []) []) (sym (c.flag_stands.ensures ∙ ap (λ l. flag_stands l number) c.deref.ensures.value)) in
+    elim c.if-flag_stands.branch [
+      | then-flag_stands+in_ok-push w ↦
+          ap (λ (v : Vec ℕ Global). v.items) w.flags-is ∙ w.in_ok-push.ensures.items ∙ ap (λ l. l ++ number ∷ []) c.loop-number.invariant
+          ∙ sym (more ∙ ap (λ (b : Bool). here ++ cond b (number ∷ []) []) w.if-flag_stands.true)
+      | else-flag_stands w ↦
+          ap (λ (v : Vec ℕ Global). v.items) w.flags-is ∙ c.loop-number.invariant
+          ∙ sym (more ∙ ap (λ (b : Bool). here ++ cond b (number ∷ []) []) w.if-flag_stands.false ∙ append-nil here)
+    ]
 
 pub returns : goal.returns
 returns c = λ ss f.
