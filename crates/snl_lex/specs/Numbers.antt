@@ -55,6 +55,16 @@ int_suffixes =
     ∷ codes "ul" ∷ codes "uL" ∷ codes "Ul" ∷ codes "UL" ∷ codes "lu" ∷ codes "lU" ∷ codes "Lu" ∷ codes "LU"
     ∷ codes "ull" ∷ codes "uLL" ∷ codes "Ull" ∷ codes "ULL" ∷ codes "llu" ∷ codes "llU" ∷ codes "LLu" ∷ codes "LLU" ∷ []
 
+-- These in three parts: a `u`, or an `l` or two; a `u` and one `l`; a `u` and two.
+abbrev pub lone_suffixes : List (List ℕ)
+lone_suffixes = [] ∷ codes "u" ∷ codes "U" ∷ codes "l" ∷ codes "L" ∷ codes "ll" ∷ codes "LL" ∷ []
+
+abbrev pub short_suffixes : List (List ℕ)
+short_suffixes = codes "ul" ∷ codes "uL" ∷ codes "Ul" ∷ codes "UL" ∷ codes "lu" ∷ codes "lU" ∷ codes "Lu" ∷ codes "LU" ∷ []
+
+abbrev pub long_suffixes : List (List ℕ)
+long_suffixes = codes "ull" ∷ codes "uLL" ∷ codes "Ull" ∷ codes "ULL" ∷ codes "llu" ∷ codes "llU" ∷ codes "LLu" ∷ codes "LLU" ∷ []
+
 unfoldable pub is_int_suffix : List ℕ → Bool
 is_int_suffix bytes = list_any (bytes_eq bytes) int_suffixes
 

@@ -3,9 +3,11 @@
 //! It knows nothing of what follows a run.
 
 ghost use Rattle.snl_lex.specs.Alphabet.{is_digit_in, is_word_byte};
-ghost use Rattle.snl_lex.specs.Numbers.{base_of, checked_value, digit_value, dots_in, is_exponent, is_float, is_float_suffix, is_int_suffix, is_power, is_power_part, is_sign, number_class, number_joins, radix, sign_length, int_value_of, value_after, value_in};
+ghost use Rattle.snl_lex.specs.Numbers.{base_of, checked_value, digit_value, dots_in, is_exponent, is_float, is_float_suffix, is_int_suffix, is_power, is_power_part, is_sign, lone_suffixes, long_suffixes, number_class, number_joins, radix, short_suffixes, sign_length, int_value_of, value_after, value_in};
 ghost use Rattle.snl_lex.specs.Runs.{run_by};
-ghost use Rattle.std.specs.Prelude.{◌≡◌, ◌==◌, ◌+◌, ◌<◌, ◌≤◌, ◌&&◌, ◌||◌, drop, length, take};
+ghost use Rattle.std.specs.List.{list_any};
+ghost use Rattle.std.specs.Prelude.{◌≡◌, ◌==◌, ◌+◌, ◌<◌, ◌≤◌, ◌&&◌, ◌||◌, ◌++◌, drop, length, take};
+ghost use Rattle.std.specs.Str.{bytes_eq};
 
 use crate::alphabet::{NumberBase, Set, after, byte_at, is_digit, is_plain, is_word_byte, run_end};
 use crate::piece::Class;
@@ -85,35 +87,44 @@ pub fn value_of(digits: &[u8], base: NumberBase) -> Option<u64>
     Some(value)
 }
 
-#[tactic(auto, unfolding(crate::specs::Numbers::is_int_suffix))]
-fn is_int_suffix(bytes: &[u8]) -> bool
-    ensures { result ≡ is_int_suffix bytes.now }
+// A `match` over all suffixes takes half a minute to prove, three of a third a few seconds.
+fn is_lone_suffix(bytes: &[u8]) -> bool
+    ensures { result ≡ list_any (bytes_eq bytes.now) lone_suffixes }
+{
+    matches!(bytes, b"" | b"u" | b"U" | b"l" | b"L" | b"ll" | b"LL")
+}
+
+// A `u` and one `l`.
+fn is_short_suffix(bytes: &[u8]) -> bool
+    ensures { result ≡ list_any (bytes_eq bytes.now) short_suffixes }
 {
     matches!(
         bytes,
-        b"" | b"u"
-            | b"U"
-            | b"l"
-            | b"L"
-            | b"ll"
-            | b"LL"
-            | b"ul"
-            | b"uL"
-            | b"Ul"
-            | b"UL"
-            | b"lu"
-            | b"lU"
-            | b"Lu"
-            | b"LU"
-            | b"ull"
-            | b"uLL"
-            | b"Ull"
-            | b"ULL"
-            | b"llu"
-            | b"llU"
-            | b"LLu"
-            | b"LLU"
+        b"ul" | b"uL" | b"Ul" | b"UL" | b"lu" | b"lU" | b"Lu" | b"LU"
     )
+}
+
+// A `u` and two of them.
+fn is_long_suffix(bytes: &[u8]) -> bool
+    ensures { result ≡ list_any (bytes_eq bytes.now) long_suffixes }
+{
+    matches!(
+        bytes,
+        b"ull" | b"uLL" | b"Ull" | b"ULL" | b"llu" | b"llU" | b"LLu" | b"LLU"
+    )
+}
+
+// A `u` and an `l` or two.
+fn is_mixed_suffix(bytes: &[u8]) -> bool
+    ensures { result ≡ list_any (bytes_eq bytes.now) (short_suffixes ++ long_suffixes) }
+{
+    is_short_suffix(bytes) || is_long_suffix(bytes)
+}
+
+fn is_int_suffix(bytes: &[u8]) -> bool
+    ensures { result ≡ is_int_suffix bytes.now }
+{
+    is_lone_suffix(bytes) || is_mixed_suffix(bytes)
 }
 
 #[tactic(auto, unfolding(crate::specs::Numbers::value_in))]
