@@ -12,6 +12,7 @@ pub mod MemberParts
 pub mod MadeRows
 pub mod MarkedRows
 pub mod Members
+pub mod Nothing
 pub mod Offsets
 pub mod OnceAll
 pub mod OnceItems

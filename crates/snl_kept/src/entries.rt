@@ -149,6 +149,45 @@ pub fn entry_of(
     entry_with(alloc, text, tokens, parsed)
 }
 
+// An entry by what the parser made of these tokens, to be shared.
+fn kept_entry(
+    alloc: Global,
+    text: &[u8],
+    tokens: &[Piece],
+    parsed: Parsed,
+) -> Result<Shared<Entry>, OutOfMemory>
+    requires parsed { parsed ≡ parsed_by (spelled text.now tokens.now) }
+    requires within { All (LiesIn text.now) tokens.now }
+    ensures { IfOk result (λ e. e ≡ entry_by (spelled text.now tokens.now)) }
+{
+    let entry = entry_with(alloc, text, tokens, parsed)?;
+    Ok(Shared::new(alloc, entry)?)
+}
+
+// The entry of an item with nothing in it, that of one which is spelled alike if there is one.
+fn common_entry(
+    alloc: Global,
+    common: &mut CommonEntries,
+    start: usize,
+    stop: usize,
+    parsed: Parsed,
+) -> Result<Shared<Entry>, OutOfMemory>
+    requires range { start ≤ stop }
+    requires inside { stop ≤ length common.old.1 }
+    requires parsed { parsed ≡ parsed_by (spelled common.old.0 (take (stop - start) (drop start common.old.1))) }
+    ensures common { common.new ≡ common.old }
+    ensures entry { IfOk result (λ e. e ≡ entry_by (spelled common.old.0 (take (stop - start) (drop start common.old.1)))) }
+{
+    let (text, own) = (common.text, &common.tokens[start..stop]);
+    if let Some(same) = common.spelled_as(own) {
+        return Ok(same.share()?);
+    }
+    let entry = kept_entry(alloc, text, own, parsed)?;
+    common.keep_few();
+    common.add(start, stop, &entry)?;
+    Ok(entry)
+}
+
 // The entry of the item that has the tokens from `start` up to `stop`, shared where nothing is in it. It is parsed once.
 fn shared_entry(
     alloc: Global,
@@ -166,17 +205,11 @@ fn shared_entry(
     same_spelling_same_tree();
     let (text, own) = (common.text, &common.tokens[start..stop]);
     let parsed = parsed(alloc, text, own, work)?;
-    if !is_leaf(&parsed) {
-        let entry = entry_with(alloc, text, own, parsed)?;
-        return Ok(Shared::new(alloc, entry)?);
+    if is_leaf(&parsed) {
+        common_entry(alloc, common, start, stop, parsed)
+    } else {
+        kept_entry(alloc, text, own, parsed)
     }
-    if let Some(same) = common.spelled_as(own) {
-        return Ok(same.share()?);
-    }
-    let entry = Shared::new(alloc, entry_with(alloc, text, own, parsed)?)?;
-    common.keep_few();
-    common.add(start, stop, &entry)?;
-    Ok(entry)
 }
 
 /// The entries of the items that end at these tokens, the first of which begins at token `from`. Each is parsed once.

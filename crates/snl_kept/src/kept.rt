@@ -7,14 +7,18 @@
 ghost use Rattle.std.specs.Prelude.{◌≡◌, [], IfOk, OnErr, OnOk, vec_capacity};
 ghost use Rattle.snl_items.specs.Fresh.{fresh_pieces_between};
 ghost use Rattle.snl_lex.specs.LineList.{IsLineList};
+ghost use Rattle.snl_kept.specs.Checks.{links_in};
 ghost use Rattle.snl_kept.specs.Cost.{IsCost};
+ghost use Rattle.snl_kept.specs.Diagnostics.{diagnostics_of};
 ghost use Rattle.snl_kept.specs.Kept.{HasRoomFor, HasRoomForPlaces, IsKept};
 ghost use Rattle.snl_kept.specs.Planned.{HasRoom, HasRoomForAll, IsAnew, IsChanged, IsItemAnew, IsMade};
 ghost use Rattle.snl_kept.specs.Shifted.{IsShifted, ShiftsAll};
+ghost use Rattle.snl_kept.specs.Tables.{tables_in};
+ghost use Rattle.snl_kept.specs.Warnings.{warns_in};
 
 use crate::found::diagnose::put_on_lines;
 use crate::found::findings::Diagnostic;
-use crate::found::judge::judge;
+use crate::found::judge::{Judgement, judge};
 use crate::found::program::CutText;
 use crate::laws::shift_laws::edit_shifts_all;
 use crate::lists::Lists;
@@ -28,7 +32,7 @@ use snl_cut::{Count, OutOfMemory};
 use snl_items::{ItemList, pieces_are_fresh};
 use snl_lex::{LineList, LineShift, PieceList, TextEdit};
 use snl_lists::Ordered;
-use snl_scope::link;
+use snl_scope::{Links, link};
 use std::alloc::Global;
 
 /// What is kept of a text, by whoever has the text: the lists of its parts, its diagnostics in order, and its tables.
@@ -49,21 +53,36 @@ impl Drop for Kept {
     }
 }
 
+// The links of the empty text, and what it is judged to say.
+fn judge_nothing(alloc: Global, lines: &LineList) -> Result<(Links, Judgement), OutOfMemory>
+    requires { IsLineList [] lines.now.ends.items lines.now.markers.items lines.now.naming.items }
+    ensures links { IfOk result (λ r. r.0 ≡ links_in []) }
+    ensures diagnostics { IfOk result (λ r. r.1.diagnostics.items ≡ diagnostics_of []) }
+    ensures tables { IfOk result (λ r. r.1.tables ≡ tables_in []) }
+    ensures warns { IfOk result (λ r. r.1.warns ≡ warns_in []) }
+{
+    let cut = CutText {
+        text: &[],
+        lines,
+        tokens: &[],
+        ends: &[],
+        entries: &[],
+    };
+    let links = link(alloc, &[])?;
+    let judgement = judge(alloc, &cut, &[], &links, links.faults(), &[])?;
+    Ok((links, judgement))
+}
+
 impl Kept {
-    /// What is kept of the empty text, which has no pieces and no items.
-    pub fn empty(alloc: Global) -> Result<Kept, OutOfMemory>
-        ensures { IfOk result (IsKept []) }
+    // What is kept of the empty text, by its lines, its links and what it is judged to say.
+    fn of_nothing(alloc: Global, lines: LineList, links: Links, judgement: Judgement) -> Kept
+        requires lines { IsLineList [] lines.ends.items lines.markers.items lines.naming.items }
+        requires links { links ≡ links_in [] }
+        requires diagnostics { judgement.diagnostics.items ≡ diagnostics_of [] }
+        requires tables { judgement.tables ≡ tables_in [] }
+        requires warns { judgement.warns ≡ warns_in [] }
+        ensures { IsKept [] result }
     {
-        let lines = LineList::of(alloc, &[], &[])?;
-        let cut = CutText {
-            text: &[],
-            lines: &lines,
-            tokens: &[],
-            ends: &[],
-            entries: &[],
-        };
-        let links = link(alloc, &[])?;
-        let judgement = judge(alloc, &cut, &[], &links, links.faults(), &[])?;
         let lists = Lists {
             pieces: PieceList {
                 ends: Vec::new(alloc),
@@ -80,11 +99,20 @@ impl Kept {
             checks: Ordered::new(alloc),
             warns: judgement.warns,
         };
-        Ok(Kept {
+        Kept {
             lists,
             found: judgement.diagnostics,
             tables: judgement.tables,
-        })
+        }
+    }
+
+    /// What is kept of the empty text, which has no pieces and no items.
+    pub fn empty(alloc: Global) -> Result<Kept, OutOfMemory>
+        ensures { IfOk result (IsKept []) }
+    {
+        let lines = LineList::of(alloc, &[], &[])?;
+        let (links, judgement) = judge_nothing(alloc, &lines)?;
+        Ok(Kept::of_nothing(alloc, lines, links, judgement))
     }
 
     // Shifts what is kept, by an edit that shifts all that the text says. There is room for the places that it makes, so it can't fail.
@@ -187,6 +215,37 @@ impl Kept {
         })
     }
 
+    // What an edit makes anew that changes what some item says, with room for it. An error leaves all as it was.
+    fn made_anew(
+        &mut self,
+        edit: &TextEdit,
+        changes: &Changes,
+        lines: &LineList,
+        lexed: u64,
+    ) -> Result<Made, OutOfMemory>
+        requires kept { IsKept edit.now.old.now self.old }
+        requires changes { IsChanged edit.now.old.now edit.now.text.now edit.now.start edit.now.old_stop edit.now.new_stop changes.now }
+        requires lines { IsLineList edit.now.text.now lines.now.ends.items lines.now.markers.items lines.now.naming.items }
+        requires lexed { lexed ≡ fresh_pieces_between edit.now.old.now edit.now.text.now edit.now.start edit.now.old_stop edit.now.new_stop }
+        ensures kept { IsKept edit.now.old.now self.new }
+        ensures made { IfOk result (IsMade edit.now.old.now edit.now.text.now edit.now.start edit.now.old_stop edit.now.new_stop changes.now.items) }
+        ensures room { IfOk result (HasRoom self.new.lists (vec_capacity self.new.found) changes.now) }
+    {
+        let alloc = *self.found.allocator();
+        let made = made_by(
+            alloc,
+            &self.lists,
+            &self.tables,
+            &self.found,
+            edit,
+            changes,
+            lines,
+            lexed,
+        )?;
+        made.make_room(changes, &mut self.lists, &mut self.found)?;
+        Ok(made)
+    }
+
     // The other ways of an edit, which changes what some item says.
     fn edit_anew(
         &mut self,
@@ -203,18 +262,7 @@ impl Kept {
         ensures cost { IfOk result (IsCost edit.now.old.now edit.now.text.now edit.now.start edit.now.old_stop edit.now.new_stop) }
         ensures err { OnErr result (IsKept edit.now.old.now self.new) }
     {
-        let alloc = *self.found.allocator();
-        let made = made_by(
-            alloc,
-            &self.lists,
-            &self.tables,
-            &self.found,
-            edit,
-            changes,
-            &lines,
-            lexed,
-        )?;
-        made.make_room(changes, &mut self.lists, &mut self.found)?;
+        let made = self.made_anew(edit, changes, &lines, lexed)?;
         let work = made.work();
         self.put(edit, changes, lines, made);
         Ok(work)

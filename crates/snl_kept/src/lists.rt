@@ -33,11 +33,21 @@ pub struct Lists {
 }
 
 /// What an edit makes of the links and the checks: what becomes of the links, places for the checks of the items that are made, and the checks.
-#[derive(Drop)]
 pub struct Rechecked {
     pub links: NewLinks,
     pub vacant: Vec<Shared<Option<Checked>>>,
     pub made: Vec<MadeCheck>,
+}
+
+// By hand, so that whoever holds it need not know what is in it to let it go.
+impl Drop for Rechecked {
+    fn drop(self) {
+        let Rechecked {
+            links: _,
+            vacant: _,
+            made: _,
+        } = self;
+    }
 }
 
 /// What an edit makes of all that is kept of the items: what is kept of those that are made, what becomes of the links, places
@@ -49,6 +59,26 @@ pub struct Remade {
     pub vacant: Vec<Shared<Option<Checked>>>,
     pub checks: Vec<MadeCheck>,
     pub warns: bool,
+}
+
+impl Rechecked {
+    /// What is made of all that is kept of the items, with what is kept of those that are made and whether warnings are shown.
+    pub fn remade(self, made: Vec<Shared<Entry>>, warns: bool) -> Remade
+        ensures { result ≡ record { made = made; links = self.links; vacant = self.vacant; checks = self.made; warns = warns } }
+    {
+        let Rechecked {
+            links,
+            vacant,
+            made: checks,
+        } = self;
+        Remade {
+            made,
+            links,
+            vacant,
+            checks,
+            warns,
+        }
+    }
 }
 
 // Puts other lines in the place of these, which are let go here, apart from all else.

@@ -18,7 +18,7 @@ pub struct Diagnostic {
 }
 
 /// A diagnostic that has no line and file yet.
-#[derive(Clone, Copy, Debug, PartialEq, Eq)]
+#[derive(Clone, Copy)]
 pub struct Finding {
     pub offset: usize,
     pub code: Code,

@@ -291,6 +291,39 @@ fn touches_little(links: &Links, tables: &Tables, touched: Touched) -> bool {
     }
 }
 
+// The item in the place of which an edit makes this one, and the rows that this one changes, if it says to the others what that one
+// said, and little comes and goes.
+fn replaced_by<'a>(
+    alloc: Global,
+    lists: &'a Lists,
+    tables: &Tables,
+    edit: &TextEdit,
+    changes: &Changes,
+    own: &OwnTokens,
+    made: &Entry,
+) -> Result<Option<(Was<'a>, Touched)>, OutOfMemory>
+    requires lists { IsListed edit.now.old.now lists.now }
+    requires one { IsOneItem edit.now.old.now changes.now }
+    requires own { AreOwnTokens edit.now.old.now edit.now.text.now changes.now.items.kept_front own.now }
+    ensures was { IfOk result (λ o. IfSome o (λ r. IsWas edit.now.old.now changes.now.items.kept_front r.0)) }
+    ensures says { IfOk result (λ o. IfSome o (λ r. SaysWhatItSaid edit.now.old.now (own_head edit.now.old.now changes.now) changes.now.items.kept_front r.0 made.now)) }
+    ensures row { IfOk result (λ o. IfSome o (λ r. FitsRows edit.now.old.now edit.now.text.now changes.now.items.kept_front own.now r.0 made.now r.1)) }
+{
+    let item = changes.items.kept_front;
+    let Some(was) = item_that_was(lists, edit.old, item) else {
+        return Ok(None);
+    };
+    let head = own_head(lists, edit, changes);
+    if !says_what_it_said(lists, edit.old, item, head, was, made) {
+        return Ok(None);
+    }
+    let touched = touched_by(alloc, lists, edit, own, item, was, made)?;
+    if !touches_little(&lists.links, tables, touched) {
+        return Ok(None);
+    }
+    Ok(Some((was, touched)))
+}
+
 /// What an edit makes of the item in the place of which it makes this one, if it says to the others what that one said, the links find
 /// what they found, and little comes and goes.
 pub fn inside_of(
@@ -320,18 +353,11 @@ pub fn inside_of(
     ensures inside { IfOk result (λ o. IfSome o (λ p. IsMadeInside edit.now.old.now edit.now.text.now edit.now.start edit.now.old_stop edit.now.new_stop changes.now p.links p.inside)) }
     ensures ticks { IfOk result (λ o. IfSome o (λ p. work.new ≡ after_ticks work.old (length p.inside.checks.made.items))) }
 {
-    let item = changes.items.kept_front;
-    let Some(was) = item_that_was(lists, edit.old, item) else {
+    let Some(replaced) = replaced_by(alloc, lists, tables, edit, changes, own, made)? else {
         return Ok(None);
     };
-    let head = own_head(lists, edit, changes);
-    if !says_what_it_said(lists, edit.old, item, head, was, made) {
-        return Ok(None);
-    }
-    let touched = touched_by(alloc, lists, edit, own, item, was, made)?;
-    if !touches_little(&lists.links, tables, touched) {
-        return Ok(None);
-    }
+    let (was, touched) = replaced;
+    let item = changes.items.kept_front;
     let Some(links) = own_links(alloc, lists, edit.old, item, was, made)? else {
         return Ok(None);
     };

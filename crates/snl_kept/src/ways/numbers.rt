@@ -9,7 +9,7 @@ ghost use Rattle.snl_check.specs.ShiftedAround.{set_number, state_number};
 use snl_scope::{Links, Opening, Outline, sets_open_in_turn};
 
 /// Where a state has its row: the number of its set among the state sets, and its own number among the states of the set.
-#[derive(Clone, Copy, Debug, PartialEq, Eq)]
+#[derive(Clone, Copy)]
 pub struct RowPlace {
     pub set: usize,
     pub state: usize,

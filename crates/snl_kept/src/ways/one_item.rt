@@ -24,10 +24,16 @@ use snl_lex::{LineList, LineShift, Piece, Shift, TextEdit, text_in_pieces};
 use std::alloc::Global;
 
 /// The tokens of an item before and after an edit.
-#[derive(Drop)]
 pub struct OwnTokens {
     pub was: Vec<Piece>,
     pub is: Vec<Piece>,
+}
+
+// By hand, so that whoever holds them need not know what is in them to let them go.
+impl Drop for OwnTokens {
+    fn drop(self) {
+        let OwnTokens { was: _, is: _ } = self;
+    }
 }
 
 // Whether the first two tokens of an item are before those that an edit replaces.

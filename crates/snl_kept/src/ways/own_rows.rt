@@ -6,6 +6,7 @@ ghost use Rattle.snl_lex.specs.PieceList.{spelled};
 ghost use Rattle.snl_lex.specs.Pieces.{LiesIn};
 ghost use Rattle.snl_check.specs.States.{marks_of, state_body, wake_of};
 ghost use Rattle.snl_check.specs.Told.{told_kept};
+ghost use Rattle.snl_kept.specs.declared.ways.row_change.Touched.TheVariants as rows;
 ghost use Rattle.snl_kept.specs.Checks.{check_by, outlines_in};
 ghost use Rattle.snl_kept.specs.Entries.{entry_by};
 ghost use Rattle.snl_kept.specs.MadeRows.{AreItemsAfter, IsInPlace};
@@ -109,6 +110,39 @@ fn own_marks(
     Ok(Items::from_vec(marks))
 }
 
+// What an edit changes in the rows that makes this state of a set: its own row, and the marks of the set.
+fn state_change(
+    alloc: Global,
+    lists: &Lists,
+    tables: &Tables,
+    edit: &TextEdit,
+    own: &[Piece],
+    entry: &Entry,
+    item: usize,
+    set: usize,
+    check: &Option<Checked>,
+) -> Result<RowChange, OutOfMemory>
+    requires within { All (LiesIn edit.now.text.now) own.now }
+    requires tables { tables.now ≡ tables_in edit.now.old.now }
+    requires items { AreItemsAfter edit.now.old.now edit.now.text.now lists.now item entry.now }
+    requires place { IsInPlace edit.now.old.now edit.now.text.now item own.now }
+    requires entry { entry.now ≡ entry_by (spelled edit.now.text.now own.now) }
+    requires check { check.now ≡ check_by lists.now.links.outlines item (spelled edit.now.text.now own.now) }
+    ensures { IfOk result (λ r. r ≡ change_told edit.now.text.now (items_of edit.now.text.now) lists.now.links.outlines item (program_item edit.now.text.now own.now) (rows.State set)) }
+{
+    let links = &lists.links;
+    let body = own_body(alloc, edit.text, own, entry, links, item, check)?;
+    let wake = own_wake(alloc, tables, edit, own, links, item, check)?;
+    let marks = own_marks(alloc, lists, edit, set, item, entry)?;
+    let place = row_of(links, set, item);
+    Ok(RowChange::State {
+        place,
+        body,
+        wake,
+        marks,
+    })
+}
+
 /// What an edit changes in the rows that makes this item.
 pub fn own_change(
     alloc: Global,
@@ -137,18 +171,9 @@ pub fn own_change(
             let place = row_of(links, set, item);
             Ok(RowChange::Body { place, body })
         }
-        Touched::State(set) => {
-            let body = own_body(alloc, edit.text, own, entry, links, item, check)?;
-            let wake = own_wake(alloc, tables, edit, own, links, item, check)?;
-            let marks = own_marks(alloc, lists, edit, set, item, entry)?;
-            let place = row_of(links, set, item);
-            Ok(RowChange::State {
-                place,
-                body,
-                wake,
-                marks,
-            })
-        }
+        Touched::State(set) => state_change(
+            alloc, lists, tables, edit, own, entry, item, set, check,
+        ),
         Touched::Marks(set) => {
             let marks = own_marks(alloc, lists, edit, set, item, entry)?;
             let set = set_number(links, set);

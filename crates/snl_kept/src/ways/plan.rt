@@ -25,11 +25,21 @@ use snl_lex::{LineList, Piece, PieceChange, TextEdit, text_in_pieces};
 use std::alloc::Global;
 
 /// What an edit makes of the pieces, the tokens and the items.
-#[derive(Drop)]
 pub struct Changes {
     pub pieces: PieceChange,
     pub tokens: TokenChange,
     pub items: ItemChange,
+}
+
+// By hand, so that whoever holds it need not know what is in it to let it go.
+impl Drop for Changes {
+    fn drop(self) {
+        let Changes {
+            pieces: _,
+            tokens: _,
+            items: _,
+        } = self;
+    }
 }
 
 /// What an edit makes anew: what is made of all that is kept of the items, what is shown of what is found in the new text, in
@@ -120,13 +130,7 @@ pub fn anew_by(
         &mut checked,
     )?;
     Ok(Anew {
-        remade: Remade {
-            made,
-            links: rejudged.rechecked.links,
-            vacant: rejudged.rechecked.vacant,
-            checks: rejudged.rechecked.made,
-            warns: rejudged.told.warns,
-        },
+        remade: rejudged.rechecked.remade(made, rejudged.told.warns),
         findings: rejudged.told.shown,
         tables: rejudged.told.tables,
         work: Work {

@@ -2,10 +2,11 @@
 //! it said, or all that the text says. What is kept of the old text and both texts come in, what is made goes out.
 #![tactic(auto)]
 
-ghost use Rattle.std.specs.Prelude.{◌≡◌, IfOk, IsTrue, OnOk, length, vec_capacity};
+ghost use Rattle.std.specs.Prelude.{◌≡◌, IfOk, IfSome, IsTrue, OnOk, length, vec_capacity};
+ghost use Rattle.snl_cut.specs.Cut.{after_ticks, ticked};
 ghost use Rattle.snl_kept.specs.Diagnostics.{diagnostics_of};
 ghost use Rattle.snl_kept.specs.Kept.{IsListed, SameLists};
-ghost use Rattle.snl_kept.specs.ItemPlan.{IsOneItem};
+ghost use Rattle.snl_kept.specs.ItemPlan.{AreOwnTokens, IsMadeInside, IsOneItem};
 ghost use Rattle.snl_kept.specs.Planned.{AreEntriesMade, HasRoom, IsAnew, IsChanged, IsMade, work_of};
 ghost use Rattle.snl_items.specs.Changes.{IsShiftOf};
 ghost use Rattle.snl_items.specs.Fresh.{fresh_items_between, fresh_pieces_between};
@@ -18,8 +19,8 @@ use crate::entries::Entry;
 use crate::found::findings::Diagnostic;
 use crate::lists::Lists;
 use crate::shared::Shared;
-use crate::ways::item_plan::{ItemAnew, inside_of, item_anew};
-use crate::ways::one_item::{made_alone, own_tokens, replaces_one};
+use crate::ways::item_plan::{ItemAnew, ItemPlan, inside_of, item_anew};
+use crate::ways::one_item::{OwnTokens, made_alone, own_tokens, replaces_one};
 use crate::ways::plan::{Anew, Changes, anew_by, made_entries};
 use crate::work::Work;
 use snl_check::Tables;
@@ -116,7 +117,53 @@ fn anew_of_one(
     )
 }
 
-// What is made anew of the one item that an edit makes in the place of one. The item is parsed once.
+// What is kept of the one item that an edit makes, alone in a list, and what the edit makes of it, if it is inside the item. The item is
+// parsed once.
+fn made_and_planned(
+    alloc: Global,
+    lists: &Lists,
+    tables: &Tables,
+    found: &[Diagnostic],
+    edit: &TextEdit,
+    changes: &Changes,
+    lines: &LineList,
+    shift: LineShift,
+    own: &OwnTokens,
+    parsed: &mut Count,
+    checked: &mut Count,
+) -> Result<(Vec<Shared<Entry>>, Option<ItemPlan>), OutOfMemory>
+    requires lists { IsListed edit.now.old.now lists.now }
+    requires tables { tables.now ≡ tables_in edit.now.old.now }
+    requires found { found.now ≡ diagnostics_of edit.now.old.now }
+    requires changes { IsChanged edit.now.old.now edit.now.text.now edit.now.start edit.now.old_stop edit.now.new_stop changes.now }
+    requires lines { IsLineList edit.now.text.now lines.now.ends.items lines.now.markers.items lines.now.naming.items }
+    requires by { IsShiftOf edit.now.old.now edit.now.text.now edit.now.start edit.now.old_stop edit.now.new_stop shift.by }
+    requires shift { ShiftsLines edit.now.old.now edit.now.text.now shift }
+    requires one { IsOneItem edit.now.old.now changes.now }
+    requires own { AreOwnTokens edit.now.old.now edit.now.text.now changes.now.items.kept_front own.now }
+    ensures made { IfOk result (λ r. AreEntriesMade edit.now.old.now edit.now.text.now changes.now.items.kept_front r.0.items changes.now.items.kept_back) }
+    ensures inside { IfOk result (λ r. IfSome r.1 (λ p. IsMadeInside edit.now.old.now edit.now.text.now edit.now.start edit.now.old_stop edit.now.new_stop changes.now p.links p.inside)) }
+    ensures parsed { IfOk result (λ r. parsed.new ≡ ticked parsed.old) }
+    ensures checked { IfOk result (λ r. IfSome r.1 (λ p. checked.new ≡ after_ticks checked.old (length p.inside.checks.made.items))) }
+{
+    let made = made_alone(alloc, edit, changes, own, parsed)?;
+    let plan = inside_of(
+        alloc,
+        lists,
+        tables,
+        found,
+        edit,
+        changes,
+        lines,
+        shift,
+        own,
+        made[0].get(),
+        checked,
+    )?;
+    Ok((made, plan))
+}
+
+// What is made anew of the one item that an edit makes in the place of one.
 fn made_of_one(
     alloc: Global,
     lists: &Lists,
@@ -141,9 +188,7 @@ fn made_of_one(
 {
     let own = own_tokens(alloc, lists, edit, changes)?;
     let (mut parsed, mut checked) = (Count::new(), Count::new());
-    let made = made_alone(alloc, edit, changes, &own, &mut parsed)?;
-    let parsed = parsed.ticks();
-    let inside = inside_of(
+    let (made, plan) = made_and_planned(
         alloc,
         lists,
         tables,
@@ -153,11 +198,12 @@ fn made_of_one(
         lines,
         shift,
         &own,
-        made[0].get(),
+        &mut parsed,
         &mut checked,
     )?;
     drop(own);
-    match inside {
+    let parsed = parsed.ticks();
+    match plan {
         Some(plan) => {
             let work = Work {
                 lexed,

@@ -27,7 +27,7 @@ use std::alloc::Global;
 
 /// Which items of the new text are kept: those before `front`, with their numbers, and those from `stop` on, with the numbers from
 /// `back` on.
-#[derive(Clone, Copy, Debug, PartialEq, Eq)]
+#[derive(Clone, Copy)]
 pub struct KeptItems {
     pub front: usize,
     pub stop: usize,

@@ -12,7 +12,8 @@ ghost use Rattle.snl_kept.specs.Order.{in_order};
 ghost use Rattle.snl_kept.specs.Parts.{IsPart, item_of_part};
 ghost use Rattle.snl_kept.specs.Planned.{AreEntriesMade, IsChanged, IsRechecked};
 ghost use Rattle.snl_kept.specs.Program.{items_of, program_item};
-ghost use Rattle.snl_kept.specs.Rechecked.{kept_of};
+ghost use Rattle.snl_kept.specs.Rechecked.{AreChecksMade, kept_of, nones};
+ghost use Rattle.snl_kept.specs.Relinked.{AreLinks};
 ghost use Rattle.snl_kept.specs.Stirred.{stirred_between};
 ghost use Rattle.snl_kept.specs.Tables.{tables_in};
 ghost use Rattle.snl_kept.specs.Warnings.{warns_in};
@@ -24,8 +25,8 @@ use crate::lists::{Lists, Rechecked};
 use crate::shared::Shared;
 use crate::ways::edited::edited_names;
 use crate::ways::plan::Changes;
-use crate::ways::recheck::{KeptItems, Relinked, checks_in, recheck, vacant_for};
-use crate::ways::relink::relink;
+use crate::ways::recheck::{KeptItems, MadeCheck, Relinked, checks_in, recheck, vacant_for};
+use crate::ways::relink::{NewLinks, relink};
 use crate::ways::values::values_after;
 use snl_check::equal_views;
 use snl_cut::{Count, OutOfMemory, ends_in_order};
@@ -55,8 +56,8 @@ fn kept_items(old_count: usize, items: &ItemChange, count: usize) -> KeptItems
     }
 }
 
-// What an edit makes of the links and the checks of a text that has these items. Each check that is made is one tick.
-fn recheck_after<'a>(
+// The checks of the items that are to be checked anew, by what an edit makes of the links. Each is one tick.
+fn checks_after<'a>(
     alloc: Global,
     lists: &'a Lists,
     edit: &TextEdit,
@@ -64,6 +65,47 @@ fn recheck_after<'a>(
     tokens: &[Piece],
     parts: &[Part],
     made: &'a [Shared<Entry>],
+    links: &NewLinks,
+    work: &mut Count,
+) -> Result<Vec<MadeCheck>, OutOfMemory>
+    requires lists { IsListed edit.now.old.now lists.now }
+    requires changes { IsChanged edit.now.old.now edit.now.text.now edit.now.start edit.now.old_stop edit.now.new_stop changes.now }
+    requires tokens { tokens.now ≡ tokens_of edit.now.text.now }
+    requires items { map (item_of_part tokens.now) parts.now ≡ items_of edit.now.text.now }
+    requires parts { All (IsPart edit.now.text.now tokens.now) parts.now }
+    requires made { AreEntriesMade edit.now.old.now edit.now.text.now changes.now.items.kept_front made.now changes.now.items.kept_back }
+    requires links { AreLinks edit.now.old.now edit.now.text.now links.now }
+    ensures checks { IfOk result (λ made. AreChecksMade edit.now.old.now edit.now.text.now changes.now.items.kept_front (nones changes.now.items.made.items) changes.now.items.kept_back made.items) }
+    ensures stirred { IfOk result (λ made. length made.items ≡ stirred_between edit.now.old.now edit.now.text.now edit.now.start edit.now.old_stop edit.now.new_stop) }
+    ensures ticks { IfOk result (λ made. work.new ≡ after_ticks work.old (length made.items)) }
+{
+    text_in_pieces();
+    ends_in_order::<Tokens>();
+    views_told_apart();
+    equal_views();
+    same_spelling_same_summary();
+    let kept = kept_items(lists.checks.len(), &changes.items, parts.len());
+    let edited = edited_names(alloc, lists, edit, changes, made)?;
+    let relinked = Relinked {
+        before: &lists.links,
+        after: links.after(&lists.links),
+        keeps_names: links.keeps_names(),
+        edited: &edited,
+        kept,
+    };
+    let made = recheck(alloc, edit.text, tokens, parts, relinked, work)?;
+    Ok(made)
+}
+
+// What an edit makes of the links and the checks of a text that has these items. Each check that is made is one tick.
+fn recheck_after(
+    alloc: Global,
+    lists: &Lists,
+    edit: &TextEdit,
+    changes: &Changes,
+    tokens: &[Piece],
+    parts: &[Part],
+    made: &[Shared<Entry>],
     work: &mut Count,
 ) -> Result<Rechecked, OutOfMemory>
     requires lists { IsListed edit.now.old.now lists.now }
@@ -76,23 +118,11 @@ fn recheck_after<'a>(
     ensures stirred { IfOk result (λ r. length r.made.items ≡ stirred_between edit.now.old.now edit.now.text.now edit.now.start edit.now.old_stop edit.now.new_stop) }
     ensures ticks { IfOk result (λ r. work.new ≡ after_ticks work.old (length r.made.items)) }
 {
-    text_in_pieces();
-    ends_in_order::<Tokens>();
-    views_told_apart();
-    equal_views();
-    same_spelling_same_summary();
-    let kept = kept_items(lists.checks.len(), &changes.items, parts.len());
     let links = relink(alloc, lists, edit, changes, tokens, parts, made)?;
     let vacant = vacant_for(alloc, &changes.items.made)?;
-    let edited = edited_names(alloc, lists, edit, changes, made)?;
-    let relinked = Relinked {
-        before: &lists.links,
-        after: links.after(&lists.links),
-        keeps_names: links.keeps_names(),
-        edited: &edited,
-        kept,
-    };
-    let made = recheck(alloc, edit.text, tokens, parts, relinked, work)?;
+    let made = checks_after(
+        alloc, lists, edit, changes, tokens, parts, made, &links, work,
+    )?;
     Ok(Rechecked {
         links,
         vacant,
@@ -134,7 +164,36 @@ fn told_after(
     told_in(alloc, cut, parts, links, faults, &checks)
 }
 
-// The same of the new text as it is cut. Each check that is made is one tick.
+// What the new text says, by its items. Each check that is made is one tick.
+fn retell_parts(
+    alloc: Global,
+    lists: &Lists,
+    edit: &TextEdit,
+    changes: &Changes,
+    cut: &CutText,
+    parts: &[Part],
+    made: &[Shared<Entry>],
+    work: &mut Count,
+) -> Result<Rejudged, OutOfMemory>
+    requires lists { IsListed edit.now.old.now lists.now }
+    requires changes { IsChanged edit.now.old.now edit.now.text.now edit.now.start edit.now.old_stop edit.now.new_stop changes.now }
+    requires text { cut.now.text.now ≡ edit.now.text.now }
+    requires items { map (item_of_part cut.now.tokens.now) parts.now ≡ map (program_item cut.now.text.now) (members cut.now.tokens.now 0 cut.now.ends.now) }
+    requires parts { All (IsPart cut.now.text.now cut.now.tokens.now) parts.now }
+    requires made { AreEntriesMade edit.now.old.now edit.now.text.now changes.now.items.kept_front made.now changes.now.items.kept_back }
+    ensures shown { IfOk result (λ r. r.told.shown.items ≡ shown edit.now.text.now) }
+    ensures tables { IfOk result (λ r. r.told.tables ≡ tables_in edit.now.text.now) }
+    ensures warns { IfOk result (λ r. r.told.warns ≡ warns_in edit.now.text.now) }
+    ensures rechecked { IfOk result (λ r. IsRechecked edit.now.old.now edit.now.text.now changes.now.items.kept_front changes.now.items.kept_back r.rechecked) }
+    ensures stirred { IfOk result (λ r. length r.rechecked.made.items ≡ stirred_between edit.now.old.now edit.now.text.now edit.now.start edit.now.old_stop edit.now.new_stop) }
+    ensures ticks { IfOk result (λ r. work.new ≡ after_ticks work.old (length r.rechecked.made.items)) }
+{
+    let rechecked = recheck_after(alloc, lists, edit, changes, cut.tokens, parts, made, work)?;
+    let told = told_after(alloc, lists, edit, changes, cut, parts, &rechecked)?;
+    Ok(Rejudged { told, rechecked })
+}
+
+// The same of the new text as it is cut.
 fn retell_cut(
     alloc: Global,
     lists: &Lists,
@@ -157,9 +216,7 @@ fn retell_cut(
 {
     items_end_in_order();
     let parts = parts_along(alloc, cut.text, cut.tokens, cut.ends, cut.entries)?;
-    let rechecked = recheck_after(alloc, lists, edit, changes, cut.tokens, &parts, made, work)?;
-    let told = told_after(alloc, lists, edit, changes, cut, &parts, &rechecked)?;
-    Ok(Rejudged { told, rechecked })
+    retell_parts(alloc, lists, edit, changes, cut, &parts, made, work)
 }
 
 // The same by the lines and tokens of the new text. What is listed of its items is let go here, before the findings are put in order.

@@ -35,13 +35,23 @@ pub struct NewKinds {
 }
 
 /// What an edit makes of the links.
-#[derive(Drop)]
 pub enum NewLinks {
     /// The links stay as they are.
     Same,
     /// Names mean what they meant.
     Kinds(NewKinds),
     Other(Links),
+}
+
+// By hand, so that whoever holds them need not know what is in them to let them go.
+impl Drop for NewLinks {
+    fn drop(self) {
+        match self {
+            NewLinks::Same => {}
+            NewLinks::Kinds(_) => {}
+            NewLinks::Other(_) => {}
+        }
+    }
 }
 
 impl NewLinks {

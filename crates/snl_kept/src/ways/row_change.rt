@@ -9,7 +9,7 @@ use snl_check::{StateBody, StateMark, Tables, WakeUp};
 use sqlite_items::Items;
 
 /// Which rows an edit inside an item changes, by the number of the item that begins its state set.
-#[derive(Clone, Copy, Debug, PartialEq, Eq)]
+#[derive(Clone, Copy)]
 pub enum Touched {
     Nothing,
     /// The body of a state that leads where it led and says the same in its conditions.
@@ -21,7 +21,6 @@ pub enum Touched {
 }
 
 /// What an edit inside an item changes in the rows, besides their shift.
-#[derive(Drop)]
 pub enum RowChange {
     Nothing,
     /// The body of a state that leads where it led and says the same in its conditions.
@@ -41,6 +40,23 @@ pub enum RowChange {
         set: usize,
         marks: Items<StateMark>,
     },
+}
+
+// By hand, so that whoever holds it need not know what is in it to let it go.
+impl Drop for RowChange {
+    fn drop(self) {
+        match self {
+            RowChange::Nothing => {}
+            RowChange::Body { place: _, body: _ } => {}
+            RowChange::State {
+                place: _,
+                body: _,
+                wake: _,
+                marks: _,
+            } => {}
+            RowChange::Marks { set: _, marks: _ } => {}
+        }
+    }
 }
 
 impl RowChange {

@@ -16,4 +16,4 @@ returns-clause-cost c =
     let edit = c.args.edit.now in
     let work_is : c.work-work.result ≡ work_of c.in_ok-made.made = c.work-work.ensures in
     subst (IsCost edit.old.now edit.text.now edit.start edit.old_stop edit.new_stop) (sym work_is)
-    (cost_of edit.old.now edit.text.now edit.start edit.old_stop edit.new_stop c.args.changes.now.items c.in_ok-made.made c.in_ok-made.ensures)
+    (cost_of edit.old.now edit.text.now edit.start edit.old_stop edit.new_stop c.args.changes.now.items c.in_ok-made.made c.in_ok-made.ensures.made)

@@ -12,12 +12,12 @@ item_anew-requires-clause-cost c =
     let plan : ItemPlan = c.in-Some.plan in
     let made = plan.inside.checks.made in
     let few : length made.items < 2 ^ 64 = omega (arith, made.ok, made.small) in
-    let ticks : c.inside_of.new.work ≡ after_ticks c.new-checked.result (length made.items) =
-    subst (λ (o : Option ItemPlan). IfSome o (λ p. c.inside_of.new.work ≡ after_ticks c.new-checked.result (length p.inside.checks.made.items))) c.in-Some.is c.in_ok-inside.ensures.ticks in
+    let ticks : c.made_and_planned.new.checked ≡ after_ticks c.new-checked.result (length made.items) =
+    subst (λ (o : Option ItemPlan). IfSome o (λ p. c.made_and_planned.new.checked ≡ after_ticks c.new-checked.result (length p.inside.checks.made.items))) c.in-Some.is c.in_ok-made.ensures.checked in
     let inside : IsMadeInside edit.old.now edit.text.now edit.start edit.old_stop edit.new_stop changes plan.links plan.inside =
-    subst (λ (o : Option ItemPlan). IfSome o (λ p. IsMadeInside edit.old.now edit.text.now edit.start edit.old_stop edit.new_stop changes p.links p.inside)) c.in-Some.is c.in_ok-inside.ensures.inside in
+    subst (λ (o : Option ItemPlan). IfSome o (λ p. IsMadeInside edit.old.now edit.text.now edit.start edit.old_stop edit.new_stop changes p.links p.inside)) c.in-Some.is c.in_ok-made.ensures.inside in
     record {
       lexed = c.requires.lexed;
-      parsed = c.ticks-parsed.ensures ∙ c.in_ok-made.ensures.ticks ∙ ap ticked c.new-parsed.ensures ∙ sym c.requires.one.one_made ∙ ap length c.requires.changes.items.fresh;
+      parsed = c.ticks-parsed.ensures ∙ c.in_ok-made.ensures.parsed ∙ ap ticked c.new-parsed.ensures ∙ sym c.requires.one.one_made ∙ ap length c.requires.changes.items.fresh;
       checked = c.ticks.ensures ∙ ticks ∙ ap (λ n. after_ticks n (length made.items)) c.new-checked.ensures ∙ exact_ticks (length made.items) few ∙ sym inside.stirred;
     }

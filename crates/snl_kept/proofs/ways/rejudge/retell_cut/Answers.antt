@@ -1,27 +1,14 @@
 use Rattle.std.proofs.Common.{map, ap, sym, subst, ◌∙◌}
 use Rattle.std.specs.List.{All}
-use Rattle.snl_lex.specs.Pieces.{tokens_of}
 use Rattle.snl_kept.specs.Parts.{IsPart, item_of_part}
-use Rattle.snl_kept.specs.Program.{items_of}
-use Rattle.snl_kept.proofs.Trees.{same_items}
 use Rattle.snl_kept.proofs.ways.rejudge.retell_cut.Goals as goal
 
-pub recheck_after-requires-clause-tokens : goal.recheck_after-requires-clause-tokens
-recheck_after-requires-clause-tokens c = c.args.cut.now.tokens_are ∙ ap tokens_of c.requires.text
-
-pub recheck_after-requires-clause-items : goal.recheck_after-requires-clause-items
-recheck_after-requires-clause-items c =
+pub retell_parts-requires-clause-items : goal.retell_parts-requires-clause-items
+retell_parts-requires-clause-items c =
     let cut = c.args.cut.now in
-    ap (map (item_of_part cut.tokens.now)) c.deref.ensures.value
-    ∙ same_items cut.text.now cut.tokens.now cut.ends.now (map (item_of_part cut.tokens.now) c.in_ok-parts.parts.items) cut.tokens_are cut.ends_are c.in_ok-parts.ensures.items ∙ ap items_of c.requires.text
+    ap (map (item_of_part cut.tokens.now)) c.deref.ensures.value ∙ c.in_ok-parts.ensures.items
 
-pub recheck_after-requires-clause-parts : goal.recheck_after-requires-clause-parts
-recheck_after-requires-clause-parts c =
+pub retell_parts-requires-clause-parts : goal.retell_parts-requires-clause-parts
+retell_parts-requires-clause-parts c =
     let cut = c.args.cut.now in
-    subst (All (IsPart c.args.edit.now.text.now cut.tokens.now)) (sym c.deref.ensures.value)
-    (subst (λ t. All (IsPart t cut.tokens.now) c.in_ok-parts.parts.items) c.requires.text c.in_ok-parts.ensures.inside)
-
-pub told_after-requires-clause-parts : goal.told_after-requires-clause-parts
-told_after-requires-clause-parts c =
-    let cut = c.args.cut.now in
-    subst (All (IsPart cut.text.now cut.tokens.now)) (sym c.deref-2.ensures.value) c.in_ok-parts.ensures.inside
+    subst (All (IsPart cut.text.now cut.tokens.now)) (sym c.deref.ensures.value) c.in_ok-parts.ensures.inside
