@@ -230,7 +230,7 @@ move s passes text from (p ∷ ps) to h order late small =
     let starts : p.start ≡ from = ap (λ q. q.start) h.1 ∙ start_at text from in
     let rest = move s passes text (piece_end p) ps to e.2 order (omega (arith, e.0, late)) small in
     elim (passes p) as (λ b. map (shifted_marker s) (map (marker_of text) (cond b (p ∷ filter passes ps) (filter passes ps)))
-        ≡ map (moved_marker s.old_stop s.new_stop) (map (marker_of text) (cond b (p ∷ filter passes ps) (filter passes ps)))) [
+    ≡ map (moved_marker s.old_stop s.new_stop) (map (marker_of text) (cond b (p ∷ filter passes ps) (filter passes ps)))) [
       | true ↦ ap₂ (λ (m : Marker) (ms : List Marker). m ∷ ms) (marker_moves s text p order (omega (arith, starts, late)) (omega (arith, e.1, small))) rest
       | false ↦ rest
     ]
