@@ -1,6 +1,6 @@
--- The markers that an edit leaves. Those before it are the same in both texts. From the end of a marker after it that both texts have on,
--- both are cut alike, so all markers after that one are moved.
-use Rattle.std.proofs.Common.{◌≡◌, ℕ, zero, suc, ◌+◌, ◌-◌, ◌^◌, ◌<◌, ◌≤◌, inl, inr, Bool, true, false, ◌&&◌, cond, is_some, nat_lt, List, [], ◌∷◌, ◌++◌, length, take, drop, map, min, get_or, slice_get, count_by, filter, Option, Some, None, refl, sym, ap, ap₂, ◌∙◌, subst, arith, length-append, length-drop, length-take}
+-- The markers that an edit leaves. Those before it are the same in both texts. From the end of
+-- a marker after it that both texts have on, both are cut alike, so all after that one are moved.
+use Rattle.std.proofs.Common.{◌≡◌, ℕ, zero, suc, ◌+◌, ◌-◌, ◌^◌, ◌<◌, ◌≤◌, inl, inr, Bool, true, false, ◌&&◌, cond, is_some, nat_lt, List, [], ◌∷◌, ◌++◌, length, take, drop, map, min, get_or, slice_get, count_by, filter, Option, Some, None, refl, sym, ap, ap₂, ◌∙◌, subst, arith, length-drop, length-take}
 use Rattle.std.specs.Prelude.{All, IfSome, option_map, unwrap_or}
 use Rattle.std.specs.List.{AllByRecursion}
 use Rattle.std.specs.List.Sorted.{IsNonDecreasingBy}
@@ -25,7 +25,7 @@ use Rattle.snl_lex.proofs.Alike.{alike_after, part_agrees, start_at}
 use Rattle.snl_lex.proofs.Changes.{edit_lengths}
 use Rattle.snl_lex.proofs.CountedLines.{each, few_lines}
 use Rattle.snl_lex.proofs.Halving.{lt_no, lt_yes}
-use Rattle.snl_lex.proofs.MarkerLists.{back_marked, ends_above, file_inside, front_marked, marked_parts, markers_order, passing, piece_at_end, starts_above}
+use Rattle.snl_lex.proofs.MarkerLists.{back_marked, ends_above, file_inside, front_marked, marked_parts, markers_order, piece_at_end, starts_above}
 use Rattle.snl_lex.proofs.Meeting.{part_same, same_rest}
 use Rattle.snl_lex.proofs.MovedLines.{filter_moved}
 use Rattle.snl_lex.proofs.Members.{Leads, end_at, pieces_lead, split}

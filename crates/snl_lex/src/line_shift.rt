@@ -99,8 +99,9 @@ fn numbered_from(old: &[u8], marker: Option<Marker>) -> Option<usize>
 }
 
 impl LineShift {
-    /// Of an edit that is this shift, by the lines of both texts, if it is not at the beginning of the text and leaves the line markers as they are, at
-    /// their places or shifted.
+    /// Of an edit that is this shift, by the lines of both texts, if it is not at the beginning of
+    /// the text and leaves the line markers as they are, at their places or shifted. It looks at
+    /// few of them.
     pub fn along(
         by: Shift,
         edit: &TextEdit,
@@ -124,7 +125,8 @@ impl LineShift {
         let early = markers_before(markers, by.start);
         let next = marker_at(markers, early);
         let until = numbered_from(edit.old, next)?;
-        // From the end of a marker that both texts have on, they are cut alike: so the next marker tells of all after it.
+        // From the end of a marker that both texts have on, they are cut alike: so the next one
+        // tells of all after it.
         if by.old_stop < until
             && count_after(edit.old, by.start, &markers[..early])
             && is_shifted(by, next, marker_at(new_markers, early))
