@@ -41,8 +41,9 @@ impl Shape {
     }
 }
 
-// About how many bytes a group of declarations has, with the two states that come for each.
-const PART: usize = 2600;
+// How many bytes a group of declarations has, with the two states that come for each. It is some
+// 2,650 on average, so that a program of 1 MB stays below the limit of a text.
+const PART: usize = 2700;
 
 static HEAD: &str =
     "program sequence (\"P=dev:, R=rec\")\n\noption +r;\n\n%{\n#include <math.h>\n#include <string.h>\n}%\n\n";
@@ -229,7 +230,7 @@ impl Maker {
 
 /// A program of a seed, with the maker of what is typed into it.
 pub fn program_of(alloc: Global, seed: u64, shape: Shape) -> Result<Maker> {
-    let groups = (shape.size / PART).max(1);
+    let groups = shape.size.div_ceil(PART).max(1);
     let mut maker = Maker::new(alloc, seed, groups);
     maker.put_program(shape)?;
     Ok(maker)
