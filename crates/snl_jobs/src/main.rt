@@ -19,6 +19,7 @@ mod words;
 use anyhow::{Context, Result, bail};
 use digest::Digest;
 use editor::Editor;
+use numbers::Numbers;
 use program::Markers;
 use std::alloc::Global;
 use std::env;
@@ -46,19 +47,24 @@ static JOBS: [(&str, Job); 6] = [
 ];
 
 // Does a job in an editor.
-fn do_in(alloc: Global, editor: &mut Editor, job: Job, seed: u64, rounds: usize) -> Result<()> {
+fn do_in(
+    alloc: Global,
+    editor: &mut Editor,
+    job: Job,
+    numbers: &mut Numbers,
+    rounds: usize,
+) -> Result<()> {
     match job {
-        Job::Typing => typing::run(alloc, editor, seed, rounds, &PLAIN, Markers::Nowhere),
+        Job::Typing => typing::run(alloc, editor, numbers, rounds, &PLAIN, Markers::Nowhere),
         Job::Preprocessed => {
-            typing::run(alloc, editor, seed, rounds, &MARKED, Markers::Top)?;
-            let seed = seed.wrapping_add(1 << 32);
-            typing::run(alloc, editor, seed, rounds, &MARKED, Markers::Parts)
+            typing::run(alloc, editor, numbers, rounds, &MARKED, Markers::Top)?;
+            typing::run(alloc, editor, numbers, rounds, &MARKED, Markers::Parts)
         }
-        Job::Naming => naming::run(alloc, editor, seed, rounds),
-        Job::Listing => listing::run(alloc, editor, seed, rounds),
-        Job::Broken => broken::run(alloc, editor, seed, rounds),
+        Job::Naming => naming::run(alloc, editor, numbers, rounds),
+        Job::Listing => listing::run(alloc, editor, numbers, rounds),
+        Job::Broken => broken::run(alloc, editor, numbers, rounds),
         Job::Building => {
-            editor.edits = building::run(alloc, &mut editor.digest, seed, rounds)?;
+            editor.edits = building::run(alloc, &mut editor.digest, numbers, rounds)?;
             Ok(())
         }
     }
@@ -74,7 +80,8 @@ fn do_job(
     rounds: usize,
 ) -> Result<()> {
     let mut editor = Editor::new(alloc)?;
-    do_in(alloc, &mut editor, job, seed, rounds)?;
+    let mut numbers = Numbers::of(job as u64, seed);
+    do_in(alloc, &mut editor, job, &mut numbers, rounds)?;
     println!(rt;
         "{name}, seed {seed}, rounds {rounds}: {} edits, digest {:016x}",
         editor.edits,

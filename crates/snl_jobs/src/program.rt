@@ -1,7 +1,8 @@
 //! A program as engineers write it: declarations, clauses, functions and state sets, with comments and some embedded C.
-//! A seed, a size and where line markers are come in, a text goes out.
+//! Numbers, a size and where line markers are come in, a text goes out.
 
 use crate::maker::Maker;
+use crate::numbers::Numbers;
 use anyhow::Result;
 use std::alloc::Global;
 
@@ -228,10 +229,10 @@ impl Maker {
     }
 }
 
-/// A program of a seed, with the maker of what is typed into it.
-pub fn program_of(alloc: Global, seed: u64, shape: Shape) -> Result<Maker> {
+/// A program by numbers of its own, with the maker of what is typed into it.
+pub fn program_of(alloc: Global, numbers: Numbers, shape: Shape) -> Result<Maker> {
     let groups = shape.size.div_ceil(PART).max(1);
-    let mut maker = Maker::new(alloc, seed, groups);
+    let mut maker = Maker::new(alloc, numbers, groups);
     maker.put_program(shape)?;
     Ok(maker)
 }
