@@ -136,7 +136,6 @@ fn name_in_some(
         for time in 0..programs.times {
             name_one(alloc, editor, &mut maker, first.wrapping_add(time))?;
         }
-        editor.look_at_rows();
     }
     Ok(())
 }

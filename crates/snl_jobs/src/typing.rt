@@ -121,7 +121,7 @@ fn type_one(editor: &mut Editor, maker: &mut Maker, typing: &Typing) -> Result<(
     Ok(())
 }
 
-/// Types in a program so often, and looks at all rows at the end.
+/// Types in a program so often.
 pub fn type_in(editor: &mut Editor, maker: &mut Maker, times: usize) -> Result<()> {
     let first = maker.numbers.below(TYPINGS.len());
     for time in 0..times {
@@ -131,7 +131,6 @@ pub fn type_in(editor: &mut Editor, maker: &mut Maker, times: usize) -> Result<(
             type_one(editor, maker, typing)?;
         }
     }
-    editor.look_at_rows();
     Ok(())
 }
 
