@@ -1,17 +1,24 @@
-//! Broken texts: a block pasted half, marks of a merge, a brace too many, an open comment, a fault in each second state; and texts
-//! that tools made: a list of 60,000 names, deep blocks, long conditions. Each is broken, looked at, mended and looked at again.
+//! Broken texts: a block pasted half, marks of a merge, a brace too many, an open comment, a fault
+//! in one state of four; and texts that tools made: a list of 60,000 names, deep blocks, a long
+//! condition. Each is broken, looked at, mended and looked at again.
 
 use crate::editor::Editor;
+use crate::faults::Faults;
 use crate::maker::Maker;
 use crate::numbers::Numbers;
 use crate::places::place_after;
-use crate::program::{Faults, Shape, program_of};
+use crate::program::{Shape, program_of};
 use crate::typing::type_in;
 use anyhow::Result;
 use std::alloc::Global;
 
-// Puts bytes into the text, and then a comment in their place.
-fn break_and_mend(editor: &mut Editor, maker: &mut Maker, at: usize, bytes: &[u8]) -> Result<()> {
+/// Puts bytes into the text, and then a comment in their place.
+pub fn break_and_mend(
+    editor: &mut Editor,
+    maker: &mut Maker,
+    at: usize,
+    bytes: &[u8],
+) -> Result<()> {
     editor.replace(at, at, bytes)?;
     maker.text.clear();
     maker.put_template("/* @w */")?;
@@ -80,7 +87,7 @@ fn break_program(alloc: Global, editor: &mut Editor, numbers: Numbers, size: usi
     Ok(())
 }
 
-// Types in a program with a fault in each second state.
+// Types in a program with a fault in one state of four.
 fn type_in_faulty(
     alloc: Global,
     editor: &mut Editor,

@@ -7,6 +7,8 @@ mod broken;
 mod building;
 mod digest;
 mod editor;
+mod faults;
+mod faulty;
 mod listing;
 mod maker;
 mod naming;
@@ -34,16 +36,18 @@ enum Job {
     Building,
     Listing,
     Broken,
+    Faulty,
 }
 
 // Each job and its word.
-static JOBS: [(&str, Job); 6] = [
+static JOBS: [(&str, Job); 7] = [
     ("typing", Job::Typing),
     ("naming", Job::Naming),
     ("preprocessed", Job::Preprocessed),
     ("building", Job::Building),
     ("listing", Job::Listing),
     ("broken", Job::Broken),
+    ("faulty", Job::Faulty),
 ];
 
 // Does a job in an editor.
@@ -63,6 +67,7 @@ fn do_in(
         Job::Naming => naming::run(alloc, editor, numbers, rounds),
         Job::Listing => listing::run(alloc, editor, numbers, rounds),
         Job::Broken => broken::run(alloc, editor, numbers, rounds),
+        Job::Faulty => faulty::run(alloc, editor, numbers, rounds),
         Job::Building => {
             editor.edits = building::run(alloc, &mut editor.digest, numbers, rounds)?;
             Ok(())
@@ -100,7 +105,7 @@ fn do_jobs(rt: &impl Print, alloc: Global, word: &str, seed: u64, rounds: usize)
         }
     }
     if !is_known {
-        bail!("the jobs are typing, naming, preprocessed, building, listing and broken");
+        bail!("the jobs are typing, naming, preprocessed, building, listing, broken and faulty");
     }
     Ok(())
 }

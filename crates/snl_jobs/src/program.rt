@@ -1,6 +1,7 @@
 //! A program as engineers write it: declarations, clauses, functions and state sets, with comments and some embedded C.
 //! Numbers, a size and where line markers are come in, a text goes out.
 
+use crate::faults::Faults;
 use crate::maker::Maker;
 use crate::numbers::Numbers;
 use anyhow::Result;
@@ -14,13 +15,6 @@ pub enum Markers {
     Top,
     /// Also after each part, as that of an included file.
     Parts,
-}
-
-/// How many of the states have a fault.
-#[derive(Clone, Copy, PartialEq, Eq)]
-pub enum Faults {
-    Few,
-    Many,
 }
 
 /// What a program is to be like. A size is about the number of its bytes.
@@ -114,13 +108,6 @@ static STATEMENTS: [&str; 10] = [
     "            efClear(@f);\n",
 ];
 
-static FAULTS: [&str; 4] = [
-    "            @n = = @k;\n",
-    "            unknown_@g = @k;\n",
-    "            pvPut(@u);\n",
-    "            if (@n > @k { @n = @k; }\n",
-];
-
 impl Maker {
     fn put_line_marker(&mut self, shape: Shape) -> Result<()> {
         if shape.markers == Markers::Parts {
@@ -132,7 +119,8 @@ impl Maker {
     fn put_group(&mut self, shape: Shape, group: usize) -> Result<()> {
         self.group = group;
         self.put_line_marker(shape)?;
-        self.put_template(DECLARATIONS)
+        self.put_template(DECLARATIONS)?;
+        self.put_faulty_items(shape.faults)
     }
 
     fn put_groups(&mut self, shape: Shape) -> Result<()> {
@@ -142,17 +130,6 @@ impl Maker {
         for group in 0..self.groups / 4 {
             self.group = group;
             self.put_one_of(&FUNCTIONS)?;
-        }
-        Ok(())
-    }
-
-    fn put_fault(&mut self, shape: Shape) -> Result<()> {
-        let bound = match shape.faults {
-            Faults::Few => 200,
-            Faults::Many => 4,
-        };
-        if self.numbers.below(bound) == 0 {
-            self.put_one_of(&FAULTS)?;
         }
         Ok(())
     }
@@ -178,7 +155,7 @@ impl Maker {
 
     fn put_fault_transition(&mut self, shape: Shape) -> Result<()> {
         self.put_template("        when (@u > 3) {\n")?;
-        self.put_fault(shape)?;
+        self.put_faults(shape.faults)?;
         self.put_template("        } exit\n")
     }
 

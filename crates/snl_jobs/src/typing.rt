@@ -100,8 +100,13 @@ fn any_place(maker: &mut Maker, len: usize) -> usize {
     begin.wrapping_add(maker.numbers.below(part))
 }
 
-// Types the keys of a template at a place, and tells how many they are.
-fn type_template(editor: &mut Editor, maker: &mut Maker, at: usize, keys: &str) -> Result<usize> {
+/// Types the keys of a template at a place, and tells how many they are.
+pub fn type_template(
+    editor: &mut Editor,
+    maker: &mut Maker,
+    at: usize,
+    keys: &str,
+) -> Result<usize> {
     maker.text.clear();
     maker.put_template(keys)?;
     editor.type_at(at, &maker.text)?;
