@@ -1,16 +1,24 @@
-//! Broken texts: a block pasted half, marks of a merge, a brace too many, an open comment, a fault in each second state; and texts
-//! that tools made: a list of 60,000 names, deep blocks, long conditions. Each is broken, looked at, mended and looked at again.
+//! Broken texts: a block pasted half, marks of a merge, a brace too many, an open comment, a fault
+//! in one state of four; and texts that tools made: a list of 60,000 names, deep blocks, a long
+//! condition. Each is broken, looked at, mended and looked at again.
 
 use crate::editor::Editor;
+use crate::faults::Faults;
 use crate::maker::Maker;
+use crate::numbers::Numbers;
 use crate::places::place_after;
-use crate::program::{Faults, Shape, program_of};
+use crate::program::{Shape, program_of};
 use crate::typing::type_in;
 use anyhow::Result;
 use std::alloc::Global;
 
-// Puts bytes into the text, and then a comment in their place.
-fn break_and_mend(editor: &mut Editor, maker: &mut Maker, at: usize, bytes: &[u8]) -> Result<()> {
+/// Puts bytes into the text, and then a comment in their place.
+pub fn break_and_mend(
+    editor: &mut Editor,
+    maker: &mut Maker,
+    at: usize,
+    bytes: &[u8],
+) -> Result<()> {
     editor.replace(at, at, bytes)?;
     maker.text.clear();
     maker.put_template("/* @w */")?;
@@ -70,8 +78,8 @@ fn break_one(alloc: Global, editor: &mut Editor, maker: &mut Maker, round: usize
 }
 
 // Breaks a program of about so many bytes at several places.
-fn break_program(alloc: Global, editor: &mut Editor, seed: u64, size: usize) -> Result<()> {
-    let mut maker = program_of(alloc, seed, Shape::of(size))?;
+fn break_program(alloc: Global, editor: &mut Editor, numbers: Numbers, size: usize) -> Result<()> {
+    let mut maker = program_of(alloc, numbers, Shape::of(size))?;
     editor.open(&maker.text)?;
     for round in 0..10 {
         break_one(alloc, editor, &mut maker, round)?;
@@ -79,11 +87,11 @@ fn break_program(alloc: Global, editor: &mut Editor, seed: u64, size: usize) -> 
     Ok(())
 }
 
-// Types in a program with a fault in each second state.
+// Types in a program with a fault in one state of four.
 fn type_in_faulty(
     alloc: Global,
     editor: &mut Editor,
-    seed: u64,
+    numbers: Numbers,
     size: usize,
     times: usize,
 ) -> Result<()> {
@@ -91,7 +99,7 @@ fn type_in_faulty(
         faults: Faults::Many,
         ..Shape::of(size)
     };
-    let mut maker = program_of(alloc, seed, shape)?;
+    let mut maker = program_of(alloc, numbers, shape)?;
     editor.open(&maker.text)?;
     type_in(editor, &mut maker, times)
 }
@@ -134,22 +142,30 @@ impl Maker {
     }
 }
 
+// Types a name and a comma, takes the name away, puts a comment in the place of the comma, and
+// types in that.
+fn type_and_mend(editor: &mut Editor, maker: &mut Maker, at: usize) -> Result<()> {
+    let after = at.saturating_add(1);
+    editor.type_at(at, b"x,")?;
+    editor.erase_before(after, 1)?;
+    maker.text.clear();
+    maker.put_template("/* @d */")?;
+    editor.replace(at, after, &maker.text)?;
+    editor.type_at(at.saturating_add(3), b"x")
+}
+
 // Opens the text that a maker has, and types in its middle and near its end.
 fn type_in_made(editor: &mut Editor, maker: &mut Maker) -> Result<()> {
     editor.open(&maker.text)?;
     for part in [4, 7] {
         let at = place_in(editor, part, b" ");
-        maker.text.clear();
-        maker.put_template("/* @d */")?;
-        editor.replace(at, at, &maker.text)?;
-        editor.type_at(at, b"x,")?;
-        editor.erase_before(at.saturating_add(2), 2)?;
+        type_and_mend(editor, maker, at)?;
     }
     Ok(())
 }
 
-fn type_in_hostile(alloc: Global, editor: &mut Editor, seed: u64) -> Result<()> {
-    let mut maker = Maker::new(alloc, seed, 1);
+fn type_in_hostile(alloc: Global, editor: &mut Editor, numbers: Numbers) -> Result<()> {
+    let mut maker = Maker::new(alloc, numbers, 1);
     maker.states = 60_000;
     maker.put_list(60_000)?;
     type_in_made(editor, &mut maker)?;
@@ -162,15 +178,14 @@ fn type_in_hostile(alloc: Global, editor: &mut Editor, seed: u64) -> Result<()> 
 }
 
 /// Breaks and mends programs of several sizes, types in faulty ones and in what tools made, for each round of the job.
-pub fn run(alloc: Global, editor: &mut Editor, seed: u64, rounds: usize) -> Result<()> {
-    for round in 0..rounds {
-        let seed = seed.wrapping_add((round as u64).wrapping_mul(8));
-        break_program(alloc, editor, seed, 20_000)?;
-        break_program(alloc, editor, seed.wrapping_add(1), 200_000)?;
-        break_program(alloc, editor, seed.wrapping_add(2), 900_000)?;
-        type_in_faulty(alloc, editor, seed.wrapping_add(3), 50_000, 12)?;
-        type_in_faulty(alloc, editor, seed.wrapping_add(4), 400_000, 4)?;
-        type_in_hostile(alloc, editor, seed.wrapping_add(5))?;
+pub fn run(alloc: Global, editor: &mut Editor, numbers: &mut Numbers, rounds: usize) -> Result<()> {
+    for _ in 0..rounds {
+        break_program(alloc, editor, numbers.part(), 20_000)?;
+        break_program(alloc, editor, numbers.part(), 200_000)?;
+        break_program(alloc, editor, numbers.part(), 900_000)?;
+        type_in_faulty(alloc, editor, numbers.part(), 50_000, 12)?;
+        type_in_faulty(alloc, editor, numbers.part(), 400_000, 4)?;
+        type_in_hostile(alloc, editor, numbers.part())?;
     }
     Ok(())
 }

@@ -30,19 +30,23 @@ fn markers_of(number: usize) -> Markers {
 }
 
 /// Opens 24 files of 2 to 200 KB and one of about 1 MB, for each round of the job.
-pub fn run(alloc: Global, digest: &mut Digest, seed: u64, rounds: usize) -> Result<usize> {
-    let mut numbers = Numbers::new(seed);
+pub fn run(
+    alloc: Global,
+    digest: &mut Digest,
+    numbers: &mut Numbers,
+    rounds: usize,
+) -> Result<usize> {
     let files = rounds.saturating_mul(25);
     for number in 0..files {
         let size = match number % 25 {
             24 => 1_000_000,
-            _ => any_size(&mut numbers),
+            _ => any_size(numbers),
         };
         let shape = Shape {
             markers: markers_of(number),
             ..Shape::of(size)
         };
-        let program = program_of(alloc, seed.wrapping_add(number as u64), shape)?;
+        let program = program_of(alloc, numbers.part(), shape)?;
         build(alloc, digest, &program.text)?;
     }
     Ok(files)

@@ -1,6 +1,6 @@
 //! A digest of all that a job was answered: numbers and bytes go in, one number comes out.
 
-/// The digest of what was added so far.
+/// The digest of what was added so far. Where one number of all is another, the digest is another.
 #[derive(Clone, Copy)]
 pub struct Digest {
     value: u64,
@@ -17,13 +17,20 @@ impl Digest {
         self.value
     }
 
+    // One product for each number, since a look adds thousands of them after each key.
     pub fn add(&mut self, number: u64) {
-        let mixed = (self.value ^ number).wrapping_mul(0x9e37_79b9_7f4a_7c15);
-        self.value = mixed ^ (mixed >> 29);
+        self.value = self
+            .value
+            .wrapping_mul(0x9e37_79b9_7f4a_7c15)
+            .wrapping_add(number);
     }
 
     pub fn add_size(&mut self, number: usize) {
         self.add(number as u64);
+    }
+
+    pub fn add_flag(&mut self, flag: bool) {
+        self.add(u64::from(flag));
     }
 
     pub fn add_bytes(&mut self, bytes: &[u8]) {
@@ -32,8 +39,10 @@ impl Digest {
         for word in words {
             self.add(u64::from_le_bytes(*word));
         }
+        let mut last = 0;
         for byte in rest {
-            self.add(u64::from(*byte));
+            last = (last << 8) | u64::from(*byte);
         }
+        self.add(last);
     }
 }

@@ -1,6 +1,10 @@
-//! An editor with a text open in a session: keys go in, each with a look at what is found, all of it into a digest.
+//! An editor with a text open in a session: keys go in, each with a look at what the session tells.
+//!
+//! A look is at all that it tells of the text, after a key too: all diagnostics and all rows of all
+//! tables go into the digest, as does the cost of each edit. That takes about a twentieth of the
+//! time.
 
-use crate::answers::{add_counts, add_diagnostics, add_rows};
+use crate::answers::{add_diagnostics, add_tables};
 use crate::digest::Digest;
 use anyhow::Result;
 use snl_session::{Session, Work};
@@ -43,18 +47,12 @@ impl Editor {
         Ok(())
     }
 
-    /// Looks at what is found, and at how many rows there are.
+    /// Looks at all diagnostics and all tables.
     pub fn look(&mut self) {
         add_diagnostics(&mut self.digest, self.session.diagnostics());
-        add_counts(&mut self.digest, self.session.tables());
-    }
-
-    /// Looks at all rows.
-    pub fn look_at_rows(&mut self) {
-        self.look();
         self.digest.add_size(self.session.errors());
         self.digest.add_size(self.session.warnings());
-        add_rows(&mut self.digest, self.session.tables());
+        add_tables(&mut self.digest, self.session.tables());
     }
 
     /// Looks at the listing.
@@ -64,12 +62,10 @@ impl Editor {
         Ok(())
     }
 
-    /// Replaces the whole text.
+    /// Replaces the whole text, with a look.
     pub fn open(&mut self, text: &[u8]) -> Result<()> {
         let len = self.session.text().len();
-        self.edit(0, len, text)?;
-        self.look_at_rows();
-        Ok(())
+        self.replace(0, len, text)
     }
 
     /// Types keys, with a look after each.

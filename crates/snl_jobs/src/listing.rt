@@ -2,6 +2,7 @@
 
 use crate::editor::Editor;
 use crate::maker::Maker;
+use crate::numbers::Numbers;
 use crate::places::place_after;
 use anyhow::Result;
 use std::alloc::Global;
@@ -70,9 +71,9 @@ fn list(editor: &mut Editor, maker: &mut Maker) -> Result<()> {
 }
 
 /// Opens and lists one program for each round of the job.
-pub fn run(alloc: Global, editor: &mut Editor, seed: u64, rounds: usize) -> Result<()> {
-    for round in 0..rounds {
-        let mut maker = Maker::new(alloc, seed.wrapping_add(round as u64), ARRAYS);
+pub fn run(alloc: Global, editor: &mut Editor, numbers: &mut Numbers, rounds: usize) -> Result<()> {
+    for _ in 0..rounds {
+        let mut maker = Maker::new(alloc, numbers.part(), ARRAYS);
         maker.put_wide_program()?;
         list(editor, &mut maker)?;
     }

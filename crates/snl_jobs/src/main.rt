@@ -7,6 +7,8 @@ mod broken;
 mod building;
 mod digest;
 mod editor;
+mod faults;
+mod faulty;
 mod listing;
 mod maker;
 mod naming;
@@ -19,6 +21,7 @@ mod words;
 use anyhow::{Context, Result, bail};
 use digest::Digest;
 use editor::Editor;
+use numbers::Numbers;
 use program::Markers;
 use std::alloc::Global;
 use std::env;
@@ -33,32 +36,40 @@ enum Job {
     Building,
     Listing,
     Broken,
+    Faulty,
 }
 
 // Each job and its word.
-static JOBS: [(&str, Job); 6] = [
+static JOBS: [(&str, Job); 7] = [
     ("typing", Job::Typing),
     ("naming", Job::Naming),
     ("preprocessed", Job::Preprocessed),
     ("building", Job::Building),
     ("listing", Job::Listing),
     ("broken", Job::Broken),
+    ("faulty", Job::Faulty),
 ];
 
 // Does a job in an editor.
-fn do_in(alloc: Global, editor: &mut Editor, job: Job, seed: u64, rounds: usize) -> Result<()> {
+fn do_in(
+    alloc: Global,
+    editor: &mut Editor,
+    job: Job,
+    numbers: &mut Numbers,
+    rounds: usize,
+) -> Result<()> {
     match job {
-        Job::Typing => typing::run(alloc, editor, seed, rounds, &PLAIN, Markers::Nowhere),
+        Job::Typing => typing::run(alloc, editor, numbers, rounds, &PLAIN, Markers::Nowhere),
         Job::Preprocessed => {
-            typing::run(alloc, editor, seed, rounds, &MARKED, Markers::Top)?;
-            let seed = seed.wrapping_add(1 << 32);
-            typing::run(alloc, editor, seed, rounds, &MARKED, Markers::Parts)
+            typing::run(alloc, editor, numbers, rounds, &MARKED, Markers::Top)?;
+            typing::run(alloc, editor, numbers, rounds, &MARKED, Markers::Parts)
         }
-        Job::Naming => naming::run(alloc, editor, seed, rounds),
-        Job::Listing => listing::run(alloc, editor, seed, rounds),
-        Job::Broken => broken::run(alloc, editor, seed, rounds),
+        Job::Naming => naming::run(alloc, editor, numbers, rounds),
+        Job::Listing => listing::run(alloc, editor, numbers, rounds),
+        Job::Broken => broken::run(alloc, editor, numbers, rounds),
+        Job::Faulty => faulty::run(alloc, editor, numbers, rounds),
         Job::Building => {
-            editor.edits = building::run(alloc, &mut editor.digest, seed, rounds)?;
+            editor.edits = building::run(alloc, &mut editor.digest, numbers, rounds)?;
             Ok(())
         }
     }
@@ -74,7 +85,8 @@ fn do_job(
     rounds: usize,
 ) -> Result<()> {
     let mut editor = Editor::new(alloc)?;
-    do_in(alloc, &mut editor, job, seed, rounds)?;
+    let mut numbers = Numbers::of(job as u64, seed);
+    do_in(alloc, &mut editor, job, &mut numbers, rounds)?;
     println!(rt;
         "{name}, seed {seed}, rounds {rounds}: {} edits, digest {:016x}",
         editor.edits,
@@ -93,7 +105,7 @@ fn do_jobs(rt: &impl Print, alloc: Global, word: &str, seed: u64, rounds: usize)
         }
     }
     if !is_known {
-        bail!("the jobs are typing, naming, preprocessed, building, listing and broken");
+        bail!("the jobs are typing, naming, preprocessed, building, listing, broken and faulty");
     }
     Ok(())
 }

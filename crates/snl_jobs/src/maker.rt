@@ -1,4 +1,4 @@
-//! Makes programs, and what is typed into them. A seed and a size come in, a text goes out.
+//! Makes programs, and what is typed into them. Numbers and a size come in, a text goes out.
 //!
 //! Templates are texts in which `@` and a letter stand for something of the program. Declarations come in groups of eight: numbers 0
 //! to 3 of a group are channels, 4 is an array of channels, 5 a plain number, 6 an event flag and 7 a string.
@@ -41,10 +41,11 @@ fn word_of(words: &[&'static str], number: usize) -> &'static str {
 
 impl Maker {
     /// A maker of texts with so many groups of declarations.
-    pub fn new(alloc: Global, seed: u64, groups: usize) -> Maker {
+    pub fn new(alloc: Global, mut numbers: Numbers, groups: usize) -> Maker {
+        let seed = numbers.any();
         Maker {
             text: Vec::new(alloc),
-            numbers: Numbers::new(seed),
+            numbers,
             seed,
             groups,
             group: 0,

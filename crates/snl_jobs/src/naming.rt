@@ -2,6 +2,7 @@
 
 use crate::editor::Editor;
 use crate::maker::Maker;
+use crate::numbers::Numbers;
 use crate::places::{next_name, place_after};
 use crate::program::{Shape, program_of};
 use crate::typing::Programs;
@@ -16,6 +17,22 @@ fn put_suffix(maker: &mut Maker) -> Result<()> {
     maker.put_number(number)
 }
 
+// Adds letters at each further place of a name, with a look when all are added.
+fn rename_uses(editor: &mut Editor, from: usize, name: &[u8], letters: &[u8]) -> Result<()> {
+    let mut place = from;
+    for _ in 0..1000 {
+        let Some(next) = next_name(editor.text(), place, name) else {
+            break;
+        };
+        editor.edit(next, next, letters)?;
+        place = next;
+    }
+    if place > from {
+        editor.look();
+    }
+    Ok(())
+}
+
 // Types the letters at the first place of a name, and then adds them at each further one.
 fn rename(editor: &mut Editor, maker: &mut Maker, name: &[u8]) -> Result<()> {
     let Some(at) = next_name(editor.text(), 0, name) else {
@@ -23,16 +40,7 @@ fn rename(editor: &mut Editor, maker: &mut Maker, name: &[u8]) -> Result<()> {
     };
     put_suffix(maker)?;
     editor.type_at(at, &maker.text)?;
-    let mut place = at;
-    for _ in 0..1000 {
-        let Some(next) = next_name(editor.text(), place, name) else {
-            break;
-        };
-        editor.edit(next, next, &maker.text)?;
-        place = next;
-    }
-    editor.look();
-    Ok(())
+    rename_uses(editor, at, name, &maker.text)
 }
 
 // Renames a declaration that has this place in its group.
@@ -115,31 +123,28 @@ static PROGRAMS: [Programs; 4] = [
 ];
 
 // Opens some programs, and names things in each.
-fn name_in_some(alloc: Global, editor: &mut Editor, seed: u64, programs: &Programs) -> Result<()> {
-    for number in 0..programs.count {
-        let mut maker = program_of(
-            alloc,
-            seed.wrapping_add(number as u64),
-            Shape::of(programs.size),
-        )?;
+fn name_in_some(
+    alloc: Global,
+    editor: &mut Editor,
+    numbers: &mut Numbers,
+    programs: &Programs,
+) -> Result<()> {
+    for _ in 0..programs.count {
+        let mut maker = program_of(alloc, numbers.part(), Shape::of(programs.size))?;
         editor.open(&maker.text)?;
         let first = maker.numbers.below(5);
         for time in 0..programs.times {
             name_one(alloc, editor, &mut maker, first.wrapping_add(time))?;
         }
-        editor.look_at_rows();
     }
     Ok(())
 }
 
 /// Opens programs of several sizes, and names things in each.
-pub fn run(alloc: Global, editor: &mut Editor, seed: u64, rounds: usize) -> Result<()> {
-    for round in 0..rounds {
+pub fn run(alloc: Global, editor: &mut Editor, numbers: &mut Numbers, rounds: usize) -> Result<()> {
+    for _ in 0..rounds {
         for programs in &PROGRAMS {
-            let seed = seed
-                .wrapping_add(round as u64)
-                .wrapping_add(programs.size as u64);
-            name_in_some(alloc, editor, seed, programs)?;
+            name_in_some(alloc, editor, numbers, programs)?;
         }
     }
     Ok(())

@@ -6,7 +6,7 @@ pub struct Numbers {
     state: u64,
 }
 
-// Spreads the bits of a number over another one.
+// Spreads the bits of a number over another one. No two numbers give the same.
 fn mixed(number: u64) -> u64 {
     let once = (number ^ (number >> 30)).wrapping_mul(0xbf58_476d_1ce4_e5b9);
     let twice = (once ^ (once >> 27)).wrapping_mul(0x94d0_49bb_1331_11eb);
@@ -14,15 +14,27 @@ fn mixed(number: u64) -> u64 {
 }
 
 impl Numbers {
-    /// Those that follow a seed.
-    pub fn new(seed: u64) -> Numbers {
-        Numbers { state: seed }
+    /// Those of a job and a seed. Seeds that are near have nothing in common.
+    pub fn of(job: u64, seed: u64) -> Numbers {
+        Numbers {
+            state: mixed(mixed(seed).wrapping_add(job)),
+        }
+    }
+
+    /// The next number. None comes twice.
+    pub fn any(&mut self) -> u64 {
+        self.state = self.state.wrapping_add(0x9e37_79b9_7f4a_7c15);
+        mixed(self.state)
     }
 
     /// The next number, below the bound (0 where that is 0).
     pub fn below(&mut self, bound: usize) -> usize {
-        self.state = self.state.wrapping_add(0x9e37_79b9_7f4a_7c15);
-        (mixed(self.state) as usize).checked_rem(bound).unwrap_or(0)
+        (self.any() as usize).checked_rem(bound).unwrap_or(0)
+    }
+
+    /// Numbers for a part of the work: the next number is their seed, so each part has others.
+    pub fn part(&mut self) -> Numbers {
+        Numbers { state: self.any() }
     }
 }
 

@@ -1,7 +1,9 @@
 //! A program as engineers write it: declarations, clauses, functions and state sets, with comments and some embedded C.
-//! A seed, a size and where line markers are come in, a text goes out.
+//! Numbers, a size and where line markers are come in, a text goes out.
 
+use crate::faults::Faults;
 use crate::maker::Maker;
+use crate::numbers::Numbers;
 use anyhow::Result;
 use std::alloc::Global;
 
@@ -13,13 +15,6 @@ pub enum Markers {
     Top,
     /// Also after each part, as that of an included file.
     Parts,
-}
-
-/// How many of the states have a fault.
-#[derive(Clone, Copy, PartialEq, Eq)]
-pub enum Faults {
-    Few,
-    Many,
 }
 
 /// What a program is to be like. A size is about the number of its bytes.
@@ -41,8 +36,9 @@ impl Shape {
     }
 }
 
-// About how many bytes a group of declarations has, with the two states that come for each.
-const PART: usize = 2600;
+// How many bytes a group of declarations has, with the two states that come for each. It is some
+// 2,650 on average, so that a program of 1 MB stays below the limit of a text.
+const PART: usize = 2700;
 
 static HEAD: &str =
     "program sequence (\"P=dev:, R=rec\")\n\noption +r;\n\n%{\n#include <math.h>\n#include <string.h>\n}%\n\n";
@@ -112,13 +108,6 @@ static STATEMENTS: [&str; 10] = [
     "            efClear(@f);\n",
 ];
 
-static FAULTS: [&str; 4] = [
-    "            @n = = @k;\n",
-    "            unknown_@g = @k;\n",
-    "            pvPut(@u);\n",
-    "            if (@n > @k { @n = @k; }\n",
-];
-
 impl Maker {
     fn put_line_marker(&mut self, shape: Shape) -> Result<()> {
         if shape.markers == Markers::Parts {
@@ -130,7 +119,8 @@ impl Maker {
     fn put_group(&mut self, shape: Shape, group: usize) -> Result<()> {
         self.group = group;
         self.put_line_marker(shape)?;
-        self.put_template(DECLARATIONS)
+        self.put_template(DECLARATIONS)?;
+        self.put_faulty_items(shape.faults)
     }
 
     fn put_groups(&mut self, shape: Shape) -> Result<()> {
@@ -140,17 +130,6 @@ impl Maker {
         for group in 0..self.groups / 4 {
             self.group = group;
             self.put_one_of(&FUNCTIONS)?;
-        }
-        Ok(())
-    }
-
-    fn put_fault(&mut self, shape: Shape) -> Result<()> {
-        let bound = match shape.faults {
-            Faults::Few => 200,
-            Faults::Many => 4,
-        };
-        if self.numbers.below(bound) == 0 {
-            self.put_one_of(&FAULTS)?;
         }
         Ok(())
     }
@@ -176,7 +155,7 @@ impl Maker {
 
     fn put_fault_transition(&mut self, shape: Shape) -> Result<()> {
         self.put_template("        when (@u > 3) {\n")?;
-        self.put_fault(shape)?;
+        self.put_faults(shape.faults)?;
         self.put_template("        } exit\n")
     }
 
@@ -227,10 +206,10 @@ impl Maker {
     }
 }
 
-/// A program of a seed, with the maker of what is typed into it.
-pub fn program_of(alloc: Global, seed: u64, shape: Shape) -> Result<Maker> {
-    let groups = (shape.size / PART).max(1);
-    let mut maker = Maker::new(alloc, seed, groups);
+/// A program by numbers of its own, with the maker of what is typed into it.
+pub fn program_of(alloc: Global, numbers: Numbers, shape: Shape) -> Result<Maker> {
+    let groups = shape.size.div_ceil(PART).max(1);
+    let mut maker = Maker::new(alloc, numbers, groups);
     maker.put_program(shape)?;
     Ok(maker)
 }

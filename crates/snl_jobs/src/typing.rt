@@ -2,6 +2,7 @@
 
 use crate::editor::Editor;
 use crate::maker::Maker;
+use crate::numbers::Numbers;
 use crate::places::place_after;
 use crate::program::{Markers, Shape, program_of};
 use anyhow::Result;
@@ -34,7 +35,7 @@ static TYPINGS: [Typing; 12] = [
         after: b") {\n",
         keys: "            @u = @e;\n",
         erased: 3,
-        mended: "@k",
+        mended: "(@k)",
     },
     Typing {
         after: b") {\n",
@@ -99,8 +100,13 @@ fn any_place(maker: &mut Maker, len: usize) -> usize {
     begin.wrapping_add(maker.numbers.below(part))
 }
 
-// Types the keys of a template at a place, and tells how many they are.
-fn type_template(editor: &mut Editor, maker: &mut Maker, at: usize, keys: &str) -> Result<usize> {
+/// Types the keys of a template at a place, and tells how many they are.
+pub fn type_template(
+    editor: &mut Editor,
+    maker: &mut Maker,
+    at: usize,
+    keys: &str,
+) -> Result<usize> {
     maker.text.clear();
     maker.put_template(keys)?;
     editor.type_at(at, &maker.text)?;
@@ -120,7 +126,7 @@ fn type_one(editor: &mut Editor, maker: &mut Maker, typing: &Typing) -> Result<(
     Ok(())
 }
 
-/// Types in a program so often, and looks at all rows at the end.
+/// Types in a program so often.
 pub fn type_in(editor: &mut Editor, maker: &mut Maker, times: usize) -> Result<()> {
     let first = maker.numbers.below(TYPINGS.len());
     for time in 0..times {
@@ -130,7 +136,6 @@ pub fn type_in(editor: &mut Editor, maker: &mut Maker, times: usize) -> Result<(
             type_one(editor, maker, typing)?;
         }
     }
-    editor.look_at_rows();
     Ok(())
 }
 
@@ -193,7 +198,7 @@ pub static MARKED: [Programs; 4] = [
 fn type_in_some(
     alloc: Global,
     editor: &mut Editor,
-    seed: u64,
+    numbers: &mut Numbers,
     programs: &Programs,
     markers: Markers,
 ) -> Result<()> {
@@ -201,8 +206,8 @@ fn type_in_some(
         markers,
         ..Shape::of(programs.size)
     };
-    for number in 0..programs.count {
-        let mut maker = program_of(alloc, seed.wrapping_add(number as u64), shape)?;
+    for _ in 0..programs.count {
+        let mut maker = program_of(alloc, numbers.part(), shape)?;
         editor.open(&maker.text)?;
         type_in(editor, &mut maker, programs.times)?;
     }
@@ -213,17 +218,14 @@ fn type_in_some(
 pub fn run(
     alloc: Global,
     editor: &mut Editor,
-    seed: u64,
+    numbers: &mut Numbers,
     rounds: usize,
     all: &[Programs],
     markers: Markers,
 ) -> Result<()> {
-    for round in 0..rounds {
+    for _ in 0..rounds {
         for programs in all {
-            let seed = seed
-                .wrapping_add(round as u64)
-                .wrapping_add(programs.size as u64);
-            type_in_some(alloc, editor, seed, programs, markers)?;
+            type_in_some(alloc, editor, numbers, programs, markers)?;
         }
     }
     Ok(())
