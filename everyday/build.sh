@@ -1,0 +1,86 @@
+# Brings the program up to date. ./check reads this where something was changed since it was noted
+# what the program was built of. That is in crates/snl_cli/out/built: the paths, the checksums of
+# their files, and a time that is from before these were made.
+
+binary=crates/snl_cli/out/snl_cli
+
+bring_up_to_date() {
+    read_crates
+    find_built_on snl_cli
+    sources=(crates.txt)
+    # Proofs are no part of this: whatever becomes of them, a program that was proved stays proved.
+    for crate in "${built_on[@]}"; do
+        for part in src specs; do
+            [ ! -d "$root/crates/$crate/$part" ] || sources+=("crates/$crate/$part")
+        done
+    done
+    is_same && return
+    take_lock
+    is_fresh || is_same || { . "$parts/crates.sh" && build; }
+    exec {lock}>&-
+}
+
+# Reads crates.txt: what each crate of the repository is built on.
+declare -gA below=() line_of=()
+read_crates() {
+    local line name
+    while IFS= read -r line; do
+        line=${line%%#*}
+        name=${line%%[ :]*}
+        [ -z "$name" ] || below[$name]=${line#*:} line_of[$name]=$line
+    done < "$root/crates.txt"
+}
+
+# Puts the crates that a crate is built on into built_on, lowest first, and then the crate.
+built_on=()
+find_built_on() {
+    local library
+    case " ${built_on[*]-} " in *" $1 "*) return ;; esac
+    for library in ${below[$1]}; do
+        [ -z "${below[$library]+known}" ] || find_built_on "$library"
+    done
+    built_on+=("$1")
+}
+
+# Whether program and sources have the bytes that they had when it was built, as after a copy of
+# all. Of a build that rt alone has made only times are known.
+is_same() {
+    local sums
+    [ -x "$program" ] || return
+    begin_note
+    sums=$(sums_of "${sources[@]}")$'\n'$(sums_of "$binary")
+    if [ -e "$built/sums" ]; then
+        [ "$sums" = "$(< "$built/sums")" ]
+    else
+        [ -z "$(cd "$root" && find "${sources[@]}" -newer "$binary" -print -quit)" ]
+    fi || { rm -f "$built/time.$$" && return 1; }
+    note_build "$sums"
+}
+
+sums_of() {
+    cd "$root" && find "$@" -type f -print0 | LC_ALL=C sort -z | xargs -0r sha256sum
+}
+
+# Notes what the program was built of, if this folder can be written. The time is from before the
+# files were read, so that no change is missed.
+begin_note() {
+    mkdir -p "$built" && : > "$built/time.$$"
+} 2> /dev/null
+
+note_build() {
+    note sums "$1" && note folders "${sources[*]} $binary" && mv "$built/time.$$" "$built/time"
+    return 0
+} 2> /dev/null
+
+note() {
+    printf '%s\n' "$2" > "$built/$1.$$" && mv "$built/$1.$$" "$built/$1"
+}
+
+# Waits while another check builds the program.
+take_lock() {
+    mkdir -p "$root/crates/snl_cli/out" && exec {lock}> "$root/crates/snl_cli/out/lock" || exit 2
+    command -v flock > /dev/null || return 0
+    flock -n "$lock" && return
+    say "another check builds the program, and this one waits for it"
+    flock "$lock"
+}

@@ -1,0 +1,28 @@
+# Completes the words of snl-check in bash.
+
+_snl_check() {
+    local word=$2 before=$3 choices=''
+    # In --format=json the = is a word by itself.
+    [ "$word" != = ] || word=''
+    [ "$before" != = ] || before=${COMP_WORDS[COMP_CWORD - 2]}
+    case $before in
+        --format) choices='github json sarif text' ;;
+        --explain | [EW][0-9][0-9]) choices="$(echo E{01..22} W{01..05})" ;;
+        -I)
+            mapfile -t COMPREPLY < <(compgen -d -- "$word")
+            return
+            ;;
+    esac
+    if [ -z "$choices" ] && [[ $word = -* ]]; then
+        choices='--cpp -I -D --lines --list --table --dot --format= --strict --quiet --explain'
+        choices+=' --version --help --'
+    fi
+    if [ -n "$choices" ]; then
+        mapfile -t COMPREPLY < <(compgen -W "$choices" -- "$word")
+        [[ ${COMPREPLY[*]-} != *= ]] || compopt -o nospace 2> /dev/null
+    else
+        mapfile -t COMPREPLY < <(compgen -d -- "$word" && compgen -f -X '!*.@(st|stt)' -- "$word")
+        compopt -o filenames 2> /dev/null
+    fi
+}
+complete -F _snl_check snl-check

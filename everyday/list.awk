@@ -1,0 +1,5 @@
+# The listing as it is.
+
+function tell_row(row) {
+    print row
+}
