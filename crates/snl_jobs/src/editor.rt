@@ -1,7 +1,7 @@
 //! An editor with a text open in a session: keys go in, each with a look at what the session tells.
 //!
 //! A look is at all that it tells of the text, after a key too: all diagnostics and all rows of all
-//! tables go into the digest, as does the cost of each edit. That takes about a twentieth of the
+//! tables go into the digest, as does the cost of each edit. That takes some hundredths of the
 //! time.
 
 use crate::answers::{add_diagnostics, add_tables};

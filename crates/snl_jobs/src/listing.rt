@@ -1,4 +1,5 @@
-//! Programs with thousands of channels, and states that wake up on many of them, are opened and listed.
+//! Programs with thousands of channels, and states that wake up on many of them, are opened and
+//! listed.
 
 use crate::editor::Editor;
 use crate::maker::Maker;

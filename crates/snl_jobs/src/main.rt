@@ -1,5 +1,6 @@
-//! The jobs that users of the front end wait for, done through the public calls of a session, on texts that a seed defines.
-//! In: as arguments the name of a job, a seed below 2^32, and how many rounds. Out: what was done, and a digest of all answers.
+//! The jobs that users of the front end wait for, done through the public calls of a session, on
+//! texts that a seed defines. In: as arguments the name of a job, a seed below 2^32, and how many
+//! rounds. Out: what was done, and a digest of all answers.
 #![tactic(auto)]
 
 mod answers;

@@ -1,7 +1,8 @@
 //! Makes programs, and what is typed into them. Numbers and a size come in, a text goes out.
 //!
-//! Templates are texts in which `@` and a letter stand for something of the program. Declarations come in groups of eight: numbers 0
-//! to 3 of a group are channels, 4 is an array of channels, 5 a plain number, 6 an event flag and 7 a string.
+//! Templates are texts in which `@` and a letter stand for something of the program. Declarations
+//! come in groups of eight: numbers 0 to 3 of a group are channels, 4 is an array of channels, 5 a
+//! plain number, 6 an event flag and 7 a string.
 //!
 //! | Mark | What it stands for |
 //! |---|---|

@@ -1,4 +1,5 @@
-//! Names are declared and renamed in a program that is open: each letter with a look at what is found, and the uses one edit each.
+//! Names are declared and renamed in a program that is open: each letter with a look, and the uses
+//! by one edit each.
 
 use crate::editor::Editor;
 use crate::maker::Maker;

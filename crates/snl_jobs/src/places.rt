@@ -12,7 +12,8 @@ pub fn next_after(text: &[u8], from: usize, wanted: &[u8]) -> Option<usize> {
     None
 }
 
-/// The same, from the text's beginning on where there are none from the place on; the text's end where there are none at all.
+/// The same, from the text's beginning on where there are none from the place on; the text's end
+/// where there are none at all.
 pub fn place_after(text: &[u8], from: usize, wanted: &[u8]) -> usize {
     match next_after(text, from, wanted) {
         Some(place) => place,

@@ -1,5 +1,5 @@
-//! A program as engineers write it: declarations, clauses, functions and state sets, with comments and some embedded C.
-//! Numbers, a size and where line markers are come in, a text goes out.
+//! A program as engineers write it: declarations, clauses, functions and state sets, with comments
+//! and some embedded C. Numbers, a size and where line markers are come in, a text goes out.
 
 use crate::faults::Faults;
 use crate::maker::Maker;

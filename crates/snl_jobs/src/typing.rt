@@ -1,4 +1,4 @@
-//! Keys are typed into a program that is open, anywhere in it, each with a look at what is found.
+//! Keys are typed into a program that is open, anywhere in it, each with a look.
 
 use crate::editor::Editor;
 use crate::maker::Maker;
