@@ -26,9 +26,9 @@ fn joined_hash(a: u64, b: u64) -> u64
     state.finish()
 }
 
-/// The print of a name, which is a hash of all its bytes. Two hashers take them, eight at a time. One word can give a hasher
-/// any state that is wanted, but not both: the second took the length before. So names of one print are found by search
-/// alone. What both say is joined in order: by a sum of the two, names that exchange their states would have one print.
+/// The print of a name, which is a hash of all its bytes. Two hashers take them, eight at a time, the second each eight from
+/// the last byte to the first. One word can give a hasher any state that is wanted, but not both; and no two words exchange
+/// their states. What both say is joined in order. So names of one print are found by search alone.
 #[tactic(auto, unfolding(crate::specs::Prints::print_of))]
 pub fn print_of(name: &[u8]) -> u64
     ensures { result ≡ print_of name.now }
@@ -39,7 +39,9 @@ pub fn print_of(name: &[u8]) -> u64
     second.write_usize(name.len());
     for word in words {
         first.write(word);
-        second.write(word);
+        let mut turned = *word;
+        turned.reverse();
+        second.write(&turned);
     }
     first.write(rest);
     second.write(rest);

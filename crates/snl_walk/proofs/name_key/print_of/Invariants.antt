@@ -1,4 +1,4 @@
-use Rattle.std.proofs.Common.{◌≡◌, length, take}
+use Rattle.std.proofs.Common.{◌≡◌, length, reverse, take}
 use Rattle.std.specs.Hash as fed
 use Rattle.std.specs.Hash.FoldHasher as hasher
 use Rattle.std.specs.List.{fold}
@@ -8,5 +8,5 @@ use Rattle.snl_walk.proofs.name_key.print_of.Given as goal
 abbrev pub invariant-loop-word : goal.invariant-loop-word
 invariant-loop-word l = record {
   plain : l.first ≡ fold hasher.write hasher.initial (take l.word-index l.words);
-  after_length : l.second ≡ fold hasher.write (fold hasher.write hasher.initial (fed.usize (length l.name))) (take l.word-index l.words);
+  turned : l.second ≡ fold (λ h w. hasher.write h (reverse w)) (fold hasher.write hasher.initial (fed.usize (length l.name))) (take l.word-index l.words);
 }
