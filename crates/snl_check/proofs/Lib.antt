@@ -28,7 +28,6 @@ pub mod ShiftedTables
 pub mod ShiftedWhole
 pub mod ShiftedRows
 pub mod ShiftedAround
-pub mod ByShift
 pub mod SameUses
 pub mod SetMembers
 pub mod WakesTold

@@ -50,7 +50,7 @@ use Rattle.snl_check.specs.Clauses.{ItemClause, clause_in_member, clauses_in_tre
 use Rattle.snl_check.specs.Conditions.{on_declaration, uses_in, wake_ups}
 use Rattle.snl_check.specs.Items.{ProgramItem, header_name, named_by, span_of, item_name, outline_of_item, outlines_of, summary_of_item, tokens_in, tree_in}
 use Rattle.snl_check.specs.Members.{is_faulty_item, number_among, states_in, target_number, target_numbers}
-use Rattle.snl_check.specs.Moved.{KeepsItemBy, KeepsItemsBy, ReplacesItemBy, ReplacesOneBy}
+use Rattle.snl_check.specs.Moved.{KeepsItem, KeepsItems, ReplacesItem, ReplacesOne}
 use Rattle.snl_check.specs.View.{is_in_set}
 use Rattle.snl_check.specs.Settings.{LetterSetting, setting_at, setting_in_tree}
 use Rattle.snl_check.specs.Shifted.{shifted_item, start_at}
@@ -102,7 +102,7 @@ module _ (text : List ℕ) (tokens : List Piece) where
 
 -- ---- the items but one are kept
 
-module _ (laws : SpellingLaws) (old text : List ℕ) (s : Shift) (line : ℕ → Line → Line) (xs ys : List ProgramItem) (j : ℕ) (before : 0 < s.start) (read : AreRead old xs) (rep : ReplacesOneBy old text s line xs ys j) where
+module _ (laws : SpellingLaws) (old text : List ℕ) (s : Shift) (line : ℕ → Line → Line) (xs ys : List ProgramItem) (j : ℕ) (before : 0 < s.start) (read : AreRead old xs) (rep : ReplacesOne old text s line xs ys j) where
   abbrev pub ss : List Outline
   ss = outlines_of old xs
 
@@ -112,7 +112,7 @@ module _ (laws : SpellingLaws) (old text : List ℕ) (s : Shift) (line : ℕ →
   is : (y : ProgramItem) × (slice_get ys j ≡ Some y)
   is = get_here ys j (omega (arith, rep.there, rep.count))
 
-  replaced : ReplacesItemBy old text s line was.0 is.0
+  replaced : ReplacesItem old text s line was.0 is.0
   replaced = rep.replaced was.0 is.0 was.1 is.1
 
   everywhere : (P : ℕ → Type 0) → P j → ((i : ℕ) → i ≢ j → P i) → (i : ℕ) → P i
@@ -601,15 +601,15 @@ module _ (old text : List ℕ) (s : Shift) (line : ℕ → Line → Line) (x y :
   others (a ∷ front) back zero apart = refl
   others (a ∷ front) back (suc i) apart = others front back i (λ e. apart (ap suc e))
 
-  keeps_others : (front back : List ProgramItem) → KeepsItemsBy old text s line front → KeepsItemsBy old text s line back → (i : ℕ) (z : ProgramItem) → i ≢ length front →
-      slice_get (front ++ (x ∷ back)) i ≡ Some z → KeepsItemBy old text s line z
+  keeps_others : (front back : List ProgramItem) → KeepsItems old text s line front → KeepsItems old text s line back → (i : ℕ) (z : ProgramItem) → i ≢ length front →
+      slice_get (front ++ (x ∷ back)) i ≡ Some z → KeepsItem old text s line z
   keeps_others [] back f b zero z apart at = absurd (apart refl)
   keeps_others [] back f b (suc i) z apart at = b i z at
   keeps_others (a ∷ front) back f b zero z apart at = f 0 z at
   keeps_others (a ∷ front) back f b (suc i) z apart at = keeps_others front back (λ n. f (suc n)) b i z (λ e. apart (ap suc e)) at
 
-  pub one_between : (front back : List ProgramItem) → KeepsItemsBy old text s line front → KeepsItemsBy old text s line back → ReplacesItemBy old text s line x y →
-      ReplacesOneBy old text s line (front ++ (x ∷ back)) (map (shifted_item s) front ++ (y ∷ map (shifted_item s) back)) (length front)
+  pub one_between : (front back : List ProgramItem) → KeepsItems old text s line front → KeepsItems old text s line back → ReplacesItem old text s line x y →
+      ReplacesOne old text s line (front ++ (x ∷ back)) (map (shifted_item s) front ++ (y ∷ map (shifted_item s) back)) (length front)
   one_between front back f b replaces = record {
     count = simp (length-append, length-map);
     there = omega (arith, length-append front (x ∷ back));
@@ -621,5 +621,5 @@ module _ (old text : List ℕ) (s : Shift) (line : ℕ → Line → Line) (x y :
         let is : Some y ≡ Some c = sym (at_seam y (map (shifted_item s) front) (map (shifted_item s) back)) ∙ ap (slice_get (map (shifted_item s) front ++ (y ∷ map (shifted_item s) back))) place ∙ at_c in
         let old_item : x ≡ a = cc in
         let new_item : y ≡ c = cc in
-        subst (λ z. ReplacesItemBy old text s line z c) old_item (subst (λ z. ReplacesItemBy old text s line x z) new_item replaces);
+        subst (λ z. ReplacesItem old text s line z c) old_item (subst (λ z. ReplacesItem old text s line x z) new_item replaces);
   }

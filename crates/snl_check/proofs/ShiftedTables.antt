@@ -31,7 +31,7 @@ use Rattle.snl_check.specs.Channels.{assigned_channels}
 use Rattle.snl_check.specs.Clauses.{item_clauses_if, told_clauses}
 use Rattle.snl_check.specs.Items.{ProgramItem, outline_of_item, item_name, outlines_of, tokens_in, tree_in}
 use Rattle.snl_check.specs.Members.{has_faulty, is_faulty_item, states_in, target_numbers}
-use Rattle.snl_check.specs.Moved.{KeepsItemBy}
+use Rattle.snl_check.specs.Moved.{KeepsItem}
 use Rattle.snl_check.specs.Settings.{setting_at}
 use Rattle.snl_check.specs.Shifted.{has_line, shifted_item, start_at, shifted_tokens}
 use Rattle.snl_check.specs.Spans.{AreRead}
@@ -139,7 +139,7 @@ set_has_second text xs k own h =
 -- ---- an item that keeps its tokens is kept, and so is its line
 
 module _ (old text : List ℕ) (s : Shift) (line : ℕ → Line → Line) (xs ys : List ProgramItem) (i : ℕ) (item : slice_get ys i ≡ option_map (shifted_item s) (slice_get xs i))
-    (keeps : (x : ProgramItem) → slice_get xs i ≡ Some x → KeepsItemBy old text s line x) where
+    (keeps : (x : ProgramItem) → slice_get xs i ≡ Some x → KeepsItem old text s line x) where
   bytes_kept : token_bytes text (tokens_in ys i) ≡ token_bytes old (tokens_in xs i)
   unfolding token_bytes
   bytes_kept = ap (λ (o : Option ProgramItem). token_bytes text (option_map_or (λ (x : ProgramItem). x.tokens) o [])) item ∙ by (slice_get xs i) refl
@@ -186,7 +186,7 @@ pub record SpellingLaws : Type 0 where
   pub named : (text : List ℕ) (tokens : List Piece) (t : Item) → item_of (kinds_in text tokens) ≡ Some t → NamesItsTokens text tokens t
   pub summaries : (text moved : List ℕ) (tokens shifted : List Piece) → spelled text tokens ≡ spelled moved shifted → (tree : Option Item) → summary_in text tokens tree ≡ summary_in moved shifted tree
 
-pub outline_stays : SpellingLaws → (old text : List ℕ) (s : Shift) (line : ℕ → Line → Line) (x : ProgramItem) → KeepsItemBy old text s line x → outline_of_item text (shifted_item s x) ≡ outline_of_item old x
+pub outline_stays : SpellingLaws → (old text : List ℕ) (s : Shift) (line : ℕ → Line → Line) (x : ProgramItem) → KeepsItem old text s line x → outline_of_item text (shifted_item s x) ≡ outline_of_item old x
 outline_stays laws old text s line x keeps =
     ap (λ (m : Summary). m.outline) (laws.summaries text old (shifted_tokens s x.tokens) x.tokens (alike old text s x.tokens keeps.bytes) x.tree)
 

@@ -16,7 +16,7 @@ use Rattle.snl_check.specs.Channels.{assigned_channels}
 use Rattle.snl_check.specs.Clauses.{item_clauses_if, told_clauses}
 use Rattle.snl_check.specs.Items.{ProgramItem, item_name, outlines_of}
 use Rattle.snl_check.specs.Members.{states_in, target_numbers}
-use Rattle.snl_check.specs.Moved.{KeepsItemsBy}
+use Rattle.snl_check.specs.Moved.{KeepsItems}
 use Rattle.snl_check.specs.Shifted.{shifted_item}
 use Rattle.snl_check.specs.Spans.{AreRead}
 use Rattle.snl_check.specs.States.{set_row, set_rows}
@@ -28,7 +28,7 @@ use Rattle.snl_check.proofs.ShiftedStates.{has_faulty_stays, targets_stay}
 use Rattle.snl_check.proofs.ShiftedTables.{IsRowKept, MarksStay, RestStays, SpellingLaws, item_kept, outline_stays, same_channels, set_line, set_named, set_shifts, state_line, tables_but_sets}
 use Rattle.snl_check.proofs.SpanLaws.{and_front, each_all, each_below}
 
-module _ (old text : List ℕ) (s : Shift) (line : ℕ → Line → Line) (xs : List ProgramItem) (keeps : KeepsItemsBy old text s line xs) where
+module _ (old text : List ℕ) (s : Shift) (line : ℕ → Line → Line) (xs : List ProgramItem) (keeps : KeepsItems old text s line xs) where
   abbrev ys : List ProgramItem
   ys = map (shifted_item s) xs
 
@@ -62,12 +62,12 @@ module _ (old text : List ℕ) (s : Shift) (line : ℕ → Line → Line) (xs : 
           (λ j. targets_stay old text s xs ys ss j (kept j) before (states_in ss k));
     }
 
-outlines_stay : SpellingLaws → (old text : List ℕ) (s : Shift) (line : ℕ → Line → Line) (xs : List ProgramItem) → KeepsItemsBy old text s line xs → outlines_of text (map (shifted_item s) xs) ≡ outlines_of old xs
+outlines_stay : SpellingLaws → (old text : List ℕ) (s : Shift) (line : ℕ → Line → Line) (xs : List ProgramItem) → KeepsItems old text s line xs → outlines_of text (map (shifted_item s) xs) ≡ outlines_of old xs
 outlines_stay laws old text s line [] keeps = refl
 outlines_stay laws old text s line (x ∷ xs) keeps =
     ap₂ (λ (o : Outline) (os : List Outline). o ∷ os) (outline_stays laws old text s line x (keeps 0 x refl)) (outlines_stay laws old text s line xs (λ i. keeps (suc i)))
 
-module _ (laws : SpellingLaws) (old text : List ℕ) (s : Shift) (line : ℕ → Line → Line) (xs : List ProgramItem) (before : 0 < s.start) (read : AreRead old xs) (keeps : KeepsItemsBy old text s line xs) where
+module _ (laws : SpellingLaws) (old text : List ℕ) (s : Shift) (line : ℕ → Line → Line) (xs : List ProgramItem) (before : 0 < s.start) (read : AreRead old xs) (keeps : KeepsItems old text s line xs) where
   abbrev ss : List Outline
   ss = outlines_of old xs
 

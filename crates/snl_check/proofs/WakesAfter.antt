@@ -15,7 +15,7 @@ use Rattle.snl_check.specs.declared.rows.channel_numbers.Which.{Which}
 use Rattle.snl_check.specs.Channels.{AssignedChannel, assigned_channels, element_number}
 use Rattle.snl_check.specs.Conditions.{uses_in, wake_ups}
 use Rattle.snl_check.specs.Items.{ProgramItem, outlines_of, tokens_in}
-use Rattle.snl_check.specs.Moved.{ReplacesOneBy}
+use Rattle.snl_check.specs.Moved.{ReplacesOne}
 use Rattle.snl_check.specs.Numbered.{Tells, element_in, has_subscript, same_key, wake_by}
 use Rattle.snl_check.specs.Spans.{AreRead}
 use Rattle.snl_check.specs.States.{wake_of}
@@ -25,7 +25,7 @@ use Rattle.snl_check.proofs.ShiftedRows.{map_twice}
 use Rattle.snl_check.proofs.ShiftedTables.{SpellingLaws}
 use Rattle.snl_check.proofs.WakesTold.{numbered_by_rows, wakes_same}
 
-module _ (laws : SpellingLaws) (old text : List ℕ) (s : Shift) (line : ℕ → Line → Line) (xs ys : List ProgramItem) (item : ℕ) (before : 0 < s.start) (read : AreRead old xs) (rep : ReplacesOneBy old text s line xs ys item) where
+module _ (laws : SpellingLaws) (old text : List ℕ) (s : Shift) (line : ℕ → Line → Line) (xs ys : List ProgramItem) (item : ℕ) (before : 0 < s.start) (read : AreRead old xs) (rep : ReplacesOne old text s line xs ys item) where
   abbrev ss : List Outline
   ss = outlines_of old xs
 

@@ -1,5 +1,4 @@
--- The items of a text after an edit that shifts their tokens, by what becomes of lines: `line` says it of the line of an offset. With the
--- lines that a shift gives they are those of Shifted and ShiftedAround.
+-- The items of a text after an edit that shifts their tokens, by what becomes of lines: `line` says it of the line of an offset.
 use Rattle.std.specs.Prelude.{◌≡◌, ◌≢◌, ℕ, ◌<◌, true, List, [], length, slice_get, Some, option_map}
 use Rattle.std.specs.List.{AllByRecursion}
 use Rattle.snl_lex.specs.declared.lines.Line.{Line}
@@ -13,17 +12,17 @@ use Rattle.snl_check.specs.ShiftedAround.{IsPlacedAt, is_plain}
 
 -- The shifted tokens of an item have in the new text the bytes that the tokens had in the old one. Where a row has the item's line,
 -- the line moves as that of the second token, which is the item's name.
-pub record KeepsItemBy (old text : List ℕ) (s : Shift) (line : ℕ → Line → Line) (x : ProgramItem) : Type 0 where
+pub record KeepsItem (old text : List ℕ) (s : Shift) (line : ℕ → Line → Line) (x : ProgramItem) : Type 0 where
   pub bytes : (n : ℕ) → token_bytes text (shifted_tokens s x.tokens) n ≡ token_bytes old x.tokens n
   pub lined : has_line (outline_of_item old x) ≡ true → 1 < length x.tokens → line_at text (start_at (shifted_tokens s x.tokens) 0) ≡ line (start_at x.tokens 1) (line_at old (start_at x.tokens 0))
 
 -- It is so for each of the items.
-abbrev pub KeepsItemsBy : (old text : List ℕ) → Shift → (ℕ → Line → Line) → List ProgramItem → Type 0
-KeepsItemsBy old text s line xs = (i : ℕ) (x : ProgramItem) → slice_get xs i ≡ Some x → KeepsItemBy old text s line x
+abbrev pub KeepsItems : (old text : List ℕ) → Shift → (ℕ → Line → Line) → List ProgramItem → Type 0
+KeepsItems old text s line xs = (i : ℕ) (x : ProgramItem) → slice_get xs i ≡ Some x → KeepsItem old text s line x
 
 -- An item in the place of another, each of them plain: it says to the others what that one said, no clause among it, and its second
 -- token and the names that it declares are what they were, shifted; its line moved as that of the second token.
-pub record ReplacesItemBy (old text : List ℕ) (s : Shift) (line : ℕ → Line → Line) (x y : ProgramItem) : Type 0 where
+pub record ReplacesItem (old text : List ℕ) (s : Shift) (line : ℕ → Line → Line) (x y : ProgramItem) : Type 0 where
   pub was_plain : is_plain (kind_of x.tree) ≡ true
   pub is_plain_now : is_plain (kind_of y.tree) ≡ true
   pub outline : outline_of_item text y ≡ outline_of_item old x
@@ -33,9 +32,9 @@ pub record ReplacesItemBy (old text : List ℕ) (s : Shift) (line : ℕ → Line
   pub lined : line_at text (start_at y.tokens 0) ≡ line (start_at x.tokens 1) (line_at old (start_at x.tokens 0))
 
 -- The items after an edit, `ys`, are those before it, shifted, but for item j, which is in the place of another.
-pub record ReplacesOneBy (old text : List ℕ) (s : Shift) (line : ℕ → Line → Line) (xs ys : List ProgramItem) (j : ℕ) : Type 0 where
+pub record ReplacesOne (old text : List ℕ) (s : Shift) (line : ℕ → Line → Line) (xs ys : List ProgramItem) (j : ℕ) : Type 0 where
   pub count : length ys ≡ length xs
   pub there : j < length xs
   pub others : (i : ℕ) → i ≢ j → slice_get ys i ≡ option_map (shifted_item s) (slice_get xs i)
-  pub kept : (i : ℕ) (x : ProgramItem) → i ≢ j → slice_get xs i ≡ Some x → KeepsItemBy old text s line x
-  pub replaced : (x y : ProgramItem) → slice_get xs j ≡ Some x → slice_get ys j ≡ Some y → ReplacesItemBy old text s line x y
+  pub kept : (i : ℕ) (x : ProgramItem) → i ≢ j → slice_get xs i ≡ Some x → KeepsItem old text s line x
+  pub replaced : (x y : ProgramItem) → slice_get xs j ≡ Some x → slice_get ys j ≡ Some y → ReplacesItem old text s line x y

@@ -1,21 +1,16 @@
 -- The items of a text after an edit inside one of them, which says what it said; and where the row of a state is in the tables.
-use Rattle.std.specs.Prelude.{◌≡◌, ◌≢◌, ℕ, ◌<◌, ◌&&◌, Bool, true, false, is_none, List, [], map, length, slice_get, Option, Some, option_map}
-use Rattle.std.specs.List.{AllByRecursion}
+use Rattle.std.specs.Prelude.{◌≡◌, ℕ, ◌&&◌, Bool, true, false, is_none, List, [], map, length, slice_get, Option, Some}
 use Rattle.snl_lex.specs.declared.shift.Shift.{Shift}
-use Rattle.snl_lex.specs.Lines.{line_at}
-use Rattle.snl_lex.specs.Shift.{shifted_line}
 use Rattle.snl_scope.specs.declared.summaries.summary.ItemKind.{ItemKind}
 use Rattle.snl_scope.specs.declared.summaries.summary.ItemKind.TheVariants as kinds
 use Rattle.snl_scope.specs.declared.summaries.summary.Outline.{Outline}
 use Rattle.snl_scope.specs.Below.{all_below}
 use Rattle.snl_scope.specs.Order.{is_named_state}
 use Rattle.snl_scope.specs.Places.{is_set_begin, stands_in}
-use Rattle.snl_scope.specs.Summaries.{kind_of}
 use Rattle.snl_walk.specs.declared.used.WakeUse.{WakeUse}
 use Rattle.snl_walk.specs.Tokens.{token_bytes}
 use Rattle.snl_tables.specs.Shifted.{shifted_span}
-use Rattle.snl_check.specs.Items.{ProgramItem, outline_of_item, span_of, summary_of_item}
-use Rattle.snl_check.specs.Shifted.{KeepsItem, shifted_item, start_at}
+use Rattle.snl_check.specs.Items.{ProgramItem, span_of, summary_of_item}
 use Rattle.snl_check.specs.Told.{told_in_item}
 
 -- How many state sets begin before item k, and how many of the states of the set that item k begins are before item j.
@@ -36,25 +31,6 @@ is_plain _ = true
 -- A token of an item is where it was, shifted.
 abbrev pub IsPlacedAt : Shift → (x y : ProgramItem) → ℕ → Type 0
 IsPlacedAt s x y n = span_of (slice_get y.tokens n) ≡ shifted_span s (span_of (slice_get x.tokens n))
-
--- An item in the place of another, each of them plain: it says to the others what that one said, no clause among it, and its second
--- token, the names that it declares and its line are what they were, shifted.
-pub record ReplacesItem (old text : List ℕ) (s : Shift) (x y : ProgramItem) : Type 0 where
-  pub was_plain : is_plain (kind_of x.tree) ≡ true
-  pub is_plain_now : is_plain (kind_of y.tree) ≡ true
-  pub outline : outline_of_item text y ≡ outline_of_item old x
-  pub declared : AllByRecursion (λ d. IsPlacedAt s x y d.token) (outline_of_item old x).declares
-  pub no_clause : (outline_of_item old x).clauses ≡ []
-  pub name : IsPlacedAt s x y 1
-  pub line : line_at text (start_at y.tokens 0) ≡ shifted_line s (start_at x.tokens 1) (line_at old (start_at x.tokens 0))
-
--- The items after an edit, `ys`, are those before it, shifted, but for item j, which is in the place of another.
-pub record ReplacesOne (old text : List ℕ) (s : Shift) (xs ys : List ProgramItem) (j : ℕ) : Type 0 where
-  pub count : length ys ≡ length xs
-  pub there : j < length xs
-  pub others : (i : ℕ) → i ≢ j → slice_get ys i ≡ option_map (shifted_item s) (slice_get xs i)
-  pub kept : (i : ℕ) (x : ProgramItem) → i ≢ j → slice_get xs i ≡ Some x → KeepsItem old text s x
-  pub replaced : (x y : ProgramItem) → slice_get xs j ≡ Some x → slice_get ys j ≡ Some y → ReplacesItem old text s x y
 
 -- Item j is sound where it was.
 abbrev pub IsSoundAsItWas : (xs ys : List ProgramItem) → ℕ → Type 0

@@ -12,9 +12,7 @@ mod rules;
 pub use fault_laws::{faults_have_item_codes, outer_names_left_to_links};
 pub use laws::{
     each_item_finding_once, equal_views, faults_stand_at_tokens, faults_stand_in_tokens,
-    one_state_between, same_clauses, spans_lie_in_text, tables_shift, tables_shift_around_a_state,
-    tables_shift_around_an_item, tables_shift_in_a_set, tables_shift_inside_a_state,
-    tables_shift_outside_the_sets, unreached_without_a_walk, wake_up_sets, walks_of_few_steps,
+    same_clauses, spans_lie_in_text, unreached_without_a_walk, wake_up_sets, walks_of_few_steps,
 };
 pub use moved_laws::{
     one_item_between, tables_move, tables_move_around_a_state, tables_move_around_an_item,
@@ -24,7 +22,7 @@ pub use reachability::marks::{SetMember, state_marks};
 pub use reachability::reaching::reach;
 pub use rows::body::state_body;
 pub use rows::tables_of::{tables, tables_by_tokens};
-pub use rows::wake_after::{wake_after, wake_inside};
+pub use rows::wake_inside::wake_inside;
 pub use rules::check::check_item;
 pub use rules::conditions::wakes_alike;
 pub use rules::findings::{Checked, ItemFault};

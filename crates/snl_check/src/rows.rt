@@ -16,5 +16,5 @@ pub(crate) mod state_rows;
 pub(crate) mod syncs;
 pub(crate) mod tables_of;
 pub(crate) mod text_items;
-pub(crate) mod wake_after;
+pub(crate) mod wake_inside;
 pub(crate) mod wake_ups;

@@ -28,7 +28,7 @@ use Rattle.snl_scope.specs.declared.summaries.summary.Summary.{Summary}
 use Rattle.snl_tables.specs.declared.rows.Span.{Span}
 use Rattle.snl_tables.specs.Shifted.{shifted_span}
 use Rattle.snl_check.specs.Items.{outline_of_item, span_of}
-use Rattle.snl_check.specs.Moved.{KeepsItemBy, ReplacesItemBy, ReplacesOneBy}
+use Rattle.snl_check.specs.Moved.{KeepsItem, ReplacesItem, ReplacesOne}
 use Rattle.snl_check.specs.Shifted.{shifted_item, shifted_tokens, start_at}
 use Rattle.snl_check.specs.ShiftedAround.{IsPlacedAt, is_plain}
 use Rattle.snl_kept.specs.declared.entries.Entry.{Entry}
@@ -257,24 +257,24 @@ module _ (old text : List ℕ) (start old_stop new_stop : ℕ) (c : Changes) (t 
 
   -- ---- each of the others keeps its bytes and its line
 
-  keeps_one : (m : List Piece) → spelled text (shifted_tokens s m) ≡ spelled old m → KeepsLine old text t order line_of m → KeepsItemBy old text s (moved_line t) (program_item old m)
+  keeps_one : (m : List Piece) → spelled text (shifted_tokens s m) ≡ spelled old m → KeepsLine old text t order line_of m → KeepsItem old text s (moved_line t) (program_item old m)
   keeps_one m same line = record {
     bytes = λ n. ap (λ (f : ℕ → List ℕ). f n) (bytes_same text old (shifted_tokens s m) m same);
     lined = λ named. line;
   }
 
-  front_keeps : AllByRecursion (KeepsItemBy old text s (moved_line t)) front
+  front_keeps : AllByRecursion (KeepsItem old text s (moved_line t)) front
   front_keeps =
-      along old (KeepsItemBy old text s (moved_line t)) front_tokens
-      (both (λ m. spelled text (shifted_tokens s m) ≡ spelled old m) (λ m. AllByRecursion (IsInFront old text t order line_of) m × IsOnOneSide t.until m) (λ m. KeepsItemBy old text s (moved_line t) (program_item old m))
+      along old (KeepsItem old text s (moved_line t)) front_tokens
+      (both (λ m. spelled text (shifted_tokens s m) ≡ spelled old m) (λ m. AllByRecursion (IsInFront old text t order line_of) m × IsOnOneSide t.until m) (λ m. KeepsItem old text s (moved_line t) (program_item old m))
       (λ m same there. keeps_one m same (all_in_front old text t order line_of m there.0 there.1)) front_tokens alike_in_front
       (both (AllByRecursion (IsInFront old text t order line_of)) (IsOnOneSide t.until) (λ m. AllByRecursion (IsInFront old text t order line_of) m × IsOnOneSide t.until m) (λ m in_front side. (in_front, side)) front_tokens
       (front_each old text start old_stop new_stop c s past (IsInFront old text t order line_of) starts_before) (each_taken (IsOnOneSide t.until) k (item_tokens old) is.lines.numbered)))
 
-  back_keeps : AllByRecursion (KeepsItemBy old text s (moved_line t)) back
+  back_keeps : AllByRecursion (KeepsItem old text s (moved_line t)) back
   back_keeps =
-      along old (KeepsItemBy old text s (moved_line t)) back_tokens
-      (both (λ m. spelled text (shifted_tokens s m) ≡ spelled old m) (λ m. AllByRecursion (IsAfter old text t order line_of) m × IsOnOneSide t.until m) (λ m. KeepsItemBy old text s (moved_line t) (program_item old m))
+      along old (KeepsItem old text s (moved_line t)) back_tokens
+      (both (λ m. spelled text (shifted_tokens s m) ≡ spelled old m) (λ m. AllByRecursion (IsAfter old text t order line_of) m × IsOnOneSide t.until m) (λ m. KeepsItem old text s (moved_line t) (program_item old m))
       (λ m same there. keeps_one m same (all_after old text t order line_of m there.0 there.1)) back_tokens alike_at_back
       (both (AllByRecursion (IsAfter old text t order line_of)) (IsOnOneSide t.until) (λ m. AllByRecursion (IsAfter old text t order line_of) m × IsOnOneSide t.until m) (λ m after side. (after, side)) back_tokens
       (back_each old text start old_stop new_stop c s past (IsAfter old text t order line_of) starts_after) (each_dropped (IsOnOneSide t.until) (suc k) (item_tokens old) is.lines.numbered)))
@@ -325,7 +325,7 @@ module _ (old text : List ℕ) (start old_stop new_stop : ℕ) (c : Changes) (t 
       recursion_from_All (λ d. IsPlacedAt s (program_item old was_own) (program_item text is_own) d.token) (summary_in old was_own (tree_in old was_own)).outline.declares
       (λ n d lt. placed (get_or (summary_in old was_own (tree_in old was_own)).outline.declares n d).token (subst (DeclaresInHead many) (sym outline_was) is.declared n d lt))
 
-  replaces : ReplacesItemBy old text s (moved_line t) (program_item old was_own) (program_item text is_own)
+  replaces : ReplacesItem old text s (moved_line t) (program_item old was_own) (program_item text is_own)
   replaces = record {
     was_plain = ap is_plain (ap (λ (y : Summary). y.kind) summary_was) ∙ is.plain;
     is_plain_now = ap is_plain kind_is ∙ is.plain_now;
@@ -360,7 +360,7 @@ module _ (old text : List ℕ) (start old_stop new_stop : ℕ) (c : Changes) (t 
   this : {X : Type 0} (P : X → Type 0) (a b : X) (o : Option X) → o ≡ Some a → o ≡ Some b → P a → P b
   this P a b o h g there = let same : a ≡ b = cc in subst P same there
 
-  one_in_parts : ReplacesOneBy old text s (moved_line t) (front ++ (px ∷ back)) (map (shifted_item s) front ++ (py ∷ map (shifted_item s) back)) k
+  one_in_parts : ReplacesOne old text s (moved_line t) (front ++ (px ∷ back)) (map (shifted_item s) front ++ (py ∷ map (shifted_item s) back)) k
   one_in_parts =
       let many : length (map (shifted_item s) front) ≡ k = length-map front (shifted_item s) ∙ number in
       record {
@@ -373,17 +373,17 @@ module _ (old text : List ℕ) (start old_stop new_stop : ℕ) (c : Changes) (t 
         );
         there = omega (arith, length-append front (px ∷ back), number);
         others = λ i ne. others_mapped (shifted_item s) front px py back i (λ q. ne (q ∙ number));
-        kept = λ i z ne there. got_other (KeepsItemBy old text s (moved_line t)) front px back i z front_keeps back_keeps (λ q. ne (q ∙ number)) there;
+        kept = λ i z ne there. got_other (KeepsItem old text s (moved_line t)) front px back i z front_keeps back_keeps (λ q. ne (q ∙ number)) there;
         replaced = λ a b was_a is_b.
-            this (λ (z : ProgramItem). ReplacesItemBy old text s (moved_line t) z b) px a (slice_get (front ++ (px ∷ back)) k) (element_at front px back k number) was_a
-            (this (λ (z : ProgramItem). ReplacesItemBy old text s (moved_line t) px z) py b (slice_get (map (shifted_item s) front ++ (py ∷ map (shifted_item s) back)) k)
+            this (λ (z : ProgramItem). ReplacesItem old text s (moved_line t) z b) px a (slice_get (front ++ (px ∷ back)) k) (element_at front px back k number) was_a
+            (this (λ (z : ProgramItem). ReplacesItem old text s (moved_line t) px z) py b (slice_get (map (shifted_item s) front ++ (py ∷ map (shifted_item s) back)) k)
             (element_at (map (shifted_item s) front) py (map (shifted_item s) back) k many) is_b replaces);
       }
 
-  replaces_one : ReplacesOneBy old text s (moved_line t) (items_of old) (items_of text) k
+  replaces_one : ReplacesOne old text s (moved_line t) (items_of old) (items_of text) k
   replaces_one =
-      subst (λ (ys : List ProgramItem). ReplacesOneBy old text s (moved_line t) (items_of old) ys k) (sym items_are)
-      (subst (λ (xs : List ProgramItem). ReplacesOneBy old text s (moved_line t) xs (map (shifted_item s) front ++ (py ∷ map (shifted_item s) back)) k) (sym items_were) one_in_parts)
+      subst (λ (ys : List ProgramItem). ReplacesOne old text s (moved_line t) (items_of old) ys k) (sym items_are)
+      (subst (λ (xs : List ProgramItem). ReplacesOne old text s (moved_line t) xs (map (shifted_item s) front ++ (py ∷ map (shifted_item s) back)) k) (sym items_were) one_in_parts)
 
   -- ---- the checks
 

@@ -29,7 +29,7 @@ use Rattle.snl_scope.specs.View.{same_view, view}
 use Rattle.snl_scope.specs.declared.summaries.summary.Outline.{Outline}
 use Rattle.snl_scope.specs.declared.summaries.summary.Summary.{Summary}
 use Rattle.snl_tables.specs.Moved.{moved_tables}
-use Rattle.snl_check.specs.Moved.{KeepsItemsBy}
+use Rattle.snl_check.specs.Moved.{KeepsItems}
 use Rattle.snl_check.specs.Shifted.{shifted_item, shifted_tokens}
 use Rattle.snl_check.specs.Spans.{AreRead}
 use Rattle.snl_check.specs.Tables.{tables_of}
@@ -100,7 +100,7 @@ module _ (old text : List ℕ) (a b c : ℕ) (t : LineShift) (is : ShiftsAll old
     (each_inside : (ss : List Outline) (i : ℕ) (bytes : ℕ → List ℕ) (tree : Item) → All (IsInside t.by is.lines.lines.some_before bytes) (checked_by ss i bytes tree).faults)
     (views : (ss : List Outline) (i : ℕ) (ts : List Outline) (j : ℕ) (s : Summary) → IsTrue (same_view ss i ts j s) ↔ (view ss i s ≡ view ts j s))
     (lines : (old text : List ℕ) (t : LineShift) (o : ℕ) → IsLineShift old text t → IsOutside old t.by o → line_at text (shifted_offset t.by o) ≡ moved_line t o (line_at old o))
-    (tables : (old text : List ℕ) (s : Shift) (line : ℕ → Line → Line) (xs : List ProgramItem) → 0 < s.start → AreRead old xs → KeepsItemsBy old text s line xs
+    (tables : (old text : List ℕ) (s : Shift) (line : ℕ → Line → Line) (xs : List ProgramItem) → 0 < s.start → AreRead old xs → KeepsItems old text s line xs
     → tables_of text (map (shifted_item s) xs) ≡ moved_tables s line (tables_of old xs)) where
   abbrev s : Shift
   s = t.by
@@ -173,7 +173,7 @@ module _ (old text : List ℕ) (a b c : ℕ) (t : LineShift) (is : ShiftsAll old
       along old (λ (x : ProgramItem). KeepsLine old text t order line_of x.tokens) (item_tokens old)
       (lines_kept old text t order line_of (item_tokens old) (members_outside (item_tokens old) members_left) is.items is.lines.numbered)
 
-  keeps : KeepsItemsBy old text s (moved_line t) xs
+  keeps : KeepsItems old text s (moved_line t) xs
   keeps i x there = record {
     bytes = λ n. ap (λ (f : ℕ → List ℕ). f n) (got Stays xs i x items_stay there).0;
     lined = λ named. got (λ (y : ProgramItem). KeepsLine old text t order line_of y.tokens) xs i x lines_stay there;

@@ -3,7 +3,7 @@ use Rattle.std.specs.Prelude.{◌≡◌, ℕ, ◌<◌, List, length, slice_get, 
 use Rattle.snl_lex.specs.declared.line_shift.LineShift.{LineShift}
 use Rattle.snl_lex.specs.declared.piece.Piece.{Piece}
 use Rattle.snl_lex.specs.LineShift.{moved_line}
-use Rattle.snl_check.specs.Moved.{ReplacesOneBy}
+use Rattle.snl_check.specs.Moved.{ReplacesOne}
 use Rattle.snl_check.specs.Spans.{AreRead}
 use Rattle.snl_kept.specs.declared.entries.Entry.{Entry}
 use Rattle.snl_kept.specs.declared.lists.Lists.{Lists}
@@ -16,7 +16,7 @@ pub record IsInPlace (old text : List ℕ) (i : ℕ) (own : List Piece) : Type 0
   pub shift : LineShift
   pub some_before : 0 < shift.by.start
   pub read : AreRead old (items_of old)
-  pub one : ReplacesOneBy old text shift.by (moved_line shift) (items_of old) (items_of text) i
+  pub one : ReplacesOne old text shift.by (moved_line shift) (items_of old) (items_of text) i
   pub got : slice_get (items_of text) i ≡ Some (program_item text own)
 
 -- What is kept of the items of the new text is what is kept of those of the old one, with this in the place of item i; and they say to each

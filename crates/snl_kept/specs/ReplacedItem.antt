@@ -16,7 +16,7 @@ use Rattle.snl_scope.specs.declared.summaries.summary.Outline.{Outline}
 use Rattle.snl_check.specs.declared.rules.findings.Checked.{Checked}
 use Rattle.snl_check.specs.Items.{outline_of_item}
 use Rattle.snl_check.specs.Shifted.{shifted_item, shifted_tokens}
-use Rattle.snl_check.specs.Moved.{ReplacesOneBy}
+use Rattle.snl_check.specs.Moved.{ReplacesOne}
 use Rattle.snl_check.specs.ShiftedAround.{is_plain}
 use Rattle.snl_kept.specs.declared.entries.Entry.{Entry}
 use Rattle.snl_kept.specs.declared.found.findings.Finding.{Finding}
@@ -113,7 +113,7 @@ pub record IsOneReplaced (old text : List ℕ) (start old_stop new_stop : ℕ) (
   pub back : List ProgramItem
   pub number : length front ≡ c.items.kept_front
   pub inside : ReplacesInside old text t.by (own_head old c) front (program_item old (own_tokens old c.items.kept_front)) (program_item text (own_tokens text c.items.kept_front)) back
-  pub one : ReplacesOneBy old text t.by (moved_line t) (items_of old) (items_of text) c.items.kept_front
+  pub one : ReplacesOne old text t.by (moved_line t) (items_of old) (items_of text) c.items.kept_front
   -- the edit of the tokens is among its own
   pub first : own_start old c.items.kept_front ≤ c.tokens.edit.start
   pub stop : c.tokens.edit.old_stop ≤ own_start old (c.items.kept_front + 1)

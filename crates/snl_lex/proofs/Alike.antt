@@ -9,7 +9,7 @@ use Rattle.snl_lex.specs.Pieces.{bytes_at, moved_piece, piece_at, piece_end, pie
 use Rattle.snl_lex.proofs.Members.{Leads, end_at, split}
 
 -- Two texts that agree before a place agree on any part that lies before it.
-part_agrees : (old text : List ℕ) (a from m : ℕ) → take a old ≡ take a text → from + m ≤ a → take m (drop from text) ≡ take m (drop from old)
+pub part_agrees : (old text : List ℕ) (a from m : ℕ) → take a old ≡ take a text → from + m ≤ a → take m (drop from text) ≡ take m (drop from old)
 part_agrees old text a from m h le =
     let one : take (from + m) text ≡ take (from + m) old = sym (take-take (from + m) a text le) ∙ (ap (take (from + m)) (sym h) ∙ take-take (from + m) a old le) in
     sym (drop-take from m text) ∙ (ap (drop from) one ∙ drop-take from m old)

@@ -37,7 +37,7 @@ pub filter_same : (p q : Marker → Bool) → (ms : List Marker) → AllByRecurs
 filter_same p q [] h = refl
 filter_same p q (m ∷ ms) h = ap₂ (λ (b : Bool) (l : List Marker). cond b (m ∷ l) l) h.0 (filter_same p q ms h.1)
 
-each : (P : Marker → Type 0) → ((m : Marker) → P m) → (ms : List Marker) → AllByRecursion P ms
+pub each : (P : Marker → Type 0) → ((m : Marker) → P m) → (ms : List Marker) → AllByRecursion P ms
 each P h [] = tt
 each P h (m ∷ ms) = (h m, each P h ms)
 

@@ -26,7 +26,7 @@ use Rattle.snl_lex.proofs.Members.{Leads, end_at, pieces_lead, some_piece, split
 
 -- ---- where pieces end
 
-piece_at_end : (text : List ℕ) (from : ℕ) (p : Piece) (ps : List Piece) (to : ℕ) → Leads text from (p ∷ ps) to → (from < piece_end p) × (piece_end p ≤ length text) × Leads text (piece_end p) ps to
+pub piece_at_end : (text : List ℕ) (from : ℕ) (p : Piece) (ps : List Piece) (to : ℕ) → Leads text from (p ∷ ps) to → (from < piece_end p) × (piece_end p ≤ length text) × Leads text (piece_end p) ps to
 piece_at_end text from p ps to h =
     let e : piece_end p ≡ from + piece_length (drop from text) = ap piece_end h.1 ∙ end_at text from in
     let some = some_piece text from h.0 in
@@ -41,6 +41,10 @@ all_above text from low (p ∷ ps) to h le =
 weaker : (a b : ℕ) (ps : List Piece) → a ≤ b → AllByRecursion (λ p. b ≤ piece_end p) ps → AllByRecursion (λ p. a ≤ piece_end p) ps
 weaker a b [] le h = tt
 weaker a b (p ∷ ps) le h = (omega (arith, le, h.0), weaker a b ps le h.1)
+
+-- Pieces from a place on end at it or after it.
+pub ends_above : (text : List ℕ) (from low : ℕ) (ps : List Piece) (to : ℕ) → Leads text from ps to → low ≤ from → AllByRecursion (λ p. low ≤ piece_end p) ps
+ends_above text from low ps to h le = weaker low (suc low) ps (omega arith) (all_above text from low ps to h le)
 
 below_yes : (e place : ℕ) (es : List ℕ) → e < place → ends_below place (e ∷ es) ≡ suc (ends_below place es)
 below_yes e place es h = grind (arith, nat_tests)
@@ -84,7 +88,7 @@ taken_under text from (suc k) (p ∷ ps) to h =
     let e = piece_at_end text from p ps to h in
     (omega (arith, last_above text (piece_end p) k ps to e.2), taken_under text (piece_end p) k ps to e.2)
 
-starts_above : (text : List ℕ) (from low : ℕ) (ps : List Piece) (to : ℕ) → Leads text from ps to → low ≤ from → AllByRecursion (λ p. low ≤ p.start) ps
+pub starts_above : (text : List ℕ) (from low : ℕ) (ps : List Piece) (to : ℕ) → Leads text from ps to → low ≤ from → AllByRecursion (λ p. low ≤ p.start) ps
 starts_above text from low [] to h le = tt
 starts_above text from low (p ∷ ps) to h le =
     let e = piece_at_end text from p ps to h in
@@ -209,7 +213,7 @@ file_there s quote count place h =
       | inr other ↦ no_file place (length s) (sym (no_quote s quote count other) ∙ h)
     ]
 
-file_inside : (s : List ℕ) (place : ℕ × ℕ) → marker_file s ≡ Some place → place.0 < length s
+pub file_inside : (s : List ℕ) (place : ℕ × ℕ) → marker_file s ≡ Some place → place.0 < length s
 file_inside s place h =
     let quote : ℕ = gap_end s (number_stop s) in
     file_there s quote (run_by (string_joins 34) [] (drop 1 (drop quote s))) place (sym (file_is s quote refl) ∙ h)
@@ -248,7 +252,7 @@ passing test text p = test p.kind (bytes_at text p)
 abbrev marker_by : Piece → List ℕ → Marker
 marker_by p s = record { end = piece_end p; number = unwrap_or (marker_number s) 0; file = place_from p.start (marker_file s) }
 
-front_marked : (test : Class → List ℕ → Bool) (old text : List ℕ) (ps : List Piece) → AllByRecursion (λ p. bytes_at text p ≡ bytes_at old p) ps → marked (passing test text) text ps ≡ marked (passing test old) old ps
+pub front_marked : (test : Class → List ℕ → Bool) (old text : List ℕ) (ps : List Piece) → AllByRecursion (λ p. bytes_at text p ≡ bytes_at old p) ps → marked (passing test text) text ps ≡ marked (passing test old) old ps
 front_marked test old text [] h = refl
 front_marked test old text (p ∷ ps) h =
     let rest = front_marked test old text ps h.1 in
@@ -268,7 +272,7 @@ marker_moved b c p s le =
     let M : ℕ → Option (ℕ × ℕ) → Marker = λ (end : ℕ) (file : Option (ℕ × ℕ)). record { end = end; number = n; file = file } in
     ap₂ M e (place_moved b c p.start (marker_file s) le)
 
-back_marked : (test : Class → List ℕ → Bool) (old text : List ℕ) (b c : ℕ) (ps : List Piece) → AllByRecursion (λ p. bytes_at text (moved_piece b c p) ≡ bytes_at old p) ps → AllByRecursion (λ p. b ≤ p.start) ps
+pub back_marked : (test : Class → List ℕ → Bool) (old text : List ℕ) (b c : ℕ) (ps : List Piece) → AllByRecursion (λ p. bytes_at text (moved_piece b c p) ≡ bytes_at old p) ps → AllByRecursion (λ p. b ≤ p.start) ps
     → marked (passing test text) text (map (moved_piece b c) ps) ≡ map (moved_marker b c) (marked (passing test old) old ps)
 back_marked test old text b c [] h g = refl
 back_marked test old text b c (p ∷ ps) h g =

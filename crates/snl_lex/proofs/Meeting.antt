@@ -58,7 +58,7 @@ between text from (x ∷ xs) (y ∷ ys) a b h w le =
     between text x xs ys a b h.2 (subst (λ (p : ℕ). Walks piece_length text p ys b) same w.2) le
 
 -- After the edit both texts are the same, moved.
-same_rest : (old text : List ℕ) (start b c p : ℕ) → IsEdit old text start b c → c ≤ p → drop ((p - c) + b) old ≡ drop p text
+pub same_rest : (old text : List ℕ) (start b c p : ℕ) → IsEdit old text start b c → c ≤ p → drop ((p - c) + b) old ≡ drop p text
 same_rest old text start b c p edit le =
     let one : b + (p - c) ≡ (p - c) + b = omega arith in
     let other : c + (p - c) ≡ p = omega arith in
@@ -111,7 +111,7 @@ moved_along old text start b c edit p q (x ∷ es) le e to w =
     ap (λ (z : Piece). z ∷ pieces_along text ((x - b) + c) (moved b c es)) head ∙ ap (λ (l : List Piece). F ((q - b) + c) (drop q old) ∷ l) tail
 
 -- The pieces before the edit.
-part_same : (old text : List ℕ) (a from m : ℕ) → take a old ≡ take a text → from + m ≤ a → take m (drop from old) ≡ take m (drop from text)
+pub part_same : (old text : List ℕ) (a from m : ℕ) → take a old ≡ take a text → from + m ≤ a → take m (drop from old) ≡ take m (drop from text)
 part_same old text a from m h le =
     let one : take (from + m) old ≡ take (from + m) text = sym (take-take (from + m) a old le) ∙ (ap (take (from + m)) h ∙ take-take (from + m) a text le) in
     sym (drop-take from m old) ∙ (ap (drop from) one ∙ drop-take from m text)

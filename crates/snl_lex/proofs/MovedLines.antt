@@ -25,7 +25,7 @@ use Rattle.snl_lex.proofs.CountedLines.{Good, IsCounted, IsSmall, all_small, cou
 
 -- ---- lists of markers
 
-filter_moved : (f : Marker → Marker) (p q : Marker → Bool) (ms : List Marker) → AllByRecursion (λ m. q (f m) ≡ p m) ms → filter q (map f ms) ≡ map f (filter p ms)
+pub filter_moved : (f : Marker → Marker) (p q : Marker → Bool) (ms : List Marker) → AllByRecursion (λ m. q (f m) ≡ p m) ms → filter q (map f ms) ≡ map f (filter p ms)
 filter_moved f p q [] h = refl
 filter_moved f p q (m ∷ ms) h = ap₂ (λ (b : Bool) (l : List Marker). cond b (f m ∷ l) l) h.0 (filter_moved f p q ms h.1) ∙ by (p m)
   where

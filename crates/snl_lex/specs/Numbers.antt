@@ -48,14 +48,15 @@ value_after base value (d ∷ ds) = value_after base (value * radix base + digit
 abbrev pub checked_value : ℕ → Option ℕ
 checked_value value = if nat_lt value 18446744073709551616 then Some value else None
 
--- What an Int may end with: `u`, `l`, `ll` in either case, the two letters of `ll` in the same one, or `u` and one of these in either order.
+-- What an Int may end with: nothing, `u`, `l` or `ll`, or a `u` and one of `l` and `ll` in either order. Each may be in either case,
+-- but the two letters of `ll` are in the same one.
 abbrev pub int_suffixes : List (List ℕ)
 int_suffixes =
     [] ∷ codes "u" ∷ codes "U" ∷ codes "l" ∷ codes "L" ∷ codes "ll" ∷ codes "LL"
     ∷ codes "ul" ∷ codes "uL" ∷ codes "Ul" ∷ codes "UL" ∷ codes "lu" ∷ codes "lU" ∷ codes "Lu" ∷ codes "LU"
     ∷ codes "ull" ∷ codes "uLL" ∷ codes "Ull" ∷ codes "ULL" ∷ codes "llu" ∷ codes "llU" ∷ codes "LLu" ∷ codes "LLU" ∷ []
 
--- These in three parts: a `u`, or an `l` or two; a `u` and one `l`; a `u` and two.
+-- These in three parts: nothing, a `u`, or one `l` or two; a `u` and one `l`; a `u` and two.
 abbrev pub lone_suffixes : List (List ℕ)
 lone_suffixes = [] ∷ codes "u" ∷ codes "U" ∷ codes "l" ∷ codes "L" ∷ codes "ll" ∷ codes "LL" ∷ []
 

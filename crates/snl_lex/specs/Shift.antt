@@ -1,10 +1,9 @@
 -- How an edit shifts what is outside the bytes that it replaces: offsets, pieces and lines.
-use Rattle.std.specs.Prelude.{◌≡◌, ℕ, ◌+◌, ◌-◌, ◌^◌, ◌<◌, ◌≤◌, ◌⊎◌, if◌then◌else◌, List, length, min, nat_lt, count_by}
-use Rattle.snl_cut.specs.Cut.{IsEdit}
+use Rattle.std.specs.Prelude.{ℕ, ◌+◌, ◌-◌, ◌^◌, ◌<◌, ◌≤◌, ◌⊎◌, if◌then◌else◌, List, length, min, nat_lt, count_by}
 use Rattle.snl_lex.specs.declared.lines.Line.{Line}
 use Rattle.snl_lex.specs.declared.piece.Piece.{Piece}
 use Rattle.snl_lex.specs.declared.shift.Shift.{Shift}
-use Rattle.snl_lex.specs.Lines.{is_marker, lines_between}
+use Rattle.snl_lex.specs.Lines.{is_marker}
 use Rattle.snl_lex.specs.PieceList.{piece_kinds}
 
 -- The most that the machine counts to.
@@ -30,14 +29,3 @@ IsOutside old s offset = (offset < s.start) ⊎ ((s.old_stop ≤ offset) × (off
 -- How many of the pieces are line markers.
 abbrev pub marker_count : List ℕ → ℕ
 marker_count text = count_by is_marker (piece_kinds text)
-
--- An edit of a text, with how many line ends it takes out and puts in. It is not at the beginning of the text, and neither text has line markers.
-pub record IsShift (old text : List ℕ) (s : Shift) : Type 0 where
-  pub edit : IsEdit old text s.start s.old_stop s.new_stop
-  pub some_before : 0 < s.start
-  pub old_lines : s.old_lines ≡ lines_between old s.start s.old_stop
-  pub new_lines : s.new_lines ≡ lines_between text s.start s.new_stop
-  pub no_old_marker : marker_count old ≡ 0
-  pub no_marker : marker_count text ≡ 0
-  pub old_short : length old < 2 ^ 32
-  pub short : length text < 2 ^ 32

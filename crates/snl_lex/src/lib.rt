@@ -32,7 +32,7 @@ pub use listed_tokens::tokens_among;
 pub use numbers::int_value;
 pub use piece::{Class, Piece};
 pub use piece_list::{PieceChange, PieceList, TextEdit};
-pub use shift::{Shift, lines_shift};
+pub use shift::Shift;
 pub use token_kind::kind_of;
 
 /// The bytes of a piece.

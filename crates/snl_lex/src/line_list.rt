@@ -53,8 +53,8 @@ fn move_from(markers: &mut Vec<Marker>, from: usize, old_stop: usize, new_stop: 
     move_all(&mut markers[from..], old_stop, new_stop);
 }
 
-// How many markers end before a place.
-fn markers_before(markers: &[Marker], place: usize) -> usize
+/// How many markers end before a place. They rise, so few of them are looked at.
+pub fn markers_before(markers: &[Marker], place: usize) -> usize
     requires { IsNonDecreasingBy (λ (m : Marker). m.end) markers.now }
     ensures count { result ≡ count_by (λ m. nat_lt m.end place) markers.now }
     ensures inside { result ≤ length markers.now }

@@ -2,13 +2,14 @@
 //! In: an edit of a text, and the lines of both texts. Out: whether the markers stay, and the new line of what the edit leaves.
 
 ghost use Rattle.snl_lex.specs.LineList.{IsLineList};
-ghost use Rattle.snl_lex.specs.LineShift.{CountsAfter, IsApart, IsLineShift, NumbersFrom, moved_line, shifted_file, shifted_marker};
+ghost use Rattle.snl_lex.specs.LineShift.{CountsAfter, IsLineShift, NumbersFrom, moved_line, shifted_file, shifted_marker};
 ghost use Rattle.snl_lex.specs.Lines.{line_at, lines_between};
 ghost use Rattle.snl_lex.specs.declared.line_shift.LineShift.{LineShift};
 ghost use Rattle.snl_lex.specs.Shift.{IsOutside, shifted_offset};
-ghost use Rattle.std.specs.Prelude.{◌≡◌, ◌+◌, ◌^◌, ◌<◌, ◌≤◌, ℕ, All, IfSome, IsTrue, List, drop, length, map, slice_get, take};
+ghost use Rattle.std.specs.List.Sorted.{IsNonDecreasingBy};
+ghost use Rattle.std.specs.Prelude.{◌≡◌, ◌^◌, ◌<◌, ◌≤◌, ℕ, All, IfSome, IsTrue, List, length, option_map, slice_get};
 
-use crate::line_list::{LineList, Marker};
+use crate::line_list::{LineList, Marker, markers_before};
 use crate::lines::Line;
 use crate::piece_list::TextEdit;
 use crate::shift::Shift;
@@ -40,25 +41,15 @@ fn shifted_marker(shift: Shift, marker: Marker) -> Marker
     }
 }
 
-fn is_shifted(shift: Shift, old: &Marker, new: &Marker) -> bool
-    ensures { IsTrue result → new.now ≡ shifted_marker shift old.now }
+// Whether a marker of the new text is that of the old one, shifted, or both are none.
+fn is_shifted(shift: Shift, old: Option<Marker>, new: Option<Marker>) -> bool
+    ensures { IsTrue result → new ≡ option_map (shifted_marker shift) old }
 {
-    *new == shifted_marker(shift, *old)
-}
-
-// Whether markers are others, each at its place or shifted.
-fn are_shifted(shift: Shift, old: &[Marker], new: &[Marker]) -> bool
-    ensures { IsTrue result → new.now ≡ map (shifted_marker shift) old.now }
-{
-    if old.len() != new.len() {
-        return false;
+    match (old, new) {
+        (Some(old), Some(new)) => new == shifted_marker(shift, old),
+        (None, None) => true,
+        _ => false,
     }
-    for (number, marker) in old.iter().enumerate() {
-        if !is_shifted(shift, marker, &new[number]) {
-            return false;
-        }
-    }
-    true
 }
 
 // Whether a marker ends at a line's end before a place.
@@ -74,24 +65,17 @@ fn counts_after(text: &[u8], place: usize, marker: Marker) -> bool
     }
 }
 
-// Whether all markers do.
+// Whether all of these markers do. They rise, so the last one tells.
+#[tactic(auto, using(crate::proofs::KeptMarkers::all_after))]
 fn count_after(text: &[u8], place: usize, markers: &[Marker]) -> bool
-    requires { place ≤ length text.now }
+    requires place { place ≤ length text.now }
+    requires rising { IsNonDecreasingBy (λ (m : Marker). m.end) markers.now }
     ensures { IsTrue result → All (CountsAfter text.now place) markers.now }
 {
-    markers
-        .iter()
-        .all(|marker| counts_after(text, place, *marker))
-}
-
-// How many markers there are before the first that doesn't end before a place.
-fn count_before(markers: &[Marker], place: usize) -> usize
-    ensures { result ≤ length markers.now }
-{
-    markers
-        .iter()
-        .position(|marker| place <= marker.end)
-        .unwrap_or(markers.len())
+    match markers.last() {
+        Some(last) => counts_after(text, place, *last),
+        None => true,
+    }
 }
 
 fn marker_at(markers: &[Marker], number: usize) -> Option<Marker>
@@ -114,62 +98,10 @@ fn numbered_from(old: &[u8], marker: Option<Marker>) -> Option<usize>
     Some(marker.end + 1)
 }
 
-// Whether no marker numbers a line before this place.
-fn number_after(markers: &[Marker], until: usize) -> bool
-    ensures { IsTrue result → All (λ m. until ≤ m.end + 1) markers.now }
-{
-    markers
-        .iter()
-        .all(|marker| until.saturating_sub(1) <= marker.end)
-}
-
-fn is_apart(old: &[u8], shift: Shift, marker: Marker) -> bool
-    requires { shift.start ≤ length old.now }
-    ensures { IsTrue result → IsApart old.now shift marker }
-{
-    shift.old_stop <= marker.end || counts_after(old, shift.start, marker)
-}
-
-// Whether each marker counts for all that comes after the edit, or is after it.
-fn are_apart(old: &[u8], shift: Shift, markers: &[Marker]) -> bool
-    requires { shift.start ≤ length old.now }
-    ensures { IsTrue result → All (IsApart old.now shift) markers.now }
-{
-    markers.iter().all(|marker| is_apart(old, shift, *marker))
-}
-
-// Whether a shift leaves the markers that set a line, of which so many end before the edit, and none after it numbers a line before this place.
-fn leaves_setting(
-    shift: Shift,
-    old: &[u8],
-    until: usize,
-    early: usize,
-    markers: &[Marker],
-    after: &[Marker],
-) -> bool
-    requires inside { shift.start ≤ length old.now }
-    requires early { early ≤ length markers.now }
-    ensures before { IsTrue result → All (CountsAfter old.now shift.start) (take early markers.now) }
-    ensures after { IsTrue result → All (λ m. until ≤ m.end + 1) (drop early markers.now) }
-    ensures shifted { IsTrue result → after.now ≡ map (shifted_marker shift) markers.now }
-{
-    count_after(old, shift.start, &markers[..early])
-        && number_after(&markers[early..], until)
-        && are_shifted(shift, markers, after)
-}
-
-// Whether it leaves those that name a file.
-fn leaves_naming(shift: Shift, old: &[u8], naming: &[Marker], after: &[Marker]) -> bool
-    requires { shift.start ≤ length old.now }
-    ensures apart { IsTrue result → All (IsApart old.now shift) naming.now }
-    ensures shifted { IsTrue result → after.now ≡ map (shifted_marker shift) naming.now }
-{
-    are_apart(old, shift, naming) && are_shifted(shift, naming, after)
-}
-
 impl LineShift {
-    /// Of an edit that is this shift, by the lines of both texts, if it is not at the beginning of the text and leaves the line markers as they are, at
-    /// their places or shifted.
+    /// Of an edit that is this shift, by the lines of both texts, if it is not at the beginning of
+    /// the text and leaves the line markers as they are, at their places or shifted. It looks at
+    /// few of them.
     pub fn along(
         by: Shift,
         edit: &TextEdit,
@@ -186,14 +118,18 @@ impl LineShift {
         ensures by { IfSome result (λ t. t.by ≡ by) }
         ensures shift { IfSome result (IsLineShift edit.now.old.now edit.now.text.now) }
     {
-        let (markers, naming) = (before.markers.as_slice(), before.naming.as_slice());
-        let (new_markers, new_naming) = (after.markers.as_slice(), after.naming.as_slice());
-        let early = count_before(markers, by.start);
-        let until = numbered_from(edit.old, marker_at(markers, early))?;
-        if by.start > 0
-            && by.old_stop < until
-            && leaves_setting(by, edit.old, until, early, markers, new_markers)
-            && leaves_naming(by, edit.old, naming, new_naming)
+        if by.start == 0 {
+            return None;
+        }
+        let (markers, new_markers) = (before.markers.as_slice(), after.markers.as_slice());
+        let early = markers_before(markers, by.start);
+        let next = marker_at(markers, early);
+        let until = numbered_from(edit.old, next)?;
+        // From the end of a marker that both texts have on, they are cut alike: so the next one
+        // tells of all after it.
+        if by.old_stop < until
+            && count_after(edit.old, by.start, &markers[..early])
+            && is_shifted(by, next, marker_at(new_markers, early))
         {
             Some(LineShift { by, until })
         } else {

@@ -1,12 +1,10 @@
 //! How an edit shifts what is outside the bytes that it replaces.
-//! In: an edit of a text. Out: the new offset and the new line of what it leaves.
+//! In: an edit of a text. Out: the new offset of what it leaves.
 
-ghost use Rattle.snl_cut.specs.Cut.{IsEdit};
-ghost use Rattle.snl_lex.specs.Lines.{line_at, lines_between};
-ghost use Rattle.snl_lex.specs.Shift.{IsOutside, IsShift, shifted_line, shifted_offset};
-ghost use Rattle.std.specs.Prelude.{◌≡◌, ◌≤◌, ℕ, List, length};
+ghost use Rattle.snl_lex.specs.Lines.{lines_between};
+ghost use Rattle.snl_lex.specs.Shift.{shifted_offset};
+ghost use Rattle.std.specs.Prelude.{◌≡◌, ◌≤◌, length};
 
-use crate::lines::Line;
 use crate::piece_list::TextEdit;
 
 /// An edit of a text, by its places: the bytes from `start` up to `old_stop` became those up to `new_stop`. So many line ends went
@@ -59,27 +57,4 @@ impl Shift {
                 .saturating_add(self.new_stop)
         }
     }
-
-    /// The line of an offset after the edit, by the offset and its line before it.
-    pub fn line(self, offset: usize, line: Line) -> Line
-        ensures { result ≡ shifted_line self offset line }
-    {
-        if offset < self.start {
-            line
-        } else {
-            Line {
-                number: line
-                    .number
-                    .saturating_add(self.new_lines)
-                    .saturating_sub(self.old_lines),
-                file: line.file,
-            }
-        }
-    }
 }
-
-/// Where there are no line markers, an edit shifts lines by the line ends that it takes out and puts in.
-pub fn lines_shift()
-    ensures { (old text : List ℕ) (s : Shift) (offset : ℕ) → IsShift old text s → IsOutside old s offset
-        → line_at text (shifted_offset s offset) ≡ shifted_line s offset (line_at old offset) }
-{}

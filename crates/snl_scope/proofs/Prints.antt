@@ -12,7 +12,7 @@ use Rattle.std.proofs.Math.Seq.{get_or-append_seam, take-suc}
 use Rattle.snl_walk.specs.Prints.{print_of}
 use Rattle.snl_scope.specs.Prints.{AreFound, last_with}
 use Rattle.snl_scope.proofs.Elements.{get_last, told}
-use Rattle.snl_scope.proofs.Numbering.{position-push}
+use Rattle.snl_scope.proofs.Numbering.{name-new, position-push}
 
 abbrev Name : Type 0
 Name = List ℕ
@@ -143,13 +143,30 @@ get_front (y ∷ ys) x (suc n) h = get_front ys x n (omega (arith, h))
 below_or_last : (n m : ℕ) → n < suc m → (n < m) ⊎ (n ≡ m)
 below_or_last n m h = elim (told (nat_lt n m)) [ inl less ↦ inl (lt_told n m less) | inr more ↦ inr (omega (arith, h, ge_told n m more)) ]
 
-pub found_with : (names : List Name) (earlier : List (Option ℕ)) (last after : List (ℕ × ℕ)) (name : Name) (before : Option ℕ) → AreFound names earlier last → before ≡ last_with names (print_of name) (length names)
+-- A name that is found is found in the same place with one more.
+stays_first : (names : List Name) (name x : Name) (n : ℕ) → position (bytes_eq x) names ≡ Some n → position (bytes_eq x) (names ++ name ∷ []) ≡ Some n
+stays_first names name x n h =
+    position-push (bytes_eq x) names name
+    ∙ ap (λ (o : Option ℕ). option_or o (cond (bytes_eq x name) (Some (length names)) None)) h
+
+pub found_with : (names : List Name) (earlier : List (Option ℕ)) (last after : List (ℕ × ℕ)) (name : Name) (before : Option ℕ) → AreFound names earlier last → position (bytes_eq name) names ≡ None → before ≡ last_with names (print_of name) (length names)
     → ((q : ℕ) → lookup (nat_eq q) after ≡ (if nat_eq (print_of name) q then Some (length names) else lookup (nat_eq q) last)) → AreFound (names ++ name ∷ []) (earlier ++ before ∷ []) after
-found_with names earlier last after name before is told_before put =
+found_with names earlier last after name before is new told_before put =
     let all : List Name = names ++ name ∷ [] in
     let last_name : get_or all (length names) [] ≡ name = get_or-append_seam names name [] [] in
     record {
       count = one_more earlier before ∙ ap suc is.count ∙ sym (one_more names name);
+      different = λ n h.
+          let lt : n < suc (length names) = omega (arith, h, one_more names name) in
+          elim (below_or_last n (length names) lt) [
+            | inl less ↦
+                ap (λ (x : Name). position (bytes_eq x) all) (get_or_append_left names (name ∷ []) [] n less)
+                ∙ stays_first names name (get_or names n []) n (is.different n less)
+            | inr last_one ↦
+                ap (λ (x : Name). position (bytes_eq x) all) (ap (λ (m : ℕ). get_or all m []) last_one ∙ last_name)
+                ∙ name-new names name (sym new)
+                ∙ ap Some (sym last_one)
+          ];
       by_print = λ q.
           put q
           ∙ ap (λ (o : Option ℕ). if nat_eq (print_of name) q then Some (length names) else o) (is.by_print q ∙ sym (kept_before names name q (length names) (omega arith)))

@@ -71,10 +71,6 @@ accept x (s ∷ k) = if same s.0 x then Ok (true, k) else Ok (false, s ∷ k)
 abbrev pub word : {A : Type 0} → Kind → A → Reader A
 word x a = expect x >> pure a
 
--- what is read, beside a value
-abbrev pub beside : {A B : Type 0} → A → Reader B → Reader (A × B)
-beside a p = p >>= (λ b. pure (a, b))
-
 -- ---- lists: element after element, until one answers that there is none
 
 abbrev pub more_or : {A : Type 0} → List A → (List A → Reader (List A)) → Option A → Reader (List A)

@@ -15,7 +15,7 @@ use crate::operator::{
     tier,
 };
 use crate::stop::{Step, Stop};
-use crate::token_steps::{expect, kind_at, past, turns};
+use crate::token_steps::{beside, expect, kind_at, past, turns};
 use crate::tree::expression::{Expr, Prefix, Suffix};
 use crate::tree::types::TypeName;
 use crate::types::{begins_type, type_name};
@@ -381,21 +381,6 @@ impl<F: Fn(Global, &[Kind], usize, usize) -> Result<(Expr, usize), Stop>> Expres
         self.more(kinds, at, found)
     }
 
-    // The expressions after commas are read while a value is held.
-    #[tactic(auto, unfolding(crate::specs::Steps::and_then))]
-    fn with_more<T: Drop>(
-        &self,
-        kinds: &[Kind],
-        at: usize,
-        held: T,
-    ) -> Result<((T, Items<Expr>), usize), Stop>
-        requires { Nests self.now.depth (F.pre self.now.single) (F.post self.now.single) }
-        ensures { Reads kinds.now result (read.beside held (read.many (spec.next_comma (spec.assignx self.now.depth)) []) (ahead kinds.now at)) }
-    {
-        let (rest, at) = self.more(kinds, at, Items::new(self.alloc))?;
-        Ok(((held, rest), at))
-    }
-
     /// Expressions with commas between.
     #[tactic(auto, unfolding(crate::specs::Reading::Expressions::sequence, crate::specs::Steps::and_then))]
     pub fn sequence(&self, kinds: &[Kind], at: usize) -> Result<(Expr, usize), Stop>
@@ -403,7 +388,7 @@ impl<F: Fn(Global, &[Kind], usize, usize) -> Result<(Expr, usize), Stop>> Expres
         ensures { Reads kinds.now result (spec.sequence (spec.assignx self.now.depth) (ahead kinds.now at)) }
     {
         let (first, at) = self.nested(kinds, at)?;
-        let ((first, rest), at) = self.with_more(kinds, at, first)?;
+        let ((first, rest), at) = beside(first, self.more(kinds, at, Items::new(self.alloc)))?;
         Ok((sequenced(self.alloc, first, rest)?, at))
     }
 
@@ -698,22 +683,6 @@ impl<F: Fn(Global, &[Kind], usize, usize) -> Result<(Expr, usize), Stop>> Expres
         self.tiers_from(kinds, at, tier, first)
     }
 
-    // An operand is read while a value is held.
-    #[tactic(auto, unfolding(crate::specs::Steps::and_then))]
-    fn with_operand<T: Drop>(
-        &self,
-        kinds: &[Kind],
-        at: usize,
-        tier: usize,
-        held: T,
-    ) -> Result<((T, Expr), usize), Stop>
-        requires { Nests self.now.depth (F.pre self.now.single) (F.post self.now.single) }
-        ensures { Reads kinds.now result (read.beside held (spec.operand (spec.assignx self.now.depth) (spec.type_within self.now.depth) tier) (ahead kinds.now at)) }
-    {
-        let (x, at) = self.operand(kinds, at, tier)?;
-        Ok(((held, x), at))
-    }
-
     #[tactic(auto, unfolding(crate::specs::Reading::Expressions::next_arm, crate::specs::Steps::and_then))]
     fn next_arm(&self, kinds: &[Kind], at: usize) -> Result<(Option<(Expr, Expr)>, usize), Stop>
         requires { Nests self.now.depth (F.pre self.now.single) (F.post self.now.single) }
@@ -724,7 +693,7 @@ impl<F: Fn(Global, &[Kind], usize, usize) -> Result<(Expr, usize), Stop>> Expres
                 let at = expect(kinds, at, Kind::Question)?;
                 let (x, at) = self.sequence(kinds, at)?;
                 let (x, at) = past(kinds, at, Kind::Colon, x)?;
-                let (arm, at) = self.with_operand(kinds, at, LOOSEST, x)?;
+                let (arm, at) = beside(x, self.operand(kinds, at, LOOSEST))?;
                 Ok((Some(arm), at))
             }
             _ => Ok((None, at)),
@@ -748,21 +717,6 @@ impl<F: Fn(Global, &[Kind], usize, usize) -> Result<(Expr, usize), Stop>> Expres
         Ok((found, at))
     }
 
-    // The arms are read while a value is held.
-    #[tactic(auto, unfolding(crate::specs::Steps::and_then))]
-    fn with_arms<T: Drop>(
-        &self,
-        kinds: &[Kind],
-        at: usize,
-        held: T,
-    ) -> Result<((T, Items<(Expr, Expr)>), usize), Stop>
-        requires { Nests self.now.depth (F.pre self.now.single) (F.post self.now.single) }
-        ensures { Reads kinds.now result (read.beside held (read.many (spec.next_arm (spec.assignx self.now.depth) (spec.type_within self.now.depth)) []) (ahead kinds.now at)) }
-    {
-        let (arms, at) = self.arms(kinds, at)?;
-        Ok(((held, arms), at))
-    }
-
     #[tactic(auto, unfolding(crate::specs::Reading::Expressions::conditional_from, crate::specs::Steps::and_then))]
     fn conditional_from(
         &self,
@@ -774,7 +728,7 @@ impl<F: Fn(Global, &[Kind], usize, usize) -> Result<(Expr, usize), Stop>> Expres
         ensures { Reads kinds.now result (spec.conditional_from (spec.assignx self.now.depth) (spec.type_within self.now.depth) first (ahead kinds.now at)) }
     {
         let (first, at) = self.tiers_from(kinds, at, LOOSEST, first)?;
-        let ((first, arms), at) = self.with_arms(kinds, at, first)?;
+        let ((first, arms), at) = beside(first, self.arms(kinds, at))?;
         Ok((conditional(self.alloc, first, arms)?, at))
     }
 

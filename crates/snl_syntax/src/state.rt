@@ -12,7 +12,7 @@ use crate::clause::{clause, foreign, option_line};
 use crate::declaration::declaration;
 use crate::statement::{before_paren, block};
 use crate::stop::Stop;
-use crate::token_steps::{expect, kind_at, turns};
+use crate::token_steps::{beside, expect, kind_at, turns};
 use crate::tree::state::{StateMember, Target, Transition};
 use crate::tree::statement::Member;
 use snl_lex::Kind;
@@ -71,30 +71,6 @@ fn target(kinds: &[Kind], at: usize) -> Result<(Target, usize), Stop>
     }
 }
 
-// A block is read while a value is held.
-#[tactic(auto, unfolding(crate::specs::Steps::and_then))]
-fn then_block<T: Drop>(
-    alloc: Global,
-    kinds: &[Kind],
-    at: usize,
-    depth: usize,
-    held: T,
-) -> Result<((T, Items<Member>), usize), Stop>
-    ensures { Reads kinds.now result (read.beside held (statements.block depth) (ahead kinds.now at)) }
-{
-    let (block, at) = block(alloc, kinds, at, depth)?;
-    Ok(((held, block), at))
-}
-
-// Where a transition leads is read while a value is held.
-#[tactic(auto, unfolding(crate::specs::Steps::and_then))]
-fn then_target<T: Drop>(kinds: &[Kind], at: usize, held: T) -> Result<((T, Target), usize), Stop>
-    ensures { Reads kinds.now result (read.beside held spec.target (ahead kinds.now at)) }
-{
-    let (target, at) = target(kinds, at)?;
-    Ok(((held, target), at))
-}
-
 #[tactic(auto, unfolding(crate::specs::Reading::States::transition, crate::specs::Steps::and_then))]
 fn transition(
     alloc: Global,
@@ -108,8 +84,8 @@ fn transition(
     let at = expect(kinds, at, Kind::When)?;
     let at = expect(kinds, at, Kind::OpenParen)?;
     let (condition, at) = before_paren(alloc, kinds, at, depth - 1)?;
-    let ((condition, block), at) = then_block(alloc, kinds, at, depth, condition)?;
-    let (((condition, block), target), at) = then_target(kinds, at, (condition, block))?;
+    let ((condition, block), at) = beside(condition, block(alloc, kinds, at, depth))?;
+    let (((condition, block), target), at) = beside((condition, block), target(kinds, at))?;
     let transition = Transition {
         condition,
         block,

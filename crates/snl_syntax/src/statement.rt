@@ -14,7 +14,7 @@ ghost use Rattle.snl_syntax.specs.declared.tree.statement.Stmt.TheVariants as tr
 use crate::declaration::declaration;
 use crate::expression::{ended, expr, one_boxed};
 use crate::stop::{Step, Stop};
-use crate::token_steps::{expect, kind_at, past, turns};
+use crate::token_steps::{beside, expect, kind_at, past, turns};
 use crate::tree::expression::Expr;
 use crate::tree::statement::{ForHead, Member, Stmt};
 use crate::types::begins_type;
@@ -167,36 +167,6 @@ fn condition(alloc: Global, kinds: &[Kind], at: usize, depth: usize) -> Result<(
     past(kinds, at, Kind::CloseParen, e)
 }
 
-// What is before a semicolon is read while a value is held.
-#[tactic(auto, unfolding(crate::specs::Steps::and_then))]
-fn then_semicolon<T: Drop>(
-    alloc: Global,
-    kinds: &[Kind],
-    at: usize,
-    depth: usize,
-    held: T,
-) -> Result<((T, Option<Expr>), usize), Stop>
-    ensures { Reads kinds.now result (read.beside held (spec.before_semicolon (exprs.expr depth)) (ahead kinds.now at)) }
-{
-    let (e, at) = before_semicolon(alloc, kinds, at, depth)?;
-    Ok(((held, e), at))
-}
-
-// What is before a closing bracket is read while a value is held.
-#[tactic(auto, unfolding(crate::specs::Steps::and_then))]
-fn then_paren<T: Drop>(
-    alloc: Global,
-    kinds: &[Kind],
-    at: usize,
-    depth: usize,
-    held: T,
-) -> Result<((T, Option<Expr>), usize), Stop>
-    ensures { Reads kinds.now result (read.beside held (spec.before_paren (exprs.expr depth)) (ahead kinds.now at)) }
-{
-    let (e, at) = before_paren(alloc, kinds, at, depth)?;
-    Ok(((held, e), at))
-}
-
 #[tactic(auto, unfolding(crate::specs::Reading::Statements::for_parts, crate::specs::Steps::and_then))]
 fn for_parts(
     alloc: Global,
@@ -207,8 +177,9 @@ fn for_parts(
     ensures { Reads kinds.now result (spec.for_parts depth (ahead kinds.now at)) }
 {
     let (first, at) = before_semicolon(alloc, kinds, at, depth)?;
-    let ((first, condition), at) = then_semicolon(alloc, kinds, at, depth, first)?;
-    let (((first, condition), step), at) = then_paren(alloc, kinds, at, depth, (first, condition))?;
+    let ((first, condition), at) = beside(first, before_semicolon(alloc, kinds, at, depth))?;
+    let held = (first, condition);
+    let (((first, condition), step), at) = beside(held, before_paren(alloc, kinds, at, depth))?;
     let head = ForHead {
         first,
         condition,
@@ -394,21 +365,6 @@ impl<F: Fn(Global, &[Kind], usize, usize) -> Result<(Stmt, usize), Stop>> Statem
         }
     }
 
-    // A body is read while a value is held.
-    #[tactic(auto, unfolding(crate::specs::Steps::and_then))]
-    fn with_body<T: Drop>(
-        &self,
-        kinds: &[Kind],
-        at: usize,
-        held: T,
-    ) -> Result<((T, Stmt), usize), Stop>
-        requires { NestsStatement self.now.depth (F.pre self.now.inner) (F.post self.now.inner) }
-        ensures { Reads kinds.now result (read.beside held (spec.body self.now.depth (spec.stmt self.now.depth)) (ahead kinds.now at)) }
-    {
-        let (body, at) = self.body(kinds, at)?;
-        Ok(((held, body), at))
-    }
-
     #[tactic(auto, unfolding(crate::specs::Reading::Statements::while_loop, crate::specs::Steps::and_then))]
     fn while_loop(&self, kinds: &[Kind], at: usize) -> Result<(Stmt, usize), Stop>
         requires { NestsStatement self.now.depth (F.pre self.now.inner) (F.post self.now.inner) }
@@ -416,7 +372,7 @@ impl<F: Fn(Global, &[Kind], usize, usize) -> Result<(Stmt, usize), Stop>> Statem
     {
         let at = expect(kinds, at, Kind::While)?;
         let (e, at) = condition(self.alloc, kinds, at, self.depth)?;
-        let ((e, body), at) = self.with_body(kinds, at, e)?;
+        let ((e, body), at) = beside(e, self.body(kinds, at))?;
         Ok((while_of(self.alloc, e, body)?, at))
     }
 
@@ -427,7 +383,7 @@ impl<F: Fn(Global, &[Kind], usize, usize) -> Result<(Stmt, usize), Stop>> Statem
     {
         let at = expect(kinds, at, Kind::For)?;
         let (head, at) = for_head(self.alloc, kinds, at, self.depth)?;
-        let ((head, body), at) = self.with_body(kinds, at, head)?;
+        let ((head, body), at) = beside(head, self.body(kinds, at))?;
         Ok((for_of(self.alloc, head, body)?, at))
     }
 
@@ -441,7 +397,7 @@ impl<F: Fn(Global, &[Kind], usize, usize) -> Result<(Stmt, usize), Stop>> Statem
         requires { NestsStatement self.now.depth (F.pre self.now.inner) (F.post self.now.inner) }
         ensures { Reads kinds.now result (spec.last_body self.now.depth (spec.stmt self.now.depth) arm (ahead kinds.now at)) }
     {
-        let ((arm, body), at) = self.with_body(kinds, at, arm)?;
+        let ((arm, body), at) = beside(arm, self.body(kinds, at))?;
         Ok((last_of(self.alloc, arm, body)?, at))
     }
 
@@ -469,7 +425,7 @@ impl<F: Fn(Global, &[Kind], usize, usize) -> Result<(Stmt, usize), Stop>> Statem
     {
         let at = expect(kinds, at, Kind::If)?;
         let (e, at) = condition(self.alloc, kinds, at, self.depth)?;
-        self.with_body(kinds, at, e)
+        beside(e, self.body(kinds, at))
     }
 
     #[tactic(auto, unfolding(crate::specs::Reading::Statements::arm_step, crate::specs::Steps::and_then))]

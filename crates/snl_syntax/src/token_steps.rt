@@ -1,10 +1,11 @@
 //! Steps over the tokens of an item.
 
-ghost use Rattle.std.specs.Prelude.{◌≡◌, ◌<◌, get_or, length, suc, IfOk, Ok};
+ghost use Rattle.std.specs.Prelude.{◌≡◌, ◌<◌, List, get_or, length, suc, IfOk, Ok};
+ghost use Rattle.snl_lex.specs.declared.kind.Kind.{Kind};
 ghost use Rattle.snl_syntax.specs.Tokens as spec;
 ghost use Rattle.snl_syntax.specs.Tokens.{ahead};
 ghost use Rattle.snl_syntax.specs.Steps as read;
-ghost use Rattle.snl_syntax.specs.Steps.{Reads, ReadsPast, ReadsToken};
+ghost use Rattle.snl_syntax.specs.Steps.{Outcome, Reads, ReadsPast, ReadsToken, and_then, pure};
 
 use crate::stop::Stop;
 use snl_lex::Kind;
@@ -149,6 +150,19 @@ pub fn past<T: Drop>(kinds: &[Kind], at: usize, kind: Kind, held: T) -> Result<(
 {
     let at = expect(kinds, at, kind)?;
     Ok((held, at))
+}
+
+/// What was read, beside a value that was held meanwhile. Its type is any, too.
+pub fn beside<T: Drop, A: Drop>(
+    held: T,
+    read: Result<(A, usize), Stop>,
+) -> Result<((T, A), usize), Stop>
+    ensures { (kinds : List Kind) (outcome : Outcome _) → Reads kinds read outcome → Reads kinds result (and_then outcome (λ a. pure (held, a))) }
+{
+    match read {
+        Ok((found, at)) => Ok(((held, found), at)),
+        Err(stop) => Err(stop),
+    }
 }
 
 /// Whether a token of this kind comes next, and the place after it then.

@@ -65,16 +65,6 @@ shifted_set s row = record {
   states = map (shifted_state s) row.states;
 }
 
-abbrev pub shifted_tables : Shift → Tables → Tables
-shifted_tables s t = record {
-  program = option_map (shifted_span s) t.program;
-  options = t.options;
-  flags = map (shifted_flag s) t.flags;
-  channels = map (shifted_channel s) t.channels;
-  variables = t.variables;
-  sets = map (shifted_set s) t.sets;
-}
-
 -- A list of which the element with a number is changed.
 abbrev pub changed_at : {X : Type 0} → (X → X) → ℕ → List X → List X
 changed_at f n [] = []

@@ -1,15 +1,12 @@
-//! Tables after an edit that only shifts what their rows point to: the rows are changed in place. No memory is asked for.
+//! What rows point to after an edit that shifts it: places are changed in place. No memory is asked for.
 
 ghost use Rattle.std.specs.Prelude.{◌≡◌, map, option_map};
 ghost use Rattle.snl_lex.specs.declared.shift.Shift.{Shift};
-ghost use Rattle.snl_lex.specs.Shift.{shifted_line};
 ghost use Rattle.snl_tables.specs.Shifted as rows;
 
 use crate::row_list::Rows;
-use crate::rows::{
-    ChannelRow, Destination, FlagRow, NamedState, ScopeName, SetRow, Span, StateRow, Tables,
-};
-use snl_lex::{Line, Shift};
+use crate::rows::{ChannelRow, Destination, FlagRow, NamedState, ScopeName, Span};
+use snl_lex::Shift;
 
 /// What an edit shifts.
 pub(crate) trait Shifts {
@@ -79,25 +76,6 @@ impl Shifts for Destination {
     }
 }
 
-impl Shifts for StateRow {
-    ghost shifted = { rows.shifted_state };
-
-    fn shift(&mut self, shift: Shift) {
-        shift_head(&mut self.name, &mut self.line, shift);
-        self.transitions.shift(shift);
-        self.gotos.shift(shift);
-    }
-}
-
-impl Shifts for SetRow {
-    ghost shifted = { rows.shifted_set };
-
-    fn shift(&mut self, shift: Shift) {
-        shift_head(&mut self.name, &mut self.line, shift);
-        self.states.shift(shift);
-    }
-}
-
 pub(crate) fn shift_any(span: &mut Option<Span>, shift: Shift)
     ensures { span.new ≡ option_map (rows.shifted_span shift) span.old }
 {
@@ -113,26 +91,5 @@ impl<T: Shifts> Shifts for Rows<T> {
         for row in self.rows.iter_mut() {
             row.shift(shift);
         }
-    }
-}
-
-// The name of an item, and its line, which is shifted as the name is.
-fn shift_head(name: &mut Span, line: &mut Line, shift: Shift)
-    ensures name { name.new ≡ rows.shifted_span shift name.old }
-    ensures line { line.new ≡ shifted_line shift name.old.start line.old }
-{
-    *line = shift.line(name.start, *line);
-    name.shift(shift);
-}
-
-impl Tables {
-    /// Shifts what the rows point to, as an edit shifts it that changes nothing else of these tables.
-    pub fn shift(&mut self, shift: Shift)
-        ensures { self.new ≡ rows.shifted_tables shift self.old }
-    {
-        shift_any(&mut self.program, shift);
-        self.flags.shift(shift);
-        self.channels.shift(shift);
-        self.sets.shift(shift);
     }
 }

@@ -6,7 +6,7 @@ ghost use Rattle.std.specs.Cmp.Lexicographic.{nat_list_eq_equiv};
 ghost use Rattle.std.specs.Hash as fed;
 ghost use Rattle.std.proofs.Common.{ap};
 ghost use Rattle.std.proofs.lemmas.Slice.Eq.{bytes_eq-Decides};
-ghost use Rattle.snl_walk.specs.Prints.{print_of};
+ghost use Rattle.snl_walk.specs.Prints.{joined_hash, print_of};
 
 use std::hash::{FoldHasher, Hash, Hasher};
 
@@ -16,19 +16,34 @@ pub struct NameKey<'a> {
     pub bytes: &'a [u8],
 }
 
-/// The print of a name, which is a hash of all its bytes, eight at a time: each write is multiplied by a constant. In a longer write
-/// some bytes would be multiplied by others, so names could be chosen of which each product is nothing: many names with one print.
+// What a hasher says after two numbers, in their order.
+fn joined_hash(a: u64, b: u64) -> u64
+    ensures { result ≡ joined_hash a b }
+{
+    let mut state = FoldHasher::default();
+    state.write_u64(a);
+    state.write_u64(b);
+    state.finish()
+}
+
+/// The print of a name, which is a hash of all its bytes. Two hashers take them, eight at a time. One word can give a hasher
+/// any state that is wanted, but not both: the second took the length before. So names of one print are found by search
+/// alone. What both say is joined in order: by a sum of the two, names that exchange their states would have one print.
 #[tactic(auto, unfolding(crate::specs::Prints::print_of))]
 pub fn print_of(name: &[u8]) -> u64
     ensures { result ≡ print_of name.now }
 {
     let (words, rest) = name.as_chunks::<8>();
-    let mut state = FoldHasher::default();
+    let mut first = FoldHasher::default();
+    let mut second = FoldHasher::default();
+    second.write_usize(name.len());
     for word in words {
-        state.write(word);
+        first.write(word);
+        second.write(word);
     }
-    state.write(rest);
-    state.finish()
+    first.write(rest);
+    second.write(rest);
+    joined_hash(first.finish(), second.finish())
 }
 
 impl PartialEq for NameKey<'_> {

@@ -1,5 +1,5 @@
-//! The tables of a text: its items, their links and what their checks gave come in, rows go out. They are made whole after each
-//! change of the text.
+//! The tables of a text: its items, their links and what their checks gave come in, rows go out.
+//! They are made whole; the laws of src/moved_laws.rt say after which edits rows can move instead.
 
 ghost use Rattle.std.specs.Prelude.{◌≡◌, IfOk, length, map, option_copied};
 ghost use Rattle.snl_lex.specs.LineList.{IsLineList};
@@ -70,7 +70,8 @@ fn rows_by_channels(
     Ok(tables)
 }
 
-// The rows of state sets, while other rows are held.
+// The rows of state sets, while other rows are held. These are of any type, so that the proof of
+// what is freed on the way out looks into no row.
 fn then_sets<T: Drop>(outline: &Outline, held: T) -> Result<(T, Vec<SetRow>), OutOfMemory>
     requires { IsOutline outline.now }
     ensures held { IfOk result (λ both. both.0 ≡ held) }

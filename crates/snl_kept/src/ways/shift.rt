@@ -109,6 +109,10 @@ pub fn shift_of(
     text_in_pieces();
     let shifted = changes.tokens.shifted?;
     let by = shifted.by;
+    // An edit at the front shifts no lines, which is told before items and diagnostics are gone through.
+    if by.start == 0 {
+        return None;
+    }
     if parts_none(lists, edit.old, by.start, shifted.before) && leaves_all(by, edit.old, found) {
         lines_of(by, lists, edit, lines)
     } else {

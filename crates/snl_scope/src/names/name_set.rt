@@ -45,22 +45,21 @@ impl Names {
         }
     }
 
-    // The first of the names with this print that is this one; `last` is the last of them.
+    // The name with this print that is this one, sought from the last of them to the first.
     fn number_among(&self, name: &[u8], last: Option<usize>) -> Option<usize>
         requires { last ≡ last_with self.now (print_of name.now) (length self.now) }
         ensures { result ≡ position (bytes_eq name.now) self.now }
     {
-        let mut found = None;
         let mut below = self.names.len();
         let mut at = last;
         while let Some(number) = at {
             if name == self.names[number].bytes() {
-                found = Some(number);
+                return Some(number);
             }
             below = number;
             at = self.earlier[number];
         }
-        found
+        None
     }
 
     pub(crate) fn number(&self, name: &[u8]) -> Option<usize>
@@ -78,6 +77,7 @@ impl Names {
         print: u64,
         earlier: Option<usize>,
     ) -> Result<usize, OutOfMemory>
+        requires new { position (bytes_eq name.now) self.old ≡ None }
         requires print { print ≡ print_of name.now }
         requires earlier { earlier ≡ last_with self.old print (length self.old) }
         ensures names { OnOk result (self.new ≡ self.old ++ name.now ∷ []) }

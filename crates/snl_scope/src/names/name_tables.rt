@@ -136,7 +136,7 @@ fn state_name(outline: &Outline) -> Option<&[u8]>
 }
 
 impl NameTables {
-    /// With room for so many symbols. How many names there are among them isn't known.
+    /// With room for so many symbols. How many different names there are among them isn't known.
     pub(crate) fn new(alloc: Global, room: usize) -> Result<NameTables, OutOfMemory>
         ensures { IfOk result (λ t. Follows t.names t.first t.symbols.items t.faults.items []) }
     {
@@ -265,11 +265,19 @@ impl NameTables {
     }
 }
 
-// How many symbols the items declare, for which room is made.
-fn declared_count(outlines: &[&Outline]) -> usize {
+// How many symbols an item brings: the name of a state set or of a state, and what is declared.
+fn symbol_count(enclosing_set: Option<usize>, outline: &Outline) -> usize {
+    let is_named = set_name(outline).is_some()
+        || enclosing_set.is_some() && state_name(outline).is_some();
+    let names = if is_named { 1 } else { 0 };
+    outline.declares.len().saturating_add(names)
+}
+
+// How many all items bring, for which room is made.
+fn symbol_counts(outlines: &[&Outline], places: &[Option<usize>]) -> usize {
     let mut count = 0usize;
-    for outline in outlines {
-        count = count.saturating_add(outline.declares.len());
+    for (outline, place) in outlines.iter().zip(places) {
+        count = count.saturating_add(symbol_count(*place, outline));
     }
     count
 }
@@ -283,7 +291,7 @@ pub(crate) fn tables_of(
     requires { Placed places.now (map (λ s. s.now) outlines.now) (length outlines.now) }
     ensures { IfOk result (λ t. Follows t.names t.first t.symbols.items t.faults.items (entries (map (λ s. s.now) outlines.now))) }
 {
-    let mut tables = NameTables::new(alloc, declared_count(outlines))?;
+    let mut tables = NameTables::new(alloc, symbol_counts(outlines, places))?;
     for item in 0..outlines.len() {
         let outline = outlines[item];
         tables.add_item(alloc, places[item], item, outline)?;

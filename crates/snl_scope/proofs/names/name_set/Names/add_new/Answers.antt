@@ -1,6 +1,8 @@
 use Rattle.std.proofs.Common.{◌≡◌, ℕ, ◌++◌, ◌∷◌, [], List, length, Option, nat_eq, Some, sym, ap, ap₂, subst, ◌∙◌, arith}
+use Rattle.std.specs.List.{position}
 use Rattle.std.specs.Map.{lookup}
 use Rattle.std.specs.Prelude.{if◌then◌else◌}
+use Rattle.std.specs.Str.{bytes_eq}
 use Rattle.snl_walk.specs.Prints.{print_of}
 use Rattle.snl_scope.specs.Prints.{AreFound, last_with}
 use Rattle.snl_scope.proofs.Prints.{found_with}
@@ -19,4 +21,4 @@ invariant_of-self-2 c =
     λ q. c.in_ok-insert.ensures.updates.0 q ∙ ap₂ (λ (p n : ℕ). if nat_eq p q then Some n else lookup (nat_eq q) c.self.inside.last.entries) c.requires.print number in
     subst (λ (ns : List (List ℕ)). AreFound ns c.push_reserved-2.new.self.items after) (sym (c.push_reserved.ensures.items ∙ ap₂ (λ (ns : List (List ℕ)) (n : List ℕ). ns ++ n ∷ []) c.reserve.ensures.items c.in_ok-held.ensures))
     (subst (λ (es : List (Option ℕ)). AreFound (names ++ name ∷ []) es after) (sym (c.push_reserved-2.ensures.items ∙ ap (λ (es : List (Option ℕ)). es ++ c.args.earlier ∷ []) c.reserve-2.ensures.items))
-    (found_with names earlier c.self.inside.last.entries after name c.args.earlier c.self.invariant before put))
+    (found_with names earlier c.self.inside.last.entries after name c.args.earlier c.self.invariant (ap (position (bytes_eq name)) c.self.view_is ∙ c.requires.new) before put))

@@ -1,12 +1,13 @@
 use Rattle.std.proofs.Common.{◌≡◌, ℕ, ◌<◌, Bool, List, [], length, get_or, None, Some, sym, ap, ap₂, ◌∙◌, arith}
 use Rattle.std.specs.Prelude.{if◌then◌else◌}
+use Rattle.std.specs.List.{position}
 use Rattle.std.specs.Str.{bytes_eq}
+use Rattle.std.proofs.lemmas.Slice.Eq.{bytes_eq-Decides}
 use Rattle.std.proofs.lemmas.Option.{get_or_from_slice_get}
 use Rattle.snl_walk.specs.Prints.{print_of}
 use Rattle.snl_scope.specs.Prints.{last_with}
 use Rattle.snl_scope.proofs.Prints.{IsLast, last_found, none_found, same_got, scan, scan_whole}
 use Rattle.snl_scope.proofs.names.name_set.Names.number_among.Goals as goal
-use Rattle.snl_scope.proofs.names.name_set.Names.number_among.Goals.{then-eq, else-eq}
 
 pub loop-at-init : goal.loop-at-init
 loop-at-init c =
@@ -46,17 +47,27 @@ loop-at-preserved c =
     let next : c.index-at.result.now ≡ last_with held (print_of (get_or held k [])) k = c.index-at.ensures ∙ get_or_from_slice_get c.self.inside.earlier.items k (last_with held (print_of (get_or held k [])) k) c.index-at.result.now (c.self.invariant.before k there) in
     let same : c.eq.result ≡ bytes_eq name (get_or names k []) =
     c.eq.ensures ∙ ap (bytes_eq name) (c.bytes.ensures ∙ c.index.ensures ∙ same_got held k c.index.result.now [] there ∙ here) in
-    let picked : c.if-eq.found ≡ (if bytes_eq name (get_or names k []) then Some k else c.loop-at.found) =
-    elim c.if-eq.branch [
-      | then-eq w ↦ w.found-is ∙ ap (λ (b : Bool). if b then Some k else c.loop-at.found) (sym w.if-eq.true ∙ same)
-      | else-eq w ↦ w.found-is ∙ ap (λ (b : Bool). if b then Some k else c.loop-at.found) (sym w.if-eq.false ∙ same)
-    ] in
     record {
       within = omega (arith, is.below, c.loop-at.invariant.within);
       next = next ∙ ap₂ (λ (ns : List (List ℕ)) (p : ℕ). last_with ns p k) c.self.view_is (ap print_of here ∙ is.print);
-      found_is = ap (scan name names k) picked ∙ sym (is.skipped c.loop-at.found) ∙ c.loop-at.invariant.found_is;
+      found_is = sym (ap (λ (b : Bool). scan name names k (if b then Some k else None)) (sym same ∙ c.if-eq.false)) ∙ sym (is.skipped None) ∙ c.loop-at.invariant.found_is;
     }
+
+pub returns-then-eq : goal.returns-then-eq
+returns-then-eq c =
+    let names : List (List ℕ) = c.args.self.now in
+    let name : List ℕ = c.args.name.now in
+    let held : List (List ℕ) = c.self.inside.names.items in
+    let k : ℕ = c.in-Some.number in
+    let is : IsLast name names c.loop-at.below k = last_found name names c.loop-at.below k (sym c.loop-at.invariant.next ∙ c.in-Some.is) in
+    let there : k < length held = omega (arith, is.below, c.loop-at.invariant.within, ap length c.self.view_is) in
+    let same : c.eq.result ≡ bytes_eq name (get_or held k []) =
+    c.eq.ensures ∙ ap (bytes_eq name) (c.bytes.ensures ∙ c.index.ensures ∙ same_got held k c.index.result.now [] there) in
+    let it : name ≡ get_or held k [] = (bytes_eq-Decides name (get_or held k [])).0 (sym same ∙ c.if-eq.true) in
+    sym (ap (λ (ns : List (List ℕ)). position (bytes_eq name) ns) (sym c.self.view_is)
+    ∙ ap (λ (x : List ℕ). position (bytes_eq x) held) it
+    ∙ c.self.invariant.different k there)
 
 pub returns : goal.returns
 returns c =
-    sym (none_found c.args.name.now c.args.self.now c.loop-at.below (sym c.loop-at.invariant.next ∙ c.in_default.is) c.loop-at.found) ∙ c.loop-at.invariant.found_is
+    sym (none_found c.args.name.now c.args.self.now c.loop-at.below (sym c.loop-at.invariant.next ∙ c.in_default.is) None) ∙ c.loop-at.invariant.found_is

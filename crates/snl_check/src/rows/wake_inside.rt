@@ -8,9 +8,8 @@ ghost use Rattle.snl_lex.specs.declared.shift.Shift.{Shift};
 ghost use Rattle.snl_walk.specs.Tokens.{IsSource};
 ghost use Rattle.snl_check.specs.Conditions.{uses_in};
 ghost use Rattle.snl_check.specs.Items.{ProgramItem, outlines_of, tokens_in};
-ghost use Rattle.snl_check.specs.Moved.{ReplacesOneBy};
+ghost use Rattle.snl_check.specs.Moved.{ReplacesOne};
 ghost use Rattle.snl_check.specs.Numbered.{Tells, has_subscript};
-ghost use Rattle.snl_check.specs.ShiftedAround.{ReplacesOne};
 ghost use Rattle.snl_check.specs.Spans.{AreRead};
 ghost use Rattle.snl_check.specs.States.{wake_of};
 ghost use Rattle.snl_check.specs.Tables.{tables_of};
@@ -61,7 +60,7 @@ pub fn wake_inside(
     tables: &Tables,
 ) -> Result<Vec<WakeUp>, OutOfMemory>
     requires { IsSource text.now own.now }
-    ensures { (old : List ℕ) (s : Shift) (line : ℕ → Line → Line) (xs ys : List ProgramItem) → 0 < s.start → AreRead old xs → ReplacesOneBy old text.now s line xs ys item
+    ensures { (old : List ℕ) (s : Shift) (line : ℕ → Line → Line) (xs ys : List ProgramItem) → 0 < s.start → AreRead old xs → ReplacesOne old text.now s line xs ys item
         → tables.now ≡ tables_of old xs → links.now.outlines ≡ outlines_of old xs → own.now ≡ tokens_in ys item → uses.now ≡ uses_in text.now ys item
         → IfOk result (λ wake. wake.items ≡ wake_of text.now ys (outlines_of old xs) item) }
 {
@@ -75,23 +74,4 @@ pub fn wake_inside(
     let numbers = numbers_for(alloc, uses, tables)?;
     let wake = wakes_by(&source, links, &numbers, item, uses)?;
     Ok(wake)
-}
-
-/// What wakes a state up, of which an edit changed the inside: `own` are its tokens after the edit, and `uses` those of names in its
-/// conditions. The tables are those before the edit: it changed no channel.
-pub fn wake_after(
-    alloc: Global,
-    text: &[u8],
-    own: &[Piece],
-    links: &Links,
-    item: usize,
-    uses: &[WakeUse],
-    tables: &Tables,
-) -> Result<Vec<WakeUp>, OutOfMemory>
-    requires { IsSource text.now own.now }
-    ensures { (old : List ℕ) (s : Shift) (xs ys : List ProgramItem) → 0 < s.start → AreRead old xs → ReplacesOne old text.now s xs ys item
-        → tables.now ≡ tables_of old xs → links.now.outlines ≡ outlines_of old xs → own.now ≡ tokens_in ys item → uses.now ≡ uses_in text.now ys item
-        → IfOk result (λ wake. wake.items ≡ wake_of text.now ys (outlines_of old xs) item) }
-{
-    wake_inside(alloc, text, own, links, item, uses, tables)
 }

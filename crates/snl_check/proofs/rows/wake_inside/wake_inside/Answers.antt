@@ -1,7 +1,7 @@
 use Rattle.std.proofs.Common.{◌∙◌}
 use Rattle.snl_check.proofs.ShiftedTables.{SpellingLaws}
 use Rattle.snl_check.proofs.WakesAfter.{wakes_after}
-use Rattle.snl_check.proofs.rows.wake_after.wake_inside.Goals as goal
+use Rattle.snl_check.proofs.rows.wake_inside.wake_inside.Goals as goal
 
 pub returns : goal.returns
 returns c =
