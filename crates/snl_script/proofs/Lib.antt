@@ -1,3 +1,4 @@
 pub mod GrowingLemmas
 pub mod SaidLemmas
 pub mod ScriptLemmas
+pub mod SpelledLemmas

@@ -1,16 +1,18 @@
 -- The words of a line, and the first line of the bytes of a script.
-use Rattle.std.proofs.Common.{◌≡◌, ℕ, suc, ◌+◌, ◌-◌, ◌<◌, ◌≤◌, min, List, [], ◌∷◌, ◌++◌, length, take, drop, Bool, true, false, not, cond, ltb, leb, Option, Some, None, refl, sym, ap, ◌∙◌, arith, length-append, length-drop, position, ◌==◌}
+use Rattle.std.proofs.Common.{◌≡◌, ℕ, suc, ◌+◌, ◌-◌, ◌<◌, ◌≤◌, min, List, [], ◌∷◌, ◌++◌, length, take, drop, Bool, true, false, not, cond, ltb, leb, Option, Some, None, refl, sym, ap, ◌∙◌, subst, codes, arith, length-append, length-drop, position, ◌==◌}
 use Rattle.std.proofs.lemmas.Bool.{le-leb}
 use Rattle.std.proofs.lemmas.Bool.Decides.{nat_tests}
-use Rattle.std.proofs.lemmas.List.{append-nil, append_assoc, drop-drop, drop-append-le, length-take, take_all, take-append-drop, take-append-le}
+use Rattle.std.proofs.lemmas.List.{append-nil, append_assoc, drop_all, drop-drop, drop-append-le, length-take, take-append-drop, take-append-le}
 use Rattle.std.proofs.lemmas.List.Folds.{prefix_len-append}
 use Rattle.std.proofs.lemmas.List.Splits.{slice_split_first}
 use Rattle.std.specs.List.{onto_first, position_or_len, slice_split}
+use Rattle.std.specs.Str.{bytes_eq}
 use Rattle.snl_script.specs.declared.script.Front.{Front}
 use Rattle.snl_script.specs.declared.script.Front.TheVariants.{Short, Malformed, Whole}
 use Rattle.snl_script.specs.declared.script.Heading.{Heading}
-use Rattle.snl_script.specs.Front.{IsFront, IsFrontAfter, request_of, unfinished}
-use Rattle.snl_script.specs.Script.{Unknown, Then, edit_of, headed, heading_of, lined, lone, next_of, words_of}
+use Rattle.snl_script.specs.declared.script.Heading.TheVariants.{Check, List as Listing, Work, Edit}
+use Rattle.snl_script.specs.Front.{IsBegun, IsFront, IsFrontAfter, IsOpen, request_of, unfinished}
+use Rattle.snl_script.specs.Script.{Edits, Unknown, Then, closed, edit_of, edit_with, headed, heading_of, lined, lone, next_of, number_of, words_of}
 
 -- where a place is found
 found_place : (a n i : ℕ) → cond (ltb a n) (Some a) None ≡ Some i → (a ≡ i) × (i < n)
@@ -85,7 +87,7 @@ feed_after n bytes more h =
     grind (arith, nat_tests)
 
 -- some bytes begin with their first line
-next_of-lined : (bytes : List ℕ) → 0 < length bytes → next_of bytes ≡ lined (position (λ c. c == 10) bytes) bytes
+pub next_of-lined : (bytes : List ℕ) → 0 < length bytes → next_of bytes ≡ lined (position (λ c. c == 10) bytes) bytes
 next_of-lined [] h = absurd (omega arith)
 next_of-lined (b ∷ bytes) h = refl
 
@@ -94,7 +96,7 @@ unfinished-some [] h = absurd (omega arith)
 unfinished-some (b ∷ bytes) h = refl
 
 -- a place that is found
-position-at : (a n : ℕ) → a < n → cond (ltb a n) (Some a) None ≡ Some a
+pub position-at : (a n : ℕ) → a < n → cond (ltb a n) (Some a) None ≡ Some a
 position-at a n h = grind (arith, nat_tests)
 
 -- the line at the front of the bytes, which ends within 80 bytes
@@ -130,20 +132,78 @@ next_of-long n bytes more few h long =
         split true = rw big_test refl
         split false = refl
 
--- a line that has not ended yet
-pub next_of-short : (n : ℕ) (bytes : List ℕ) → n ≡ min (length bytes) 81 → position (λ c. c == 10) (take n bytes) ≡ None → length bytes ≤ 80 → next_of bytes ≡ unfinished bytes
-next_of-short n [] few h short = refl
-next_of-short n (b ∷ bytes) few h short =
-    let all : take n (b ∷ bytes) ≡ b ∷ bytes = take_all n (b ∷ bytes) (omega arith) in
-    let none : position (λ c. c == 10) (b ∷ bytes) ≡ None = ap (λ (l : List ℕ). position (λ c. c == 10) l) (sym all) ∙ h in
-    ap (λ (o : Option ℕ). lined o (b ∷ bytes)) none
+-- a test that holds where a heading came of it
+some-if : {X : Type 0} (b : Bool) (x y : X) → cond b (Some x) None ≡ Some y → (b ≡ true) × (x ≡ y)
+some-if true x y h = (refl, cc)
+some-if false x y h = cc
+
+-- an edit puts in at most 2,097,152 bytes
+edit_with-few : (a b c : Option ℕ) (start stop len : ℕ) → edit_with a b c ≡ Some (Edit start stop len) → len ≤ 2097152
+edit_with-few None b c start stop len h = cc
+edit_with-few (Some x) None c start stop len h = cc
+edit_with-few (Some x) (Some y) None start stop len h = cc
+edit_with-few (Some x) (Some y) (Some z) start stop len h =
+    let p = some-if (leb z 2097152) (Edit x y z) (Edit start stop len) h in
+    let same : z ≡ len = let e = p.1 in cc in
+    let within : leb z 2097152 ≡ true = p.0 in
+    grind (arith, nat_tests)
+
+edit_of-few : (words : List (List ℕ)) (start stop len : ℕ) → edit_of words ≡ Some (Edit start stop len) → len ≤ 2097152
+edit_of-few [] start stop len h = cc
+edit_of-few (a ∷ []) start stop len h = cc
+edit_of-few (a ∷ b ∷ []) start stop len h = cc
+edit_of-few (a ∷ b ∷ c ∷ []) start stop len h = edit_with-few (number_of a) (number_of b) (number_of c) start stop len h
+edit_of-few (a ∷ b ∷ c ∷ d ∷ rest) start stop len h = cc
+
+lone-few : (heading : Heading) (words : List (List ℕ)) (start stop len : ℕ) → (heading ≡ Edit start stop len → ⊥) → lone heading words ≡ Some (Edit start stop len) → len ≤ 2097152
+lone-few heading [] start stop len other h = absurd (other cc)
+lone-few heading (w ∷ words) start stop len other h = cc
+
+heading_of-few : (words : List (List ℕ)) (start stop len : ℕ) → heading_of words ≡ Some (Edit start stop len) → len ≤ 2097152
+heading_of-few [] start stop len h = cc
+heading_of-few (word ∷ words) start stop len h = by (bytes_eq word (codes "check")) (bytes_eq word (codes "list")) (bytes_eq word (codes "work")) (bytes_eq word (codes "edit")) h
+  where
+    by : (check list work edit : Bool) → cond check (lone Check words) (cond list (lone Listing words) (cond work (lone Work words) (cond edit (edit_of words) None))) ≡ Some (Edit start stop len) → len ≤ 2097152
+    by true list work edit e = lone-few Check words start stop len (λ x. cc) e
+    by false true work edit e = lone-few Listing words start stop len (λ x. cc) e
+    by false false true edit e = lone-few Work words start stop len (λ x. cc) e
+    by false false false true e = edit_of-few words start stop len e
+    by false false false false e = cc
+
+-- the bytes of an edit aren't all there with their LF
+open-unknown : (heading : Option Heading) (after : List ℕ) → IsOpen heading after → headed heading after ≡ Unknown
+open-unknown None after h = absurd h
+open-unknown (Some Check) after h = absurd h
+open-unknown (Some Listing) after h = absurd h
+open-unknown (Some Work) after h = absurd h
+open-unknown (Some (Edit start stop len)) after h = ap (closed (Edits start stop (take len after))) (drop_all len after h)
+
+open-few : (words : List (List ℕ)) (after : List ℕ) → IsOpen (heading_of words) after → length after ≤ 2097152
+open-few words after h = by (heading_of words) refl h
+  where
+    by : (o : Option Heading) → heading_of words ≡ o → IsOpen o after → length after ≤ 2097152
+    by None e k = absurd k
+    by (Some Check) e k = absurd k
+    by (Some Listing) e k = absurd k
+    by (Some Work) e k = absurd k
+    by (Some (Edit start stop len)) e k = let few = heading_of-few words start stop len e in omega arith
 
 -- what is at the front of the bytes, from what comes after their line
-pub IsFront-after : (n : ℕ) (bytes : List ℕ) (end : ℕ) (heading : Option Heading) (front : Front) → n ≤ 81 → position (λ c. c == 10) (take n bytes) ≡ Some end → heading ≡ heading_of (words_of (take end bytes)) → IsFrontAfter (headed heading) (end + 1) (drop (end + 1) bytes) front → IsFront bytes front
+pub IsFront-after : (n : ℕ) (bytes : List ℕ) (end : ℕ) (heading : Option Heading) (front : Front) → n ≤ 81 → position (λ c. c == 10) (take n bytes) ≡ Some end → heading ≡ heading_of (words_of (take end bytes)) → IsFrontAfter heading (end + 1) (drop (end + 1) bytes) front → IsFront bytes front
 IsFront-after n bytes end heading Short few h is f =
     let at = found_place (feed_place (take n bytes)) (length (take n bytes)) end h in
     let inside : end < length bytes = omega (arith, at.1, length-take n bytes) in
-    ap next_of (sym (append-nil bytes)) ∙ next_of-line n bytes [] end few h ∙ ap (λ (o : Option Heading). headed o (drop (end + 1) bytes ++ [])) (sym is) ∙ ap (headed heading) (append-nil (drop (end + 1) bytes)) ∙ f ∙ sym (unfinished-some bytes (omega arith))
+    let rest : length (drop (end + 1) bytes) ≡ length bytes - (end + 1) = length-drop (end + 1) bytes in
+    let begun : IsOpen (heading_of (words_of (take end bytes))) (drop (end + 1) bytes) = subst (λ (o : Option Heading). IsOpen o (drop (end + 1) bytes)) is f in
+    let most : length (drop (end + 1) bytes) ≤ 2097152 = open-few (words_of (take end bytes)) (drop (end + 1) bytes) begun in
+    let short : end ≤ 80 = omega (arith, at.1, length-take n bytes) in
+    let place : feed_place bytes ≡ end = ap feed_place (sym (append-nil bytes)) ∙ feed_inside n bytes [] (omega (arith, at.0, at.1)) ∙ at.0 in
+    let found : position (λ c. c == 10) bytes ≡ Some end = position-at (feed_place bytes) (length bytes) (omega arith) ∙ ap Some place in
+    record {
+      next = ap next_of (sym (append-nil bytes)) ∙ next_of-line n bytes [] end few h ∙ ap (λ (o : Option Heading). headed o (drop (end + 1) bytes ++ [])) (sym is) ∙ ap (headed heading) (append-nil (drop (end + 1) bytes)) ∙ open-unknown heading (drop (end + 1) bytes) f ∙ sym (unfinished-some bytes (omega arith));
+      begun = subst (λ (o : Option ℕ). IsBegun o bytes) (sym found) (short, begun);
+      few = omega arith;
+    }
 IsFront-after n bytes end heading Malformed few h is f = λ more. next_of-line n bytes more end few h ∙ ap (λ (o : Option Heading). headed o (drop (end + 1) bytes ++ more)) (sym is) ∙ f more
 IsFront-after n bytes end heading (Whole command len) few h is f =
     let at = found_place (feed_place (take n bytes)) (length (take n bytes)) end h in

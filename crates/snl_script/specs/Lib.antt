@@ -5,4 +5,5 @@ pub mod Parts
 pub mod Said
 pub mod SaidLaws
 pub mod Script
+pub mod Spelled
 pub mod Watched

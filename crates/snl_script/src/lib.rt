@@ -16,7 +16,7 @@ mod watched;
 
 pub use ahead::{Ahead, ReadFault};
 pub use file::{SourceFault, read_whole};
-pub use laws::whole_commands_stay;
+pub use laws::{commands_read_back, whole_commands_stay};
 pub use page::{Page, WriteFault, write_out};
 pub use parts::{put_counts, put_file, put_subject, put_sum};
 pub use script::{Command, Front, front_of};

@@ -5,7 +5,7 @@
 
 ghost use Rattle.std.specs.Prelude.{◌≡◌, ℕ, ◌+◌, ◌==◌, ◌≤◌, ◌<◌, List, [], ◌∷◌, length, take, drop, Some, None, IfSome, position};
 ghost use Rattle.snl_script.specs.Front.{IsFront, IsFrontAfter, words_after};
-ghost use Rattle.snl_script.specs.Script.{edit_of, edit_with, heading_of, headed, lone, number_of, words_of};
+ghost use Rattle.snl_script.specs.Script.{edit_of, edit_with, heading_of, lone, number_of, words_of};
 
 /// A command's line has at most so many bytes without its LF.
 const MAX_LINE: usize = 80;
@@ -58,7 +58,7 @@ pub enum Command<'a> {
 /// What is at the front of the bytes that were read so far.
 #[derive(Clone, Copy)]
 pub enum Front<'a> {
-    /// More bytes must tell.
+    /// More bytes must tell: a line has no LF yet, or the bytes of an edit are not all there.
     Short,
     /// No command, whatever follows.
     Malformed,
@@ -151,7 +151,7 @@ fn lone(heading: Heading, words: Option<&[u8]>) -> Option<Heading>
 /// The command of a heading, whose line and LF have `line` bytes.
 fn front_after(heading: Option<Heading>, line: usize, after: &[u8]) -> Front<'_>
     requires { line ≤ 81 }
-    ensures { IsFrontAfter (headed heading) line after.now result }
+    ensures { IsFrontAfter heading line after.now result }
 {
     match heading {
         None => Front::Malformed,

@@ -10,7 +10,7 @@ pub source_app-made : with_rule (new_app (codes "snl_cli")) source_rule ≡ sour
 unfolding source_app
 source_app-made = refl
 
-source_app-is_simple : is_simple source_app ≡ true
+pub source_app-is_simple : is_simple source_app ≡ true
 unfolding source_app clap_on_literals
 source_app-is_simple = refl
 

@@ -4,8 +4,9 @@
 //! knows nothing of files and of what the program does with one.
 #![tactic(auto)]
 
-ghost use Rattle.std.specs.Prelude.{◌≡◌, ◌≢◌, false, map, option_map, IfOk, IsErrOf, string_bytes};
-ghost use Rattle.snl_words.specs.Source.{source_in, takes_words};
+ghost use Rattle.std.specs.Prelude.{◌≡◌, ◌≢◌, false, map, option_map, true, IfOk, IsErrOf, OnOk, string_bytes};
+ghost use Rattle.clap.specs.Words.{app_of};
+ghost use Rattle.snl_words.specs.Source.{source_app, source_in, takes_words};
 ghost use Rattle.snl_words.specs.declared.WordsFault.TheVariants.{Memory};
 
 use clap::error::ErrorKind;
@@ -42,14 +43,22 @@ fn fault_of(kind: ErrorKind) -> WordsFault
     }
 }
 
+/// The command, which has one option.
+fn source_command<'a>(alloc: Global) -> Result<Command<'a>, AllocError>
+    ensures { IfOk result (λ command. app_of command ≡ source_app) }
+{
+    let source = Arg::new(alloc, "source").long("source");
+    Command::new(alloc, "snl_cli").arg(source)
+}
+
 /// The value of `--source` among these words; none, where it isn't there.
 pub fn source_of(alloc: Global, words: &[&str]) -> Result<Option<String>, WordsFault>
     ensures ok { IfOk result (λ source. option_map (λ s. string_bytes s) source
         ≡ source_in (map (λ w. w.now) words.now)) }
+    ensures taken { OnOk result (takes_words (map (λ w. w.now) words.now) ≡ true) }
     ensures usage { IsErrOf result WordsFault.Usage → takes_words (map (λ w. w.now) words.now) ≡ false }
 {
-    let source = Arg::new(alloc, "source").long("source");
-    let command = Command::new(alloc, "snl_cli").arg(source)?;
+    let command = source_command(alloc)?;
     let matches = match command.try_get_matches_from(words) {
         Ok(matches) => matches,
         Err(error) => {
