@@ -12,7 +12,7 @@ use Rattle.snl_script.specs.declared.script.Command.{Command}
 use Rattle.snl_script.specs.Ahead.{Gains}
 use Rattle.snl_run.specs.Faults.{fault_of_read}
 use Rattle.snl_script.specs.Front.{IsWhole, request_of, unfinished}
-use Rattle.snl_run.specs.Run.{IsMalformed, NoStart, Ran, Told, ToldPart}
+use Rattle.snl_run.specs.Run.{IsMalformed, NoStart, Ran, Told, ToldPart, most_kept}
 use Rattle.snl_script.specs.Said.{AppendsPart}
 use Rattle.snl_script.specs.Script.{Request, Unknown, Then, next_of}
 use Rattle.snl_run.specs.Transcript.{Begins, HoldsNone, IsFair, MayStarve, Turn, after, reply, status_of, transcript, version_after}
@@ -75,6 +75,7 @@ Told-start script out first ahead calls e none = record {
   rest = [];
   is_read = Consumes-none script;
   begins = refl;
+  few = omega arith;
   fair = tt;
   written = Appends-none out;
   ends = (sym e, refl, refl, omega arith, omega arith);
@@ -87,14 +88,15 @@ Told-ends before left old new first P Q t f = record {
   rest = t.rest;
   is_read = t.is_read;
   begins = t.begins;
+  few = t.few;
   fair = t.fair;
   written = t.written;
   ends = f t.read t.rest (version_after first t.turns) t.ends;
 }
 
 -- bytes came
-pub Told-gains : Stays → (before mid left old new : Option (List ℕ)) (first : Version) (ahead next : List ℕ) (version : Version) (offset calls more : ℕ) → Told before mid old new first (At ahead version offset calls) → Gains ahead next mid left → calls ≤ more → length next ≤ length ahead + 4096 * (more - calls) → more + length ahead ≤ calls + length next → Told before left old new first (At next version offset more)
-Told-gains stays before mid left old new first ahead next version offset calls more t g rises few some =
+pub Told-gains : Stays → (before mid left old new : Option (List ℕ)) (first : Version) (ahead next : List ℕ) (version : Version) (offset calls more : ℕ) → Told before mid old new first (At ahead version offset calls) → Gains ahead next mid left → calls ≤ more → length next ≤ length ahead + 4096 * (more - calls) → more + length ahead ≤ calls + length next → length next ≤ most_kept → Told before left old new first (At next version offset more)
+Told-gains stays before mid left old new first ahead next version offset calls more t g rises few some kept =
     let read_size : length (t.read ++ g.gained) ≡ length t.read + length g.gained = length-append t.read g.gained in
     let rest_size : length (t.rest ++ g.gained) ≡ length t.rest + length g.gained = length-append t.rest g.gained in
     let next_size : length next ≡ length ahead + length g.gained = ap length g.there ∙ length-append ahead g.gained in
@@ -108,10 +110,18 @@ Told-gains stays before mid left old new first ahead next version offset calls m
       rest = t.rest ++ g.gained;
       is_read = Consumes-on before mid left t.read g.gained t.is_read g.given;
       begins = Begins-grows stays t.read g.gained t.turns t.rest t.begins;
+      few = omega arith;
       fair = t.fair;
       written = t.written;
       ends = (ap (λ l. l ++ g.gained) t.ends.0 ∙ sym g.there, t.ends.1, omega arith, omega arith, omega arith);
     }
+
+-- no bytes came
+pub Told-still : Stays → (before mid left old new : Option (List ℕ)) (first : Version) (ahead next : List ℕ) (version : Version) (offset calls : ℕ) → Told before mid old new first (At ahead version offset calls) → Gains ahead next mid left → next ≡ ahead → Told before left old new first (At next version offset calls)
+Told-still stays before mid left old new first ahead next version offset calls t g same =
+    let size : length next ≡ length ahead = ap length same in
+    let rest_size : length t.rest ≡ length ahead = ap length t.ends.0 in
+    Told-gains stays before mid left old new first ahead next version offset calls calls t g (omega arith) (omega arith) (omega arith) (omega (arith, t.few))
 
 -- the whole command at the front
 whole-next : (bytes : List ℕ) (command : Command) (len : ℕ) → IsWhole bytes command len → next_of bytes ≡ Then (request_of command) (drop len bytes)
@@ -134,6 +144,7 @@ Told-on before left old mid new first ahead next bytes version last offset calls
       rest = next;
       is_read = t.is_read;
       begins = Begins-on t.read t.turns t.rest next turn t.begins here;
+      few = omega (arith, t.few);
       fair = IsFair-on first t.turns turn t.fair (subst (λ (x : Version). OnTrue starved (MayStarve x.text (request_of command))) (sym version_is) fair);
       written = Appends-same old new _ _ (ap (λ (x : Version). transcript first t.turns ++ reply x (request_of command) starved) (sym version_is) ∙ sym (transcript-on first t.turns turn)) (Appends-on old mid new _ _ t.written written);
       ends = (refl, version_after-on first t.turns turn ∙ ap (λ (x : Version). after x (request_of command) starved) version_is ∙ sym last_is, omega arith, t.ends.3, t.ends.4);
@@ -145,12 +156,14 @@ ToldPart-on before left old mid new first ahead bytes version offset calls len c
     let turn : Turn = record { request = request_of command; starved = starved } in
     let here : next_of t.rest ≡ Then (request_of command) (drop len bytes) = ap next_of (t.ends.0 ∙ sym is) ∙ whole-next bytes command len whole in
     let version_is : version_after first t.turns ≡ version = t.ends.1 in
+    let size : length bytes ≡ length t.rest = ap length (is ∙ sym t.ends.0) in
     record {
       read = t.read;
       turns = t.turns ++ turn ∷ [];
       rest = drop len bytes;
       is_read = t.is_read;
       begins = Begins-on t.read t.turns t.rest (drop len bytes) turn t.begins here;
+      few = omega (arith, t.few, length-drop len bytes);
       fair = IsFair-on first t.turns turn t.fair (subst (λ (x : Version). OnTrue starved (MayStarve x.text (request_of command))) (sym version_is) fair);
       written = AppendsPart-same old new _ _ (ap (λ (x : Version). transcript first t.turns ++ reply x (request_of command) starved) (sym version_is) ∙ sym (transcript-on first t.turns turn)) (AppendsPart-after old mid new _ _ t.written written);
     }

@@ -1,5 +1,6 @@
 pub mod Answers
 pub mod Faults
+pub mod OverFile
 pub mod Paged
 pub mod PagedLaws
 pub mod Run

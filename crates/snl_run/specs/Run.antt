@@ -13,6 +13,10 @@ use Rattle.snl_script.specs.Script.{Request, Unknown, next_of}
 use Rattle.snl_run.specs.Transcript.{Begins, HoldsNone, IsFair, MayStarve, Turn, after, edited, refused_for, reply, status_of, transcript, version_after}
 use Rattle.snl_run.specs.Version.{Version, next_version}
 
+-- The rest of what was read is at most a command that is begun and the bytes of one read: so much of a script that goes nowhere is kept.
+abbrev pub most_kept : ℕ
+most_kept = 80 + 1 + 2097152 + 4096
+
 -- The bytes that were read are some commands and a rest, and the transcript of these commands was written, from this first version on.
 pub record Told (before left old new : Option (List ℕ)) (first : Version) (Ends : (read rest : List ℕ) (last : Version) → Type 0) : Type 0 where
   pub read : List ℕ
@@ -20,6 +24,7 @@ pub record Told (before left old new : Option (List ℕ)) (first : Version) (End
   pub rest : List ℕ
   pub is_read : Consumes before left read
   pub begins : Begins read turns rest
+  pub few : length rest ≤ most_kept
   pub fair : IsFair first turns
   pub written : Appends old new (transcript first turns)
   pub ends : Ends read rest (version_after first turns)
@@ -31,6 +36,7 @@ pub record ToldPart (before left old new : Option (List ℕ)) (first : Version) 
   pub rest : List ℕ
   pub is_read : Consumes before left read
   pub begins : Begins read turns rest
+  pub few : length rest ≤ most_kept
   pub fair : IsFair first turns
   pub written : AppendsPart old new (transcript first turns)
 

@@ -1,5 +1,7 @@
 //! The script engine.
-//! In: a source and a script. Out: the answers to the script's commands, each written before the next command is carried out.
+//! In: a source and a script. Out: the answers to the script's commands.
+//! No clause says that each is written before more is read:
+//! the test `writes_an_answer_before_it_reads_on` shows it.
 //! Knows nothing of files, terminals and the command line.
 #![tactic(auto)]
 
@@ -61,7 +63,7 @@ fn at_end(document: &Document, ahead: &Ahead, offset: usize) -> Result<Status, R
     }
 }
 
-/// Carries out the commands of a script, and writes the answer to each before more is read.
+/// Carries out the commands of a script, and writes their answers.
 fn serve<R: Read, W: Write>(
     document: &mut Document,
     ahead: &mut Ahead,
@@ -99,8 +101,9 @@ fn serve<R: Read, W: Write>(
     }
 }
 
-/// Runs a script over a source, which is a session's first text: answers are written, each before the next command is carried out.
-/// An edit that is refused is answered, and the run goes on. `out` is not flushed, so it is to keep no bytes back.
+/// Runs a script over a source, which is a session's first text.
+/// An edit that is refused is answered, and the run goes on.
+/// `out` is not flushed, so it is to keep no bytes back.
 pub fn run<R: Read, W: Write>(
     alloc: Global,
     initial: &[u8],

@@ -12,7 +12,8 @@ pub fn whole_commands_stay()
         → next_of (bytes ++ more) ≡ Then request (left ++ more) }
 {}
 
-/// A script reads back: the bytes of a command, followed by anything, are that command and the rest.
+/// A script reads back: the bytes of a command, followed by anything, are that command and the
+/// rest.
 pub fn commands_read_back()
     ensures { (request : Request) (bytes more : List ℕ) → IsSpelled request bytes
         → next_of (bytes ++ more) ≡ Then request more }

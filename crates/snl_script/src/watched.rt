@@ -1,5 +1,6 @@
 //! Readers and writers that are watched.
 //! In: a reader or a writer. Out: the same, with the number of its calls and whether one failed.
+//! No clause says that each call asks what is watched: the test `watches_each_call` shows it.
 //! Knows nothing of scripts and answers.
 ghost use Rattle.std.specs.Prelude.{◌≡◌, ℕ, ◌+◌, ◌-◌, ◌^◌, ◌||◌, min, length, false, is_err};
 ghost use Rattle.std.specs.Io.{ReadsAtMost, WritesAtMost};
@@ -61,7 +62,7 @@ impl<R: Read> Read for Watched<R> {
 
     ghost remaining = { λ w. R.remaining (inner_of w) };
 
-    /// One `read` of what is watched, and its answer.
+    /// Counts the call, and notes whether it failed.
     fn read(&mut self, buf: &mut [u8]) -> io::Result<usize>
         ensures bound { ReadsAtMost result buf.new }
         ensures bytes { ReadConsumes (R.remaining (inner_of self.old)) (R.remaining (inner_of self.new)) result buf.new }
@@ -82,7 +83,7 @@ impl<W: Write> Write for Watched<W> {
 
     ghost contents = { λ w. W.contents (inner_of w) };
 
-    /// One `write` of what is watched, and its answer.
+    /// Counts the call, and notes whether it failed.
     fn write(&mut self, buf: &[u8]) -> io::Result<usize>
         ensures bound { WritesAtMost result buf.now }
         ensures bytes { WriteAppends (W.contents (inner_of self.old)) (W.contents (inner_of self.new)) result buf.now }
@@ -102,7 +103,7 @@ impl<W: Write> Write for Watched<W> {
         result
     }
 
-    /// Flushes what is watched: no call that is counted, and no failure.
+    /// No call that is counted, and no failure.
     fn flush(&mut self) -> io::Result<()>
         ensures bytes { Keeps (W.contents (inner_of self.old)) (W.contents (inner_of self.new)) }
         ensures calls { calls_of self.new ≡ calls_of self.old }

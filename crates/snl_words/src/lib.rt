@@ -4,7 +4,8 @@
 //! knows nothing of files and of what the program does with one.
 #![tactic(auto)]
 
-ghost use Rattle.std.specs.Prelude.{◌≡◌, ◌≢◌, false, map, option_map, true, IfOk, IsErrOf, OnOk, string_bytes};
+ghost use Rattle.std.specs.Prelude.{◌≡◌, ◌≢◌, false, map, option_map, true, string_bytes};
+ghost use Rattle.std.specs.Prelude.{IfOk, IsErrOf, OnOk};
 ghost use Rattle.clap.specs.Words.{app_of};
 ghost use Rattle.snl_words.specs.Source.{source_app, source_in, takes_words};
 ghost use Rattle.snl_words.specs.declared.WordsFault.TheVariants.{Memory};
