@@ -1,3 +1,5 @@
+pub mod Marks
+pub mod PunctuatorFronts
 pub mod Told
 pub mod Limits
 pub mod Values

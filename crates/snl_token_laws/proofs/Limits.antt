@@ -1,5 +1,5 @@
 -- A value is at most 2^64 - 1, and an integer has one.
-use Rattle.std.proofs.Common.{◌≡◌, ℕ, ◌<◌, ◌≤◌, Bool, true, false, ◌&&◌, cond, nat_lt, List, drop, take, Option, Some, None, is_some, refl, ap, arith}
+use Rattle.std.proofs.Common.{◌≡◌, ℕ, ◌^◌, ◌<◌, Bool, true, false, ◌&&◌, cond, nat_lt, List, drop, take, Option, Some, None, is_some, refl, ap, arith}
 use Rattle.std.specs.Prelude.{IfSome, IsSomeAnd}
 use Rattle.std.proofs.lemmas.Bool.{ltb-true}
 use Rattle.snl_lex.specs.declared.alphabet.NumberBase.{NumberBase}
@@ -9,22 +9,19 @@ use Rattle.snl_lex.specs.Alphabet.{is_digit_in}
 use Rattle.snl_lex.specs.Runs.{run_of}
 
 abbrev pub IsSmall : ℕ → Type 0
-IsSmall v = v ≤ 18446744073709551615
+IsSmall v = v < 2 ^ 64
 
 small_if : (a b : Bool) (v : ℕ) → (b ≡ true → IsSmall v) → IfSome (cond a (cond b (Some v) None) None) IsSmall
 small_if true true v h = h refl
 small_if true false v h = tt
 small_if false b v h = tt
 
-below_limit : (v : ℕ) → nat_lt v 18446744073709551616 ≡ true → IsSmall v
-below_limit v h = let lt : v < 18446744073709551616 = ltb-true v 18446744073709551616 h in omega arith
-
 small_in : (base : NumberBase) (bytes : List ℕ) → IfSome (value_in base bytes) IsSmall
 unfolding value_in
 small_in base bytes =
     let count : ℕ = run_of (is_digit_in base) bytes in
     let v : ℕ = value_after base 0 (take count bytes) in
-    small_if (nat_lt 0 count && is_int_suffix (drop count bytes)) (nat_lt v 18446744073709551616) v (below_limit v)
+    small_if (nat_lt 0 count && is_int_suffix (drop count bytes)) (nat_lt v 18446744073709551616) v (ltb-true v 18446744073709551616)
 
 pub small_value : (bytes : List ℕ) → IfSome (int_value_of bytes) IsSmall
 unfolding int_value_of

@@ -9,4 +9,4 @@ pub record IsPunctuatorFront (text : List ℕ) : Type 0 where
   pub no_comment : take 2 text ≡ codes "/*" → ⊥
   pub no_line_code : take 2 text ≡ codes "%%" → ⊥
   pub no_code : take 2 text ≡ codes "%{" → ⊥
-  pub no_number : slice_index text 0 ≡ 46 → is_digit (slice_index text 1) ≡ true → ⊥
+  pub no_number : take 1 text ≡ codes "." → is_digit (slice_index text 1) ≡ true → ⊥

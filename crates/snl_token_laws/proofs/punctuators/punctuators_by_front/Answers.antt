@@ -4,7 +4,9 @@ use Rattle.snl_lex.specs.declared.piece.Class.TheVariants.{Punct}
 use Rattle.snl_lex.specs.Pieces.{LiesIn, pieces_of}
 use Rattle.snl_lex.specs.Classes.{HasItsClass}
 use Rattle.snl_token_laws.specs.Fronts.{IsPunctuatorFront}
-use Rattle.snl_token_laws.proofs.Told.{first_byte, front_punct, front_some, told_at}
+use Rattle.snl_token_laws.proofs.Marks.{first_byte}
+use Rattle.snl_token_laws.proofs.PunctuatorFronts.{front_punct, front_some}
+use Rattle.snl_token_laws.proofs.Told.{told_at}
 use Rattle.snl_token_laws.proofs.punctuators.punctuators_by_front.Goals as goal
 
 pub returns-clause-first_byte : goal.returns-clause-first_byte
