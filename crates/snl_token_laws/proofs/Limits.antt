@@ -1,5 +1,5 @@
 -- A value is at most 2^64 - 1, and an integer has one.
-use Rattle.std.proofs.Common.{◌≡◌, ℕ, ◌^◌, ◌<◌, Bool, true, false, ◌&&◌, cond, nat_lt, List, drop, take, Option, Some, None, is_some, refl, ap, arith}
+use Rattle.std.proofs.Common.{◌≡◌, ℕ, ◌^◌, ◌<◌, Bool, true, false, ◌&&◌, cond, nat_lt, List, drop, take, Option, Some, None, is_some, refl, ap}
 use Rattle.std.specs.Prelude.{IfSome, IsSomeAnd}
 use Rattle.std.proofs.lemmas.Bool.{ltb-true}
 use Rattle.snl_lex.specs.declared.alphabet.NumberBase.{NumberBase}

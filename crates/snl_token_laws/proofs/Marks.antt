@@ -1,20 +1,13 @@
 -- What holds of each mark, and the starts that marks have.
-use Rattle.std.proofs.Common.{◌≡◌, ◌==◌, ℕ, zero, suc, ◌+◌, ◌<◌, Bool, true, false, cond, List, [], ◌∷◌, length, take, drop, Option, Some, None, is_some, refl, sym, ap, ◌∙◌, subst, arith, eqb-true, inl, inr}
+use Rattle.std.proofs.Common.{◌≡◌, ◌==◌, ℕ, zero, suc, Bool, true, false, cond, List, [], ◌∷◌, take, refl, sym, ap, ◌∙◌, eqb-true, inl, inr}
 use Rattle.std.specs.Prelude.{slice_index}
 use Rattle.std.specs.List.{list_all, list_any}
 use Rattle.std.specs.Str.{bytes_eq}
-use Rattle.std.proofs.lemmas.Bool.{and_parts, eqb-false, false_from_ne_true, false≢true, or_cases}
-use Rattle.std.proofs.lemmas.Bool.Decides.{nat_tests}
+use Rattle.std.proofs.lemmas.Bool.{and_parts, or_cases}
 use Rattle.snl_lex.specs.declared.alphabet.Start.{Start}
 use Rattle.snl_lex.specs.declared.alphabet.Start.TheVariants.{Blank, Letter, Digit, Dot, Hash, Slash, Percent, Quote, Apostrophe, Sign, Stray}
-use Rattle.snl_lex.specs.declared.piece.Class.{Class}
-use Rattle.snl_lex.specs.declared.piece.Class.TheVariants.{Comment, Marker, CCode, Name, Word, Int, Float, Text, CharLit, Punct, Bad}
-use Rattle.snl_lex.specs.Alphabet.{is_digit, is_in_line, is_letter, is_mark, is_white, is_word_byte, start_of}
-use Rattle.snl_lex.specs.Kinds.{is_word, punctuators, spellings}
-use Rattle.snl_lex.specs.Numbers.{int_value_of, is_float, number_class}
-use Rattle.snl_lex.specs.Pieces.{closed_by, closed_piece, first_piece, mark_piece, number_piece, piece_by, run_piece, string_joins}
-use Rattle.snl_lex.specs.Runs.{close_of, run_by, run_of}
-use Rattle.snl_token_laws.specs.Fronts.{IsPunctuatorFront}
+use Rattle.snl_lex.specs.Alphabet.{is_digit, is_letter, is_mark, is_white, start_of}
+use Rattle.snl_lex.specs.Kinds.{punctuators, spellings}
 
 same_bytes : (s m : List ℕ) → bytes_eq s m ≡ true → s ≡ m
 same_bytes [] [] h = refl

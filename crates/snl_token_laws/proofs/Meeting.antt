@@ -1,8 +1,8 @@
 -- The first common boundary that is searched for among the ends is there, and is the least.
-use Rattle.std.proofs.Common.{◌≡◌, ℕ, ◌+◌, ◌-◌, ◌<◌, ◌≤◌, ◌⊎◌, inl, inr, Bool, true, false, ◌&&◌, ◌||◌, cond, nat_eq, nat_le, List, [], ◌∷◌, length, drop, refl, sym, ap, ◌∙◌, subst, arith, length-drop}
+use Rattle.std.proofs.Common.{◌≡◌, ℕ, ◌+◌, ◌-◌, ◌≤◌, ◌⊎◌, inl, inr, Bool, true, ◌&&◌, cond, nat_eq, nat_le, List, [], ◌∷◌, length, refl, sym, ap, ◌∙◌, subst, arith, length-drop}
 use Rattle.std.specs.List.{list_any}
 use Rattle.std.proofs.lemmas.Bool.{and_from, and_parts, cases_Bool, eq-eqb, eqb-true, false≢true, le-leb, leb-true, or_cases, or_left, or_right}
-use Rattle.snl_cut.specs.Cut.{IsBoundary, IsCut, IsEdit, IsMeet, Rises, Walks, ends_of, is_boundary, last_end, meet_from, meet_of}
+use Rattle.snl_cut.specs.Cut.{IsCut, IsEdit, IsMeet, Rises, Walks, ends_of, is_boundary, last_end, meet_from, meet_of}
 
 -- ---- boundaries
 
@@ -84,10 +84,10 @@ meet_least old_ends b c at (e ∷ es) place r m h =
       | inl here ↦ subst G (sym here) (among_above at (e ∷ es) place r h)
       | inr further ↦
           subst G (sym further) (
-            elim h [
-              | inl same ↦ absurd (false≢true (sym further ∙ (ap (meets old_ends b c) (sym same) ∙ m)))
-              | inr later ↦ meet_least old_ends b c e es place r.1 m (among_rest at e es place later)
-            ]
+          elim h [
+            | inl same ↦ absurd (false≢true (sym further ∙ (ap (meets old_ends b c) (sym same) ∙ m)))
+            | inr later ↦ meet_least old_ends b c e es place r.1 m (among_rest at e es place later)
+          ]
           )
     ]
 
@@ -113,7 +113,7 @@ edit_meets {X} first cut rises last old units start b c is =
       in_new = walk_to first units 0 ends (length units) meet (cut units) (meet_among old_ends b c 0 ends);
       in_old = walk_to first old 0 old_ends (length old) ((meet - c) + b) (cut old) (among_tested old_ends ((meet - c) + b) here.1);
       least = λ place after in_new in_old.
-        let there : is_boundary old_ends ((place - c) + b) ≡ true = test_among old_ends ((place - c) + b) (led_among first old 0 old_ends in_old.0 ((place - c) + b) (cut old) in_old.1) in
-        meet_least old_ends b c 0 ends place (rises units) (and_from (nat_le c place) (is_boundary old_ends ((place - c) + b)) (le-leb c place after) there)
-        (led_among first units 0 ends in_new.0 place (cut units) in_new.1);
+          let there : is_boundary old_ends ((place - c) + b) ≡ true = test_among old_ends ((place - c) + b) (led_among first old 0 old_ends in_old.0 ((place - c) + b) (cut old) in_old.1) in
+          meet_least old_ends b c 0 ends place (rises units) (and_from (nat_le c place) (is_boundary old_ends ((place - c) + b)) (le-leb c place after) there)
+          (led_among first units 0 ends in_new.0 place (cut units) in_new.1);
     }

@@ -14,7 +14,7 @@ pub fn edits_meet<F: Front>()
     ensures { (old units : List F.Unit) (start old_stop new_stop : ℕ)
         → IsEdit old units start old_stop new_stop
         → IsMeet F.first_of old units old_stop new_stop
-            (meet_of F.first_of old units old_stop new_stop) }
+        (meet_of F.first_of old units old_stop new_stop) }
 {
     one_cut::<F>();
     ends_in_order::<F>();
@@ -26,7 +26,7 @@ pub fn pieces_meet()
     ensures { (old text : List ℕ) (start old_stop new_stop : ℕ)
         → IsEdit old text start old_stop new_stop
         → IsMeet piece_length old text old_stop new_stop
-            (meet_of piece_length old text old_stop new_stop) }
+        (meet_of piece_length old text old_stop new_stop) }
 {
     edits_meet::<Bytes>();
 }

@@ -43,5 +43,5 @@ pub fn hexadecimals_read_back()
     ensures piece { (capital_x capital_digits : Bool) (v : ℕ) (rest : List ℕ) → v < 2 ^ 64
         → goes_on_digits rest ≡ false
         → first_piece (hexadecimal capital_x capital_digits v ++ rest)
-            ≡ (Int, length (hexadecimal capital_x capital_digits v)) }
+        ≡ (Int, length (hexadecimal capital_x capital_digits v)) }
 {}

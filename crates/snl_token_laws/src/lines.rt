@@ -13,20 +13,20 @@ use snl_lex::text_in_pieces;
 pub fn lines_after_markers()
     ensures at_line_end { (text : List ℕ) → All
         (λ p. p.kind ≡ Marker
-            → (piece_end p ≡ length text) ⊎ (slice_index text (piece_end p) ≡ 10))
+        → (piece_end p ≡ length text) ⊎ (slice_index text (piece_end p) ≡ 10))
         (pieces_of text) }
     ensures number { (text : List ℕ) → All
         (λ p. (n : ℕ) → p.kind ≡ Marker → marker_number (bytes_at text p) ≡ Some n
-            → piece_end p < length text → (line_at text (piece_end p + 1)).number ≡ n)
+        → piece_end p < length text → (line_at text (piece_end p + 1)).number ≡ n)
         (pieces_of text) }
     ensures file { (text : List ℕ) → All
         (λ p. (n at len : ℕ) → p.kind ≡ Marker → marker_number (bytes_at text p) ≡ Some n
-            → marker_file (bytes_at text p) ≡ Some (at, len) → piece_end p < length text
-            → (line_at text (piece_end p + 1)).file ≡ Some (p.start + at, len))
+        → marker_file (bytes_at text p) ≡ Some (at, len) → piece_end p < length text
+        → (line_at text (piece_end p + 1)).file ≡ Some (p.start + at, len))
         (pieces_of text) }
     ensures kept_file { (text : List ℕ) → All
         (λ p. p.kind ≡ Marker → marker_file (bytes_at text p) ≡ None → piece_end p < length text
-            → (line_at text (piece_end p + 1)).file ≡ (line_at text (piece_end p)).file)
+        → (line_at text (piece_end p + 1)).file ≡ (line_at text (piece_end p)).file)
         (pieces_of text) }
 {
     text_in_pieces();
