@@ -8,3 +8,4 @@ pub mod Counted
 pub mod Rising
 pub mod Marked
 pub mod Meeting
+pub mod Recuts

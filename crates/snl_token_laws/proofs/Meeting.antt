@@ -7,7 +7,7 @@ use Rattle.snl_cut.specs.Cut.{IsCut, IsEdit, IsMeet, Rises, Walks, ends_of, is_b
 -- ---- boundaries
 
 -- The place is where the members begin, or one of the ends.
-abbrev IsAmong : ℕ → List ℕ → ℕ → Type 0
+abbrev pub IsAmong : ℕ → List ℕ → ℕ → Type 0
 IsAmong from ends place = (place ≡ from) ⊎ (list_any (nat_eq place) ends ≡ true)
 
 among_more : (from e : ℕ) (es : List ℕ) (place : ℕ) → IsAmong e es place → IsAmong from (e ∷ es) place
@@ -17,7 +17,7 @@ among_more from e es place h =
       | inr later ↦ inr (or_right (nat_eq place e) (list_any (nat_eq place) es) later)
     ]
 
-among_rest : (from e : ℕ) (es : List ℕ) (place : ℕ) → list_any (nat_eq place) (e ∷ es) ≡ true → IsAmong e es place
+pub among_rest : (from e : ℕ) (es : List ℕ) (place : ℕ) → list_any (nat_eq place) (e ∷ es) ≡ true → IsAmong e es place
 among_rest from e es place h =
     elim (or_cases (nat_eq place e) (list_any (nat_eq place) es) h) [ inl here ↦ inl (eqb-true place e here) | inr later ↦ inr later ]
 
@@ -33,7 +33,7 @@ walk_to first units from (e ∷ ends) to place w h =
     ]
 
 -- Where a walk leads is among the ends of the cut.
-led_among : {X : Type 0} (first : List X → ℕ) (units : List X) (from : ℕ) (ends es : List ℕ) (place : ℕ) → Walks first units from ends (length units) → Walks first units from es place → IsAmong from ends place
+pub led_among : {X : Type 0} (first : List X → ℕ) (units : List X) (from : ℕ) (ends es : List ℕ) (place : ℕ) → Walks first units from ends (length units) → Walks first units from es place → IsAmong from ends place
 led_among first units from ends [] place w h = inl (sym h)
 led_among first units from [] (e ∷ es) place w h = absurd (omega (arith, w, h.0))
 led_among first units from (f ∷ ends) (e ∷ es) place w h =
@@ -71,7 +71,7 @@ meet_among old_ends b c at (e ∷ es) =
     let G : Bool → Type 0 = λ (t : Bool). IsAmong at (e ∷ es) (cond t at rest) in
     elim (cases_Bool (meets old_ends b c at)) [ inl here ↦ subst G (sym here) (inl refl) | inr further ↦ subst G (sym further) (among_more at e es rest (meet_among old_ends b c e es)) ]
 
-among_above : (from : ℕ) (ends : List ℕ) (place : ℕ) → Rises from ends → IsAmong from ends place → from ≤ place
+pub among_above : (from : ℕ) (ends : List ℕ) (place : ℕ) → Rises from ends → IsAmong from ends place → from ≤ place
 among_above from [] place r h = elim h [ inl here ↦ omega arith | inr later ↦ cc ]
 among_above from (e ∷ es) place r h = elim h [ inl here ↦ omega arith | inr later ↦ omega (arith, r.0, among_above e es place r.1 (among_rest from e es place later)) ]
 
@@ -94,7 +94,7 @@ meet_least old_ends b c at (e ∷ es) place r m h =
 -- ---- the meeting point
 
 -- Both lists have as many units after the edit.
-rest_same : {X : Type 0} (old units : List X) (start b c : ℕ) → IsEdit old units start b c → (length units - c) + b ≡ length old
+pub rest_same : {X : Type 0} (old units : List X) (start b c : ℕ) → IsEdit old units start b c → (length units - c) + b ≡ length old
 rest_same {X} old units start b c is = omega (arith, is.old_inside, is.new_inside, ap length is.after, length-drop b old, length-drop c units)
 
 pub edit_meets : {X : Type 0} (first : List X → ℕ) → ((units : List X) → IsCut first units (ends_of first units)) → ((units : List X) → Rises 0 (ends_of first units)) → ((units : List X) → last_end 0 (ends_of first units) ≡ length units)

@@ -6,7 +6,7 @@ mod integers;
 mod lines;
 mod punctuators;
 
-pub use edits::{edits_meet, pieces_meet};
+pub use edits::{edits_have_recuts, edits_meet, pieces_meet};
 pub use integers::{
     decimals_read_back, hexadecimals_read_back, integers_have_values, octals_read_back,
 };
