@@ -1,5 +1,5 @@
 -- What an edit keeps of a cut and makes anew is the cut of the new list.
-use Rattle.std.proofs.Common.{◌≡◌, ℕ, zero, suc, ◌+◌, ◌-◌, ◌<◌, ◌≤◌, ◌⊎◌, inl, inr, Bool, true, false, cond, nat_le, nat_lt, List, [], ◌∷◌, ◌++◌, length, drop, take, min, refl, sym, ap, ap₂, ◌∙◌, subst, arith, append_assoc, length-drop}
+use Rattle.std.proofs.Common.{◌≡◌, ℕ, zero, suc, ◌+◌, ◌-◌, ◌<◌, ◌≤◌, inl, inr, cond, nat_le, nat_lt, List, [], ◌∷◌, ◌++◌, length, drop, take, min, refl, sym, ap, ap₂, ◌∙◌, subst, arith, length-drop}
 use Rattle.std.proofs.lemmas.Bool.{cases_lt, cond-false, cond-true, le-leb, le-ltb, lt-leb, lt-ltb}
 use Rattle.std.proofs.lemmas.List.{drop-drop, drop-take, length-take, take-append-drop, take-take}
 use Rattle.snl_cut.specs.Cut.{IsCut, IsEdit, IsFront, IsLocal, IsMeet, IsRecut, Rises, Walks, ends_below, ends_of, fresh, fresh_ends, joined, last_end, meet_of, moved}

@@ -28,9 +28,9 @@ pub fn edits_have_recuts<F: Front>()
     ensures { (old units : List F.Unit) (start old_stop new_stop : ℕ)
         → IsEdit old units start old_stop new_stop
         → IsRecut F.first_of old (ends_of F.first_of old) units start old_stop new_stop
-            (ends_below start (ends_of F.first_of old))
-            (fresh_ends F.first_of old units start old_stop new_stop)
-            (back_of F.first_of old units old_stop new_stop) }
+        (ends_below start (ends_of F.first_of old))
+        (fresh_ends F.first_of old units start old_stop new_stop)
+        (back_of F.first_of old units old_stop new_stop) }
 {
     one_cut::<F>();
     ends_in_order::<F>();
@@ -42,13 +42,13 @@ pub fn pieces_meet()
     ensures meet { (old text : List ℕ) (start old_stop new_stop : ℕ)
         → IsEdit old text start old_stop new_stop
         → IsMeet piece_length old text old_stop new_stop
-            (meet_of piece_length old text old_stop new_stop) }
+        (meet_of piece_length old text old_stop new_stop) }
     ensures recut { (old text : List ℕ) (start old_stop new_stop : ℕ)
         → IsEdit old text start old_stop new_stop
         → IsRecut piece_length old (piece_ends old) text start old_stop new_stop
-            (ends_below start (piece_ends old))
-            (fresh_ends piece_length old text start old_stop new_stop)
-            (back_of piece_length old text old_stop new_stop) }
+        (ends_below start (piece_ends old))
+        (fresh_ends piece_length old text start old_stop new_stop)
+        (back_of piece_length old text old_stop new_stop) }
 {
     text_in_pieces();
     one_cut::<Bytes>();
