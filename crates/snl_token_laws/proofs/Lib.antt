@@ -9,3 +9,4 @@ pub mod Rising
 pub mod Marked
 pub mod Meeting
 pub mod Recuts
+pub mod MarkerNumbers

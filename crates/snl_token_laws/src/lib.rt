@@ -10,5 +10,5 @@ pub use edits::{edits_have_recuts, edits_meet, pieces_meet};
 pub use integers::{
     decimals_read_back, hexadecimals_read_back, integers_have_values, octals_read_back,
 };
-pub use lines::{lines_after_markers, lines_rise};
+pub use lines::{lines_after_markers, lines_rise, markers_read_back};
 pub use punctuators::punctuators_by_front;

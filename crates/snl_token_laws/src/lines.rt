@@ -1,10 +1,11 @@
 //! What lines are numbered, and which files they are of.
 
 ghost use Rattle.snl_token_laws.specs.Unmarked.{IsPlainEnd};
+ghost use Rattle.snl_token_laws.specs.Written.{EndsNumber};
 ghost use Rattle.snl_lex.specs.Lines.{line_at, lines_between, marker_file, marker_number};
 ghost use Rattle.snl_lex.specs.Pieces.{bytes_at, piece_end, pieces_of};
 ghost use Rattle.snl_lex.specs.declared.piece.Class.TheVariants.{Marker};
-ghost use Rattle.std.specs.Prelude.{◌≡◌, ◌+◌, ℕ, ◌<◌, ◌≤◌, ◌⊎◌, List, Some, None, All, length, slice_index};
+ghost use Rattle.std.specs.Prelude.{◌≡◌, ◌++◌, ◌+◌, ℕ, ◌<◌, ◌≤◌, ◌⊎◌, List, Some, None, All, codes, decimal, length, slice_index};
 
 use snl_lex::text_in_pieces;
 
@@ -31,6 +32,15 @@ pub fn lines_after_markers()
 {
     text_in_pieces();
 }
+
+/// A marker sets the number that is written in it, in decimal and at most 2,147,483,647, after `# ` or
+/// `#line `, if nothing or white space follows it.
+pub fn markers_read_back()
+    ensures plain { (n : ℕ) (rest : List ℕ) → n ≤ 2147483647 → EndsNumber rest
+        → marker_number (codes "# " ++ (decimal n ++ rest)) ≡ Some n }
+    ensures with_word { (n : ℕ) (rest : List ℕ) → n ≤ 2147483647 → EndsNumber rest
+        → marker_number (codes "#line " ++ (decimal n ++ rest)) ≡ Some n }
+{}
 
 /// The first line has the number 1 and no file. All of a line has one number and one file. The line
 /// after it has the next number and the same file, unless a marker that sets a line is on it.
