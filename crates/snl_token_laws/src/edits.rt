@@ -37,7 +37,8 @@ pub fn edits_have_recuts<F: Front>()
     edits_meet::<F>();
 }
 
-/// The same of the pieces of two texts: an edit of a text is all that a recut of its pieces asks for.
+/// The same of the pieces of two texts: a recut of the pieces asks no more than that one text is an
+/// edit of the other.
 pub fn pieces_meet()
     ensures meet { (old text : List ℕ) (start old_stop new_stop : ℕ)
         → IsEdit old text start old_stop new_stop

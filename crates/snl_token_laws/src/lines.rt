@@ -33,8 +33,8 @@ pub fn lines_after_markers()
     text_in_pieces();
 }
 
-/// A marker sets the number that is written in it, in decimal and at most 2,147,483,647, after `# ` or
-/// `#line `, if nothing or white space follows it.
+/// A marker sets the number that is written in it after `# ` or `#line `, in decimal and at most
+/// 2,147,483,647, if nothing or white space follows it.
 pub fn markers_read_back()
     ensures plain { (n : ℕ) (rest : List ℕ) → n ≤ 2147483647 → EndsNumber rest
         → marker_number (codes "# " ++ (decimal n ++ rest)) ≡ Some n }

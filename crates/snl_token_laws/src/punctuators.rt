@@ -10,9 +10,9 @@ ghost use Rattle.std.specs.Prelude.{◌≡◌, ◌↔◌, ℕ, ◌<◌, true, Li
 use snl_lex::{first_piece_reaches, text_in_pieces};
 
 /// A text begins with a punctuator exactly where its first byte is a mark and its front is none of
-/// `//`, `/*`, `%%`, `%{` and a dot before a digit. The punctuator is then the longest mark that the
-/// text begins with. The first byte of each mark is a mark, so where a text begins with a mark of
-/// any length, its first byte is one.
+/// `//`, `/*`, `%%`, `%{` and a dot before a digit. The punctuator is then the longest mark that
+/// the text begins with. The first byte of each mark is a mark, so where a text begins with a mark
+/// of any length, its first byte is one.
 pub fn punctuators_by_front()
     ensures punctuator { (text : List ℕ) → IsPunctuatorFront text → (first_piece text).0 ≡ Punct }
     ensures no_other { (text : List ℕ) → 0 < length text → (first_piece text).0 ≡ Punct
