@@ -1,4 +1,5 @@
-//! Laws over the tokens of a text. A function here does nothing: its contract is the law.
+//! Laws over the tokens of a text: facts of the definitions that the contracts of the lexical layer
+//! and of the cut cite. A function here does nothing: its contract is the law.
 #![tactic(auto)]
 
 mod edits;
