@@ -1,0 +1,12 @@
+pub mod Marks
+pub mod PunctuatorFronts
+pub mod Told
+pub mod Limits
+pub mod Values
+pub mod NumberRuns
+pub mod Counted
+pub mod Rising
+pub mod Marked
+pub mod Meeting
+pub mod Recuts
+pub mod MarkerNumbers

@@ -1,0 +1,12 @@
+-- What the first bytes of a text say of its first piece.
+use Rattle.std.specs.Prelude.{◌≡◌, ℕ, true, List, codes, slice_index, take}
+use Rattle.snl_lex.specs.Alphabet.{is_digit, is_mark}
+
+-- The first byte is a mark, and the front begins no comment, no embedded C and no number.
+pub record IsPunctuatorFront (text : List ℕ) : Type 0 where
+  pub mark : is_mark (take 1 text) ≡ true
+  pub no_line_comment : take 2 text ≡ codes "//" → ⊥
+  pub no_comment : take 2 text ≡ codes "/*" → ⊥
+  pub no_line_code : take 2 text ≡ codes "%%" → ⊥
+  pub no_code : take 2 text ≡ codes "%{" → ⊥
+  pub no_number : take 1 text ≡ codes "." → is_digit (slice_index text 1) ≡ true → ⊥

@@ -1,0 +1,15 @@
+//! Laws over the tokens of a text: facts of the definitions that the contracts of the lexical layer
+//! and of the cut cite. A function here does nothing: its contract is the law.
+#![tactic(auto)]
+
+mod edits;
+mod integers;
+mod lines;
+mod punctuators;
+
+pub use edits::{edits_have_recuts, edits_meet, pieces_meet};
+pub use integers::{
+    decimals_read_back, hexadecimals_read_back, integers_have_values, octals_read_back,
+};
+pub use lines::{lines_after_markers, lines_rise, markers_read_back};
+pub use punctuators::punctuators_by_front;
