@@ -7,3 +7,4 @@ pub mod OtherCodes
 pub mod OneFault
 pub mod Files
 pub mod Places
+pub mod KeptItems

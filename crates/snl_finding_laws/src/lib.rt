@@ -2,8 +2,10 @@
 //! is a law, and nothing calls it.
 #![tactic(auto)]
 
+mod kept_laws;
 mod own_laws;
 mod place_laws;
 
+pub use kept_laws::kept_items_spelled_alike;
 pub use own_laws::one_fault_an_item;
 pub use place_laws::{diagnostics_are_shown, diagnostics_lie_in_text, files_lie_in_text};
