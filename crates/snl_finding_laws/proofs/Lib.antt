@@ -8,3 +8,5 @@ pub mod OneFault
 pub mod Files
 pub mod Places
 pub mod KeptItems
+pub mod FaultyLinks
+pub mod OnlyFault

@@ -89,7 +89,7 @@ pub record FindingLaws (text : List ℕ) : Type 0 where
   pub links : LinkLaws
   pub codes : CodesLaw
 
-all_read : (text : List ℕ) → Each (λ x. (t : Item) → x.tree ≡ Some t → item_of (kinds_in text x.tokens) ≡ Some t) (items_of text)
+pub all_read : (text : List ℕ) → Each (λ x. (t : Item) → x.tree ≡ Some t → item_of (kinds_in text x.tokens) ≡ Some t) (items_of text)
 all_read text =
     each_map (λ x. (t : Item) → x.tree ≡ Some t → item_of (kinds_in text x.tokens) ≡ Some t) (program_item text) (item_tokens text)
     (each_by (λ tokens. (t : Item) → tree_in text tokens ≡ Some t → item_of (kinds_in text tokens) ≡ Some t) (read_item text) (item_tokens text))

@@ -59,7 +59,7 @@ pub record LinkLaws : Type 0 where
   pub faulty : (text : List ℕ) (tokens : List Piece) → 0 < length tokens → SpeaksOfTokens (length tokens) (outline_in text tokens None)
   pub places : (l : LinkedItems) (counts : ℕ → ℕ) → ((i : ℕ) → IfSome (slice_get l.outlines i) (SpeaksOfTokens (counts i))) → All (IsPlaced counts l.outlines) (links.faults_of l)
 
-abbrev IsRead : List ℕ → ProgramItem → Type 0
+abbrev pub IsRead : List ℕ → ProgramItem → Type 0
 IsRead text x = (t : Item) → x.tree ≡ Some t → item_of (kinds_in text x.tokens) ≡ Some t
 
 item_speaks : (laws : LinkLaws) (text : List ℕ) (x : ProgramItem) → InARow text x.tokens → IsRead text x → SpeaksOfTokens (length x.tokens) (outline_of_item text x)
@@ -69,7 +69,7 @@ item_speaks laws text x row read = by x.tree refl
     by None e = laws.faulty text x.tokens row.some
     by (Some t) e = laws.tree text x.tokens t row.some (read t e)
 
-all_speak : (laws : LinkLaws) (text : List ℕ) (xs : List ProgramItem) → AreInARow text xs → Each (IsRead text) xs
+pub all_speak : (laws : LinkLaws) (text : List ℕ) (xs : List ProgramItem) → AreInARow text xs → Each (IsRead text) xs
     → (i : ℕ) → IfSome (slice_get (outlines_of text xs) i) (SpeaksOfTokens (length (tokens_in xs i)))
 all_speak laws text xs row read i =
     let P : Option Outline → Type 0 = λ o. IfSome o (SpeaksOfTokens (length (tokens_in xs i))) in

@@ -49,23 +49,23 @@ in_own_span text x n p row e =
     and_from (nat_le (first_byte x.tokens) p.start) (nat_lt p.start (stop_after 0 x.tokens))
         (le-leb (first_byte x.tokens) p.start first) (lt-ltb p.start (stop_after 0 x.tokens) (omega (arith, stop, lies.0)))
 
--- One that ends before the item begins isn't in it, nor is one that begins after the item.
-before_span : (text : List ℕ) (x : ProgramItem) (p : Piece) → InARow text x.tokens → 1 ≤ p.len → Each (Before p) x.tokens → is_in_span x p.start ≡ false
-before_span text x p row some h =
-    and_left (nat_le (first_byte x.tokens) p.start) (nat_lt p.start (stop_after 0 x.tokens)) (lt-leb (first_byte x.tokens) p.start (below x.tokens row.some h))
+-- No byte of a token that ends before the item begins is in it, nor of one that begins after the item.
+pub before_span : (text : List ℕ) (x : ProgramItem) (p : Piece) → InARow text x.tokens → Each (Before p) x.tokens → (offset : ℕ) → offset < piece_end p → is_in_span x offset ≡ false
+before_span text x p row h offset within =
+    and_left (nat_le (first_byte x.tokens) offset) (nat_lt offset (stop_after 0 x.tokens)) (lt-leb (first_byte x.tokens) offset (below x.tokens row.some h))
   where
-    below : (qs : List Piece) → 0 < length qs → Each (Before p) qs → p.start < first_byte qs
+    below : (qs : List Piece) → 0 < length qs → Each (Before p) qs → offset < first_byte qs
     below [] l h = absurd (omega (arith, l))
-    below (q ∷ qs) l h = omega (arith, h.0, some)
+    below (q ∷ qs) l h = omega (arith, h.0, within)
 
 stop_below : (bound stop : ℕ) (ps : List Piece) → stop ≤ bound → Each (λ p. piece_end p ≤ bound) ps → stop_after stop ps ≤ bound
 stop_below bound stop [] l h = l
 stop_below bound stop (p ∷ ps) l h = stop_below bound (piece_end p) ps h.0 h.1
 
-after_span : (x : ProgramItem) (p : Piece) → Each (λ q. Before q p) x.tokens → is_in_span x p.start ≡ false
-after_span x p h =
-    and_right (nat_le (first_byte x.tokens) p.start) (nat_lt p.start (stop_after 0 x.tokens))
-        (le-ltb p.start (stop_after 0 x.tokens) (stop_below p.start 0 x.tokens (omega arith) h))
+pub after_span : (x : ProgramItem) (p : Piece) → Each (λ q. Before q p) x.tokens → (offset : ℕ) → p.start ≤ offset → is_in_span x offset ≡ false
+after_span x p h offset from =
+    let stop = stop_below p.start 0 x.tokens (omega arith) h in
+    and_right (nat_le (first_byte x.tokens) offset) (nat_lt offset (stop_after 0 x.tokens)) (le-ltb offset (stop_after 0 x.tokens) (omega (arith, stop, from)))
 
 -- ---- findings at items
 
@@ -97,13 +97,13 @@ none_among : (text : List ℕ) (test : Code → Bool) (x : ProgramItem) (ys : Li
 none_among text test x [] h = refl
 none_among text test x (y ∷ ys) h =
     let here : of_option (at_item test x) (fault_in text y) ≡ 0 =
-        none_at test x y.tokens (parsed_in text y.tokens) (each_weaker (λ p. Each (λ q. Before q p) x.tokens) (λ p. is_in_span x p.start ≡ false) (after_span x) y.tokens h.0) in
+        none_at test x y.tokens (parsed_in text y.tokens) (each_weaker (λ p. Each (λ q. Before q p) x.tokens) (λ p. is_in_span x p.start ≡ false) (λ p g. after_span x p g p.start (omega arith)) y.tokens h.0) in
     let rest = none_among text test x ys h.1 in
     count_cons (at_item test x) (fault_in text y) (filter_map (fault_in text) ys) ∙ omega (arith, here, rest)
 
 -- ---- one item after another
 
-turned : (ps qs : List Piece) → AllBefore ps qs → Each (λ p. Each (Before p) qs) ps
+pub turned : (ps qs : List Piece) → AllBefore ps qs → Each (λ p. Each (Before p) qs) ps
 turned [] qs h = tt
 turned (p ∷ ps) qs h =
     (each_weaker (λ q. Each (λ r. Before r q) (p ∷ ps)) (Before p) (λ q g. g.0) qs h,
@@ -115,7 +115,7 @@ earlier_none text test x y row own h =
   where
     both : (ps : List Piece) → Each (λ p. Each (Before p) x.tokens) ps → Each (LiesIn text) ps → Each (λ p. is_in_span x p.start ≡ false) ps
     both [] g l = tt
-    both (p ∷ ps) g l = (before_span text x p row l.0.0 g.0, both ps g.1 l.1)
+    both (p ∷ ps) g l = (before_span text x p row g.0 p.start (omega (arith, l.0.0)), both ps g.1 l.1)
 
 count_at_item : (text : List ℕ) (test : Code → Bool) (xs : List ProgramItem) (i : ℕ) (x : ProgramItem) → AreInARow text xs → slice_get xs i ≡ Some x
     → count (at_item test x) (filter_map (fault_in text) xs) ≡ of_option (at_item test x) (fault_in text x)

@@ -111,7 +111,7 @@ linked_lie text xs h =
 -- ---- what is found in items
 
 -- A finding that isn't where its token begins is at an option's letter.
-abbrev IsAtLetter : ItemFault → Type 0
+abbrev pub IsAtLetter : ItemFault → Type 0
 IsAtLetter f = (f.byte ≡ 0) ⊎ (f.code ≡ W04)
 
 letter_found : (known : List ℕ) (token byte letter : ℕ) → Each IsAtLetter (found_at_letter known token (byte, letter))
@@ -149,16 +149,29 @@ pub record ItemLaws : Type 0 where
       → item_of (kinds_in text tokens) ≡ Some tree → All (λ f. f.token < length tokens) (faults_in bytes tree in_set fact target)
   pub in_tokens : (bytes : ℕ → List ℕ) (tree : Item) (in_set : Bool) (fact : List ℕ → Option Fact) (target : List ℕ → Bool) → All (StandsIn bytes) (faults_in bytes tree in_set fact target)
 
-bytes_few : (text : List ℕ) (tokens : List Piece) (n : ℕ) (p : Piece) → slice_get tokens n ≡ Some p → length (token_bytes text tokens n) ≤ p.len
+pub bytes_few : (text : List ℕ) (tokens : List Piece) (n : ℕ) (p : Piece) → slice_get tokens n ≡ Some p → length (token_bytes text tokens n) ≤ p.len
 unfolding token_bytes
 bytes_few text tokens n p e =
     let few : length (bytes_if text (Some p)) ≤ p.len = omega (arith, length-take p.len (drop p.start text)) in
     subst (λ o. length (bytes_if text o) ≤ p.len) (sym e) few
 
-record IsPlace (text : List ℕ) (tokens : List Piece) (f : ItemFault) : Type 0 where
-  own : f.token < length tokens
-  inside : StandsIn (token_bytes text tokens) f
-  letter : IsAtLetter f
+-- A finding is at a byte of one of the tokens.
+pub record IsPlace (text : List ℕ) (tokens : List Piece) (f : ItemFault) : Type 0 where
+  pub own : f.token < length tokens
+  pub inside : StandsIn (token_bytes text tokens) f
+  pub letter : IsAtLetter f
+
+pub places_in : ItemLaws → (text : List ℕ) (ss : List Outline) (i : ℕ) (tokens : List Piece) (t : Item) → item_of (kinds_in text tokens) ≡ Some t
+    → Each (IsPlace text tokens) (faults_in (token_bytes text tokens) t (is_in_set ss i) (known_of ss i) (leads_to ss i))
+places_in laws text ss i tokens t read =
+    let bytes : ℕ → List ℕ = token_bytes text tokens in
+    let faults : List ItemFault = faults_in bytes t (is_in_set ss i) (known_of ss i) (leads_to ss i) in
+    let own : Each (λ f. f.token < length tokens) faults =
+        recursion_from_All (λ f. f.token < length tokens) faults (laws.at_tokens bytes (is_in_set ss i) (known_of ss i) (leads_to ss i) text tokens t read) in
+    let inside : Each (StandsIn bytes) faults = recursion_from_All (StandsIn bytes) faults (laws.in_tokens bytes t (is_in_set ss i) (known_of ss i) (leads_to ss i)) in
+    let letters : Each IsAtLetter faults = all_found bytes t (is_in_set ss i) (known_of ss i) (leads_to ss i) in
+    each_weaker (λ f. (f.token < length tokens) × (StandsIn bytes f × IsAtLetter f)) (IsPlace text tokens) (λ f h. record { own = h.0; inside = h.1.0; letter = h.1.1 }) faults
+    (each_both (λ f. f.token < length tokens) (λ f. StandsIn bytes f × IsAtLetter f) faults own (each_both (StandsIn bytes) IsAtLetter faults inside letters))
 
 first_byte_lies : (text : List ℕ) (f : ItemFault) (p : Piece) → LiesIn text p → f.byte ≡ 0 → Quotes text (moved f.byte (finding_at f.code (Some p)))
 first_byte_lies text f p lies first = omega (arith, lies.0, lies.1, first, quoted_within f.code p.len lies.0)
@@ -186,16 +199,9 @@ item_lies laws text ss i x sound = by x.tree refl
     by : (o : Option Item) → x.tree ≡ o → Each (Quotes text) (found_in_item text ss (i, record { tokens = x.tokens; tree = o }))
     by None e = tt
     by (Some t) e =
-        let bytes : ℕ → List ℕ = token_bytes text x.tokens in
-        let faults : List ItemFault = faults_in bytes t (is_in_set ss i) (known_of ss i) (leads_to ss i) in
-        let own : Each (λ f. f.token < length x.tokens) faults =
-            recursion_from_All (λ f. f.token < length x.tokens) faults (laws.at_tokens bytes (is_in_set ss i) (known_of ss i) (leads_to ss i) text x.tokens t (sound.read t e)) in
-        let inside : Each (StandsIn bytes) faults = recursion_from_All (StandsIn bytes) faults (laws.in_tokens bytes t (is_in_set ss i) (known_of ss i) (leads_to ss i)) in
-        let letters : Each IsAtLetter faults = all_found bytes t (is_in_set ss i) (known_of ss i) (leads_to ss i) in
+        let faults : List ItemFault = faults_in (token_bytes text x.tokens) t (is_in_set ss i) (known_of ss i) (leads_to ss i) in
         each_map (Quotes text) (at_own_token x.tokens) faults
-        (each_weaker (λ f. (f.token < length x.tokens) × (StandsIn bytes f × IsAtLetter f)) (λ f. Quotes text (at_own_token x.tokens f))
-            (λ f h. own_lies text x.tokens sound.lie f (record { own = h.0; inside = h.1.0; letter = h.1.1 })) faults
-            (each_both (λ f. f.token < length x.tokens) (λ f. StandsIn bytes f × IsAtLetter f) faults own (each_both (StandsIn bytes) IsAtLetter faults inside letters)))
+        (each_weaker (IsPlace text x.tokens) (λ f. Quotes text (at_own_token x.tokens f)) (own_lies text x.tokens sound.lie) faults (places_in laws text ss i x.tokens t (sound.read t e)))
 
 checked_lie : ItemLaws → (text : List ℕ) (xs : List ProgramItem) → Each (IsSound text) xs → Each (Quotes text) (checked_faults text xs)
 checked_lie laws text xs h =

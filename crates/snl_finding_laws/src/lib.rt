@@ -7,5 +7,5 @@ mod own_laws;
 mod place_laws;
 
 pub use kept_laws::kept_items_spelled_alike;
-pub use own_laws::one_fault_an_item;
+pub use own_laws::{faulty_items_have_no_other, one_fault_an_item};
 pub use place_laws::{diagnostics_are_shown, diagnostics_lie_in_text, files_lie_in_text};
