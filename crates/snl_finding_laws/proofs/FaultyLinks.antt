@@ -99,10 +99,10 @@ module _ (text : List ℕ) (xs : List ProgramItem) where
     not_misplaced : order.is_misplaced l j ≡ false
     not_misplaced =
         let late : order.is_late l j ≡ false =
-            none_below (λ k. order.exceeds (order.phase l k) (order.phase l j)) j (λ k. ap (order.exceeds (order.phase l k)) no_phase ∙ exceeds_none (order.phase l k)) in
+        none_below (λ k. order.exceeds (order.phase l k) (order.phase l j)) j (λ k. ap (order.exceeds (order.phase l k)) no_phase ∙ exceeds_none (order.phase l k)) in
         let barred : order.is_barred l j ≡ false =
-            kind_fails (λ k. if is_none (enclosing_set ss j) then order.is_state k else order.is_barred_in_sets k)
-            (elim (is_none (enclosing_set ss j)) as (λ (b : Bool). (if b then order.is_state Faulty else order.is_barred_in_sets Faulty) ≡ false) [ true ↦ refl | false ↦ refl ]) in
+        kind_fails (λ k. if is_none (enclosing_set ss j) then order.is_state k else order.is_barred_in_sets k)
+        (elim (is_none (enclosing_set ss j)) as (λ (b : Bool). (if b then order.is_state Faulty else order.is_barred_in_sets Faulty) ≡ false) [ true ↦ refl | false ↦ refl ]) in
         and_left (order.is_late l j || order.is_barred l j) (not (order.is_later_program ss j)) (or_from (order.is_late l j) (order.is_barred l j) late barred)
       where
         exceeds_none : (o : Option ℕ) → order.exceeds o None ≡ false
@@ -112,7 +112,7 @@ module _ (text : List ℕ) (xs : List ProgramItem) where
     not_unmatched : order.is_unmatched ss j ≡ false
     not_unmatched =
         or_from (is_set_begin ss j && not (order.is_closed ss j)) (is_set_end ss j && is_none (enclosing_set ss j))
-            (and_left (is_set_begin ss j) (not (order.is_closed ss j)) no_begin) (and_left (is_set_end ss j) (is_none (enclosing_set ss j)) no_end)
+        (and_left (is_set_begin ss j) (not (order.is_closed ss j)) no_begin) (and_left (is_set_end ss j) (is_none (enclosing_set ss j)) no_end)
 
     not_repeated : order.is_repeated_header l j ≡ false
     not_repeated = and_left (kind_is (λ k. not (order.is_faulty k)) l j) (order.is_later_program ss j) (kind_fails (λ k. not (order.is_faulty k)) refl)
@@ -143,13 +143,13 @@ module _ (text : List ℕ) (xs : List ProgramItem) where
   order_sound : Each AtSound (order.order_faults l)
   order_sound =
       each_append AtSound (order.misplaced_items l ++ order.unmatched_braces ss ++ order.header_faults l) (order.missing_states ss)
-          (each_append AtSound (order.misplaced_items l ++ order.unmatched_braces ss) (order.header_faults l)
-              (each_append AtSound (order.misplaced_items l) (order.unmatched_braces ss)
-                  (at_items E03 (order.is_misplaced l) not_misplaced (length ss)) (at_items E04 (order.is_unmatched ss) not_unmatched (length ss)))
-              (each_append AtSound (order.at_items_where E05 (order.is_repeated_header l) (length ss)) (order.if_missing E05 (order.is_program_item ss) (length ss))
-                  (at_items E05 (order.is_repeated_header l) not_repeated (length ss)) (if_missing E05 (order.is_program_item ss))))
-          (each_append AtSound (order.at_items_where E06 (order.is_stateless ss) (length ss)) (order.if_missing E06 (order.is_ss_item ss) (length ss))
-              (at_items E06 (order.is_stateless ss) not_stateless (length ss)) (if_missing E06 (order.is_ss_item ss)))
+      (each_append AtSound (order.misplaced_items l ++ order.unmatched_braces ss) (order.header_faults l)
+      (each_append AtSound (order.misplaced_items l) (order.unmatched_braces ss)
+      (at_items E03 (order.is_misplaced l) not_misplaced (length ss)) (at_items E04 (order.is_unmatched ss) not_unmatched (length ss)))
+      (each_append AtSound (order.at_items_where E05 (order.is_repeated_header l) (length ss)) (order.if_missing E05 (order.is_program_item ss) (length ss))
+      (at_items E05 (order.is_repeated_header l) not_repeated (length ss)) (if_missing E05 (order.is_program_item ss))))
+      (each_append AtSound (order.at_items_where E06 (order.is_stateless ss) (length ss)) (order.if_missing E06 (order.is_ss_item ss) (length ss))
+      (at_items E06 (order.is_stateless ss) not_stateless (length ss)) (if_missing E06 (order.is_ss_item ss)))
 
   -- ---- findings of names
 
@@ -193,14 +193,14 @@ module _ (text : List ℕ) (xs : List ProgramItem) where
   found_sound es cs sound [] h = tt
   found_sound es cs sound (d ∷ ds) h =
       each_append AtSound (found_at es cs sound d) (found_after es cs (with_clause es cs sound d) ds)
-          (each_append AtSound (found_at_variable es cs sound d) (found_at_flag es d)
-              (each_map AtSound (at_name_ref d.item d.clause.variable) (option_to_list (variable_code es cs sound d))
-                  (each_by (λ code. AtSound (at_name_ref d.item d.clause.variable code)) (λ code. h.0) (option_to_list (variable_code es cs sound d))))
-              (flag_sound es d h.0))
-          (found_sound es cs (with_clause es cs sound d) ds h.1)
+      (each_append AtSound (found_at_variable es cs sound d) (found_at_flag es d)
+      (each_map AtSound (at_name_ref d.item d.clause.variable) (option_to_list (variable_code es cs sound d))
+      (each_by (λ code. AtSound (at_name_ref d.item d.clause.variable code)) (λ code. h.0) (option_to_list (variable_code es cs sound d))))
+      (flag_sound es d h.0))
+      (found_sound es cs (with_clause es cs sound d) ds h.1)
 
   pub links_at_sound : Each AtSound (links.faults_of l)
   links_at_sound =
       each_append AtSound (order.order_faults l ++ name_faults l) (clause_faults ss)
-          (each_append AtSound (order.order_faults l) (name_faults l) order_sound names_sound)
-          (found_sound (entries ss) (clauses_of ss) [] (clauses_of ss) (clauses_sound (length ss)))
+      (each_append AtSound (order.order_faults l) (name_faults l) order_sound names_sound)
+      (found_sound (entries ss) (clauses_of ss) [] (clauses_of ss) (clauses_sound (length ss)))

@@ -41,7 +41,7 @@ file_in_marker marker =
         → IfSome {T = ℕ × ℕ} (if b then Some (quote + 1, count) else None) (λ f. f.0 + f.1 ≤ length marker)
     by quote count true e =
         let there : quote + 1 + count < length marker =
-            byte_there marker (quote + 1 + count) (and_parts (slice_index marker quote == 34) (slice_index marker (quote + 1 + count) == 34) e).1 in
+        byte_there marker (quote + 1 + count) (and_parts (slice_index marker quote == 34) (slice_index marker (quote + 1 + count) == 34) e).1 in
         omega (arith, there)
     by quote count false e = tt
 

@@ -50,8 +50,15 @@ module _ (old_ends : List ℕ) (old_stop new_stop front : ℕ) (made : List ℕ)
 
   ends_count : length ends ≡ front + length made + back
   ends_count =
-      omega (arith, order, front_count, length-append (take front old_ends ++ made) (moved old_stop new_stop (drop (length old_ends - back) old_ends)), length-append (take front old_ends) made,
-          length-map (drop (length old_ends - back) old_ends) (λ e. (e - old_stop) + new_stop), length-drop (length old_ends - back) old_ends)
+      omega (
+        arith,
+        order,
+        front_count,
+        length-append (take front old_ends ++ made) (moved old_stop new_stop (drop (length old_ends - back) old_ends)),
+        length-append (take front old_ends) made,
+        length-map (drop (length old_ends - back) old_ends) (λ e. (e - old_stop) + new_stop),
+        length-drop (length old_ends - back) old_ends,
+      )
 
   -- an item between the kept ones is fresh
   made_is_fresh : (k : ℕ) → k < length made → is_fresh ends made (front + k) ≡ true
@@ -59,9 +66,9 @@ module _ (old_ends : List ℕ) (old_stop new_stop front : ℕ) (made : List ℕ)
       let within : length (take front old_ends) + k < length (take front old_ends ++ made) = omega (arith, h, length-append (take front old_ends) made) in
       let place : front + k ≡ length (take front old_ends) + k = omega (arith, front_count) in
       let end : get_or ends (front + k) 0 ≡ get_or made k 0 =
-          ap (λ n. get_or ends n 0) place
-          ∙ get_or_append_left (take front old_ends ++ made) (moved old_stop new_stop (drop (length old_ends - back) old_ends)) 0 (length (take front old_ends) + k) within
-          ∙ get_or-append-add (take front old_ends) made k 0 in
+      ap (λ n. get_or ends n 0) place
+      ∙ get_or_append_left (take front old_ends ++ made) (moved old_stop new_stop (drop (length old_ends - back) old_ends)) 0 (length (take front old_ends) + k) within
+      ∙ get_or-append-add (take front old_ends) made k 0 in
       list_any_at (nat_eq (get_or ends (front + k) 0)) made k 0 h (eq-eqb (get_or ends (front + k) 0) (get_or made k 0) end)
 
   -- ---- the number that an item had
@@ -71,18 +78,18 @@ module _ (old_ends : List ℕ) (old_stop new_stop front : ℕ) (made : List ℕ)
         elim kept [
           | inl same ↦ ap (λ b. if b then i else (i + length old_ends) - length ends) (lt-ltb i before (omega (arith, h, same)))
           | inr all ↦
-            let none : length made ≡ 0 = ap length all.1 in
-            let stays : (i + length old_ends) - length ends ≡ i = omega (arith, ends_count, order, all.0, none) in
-            elim (nat_lt i before) as (λ (b : Bool). (if b then i else (i + length old_ends) - length ends) ≡ i) [ true ↦ refl | false ↦ stays ]
+              let none : length made ≡ 0 = ap length all.1 in
+              let stays : (i + length old_ends) - length ends ≡ i = omega (arith, ends_count, order, all.0, none) in
+              elim (nat_lt i before) as (λ (b : Bool). (if b then i else (i + length old_ends) - length ends) ≡ i) [ true ↦ refl | false ↦ stays ]
         ]
 
     back_number : (k : ℕ) → k < back → old_number before (length old_ends) (length ends) (front + length made + k) ≡ (length old_ends - back) + k
     back_number k h =
         elim kept [
           | inl same ↦
-            let later : before ≤ front + length made + k = omega (arith, same) in
-            ap (λ b. if b then front + length made + k else (front + length made + k + length old_ends) - length ends) (le-ltb (front + length made + k) before later)
-            ∙ omega (arith, ends_count, order, h)
+              let later : before ≤ front + length made + k = omega (arith, same) in
+              ap (λ b. if b then front + length made + k else (front + length made + k + length old_ends) - length ends) (le-ltb (front + length made + k) before later)
+              ∙ omega (arith, ends_count, order, h)
           | inr all ↦ absurd (omega (arith, order, all.0, h))
         ]
 
@@ -94,32 +101,32 @@ pub kept_alike : (old text : List ℕ) (start old_stop new_stop : ℕ) (edit : T
 kept_alike old text start old_stop new_stop edit front made back is i within kept =
     elim (cases_lt i front) [
       | inl lt ↦
-        let here : i < length (take front (spelled_items old)) = omega (arith, lt, taken) in
-        ap (λ (l : List (List (Class × List ℕ))). slice_get l i) is.items ∙ get_left (take front (spelled_items old)) (between ++ last) i here ∙ get_taken front (spelled_items old) i lt
-        ∙ ap (slice_get (spelled_items old)) (sym (number_is i i (front_number (item_ends old) edit.old_stop edit.new_stop front made back is.order (ends_below edit.start (item_ends old)) is.before i lt)))
+          let here : i < length (take front (spelled_items old)) = omega (arith, lt, taken) in
+          ap (λ (l : List (List (Class × List ℕ))). slice_get l i) is.items ∙ get_left (take front (spelled_items old)) (between ++ last) i here ∙ get_taken front (spelled_items old) i lt
+          ∙ ap (slice_get (spelled_items old)) (sym (number_is i i (front_number (item_ends old) edit.old_stop edit.new_stop front made back is.order (ends_below edit.start (item_ends old)) is.before i lt)))
       | inr ge ↦
-        elim (cases_lt (i - front) (length made)) [
-          | inl lt ↦
-            let place : front + (i - front) ≡ i = omega (arith, ge) in
-            let fresh : is_fresh (item_ends text) (fresh_items_between old text start old_stop new_stop) i ≡ true =
+          elim (cases_lt (i - front) (length made)) [
+            | inl lt ↦
+                let place : front + (i - front) ≡ i = omega (arith, ge) in
+                let fresh : is_fresh (item_ends text) (fresh_items_between old text start old_stop new_stop) i ≡ true =
                 ap (λ (e : List ℕ). is_fresh e (fresh_items_between old text start old_stop new_stop) i) is.ends
                 ∙ ap (λ (m : List ℕ). is_fresh all m i) (sym is.fresh)
                 ∙ ap (is_fresh all made) (sym place)
                 ∙ made_is_fresh (item_ends old) edit.old_stop edit.new_stop front made back is.order (i - front) lt in
-            absurd (true≢false (sym fresh ∙ kept))
-          | inr past ↦
-            let k : ℕ = i - front - length made in
-            let place : i ≡ length (take front (spelled_items old)) + (length between + k) = omega (arith, ge, past, taken, middle) in
-            let same : i ≡ front + length made + k = omega (arith, ge, past) in
-            let few : k < back = omega (arith, within, same, ap length is.ends, ends_count (item_ends old) edit.old_stop edit.new_stop front made back is.order) in
-            ap (λ (l : List (List (Class × List ℕ))). slice_get l i) is.items ∙ ap (slice_get (take front (spelled_items old) ++ (between ++ last))) place
-            ∙ get_right (take front (spelled_items old)) (between ++ last) (length between + k) ∙ get_right between last k
-            ∙ get_dropped (length (item_ends old) - back) (spelled_items old) k
-            ∙ ap (slice_get (spelled_items old))
+                absurd (true≢false (sym fresh ∙ kept))
+            | inr past ↦
+                let k : ℕ = i - front - length made in
+                let place : i ≡ length (take front (spelled_items old)) + (length between + k) = omega (arith, ge, past, taken, middle) in
+                let same : i ≡ front + length made + k = omega (arith, ge, past) in
+                let few : k < back = omega (arith, within, same, ap length is.ends, ends_count (item_ends old) edit.old_stop edit.new_stop front made back is.order) in
+                ap (λ (l : List (List (Class × List ℕ))). slice_get l i) is.items ∙ ap (slice_get (take front (spelled_items old) ++ (between ++ last))) place
+                ∙ get_right (take front (spelled_items old)) (between ++ last) (length between + k) ∙ get_right between last k
+                ∙ get_dropped (length (item_ends old) - back) (spelled_items old) k
+                ∙ ap (slice_get (spelled_items old))
                 (sym (number_is i ((length (item_ends old) - back) + k)
                 (ap (old_number (ends_below edit.start (item_ends old)) (length (item_ends old)) (length all)) same
                 ∙ back_number (item_ends old) edit.old_stop edit.new_stop front made back is.order (ends_below edit.start (item_ends old)) is.before k few)))
-        ]
+          ]
     ]
   where
     all : List ℕ

@@ -80,13 +80,13 @@ module _ (text : List ℕ) (xs : List ProgramItem) (row : AreInARow text xs) (i 
   elsewhere j y n p there sound token offset from within =
       elim (cases_order i j) [
         | inl same ↦
-          let one : x ≡ y = same_Some x y (sym at ∙ ap (slice_get xs) same ∙ there) in
-          absurd (true≢false (sym (ap is_none faulty) ∙ ap (λ z. is_none z.tree) one ∙ sound))
+            let one : x ≡ y = same_Some x y (sym at ∙ ap (slice_get xs) same ∙ there) in
+            absurd (true≢false (sym (ap is_none faulty) ∙ ap (λ z. is_none z.tree) one ∙ sound))
         | inr apart ↦ elim apart [
           | inl less ↦ after_span x p (each_got (λ q. Each (λ r. Before r q) x.tokens) y.tokens n p (two_got (λ a b. AllBefore a.tokens b.tokens) xs i j x y row.items less at there) token) offset from
           | inr more ↦
-            before_span text x p own_row
-            (each_got (λ q. Each (Before q) x.tokens) y.tokens n p (turned y.tokens x.tokens (two_got (λ a b. AllBefore a.tokens b.tokens) xs j i y x row.items more there at)) token) offset within
+              before_span text x p own_row
+              (each_got (λ q. Each (Before q) x.tokens) y.tokens n p (turned y.tokens x.tokens (two_got (λ a b. AllBefore a.tokens b.tokens) xs j i y x row.items more there at)) token) offset within
         ]
       ]
 
@@ -201,10 +201,12 @@ module _ (text : List ℕ) (xs : List ProgramItem) (row : AreInARow text xs) (i 
     where
       by : (b : Bool) → is_unreached (mark_of text xs (outlines_of text xs) k number item) ≡ b
           → Each Told (if b then record { offset = (item_name xs item).start; code = W02; subject = (item_name xs item).len } ∷ [] else [])
-      by true e =
-          (name_told item
-              (unreached_sound (is_faulty_item xs item) (is_repeated (outlines_of text xs) item) (has_faulty xs (outlines_of text xs) k) (is_reached_in text xs (outlines_of text xs) k number) e)
-              has.name, tt)
+      by true e = (
+        name_told item
+            (unreached_sound (is_faulty_item xs item) (is_repeated (outlines_of text xs) item) (has_faulty xs (outlines_of text xs) k) (is_reached_in text xs (outlines_of text xs) k number) e)
+            has.name,
+        tt,
+      )
       by false e = tt
 
   unmapped : {A B : Type 0} (P : B → Type 0) (f : A → B) (ys : List A) → Each P (map f ys) → Each (λ y. P (f y)) ys
@@ -217,7 +219,7 @@ module _ (text : List ℕ) (xs : List ProgramItem) (row : AreInARow text xs) (i 
       each_flat found_at_state Told (λ s. Each Told (found_at_state s)) (λ s h. h) (state_rows text xs (outlines_of text xs) k)
       (each_map (λ s. Each Told (found_at_state s)) (numbered_row text xs (outlines_of text xs) k) states
       (each_weaker (λ p. InState HasByte (numbered_row text xs (outlines_of text xs) k p)) (λ p. Each Told (found_at_state (numbered_row text xs (outlines_of text xs) k p)))
-          (λ p h. state_told k p.0 p.1 h) states (unmapped (InState HasByte) (numbered_row text xs (outlines_of text xs) k) states has.states)))
+      (λ p h. state_told k p.0 p.1 h) states (unmapped (InState HasByte) (numbered_row text xs (outlines_of text xs) k) states has.states)))
 
   walked_told : TablesHaveBytes (tables_of text xs) → Each Told (walked_faults text xs)
   walked_told has =
@@ -236,14 +238,14 @@ only_own text laws items has i x at faulty =
     let xs : List ProgramItem = items_of text in
     let row : AreInARow text xs = items_in_a_row text laws.listed laws.inside (items_within text laws.rise laws.last) in
     let placed : Each (IsPlaced (λ j. length (tokens_in xs j)) (outlines_of text xs)) (links.faults_of (linked_of text xs)) =
-        recursion_from_All (IsPlaced (λ j. length (tokens_in xs j)) (outlines_of text xs)) (links.faults_of (linked_of text xs))
-        (laws.links.places (linked_of text xs) (λ j. length (tokens_in xs j)) (all_speak laws.links text xs row (all_read text))) in
+    recursion_from_All (IsPlaced (λ j. length (tokens_in xs j)) (outlines_of text xs)) (links.faults_of (linked_of text xs))
+    (laws.links.places (linked_of text xs) (λ j. length (tokens_in xs j)) (all_speak laws.links text xs row (all_read text))) in
     let P : Diagnostic → Type 0 = λ d. is_in_span x d.offset ≡ true → IsAtFaulty d in
     let Q : Finding → Type 0 = λ f. P (diagnostic text f) in
     All-from_recursion P (diagnostics_of text)
     (each_diagnostic text P
     (each_append Q (faults_of text xs ++ linked_faults text xs ++ checked_faults text xs) (walked_faults text xs)
-        (each_append Q (faults_of text xs ++ linked_faults text xs) (checked_faults text xs)
-            (each_append Q (faults_of text xs) (linked_faults text xs) (faults_told text xs row i x at faulty xs) (links_told text xs row i x at faulty placed))
-            (checked_told text xs row i x at faulty items (all_read text)))
-        (walked_told text xs row i x at faulty has)))
+    (each_append Q (faults_of text xs ++ linked_faults text xs) (checked_faults text xs)
+    (each_append Q (faults_of text xs) (linked_faults text xs) (faults_told text xs row i x at faulty xs) (links_told text xs row i x at faulty placed))
+    (checked_told text xs row i x at faulty items (all_read text)))
+    (walked_told text xs row i x at faulty has)))

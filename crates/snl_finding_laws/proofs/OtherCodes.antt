@@ -98,10 +98,10 @@ linked_codes laws text xs row read =
     let counts : ℕ → ℕ = λ i. length (tokens_in xs i) in
     let faults : List LinkFault = links.faults_of (linked_of text xs) in
     let placed : Each (IsPlaced counts (outlines_of text xs)) faults =
-        recursion_from_All (IsPlaced counts (outlines_of text xs)) faults (laws.places (linked_of text xs) counts (all_speak laws text xs row read)) in
+    recursion_from_All (IsPlaced counts (outlines_of text xs)) faults (laws.places (linked_of text xs) counts (all_speak laws text xs row read)) in
     each_map IsOfOthers (linked_finding xs) faults
     (each_weaker (IsPlaced counts (outlines_of text xs)) (λ f. IsOfOthers (linked_finding xs f))
-        (λ f h. ap is_of_parser (code_there f.code (token_of xs f.item f.token)) ∙ placed_code counts (outlines_of text xs) f h) faults placed)
+    (λ f h. ap is_of_parser (code_there f.code (token_of xs f.item f.token)) ∙ placed_code counts (outlines_of text xs) f h) faults placed)
 
 -- ---- what is found in items
 
@@ -117,8 +117,8 @@ item_codes law text ss i x = by x.tree
         let faults : List ItemFault = faults_in (token_bytes text x.tokens) t (is_in_set ss i) (known_of ss i) (leads_to ss i) in
         each_map IsOfOthers (at_own_token x.tokens) faults
         (each_weaker (λ f. is_item_code f.code ≡ true) (λ f. IsOfOthers (at_own_token x.tokens f))
-            (λ f h. ap is_of_parser (code_there f.code (slice_get x.tokens f.token)) ∙ not_in_items f.code h) faults
-            (recursion_from_All (λ f. is_item_code f.code ≡ true) faults (law (token_bytes text x.tokens) t (is_in_set ss i) (known_of ss i) (leads_to ss i))))
+        (λ f h. ap is_of_parser (code_there f.code (slice_get x.tokens f.token)) ∙ not_in_items f.code h) faults
+        (recursion_from_All (λ f. is_item_code f.code ≡ true) faults (law (token_bytes text x.tokens) t (is_in_set ss i) (known_of ss i) (leads_to ss i))))
 
 pub checked_codes : CodesLaw → (text : List ℕ) (xs : List ProgramItem) → Each IsOfOthers (checked_faults text xs)
 checked_codes law text xs =

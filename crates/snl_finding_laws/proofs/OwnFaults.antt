@@ -47,7 +47,7 @@ in_own_span text x n p row e =
     let stop = end_within text 0 x.tokens n p row.apart e in
     let lies : LiesIn text p = each_got (LiesIn text) x.tokens n p row.lie e in
     and_from (nat_le (first_byte x.tokens) p.start) (nat_lt p.start (stop_after 0 x.tokens))
-        (le-leb (first_byte x.tokens) p.start first) (lt-ltb p.start (stop_after 0 x.tokens) (omega (arith, stop, lies.0)))
+    (le-leb (first_byte x.tokens) p.start first) (lt-ltb p.start (stop_after 0 x.tokens) (omega (arith, stop, lies.0)))
 
 -- No byte of a token that ends before the item begins is in it, nor of one that begins after the item.
 pub before_span : (text : List ℕ) (x : ProgramItem) (p : Piece) → InARow text x.tokens → Each (Before p) x.tokens → (offset : ℕ) → offset < piece_end p → is_in_span x offset ≡ false
@@ -97,7 +97,7 @@ none_among : (text : List ℕ) (test : Code → Bool) (x : ProgramItem) (ys : Li
 none_among text test x [] h = refl
 none_among text test x (y ∷ ys) h =
     let here : of_option (at_item test x) (fault_in text y) ≡ 0 =
-        none_at test x y.tokens (parsed_in text y.tokens) (each_weaker (λ p. Each (λ q. Before q p) x.tokens) (λ p. is_in_span x p.start ≡ false) (λ p g. after_span x p g p.start (omega arith)) y.tokens h.0) in
+    none_at test x y.tokens (parsed_in text y.tokens) (each_weaker (λ p. Each (λ q. Before q p) x.tokens) (λ p. is_in_span x p.start ≡ false) (λ p g. after_span x p g p.start (omega arith)) y.tokens h.0) in
     let rest = none_among text test x ys h.1 in
     count_cons (at_item test x) (fault_in text y) (filter_map (fault_in text) ys) ∙ omega (arith, here, rest)
 
@@ -105,9 +105,10 @@ none_among text test x (y ∷ ys) h =
 
 pub turned : (ps qs : List Piece) → AllBefore ps qs → Each (λ p. Each (Before p) qs) ps
 turned [] qs h = tt
-turned (p ∷ ps) qs h =
-    (each_weaker (λ q. Each (λ r. Before r q) (p ∷ ps)) (Before p) (λ q g. g.0) qs h,
-    turned ps qs (each_weaker (λ q. Each (λ r. Before r q) (p ∷ ps)) (λ q. Each (λ r. Before r q) ps) (λ q g. g.1) qs h))
+turned (p ∷ ps) qs h = (
+  each_weaker (λ q. Each (λ r. Before r q) (p ∷ ps)) (Before p) (λ q g. g.0) qs h,
+  turned ps qs (each_weaker (λ q. Each (λ r. Before r q) (p ∷ ps)) (λ q. Each (λ r. Before r q) ps) (λ q g. g.1) qs h),
+)
 
 earlier_none : (text : List ℕ) (test : Code → Bool) (x y : ProgramItem) → InARow text x.tokens → InARow text y.tokens → AllBefore y.tokens x.tokens → of_option (at_item test x) (fault_in text y) ≡ 0
 earlier_none text test x y row own h =

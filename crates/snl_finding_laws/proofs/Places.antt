@@ -139,9 +139,9 @@ options_found bytes in_set _ = tt
 all_found : (bytes : ℕ → List ℕ) (tree : Item) (in_set : Bool) (fact : List ℕ → Option Fact) (target : List ℕ → Bool) → Each IsAtLetter (faults_in bytes tree in_set fact target)
 all_found bytes tree in_set fact target =
     each_append IsAtLetter (faults_of_rules bytes tree in_set fact target) (unknown_options bytes in_set tree)
-        (each_map IsAtLetter fault_of (findings bytes (outer_by fact) (misses_by in_set target) (occurrences bytes tree))
-            (each_by (λ f. IsAtLetter (fault_of f)) (λ f. inl refl) (findings bytes (outer_by fact) (misses_by in_set target) (occurrences bytes tree))))
-        (options_found bytes in_set tree)
+    (each_map IsAtLetter fault_of (findings bytes (outer_by fact) (misses_by in_set target) (occurrences bytes tree))
+    (each_by (λ f. IsAtLetter (fault_of f)) (λ f. inl refl) (findings bytes (outer_by fact) (misses_by in_set target) (occurrences bytes tree))))
+    (options_found bytes in_set tree)
 
 -- The laws of what is found in an item.
 pub record ItemLaws : Type 0 where
@@ -167,7 +167,7 @@ places_in laws text ss i tokens t read =
     let bytes : ℕ → List ℕ = token_bytes text tokens in
     let faults : List ItemFault = faults_in bytes t (is_in_set ss i) (known_of ss i) (leads_to ss i) in
     let own : Each (λ f. f.token < length tokens) faults =
-        recursion_from_All (λ f. f.token < length tokens) faults (laws.at_tokens bytes (is_in_set ss i) (known_of ss i) (leads_to ss i) text tokens t read) in
+    recursion_from_All (λ f. f.token < length tokens) faults (laws.at_tokens bytes (is_in_set ss i) (known_of ss i) (leads_to ss i) text tokens t read) in
     let inside : Each (StandsIn bytes) faults = recursion_from_All (StandsIn bytes) faults (laws.in_tokens bytes t (is_in_set ss i) (known_of ss i) (leads_to ss i)) in
     let letters : Each IsAtLetter faults = all_found bytes t (is_in_set ss i) (known_of ss i) (leads_to ss i) in
     each_weaker (λ f. (f.token < length tokens) × (StandsIn bytes f × IsAtLetter f)) (IsPlace text tokens) (λ f h. record { own = h.0; inside = h.1.0; letter = h.1.1 }) faults
@@ -188,8 +188,8 @@ own_lies text tokens lie f is = by (slice_get tokens f.token) refl
           | inr letter ↦ elim is.inside [
             | inl first ↦ first_byte_lies text f p lies first
             | inr within ↦
-              let one : quoted_bytes f.code p.len ≡ 1 = ap (λ c. quoted_bytes c p.len) letter in
-              omega (arith, lies.1, within, one, bytes_few text tokens f.token p e)
+                let one : quoted_bytes f.code p.len ≡ 1 = ap (λ c. quoted_bytes c p.len) letter in
+                omega (arith, lies.1, within, one, bytes_few text tokens f.token p e)
           ]
         ]
 
@@ -238,7 +238,7 @@ unfolding item_tokens
 all_sound text laws =
     each_map (IsSound text) (program_item text) (item_tokens text)
     (each_weaker (Each (LiesIn text)) (λ tokens. IsSound text (program_item text tokens)) (λ tokens h. record { lie = h; read = read_item text tokens })
-        (item_tokens text) (members_lie text 0 (item_ends text) (items_within text laws.rise laws.last) (tokens_lie text laws.inside)))
+    (item_tokens text) (members_lie text 0 (item_ends text) (items_within text laws.rise laws.last) (tokens_lie text laws.inside)))
 
 pub diagnostics_lie : (text : List ℕ) → PlaceLaws text → All (DiagnosticLiesIn text) (diagnostics_of text)
 unfolding found
@@ -246,11 +246,11 @@ diagnostics_lie text laws =
     let xs : List ProgramItem = items_of text in
     let sound : Each (IsSound text) xs = all_sound text laws in
     let quotes : Each (Quotes text) (found text) =
-        each_append (Quotes text) (faults_of text xs ++ linked_faults text xs ++ checked_faults text xs) (walked_faults text xs)
-            (each_append (Quotes text) (faults_of text xs ++ linked_faults text xs) (checked_faults text xs)
-                (each_append (Quotes text) (faults_of text xs) (linked_faults text xs) (faults_lie text xs sound) (linked_lie text xs sound))
-                (checked_lie laws.items text xs sound))
-            (walked_lie text laws.tables) in
+    each_append (Quotes text) (faults_of text xs ++ linked_faults text xs ++ checked_faults text xs) (walked_faults text xs)
+    (each_append (Quotes text) (faults_of text xs ++ linked_faults text xs) (checked_faults text xs)
+    (each_append (Quotes text) (faults_of text xs) (linked_faults text xs) (faults_lie text xs sound) (linked_lie text xs sound))
+    (checked_lie laws.items text xs sound))
+    (walked_lie text laws.tables) in
     All-from_recursion (DiagnosticLiesIn text) (diagnostics_of text)
     (each_diagnostic text (DiagnosticLiesIn text)
     (each_weaker (Quotes text) (λ f. DiagnosticLiesIn text (diagnostic text f)) (λ f h. record { subject = h; file = file_lies text laws.inside f.offset }) (found text) quotes))

@@ -65,11 +65,11 @@ clash_is_error true false false h = absurd cc
 error_on : (cs sound : List LinkedClause) (c : LinkedClause) (v : Variable) → c.clause.kind ≡ kind.Assign → list_any (clash c) sound ≡ true → gives_error (code_on cs sound c v) ≡ true
 error_on cs sound c v assign h =
     ap (λ k. gives_error (
-        if is_assign k && not (is_assignable v.symbol_kind) then Some E15
-        else if misfits v.dims c.clause.coverage then Some E16
-        else if not (is_assign k) && not (list_any (assigns c.variable) cs) then Some E13
-        else if list_any (clash c) sound then Some (repetition_code k)
-        else None)) assign
+    if is_assign k && not (is_assignable v.symbol_kind) then Some E15
+    else if misfits v.dims c.clause.coverage then Some E16
+    else if not (is_assign k) && not (list_any (assigns c.variable) cs) then Some E13
+    else if list_any (clash c) sound then Some (repetition_code k)
+    else None)) assign
     ∙ clash_is_error (is_assignable v.symbol_kind) (misfits v.dims c.clause.coverage) (list_any (clash c) sound) h
 
 error_at : (es : List Entry) (cs sound : List LinkedClause) (c : LinkedClause) → c.clause.kind ≡ kind.Assign → list_any (clash c) sound ≡ true → gives_error (variable_code es cs sound c) ≡ true
@@ -81,7 +81,7 @@ error_at es cs sound c assign h =
 no_clash : (es : List Entry) (cs sound : List LinkedClause) (c : LinkedClause) → is_sound es cs sound c ≡ true → c.clause.kind ≡ kind.Assign → list_any (clash c) sound ≡ false
 no_clash es cs sound c h assign =
     let fine : gives_error (variable_code es cs sound c) ≡ false =
-        not-true (gives_error (variable_code es cs sound c)) (and_parts (not (gives_error (variable_code es cs sound c))) (not (has_wrong_flag es c)) h).0 in
+    not-true (gives_error (variable_code es cs sound c)) (and_parts (not (gives_error (variable_code es cs sound c))) (not (has_wrong_flag es c)) h).0 in
     false_from_ne_true (list_any (clash c) sound) (λ e. true≢false (sym (error_at es cs sound c assign e) ∙ fine))
 
 same_assigns : (c d : LinkedClause) (number : ℕ) → Assigns number c → Assigns number d → clash c d ≡ overlaps c.clause.coverage d.clause.coverage
@@ -97,7 +97,7 @@ pub apart_from_sound : (es : List Entry) (cs sound : List LinkedClause) (d s : L
 apart_from_sound es cs sound d s h among = λ number p q.
     let none : list_any (clash d) sound ≡ false = no_clash es cs sound d h q.kind in
     let here : clash d s ≡ false =
-        false_from_ne_true (clash d s) (λ e. true≢false (sym (list_any_at (clash d) sound among.0 s among.1 (ap (clash d) among.2 ∙ e)) ∙ none)) in
+    false_from_ne_true (clash d s) (λ e. true≢false (sym (list_any_at (clash d) sound among.0 s among.1 (ap (clash d) among.2 ∙ e)) ∙ none)) in
     apart_where_none_overlaps d.clause.coverage s.clause.coverage (sym (same_assigns d s number q p) ∙ here)
 
 -- ---- all of them

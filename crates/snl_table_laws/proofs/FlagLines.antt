@@ -40,8 +40,8 @@ flag_has_line text tables zero row e = absurd cc
 flag_has_line text tables (suc k) row e =
     let number : 1 + k ≡ suc k = omega arith in
     let here : HasLine (numbered (flag_line text) 1 tables.flags) (flag_line text (suc k) row) =
-        subst (λ n. HasLine (numbered (flag_line text) 1 tables.flags) (flag_line text n row)) number (row_has_line (flag_line text) 1 k tables.flags row e) in
+    subst (λ n. HasLine (numbered (flag_line text) 1 tables.flags) (flag_line text n row)) number (row_has_line (flag_line text) 1 k tables.flags row e) in
     let rest : List ℕ = numbered (channel_line text) 0 tables.channels ++ (flat_map (set_text text tables) tables.sets ++ []) in
     let whole : HasLine ((program_line text tables.program ++ flat_map (option_line []) tables.options) ++ (numbered (flag_line text) 1 tables.flags ++ rest)) (flag_line text (suc k) row) =
-        within (program_line text tables.program ++ flat_map (option_line []) tables.options) (numbered (flag_line text) 1 tables.flags) rest (flag_line text (suc k) row) here in
+    within (program_line text tables.program ++ flat_map (option_line []) tables.options) (numbered (flag_line text) 1 tables.flags) rest (flag_line text (suc k) row) here in
     subst (λ (l : List ℕ). HasLine l (flag_line text (suc k) row)) (append_assoc (program_line text tables.program) (flat_map (option_line []) tables.options) (numbered (flag_line text) 1 tables.flags ++ rest)) whole

@@ -65,9 +65,9 @@ states_scoped (Some k) i s = names_scoped (named_entry (namespace.States k) i (S
 item_scoped : (ss : List Outline) (i : ℕ) (s : Outline) → All HasScope (entries_of ss i s)
 item_scoped ss i s =
     All-append HasScope (set_entries i s ++ state_entries (enclosing_set ss i) i s) (map (declared_entry (scope_of ss i s) i) s.declares)
-        (All-append HasScope (set_entries i s) (state_entries (enclosing_set ss i) i s)
-            (names_scoped (named_entry namespace.Sets i (Some E08)) (λ name. refl) (option_to_list (set_name s))) (states_scoped (enclosing_set ss i) i s))
-        (All-map HasScope (declared_entry (scope_of ss i s) i) s.declares (λ k d lt. own_scope ss i s (declared_entry (scope_of ss i s) i (get_or s.declares k d)) refl))
+    (All-append HasScope (set_entries i s) (state_entries (enclosing_set ss i) i s)
+    (names_scoped (named_entry namespace.Sets i (Some E08)) (λ name. refl) (option_to_list (set_name s))) (states_scoped (enclosing_set ss i) i s))
+    (All-map HasScope (declared_entry (scope_of ss i s) i) s.declares (λ k d lt. own_scope ss i s (declared_entry (scope_of ss i s) i (get_or s.declares k d)) refl))
 
 entries_scoped : (ss : List Outline) (n : ℕ) → All HasScope (entries_before ss n)
 entries_scoped ss zero = All-nil HasScope
@@ -85,7 +85,7 @@ entry_declared : (ss : List Outline) (number : ℕ) (e : Entry) (v : Variable) �
 entry_declared ss number e v at says =
     let here : get_or (entries ss) number e ≡ e = get_or_from_slice_get (entries ss) number e e at in
     let scoped : HasScope e =
-        subst HasScope here (All-get_or HasScope (entries ss) number e (slice_get_within (entries ss) number e at) (entries_scoped ss (length ss))) in
+    subst HasScope here (All-get_or HasScope (entries ss) number e (slice_get_within (entries ss) number e at) (entries_scoped ss (length ss))) in
     let place = scoped v says in
     record {
       declaration = variable_declaration e.item e.token place.scope v;
@@ -119,7 +119,7 @@ all_under : (test : ℕ → Bool) (n : ℕ) → All (λ k. k < n) (all_below tes
 all_under test zero = All-nil (λ k. k < 0)
 all_under test (suc n) =
     All-append (λ k. k < suc n) (all_below test n) (if test n then n ∷ [] else [])
-        (All-weaker (λ k. k < n) (λ k. k < suc n) (λ k h. omega (arith, h)) (all_below test n) (all_under test n)) (last (test n))
+    (All-weaker (λ k. k < n) (λ k. k < suc n) (λ k h. omega (arith, h)) (all_below test n) (all_under test n)) (last (test n))
   where
     last : (b : Bool) → All (λ k. k < suc n) (if b then n ∷ [] else [])
     last true = All-from_recursion (λ k. k < suc n) (n ∷ []) (omega arith, tt)
@@ -147,9 +147,9 @@ place_found : (flags : List ℕ) (k : ℕ) → Rise flags → k < length flags �
 place_found flags k rise h =
     let test : ℕ → Bool = nat_eq (get_or flags k 0) in
     let place : position_or_len test flags ≡ k =
-        position_or_len_is test flags k 0 (omega (arith, h))
-            (λ j lt. let less = rise j k 0 lt h in ne_eqb (get_or flags k 0) (get_or flags j 0) (λ e. omega (arith, less, e)))
-            (λ lt. eq-eqb (get_or flags k 0) (get_or flags k 0) refl) in
+    position_or_len_is test flags k 0 (omega (arith, h))
+    (λ j lt. let less = rise j k 0 lt h in ne_eqb (get_or flags k 0) (get_or flags j 0) (λ e. omega (arith, less, e)))
+    (λ lt. eq-eqb (get_or flags k 0) (get_or flags k 0) refl) in
     ap (λ n. cond (nat_lt n (length flags)) (Some n) None) place ∙ ap (λ b. cond b (Some k) None) (lt-ltb k (length flags) h)
 
 -- ---- rows by places
@@ -177,8 +177,8 @@ flags_given : (xs : List ProgramItem) (ss : List Outline) → Each (λ number. i
 flags_given xs ss =
     recursion_from_All (λ number. is_some (flag_row_at xs ss number) ≡ true) (flags_of ss)
     (All-weaker (λ number. is_flag (entries ss) number ≡ true) (λ number. is_some (flag_row_at xs ss number) ≡ true)
-        (λ number h. ap (λ o. is_some (option_map (flag_row xs ss) o)) (flag_declared ss number h).declared)
-        (flags_of ss) (all_pass (is_flag (entries ss)) (length (entries ss))))
+    (λ number h. ap (λ o. is_some (option_map (flag_row xs ss) o)) (flag_declared ss number h).declared)
+    (flags_of ss) (all_pass (is_flag (entries ss)) (length (entries ss))))
 
 -- The flag with a number is at the place before it among the flags.
 pub record IsAtPlace (ss : List Outline) (number n : ℕ) : Type 0 where
@@ -198,8 +198,8 @@ flag_has_row text xs number n h =
     let ss : List Outline = outlines_of text xs in
     let is = at_place ss number n h in
     let is_one : is_flag (entries ss) number ≡ true =
-        subst (λ m. is_flag (entries ss) m ≡ true) (get_or_from_slice_get (flags_of ss) is.place number number is.at)
-        (All-get_or (λ m. is_flag (entries ss) m ≡ true) (flags_of ss) is.place number (slice_get_within (flags_of ss) is.place number is.at) (all_pass (is_flag (entries ss)) (length (entries ss)))) in
+    subst (λ m. is_flag (entries ss) m ≡ true) (get_or_from_slice_get (flags_of ss) is.place number number is.at)
+    (All-get_or (λ m. is_flag (entries ss) m ≡ true) (flags_of ss) is.place number (slice_get_within (flags_of ss) is.place number is.at) (all_pass (is_flag (entries ss)) (length (entries ss)))) in
     let says = flag_declared ss number is_one in
     record {
       declaration = says.declaration;

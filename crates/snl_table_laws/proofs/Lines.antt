@@ -74,15 +74,15 @@ any xs = λ k d lt. tt
 details_are_lines : (text : List ℕ) → All IsByte text → (tables : Tables) (state : StateRow) → HasByteOptions state → AreLines (state_details state) (state_lines text tables state)
 details_are_lines text h tables state letters =
     then_lines (length state.options) (length state.transitions + (length state.gotos + 1)) (flat_map (option_line (codes "  ")) state.options)
-        (numbered (when_line text) 0 state.transitions ++ (flat_map (goto_line text) state.gotos ++ (wake_line (wake_flags tables state) (wake_channels tables state) ++ [])))
-        (each_line (option_line (codes "  ")) HasByteLetter (option_is_line (codes "  ") refl) state.options letters)
+    (numbered (when_line text) 0 state.transitions ++ (flat_map (goto_line text) state.gotos ++ (wake_line (wake_flags tables state) (wake_channels tables state) ++ [])))
+    (each_line (option_line (codes "  ")) HasByteLetter (option_is_line (codes "  ") refl) state.options letters)
     (then_lines (length state.transitions) (length state.gotos + 1) (numbered (when_line text) 0 state.transitions)
-        (flat_map (goto_line text) state.gotos ++ (wake_line (wake_flags tables state) (wake_channels tables state) ++ []))
-        (each_numbered (when_line text) (λ d. Unit {0}) (λ k d _. when_is_line text h k d) 0 state.transitions (any state.transitions))
+    (flat_map (goto_line text) state.gotos ++ (wake_line (wake_flags tables state) (wake_channels tables state) ++ []))
+    (each_numbered (when_line text) (λ d. Unit {0}) (λ k d _. when_is_line text h k d) 0 state.transitions (any state.transitions))
     (then_lines (length state.gotos) 1 (flat_map (goto_line text) state.gotos) (wake_line (wake_flags tables state) (wake_channels tables state) ++ [])
-        (each_line (goto_line text) (λ g. Unit {0}) (λ g _. goto_is_line text h g) state.gotos (any state.gotos))
+    (each_line (goto_line text) (λ g. Unit {0}) (λ g _. goto_is_line text h g) state.gotos (any state.gotos))
     (then_lines 1 0 (wake_line (wake_flags tables state) (wake_channels tables state)) []
-        (one_line (wake_line (wake_flags tables state) (wake_channels tables state)) (wake_is_line (wake_flags tables state) (wake_channels tables state))) no_line)))
+    (one_line (wake_line (wake_flags tables state) (wake_channels tables state)) (wake_is_line (wake_flags tables state) (wake_channels tables state))) no_line)))
 
 unless_faulty_lines : (mark : StateMark) (n : ℕ) (bytes : List ℕ) → AreLines n bytes → AreLines (unless_faulty mark n) (listing.unless_faulty mark bytes)
 unless_faulty_lines Faulty n bytes h = no_line
@@ -94,33 +94,33 @@ unless_faulty_lines Unreached n bytes h = h
 state_in_lines : (text : List ℕ) → All IsByte text → (tables : Tables) (state : StateRow) → HasByteOptions state → AreLines (rows_of_state state) (state_text text tables state)
 state_in_lines text h tables state letters =
     then_lines 1 (unless_faulty state.mark (state_details state)) (state_line text state) (listing.unless_faulty state.mark (state_lines text tables state))
-        (one_line (state_line text state) (state_is_line text h state))
-        (unless_faulty_lines state.mark (state_details state) (state_lines text tables state) (details_are_lines text h tables state letters))
+    (one_line (state_line text state) (state_is_line text h state))
+    (unless_faulty_lines state.mark (state_details state) (state_lines text tables state) (details_are_lines text h tables state letters))
 
 set_in_lines : (text : List ℕ) → All IsByte text → (tables : Tables) (set : SetRow) → All HasByteOptions set.states → AreLines (rows_of_set set) (set_text text tables set)
 set_in_lines text h tables set letters =
     then_lines 1 (sum (map rows_of_state set.states)) (set_line text set) (flat_map (state_text text tables) set.states)
-        (one_line (set_line text set) (set_is_line text h set))
-        (each_group (state_text text tables) rows_of_state HasByteOptions (state_in_lines text h tables) set.states letters)
+    (one_line (set_line text set) (set_is_line text h set))
+    (each_group (state_text text tables) rows_of_state HasByteOptions (state_in_lines text h tables) set.states letters)
 
 pub in_lines : (text : List ℕ) (tables : Tables) → All IsByte text → HasBytes tables → AreLines (rows_of tables) (listing_of text tables)
 unfolding listing_of
 in_lines text tables h has =
     then_lines 1 (length tables.options + (length tables.flags + (length tables.channels + sum (map rows_of_set tables.sets)))) (program_line text tables.program)
-        (flat_map (option_line []) tables.options ++ (numbered (flag_line text) 1 tables.flags ++ (numbered (channel_line text) 0 tables.channels ++ (flat_map (set_text text tables) tables.sets ++ []))))
-        (one_line (program_line text tables.program) (program_is_line text h tables.program))
+    (flat_map (option_line []) tables.options ++ (numbered (flag_line text) 1 tables.flags ++ (numbered (channel_line text) 0 tables.channels ++ (flat_map (set_text text tables) tables.sets ++ []))))
+    (one_line (program_line text tables.program) (program_is_line text h tables.program))
     (then_lines (length tables.options) (length tables.flags + (length tables.channels + sum (map rows_of_set tables.sets))) (flat_map (option_line []) tables.options)
-        (numbered (flag_line text) 1 tables.flags ++ (numbered (channel_line text) 0 tables.channels ++ (flat_map (set_text text tables) tables.sets ++ [])))
-        (each_line (option_line []) HasByteLetter (option_is_line [] refl) tables.options has.options)
+    (numbered (flag_line text) 1 tables.flags ++ (numbered (channel_line text) 0 tables.channels ++ (flat_map (set_text text tables) tables.sets ++ [])))
+    (each_line (option_line []) HasByteLetter (option_is_line [] refl) tables.options has.options)
     (then_lines (length tables.flags) (length tables.channels + sum (map rows_of_set tables.sets)) (numbered (flag_line text) 1 tables.flags)
-        (numbered (channel_line text) 0 tables.channels ++ (flat_map (set_text text tables) tables.sets ++ []))
-        (each_numbered (flag_line text) (λ f. Unit {0}) (λ n f _. flag_is_line text h n f) 1 tables.flags (any tables.flags))
+    (numbered (channel_line text) 0 tables.channels ++ (flat_map (set_text text tables) tables.sets ++ []))
+    (each_numbered (flag_line text) (λ f. Unit {0}) (λ n f _. flag_is_line text h n f) 1 tables.flags (any tables.flags))
     (then_lines (length tables.channels) (sum (map rows_of_set tables.sets)) (numbered (channel_line text) 0 tables.channels)
-        (flat_map (set_text text tables) tables.sets ++ [])
-        (each_numbered (channel_line text) HasBytePv (channel_is_line text h) 0 tables.channels has.channels)
+    (flat_map (set_text text tables) tables.sets ++ [])
+    (each_numbered (channel_line text) HasBytePv (channel_is_line text h) 0 tables.channels has.channels)
     (so_many (sum (map rows_of_set tables.sets) + 0) (sum (map rows_of_set tables.sets)) (flat_map (set_text text tables) tables.sets ++ []) (omega arith)
     (then_lines (sum (map rows_of_set tables.sets)) 0 (flat_map (set_text text tables) tables.sets) []
-        (each_group (set_text text tables) rows_of_set (λ set. All HasByteOptions set.states) (set_in_lines text h tables) tables.sets has.states) no_line)))))
+    (each_group (set_text text tables) rows_of_set (λ set. All HasByteOptions set.states) (set_in_lines text h tables) tables.sets has.states) no_line)))))
 
 -- ---- what lines are
 

@@ -131,8 +131,8 @@ of_assign : (text : List ℕ) (tokens : List Piece) (item name variable : ℕ) (
 of_assign text tokens item name variable channel c means e =
     each_map (IsOf c) (assigned_channel item name variable) (channels_in text tokens channel)
     (each_weaker (λ n. IsElement (covered_by_channel text tokens channel) n.element) (λ n. IsOf c (assigned_channel item name variable n))
-        (λ n h. record { kind = sym (ap (λ k. k.kind) e); variable = means; element = subst (λ covered. IsElement covered n.element) (ap (λ k. k.coverage) e) h })
-        (channels_in text tokens channel) (named_within text tokens channel))
+    (λ n h. record { kind = sym (ap (λ k. k.kind) e); variable = means; element = subst (λ covered. IsElement covered n.element) (ap (λ k. k.coverage) e) h })
+    (channels_in text tokens channel) (named_within text tokens channel))
 
 of_clause : (text : List ℕ) (xs : List ProgramItem) (item : ℕ) (clause : Clause) (c : LinkedClause) (o : Option ℕ) → c.variable ≡ o → clause_of text (tokens_in xs item) clause ≡ c.clause
     → Each (IsOf c) (channels_on text xs item o clause)
@@ -150,7 +150,7 @@ apart_on text xs item (clauses.Assign name channel) None = tt
 apart_on text xs item (clauses.Assign name channel) (Some variable) =
     two_map ChannelsApart (assigned_channel item name variable) (channels_in text (tokens_in xs item) channel)
     (two_weaker (λ m n. AreOfTwoElements m.element n.element) (λ m n. ChannelsApart (assigned_channel item name variable m) (assigned_channel item name variable n)) (λ m n h. λ same. h)
-        (channels_in text (tokens_in xs item) channel) (named_apart text (tokens_in xs item) channel))
+    (channels_in text (tokens_in xs item) channel) (named_apart text (tokens_in xs item) channel))
 apart_on text xs item (clauses.Monitor name subscript) None = tt
 apart_on text xs item (clauses.Monitor name subscript) (Some variable) = tt
 apart_on text xs item (clauses.Sync name subscript flag) None = tt
@@ -204,9 +204,9 @@ apart_from_rest text xs c x is (i ∷ items) [] sound same apart = absurd cc
 apart_from_rest text xs c x is (i ∷ items) (d ∷ ds) [] same apart = tt
 apart_from_rest text xs c x is (i ∷ items) (d ∷ ds) (b ∷ bs) same apart =
     each_append (ChannelsApart x) (channels_of_clause text xs (i, clause_link d b)) (flat_map (channels_of_clause text xs) (told items ds bs))
-        (each_weaker (λ y. (b ≡ true) × IsOf d y) (ChannelsApart x) (λ y h. channels_apart c d x y (apart.0 refl h.0) is h.1)
-            (channels_of_clause text xs (i, clause_link d b)) (of_judged text xs i d b (first_same text xs i items d ds same)))
-        (apart_from_rest text xs c x is items ds bs (rest_same text xs i items d ds same) apart.1)
+    (each_weaker (λ y. (b ≡ true) × IsOf d y) (ChannelsApart x) (λ y h. channels_apart c d x y (apart.0 refl h.0) is h.1)
+    (channels_of_clause text xs (i, clause_link d b)) (of_judged text xs i d b (first_same text xs i items d ds same)))
+    (apart_from_rest text xs c x is items ds bs (rest_same text xs i items d ds same) apart.1)
 
 all_apart : (text : List ℕ) (xs : List ProgramItem) (items : List ItemClause) (cs : List LinkedClause) (sound : List Bool) → AreSame text xs items cs → EachTwo JudgedApart (zip cs sound)
     → EachTwo ChannelsApart (flat_map (channels_of_clause text xs) (told items cs sound))
@@ -215,10 +215,10 @@ all_apart text xs (i ∷ items) [] sound same two = absurd cc
 all_apart text xs (i ∷ items) (c ∷ cs) [] same two = tt
 all_apart text xs (i ∷ items) (c ∷ cs) (b ∷ bs) same two =
     two_append ChannelsApart (channels_of_clause text xs (i, clause_link c b)) (flat_map (channels_of_clause text xs) (told items cs bs)) (judged_own text xs i c b)
-        (each_weaker (λ x. (b ≡ true) × IsOf c x) (λ x. Each (ChannelsApart x) (flat_map (channels_of_clause text xs) (told items cs bs)))
-            (λ x h. apart_from_rest text xs c x h.1 items cs bs (rest_same text xs i items c cs same) (subst (λ t. Each (JudgedApart (c, t)) (zip cs bs)) h.0 two.0))
-            (channels_of_clause text xs (i, clause_link c b)) (of_judged text xs i c b (first_same text xs i items c cs same)))
-        (all_apart text xs items cs bs (rest_same text xs i items c cs same) two.1)
+    (each_weaker (λ x. (b ≡ true) × IsOf c x) (λ x. Each (ChannelsApart x) (flat_map (channels_of_clause text xs) (told items cs bs)))
+    (λ x h. apart_from_rest text xs c x h.1 items cs bs (rest_same text xs i items c cs same) (subst (λ t. Each (JudgedApart (c, t)) (zip cs bs)) h.0 two.0))
+    (channels_of_clause text xs (i, clause_link c b)) (of_judged text xs i c b (first_same text xs i items c cs same)))
+    (all_apart text xs items cs bs (rest_same text xs i items c cs same) two.1)
 
 pub one_channel : (text : List ℕ) (xs : List ProgramItem) → AreSame text xs (item_clauses xs) (clauses_of (outlines_of text xs)) → AllPairs ChannelsApart (assigned_channels text xs (outlines_of text xs))
 one_channel text xs same =

@@ -43,9 +43,28 @@ flag_is_line text h n row =
 pub channel_is_line : (text : List ℕ) → All IsByte text → (n : ℕ) (row : ChannelRow) → HasBytePv row → IsLine (channel_line text n row)
 channel_is_line text h n row pv =
     line_of (codes "channel " ∷ decimal n ∷ codes " " ∷ name_of text row.variable ∷ element_text row.element ∷ codes " " ∷ scope_text text row.scope
-        ∷ codes " \"" ∷ escaped row.pv ∷ codes "\"" ∷ monitor_text row.is_monitored ∷ sync_text row.sync ∷ [])
-    (refl, (number_prints n, (refl, (name_prints text h row.variable, (element_prints row.element, (refl, (scope_prints text h row.scope,
-        (refl, (bytes_print row.pv pv, (refl, (monitor_prints row.is_monitored, (sync_prints row.sync, tt))))))))))))
+    ∷ codes " \"" ∷ escaped row.pv ∷ codes "\"" ∷ monitor_text row.is_monitored ∷ sync_text row.sync ∷ []) (
+      refl,
+      (
+        number_prints n,
+        (
+          refl,
+          (
+            name_prints text h row.variable,
+            (
+              element_prints row.element,
+              (
+                refl,
+                (
+                  scope_prints text h row.scope,
+                  (refl, (bytes_print row.pv pv, (refl, (monitor_prints row.is_monitored, (sync_prints row.sync, tt))))),
+                ),
+              ),
+            ),
+          ),
+        ),
+      ),
+    )
 
 pub set_is_line : (text : List ℕ) → All IsByte text → (row : SetRow) → IsLine (set_line text row)
 set_is_line text h row =
