@@ -1,0 +1,12 @@
+pub mod Each
+pub mod Counts
+pub mod Shown
+pub mod Tokens
+pub mod OwnFaults
+pub mod OtherCodes
+pub mod OneFault
+pub mod Files
+pub mod Places
+pub mod KeptItems
+pub mod FaultyLinks
+pub mod OnlyFault

@@ -1,0 +1,2 @@
+pub mod OwnFaults
+pub mod Places
