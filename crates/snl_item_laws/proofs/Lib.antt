@@ -1,0 +1,7 @@
+mod Inner
+mod Told
+mod ToldTypes
+mod ToldExpressions
+mod ToldStatements
+mod ToldItems
+mod ToldLaws

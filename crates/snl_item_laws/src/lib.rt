@@ -1,0 +1,7 @@
+//! Laws of items that join what lower crates say of them: the walk with the spelling of trees, the cut with the grammar.
+//! No program needs them: each is the contract of a function that does nothing.
+#![tactic(auto)]
+
+mod walk_laws;
+
+pub use walk_laws::{changes_are_found, jumps_are_found, names_are_found, targets_are_found};
