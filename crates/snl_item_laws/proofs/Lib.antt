@@ -5,3 +5,10 @@ mod ToldExpressions
 mod ToldStatements
 mod ToldItems
 mod ToldLaws
+mod Lies
+mod LiesTypes
+mod LiesExpressions
+mod LiesDeclarations
+mod LiesStatements
+mod LiesItems
+mod Depths
