@@ -12,3 +12,6 @@ mod LiesDeclarations
 mod LiesStatements
 mod LiesItems
 mod Depths
+mod Prefixes
+mod CutRuns
+mod CutItems

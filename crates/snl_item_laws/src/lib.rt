@@ -2,8 +2,10 @@
 //! No program needs them: each is the contract of a function that does nothing.
 #![tactic(auto)]
 
+mod cut_laws;
 mod depth_laws;
 mod walk_laws;
 
+pub use cut_laws::items_are_cut_whole;
 pub use depth_laws::few_brackets_are_open;
 pub use walk_laws::{changes_are_found, jumps_are_found, names_are_found, targets_are_found};
