@@ -1,5 +1,5 @@
 -- The cut takes an item of the grammar whole.
-use Rattle.std.proofs.Common.{◌≡◌, ℕ, zero, suc, ◌+◌, ◌<◌, ◌≤◌, Bool, true, false, not, ◌&&◌, ◌||◌, List, [], ◌∷◌, ◌++◌, length, map, take, slice_get, Option, Some, None, inl, inr, refl, ap, sym, ◌∙◌, subst, arith, append_assoc}
+use Rattle.std.proofs.Common.{◌≡◌, ℕ, zero, suc, ◌+◌, ◌<◌, ◌≤◌, Bool, true, false, not, ◌&&◌, ◌||◌, List, [], ◌∷◌, ◌++◌, length, slice_get, None, inl, inr, refl, ap, sym, ◌∙◌, subst, arith, append_assoc}
 use Rattle.std.proofs.lemmas.Bool.{cases_lt, false≢true, true≢false}
 use Rattle.std.proofs.Math.Seq.{take-append_seam}
 use Rattle.snl_lex.specs.declared.kind.Kind.{Kind}
@@ -9,16 +9,16 @@ use Rattle.snl_syntax.specs.declared.marks.Mark.TheVariants as mark
 use Rattle.snl_syntax.specs.declared.tree.item.Item.{Item}
 use Rattle.snl_syntax.specs.declared.tree.item.Item.TheVariants as items
 use Rattle.snl_syntax.specs.ItemLaws.{IsLeast}
-use Rattle.snl_syntax.specs.Items.{begins_header, begins_texts, ends_after, ends_before, ends_by, is_body, is_close, is_close_paren, is_plain, is_semicolon, item}
+use Rattle.snl_syntax.specs.Items.{begins_texts, ends_after, ends_before, ends_by, is_body, is_close_paren, is_plain, item}
 use Rattle.snl_syntax.specs.Marks.{mark_of_kind}
 use Rattle.snl_syntax.specs.Spelling.Base.{Matches}
 use Rattle.snl_syntax.specs.Spelling.Items.{spell_item}
 use Rattle.snl_syntax.specs.Tokens.{NumberedKind, ahead, numbered}
 use Rattle.snl_syntax.specs.Grammar.Base.{Each, First, Leaf}
-use Rattle.snl_syntax.specs.Grammar.Items.{IsItem, IsItemWithin}
+use Rattle.snl_syntax.specs.Grammar.Items.{IsItem}
 use Rattle.snl_item_laws.specs.Cuts.{begins_bracket, could_go_on, marks_of}
-use Rattle.snl_item_laws.proofs.CutRuns.{At, GoesTo, IsCalm, Outside, after_body, all_end, begin, calm_mark, inside_down, inside_run, marks_ahead, outside_run, outside_same, outside_semicolon, outside_up}
-use Rattle.snl_item_laws.proofs.Lies.{Lies, braces, group, is_calm, loose, nothing, parens, squares, token}
+use Rattle.snl_item_laws.proofs.CutRuns.{GoesTo, Outside, after_body, all_end, begin, calm_mark, inside_down, inside_run, marks_ahead, outside_run, outside_same, outside_semicolon, outside_up}
+use Rattle.snl_item_laws.proofs.Lies.{Lies, group, nothing, parens, squares, token}
 use Rattle.snl_item_laws.proofs.LiesItems.{IsShaped, block, ended, ends_alone, function_body, header_alone, header_with, is_body_word, item_shape, named_block, set_begun, single}
 use Rattle.snl_item_laws.proofs.LiesStatements.{IsBraced}
 use Rattle.snl_item_laws.proofs.Prefixes.{get_seam, length_more}

@@ -1,12 +1,12 @@
 -- Along the tokens of an item the cut finds no end before the last one.
-use Rattle.std.proofs.Common.{◌≡◌, ℕ, zero, suc, ◌+◌, ◌<◌, ◌≤◌, Bool, true, false, not, ◌&&◌, ◌||◌, cond, List, [], ◌∷◌, ◌++◌, length, map, take, slice_get, Option, Some, None, refl, ap, sym, ◌∙◌, subst, arith}
-use Rattle.std.proofs.lemmas.Bool.{eq-eqb, false≢true, ne_eqb, true≢false}
+use Rattle.std.proofs.Common.{◌≡◌, ℕ, suc, ◌+◌, Bool, true, false, ◌&&◌, ◌||◌, cond, List, [], ◌∷◌, ◌++◌, map, slice_get, Option, Some, None, refl, ap, sym, ◌∙◌, subst, arith}
+use Rattle.std.proofs.lemmas.Bool.{eq-eqb, false≢true, ne_eqb}
 use Rattle.std.specs.List.{count_by}
 use Rattle.snl_lex.specs.declared.kind.Kind.{Kind}
 use Rattle.snl_lex.specs.declared.kind.Kind.TheVariants as kind
 use Rattle.snl_syntax.specs.declared.marks.Mark.{Mark}
 use Rattle.snl_syntax.specs.declared.marks.Mark.TheVariants as mark
-use Rattle.snl_syntax.specs.Items.{ends_before, ends_by, greatest_below, has_body, is_after, is_body, is_close, is_close_paren, is_head, is_open, is_plain, is_semicolon, last_of, level, opened_by_paren, plain_ends, raises}
+use Rattle.snl_syntax.specs.Items.{ends_before, ends_by, has_body, is_after, is_body, is_close, is_close_paren, is_head, is_open, is_plain, is_semicolon, last_of, level, opened_by_paren, plain_ends, raises}
 use Rattle.snl_syntax.specs.Marks.{mark_of_kind}
 use Rattle.snl_syntax.specs.Tokens.{NumberedKind}
 use Rattle.snl_syntax.specs.Grammar.Base.{First}

@@ -7,11 +7,11 @@ use Rattle.snl_lex.specs.declared.kind.Kind.{Kind}
 use Rattle.snl_lex.specs.declared.kind.Kind.TheVariants as kind
 use Rattle.snl_syntax.specs.declared.tree.item.Item.{Item}
 use Rattle.snl_syntax.specs.Tokens.{NumberedKind, ahead, numbered}
-use Rattle.snl_syntax.specs.Grammar.Base.{Each, First, Leaf}
+use Rattle.snl_syntax.specs.Grammar.Base.{First, Leaf}
 use Rattle.snl_syntax.specs.Grammar.Items.{IsItem}
 use Rattle.snl_item_laws.specs.Brackets.{IsWithin, closes, opens}
 use Rattle.snl_item_laws.proofs.Lies.{Lies, braces, each_lie, group, is_calm, is_loose, leaf_lies, loose, nothing, parens, squares, token}
-use Rattle.snl_item_laws.proofs.LiesItems.{IsShaped, block, ended, ends_alone, function_body, header_alone, header_with, is_body_word, item_shape, named_block, set_begun, single}
+use Rattle.snl_item_laws.proofs.LiesItems.{IsShaped, block, ended, function_body, header_alone, header_with, is_body_word, item_shape, named_block, set_begun, single}
 use Rattle.snl_item_laws.proofs.LiesStatements.{IsBraced}
 
 abbrev number : Bool → ℕ

@@ -1,6 +1,6 @@
 -- Types that the definitions of the walk speak of, and that it keeps for itself: named here by functions that take or give them.
-use Rattle.std.proofs.Common.{ℕ, List, [], Option, None}
-use Rattle.snl_walk.specs.Expressions.{Tail, before, names_in_tails}
+use Rattle.std.proofs.Common.{List, [], None}
+use Rattle.snl_walk.specs.Expressions.{before, names_in_tails}
 use Rattle.snl_walk.specs.Statements.{in_loop}
 
 abbrev taken_by : {A B : Type 0} → (A → B) → Type 0

@@ -1,6 +1,5 @@
 -- How brackets lie in declarations and parameters.
-use Rattle.std.proofs.Common.{◌≡◌, ℕ, zero, suc, Bool, true, false, List, [], ◌∷◌, Option, Some, None, refl}
-use Rattle.snl_lex.specs.declared.kind.Kind.{Kind}
+use Rattle.std.proofs.Common.{ℕ, zero, suc, Bool, true, List, [], ◌∷◌, Option, refl}
 use Rattle.snl_lex.specs.declared.kind.Kind.TheVariants as kind
 use Rattle.snl_syntax.specs.declared.tree.declaration.Declaration.{Declaration}
 use Rattle.snl_syntax.specs.declared.tree.declaration.Declarator.{Declarator}
@@ -8,11 +7,11 @@ use Rattle.snl_syntax.specs.declared.tree.declaration.Init.{Init}
 use Rattle.snl_syntax.specs.declared.tree.declaration.Parameter.{Parameter}
 use Rattle.snl_syntax.specs.declared.tree.expression.Expr.{Expr}
 use Rattle.snl_syntax.specs.Tokens.{NumberedKind}
-use Rattle.snl_syntax.specs.Grammar.Base.{Each, First, Leaf, Perhaps}
-use Rattle.snl_syntax.specs.Grammar.Declarations.{AreBraced, IsAfterEqual, IsDeclaration, IsDeclarationOf, IsDeclarator, IsInit, IsInitOf, IsLength, list, value}
+use Rattle.snl_syntax.specs.Grammar.Base.{First, Leaf}
+use Rattle.snl_syntax.specs.Grammar.Declarations.{AreBraced, IsAfterEqual, IsDeclaration, IsDeclarator, IsInit, IsInitOf, IsLength, list, value}
 use Rattle.snl_syntax.specs.Grammar.Expressions.{IsAssignx, IsSequence}
 use Rattle.snl_syntax.specs.Grammar.Functions.{IsParameter, IsParameterOf}
-use Rattle.snl_item_laws.proofs.Lies.{Holds, Lies, braces, each_lie, group, held, leaf_lies, lies_then, loose, nothing, one, perhaps_lies, squares, token, written_lies}
+use Rattle.snl_item_laws.proofs.Lies.{Holds, Lies, braces, each_lie, group, leaf_lies, lies_then, loose, nothing, perhaps_lies, squares, token, written_lies}
 use Rattle.snl_item_laws.proofs.LiesExpressions.{assignx_held, commas_lie, sequence_held}
 use Rattle.snl_item_laws.proofs.LiesTypes.{stars_lie, type_lies}
 
@@ -54,10 +53,11 @@ module _ (inside : Bool) (d : ℕ) where
 
   -- a declaration up to its semicolon
   pub declaration_front : (t : Declaration) (k rest : List NumberedKind) → IsDeclaration 0 0 (suc d) t k rest → (m : List NumberedKind) × Lies inside (suc d) k m × First kind.Semicolon m rest
-  declaration_front t k rest h =
-      (h.m2,
-      lies_then (type_lies inside d t.of k h.m1 h.of_type) (commas_lie inside (IsDeclarator (IsAssignx 0 0 d) (IsInit 0 0 (suc d))) d declarator_lies t.declarators h.m1 h.m2 h.declarators),
-      h.semicolon)
+  declaration_front t k rest h = (
+    h.m2,
+    lies_then (type_lies inside d t.of k h.m1 h.of_type) (commas_lie inside (IsDeclarator (IsAssignx 0 0 d) (IsInit 0 0 (suc d))) d declarator_lies t.declarators h.m1 h.m2 h.declarators),
+    h.semicolon,
+  )
 
   parameter_lies : (t : Parameter) (k rest : List NumberedKind) → IsParameterOf (IsAssignx 0 0 d) t k rest → Lies inside (suc d) k rest
   parameter_lies t k rest h =

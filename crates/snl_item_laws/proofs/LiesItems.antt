@@ -1,5 +1,5 @@
 -- How brackets lie in an item, and what it begins and ends with.
-use Rattle.std.proofs.Common.{◌≡◌, ℕ, zero, suc, Bool, true, false, List, [], ◌∷◌, Option, Some, None, ap, refl, ◌∙◌}
+use Rattle.std.proofs.Common.{◌≡◌, ℕ, suc, Bool, true, false, List, [], ◌∷◌, Option, Some, None, ap, refl, ◌∙◌}
 use Rattle.snl_lex.specs.declared.kind.Kind.{Kind}
 use Rattle.snl_lex.specs.declared.kind.Kind.TheVariants as kind
 use Rattle.snl_syntax.specs.declared.tree.clause.Channel.{Channel}
@@ -18,17 +18,17 @@ use Rattle.snl_syntax.specs.declared.tree.state.Target.{Target}
 use Rattle.snl_syntax.specs.declared.tree.state.Transition.{Transition}
 use Rattle.snl_syntax.specs.declared.tree.statement.Member.{Member}
 use Rattle.snl_syntax.specs.Tokens.{NumberedKind}
-use Rattle.snl_syntax.specs.Grammar.Base.{Each, First, Leaf, Perhaps}
-use Rattle.snl_syntax.specs.Grammar.Clauses.{AreForeign, IsAssign, IsChannel, IsClause, IsFlag, IsOptionLine, IsSubscript, anonymous, assign, element, elements, monitor, option_mark, sync, syncq, syncq_word, whole}
+use Rattle.snl_syntax.specs.Grammar.Base.{Each, First, Leaf}
+use Rattle.snl_syntax.specs.Grammar.Clauses.{AreForeign, IsChannel, IsClause, IsFlag, IsOptionLine, IsSubscript, anonymous, assign, element, elements, monitor, option_mark, sync, syncq, syncq_word, whole}
 use Rattle.snl_syntax.specs.Grammar.Declarations.{IsDeclaration}
 use Rattle.snl_syntax.specs.Grammar.Expressions.{AreTexts, IsExpr}
 use Rattle.snl_syntax.specs.Grammar.Functions.{AreParameters, IsBody, IsFunction, IsParameter, IsStruct, IsStructMember, c_block as struct_c_block, declaration as struct_declaration, definition, function, struct_definition}
 use Rattle.snl_syntax.specs.Grammar.Items.{IsItemWithin, c_block, clause as clause_item, empty, entry, exit, foreign, header, option_line, set_begin, set_end, state, typed}
-use Rattle.snl_syntax.specs.Grammar.States.{IsBlockAfter, IsState, IsStateMember, IsTarget, IsTransition, c_block as state_c_block, clause as state_clause, declaration as state_declaration, empty as state_empty, entry as state_entry, exit as state_exit, foreign as state_foreign, leave, next, option_line as state_option_line, transition}
+use Rattle.snl_syntax.specs.Grammar.States.{IsBlockAfter, IsStateMember, IsTarget, IsTransition, c_block as state_c_block, clause as state_clause, declaration as state_declaration, empty as state_empty, entry as state_entry, exit as state_exit, foreign as state_foreign, leave, next, option_line as state_option_line, transition}
 use Rattle.snl_syntax.specs.Grammar.Statements.{IsBlockWithin}
-use Rattle.snl_item_laws.proofs.Lies.{Holds, Lies, braces, each_lie, group, held, is_loose, leaf_lies, lies_then, loose, nothing, one, parens, perhaps_lies, raised, squares, token, written_lies}
+use Rattle.snl_item_laws.proofs.Lies.{Lies, each_lie, group, held, is_loose, leaf_lies, lies_then, loose, nothing, one, parens, perhaps_lies, raised, squares, token, written_lies}
 use Rattle.snl_item_laws.proofs.LiesDeclarations.{braced_lie, declaration_front, declaration_held, parameter_held}
-use Rattle.snl_item_laws.proofs.LiesExpressions.{after_commas, commas_held, commas_lie, texts_lie}
+use Rattle.snl_item_laws.proofs.LiesExpressions.{commas_held, commas_lie, texts_lie}
 use Rattle.snl_item_laws.proofs.LiesStatements.{IsBraced, before_mark, block_braced, block_held}
 use Rattle.snl_item_laws.proofs.LiesTypes.{stars_lie, type_lies}
 
@@ -98,10 +98,10 @@ module _ (inside : Bool) (d : ℕ) where
   clause_ends clause k rest (syncq capital n s f q is h) = record {
     mid = h.m5;
     front = lies_then (word_lies capital k h.m1 h.word)
-      (token kind.Name refl (n, h.name)
-      (lies_then (perhaps_lies inside IsSubscript (suc (suc d)) subscript_lies s h.m2 h.m3 h.subscript)
-      (lies_then (raised (perhaps_lies inside IsFlag (suc d) flag_lies f h.m3 h.m4 h.flag))
-      (perhaps_lies inside (Leaf kind.Integer) (suc (suc d)) (λ m j end l. leaf_lies inside (suc d) kind.Integer m j end refl l) q h.m4 h.m5 h.queue))));
+        (token kind.Name refl (n, h.name)
+        (lies_then (perhaps_lies inside IsSubscript (suc (suc d)) subscript_lies s h.m2 h.m3 h.subscript)
+        (lies_then (raised (perhaps_lies inside IsFlag (suc d) flag_lies f h.m3 h.m4 h.flag))
+        (perhaps_lies inside (Leaf kind.Integer) (suc (suc d)) (λ m j end l. leaf_lies inside (suc d) kind.Integer m j end refl l) q h.m4 h.m5 h.queue))));
     semicolon = h.semicolon;
   }
     where

@@ -1,10 +1,9 @@
 -- What is found in a part of an item, token by token along what that part spells.
-use Rattle.std.proofs.Common.{◌≡◌, ℕ, suc, Bool, true, false, not, ◌&&◌, ◌||◌, cond, List, [], ◌∷◌, ◌++◌, map, filter, Option, Some, None, is_some, refl, ap, sym, ◌∙◌, subst}
+use Rattle.std.proofs.Common.{◌≡◌, ℕ, Bool, true, false, not, ◌&&◌, ◌||◌, List, [], ◌∷◌, ◌++◌, map, Option, Some, None, is_some, refl}
 use Rattle.std.specs.List.{flat_map}
 use Rattle.snl_lex.specs.declared.kind.Kind.{Kind}
 use Rattle.snl_lex.specs.declared.kind.Kind.TheVariants as kind
-use Rattle.snl_syntax.specs.Spelling.Base.{Matches, Spelled, after, between, commas, in_braces, in_brackets, in_parens, joined, word}
-use Rattle.snl_syntax.specs.Tokens.{numbered}
+use Rattle.snl_syntax.specs.Spelling.Base.{Spelled, after, between, in_braces, in_brackets, in_parens, joined, word}
 use Rattle.snl_item_laws.specs.Mentions.{hides, is_name, is_state, jumps}
 
 -- what is at a token

@@ -1,5 +1,5 @@
 -- The names in expressions and initialisers are those of what these spell.
-use Rattle.std.proofs.Common.{◌≡◌, ℕ, Bool, true, false, List, [], ◌∷◌, ◌++◌, map, Option, None, Some, refl, sym, subst}
+use Rattle.std.proofs.Common.{◌≡◌, ℕ, Bool, List, [], ◌∷◌, map, Option, None, Some, refl, sym, subst}
 use Rattle.std.specs.List.{flat_map}
 use Rattle.snl_lex.specs.declared.kind.Kind.TheVariants as kind
 use Rattle.snl_syntax.specs.declared.operator.Assignment.{Assignment}
@@ -14,7 +14,7 @@ use Rattle.snl_syntax.specs.declared.tree.expression.Expr.TheFolds.{fold-roll-Ex
 use Rattle.snl_syntax.specs.declared.tree.expression.Expr.TheViews.{roll-Expr, roll-Suffix}
 use Rattle.snl_syntax.specs.declared.tree.expression.Suffix.{Suffix}
 use Rattle.snl_syntax.specs.Operators.{assignment_mark, binary_mark}
-use Rattle.snl_syntax.specs.Spelling.Base.{Spelled, after, commas, in_brackets, in_parens, joined, leaf, perhaps, word, written}
+use Rattle.snl_syntax.specs.Spelling.Base.{Spelled, after, commas, joined, perhaps}
 use Rattle.snl_syntax.specs.Spelling.Declarations.{spell_init, spell_init_step, spell_length, spell_value}
 use Rattle.snl_syntax.specs.Spelling.Expressions.{spell_arm, spell_expr, spell_expr_step, spell_link, spell_suffix, spell_suffix_step, spell_target}
 use Rattle.snl_walk.specs.declared.occurrence.Follows.TheVariants as follows

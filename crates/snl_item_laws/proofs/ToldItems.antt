@@ -1,5 +1,5 @@
 -- What is found in an item is told by what it spells.
-use Rattle.std.proofs.Common.{◌≡◌, ℕ, Bool, true, false, List, [], ◌∷◌, ◌++◌, map, Option, None, Some, refl}
+use Rattle.std.proofs.Common.{ℕ, Bool, true, false, List, [], ◌∷◌, ◌++◌, map, Option, None, Some, refl}
 use Rattle.std.specs.List.{flat_map}
 use Rattle.snl_lex.specs.declared.kind.Kind.TheVariants as kind
 use Rattle.snl_syntax.specs.declared.tree.clause.Channel.{Channel}
@@ -37,7 +37,7 @@ use Rattle.snl_walk.specs.Items.{found_at_name, found_in_function, found_in_memb
 use Rattle.snl_walk.specs.Scopes.{Names, under_names}
 use Rattle.snl_walk.specs.Statements.{declaration_at, found_in_block}
 use Rattle.snl_item_laws.specs.Mentions.{lengths_of, looked_up_in, looked_up_in_function, looked_up_in_member}
-use Rattle.snl_item_laws.proofs.Told.{Case, hidden, leading, passing, staying, name_here, none, passed, quiet, silent_between, target_here, told-append, told_after, told_before, told_between, told_flat, told_in_braces, told_in_brackets, told_in_parens, told_joined, told_then, told_wider}
+use Rattle.snl_item_laws.proofs.Told.{Case, hidden, leading, passing, staying, name_here, none, passed, quiet, silent_between, target_here, told-append, told_after, told_before, told_between, told_flat, told_in_braces, told_in_brackets, told_in_parens, told_joined, told_wider}
 use Rattle.snl_item_laws.proofs.ToldExpressions.{FoundTold, seen_if, seen_in_lengths}
 use Rattle.snl_item_laws.proofs.ToldStatements.{Leads, block_told, declaration_told}
 use Rattle.snl_item_laws.proofs.ToldTypes.{silent_leaf, silent_stars, silent_texts, silent_type, silent_word, silent_written}

@@ -22,10 +22,10 @@ use Rattle.snl_walk.specs.Items.{found_in_member, occurrences, outside}
 use Rattle.snl_walk.specs.Scopes.{Names, under_names}
 use Rattle.snl_walk.specs.Uses.{is_target, targets, tokens_where}
 use Rattle.snl_item_laws.specs.Mentions.{hides, is_change, is_jump, is_name, is_named, is_state, jumps, leaves_where, looked_up_in, names_from, names_in, number_if, places, places_from, states_from, states_in, transition_in, transitions_in}
-use Rattle.snl_item_laws.proofs.Told.{AreTold, Case, Sort, a_change, a_jump, a_name, a_target, leading, passing, staying, hidden, is_quiet, jump_here, lead_here, may_pass, name_here, none, passed, quiet, stay_here, target_here}
+use Rattle.snl_item_laws.proofs.Told.{Case, Sort, a_change, a_jump, a_name, a_target, leading, passing, hidden, is_quiet, jump_here, lead_here, may_pass, name_here, none, passed, quiet, stay_here, target_here}
 use Rattle.snl_item_laws.proofs.ToldExpressions.{FoundTold, found_at, found_sort, sort_of}
 use Rattle.snl_item_laws.proofs.ToldStatements.{Leads, block_told, declaration_told}
-use Rattle.snl_item_laws.proofs.ToldItems.{block_outside, foreign_told, function_told, in_leads, struct_told, looked_up_told, spelled_told}
+use Rattle.snl_item_laws.proofs.ToldItems.{foreign_told, function_told, in_leads, struct_told, looked_up_told, spelled_told}
 
 abbrev name_sort : Sort → Bool
 name_sort a_name = true

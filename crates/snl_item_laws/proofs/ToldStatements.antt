@@ -13,7 +13,6 @@ use Rattle.snl_syntax.specs.declared.tree.statement.Stmt.{Stmt}
 use Rattle.snl_syntax.specs.Spelling.Base.{Spelled, after, between, joined, leaf, word}
 use Rattle.snl_syntax.specs.Spelling.Declarations.{spell_declaration, spell_declarator}
 use Rattle.snl_syntax.specs.Spelling.Statements.{spell_block, spell_choice, spell_else, spell_for_head, spell_member, spell_member_step, spell_stmt, spell_stmt_step}
-use Rattle.snl_syntax.specs.Spelling.Types.{spell_stars, spell_type}
 use Rattle.snl_walk.specs.declared.occurrence.Occurrence.{Occurrence}
 use Rattle.snl_walk.specs.declared.occurrence.What.TheVariants as what
 use Rattle.snl_walk.specs.Declares.{is_event_flag}

@@ -1,5 +1,5 @@
 -- Where the cut takes more tokens than an item of the grammar has.
-use Rattle.std.specs.Prelude.{Bool, true, false, List, [], ◌∷◌, map, Option, None}
+use Rattle.std.specs.Prelude.{Bool, true, false, List, ◌∷◌, map, None}
 use Rattle.snl_lex.specs.declared.kind.Kind.{Kind}
 use Rattle.snl_syntax.specs.declared.marks.Mark.{Mark}
 use Rattle.snl_syntax.specs.declared.marks.Mark.TheVariants as mark
