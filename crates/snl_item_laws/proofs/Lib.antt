@@ -1,0 +1,17 @@
+mod Inner
+mod Told
+mod ToldTypes
+mod ToldExpressions
+mod ToldStatements
+mod ToldItems
+mod ToldLaws
+mod Lies
+mod LiesTypes
+mod LiesExpressions
+mod LiesDeclarations
+mod LiesStatements
+mod LiesItems
+mod Depths
+mod Prefixes
+mod CutRuns
+mod CutItems

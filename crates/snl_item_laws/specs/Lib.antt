@@ -1,0 +1,3 @@
+pub mod Mentions
+pub mod Brackets
+pub mod Cuts
