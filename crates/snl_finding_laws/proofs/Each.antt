@@ -1,5 +1,5 @@
 -- Lists by recursion: what holds of each element, and of each element and each later one.
-use Rattle.std.proofs.Common.{◌≡◌, ℕ, zero, suc, ◌+◌, ◌<◌, Bool, true, false, cond, List, [], ◌∷◌, ◌++◌, map, filter, take, drop, slice_get, Some, None, Option, option_map, refl, subst, sym, ap, ◌∙◌, arith}
+use Rattle.std.proofs.Common.{◌≡◌, ℕ, zero, suc, ◌+◌, Bool, true, false, cond, List, [], ◌∷◌, ◌++◌, map, filter, take, drop, slice_get, Some, option_map, refl, subst}
 use Rattle.std.specs.List.{AllByRecursion as Each, enumerate_from, flat_map}
 
 abbrev pub EachTwo : {A : Type 0} → (A → A → Type 0) → List A → Type 0

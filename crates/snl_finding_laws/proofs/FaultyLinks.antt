@@ -1,9 +1,9 @@
 -- The links find nothing at a faulty item.
-use Rattle.std.proofs.Common.{◌≡◌, ℕ, zero, suc, ◌+◌, ◌<◌, Bool, true, false, not, ◌&&◌, ◌||◌, cond, List, [], ◌∷◌, ◌++◌, length, map, filter, slice_get, Option, None, Some, is_none, is_some, option_map, refl, sym, ap, subst, ◌∙◌, arith}
+use Rattle.std.proofs.Common.{◌≡◌, ℕ, zero, suc, ◌+◌, Bool, true, false, not, ◌&&◌, ◌||◌, cond, List, [], ◌∷◌, ◌++◌, length, map, filter, slice_get, Option, None, Some, is_none, option_map, refl, sym, ap, subst, ◌∙◌, arith}
 use Rattle.std.specs.Prelude.{if◌then◌else◌, option_and_then, option_to_list}
 use Rattle.std.specs.Option.{option_map_or}
 use Rattle.std.specs.List.{AllByRecursion as Each}
-use Rattle.std.proofs.lemmas.Bool.{and_left, false≢true, or_from, true≢false}
+use Rattle.std.proofs.lemmas.Bool.{and_left, or_from, true≢false}
 use Rattle.std.proofs.lemmas.List.{length-map}
 use Rattle.std.proofs.lemmas.Option.{same_Some, slice_get_within}
 use Rattle.snl_syntax.specs.declared.tree.item.Item.{Item}
@@ -19,12 +19,12 @@ use Rattle.snl_scope.specs.Linked as links
 use Rattle.snl_scope.specs.LinkedItems.{LinkedItems, kind_is}
 use Rattle.snl_scope.specs.Names.{Entry, entries, name_faults, repetitions, told_by}
 use Rattle.snl_scope.specs.Order as order
-use Rattle.snl_scope.specs.Places.{begins_set, enclosing_set, ends_set, is_set_begin, is_set_end, item_is}
+use Rattle.snl_scope.specs.Places.{begins_set, enclosing_set, ends_set, is_set_begin, is_set_end}
 use Rattle.snl_scope.specs.Summaries.{kind_of, outline_in}
 use Rattle.snl_check.specs.Items.{outline_of_item}
 use Rattle.snl_kept.specs.Linked.{linked_of, outlines_of}
 use Rattle.snl_kept.specs.Program.{ProgramItem}
-use Rattle.snl_finding_laws.proofs.Each.{each_append, each_by, each_map, each_weaker, get_mapped}
+use Rattle.snl_finding_laws.proofs.Each.{each_append, each_by, each_map, get_mapped}
 
 -- ---- lists of what passes
 

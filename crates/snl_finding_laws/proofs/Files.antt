@@ -1,19 +1,17 @@
 -- The name of a file that a line marker sets lies in the text.
-use Rattle.std.proofs.Common.{◌≡◌, ℕ, ◌+◌, ◌<◌, ◌≤◌, Bool, true, false, ◌&&◌, All, List, [], ◌∷◌, length, map, take, drop, filter, Option, None, Some, IfSome, min, refl, sym, ap, subst, inl, inr, ◌∙◌, arith}
+use Rattle.std.proofs.Common.{◌≡◌, ℕ, ◌+◌, ◌<◌, ◌≤◌, Bool, true, false, ◌&&◌, All, List, [], ◌∷◌, length, drop, filter, Option, None, Some, IfSome, refl, inl, inr, arith}
 use Rattle.std.specs.Prelude.{◌==◌, slice_index, if◌then◌else◌}
 use Rattle.std.specs.List.{AllByRecursion as Each, enumerate_from}
 use Rattle.std.proofs.lemmas.Bool.{and_parts, cases_lt, eqb-true}
 use Rattle.std.proofs.lemmas.List.{get_or_past, length-take}
 use Rattle.std.proofs.lemmas.List.Elements.{All-from_recursion, recursion_from_All}
 use Rattle.snl_lex.specs.declared.piece.Piece.{Piece}
-use Rattle.snl_lex.specs.Lines.{file_by, file_of, gap_end, last_of, last_or, last_that, line_at, marker_file, names_file, number_stop, place_from}
+use Rattle.snl_lex.specs.Lines.{file_by, gap_end, last_or, last_that, line_at, marker_file, names_file, number_stop, place_from}
 use Rattle.snl_lex.specs.Pieces.{LiesIn, bytes_at, pieces_of, string_joins}
 use Rattle.snl_lex.specs.Runs.{run_by}
 use Rattle.snl_scope.specs.declared.summaries.summary.Outline.{Outline}
 use Rattle.snl_scope.specs.Below.{all_below}
 use Rattle.snl_scope.specs.Places.{is_set_begin}
-use Rattle.snl_tables.specs.declared.rows.SetRow.{SetRow}
-use Rattle.snl_tables.specs.declared.rows.StateRow.{StateRow}
 use Rattle.snl_check.specs.Items.{ProgramItem, item_start, outlines_of}
 use Rattle.snl_check.specs.Members.{states_in}
 use Rattle.snl_check.specs.States.{numbered_row, set_row, state_rows}

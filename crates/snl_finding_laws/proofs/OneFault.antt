@@ -1,25 +1,24 @@
 -- One diagnostic of the parser at a faulty item, and none at a sound one.
-use Rattle.std.proofs.Common.{◌≡◌, ℕ, ◌+◌, ◌<◌, Bool, true, false, ◌&&◌, ◌||◌, not, All, List, [], ◌∷◌, ◌++◌, length, map, slice_get, Option, None, Some, is_none, option_map, refl, sym, ap, subst, ◌∙◌, arith}
+use Rattle.std.proofs.Common.{◌≡◌, ℕ, ◌+◌, ◌<◌, Bool, true, false, ◌&&◌, ◌||◌, not, All, List, ◌++◌, length, slice_get, Some, is_none, refl, ap, ◌∙◌, arith}
 use Rattle.std.specs.Prelude.{count_by, if◌then◌else◌}
-use Rattle.std.specs.List.{AllByRecursion as Each, filter_map, list_any}
+use Rattle.std.specs.List.{AllByRecursion as Each, list_any}
 use Rattle.std.proofs.lemmas.Bool.{and_left}
 use Rattle.snl_cut.specs.Cut.{Rises, last_end}
 use Rattle.snl_lex.specs.declared.piece.Piece.{Piece}
 use Rattle.snl_lex.specs.PieceList.{listed_pieces, piece_ends, piece_kinds}
 use Rattle.snl_lex.specs.Pieces.{LiesIn, pieces_of}
 use Rattle.snl_syntax.specs.declared.tree.item.Item.{Item}
-use Rattle.snl_syntax.specs.Outcome.{BlamesWithin, parsed_in, sound_tree}
+use Rattle.snl_syntax.specs.Outcome.{BlamesWithin, parsed_in}
 use Rattle.snl_syntax.specs.Parsing.{is_bad, kinds_in}
 use Rattle.snl_syntax.specs.Reading.Items.{item_of}
 use Rattle.snl_walk.specs.declared.codes.Code.{Code}
 use Rattle.snl_walk.specs.declared.codes.Code.TheVariants.{E01, E02}
 use Rattle.snl_walk.specs.Codes.{is_error}
 use Rattle.snl_items.specs.Items.{item_ends, marks_of}
-use Rattle.snl_kept.specs.declared.found.findings.Diagnostic.{Diagnostic}
 use Rattle.snl_kept.specs.declared.found.findings.Finding.{Finding}
 use Rattle.snl_kept.specs.Checked.{checked_faults}
 use Rattle.snl_kept.specs.Diagnostics.{diagnostic, diagnostics_of, found}
-use Rattle.snl_kept.specs.Faults.{fault_in, faults_of}
+use Rattle.snl_kept.specs.Faults.{faults_of}
 use Rattle.snl_kept.specs.Linked.{linked_faults}
 use Rattle.snl_kept.specs.Program.{ProgramItem, item_tokens, items_of, program_item, tree_in}
 use Rattle.snl_kept.specs.Tables.{walked_faults}
@@ -27,7 +26,7 @@ use Rattle.snl_kept.specs.Warnings.{warns_in}
 use Rattle.snl_finding_laws.specs.OwnFaults.{is_at_item, is_bad_token, is_in_span, is_of_parser, is_syntax_error}
 use Rattle.snl_finding_laws.specs.Places.{is_shown}
 use Rattle.snl_finding_laws.proofs.Counts.{and_true, count, count-append, count_none, count_same}
-use Rattle.snl_finding_laws.proofs.Each.{each_by, each_got, each_map, each_weaker, get_mapped}
+use Rattle.snl_finding_laws.proofs.Each.{each_by, each_got, each_map, each_weaker}
 use Rattle.snl_finding_laws.proofs.OtherCodes.{CodesLaw, IsNoParserCode, IsOfOthers, LinkLaws, checked_codes, linked_codes, walked_codes}
 use Rattle.snl_finding_laws.proofs.OwnFaults.{bad_by_outcome, by_outcome, faults_counted, one_by_outcome, syntax_by_outcome}
 use Rattle.snl_finding_laws.proofs.Shown.{diagnostics_counted}

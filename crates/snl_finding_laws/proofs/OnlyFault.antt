@@ -1,8 +1,8 @@
 -- In the span of a faulty item is what the parser finds there, and what the text lacks altogether.
-use Rattle.std.proofs.Common.{◌≡◌, ◌⊎◌, ℕ, zero, suc, ◌+◌, ◌<◌, ◌≤◌, Bool, true, false, ◌&&◌, All, List, [], ◌∷◌, ◌++◌, length, map, slice_get, Option, None, Some, IfSome, is_none, is_some, option_map, inl, inr, refl, sym, ap, subst, ◌∙◌, arith}
+use Rattle.std.proofs.Common.{◌≡◌, ℕ, zero, suc, ◌+◌, ◌<◌, ◌≤◌, Bool, true, false, All, List, [], ◌∷◌, ◌++◌, length, map, slice_get, Option, None, Some, is_none, option_map, inl, inr, refl, sym, ap, subst, ◌∙◌, arith}
 use Rattle.std.specs.Prelude.{if◌then◌else◌, option_and_then}
 use Rattle.std.specs.Option.{option_map_or}
-use Rattle.std.specs.List.{AllByRecursion as Each, cons_option, enumerate_from, filter_map, flat_map}
+use Rattle.std.specs.List.{AllByRecursion as Each, cons_option, enumerate_from, filter_map}
 use Rattle.std.proofs.lemmas.Bool.{cases_order, true≢false}
 use Rattle.std.proofs.lemmas.List.Elements.{All-from_recursion, recursion_from_All}
 use Rattle.std.proofs.lemmas.Option.{same_Some}
@@ -13,21 +13,19 @@ use Rattle.snl_syntax.specs.declared.outcome.Parsed.TheVariants as parsed
 use Rattle.snl_syntax.specs.declared.tree.item.Item.{Item}
 use Rattle.snl_syntax.specs.Outcome.{parsed_in}
 use Rattle.snl_walk.specs.declared.codes.Code.{Code}
-use Rattle.snl_walk.specs.declared.codes.Code.TheVariants.{E01, E02, E05, E06, W02, W04}
+use Rattle.snl_walk.specs.declared.codes.Code.TheVariants.{E01, E02, W02}
 use Rattle.snl_walk.specs.Tokens.{token_bytes}
 use Rattle.snl_scope.specs.declared.facts.LinkFault.{LinkFault}
 use Rattle.snl_scope.specs.declared.summaries.summary.Outline.{Outline}
 use Rattle.snl_scope.specs.Below.{all_below}
-use Rattle.snl_scope.specs.FaultPlaces.{IsAtItem, IsMissing, IsPlaced, IsPlacedBy}
+use Rattle.snl_scope.specs.FaultPlaces.{IsMissing, IsPlaced, IsPlacedBy}
 use Rattle.snl_scope.specs.Linked as links
 use Rattle.snl_scope.specs.Places.{is_set_begin}
-use Rattle.snl_tables.specs.declared.rows.StateMark.{StateMark}
-use Rattle.snl_tables.specs.declared.rows.StateMark.TheVariants as mark
 use Rattle.snl_check.specs.declared.rules.findings.ItemFault.{ItemFault}
-use Rattle.snl_check.specs.ItemFaults.{StandsIn, faults_in}
+use Rattle.snl_check.specs.ItemFaults.{faults_in}
 use Rattle.snl_check.specs.Items.{item_name, outline_of_item, span_of, tokens_in}
 use Rattle.snl_check.specs.Members.{has_faulty, is_faulty_item, states_in}
-use Rattle.snl_check.specs.Spans.{HasByte, InSet, InState, InTables, TablesHaveBytes}
+use Rattle.snl_check.specs.Spans.{HasByte, InSet, InState, TablesHaveBytes}
 use Rattle.snl_check.specs.States.{first_mark, is_reached_in, is_repeated, mark_of, numbered_row, set_row, state_rows}
 use Rattle.snl_check.specs.Tables.{tables_of}
 use Rattle.snl_check.specs.View.{is_in_set, known_of, leads_to}
@@ -36,12 +34,12 @@ use Rattle.snl_kept.specs.declared.found.findings.Finding.{Finding}
 use Rattle.snl_kept.specs.Checked.{at_own_token, checked_faults, found_in_item, moved}
 use Rattle.snl_kept.specs.Diagnostics.{diagnostic, diagnostics_of, found}
 use Rattle.snl_kept.specs.Faults.{at_number, at_token, fault_at, fault_in, faults_of}
-use Rattle.snl_kept.specs.Linked.{finding_at, linked_faults, linked_finding, linked_of, outlines_of, token_of}
+use Rattle.snl_kept.specs.Linked.{finding_at, linked_faults, linked_finding, linked_of, outlines_of}
 use Rattle.snl_kept.specs.Program.{ProgramItem, items_of}
 use Rattle.snl_kept.specs.Tables.{found_at_state, found_in_set, is_unreached, tables_in, walked_faults}
 use Rattle.snl_finding_laws.specs.OwnFaults.{IsAtFaulty, is_in_span, is_of_parser}
-use Rattle.snl_finding_laws.proofs.Each.{EachTwo, each_append, each_both, each_by, each_flat, each_got, each_map, each_weaker, get_mapped}
-use Rattle.snl_finding_laws.proofs.FaultyLinks.{AtSound, NotFaulty, links_at_sound}
+use Rattle.snl_finding_laws.proofs.Each.{EachTwo, each_append, each_both, each_flat, each_got, each_map, each_weaker, get_mapped}
+use Rattle.snl_finding_laws.proofs.FaultyLinks.{AtSound, links_at_sound}
 use Rattle.snl_finding_laws.proofs.OneFault.{FindingLaws, all_read}
 use Rattle.snl_finding_laws.proofs.OtherCodes.{IsRead, all_speak}
 use Rattle.snl_finding_laws.proofs.OwnFaults.{after_span, before_span, turned}

@@ -1,8 +1,8 @@
 -- What the parser doesn't find has none of its codes.
-use Rattle.std.proofs.Common.{◌≡◌, ◌⊎◌, ℕ, ◌<◌, Bool, true, false, All, List, [], ◌∷◌, length, map, slice_get, Option, None, Some, IfSome, option_map, inl, inr, refl, sym, ap, subst, ◌∙◌, arith}
+use Rattle.std.proofs.Common.{◌≡◌, ℕ, ◌<◌, Bool, true, false, All, List, [], ◌∷◌, length, slice_get, Option, None, Some, IfSome, option_map, inl, inr, refl, sym, ap, subst, ◌∙◌}
 use Rattle.std.specs.Prelude.{if◌then◌else◌}
 use Rattle.std.specs.Option.{option_map_or}
-use Rattle.std.specs.List.{AllByRecursion as Each, enumerate_from, flat_map}
+use Rattle.std.specs.List.{AllByRecursion as Each, enumerate_from}
 use Rattle.std.proofs.lemmas.List.Elements.{recursion_from_All}
 use Rattle.snl_lex.specs.declared.piece.Piece.{Piece}
 use Rattle.snl_syntax.specs.declared.tree.item.Item.{Item}
@@ -14,7 +14,7 @@ use Rattle.snl_walk.specs.Codes.{is_item_code, is_link_code}
 use Rattle.snl_scope.specs.declared.facts.Fact.{Fact}
 use Rattle.snl_scope.specs.declared.facts.LinkFault.{LinkFault}
 use Rattle.snl_scope.specs.declared.summaries.summary.Outline.{Outline}
-use Rattle.snl_scope.specs.FaultPlaces.{IsAtItem, IsMissing, IsPlaced, IsPlacedBy, SpeaksOfTokens}
+use Rattle.snl_scope.specs.FaultPlaces.{IsMissing, IsPlaced, IsPlacedBy, SpeaksOfTokens}
 use Rattle.snl_scope.specs.Linked as links
 use Rattle.snl_scope.specs.LinkedItems.{LinkedItems}
 use Rattle.snl_scope.specs.Summaries.{outline_in}
@@ -28,7 +28,7 @@ use Rattle.snl_check.specs.View.{is_in_set, known_of, leads_to}
 use Rattle.snl_kept.specs.declared.found.findings.Finding.{Finding}
 use Rattle.snl_kept.specs.Checked.{at_own_token, checked_faults, found_in_item}
 use Rattle.snl_kept.specs.Linked.{finding_at, linked_faults, linked_finding, linked_of, outlines_of, token_of}
-use Rattle.snl_kept.specs.Program.{ProgramItem, items_of, program_item, tree_in}
+use Rattle.snl_kept.specs.Program.{ProgramItem}
 use Rattle.snl_kept.specs.Tables.{found_at_state, found_in_set, is_unreached, walked_faults}
 use Rattle.snl_scope.specs.Summaries.Tokens.{token_bytes}
 use Rattle.snl_finding_laws.specs.OwnFaults.{is_of_parser}

@@ -16,7 +16,7 @@ use Rattle.snl_walk.specs.declared.codes.Code.{Code}
 use Rattle.snl_walk.specs.declared.codes.Code.TheVariants.{E01, E02}
 use Rattle.snl_kept.specs.declared.found.findings.Finding.{Finding}
 use Rattle.snl_kept.specs.Faults.{at_number, at_token, fault_at, fault_in}
-use Rattle.snl_kept.specs.Program.{ProgramItem, program_item, tree_in}
+use Rattle.snl_kept.specs.Program.{ProgramItem, tree_in}
 use Rattle.snl_finding_laws.specs.OwnFaults.{first_byte, is_bad_token, is_in_span, is_of_parser, is_syntax_error, stop_after}
 use Rattle.snl_finding_laws.proofs.Counts.{and_true, count, one_if}
 use Rattle.snl_finding_laws.proofs.Each.{EachTwo, each_got, each_weaker}

@@ -1,12 +1,12 @@
 -- What a diagnostic quotes lies in the text.
-use Rattle.std.proofs.Common.{◌≡◌, ◌⊎◌, ℕ, ◌+◌, ◌<◌, ◌≤◌, Bool, true, false, All, List, [], ◌∷◌, ◌++◌, length, map, take, drop, slice_get, Option, None, Some, min, inl, inr, refl, sym, ap, subst, ◌∙◌, arith}
+use Rattle.std.proofs.Common.{◌≡◌, ◌⊎◌, ℕ, ◌+◌, ◌<◌, ◌≤◌, Bool, true, false, All, List, [], ◌∷◌, ◌++◌, length, drop, slice_get, Option, None, Some, inl, inr, refl, sym, ap, subst, arith}
 use Rattle.std.specs.Prelude.{if◌then◌else◌, option_and_then, option_map}
-use Rattle.std.specs.List.{AllByRecursion as Each, cons_option, enumerate_from, list_any}
+use Rattle.std.specs.List.{AllByRecursion as Each, cons_option, enumerate_from}
 use Rattle.std.proofs.lemmas.List.{length-take}
 use Rattle.std.proofs.lemmas.List.Elements.{All-from_recursion, recursion_from_All}
 use Rattle.snl_cut.specs.Cut.{Rises, last_end}
 use Rattle.snl_lex.specs.declared.piece.Piece.{Piece}
-use Rattle.snl_lex.specs.Pieces.{LiesIn, pieces_of, tokens_of}
+use Rattle.snl_lex.specs.Pieces.{LiesIn, pieces_of}
 use Rattle.snl_syntax.specs.declared.outcome.Parsed.{Parsed}
 use Rattle.snl_syntax.specs.declared.outcome.Parsed.TheVariants as parsed
 use Rattle.snl_syntax.specs.declared.tree.clause.OptionLine.{OptionLine}
@@ -15,16 +15,15 @@ use Rattle.snl_syntax.specs.declared.tree.item.Item.TheVariants as items
 use Rattle.snl_syntax.specs.declared.tree.state.StateMember.{StateMember}
 use Rattle.snl_syntax.specs.declared.tree.state.StateMember.TheVariants as members
 use Rattle.snl_syntax.specs.Outcome.{parsed_in}
-use Rattle.snl_syntax.specs.Parsing.{is_bad, kinds_in}
+use Rattle.snl_syntax.specs.Parsing.{kinds_in}
 use Rattle.snl_syntax.specs.Reading.Items.{item_of}
 use Rattle.snl_walk.specs.declared.codes.Code.{Code}
-use Rattle.snl_walk.specs.declared.codes.Code.TheVariants.{E01, E02, E03, E04, E05, E06, E07, E08, E09, E10, E11, E12, E13, E14, E15, E16, E17, E18, E19, E20, E21, E22, W01, W02, W03, W04, W05}
+use Rattle.snl_walk.specs.declared.codes.Code.TheVariants.{E01, E02, E03, E04, E05, E06, E18, W02, W03, W04}
 use Rattle.snl_walk.specs.Codes.{quoted_bytes}
 use Rattle.snl_walk.specs.Items.{occurrences}
 use Rattle.snl_walk.specs.Rules.{findings}
 use Rattle.snl_walk.specs.Tokens.{bytes_if, token_bytes}
 use Rattle.snl_scope.specs.declared.facts.Fact.{Fact}
-use Rattle.snl_scope.specs.declared.facts.LinkFault.{LinkFault}
 use Rattle.snl_scope.specs.declared.summaries.summary.Outline.{Outline}
 use Rattle.snl_scope.specs.Linked as links
 use Rattle.snl_tables.specs.declared.rows.SetRow.{SetRow}
@@ -32,18 +31,15 @@ use Rattle.snl_tables.specs.declared.rows.StateRow.{StateRow}
 use Rattle.snl_items.specs.Items.{item_ends, marks_of}
 use Rattle.snl_check.specs.declared.rules.findings.ItemFault.{ItemFault}
 use Rattle.snl_check.specs.ItemFaults.{StandsIn, fault_of, faults_in, faults_of_rules}
-use Rattle.snl_check.specs.Items.{EndsWithin}
 use Rattle.snl_check.specs.Options.{found_at_letter, is_known, letter_fault, program_letters, state_letters, unknown_in_member, unknown_letters, unknown_options}
-use Rattle.snl_check.specs.Spans.{InSet, InState, InTables, SpanLiesIn, TablesLieIn}
-use Rattle.snl_check.specs.Tables.{tables_of}
+use Rattle.snl_check.specs.Spans.{InSet, InState, SpanLiesIn, TablesLieIn}
 use Rattle.snl_check.specs.View.{is_in_set, known_of, leads_to, misses_by, outer_by}
-use Rattle.snl_kept.specs.declared.found.findings.Diagnostic.{Diagnostic}
 use Rattle.snl_kept.specs.declared.found.findings.Finding.{Finding}
 use Rattle.snl_kept.specs.Checked.{at_own_token, checked_faults, found_in_item, moved}
 use Rattle.snl_kept.specs.Diagnostics.{diagnostic, diagnostics_of, found}
-use Rattle.snl_kept.specs.Faults.{at_number, at_token, fault_at, fault_in, faults_of}
+use Rattle.snl_kept.specs.Faults.{at_number, at_token, fault_at, faults_of}
 use Rattle.snl_kept.specs.Linked.{finding_at, linked_faults, linked_finding, linked_of, outlines_of, token_of}
-use Rattle.snl_kept.specs.Program.{ProgramItem, item_tokens, items_of, program_item, tree_in}
+use Rattle.snl_kept.specs.Program.{ProgramItem, item_tokens, items_of, program_item}
 use Rattle.snl_kept.specs.Tables.{found_at_state, found_in_set, is_unreached, tables_in, walked_faults}
 use Rattle.snl_finding_laws.specs.Places.{DiagnosticLiesIn}
 use Rattle.snl_finding_laws.proofs.Each.{each_append, each_both, each_by, each_flat, each_got, each_map, each_numbered, each_weaker}

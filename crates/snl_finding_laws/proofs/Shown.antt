@@ -1,6 +1,6 @@
 -- How many diagnostics pass a test, by what is found.
-use Rattle.std.proofs.Common.{◌≡◌, ℕ, Bool, true, false, ◌&&◌, ◌||◌, List, filter, refl, sym, ap, ◌∙◌}
-use Rattle.std.specs.Prelude.{count_by, if◌then◌else◌}
+use Rattle.std.proofs.Common.{◌≡◌, ℕ, Bool, true, false, ◌&&◌, ◌||◌, List, refl, sym, ap, ◌∙◌}
+use Rattle.std.specs.Prelude.{count_by}
 use Rattle.std.specs.List.{AllByRecursion as Each}
 use Rattle.snl_walk.specs.Codes.{is_error}
 use Rattle.snl_kept.specs.declared.found.findings.Diagnostic.{Diagnostic}

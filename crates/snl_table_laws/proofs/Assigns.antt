@@ -1,25 +1,23 @@
 -- Sound `assign`s of one declaration are apart.
-use Rattle.std.proofs.Common.{◌≡◌, ℕ, zero, suc, ◌<◌, Bool, true, false, not, ◌&&◌, ◌||◌, nat_eq, nat_lt, cond, List, [], ◌∷◌, ◌++◌, length, get_or, Option, Some, None, refl, ap, ◌∙◌, sym, subst, arith, map}
+use Rattle.std.proofs.Common.{◌≡◌, ℕ, Bool, true, false, not, ◌&&◌, List, [], ◌∷◌, ◌++◌, get_or, Option, Some, None, refl, ap, ◌∙◌, sym, arith}
 use Rattle.std.specs.Prelude.{if◌then◌else◌}
-use Rattle.std.specs.List.{All, AllByRecursion as Each, AllPairs, Contains, list_any, zip}
+use Rattle.std.specs.List.{AllPairs, Contains, list_any}
 use Rattle.std.specs.Option.{option_map_or}
 use Rattle.std.proofs.lemmas.Bool.{and_parts, eq-eqb, false_from_ne_true, lt-ltb, not-true, true≢false}
-use Rattle.std.proofs.lemmas.Bool.Decides.{nat_tests}
 use Rattle.std.proofs.lemmas.List.Elements.{Contains-get_or}
 use Rattle.std.proofs.lemmas.List.Folds.{list_any_at}
 use Rattle.std.proofs.lemmas.List.Quantifiers.{all_pairs_push}
 use Rattle.snl_walk.specs.declared.codes.Code.{Code}
-use Rattle.snl_walk.specs.declared.codes.Code.TheVariants.{E11, E12, E13, E15, E16, E22, W05}
+use Rattle.snl_walk.specs.declared.codes.Code.TheVariants.{E11, E12, E13, E15, E16}
 use Rattle.snl_walk.specs.Codes.{is_error}
-use Rattle.snl_scope.specs.declared.summaries.summary.ClauseKind.{ClauseKind}
 use Rattle.snl_scope.specs.declared.summaries.summary.ClauseKind.TheVariants as kind
 use Rattle.snl_scope.specs.declared.summaries.summary.Coverage.{Coverage}
 use Rattle.snl_scope.specs.declared.summaries.summary.Coverage.TheVariants.{Whole, Element, Front}
 use Rattle.snl_scope.specs.declared.summaries.summary.Outline.{Outline}
 use Rattle.snl_scope.specs.declared.summaries.summary.Variable.{Variable}
-use Rattle.snl_scope.specs.Clauses.{LinkedClause, assigns, clash, clauses_of, code_on, has_wrong_flag, is_assign, is_assignable, is_sound, misfits, overlaps, repetition_code, same_kind, same_number, sound_after, sound_clauses, soundness_after, variable_at, variable_code, with_clause}
+use Rattle.snl_scope.specs.Clauses.{LinkedClause, assigns, clash, clauses_of, code_on, has_wrong_flag, is_assign, is_assignable, is_sound, misfits, overlaps, repetition_code, same_kind, same_number, sound_after, sound_clauses, variable_at, variable_code, with_clause}
 use Rattle.snl_scope.specs.Names.{Entry, entries}
-use Rattle.snl_table_laws.specs.Channels.{AreApart, AssignApart, Assigns, HasElement}
+use Rattle.snl_table_laws.specs.Channels.{AreApart, AssignApart, Assigns}
 
 -- ---- what doesn't overlap is apart
 

@@ -1,8 +1,8 @@
 -- The rows of event flags, by the numbers of the flags.
-use Rattle.std.proofs.Common.{◌≡◌, ℕ, zero, suc, ◌+◌, ◌-◌, ◌<◌, ◌≤◌, Bool, true, false, ◌&&◌, nat_eq, nat_lt, cond, List, [], ◌∷◌, ◌++◌, length, map, get_or, slice_get, Option, Some, None, is_some, option_map, option_and_then, option_to_list, refl, ap, ◌∙◌, sym, subst, arith}
+use Rattle.std.proofs.Common.{◌≡◌, ℕ, zero, suc, ◌<◌, ◌≤◌, Bool, true, false, ◌&&◌, nat_eq, nat_lt, cond, List, [], ◌∷◌, ◌++◌, length, map, get_or, slice_get, Option, Some, None, is_some, option_map, option_and_then, option_to_list, refl, ap, ◌∙◌, sym, subst, arith}
 use Rattle.std.specs.Prelude.{if◌then◌else◌}
 use Rattle.std.specs.List.{All, AllByRecursion as Each, AllPairs, cons_option, filter_map, position, position_or_len}
-use Rattle.std.specs.Option.{option_map_or, option_or}
+use Rattle.std.specs.Option.{option_map_or}
 use Rattle.std.proofs.lemmas.Bool.{and_parts, eq-eqb, eqb-true, lt-ltb, ne_eqb}
 use Rattle.std.proofs.lemmas.List.{append-nil}
 use Rattle.std.proofs.lemmas.List.Elements.{All-append, All-from_recursion, All-get_or, All-map, All-nil, All-weaker, recursion_from_All}
@@ -13,19 +13,15 @@ use Rattle.snl_walk.specs.declared.codes.Code.TheVariants.{E08, E09}
 use Rattle.snl_scope.specs.declared.facts.Declaration.{Declaration}
 use Rattle.snl_scope.specs.declared.facts.Scope.{Scope}
 use Rattle.snl_scope.specs.declared.facts.Scope.TheVariants as scope
-use Rattle.snl_scope.specs.declared.names.namespaces.Namespace.{Namespace}
 use Rattle.snl_scope.specs.declared.names.namespaces.Namespace.TheVariants as namespace
-use Rattle.snl_scope.specs.declared.summaries.summary.Declared.{Declared}
 use Rattle.snl_scope.specs.declared.summaries.summary.Outline.{Outline}
 use Rattle.snl_scope.specs.declared.summaries.summary.Variable.{Variable}
 use Rattle.snl_scope.specs.Below.{all_below}
-use Rattle.snl_scope.specs.Clauses.{is_event_flag}
 use Rattle.snl_scope.specs.Flags.{declares_flag, flag_number, flags_of, is_first, is_flag}
 use Rattle.snl_scope.specs.Linked.{declaration_at, entry_declaration, scope_in, variable_declaration}
 use Rattle.snl_scope.specs.Names.{Entry, declared_entry, entries, entries_before, entries_of, has_own_scope, named_entry, scope_at, scope_of, set_entries, set_name, state_entries}
 use Rattle.snl_scope.specs.Order.{state_name}
 use Rattle.snl_scope.specs.Places.{enclosing_set}
-use Rattle.snl_tables.specs.declared.rows.FlagRow.{FlagRow}
 use Rattle.snl_check.specs.Items.{ProgramItem, outlines_of}
 use Rattle.snl_check.specs.Tables.{flag_row, flag_row_at, flag_rows, tables_of}
 use Rattle.snl_table_laws.specs.Flags.{IsRowOf, row_numbered}

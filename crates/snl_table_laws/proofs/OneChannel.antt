@@ -1,5 +1,5 @@
 -- An element has one channel at most.
-use Rattle.std.proofs.Common.{◌≡◌, ℕ, zero, suc, ◌+◌, ◌<◌, Bool, true, false, List, [], ◌∷◌, ◌++◌, length, map, Option, Some, None, unwrap_or, refl, ap, ◌∙◌, sym, subst, arith}
+use Rattle.std.proofs.Common.{◌≡◌, ℕ, ◌+◌, ◌<◌, Bool, true, false, List, [], ◌∷◌, ◌++◌, length, map, Option, Some, None, refl, ap, ◌∙◌, sym, subst, arith}
 use Rattle.std.specs.Prelude.{if◌then◌else◌}
 use Rattle.std.specs.List.{AllByRecursion as Each, AllPairs, Contains, flat_map, zip}
 use Rattle.std.proofs.lemmas.List.Elements.{All-from_recursion, Contains-append_left, Contains-push}
@@ -9,17 +9,16 @@ use Rattle.snl_syntax.specs.declared.tree.clause.Channel.{Channel}
 use Rattle.snl_syntax.specs.declared.tree.clause.Channel.TheVariants as channels
 use Rattle.snl_syntax.specs.declared.tree.clause.Clause.{Clause}
 use Rattle.snl_syntax.specs.declared.tree.clause.Clause.TheVariants as clauses
-use Rattle.snl_walk.specs.Tokens.{value_at}
 use Rattle.snl_scope.specs.declared.facts.ClauseLink.{ClauseLink}
 use Rattle.snl_scope.specs.declared.summaries.summary.ClauseKind.TheVariants.{Assign}
 use Rattle.snl_scope.specs.declared.summaries.summary.Coverage.{Coverage}
-use Rattle.snl_scope.specs.declared.summaries.summary.Coverage.TheVariants.{Whole, Element, Front}
+use Rattle.snl_scope.specs.declared.summaries.summary.Coverage.TheVariants.{Whole, Front}
 use Rattle.snl_scope.specs.declared.summaries.summary.Outline.{Outline}
 use Rattle.snl_scope.specs.declared.summaries.summary.VariableClause.{VariableClause}
 use Rattle.snl_scope.specs.Clauses.{LinkedClause, clause_link, clauses_of, is_sound, soundness_after, with_clause}
 use Rattle.snl_scope.specs.Names.{Entry, entries}
 use Rattle.snl_scope.specs.Summaries.Clauses.{clause_of, covered_by_channel}
-use Rattle.snl_check.specs.Channels.{AssignedChannel, NamedChannel, assigned_channel, assigned_channels, by_element, channels_in, channels_of_clause, channels_on}
+use Rattle.snl_check.specs.Channels.{AssignedChannel, assigned_channel, assigned_channels, by_element, channels_in, channels_of_clause, channels_on}
 use Rattle.snl_check.specs.Clauses.{ItemClause, item_clauses, summarized}
 use Rattle.snl_check.specs.Items.{ProgramItem, outlines_of, tokens_in}
 use Rattle.snl_table_laws.specs.Channels.{AreApart, AreOfTwoElements, AssignApart, ChannelsApart, HasElement}
