@@ -1,2 +1,3 @@
 pub mod OwnFaults
 pub mod Places
+pub mod KeptItems

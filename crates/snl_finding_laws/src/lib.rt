@@ -1,5 +1,5 @@
-//! Laws of what is found in a text and of what an edit keeps, beside the crates that tell it. A function here does nothing: its contract
-//! is a law, and nothing calls it.
+//! Laws of what is found in a text and of what an edit keeps, beside the crates that tell it. A
+//! function here does nothing: its contract is a law, and nothing calls it.
 #![tactic(auto)]
 
 mod kept_laws;

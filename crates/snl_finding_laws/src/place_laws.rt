@@ -1,4 +1,5 @@
-//! The laws of where diagnostics are, and of which findings they are. A function here does nothing of its own: its contract is the law.
+//! The laws of where diagnostics are, and of which findings they are. A function here does nothing
+//! of its own: its contract is the law.
 
 ghost use Rattle.snl_finding_laws.specs.Places.{DiagnosticLiesIn, SetFilesLieIn, is_shown};
 ghost use Rattle.snl_kept.specs.Diagnostics.{diagnostics_of, found};
@@ -31,8 +32,10 @@ pub fn files_lie_in_text()
     text_in_pieces();
 }
 
-/// The diagnostics of a text are all that is found in it and is shown: whatever is asked of findings, as many diagnostics pass it as
-/// findings that are shown.
+/// The diagnostics of a text are all that is found in it and is shown: whatever is asked of
+/// findings, as many diagnostics pass it as findings that are shown.
 pub fn diagnostics_are_shown()
-    ensures { (text : List ℕ) (test : Finding → Bool) → count_by (λ d. test (finding_of d)) (diagnostics_of text) ≡ count_by (λ x. test x && is_shown text x) (found text) }
+    ensures { (text : List ℕ) (test : Finding → Bool)
+        → count_by (λ d. test (finding_of d)) (diagnostics_of text)
+        ≡ count_by (λ x. test x && is_shown text x) (found text) }
 {}

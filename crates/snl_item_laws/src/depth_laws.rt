@@ -6,7 +6,9 @@ ghost use Rattle.snl_syntax.specs.Grammar.Items.{IsItem};
 ghost use Rattle.snl_syntax.specs.declared.tree.item.Item.{Item};
 ghost use Rattle.snl_item_laws.specs.Brackets.{IsWithin};
 
-/// Around no token of an item of the grammar are more than 100 brackets open, round, square and curly ones together.
+/// Around no token of an item of the grammar are more than 100 brackets open, round, square and
+/// curly ones together.
 pub fn few_brackets_are_open()
-    ensures { (kinds : List Kind) (tree : Item) → IsItem tree kinds → (n : ℕ) → n < length kinds → IsWithin 100 kinds n }
+    ensures { (kinds : List Kind) (tree : Item) → IsItem tree kinds → (n : ℕ) → n < length kinds
+        → IsWithin 100 kinds n }
 {}

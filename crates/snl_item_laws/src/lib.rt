@@ -1,5 +1,6 @@
-//! Laws of items that join what lower crates say of them: the walk with the spelling of trees, the cut with the grammar.
-//! No program needs them: each is the contract of a function that does nothing.
+//! Laws of items that join what lower crates say of them: the walk with the spelling of trees, the
+//! cut with the grammar. No program needs them: each is the contract of a function that does
+//! nothing.
 #![tactic(auto)]
 
 mod cut_laws;

@@ -1,4 +1,5 @@
-//! The laws of the elements of a variable and their channels. A function here does nothing of its own: its contract is the law.
+//! The laws of the elements of a variable and their channels. A function here does nothing of its
+//! own: its contract is the law.
 
 ghost use Rattle.snl_check.specs.Channels.{assigned_channels};
 ghost use Rattle.snl_check.specs.Items.{ProgramItem, outlines_of};
@@ -10,15 +11,17 @@ ghost use Rattle.std.specs.List.{AllPairs};
 
 use snl_check::same_clauses;
 
-/// No two sound `assign`s of one declaration cover a common element, and none covers the whole beside another.
+/// No two sound `assign`s of one declaration cover a common element, and none covers the whole
+/// beside another.
 pub fn sound_assigns_apart()
     ensures { (ss : List Outline) → AllPairs AssignApart (sound_clauses ss) }
 {}
 
-/// So an element has one channel at most: of two channels of one variable in the tables of a text, each is that of an element, and these
-/// are not the same.
+/// So an element has one channel at most: of two channels of one variable in the tables of a text,
+/// each is that of an element, and these are not the same.
 pub fn one_channel_an_element()
-    ensures { (text : List ℕ) (xs : List ProgramItem) → AllPairs ChannelsApart (assigned_channels text xs (outlines_of text xs)) }
+    ensures { (text : List ℕ) (xs : List ProgramItem)
+        → AllPairs ChannelsApart (assigned_channels text xs (outlines_of text xs)) }
 {
     same_clauses();
 }

@@ -1,5 +1,5 @@
-//! Laws of the tables of a text and of its listing, beside the crates that make these. A function here does nothing: its contract is a
-//! law, and nothing calls it.
+//! Laws of the tables of a text and of its listing, beside the crates that make these. A function
+//! here does nothing: its contract is a law, and nothing calls it.
 #![tactic(auto)]
 
 mod channel_laws;
