@@ -5,3 +5,4 @@ pub mod FlagRows
 pub mod FlagLines
 pub mod Assigns
 pub mod OneChannel
+pub mod TableBytes

@@ -1,6 +1,8 @@
 //! The laws of the listing: a line of ASCII for each row. A function here does nothing: its
 //! contract is the law.
 
+ghost use Rattle.snl_check.specs.Items.{ProgramItem};
+ghost use Rattle.snl_check.specs.Tables.{tables_of};
 ghost use Rattle.snl_listing.specs.Listing.{channel_line, flag_line, goto_line, listing_of, option_line, program_line, set_line, state_line, wake_line, when_line};
 ghost use Rattle.snl_table_laws.specs.Lines.{AreLines, HasByteLetter, HasBytePv, HasBytes, IsByte, IsLine, rows_of};
 ghost use Rattle.snl_tables.specs.declared.rows.ChannelRow.{ChannelRow};
@@ -50,3 +52,14 @@ pub fn lines_are_ascii()
     ensures line_ends { (count : ℕ) (bytes : List ℕ) → AreLines count bytes
         → count_by (λ b. b == 10) bytes ≡ count }
 {}
+
+/// So the listing of a text is ASCII, and a line for each row of its tables: the letters of options
+/// and the names of channels in these are bytes of the text.
+pub fn listing_of_text_in_lines()
+    ensures bytes { (text : List ℕ) (xs : List ProgramItem) → All IsByte text
+        → HasBytes (tables_of text xs) }
+    ensures lines { (text : List ℕ) (xs : List ProgramItem) → All IsByte text
+        → AreLines (rows_of (tables_of text xs)) (listing_of text (tables_of text xs)) }
+{
+    listing_in_lines();
+}
