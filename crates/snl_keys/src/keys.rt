@@ -86,7 +86,8 @@ fn count_of(text: &[u8], wanted: &[u8]) -> usize {
     count
 }
 
-/// The offset after such bytes in a text, at the front, in the middle or at the back; none where they aren't in it.
+/// The offset after such bytes in a text, at the front, in the middle or at the back; none where
+/// they aren't in it.
 pub fn offset_after(text: &[u8], wanted: &[u8], place: Place) -> Option<usize> {
     let mut before = place.number(count_of(text, wanted));
     for (start, part) in text.windows(wanted.len().max(1)).enumerate() {

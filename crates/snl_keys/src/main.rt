@@ -1,6 +1,6 @@
-//! Times keystrokes in a text that is open in a session, by what is typed and where.
-//! In: the text, or a template of it, on standard input. Out: what was typed, on standard output; its
-//! times on standard error.
+//! Times keystrokes in a text that is open in a session, by what is typed and where. In: the text,
+//! or a template of it, on standard input. Out: what was typed, on standard output; its times on
+//! standard error.
 #![tactic(auto)]
 
 mod keys;

@@ -5,7 +5,8 @@ use snl_session::Refused;
 use std::alloc::{AllocError, AllocFailed};
 use std::io;
 
-/// Why a measurement ended early: want of memory, an edit that was refused, or a stream or clock that failed.
+/// Why a measurement ended early: want of memory, an edit that was refused, or a stream or clock
+/// that failed.
 #[derive(Drop)]
 pub enum Stop {
     Memory,

@@ -1,5 +1,6 @@
-//! The times of keystrokes: a session and keys come in, times go out. After each edit the session's diagnostics and tables are
-//! looked at. Times are of the processor, so that other programs of the machine don't lengthen them.
+//! The times of keystrokes: a session and keys come in, times go out. After each edit the session's
+//! diagnostics and tables are looked at. Times are of the processor, so that other programs of the
+//! machine don't lengthen them.
 
 use crate::stop::Stop;
 use snl_session::Session;
@@ -9,8 +10,8 @@ use std::time::CpuClock;
 // How many keys are typed, and undone, of each kind at each place.
 const KEYS: usize = 200;
 
-/// The times of keystrokes and of their undoing, in nanoseconds, and how many diagnostics and state sets were there after them, all
-/// together.
+/// The times of keystrokes and of their undoing, in nanoseconds, and how many diagnostics and state
+/// sets were there after them, all together.
 #[derive(Drop)]
 pub struct Times {
     pub typed: Vec<u64>,

@@ -1,6 +1,7 @@
-//! Times keystrokes in a text that is open in a session, each with the text's diagnostics and tables: what is typed at the front, in
-//! the middle and at the back of the text, and undone.
-//! In: a text. Out: what was typed, on standard output; the median and the greatest time of a keystroke, in microseconds, on standard error.
+//! Times keystrokes in a text that is open in a session, each with the text's diagnostics and
+//! tables: what is typed at the front, in the middle and at the back of the text, and undone. In: a
+//! text. Out: what was typed, on standard output; the median and the greatest time of a keystroke,
+//! in microseconds, on standard error.
 
 use crate::keys::{Place, TYPINGS, Typing, offset_after};
 use crate::stop::Stop;
