@@ -1,6 +1,7 @@
 //! The program: the script comes on standard input, the answers go to standard output.
-//! The words of the command line name the file of the source, which is read before the script.
-//! The program's status is 0 where the last text has no errors, 1 where it has some, and 2 at a fault, which it names on standard error.
+//! The words of the command line name the file of the source, which is read before the script. The
+//! program's status is 0 where the last text has no errors, 1 where it has some, and 2 at a fault,
+//! which it names on standard error.
 #![tactic(auto)]
 
 ghost use Rattle.std.specs.Prelude.{◌≡◌, false, map, option_map, true, IfOk, IsErrOf, OnOk};

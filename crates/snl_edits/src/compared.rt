@@ -1,5 +1,6 @@
-//! A session under edits, compared after each of them: with a new session that gets the same text at once, and its cost with the
-//! second count. Edits come in; what an edit came to goes out, or what is wrong.
+//! A session under edits, compared after each of them: with a new session that gets the same text
+//! at once, and its cost with the second count. Edits come in; what an edit came to goes out, or
+//! what is wrong.
 
 use crate::count::{Change, second_count};
 use crate::faults::Fault;
@@ -126,7 +127,8 @@ impl Compared {
         Ok(())
     }
 
-    /// Puts other bytes in the place of those from `start` up to `stop`, where that has to be taken, and compares.
+    /// Puts other bytes in the place of those from `start` up to `stop`, where that has to be
+    /// taken, and compares.
     pub fn edit(&mut self, start: usize, stop: usize, new: &[u8]) -> Result<Outcome, Fault> {
         let outcome = match refusal_of(&self.text, start, stop, new.len()) {
             Some(refused) => {

@@ -1,7 +1,8 @@
-//! A session under edits, compared after each of them: with a new session that gets the same text at once, and its cost with a second
-//! count, which the texts before and after the edit alone give. There is no code of the product here.
-//! In: a list of edits, on standard input, after which come 20,000 random ones; or, as arguments, how many random edits, and their
-//! seed, where these alone are wanted. Out: how many edits were made with no difference; else where something differs.
+//! A session under edits, compared after each of them: with a new session that gets the same text
+//! at once, and its cost with a second count, which the texts before and after the edit alone give.
+//! There is no code of the product here. In: a list of edits, on standard input, after which come
+//! 20,000 random ones; or, as arguments, how many random edits, and their seed, where these alone
+//! are wanted. Out: how many edits were made with no difference; else where something differs.
 #![tactic(auto)]
 
 mod any_edit;

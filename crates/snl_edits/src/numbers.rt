@@ -1,6 +1,7 @@
 //! Numbers that a seed alone defines.
 
-/// Numbers that follow one another by a linear congruence: 48,271 times the last one, modulo 2,147,483,647.
+/// Numbers that follow one another by a linear congruence: 48,271 times the last one, modulo
+/// 2,147,483,647.
 #[derive(Drop)]
 pub struct Numbers {
     last: u64,

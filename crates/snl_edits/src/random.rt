@@ -1,7 +1,8 @@
-//! Edits that a seed defines. After each, what a session answers is held against what a new session over the same text does, and what
-//! the edit cost against the second count.
-//! In: how many edits, and the seed. Out: that nothing differs, and on standard error how many were made and refused and how much
-//! was found; or the edit after which something differs, and the text before it.
+//! Edits that a seed defines. After each, what a session answers is held against what a new session
+//! over the same text does, and what the edit cost against the second count.
+//! In: how many edits, and the seed. Out: that nothing differs, and on standard error how many were
+//! made and refused and how much was found; or the edit after which something differs, and the text
+//! before it.
 
 use crate::any_edit::{Edit, next_edit};
 use crate::compared::{Compared, Outcome};
@@ -10,7 +11,8 @@ use crate::parts::PROGRAM;
 use anyhow::Result;
 use std::alloc::Global;
 
-// How many edits were made and refused, and how many diagnostics there were after all of them together.
+// How many edits were made and refused, and how many diagnostics there were after all of them
+// together.
 #[derive(Clone, Copy)]
 struct Tally {
     made: usize,

@@ -6,7 +6,8 @@ use std::alloc::{AllocError, Global};
 // The number of bytes that a text has at most.
 const LIMIT: usize = 1_048_576;
 
-/// Why an edit has to be refused, that puts so many bytes in the place of those from `start` up to `stop`.
+/// Why an edit has to be refused, that puts so many bytes in the place of those from `start` up to
+/// `stop`.
 pub fn refusal_of(text: &[u8], start: usize, stop: usize, added: usize) -> Option<Refused> {
     if start > stop || stop > text.len() {
         return Some(Refused::Range);

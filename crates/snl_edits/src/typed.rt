@@ -1,4 +1,5 @@
-//! A session at which somebody types: keys and pastes come in, edits go to the session, and are undone again.
+//! A session at which somebody types: keys and pastes come in, edits go to the session, and are
+//! undone again.
 
 use crate::compared::{Compared, Outcome};
 use anyhow::{Result, bail};

@@ -49,7 +49,8 @@ in_own_span text x n p row e =
     and_from (nat_le (first_byte x.tokens) p.start) (nat_lt p.start (stop_after 0 x.tokens))
     (le-leb (first_byte x.tokens) p.start first) (lt-ltb p.start (stop_after 0 x.tokens) (omega (arith, stop, lies.0)))
 
--- No byte of a token that ends before the item begins is in it, nor of one that begins after the item.
+-- No byte of a token that ends before the item begins is in it, nor of one that begins after the
+-- item.
 pub before_span : (text : List ℕ) (x : ProgramItem) (p : Piece) → InARow text x.tokens → Each (Before p) x.tokens → (offset : ℕ) → offset < piece_end p → is_in_span x offset ≡ false
 before_span text x p row h offset within =
     and_left (nat_le (first_byte x.tokens) offset) (nat_lt offset (stop_after 0 x.tokens)) (lt-leb (first_byte x.tokens) offset (below x.tokens row.some h))

@@ -1,4 +1,5 @@
--- What the parser finds at an item: the item's span, and the diagnostics in it that have one of the parser's codes.
+-- What the parser finds at an item: the item's span, and the diagnostics in it that have one of the
+-- parser's codes.
 use Rattle.std.specs.Prelude.{◌≡◌, ◌⊎◌, ℕ, ◌+◌, ◌&&◌, Bool, true, false, List, [], ◌∷◌, nat_le, nat_lt}
 use Rattle.snl_lex.specs.declared.piece.Piece.{Piece}
 use Rattle.snl_walk.specs.declared.codes.Code.{Code}
@@ -36,6 +37,7 @@ is_of_parser _ = false
 abbrev pub is_at_item : (Code → Bool) → ProgramItem → Diagnostic → Bool
 is_at_item test x d = test d.code && is_in_span x d.offset
 
--- The parser found it, or the text has no header or no state set at all, which is found at its beginning.
+-- The parser found it, or the text has no header or no state set at all, which is found at its
+-- beginning.
 abbrev pub IsAtFaulty : Diagnostic → Type 0
 IsAtFaulty d = (is_of_parser d.code ≡ true) ⊎ ((d.offset ≡ 0) × ((d.code ≡ E05) ⊎ (d.code ≡ E06)))

@@ -177,8 +177,8 @@ fn type_in_hostile(alloc: Global, editor: &mut Editor, numbers: Numbers) -> Resu
     type_in_made(editor, &mut maker)
 }
 
-/// Breaks and mends programs of several sizes, types in faulty ones and in what tools made, for each
-/// round of the job.
+/// Breaks and mends programs of several sizes, types in faulty ones and in what tools made, for
+/// each round of the job.
 pub fn run(alloc: Global, editor: &mut Editor, numbers: &mut Numbers, rounds: usize) -> Result<()> {
     for _ in 0..rounds {
         break_program(alloc, editor, numbers.part(), 20_000)?;

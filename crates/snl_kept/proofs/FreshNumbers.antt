@@ -5,7 +5,7 @@ use Rattle.std.proofs.lemmas.Bool.Decides.{Decides-eqb, eqb_tells, leb_tells}
 use Rattle.std.proofs.lemmas.List.{get_or-append-add, get_or_append_left, length-map, length-take-le}
 use Rattle.std.proofs.lemmas.List.Folds.{list_any_at, list_any_none}
 use Rattle.snl_cut.specs.Cut.{Rises, joined, moved}
-use Rattle.snl_kept.specs.Rechecked.{kept_of, number_before}
+use Rattle.snl_kept.specs.NewChecks.{kept_of, number_before}
 use Rattle.snl_kept.specs.Stirred.{is_fresh, old_number}
 
 -- ---- ends that rise

@@ -32,14 +32,15 @@ use Rattle.snl_check.specs.Moved.{KeepsItem, ReplacesItem, ReplacesOne}
 use Rattle.snl_check.specs.Shifted.{shifted_item, shifted_tokens, start_at}
 use Rattle.snl_check.specs.ShiftedAround.{IsPlacedAt, is_plain}
 use Rattle.snl_kept.specs.declared.entries.Entry.{Entry}
-use Rattle.snl_kept.specs.declared.ways.plan.Changes.{Changes}
-use Rattle.snl_kept.specs.declared.ways.recheck.MadeCheck.{MadeCheck}
+use Rattle.snl_kept.specs.declared.plan.Changes.{Changes}
+use Rattle.snl_kept.specs.declared.plan.NewCheck.{NewCheck}
+use Rattle.snl_kept.specs.Edit.{Edit}
 use Rattle.snl_kept.specs.Checks.{check_by, links_in, outlines_in}
 use Rattle.snl_kept.specs.Entries.{entry_by}
 use Rattle.snl_kept.specs.Linked.{outlines_of}
 use Rattle.snl_kept.specs.ReplacedItem.{DeclaresInHead, IsInside, IsLeft, IsOneReplaced, ReplacesInside, StaysItem, own_check, own_head, own_tokens}
 use Rattle.snl_kept.specs.Program.{ProgramItem, item_tokens, items_of, program_item, tree_in}
-use Rattle.snl_kept.specs.Rechecked.{AreChecksMade, kept_of, made_at, made_checks, nones}
+use Rattle.snl_kept.specs.NewChecks.{AreChecksMade, kept_of, made_at, made_checks, nones}
 use Rattle.snl_kept.specs.Shifted.{IsOnOneSide}
 use Rattle.snl_kept.specs.Stirred.{stirred_between}
 use Rattle.snl_kept.proofs.MadeChecks.{checks_made, made_are_stirred, stirred_told}
@@ -75,7 +76,7 @@ replaced_at {X = X} front x y back n many =
     ap₂ (λ (a b : List X). a ++ (y ∷ b)) (take_at front (x ∷ back) n many)
     (ap (drop (n + 1)) (sym (append_assoc front (x ∷ []) back)) ∙ drop_at (front ++ (x ∷ [])) back (n + 1) past)
 
-module _ (old text : List ℕ) (start old_stop new_stop : ℕ) (c : Changes) (t : LineShift) (x e : Entry) (is : IsInside old text start old_stop new_stop c t x e)
+module _ (edit : Edit) (c : Changes) (t : LineShift) (x e : Entry) (is : IsInside edit c t x e)
     -- what the laws of the layers below say
     (inside : (text : List ℕ) → All (LiesIn text) (pieces_of text))
     (tree_told : (text : List ℕ) (tokens : List Piece) → sound_tree (parsed_in text tokens) ≡ tree_in text tokens)
@@ -87,7 +88,22 @@ module _ (old text : List ℕ) (start old_stop new_stop : ℕ) (c : Changes) (t 
     (checks_stay : (ss ts : List Outline) (j i : ℕ) (x : Spelled) → same_view ss j ts i (entry_by x).summary ≡ true → check_by ss j x ≡ check_by ts i x)
     (rises : (text : List ℕ) → Rises 0 (item_ends text))
     (lasts : (text : List ℕ) → last_end 0 (item_ends text) ≡ length (tokens_of text))
-    (around : LeavesAround t.by (tokens_of old) (tokens_of text) c.tokens.made.items c.tokens.edit) where
+    (around : LeavesAround t.by (tokens_of edit.old) (tokens_of edit.text) c.tokens.made.items c.tokens.edit) where
+  abbrev old : List ℕ
+  old = edit.old
+
+  abbrev text : List ℕ
+  text = edit.text
+
+  abbrev start : ℕ
+  start = edit.start
+
+  abbrev old_stop : ℕ
+  old_stop = edit.old_stop
+
+  abbrev new_stop : ℕ
+  new_stop = edit.new_stop
+
   abbrev s : Shift
   s = t.by
 
@@ -403,18 +419,18 @@ module _ (old text : List ℕ) (start old_stop new_stop : ℕ) (c : Changes) (t 
 
   checks_are : AreChecksMade old text k (nones made) c.items.kept_back (made_at k (own_check old text k))
   checks_are =
-      subst (λ (m : List MadeCheck). AreChecksMade old text k (nones made) c.items.kept_back m) made_is
+      subst (λ (m : List NewCheck). AreChecksMade old text k (nones made) c.items.kept_back m) made_is
       (checks_made old text c.tokens.edit.old_stop c.tokens.edit.new_stop k (last_end 0 (take k (item_ends old))) made c.items.kept_back (ends_below c.tokens.edit.start (item_ends old))
       is.changed.items.order is.changed.items.ends (rises text) is.changed.items.before is.changed.items.items (checks_stay (outlines_in old) (outlines_in text)))
 
-  stirred_are : stirred_between old text start old_stop new_stop ≡ length (made_at k (own_check old text k))
+  stirred_are : stirred_between edit ≡ length (made_at k (own_check old text k))
   stirred_are =
       sym (made_are_stirred old text c.tokens.edit.old_stop c.tokens.edit.new_stop k (last_end 0 (take k (item_ends old))) made c.items.kept_back (ends_below c.tokens.edit.start (item_ends old))
       is.changed.items.order is.changed.items.ends (rises text) is.changed.items.before is.changed.items.items (checks_stay (outlines_in old) (outlines_in text))
-      ∙ stirred_told old text start old_stop new_stop c.tokens.edit made is.changed.tokens.edit_is is.changed.items.fresh)
+      ∙ stirred_told edit c.tokens.edit made is.changed.tokens.edit_is is.changed.items.fresh)
       ∙ ap length made_is
 
-  pub one_replaced : IsOneReplaced old text start old_stop new_stop c t x e
+  pub one_replaced : IsOneReplaced edit c t x e
   one_replaced = record {
     front = front;
     back = back;

@@ -17,8 +17,9 @@ use Rattle.snl_check.specs.Shifted.{shifted_item}
 use Rattle.snl_check.specs.ShiftedAround.{IsSoundAsItWas, SaysAlike, SaysAlikeAt, is_plain}
 use Rattle.snl_kept.specs.declared.entries.Entry.{Entry}
 use Rattle.snl_kept.specs.declared.found.findings.Finding.{Finding}
-use Rattle.snl_kept.specs.declared.ways.plan.Changes.{Changes}
-use Rattle.snl_kept.specs.declared.ways.row_change.RowChange.{RowChange}
+use Rattle.snl_kept.specs.declared.plan.Changes.{Changes}
+use Rattle.snl_kept.specs.declared.plan.RowChange.{RowChange}
+use Rattle.snl_kept.specs.Edit.{Edit}
 use Rattle.snl_kept.specs.Checks.{links_in}
 use Rattle.snl_kept.specs.Diagnostics.{diagnostics_of, shown, shown_if}
 use Rattle.snl_kept.specs.ItemPlan.{IsAfterInside, own_item}
@@ -40,7 +41,13 @@ between (y ∷ front) x back = between front x back
 same_one : {X : Type 0} (x y : X) → Some x ≡ Some y → x ≡ y
 same_one x y e = cc
 
-module _ (old text : List ℕ) (start old_stop new_stop : ℕ) (c : Changes) (t : LineShift) (x e : Entry) (one : IsOneReplaced old text start old_stop new_stop c t x e) where
+module _ (edit : Edit) (c : Changes) (t : LineShift) (x e : Entry) (one : IsOneReplaced edit c t x e) where
+  abbrev old : List ℕ
+  old = edit.old
+
+  abbrev text : List ℕ
+  text = edit.text
+
   abbrev s : Shift
   s = t.by
 

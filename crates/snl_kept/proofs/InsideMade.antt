@@ -1,4 +1,5 @@
--- What is made of an edit inside one item, from what is kept of the text and what is known by tests.
+-- What is made of an edit inside one item, from what is kept of the text and what is known by
+-- tests.
 use Rattle.std.proofs.Common.{◌≡◌, ℕ, zero, suc, ◌+◌, ◌-◌, ◌<◌, Bool, List, [], ◌∷◌, ◌++◌, length, map, take, drop, slice_get, Option, Some, is_none, option_map, refl, sym, ap, ap₂, ◌∙◌, arith, add-one}
 use Rattle.std.proofs.lemmas.List.{length-take-le}
 use Rattle.std.proofs.lemmas.Option.{slice_get-map}
@@ -26,10 +27,11 @@ use Rattle.snl_check.specs.ShiftedAround.{SaysAlike, wakes_of}
 use Rattle.snl_kept.specs.declared.entries.Entry.{Entry}
 use Rattle.snl_kept.specs.declared.found.findings.Diagnostic.{Diagnostic}
 use Rattle.snl_kept.specs.declared.found.findings.Finding.{Finding}
-use Rattle.snl_kept.specs.declared.ways.item_plan.Was.{Was}
-use Rattle.snl_kept.specs.declared.ways.one_item.OwnTokens.{OwnTokens}
-use Rattle.snl_kept.specs.declared.ways.plan.Changes.{Changes}
-use Rattle.snl_kept.specs.declared.ways.row_change.RowChange.{RowChange}
+use Rattle.snl_kept.specs.declared.ways.one_item.replaced.OldItem.{OldItem}
+use Rattle.snl_kept.specs.declared.ways.one_item.replaced.OwnTokens.{OwnTokens}
+use Rattle.snl_kept.specs.declared.plan.Changes.{Changes}
+use Rattle.snl_kept.specs.declared.plan.RowChange.{RowChange}
+use Rattle.snl_kept.specs.Edit.{Edit}
 use Rattle.snl_kept.specs.Checks.{check_by, checks_from, checks_of, links_in, outlines_in}
 use Rattle.snl_kept.specs.Diagnostics.{diagnostic, diagnostics_of, shown_if}
 use Rattle.snl_kept.specs.Entries.{entries_of, entry_by}
@@ -87,13 +89,13 @@ check_got text k c lt got =
 
 -- ---- an edit inside one item
 
-pub is_inside : (old text : List ℕ) (start old_stop new_stop : ℕ) (c : Changes) (t : LineShift) (w : Was) (e : Entry)
-    → IsChanged old text start old_stop new_stop c → IsEdit old text start old_stop new_stop → IsShiftOf old text start old_stop new_stop t.by
-    → ShiftsLines old text t → IsOneItem old c → IsWas old c.items.kept_front w → AreEntriesMade old text c.items.kept_front (e ∷ []) c.items.kept_back
-    → SaysWhatItSaid old (own_head old c) c.items.kept_front w e → IsInside old text start old_stop new_stop c t w.entry.now e
-is_inside old text start old_stop new_stop c t w e changed edit by lines one was made says = record {
+pub is_inside : (edit : Edit) (c : Changes) (t : LineShift) (w : OldItem) (e : Entry)
+    → IsChanged edit c → IsEdit edit.old edit.text edit.start edit.old_stop edit.new_stop → IsShiftOf edit.old edit.text edit.start edit.old_stop edit.new_stop t.by
+    → ShiftsLines edit.old edit.text t → IsOneItem edit.old c → IsWas edit.old c.items.kept_front w → AreEntriesMade edit.old edit.text c.items.kept_front (e ∷ []) c.items.kept_back
+    → SaysWhatItSaid edit.old (own_head edit.old c) c.items.kept_front w e → IsInside edit c t w.entry.now e
+is_inside edit c t w e changed edit_is by lines one was made says = record {
   changed = changed;
-  edit = edit;
+  edit_is = edit_is;
   by = by;
   lines = lines;
   one_made = one.one_made;
@@ -138,7 +140,7 @@ module _ (tree_told : (text : List ℕ) (tokens : List Piece) → sound_tree (pa
       summary_is tree_told by_spelling summary_told bytes_told text (own_tokens text k) e (made ∙ ap (λ (ts : List Piece). entry_by (spelled text ts)) own_is)
 
   -- an item of the kind that it was is sound where that one was
-  pub sound_alike : (old text : List ℕ) (k : ℕ) (own : OwnTokens) (w : Was) (e : Entry) → k < length (item_ends old) → IsWas old k w → AreOwnTokens old text k own → e ≡ entry_by (spelled text own.is.items)
+  pub sound_alike : (old text : List ℕ) (k : ℕ) (own : OwnTokens) (w : OldItem) (e : Entry) → k < length (item_ends old) → IsWas old k w → AreOwnTokens old text k own → e ≡ entry_by (spelled text own.is.items)
       → e.summary.kind ≡ w.entry.now.summary.kind → is_none (own_item text k).tree ≡ is_none (own_item old k).tree
   sound_alike old text k own w e there was own_are made kind =
       let summary = summary_now text k own.is.items e made own_are.is in
@@ -146,7 +148,7 @@ module _ (tree_told : (text : List ℕ) (tokens : List Piece) → sound_tree (pa
       same_sound (own_item old k).tree (own_item text k).tree (sym (ap (λ (y : Summary). y.kind) summary) ∙ kind ∙ ap (λ (y : Summary). y.kind) summary_was)
 
   -- the state says to the others and in its conditions what it said
-  pub says_alike : (old text : List ℕ) (k set : ℕ) (own : OwnTokens) (w : Was) (e : Entry) → k < length (item_ends old) → IsWas old k w → AreOwnTokens old text k own → e ≡ entry_by (spelled text own.is.items)
+  pub says_alike : (old text : List ℕ) (k set : ℕ) (own : OwnTokens) (w : OldItem) (e : Entry) → k < length (item_ends old) → IsWas old k w → AreOwnTokens old text k own → e ≡ entry_by (spelled text own.is.items)
       → IsStateAlike old text k own w e set → SaysAlike old text (own_item old k) (own_item text k)
   says_alike old text k set own w e there was own_are made alike =
       let made_is : e ≡ entry_by (spelled text (own_tokens text k)) = made ∙ ap (λ (ts : List Piece). entry_by (spelled text ts)) own_are.is in
@@ -166,9 +168,9 @@ module _ (tree_told : (text : List ℕ) (tokens : List Piece) → sound_tree (pa
 -- ---- the links after an edit inside one item
 
 -- the kinds of the items after it
-pub kinds_after : (old text : List ℕ) (start old_stop new_stop : ℕ) (c : Changes) (t : LineShift) (x e : Entry) → IsOneReplaced old text start old_stop new_stop c t x e → (ks : List ItemKind) → ks ≡ (links_in old).kinds
-    → take c.items.kept_front ks ++ (e.summary.kind ∷ drop (c.items.kept_front + 1) ks) ≡ (links_in text).kinds
-kinds_after old text start old_stop new_stop c t x e one ks is =
+pub kinds_after : (edit : Edit) (c : Changes) (t : LineShift) (x e : Entry) → IsOneReplaced edit c t x e → (ks : List ItemKind) → ks ≡ (links_in edit.old).kinds
+    → take c.items.kept_front ks ++ (e.summary.kind ∷ drop (c.items.kept_front + 1) ks) ≡ (links_in edit.text).kinds
+kinds_after edit c t x e one ks is =
     ap (λ (l : List ItemKind). take c.items.kept_front l ++ (e.summary.kind ∷ drop (c.items.kept_front + 1) l)) is ∙ sym one.kinds
 
 put_back : {X : Type 0} (x : X) (k : ℕ) (xs : List X) → slice_get xs k ≡ Some x → take k xs ++ (x ∷ drop (suc k) xs) ≡ xs
@@ -177,13 +179,13 @@ put_back {X = X} x zero (y ∷ ys) there = let same : x ≡ y = cc in ap (λ (z 
 put_back {X = X} x (suc k) (y ∷ ys) there = ap (λ (l : List X). y ∷ l) (put_back x k ys there)
 
 -- where the item is of the kind that it was, they stay
-pub links_stay : (old text : List ℕ) (start old_stop new_stop : ℕ) (c : Changes) (t : LineShift) (x e : Entry) → IsOneReplaced old text start old_stop new_stop c t x e
-    → slice_get (links_in old).kinds c.items.kept_front ≡ Some e.summary.kind → links_in text ≡ links_in old
-links_stay old text start old_stop new_stop c t x e one same =
+pub links_stay : (edit : Edit) (c : Changes) (t : LineShift) (x e : Entry) → IsOneReplaced edit c t x e
+    → slice_get (links_in edit.old).kinds c.items.kept_front ≡ Some e.summary.kind → links_in edit.text ≡ links_in edit.old
+links_stay edit c t x e one same =
     ap₂ (λ (os : List Outline) (ks : List ItemKind). let l : LinkedItems = record { outlines = os; kinds = ks } in l) one.inside.outlines
     (one.kinds
-    ∙ ap (λ (n : ℕ). take c.items.kept_front (links_in old).kinds ++ (e.summary.kind ∷ drop n (links_in old).kinds)) (add-one c.items.kept_front)
-    ∙ put_back e.summary.kind c.items.kept_front (links_in old).kinds same)
+    ∙ ap (λ (n : ℕ). take c.items.kept_front (links_in edit.old).kinds ++ (e.summary.kind ∷ drop n (links_in edit.old).kinds)) (add-one c.items.kept_front)
+    ∙ put_back e.summary.kind c.items.kept_front (links_in edit.old).kinds same)
 
 -- ---- what the text says after it
 

@@ -1,4 +1,5 @@
--- The tokens of the items of a text after an edit inside one of them: that one has other tokens, those of the others are shifted.
+-- The tokens of the items of a text after an edit inside one of them: that one has other tokens,
+-- those of the others are shifted.
 use Rattle.std.proofs.Common.{◌≡◌, ℕ, suc, ◌+◌, ◌-◌, ◌<◌, ◌≤◌, All, List, [], ◌∷◌, ◌++◌, length, map, take, drop, get_or, slice_get, Some, option_map, sym, ap, ap₂, ◌∙◌, subst, append_assoc, add-one, arith, length-append}
 use Rattle.std.specs.List.{AllByRecursion}
 use Rattle.std.proofs.lemmas.List.{drop-map, drop_at, length-map, length-take-le, map-append, take-map, take_at}
@@ -16,7 +17,7 @@ use Rattle.snl_items.specs.Changes.{IsItemChange, IsTokenChange, LeavesAround}
 use Rattle.snl_items.specs.Items.{item_ends, spelled_items, spellings}
 use Rattle.snl_check.specs.Shifted.{shifted_tokens}
 use Rattle.snl_kept.specs.declared.entries.Entry.{Entry}
-use Rattle.snl_kept.specs.declared.ways.plan.Changes.{Changes}
+use Rattle.snl_kept.specs.declared.plan.Changes.{Changes}
 use Rattle.snl_kept.specs.Entries.{entries_of, entry_by}
 use Rattle.snl_kept.specs.ReplacedItem.{own_tokens}
 use Rattle.snl_kept.specs.Planned.{AreEntriesMade}

@@ -1,5 +1,6 @@
--- What the walks find after an edit that changes rows of one state set: all but what is found in that set is shifted. The states that no walk
--- reaches are told by the names and the marks of the rows, whatever the bodies of the states say and whatever wakes them.
+-- What the walks find after an edit that changes rows of one state set: all but what is found in
+-- that set is shifted. The states that no walk reaches are told by the names and the marks of the
+-- rows, whatever the bodies of the states say and whatever wakes them.
 use Rattle.std.proofs.Common.{◌≡◌, ℕ, zero, suc, List, [], ◌∷◌, ◌++◌, map, slice_get, refl, ap, ap₂, sym, ◌∙◌, subst, append_assoc}
 use Rattle.std.specs.List.{flat_map}
 use Rattle.std.specs.Option.{option_map_or}
@@ -15,8 +16,8 @@ use Rattle.snl_tables.specs.declared.rows.WakeUp.{WakeUp}
 use Rattle.snl_tables.specs.Moved.{moved_set, moved_state, moved_tables}
 use Rattle.snl_tables.specs.Shifted.{changed_at, marked, shifted_set, shifted_state, with_body, with_body_in, with_marks_in, with_own_body, with_own_mark, with_own_wake, with_wake_in}
 use Rattle.snl_kept.specs.declared.found.findings.Finding.{Finding}
-use Rattle.snl_kept.specs.declared.ways.row_change.RowChange.{RowChange}
-use Rattle.snl_kept.specs.declared.ways.row_change.RowChange.TheVariants as changes
+use Rattle.snl_kept.specs.declared.plan.RowChange.{RowChange}
+use Rattle.snl_kept.specs.declared.plan.RowChange.TheVariants as changes
 use Rattle.snl_kept.specs.OwnFindings.{WalksAround}
 use Rattle.snl_kept.specs.OwnRows.{come_of, gone_of, with_row}
 use Rattle.snl_kept.specs.Shifted.{shifted_finding}

@@ -10,9 +10,10 @@ use Rattle.snl_items.specs.Items.{item_ends, spelled_items, spellings}
 use Rattle.snl_scope.specs.View.{same_view}
 use Rattle.snl_scope.specs.declared.summaries.summary.Outline.{Outline}
 use Rattle.snl_check.specs.declared.rules.findings.Checked.{Checked}
+use Rattle.snl_kept.specs.Edit.{Edit}
 use Rattle.snl_kept.specs.Checks.{check_by, checks_from, checks_of, outlines_in}
 use Rattle.snl_kept.specs.Entries.{entries_of, entry_by}
-use Rattle.snl_kept.specs.Rechecked.{AreChecksMade, kept_of, made_checks, made_for, nones, number_before, put}
+use Rattle.snl_kept.specs.NewChecks.{AreChecksMade, kept_of, made_checks, made_for, nones, number_before, put}
 use Rattle.snl_kept.specs.Stirred.{is_stirred, stirred_between}
 use Rattle.snl_kept.proofs.FreshNumbers.{IsNumbered, number_at_back, number_at_front, number_of_made, numbered}
 use Rattle.snl_kept.proofs.Members.{members_count}
@@ -101,8 +102,9 @@ module _ (old text : List ℕ) (old_stop new_stop front from : ℕ) (made : List
       at : (i : ℕ) → IsNumbered (item_ends text) made before all i (number_before (kept_of all front made back) i) → IsNumbered (item_ends text) made before all (0 + i) (number_before (kept_of all front made back) (0 + i))
       at i h = subst (λ (n : ℕ). IsNumbered (item_ends text) made before all n (number_before (kept_of all front made back) n)) (omega arith) h
 
-pub stirred_told : (old text : List ℕ) (start old_stop new_stop : ℕ) (edit : TokenEdit) (fresh : List ℕ) → edit ≡ token_edit_between old text start old_stop new_stop → fresh ≡ fresh_items_between old text start old_stop new_stop
-    → count_by (is_stirred old text (ends_below edit.start (item_ends old)) fresh) (enumerate_from 0 (entries_of text)) ≡ stirred_between old text start old_stop new_stop
+pub stirred_told : (edit : Edit) (tokens : TokenEdit) (fresh : List ℕ) → tokens ≡ token_edit_between edit.old edit.text edit.start edit.old_stop edit.new_stop
+    → fresh ≡ fresh_items_between edit.old edit.text edit.start edit.old_stop edit.new_stop
+    → count_by (is_stirred edit.old edit.text (ends_below tokens.start (item_ends edit.old)) fresh) (enumerate_from 0 (entries_of edit.text)) ≡ stirred_between edit
 unfolding stirred_between
-stirred_told old text start old_stop new_stop edit fresh edit_is fresh_is =
-    ap₂ (λ (e : TokenEdit) (f : List ℕ). count_by (is_stirred old text (ends_below e.start (item_ends old)) f) (enumerate_from 0 (entries_of text))) edit_is fresh_is
+stirred_told edit tokens fresh tokens_are fresh_is =
+    ap₂ (λ (e : TokenEdit) (f : List ℕ). count_by (is_stirred edit.old edit.text (ends_below e.start (item_ends edit.old)) f) (enumerate_from 0 (entries_of edit.text))) tokens_are fresh_is

@@ -1,4 +1,5 @@
--- What an edit inside one item makes of the links and the rows, from what is kept of the text and what is known by tests.
+-- What an edit inside one item makes of the links and the rows, from what is kept of the text and
+-- what is known by tests.
 use Rattle.std.proofs.Common.{◌≡◌, ℕ, ◌+◌, ◌-◌, ◌<◌, ◌++◌, List, [], ◌∷◌, length, take, drop, slice_get, Option, Some, None, false, true, is_none, is_some, inl, inr, sym, ap, ap₂, subst, ◌∙◌, arith}
 use Rattle.std.specs.List.{slice_set}
 use Rattle.std.specs.Option.{option_map_or}
@@ -25,12 +26,13 @@ use Rattle.snl_check.specs.Spans.{AreRead}
 use Rattle.snl_check.specs.Told.{Told, nothing, told_in_item, told_kept}
 use Rattle.snl_kept.specs.declared.entries.Entry.{Entry}
 use Rattle.snl_kept.specs.declared.lists.Lists.{Lists}
-use Rattle.snl_kept.specs.declared.ways.item_plan.Was.{Was}
-use Rattle.snl_kept.specs.declared.ways.one_item.OwnTokens.{OwnTokens}
-use Rattle.snl_kept.specs.declared.ways.plan.Changes.{Changes}
-use Rattle.snl_kept.specs.declared.ways.relink.NewLinks.{NewLinks}
-use Rattle.snl_kept.specs.declared.ways.row_change.Touched.{Touched}
-use Rattle.snl_kept.specs.declared.ways.row_change.Touched.TheVariants as touched
+use Rattle.snl_kept.specs.declared.ways.one_item.replaced.OldItem.{OldItem}
+use Rattle.snl_kept.specs.declared.ways.one_item.replaced.OwnTokens.{OwnTokens}
+use Rattle.snl_kept.specs.declared.plan.Changes.{Changes}
+use Rattle.snl_kept.specs.declared.plan.NewLinks.{NewLinks}
+use Rattle.snl_kept.specs.declared.ways.one_item.touched_rows.TouchedRows.{TouchedRows}
+use Rattle.snl_kept.specs.declared.ways.one_item.touched_rows.TouchedRows.TheVariants as touched
+use Rattle.snl_kept.specs.Edit.{Edit}
 use Rattle.snl_kept.specs.Checks.{check_by, links_in, outlines_in}
 use Rattle.snl_kept.specs.Entries.{entries_of}
 use Rattle.snl_kept.specs.ItemPlan.{FitsRows, IsAfterInside, IsOneItem, IsStateAlike, own_item}
@@ -40,7 +42,7 @@ use Rattle.snl_kept.specs.OwnLinks.{AreOwnLinks}
 use Rattle.snl_kept.specs.OwnRows.{change_told}
 use Rattle.snl_kept.specs.Planned.{AreEntriesMade}
 use Rattle.snl_kept.specs.Program.{items_of, program_item, tree_in}
-use Rattle.snl_kept.specs.Relinked.{AreLinks, links_now}
+use Rattle.snl_kept.specs.NewLinks.{AreLinks, links_now}
 use Rattle.snl_kept.specs.ReplacedItem.{IsOneReplaced, own_tokens}
 use Rattle.snl_kept.proofs.InsideLaws.{got_is}
 use Rattle.snl_kept.proofs.InsideTold.{told_is}
@@ -49,21 +51,21 @@ use Rattle.snl_kept.proofs.Replaced.{replaced_parts}
 
 -- ---- the links
 
-module _ (old text : List ℕ) (start old_stop new_stop : ℕ) (c : Changes) (t : LineShift) (x e : Entry) (one : IsOneReplaced old text start old_stop new_stop c t x e) (before : LinkedItems) (is : before ≡ links_in old) (links : NewLinks)
+module _ (edit : Edit) (c : Changes) (t : LineShift) (x e : Entry) (one : IsOneReplaced edit c t x e) (before : LinkedItems) (is : before ≡ links_in edit.old) (links : NewLinks)
     (own : AreOwnLinks before c.items.kept_front e.summary.kind links) where
-  own_links_are : AreOwnLinks (links_in old) c.items.kept_front e.summary.kind links
+  own_links_are : AreOwnLinks (links_in edit.old) c.items.kept_front e.summary.kind links
   own_links_are = subst (λ (l : LinkedItems). AreOwnLinks l c.items.kept_front e.summary.kind links) is own
 
-  links_are : links_now (links_in old) links ≡ links_in text
+  links_are : links_now (links_in edit.old) links ≡ links_in edit.text
   links_are =
       ap₂ (λ (os : List Outline) (ks : List ItemKind). let l : LinkedItems = record { outlines = os; kinds = ks } in l)
       (own_links_are.outlines ∙ sym one.inside.outlines)
       (own_links_are.kinds ∙ sym one.kinds)
 
-  pub links_after : AreLinks old text links
+  pub links_after : AreLinks edit.old edit.text links
   links_after = record { are = links_are; faults = own_links_are.found }
 
-  pub faults_stay : faults_of (links_in text) ≡ faults_of (links_in old)
+  pub faults_stay : faults_of (links_in edit.text) ≡ faults_of (links_in edit.old)
   faults_stay = ap faults_of (sym links_are) ∙ own_links_are.same
 
 -- ---- what the rows go by
@@ -87,15 +89,15 @@ items_after old text c l e listed one made same =
       outlines_are = were ∙ sym same;
     }
 
-pub in_place : (old text : List ℕ) (start old_stop new_stop : ℕ) (c : Changes) (t : LineShift) (x e : Entry) → IsOneReplaced old text start old_stop new_stop c t x e → AreRead old (items_of old) → (own : List Piece)
-    → own ≡ own_tokens text c.items.kept_front → IsInPlace old text c.items.kept_front own
-in_place old text start old_stop new_stop c t x e one read own is =
-    subst (IsInPlace old text c.items.kept_front) (sym is) (record {
+pub in_place : (edit : Edit) (c : Changes) (t : LineShift) (x e : Entry) → IsOneReplaced edit c t x e → AreRead edit.old (items_of edit.old) → (own : List Piece)
+    → own ≡ own_tokens edit.text c.items.kept_front → IsInPlace edit.old edit.text c.items.kept_front own
+in_place edit c t x e one read own is =
+    subst (IsInPlace edit.old edit.text c.items.kept_front) (sym is) (record {
       shift = t;
       some_before = one.inside.shift.some_before;
       read = read;
       one = one.one;
-      got = got_is old text start old_stop new_stop c t x e one;
+      got = got_is edit c t x e one;
     })
 
 -- its tokens, and the uses in its conditions, among the items
@@ -116,7 +118,7 @@ module _ (tree_told : (text : List ℕ) (tokens : List Piece) → sound_tree (pa
 
 -- ---- what the text says, whichever rows change
 
-pub after_any : (old text : List ℕ) (t : LineShift) (k : ℕ) (own : OwnTokens) (w : Was) (e : Entry) (rows : Touched) → FitsRows old text k own w e rows
+pub after_any : (old text : List ℕ) (t : LineShift) (k : ℕ) (own : OwnTokens) (w : OldItem) (e : Entry) (rows : TouchedRows) → FitsRows old text k own w e rows
     → (e.summary.kind ≡ w.entry.now.summary.kind → is_none (own_item text k).tree ≡ is_none (own_item old k).tree)
     → ((n : ℕ) → IsStateAlike old text k own w e n → SaysAlike old text (own_item old k) (own_item text k))
     → (enclosing_set (outlines_in old) k ≡ None → IsAfterInside old text t k (change_told text (items_of text) (outlines_in old) k (own_item text k) touched.Nothing))

@@ -1,4 +1,5 @@
--- Members of a list of which the middle part is replaced: those at the front and at the back are the old ones, each unit mapped.
+-- Members of a list of which the middle part is replaced: those at the front and at the back are
+-- the old ones, each unit mapped.
 use Rattle.std.proofs.Common.{◌≡◌, ◌≢◌, ℕ, zero, suc, ◌+◌, ◌-◌, ◌<◌, ◌≤◌, All, List, [], ◌∷◌, ◌++◌, length, map, take, drop, get_or, slice_get, Some, option_map, refl, sym, ap, ap₂, ◌∙◌, subst, arith}
 use Rattle.std.specs.List.{AllByRecursion}
 use Rattle.std.proofs.lemmas.List.{drop-drop, drop-map, drop-take, take-map, take-take}

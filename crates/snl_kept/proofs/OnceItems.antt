@@ -1,4 +1,5 @@
--- What is found at faulty items and what is found in items: no offset and code occur twice in either.
+-- What is found at faulty items and what is found in items: no offset and code occur twice in
+-- either.
 use Rattle.std.proofs.Common.{◌≡◌, ◌≢◌, ◌⊎◌, ℕ, zero, suc, ◌+◌, ◌<◌, ◌≤◌, Bool, true, false, All, List, [], ◌∷◌, length, map, take, drop, slice_get, length-take, Option, None, Some, IfSome, inl, inr, refl, sym, ap, subst, ◌∙◌, arith}
 use Rattle.std.specs.List.{AllByRecursion as Each, AllPairs, Contains, cons_option, enumerate_from, filter_map}
 use Rattle.std.specs.Option.{option_map}

@@ -1,4 +1,5 @@
--- Where no offset and code occur twice in what is found in a text, its diagnostics rise by offset and code.
+-- Where no offset and code occur twice in what is found in a text, its diagnostics rise by offset
+-- and code.
 use Rattle.std.proofs.Common.{◌≡◌, ℕ, Bool, true, false, if◌then◌else◌, List, [], ◌∷◌, map, filter, refl, sym, subst}
 use Rattle.std.specs.Cmp.{IsTotalOrder}
 use Rattle.std.specs.Cmp.Lexicographic.{slice_cmp}

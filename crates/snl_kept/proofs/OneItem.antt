@@ -1,4 +1,5 @@
--- The tokens of an item, and where the items of a text end after an edit that makes one in the place of one.
+-- The tokens of an item, and where the items of a text end after an edit that makes one in the
+-- place of one.
 use Rattle.std.proofs.Common.{◌≡◌, ℕ, zero, suc, ◌+◌, ◌-◌, ◌<◌, ◌≤◌, All, List, [], ◌∷◌, ◌++◌, length, map, take, drop, get_or, sym, ap, ap₂, ◌∙◌, subst, append_assoc, arith, length-append, add-one}
 use Rattle.std.proofs.lemmas.List.{length-drop, length-take-le, take_at}
 use Rattle.std.proofs.lemmas.List.Elements.{All-drop, All-filter, All-take}

@@ -92,7 +92,8 @@ pub all_put_is : (xs : List Finding) → all_put goes_before ranks same_finding 
 all_put_is [] = refl
 all_put_is (x ∷ xs) = ap (put goes_before ranks same_finding x) (all_put_is xs) ∙ put_is x (in_order xs)
 
--- findings in order have the elements that they had, and those with the same elements are in one order
+-- findings in order have the elements that they had, and those with the same elements are in one
+-- order
 pub total_in_order : (f : Finding → ℕ) (xs : List Finding) → total f (in_order xs) ≡ total f xs
 total_in_order f xs = ap (total f) (sym (all_put_is xs)) ∙ total_all goes_before ranks same_finding f xs
 

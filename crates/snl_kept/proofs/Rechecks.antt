@@ -9,11 +9,11 @@ use Rattle.snl_scope.specs.SpelledTokens.{bytes_by}
 use Rattle.snl_scope.specs.View.{same_view}
 use Rattle.snl_scope.specs.declared.summaries.summary.Outline.{Outline}
 use Rattle.snl_check.specs.declared.rules.findings.Checked.{Checked}
-use Rattle.snl_kept.specs.declared.ways.recheck.KeptItems.{KeptItems}
-use Rattle.snl_kept.specs.declared.ways.recheck.MadeCheck.{MadeCheck}
+use Rattle.snl_kept.specs.declared.ways.whole.recheck.KeptItems.{KeptItems}
+use Rattle.snl_kept.specs.declared.plan.NewCheck.{NewCheck}
 use Rattle.snl_kept.specs.Checks.{check_by, checked_by, checks_from}
 use Rattle.snl_kept.specs.Entries.{entry_by}
-use Rattle.snl_kept.specs.Rechecked.{is_rechecked, made_at, made_for, no_check, nones, number_before, put, sees_as_before}
+use Rattle.snl_kept.specs.NewChecks.{is_rechecked, made_at, made_for, no_check, nones, number_before, put, sees_as_before}
 
 abbrev pub Spelled : Type 0
 Spelled = List (Class × List ℕ)
@@ -26,7 +26,7 @@ set_here [] x y xs (suc n) e = absurd (omega (arith, e))
 set_here (d ∷ done) x y xs zero e = absurd (omega (arith, e))
 set_here {X} (d ∷ done) x y xs (suc n) e = ap (λ (l : List X). d ∷ l) (set_here done x y xs n (omega (arith, e)))
 
-put_one : (b : Bool) (o : Option Checked) (done : List (Option Checked)) (c : Option Checked) (cs : List (Option Checked)) (n : ℕ) (more : List MadeCheck) → length done ≡ n
+put_one : (b : Bool) (o : Option Checked) (done : List (Option Checked)) (c : Option Checked) (cs : List (Option Checked)) (n : ℕ) (more : List NewCheck) → length done ≡ n
     → (b ≡ true → IsSome o) → (b ≡ false → c ≡ o) → put (done ++ c ∷ cs) ((if b then made_at n o else []) ++ more) ≡ put (done ++ o ∷ cs) more
 put_one true (Some k) done c cs n more e some same = ap (λ (l : List (Option Checked)). put l more) (set_here done c (Some k) cs n e)
 put_one true None done c cs n more e some same = absurd (true≢false (sym (some refl)))
@@ -55,7 +55,7 @@ module _ (ss ts : List Outline) (kept : KeptItems) where
   put_gives done (c ∷ cs) n [] e h = absurd h
   put_gives done (c ∷ cs) n (x ∷ xs) e h =
       let check : Option Checked = check_by ts n x in
-      let more : List MadeCheck = flat_map (made_for ss ts kept) (enumerate_from (n + 1) xs) in
+      let more : List NewCheck = flat_map (made_for ss ts kept) (enumerate_from (n + 1) xs) in
       let longer : length (done ++ check ∷ []) ≡ n + 1 = omega (arith, length-append done (check ∷ []), e) in
       put_one (is_rechecked ss ts kept (n, x)) check done c cs n more e (rechecked_sound n x) h.0
       ∙ ap (λ (l : List (Option Checked)). put l more) (sym (append_assoc done (check ∷ []) cs))

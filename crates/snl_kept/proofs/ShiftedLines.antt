@@ -1,4 +1,5 @@
--- The lines of items after an edit that isn't between the two first tokens of one, where the line that the next marker numbers isn't either.
+-- The lines of items after an edit that isn't between the two first tokens of one, where the line
+-- that the next marker numbers isn't either.
 use Rattle.std.proofs.Common.{◌≡◌, ℕ, ◌+◌, ◌-◌, ◌<◌, ◌≤◌, inl, inr, Bool, not, ◌||◌, nat_lt, if◌then◌else◌, min, List, [], ◌∷◌, length, sym, ap, ap₂, ◌∙◌, arith}
 use Rattle.std.specs.Prelude.{nat_le}
 use Rattle.std.specs.List.{AllByRecursion}
@@ -25,7 +26,8 @@ module _ (old text : List ℕ) (t : LineShift) (order : t.by.start ≤ t.by.old_
   abbrev pub KeepsLine : List Piece → Type 0
   KeepsLine m = 1 < length m → line_at text (start_at (shifted_tokens t.by m) 0) ≡ moved_line t (start_at m 1) (line_at old (start_at m 0))
 
-  -- A line moves as one that is on the same side of the edit, and of the line that a marker numbers.
+  -- A line moves as one that is on the same side of the edit, and of the line that a marker
+  -- numbers.
   abbrev moved_if : Line → Bool → Bool → Line
   moved_if line early late = record {
     number = if early || late then line.number else min (line.number + t.by.new_lines) most - t.by.old_lines;

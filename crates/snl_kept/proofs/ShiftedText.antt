@@ -35,6 +35,7 @@ use Rattle.snl_check.specs.Spans.{AreRead}
 use Rattle.snl_check.specs.Tables.{tables_of}
 use Rattle.snl_kept.specs.declared.entries.Entry.{Entry}
 use Rattle.snl_kept.specs.declared.found.findings.Finding.{Finding}
+use Rattle.snl_kept.specs.Edit.{Edit}
 use Rattle.snl_kept.specs.Checked.{checked_faults, found_in_item}
 use Rattle.snl_kept.specs.Checks.{checked_by, checks_from, links_in, outlines_in}
 use Rattle.snl_kept.specs.Diagnostics.{diagnostic, diagnostics_of, found, shown}
@@ -90,7 +91,7 @@ pub along : (text : List ℕ) (P : ProgramItem → Type 0) (ms : List (List Piec
 along text P [] h = tt
 along text P (m ∷ ms) h = (h.0, along text P ms h.1)
 
-module _ (old text : List ℕ) (a b c : ℕ) (t : LineShift) (is : ShiftsAll old text a b c t)
+module _ (edit : Edit) (t : LineShift) (is : ShiftsAll edit t)
     -- what the laws of the layers below say
     (inside : (text : List ℕ) → All (LiesIn text) (pieces_of text))
     (tree_told : (text : List ℕ) (tokens : List Piece) → sound_tree (parsed_in text tokens) ≡ tree_in text tokens)
@@ -102,6 +103,12 @@ module _ (old text : List ℕ) (a b c : ℕ) (t : LineShift) (is : ShiftsAll old
     (lines : (old text : List ℕ) (t : LineShift) (o : ℕ) → IsLineShift old text t → IsOutside old t.by o → line_at text (shifted_offset t.by o) ≡ moved_line t o (line_at old o))
     (tables : (old text : List ℕ) (s : Shift) (line : ℕ → Line → Line) (xs : List ProgramItem) → 0 < s.start → AreRead old xs → KeepsItems old text s line xs
     → tables_of text (map (shifted_item s) xs) ≡ moved_tables s line (tables_of old xs)) where
+  abbrev old : List ℕ
+  old = edit.old
+
+  abbrev text : List ℕ
+  text = edit.text
+
   abbrev s : Shift
   s = t.by
 
@@ -260,14 +267,14 @@ module _ (old text : List ℕ) (a b c : ℕ) (t : LineShift) (is : ShiftsAll old
   all_not before [] = tt
   all_not before (e ∷ es) = (not_stirred e before, all_not before es)
 
-  none_stirs : stirred_between old text a b c ≡ 0
+  none_stirs : stirred_between edit ≡ 0
   unfolding stirred_between
   none_stirs =
-      let before : ℕ = ends_below (token_edit_between old text a b c).start (item_ends old) in
+      let before : ℕ = ends_below (token_edit_between old text edit.start edit.old_stop edit.new_stop).start (item_ends old) in
       ap (λ (fresh : List ℕ). count_by (is_stirred old text before fresh) (enumerate_from 0 (entries_of text))) is.tokens.none_fresh
       ∙ none_counted (is_stirred old text before []) (enumerate_from 0 (entries_of text)) (all_not before (enumerate_from 0 (entries_of text)))
 
-  pub all_shifts : IsShifted old text a b c t
+  pub all_shifts : IsShifted edit t
   all_shifts = record {
     entries = ap (map entry_by) spelled_are;
     links = links_are;

@@ -25,7 +25,8 @@ pub cons_option_is : {X : Type 0} (o : Option X) (xs : List X) → cons_option o
 cons_option_is None xs = refl
 cons_option_is (Some x) xs = refl
 
--- what a function that goes along with `++` gives of all, where it was added to what is done for the part here
+-- what a function that goes along with `++` gives of all, where it was added to what is done for
+-- the part here
 pub added : {X Y : Type 0} (F : List X → List Y) → ((xs ys : List X) → F (xs ++ ys) ≡ F xs ++ F ys) → (whole here rest : List X) (done more all : List Y) → whole ≡ here ++ rest → more ≡ done ++ F here → done ++ F whole ≡ all → more ++ F rest ≡ all
 added F joins whole here rest done more all parts new before =
     ap (λ l. l ++ F rest) new

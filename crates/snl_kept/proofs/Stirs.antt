@@ -9,11 +9,11 @@ use Rattle.snl_scope.specs.View.{same_view}
 use Rattle.snl_scope.specs.declared.summaries.summary.Outline.{Outline}
 use Rattle.snl_check.specs.declared.rules.findings.Checked.{Checked}
 use Rattle.snl_kept.specs.declared.entries.Entry.{Entry}
-use Rattle.snl_kept.specs.declared.ways.recheck.KeptItems.{KeptItems}
-use Rattle.snl_kept.specs.declared.ways.recheck.MadeCheck.{MadeCheck}
+use Rattle.snl_kept.specs.declared.ways.whole.recheck.KeptItems.{KeptItems}
+use Rattle.snl_kept.specs.declared.plan.NewCheck.{NewCheck}
 use Rattle.snl_kept.specs.Checks.{check_by}
 use Rattle.snl_kept.specs.Entries.{entry_by}
-use Rattle.snl_kept.specs.Rechecked.{is_rechecked, made_at, made_for, number_before, sees_as_before}
+use Rattle.snl_kept.specs.NewChecks.{is_rechecked, made_at, made_for, number_before, sees_as_before}
 use Rattle.snl_kept.specs.Stirred.{is_fresh, old_number}
 use Rattle.snl_kept.proofs.FreshNumbers.{IsNumbered}
 use Rattle.snl_kept.proofs.Rechecks.{Spelled, rechecked_sound}
@@ -47,8 +47,8 @@ module _ (ss ts : List Outline) (kept : KeptItems) (ends fresh : List ℕ) (befo
       → length (flat_map (made_for ss ts kept) (enumerate_from n xs)) ≡ count_by stirred_here (enumerate_from n (map entry_by xs))
   made_count n [] numbered = refl
   made_count n (x ∷ xs) numbered =
-      let here : List MadeCheck = made_for ss ts kept (n, x) in
-      let rest : List MadeCheck = flat_map (made_for ss ts kept) (enumerate_from (n + 1) xs) in
+      let here : List NewCheck = made_for ss ts kept (n, x) in
+      let rest : List NewCheck = flat_map (made_for ss ts kept) (enumerate_from (n + 1) xs) in
       let first : IsNumbered ends fresh before count n (number_before kept n) = at n 0 (omega arith) (numbered 0 (omega arith)) in
       let one : length here ≡ cond (stirred_here (n, entry_by x)) 1 0 =
       made_one (is_rechecked ss ts kept (n, x)) (check_by ts n x) n (rechecked_sound ss ts kept n x) ∙ ap (λ (b : Bool). cond b 1 0) (stirred_one n x first) in

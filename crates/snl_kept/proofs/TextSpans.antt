@@ -1,4 +1,5 @@
--- The items of a text as they are read: their tokens lie in it, each has a byte, and the trees are those of their tokens.
+-- The items of a text as they are read: their tokens lie in it, each has a byte, and the trees are
+-- those of their tokens.
 use Rattle.std.proofs.Common.{◌≡◌, ℕ, zero, suc, ◌-◌, Bool, true, false, if◌then◌else◌, List, [], ◌∷◌, All, drop, map, None, Some}
 use Rattle.std.specs.List.{list_any}
 use Rattle.std.proofs.lemmas.List.Elements.{All-drop, All-filter, All-nil, All-take}

@@ -1,4 +1,5 @@
--- What is found in each item by itself, by its tokens, its tree and what the links say of the names in it.
+-- What is found in each item by itself, by its tokens, its tree and what the links say of the names
+-- in it.
 use Rattle.std.specs.Prelude.{ℕ, ◌+◌, ◌^◌, ◌<◌, List, [], map, flat_map, slice_get, Option, Some, None}
 use Rattle.std.specs.List.{enumerate_from}
 use Rattle.snl_lex.specs.declared.piece.Piece.{Piece}

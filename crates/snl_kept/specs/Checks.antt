@@ -1,5 +1,5 @@
--- What the check of each item of a text gives: a session keeps it, since it goes by the spelling of the item's tokens and by what
--- the item sees of the others alone.
+-- What the check of each item of a text gives: a session keeps it, since it goes by the spelling of
+-- the item's tokens and by what the item sees of the others alone.
 use Rattle.std.specs.Prelude.{ℕ, List, map, Option, option_map}
 use Rattle.std.specs.List.{enumerate_from}
 use Rattle.snl_lex.specs.declared.piece.Class.{Class}

@@ -15,8 +15,8 @@ use Rattle.snl_kept.specs.Program.{ProgramItem, items_of}
 use Rattle.snl_kept.specs.Tables.{walked_faults}
 use Rattle.snl_kept.specs.Warnings.{shows_warnings}
 
--- What is found in a text: at its faulty items, by the links of its items, in each item by itself, and by the walks of its
--- state sets.
+-- What is found in a text: at its faulty items, by the links of its items, in each item by itself,
+-- and by the walks of its state sets.
 unfoldable pub found : List ℕ → List Finding
 found text = faults_of text (items_of text) ++ linked_faults text (items_of text) ++ checked_faults text (items_of text) ++ walked_faults text (items_of text)
 

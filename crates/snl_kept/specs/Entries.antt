@@ -1,4 +1,5 @@
--- The items of a text as a session keeps them: what is kept of an item goes by the spelling of its tokens alone.
+-- The items of a text as a session keeps them: what is kept of an item goes by the spelling of its
+-- tokens alone.
 use Rattle.std.specs.Prelude.{◌≡◌, ◌-◌, ◌≤◌, ℕ, List, drop, length, map, take}
 use Rattle.snl_lex.specs.declared.piece.Class.{Class}
 use Rattle.snl_items.specs.Items.{spelled_items}

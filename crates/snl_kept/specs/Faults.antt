@@ -18,7 +18,8 @@ at_token code token = record { offset = token.start; code = code; subject = 0 }
 abbrev pub at_number : Code → List Piece → ℕ → Option Finding
 at_number code tokens n = option_map (at_token code) (slice_get tokens n)
 
--- At an item that the parser left so: none where it has a tree, E01 at the first faulty token, else E02 at the blamed token.
+-- At an item that the parser left so: none where it has a tree, E01 at the first faulty token, else
+-- E02 at the blamed token.
 abbrev pub fault_at : List Piece → Parsed → Option Finding
 fault_at tokens (parsed.Sound tree) = None
 fault_at tokens (parsed.BadToken at) = at_number E01 tokens at

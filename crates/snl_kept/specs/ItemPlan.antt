@@ -20,24 +20,25 @@ use Rattle.snl_check.specs.ShiftedAround.{is_plain, used_by, wakes_of}
 use Rattle.snl_kept.specs.declared.entries.Entry.{Entry}
 use Rattle.snl_kept.specs.declared.found.findings.Diagnostic.{Diagnostic}
 use Rattle.snl_kept.specs.declared.found.findings.Finding.{Finding}
-use Rattle.snl_kept.specs.declared.ways.item_plan.Inside.{Inside}
-use Rattle.snl_kept.specs.declared.ways.item_plan.Was.{Was}
-use Rattle.snl_kept.specs.declared.ways.one_item.OwnTokens.{OwnTokens}
-use Rattle.snl_kept.specs.declared.ways.plan.Changes.{Changes}
-use Rattle.snl_kept.specs.declared.ways.relink.NewLinks.{NewLinks}
-use Rattle.snl_kept.specs.declared.ways.row_change.RowChange.{RowChange}
-use Rattle.snl_kept.specs.declared.ways.row_change.Touched.{Touched}
-use Rattle.snl_kept.specs.declared.ways.row_change.Touched.TheVariants as touched
+use Rattle.snl_kept.specs.declared.ways.one_item.item_plan.OwnParts.{OwnParts}
+use Rattle.snl_kept.specs.declared.ways.one_item.replaced.OldItem.{OldItem}
+use Rattle.snl_kept.specs.declared.ways.one_item.replaced.OwnTokens.{OwnTokens}
+use Rattle.snl_kept.specs.declared.plan.Changes.{Changes}
+use Rattle.snl_kept.specs.declared.plan.NewLinks.{NewLinks}
+use Rattle.snl_kept.specs.declared.plan.RowChange.{RowChange}
+use Rattle.snl_kept.specs.declared.ways.one_item.touched_rows.TouchedRows.{TouchedRows}
+use Rattle.snl_kept.specs.declared.ways.one_item.touched_rows.TouchedRows.TheVariants as touched
 use Rattle.snl_kept.specs.Checks.{checks_of, links_in, outlines_in}
 use Rattle.snl_kept.specs.Diagnostics.{diagnostic, diagnostics_of, shown, shown_if}
+use Rattle.snl_kept.specs.Edit.{Edit}
 use Rattle.snl_kept.specs.Entries.{entries_of}
 use Rattle.snl_kept.specs.ReplacedItem.{DeclaresInHead, SparesInside, own_findings, own_shown, own_tokens}
 use Rattle.snl_kept.specs.Order.{in_order}
 use Rattle.snl_kept.specs.OwnFindings.{found_around}
 use Rattle.snl_kept.specs.OwnRows.{come_of, gone_of, with_row}
 use Rattle.snl_kept.specs.Program.{ProgramItem, items_of, program_item}
-use Rattle.snl_kept.specs.Rechecked.{AreChecksMade}
-use Rattle.snl_kept.specs.Relinked.{AreLinks}
+use Rattle.snl_kept.specs.NewChecks.{AreChecksMade}
+use Rattle.snl_kept.specs.NewLinks.{AreLinks}
 use Rattle.snl_kept.specs.Shifted.{finding_of}
 use Rattle.snl_kept.specs.Stirred.{stirred_between}
 use Rattle.snl_kept.specs.Tables.{tables_in}
@@ -53,8 +54,8 @@ pub record IsOneItem (old : List ℕ) (c : Changes) : Type 0 where
   pub one_gone : c.items.kept_front + 1 + c.items.kept_back ≡ length (item_ends old)
   pub head : last_end 0 (take c.items.kept_front (item_ends old)) + 2 ≤ c.tokens.edit.start
 
--- A plain item in the place of another: it says to the other items what that one said, what it declares is among its first `head`
--- tokens, and it has no clauses.
+-- A plain item in the place of another: it says to the other items what that one said, what it
+-- declares is among its first `head` tokens, and it has no clauses.
 pub record SaysTheSame (head : ℕ) (x e : Entry) : Type 0 where
   pub outline : e.summary.outline ≡ x.summary.outline
   pub plain : is_plain x.summary.kind ≡ true
@@ -67,7 +68,8 @@ abbrev pub wakes_told : (ℕ → List ℕ) → Option Checked → List (List ℕ
 wakes_told bytes None = []
 wakes_told bytes (Some c) = map (used_by bytes) c.wake_uses
 
--- It is of the same kind, leads to states of the same names, and says in its conditions what that one said, of which this is the check.
+-- It is of the same kind, leads to states of the same names, and says in its conditions what that
+-- one said, of which this is the check.
 pub record AreAlike (old text : List ℕ) (was is : List Piece) (x e : Entry) (check : Option Checked) : Type 0 where
   pub kind : e.summary.kind ≡ x.summary.kind
   pub targets : map (λ m. m.name) e.summary.targets ≡ map (λ m. m.name) x.summary.targets
@@ -81,8 +83,8 @@ own_item text i = program_item text (own_tokens text i)
 abbrev pub kinds_kept : List Entry → List ItemKind
 kinds_kept entries = map (λ e. e.summary.kind) entries
 
--- What a text says after an edit inside item i: what it said, shifted, but for what is found at the item itself, this change of the rows,
--- and what is found in the states by that.
+-- What a text says after an edit inside item i: what it said, shifted, but for what is found at the
+-- item itself, this change of the rows, and what is found in the states by that.
 pub record IsAfterInside (old text : List ℕ) (t : LineShift) (i : ℕ) (change : RowChange) : Type 0 where
   pub outlines : outlines_in text ≡ outlines_in old
   pub faults : faults_of (links_in text) ≡ faults_of (links_in old)
@@ -94,53 +96,50 @@ pub record IsAfterInside (old text : List ℕ) (t : LineShift) (i : ℕ) (change
       ≡ in_order (shown text)
   pub tables : tables_in text ≡ with_row (moved_tables t.by (moved_line t) (tables_in old)) change
 
--- What is made of the links, where they find what they found.
-pub record AreLinksInside (old text : List ℕ) (made : NewLinks) : Type 0 where
-  pub links : AreLinks old text made
-  pub faults : faults_of (links_in text) ≡ faults_of (links_in old)
-
--- What is made of the item, besides what is kept of it: the links, its check, the diagnostics of the new text, and the rows.
-pub record IsMadeInside (old text : List ℕ) (start old_stop new_stop : ℕ) (c : Changes) (links : NewLinks) (i : Inside) : Type 0 where
-  pub are_links : AreLinks old text links
-  pub warns : warns_in text ≡ warns_in old
-  pub checks : AreChecksMade old text c.items.kept_front i.checks.vacant.items c.items.kept_back i.checks.made.items
-  pub stirred : stirred_between old text start old_stop new_stop ≡ length i.checks.made.items
-  pub diagnostics : i.diagnostics.items ≡ diagnostics_of text
-  pub tables : tables_in text ≡ with_row (moved_tables i.shift.by (moved_line i.shift) (tables_in old)) i.change
+-- What is made of the item, besides what is kept of it: the links, its check, the diagnostics of
+-- the new text, and the rows.
+pub record IsOwnPlan (edit : Edit) (c : Changes) (links : NewLinks) (p : OwnParts) : Type 0 where
+  pub are_links : AreLinks edit.old edit.text links
+  pub warns : warns_in edit.text ≡ warns_in edit.old
+  pub checks : AreChecksMade edit.old edit.text c.items.kept_front p.checks.vacant.items c.items.kept_back p.checks.made.items
+  pub stirred : stirred_between edit ≡ length p.checks.made.items
+  pub diagnostics : p.diagnostics.items ≡ diagnostics_of edit.text
+  pub tables : tables_in edit.text ≡ with_row (moved_tables p.shift.by (moved_line p.shift) (tables_in edit.old)) p.change
 
 -- The item that an edit replaces, by its number.
-pub record IsWas (old : List ℕ) (item : ℕ) (w : Was) : Type 0 where
+pub record IsWas (old : List ℕ) (item : ℕ) (w : OldItem) : Type 0 where
   pub entry : slice_get (entries_of old) item ≡ Some w.entry.now
   pub check : slice_get (checks_of old) item ≡ Some w.check.now
 
--- The item in its place says to the others what that one said; what it declares, and what the links find in it, is among its first `head`
--- tokens.
-pub record SaysWhatItSaid (old : List ℕ) (head item : ℕ) (w : Was) (e : Entry) : Type 0 where
+-- The item in its place says to the others what that one said; what it declares, and what the links
+-- find in it, is among its first `head` tokens.
+pub record SaysWhatItSaid (old : List ℕ) (head item : ℕ) (w : OldItem) (e : Entry) : Type 0 where
   pub same : SaysTheSame head w.entry.now e
   pub spared : SparesInside head item (faults_of (links_in old))
 
 -- A state with a name, in this set.
-pub record IsNamedIn (old : List ℕ) (item : ℕ) (w : Was) (set : ℕ) : Type 0 where
+pub record IsNamedIn (old : List ℕ) (item : ℕ) (w : OldItem) (set : ℕ) : Type 0 where
   pub named : is_some (state_name w.entry.now.summary.outline) ≡ true
   pub placed : enclosing_set (outlines_in old) item ≡ Some set
 
 -- An item that is no state with a name, in this set.
-pub record IsUnnamedIn (old : List ℕ) (item : ℕ) (w : Was) (set : ℕ) : Type 0 where
+pub record IsUnnamedIn (old : List ℕ) (item : ℕ) (w : OldItem) (set : ℕ) : Type 0 where
   pub unnamed : is_some (state_name w.entry.now.summary.outline) ≡ false
   pub placed : enclosing_set (outlines_in old) item ≡ Some set
 
 -- An item that is no state with a name, in the place of one of its kind.
-pub record IsUnnamedAlike (w : Was) (e : Entry) : Type 0 where
+pub record IsUnnamedAlike (w : OldItem) (e : Entry) : Type 0 where
   pub unnamed : is_some (state_name w.entry.now.summary.outline) ≡ false
   pub kind : e.summary.kind ≡ w.entry.now.summary.kind
 
--- A state with a name, in this set, leads where the one before it led, and says in its conditions what that one said.
-pub record IsStateAlike (old text : List ℕ) (item : ℕ) (own : OwnTokens) (w : Was) (e : Entry) (set : ℕ) : Type 0 where
+-- A state with a name, in this set, leads where the one before it led, and says in its conditions
+-- what that one said.
+pub record IsStateAlike (old text : List ℕ) (item : ℕ) (own : OwnTokens) (w : OldItem) (e : Entry) (set : ℕ) : Type 0 where
   pub state : IsNamedIn old item w set
   pub alike : AreAlike old text own.was.items own.is.items w.entry.now e w.check.now
 
 -- The item changes no more than these rows.
-abbrev pub FitsRows : (old text : List ℕ) (item : ℕ) → OwnTokens → Was → Entry → Touched → Type 0
+abbrev pub FitsRows : (old text : List ℕ) (item : ℕ) → OwnTokens → OldItem → Entry → TouchedRows → Type 0
 FitsRows old text item own w e touched.Nothing = (enclosing_set (outlines_in old) item ≡ None) ⊎ IsUnnamedAlike w e
 FitsRows old text item own w e (touched.Body set) = IsStateAlike old text item own w e set
 FitsRows old text item own w e (touched.State set) = IsNamedIn old item w set
@@ -151,7 +150,8 @@ pub record AreOwnTokens (old text : List ℕ) (item : ℕ) (own : OwnTokens) : T
   pub was : own.was.items ≡ own_tokens old item
   pub is : own.is.items ≡ own_tokens text item
 
--- What was shown of the item, and of the states that get other marks, by the tables before the edit.
+-- What was shown of the item, and of the states that get other marks, by the tables before the
+-- edit.
 abbrev pub gone_by : (old : List ℕ) → List Outline → Bool → ℕ → List Piece → Tables → RowChange → List Finding
 gone_by old ss warns item own tables change = shown_if warns (own_findings old ss item (program_item old own)) ++ shown_if warns (gone_of tables change)
 
@@ -159,7 +159,8 @@ gone_by old ss warns item own tables change = shown_if warns (own_findings old s
 abbrev pub come_by : (text : List ℕ) → List Outline → Bool → Shift → ℕ → List Piece → Tables → RowChange → List Finding
 come_by text ss warns s item own tables change = shown_if warns (own_findings text ss item (program_item text own)) ++ shown_if warns (come_of s tables change)
 
--- The diagnostics of the new text: what is gone is taken out, what has come is put in, the others are shifted.
+-- The diagnostics of the new text: what is gone is taken out, what has come is put in, the others
+-- are shifted.
 abbrev pub diagnostics_by : (old text : List ℕ) → List Outline → Bool → Shift → ℕ → OwnTokens → Tables → RowChange → List Finding → List Diagnostic
 diagnostics_by old text ss warns s item own tables change found =
     map (diagnostic text) (found_around s (gone_by old ss warns item own.was.items tables change) (come_by text ss warns s item own.is.items tables change) found)

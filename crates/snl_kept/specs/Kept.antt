@@ -6,8 +6,8 @@ use Rattle.snl_lex.specs.Shift.{marker_count}
 use Rattle.snl_items.specs.Items.{item_ends, marks_of}
 use Rattle.snl_kept.specs.declared.kept.Kept.{Kept}
 use Rattle.snl_kept.specs.declared.lists.Lists.{Lists}
-use Rattle.snl_kept.specs.declared.lists.Remade.{Remade}
-use Rattle.snl_kept.specs.declared.ways.plan.Changes.{Changes}
+use Rattle.snl_kept.specs.declared.plan.ItemsPlan.{ItemsPlan}
+use Rattle.snl_kept.specs.declared.plan.Changes.{Changes}
 use Rattle.snl_kept.specs.Checks.{checks_of, links_in}
 use Rattle.snl_kept.specs.Diagnostics.{diagnostics_of}
 use Rattle.snl_kept.specs.Entries.{entries_of}
@@ -76,7 +76,7 @@ pub record HasRoomForPlaces (l : Lists) (c : Changes) : Type 0 where
   pub items : vec_len l.items.ends + vec_len c.items.made ≤ vec_capacity l.items.ends
 
 -- There is also room for what is kept of the items that it makes, and for their checks.
-pub record HasRoomFor (l : Lists) (c : Changes) (r : Remade) : Type 0 where
+pub record HasRoomFor (l : Lists) (c : Changes) (r : ItemsPlan) : Type 0 where
   pub places : HasRoomForPlaces l c
   pub entries : vec_len r.made ≤ l.entries.room
   pub checks : vec_len r.vacant ≤ l.checks.room

@@ -2,6 +2,8 @@ pub mod Checked
 pub mod Checks
 pub mod Cost
 pub mod Diagnostics
+pub mod Edit
+pub mod Editing
 pub mod Entries
 pub mod Faults
 pub mod ItemPlan
@@ -9,6 +11,9 @@ pub mod Kept
 pub mod Linked
 pub mod ReplacedItem
 pub mod MadeRows
+pub mod NewChecks
+pub mod NewLinks
+pub mod OneItem
 pub mod Order
 pub mod OwnFindings
 pub mod OwnLinks
@@ -16,8 +21,6 @@ pub mod OwnRows
 pub mod Parts
 pub mod Planned
 pub mod Program
-pub mod Rechecked
-pub mod Relinked
 pub mod SetMembers
 pub mod Shifted
 pub mod Stirred

@@ -19,8 +19,8 @@ pub record IsInPlace (old text : List ℕ) (i : ℕ) (own : List Piece) : Type 0
   pub one : ReplacesOne old text shift.by (moved_line shift) (items_of old) (items_of text) i
   pub got : slice_get (items_of text) i ≡ Some (program_item text own)
 
--- What is kept of the items of the new text is what is kept of those of the old one, with this in the place of item i; and they say to each
--- other what they said.
+-- What is kept of the items of the new text is what is kept of those of the old one, with this in
+-- the place of item i; and they say to each other what they said.
 pub record AreItemsAfter (old text : List ℕ) (l : Lists) (i : ℕ) (e : Entry) : Type 0 where
   pub there : i < length l.entries.values
   pub entries : entries_of text ≡ slice_set l.entries.values i e

@@ -1,4 +1,5 @@
--- The order of findings: by offset, and then by code, as text. (So that no two of them tie, what is quoted comes last.)
+-- The order of findings: by offset, and then by code, as text. (So that no two of them tie, what is
+-- quoted comes last.)
 use Rattle.std.specs.Prelude.{Bool, if◌then◌else◌, List, [], ◌∷◌}
 use Rattle.std.specs.Cmp.Lexicographic.{slice_cmp}
 use Rattle.std.specs.Ordering.{is_lt, nat_cmp, ordering_then}

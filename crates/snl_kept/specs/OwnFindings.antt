@@ -1,4 +1,5 @@
--- What is found after an edit inside one item: the findings of that item are taken out, the others are shifted, and what is now found at it comes in.
+-- What is found after an edit inside one item: the findings of that item are taken out, the others
+-- are shifted, and what is now found at it comes in.
 use Rattle.std.specs.Prelude.{◌≡◌, ℕ, Bool, if◌then◌else◌, List, [], ◌∷◌, ◌++◌, map, Option}
 use Rattle.std.specs.Ordering.{is_eq}
 use Rattle.snl_lex.specs.declared.piece.Piece.{Piece}
@@ -25,7 +26,8 @@ abbrev pub without : List Finding → List Finding → List Finding
 without [] ys = ys
 without (x ∷ xs) ys = without xs (taken_out x ys)
 
--- What is found after an edit, in order: what was found, without what is gone, is shifted, and what has come is added.
+-- What is found after an edit, in order: what was found, without what is gone, is shifted, and what
+-- has come is added.
 abbrev pub found_around : Shift → List Finding → List Finding → List Finding → List Finding
 found_around s gone come found = in_order (map (shifted_finding s) (without gone found) ++ come)
 
@@ -36,7 +38,8 @@ pub record WalksAround (s : Shift) (gone come before after : List Finding) : Typ
   pub were : before ≡ front ++ (gone ++ back)
   pub are : after ≡ map (shifted_finding s) front ++ (come ++ map (shifted_finding s) back)
 
--- What a check of an item gave that is spelled so: the one with some number, by what some items say to each other.
+-- What a check of an item gave that is spelled so: the one with some number, by what some items say
+-- to each other.
 pub record IsOwnCheck (text : List ℕ) (own : List Piece) (check : Option Checked) : Type 0 where
   pub outlines : List Outline
   pub number : ℕ

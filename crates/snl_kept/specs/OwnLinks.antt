@@ -1,10 +1,11 @@
--- What an edit inside one item makes of the links: names mean what they meant, and they find what they found.
+-- What an edit inside one item makes of the links: names mean what they meant, and they find what
+-- they found.
 use Rattle.std.specs.Prelude.{◌≡◌, ℕ, ◌+◌, ◌∷◌, ◌++◌, take, drop}
 use Rattle.snl_scope.specs.declared.summaries.summary.ItemKind.{ItemKind}
 use Rattle.snl_scope.specs.Linked.{faults_of}
 use Rattle.snl_scope.specs.LinkedItems.{LinkedItems}
-use Rattle.snl_kept.specs.declared.ways.relink.NewLinks.{NewLinks}
-use Rattle.snl_kept.specs.Relinked.{HasFaults, links_now}
+use Rattle.snl_kept.specs.declared.plan.NewLinks.{NewLinks}
+use Rattle.snl_kept.specs.NewLinks.{HasFaults, links_now}
 
 -- Item i is of this kind, and the others are what they were.
 pub record AreOwnLinks (before : LinkedItems) (i : ℕ) (kind : ItemKind) (links : NewLinks) : Type 0 where

@@ -8,11 +8,11 @@ use Rattle.snl_check.specs.Items.{ProgramItem}
 use Rattle.snl_check.specs.ShiftedAround.{set_number, state_number}
 use Rattle.snl_check.specs.States.{marks_of, state_body, wake_of}
 use Rattle.snl_kept.specs.declared.found.findings.Finding.{Finding}
-use Rattle.snl_kept.specs.declared.ways.numbers.RowPlace.{RowPlace}
-use Rattle.snl_kept.specs.declared.ways.row_change.RowChange.{RowChange}
-use Rattle.snl_kept.specs.declared.ways.row_change.RowChange.TheVariants as changes
-use Rattle.snl_kept.specs.declared.ways.row_change.Touched.{Touched}
-use Rattle.snl_kept.specs.declared.ways.row_change.Touched.TheVariants as touched
+use Rattle.snl_kept.specs.declared.plan.RowPlace.{RowPlace}
+use Rattle.snl_kept.specs.declared.plan.RowChange.{RowChange}
+use Rattle.snl_kept.specs.declared.plan.RowChange.TheVariants as changes
+use Rattle.snl_kept.specs.declared.ways.one_item.touched_rows.TouchedRows.{TouchedRows}
+use Rattle.snl_kept.specs.declared.ways.one_item.touched_rows.TouchedRows.TheVariants as touched
 use Rattle.snl_kept.specs.Tables.{found_at_set, found_by_marks}
 
 -- Where the row of item i is, which is a state of the set that item k begins.
@@ -20,7 +20,7 @@ abbrev pub place_in : List Outline → ℕ → ℕ → RowPlace
 place_in ss k i = record { set = set_number ss k; state = state_number ss k i }
 
 -- What an edit changes in the rows that makes item i, where it changes these.
-abbrev pub change_told : List ℕ → List ProgramItem → List Outline → ℕ → ProgramItem → Touched → RowChange
+abbrev pub change_told : List ℕ → List ProgramItem → List Outline → ℕ → ProgramItem → TouchedRows → RowChange
 change_told text xs ss i x touched.Nothing = changes.Nothing
 change_told text xs ss i x (touched.Body k) = changes.Body (place_in ss k i) (state_body text ss i x)
 change_told text xs ss i x (touched.State k) = changes.State (place_in ss k i) (state_body text ss i x) (wake_of text xs ss i) (marks_of text xs ss k)

@@ -1,5 +1,5 @@
--- The items of a text as the code looks at them: the number of an item's first token, that of the token after it, and what is kept
--- of the item.
+-- The items of a text as the code looks at them: the number of an item's first token, that of the
+-- token after it, and what is kept of the item.
 use Rattle.std.specs.Prelude.{◌≡◌, ℕ, ◌-◌, ◌<◌, ◌≤◌, List, length, take, drop, Option}
 use Rattle.snl_lex.specs.declared.piece.Class.{Class}
 use Rattle.snl_lex.specs.declared.piece.Piece.{Piece}

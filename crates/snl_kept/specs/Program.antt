@@ -14,7 +14,8 @@ pub use Rattle.snl_check.specs.Items.{ProgramItem}
 unfoldable pub item_tokens : List ℕ → List (List Piece)
 item_tokens text = members (tokens_of text) 0 (item_ends text)
 
--- The tree of an item. An item is faulty if it holds a Bad token, or if the grammar has no tree for its tokens.
+-- The tree of an item. An item is faulty if it holds a Bad token, or if the grammar has no tree for
+-- its tokens.
 abbrev pub tree_in : List ℕ → List Piece → Option Item
 tree_in text tokens = if list_any is_bad tokens then None else item_of (kinds_in text tokens)
 

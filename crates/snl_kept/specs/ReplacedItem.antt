@@ -20,16 +20,17 @@ use Rattle.snl_check.specs.Moved.{ReplacesOne}
 use Rattle.snl_check.specs.ShiftedAround.{is_plain}
 use Rattle.snl_kept.specs.declared.entries.Entry.{Entry}
 use Rattle.snl_kept.specs.declared.found.findings.Finding.{Finding}
-use Rattle.snl_kept.specs.declared.ways.plan.Changes.{Changes}
+use Rattle.snl_kept.specs.declared.plan.Changes.{Changes}
 use Rattle.snl_kept.specs.Checked.{found_in_item}
 use Rattle.snl_kept.specs.Checks.{check_by, links_in, outlines_in}
 use Rattle.snl_kept.specs.Diagnostics.{shown_of}
+use Rattle.snl_kept.specs.Edit.{Edit}
 use Rattle.snl_kept.specs.Entries.{entries_of, entry_by}
 use Rattle.snl_kept.specs.Faults.{fault_in}
 use Rattle.snl_kept.specs.Planned.{AreEntriesMade, IsChanged}
 use Rattle.snl_kept.specs.Parts.{tokens_between}
 use Rattle.snl_kept.specs.Program.{ProgramItem, items_of, program_item}
-use Rattle.snl_kept.specs.Rechecked.{AreChecksMade, made_at, nones}
+use Rattle.snl_kept.specs.NewChecks.{AreChecksMade, made_at, nones}
 use Rattle.snl_kept.specs.Shifted.{ShiftsLines}
 use Rattle.snl_kept.specs.Stirred.{stirred_between}
 
@@ -42,8 +43,8 @@ pub record StaysItem (old text : List ℕ) (s : Shift) (x : ProgramItem) : Type 
   pub spelled_same : spelled text (shifted_tokens s x.tokens) ≡ spelled old x.tokens
   pub left : AllByRecursion (IsLeft old s) x.tokens
 
--- The items of a text before and after an edit inside one of them, which is between `front` and `back`: the others are shifted, and so
--- are the first `head` tokens of that one.
+-- The items of a text before and after an edit inside one of them, which is between `front` and
+-- `back`: the others are shifted, and so are the first `head` tokens of that one.
 pub record ReplacesInside (old text : List ℕ) (s : Shift) (head : ℕ) (front : List ProgramItem) (x y : ProgramItem) (back : List ProgramItem) : Type 0 where
   pub until : ℕ
   pub shift : IsLineShift old text (record { by = s; until = until })
@@ -67,11 +68,13 @@ own_shown text xs i x = shown_of text xs (own_findings text (outlines_in text) i
 abbrev pub SparesInside : ℕ → ℕ → List LinkFault → Type 0
 SparesInside head item faults = All (λ f. f.item ≡ item → f.token < head) faults
 
--- The number of the first token of the item with a number; the one after that item begins where it ends.
+-- The number of the first token of the item with a number; the one after that item begins where it
+-- ends.
 abbrev pub own_start : List ℕ → ℕ → ℕ
 own_start text i = last_end 0 (take i (item_ends text))
 
--- How many tokens of the item in the place of which an edit makes another are before those that the edit replaces.
+-- How many tokens of the item in the place of which an edit makes another are before those that the
+-- edit replaces.
 abbrev pub own_head : List ℕ → Changes → ℕ
 own_head old c = c.tokens.edit.start - own_start old c.items.kept_front
 
@@ -79,24 +82,26 @@ own_head old c = c.tokens.edit.start - own_start old c.items.kept_front
 abbrev pub DeclaresInHead : ℕ → Outline → Type 0
 DeclaresInHead head o = All (λ d. d.token < head) o.declares
 
--- What is known, by tests, of an edit inside one item: `x` is what was kept of the item, `e` what is made of it.
-pub record IsInside (old text : List ℕ) (start old_stop new_stop : ℕ) (c : Changes) (t : LineShift) (x e : Entry) : Type 0 where
-  pub changed : IsChanged old text start old_stop new_stop c
-  pub edit : IsEdit old text start old_stop new_stop
-  pub by : IsShiftOf old text start old_stop new_stop t.by
-  pub lines : ShiftsLines old text t
+-- What is known, by tests, of an edit inside one item: `x` is what was kept of the item, `e` what
+-- is made of it.
+pub record IsInside (edit : Edit) (c : Changes) (t : LineShift) (x e : Entry) : Type 0 where
+  pub changed : IsChanged edit c
+  pub edit_is : IsEdit edit.old edit.text edit.start edit.old_stop edit.new_stop
+  pub by : IsShiftOf edit.old edit.text edit.start edit.old_stop edit.new_stop t.by
+  pub lines : ShiftsLines edit.old edit.text t
   -- one item is made in the place of one
   pub one_made : length c.items.made.items ≡ 1
-  pub one_gone : c.items.kept_front + 1 + c.items.kept_back ≡ length (item_ends old)
+  pub one_gone : c.items.kept_front + 1 + c.items.kept_back ≡ length (item_ends edit.old)
   -- its first two tokens are before the edit
-  pub head : last_end 0 (take c.items.kept_front (item_ends old)) + 2 ≤ c.tokens.edit.start
-  pub was : slice_get (entries_of old) c.items.kept_front ≡ Some x
-  pub made : AreEntriesMade old text c.items.kept_front (e ∷ []) c.items.kept_back
-  -- a plain item in the place of another: it says to the other items what that one said; what it declares is before the edit, and it has no clauses
+  pub head : last_end 0 (take c.items.kept_front (item_ends edit.old)) + 2 ≤ c.tokens.edit.start
+  pub was : slice_get (entries_of edit.old) c.items.kept_front ≡ Some x
+  pub made : AreEntriesMade edit.old edit.text c.items.kept_front (e ∷ []) c.items.kept_back
+  -- a plain item in the place of another: it says to the other items what that one said; what it
+  -- declares is before the edit, and it has no clauses
   pub outline : e.summary.outline ≡ x.summary.outline
   pub plain : is_plain x.summary.kind ≡ true
   pub plain_now : is_plain e.summary.kind ≡ true
-  pub declared : DeclaresInHead (own_head old c) x.summary.outline
+  pub declared : DeclaresInHead (own_head edit.old c) x.summary.outline
   pub no_clause : x.summary.outline.clauses ≡ []
 
 -- The tokens of the item with a number.
@@ -108,22 +113,22 @@ abbrev pub own_check : List ℕ → List ℕ → ℕ → Option Checked
 own_check old text i = check_by (outlines_in old) i (spelled text (own_tokens text i))
 
 -- What such an edit does: the state is replaced inside, and no other item is to be checked.
-pub record IsOneReplaced (old text : List ℕ) (start old_stop new_stop : ℕ) (c : Changes) (t : LineShift) (x e : Entry) : Type 0 where
+pub record IsOneReplaced (edit : Edit) (c : Changes) (t : LineShift) (x e : Entry) : Type 0 where
   pub front : List ProgramItem
   pub back : List ProgramItem
   pub number : length front ≡ c.items.kept_front
-  pub inside : ReplacesInside old text t.by (own_head old c) front (program_item old (own_tokens old c.items.kept_front)) (program_item text (own_tokens text c.items.kept_front)) back
-  pub one : ReplacesOne old text t.by (moved_line t) (items_of old) (items_of text) c.items.kept_front
+  pub inside : ReplacesInside edit.old edit.text t.by (own_head edit.old c) front (program_item edit.old (own_tokens edit.old c.items.kept_front)) (program_item edit.text (own_tokens edit.text c.items.kept_front)) back
+  pub one : ReplacesOne edit.old edit.text t.by (moved_line t) (items_of edit.old) (items_of edit.text) c.items.kept_front
   -- the edit of the tokens is among its own
-  pub first : own_start old c.items.kept_front ≤ c.tokens.edit.start
-  pub stop : c.tokens.edit.old_stop ≤ own_start old (c.items.kept_front + 1)
-  pub within : own_start old (c.items.kept_front + 1) ≤ length (tokens_of old)
-  pub own_now : own_tokens text c.items.kept_front
-      ≡ tokens_between (tokens_of text) (own_start old c.items.kept_front) ((own_start old (c.items.kept_front + 1) - c.tokens.edit.old_stop) + c.tokens.edit.new_stop)
-  pub outline_was : outline_of_item old (program_item old (own_tokens old c.items.kept_front)) ≡ x.summary.outline
+  pub first : own_start edit.old c.items.kept_front ≤ c.tokens.edit.start
+  pub stop : c.tokens.edit.old_stop ≤ own_start edit.old (c.items.kept_front + 1)
+  pub within : own_start edit.old (c.items.kept_front + 1) ≤ length (tokens_of edit.old)
+  pub own_now : own_tokens edit.text c.items.kept_front
+      ≡ tokens_between (tokens_of edit.text) (own_start edit.old c.items.kept_front) ((own_start edit.old (c.items.kept_front + 1) - c.tokens.edit.old_stop) + c.tokens.edit.new_stop)
+  pub outline_was : outline_of_item edit.old (program_item edit.old (own_tokens edit.old c.items.kept_front)) ≡ x.summary.outline
   -- its kind may be another
-  pub kinds : (links_in text).kinds ≡ take c.items.kept_front (links_in old).kinds ++ (e.summary.kind ∷ drop (c.items.kept_front + 1) (links_in old).kinds)
-  pub was_spelled : x ≡ entry_by (spelled old (own_tokens old c.items.kept_front))
-  pub spelled_so : e ≡ entry_by (spelled text (own_tokens text c.items.kept_front))
-  pub checks : AreChecksMade old text c.items.kept_front (nones c.items.made.items) c.items.kept_back (made_at c.items.kept_front (own_check old text c.items.kept_front))
-  pub stirred : stirred_between old text start old_stop new_stop ≡ length (made_at c.items.kept_front (own_check old text c.items.kept_front))
+  pub kinds : (links_in edit.text).kinds ≡ take c.items.kept_front (links_in edit.old).kinds ++ (e.summary.kind ∷ drop (c.items.kept_front + 1) (links_in edit.old).kinds)
+  pub was_spelled : x ≡ entry_by (spelled edit.old (own_tokens edit.old c.items.kept_front))
+  pub spelled_so : e ≡ entry_by (spelled edit.text (own_tokens edit.text c.items.kept_front))
+  pub checks : AreChecksMade edit.old edit.text c.items.kept_front (nones c.items.made.items) c.items.kept_back (made_at c.items.kept_front (own_check edit.old edit.text c.items.kept_front))
+  pub stirred : stirred_between edit ≡ length (made_at c.items.kept_front (own_check edit.old edit.text c.items.kept_front))

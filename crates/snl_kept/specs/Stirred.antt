@@ -1,21 +1,23 @@
--- Which items of a text an edit makes to be checked: those that are sound, and are fresh or see the others in another way.
--- An edit puts the bytes of the new text from `start` up to `new_stop` in the place of those of the old one from `start` up to `old_stop`.
+-- Which items of a text an edit makes to be checked: those that are sound, and are fresh or see the
+-- others in another way.
 use Rattle.std.specs.Prelude.{ℕ, ◌+◌, ◌-◌, ◌&&◌, ◌||◌, Bool, not, nat_eq, nat_lt, if◌then◌else◌, List, length, count_by, get_or, is_some}
 use Rattle.std.specs.List.{enumerate_from, list_any}
 use Rattle.snl_cut.specs.Cut.{ends_below}
 use Rattle.snl_syntax.specs.Outcome.{sound_tree}
-use Rattle.snl_items.specs.Fresh.{fresh_items_between, spliced, token_edit_between}
+use Rattle.snl_items.specs.Fresh.{spliced, token_edit_between}
 use Rattle.snl_items.specs.Items.{item_ends}
 use Rattle.snl_scope.specs.View.{same_view}
 use Rattle.snl_kept.specs.declared.entries.Entry.{Entry}
 use Rattle.snl_kept.specs.Checks.{outlines_in}
+use Rattle.snl_kept.specs.Edit.{Edit, fresh_items_of}
 use Rattle.snl_kept.specs.Entries.{entries_of}
 
 -- Item i, which ends at the end with its number, is fresh if that is a fresh end.
 abbrev pub is_fresh : (ends fresh : List ℕ) → ℕ → Bool
 is_fresh ends fresh i = list_any (nat_eq (get_or ends i 0)) fresh
 
--- The number that a kept item had: the same, if it is one of so many before the edit; else the same counted from the end.
+-- The number that a kept item had: the same, if it is one of so many before the edit; else the same
+-- counted from the end.
 abbrev pub old_number : (before old_count count : ℕ) → ℕ → ℕ
 old_number before old_count count i = if nat_lt i before then i else (i + old_count) - count
 
@@ -29,11 +31,12 @@ is_stirred old text before fresh (i, entry) =
     is_some (sound_tree entry.parsed) && (is_fresh (item_ends text) fresh i || not (sees_the_same old text before i entry))
 
 -- How many items of the new text are stirred.
-unfoldable pub stirred_between : (old text : List ℕ) (start old_stop new_stop : ℕ) → ℕ
-stirred_between old text start old_stop new_stop =
-    let before = ends_below (token_edit_between old text start old_stop new_stop).start (item_ends old) in
-    count_by (is_stirred old text before (fresh_items_between old text start old_stop new_stop)) (enumerate_from 0 (entries_of text))
+unfoldable pub stirred_between : Edit → ℕ
+stirred_between edit =
+    let before = ends_below (token_edit_between edit.old edit.text edit.start edit.old_stop edit.new_stop).start (item_ends edit.old) in
+    count_by (is_stirred edit.old edit.text before (fresh_items_of edit)) (enumerate_from 0 (entries_of edit.text))
 
--- The same of an edit of one text, which puts other bytes in the place of those from `start` up to `stop`.
+-- The same of an edit of one text, which puts other bytes in the place of those from `start` up to
+-- `stop`.
 abbrev pub stirred : (text : List ℕ) (start stop : ℕ) (new : List ℕ) → ℕ
-stirred text start stop new = stirred_between text (spliced text start stop new) start stop (start + length new)
+stirred text start stop new = stirred_between (record { old = text; text = spliced text start stop new; start = start; old_stop = stop; new_stop = start + length new })

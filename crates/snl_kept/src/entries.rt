@@ -1,6 +1,7 @@
-//! What a session keeps of an item: what the parser made of it, and what it says to the others.
-//! In: tokens of a text, and where its items end among them. Out: an entry for each item, which goes by the spelling of its tokens
-//! alone, so that an edit elsewhere leaves it as it is. Items with nothing in them that are spelled alike, as `}` and `;`, share their entries.
+//! What a session keeps of an item: what the parser made of it, and what it says to the others. In:
+//! tokens of a text, and where its items end among them. Out: an entry for each item, which goes by
+//! the spelling of its tokens alone, so that an edit elsewhere leaves it as it is. Items with
+//! nothing in them that are spelled alike, as `}` and `;`, share their entries.
 #![tactic(auto)]
 
 ghost use Rattle.std.specs.Prelude.{◌≡◌, ◌-◌, ◌<◌, ◌≤◌, All, IfOk, IfSome, drop, length, map, take};
@@ -31,7 +32,8 @@ pub struct Entry {
 // The most entries that others share.
 const FEW: usize = 8;
 
-// Where an item is among the tokens of a text, and its entry, which others that are spelled alike share.
+// Where an item is among the tokens of a text, and its entry, which others that are spelled alike
+// share.
 #[derive(Drop)]
 struct CommonEntry {
     start: usize,
@@ -188,7 +190,8 @@ fn common_entry(
     Ok(entry)
 }
 
-// The entry of the item that has the tokens from `start` up to `stop`, shared where nothing is in it. It is parsed once.
+// The entry of the item that has the tokens from `start` up to `stop`, shared where nothing is in
+// it. It is parsed once.
 fn shared_entry(
     alloc: Global,
     common: &mut CommonEntries,
@@ -212,7 +215,8 @@ fn shared_entry(
     }
 }
 
-/// The entries of the items that end at these tokens, the first of which begins at token `from`. Each is parsed once.
+/// The entries of the items that end at these tokens, the first of which begins at token `from`.
+/// Each is parsed once.
 pub fn entries_along(
     alloc: Global,
     text: &[u8],

@@ -1,30 +1,32 @@
-//! What is kept of a text: its lists, its diagnostics and its tables. An edit of the text comes in, what it cost goes out.
-//! An edit has two steps: all that takes memory, and the change, which can't fail. It goes one of three ways: the short one, where it
-//! shifts all that the text says; that of one item, where it changes the inside of an item that says to the others what it said; and
-//! the whole one, where all is made anew.
+//! What is kept of a text: its lists, its diagnostics and its tables. An edit of the text comes in,
+//! what it cost goes out. An edit has two steps: all that takes memory, and the change, which can't
+//! fail. It goes one of three ways: the short one, where it shifts all that the text says; that of
+//! one item, where it changes the inside of an item that says to the others what it said; and the
+//! whole one, where all is made anew.
 #![tactic(auto)]
 
 ghost use Rattle.std.specs.Prelude.{◌≡◌, [], IfOk, OnErr, OnOk, vec_capacity};
-ghost use Rattle.snl_items.specs.Fresh.{fresh_pieces_between};
 ghost use Rattle.snl_lex.specs.LineList.{IsLineList};
 ghost use Rattle.snl_kept.specs.Checks.{links_in};
 ghost use Rattle.snl_kept.specs.Cost.{IsCost};
 ghost use Rattle.snl_kept.specs.Diagnostics.{diagnostics_of};
+ghost use Rattle.snl_kept.specs.Edit.{edit_of, fresh_pieces_of};
 ghost use Rattle.snl_kept.specs.Kept.{HasRoomFor, HasRoomForPlaces, IsKept};
-ghost use Rattle.snl_kept.specs.Planned.{HasRoom, HasRoomForAll, IsAnew, IsChanged, IsItemAnew, IsMade};
+ghost use Rattle.snl_kept.specs.Planned.{HasRoom, HasRoomForAll, IsChanged, IsItemPlan, IsPlan, IsWholePlan};
 ghost use Rattle.snl_kept.specs.Shifted.{IsShifted, ShiftsAll};
 ghost use Rattle.snl_kept.specs.Tables.{tables_in};
 ghost use Rattle.snl_kept.specs.Warnings.{warns_in};
 
+use crate::editing::Editing;
 use crate::found::diagnose::put_on_lines;
 use crate::found::findings::Diagnostic;
 use crate::found::judge::{Judgement, judge};
 use crate::found::program::CutText;
 use crate::laws::shift_laws::edit_shifts_all;
 use crate::lists::Lists;
-use crate::ways::item_plan::ItemAnew;
-use crate::ways::plan::{Anew, Changes, changes_of};
-use crate::ways::planning::{Made, made_by};
+use crate::plan::{Changes, ItemPlan, Plan, WholePlan};
+use crate::ways::changes::changes_of;
+use crate::ways::planning::plan_of;
 use crate::ways::shift::{shift_diagnostics, shift_of};
 use crate::work::Work;
 use snl_check::Tables;
@@ -35,7 +37,8 @@ use snl_lists::Ordered;
 use snl_scope::{Links, link};
 use std::alloc::Global;
 
-/// What is kept of a text, by whoever has the text: the lists of its parts, its diagnostics in order, and its tables.
+/// What is kept of a text, by whoever has the text: the lists of its parts, its diagnostics in
+/// order, and its tables.
 pub struct Kept {
     pub lists: Lists,
     pub found: Vec<Diagnostic>,
@@ -115,12 +118,13 @@ impl Kept {
         Ok(Kept::of_nothing(alloc, lines, links, judgement))
     }
 
-    // Shifts what is kept, by an edit that shifts all that the text says. There is room for the places that it makes, so it can't fail.
+    // Shifts what is kept, by an edit that shifts all that the text says. There is room for the
+    // places that it makes, so it can't fail.
     fn shift(&mut self, edit: &TextEdit, changes: &Changes, lines: LineList, shift: LineShift)
         requires kept { IsKept edit.now.old.now self.old }
-        requires changes { IsChanged edit.now.old.now edit.now.text.now edit.now.start edit.now.old_stop edit.now.new_stop changes.now }
+        requires changes { IsChanged (edit_of edit.now) changes.now }
         requires lines { IsLineList edit.now.text.now lines.ends.items lines.markers.items lines.naming.items }
-        requires shifted { IsShifted edit.now.old.now edit.now.text.now edit.now.start edit.now.old_stop edit.now.new_stop shift }
+        requires shifted { IsShifted (edit_of edit.now) shift }
         requires room { HasRoomForPlaces self.old.lists changes.now }
         ensures { IsKept edit.now.text.now self.new }
     {
@@ -129,23 +133,24 @@ impl Kept {
         self.tables.shift_lines(shift);
     }
 
-    // Puts what an edit inside one item makes anew in its place, and shifts the rest. There is room for it, so it can't fail.
-    fn put_item(&mut self, edit: &TextEdit, changes: &Changes, lines: LineList, anew: ItemAnew)
+    // Puts what an edit inside one item makes anew in its place, and shifts the rest. There is room
+    // for it, so it can't fail.
+    fn put_item(&mut self, edit: &TextEdit, changes: &Changes, lines: LineList, plan: ItemPlan)
         requires kept { IsKept edit.now.old.now self.old }
-        requires changes { IsChanged edit.now.old.now edit.now.text.now edit.now.start edit.now.old_stop edit.now.new_stop changes.now }
+        requires changes { IsChanged (edit_of edit.now) changes.now }
         requires lines { IsLineList edit.now.text.now lines.ends.items lines.markers.items lines.naming.items }
-        requires anew { IsItemAnew edit.now.old.now edit.now.text.now edit.now.start edit.now.old_stop edit.now.new_stop changes.now.items anew }
-        requires room { HasRoomFor self.old.lists changes.now anew.remade }
+        requires plan { IsItemPlan (edit_of edit.now) changes.now.items plan }
+        requires room { HasRoomFor self.old.lists changes.now plan.items }
         ensures { IsKept edit.now.text.now self.new }
     {
-        let ItemAnew {
-            remade,
+        let ItemPlan {
+            items,
             diagnostics,
             shift,
             change,
             work: _,
-        } = anew;
-        self.lists.commit(edit, changes, lines, remade);
+        } = plan;
+        self.lists.commit(edit, changes, lines, items);
         self.found = diagnostics;
         self.tables.shift_lines(shift);
         change.put_in(&mut self.tables);
@@ -153,37 +158,37 @@ impl Kept {
 
     // Puts all that an edit makes anew in its place. There is room for it, so it can't fail.
     #[tactic(auto, unfolding(crate::specs::Diagnostics::diagnostics_of))]
-    fn put_all(&mut self, edit: &TextEdit, changes: &Changes, lines: LineList, anew: Anew)
+    fn put_whole(&mut self, edit: &TextEdit, changes: &Changes, lines: LineList, plan: WholePlan)
         requires kept { IsKept edit.now.old.now self.old }
-        requires changes { IsChanged edit.now.old.now edit.now.text.now edit.now.start edit.now.old_stop edit.now.new_stop changes.now }
+        requires changes { IsChanged (edit_of edit.now) changes.now }
         requires lines { IsLineList edit.now.text.now lines.ends.items lines.markers.items lines.naming.items }
-        requires anew { IsAnew edit.now.old.now edit.now.text.now edit.now.start edit.now.old_stop edit.now.new_stop changes.now.items anew }
-        requires room { HasRoomForAll self.old.lists (vec_capacity self.old.found) changes.now anew }
+        requires plan { IsWholePlan (edit_of edit.now) changes.now.items plan }
+        requires room { HasRoomForAll self.old.lists (vec_capacity self.old.found) changes.now plan }
         ensures { IsKept edit.now.text.now self.new }
     {
-        let Anew {
-            remade,
+        let WholePlan {
+            items,
             findings,
             tables,
             work: _,
-        } = anew;
+        } = plan;
         put_on_lines(edit.text, &lines, &findings, &mut self.found);
-        self.lists.commit(edit, changes, lines, remade);
+        self.lists.commit(edit, changes, lines, items);
         self.tables = tables;
     }
 
     // Puts what an edit makes anew in its place. There is room for it, so it can't fail.
-    fn put(&mut self, edit: &TextEdit, changes: &Changes, lines: LineList, made: Made)
+    fn put(&mut self, edit: &TextEdit, changes: &Changes, lines: LineList, plan: Plan)
         requires kept { IsKept edit.now.old.now self.old }
-        requires changes { IsChanged edit.now.old.now edit.now.text.now edit.now.start edit.now.old_stop edit.now.new_stop changes.now }
+        requires changes { IsChanged (edit_of edit.now) changes.now }
         requires lines { IsLineList edit.now.text.now lines.ends.items lines.markers.items lines.naming.items }
-        requires made { IsMade edit.now.old.now edit.now.text.now edit.now.start edit.now.old_stop edit.now.new_stop changes.now.items made }
-        requires room { HasRoom self.old.lists (vec_capacity self.old.found) changes.now made }
+        requires plan { IsPlan (edit_of edit.now) changes.now.items plan }
+        requires room { HasRoom self.old.lists (vec_capacity self.old.found) changes.now plan }
         ensures { IsKept edit.now.text.now self.new }
     {
-        match made {
-            Made::Item(anew) => self.put_item(edit, changes, lines, anew),
-            Made::Whole(anew) => self.put_all(edit, changes, lines, anew),
+        match plan {
+            Plan::Item(plan) => self.put_item(edit, changes, lines, plan),
+            Plan::Whole(plan) => self.put_whole(edit, changes, lines, plan),
         }
     }
 
@@ -197,12 +202,12 @@ impl Kept {
         lexed: u64,
     ) -> Result<Work, OutOfMemory>
         requires kept { IsKept edit.now.old.now self.old }
-        requires changes { IsChanged edit.now.old.now edit.now.text.now edit.now.start edit.now.old_stop edit.now.new_stop changes.now }
+        requires changes { IsChanged (edit_of edit.now) changes.now }
         requires lines { IsLineList edit.now.text.now lines.ends.items lines.markers.items lines.naming.items }
-        requires shift { ShiftsAll edit.now.old.now edit.now.text.now edit.now.start edit.now.old_stop edit.now.new_stop shift }
-        requires lexed { lexed ≡ fresh_pieces_between edit.now.old.now edit.now.text.now edit.now.start edit.now.old_stop edit.now.new_stop }
+        requires shift { ShiftsAll (edit_of edit.now) shift }
+        requires lexed { lexed ≡ fresh_pieces_of (edit_of edit.now) }
         ensures kept { OnOk result (IsKept edit.now.text.now self.new) }
-        ensures cost { IfOk result (IsCost edit.now.old.now edit.now.text.now edit.now.start edit.now.old_stop edit.now.new_stop) }
+        ensures cost { IfOk result (IsCost (edit_of edit.now)) }
         ensures err { OnErr result (IsKept edit.now.old.now self.new) }
     {
         edit_shifts_all();
@@ -215,39 +220,40 @@ impl Kept {
         })
     }
 
-    // What an edit makes anew that changes what some item says, with room for it. An error leaves all as it was.
-    fn made_anew(
+    // What an edit makes anew that changes what some item says, with room for it. An error leaves
+    // all as it was.
+    fn planned(
         &mut self,
         edit: &TextEdit,
         changes: &Changes,
         lines: &LineList,
         lexed: u64,
-    ) -> Result<Made, OutOfMemory>
+    ) -> Result<Plan, OutOfMemory>
         requires kept { IsKept edit.now.old.now self.old }
-        requires changes { IsChanged edit.now.old.now edit.now.text.now edit.now.start edit.now.old_stop edit.now.new_stop changes.now }
+        requires changes { IsChanged (edit_of edit.now) changes.now }
         requires lines { IsLineList edit.now.text.now lines.now.ends.items lines.now.markers.items lines.now.naming.items }
-        requires lexed { lexed ≡ fresh_pieces_between edit.now.old.now edit.now.text.now edit.now.start edit.now.old_stop edit.now.new_stop }
+        requires lexed { lexed ≡ fresh_pieces_of (edit_of edit.now) }
         ensures kept { IsKept edit.now.old.now self.new }
-        ensures made { IfOk result (IsMade edit.now.old.now edit.now.text.now edit.now.start edit.now.old_stop edit.now.new_stop changes.now.items) }
+        ensures plan { IfOk result (IsPlan (edit_of edit.now) changes.now.items) }
         ensures room { IfOk result (HasRoom self.new.lists (vec_capacity self.new.found) changes.now) }
     {
         let alloc = *self.found.allocator();
-        let made = made_by(
-            alloc,
-            &self.lists,
-            &self.tables,
-            &self.found,
+        let editing = Editing {
+            lists: &self.lists,
+            tables: &self.tables,
+            found: &self.found,
             edit,
             changes,
             lines,
             lexed,
-        )?;
-        made.make_room(changes, &mut self.lists, &mut self.found)?;
-        Ok(made)
+        };
+        let plan = plan_of(alloc, &editing)?;
+        plan.make_room(changes, &mut self.lists, &mut self.found)?;
+        Ok(plan)
     }
 
     // The other ways of an edit, which changes what some item says.
-    fn edit_anew(
+    fn edit_by_plan(
         &mut self,
         edit: &TextEdit,
         changes: &Changes,
@@ -255,24 +261,56 @@ impl Kept {
         lexed: u64,
     ) -> Result<Work, OutOfMemory>
         requires kept { IsKept edit.now.old.now self.old }
-        requires changes { IsChanged edit.now.old.now edit.now.text.now edit.now.start edit.now.old_stop edit.now.new_stop changes.now }
+        requires changes { IsChanged (edit_of edit.now) changes.now }
         requires lines { IsLineList edit.now.text.now lines.ends.items lines.markers.items lines.naming.items }
-        requires lexed { lexed ≡ fresh_pieces_between edit.now.old.now edit.now.text.now edit.now.start edit.now.old_stop edit.now.new_stop }
+        requires lexed { lexed ≡ fresh_pieces_of (edit_of edit.now) }
         ensures kept { OnOk result (IsKept edit.now.text.now self.new) }
-        ensures cost { IfOk result (IsCost edit.now.old.now edit.now.text.now edit.now.start edit.now.old_stop edit.now.new_stop) }
+        ensures cost { IfOk result (IsCost (edit_of edit.now)) }
         ensures err { OnErr result (IsKept edit.now.old.now self.new) }
     {
-        let made = self.made_anew(edit, changes, &lines, lexed)?;
-        let work = made.work();
-        self.put(edit, changes, lines, made);
+        let plan = self.planned(edit, changes, &lines, lexed)?;
+        let work = plan.work();
+        self.put(edit, changes, lines, plan);
         Ok(work)
     }
 
-    /// Makes what is kept of the text before an edit that of the text after it, and tells what that cost. An error leaves all as it was.
+    // Makes an edit, by what it makes of the parts of the text and by the lines of the new text.
+    fn edit_by(
+        &mut self,
+        edit: &TextEdit,
+        changes: &Changes,
+        lines: LineList,
+        lexed: u64,
+    ) -> Result<Work, OutOfMemory>
+        requires kept { IsKept edit.now.old.now self.old }
+        requires changes { IsChanged (edit_of edit.now) changes.now }
+        requires lines { IsLineList edit.now.text.now lines.ends.items lines.markers.items lines.naming.items }
+        requires lexed { lexed ≡ fresh_pieces_of (edit_of edit.now) }
+        ensures kept { OnOk result (IsKept edit.now.text.now self.new) }
+        ensures cost { IfOk result (IsCost (edit_of edit.now)) }
+        ensures err { OnErr result (IsKept edit.now.old.now self.new) }
+    {
+        let editing = Editing {
+            lists: &self.lists,
+            tables: &self.tables,
+            found: &self.found,
+            edit,
+            changes,
+            lines: &lines,
+            lexed,
+        };
+        match shift_of(&editing) {
+            Some(shift) => self.edit_by_shift(edit, changes, lines, shift, lexed),
+            None => self.edit_by_plan(edit, changes, lines, lexed),
+        }
+    }
+
+    /// Makes what is kept of the text before an edit that of the text after it, and tells what that
+    /// cost. An error leaves all as it was.
     pub fn edit(&mut self, edit: &TextEdit) -> Result<Work, OutOfMemory>
         requires { IsKept edit.now.old.now self.old }
         ensures kept { OnOk result (IsKept edit.now.text.now self.new) }
-        ensures cost { IfOk result (IsCost edit.now.old.now edit.now.text.now edit.now.start edit.now.old_stop edit.now.new_stop) }
+        ensures cost { IfOk result (IsCost (edit_of edit.now)) }
         ensures err { OnErr result (IsKept edit.now.old.now self.new) }
     {
         pieces_are_fresh();
@@ -281,9 +319,6 @@ impl Kept {
         let changes = changes_of(alloc, &self.lists, edit, &mut lexed)?;
         let lines = self.lists.lines.after(alloc, edit, &changes.pieces)?;
         let lexed = lexed.ticks();
-        match shift_of(&self.lists, &self.found, edit, &changes, &lines) {
-            Some(shift) => self.edit_by_shift(edit, &changes, lines, shift, lexed),
-            None => self.edit_anew(edit, &changes, lines, lexed),
-        }
+        self.edit_by(edit, &changes, lines, lexed)
     }
 }

@@ -1,17 +1,18 @@
-//! The lists that a session keeps of its text: its pieces, its lines, its tokens and items, and what is kept of each item.
-//! In: what an edit makes of them. Out: the lists, those of the new text after a change that can't fail.
+//! The lists that a session keeps of its text: its pieces, its lines, its tokens and items, and
+//! what is kept of each item. In: what an edit makes of them. Out: the lists, those of the new text
+//! after a change that can't fail.
 #![tactic(auto)]
 
 ghost use Rattle.std.specs.Prelude.{◌≡◌, OnOk};
 ghost use Rattle.snl_lex.specs.LineList.{IsLineList};
+ghost use Rattle.snl_kept.specs.Edit.{edit_of};
 ghost use Rattle.snl_kept.specs.Kept.{ArePlaces, HasRoomFor, HasRoomForPlaces, IsListed, SameItems, SameLists};
-ghost use Rattle.snl_kept.specs.Planned.{IsChanged, IsRemade};
+ghost use Rattle.snl_kept.specs.Planned.{IsChanged, IsItemsPlan};
 
 use crate::entries::Entry;
+use crate::kept_checks::put;
+use crate::plan::{Changes, ItemsPlan};
 use crate::shared::Shared;
-use crate::ways::plan::Changes;
-use crate::ways::recheck::{MadeCheck, put};
-use crate::ways::relink::NewLinks;
 use snl_check::Checked;
 use snl_cut::OutOfMemory;
 use snl_items::ItemList;
@@ -19,8 +20,9 @@ use snl_lex::{LineList, PieceList, TextEdit};
 use snl_lists::Ordered;
 use snl_scope::Links;
 
-/// The pieces of a text, its lines, the marks of its tokens, where its items end among them, what is kept of each item, what names mean among
-/// the items, what the check of each item gave, and whether warnings are shown.
+/// The pieces of a text, its lines, the marks of its tokens, where its items end among them, what
+/// is kept of each item, what names mean among the items, what the check of each item gave, and
+/// whether warnings are shown.
 #[derive(Drop)]
 pub struct Lists {
     pub pieces: PieceList,
@@ -30,55 +32,6 @@ pub struct Lists {
     pub links: Links,
     pub checks: Ordered<Shared<Option<Checked>>>,
     pub warns: bool,
-}
-
-/// What an edit makes of the links and the checks: what becomes of the links, places for the checks of the items that are made, and the checks.
-pub struct Rechecked {
-    pub links: NewLinks,
-    pub vacant: Vec<Shared<Option<Checked>>>,
-    pub made: Vec<MadeCheck>,
-}
-
-// By hand, so that whoever holds it need not know what is in it to let it go.
-impl Drop for Rechecked {
-    fn drop(self) {
-        let Rechecked {
-            links: _,
-            vacant: _,
-            made: _,
-        } = self;
-    }
-}
-
-/// What an edit makes of all that is kept of the items: what is kept of those that are made, what becomes of the links, places
-/// for the checks of the items that are made, the checks, and whether warnings are shown.
-#[derive(Drop)]
-pub struct Remade {
-    pub made: Vec<Shared<Entry>>,
-    pub links: NewLinks,
-    pub vacant: Vec<Shared<Option<Checked>>>,
-    pub checks: Vec<MadeCheck>,
-    pub warns: bool,
-}
-
-impl Rechecked {
-    /// What is made of all that is kept of the items, with what is kept of those that are made and whether warnings are shown.
-    pub fn remade(self, made: Vec<Shared<Entry>>, warns: bool) -> Remade
-        ensures { result ≡ record { made = made; links = self.links; vacant = self.vacant; checks = self.made; warns = warns } }
-    {
-        let Rechecked {
-            links,
-            vacant,
-            made: checks,
-        } = self;
-        Remade {
-            made,
-            links,
-            vacant,
-            checks,
-            warns,
-        }
-    }
 }
 
 // Puts other lines in the place of these, which are let go here, apart from all else.
@@ -102,20 +55,21 @@ impl Lists {
     }
 
     /// Makes room for what an edit makes. An error leaves the lists as they were.
-    pub fn reserve(&mut self, changes: &Changes, remade: &Remade) -> Result<(), OutOfMemory>
+    pub fn reserve(&mut self, changes: &Changes, plan: &ItemsPlan) -> Result<(), OutOfMemory>
         ensures lists { SameLists self.old self.new }
-        ensures room { OnOk result (HasRoomFor self.new changes.now remade.now) }
+        ensures room { OnOk result (HasRoomFor self.new changes.now plan.now) }
     {
         self.reserve_places(changes)?;
-        self.entries.reserve(remade.made.len())?;
-        self.checks.reserve(remade.vacant.len())?;
+        self.entries.reserve(plan.made.len())?;
+        self.checks.reserve(plan.vacant.len())?;
         Ok(())
     }
 
-    /// Makes the places in the old text those in the new one. There is room for those that are made, so it can't fail.
+    /// Makes the places in the old text those in the new one. There is room for those that are
+    /// made, so it can't fail.
     pub fn commit_places(&mut self, edit: &TextEdit, changes: &Changes, lines: LineList)
         requires places { ArePlaces edit.now.old.now self.old }
-        requires changes { IsChanged edit.now.old.now edit.now.text.now edit.now.start edit.now.old_stop edit.now.new_stop changes.now }
+        requires changes { IsChanged (edit_of edit.now) changes.now }
         requires lines { IsLineList edit.now.text.now lines.ends.items lines.markers.items lines.naming.items }
         requires room { HasRoomForPlaces self.old changes.now }
         ensures places { ArePlaces edit.now.text.now self.new }
@@ -126,22 +80,23 @@ impl Lists {
         self.items.commit(edit, &changes.tokens, &changes.items);
     }
 
-    /// Makes the lists of the old text those of the new one. There is room for what is made, so it can't fail.
-    pub fn commit(&mut self, edit: &TextEdit, changes: &Changes, lines: LineList, remade: Remade)
+    /// Makes the lists of the old text those of the new one. There is room for what is made, so it
+    /// can't fail.
+    pub fn commit(&mut self, edit: &TextEdit, changes: &Changes, lines: LineList, plan: ItemsPlan)
         requires lists { IsListed edit.now.old.now self.old }
-        requires changes { IsChanged edit.now.old.now edit.now.text.now edit.now.start edit.now.old_stop edit.now.new_stop changes.now }
+        requires changes { IsChanged (edit_of edit.now) changes.now }
         requires lines { IsLineList edit.now.text.now lines.ends.items lines.markers.items lines.naming.items }
-        requires remade { IsRemade edit.now.old.now edit.now.text.now changes.now.items.kept_front changes.now.items.kept_back remade }
-        requires room { HasRoomFor self.old changes.now remade }
+        requires plan { IsItemsPlan (edit_of edit.now) changes.now.items plan }
+        requires room { HasRoomFor self.old changes.now plan }
         ensures { IsListed edit.now.text.now self.new }
     {
-        let Remade {
+        let ItemsPlan {
             made,
             links,
             vacant,
             checks,
             warns,
-        } = remade;
+        } = plan;
         let back = self.entries.len() - changes.items.kept_back;
         self.commit_places(edit, changes, lines);
         self.entries.replace(changes.items.kept_front, back, made);

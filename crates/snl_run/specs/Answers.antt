@@ -17,7 +17,8 @@ finding_text d = concat (decimal d.line ∷ codes ": " ∷ name_of d.code ∷ co
 abbrev pub line_text : (text : List ℕ) → Diagnostic → List ℕ
 line_text text d = concat (file_text text d.file ∷ finding_text d ∷ quoted (slice_of text d.offset d.subject) ∷ codes "\n" ∷ [])
 
--- The answer to `check`: the diagnostics of the text, a line each, and how many errors and warnings there are.
+-- The answer to `check`: the diagnostics of the text, a line each, and how many errors and warnings
+-- there are.
 abbrev pub report_of : List ℕ → List ℕ
 report_of text = flat_map (line_text text) (diagnostics_of text) ++ sum_text (errors_of text) (warnings_of text)
 

@@ -34,7 +34,8 @@ pub record RanFrom (end : Result Status RunFault) (file : Held) (before left old
   pub fits : length source ≤ limit
   pub ran : Ran end before left old new (first_version source)
 
--- What is known by the end: of the run; or why the file gives no source, and that nothing was read or written then.
+-- What is known by the end: of the run; or why the file gives no source, and that nothing was read
+-- or written then.
 abbrev pub RanOver : Result Status Fault → Held → (before left old new : Option (List ℕ)) → Type 0
 RanOver (Ok status) file before left old new = RanFrom (Ok status) file before left old new
 RanOver (Err (Run fault)) file before left old new = RanFrom (Err fault) file before left old new

@@ -6,7 +6,8 @@ use Rattle.snl_script.specs.Watched.{failed_of, inner_of}
 use Rattle.snl_script.specs.Said.{AppendsPart, Says, Written}
 use Rattle.snl_run.specs.Answers.{list_text}
 
--- What is known of a page and its writer: which writer it is, what it holds, whether it failed, and what is on the page.
+-- What is known of a page and its writer: which writer it is, what it holds, whether it failed, and
+-- what is on the page.
 pub record Desk : Type 0 where
   pub writer : GName
   pub contents : Option (List ℕ)

@@ -13,11 +13,13 @@ use Rattle.snl_script.specs.Script.{Request, Unknown, next_of}
 use Rattle.snl_run.specs.Transcript.{Begins, HoldsNone, IsFair, MayStarve, Turn, after, edited, refused_for, reply, status_of, transcript, version_after}
 use Rattle.snl_run.specs.Version.{Version, next_version}
 
--- The rest of what was read is at most a command that is begun and the bytes of one read: so much of a script that goes nowhere is kept.
+-- The rest of what was read is at most a command that is begun and the bytes of one read: so much
+-- of a script that goes nowhere is kept.
 abbrev pub most_kept : ℕ
 most_kept = 80 + 1 + 2097152 + 4096
 
--- The bytes that were read are some commands and a rest, and the transcript of these commands was written, from this first version on.
+-- The bytes that were read are some commands and a rest, and the transcript of these commands was
+-- written, from this first version on.
 pub record Told (before left old new : Option (List ℕ)) (first : Version) (Ends : (read rest : List ℕ) (last : Version) → Type 0) : Type 0 where
   pub read : List ℕ
   pub turns : List Turn
@@ -29,7 +31,8 @@ pub record Told (before left old new : Option (List ℕ)) (first : Version) (End
   pub written : Appends old new (transcript first turns)
   pub ends : Ends read rest (version_after first turns)
 
--- The bytes that were read are some commands and a rest, and a front of the transcript of these commands was written.
+-- The bytes that were read are some commands and a rest, and a front of the transcript of these
+-- commands was written.
 pub record ToldPart (before left old new : Option (List ℕ)) (first : Version) : Type 0 where
   pub read : List ℕ
   pub turns : List Turn
@@ -40,14 +43,16 @@ pub record ToldPart (before left old new : Option (List ℕ)) (first : Version) 
   pub fair : IsFair first turns
   pub written : AppendsPart old new (transcript first turns)
 
--- The script neither ends after these bytes nor has a well-formed command there, whatever is left of it.
+-- The script neither ends after these bytes nor has a well-formed command there, whatever is left
+-- of it.
 abbrev pub IsMalformed : (rest : List ℕ) → (left : Option (List ℕ)) → Type 0
 IsMalformed rest left = IfSome (prepend_known rest left) (λ bytes. next_of bytes ≡ Unknown)
 
--- What is known of a run from a version on, by its end: what is left of the script, and what the writer holds.
---   the script is whole commands and nothing else, and the status is that of the last text;
---   at a fault of the script, of reading, of memory and of too many reads, the commands are all that are whole among the bytes read;
---   at a fault of writing a front of the transcript was written, and where the source is too large, nothing was read or written.
+-- What is known of a run from a version on, by its end: what is left of the script, and what the
+-- writer holds. the script is whole commands and nothing else, and the status is that of the last
+-- text; at a fault of the script, of reading, of memory and of too many reads, the commands are all
+-- that are whole among the bytes read; at a fault of writing a front of the transcript was written,
+-- and where the source is too large, nothing was read or written.
 abbrev pub Ran : Result Status RunFault → (before left old new : Option (List ℕ)) → (first : Version) → Type 0
 Ran (Ok status) before left old new first = Told before left old new first (λ read rest last. (rest ≡ []) × IsAtEnd left × (status ≡ status_of last.text))
 Ran (Err (Script at)) before left old new first = Told before left old new first (λ read rest last. (at + length rest ≡ length read) × HoldsNone rest × IsMalformed rest left)

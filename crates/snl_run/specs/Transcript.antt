@@ -44,7 +44,8 @@ after version Lists starved = version
 after version Works starved = version
 after version (Edits start stop new) starved = edited (refused_for version.text start stop new starved) version (next_version version.text start stop new)
 
--- Memory can be wanting for an edit that nothing else refuses and for a listing, and never for `check` and `work`.
+-- Memory can be wanting for an edit that nothing else refuses and for a listing, and never for
+-- `check` and `work`.
 abbrev pub MayStarve : (text : List ℕ) → Request → Type 0
 MayStarve text Checks = ⊥
 MayStarve text Lists = ⊤

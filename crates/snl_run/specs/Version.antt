@@ -5,7 +5,8 @@ use Rattle.snl_kept.specs.declared.work.Work.{Work}
 use Rattle.snl_session.specs.Edit.{spliced}
 use Rattle.snl_kept.specs.Stirred.{stirred}
 
--- What an edit of a text costs: how many pieces of the new text are fresh, how many items are, and how many items it makes to be checked.
+-- What an edit of a text costs: how many pieces of the new text are fresh, how many items are, and
+-- how many items it makes to be checked.
 unfoldable pub work_of : (text : List ℕ) (start stop : ℕ) (new : List ℕ) → Work
 work_of text start stop new = record {
   lexed = fresh_pieces text start stop new;

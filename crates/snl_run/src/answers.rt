@@ -1,6 +1,6 @@
 //! The answers to commands, as bytes.
-//! In: a session, what became of an edit, or what it cost. Out: the answer's bytes, said to a page and its writer.
-//! Takes no memory. Knows nothing of scripts.
+//! In: a session, what became of an edit, or what it cost. Out: the answer's bytes, said to a page
+//! and its writer. Takes no memory. Knows nothing of scripts.
 #![tactic(auto)]
 
 ghost use Rattle.std.specs.Prelude.{◌≡◌, ℕ, ◌+◌, ◌==◌, ◌<◌, ◌||◌, [], ◌++◌, List, length, take, flat_map, is_err, OnOk};

@@ -1,6 +1,6 @@
 //! A text under edit.
-//! In: a source, and edits. Out: a session over the text, and what the last edit that was made cost.
-//! Knows nothing of scripts and answers.
+//! In: a source, and edits. Out: a session over the text, and what the last edit that was made
+//! cost. Knows nothing of scripts and answers.
 #![tactic(auto)]
 
 ghost use Rattle.std.specs.Prelude.{◌≡◌, ◌≤◌, [], length, IfErr, IfOk, OnOk};

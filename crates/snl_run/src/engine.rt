@@ -123,7 +123,8 @@ pub fn run<R: Read, W: Write>(
     ensures write { failed_of out.new ≡ is_write_fault result }
     ensures turns { IsErrOf result RunFault.TooManyTurns → calls_of script.new ≡ 16777216 }
 
-    // A source that is too large is refused, unless memory was wanting before; then too nothing is read or written.
+    // A source that is too large is refused, unless memory was wanting before; then too nothing is
+    // read or written.
     ensures large { limit < length initial.now → IsErrOf result RunFault.Source ⊎ IsErrOf result RunFault.Memory }
     ensures unheard { limit < length initial.now → calls_of script.new ≡ 0 }
     ensures silent { limit < length initial.now → calls_of out.new ≡ 0 }
@@ -131,7 +132,8 @@ pub fn run<R: Read, W: Write>(
     let mut document = Document::begin(alloc, initial)?;
     let mut ahead = Ahead::new(alloc);
     let ended = serve(&mut document, &mut ahead, script, out);
-    // The program ends here: the system takes back what the document holds at once, and much faster than piece by piece.
+    // The program ends here: the system takes back what the document holds at once, and much faster
+    // than piece by piece.
     forget(document);
     ended
 }

@@ -15,7 +15,8 @@ use std::io::Read;
 /// A text has so many bytes at most.
 const LIMIT: usize = 1_048_576;
 
-/// Reads the source that a file holds. A read that answers an `Err` of any kind makes the file unreadable.
+/// Reads the source that a file holds. A read that answers an `Err` of any kind makes the file
+/// unreadable.
 pub fn read_source<R: Read>(alloc: Global, file: &mut Watched<R>) -> Result<Vec<u8>, SourceFault>
     // All the bytes of the file, or none.
     ensures whole { IfOk result (λ source. IfSome (R.remaining (inner_of file.old)) (λ all. source.items ≡ all)) }

@@ -8,7 +8,8 @@ use Rattle.snl_session.specs.declared.edits.Refused.TheVariants.{Range, Size}
 abbrev pub limit : ℕ
 limit = 1048576
 
--- Why an edit of this range that adds so many bytes is refused, but for want of memory: the range is tested first, then the size of the new text.
+-- Why an edit of this range that adds so many bytes is refused, but for want of memory: the range
+-- is tested first, then the size of the new text.
 abbrev pub refusal_of : (text : List ℕ) (start stop added : ℕ) → Option Refused
 refusal_of text start stop added =
     if nat_lt stop start || nat_lt (length text) stop then Some Range

@@ -3,7 +3,8 @@
 
 use thiserror::Error;
 
-/// Why a call changed nothing. An edit tests its range first, then the size, and then asks for memory.
+/// Why a call changed nothing. An edit tests its range first, then the size, and then asks for
+/// memory.
 #[derive(Clone, Copy, Debug, PartialEq, Eq, Error)]
 pub enum Refused {
     /// The range ends before it begins, or after the text.

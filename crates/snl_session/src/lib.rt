@@ -1,6 +1,7 @@
-//! The session layer: a text that is edited by ranges of bytes comes in, its diagnostics, its tables and its listing go out.
-//! Whatever edits led to a text, these are those that the text alone defines. It has the text and what is kept of it, tests the range and
-//! the size of an edit, and knows nothing of scripts, of files or of how a diagnostic is printed.
+//! The session layer: a text that is edited by ranges of bytes comes in, its diagnostics, its
+//! tables and its listing go out. Whatever edits led to a text, these are those that the text alone
+//! defines. It has the text and what is kept of it, tests the range and the size of an edit, and
+//! knows nothing of scripts, of files or of how a diagnostic is printed.
 #![tactic(auto)]
 
 mod edits;

@@ -1,5 +1,6 @@
 //! The session: edits of a text come in, its diagnostics and tables go out.
-//! An edit has three steps: the test of its range and size, all that takes memory, and the change, which cannot fail.
+//! An edit has three steps: the test of its range and size, all that takes memory, and the change,
+//! which cannot fail.
 #![tactic(auto)]
 
 ghost use Rattle.std.specs.Prelude.{◌≡◌, ℕ, ◌+◌, ◌≤◌, [], List, length, IfOk, OnOk, OnErr, IsErrOf, IsOkUnless, MatchOption, None, string_bytes, true};
@@ -17,7 +18,8 @@ use std::marker::Model;
 /// The number of bytes that a text has at most.
 const LIMIT: usize = 1_048_576;
 
-/// A text, its diagnostics and its tables. Its value is the text: all that it answers is what the text alone defines.
+/// A text, its diagnostics and its tables. Its value is the text: all that it answers is what the
+/// text alone defines.
 pub struct Session {
     text: Vec<u8>,
     kept: Kept,
@@ -60,7 +62,8 @@ impl Session {
         Session::empty(alloc).map_err(|_| Refused::Memory)
     }
 
-    /// Puts other bytes in the place of those from `start` up to `stop`, and tells what that cost. An `Err` changes nothing.
+    /// Puts other bytes in the place of those from `start` up to `stop`, and tells what that cost.
+    /// An `Err` changes nothing.
     pub fn edit(&mut self, start: usize, stop: usize, new: &[u8]) -> Result<Work, Refused>
         ensures ok { OnOk result (self.new ≡ spliced self.old start stop new.now) }
         ensures lexed { IfOk result (λ work. work.lexed ≡ fresh_pieces self.old start stop new.now) }
@@ -84,7 +87,8 @@ impl Session {
         self.text.as_slice()
     }
 
-    /// The diagnostics of the text. They rise by offset, and at one offset by code: no two have one offset and one code.
+    /// The diagnostics of the text. They rise by offset, and at one offset by code: no two have one
+    /// offset and one code.
     pub fn diagnostics(&self) -> &[Diagnostic]
         ensures of_text { result.now ≡ diagnostics_of self.now }
         ensures rising { AllPairs (λ x y. stands_before x y ≡ true) result.now }
@@ -93,7 +97,8 @@ impl Session {
         self.kept.found.as_slice()
     }
 
-    /// The tables of the text. The bytes that their rows speak of lie in it, at least one for each name.
+    /// The tables of the text. The bytes that their rows speak of lie in it, at least one for each
+    /// name.
     pub fn tables(&self) -> &Tables
         ensures of_text { result.now ≡ tables_in self.now }
         ensures spans { TablesLieIn self.now result.now }
@@ -103,7 +108,8 @@ impl Session {
         &self.kept.tables
     }
 
-    /// A writer of the text's listing, which has all the memory that it needs. The only refusal is that of memory.
+    /// A writer of the text's listing, which has all the memory that it needs. The only refusal is
+    /// that of memory.
     pub fn lister(&self) -> Result<Lister, Refused>
         ensures ok { IfOk result (IsFor (tables_in self.now)) }
         ensures refused { IsOkUnless result Refused.Memory }
@@ -152,7 +158,8 @@ impl Session {
         None
     }
 
-    // Makes an edit that nothing but want of memory can refuse: first all that takes memory, then the change.
+    // Makes an edit that nothing but want of memory can refuse: first all that takes memory, then
+    // the change.
     fn replace(&mut self, start: usize, stop: usize, new: &[u8]) -> Result<Work, OutOfMemory>
         requires { refusal_of self.old start stop (length new.now) ≡ None }
         ensures ok { OnOk result (self.new ≡ spliced self.old start stop new.now) }

@@ -4,7 +4,8 @@ use snl_session::{Refused, Session, Work};
 use std::alloc::Global;
 use std::test::Fail;
 
-// An edit, how many pieces and items it makes anew and how many items it checks, and the lines and codes of what is found after it.
+// An edit, how many pieces and items it makes anew and how many items it checks, and the lines and
+// codes of what is found after it.
 struct Step {
     start: usize,
     stop: usize,
@@ -134,7 +135,8 @@ const ONE_PIECE: Work = Work {
     checked: 0,
 };
 
-// An edit that puts so many blanks in the place of a range, what it answers, and how long the text is then.
+// An edit that puts so many blanks in the place of a range, what it answers, and how long the text
+// is then.
 static ANSWERS: [(usize, usize, usize, Result<Work, Refused>, usize); 10] = [
     (5, 4, 0, Err(Refused::Range), 0),
     (0, 1, 0, Err(Refused::Range), 0),
@@ -149,7 +151,8 @@ static ANSWERS: [(usize, usize, usize, Result<Work, Refused>, usize); 10] = [
     (50, 1_048_576, 0, Ok(ONE_PIECE), 50),
 ];
 
-// An edit of the first step's text, how many pieces and items it makes anew, and how many items it checks.
+// An edit of the first step's text, how many pieces and items it makes anew, and how many items it
+// checks.
 static FRESH: [(usize, usize, &[u8], u64, u64, u64); 7] = [
     // the name of a state, to which another one leads
     (149, 149, b"x", 1, 1, 2),

@@ -1,5 +1,6 @@
 //! Runs whose reader or writer fails.
-//! In: a script, from a reader that gives few bytes a call and fails. Out: the answers, to a writer that takes few and fails.
+//! In: a script, from a reader that gives few bytes a call and fails. Out: the answers, to a writer
+//! that takes few and fails.
 
 use crate::fakes::{Failure, Pieces, Takes};
 use crate::runs::{MANY, expect_run};
@@ -13,7 +14,8 @@ const WHOLE: &[u8] =
 const WHOLE_SAID: &[u8] =
     b"ok\nerrors 0 warnings 0\nprogram p\nflag 1 f program\nchannel 0 x program \"dev:x\" monitor sync 1\nss a line 7\nstate s1 line 8 reached\n  when 0 s2\n  wake f1 c0\nstate s2 line 13 reached\n  when 0 s1\n  wake -\nend\nwork lexed 105 parsed 10 checked 10\n";
 
-/// The bytes of that script from which on a command is whole, and how many bytes are written when it is answered.
+/// The bytes of that script from which on a command is whole, and how many bytes are written when
+/// it is answered.
 static ANSWERED: [(u64, usize); 5] = [(0, 0), (191, 3), (197, 23), (202, 204), (207, 240)];
 
 /// What the whole commands among so many bytes of that script are answered.
@@ -43,7 +45,8 @@ fn breaks_off_where_a_read_fails(rt: HostRuntime) {
     }
 }
 
-// A run that writes to a writer that takes so many bytes a call, and fails once so many calls were made.
+// A run that writes to a writer that takes so many bytes a call, and fails once so many calls were
+// made.
 fn expect_write_fault(rt: &(impl Abort + AllocGlobal), most: usize, calls: u64, failure: Failure) {
     let mut script = Watched::new(Pieces::new(WHOLE, 5, MANY));
     let taken = Takes::new(Vec::new(rt.alloc()), most, calls, failure);

@@ -1,12 +1,14 @@
-//! Edits of white space and comments, which only shift what a session has, edits that are nearly so, and edits inside items, which change
-//! what is found in their state set. After each of them, and after it is undone, the session is held against one that gets the text in one edit.
+//! Edits of white space and comments, which only shift what a session has, edits that are nearly
+//! so, and edits inside items, which change what is found in their state set. After each of them,
+//! and after it is undone, the session is held against one that gets the text in one edit.
 
 use snl_session::Session;
 use std::alloc::Global;
 use std::process::Abort;
 use std::test::Fail;
 
-// Findings of each kind are in it: at faulty items, by links, in items, inside a token, and at a state that isn't reached.
+// Findings of each kind are in it: at faulty items, by links, in items, inside a token, and at a
+// state that isn't reached.
 static TEXT: &str =
     "/* first */ program p\noption +rz;\nint x; // a flag\nint x;\nint\n y;\nassign x to \"dev:x\";\nmonitor z;\nevflag f; sync x to f;\nstray @ item;\nstruct r { int a; };\nstate lost { when () { } exit }\n%%local code\nss a {\nstruct q { int b; };\nstate s1 {\noption -tq;\nwhen (efTest(f) && x > 3) {\npvPut(x); v = 1;\n} state s2\n}\n\nstate\ts2 { /* none */\nwhen () { } state s4\n}\nstate s3 { when () { } exit }\n}\n/* next */ ss /* b */ b { state t {\nwhen (delay(1)) { } exit } }\n";
 

@@ -1,5 +1,6 @@
 //! The words of the command line, and sources that are read from files.
-//! In: words; readers that give few bytes a call and fail. Out: the path that is named, the bytes of the source.
+//! In: words; readers that give few bytes a call and fail. Out: the path that is named, the bytes
+//! of the source.
 
 use crate::fakes::Pieces;
 use snl_run::{SourceFault, Watched, read_source};

@@ -1,5 +1,5 @@
-//! Texts with the rows of their tables, told from the language's rules; and the tables of a session after each edit and after a
-//! refused one.
+//! Texts with the rows of their tables, told from the language's rules; and the tables of a session
+//! after each edit and after a refused one.
 
 use snl_lex::Line;
 use snl_session::{
@@ -321,8 +321,8 @@ fn tables_of_texts(rt: HostRuntime) -> Result<(), Fail> {
     Ok(())
 }
 
-// Edits of one session in turn: a range, the number of the text in TEXTS that is put there, and the number of the text whose
-// tables the session has after it.
+// Edits of one session in turn: a range, the number of the text in TEXTS that is put there, and the
+// number of the text whose tables the session has after it.
 static EDITS: [(usize, usize, usize, usize); 5] = [
     (0, 0, 0, 0),
     (0, 178, 9, 0),

@@ -19,7 +19,8 @@ pub struct Counts {
     pub stirred: usize,
 }
 
-// Whether an item of the new text is sound, and is fresh or sees the others in another way. It had the old number, if it is kept.
+// Whether an item of the new text is sound, and is fresh or sees the others in another way. It had
+// the old number, if it is kept.
 fn is_stirred(old: &ReadText, new: &ReadText, number: usize, old_number: Option<usize>) -> bool {
     let is_faulty = match new.items.summaries.get(number) {
         Some(summary) => summary.kind == ItemKind::Faulty,
@@ -34,7 +35,8 @@ fn is_stirred(old: &ReadText, new: &ReadText, number: usize, old_number: Option<
     }
 }
 
-// The number that an item had in the old text; none for a fresh one. Where no token is another one, the items keep their numbers.
+// The number that an item had in the old text; none for a fresh one. Where no token is another one,
+// the items keep their numbers.
 fn old_number(items: Option<Recount>, number: usize) -> Option<usize> {
     match items {
         Some(items) => items.old_number(number),

@@ -1,6 +1,8 @@
-//! Two lists that differ in one place, and where the members of each end, come in; which members of the new list are fresh goes out.
+//! Two lists that differ in one place, and where the members of each end, come in; which members of
+//! the new list are fresh goes out.
 
-/// In the place of what was from `start` up to `old_stop`, the new list has what is from `start` up to `new_stop`.
+/// In the place of what was from `start` up to `old_stop`, the new list has what is from `start` up
+/// to `new_stop`.
 #[derive(Clone, Copy)]
 pub struct Change {
     pub start: usize,
@@ -23,7 +25,8 @@ fn is_boundary(ends: &[usize], place: usize) -> bool {
 }
 
 impl Change {
-    /// The place of the old list where that was which is at this place of the new one; none for a place before the change's end.
+    /// The place of the old list where that was which is at this place of the new one; none for a
+    /// place before the change's end.
     pub fn old_place(self, place: usize) -> Option<usize> {
         place.checked_sub(self.new_stop)?.checked_add(self.old_stop)
     }

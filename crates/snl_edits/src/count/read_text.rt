@@ -1,4 +1,5 @@
-//! A text comes in; what is read of it from its first byte goes out: its pieces, tokens, items, summaries and links.
+//! A text comes in; what is read of it from its first byte goes out: its pieces, tokens, items,
+//! summaries and links.
 
 ghost use Rattle.snl_lex.specs.Pieces.{LiesIn};
 ghost use Rattle.std.specs.Prelude.{All};

@@ -1,4 +1,5 @@
-//! The tokens of two texts come in, with what an edit makes of the pieces; what it makes of the tokens goes out.
+//! The tokens of two texts come in, with what an edit makes of the pieces; what it makes of the
+//! tokens goes out.
 
 use crate::count::cuts::Change;
 use crate::count::read_text::{ReadText, end_of};
@@ -14,8 +15,8 @@ fn beginning_before(tokens: &[Piece], place: usize) -> usize {
     tokens.iter().filter(|token| token.start < place).count()
 }
 
-/// The change of the tokens: those that end before the edit are kept, and those that begin where the pieces of both texts meet, or
-/// after that.
+/// The change of the tokens: those that end before the edit are kept, and those that begin where
+/// the pieces of both texts meet, or after that.
 pub fn change_of_tokens(old: &ReadText, new: &ReadText, edit: Change, meet: usize) -> Change {
     let old_meet = edit.old_place(meet).unwrap_or(usize::MAX);
     Change {
@@ -29,7 +30,8 @@ pub fn change_of_tokens(old: &ReadText, new: &ReadText, edit: Change, meet: usiz
     }
 }
 
-/// Whether the tokens that a change takes away are those that it puts in their place: as many, of the same classes and bytes.
+/// Whether the tokens that a change takes away are those that it puts in their place: as many, of
+/// the same classes and bytes.
 pub fn are_the_same(
     old_text: &[u8],
     old: &ReadText,

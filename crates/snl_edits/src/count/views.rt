@@ -1,4 +1,5 @@
-//! What an item sees of the others in one text comes in, and what it sees in another; whether that is the same goes out.
+//! What an item sees of the others in one text comes in, and what it sees in another; whether that
+//! is the same goes out.
 
 use crate::count::read_text::ReadItems;
 use snl_scope::Name;
@@ -25,8 +26,9 @@ fn leads_to_the_same(
     old.links.has_target(old_number, name.bytes()) == new.links.has_target(number, name.bytes())
 }
 
-/// Whether an item of the old text sees what the same item of the new one sees: whether it is in a state set, what each name that it
-/// uses means, and which of the states that it leads to are there.
+/// Whether an item of the old text sees what the same item of the new one sees: whether it is in a
+/// state set, what each name that it uses means, and which of the states that it leads to are
+/// there.
 pub fn sees_the_same(old: &ReadItems, old_number: usize, new: &ReadItems, number: usize) -> bool {
     let Some(summary) = new.summaries.get(number) else {
         return false;

@@ -1,5 +1,5 @@
-//! What is found in each item by itself: the items of a program and what the check of each gave come in, findings at offsets go out.
-//! It knows nothing of the rules.
+//! What is found in each item by itself: the items of a program and what the check of each gave
+//! come in, findings at offsets go out. It knows nothing of the rules.
 #![tactic(auto)]
 
 ghost use Rattle.std.specs.Prelude.{◌≡◌, ◌++◌, All, OnOk, map};

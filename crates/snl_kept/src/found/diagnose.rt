@@ -1,5 +1,5 @@
-//! The diagnostics of a program: its items come in, what their links find goes out; what is found comes in, what is shown of it goes
-//! out, and with its lines. It knows nothing of tables.
+//! The diagnostics of a program: its items come in, what their links find goes out; what is found
+//! comes in, what is shown of it goes out, and with its lines. It knows nothing of tables.
 #![tactic(auto)]
 
 ghost use Rattle.std.specs.Prelude.{◌≡◌, ◌≤◌, ◌++◌, All, IfOk, OnOk, length, map, vec_capacity};
@@ -79,7 +79,8 @@ pub fn make_room(found: &mut Vec<Diagnostic>, count: usize) -> Result<(), OutOfM
     Ok(())
 }
 
-/// Puts findings, each with its line, in the place of other diagnostics. There is room for them, so it can't fail.
+/// Puts findings, each with its line, in the place of other diagnostics. There is room for them, so
+/// it can't fail.
 pub fn put_on_lines(
     text: &[u8],
     lines: &LineList,

@@ -1,11 +1,10 @@
-//! The judgement of a whole text: its tokens, its items, their links and what the check of each gave come in, diagnostics and tables
-//! go out.
+//! The judgement of a whole text: its tokens, its items, their links and what the check of each
+//! gave come in, diagnostics and tables go out.
 //! It keeps nothing between two texts and knows no edits.
 #![tactic(auto)]
 
 ghost use Rattle.std.specs.Prelude.{◌≡◌, All, IfOk, map};
 ghost use Rattle.snl_cut.specs.Cut.{members};
-ghost use Rattle.snl_lex.specs.LineList.{IsLineList};
 ghost use Rattle.snl_scope.specs.Linked.{faults_of};
 ghost use Rattle.snl_check.specs.Tables.{tables_of};
 ghost use Rattle.snl_kept.specs.Checks.{checks_of, checks_over, links_in, outlines_in};
@@ -28,7 +27,7 @@ use crate::found::warnings::shows_warnings;
 use crate::shared::Shared;
 use snl_check::{Checked, Tables};
 use snl_cut::OutOfMemory;
-use snl_lex::{LineList, text_in_pieces};
+use snl_lex::text_in_pieces;
 use snl_scope::{LinkFault, Links, same_spelling_same_summary};
 use snl_syntax::{outcome_told, same_spelling_same_tree};
 use std::alloc::Global;
@@ -78,8 +77,8 @@ fn shown_by(
     Ok(shown)
 }
 
-// What is shown of what is found in a text that has these items, and the tables of the text. These come first: what is listed for
-// them is let go before the findings are.
+// What is shown of what is found in a text that has these items, and the tables of the text. These
+// come first: what is listed for them is let go before the findings are.
 #[tactic(auto, unfolding(crate::specs::Tables::tables_in))]
 fn told_by(
     alloc: Global,
@@ -160,33 +159,8 @@ pub fn in_order(told: Told) -> Result<Told, OutOfMemory>
     })
 }
 
-// What a text is judged to say, by what is shown of what is found in it.
-#[tactic(auto, unfolding(crate::specs::Diagnostics::diagnostics_of))]
-fn judged(
-    alloc: Global,
-    text: &[u8],
-    lines: &LineList,
-    told: Told,
-) -> Result<Judgement, OutOfMemory>
-    requires lines { IsLineList text.now lines.now.ends.items lines.now.markers.items lines.now.naming.items }
-    requires shown { told.shown.items ≡ shown text.now }
-    ensures diagnostics { IfOk result (λ j. j.diagnostics.items ≡ diagnostics_of text.now) }
-    ensures tables { IfOk result (λ j. j.tables ≡ told.tables) }
-    ensures warns { IfOk result (λ j. j.warns ≡ told.warns) }
-{
-    let Told {
-        shown,
-        tables,
-        warns,
-    } = in_order(told)?;
-    Ok(Judgement {
-        diagnostics: on_lines(alloc, text, lines, &shown)?,
-        tables,
-        warns,
-    })
-}
-
 /// The diagnostics and the tables of a text that has these items, links and checks.
+#[tactic(auto, unfolding(crate::specs::Diagnostics::diagnostics_of))]
 pub fn judge(
     alloc: Global,
     cut: &CutText,
@@ -205,5 +179,15 @@ pub fn judge(
     ensures warns { IfOk result (λ j. j.warns ≡ warns_in cut.now.text.now) }
 {
     let told = told_in(alloc, cut, parts, links, faults, checks)?;
-    judged(alloc, cut.text, cut.lines, told)
+    let Told {
+        shown,
+        tables,
+        warns,
+    } = in_order(told)?;
+    let diagnostics = on_lines(alloc, cut.text, cut.lines, &shown)?;
+    Ok(Judgement {
+        diagnostics,
+        tables,
+        warns,
+    })
 }

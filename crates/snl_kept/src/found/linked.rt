@@ -1,5 +1,5 @@
-//! What is found by links, at its place: findings at tokens of items come in, findings at offsets go out.
-//! It knows nothing of what the findings mean.
+//! What is found by links, at its place: findings at tokens of items come in, findings at offsets
+//! go out. It knows nothing of what the findings mean.
 #![tactic(auto)]
 
 ghost use Rattle.std.specs.Prelude.{◌≡◌, ◌++◌, All, OnOk, map};

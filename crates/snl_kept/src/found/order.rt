@@ -1,5 +1,5 @@
-//! The order of findings: they come in as they were found, and go out by offset and code; which of them are the same.
-//! It knows nothing of how they were found.
+//! The order of findings: they come in as they were found, and go out by offset and code; which of
+//! them are the same. It knows nothing of how they were found.
 #![tactic(auto)]
 
 ghost use Rattle.std.specs.Prelude.{◌≡◌, OnOk, map};

@@ -1,5 +1,6 @@
-//! What is found after an edit inside one item: what is found at the item itself before the edit and after it and the diagnostics
-//! before it come in, the findings after it go out. It knows nothing of how the items are told apart, nor of lines.
+//! What is found after an edit inside one item: what is found at the item itself before the edit
+//! and after it and the diagnostics before it come in, the findings after it go out. It knows
+//! nothing of how the items are told apart, nor of lines.
 #![tactic(auto)]
 
 ghost use Rattle.std.specs.Prelude.{◌≡◌, ℕ, ◌<◌, ◌++◌, All, IfOk, List, OnOk, length, map};
@@ -25,7 +26,8 @@ use snl_scope::same_spelling_same_summary;
 use snl_syntax::{Parsed, outcome_told, same_spelling_same_tree};
 use std::alloc::Global;
 
-/// What is found at an item that consists of these tokens: where the parser left it faulty, and by its check.
+/// What is found at an item that consists of these tokens: where the parser left it faulty, and by
+/// its check.
 pub fn own_findings(
     alloc: Global,
     text: &[u8],
@@ -131,8 +133,9 @@ pub fn add_all(come: &[Finding], found: &mut Vec<Finding>) -> Result<(), OutOfMe
     Ok(())
 }
 
-/// The findings after an edit inside one item, in order: the diagnostics before it without what is gone, shifted, and what has come.
-/// Each of those that are gone is looked for, so there should be few.
+/// The findings after an edit inside one item, in order: the diagnostics before it without what is
+/// gone, shifted, and what has come. Each of those that are gone is looked for, so there should be
+/// few.
 pub fn findings_around(
     alloc: Global,
     found: &[Diagnostic],

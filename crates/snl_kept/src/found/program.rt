@@ -1,5 +1,5 @@
-//! The items of a text: its tokens, where its items end among them and what is kept of each come in, the parts of the text go out,
-//! and the finding at each faulty item.
+//! The items of a text: its tokens, where its items end among them and what is kept of each come
+//! in, the parts of the text go out, and the finding at each faulty item.
 //! It knows nothing of what the trees mean.
 #![tactic(auto)]
 
@@ -25,7 +25,8 @@ use snl_scope::{Code, same_spelling_same_summary};
 use snl_syntax::{Parsed, Tokens, outcome_told, same_spelling_same_tree};
 use std::alloc::Global;
 
-/// A text as it is cut: its lines, its tokens, where its items end among these, and what is kept of each item.
+/// A text as it is cut: its lines, its tokens, where its items end among these, and what is kept of
+/// each item.
 #[derive(Clone, Copy)]
 pub struct CutText<'a> {
     pub text: &'a [u8],
@@ -39,7 +40,8 @@ pub struct CutText<'a> {
     ghost entries_are: { map (λ e. e.now) entries.now ≡ entries_of text.now },
 }
 
-/// An item of a text: which of the text's tokens are its own, by their numbers, and what is kept of it.
+/// An item of a text: which of the text's tokens are its own, by their numbers, and what is kept of
+/// it.
 #[derive(Clone, Copy)]
 pub struct Part<'a> {
     pub start: u32,

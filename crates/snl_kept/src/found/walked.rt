@@ -1,4 +1,5 @@
-//! The states that no walk reaches: the tables of a text come in, findings at the names of states go out.
+//! The states that no walk reaches: the tables of a text come in, findings at the names of states
+//! go out.
 #![tactic(auto)]
 
 ghost use Rattle.std.specs.Prelude.{◌≡◌, ◌++◌, OnOk};

@@ -1,5 +1,5 @@
-//! Whether warnings are shown: the items of a program and their links come in, the last setting goes out.
-//! It knows nothing of what is found.
+//! Whether warnings are shown: the items of a program and their links come in, the last setting
+//! goes out. It knows nothing of what is found.
 #![tactic(auto)]
 
 ghost use Rattle.std.specs.Prelude.{◌≡◌, All, map};

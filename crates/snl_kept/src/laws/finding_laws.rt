@@ -1,4 +1,5 @@
-//! What is found after an edit inside one item. A function here does nothing: its contract is the law.
+//! What is found after an edit inside one item. A function here does nothing: its contract is the
+//! law.
 
 ghost use Rattle.std.specs.Prelude.{◌≡◌, ◌++◌, ℕ, List, true, length, map};
 ghost use Rattle.snl_lex.specs.declared.shift.Shift.{Shift};
@@ -21,8 +22,8 @@ use snl_check::faults_stand_in_tokens;
 use snl_scope::same_spelling_same_summary;
 use snl_syntax::same_spelling_same_tree;
 
-/// After an edit inside one plain item the findings of the other items are shifted, but for what the walks find in one state set, and warnings are shown if
-/// they were.
+/// After an edit inside one plain item the findings of the other items are shifted, but for what
+/// the walks find in one state set, and warnings are shown if they were.
 pub fn findings_around_an_item()
     ensures found { (old text : List ℕ) (s : Shift) (head : ℕ) (front back : List ProgramItem) (x y : ProgramItem) (gone come : List Finding)
         → ReplacesInside old text s head front x y back → SparesInside head (length front) (faults_of (links_in old)) → is_plain (kind_of x.tree) ≡ true → is_plain (kind_of y.tree) ≡ true

@@ -1,10 +1,11 @@
-//! The law of an edit inside one item that says to the others what it said. A function here does nothing: its contract is the law.
+//! The law of an edit inside one item that says to the others what it said. A function here does
+//! nothing: its contract is the law.
 
 ghost use Rattle.snl_lex.specs.declared.line_shift.LineShift.{LineShift};
+ghost use Rattle.snl_kept.specs.Edit.{Edit};
 ghost use Rattle.snl_kept.specs.ReplacedItem.{IsInside, IsOneReplaced};
 ghost use Rattle.snl_kept.specs.declared.entries.Entry.{Entry};
-ghost use Rattle.snl_kept.specs.declared.ways.plan.Changes.{Changes};
-ghost use Rattle.std.specs.Prelude.{ℕ, List};
+ghost use Rattle.snl_kept.specs.declared.plan.Changes.{Changes};
 
 use snl_check::equal_views;
 use snl_cut::ends_in_order;
@@ -13,10 +14,11 @@ use snl_lex::{lines_move, text_in_pieces};
 use snl_scope::{same_spelling_same_summary, views_told_apart};
 use snl_syntax::{Tokens, outcome_told, same_spelling_same_tree};
 
-/// Such an edit replaces the state inside. The other items are shifted and say what they said, and no other is to be checked.
+/// Such an edit replaces the state inside. The other items are shifted and say what they said, and
+/// no other is to be checked.
 pub fn one_item_replaced()
-    ensures { (old text : List ℕ) (start old_stop new_stop : ℕ) (c : Changes) (t : LineShift) (x e : Entry) → IsInside old text start old_stop new_stop c t x e
-        → IsOneReplaced old text start old_stop new_stop c t x e }
+    ensures { (edit : Edit) (c : Changes) (t : LineShift) (x e : Entry) → IsInside edit c t x e
+        → IsOneReplaced edit c t x e }
 {
     text_in_pieces();
     outcome_told();

@@ -14,7 +14,8 @@ use snl_check::{
 use snl_lex::{pieces_as_listed, text_in_pieces};
 use snl_scope::{faults_have_places, outlines_speak_of_tokens};
 
-/// No offset and code occur twice in what is found in a text. So its diagnostics rise by offset and code.
+/// No offset and code occur twice in what is found in a text. So its diagnostics rise by offset and
+/// code.
 pub fn found_once()
     ensures found { (text : List ℕ) → ArePlacedOnce (found text) }
     ensures rising { (text : List ℕ) → AllPairs (λ x y. stands_before x y ≡ true) (diagnostics_of text) }

@@ -1,8 +1,9 @@
-//! The law of an edit that shifts all that a text says. A function here does nothing: its contract is the law.
+//! The law of an edit that shifts all that a text says. A function here does nothing: its contract
+//! is the law.
 
 ghost use Rattle.snl_lex.specs.declared.line_shift.LineShift.{LineShift};
+ghost use Rattle.snl_kept.specs.Edit.{Edit};
 ghost use Rattle.snl_kept.specs.Shifted.{IsShifted, ShiftsAll};
-ghost use Rattle.std.specs.Prelude.{ℕ, List};
 
 use snl_check::{faults_stand_in_tokens, tables_move};
 use snl_lex::{lines_move, text_in_pieces};
@@ -11,7 +12,7 @@ use snl_syntax::{outcome_told, same_spelling_same_tree};
 
 /// Where an edit shifts all that a text says, the new text says the same, shifted.
 pub fn edit_shifts_all()
-    ensures { (old text : List ℕ) (start old_stop new_stop : ℕ) (t : LineShift) → ShiftsAll old text start old_stop new_stop t → IsShifted old text start old_stop new_stop t }
+    ensures { (edit : Edit) (t : LineShift) → ShiftsAll edit t → IsShifted edit t }
 {
     text_in_pieces();
     outcome_told();

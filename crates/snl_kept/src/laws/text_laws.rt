@@ -1,4 +1,5 @@
-//! Laws of every text: what its links find, and the spans of its tables. A function here does nothing: its contract is the law.
+//! Laws of every text: what its links find, and the spans of its tables. A function here does
+//! nothing: its contract is the law.
 
 ghost use Rattle.std.specs.Prelude.{ℕ, List};
 ghost use Rattle.snl_scope.specs.Linked.{faults_of};
@@ -12,7 +13,8 @@ use snl_check::spans_lie_in_text;
 use snl_lex::text_in_pieces;
 use snl_scope::{each_fault_once, tokens_declared_once};
 
-/// By the links of a text's items nothing is found twice: no two findings have the same item, token and code.
+/// By the links of a text's items nothing is found twice: no two findings have the same item, token
+/// and code.
 pub fn linked_once()
     ensures { (text : List ℕ) → AreFoundOnce (faults_of (linked_of text (items_of text))) }
 {

@@ -1,24 +1,21 @@
-//! Edits that shift all that a text says: the tokens are where they were or shifted, and so is what is found, with its lines. What is
-//! kept of the old text and what an edit makes of its parts come in; whether it is such an edit goes out.
+//! Edits that shift all that a text says: the tokens are where they were or shifted, and so is what
+//! is found, with its lines. The edit under way comes in, whether it is such an edit goes out.
 #![tactic(auto)]
 
 ghost use Rattle.std.specs.Prelude.{◌≡◌, ◌<◌, ◌≤◌, All, IfSome, IsTrue, drop, map, nat_eq, take};
 ghost use Rattle.std.specs.List.{list_any};
-ghost use Rattle.snl_items.specs.Changes.{IsShiftOf};
-ghost use Rattle.snl_lex.specs.LineList.{IsLineList};
 ghost use Rattle.snl_lex.specs.Pieces.{tokens_of};
 ghost use Rattle.snl_lex.specs.Shift.{IsOutside};
-ghost use Rattle.snl_kept.specs.Diagnostics.{diagnostics_of};
+ghost use Rattle.snl_kept.specs.Editing.{IsShiftIn, IsUnderWay, ShiftsLinesIn, edit_in};
 ghost use Rattle.snl_kept.specs.Kept.{IsListed};
-ghost use Rattle.snl_kept.specs.Planned.{IsChanged};
-ghost use Rattle.snl_kept.specs.Shifted.{AreOnOneSide, PartsNoItem, ShiftsAll, ShiftsLines, shifted_diagnostic};
+ghost use Rattle.snl_kept.specs.Shifted.{AreOnOneSide, PartsNoItem, ShiftsAll, shifted_diagnostic};
 
+use crate::editing::Editing;
 use crate::found::findings::Diagnostic;
 use crate::lists::Lists;
-use crate::ways::plan::Changes;
 use snl_cut::ends_in_order;
 use snl_items::tokens_in_front;
-use snl_lex::{Line, LineList, LineShift, Shift, TextEdit, text_in_pieces};
+use snl_lex::{Line, LineShift, Shift, text_in_pieces};
 use snl_syntax::Tokens;
 
 // Whether no item has its first token alone among so many.
@@ -60,8 +57,8 @@ fn parts_none(lists: &Lists, text: &[u8], place: usize, before: usize) -> bool
     parts_no_item(before, &lists.items.ends) || is_end(before, &lists.items.ends)
 }
 
-// Whether the line that begins at a place, where a line marker numbers it, is not between the two first tokens of an item. A place after the
-// text is none.
+// Whether the line that begins at a place, where a line marker numbers it, is not between the two
+// first tokens of an item. A place after the text is none.
 fn numbers_whole_items(lists: &Lists, text: &[u8], place: usize) -> bool
     requires lists { IsListed text.now lists.now }
     requires some { 0 < place }
@@ -75,16 +72,17 @@ fn numbers_whole_items(lists: &Lists, text: &[u8], place: usize) -> bool
     parts_none(lists, text, place, before)
 }
 
-/// How an edit that is this shift shifts lines, if it leaves the line markers, and the line that the next one numbers is not between
-/// the two first tokens of an item.
-pub fn lines_of(by: Shift, lists: &Lists, edit: &TextEdit, lines: &LineList) -> Option<LineShift>
-    requires by { IsShiftOf edit.now.old.now edit.now.text.now edit.now.start edit.now.old_stop edit.now.new_stop by }
-    requires lists { IsListed edit.now.old.now lists.now }
-    requires lines { IsLineList edit.now.text.now lines.now.ends.items lines.now.markers.items lines.now.naming.items }
+/// How an edit that is this shift shifts lines, if it leaves the line markers, and the line that
+/// the next one numbers is not between the two first tokens of an item.
+pub fn lines_of(by: Shift, editing: &Editing) -> Option<LineShift>
+    requires editing { IsUnderWay editing.now }
+    requires by { IsShiftIn editing.now by }
     ensures by { IfSome result (λ t. t.by ≡ by) }
-    ensures lines { IfSome result (ShiftsLines edit.now.old.now edit.now.text.now) }
+    ensures lines { IfSome result (ShiftsLinesIn editing.now) }
 {
-    let shift = LineShift::along(by, edit, &lists.lines, lines)?;
+    let lists = editing.lists;
+    let edit = editing.edit;
+    let shift = LineShift::along(by, edit, &lists.lines, editing.lines)?;
     if numbers_whole_items(lists, edit.old, shift.until) {
         Some(shift)
     } else {
@@ -93,28 +91,22 @@ pub fn lines_of(by: Shift, lists: &Lists, edit: &TextEdit, lines: &LineList) -> 
 }
 
 /// An edit as a shift, if it shifts all that the text says.
-pub fn shift_of(
-    lists: &Lists,
-    found: &[Diagnostic],
-    edit: &TextEdit,
-    changes: &Changes,
-    lines: &LineList,
-) -> Option<LineShift>
-    requires lists { IsListed edit.now.old.now lists.now }
-    requires found { found.now ≡ diagnostics_of edit.now.old.now }
-    requires changes { IsChanged edit.now.old.now edit.now.text.now edit.now.start edit.now.old_stop edit.now.new_stop changes.now }
-    requires lines { IsLineList edit.now.text.now lines.now.ends.items lines.now.markers.items lines.now.naming.items }
-    ensures { IfSome result (ShiftsAll edit.now.old.now edit.now.text.now edit.now.start edit.now.old_stop edit.now.new_stop) }
+pub fn shift_of(editing: &Editing) -> Option<LineShift>
+    requires editing { IsUnderWay editing.now }
+    ensures { IfSome result (ShiftsAll (edit_in editing.now)) }
 {
     text_in_pieces();
-    let shifted = changes.tokens.shifted?;
+    let shifted = editing.changes.tokens.shifted?;
     let by = shifted.by;
-    // An edit at the front shifts no lines, which is told before items and diagnostics are gone through.
+    // An edit at the front shifts no lines, which is told before items and diagnostics are gone
+    // through.
     if by.start == 0 {
         return None;
     }
-    if parts_none(lists, edit.old, by.start, shifted.before) && leaves_all(by, edit.old, found) {
-        lines_of(by, lists, edit, lines)
+    let old = editing.edit.old;
+    let found = editing.found;
+    if parts_none(editing.lists, old, by.start, shifted.before) && leaves_all(by, old, found) {
+        lines_of(by, editing)
     } else {
         None
     }

@@ -5,19 +5,8 @@ use Rattle.snl_kept.proofs.ShiftPlans.{as_many_ends}
 use Rattle.snl_kept.proofs.Ticks.{few_told}
 use Rattle.snl_kept.proofs.kept.Kept.edit.Goals as goal
 
-pub edit_by_shift-requires-clause-lexed : goal.edit_by_shift-requires-clause-lexed
-edit_by_shift-requires-clause-lexed c =
-    let edit = c.args.edit.now in
-    let changes = c.in_ok-changes.changes.pieces in
-    let made : ℕ = vec_len changes.list.ends in
-    let few : made < 2 ^ 64 = omega (arith, changes.list.ends.ok, changes.list.ends.small) in
-    let many : made ≡ length (made_pieces changes) = omega (arith, changes.list.ends.ok, as_many_ends _ _ _ _ _ _ _ _ _ _ _ c.in_ok-changes.ensures.changes.pieces) in
-    few_told _ _ _ made c.ticks-lexed.ensures c.in_ok-changes.ensures.ticks c.new-lexed.ensures few
-    ∙ many
-    ∙ c.pieces_are_fresh.ensures edit.old.now edit.text.now edit.start edit.old_stop edit.new_stop _ _ _ _ _ _ c.in_ok-changes.ensures.changes.pieces
-
-pub edit_anew-requires-clause-lexed : goal.edit_anew-requires-clause-lexed
-edit_anew-requires-clause-lexed c =
+pub edit_by-requires-clause-lexed : goal.edit_by-requires-clause-lexed
+edit_by-requires-clause-lexed c =
     let edit = c.args.edit.now in
     let changes = c.in_ok-changes.changes.pieces in
     let made : ℕ = vec_len changes.list.ends in

@@ -1,14 +1,13 @@
 use Rattle.std.proofs.Common.{length, sym, ap}
+use Rattle.snl_kept.specs.Edit.{edit_of}
 use Rattle.snl_kept.proofs.kept.Kept.edit_by_shift.Goals as goal
 
 pub shift-requires-clause-shifted : goal.shift-requires-clause-shifted
 shift-requires-clause-shifted c =
-    let edit = c.args.edit.now in
-    c.edit_shifts_all.ensures edit.old.now edit.text.now edit.start edit.old_stop edit.new_stop c.args.shift c.requires.shift
+    c.edit_shifts_all.ensures (edit_of c.args.edit.now) c.args.shift c.requires.shift
 
 pub returns-clause-cost : goal.returns-clause-cost
 returns-clause-cost c =
-    let edit = c.args.edit.now in
     let is = c.requires.shift in
-    let shifted = c.edit_shifts_all.ensures edit.old.now edit.text.now edit.start edit.old_stop edit.new_stop c.args.shift is in
+    let shifted = c.edit_shifts_all.ensures (edit_of c.args.edit.now) c.args.shift is in
     record { lexed = c.requires.lexed; parsed = sym (ap length is.tokens.none_fresh); checked = sym shifted.none_stirred }

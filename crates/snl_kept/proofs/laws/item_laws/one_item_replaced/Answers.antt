@@ -8,8 +8,8 @@ use Rattle.snl_kept.proofs.InsideItems.{one_replaced}
 use Rattle.snl_kept.proofs.laws.item_laws.one_item_replaced.Goals as goal
 
 pub returns : goal.returns
-returns c = λ old text start old_stop new_stop ch t x e is.
-    one_replaced old text start old_stop new_stop ch t x e is
+returns c = λ edit ch t x e is.
+    one_replaced edit ch t x e is
     c.text_in_pieces.ensures.inside
     c.outcome_told.ensures.tree
     c.same_spelling_same_tree.ensures.by_spelling
@@ -20,5 +20,5 @@ returns c = λ old text start old_stop new_stop ch t x e is.
     (check_stays c.views_told_apart.ensures c.equal_views.ensures.faults c.same_spelling_same_summary.ensures.bytes_by_spelling c.same_spelling_same_summary.ensures.alone)
     (λ l. c.ends_in_order.ensures.rise (marks_of l))
     (λ l. c.ends_in_order.ensures.last (marks_of l) ∙ length-map (tokens_of l) (mark_in l))
-    (c.tokens_around_stay.ensures old text start old_stop new_stop ch.pieces.kept_front (made_pieces ch.pieces) ch.pieces.kept_back ch.pieces.kept_from ch.pieces.list.ends.items ch.pieces.list.kinds.items
-    is.edit is.lines.lines.old_short is.lines.lines.short is.changed.pieces ch.tokens.edit ch.tokens.made.items ch.tokens.marks.items ch.tokens.same is.changed.tokens t.by is.by)
+    (c.tokens_around_stay.ensures edit.old edit.text edit.start edit.old_stop edit.new_stop ch.pieces.kept_front (made_pieces ch.pieces) ch.pieces.kept_back ch.pieces.kept_from ch.pieces.list.ends.items ch.pieces.list.kinds.items
+    is.edit_is is.lines.lines.old_short is.lines.lines.short is.changed.pieces ch.tokens.edit ch.tokens.made.items ch.tokens.marks.items ch.tokens.same is.changed.tokens t.by is.by)

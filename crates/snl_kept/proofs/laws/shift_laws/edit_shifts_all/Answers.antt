@@ -3,8 +3,8 @@ use Rattle.snl_kept.proofs.ShiftedText.{all_shifts}
 use Rattle.snl_kept.proofs.laws.shift_laws.edit_shifts_all.Goals as goal
 
 pub returns : goal.returns
-returns c = λ old text start old_stop new_stop t is.
-    all_shifts old text start old_stop new_stop t is
+returns c = λ edit t is.
+    all_shifts edit t is
     c.text_in_pieces.ensures.inside
     c.outcome_told.ensures.tree
     c.same_spelling_same_tree.ensures.by_spelling

@@ -1,11 +1,11 @@
 use Rattle.std.proofs.Common.{arith, ◌≡◌, ℕ, ◌-◌, ◌++◌, List, length, take, drop, Option, ap, sym, subst, ◌∙◌}
 use Rattle.snl_scope.specs.LinkedItems.{LinkedItems}
 use Rattle.snl_check.specs.declared.rules.findings.Checked.{Checked}
-use Rattle.snl_kept.specs.declared.ways.relink.NewLinks.{NewLinks}
+use Rattle.snl_kept.specs.declared.plan.NewLinks.{NewLinks}
 use Rattle.snl_kept.specs.Checks.{checks_of, links_in}
 use Rattle.snl_kept.specs.Entries.{entries_of}
-use Rattle.snl_kept.specs.Rechecked.{put}
-use Rattle.snl_kept.specs.Relinked.{AreLinks, HasFaults, links_now}
+use Rattle.snl_kept.specs.NewChecks.{put}
+use Rattle.snl_kept.specs.NewLinks.{AreLinks, HasFaults, links_now}
 use Rattle.snl_kept.proofs.MadeChecks.{count_of_checks}
 use Rattle.snl_kept.proofs.Members.{entries_count}
 use Rattle.snl_kept.proofs.lists.Lists.commit.Goals as goal
@@ -30,7 +30,8 @@ replace-requires-2-clause-within c =
     let old = c.args.edit.now.old.now in
     omega (arith, c.len.ensures, ap length c.requires.lists.entries, entries_count old, ap (λ l. length l.values) c.commit_places.ensures.items.checks, ap length c.requires.lists.checks, count_of_checks old)
 
--- a part of a list is replaced, where what is after it is counted by another list of the same length
+-- a part of a list is replaced, where what is after it is counted by another list of the same
+-- length
 replaced : {X : Type 0} (values olds made : List X) (front back n : ℕ) → values ≡ olds → n ≡ length olds → take front values ++ (made ++ drop (n - back) values) ≡ take front olds ++ (made ++ drop (length olds - back) olds)
 replaced {X} values olds made front back n is n_is =
     ap (λ (l : List X). take front l ++ (made ++ drop (n - back) l)) is ∙ ap (λ (k : ℕ). take front olds ++ (made ++ drop (k - back) olds)) n_is
@@ -42,14 +43,14 @@ links_renewed old text new links are made = ap (λ (l : LinkedItems). links_now 
 pub put_in-requires : goal.put_in-requires
 put_in-requires c =
     let old = c.args.edit.now.old.now in
-    let links = c.args.remade.links in
-    subst (λ (l : LinkedItems). HasFaults l links) (sym (c.commit_places.ensures.items.links ∙ c.requires.lists.links)) c.requires.remade.links.faults
+    let links = c.args.plan.links in
+    subst (λ (l : LinkedItems). HasFaults l links) (sym (c.commit_places.ensures.items.links ∙ c.requires.lists.links)) c.requires.plan.links.faults
 
 pub returns : goal.returns
 returns c =
     let old = c.args.edit.now.old.now in
     let items = c.args.changes.now.items in
-    let remade = c.args.remade in
+    let plan = c.args.plan in
     let many : c.len.result ≡ length (entries_of old) = c.len.ensures ∙ ap length c.requires.lists.entries in
     let same : c.len.result ≡ length (checks_of old) = omega (arith, many, entries_count old, count_of_checks old) in
     let places = c.commit_places.ensures.places in
@@ -62,12 +63,12 @@ returns c =
       marks = places.marks;
       items = places.items;
       entries = c.replace.ensures
-          ∙ replaced c.commit_places.new.self.entries.values (entries_of old) remade.made.items items.kept_front items.kept_back c.len.result (ap (λ l. l.values) kept.entries ∙ c.requires.lists.entries) many
-          ∙ sym c.requires.remade.entries;
-      links = c.put_in.ensures ∙ links_renewed old c.args.edit.now.text.now remade.links c.commit_places.new.self.links (kept.links ∙ c.requires.lists.links) c.requires.remade.links;
+          ∙ replaced c.commit_places.new.self.entries.values (entries_of old) plan.made.items items.kept_front items.kept_back c.len.result (ap (λ l. l.values) kept.entries ∙ c.requires.lists.entries) many
+          ∙ sym c.requires.plan.entries;
+      links = c.put_in.ensures ∙ links_renewed old c.args.edit.now.text.now plan.links c.commit_places.new.self.links (kept.links ∙ c.requires.lists.links) c.requires.plan.links;
       checks = c.put.ensures
-          ∙ ap (λ (l : List (Option Checked)). put l remade.checks.items)
-          (c.replace-2.ensures ∙ replaced c.commit_places.new.self.checks.values (checks_of old) remade.vacant.items items.kept_front items.kept_back c.len.result (ap (λ l. l.values) kept.checks ∙ c.requires.lists.checks) same)
-          ∙ sym c.requires.remade.checks;
-      warns = c.requires.remade.warns;
+          ∙ ap (λ (l : List (Option Checked)). put l plan.checks.items)
+          (c.replace-2.ensures ∙ replaced c.commit_places.new.self.checks.values (checks_of old) plan.vacant.items items.kept_front items.kept_back c.len.result (ap (λ l. l.values) kept.checks ∙ c.requires.lists.checks) same)
+          ∙ sym c.requires.plan.checks;
+      warns = c.requires.plan.warns;
     }

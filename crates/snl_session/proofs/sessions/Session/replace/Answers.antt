@@ -4,6 +4,7 @@ use Rattle.std.proofs.lemmas.List.{length-take-le}
 use Rattle.snl_items.specs.Fresh.{fresh_items_between, fresh_pieces_between}
 use Rattle.snl_session.specs.declared.edits.Refused.TheVariants.{Range, Size}
 use Rattle.snl_session.specs.Edit.{limit, refusal_of, spliced}
+use Rattle.snl_kept.specs.Edit.{Edit}
 use Rattle.snl_kept.specs.Kept.{IsKept}
 use Rattle.snl_kept.specs.Stirred.{stirred_between}
 use Rattle.snl_session.proofs.sessions.Session.replace.Goals as goal
@@ -45,6 +46,6 @@ returns c =
       ok = text_is;
       lexed = cost.lexed ∙ ap₂ (λ (old text : List ℕ). fresh_pieces_between old text c.args.start c.args.stop new_stop) old_is new_is;
       parsed = cost.parsed ∙ ap₂ (λ (old text : List ℕ). length (fresh_items_between old text c.args.start c.args.stop new_stop)) old_is new_is;
-      checked = cost.checked ∙ ap₂ (λ (old text : List ℕ). stirred_between old text c.args.start c.args.stop new_stop) old_is new_is;
+      checked = cost.checked ∙ ap₂ (λ (old text : List ℕ). let edit : Edit = record { old = old; text = text; start = c.args.start; old_stop = c.args.stop; new_stop = new_stop } in stirred_between edit) old_is new_is;
       err = tt;
     }

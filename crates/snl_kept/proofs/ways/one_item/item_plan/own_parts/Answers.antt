@@ -1,0 +1,125 @@
+use Rattle.std.proofs.Common.{◌≡◌, ℕ, ◌<◌, All, List, length, Option, sym, ap, ap₂, subst, ◌∙◌}
+use Rattle.snl_lex.specs.declared.piece.Piece.{Piece}
+use Rattle.snl_lex.specs.declared.line_shift.LineShift.{LineShift}
+use Rattle.snl_lex.specs.LineShift.{moved_line}
+use Rattle.snl_lex.specs.PieceList.{spelled}
+use Rattle.snl_lex.specs.Pieces.{LiesIn}
+use Rattle.snl_scope.specs.Linked.{faults_of}
+use Rattle.snl_scope.specs.declared.summaries.summary.Outline.{Outline}
+use Rattle.snl_tables.specs.Moved.{moved_tables}
+use Rattle.snl_check.specs.declared.rules.findings.Checked.{Checked}
+use Rattle.snl_kept.specs.declared.plan.NewCheck.{NewCheck}
+use Rattle.snl_kept.specs.declared.plan.RowChange.{RowChange}
+use Rattle.snl_kept.specs.Checks.{check_by, links_in, outlines_in}
+use Rattle.snl_kept.specs.Edit.{edit_of}
+use Rattle.snl_kept.specs.Entries.{entry_by}
+use Rattle.snl_kept.specs.ItemPlan.{IsAfterInside, own_item}
+use Rattle.snl_kept.specs.ReplacedItem.{own_check, own_tokens}
+use Rattle.snl_kept.specs.OwnRows.{change_told, with_row}
+use Rattle.snl_kept.specs.Program.{items_of, program_item}
+use Rattle.snl_kept.specs.NewChecks.{AreChecksMade, made_at, nones}
+use Rattle.snl_kept.specs.Tables.{tables_in}
+use Rattle.snl_kept.proofs.InsideMade.{check_got, diagnostics_after, entry_got, is_there, says_alike, sound_alike}
+use Rattle.snl_kept.proofs.MadeRows.{after_any, faults_stay, in_place, items_after, links_after}
+use Rattle.snl_kept.proofs.OneItem.{own_lie, own_some}
+use Rattle.snl_kept.proofs.TextSpans.{items_are_read}
+use Rattle.snl_kept.proofs.ways.one_item.item_plan.own_parts.Goals as goal
+
+pub own_check-requires-clause-within : goal.own_check-requires-clause-within
+own_check-requires-clause-within c =
+    let text = c.args.one.now.editing.edit.now.text.now in
+    subst (All (LiesIn text)) (sym (c.deref.ensures.value ∙ c.requires.one.own.is)) (own_lie text c.args.one.now.editing.changes.now.items.kept_front (c.text_in_pieces.ensures.inside text))
+
+pub own_diagnostics-requires-clause-was_some : goal.own_diagnostics-requires-clause-was_some
+own_diagnostics-requires-clause-was_some c =
+    let old = c.args.one.now.editing.edit.now.old.now in
+    let changes = c.args.one.now.editing.changes.now in
+    subst (λ (ts : List Piece). 0 < length ts) (sym c.requires.one.own.was) (own_some old changes.items.kept_front (is_there old changes c.requires.one.one) (c.items_end_in_order.ensures old))
+
+pub own_diagnostics-requires-clause-was_within : goal.own_diagnostics-requires-clause-was_within
+own_diagnostics-requires-clause-was_within c =
+    let old = c.args.one.now.editing.edit.now.old.now in
+    subst (All (LiesIn old)) (sym c.requires.one.own.was) (own_lie old c.args.one.now.editing.changes.now.items.kept_front (c.text_in_pieces.ensures.inside old))
+
+pub own_diagnostics-requires-clause-was_spelled : goal.own_diagnostics-requires-clause-was_spelled
+own_diagnostics-requires-clause-was_spelled c =
+    let old = c.args.one.now.editing.edit.now.old.now in
+    let changes = c.args.one.now.editing.changes.now in
+    entry_got old changes.items.kept_front c.args.was.entry.now (is_there old changes c.requires.one.one) c.requires.was.entry
+    ∙ ap (λ (ts : List Piece). entry_by (spelled old ts)) (sym c.requires.one.own.was)
+
+pub own_diagnostics-requires-clause-was_checked : goal.own_diagnostics-requires-clause-was_checked
+own_diagnostics-requires-clause-was_checked c =
+    let old = c.args.one.now.editing.edit.now.old.now in
+    let changes = c.args.one.now.editing.changes.now in
+    let k = changes.items.kept_front in
+    check_got old k c.args.was.check.now (is_there old changes c.requires.one.one) c.requires.was.check
+    ∙ ap (λ (ts : List Piece). check_by (outlines_in old) k (spelled old ts)) (sym c.requires.one.own.was)
+    ∙ ap (λ l. check_by l.outlines k (spelled old c.args.one.now.own.now.was.items)) (sym c.requires.one.editing.lists.links)
+
+pub own_diagnostics-requires-clause-within : goal.own_diagnostics-requires-clause-within
+own_diagnostics-requires-clause-within c =
+    let text = c.args.one.now.editing.edit.now.text.now in
+    subst (All (LiesIn text)) (sym c.requires.one.own.is) (own_lie text c.args.one.now.editing.changes.now.items.kept_front (c.text_in_pieces.ensures.inside text))
+
+pub own_change-requires-clause-within : goal.own_change-requires-clause-within
+own_change-requires-clause-within c =
+    let text = c.args.one.now.editing.edit.now.text.now in
+    subst (All (LiesIn text)) (sym c.requires.one.own.is) (own_lie text c.args.one.now.editing.changes.now.items.kept_front (c.text_in_pieces.ensures.inside text))
+
+pub own_change-requires-clause-items : goal.own_change-requires-clause-items
+own_change-requires-clause-items c =
+    let edit = c.args.one.now.editing.edit.now in
+    items_after edit.old.now edit.text.now c.args.one.now.editing.changes.now c.args.one.now.editing.lists.now c.args.made.now c.requires.one.editing.lists c.requires.one.one c.requires.alone c.replaces_inside.ensures.replaced.inside.outlines
+
+pub own_change-requires-clause-place : goal.own_change-requires-clause-place
+own_change-requires-clause-place c =
+    let edit = c.args.one.now.editing.edit.now in
+    in_place (edit_of edit) c.args.one.now.editing.changes.now c.args.one.now.shift c.args.was.entry.now c.args.made.now c.replaces_inside.ensures.replaced
+    (items_are_read edit.old.now (c.text_in_pieces.ensures.inside edit.old.now)) c.args.one.now.own.now.is.items c.requires.one.own.is
+
+pub returns-clause-inside : goal.returns-clause-inside
+returns-clause-inside c =
+    let edit = c.args.one.now.editing.edit.now in
+    let old : List ℕ = edit.old.now in
+    let text : List ℕ = edit.text.now in
+    let changes = c.args.one.now.editing.changes.now in
+    let k : ℕ = changes.items.kept_front in
+    let own = c.args.one.now.own.now in
+    let before = c.args.one.now.editing.lists.now.links in
+    let t : LineShift = c.args.one.now.shift in
+    let there = is_there old changes c.requires.one.one in
+    let w = c.args.was in
+    let e = c.args.made.now in
+    let inside = c.replaces_inside.ensures.inside in
+    let one = c.replaces_inside.ensures.replaced in
+    let spared = c.requires.says.spared in
+    let faults : faults_of (links_in text) ≡ faults_of (links_in old) =
+    faults_stay (edit_of edit) changes t w.entry.now e one before c.requires.one.editing.lists.links c.args.links.now c.requires.links in
+    let change : RowChange = change_told text (items_of text) (outlines_in old) k (own_item text k) c.args.touched in
+    let after : IsAfterInside old text t k change = after_any old text t k own w e c.args.touched c.requires.row
+    (sound_alike c.outcome_told.ensures.tree c.same_spelling_same_tree.ensures.by_spelling c.same_spelling_same_summary.ensures.summary_by_spelling c.same_spelling_same_summary.ensures.bytes_by_spelling old text k own w e there c.requires.was c.requires.one.own c.requires.made)
+    (λ n fits. says_alike c.outcome_told.ensures.tree c.same_spelling_same_tree.ensures.by_spelling c.same_spelling_same_summary.ensures.summary_by_spelling c.same_spelling_same_summary.ensures.bytes_by_spelling old text k n own w e there c.requires.was c.requires.one.own c.requires.made fits)
+    (λ nowhere. c.edit_outside_the_sets.ensures (edit_of edit) changes t w.entry.now e inside spared faults nowhere)
+    (λ unnamed sound. c.edit_around_an_item.ensures (edit_of edit) changes t w.entry.now e inside spared faults unnamed sound)
+    (λ n named placed alike. c.edit_inside_a_state.ensures (edit_of edit) changes t w.entry.now e n inside spared faults named placed alike)
+    (λ n named placed. c.edit_around_a_state.ensures (edit_of edit) changes t w.entry.now e n inside spared faults named placed)
+    (λ n unnamed placed. c.edit_in_a_set.ensures (edit_of edit) changes t w.entry.now e n inside spared faults unnamed placed) in
+    let outlines : before.outlines ≡ outlines_in old = ap (λ l. l.outlines) c.requires.one.editing.lists.links in
+    let tokens : c.deref.result.now ≡ own_tokens text k = c.deref.ensures.value ∙ c.requires.one.own.is in
+    let check : c.in_ok-check.check ≡ own_check old text k = c.in_ok-check.ensures.check ∙ ap₂ (λ (os : List Outline) (ts : List Piece). check_by os k (spelled text ts)) outlines tokens in
+    let told : c.in_ok-change.change ≡ change =
+    c.in_ok-change.ensures ∙ ap₂ (λ (os : List Outline) (ts : List Piece). change_told text (items_of text) os k (program_item text ts) c.args.touched) outlines c.requires.one.own.is in
+    let kept = c.in_ok-checks.ensures in
+    let vacant : c.in_ok-checks.checks.vacant.items ≡ nones changes.items.made.items = kept.vacant in
+    let made : c.in_ok-checks.checks.made.items ≡ made_at k (own_check old text k) = kept.made ∙ ap (made_at k) check in
+    record {
+      are_links = links_after (edit_of edit) changes t w.entry.now e one before c.requires.one.editing.lists.links c.args.links.now c.requires.links;
+      warns = after.warns;
+      checks = subst (λ (ms : List NewCheck). AreChecksMade old text k c.in_ok-checks.checks.vacant.items changes.items.kept_back ms) (sym made)
+          (subst (λ (vs : List (Option Checked)). AreChecksMade old text k vs changes.items.kept_back (made_at k (own_check old text k))) (sym vacant) one.checks);
+      stirred = one.stirred ∙ ap (λ (ms : List NewCheck). length ms) (sym made);
+      diagnostics = c.in_ok-diagnostics.ensures
+          ∙ diagnostics_after old text t k c.in_ok-change.change own before.outlines c.args.one.now.editing.lists.now.warns c.args.one.now.editing.tables.now c.args.one.now.editing.found.now (subst (IsAfterInside old text t k) (sym told) after) c.requires.one.own outlines c.requires.one.editing.lists.warns c.requires.one.editing.tables c.requires.one.editing.found;
+      tables = after.tables ∙ ap (with_row (moved_tables t.by (moved_line t) (tables_in old))) (sym told);
+    }

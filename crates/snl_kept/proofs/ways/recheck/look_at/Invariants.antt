@@ -1,6 +1,0 @@
-use Rattle.std.proofs.Common.{◌≡◌, drop, map}
-use Rattle.snl_kept.specs.Rechecked.{put}
-use Rattle.snl_kept.proofs.ways.recheck.look_at.Given as goal
-
-abbrev pub invariant-loop-one : goal.invariant-loop-one
-invariant-loop-one l = put (map (λ c. c.now) l.checks.items) (drop l.one-index l.made) ≡ put (map (λ c. c.now) l.initial.checks.items) l.made

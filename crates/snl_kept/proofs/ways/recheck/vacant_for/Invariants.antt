@@ -1,6 +1,0 @@
-use Rattle.std.proofs.Common.{◌≡◌, take}
-use Rattle.snl_kept.specs.Rechecked.{nones}
-use Rattle.snl_kept.proofs.ways.recheck.vacant_for.Given as goal
-
-abbrev pub invariant-loop-end : goal.invariant-loop-end
-invariant-loop-end l = l.vacant.items ≡ nones (take l._end-index l.ends)

@@ -1,0 +1,270 @@
+//! What a text says after an edit: the edit under way and the items of the new text come in, the
+//! links, the checks that are made, the diagnostics and the tables go out. It changes nothing.
+#![tactic(auto)]
+
+ghost use Rattle.std.specs.Prelude.{◌≡◌, ◌+◌, ◌-◌, ◌≤◌, All, IfOk, length, map};
+ghost use Rattle.snl_cut.specs.Cut.{after_ticks, members};
+ghost use Rattle.snl_lex.specs.Pieces.{tokens_of};
+ghost use Rattle.snl_kept.specs.Diagnostics.{shown};
+ghost use Rattle.snl_kept.specs.Editing.{AreEntriesIn, IsUnderWay, edit_in, items_in, old_in, text_in};
+ghost use Rattle.snl_kept.specs.NewChecks.{AreChecksMade, kept_of, nones};
+ghost use Rattle.snl_kept.specs.NewLinks.{AreLinks};
+ghost use Rattle.snl_kept.specs.Order.{in_order};
+ghost use Rattle.snl_kept.specs.Parts.{IsPart, item_of_part};
+ghost use Rattle.snl_kept.specs.Planned.{AreLinksAndChecks};
+ghost use Rattle.snl_kept.specs.Program.{items_of, program_item};
+ghost use Rattle.snl_kept.specs.Stirred.{stirred_between};
+ghost use Rattle.snl_kept.specs.Tables.{tables_in};
+ghost use Rattle.snl_kept.specs.Warnings.{warns_in};
+
+use crate::editing::Editing;
+use crate::entries::Entry;
+use crate::found::judge::{Told, in_order, told_in};
+use crate::found::program::{CutText, Part, items_end_in_order, parts_along};
+use crate::kept_checks::{checks_in, vacant_for};
+use crate::plan::{LinksAndChecks, NewCheck, NewLinks};
+use crate::shared::Shared;
+use crate::values::values_after;
+use crate::ways::whole::edited::edited_names;
+use crate::ways::whole::recheck::{BothLinks, KeptItems, recheck};
+use crate::ways::whole::relink::relink;
+use snl_check::equal_views;
+use snl_cut::{Count, OutOfMemory, ends_in_order};
+use snl_items::ItemChange;
+use snl_lex::{Piece, text_in_pieces};
+use snl_scope::{same_spelling_same_summary, views_told_apart};
+use snl_syntax::Tokens;
+use std::alloc::Global;
+
+/// What is shown of what is found in the new text and its tables, and what is to be kept of its
+/// links and checks.
+#[derive(Drop)]
+pub struct Retold {
+    pub told: Told,
+    pub kept: LinksAndChecks,
+}
+
+// Which items are kept of so many, and where they are among so many.
+fn kept_items(old_count: usize, items: &ItemChange, count: usize) -> KeptItems
+    requires back { items.now.kept_back ≤ old_count }
+    requires count { count ≡ items.now.kept_front + length items.now.made.items + items.now.kept_back }
+    ensures { result ≡ kept_of old_count items.now.kept_front items.now.made.items items.now.kept_back }
+{
+    KeptItems {
+        front: items.kept_front,
+        stop: count - items.kept_back,
+        back: old_count - items.kept_back,
+    }
+}
+
+// The checks of the items that are to be checked anew, by what an edit makes of the links. Each is
+// one tick.
+fn checks_after(
+    alloc: Global,
+    editing: &Editing,
+    tokens: &[Piece],
+    parts: &[Part],
+    made: &[Shared<Entry>],
+    links: &NewLinks,
+    work: &mut Count,
+) -> Result<Vec<NewCheck>, OutOfMemory>
+    requires editing { IsUnderWay editing.now }
+    requires tokens { tokens.now ≡ tokens_of (text_in editing.now) }
+    requires items { map (item_of_part tokens.now) parts.now ≡ items_of (text_in editing.now) }
+    requires parts { All (IsPart (text_in editing.now) tokens.now) parts.now }
+    requires made { AreEntriesIn editing.now made.now }
+    requires links { AreLinks (old_in editing.now) (text_in editing.now) links.now }
+    ensures checks { IfOk result (λ made. AreChecksMade (old_in editing.now) (text_in editing.now) (items_in editing.now).kept_front (nones (items_in editing.now).made.items) (items_in editing.now).kept_back made.items) }
+    ensures stirred { IfOk result (λ made. length made.items ≡ stirred_between (edit_in editing.now)) }
+    ensures ticks { IfOk result (λ made. work.new ≡ after_ticks work.old (length made.items)) }
+{
+    text_in_pieces();
+    ends_in_order::<Tokens>();
+    views_told_apart();
+    equal_views();
+    same_spelling_same_summary();
+    let lists = editing.lists;
+    let kept = kept_items(lists.checks.len(), &editing.changes.items, parts.len());
+    let edited = edited_names(alloc, editing, &lists.entries, made)?;
+    let both = BothLinks {
+        before: &lists.links,
+        after: links.after(&lists.links),
+        keeps_names: links.keeps_names(),
+        edited: &edited,
+        kept,
+    };
+    let made = recheck(alloc, editing.edit.text, tokens, parts, both, work)?;
+    Ok(made)
+}
+
+// What an edit makes of the links and the checks of a text that has these items. Each check that is
+// made is one tick.
+fn recheck_after(
+    alloc: Global,
+    editing: &Editing,
+    tokens: &[Piece],
+    parts: &[Part],
+    made: &[Shared<Entry>],
+    work: &mut Count,
+) -> Result<LinksAndChecks, OutOfMemory>
+    requires editing { IsUnderWay editing.now }
+    requires tokens { tokens.now ≡ tokens_of (text_in editing.now) }
+    requires items { map (item_of_part tokens.now) parts.now ≡ items_of (text_in editing.now) }
+    requires parts { All (IsPart (text_in editing.now) tokens.now) parts.now }
+    requires made { AreEntriesIn editing.now made.now }
+    ensures kept { IfOk result (AreLinksAndChecks (edit_in editing.now) (items_in editing.now)) }
+    ensures stirred { IfOk result (λ r. length r.made.items ≡ stirred_between (edit_in editing.now)) }
+    ensures ticks { IfOk result (λ r. work.new ≡ after_ticks work.old (length r.made.items)) }
+{
+    let links = relink(alloc, editing, tokens, parts, made)?;
+    let vacant = vacant_for(alloc, &editing.changes.items.made)?;
+    let made = checks_after(alloc, editing, tokens, parts, made, &links, work)?;
+    Ok(LinksAndChecks {
+        links,
+        vacant,
+        made,
+    })
+}
+
+// What is shown of what is found in the new text, by its items and what is made of the links and
+// the checks.
+fn told_after(
+    alloc: Global,
+    editing: &Editing,
+    cut: &CutText,
+    parts: &[Part],
+    kept: &LinksAndChecks,
+) -> Result<Told, OutOfMemory>
+    requires editing { IsUnderWay editing.now }
+    requires text { cut.now.text.now ≡ text_in editing.now }
+    requires items { map (item_of_part cut.now.tokens.now) parts.now ≡ map (program_item cut.now.text.now) (members cut.now.tokens.now 0 cut.now.ends.now) }
+    requires parts { All (IsPart cut.now.text.now cut.now.tokens.now) parts.now }
+    requires kept { AreLinksAndChecks (edit_in editing.now) (items_in editing.now) kept.now }
+    ensures shown { IfOk result (λ t. t.shown.items ≡ shown (text_in editing.now)) }
+    ensures tables { IfOk result (λ t. t.tables ≡ tables_in (text_in editing.now)) }
+    ensures warns { IfOk result (λ t. t.warns ≡ warns_in (text_in editing.now)) }
+{
+    let lists = editing.lists;
+    let items = &editing.changes.items;
+    let back = lists.checks.len() - items.kept_back;
+    let checks = checks_in(
+        alloc,
+        &lists.checks,
+        items.kept_front,
+        &kept.vacant,
+        back,
+        &kept.made,
+    )?;
+    let links = kept.links.after(&lists.links);
+    let faults = kept.links.faults(&lists.links);
+    told_in(alloc, cut, parts, links, faults, &checks)
+}
+
+// What the new text says, by its items. Each check that is made is one tick.
+fn retell_parts(
+    alloc: Global,
+    editing: &Editing,
+    cut: &CutText,
+    parts: &[Part],
+    made: &[Shared<Entry>],
+    work: &mut Count,
+) -> Result<Retold, OutOfMemory>
+    requires editing { IsUnderWay editing.now }
+    requires text { cut.now.text.now ≡ text_in editing.now }
+    requires items { map (item_of_part cut.now.tokens.now) parts.now ≡ map (program_item cut.now.text.now) (members cut.now.tokens.now 0 cut.now.ends.now) }
+    requires parts { All (IsPart cut.now.text.now cut.now.tokens.now) parts.now }
+    requires made { AreEntriesIn editing.now made.now }
+    ensures shown { IfOk result (λ r. r.told.shown.items ≡ shown (text_in editing.now)) }
+    ensures tables { IfOk result (λ r. r.told.tables ≡ tables_in (text_in editing.now)) }
+    ensures warns { IfOk result (λ r. r.told.warns ≡ warns_in (text_in editing.now)) }
+    ensures kept { IfOk result (λ r. AreLinksAndChecks (edit_in editing.now) (items_in editing.now) r.kept) }
+    ensures stirred { IfOk result (λ r. length r.kept.made.items ≡ stirred_between (edit_in editing.now)) }
+    ensures ticks { IfOk result (λ r. work.new ≡ after_ticks work.old (length r.kept.made.items)) }
+{
+    let kept = recheck_after(alloc, editing, cut.tokens, parts, made, work)?;
+    let told = told_after(alloc, editing, cut, parts, &kept)?;
+    Ok(Retold { told, kept })
+}
+
+// The same of the new text as it is cut.
+fn retell_cut(
+    alloc: Global,
+    editing: &Editing,
+    cut: &CutText,
+    made: &[Shared<Entry>],
+    work: &mut Count,
+) -> Result<Retold, OutOfMemory>
+    requires editing { IsUnderWay editing.now }
+    requires text { cut.now.text.now ≡ text_in editing.now }
+    requires made { AreEntriesIn editing.now made.now }
+    ensures shown { IfOk result (λ r. r.told.shown.items ≡ shown (text_in editing.now)) }
+    ensures tables { IfOk result (λ r. r.told.tables ≡ tables_in (text_in editing.now)) }
+    ensures warns { IfOk result (λ r. r.told.warns ≡ warns_in (text_in editing.now)) }
+    ensures kept { IfOk result (λ r. AreLinksAndChecks (edit_in editing.now) (items_in editing.now) r.kept) }
+    ensures stirred { IfOk result (λ r. length r.kept.made.items ≡ stirred_between (edit_in editing.now)) }
+    ensures ticks { IfOk result (λ r. work.new ≡ after_ticks work.old (length r.kept.made.items)) }
+{
+    items_end_in_order();
+    let parts = parts_along(alloc, cut.text, cut.tokens, cut.ends, cut.entries)?;
+    retell_parts(alloc, editing, cut, &parts, made, work)
+}
+
+// The same by the tokens of the new text. What is listed of its items is let go here, before the
+// findings are put in order.
+fn retell(
+    alloc: Global,
+    editing: &Editing,
+    tokens: &[Piece],
+    made: &[Shared<Entry>],
+    work: &mut Count,
+) -> Result<Retold, OutOfMemory>
+    requires editing { IsUnderWay editing.now }
+    requires tokens { tokens.now ≡ tokens_of (text_in editing.now) }
+    requires made { AreEntriesIn editing.now made.now }
+    ensures shown { IfOk result (λ r. r.told.shown.items ≡ shown (text_in editing.now)) }
+    ensures tables { IfOk result (λ r. r.told.tables ≡ tables_in (text_in editing.now)) }
+    ensures warns { IfOk result (λ r. r.told.warns ≡ warns_in (text_in editing.now)) }
+    ensures kept { IfOk result (λ r. AreLinksAndChecks (edit_in editing.now) (items_in editing.now) r.kept) }
+    ensures stirred { IfOk result (λ r. length r.kept.made.items ≡ stirred_between (edit_in editing.now)) }
+    ensures ticks { IfOk result (λ r. work.new ≡ after_ticks work.old (length r.kept.made.items)) }
+{
+    let lists = editing.lists;
+    let edit = editing.edit;
+    let changes = editing.changes;
+    let items = &changes.items;
+    let ends = lists.items.ends_after(alloc, edit, &changes.tokens, items)?;
+    let back = lists.entries.len() - items.kept_back;
+    let entries = values_after(alloc, &lists.entries, items.kept_front, made, back)?;
+    let cut = CutText {
+        text: edit.text,
+        lines: editing.lines,
+        tokens,
+        ends: &ends,
+        entries: &entries,
+    };
+    retell_cut(alloc, editing, &cut, made, work)
+}
+
+/// What the new text says, by its tokens and what is kept of the fresh items. What is shown is in
+/// order. Each check that is made is one tick.
+pub fn rejudge(
+    alloc: Global,
+    editing: &Editing,
+    tokens: &[Piece],
+    made: &[Shared<Entry>],
+    work: &mut Count,
+) -> Result<Retold, OutOfMemory>
+    requires editing { IsUnderWay editing.now }
+    requires tokens { tokens.now ≡ tokens_of (text_in editing.now) }
+    requires made { AreEntriesIn editing.now made.now }
+    ensures shown { IfOk result (λ r. r.told.shown.items ≡ in_order (shown (text_in editing.now))) }
+    ensures tables { IfOk result (λ r. r.told.tables ≡ tables_in (text_in editing.now)) }
+    ensures warns { IfOk result (λ r. r.told.warns ≡ warns_in (text_in editing.now)) }
+    ensures kept { IfOk result (λ r. AreLinksAndChecks (edit_in editing.now) (items_in editing.now) r.kept) }
+    ensures stirred { IfOk result (λ r. length r.kept.made.items ≡ stirred_between (edit_in editing.now)) }
+    ensures ticks { IfOk result (λ r. work.new ≡ after_ticks work.old (length r.kept.made.items)) }
+{
+    let Retold { told, kept } = retell(alloc, editing, tokens, made, work)?;
+    let told = in_order(told)?;
+    Ok(Retold { told, kept })
+}
