@@ -1,0 +1,4 @@
+pub mod Growing
+pub mod Lines
+pub mod ReadBack
+pub mod Waiting

@@ -1,0 +1,76 @@
+//! Bytes after bytes, and strings of JSON.
+//! In: pieces, and the bytes of a string. Out: the same after the bytes that are there, a string
+//! in quotes and escaped. Knows nothing of what they say.
+
+ghost use Rattle.std.specs.Prelude.{◌≡◌, ◌++◌, ◌∷◌, [], ◌<◌, ℕ, List, OnOk, flat_map, take};
+ghost use Rattle.std.specs.Char.{digit_char};
+ghost use Rattle.json.specs.Print.{escape, escape_byte, escape_letter, quoted};
+
+use std::alloc::AllocError;
+
+/// Pieces, one after another.
+pub fn put_all(out: &mut Vec<u8>, pieces: &[&[u8]]) -> Result<(), AllocError>
+    ensures { OnOk result (out.new.items ≡ out.old.items
+        ++ flat_map (λ piece. piece.now) pieces.now) }
+{
+    for piece in pieces {
+        out.extend_from_slice(piece)?;
+    }
+    Ok(())
+}
+
+/// The letter of a byte's short escape, or 0 where it has none.
+fn escape_letter(byte: u8) -> u8
+    ensures { result ≡ escape_letter byte }
+{
+    match byte {
+        b'"' => b'"',
+        b'\\' => b'\\',
+        8 => b'b',
+        12 => b'f',
+        b'\n' => b'n',
+        b'\r' => b'r',
+        b'\t' => b't',
+        _ => 0,
+    }
+}
+
+fn hex_digit(digit: u8) -> u8
+    requires { digit < 16 }
+    ensures { result ≡ digit_char digit }
+{
+    if digit < 10 {
+        b'0' + digit
+    } else {
+        b'a' + (digit - 10)
+    }
+}
+
+/// A byte of a string. From 32 on all but `"` and `\` are themselves, so UTF-8 stays as it is.
+#[tactic(auto, unfolding(json::specs::Print::escape_byte))]
+fn put_byte(out: &mut Vec<u8>, byte: u8) -> Result<(), AllocError>
+    ensures { OnOk result (out.new.items ≡ out.old.items ++ escape_byte byte) }
+{
+    let letter = escape_letter(byte);
+    if letter > 0 {
+        return out.extend_from_slice(&[b'\\', letter]);
+    }
+    if byte < 32 {
+        let (high, low) = (hex_digit(byte / 16), hex_digit(byte % 16));
+        return out.extend_from_slice(&[b'\\', b'u', b'0', b'0', high, low]);
+    }
+    out.extend_from_slice(&[byte])
+}
+
+/// A string of JSON. Each byte of a message goes through this loop; nearly none has an escape. An
+/// `Err`, of memory, may leave a front of the bytes.
+pub fn put_quoted(out: &mut Vec<u8>, bytes: &[u8]) -> Result<(), AllocError>
+    ensures { OnOk result (out.new.items ≡ out.old.items ++ quoted bytes.now) }
+{
+    out.extend_from_slice(b"\"")?;
+    for byte in bytes {
+        put_byte(out, *byte)?;
+    }
+    out.extend_from_slice(b"\"")?;
+    Ok(())
+}

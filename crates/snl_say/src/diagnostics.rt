@@ -1,0 +1,150 @@
+//! What is found in a document, as the notification `textDocument/publishDiagnostics`.
+//! In: places, codes and messages. Out: the bytes of the notification, after those that are there.
+//! Knows nothing of texts, and of how places are counted in them.
+
+ghost use Rattle.std.specs.Prelude.{◌≡◌, ◌++◌, ◌∷◌, [], ℕ, List, Option, None, Some, OnOk, codes, flat_map, map};
+ghost use Rattle.json.specs.Print.{quoted};
+ghost use Rattle.snl_say.specs.Publish.{Found, after_comma, found_of, item_text, items_text, place_text, publish_head, publish_with, range_text, severity_text, version_text};
+
+use crate::bytes::{put_all, put_quoted};
+use crate::severity::Severity;
+use itoa::Buffer;
+use snl_place::Place;
+use std::alloc::AllocError;
+
+/// What is found in a document, from `start` up to `stop`. `code` is the name of the rule: `E10`.
+#[derive(Clone, Copy)]
+pub struct Shown<'a> {
+    pub start: Place,
+    pub stop: Place,
+    pub severity: Severity,
+    pub code: &'a [u8],
+    pub message: &'a [u8],
+}
+
+/// A place, as `{"character":CHARACTER,"line":LINE}`.
+#[tactic(auto, unfolding(crate::specs::Publish::place_text))]
+fn put_place(out: &mut Vec<u8>, place: Place) -> Result<(), AllocError>
+    ensures { OnOk result (out.new.items ≡ out.old.items ++ place_text place) }
+{
+    let (mut first, mut second) = (Buffer::new(), Buffer::new());
+    let character = first.format(place.character).as_bytes();
+    let line = second.format(place.line).as_bytes();
+    put_all(
+        out,
+        &[b"{\"character\":", character, b",\"line\":", line, b"}"],
+    )
+}
+
+#[tactic(auto, unfolding(crate::specs::Publish::range_text))]
+fn put_range(out: &mut Vec<u8>, start: Place, stop: Place) -> Result<(), AllocError>
+    ensures { OnOk result (out.new.items ≡ out.old.items ++ range_text start stop) }
+{
+    out.extend_from_slice(b"{\"end\":")?;
+    put_place(out, stop)?;
+    out.extend_from_slice(b",\"start\":")?;
+    put_place(out, start)?;
+    out.extend_from_slice(b"}")?;
+    Ok(())
+}
+
+/// The severity, and all that is after it in an item.
+fn severity_text(severity: Severity) -> &'static [u8]
+    ensures { result.now ≡ severity_text severity }
+{
+    match severity {
+        Severity::Error => b",\"severity\":1,\"source\":\"snl\"}",
+        Severity::Warning => b",\"severity\":2,\"source\":\"snl\"}",
+    }
+}
+
+#[tactic(auto, unfolding(crate::specs::Publish::item_text))]
+fn put_item(out: &mut Vec<u8>, shown: &Shown<'_>) -> Result<(), AllocError>
+    ensures { OnOk result (out.new.items ≡ out.old.items ++ item_text (found_of shown.now)) }
+{
+    out.extend_from_slice(b"{\"code\":")?;
+    put_quoted(out, shown.code)?;
+    out.extend_from_slice(b",\"message\":")?;
+    put_quoted(out, shown.message)?;
+    out.extend_from_slice(b",\"range\":")?;
+    put_range(out, shown.start, shown.stop)?;
+    out.extend_from_slice(severity_text(shown.severity))?;
+    Ok(())
+}
+
+/// The items after the first, each with a comma before it, and the bracket that closes them.
+fn put_rest(out: &mut Vec<u8>, rest: &[Shown<'_>]) -> Result<(), AllocError>
+    ensures { OnOk result (out.new.items ≡ out.old.items
+        ++ (flat_map (λ s. after_comma (found_of s)) rest.now ++ codes "]")) }
+{
+    for shown in rest {
+        out.extend_from_slice(b",")?;
+        put_item(out, shown)?;
+    }
+    out.extend_from_slice(b"]")?;
+    Ok(())
+}
+
+fn put_items(out: &mut Vec<u8>, all: &[Shown<'_>]) -> Result<(), AllocError>
+    ensures { OnOk result (out.new.items ≡ out.old.items
+        ++ items_text (map (λ s. found_of s) all.now)) }
+{
+    match all.split_first() {
+        Some((first, rest)) => {
+            put_item(out, first)?;
+            put_rest(out, rest)?;
+        }
+        None => out.extend_from_slice(b"]")?,
+    }
+    Ok(())
+}
+
+/// The version, if there is one, and all that is after it.
+fn put_version(out: &mut Vec<u8>, version: Option<u64>) -> Result<(), AllocError>
+    ensures { OnOk result (out.new.items ≡ out.old.items ++ version_text version) }
+{
+    match version {
+        Some(version) => {
+            let mut buffer = Buffer::new();
+            put_all(
+                out,
+                &[b",\"version\":", buffer.format(version).as_bytes(), b"}}"],
+            )
+        }
+        None => out.extend_from_slice(b"}}"),
+    }
+}
+
+/// What is before the items.
+#[tactic(auto, unfolding(crate::specs::Publish::publish_head))]
+fn put_head(out: &mut Vec<u8>) -> Result<(), AllocError>
+    ensures { OnOk result (out.new.items ≡ out.old.items ++ publish_head) }
+{
+    put_all(
+        out,
+        &[
+            b"{\"jsonrpc\":\"2.0\",\"method\":\"textDocument/publishDiagnostics\",",
+            b"\"params\":{\"diagnostics\":[",
+        ],
+    )
+}
+
+/// The diagnostics of a document. `quoted_uri` is its URI as `put_quoted` writes it, so that it is
+/// escaped once for all of them; `version` that of the text that they are of, where the client
+/// numbers its texts. An `Err`, of memory, may leave a front of the bytes.
+pub fn put_publish(
+    out: &mut Vec<u8>,
+    quoted_uri: &[u8],
+    version: Option<u64>,
+    all: &[Shown<'_>],
+) -> Result<(), AllocError>
+    ensures { OnOk result (out.new.items ≡ out.old.items
+        ++ publish_with (map (λ s. found_of s) all.now) quoted_uri.now version) }
+{
+    put_head(out)?;
+    put_items(out, all)?;
+    out.extend_from_slice(b",\"uri\":")?;
+    out.extend_from_slice(quoted_uri)?;
+    put_version(out, version)?;
+    Ok(())
+}

@@ -1,0 +1,26 @@
+//! What a language server says, as bytes.
+//!
+//! Places, messages, ids of requests and the like come in. The bytes of a notification or of an
+//! answer go out, after those that are there: JSON with no space. No value of JSON is built; the
+//! laws say that the bytes are the text of one. The crate knows nothing of documents, and of what
+//! is answered to which request.
+//!
+//! `diagnostics` publishes what is found in a document, `notices` shows a message to the user,
+//! `answers` has the answers to requests, `frames` puts the header before a body.
+#![tactic(auto)]
+
+mod answers;
+mod bytes;
+mod diagnostics;
+mod frames;
+mod laws;
+mod notices;
+mod severity;
+
+pub use answers::{ErrorCode, Id, put_error, put_initialize, put_null};
+pub use bytes::put_quoted;
+pub use diagnostics::{Shown, put_publish};
+pub use frames::put_framed;
+pub use laws::{error_is_json, initialize_is_json, message_is_json, null_is_json, publish_is_json};
+pub use notices::put_message;
+pub use severity::Severity;
