@@ -1,5 +1,5 @@
--- No two findings of an item have the same token, byte and code: those of rules differ, the letters of options rise, and no rule
--- has the code of these.
+-- No two findings of an item have the same token, byte and code: those of rules differ, the letters
+-- of options rise, and no rule has the code of these.
 use Rattle.std.proofs.Common.{◌≡◌, ◌≢◌, ℕ, ◌+◌, ◌<◌, ◌≤◌, Bool, true, false, cond, List, [], ◌∷◌, ◌++◌, map, All, refl, sym, subst, ap, ap₂, ◌∙◌, arith}
 use Rattle.std.specs.List.{AllByRecursion as Each, AllPairs, enumerate_from, flat_map}
 use Rattle.std.proofs.lemmas.Bool.{false≢true}

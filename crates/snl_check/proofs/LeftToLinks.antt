@@ -1,5 +1,6 @@
--- What is found in an item has codes of its own, but for E07: and this is at no name that the item declares in a scope that isn't its
--- own, since such names are resolved in no scope of the item, or come before all that is found in it.
+-- What is found in an item has codes of its own, but for E07: and this is at no name that the item
+-- declares in a scope that isn't its own, since such names are resolved in no scope of the item, or
+-- come before all that is found in it.
 use Rattle.std.proofs.Common.{◌≡◌, ◌⊎◌, ℕ, ◌<◌, Bool, true, false, ◌||◌, nat_lt, All, suc, List, [], ◌∷◌, ◌++◌, length, map, inl, inr, Option, None, Some, refl, sym, ap, subst, ◌∙◌, arith}
 use borrow.Author.Tests.{lt-ltb}
 use Rattle.std.specs.List.{AllByRecursion as Each, Contains, flat_map}

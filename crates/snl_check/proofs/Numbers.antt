@@ -1,4 +1,5 @@
--- The table of channels by variable and element, and the channels of each declaration: what one more channel is to them.
+-- The table of channels by variable and element, and the channels of each declaration: what one
+-- more channel is to them.
 use Rattle.std.proofs.Common.{◌≡◌, ℕ, zero, suc, ◌<◌, ◌≤◌, Bool, true, false, ◌&&◌, ◌||◌, cond, List, [], ◌∷◌, ◌++◌, length, get_or, slice_get, nat_eq, Option, None, Some, is_some, refl, sym, ap, ◌∙◌, true≢false, inl, inr, if◌then◌else◌, arith, length-append}
 use Rattle.std.proofs.Math.ListN.{set}
 use Rattle.std.proofs.Math.Seq.{get_or-append_seam, set-append_seam}

@@ -1,4 +1,5 @@
--- The first place at which a test passes: in a list by its first element, with one more element, and in numbers that rise.
+-- The first place at which a test passes: in a list by its first element, with one more element,
+-- and in numbers that rise.
 use Rattle.std.proofs.Common.{◌≡◌, ℕ, suc, ◌+◌, ◌<◌, ◌≤◌, Bool, true, false, ◌||◌, not, cond, nat_eq, nat_lt, List, [], ◌∷◌, ◌++◌, length, get_or, Option, None, Some, is_some, Result, Ok, Err, refl, sym, ap, ◌∙◌, arith, inl, inr}
 use Rattle.std.specs.List.{AllPairs, list_any, position, position_or_len}
 use Rattle.std.specs.List.Sorted.{IsBinarySearchResult, IsStrictlyIncreasing}

@@ -1,4 +1,5 @@
--- The tables of a text after an edit inside one item: all other items keep their tokens. `line` says what becomes of the line of an offset.
+-- The tables of a text after an edit inside one item: all other items keep their tokens. `line`
+-- says what becomes of the line of an offset.
 use Rattle.std.proofs.Common.{◌≡◌, ◌≢◌, ℕ, zero, suc, ◌+◌, ◌<◌, ◌&&◌, ◌||◌, Bool, true, false, List, [], ◌∷◌, ◌++◌, length, map, slice_get, nat_eq, Option, Some, None, inl, inr, if◌then◌else◌, refl, sym, subst, ap, ap₂, ◌∙◌, arith, nat_lt, IfSome}
 use Rattle.std.specs.List.{AllByRecursion, enumerate_from, filter_map, flat_map}
 use Rattle.std.specs.Option.{is_none, option_and_then, option_map, option_map_or, option_to_list}

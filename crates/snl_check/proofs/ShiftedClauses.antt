@@ -1,5 +1,5 @@
--- Options, event flags, clauses and channels after an edit that shifts tokens: what goes by bytes stays, what says where a token is
--- shifts.
+-- Options, event flags, clauses and channels after an edit that shifts tokens: what goes by bytes
+-- stays, what says where a token is shifts.
 use Rattle.std.proofs.Common.{◌≡◌, ℕ, zero, suc, ◌<◌, Bool, List, [], ◌∷◌, ◌++◌, length, map, slice_get, Option, Some, None, IfSome, if◌then◌else◌, refl, ap, ap₂, ◌∙◌}
 use Rattle.std.specs.List.{AllByRecursion, flat_map, zip}
 use Rattle.std.specs.Option.{option_and_then, option_map, option_map_or, unwrap_or}

@@ -1,5 +1,5 @@
--- What items say of their tokens after an edit that shifts these. Each lemma asks only of the items that it speaks of that they are
--- kept: `xs` are the items before the edit, `ys` those after it.
+-- What items say of their tokens after an edit that shifts these. Each lemma asks only of the items
+-- that it speaks of that they are kept: `xs` are the items before the edit, `ys` those after it.
 use Rattle.std.proofs.Common.{◌≡◌, ℕ, suc, ◌+◌, ◌-◌, ◌<◌, Bool, false, List, [], ◌∷◌, min, slice_get, Option, Some, None, if◌then◌else◌, refl, sym, ap, ap₂, ◌∙◌}
 use Rattle.std.specs.Option.{is_none, option_and_then, option_map, option_map_or, option_or}
 use Rattle.std.proofs.lemmas.Option.{slice_get-map}
@@ -14,7 +14,8 @@ use Rattle.snl_check.specs.Items.{ProgramItem, header_name, named_by, program_na
 use Rattle.snl_check.specs.Members.{is_faulty_item}
 use Rattle.snl_check.specs.Shifted.{shifted_item, shifted_tokens}
 
--- The item with this number is the one that it was, shifted, and its tokens have the bytes that they had.
+-- The item with this number is the one that it was, shifted, and its tokens have the bytes that
+-- they had.
 pub record IsKept (old text : List ℕ) (s : Shift) (xs ys : List ProgramItem) (i : ℕ) : Type 0 where
   pub item : slice_get ys i ≡ option_map (shifted_item s) (slice_get xs i)
   pub bytes : token_bytes text (tokens_in ys i) ≡ token_bytes old (tokens_in xs i)

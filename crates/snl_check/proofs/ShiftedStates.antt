@@ -1,4 +1,5 @@
--- The rows of states and of state sets after an edit that shifts tokens. `line` says what becomes of the line of an offset.
+-- The rows of states and of state sets after an edit that shifts tokens. `line` says what becomes
+-- of the line of an offset.
 use Rattle.std.proofs.Common.{◌≡◌, ℕ, ◌<◌, ◌&&◌, Bool, List, [], ◌∷◌, length, map, slice_get, Option, Some, None, if◌then◌else◌, refl, sym, ap, ap₂, ◌∙◌}
 use Rattle.std.specs.List.{AllByRecursion, filter_map, flat_map}
 use Rattle.std.specs.Option.{option_and_then, option_map_or}

@@ -1,4 +1,5 @@
--- The tables of a text after an edit that shifts tokens. `line` says what becomes of the line of an offset.
+-- The tables of a text after an edit that shifts tokens. `line` says what becomes of the line of an
+-- offset.
 use Rattle.std.proofs.Common.{◌≡◌, ℕ, suc, ◌<◌, ◌||◌, nat_lt, Bool, true, false, List, [], ◌∷◌, length, slice_get, Option, Some, None, refl, sym, subst, ap, ap₂, ◌∙◌}
 use Rattle.std.proofs.Math.Path.{fun_ext}
 use Rattle.std.proofs.lemmas.Bool.{false≢true}
@@ -181,7 +182,8 @@ unfolding token_bytes
 alike old text s [] h = refl
 alike old text s (p ∷ ps) h = ap₂ (λ (b : List ℕ) (l : List (Class × List ℕ)). (p.kind, b) ∷ l) (h 0) (alike old text s ps (λ n. h (suc n)))
 
--- The laws of the crate below that this rests on: a tree names tokens of its item, and tokens that are spelled alike give the same summary.
+-- The laws of the crate below that this rests on: a tree names tokens of its item, and tokens that
+-- are spelled alike give the same summary.
 pub record SpellingLaws : Type 0 where
   pub named : (text : List ℕ) (tokens : List Piece) (t : Item) → item_of (kinds_in text tokens) ≡ Some t → NamesItsTokens text tokens t
   pub summaries : (text moved : List ℕ) (tokens shifted : List Piece) → spelled text tokens ≡ spelled moved shifted → (tree : Option Item) → summary_in text tokens tree ≡ summary_in moved shifted tree

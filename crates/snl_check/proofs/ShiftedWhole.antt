@@ -1,4 +1,5 @@
--- The tables of a text after an edit that keeps all tokens. `line` says what becomes of the line of an offset.
+-- The tables of a text after an edit that keeps all tokens. `line` says what becomes of the line of
+-- an offset.
 use Rattle.std.proofs.Common.{◌≡◌, ℕ, suc, ◌<◌, ◌&&◌, true, List, [], ◌∷◌, length, map, slice_get, ap, ap₂, ◌∙◌, refl}
 use Rattle.std.proofs.lemmas.List.{length-map}
 use Rattle.std.proofs.lemmas.Option.{slice_get-map}

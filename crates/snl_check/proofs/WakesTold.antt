@@ -1,4 +1,5 @@
--- What uses of names mean by the table of channels is what they mean by the channels; and the table made of the rows of tables.
+-- What uses of names mean by the table of channels is what they mean by the channels; and the table
+-- made of the rows of tables.
 use Rattle.std.proofs.Common.{◌≡◌, ◌≢◌, ℕ, zero, suc, ◌+◌, ◌<◌, ◌≤◌, ◌&&◌, ◌||◌, Bool, true, false, cond, List, [], ◌∷◌, ◌++◌, length, map, take, get_or, slice_get, nat_eq, Option, Some, None, is_some, if◌then◌else◌, inl, inr, refl, sym, ap, ap₂, ◌∙◌, arith, add-one}
 use Rattle.std.specs.List.{cons_option, filter_map, list_any, position}
 use Rattle.std.specs.Map.{lookup}

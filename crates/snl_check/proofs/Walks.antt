@@ -64,7 +64,8 @@ module _ (targets : List (List ℕ)) where
   pub reached_more : (s t : ℕ) → IsReached targets s → IsTarget targets s t → t < length targets → IsReached targets t
   reached_more s t (walk, along) step h = (walk ++ t ∷ [], walk_more walk 0 s t along step h)
 
-  -- what holds of the first state, and of each target of a state that it holds of, holds of each state of a walk
+  -- what holds of the first state, and of each target of a state that it holds of, holds of each
+  -- state of a walk
   module _ (P : ℕ → Type 0) (goes_on : (s t : ℕ) → P s → IsTarget targets s t → P t) (walk : List ℕ) (first last : ℕ) (along : IsWalk targets first last walk) (here : P first) where
     each_of_walk : (k : ℕ) → k < length walk → P (get_or walk k 0)
     each_of_walk zero l = subst P (sym (get_or_from_slice_get walk 0 first 0 along.begins)) here
@@ -78,7 +79,8 @@ module _ (targets : List (List ℕ)) where
         let some = slice_get_within walk 0 first along.begins in
         subst P (get_or_from_slice_get walk (length walk - 1) last 0 along.ends) (each_of_walk (length walk - 1) (omega (arith, some)))
 
-  -- A search that follows targets: what it has come to is reached, and of a state that doesn't wait it has come to each target.
+  -- A search that follows targets: what it has come to is reached, and of a state that doesn't wait
+  -- it has come to each target.
   pub record Follows (search : Search) : Type 0 where
     pub as_long : length search.reached.items ≡ length targets
     pub begins : 0 < length targets → HasMarked search 0

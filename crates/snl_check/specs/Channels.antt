@@ -1,4 +1,5 @@
--- The channels of a text: what its sound `assign` clauses name, in the order of the text, so that each has a number, from 0 on.
+-- The channels of a text: what its sound `assign` clauses name, in the order of the text, so that
+-- each has a number, from 0 on.
 use Rattle.std.specs.Prelude.{ℕ, zero, suc, ◌+◌, ◌-◌, Bool, false, ◌&&◌, if◌then◌else◌, List, [], ◌∷◌, ◌++◌, map, length, take, drop, nat_eq, position, slice_get, is_some, Option, None, Some, unwrap_or}
 use Rattle.std.specs.List.{flat_map, list_any}
 use Rattle.std.specs.Option.{option_map_or}
@@ -39,8 +40,8 @@ channels_in text tokens (channels.Whole to strings) = record { element = None; s
 channels_in text tokens (channels.Element subscript to strings) = record { element = Some (unwrap_or (value_at text tokens subscript) 0); strings = strings } ∷ []
 channels_in text tokens (channels.Elements to lists trailing) = by_element 0 lists
 
--- A channel of a text: the item of its clause, the token that names the variable there, the number of the variable's
--- declaration, the element, if it is that of one, and the strings of its name.
+-- A channel of a text: the item of its clause, the token that names the variable there, the number
+-- of the variable's declaration, the element, if it is that of one, and the strings of its name.
 pub record AssignedChannel : Type 0 where
   pub item : ℕ
   pub token : ℕ

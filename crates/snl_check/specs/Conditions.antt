@@ -1,4 +1,5 @@
--- What the conditions of a state mean: the event flags and channels on a change of which it wakes up.
+-- What the conditions of a state mean: the event flags and channels on a change of which it wakes
+-- up.
 use Rattle.std.specs.Prelude.{ℕ, if◌then◌else◌, List, Option, None, Some, option_and_then, option_map}
 use Rattle.std.specs.List.{filter_map}
 use Rattle.snl_scope.specs.declared.summaries.summary.Outline.{Outline}
@@ -16,8 +17,8 @@ use Rattle.snl_check.specs.Told.{told_in}
 abbrev pub uses_in : List ℕ → List ProgramItem → ℕ → List WakeUse
 uses_in text xs item = (told_in text xs item).wake_uses
 
--- A variable with a subscript means the channel of that element, where elements are assigned; any other mention means all its
--- channels.
+-- A variable with a subscript means the channel of that element, where elements are assigned; any
+-- other mention means all its channels.
 abbrev pub on_variable : List AssignedChannel → Option ℕ → ℕ → Option WakeUp
 on_variable cs None variable = Some (wake.Variable variable)
 on_variable cs (Some e) variable =

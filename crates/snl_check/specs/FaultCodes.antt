@@ -7,6 +7,7 @@ use Rattle.snl_scope.specs.Names.{has_own_scope}
 use Rattle.snl_scope.specs.Once.{declared_tokens}
 use Rattle.snl_check.specs.declared.rules.findings.ItemFault.{ItemFault}
 
--- E07 is at no name that the item declares in a scope that isn't its own: these are for the links to find.
+-- E07 is at no name that the item declares in a scope that isn't its own: these are for the links
+-- to find.
 abbrev pub LeavesToLinks : Outline → ItemFault → Type 0
 LeavesToLinks s fault = fault.code ≡ E07 → has_own_scope s.role ≡ false → Contains (declared_tokens s) fault.token → ⊥

@@ -21,7 +21,8 @@ StandsIn bytes fault = (fault.byte ≡ 0) ⊎ (fault.byte < length (bytes fault.
 abbrev pub faults_of_rules : (ℕ → List ℕ) → Item → Bool → (List ℕ → Option Fact) → (List ℕ → Bool) → List ItemFault
 faults_of_rules bytes tree in_set fact target = map fault_of (findings bytes (outer_by fact) (misses_by in_set target) (occurrences bytes tree))
 
--- The findings of an item. `bytes` says what is at each token, `in_set` that the item is in a state set, `fact`
--- what is known of each name by the scopes outside it, and `target` which states its state set has.
+-- The findings of an item. `bytes` says what is at each token, `in_set` that the item is in a state
+-- set, `fact` what is known of each name by the scopes outside it, and `target` which states its
+-- state set has.
 abbrev pub faults_in : (ℕ → List ℕ) → Item → Bool → (List ℕ → Option Fact) → (List ℕ → Bool) → List ItemFault
 faults_in bytes tree in_set fact target = faults_of_rules bytes tree in_set fact target ++ unknown_options bytes in_set tree

@@ -1,5 +1,6 @@
--- The items of a text: its tokens, cut into items, each with its tree; what each says to the others; and where their tokens
--- are. Whatever speaks of the items of a text speaks of them by these words.
+-- The items of a text: its tokens, cut into items, each with its tree; what each says to the
+-- others; and where their tokens are. Whatever speaks of the items of a text speaks of them by
+-- these words.
 use Rattle.std.specs.Prelude.{◌≡◌, ℕ, zero, suc, ◌<◌, ◌≤◌, List, [], ◌∷◌, ◌++◌, map, length, get_or, slice_get, Option, None, Some, option_and_then, option_map, option_to_list}
 use Rattle.std.specs.List.{zip}
 use Rattle.std.specs.Option.{option_map_or, option_or}
@@ -28,8 +29,8 @@ abbrev pub EndsWithin : ℕ → List ℕ → ℕ → Type 0
 EndsWithin from [] to = Unit {0}
 EndsWithin from (e ∷ es) to = (from < e) × (e ≤ to) × EndsWithin e es to
 
--- Tokens of a text, cut into items: each token lies in the text, each end is among the tokens, and each item has a tree or is
--- faulty.
+-- Tokens of a text, cut into items: each token lies in the text, each end is among the tokens, and
+-- each item has a tree or is faulty.
 pub record IsCutUp (text : List ℕ) (tokens : List Piece) (ends : List ℕ) (count : ℕ) : Type 0 where
   pub source : IsSource text tokens
   pub within : EndsWithin 0 ends (length tokens)

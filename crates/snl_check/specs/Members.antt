@@ -1,5 +1,6 @@
--- What is in a state set: its states, what the targets of each mean, and whether an item is faulty. An item is told by its
--- number among the outlines of all, and a state also by its number among the states of its set.
+-- What is in a state set: its states, what the targets of each mean, and whether an item is faulty.
+-- An item is told by its number among the outlines of all, and a state also by its number among the
+-- states of its set.
 use Rattle.std.specs.Prelude.{◌≡◌, ℕ, Bool, false, ◌&&◌, List, [], length, map, slice_get, nat_eq, position, is_none, is_some, Option, option_and_then, option_copied}
 use Rattle.std.specs.List.{AllByRecursion, filter_map}
 use Rattle.std.specs.Option.{option_map_or}
@@ -62,7 +63,8 @@ pub record AreSetMembers (text : List ℕ) (xs : List ProgramItem) (ss : List Ou
   pub items : map (λ m. m.item) members ≡ all_below (stands_in ss k) (length ss)
   pub each : AllByRecursion (IsSetMember text xs ss) members
 
--- What is told of a set: whether an item of it is a state with a name, what its targets mean, and what is known of it.
+-- What is told of a set: whether an item of it is a state with a name, what its targets mean, and
+-- what is known of it.
 abbrev pub has_name : SetMember → Bool
 has_name m = is_some m.name
 

@@ -1,4 +1,5 @@
--- The items of a text after an edit that shifts their tokens, by what becomes of lines: `line` says it of the line of an offset.
+-- The items of a text after an edit that shifts their tokens, by what becomes of lines: `line` says
+-- it of the line of an offset.
 use Rattle.std.specs.Prelude.{◌≡◌, ◌≢◌, ℕ, ◌<◌, true, List, [], length, slice_get, Some, option_map}
 use Rattle.std.specs.List.{AllByRecursion}
 use Rattle.snl_lex.specs.declared.lines.Line.{Line}
@@ -10,8 +11,9 @@ use Rattle.snl_check.specs.Items.{ProgramItem, outline_of_item}
 use Rattle.snl_check.specs.Shifted.{has_line, shifted_item, shifted_tokens, start_at}
 use Rattle.snl_check.specs.ShiftedAround.{IsPlacedAt, is_plain}
 
--- The shifted tokens of an item have in the new text the bytes that the tokens had in the old one. Where a row has the item's line,
--- the line moves as that of the second token, which is the item's name.
+-- The shifted tokens of an item have in the new text the bytes that the tokens had in the old one.
+-- Where a row has the item's line, the line moves as that of the second token, which is the item's
+-- name.
 pub record KeepsItem (old text : List ℕ) (s : Shift) (line : ℕ → Line → Line) (x : ProgramItem) : Type 0 where
   pub bytes : (n : ℕ) → token_bytes text (shifted_tokens s x.tokens) n ≡ token_bytes old x.tokens n
   pub lined : has_line (outline_of_item old x) ≡ true → 1 < length x.tokens → line_at text (start_at (shifted_tokens s x.tokens) 0) ≡ line (start_at x.tokens 1) (line_at old (start_at x.tokens 0))
@@ -20,8 +22,9 @@ pub record KeepsItem (old text : List ℕ) (s : Shift) (line : ℕ → Line → 
 abbrev pub KeepsItems : (old text : List ℕ) → Shift → (ℕ → Line → Line) → List ProgramItem → Type 0
 KeepsItems old text s line xs = (i : ℕ) (x : ProgramItem) → slice_get xs i ≡ Some x → KeepsItem old text s line x
 
--- An item in the place of another, each of them plain: it says to the others what that one said, no clause among it, and its second
--- token and the names that it declares are what they were, shifted; its line moved as that of the second token.
+-- An item in the place of another, each of them plain: it says to the others what that one said, no
+-- clause among it, and its second token and the names that it declares are what they were, shifted;
+-- its line moved as that of the second token.
 pub record ReplacesItem (old text : List ℕ) (s : Shift) (line : ℕ → Line → Line) (x y : ProgramItem) : Type 0 where
   pub was_plain : is_plain (kind_of x.tree) ≡ true
   pub is_plain_now : is_plain (kind_of y.tree) ≡ true
@@ -31,7 +34,8 @@ pub record ReplacesItem (old text : List ℕ) (s : Shift) (line : ℕ → Line �
   pub name : IsPlacedAt s x y 1
   pub lined : line_at text (start_at y.tokens 0) ≡ line (start_at x.tokens 1) (line_at old (start_at x.tokens 0))
 
--- The items after an edit, `ys`, are those before it, shifted, but for item j, which is in the place of another.
+-- The items after an edit, `ys`, are those before it, shifted, but for item j, which is in the
+-- place of another.
 pub record ReplacesOne (old text : List ℕ) (s : Shift) (line : ℕ → Line → Line) (xs ys : List ProgramItem) (j : ℕ) : Type 0 where
   pub count : length ys ≡ length xs
   pub there : j < length xs

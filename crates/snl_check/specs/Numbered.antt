@@ -1,4 +1,5 @@
--- The table of channels by variable and element that the code keeps, how it is made of the rows of tables, and what uses mean by it.
+-- The table of channels by variable and element that the code keeps, how it is made of the rows of
+-- tables, and what uses mean by it.
 use Rattle.std.specs.Prelude.{◌≡◌, ℕ, ◌<◌, ◌≤◌, Bool, true, false, ◌&&◌, if◌then◌else◌, List, [], ◌∷◌, length, get_or, nat_eq, slice_get, Option, None, Some, is_some, option_and_then, option_map}
 use Rattle.std.specs.Map.{lookup}
 use Rattle.std.specs.Option.{option_or}
@@ -39,7 +40,8 @@ is_key_of c k = is_element_of k.variable (element_in k.which) c
 pub record Numbered (held : List (Key × ℕ)) (cs : List AssignedChannel) : Type 0 where
   pub each : (k : Key) → lookup (same_key k) held ≡ element_number cs k.variable (element_in k.which)
 
--- The channel with a number has the keys that pass the test; an earlier one that had a key stays the first.
+-- The channel with a number has the keys that pass the test; an earlier one that had a key stays
+-- the first.
 pub record Adds (before after : List (Key × ℕ)) (has : Key → Bool) (number : ℕ) : Type 0 where
   pub each : (k : Key) → lookup (same_key k) after ≡ option_or (lookup (same_key k) before) (if has k then Some number else None)
 

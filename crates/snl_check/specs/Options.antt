@@ -36,7 +36,8 @@ abbrev pub unknown_in_member : (ℕ → List ℕ) → StateMember → List ItemF
 unknown_in_member bytes (members.OptionLine line) = unknown_letters bytes state_letters line
 unknown_in_member bytes _ = []
 
--- The unknown letters of an item. An option of the program that is in a state set sets nothing, and none is looked for.
+-- The unknown letters of an item. An option of the program that is in a state set sets nothing, and
+-- none is looked for.
 abbrev pub unknown_options : (ℕ → List ℕ) → Bool → Item → List ItemFault
 unknown_options bytes in_set (items.OptionLine line) = if in_set then [] else unknown_letters bytes program_letters line
 unknown_options bytes in_set (items.StateBlock name ms) = flat_map (unknown_in_member bytes) ms
@@ -53,8 +54,8 @@ abbrev pub is_on : OptionSign → Bool
 is_on Plus = true
 is_on Minus = false
 
--- What an item says of warnings: they are on or off. Only an option says something that has the letter and is at
--- program level.
+-- What an item says of warnings: they are on or off. Only an option says something that has the
+-- letter and is at program level.
 abbrev pub warning_setting : (ℕ → List ℕ) → Bool → Item → Option Bool
 warning_setting bytes in_set (items.OptionLine line) =
     if in_set then None else (if has_letter (bytes line.letters) warnings_letter then Some (is_on line.sign) else None)

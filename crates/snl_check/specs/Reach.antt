@@ -1,4 +1,5 @@
--- The states of a state set that are reached. A state is told by its number in the set, and `targets` has the targets of each.
+-- The states of a state set that are reached. A state is told by its number in the set, and
+-- `targets` has the targets of each.
 use Rattle.std.specs.Prelude.{◌≡◌, ◌⊎◌, ◌+◌, ◌-◌, ◌<◌, ℕ, zero, suc, Bool, true, not, ◌&&◌, ◌||◌, nat_eq, List, [], map, length, slice_get, slice_index_or, All, Contains, Some, Vec, count_by}
 use Rattle.std.specs.List.{AllAdjacentBelow, list_any}
 use Rattle.std.specs.declared.alloc.Global.{Global}
@@ -38,8 +39,8 @@ is_reached_within targets zero t = nat_eq t 0
 is_reached_within targets (suc steps) t =
     is_reached_within targets steps t || any_below (λ s. is_reached_within targets steps s && leads_on targets s t) (length targets)
 
--- Whether a walk leads to the state from the initial one. The shortest walk comes to no state twice, so it has fewer steps
--- than there are states.
+-- Whether a walk leads to the state from the initial one. The shortest walk comes to no state
+-- twice, so it has fewer steps than there are states.
 unfoldable pub is_reached : List (List ℕ) → ℕ → Bool
 is_reached targets s = is_reached_within targets (length targets) s
 

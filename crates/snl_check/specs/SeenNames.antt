@@ -1,5 +1,5 @@
--- What is found in an item goes by its tokens, its tree and its view alone: by whether it is in a state set, by what is
--- known of the names that it uses, and by whether its targets are states.
+-- What is found in an item goes by its tokens, its tree and its view alone: by whether it is in a
+-- state set, by what is known of the names that it uses, and by whether its targets are states.
 use Rattle.std.specs.Prelude.{◌≡◌, ℕ, List, map, Some}
 use Rattle.std.specs.List.{All}
 use Rattle.snl_lex.specs.declared.piece.Piece.{Piece}

@@ -1,4 +1,5 @@
--- The items of a text after an edit inside one of them, which says what it said; and where the row of a state is in the tables.
+-- The items of a text after an edit inside one of them, which says what it said; and where the row
+-- of a state is in the tables.
 use Rattle.std.specs.Prelude.{◌≡◌, ℕ, ◌&&◌, Bool, true, false, is_none, List, [], map, length, slice_get, Option, Some}
 use Rattle.snl_lex.specs.declared.shift.Shift.{Shift}
 use Rattle.snl_scope.specs.declared.summaries.summary.ItemKind.{ItemKind}
@@ -13,7 +14,8 @@ use Rattle.snl_tables.specs.Shifted.{shifted_span}
 use Rattle.snl_check.specs.Items.{ProgramItem, span_of, summary_of_item}
 use Rattle.snl_check.specs.Told.{told_in_item}
 
--- How many state sets begin before item k, and how many of the states of the set that item k begins are before item j.
+-- How many state sets begin before item k, and how many of the states of the set that item k begins
+-- are before item j.
 abbrev pub set_number : List Outline → ℕ → ℕ
 set_number ss k = length (all_below (is_set_begin ss) k)
 
@@ -36,7 +38,8 @@ IsPlacedAt s x y n = span_of (slice_get y.tokens n) ≡ shifted_span s (span_of 
 abbrev pub IsSoundAsItWas : (xs ys : List ProgramItem) → ℕ → Type 0
 IsSoundAsItWas xs ys j = (x y : ProgramItem) → slice_get xs j ≡ Some x → slice_get ys j ≡ Some y → is_none y.tree ≡ is_none x.tree
 
--- A use in a condition, by what it says: the name, and the subscript where that is an integer alone.
+-- A use in a condition, by what it says: the name, and the subscript where that is an integer
+-- alone.
 abbrev pub used_by : (ℕ → List ℕ) → WakeUse → List ℕ × Option ℕ
 used_by bytes u = (bytes u.token, u.subscript)
 
@@ -44,8 +47,9 @@ used_by bytes u = (bytes u.token, u.subscript)
 abbrev pub wakes_of : List ℕ → ProgramItem → List (List ℕ × Option ℕ)
 wakes_of text x = map (used_by (token_bytes text x.tokens)) (told_in_item text x).wake_uses
 
--- The new state leads where the old one led, its conditions say the same, and it is sound where that one was: so all states of the
--- set have the marks that they had, and its row has the wake-up set that it had.
+-- The new state leads where the old one led, its conditions say the same, and it is sound where
+-- that one was: so all states of the set have the marks that they had, and its row has the wake-up
+-- set that it had.
 pub record SaysAlike (old text : List ℕ) (x y : ProgramItem) : Type 0 where
   pub sound : is_none y.tree ≡ is_none x.tree
   pub targets : map (λ m. m.name) (summary_of_item text y).targets ≡ map (λ m. m.name) (summary_of_item old x).targets

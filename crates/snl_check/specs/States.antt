@@ -38,7 +38,8 @@ abbrev pub members_in : Option Item → List StateMember
 members_in (Some (items.StateBlock name ms)) = ms
 members_in _ = []
 
--- A state that an item names at one of its tokens, with whether the state set of the item has one of the name.
+-- A state that an item names at one of its tokens, with whether the state set of the item has one
+-- of the name.
 abbrev pub named_state : List ℕ → List Piece → List Outline → ℕ → ℕ → NamedState
 named_state text tokens ss item token = record {
   name = span_of (slice_get tokens token);
@@ -58,7 +59,8 @@ destinations_in_member text tokens ss item _ = []
 abbrev pub gotos_in : List ℕ → ProgramItem → List ℕ
 gotos_in text x = by_statements (told_in_item text x).target_uses
 
--- The body of the row of an item, which has this number: what goes by the item's own tokens and tree, and by the states of its set.
+-- The body of the row of an item, which has this number: what goes by the item's own tokens and
+-- tree, and by the states of its set.
 abbrev pub state_body : List ℕ → List Outline → ℕ → ProgramItem → StateBody
 state_body text ss item x = record {
   options = state_options (token_bytes text x.tokens) (members_in x.tree);
@@ -78,7 +80,8 @@ line_of_item text xs item = line_at text (item_start xs item)
 abbrev pub is_repeated : List Outline → ℕ → Bool
 is_repeated ss j = not (is_first_state ss j)
 
--- A walk along targets leads to the state with a number from the first of the set that item k begins.
+-- A walk along targets leads to the state with a number from the first of the set that item k
+-- begins.
 abbrev pub is_reached_in : List ℕ → List ProgramItem → List Outline → ℕ → ℕ → Bool
 is_reached_in text xs ss k number = is_reached (targets_among text xs ss (states_in ss k)) number
 

@@ -1,4 +1,5 @@
--- What the check of an item tells the tables: the uses of names in its conditions, and the names of the states that it leads to.
+-- What the check of an item tells the tables: the uses of names in its conditions, and the names of
+-- the states that it leads to.
 use Rattle.std.specs.Prelude.{ℕ, List, [], filter, map, slice_get, Option, None, Some}
 use Rattle.std.specs.Option.{option_map_or}
 use denote.Ref.{Bor}
@@ -11,7 +12,8 @@ use Rattle.snl_walk.specs.Uses as uses
 use Rattle.snl_check.specs.declared.rules.findings.Checked.{Checked}
 use Rattle.snl_check.specs.Items.{ProgramItem}
 
--- In the order of the text, each use with its subscript: what can wake a state. Only a state has conditions.
+-- In the order of the text, each use with its subscript: what can wake a state. Only a state has
+-- conditions.
 abbrev pub wake_uses : (ℕ → List ℕ) → Item → List WakeUse
 wake_uses bytes tree = uses.wake_uses bytes (occurrences bytes tree)
 

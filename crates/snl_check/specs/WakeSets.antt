@@ -1,5 +1,5 @@
--- The wake-up set of a state, in the words of the language and in those of the rows: an event flag or a channel is in it where a
--- use of a name in the state's conditions means it.
+-- The wake-up set of a state, in the words of the language and in those of the rows: an event flag
+-- or a channel is in it where a use of a name in the state's conditions means it.
 use Rattle.std.specs.Prelude.{◌≡◌, ℕ, Bool, false, ◌&&◌, if◌then◌else◌, List, nat_eq, Option, None, Some}
 use Rattle.std.specs.List.{list_any}
 use Rattle.std.specs.Option.{is_none, option_map_or}
@@ -27,13 +27,14 @@ declaration_of text xs ss item u = resolve_in ss item (token_bytes text (tokens_
 abbrev pub means_flag : List ℕ → List ProgramItem → List Outline → ℕ → ℕ → WakeUse → Bool
 means_flag text xs ss item n u = option_map_or (λ v. is_number n (flag_number ss v)) (declaration_of text xs ss item u) false
 
--- Of a variable with a subscript the channel of that element is meant, where its `assign`s cover elements; else each channel of
--- the variable.
+-- Of a variable with a subscript the channel of that element is meant, where its `assign`s cover
+-- elements; else each channel of the variable.
 abbrev pub channel_meant : List AssignedChannel → Option ℕ → ℕ → ℕ → Bool
 channel_meant cs None v n = is_channel_of cs v n
 channel_meant cs (Some e) v n = if covers_elements cs v then is_number n (element_number cs v (Some e)) else is_channel_of cs v n
 
--- A use means a channel: its name resolves to a declaration that is no event flag, and the channel is meant of that.
+-- A use means a channel: its name resolves to a declaration that is no event flag, and the channel
+-- is meant of that.
 abbrev pub means_channel : List ℕ → List ProgramItem → List Outline → ℕ → ℕ → WakeUse → Bool
 means_channel text xs ss item n u =
     option_map_or (λ v. is_none (flag_number ss v) && channel_meant (assigned_channels text xs ss) u.subscript v n) (declaration_of text xs ss item u) false

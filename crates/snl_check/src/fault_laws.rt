@@ -1,4 +1,5 @@
-//! Laws of the codes of what is found in items. A function here does nothing: its contract is the law.
+//! Laws of the codes of what is found in items. A function here does nothing: its contract is the
+//! law.
 
 ghost use Rattle.std.specs.Prelude.{◌≡◌, ℕ, All, Bool, true, List, Option, Some};
 ghost use Rattle.snl_lex.specs.declared.piece.Piece.{Piece};
@@ -21,7 +22,8 @@ pub fn faults_have_item_codes()
     findings_have_rule_codes();
 }
 
-/// In an item whose tree is read of its tokens, E07 is at no name that the item declares in a scope that isn't its own.
+/// In an item whose tree is read of its tokens, E07 is at no name that the item declares in a scope
+/// that isn't its own.
 pub fn outer_names_left_to_links()
     ensures { (bytes : ℕ → List ℕ) (in_set : Bool) (fact : List ℕ → Option Fact) (target : List ℕ → Bool) (text : List ℕ) (tokens : List Piece) (tree : Item)
         → item_of (kinds_in text tokens) ≡ Some tree → All (LeavesToLinks (outline_in text tokens (Some tree))) (faults_in bytes tree in_set fact target) }

@@ -31,14 +31,15 @@ use snl_walk::{
     same_answers_same_findings,
 };
 
-/// The clauses of items, as trees, are those that the summaries of the items have, one by one in the order of the text.
+/// The clauses of items, as trees, are those that the summaries of the items have, one by one in
+/// the order of the text.
 pub fn same_clauses()
     ensures { (text : List ℕ) (xs : List ProgramItem)
         → map (summarized text xs) (item_clauses xs) ≡ map (λ c. (c.item, c.clause)) (clauses_of (outlines_of text xs)) }
 {}
 
-/// The same is found in an item of the same tokens and tree, wherever it is, where the same is known of each name that it
-/// uses, and of each of its targets; and it tells the tables the same.
+/// The same is found in an item of the same tokens and tree, wherever it is, where the same is
+/// known of each name that it uses, and of each of its targets; and it tells the tables the same.
 pub fn equal_views()
     ensures faults { (text moved : List ℕ) (tokens shifted : List Piece) (tree : Item) (in_set : Bool) (fact other : List ℕ → Option Fact) (target another : List ℕ → Bool)
         → SameTokens text tokens moved shifted
@@ -51,7 +52,8 @@ pub fn equal_views()
     same_answers_same_findings();
 }
 
-/// In an item whose tree is read of its tokens, no two findings have the same token, byte and code, whatever the other items say.
+/// In an item whose tree is read of its tokens, no two findings have the same token, byte and code,
+/// whatever the other items say.
 pub fn each_item_finding_once()
     ensures { (bytes : ℕ → List ℕ) (in_set : Bool) (fact : List ℕ → Option Fact) (target : List ℕ → Bool) (text : List ℕ) (tokens : List Piece) (tree : Item)
         → item_of (kinds_in text tokens) ≡ Some tree → AllPairs (λ a b. a ≢ b) (faults_in bytes tree in_set fact target) }
@@ -75,15 +77,15 @@ pub fn faults_stand_in_tokens()
     ensures { (bytes : ℕ → List ℕ) (tree : Item) (in_set : Bool) (fact : List ℕ → Option Fact) (target : List ℕ → Bool) → All (StandsIn bytes) (faults_in bytes tree in_set fact target) }
 {}
 
-/// An event flag or a channel is in the wake-up set that the row of a state has exactly where a use of a name in the state's
-/// conditions means it.
+/// An event flag or a channel is in the wake-up set that the row of a state has exactly where a use
+/// of a name in the state's conditions means it.
 pub fn wake_up_sets()
     ensures flags { (text : List ℕ) (xs : List ProgramItem) (item : ℕ) → HasFlags text xs item }
     ensures channels { (text : List ℕ) (xs : List ProgramItem) (item : ℕ) → HasChannels text xs item }
 {}
 
-/// The spans in the rows of tables lie in the text, where the tokens of its items do. Each has a byte, where the tokens have
-/// one and the trees are those that are read of them.
+/// The spans in the rows of tables lie in the text, where the tokens of its items do. Each has a
+/// byte, where the tokens have one and the trees are those that are read of them.
 pub fn spans_lie_in_text()
     ensures lie { (text : List ℕ) (xs : List ProgramItem) → ((item : ℕ) → IsSource text (tokens_in xs item)) → TablesLieIn text (tables_of text xs) }
     ensures bytes { (text : List ℕ) (xs : List ProgramItem) → AreRead text xs → TablesHaveBytes (tables_of text xs) }
@@ -91,13 +93,14 @@ pub fn spans_lie_in_text()
     names_are_tokens();
 }
 
-/// A walk leads to a state from the initial one exactly where one with as many steps as there are states, or fewer, does.
+/// A walk leads to a state from the initial one exactly where one with as many steps as there are
+/// states, or fewer, does.
 pub fn walks_of_few_steps()
     ensures { (targets : List (List ℕ)) → AreStates targets → (s : ℕ) → s < length targets → (is_reached targets s ≡ true) ↔ IsReached targets s }
 {}
 
-/// A state is marked as not reached exactly where no walk leads to it, it is sound and the first of its name, and no item of its
-/// set is faulty.
+/// A state is marked as not reached exactly where no walk leads to it, it is sound and the first of
+/// its name, and no item of its set is faulty.
 pub fn unreached_without_a_walk()
     ensures { (text : List ℕ) (xs : List ProgramItem) (ss : List Outline) (k number j : ℕ) → number < length (states_in ss k)
         → (mark_of text xs ss k number j ≡ Unreached) ↔ IsUnreached text xs ss k number j }

@@ -1,5 +1,6 @@
-//! What is found in an item: its tokens, its tree and what it sees of the other items come in, findings at token numbers go
-//! out; and the tables of a text, from its items and their links. It knows no edits, and not how names are found.
+//! What is found in an item: its tokens, its tree and what it sees of the other items come in,
+//! findings at token numbers go out; and the tables of a text, from its items and their links. It
+//! knows no edits, and not how names are found.
 #![tactic(auto)]
 
 mod fault_laws;

@@ -1,5 +1,5 @@
-//! Laws of tables whose rows an edit moves, whatever becomes of lines: `line` says it of the line of an offset.
-//! A function here does nothing: its contract is the law.
+//! Laws of tables whose rows an edit moves, whatever becomes of lines: `line` says it of the line
+//! of an offset. A function here does nothing: its contract is the law.
 
 ghost use Rattle.std.specs.Prelude.{◌≡◌, ◌<◌, ◌∷◌, ◌++◌, ℕ, false, true, List, None, Some, length, map, slice_get};
 ghost use Rattle.snl_lex.specs.declared.lines.Line.{Line};
@@ -18,8 +18,8 @@ ghost use Rattle.snl_check.specs.Items.{ProgramItem, outlines_of};
 
 use snl_scope::{names_are_tokens, same_spelling_same_summary};
 
-/// Where an edit keeps the bytes of all tokens, and the line of each item moves as that of its second token, the tables of the new text are
-/// those of the old one, moved.
+/// Where an edit keeps the bytes of all tokens, and the line of each item moves as that of its
+/// second token, the tables of the new text are those of the old one, moved.
 pub fn tables_move()
     ensures { (old text : List ℕ) (s : Shift) (line : ℕ → Line → Line) (xs : List ProgramItem) → 0 < s.start → AreRead old xs → KeepsItems old text s line xs
         → tables_of text (map (shifted_item s) xs) ≡ moved_tables s line (tables_of old xs) }
@@ -28,8 +28,9 @@ pub fn tables_move()
     same_spelling_same_summary();
 }
 
-/// Where an edit changes no more than the inside of a state after the names that it declares, it has no clauses, and it says to the others
-/// and in its conditions what it said, the rows are moved, but for the body of its own.
+/// Where an edit changes no more than the inside of a state after the names that it declares, it
+/// has no clauses, and it says to the others and in its conditions what it said, the rows are
+/// moved, but for the body of its own.
 pub fn tables_move_inside_a_state()
     ensures { (old text : List ℕ) (s : Shift) (line : ℕ → Line → Line) (xs ys : List ProgramItem) (j set : ℕ) (y : ProgramItem) → 0 < s.start → AreRead old xs → ReplacesOne old text s line xs ys j
         → enclosing_set (outlines_of old xs) j ≡ Some set → is_named_state (outlines_of old xs) j ≡ true → slice_get ys j ≡ Some y → SaysAlikeAt old text xs ys j
@@ -39,8 +40,9 @@ pub fn tables_move_inside_a_state()
     same_spelling_same_summary();
 }
 
-/// Where an edit changes no more than the inside of a state in a set, after the names that it declares, and it has no clauses, the rows
-/// are moved, but for its body, what wakes it, and the marks of the states of its set.
+/// Where an edit changes no more than the inside of a state in a set, after the names that it
+/// declares, and it has no clauses, the rows are moved, but for its body, what wakes it, and the
+/// marks of the states of its set.
 pub fn tables_move_around_a_state()
     ensures { (old text : List ℕ) (s : Shift) (line : ℕ → Line → Line) (xs ys : List ProgramItem) (j set : ℕ) (y : ProgramItem) → 0 < s.start → AreRead old xs → ReplacesOne old text s line xs ys j
         → enclosing_set (outlines_of old xs) j ≡ Some set → is_named_state (outlines_of old xs) j ≡ true → slice_get ys j ≡ Some y
@@ -52,8 +54,9 @@ pub fn tables_move_around_a_state()
     same_spelling_same_summary();
 }
 
-/// Where an edit changes no more than the inside of an item in a set that is no state with a name, after the names that it declares, and
-/// it is plain and has no clauses, the rows are moved, but for the marks of the states of its set.
+/// Where an edit changes no more than the inside of an item in a set that is no state with a name,
+/// after the names that it declares, and it is plain and has no clauses, the rows are moved, but
+/// for the marks of the states of its set.
 pub fn tables_move_in_a_set()
     ensures { (old text : List ℕ) (s : Shift) (line : ℕ → Line → Line) (xs ys : List ProgramItem) (j set : ℕ) → 0 < s.start → AreRead old xs → ReplacesOne old text s line xs ys j
         → enclosing_set (outlines_of old xs) j ≡ Some set → is_named_state (outlines_of old xs) j ≡ false
@@ -63,8 +66,8 @@ pub fn tables_move_in_a_set()
     same_spelling_same_summary();
 }
 
-/// Where an edit changes no more than the inside of an item that is in no set, after the names that it declares, and it is plain and has
-/// no clauses, the rows are moved.
+/// Where an edit changes no more than the inside of an item that is in no set, after the names that
+/// it declares, and it is plain and has no clauses, the rows are moved.
 pub fn tables_move_outside_the_sets()
     ensures { (old text : List ℕ) (s : Shift) (line : ℕ → Line → Line) (xs ys : List ProgramItem) (j : ℕ) → 0 < s.start → AreRead old xs → ReplacesOne old text s line xs ys j
         → enclosing_set (outlines_of old xs) j ≡ None → tables_of text ys ≡ moved_tables s line (tables_of old xs) }
@@ -73,8 +76,9 @@ pub fn tables_move_outside_the_sets()
     same_spelling_same_summary();
 }
 
-/// Where an edit changes no more than the inside of an item that is no state with a name, after the names that it declares, and the item
-/// is plain, has no clauses, says to the others what it said and is sound or faulty as it was, the rows are moved.
+/// Where an edit changes no more than the inside of an item that is no state with a name, after the
+/// names that it declares, and the item is plain, has no clauses, says to the others what it said
+/// and is sound or faulty as it was, the rows are moved.
 pub fn tables_move_around_an_item()
     ensures { (old text : List ℕ) (s : Shift) (line : ℕ → Line → Line) (xs ys : List ProgramItem) (j : ℕ) → 0 < s.start → AreRead old xs → ReplacesOne old text s line xs ys j
         → is_named_state (outlines_of old xs) j ≡ false → IsSoundAsItWas xs ys j

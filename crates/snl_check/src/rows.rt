@@ -1,4 +1,5 @@
-//! The tables of a text: options, flags, channels, state sets, states and their wake-up sets, a row each.
+//! The tables of a text: options, flags, channels, state sets, states and their wake-up sets, a row
+//! each.
 
 pub(crate) mod body;
 pub(crate) mod channel_names;

@@ -66,7 +66,8 @@ also_inside old units a from h lt in_old =
     let e : min a (length old) ≡ min a (length units) = sym (length-take a old) ∙ (ap length h ∙ length-take a units) in
     omega arith
 
--- Members that end before the edit are in both cuts: a front sees one unit past its answer, and no further.
+-- Members that end before the edit are in both cuts: a front sees one unit past its answer, and no
+-- further.
 pub front_same : {X : Type 0} (first : List X → ℕ) → IsFront first → IsLocal first → (old units : List X) (a from : ℕ) (xs : List ℕ) (to : ℕ)
     → take a old ≡ take a units → to < a → Walks first old from xs to → Walks first units from xs to
 front_same first front local old units a from [] to h lt w = w

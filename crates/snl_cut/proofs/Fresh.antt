@@ -23,7 +23,8 @@ fresh_front start meet from [] ys r h = refl
 fresh_front start meet from (e ∷ es) ys r h =
     fresh_early start meet from e (es ++ ys) (omega (arith, rises_last e es r.1)) ∙ fresh_front start meet e es ys r.1 h
 
--- Each of the members from the first that ends at or after the edit's start up to the meeting point is.
+-- Each of the members from the first that ends at or after the edit's start up to the meeting point
+-- is.
 pub fresh_made : {X : Type 0} (first : List X → ℕ) → IsFront first → (units : List X) (start meet from : ℕ) (xs ys : List ℕ)
     → Walks first units from xs meet → (from < length units → start ≤ from + first (drop from units))
     → fresh start meet from (xs ++ ys) ≡ xs ++ fresh start meet meet ys

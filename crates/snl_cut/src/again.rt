@@ -12,8 +12,8 @@ use crate::whole::next_noted;
 use crate::work::Count;
 use std::alloc::Global;
 
-/// The same as `recut`, where the old ends are kept in another way and the front notes more of each made member. It looks at a few of
-/// the old ends, by halving.
+/// The same as `recut`, where the old ends are kept in another way and the front notes more of each
+/// made member. It looks at a few of the old ends, by halving.
 pub fn recut_noted<F: Noting, E: Ends>(
     alloc: Global,
     front: &F,
@@ -58,7 +58,8 @@ pub fn recut_noted<F: Noting, E: Ends>(
     }
 }
 
-/// The same as `recut`, where the old ends are kept in another way. It looks at a few of them, by halving.
+/// The same as `recut`, where the old ends are kept in another way. It looks at a few of them, by
+/// halving.
 pub fn recut_by<F: Front, E: Ends>(
     alloc: Global,
     front: &F,
@@ -96,11 +97,13 @@ pub fn recut_by<F: Front, E: Ends>(
     })
 }
 
-/// What is kept and made of the cut of `old_units` for that of `units`, in which the old units from `start` up to
+/// What is kept and made of the cut of `old_units` for that of `units`, in which the old units from
+/// `start` up to
 /// `old_stop` were replaced by those from `start` up to `new_stop`.
 ///
-/// Only the fresh members are made: those that end at or after `start` and begin before the first boundary, from the
-/// edit on, that both cuts have. It looks at the old ends by halving, and copies none of those that are kept.
+/// Only the fresh members are made: those that end at or after `start` and begin before the first
+/// boundary, from the edit on, that both cuts have. It looks at the old ends by halving, and copies
+/// none of those that are kept.
 pub fn recut<F: Front>(
     alloc: Global,
     front: &F,

@@ -5,8 +5,8 @@ ghost use Rattle.std.specs.Prelude.{◌≡◌, ◌<◌, ◌≤◌, List, length,
 
 use crate::trait_front::Front;
 
-/// Each list has one cut and no other. Its members follow one another, and each is as long as the front says of
-/// what comes from it on.
+/// Each list has one cut and no other. Its members follow one another, and each is as long as the
+/// front says of what comes from it on.
 pub fn one_cut<F: Front>()
     ensures is_cut { (units : List F.Unit) → IsCut F.first_of units (ends_of F.first_of units) }
     ensures only { (units : List F.Unit) (ends : List ℕ) → IsCut F.first_of units ends → ends ≡ ends_of F.first_of units }
@@ -38,8 +38,9 @@ pub fn edits_in_turn<F: Front>()
         → joined (joined (ends_of F.first_of one) old_stop new_stop front made back) old_stop2 new_stop2 front2 made2 back2 ≡ ends_of F.first_of three }
 {}
 
-/// What is kept of a cut is kept as it was: the members themselves, and not only their ends. This holds also of a list beside the
-/// units, as of what they were made of, that is edited as these are and cut by their ends.
+/// What is kept of a cut is kept as it was: the members themselves, and not only their ends. This
+/// holds also of a list beside the units, as of what they were made of, that is edited as these are
+/// and cut by their ends.
 pub fn members_stay<F: Front, X>()
     ensures { (old units : List F.Unit) (start old_stop new_stop front : ℕ) (made : List ℕ) (back : ℕ) (old_beside beside : List X)
         → IsEdit old_beside beside start old_stop new_stop
@@ -47,7 +48,8 @@ pub fn members_stay<F: Front, X>()
         → members beside 0 (ends_of F.first_of units) ≡ members_kept old_beside (ends_of F.first_of old) beside front made back }
 {}
 
-/// Just the fresh members are made: those that end at or after the edit's start and begin before the meeting point.
+/// Just the fresh members are made: those that end at or after the edit's start and begin before
+/// the meeting point.
 pub fn made_are_fresh<F: Front>()
     ensures { (old units : List F.Unit) (start old_stop new_stop front : ℕ) (made : List ℕ) (back : ℕ)
         → IsRecut F.first_of old (ends_of F.first_of old) units start old_stop new_stop front made back

@@ -44,7 +44,8 @@ fn members_to<E: Ends>(ends: &E, place: usize) -> Option<usize>
     if end == place { Some(below + 1) } else { None }
 }
 
-// How many old members end where the new place `at` was, which has to be at the edit's end or after it.
+// How many old members end where the new place `at` was, which has to be at the edit's end or after
+// it.
 pub fn meeting<E: Ends>(old_ends: &E, old_stop: usize, new_stop: usize, at: usize) -> Option<usize>
     requires rising { Rises 0 (E.listed old_ends.now) }
     requires fits { (at - new_stop) + old_stop < 2 ^ 64 }

@@ -1,11 +1,13 @@
-//! What cuts: a front, which tells the length of the first member of a list, and may note more of it.
+//! What cuts: a front, which tells the length of the first member of a list, and may note more of
+//! it.
 
 ghost use Rattle.snl_cut.specs.Cut.{IsFront, IsLocal, ticked};
 ghost use Rattle.std.specs.Prelude.{◌≡◌, ◌<◌, List, length, ℕ};
 
 use crate::work::Count;
 
-/// Tells how long the first member of a list of units is, by the member itself and the one unit after it.
+/// Tells how long the first member of a list of units is, by the member itself and the one unit
+/// after it.
 ///
 /// Each call counts as one piece of work.
 pub trait Front {
@@ -23,7 +25,8 @@ pub trait Front {
     ghost local: { IsLocal first_of };
 }
 
-/// A front that notes more of the first member than its length, such as its class, while it looks at it.
+/// A front that notes more of the first member than its length, such as its class, while it looks
+/// at it.
 pub trait Noting: Front {
     type Note: Copy;
 

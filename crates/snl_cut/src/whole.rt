@@ -37,7 +37,8 @@ pub fn next_noted<F: Noting>(
     (at + length, note)
 }
 
-/// The ends of the members of the cut of `units`, each as a number of units from the front of the list.
+/// The ends of the members of the cut of `units`, each as a number of units from the front of the
+/// list.
 pub fn cut_all<F: Front>(
     alloc: Global,
     front: &F,

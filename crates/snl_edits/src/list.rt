@@ -1,17 +1,22 @@
-//! The edits of a list, each made of every text that is before it in the list. After each, what a session answers is held against
-//! what a new session over the same text does, and what the edit cost against the second count.
-//! In: the list. Out: how many edits of each text were made with no difference; else the line of the list at which something differs.
-//! On standard error how much was found.
+//! The edits of a list, each made of every text that is before it in the list. After each, what a
+//! session answers is held against what a new session over the same text does, and what the edit
+//! cost against the second count.
+//! In: the list. Out: how many edits of each text were made with no difference; else the line of
+//! the list at which something differs. On standard error how much was found.
 //!
-//! The list has a line for each of these; empty lines and those that begin with `#` are for its reader:
+//! The list has a line for each of these; empty lines and those that begin with `#` are for its
+//! reader:
 //! - `|` and a line of a text; `text` and bytes of it; `over`, which ends it
-//! - `put PLACE` and bytes, `type PLACE` and bytes that come letter by letter; a place is `front`, `middle` or `end` of the text, or
+//! - `put PLACE` and bytes, `type PLACE` and bytes that come letter by letter; a place is `front`,
+//!   `middle` or `end` of the text, or
 //!   `before` or `after` bytes, where these come first
-//! - `swap` and bytes, and others that are put in their place; `erase` and bytes that go letter by letter
+//! - `swap` and bytes, and others that are put in their place; `erase` and bytes that go letter by
+//!   letter
 //! - `undo` and how many edits are taken back, the last one first; `undo all`
 //! - `edit`, two offsets, and bytes that are put in the place of what is between them
 //!
-//! Bytes are between backquotes. There `\n` is a line's end, `\x` and two digits a byte, and `\\` a backslash.
+//! Bytes are between backquotes. There `\n` is a line's end, `\x` and two digits a byte, and `\\` a
+//! backslash.
 
 use crate::commands::Command;
 use crate::quoted::bytes_of;

@@ -16,13 +16,14 @@ use Rattle.snl_item_laws.proofs.Prefixes.{count_more, last_more, opened_before, 
 abbrev pub marks_ahead : List NumberedKind → List Mark
 marks_ahead k = map (λ s. mark_of_kind s.0) k
 
--- An item that begins with the first tokens has so many tokens more, and then ends, where `rest` follows.
+-- An item that begins with the first tokens has so many tokens more, and then ends, where `rest`
+-- follows.
 abbrev pub GoesTo : List Mark → Mark → List Mark → List Mark → Type 0
 GoesTo rest first tail [] = ends_before (first ∷ tail) (slice_get rest 0) ≡ true
 GoesTo rest first tail (x ∷ xs) = (ends_by first tail x ≡ false) × GoesTo rest first (tail ++ x ∷ []) xs
 
--- What the cut knows of the tokens up to a place: so many braces are open, whether the last one that raised the balance from 0
--- was directly after a parenthesis, and the last token.
+-- What the cut knows of the tokens up to a place: so many braces are open, whether the last one
+-- that raised the balance from 0 was directly after a parenthesis, and the last token.
 pub record At (first : Mark) (tail : List Mark) (b : ℕ) (o : Bool) (last : Mark) : Type 0 where
   pub balance : count_by is_open (first ∷ tail) ≡ b + count_by is_close (first ∷ tail)
   pub opened : opened_by_paren (first ∷ tail) ≡ o

@@ -1,4 +1,5 @@
--- Types that the definitions of the walk speak of, and that it keeps for itself: named here by functions that take or give them.
+-- Types that the definitions of the walk speak of, and that it keeps for itself: named here by
+-- functions that take or give them.
 use Rattle.std.proofs.Common.{List, [], None}
 use Rattle.snl_walk.specs.Expressions.{before, names_in_tails}
 use Rattle.snl_walk.specs.Statements.{in_loop}

@@ -32,7 +32,8 @@ is_loose kind.Entry = true
 is_loose kind.Exit = true
 is_loose _ = false
 
--- The tokens from k up to rest lie within fewer levels than so many, and their brackets match. The flag says that they are inside braces: else no brace is directly after a closing parenthesis.
+-- The tokens from k up to rest lie within fewer levels than so many, and their brackets match. The
+-- flag says that they are inside braces: else no brace is directly after a closing parenthesis.
 pub data Lies : Bool → ℕ → List NumberedKind → List NumberedKind → Type 0 where
   nothing : {inside : Bool} {d : ℕ} {k rest : List NumberedKind} → k ≡ rest → Lies inside d k rest
   token : {inside : Bool} {d : ℕ} {k m rest : List NumberedKind} (x : Kind) → is_calm x ≡ true → First x k m → Lies inside (suc d) m rest → Lies inside (suc d) k rest

@@ -13,7 +13,8 @@ pub data Sort : Type 0 where
   a_change : Sort
   a_target : Sort
 
--- Which statements `state NAME;` there are: those that lead on and those that don't; and whether names may be passed over.
+-- Which statements `state NAME;` there are: those that lead on and those that don't; and whether
+-- names may be passed over.
 pub data Case : Type 0 where
   leading : Case
   staying : Case

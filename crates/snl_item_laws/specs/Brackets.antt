@@ -16,6 +16,7 @@ closes kind.CloseBracket = true
 closes kind.CloseBrace = true
 closes _ = false
 
--- Around the token with this number at most so many brackets are open: of those that open before it, all others close before it or by it.
+-- Around the token with this number at most so many brackets are open: of those that open before
+-- it, all others close before it or by it.
 abbrev pub IsWithin : ℕ → List Kind → ℕ → Type 0
 IsWithin most kinds n = count_by opens (take n kinds) ≤ count_by closes (take (suc n) kinds) + most

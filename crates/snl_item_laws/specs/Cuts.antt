@@ -14,7 +14,8 @@ abbrev pub begins_bracket : List Mark → Bool
 begins_bracket (mark.OpenParen ∷ rest) = true
 begins_bracket _ = false
 
--- The item is a header without texts, and a parenthesis follows it: this one could begin the header's texts.
+-- The item is a header without texts, and a parenthesis follows it: this one could begin the
+-- header's texts.
 abbrev pub could_go_on : Item → List Mark → Bool
 could_go_on (items.Header name None) rest = begins_bracket rest
 could_go_on _ rest = false

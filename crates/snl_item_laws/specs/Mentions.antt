@@ -1,4 +1,5 @@
--- Which tokens of an item a walk has to find, told by what its tree spells: by the kinds of the tokens and the token before each.
+-- Which tokens of an item a walk has to find, told by what its tree spells: by the kinds of the
+-- tokens and the token before each.
 use Rattle.std.specs.Prelude.{ℕ, suc, Bool, true, false, not, ◌&&◌, List, [], ◌∷◌, ◌++◌, map, if◌then◌else◌, Option, Some, None}
 use Rattle.std.specs.List.{flat_map}
 use Rattle.snl_lex.specs.declared.kind.Kind.{Kind}
@@ -80,7 +81,8 @@ abbrev pub leaves_where : (Kind → Bool) → List Spelled → List ℕ
 leaves_where test [] = []
 leaves_where test (x ∷ xs) = number_if (test x.0) x.1 ++ leaves_where test xs
 
--- The names among leaves, but those of members, types and states. `hidden` says whether the first is such a one.
+-- The names among leaves, but those of members, types and states. `hidden` says whether the first
+-- is such a one.
 abbrev pub names_from : Bool → List Spelled → List ℕ
 names_from hidden [] = []
 names_from hidden (x ∷ xs) = number_if (is_name x.0 && not hidden) x.1 ++ names_from (hides x.0) xs
@@ -88,7 +90,8 @@ names_from hidden (x ∷ xs) = number_if (is_name x.0 && not hidden) x.1 ++ name
 abbrev pub names_in : List Spelled → List ℕ
 names_in = names_from false
 
--- The names directly after the word `state`. `named` says whether the first leaf is directly after it.
+-- The names directly after the word `state`. `named` says whether the first leaf is directly after
+-- it.
 abbrev pub states_from : Bool → List Spelled → List ℕ
 states_from named [] = []
 states_from named (x ∷ xs) = number_if (is_name x.0 && named) x.1 ++ states_from (is_state x.0) xs
@@ -112,7 +115,8 @@ abbrev pub looked_up_in_function : List Parameter → Option (List Member) → L
 looked_up_in_function ps None = flat_map lengths_of ps
 looked_up_in_function ps (Some block) = commas (map spell_parameter ps) ++ spell_block block
 
--- The parts of an item in which names are looked up or declared inside it. Its own name is in none of them.
+-- The parts of an item in which names are looked up or declared inside it. Its own name is in none
+-- of them.
 abbrev pub looked_up_in : Item → List Spelled
 looked_up_in (items.Definition d) = spell_declaration d
 looked_up_in (items.Entry block) = spell_block block

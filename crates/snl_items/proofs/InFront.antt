@@ -63,7 +63,8 @@ late_begin place from (e ∷ es) (k ∷ ks) r =
           (begin_after place e es ks r.1 more)
     ]
 
--- So do the tokens: as many are in front as there are among the pieces that begin before the place, which their classes tell.
+-- So do the tokens: as many are in front as there are among the pieces that begin before the place,
+-- which their classes tell.
 module _ (text ends : List ℕ) (kinds : List Class) (place before pieces count : ℕ) (ends_are : ends ≡ piece_ends text) (kinds_are : kinds ≡ piece_kinds text) (rises : Rises 0 (piece_ends text))
     (listed : listed_pieces 0 (piece_ends text) (piece_kinds text) ≡ pieces_of text) (found : Rises 0 ends → before ≡ ends_below place ends) (some : pieces ≡ min (length kinds) (before + 1))
     (counted : count ≡ count_by is_token_class (take pieces kinds)) where

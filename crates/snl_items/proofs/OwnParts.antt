@@ -48,7 +48,8 @@ tokens_among ps a b first stop le starts stops =
     sym (taken_tokens rest (b - a))
     ∙ ap₂ (λ (n : ℕ) (l : List Piece). take n l) count (sym (dropped_tokens ps a) ∙ ap (λ (n : ℕ). drop n (filter is_token ps)) starts)
 
--- The tokens between two numbers after an edit among them: those in front of the edit, those that it makes, and those after it.
+-- The tokens between two numbers after an edit among them: those in front of the edit, those that
+-- it makes, and those after it.
 pub own_edited : (was now made own : List Piece) (f : Piece → Piece) (a b c first stop : ℕ) → first ≤ a → a ≤ b → b ≤ stop → stop ≤ length was → c ≡ a + length made
     → now ≡ take a was ++ (made ++ map f (drop b was)) → own ≡ tokens_between was first stop
     → (take (a - first) own ++ made) ++ map f (take ((stop - first) - (b - first)) (drop (b - first) own)) ≡ tokens_between now first ((stop - b) + c)

@@ -132,7 +132,8 @@ module _ (old text : List ℕ) (start b c front : ℕ) (made : List Piece) (back
         recursion_from_All (LiesIn old) back_tokens
         (All-filter is_token (LiesIn old) (last_pieces old back) (All-drop (LiesIn old) (length (pieces_of old) - back) (pieces_of old) inside))
 
-    -- The tokens at the front end before the edit and stay; those at the back begin after it and move with the bytes.
+    -- The tokens at the front end before the edit and stay; those at the back begin after it and
+    -- move with the bytes.
     front_before : (s : Shift) → IsShiftOf old text start b c s → All (λ p. piece_end p ≤ s.start) front_tokens
     front_before s at = subst (λ (m : ℕ). All (λ (p : Piece). piece_end p ≤ m) front_tokens) (sym at.start_is) front_ends
 
@@ -158,7 +159,8 @@ module _ (old text : List ℕ) (start b c front : ℕ) (made : List Piece) (back
         (subst (λ (l : List Piece). AreLeft s (front_tokens ++ (middle_tokens ++ back_tokens)) l (length front_tokens + n)) (sym are)
         (left_within s front_tokens middle_tokens back_tokens (filter is_token made) n (front_stays s at) (front_before s at) left (back_after s at)))
 
-    -- The tokens at the front and at the back are left, where these are what the edit of the tokens doesn't replace.
+    -- The tokens at the front and at the back are left, where these are what the edit of the tokens
+    -- doesn't replace.
     pub left_around : (s : Shift) → IsShiftOf old text start b c s → start ≤ b → length old + c ≤ most → (edit : TokenEdit) (tokens : List Piece) (marks : List Mark) (same : Bool)
         → IsTokenChange old text start b c edit tokens marks same → edit.start ≡ length front_tokens → edit.old_stop ≡ length front_tokens + length middle_tokens
         → LeavesAround s (tokens_of old) (tokens_of text) tokens edit
@@ -176,7 +178,8 @@ module _ (old text : List ℕ) (start b c front : ℕ) (made : List Piece) (back
               (ap (map (moved_piece b c)) (sym last) ∙ back_moves s at order fits ∙ ap (map (shifted_piece s)) last);
         }
 
-    -- So the edit shifts all tokens, if it leaves those that it replaces and they are spelled as before.
+    -- So the edit shifts all tokens, if it leaves those that it replaces and they are spelled as
+    -- before.
     pub one_shifted : start ≤ b → length old + c ≤ most → (edit : TokenEdit) (tokens : List Piece) (marks : List Mark) (same : Bool) → IsTokenChange old text start b c edit tokens marks same
         → (from : ℕ) (before made_now : List Piece) → from ≡ length front_tokens → before ≡ middle_tokens → made_now ≡ filter is_token made
         → (t : Shifted) → AreLeftFrom old text start b c same from before made_now t → AreShifted old text start b c t.by t.before

@@ -42,7 +42,8 @@ module _ (old text : List ℕ) (start b c front : ℕ) (made : List Piece) (back
   abbrev kept_count : ℕ
   kept_count = length (pieces_of old) - back
 
-  -- the tokens of the pieces at the front, of those that are replaced, of those at the back, and of those that are made
+  -- the tokens of the pieces at the front, of those that are replaced, of those at the back, and of
+  -- those that are made
   abbrev pub at_front : List Piece
   at_front = filter is_token (take front (pieces_of old))
 

@@ -1,5 +1,6 @@
 -- What an edit of a text makes fresh: how many pieces, and which items.
--- An edit puts the bytes of the new text from `start` up to `new_stop` in the place of those of the old one from `start` up to `old_stop`.
+-- An edit puts the bytes of the new text from `start` up to `new_stop` in the place of those of the
+-- old one from `start` up to `old_stop`.
 use Rattle.std.specs.Prelude.{ℕ, ◌+◌, ◌-◌, ◌&&◌, Bool, nat_eq, nat_lt, if◌then◌else◌, List, [], ◌++◌, length, take, drop, count_by, bytes_eq}
 use Rattle.std.specs.Cmp.Lexicographic.{pointwise}
 use Rattle.snl_cut.specs.Cut.{fresh_ends, meet_of}
@@ -17,8 +18,8 @@ ending_before text place = count_by (λ p. nat_lt (piece_end p) place) (tokens_o
 abbrev pub beginning_before : List ℕ → ℕ → ℕ
 beginning_before text place = count_by (λ p. nat_lt p.start place) (tokens_of text)
 
--- The edit as one of tokens: those of the old text that end before `start` are kept, and so are those of both texts that begin at the
--- pieces' meeting point or after it.
+-- The edit as one of tokens: those of the old text that end before `start` are kept, and so are
+-- those of both texts that begin at the pieces' meeting point or after it.
 unfoldable pub token_edit_between : (old text : List ℕ) (start old_stop new_stop : ℕ) → TokenEdit
 token_edit_between old text start old_stop new_stop =
     let meet = meet_of piece_length old text old_stop new_stop in
@@ -56,13 +57,15 @@ replaced_alike old text e =
 unfoldable pub fresh_pieces_between : (old text : List ℕ) (start old_stop new_stop : ℕ) → ℕ
 fresh_pieces_between old text start old_stop new_stop = length (fresh_ends piece_length old text start old_stop new_stop)
 
--- The ends of the fresh items of the new text, as numbers of tokens. Where the replaced tokens are spelled as before, there is none.
+-- The ends of the fresh items of the new text, as numbers of tokens. Where the replaced tokens are
+-- spelled as before, there is none.
 unfoldable pub fresh_items_between : (old text : List ℕ) (start old_stop new_stop : ℕ) → List ℕ
 fresh_items_between old text start old_stop new_stop =
     let e = token_edit_between old text start old_stop new_stop in
     if replaced_alike old text e then [] else fresh_ends item (marks_of old) (marks_of text) e.start e.old_stop e.new_stop
 
--- The same of an edit of one text, which puts other bytes in the place of those from `start` up to `stop`.
+-- The same of an edit of one text, which puts other bytes in the place of those from `start` up to
+-- `stop`.
 abbrev pub spliced : (text : List ℕ) (start stop : ℕ) (new : List ℕ) → List ℕ
 spliced text start stop new = take start text ++ new ++ drop stop text
 

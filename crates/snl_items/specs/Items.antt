@@ -1,4 +1,5 @@
--- The items of a text as its tokens give them: what each token is to the cut, where the items end, and how they are spelled.
+-- The items of a text as its tokens give them: what each token is to the cut, where the items end,
+-- and how they are spelled.
 use Rattle.std.specs.Prelude.{ℕ, List, map}
 use Rattle.snl_cut.specs.Cut.{ends_of, members}
 use Rattle.snl_lex.specs.declared.piece.Class.{Class}

@@ -18,8 +18,9 @@ fn ends_before(ends: &[u32], place: usize) -> usize
     ends.partition_point(|end| (*end as usize) < place)
 }
 
-/// How many of the tokens of a text begin before a place, by the list of its pieces; those after them begin there or after it. It takes
-/// no memory: which pieces begin before the place is found by halving, and those of them that their classes call tokens are counted.
+/// How many of the tokens of a text begin before a place, by the list of its pieces; those after
+/// them begin there or after it. It takes no memory: which pieces begin before the place is found
+/// by halving, and those of them that their classes call tokens are counted.
 pub fn tokens_in_front(pieces: &PieceList, place: usize) -> usize
     requires some { 0 < place }
     ensures front { (text : List ℕ) → pieces.now.ends.items ≡ piece_ends text → pieces.now.kinds.items ≡ piece_kinds text → All (λ p. p.start < place) (take result (tokens_of text)) }

@@ -1,5 +1,7 @@
-//! The items of a text as two lists, which an edit changes in place: what each token is to the cut, and where each item ends.
-//! In: tokens; after an edit what it makes of them. Out: the lists, those of the new text after a change that can't fail.
+//! The items of a text as two lists, which an edit changes in place: what each token is to the cut,
+//! and where each item ends.
+//! In: tokens; after an edit what it makes of them. Out: the lists, those of the new text after a
+//! change that can't fail.
 
 ghost use Rattle.snl_cut.specs.Cut.{last_end};
 ghost use Rattle.snl_items.specs.Changes.{IsItemChange, IsTokenChange};
@@ -19,15 +21,16 @@ use snl_lists::{replace, replace_and_shift};
 use snl_syntax::{Mark, Tokens};
 use std::alloc::Global;
 
-/// What the tokens of a text are to the cut into items, and where the items end, as numbers of tokens of four bytes each.
+/// What the tokens of a text are to the cut into items, and where the items end, as numbers of
+/// tokens of four bytes each.
 #[derive(Drop)]
 pub struct ItemList {
     pub marks: Vec<Mark>,
     pub ends: Vec<u32>,
 }
 
-/// What an edit makes of the items: so many are kept at the front, those between end at these tokens, and so many are kept at
-/// the back.
+/// What an edit makes of the items: so many are kept at the front, those between end at these
+/// tokens, and so many are kept at the back.
 #[derive(Drop)]
 pub struct ItemChange {
     pub kept_front: usize,
@@ -66,7 +69,8 @@ fn edited(
     Ok(marks)
 }
 
-// Makes the ends of the old text's items those of the new one's. There is room for those that are made.
+// Makes the ends of the old text's items those of the new one's. There is room for those that are
+// made.
 fn change_ends(ends: &mut Vec<u32>, edit: &TextEdit, tokens: &TokenChange, items: &ItemChange)
     requires ends { ends.old.items ≡ item_ends edit.now.old.now }
     requires tokens { IsTokenChange edit.now.old.now edit.now.text.now edit.now.start edit.now.old_stop edit.now.new_stop tokens.now.edit tokens.now.made.items tokens.now.marks.items tokens.now.same }
@@ -144,7 +148,8 @@ impl ItemList {
         })
     }
 
-    /// What an edit makes of the items of the old text, of which this is the list. The only error is want of memory.
+    /// What an edit makes of the items of the old text, of which this is the list. The only error
+    /// is want of memory.
     pub fn change(
         &self,
         alloc: Global,
@@ -169,7 +174,8 @@ impl ItemList {
         self.recut(alloc, edit, tokens)
     }
 
-    /// Where the items of the new text end, where this is the list of the old one's. The only error is want of memory.
+    /// Where the items of the new text end, where this is the list of the old one's. The only error
+    /// is want of memory.
     pub fn ends_after(
         &self,
         alloc: Global,
@@ -213,7 +219,8 @@ impl ItemList {
         Ok(())
     }
 
-    /// Makes the list of the old text's items that of the new one's. There is room for what is made, so it can't fail.
+    /// Makes the list of the old text's items that of the new one's. There is room for what is
+    /// made, so it can't fail.
     pub fn commit(&mut self, edit: &TextEdit, tokens: &TokenChange, items: &ItemChange)
         requires marks { self.old.marks.items ≡ marks_of edit.now.old.now }
         requires ends { self.old.ends.items ≡ item_ends edit.now.old.now }

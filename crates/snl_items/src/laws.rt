@@ -1,4 +1,5 @@
-//! Laws of tokens, and of what an edit makes fresh. A function here does nothing of its own: its contract is the law.
+//! Laws of tokens, and of what an edit makes fresh. A function here does nothing of its own: its
+//! contract is the law.
 
 ghost use Rattle.snl_cut.specs.Cut.{IsEdit};
 ghost use Rattle.snl_items.specs.Changes.{IsShiftOf, IsTokenChange, LeavesAround};

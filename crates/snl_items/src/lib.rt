@@ -1,7 +1,8 @@
 //! The tokens and the items of a text as lists that an edit changes in place.
 //!
-//! What an edit makes of the pieces comes in; what it makes of the tokens and of the items goes out. Items whose tokens are
-//! spelled as before are kept as they are. The crate knows nothing of trees.
+//! What an edit makes of the pieces comes in; what it makes of the tokens and of the items goes
+//! out. Items whose tokens are spelled as before are kept as they are. The crate knows nothing of
+//! trees.
 #![tactic(auto)]
 
 mod in_front;

@@ -1,6 +1,7 @@
 //! The tokens of an item before an edit in it and after it.
-//! In: the list of the old pieces, what the edit makes of them and of the tokens, and the numbers of the item's first token and of
-//! the token after it. Out: the item's tokens. No pieces are looked at but those of the item.
+//! In: the list of the old pieces, what the edit makes of them and of the tokens, and the numbers
+//! of the item's first token and of the token after it. Out: the item's tokens. No pieces are
+//! looked at but those of the item.
 
 ghost use Rattle.snl_items.specs.Changes.{IsTokenChange};
 ghost use Rattle.snl_items.specs.OwnTokens.{tokens_before, tokens_between};
@@ -100,8 +101,8 @@ pub fn own_tokens_before(
     Ok(own)
 }
 
-/// Its new tokens, by its old ones: those in front of the edit, those that are made, and those after it, moved. The only error is want
-/// of memory.
+/// Its new tokens, by its old ones: those in front of the edit, those that are made, and those
+/// after it, moved. The only error is want of memory.
 pub fn own_tokens_after(
     alloc: Global,
     edit: &TextEdit,

@@ -1,5 +1,6 @@
 //! Whether an edit touches no token, so that each is at its place or shifted.
-//! In: the tokens that the edit replaces, and those that it makes. Out: how many are before the edit.
+//! In: the tokens that the edit replaces, and those that it makes. Out: how many are before the
+//! edit.
 
 ghost use Rattle.snl_items.specs.Changes.{AreLeft, AreLeftFrom};
 ghost use Rattle.snl_lex.specs.Pieces.{LiesIn, piece_end};
@@ -8,7 +9,8 @@ ghost use Rattle.std.specs.Prelude.{◌≡◌, ◌+◌, ◌<◌, ◌≤◌, ◌^
 
 use snl_lex::{Piece, Shift, TextEdit};
 
-/// An edit that leaves all tokens of a text: each is at its place or shifted. So many of them are before the edit.
+/// An edit that leaves all tokens of a text: each is at its place or shifted. So many of them are
+/// before the edit.
 #[derive(Clone, Copy, Debug, PartialEq, Eq)]
 pub struct Shifted {
     pub by: Shift,
@@ -62,7 +64,8 @@ fn are_after(tokens: &[Piece], place: usize) -> bool
     tokens.iter().all(|token| place <= token.start)
 }
 
-// How many of the tokens that an edit replaces are before it, if these are the ones that it makes, each at its place or shifted.
+// How many of the tokens that an edit replaces are before it, if these are the ones that it makes,
+// each at its place or shifted.
 fn left_before(old: &[Piece], made: &[Piece], shift: Shift) -> Option<usize>
     requires { All (λ p. piece_end p < 2 ^ 64) old.now }
     ensures { IfSome result (AreLeft shift old.now made.now) }
@@ -75,8 +78,8 @@ fn left_before(old: &[Piece], made: &[Piece], shift: Shift) -> Option<usize>
     }
 }
 
-/// What is known of an edit that leaves the tokens that it replaces, the first of which has the number `from`. `same` says whether
-/// these are spelled as those that it makes.
+/// What is known of an edit that leaves the tokens that it replaces, the first of which has the
+/// number `from`. `same` says whether these are spelled as those that it makes.
 pub fn shifted_from(
     edit: &TextEdit,
     same: bool,

@@ -39,7 +39,8 @@ impl<'a> Spelling<'a> {
     }
 }
 
-/// Whether the tokens of one text are as many as those of another, and spelled as these: class by class and byte by byte.
+/// Whether the tokens of one text are as many as those of another, and spelled as these: class by
+/// class and byte by byte.
 pub fn are_spelled_alike(old_text: &[u8], old: &[Piece], text: &[u8], tokens: &[Piece]) -> bool
     requires old { All (LiesIn old_text.now) old.now }
     requires new { All (LiesIn text.now) tokens.now }

@@ -1,5 +1,6 @@
 //! What an edit of a text makes of its tokens.
-//! In: the list of the old pieces and what the edit makes of them. Out: which tokens are replaced, and by which.
+//! In: the list of the old pieces and what the edit makes of them. Out: which tokens are replaced,
+//! and by which.
 
 ghost use Rattle.snl_items.specs.Changes.{AreShifted, IsTokenChange};
 ghost use Rattle.snl_items.specs.Items.{mark_in};
@@ -18,7 +19,8 @@ use snl_lex::{
 use snl_syntax::{Mark, mark};
 use std::alloc::Global;
 
-/// An edit of a list of tokens: those from `start` up to `old_stop` became those from `start` up to `new_stop`.
+/// An edit of a list of tokens: those from `start` up to `old_stop` became those from `start` up to
+/// `new_stop`.
 #[derive(Clone, Copy, Debug, PartialEq, Eq)]
 pub struct TokenEdit {
     pub start: usize,
@@ -26,9 +28,9 @@ pub struct TokenEdit {
     pub new_stop: usize,
 }
 
-/// What an edit of a text makes of its tokens: which are replaced, those that are made and their marks, and whether these are
-/// spelled as the replaced ones, so that nothing changes for the items; and whether moreover the edit leaves all tokens of the text
-/// at their places, or shifted.
+/// What an edit of a text makes of its tokens: which are replaced, those that are made and their
+/// marks, and whether these are spelled as the replaced ones, so that nothing changes for the
+/// items; and whether moreover the edit leaves all tokens of the text at their places, or shifted.
 #[derive(Drop)]
 pub struct TokenChange {
     pub edit: TokenEdit,
@@ -82,7 +84,8 @@ pub fn marks_of(alloc: Global, text: &[u8], tokens: &[Piece]) -> Result<Vec<Mark
 }
 
 impl TokenChange {
-    /// What an edit makes of the tokens of a text, the pieces of which are listed. The only error is want of memory.
+    /// What an edit makes of the tokens of a text, the pieces of which are listed. The only error
+    /// is want of memory.
     pub fn of(
         alloc: Global,
         pieces: &PieceList,

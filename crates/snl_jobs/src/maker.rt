@@ -7,7 +7,8 @@
 //! | Mark | What it stands for |
 //! |---|---|
 //! | `@0` to `@7` | a name of the group that is written |
-//! | `@n`, `@a`, `@u`, `@f`, `@s` | any channel, array, plain number, event flag, string of the program |
+//! | `@n`, `@a`, `@u`, `@f`, `@s` | any channel, array, plain number, event flag, string of the
+//! program |
 //! | `@k`, `@d` | a number; a digit below 8 |
 //! | `@w` | some words |
 //! | `@g`, `@S`, `@l` | the number of the group; the name of the state set; its own variable |

@@ -27,8 +27,8 @@ edit_in e = edit_of e.edit.now
 abbrev pub items_in : Editing → ItemChange
 items_in e = e.changes.now.items
 
--- What is known of it: the lists, the tables and the diagnostics are those of the old text, the changes are those that the edit makes, and
--- the lines are those of the new text.
+-- What is known of it: the lists, the tables and the diagnostics are those of the old text, the
+-- changes are those that the edit makes, and the lines are those of the new text.
 pub record IsUnderWay (e : Editing) : Type 0 where
   pub lists : IsListed (old_in e) e.lists.now
   pub tables : e.tables.now ≡ tables_in (old_in e)

@@ -1,4 +1,5 @@
--- An edit that makes one item in the place of one: what is known of it, and its parts by their names.
+-- An edit that makes one item in the place of one: what is known of it, and its parts by their
+-- names.
 use Rattle.std.specs.Prelude.{ℕ, List}
 use Rattle.snl_scope.specs.declared.summaries.summary.Outline.{Outline}
 use Rattle.snl_kept.specs.declared.ways.one_item.replaced.OneItem.{OneItem}

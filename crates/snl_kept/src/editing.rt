@@ -1,5 +1,5 @@
-//! An edit under way: what is kept of the old text, both texts, and what the edit makes of the parts
-//! of the text. Each way of an edit reads it, and nothing is changed through it.
+//! An edit under way: what is kept of the old text, both texts, and what the edit makes of the
+//! parts of the text. Each way of an edit reads it, and nothing is changed through it.
 #![tactic(auto)]
 
 use crate::found::findings::Diagnostic;

@@ -1,4 +1,5 @@
--- A line by the last marker that counts for it, and what an edit leaves of the lines that are counted.
+-- A line by the last marker that counts for it, and what an edit leaves of the lines that are
+-- counted.
 use Rattle.std.proofs.Common.{◌≡◌, ◌==◌, ℕ, ◌+◌, ◌-◌, ◌^◌, ◌<◌, ◌≤◌, inl, inr, Bool, true, false, ◌&&◌, ◌||◌, cond, nat_lt, List, [], ◌∷◌, length, take, drop, map, min, count_by, get_or, drop-cons, suc, filter, Option, None, Some, refl, sym, ap, ap₂, ◌∙◌, arith, length-drop}
 use Rattle.std.specs.Prelude.{IfSome, if◌then◌else◌, nat_le, slice_index, unwrap_or}
 use Rattle.std.specs.List.{AllByRecursion}

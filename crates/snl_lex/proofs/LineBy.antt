@@ -23,7 +23,8 @@ begin_some es k =
     let more : slice_index es k + 1 ≡ suc (get_or es k 0) = omega arith in
     ap (λ (t : Bool). cond t 0 (slice_index es (suc k - 1) + 1)) (not_zero k) ∙ ap (λ (n : ℕ). slice_index es n + 1) one ∙ more
 
--- A line ends at or after a place and before the offset, if the offset's line begins after the place.
+-- A line ends at or after a place and before the offset, if the offset's line begins after the
+-- place.
 pub begin_told : (text : List ℕ) (a offset n : ℕ) → ends_before (line_ends text) offset ≡ n → has_line_between text a offset ≡ nat_lt a (line_begin (line_ends text) n)
 begin_told text a offset zero h = any_none text a offset h ∙ sym (lt_no a 0 (omega arith))
 begin_told text a offset (suc k) h = any_some text a offset k h ∙ ap (nat_lt a) (sym (begin_some (line_ends text) k))

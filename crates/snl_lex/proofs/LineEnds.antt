@@ -133,7 +133,8 @@ pub any_none : (text : List ℕ) (a place : ℕ) → below place (line_ends text
 any_none text a place h =
     any_counted (λ b. b == 10) (part_of text a place) ∙ lt_no 0 (lines_between text a place) (omega (arith, between_is text a place, h))
 
--- A line ends at or after `a` and before the place, if the last line end before the place isn't before `a`.
+-- A line ends at or after `a` and before the place, if the last line end before the place isn't
+-- before `a`.
 pub any_some : (text : List ℕ) (a place k : ℕ) → below place (line_ends text) ≡ suc k → has_line_between text a place ≡ nat_lt a (suc (get_or (line_ends text) k 0))
 any_some text a place k h =
     let es : List ℕ = line_ends text in

@@ -41,7 +41,8 @@ not_or true false = refl
 not_or false true = refl
 not_or false false = refl
 
--- A byte after some that the string has: by the same bytes, it is taken or not, and it stops exactly where it doesn't join.
+-- A byte after some that the string has: by the same bytes, it is taken or not, and it stops
+-- exactly where it doesn't join.
 stops_or_joins : (quote : ℕ) (before front : List ℕ) (x : ℕ) (xs : List ℕ) → is_taken before ≡ is_taken_at (front ++ x ∷ xs) (length front) → stops_string quote (front ++ x ∷ xs) (length front) ≡ not (string_joins quote before x)
 stops_or_joins quote before front x xs taken =
     let u : List ℕ = front ++ x ∷ xs in

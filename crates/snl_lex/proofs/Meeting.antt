@@ -1,4 +1,5 @@
--- The pieces that are kept at the back begin where both texts have a boundary, and are moved with their bytes.
+-- The pieces that are kept at the back begin where both texts have a boundary, and are moved with
+-- their bytes.
 use Rattle.std.proofs.Common.{get_or, ◌≡◌, ℕ, zero, suc, ◌+◌, ◌-◌, ◌<◌, ◌≤◌, ◌⊎◌, inl, inr, List, [], ◌∷◌, ◌++◌, length, drop, take, map, true, false, cond, nat_lt, nat_le, refl, sym, ap, ◌∙◌, subst, arith, length-drop}
 use Rattle.std.proofs.lemmas.List.{take-take, drop-drop, drop-take, take-append-drop, length-map, drop_more}
 use Rattle.std.proofs.lemmas.Bool.Decides.{nat_tests}

@@ -1,4 +1,5 @@
--- The words and punctuators of the language, 43 and 45, and what a token is to the grammar, by its class and its bytes.
+-- The words and punctuators of the language, 43 and 45, and what a token is to the grammar, by its
+-- class and its bytes.
 use Rattle.std.specs.Prelude.{ℕ, Bool, List, [], ◌∷◌, ◌++◌, codes, cond, filter, length, map, take}
 use Rattle.std.specs.List.{list_any}
 use Rattle.std.specs.Str.{bytes_eq}
@@ -122,7 +123,8 @@ punctuators_of_3 = (codes "<<=" is kind.LessLessEqual) ∷ (codes ">>=" is kind.
 abbrev pub punctuators : List Entry
 punctuators = punctuators_of_1 ++ (punctuators_of_2 ++ punctuators_of_3)
 
--- What a token is, by its class, and a word or a punctuator by its bytes too. White space, comments and markers are no tokens.
+-- What a token is, by its class, and a word or a punctuator by its bytes too. White space, comments
+-- and markers are no tokens.
 unfoldable pub kind_of : Class → List ℕ → Kind
 kind_of class.Name bytes = kind.Name
 kind_of class.Word bytes = look_up words bytes

@@ -76,7 +76,8 @@ abbrev pub moved_marker : ℕ → ℕ → Marker → Marker
 moved_marker old_stop new_stop m =
     record { end = (m.end - old_stop) + new_stop; number = m.number; file = option_map (λ f. ((f.0 - old_stop) + new_stop, f.1)) m.file }
 
--- Other markers in the place of those that end from `start` up to `kept_from`, and those after moved.
+-- Other markers in the place of those that end from `start` up to `kept_from`, and those after
+-- moved.
 abbrev pub replaced_markers : ℕ → ℕ → List Marker → ℕ → ℕ → List Marker → List Marker
 replaced_markers start kept_from made old_stop new_stop ms =
     take (count_by (λ m. nat_lt m.end start) ms) ms ++ (made ++ map (moved_marker old_stop new_stop) (drop (count_by (λ m. nat_lt m.end (kept_from + 1)) ms) ms))

@@ -1,5 +1,5 @@
--- How an edit before line markers shifts lines: up to the first line after it that a marker numbers. The markers after it move with their
--- bytes, so from there on each line keeps its number.
+-- How an edit before line markers shifts lines: up to the first line after it that a marker
+-- numbers. The markers after it move with their bytes, so from there on each line keeps its number.
 use Rattle.std.specs.Prelude.{◌≡◌, ℕ, ◌+◌, ◌-◌, ◌^◌, ◌<◌, ◌≤◌, ◌⊎◌, ◌||◌, All, if◌then◌else◌, List, drop, length, map, min, nat_le, nat_lt, option_map, slice_get, slice_index, take, Option, Some, None}
 use Rattle.snl_cut.specs.Cut.{IsEdit}
 use Rattle.snl_lex.specs.declared.line_list.Marker.{Marker}
@@ -18,19 +18,22 @@ shifted_file s file = option_map (λ f. (shifted_offset s f.0, f.1)) file
 abbrev pub shifted_marker : Shift → Marker → Marker
 shifted_marker s m = record { end = shifted_offset s m.end; number = m.number; file = shifted_file s m.file }
 
--- The line of an offset after the edit, by its line before it. Between the edit and the first line that a marker after it numbers, lines are shifted.
+-- The line of an offset after the edit, by its line before it. Between the edit and the first line
+-- that a marker after it numbers, lines are shifted.
 abbrev pub moved_line : LineShift → ℕ → Line → Line
 moved_line t offset line = record {
   number = if nat_lt offset t.by.start || nat_le t.until offset then line.number else min (line.number + t.by.new_lines) most - t.by.old_lines;
   file = shifted_file t.by line.file;
 }
 
--- The marker numbers the line that begins at a place; without one, none begins in the text at it or after it.
+-- The marker numbers the line that begins at a place; without one, none begins in the text at it or
+-- after it.
 abbrev pub NumbersFrom : List ℕ → ℕ → Option Marker → Type 0
 NumbersFrom old place None = length old < place
 NumbersFrom old place (Some m) = (m.end + 1 ≡ place) × (m.end < length old → slice_index old m.end ≡ 10)
 
--- A line ends between a marker and a place: so the marker counts for all that comes after the place, unless a later one does.
+-- A line ends between a marker and a place: so the marker counts for all that comes after the
+-- place, unless a later one does.
 abbrev pub CountsAfter : List ℕ → ℕ → Marker → Type 0
 CountsAfter text place m = 0 < lines_between text m.end place
 
@@ -38,9 +41,10 @@ CountsAfter text place m = 0 < lines_between text m.end place
 abbrev pub IsApart : List ℕ → Shift → Marker → Type 0
 IsApart old s m = CountsAfter old s.start m ⊎ (s.old_stop ≤ m.end)
 
--- An edit of a text, with how many line ends it takes out and puts in. It is not at the beginning of the text. The line markers stay, at their
--- places or shifted: so many count for all that comes after the edit, and those after them are after the edit, the first of which numbers
--- the line at `until`.
+-- An edit of a text, with how many line ends it takes out and puts in. It is not at the beginning
+-- of the text. The line markers stay, at their places or shifted: so many count for all that comes
+-- after the edit, and those after them are after the edit, the first of which numbers the line at
+-- `until`.
 pub record IsLineShift (old text : List ℕ) (t : LineShift) : Type 0 where
   pub edit : IsEdit old text t.by.start t.by.old_stop t.by.new_stop
   pub some_before : 0 < t.by.start

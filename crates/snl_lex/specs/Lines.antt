@@ -29,7 +29,8 @@ has_line_between text from to = list_any (λ b. b == 10) (part_of text from to)
 abbrev pub gap_end : List ℕ → ℕ → ℕ
 gap_end bytes from = from + run_of is_gap (drop from bytes)
 
--- Where a marker's number begins: after `#` and spaces and tabs, and after `line` and spaces and tabs, if that word is there.
+-- Where a marker's number begins: after `#` and spaces and tabs, and after `line` and spaces and
+-- tabs, if that word is there.
 unfoldable pub number_place : List ℕ → ℕ
 number_place marker =
     let place = gap_end marker 1 in
@@ -46,7 +47,8 @@ number_stop marker = number_place marker + digit_count marker
 abbrev pub written_number : List ℕ → ℕ
 written_number marker = value_after Decimal 0 (take (digit_count marker) (drop (number_place marker) marker))
 
--- The number that a marker sets: 1 to 10 digits, at most 2,147,483,647, with white space or nothing after. None: the marker sets nothing.
+-- The number that a marker sets: 1 to 10 digits, at most 2,147,483,647, with white space or nothing
+-- after. None: the marker sets nothing.
 unfoldable pub marker_number : List ℕ → Option ℕ
 marker_number marker =
     if nat_lt 0 (digit_count marker)
@@ -56,7 +58,8 @@ marker_number marker =
     then Some (written_number marker)
     else None
 
--- Where in a marker its file is, and how many bytes it has: between quotes, after the number and spaces and tabs. A backslash takes a quote.
+-- Where in a marker its file is, and how many bytes it has: between quotes, after the number and
+-- spaces and tabs. A backslash takes a quote.
 unfoldable pub marker_file : List ℕ → Option (ℕ × ℕ)
 marker_file marker =
     let quote = gap_end marker (number_stop marker) in
@@ -67,7 +70,8 @@ abbrev pub is_marker : Class → Bool
 is_marker Marker = true
 is_marker _ = false
 
--- The piece is a marker that sets the line of the offset: a line ends at or after the marker's end and before the offset.
+-- The piece is a marker that sets the line of the offset: a line ends at or after the marker's end
+-- and before the offset.
 unfoldable pub sets_line : List ℕ → ℕ → Piece → Bool
 sets_line text offset p = is_marker p.kind && is_some (marker_number (bytes_at text p)) && has_line_between text (piece_end p) offset
 
@@ -87,7 +91,8 @@ last_of xs = last_or None xs
 abbrev pub last_that : (Piece → Bool) → List Piece → Option Piece
 last_that passes pieces = last_of (filter passes pieces)
 
--- The line by the last marker that counts: the marker's number is that of the line after it. Without one, 1 and the line ends before the offset.
+-- The line by the last marker that counts: the marker's number is that of the line after it.
+-- Without one, 1 and the line ends before the offset.
 abbrev pub number_by : List ℕ → ℕ → Option Piece → ℕ
 number_by text offset None = 1 + lines_between text 0 offset
 number_by text offset (Some p) = (unwrap_or (marker_number (bytes_at text p)) 0 + lines_between text (piece_end p) offset) - 1

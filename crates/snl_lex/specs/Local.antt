@@ -1,5 +1,6 @@
--- What makes the cut of a text one that an edit changes only near it: a piece has a byte at least, and no more than there are;
--- and its class and length depend on its own bytes and the one after it alone.
+-- What makes the cut of a text one that an edit changes only near it: a piece has a byte at least,
+-- and no more than there are; and its class and length depend on its own bytes and the one after it
+-- alone.
 use Rattle.std.specs.Prelude.{◌≡◌, ℕ, zero, suc, ◌+◌, ◌-◌, ◌<◌, ◌≤◌, ◌==◌, Bool, true, false, cond, ◌&&◌, List, [], ◌∷◌, length, take, drop, slice_index, Option, Some, None, refl}
 use Rattle.std.specs.Option.{option_map}
 use Rattle.std.proofs.Common.{sym, ap, ◌∙◌, subst, arith, get_or, eqb, eqb-true, length-drop, add-one, ◌⊎◌, inl, inr}
@@ -16,7 +17,8 @@ use Rattle.snl_lex.specs.Kinds.{has, is_word, punctuators_of_2, punctuators_of_3
 use Rattle.snl_lex.specs.Numbers.{number_joins, number_class}
 use Rattle.snl_lex.specs.Pieces.{run_piece, name_piece, number_piece, closed_by, closed_piece, string_joins, string_piece, longest_mark, mark_piece, slash_piece, percent_piece, piece_by, first_piece, piece_length}
 
--- Pieces of texts that begin with `x`: two that agree after it, so far as one piece reaches and one byte further, have equal first pieces.
+-- Pieces of texts that begin with `x`: two that agree after it, so far as one piece reaches and one
+-- byte further, have equal first pieces.
 abbrev IsAlone : ℕ → (List ℕ → Class × ℕ) → Type 0
 IsAlone x f = (xs ys : List ℕ) → take (f (x ∷ xs)).1 xs ≡ take (f (x ∷ xs)).1 ys → f (x ∷ ys) ≡ f (x ∷ xs)
 

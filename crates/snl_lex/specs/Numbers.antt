@@ -17,12 +17,14 @@ is_sign b = b == 43 || b == 45
 unfoldable pub is_power : ℕ → Bool
 is_power b = b == 101 || b == 69
 
--- The last byte is `e` or `E`, and all before it are digits and dots. (The last byte comes first in the list.)
+-- The last byte is `e` or `E`, and all before it are digits and dots. (The last byte comes first in
+-- the list.)
 unfoldable pub awaits_sign : List ℕ → Bool
 awaits_sign [] = false
 awaits_sign (b ∷ before) = is_power b && list_all is_plain before
 
--- A number run goes on with letters, digits, `_` and `.`, and with a sign directly after an `e` or `E` that only digits and dots come before.
+-- A number run goes on with letters, digits, `_` and `.`, and with a sign directly after an `e` or
+-- `E` that only digits and dots come before.
 unfoldable pub number_joins : List ℕ → ℕ → Bool
 number_joins before b = is_word_byte b || b == 46 || (is_sign b && awaits_sign before)
 
@@ -48,8 +50,8 @@ value_after base value (d ∷ ds) = value_after base (value * radix base + digit
 abbrev pub checked_value : ℕ → Option ℕ
 checked_value value = if nat_lt value 18446744073709551616 then Some value else None
 
--- What an Int may end with: nothing, `u`, `l` or `ll`, or a `u` and one of `l` and `ll` in either order. Each may be in either case,
--- but the two letters of `ll` are in the same one.
+-- What an Int may end with: nothing, `u`, `l` or `ll`, or a `u` and one of `l` and `ll` in either
+-- order. Each may be in either case, but the two letters of `ll` are in the same one.
 abbrev pub int_suffixes : List (List ℕ)
 int_suffixes =
     [] ∷ codes "u" ∷ codes "U" ∷ codes "l" ∷ codes "L" ∷ codes "ll" ∷ codes "LL"
@@ -80,7 +82,8 @@ from_digits Octal bytes = bytes
 from_digits Decimal bytes = bytes
 from_digits Hexadecimal bytes = drop 2 bytes
 
--- The value of digits of the base that one of the suffixes follows: there is a digit, and the value is at most 2^64 - 1.
+-- The value of digits of the base that one of the suffixes follows: there is a digit, and the value
+-- is at most 2^64 - 1.
 unfoldable pub value_in : NumberBase → List ℕ → Option ℕ
 value_in base bytes =
     let count = run_of (is_digit_in base) bytes in

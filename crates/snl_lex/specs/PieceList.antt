@@ -1,4 +1,5 @@
--- The pieces of a text as two lists: where each ends, and its class. What an edit makes of them, and what it keeps.
+-- The pieces of a text as two lists: where each ends, and its class. What an edit makes of them,
+-- and what it keeps.
 use Rattle.std.specs.Prelude.{◌≡◌, ℕ, ◌+◌, ◌-◌, ◌≤◌, Bool, true, false, List, [], ◌∷◌, ◌++◌, length, map, take, drop, filter}
 use Rattle.snl_cut.specs.Cut.{IsRecut, last_end}
 use Rattle.snl_lex.specs.declared.piece.Class.{Class}
@@ -43,11 +44,13 @@ tokens_spelled text pieces = spelled text (filter is_token pieces)
 abbrev pub last_pieces : List ℕ → ℕ → List Piece
 last_pieces text back = drop (length (pieces_of text) - back) (pieces_of text)
 
--- The pieces that an edit makes, after so many that are kept at the front, by the lists of their ends and classes.
+-- The pieces that an edit makes, after so many that are kept at the front, by the lists of their
+-- ends and classes.
 abbrev pub relexed_pieces : List ℕ → ℕ → List ℕ → List Class → List Piece
 relexed_pieces old front made_ends made_kinds = listed_pieces (last_end 0 (take front (piece_ends old))) made_ends made_kinds
 
--- An edit keeps so many pieces at the front and so many at the back, and makes those between: these are their ends and classes.
+-- An edit keeps so many pieces at the front and so many at the back, and makes those between: these
+-- are their ends and classes.
 pub record IsRelexed (old : List ℕ) (text : List ℕ) (start : ℕ) (old_stop : ℕ) (new_stop : ℕ) (front : ℕ) (made_ends : List ℕ) (made_kinds : List Class) (back : ℕ) : Type 0 where
   pub order : front + back ≤ length (pieces_of old)
   pub recut : IsRecut piece_length old (piece_ends old) text start old_stop new_stop front made_ends back
@@ -55,7 +58,8 @@ pub record IsRelexed (old : List ℕ) (text : List ℕ) (start : ℕ) (old_stop 
   pub kinds : made_kinds ≡ map (λ p. p.kind) (relexed_pieces old front made_ends made_kinds)
   pub pieces : pieces_of text ≡ (take front (pieces_of old) ++ relexed_pieces old front made_ends made_kinds) ++ map (moved_piece old_stop new_stop) (last_pieces old back)
 
--- An edit keeps so many pieces at the front and, from a place of the old text on, so many at the back. It makes those between: their ends and classes are listed.
+-- An edit keeps so many pieces at the front and, from a place of the old text on, so many at the
+-- back. It makes those between: their ends and classes are listed.
 pub record IsChange (old : List ℕ) (text : List ℕ) (start : ℕ) (old_stop : ℕ) (new_stop : ℕ) (front : ℕ) (made : List Piece) (back : ℕ) (kept_from : ℕ) (made_ends : List ℕ) (made_kinds : List Class) : Type 0 where
   pub order : front + back ≤ length (pieces_of old)
   pub recut : IsRecut piece_length old (piece_ends old) text start old_stop new_stop front (map piece_end made) back

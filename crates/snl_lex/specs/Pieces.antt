@@ -1,5 +1,6 @@
 -- The pieces of a text, and its tokens.
--- In: a text, as the list of its bytes. Out: the class and length of its first piece; all pieces from the left; those that are tokens.
+-- In: a text, as the list of its bytes. Out: the class and length of its first piece; all pieces
+-- from the left; those that are tokens.
 use Rattle.std.specs.Prelude.{ℕ, zero, suc, ◌+◌, ◌-◌, ◌≤◌, Bool, true, false, not, ◌||◌, ◌==◌, nat_lt, List, [], ◌∷◌, length, take, drop, filter, slice_index, IsTrue, Option, Some, None, if◌then◌else◌}
 use Rattle.std.specs.List.{list_all}
 use Rattle.snl_lex.specs.declared.piece.Class.{Class}
@@ -28,7 +29,8 @@ number_piece u =
     let count = 1 + run_by number_joins (take 1 u) (drop 1 u) in
     (number_class (take count u), count)
 
--- What ends with a closing mark has two bytes and those up to the mark; without one it is the whole rest, which is faulty.
+-- What ends with a closing mark has two bytes and those up to the mark; without one it is the whole
+-- rest, which is faulty.
 abbrev pub closed_by : Class → ℕ → Option ℕ → Class × ℕ
 closed_by kind total None = (Bad, total)
 closed_by kind total (Some count) = (kind, 2 + count)
@@ -37,7 +39,8 @@ closed_by kind total (Some count) = (kind, 2 + count)
 abbrev pub closed_piece : Class → ℕ → ℕ → List ℕ → Class × ℕ
 closed_piece kind a b u = closed_by kind (length u) (close_of a b (drop 2 u))
 
--- A backslash takes the byte after it; a backslash that is taken doesn't. (The last byte comes first in the list.)
+-- A backslash takes the byte after it; a backslash that is taken doesn't. (The last byte comes
+-- first in the list.)
 abbrev pub is_taken : List ℕ → Bool
 is_taken [] = false
 is_taken (b ∷ before) = if b == 92 then not (is_taken before) else false
@@ -46,13 +49,15 @@ is_taken (b ∷ before) = if b == 92 then not (is_taken before) else false
 abbrev pub string_joins : ℕ → List ℕ → ℕ → Bool
 string_joins quote before b = is_taken before || not (b == quote || b == 10)
 
--- The quote at the front, and all up to the quote that closes it; without one all before the LF or the end, which is faulty.
+-- The quote at the front, and all up to the quote that closes it; without one all before the LF or
+-- the end, which is faulty.
 abbrev pub string_piece : Class → ℕ → List ℕ → Class × ℕ
 string_piece kind quote u =
     let count = 1 + run_by (string_joins quote) [] (drop 1 u) in
     if slice_index u count == quote then (kind, 1 + count) else (Bad, count)
 
--- The longest of the marks: three bytes, two, or the first byte, which is a mark. (A byte that isn't there counts as 0, which is in no mark.)
+-- The longest of the marks: three bytes, two, or the first byte, which is a mark. (A byte that
+-- isn't there counts as 0, which is in no mark.)
 unfoldable pub longest_mark : List ℕ → ℕ
 longest_mark u =
     let a = slice_index u 0 in
@@ -144,7 +149,8 @@ tokens_of text = filter is_token (pieces_of text)
 abbrev pub bytes_at : List ℕ → Piece → List ℕ
 bytes_at text p = take p.len (drop p.start text)
 
--- A byte that a piece of the class may have: comments, C code, strings, marks and faulty pieces may have any.
+-- A byte that a piece of the class may have: comments, C code, strings, marks and faulty pieces may
+-- have any.
 abbrev pub class_byte : Class → ℕ → Bool
 class_byte White b = is_white b
 class_byte Name b = is_word_byte b

@@ -1,6 +1,6 @@
 //! The cut of a text into pieces, made whole or again after an edit.
-//! In: a text; after an edit also the old text and its pieces. Out: the pieces, or what is kept and made of them.
-//! It knows of a piece only that it is the first one of what is left.
+//! In: a text; after an edit also the old text and its pieces. Out: the pieces, or what is kept and
+//! made of them. It knows of a piece only that it is the first one of what is left.
 
 ghost use Rattle.snl_cut.specs.Cut.{Counted, IsCut, IsEdit, IsRecut, after_ticks, last_end};
 ghost use Rattle.snl_lex.specs.Local.{piece_front, piece_local};
@@ -63,11 +63,13 @@ fn piece_at(text: &[u8], at: usize) -> Piece
 
 /// The pieces of a text, cut from the left. Each is one tick. The only error is want of memory.
 ///
-/// Classes are those of the SNL reference of the EPICS sequencer 2.2 manual; which bytes a faulty piece takes is this project's profile.
+/// Classes are those of the SNL reference of the EPICS sequencer 2.2 manual; which bytes a faulty
+/// piece takes is this project's profile.
 pub fn lex(alloc: Global, text: &[u8], work: &mut Count) -> Result<Vec<Piece>, OutOfMemory>
     ensures pieces { IfOk result (λ pieces. pieces.items ≡ pieces_of text.now) }
 
-    // Laws of the pieces of any text: joined they are the text, each lies in it and has a byte, and each has bytes of its class alone.
+    // Laws of the pieces of any text: joined they are the text, each lies in it and has a byte, and
+    // each has bytes of its class alone.
     ensures joined { IfOk result (λ pieces. flat_map (bytes_at text.now) pieces.items ≡ text.now) }
     ensures inside { IfOk result (λ pieces. All (LiesIn text.now) pieces.items) }
     ensures own_bytes { IfOk result (λ pieces. All (HasOwnBytes text.now) pieces.items) }
@@ -111,7 +113,10 @@ fn listed_pieces(
     Ok(pieces)
 }
 
-/// What is kept of the pieces of `old_text`, however their ends are kept, and the ends and classes of those that are made for `text`, in which the bytes from `start` to `old_stop` were replaced by those up to `new_stop`. Each piece that is made is one tick. The only error is want of memory.
+/// What is kept of the pieces of `old_text`, however their ends are kept, and the ends and classes
+/// of those that are made for `text`, in which the bytes from `start` to `old_stop` were replaced
+/// by those up to `new_stop`. Each piece that is made is one tick. The only error is want of
+/// memory.
 pub fn relex_by<E: Ends>(
     alloc: Global,
     old_text: &[u8],
@@ -144,7 +149,8 @@ pub fn end_by<E: Ends>(ends: &E, count: usize) -> usize
     if count == 0 { 0 } else { ends.end(count - 1) }
 }
 
-/// What is kept and made of the pieces of an old text: so many at the front, the new ones, and so many at the back, which moved with the bytes.
+/// What is kept and made of the pieces of an old text: so many at the front, the new ones, and so
+/// many at the back, which moved with the bytes.
 #[derive(Drop)]
 pub struct Relexed {
     pub kept_front: usize,
@@ -171,7 +177,9 @@ impl Ends for PieceEnds<'_> {
     }
 }
 
-/// The pieces of `text` from those of `old_text`, of which the bytes from `start` to `old_stop` were replaced by those up to `new_stop`. Each piece that is made is one tick. The only error is want of memory.
+/// The pieces of `text` from those of `old_text`, of which the bytes from `start` to `old_stop`
+/// were replaced by those up to `new_stop`. Each piece that is made is one tick. The only error is
+/// want of memory.
 pub fn relex(
     alloc: Global,
     old_text: &[u8],

@@ -13,8 +13,8 @@ ghost use Rattle.std.specs.List.{flat_map};
 ghost use Rattle.snl_lex.specs.declared.kind.Kind.TheVariants as kind;
 ghost use Rattle.snl_lex.specs.declared.piece.Class.TheVariants.{White, Comment, Marker, CCode, Name, Word, Text, CharLit, Punct, Bad};
 
-/// The pieces of any text are its cut: joined they are the text, each lies in it and has a byte, and each has the class that
-/// the text tells from where it begins, and bytes of that class alone.
+/// The pieces of any text are its cut: joined they are the text, each lies in it and has a byte,
+/// and each has the class that the text tells from where it begins, and bytes of that class alone.
 pub fn text_in_pieces()
     ensures cut { (text : List ℕ) → IsCut piece_length text (map piece_end (pieces_of text)) }
     ensures joined { (text : List ℕ) → flat_map (bytes_at text) (pieces_of text) ≡ text }
@@ -23,13 +23,14 @@ pub fn text_in_pieces()
     ensures own_bytes { (text : List ℕ) → All (HasOwnBytes text) (pieces_of text) }
 {}
 
-/// The pieces of any text are those that their ends and classes say: each begins where the one before it ends.
+/// The pieces of any text are those that their ends and classes say: each begins where the one
+/// before it ends.
 pub fn pieces_as_listed()
     ensures { (text : List ℕ) → listed_pieces 0 (piece_ends text) (piece_kinds text) ≡ pieces_of text }
 {}
 
-/// What an edit keeps of the pieces has in the new text the bytes that it had: the pieces at the front in their place, and those
-/// at the back moved. So are their tokens spelled as before.
+/// What an edit keeps of the pieces has in the new text the bytes that it had: the pieces at the
+/// front in their place, and those at the back moved. So are their tokens spelled as before.
 pub fn kept_as_spelled()
     ensures front { (old text : List ℕ) (start old_stop new_stop front : ℕ) (made : List ℕ) (back : ℕ)
         → IsEdit old text start old_stop new_stop → IsRecut piece_length old (piece_ends old) text start old_stop new_stop front made back
@@ -45,10 +46,11 @@ pub fn kept_as_spelled()
         → tokens_spelled text (map (moved_piece old_stop new_stop) (last_pieces old back)) ≡ tokens_spelled old (last_pieces old back) }
 {}
 
-/// What the first piece of a text reaches, by the bytes that the text begins with: white space, a name or word, a marker, a comment
-/// or C code of one line and stray bytes are the longest run of their set; a comment or C code with a closing mark ends with the first one; a string ends with
-/// the first quote that no backslash takes, unless a line ends before it; a number is its longest number run, and a mark the longest of the marks that the text
-/// begins with.
+/// What the first piece of a text reaches, by the bytes that the text begins with: white space, a
+/// name or word, a marker, a comment or C code of one line and stray bytes are the longest run of
+/// their set; a comment or C code with a closing mark ends with the first one; a string ends with
+/// the first quote that no backslash takes, unless a line ends before it; a number is its longest
+/// number run, and a mark the longest of the marks that the text begins with.
 pub fn first_piece_reaches()
     ensures white { (text : List ℕ) → 0 < length text → is_white (slice_index text 0) ≡ true → IsRunOf White is_white text (first_piece text) }
     ensures name { (text : List ℕ) → 0 < length text → is_letter (slice_index text 0) ≡ true
@@ -66,8 +68,9 @@ pub fn first_piece_reaches()
     ensures stray { (text : List ℕ) → 0 < length text → is_stray (slice_index text 0) ≡ true → IsRunOf Bad is_stray text (first_piece text) }
 {}
 
-/// The lexer and the grammar have one table of words and punctuators: each word and each punctuator of a text is in it, and no name
-/// is a word of it. So a token is faulty to the grammar only where its piece is.
+/// The lexer and the grammar have one table of words and punctuators: each word and each punctuator
+/// of a text is in it, and no name is a word of it. So a token is faulty to the grammar only where
+/// its piece is.
 pub fn tokens_have_kinds()
     ensures words { (text : List ℕ) → All (λ p. p.kind ≡ Word → look_up words (bytes_at text p) ≡ kind.Bad → ⊥) (pieces_of text) }
     ensures punctuators { (text : List ℕ) → All (λ p. p.kind ≡ Punct → look_up punctuators (bytes_at text p) ≡ kind.Bad → ⊥) (pieces_of text) }

@@ -1,4 +1,5 @@
-//! The lexical layer: bytes come in, pieces go out, and what each is to the grammar. It knows nothing of the grammar itself.
+//! The lexical layer: bytes come in, pieces go out, and what each is to the grammar. It knows
+//! nothing of the grammar itself.
 #![tactic(auto)]
 
 ghost use Rattle.std.specs.Prelude.{◌≡◌, ◌+◌, ◌≤◌, drop, length, take};

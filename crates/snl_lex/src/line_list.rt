@@ -1,5 +1,7 @@
-//! The lines of a text as lists, which an edit changes in place: its line ends, and the markers that set a line.
-//! In: a text and its pieces; after an edit both texts. Out: the lists, and by them the line of an offset.
+//! The lines of a text as lists, which an edit changes in place: its line ends, and the markers
+//! that set a line.
+//! In: a text and its pieces; after an edit both texts. Out: the lists, and by them the line of an
+//! offset.
 
 ghost use Rattle.snl_lex.specs.LineList.{IsLineList, IsLinePart, IsShort, last_before, line_begin, line_ends, line_ends_in, marked, marker_of, moved_marker, names, number_after, numbers, replaced_markers};
 ghost use Rattle.snl_lex.specs.Lines.{line_at, marker_number};
@@ -18,7 +20,8 @@ use snl_cut::OutOfMemory;
 use snl_lists::replace;
 use std::alloc::Global;
 
-/// A line marker: where it ends, the number of the line after it, and first byte and length of the name of its file, if it has one.
+/// A line marker: where it ends, the number of the line after it, and first byte and length of the
+/// name of its file, if it has one.
 #[derive(Clone, Copy, Debug, PartialEq, Eq, Drop)]
 pub struct Marker {
     pub end: usize,
@@ -26,7 +29,8 @@ pub struct Marker {
     pub file: Option<(usize, usize)>,
 }
 
-/// The offsets of the line ends of a text or of a part of it, the line markers among its pieces that set a line, and those of them that name a file.
+/// The offsets of the line ends of a text or of a part of it, the line markers among its pieces
+/// that set a line, and those of them that name a file.
 #[derive(Drop)]
 pub struct LineList {
     pub ends: Vec<usize>,
@@ -182,7 +186,8 @@ fn move_all(markers: &mut [Marker], old_stop: usize, new_stop: usize)
     }
 }
 
-// Puts other markers in the place of those that end from `start` up to `kept_from`, and moves those after. There is room for them.
+// Puts other markers in the place of those that end from `start` up to `kept_from`, and moves those
+// after. There is room for them.
 fn replace_markers(
     markers: &mut Vec<Marker>,
     start: usize,
@@ -275,7 +280,8 @@ impl LineList {
         })
     }
 
-    /// What an edit makes of the lines: the line ends among the new bytes, and the markers among the made pieces.
+    /// What an edit makes of the lines: the line ends among the new bytes, and the markers among
+    /// the made pieces.
     pub fn made(
         alloc: Global,
         edit: &TextEdit,
@@ -295,7 +301,8 @@ impl LineList {
         })
     }
 
-    /// The line of an offset, which may be any number; one after the text counts as its end. It takes no memory, and looks at few places of the lists.
+    /// The line of an offset, which may be any number; one after the text counts as its end. It
+    /// takes no memory, and looks at few places of the lists.
     pub fn line_by(&self, text: &[u8], offset: usize) -> Line
         requires { IsLineList text.now self.now.ends.items self.now.markers.items self.now.naming.items }
         ensures { result ≡ line_at text.now offset }
@@ -330,7 +337,8 @@ impl LineList {
         })
     }
 
-    /// The lines of the new text of an edit, where these are the old one's. The only error is want of memory.
+    /// The lines of the new text of an edit, where these are the old one's. The only error is want
+    /// of memory.
     pub fn after(
         &self,
         alloc: Global,
@@ -363,7 +371,8 @@ impl LineList {
         Ok(())
     }
 
-    /// Makes the list of the old text's lines that of the new one's. There is room for what was made, so it can't fail.
+    /// Makes the list of the old text's lines that of the new one's. There is room for what was
+    /// made, so it can't fail.
     pub fn commit(&mut self, edit: &TextEdit, change: &PieceChange, made: &LineList)
         requires lines { IsLineList edit.now.old.now self.old.ends.items self.old.markers.items self.old.naming.items }
         requires change { IsChange edit.now.old.now edit.now.text.now edit.now.start edit.now.old_stop edit.now.new_stop change.now.kept_front (made_pieces change.now) change.now.kept_back change.now.kept_from change.now.list.ends.items change.now.list.kinds.items }
@@ -416,7 +425,8 @@ fn move_places_from(places: &mut Vec<usize>, from: usize, old_stop: usize, new_s
     move_places(&mut places[from..], old_stop, new_stop);
 }
 
-// Puts other places in the place of those from `start` up to `stop`, and moves those after them. There is room for them.
+// Puts other places in the place of those from `start` up to `stop`, and moves those after them.
+// There is room for them.
 fn replace_places(
     places: &mut Vec<usize>,
     start: usize,

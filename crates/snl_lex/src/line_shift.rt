@@ -1,5 +1,6 @@
 //! How an edit before line markers shifts lines.
-//! In: an edit of a text, and the lines of both texts. Out: whether the markers stay, and the new line of what the edit leaves.
+//! In: an edit of a text, and the lines of both texts. Out: whether the markers stay, and the new
+//! line of what the edit leaves.
 
 ghost use Rattle.snl_lex.specs.LineList.{IsLineList};
 ghost use Rattle.snl_lex.specs.LineShift.{CountsAfter, IsLineShift, NumbersFrom, moved_line, shifted_file, shifted_marker};
@@ -14,8 +15,8 @@ use crate::lines::Line;
 use crate::piece_list::TextEdit;
 use crate::shift::Shift;
 
-/// An edit of a text, and where the first line begins after it that a line marker numbers: lines before that one are shifted. It is
-/// greater than the text's length where there is no such line.
+/// An edit of a text, and where the first line begins after it that a line marker numbers: lines
+/// before that one are shifted. It is greater than the text's length where there is no such line.
 #[derive(Clone, Copy, Debug, PartialEq, Eq)]
 pub struct LineShift {
     pub by: Shift,
@@ -162,8 +163,8 @@ impl LineShift {
     }
 }
 
-/// Where an edit leaves the line markers, the lines before the next marker are shifted by the line ends that it takes out and puts in, and the others
-/// keep their numbers.
+/// Where an edit leaves the line markers, the lines before the next marker are shifted by the line
+/// ends that it takes out and puts in, and the others keep their numbers.
 pub fn lines_move()
     ensures { (old text : List ℕ) (t : LineShift) (offset : ℕ) → IsLineShift old text t → IsOutside old t.by offset
         → line_at text (shifted_offset t.by offset) ≡ moved_line t offset (line_at old offset) }

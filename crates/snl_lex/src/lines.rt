@@ -11,7 +11,8 @@ use crate::numbers::value_of;
 use crate::piece::{Class, Piece};
 use crate::scan::string_end;
 
-/// The line of an offset: its number, and start and length of the bytes in the text that name its file, where a line marker names one.
+/// The line of an offset: its number, and start and length of the bytes in the text that name its
+/// file, where a line marker names one.
 #[derive(Clone, Copy, Debug, PartialEq, Eq)]
 pub struct Line {
     pub number: usize,
@@ -176,7 +177,8 @@ fn file_by(text: &[u8], named: Option<Piece>) -> Option<(usize, usize)>
     }
 }
 
-/// The line of an offset, which may be any number; one after the text counts as its end. It takes no memory, and goes over all the pieces twice.
+/// The line of an offset, which may be any number; one after the text counts as its end. It takes
+/// no memory, and goes over all the pieces twice.
 ///
 /// Line markers are read as this project's profile has them.
 #[tactic(auto, unfolding(crate::specs::Lines::line_at))]

@@ -24,8 +24,10 @@ fn start_at(list: &PieceList, begin: u32, number: usize) -> u32
     }
 }
 
-// Adds those of the pieces from one number up to another that are tokens, moved as the bytes from `old_stop` on are moved to `new_stop`. The first piece of the list begins at a place.
-// The tokens come by value, and there is room for all: so their place and number stay in registers, and no room is looked for at each.
+// Adds those of the pieces from one number up to another that are tokens, moved as the bytes from
+// `old_stop` on are moved to `new_stop`. The first piece of the list begins at a place. The tokens
+// come by value, and there is room for all: so their place and number stay in registers, and no
+// room is looked for at each.
 fn with_listed_tokens(
     mut tokens: Vec<Piece>,
     list: &PieceList,
@@ -124,7 +126,8 @@ impl PieceList {
         self.tokens_between(alloc, 0, self.ends.len())
     }
 
-    /// The tokens of the new text of an edit, where this is the list of the old one's pieces. The only error is want of memory.
+    /// The tokens of the new text of an edit, where this is the list of the old one's pieces. The
+    /// only error is want of memory.
     pub fn tokens_after(
         &self,
         alloc: Global,

@@ -153,9 +153,11 @@ fn base_of(bytes: &[u8]) -> NumberBase
     }
 }
 
-/// The value of an Int: decimal, octal or hexadecimal digits, with an optional suffix, of at most 2^64 - 1. None for all other bytes.
+/// The value of an Int: decimal, octal or hexadecimal digits, with an optional suffix, of at most
+/// 2^64 - 1. None for all other bytes.
 ///
-/// Numbers are those of the SNL reference of the EPICS sequencer 2.2 manual; that `u` and `l` or `ll` may come in either order is this project's profile.
+/// Numbers are those of the SNL reference of the EPICS sequencer 2.2 manual; that `u` and `l` or
+/// `ll` may come in either order is this project's profile.
 #[tactic(auto, unfolding(crate::specs::Numbers::int_value_of))]
 pub fn int_value(bytes: &[u8]) -> Option<u64>
     ensures { result ≡ int_value_of bytes.now }

@@ -1,5 +1,7 @@
-//! The pieces of a text as two lists, which an edit changes in place: where each piece ends, and its class.
-//! In: pieces; after an edit both texts. Out: the lists, those of the new text after a change that can't fail.
+//! The pieces of a text as two lists, which an edit changes in place: where each piece ends, and
+//! its class.
+//! In: pieces; after an edit both texts. Out: the lists, those of the new text after a change that
+//! can't fail.
 
 ghost use Rattle.snl_cut.specs.Cut.{Counted, IsEdit, after_ticks};
 ghost use Rattle.snl_lex.specs.Lines.{is_marker};
@@ -16,8 +18,8 @@ use snl_cut::{Count, Narrow, OutOfMemory};
 use snl_lists::{replace, replace_and_shift};
 use std::alloc::Global;
 
-/// Where the pieces of a text end, their classes, and how many of them are line markers. Offsets have four bytes each, so the text
-/// is shorter than 4 GiB.
+/// Where the pieces of a text end, their classes, and how many of them are line markers. Offsets
+/// have four bytes each, so the text is shorter than 4 GiB.
 #[derive(Drop)]
 pub struct PieceList {
     pub ends: Vec<u32>,
@@ -25,7 +27,8 @@ pub struct PieceList {
     pub markers: usize,
 }
 
-/// An edit of a text: in the new one, other bytes are from `start` up to `new_stop` than in the old one up to `old_stop`.
+/// An edit of a text: in the new one, other bytes are from `start` up to `new_stop` than in the old
+/// one up to `old_stop`.
 #[derive(Clone, Copy)]
 pub struct TextEdit<'a> {
     pub old: &'a [u8],
@@ -37,7 +40,9 @@ pub struct TextEdit<'a> {
     ghost short: { (length old.now < 2 ^ 32) × (length text.now < 2 ^ 32) },
 }
 
-/// What an edit makes of the pieces: so many are kept at the front, those that are made follow, from `made_from` of the new text on, and so many are kept at the back, from `kept_from` of the old text on.
+/// What an edit makes of the pieces: so many are kept at the front, those that are made follow,
+/// from `made_from` of the new text on, and so many are kept at the back, from `kept_from` of the
+/// old text on.
 #[derive(Drop)]
 pub struct PieceChange {
     pub kept_front: usize,
@@ -47,7 +52,8 @@ pub struct PieceChange {
     pub kept_from: usize,
 }
 
-// The places in four bytes each. There is room for all before the loop, so that no place looks for it.
+// The places in four bytes each. There is room for all before the loop, so that no place looks for
+// it.
 fn narrow(alloc: Global, places: &[usize]) -> Result<Vec<u32>, OutOfMemory>
     requires { All (λ p. p < 2 ^ 32) places.now }
     ensures { IfOk result (λ narrow. narrow.items ≡ places.now) }
@@ -66,8 +72,8 @@ fn count_markers(kinds: &[Class]) -> usize
     kinds.iter().filter(|kind| kind.is_marker()).count()
 }
 
-// Puts other classes in the place of those from `start` up to `stop`, and tells how many line markers there are then. There were
-// so many.
+// Puts other classes in the place of those from `start` up to `stop`, and tells how many line
+// markers there are then. There were so many.
 fn replace_kinds(
     kinds: &mut Vec<Class>,
     markers: usize,
@@ -109,7 +115,8 @@ impl PieceList {
         })
     }
 
-    /// What an edit makes of the pieces of the old text, of which this is the list. Each made piece is one tick. The only error is want of memory.
+    /// What an edit makes of the pieces of the old text, of which this is the list. Each made piece
+    /// is one tick. The only error is want of memory.
     pub fn change(
         &self,
         alloc: Global,
@@ -165,7 +172,8 @@ impl PieceList {
         Ok(())
     }
 
-    /// Makes the list of the old text's pieces that of the new one's. There is room for the made pieces, so it can't fail.
+    /// Makes the list of the old text's pieces that of the new one's. There is room for the made
+    /// pieces, so it can't fail.
     pub fn commit(&mut self, edit: &TextEdit, change: &PieceChange)
         requires ends { self.old.ends.items ≡ piece_ends edit.now.old.now }
         requires kinds { self.old.kinds.items ≡ piece_kinds edit.now.old.now }

@@ -1,4 +1,5 @@
-//! The punctuators of the language, as braces and operators: the bytes of one come in, what it is to the grammar goes out.
+//! The punctuators of the language, as braces and operators: the bytes of one come in, what it is
+//! to the grammar goes out.
 
 ghost use Rattle.snl_lex.specs.Kinds.{look_up, punctuators, punctuators_of_1, punctuators_of_2, punctuators_of_3};
 ghost use Rattle.std.specs.Prelude.{◌≡◌, [], ◌∷◌};

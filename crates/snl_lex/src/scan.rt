@@ -68,7 +68,8 @@ fn closed_piece(rest: &[u8], kind: Class, a: u8, b: u8) -> (Class, usize)
     }
 }
 
-/// Where a string's bytes end after its quote: before the quote that closes it, an LF that no backslash takes, or at the end.
+/// Where a string's bytes end after its quote: before the quote that closes it, an LF that no
+/// backslash takes, or at the end.
 pub fn string_end(bytes: &[u8], quote: u8) -> usize
     requires { 0 < length bytes.now }
     ensures end { result ≡ 1 + run_by (string_joins quote) [] (drop 1 bytes.now) }

@@ -7,8 +7,8 @@ ghost use Rattle.std.specs.Prelude.{◌≡◌, ◌≤◌, length};
 
 use crate::piece_list::TextEdit;
 
-/// An edit of a text, by its places: the bytes from `start` up to `old_stop` became those up to `new_stop`. So many line ends went
-/// with the ones and came with the others.
+/// An edit of a text, by its places: the bytes from `start` up to `old_stop` became those up to
+/// `new_stop`. So many line ends went with the ones and came with the others.
 #[derive(Clone, Copy, Debug, PartialEq, Eq)]
 pub struct Shift {
     pub start: usize,

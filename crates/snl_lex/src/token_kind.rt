@@ -10,7 +10,8 @@ use crate::punctuator::punctuator_kind;
 use crate::token_text;
 use crate::word::word_kind;
 
-/// What a token is to the grammar. White space, comments and markers are no tokens; they give `Bad`.
+/// What a token is to the grammar. White space, comments and markers are no tokens; they give
+/// `Bad`.
 #[tactic(auto, unfolding(crate::specs::Kinds::kind_of))]
 pub fn kind_of(text: &[u8], piece: Piece) -> Kind
     requires { piece.start + piece.len ≤ length text.now }

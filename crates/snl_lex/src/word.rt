@@ -1,5 +1,6 @@
 //! The words of the language: the bytes of a word come in, what it is to the grammar goes out.
-//! A word is looked for among the few that begin as it does: most names are told by their first byte and their length.
+//! A word is looked for among the few that begin as it does: most names are told by their first
+//! byte and their length.
 
 ghost use Rattle.snl_lex.specs.Kinds.{◌is◌, is_word, look_up, words, words_on};
 ghost use Rattle.std.specs.Prelude.{◌≡◌, [], ◌∷◌, codes, slice_index};

@@ -1,7 +1,8 @@
 -- What is known of bytes that were handed on to a sink.
 use Rattle.std.specs.Prelude.{◌≡◌, List, [], ◌++◌, ℕ, Result, MatchResult}
 
--- From one state to another a sink took just some bytes, or broke off after a front of them: how the two go together.
+-- From one state to another a sink took just some bytes, or broke off after a front of them: how
+-- the two go together.
 pub record IsSink {S : Type 0} (Took Broke : S → S → List ℕ → Type 0) : Type 0 where
   pub nothing : (s : S) → Took s s []
   pub more : (s t u : S) (xs ys : List ℕ) → Took s t xs → Took t u ys → Took s u (xs ++ ys)

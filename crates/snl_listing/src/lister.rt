@@ -29,7 +29,8 @@ impl Lister {
         })
     }
 
-    /// Writes the listing of the tables of a text, and takes no memory. It ends with the first fault of the sink.
+    /// Writes the listing of the tables of a text, and takes no memory. It ends with the first
+    /// fault of the sink.
     #[tactic(auto, unfolding(crate::specs::Listing::listing_of))]
     pub fn write<S: Sink>(
         mut self,

@@ -1,4 +1,5 @@
--- A replacement in two steps: as many items are overwritten as both sides have, and the rest is put in or taken away.
+-- A replacement in two steps: as many items are overwritten as both sides have, and the rest is put
+-- in or taken away.
 use Rattle.std.proofs.Common.{◌≡◌, ℕ, ◌+◌, ◌-◌, ◌<◌, ◌≤◌, List, ◌++◌, length, take, drop, sym, ap, ap₂, ◌∙◌, append_assoc, arith, length-append}
 use Rattle.std.proofs.lemmas.List.{take-append-drop, drop-drop, length-take-le}
 use Rattle.std.proofs.Math.Seq.{take-append_seam, drop-append-add}

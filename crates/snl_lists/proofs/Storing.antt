@@ -133,7 +133,8 @@ values_none kept [] n h after = refl
 values_none kept (k ∷ ks) zero h after = absurd (omega (arith, after))
 values_none kept (k ∷ ks) (suc n) h after = one_after (get kept k) (values_of kept ks) n h.0 ∙ values_none kept ks n h.1 (omega arith)
 
--- The same, where the four parts of the order are named: a front, what goes, what comes after, and the fresh keys.
+-- The same, where the four parts of the order are named: a front, what goes, what comes after, and
+-- the fresh keys.
 turned_parts : {T : Type 0} (old mid new : Slab T) (a r b f : List ℕ) (items : List T)
     → AreStored mid (a ++ (r ++ (b ++ f))) → IsDistinct (a ++ (r ++ (b ++ f))) → KeepsOthers mid new r
     → values_of mid a ≡ values_of old a → values_of mid b ≡ values_of old b → values_of mid f ≡ items

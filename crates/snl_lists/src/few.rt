@@ -6,7 +6,8 @@ use sqlite_items::{Boxed, Items};
 use std::alloc::{AllocError, Global};
 use std::marker::Model;
 
-/// A list that takes two words and no memory while it is empty. Contracts see the list of its values.
+/// A list that takes two words and no memory while it is empty. Contracts see the list of its
+/// values.
 #[derive(Drop)]
 pub struct Few<T> {
     held: Option<Boxed<Items<T>>>,

@@ -1,4 +1,5 @@
-//! Lists that change in place: a part is replaced, and what comes after it is moved. No memory is asked for.
+//! Lists that change in place: a part is replaced, and what comes after it is moved. No memory is
+//! asked for.
 
 ghost use Rattle.std.specs.Prelude.{◌≡◌, ℕ, ◌+◌, ◌-◌, ◌^◌, ◌<◌, ◌≤◌, ◌++◌, All, length, take, drop, map, slice_index, vec_len, vec_capacity};
 ghost use Rattle.snl_lists.specs.Moves.{moved, replaced, replaced_and_moved};
@@ -36,7 +37,8 @@ fn remove<T: Copy + Drop>(list: &mut Vec<T>, start: usize, stop: usize)
     list.truncate(len - (stop - start));
 }
 
-/// Puts other items in the place of those from `start` up to `stop`. There is room for them. What comes after moves once.
+/// Puts other items in the place of those from `start` up to `stop`. There is room for them. What
+/// comes after moves once.
 pub fn replace<T: Copy + Drop>(list: &mut Vec<T>, start: usize, stop: usize, made: &[T])
     requires range { start ≤ stop }
     requires within { stop ≤ vec_len list.old }
@@ -73,7 +75,8 @@ pub fn shift(places: &mut Vec<u32>, from: usize, old_stop: u32, new_stop: u32)
     shift_all(&mut places[from..], old_stop, new_stop);
 }
 
-/// Puts other places in the place of those from `start` up to `stop`, and moves those after, as the bytes from `old_stop` on are moved to `new_stop`. There is room for them.
+/// Puts other places in the place of those from `start` up to `stop`, and moves those after, as the
+/// bytes from `old_stop` on are moved to `new_stop`. There is room for them.
 pub fn replace_and_shift(
     places: &mut Vec<u32>,
     start: usize,

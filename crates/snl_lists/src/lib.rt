@@ -1,6 +1,6 @@
-//! Lists that change in place: a part of one is replaced, places are moved, values stay under their keys. All growth is asked
-//! for beforehand, so that no change can fail. Besides these, lists that take two words while they are empty. The crate knows
-//! nothing of what is listed.
+//! Lists that change in place: a part of one is replaced, places are moved, values stay under their
+//! keys. All growth is asked for beforehand, so that no change can fail. Besides these, lists that
+//! take two words while they are empty. The crate knows nothing of what is listed.
 #![tactic(auto)]
 
 mod few;

@@ -1,4 +1,5 @@
-//! Values in an order, under keys that stay: a part of them is replaced, and no other moves. It knows nothing of what they are.
+//! Values in an order, under keys that stay: a part of them is replaced, and no other moves. It
+//! knows nothing of what they are.
 
 ghost use Rattle.std.specs.Prelude.{◌≡◌, ℕ, ◌+◌, ◌-◌, ◌^◌, ◌<◌, ◌≤◌, ◌++◌, [], IfOk, OnOk, length, take, drop, vec_len, vec_capacity, slice_get, slice_set};
 ghost use Rattle.std.specs.Option.{option_copied};
@@ -9,7 +10,8 @@ use slab::Slab;
 use std::alloc::{AllocError, Global};
 use std::marker::Model;
 
-/// Values in an order, each under a key that it keeps. Contracts see the list of them, and how many more there is room for.
+/// Values in an order, each under a key that it keeps. Contracts see the list of them, and how many
+/// more there is room for.
 #[derive(Drop)]
 pub struct Ordered<T> {
     kept: Slab<T>,
@@ -42,7 +44,8 @@ fn remove_all<T: Drop>(kept: &mut Slab<T>, keys: &[usize])
     }
 }
 
-// Stores these values under keys that were vacant, and lists the keys after the others. No memory is asked for.
+// Stores these values under keys that were vacant, and lists the keys after the others. No memory
+// is asked for.
 fn store_all<T: Drop>(kept: &mut Slab<T>, keys: &mut Vec<usize>, items: Vec<T>)
     requires keyed { IsKeyed kept.old keys.old.items }
     requires room { 0 < vec_len items → HasRoomFor kept.old (vec_len items) }
@@ -155,7 +158,8 @@ impl<T> Ordered<T> {
 }
 
 impl<T: Drop> Ordered<T> {
-    /// Puts other values in the place of those from `start` up to `stop`. There is room for them, so it cannot fail.
+    /// Puts other values in the place of those from `start` up to `stop`. There is room for them,
+    /// so it cannot fail.
     pub fn replace(&mut self, start: usize, stop: usize, items: Vec<T>)
         requires range { start ≤ stop }
         requires within { stop ≤ length self.old.values }

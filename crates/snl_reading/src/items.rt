@@ -1,4 +1,5 @@
-//! Tokens come in, with where items end among them; the items go out, each with its tree. A faulty item has none.
+//! Tokens come in, with where items end among them; the items go out, each with its tree. A faulty
+//! item has none.
 
 ghost use Rattle.std.specs.Prelude.{◌≡◌, ℕ, All, IfOk, List, length};
 ghost use Rattle.snl_check.specs.Items.{EndsWithin, program_items};

@@ -1,5 +1,6 @@
-//! From the bytes of a text to its pieces, tokens, items, summaries, links, checks and tables, for tests and for programs that
-//! measure. Each function makes values of one kind and borrows the others. There is no code of the product here.
+//! From the bytes of a text to its pieces, tokens, items, summaries, links, checks and tables, for
+//! tests and for programs that measure. Each function makes values of one kind and borrows the
+//! others. There is no code of the product here.
 #![tactic(auto)]
 
 mod checking;

@@ -1,4 +1,5 @@
-//! The items of a text come in; what each says to the others, and what names mean among them, go out.
+//! The items of a text come in; what each says to the others, and what names mean among them, go
+//! out.
 
 ghost use Rattle.std.specs.Prelude.{◌≡◌, All, IfOk, length, map};
 ghost use Rattle.snl_check.specs.Items.{EndsWithin, outlines_of, summary_of_item};

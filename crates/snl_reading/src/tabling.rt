@@ -46,7 +46,8 @@ pub fn borrowed_checks(
     Ok(borrowed)
 }
 
-/// The tables of a text, by its pieces, and by its items, which end at these tokens, their links and their checks.
+/// The tables of a text, by its pieces, and by its items, which end at these tokens, their links
+/// and their checks.
 pub fn tables_of(
     alloc: Global,
     text: &[u8],

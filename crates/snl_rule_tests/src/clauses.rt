@@ -1,4 +1,5 @@
-//! Texts with what is found at their clauses, and with what these say of variables and channels, told from the language's rules.
+//! Texts with what is found at their clauses, and with what these say of variables and channels,
+//! told from the language's rules.
 
 use crate::questions::{Question, Row, expect_answers};
 use std::test::Fail;
@@ -68,8 +69,9 @@ static ASSIGNED: [Row; 5] = [
     (Question::Assigned(0, b"e"), b"unassigned"),
 ];
 
-// Declarations 0 to 3 are `a`, `b`, `c` and `f`. Clauses are numbered from the first `assign` on: the `sync` of `c` names no
-// event flag, the `monitor` of `a[5]` is beyond the length, and the last `syncq` comes too late.
+// Declarations 0 to 3 are `a`, `b`, `c` and `f`. Clauses are numbered from the first `assign` on:
+// the `sync` of `c` names no event flag, the `monitor` of `a[5]` is beyond the length, and the last
+// `syncq` comes too late.
 static CHANNELS: &[u8] =
     b"int a[4], b, c[2];\nassign a to {\"p\", \"q\"};\nassign a[2] to \"r\";\nassign b;\nassign c to \"v\";\nmonitor a[1];\nmonitor b;\nmonitor c[0];\nevflag f;\nsync a[2] to f;\nsyncq a[0];\nsync c to b;\nmonitor a[5];\nsync b to f;\nsyncq c;\nsyncq b;";
 

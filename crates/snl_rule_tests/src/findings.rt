@@ -95,7 +95,8 @@ fn told_in(alloc: Global, text: &[u8]) -> Result<Told, Fail> {
     told_along(alloc, text, &tokens, &ends)
 }
 
-// What comes before the items of most tables: a state set that has a state `z`, after a declaration.
+// What comes before the items of most tables: a state set that has a state `z`, after a
+// declaration.
 const BEFORE: &[u8] = b"int y; ss s { state z { } ";
 
 fn expect_row(rt: &impl Abort, alloc: Global, before: &[u8], row: &Row) -> Result<(), Fail> {

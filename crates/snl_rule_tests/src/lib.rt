@@ -1,6 +1,8 @@
-//! Tests of the rules on names, on what is inside items and on tables, from the bytes of a text on. There is no code of the product here.
+//! Tests of the rules on names, on what is inside items and on tables, from the bytes of a text on.
+//! There is no code of the product here.
 //!
-//! Tables hold texts, or items alone, and the answers that the language's rules give, as words, reckoned by hand.
+//! Tables hold texts, or items alone, and the answers that the language's rules give, as words,
+//! reckoned by hand.
 #![tactic(auto)]
 
 #[cfg(test)]

@@ -32,7 +32,8 @@ fn what_is_found_by_order_and_names(rt: HostRuntime) -> Result<(), Fail> {
     Ok(())
 }
 
-// A code, its name, its message, whether it is an error, and how many bytes it quotes of a token of seven.
+// A code, its name, its message, whether it is an error, and how many bytes it quotes of a token of
+// seven.
 static CODES: [(Code, &str, &str, bool, usize); 6] = [
     (Code::E06, "E06", "state set or state is missing", true, 0),
     (Code::E10, "E10", "unknown state", true, 7),

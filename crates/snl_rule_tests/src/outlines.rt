@@ -1,5 +1,6 @@
-//! Two texts of as many items: whether each item says the same to the others in both, what it sees of the others, and the
-//! findings where the kinds of the second are put into the links of the first.
+//! Two texts of as many items: whether each item says the same to the others in both, what it sees
+//! of the others, and the findings where the kinds of the second are put into the links of the
+//! first.
 
 ghost use Rattle.std.specs.Prelude.{◌≡◌, IfOk, length};
 
@@ -10,7 +11,8 @@ use std::alloc::Global;
 use std::process::Abort;
 use std::test::Fail;
 
-/// Two texts, whether their outlines are the same, and of each item whether it sees the same: a letter each, y or n.
+/// Two texts, whether their outlines are the same, and of each item whether it sees the same: a
+/// letter each, y or n.
 type Row = (&'static [u8], &'static [u8], bool, &'static [u8]);
 
 static EDITS: [Row; 9] = [
@@ -189,8 +191,8 @@ fn what_an_edit_leaves_as_it_was(rt: HostRuntime) -> Result<(), Fail> {
     Ok(())
 }
 
-/// An item in the place of another, another item, and whether it touches a name that they speak of; or that they bound other state
-/// sets.
+/// An item in the place of another, another item, and whether it touches a name that they speak of;
+/// or that they bound other state sets.
 type NameRow = (&'static [u8], &'static [u8], &'static [u8], u8);
 
 static NAMES: [NameRow; 8] = [
@@ -256,7 +258,8 @@ fn touches_all(edited: &EditedNames, summaries: &[Summary]) -> bool {
     summaries.iter().all(|summary| edited.touch(summary))
 }
 
-// Whether the items of a text touch the names that two others speak of, or `-` where these bound other state sets.
+// Whether the items of a text touch the names that two others speak of, or `-` where these bound
+// other state sets.
 fn touched(alloc: Global, old: &[Summary], new: &[Summary], items: &[Summary]) -> Result<u8, Fail> {
     let old = outlines_of(alloc, old)?;
     let new = outlines_of(alloc, new)?;

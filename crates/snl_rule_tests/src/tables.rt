@@ -1,4 +1,5 @@
-//! Texts with the listing of the tables that are made by their pieces, told from the language's rules.
+//! Texts with the listing of the tables that are made by their pieces, told from the language's
+//! rules.
 
 use snl_listing::listing;
 use snl_reading::tables_in;

@@ -64,7 +64,8 @@ pub fn clause_letter(kind: ClauseKind) -> u8 {
     }
 }
 
-/// Adds what a clause covers: `..` for all, or a sign before the element, or before how many from the first on.
+/// Adds what a clause covers: `..` for all, or a sign before the element, or before how many from
+/// the first on.
 pub fn add_coverage(coverage: Coverage, words: &mut Vec<u8>) -> Result<(), Fail> {
     match coverage {
         Coverage::Whole => Ok(words.extend_from_slice(b"..")?),

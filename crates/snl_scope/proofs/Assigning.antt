@@ -1,4 +1,5 @@
--- Lemmas on what declarations are assigned to: what one more clause is to the table that follows them.
+-- Lemmas on what declarations are assigned to: what one more clause is to the table that follows
+-- them.
 use Rattle.std.proofs.Common.{◌≡◌, ℕ, Bool, true, false, ◌&&◌, ◌||◌, cond, List, [], ◌∷◌, ◌++◌, nat_eq, Option, None, Some, is_none, is_some, refl, sym, ap, ◌∙◌, true≢false, if◌then◌else◌}
 use Rattle.std.proofs.lemmas.Bool.Decides.{Decides-eqb}
 use Rattle.std.specs.List.{list_any}

@@ -1,4 +1,5 @@
--- The value of a struct without fields, and that it owns nothing: what the proofs of `src/names/ghost_outlines.rt` share.
+-- The value of a struct without fields, and that it owns nothing: what the proofs of
+-- `src/names/ghost_outlines.rt` share.
 use Rattle.std.proofs.Common.{List, [], ◌∷◌, refl}
 use seplogic.Ra.Ura.{Ura}
 use mir.Val.{Val, vstruct, vnil}

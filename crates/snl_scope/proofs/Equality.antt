@@ -1,4 +1,5 @@
--- Spaces and keys are the same where their tests say so, and the tests are those that the code derives.
+-- Spaces and keys are the same where their tests say so, and the tests are those that the code
+-- derives.
 use Rattle.std.proofs.Common.{◌≡◌, ℕ, Bool, true, false, ◌&&◌, List, nat_eq, refl, sym, ap, ◌∙◌, true≢false}
 use Rattle.std.specs.Str.{bytes_eq}
 use Rattle.std.proofs.lemmas.Bool.Decides.{Decides-eqb}

@@ -1,4 +1,5 @@
--- Findings that differ, by their items and by the families of their codes: those of order, of names, and of clauses.
+-- Findings that differ, by their items and by the families of their codes: those of order, of
+-- names, and of clauses.
 use Rattle.std.proofs.Common.{◌≡◌, ◌≢◌, ℕ, ◌<◌, ◌≤◌, List, ◌++◌, ap, arith}
 use Rattle.std.specs.List.{AllByRecursion as Each}
 use Rattle.snl_walk.specs.declared.codes.Code.{Code}
@@ -6,8 +7,8 @@ use Rattle.snl_walk.specs.declared.codes.Code.TheVariants.{E03, E04, E05, E06, E
 use Rattle.snl_scope.specs.declared.facts.LinkFault.{LinkFault}
 use Rattle.snl_scope.proofs.Pairs.{EachTwo, each_weaker, two_parts}
 
--- A number for each of the codes of order and of names, and for those of clauses one at variables and one at flags. The links have
--- no others.
+-- A number for each of the codes of order and of names, and for those of clauses one at variables
+-- and one at flags. The links have no others.
 abbrev pub rank : Code → ℕ
 rank E03 = 3
 rank E04 = 4

@@ -1,4 +1,5 @@
--- Lemmas on the first clause that makes a claim: what a further claim and a further clause are to the table of them.
+-- Lemmas on the first clause that makes a claim: what a further claim and a further clause are to
+-- the table of them.
 use Rattle.std.proofs.Common.{◌≡◌, ℕ, Bool, true, false, ◌&&◌, ◌||◌, cond, List, [], ◌∷◌, ◌++◌, length, filter, map, nat_eq, Option, None, Some, is_some, refl, sym, ap, ◌∙◌, true≢false, if◌then◌else◌}
 use Rattle.std.proofs.Math.Bool.{and_assoc}
 use Rattle.std.proofs.lemmas.Bool.Decides.{Decides-eqb}

@@ -1,4 +1,5 @@
--- The first entry of a name in a namespace, told apart from its number: it is the first among the entries of that name alone.
+-- The first entry of a name in a namespace, told apart from its number: it is the first among the
+-- entries of that name alone.
 use Rattle.std.proofs.Common.{◌≡◌, ℕ, suc, ◌+◌, Bool, true, false, not, ◌&&◌, cond, List, [], ◌∷◌, filter, length, nat_lt, Option, None, Some, slice_get, ◌⊎◌, inl, inr, refl, ap, ◌∙◌, arith}
 use Rattle.std.specs.List.{position, position_or_len}
 use Rattle.std.specs.Option.{option_map}

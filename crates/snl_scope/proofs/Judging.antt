@@ -10,7 +10,8 @@ use Rattle.snl_scope.specs.Claims.{sound_among}
 use Rattle.snl_scope.specs.Clauses.{LinkedClause, clause_link, found_after, found_at, is_assign, is_assignable, is_sound, misfits, repetition_code, sound_after, soundness_after, with_clause}
 use Rattle.snl_scope.specs.Names.{Entry}
 
--- what a clause gives at its variable, where it is known whether that is assigned and whether the clause overlaps one
+-- what a clause gives at its variable, where it is known whether that is assigned and whether the
+-- clause overlaps one
 abbrev pub code_by : LinkedClause → Variable → Bool → Bool → Option Code
 code_by c v is_assigned is_repeated =
     if is_assign c.clause.kind && not (is_assignable v.symbol_kind) then Some E15

@@ -1,4 +1,5 @@
--- The names that an item declares, and those of its clauses, are leaves of what its tree spells, in their order.
+-- The names that an item declares, and those of its clauses, are leaves of what its tree spells, in
+-- their order.
 use Rattle.std.proofs.Common.{◌≡◌, ℕ, List, [], ◌∷◌, ◌++◌, map, Option, None, Some, refl, sym, subst}
 use Rattle.std.proofs.lemmas.Grind.{flat_map-append}
 use Rattle.std.proofs.lemmas.List.{append-nil, map-append}

@@ -1,4 +1,5 @@
--- The name of an item is a leaf of what its tree spells, and leaves are tokens of the item; so its targets are, as all that is found in it.
+-- The name of an item is a leaf of what its tree spells, and leaves are tokens of the item; so its
+-- targets are, as all that is found in it.
 use Rattle.std.proofs.Common.{◌≡◌, ℕ, suc, ◌+◌, ◌<◌, List, [], ◌∷◌, ◌++◌, length, map, None, Some, subst, arith}
 use Rattle.std.proofs.lemmas.List.{length-map}
 use Rattle.std.specs.List.{All, AllByRecursion as Each}

@@ -1,4 +1,5 @@
--- The tokens of some of the occurrences: what holds of the tokens of all, and that they rise where all do.
+-- The tokens of some of the occurrences: what holds of the tokens of all, and that they rise where
+-- all do.
 use Rattle.std.proofs.Common.{◌≡◌, ℕ, ◌<◌, Bool, true, false, cond, filter, List, [], ◌∷◌, map, refl, ap}
 use Rattle.std.proofs.lemmas.List.Elements.{recursion_from_All}
 use Rattle.std.specs.List.{All, AllByRecursion as Each}

@@ -1,4 +1,5 @@
--- The outline of an item speaks of tokens of the item alone, and one that begins a state set begins with `ss`.
+-- The outline of an item speaks of tokens of the item alone, and one that begins a state set begins
+-- with `ss`.
 use Rattle.std.proofs.Common.{◌≡◌, ℕ, ◌<◌, Bool, true, false, List, [], ◌∷◌, length, None, Some, is_some, sym, subst, arith}
 use Rattle.std.specs.List.{AllByRecursion as Each}
 use Rattle.std.proofs.lemmas.Bool.{false≢true}

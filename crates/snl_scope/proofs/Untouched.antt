@@ -1,4 +1,5 @@
--- What a name means is the same where other items take the place of some that speak as little of it, and bound the same state sets.
+-- What a name means is the same where other items take the place of some that speak as little of
+-- it, and bound the same state sets.
 use Rattle.std.proofs.Common.{◌≡◌, ℕ, zero, suc, Bool, true, false, ◌&&◌, ◌||◌, not, cond, if◌then◌else◌, List, [], ◌∷◌, ◌++◌, length, map, nat_eq, nat_lt, Option, None, Some, is_some, slice_get, ◌⊎◌, inl, inr, refl, sym, ap, ap₂, subst, ◌∙◌, true≢false}
 use Rattle.std.specs.List.{list_any}
 use Rattle.std.specs.Option.{option_and_then, option_map, option_map_or, option_or, option_to_list, unwrap_or}
@@ -184,7 +185,8 @@ module _ (es : List Entry) (name : List ℕ) (s : Namespace) (a : ℕ) (found : 
               not_same a o.0 (λ e. true≢false (sym (namespace_same s) ∙ ap (same_namespace s) (same_key t name o.0 w.1 o.1 (present w.1 w.0 w.2) o.2 e).0 ∙ h))
               ∙ sym h
 
--- Whether a name that is in these namespaces means the one in a namespace, from an item with a place.
+-- Whether a name that is in these namespaces means the one in a namespace, from an item with a
+-- place.
 abbrev means_in : (Namespace → Bool) → Namespace → Option ℕ → Bool
 means_in known s None = known namespace.Program && same_namespace s namespace.Program
 means_in known s (Some k) = if known (namespace.StateSet k) then same_namespace s (namespace.StateSet k) else known namespace.Program && same_namespace s namespace.Program
@@ -298,7 +300,8 @@ module _ (name : List ℕ) (ss ts : List Outline) (places : bounds ss ≡ bounds
       ∙ ap (first (λ e. same_namespace s e.namespace)) (entries_same (length ss) ∙ ap (λ (n : ℕ). of_name name (entries_before ts n)) (as_many ss ts places))
       ∙ sym (first-of_name s name (entries ts))
 
-  -- the first entry of the name in a namespace, where there is one, is the same, whatever number it has
+  -- the first entry of the name in a namespace, where there is one, is the same, whatever number it
+  -- has
   record Matched (s : Namespace) : Type 0 where
     before : ℕ
     now : ℕ

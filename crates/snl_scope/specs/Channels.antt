@@ -1,5 +1,6 @@
--- What the sound clauses of a text say of the channels of a variable: which of them are monitored, and which `sync` or `syncq`
--- speaks of each. A channel is that of one element, or of the whole variable.
+-- What the sound clauses of a text say of the channels of a variable: which of them are monitored,
+-- and which `sync` or `syncq` speaks of each. A channel is that of one element, or of the whole
+-- variable.
 use Rattle.std.specs.Prelude.{ℕ, Bool, true, false, ◌&&◌, List, nat_eq, nat_lt, Option, None, Some, position}
 use Rattle.std.specs.List.{list_any, zip}
 use Rattle.snl_scope.specs.declared.summaries.summary.ClauseKind.{ClauseKind}
@@ -9,7 +10,8 @@ use Rattle.snl_scope.specs.declared.summaries.summary.Coverage.TheVariants as co
 use Rattle.snl_scope.specs.declared.summaries.summary.Outline.{Outline}
 use Rattle.snl_scope.specs.Clauses.{LinkedClause, clauses_of, same_number, sound_clauses, soundness}
 
--- The clause speaks of the channel: any clause of that of the whole variable, of that of an element one that covers it.
+-- The clause speaks of the channel: any clause of that of the whole variable, of that of an element
+-- one that covers it.
 abbrev pub speaks_of : Coverage → Option ℕ → Bool
 speaks_of _ None = true
 speaks_of coverage.Whole (Some e) = true

@@ -1,4 +1,5 @@
--- The claims that sound clauses make on variables, by which an overlap with them is told, and what they say of channels.
+-- The claims that sound clauses make on variables, by which an overlap with them is told, and what
+-- they say of channels.
 use Rattle.std.specs.Prelude.{◌≡◌, ℕ, Bool, true, false, ◌&&◌, ◌||◌, if◌then◌else◌, List, filter, map, nat_eq, nat_lt, slice_get, Option, None, Some, is_some, option_and_then, position}
 use Rattle.std.specs.Map.{lookup}
 use Rattle.std.specs.Option.{option_map_or, option_or}
@@ -40,7 +41,8 @@ same_extent _ _ = false
 abbrev pub same_claim : Claim → Claim → Bool
 same_claim a b = same_purpose a.purpose b.purpose && nat_eq a.variable b.variable && same_extent a.extent b.extent
 
--- Every clause claims anything at all; one that covers the whole claims that, any other the elements that it covers.
+-- Every clause claims anything at all; one that covers the whole claims that, any other the
+-- elements that it covers.
 abbrev pub claims : Coverage → Extent → Bool
 claims _ extent.Any = true
 claims coverage.Whole extent.Whole = true
@@ -110,11 +112,13 @@ pub record AddsOn (old new : ClauseIndex) (one : Claim) (number : ℕ) : Type 0 
       ≡ (if same_purpose one.purpose p && nat_eq one.variable v then with_extent (extents_on old.places.items old.claimed.items v p) one.extent number else extents_on old.places.items old.claimed.items v p)
   pub elements : new.elements ≡ old.elements
 
--- The claims are those that the sound ones among these clauses make, each with the number of the first that makes it.
+-- The claims are those that the sound ones among these clauses make, each with the number of the
+-- first that makes it.
 pub record Claimed (held : ClauseIndex) (judged : List (LinkedClause × Bool)) : Type 0 where
   pub each : (m : Claim) → claim_in held m ≡ position (λ p. p.1 && makes p.0 m) judged
 
--- The clause with this number makes the claims that pass the test; an earlier one that made a claim stays the first.
+-- The clause with this number makes the claims that pass the test; an earlier one that made a claim
+-- stays the first.
 pub record Adds (before after : ClauseIndex) (made : Claim → Bool) (number : ℕ) : Type 0 where
   pub each : (m : Claim) → claim_in after m ≡ option_or (claim_in before m) (if made m then Some number else None)
 
@@ -125,8 +129,8 @@ claim_number held p variable e = claim_in held (record { purpose = p; variable =
 abbrev pub has_claim : ClauseIndex → Purpose → ℕ → Extent → Bool
 has_claim held p variable e = is_some (claim_number held p variable e)
 
--- A clause with this coverage overlaps one that made its claims: whatever covers the whole overlaps any, and an element
--- one that covers it or the whole.
+-- A clause with this coverage overlaps one that made its claims: whatever covers the whole overlaps
+-- any, and an element one that covers it or the whole.
 abbrev pub overlaps_claims : ClauseIndex → Purpose → ℕ → Coverage → Bool
 overlaps_claims held p variable coverage.Whole = has_claim held p variable extent.Any
 overlaps_claims held p variable (coverage.Element k) = has_claim held p variable extent.Whole || has_claim held p variable (extent.Element k)
@@ -137,8 +141,8 @@ lesser None b = b
 lesser (Some a) None = Some a
 lesser (Some a) (Some b) = if nat_lt b a then Some b else Some a
 
--- The number of the first clause that speaks of a channel: any clause speaks of that of the whole variable, and of that of
--- an element one that covers the whole or the element.
+-- The number of the first clause that speaks of a channel: any clause speaks of that of the whole
+-- variable, and of that of an element one that covers the whole or the element.
 abbrev pub first_clause : ClauseIndex → Purpose → ℕ → Option ℕ → Option ℕ
 first_clause held p variable None = claim_number held p variable extent.Any
 first_clause held p variable (Some e) = lesser (claim_number held p variable extent.Whole) (claim_number held p variable (extent.Element e))

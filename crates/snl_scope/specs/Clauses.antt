@@ -1,4 +1,5 @@
--- The clauses of a text: what their names resolve to, which of them are sound, and what is found at them.
+-- The clauses of a text: what their names resolve to, which of them are sound, and what is found at
+-- them.
 use Rattle.std.specs.Prelude.{ℕ, zero, suc, Bool, true, false, not, ◌&&◌, if◌then◌else◌, List, [], ◌∷◌, ◌++◌, map, length, slice_get, nat_eq, nat_lt, Option, None, Some, is_some, option_and_then, option_to_list}
 use Rattle.std.specs.List.{list_any, zip}
 use Rattle.std.specs.Option.{option_map_or, option_or}
@@ -25,12 +26,13 @@ use Rattle.snl_walk.specs.Codes.{is_error}
 use Rattle.snl_scope.specs.Names.{Entry, entries, number_in, resolve}
 use Rattle.snl_scope.specs.Places.{enclosing_set}
 
--- The number of the entry that a name outside the blocks of item i resolves to. A state's own scope comes first; an item
--- that is none has nothing in such a scope.
+-- The number of the entry that a name outside the blocks of item i resolves to. A state's own scope
+-- comes first; an item that is none has nothing in such a scope.
 abbrev pub resolve_in : List Outline → ℕ → List ℕ → Option ℕ
 resolve_in ss i name = option_or (number_in (entries ss) (namespace.State i) name) (resolve (entries ss) (enclosing_set ss i) name)
 
--- A clause in a text: the item that it is in, and the numbers of the entries that its variable and its flag resolve to.
+-- A clause in a text: the item that it is in, and the numbers of the entries that its variable and
+-- its flag resolve to.
 pub record LinkedClause : Type 0 where
   pub item : ℕ
   pub clause : VariableClause
@@ -86,8 +88,8 @@ abbrev pub is_event_flag : SymbolKind → Bool
 is_event_flag symbol_kind.EventFlag = true
 is_event_flag _ = false
 
--- What a clause covers does not fit the variable: a subscript or a list on a plain one, a subscript that is not below the
--- known length, or a list that is longer.
+-- What a clause covers does not fit the variable: a subscript or a list on a plain one, a subscript
+-- that is not below the known length, or a list that is longer.
 abbrev pub misfits : Dims → Coverage → Bool
 misfits dims coverage.Whole = false
 misfits dims.Plain _ = true
@@ -119,7 +121,8 @@ repetition_code kind.Monitor = W05
 repetition_code kind.Sync = E22
 repetition_code kind.Syncq = E22
 
--- What a clause gives at its variable, by the clauses of the text and the sound ones before it: the first rule that holds.
+-- What a clause gives at its variable, by the clauses of the text and the sound ones before it: the
+-- first rule that holds.
 abbrev pub code_on : List LinkedClause → List LinkedClause → LinkedClause → Variable → Option Code
 code_on cs sound c v =
     if is_assign c.clause.kind && not (is_assignable v.symbol_kind) then Some E15
@@ -202,7 +205,8 @@ abbrev pub assigned_as : Coverage → Assigned
 assigned_as coverage.Whole = assigned.Whole
 assigned_as _ = assigned.Elements
 
--- To what the declaration with a number is assigned: the first of its `assign` clauses says it, sound or not.
+-- To what the declaration with a number is assigned: the first of its `assign` clauses says it,
+-- sound or not.
 abbrev pub assigned_by : List LinkedClause → ℕ → Assigned
 assigned_by [] number = assigned.Unassigned
 assigned_by (c ∷ cs) number = if assigns (Some number) c then assigned_as c.clause.coverage else assigned_by cs number

@@ -10,7 +10,8 @@ use Rattle.snl_scope.specs.Once.{declared_tokens, flag_tokens, variable_tokens}
 use Rattle.snl_scope.specs.Order.{is_program_word, is_ss_word}
 use Rattle.snl_scope.specs.Places.{begins_set}
 
--- All that an outline speaks of is at the first so many tokens. An item that begins a state set begins with `ss`.
+-- All that an outline speaks of is at the first so many tokens. An item that begins a state set
+-- begins with `ss`.
 pub record SpeaksOfTokens (count : ℕ) (s : Outline) : Type 0 where
   pub first : 0 < count
   pub second : is_some s.second ≡ true → 1 < count
@@ -24,8 +25,9 @@ pub record DeclaresOutside (token : ℕ) (s : Outline) : Type 0 where
   pub outside : has_own_scope s.role ≡ false
   pub declared : Contains (declared_tokens s) token
 
--- A finding at one of the tokens of an item, with a code of the links: E05 at one that begins with `program`, E06 at one that begins with `ss`, and E07 at a
--- name that it declares in a scope that isn't its own.
+-- A finding at one of the tokens of an item, with a code of the links: E05 at one that begins with
+-- `program`, E06 at one that begins with `ss`, and E07 at a name that it declares in a scope that
+-- isn't its own.
 pub record IsAtItem (count : ℕ) (s : Outline) (f : LinkFault) : Type 0 where
   pub token : f.token < count
   pub code : is_link_code f.code ≡ true
@@ -37,7 +39,8 @@ pub record IsAtItem (count : ℕ) (s : Outline) (f : LinkFault) : Type 0 where
 abbrev pub NoneIs : (Outline → Bool) → List Outline → Type 0
 NoneIs test ss = (i : ℕ) (s : Outline) → slice_get ss i ≡ Some s → test s ≡ false
 
--- A finding of what is missing altogether: E05 where no item begins with `program`, E06 where none begins with `ss`.
+-- A finding of what is missing altogether: E05 where no item begins with `program`, E06 where none
+-- begins with `ss`.
 pub record IsMissing (ss : List Outline) (f : LinkFault) : Type 0 where
   pub item : f.item ≡ length ss
   pub token : f.token ≡ 0

@@ -164,8 +164,8 @@ pub record Tabled (names : List (List ℕ)) (first : FirstNumbers) (symbols : Li
   pub inner : TellsInner first
   pub known : symbols ≡ map symbol_of es
 
--- And more can be added, with findings at the names that came again. The table of the first has them in the order in
--- which they came.
+-- And more can be added, with findings at the names that came again. The table of the first has
+-- them in the order in which they came.
 pub record Follows (names : List (List ℕ)) (first : FirstNumbers) (symbols : List Symbol) (faults : List LinkFault) (es : List Entry) : Type 0 where
   pub tabled : Tabled names first symbols es
   pub fresh : (s : Namespace) (n : ℕ) → length names ≤ n → number_under first s n ≡ None

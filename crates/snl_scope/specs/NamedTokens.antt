@@ -11,14 +11,16 @@ use Rattle.snl_walk.specs.Items.{occurrences}
 use Rattle.snl_walk.specs.Tokens.{token_bytes}
 use Rattle.snl_walk.specs.Uses.{targets}
 
--- The token that names an item, if it has a name of its own: that of a state set and of a state is the second one.
+-- The token that names an item, if it has a name of its own: that of a state set and of a state is
+-- the second one.
 abbrev pub own_name : Item → List ℕ
 own_name (items.Header name parameters) = name ∷ []
 own_name (items.SsBegin name) = 1 ∷ []
 own_name (items.StateBlock name ms) = 1 ∷ []
 own_name _ = []
 
--- The name of the item, the names that it declares, the variables of its clauses and its targets are at tokens of its own.
+-- The name of the item, the names that it declares, the variables of its clauses and its targets
+-- are at tokens of its own.
 pub record NamesItsTokens (text : List ℕ) (tokens : List Piece) (t : Item) : Type 0 where
   pub own : AllByRecursion (λ number. number < length tokens) (own_name t)
   pub declared : AllByRecursion (λ d. d.token < length tokens) (declared_in_tree text tokens t)

@@ -16,7 +16,8 @@ use Rattle.snl_scope.specs.LinkedItems.{LinkedItems}
 use Rattle.snl_scope.specs.Order.{is_faulty, state_name}
 use Rattle.snl_scope.specs.Places.{begins_set, enclosing_set}
 
--- A name that an item brings into a namespace. `code` is what it gives where an earlier one has the name, if anything;
+-- A name that an item brings into a namespace. `code` is what it gives where an earlier one has the
+-- name, if anything;
 -- `variable` is what a declaration says of it.
 pub record Entry : Type 0 where
   pub namespace : Namespace
@@ -90,8 +91,8 @@ has_name s name e = same_namespace s e.namespace && bytes_eq name e.name
 abbrev pub number_in : List Entry → Namespace → List ℕ → Option ℕ
 number_in es s name = position (has_name s name) es
 
--- The number of the entry that a name resolves to from where the items of a place are: the first declaration in the
--- state set, else the first in the program.
+-- The number of the entry that a name resolves to from where the items of a place are: the first
+-- declaration in the state set, else the first in the program.
 abbrev pub resolve : List Entry → Option ℕ → List ℕ → Option ℕ
 resolve es None name = number_in es namespace.Program name
 resolve es (Some k) name = option_or (number_in es (namespace.StateSet k) name) (number_in es namespace.Program name)
@@ -108,11 +109,12 @@ abbrev pub repetitions : List Entry → List Entry → List LinkFault
 repetitions earlier [] = []
 repetitions earlier (e ∷ es) = repetition earlier e ++ repetitions (earlier ++ e ∷ []) es
 
--- A faulty state has its name, but gives no finding of its own: what is found at an item is told if it isn't faulty.
+-- A faulty state has its name, but gives no finding of its own: what is found at an item is told if
+-- it isn't faulty.
 abbrev pub told_by : List ItemKind → LinkFault → Bool
 told_by ks f = not (option_map_or is_faulty (slice_get ks f.item) false)
 
--- E07, E08 and E09: each second or later declaration of a name in the scope of the program or of a state set, state set
--- of a name, and state of a name in its state set.
+-- E07, E08 and E09: each second or later declaration of a name in the scope of the program or of a
+-- state set, state set of a name, and state of a name in its state set.
 abbrev pub name_faults : LinkedItems → List LinkFault
 name_faults l = filter (told_by l.kinds) (repetitions [] (entries l.outlines))

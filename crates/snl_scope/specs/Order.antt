@@ -57,8 +57,8 @@ is_main _ = false
 abbrev pub part_phase : Bool → Option ℕ
 part_phase begun = Some (if begun then 5 else 1)
 
--- The phase of an item at program level, where it is known whether an item of phase 2, 3 or 4 is before it.
--- States, C code, `}`, the empty item and faulty items have none.
+-- The phase of an item at program level, where it is known whether an item of phase 2, 3 or 4 is
+-- before it. States, C code, `}`, the empty item and faulty items have none.
 abbrev pub phase_of : Bool → ItemKind → Option ℕ
 phase_of begun kind.Header = Some 0
 phase_of begun kind.Entry = Some 2

@@ -33,7 +33,8 @@ ends_between ss k i = any_below (λ j. nat_lt k j && is_set_end ss j) i
 abbrev pub open_before : List Outline → ℕ → Option ℕ
 open_before ss i = last_below (λ k. is_set_begin ss k && not (ends_between ss k i)) i
 
--- The state set that an item is in, by the number of its `ss NAME {` item; None is program level, where each
+-- The state set that an item is in, by the number of its `ss NAME {` item; None is program level,
+-- where each
 -- `ss NAME {` item itself is.
 abbrev pub enclosing_set : List Outline → ℕ → Option ℕ
 enclosing_set ss i = if item_is (λ s. not (begins_set s.role)) ss i then open_before ss i else None

@@ -10,8 +10,8 @@ abbrev pub last_with : List (List ℕ) → ℕ → ℕ → Option ℕ
 last_with names print zero = None
 last_with names print (suc n) = if print_of (get_or names n []) == print then Some n else last_with names print n
 
--- The names are different, and found by their prints: `last` has the number of the last one with each print, and `earlier` for each name that of the one
--- before it with the same print.
+-- The names are different, and found by their prints: `last` has the number of the last one with
+-- each print, and `earlier` for each name that of the one before it with the same print.
 pub record AreFound (names : List (List ℕ)) (earlier : List (Option ℕ)) (last : List (ℕ × ℕ)) : Type 0 where
   pub count : length earlier ≡ length names
   pub different : (n : ℕ) → n < length names → position (bytes_eq (get_or names n [])) names ≡ Some n

@@ -1,4 +1,5 @@
--- How the clauses that the code has resolved, and the table of what is assigned, follow the clauses of a text.
+-- How the clauses that the code has resolved, and the table of what is assigned, follow the clauses
+-- of a text.
 use Rattle.std.specs.Prelude.{◌≡◌, ℕ, if◌then◌else◌, List, [], ◌∷◌, Option, None, Some}
 use Rattle.snl_scope.specs.declared.facts.Assigned.{Assigned}
 use Rattle.snl_scope.specs.declared.clauses.resolved.Resolved.{Resolved}

@@ -1,4 +1,5 @@
--- The names that items speak of to the others. An item that uses none of them sees the same wherever these items take the place of those.
+-- The names that items speak of to the others. An item that uses none of them sees the same
+-- wherever these items take the place of those.
 use Rattle.std.specs.Prelude.{◌≡◌, ℕ, Bool, false, ◌||◌, List, ◌++◌, map, bytes_eq, option_to_list}
 use Rattle.std.specs.List.{flat_map, list_any}
 use Rattle.snl_scope.specs.declared.summaries.summary.Outline.{Outline}
@@ -22,7 +23,8 @@ bound r = r
 abbrev pub bounds : List Outline → List Role
 bounds ss = map (λ s. bound s.role) ss
 
--- The names that items speak of and those that others do in their place, which bound as many state sets, one by one.
+-- The names that items speak of and those that others do in their place, which bound as many state
+-- sets, one by one.
 pub record AreEditedNames (old new : List Outline) (names : List (List ℕ)) : Type 0 where
   pub places : bounds old ≡ bounds new
   pub spoken : names ≡ spoken_by old ++ spoken_by new

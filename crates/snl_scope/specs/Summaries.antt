@@ -76,8 +76,9 @@ name_if text (Some piece) = name_by piece.kind (bytes_of text piece)
 abbrev pub second_in : List ℕ → List Piece → Option (List ℕ)
 second_in text tokens = name_if text (slice_get tokens 1)
 
--- What an item of a kind is to the others, where it is known whether it has declarations or clauses. Only a state that has
--- some is told from other items: a plain one is the same to them while it is faulty.
+-- What an item of a kind is to the others, where it is known whether it has declarations or
+-- clauses. Only a state that has some is told from other items: a plain one is the same to them
+-- while it is faulty.
 abbrev pub role_of : ItemKind → Bool → Role
 role_of kinds.SsBegin has_some = roles.SetBegin
 role_of kinds.SsEnd has_some = roles.SetEnd

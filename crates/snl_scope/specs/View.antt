@@ -15,8 +15,8 @@ use Rattle.snl_scope.specs.declared.summaries.summary.Summary.{Summary}
 use Rattle.snl_scope.specs.Linked.{fact_of, has_target}
 use Rattle.snl_scope.specs.Places.{enclosing_set}
 
--- Whether it is in a state set, what is known of each name that it uses, and of each of its targets whether that is a
--- state of its set.
+-- Whether it is in a state set, what is known of each name that it uses, and of each of its targets
+-- whether that is a state of its set.
 pub record View : Type 0 where
   pub in_set : Bool
   pub facts : List (Option Fact)

@@ -1,4 +1,5 @@
-//! Lists that have something for some numbers: what a list has for a number is found with no look-up in a table.
+//! Lists that have something for some numbers: what a list has for a number is found with no
+//! look-up in a table.
 
 ghost use Rattle.std.specs.Prelude.{◌≡◌, OnOk};
 ghost use Rattle.snl_scope.specs.ByNumber.{IsPutAt, at_number};

@@ -1,5 +1,6 @@
-//! The names that the items of an edit speak of to the others: the outlines of those that it replaces and of those that it makes come
-//! in, and whether another item uses one of their names goes out. An item that uses none sees after the edit what it saw.
+//! The names that the items of an edit speak of to the others: the outlines of those that it
+//! replaces and of those that it makes come in, and whether another item uses one of their names
+//! goes out. An item that uses none sees after the edit what it saw.
 
 ghost use Rattle.std.specs.Prelude.{◌≡◌, ◌++◌, false, IfOk, IfSome, IsTrue, List, ℕ, OnOk, bytes_eq, map};
 ghost use Rattle.std.specs.List.{list_any};
@@ -111,8 +112,8 @@ fn is_among(names: &[&[u8]], name: &[u8]) -> bool
 }
 
 impl<'a> EditedNames<'a> {
-    /// The names that the items of an edit speak of, those that it replaces and those that it makes, if they are few and both
-    /// bound the same state sets.
+    /// The names that the items of an edit speak of, those that it replaces and those that it
+    /// makes, if they are few and both bound the same state sets.
     pub fn of(
         alloc: Global,
         old: &[&'a Outline],
@@ -154,8 +155,9 @@ impl<'a> EditedNames<'a> {
     }
 }
 
-/// Where some items take the place of others and both bound the same state sets, each item stays in its state set, and a name that
-/// none of them speaks of means what it meant. A function here does nothing: its contract is the law.
+/// Where some items take the place of others and both bound the same state sets, each item stays in
+/// its state set, and a name that none of them speaks of means what it meant. A function here does
+/// nothing: its contract is the law.
 pub fn unspoken_names()
     ensures places { (before old new after : List Outline) → bounds old ≡ bounds new
         → (i : ℕ) → enclosing_set (before ++ (old ++ after)) i ≡ enclosing_set (before ++ (new ++ after)) i }

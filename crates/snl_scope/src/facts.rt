@@ -36,8 +36,8 @@ pub struct Fact {
     pub assigned: Assigned,
 }
 
-/// The scope that a declaration outside blocks is in. A state set is told by the number of its `ss NAME {` item, and a
-/// state by that of its own item.
+/// The scope that a declaration outside blocks is in. A state set is told by the number of its `ss
+/// NAME {` item, and a state by that of its own item.
 #[derive(Clone, Copy, Debug, PartialEq, Eq)]
 pub enum Scope {
     Program,
@@ -45,7 +45,8 @@ pub enum Scope {
     State(usize),
 }
 
-/// A declaration outside blocks: where it is, the token of its name in the item, and what it says of the name.
+/// A declaration outside blocks: where it is, the token of its name in the item, and what it says
+/// of the name.
 #[derive(Clone, Copy, Debug, PartialEq, Eq)]
 pub struct Declaration {
     pub scope: Scope,
@@ -62,8 +63,8 @@ pub struct LinkFault {
     pub code: Code,
 }
 
-/// A clause of an item, with the token of its variable: what its variable and its flag resolve to, by the numbers of
-/// declarations, and whether it is sound.
+/// A clause of an item, with the token of its variable: what its variable and its flag resolve to,
+/// by the numbers of declarations, and whether it is sound.
 #[derive(Clone, Copy, Debug, PartialEq, Eq)]
 pub struct ClauseLink {
     pub item: usize,

@@ -1,4 +1,5 @@
-//! All findings of links: those of order and of names, which go by the kinds of items too, and those at clauses.
+//! All findings of links: those of order and of names, which go by the kinds of items too, and
+//! those at clauses.
 
 ghost use Rattle.std.specs.Prelude.{◌≡◌, [], ◌++◌, IfOk, OnOk, filter, length};
 ghost use Rattle.snl_scope.specs.Clauses.{clause_faults};
@@ -48,8 +49,8 @@ fn add_all(added: &[LinkFault], faults: &mut Vec<LinkFault>) -> Result<(), OutOf
     Ok(())
 }
 
-/// All findings of the items with these kinds. `repeated` has the names that came again, and `at_clauses` what is found at
-/// clauses, which go by the outlines alone.
+/// All findings of the items with these kinds. `repeated` has the names that came again, and
+/// `at_clauses` what is found at clauses, which go by the outlines alone.
 pub(crate) fn all_faults(
     alloc: Global,
     scopes: &Scopes,

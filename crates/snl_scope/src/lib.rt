@@ -1,5 +1,6 @@
-//! What names mean in a text: each item brings a summary, and the links answer where an item is, what a name means
-//! there, and which names and items are out of order. It knows nothing of bytes' offsets, nor of what an item does.
+//! What names mean in a text: each item brings a summary, and the links answer where an item is,
+//! what a name means there, and which names and items are out of order. It knows nothing of bytes'
+//! offsets, nor of what an item does.
 #![tactic(auto)]
 
 mod by_number;

@@ -1,5 +1,6 @@
 //! The links of items: their summaries come in, and what names mean to each item goes out.
-//! All but the findings goes by the outlines alone, so links stay where no outline changes; other kinds can be put in place.
+//! All but the findings goes by the outlines alone, so links stay where no outline changes; other
+//! kinds can be put in place.
 
 ghost use Rattle.std.specs.Prelude.{◌≡◌, [], length, map, IfOk, option_and_then, option_map};
 ghost use Rattle.std.specs.List.{zip};
@@ -26,8 +27,8 @@ use snl_cut::OutOfMemory;
 use std::alloc::Global;
 use std::marker::Model;
 
-/// What names mean among the items of a text, which contracts see as their outlines and kinds. Links of the same outlines
-/// and kinds are the same value, and give the same answers.
+/// What names mean among the items of a text, which contracts see as their outlines and kinds.
+/// Links of the same outlines and kinds are the same value, and give the same answers.
 #[derive(Drop)]
 pub struct Links {
     scopes: Scopes,
@@ -76,7 +77,8 @@ impl Links {
     ghost use Rattle.snl_scope.specs.Places.{enclosing_set, is_set_begin};
     ghost use Rattle.std.specs.Prelude.{length};
 
-    /// The state set in which an item is, by the number of its `ss NAME {` item, or None at program level.
+    /// The state set in which an item is, by the number of its `ss NAME {` item, or None at program
+    /// level.
     pub fn enclosing_set(&self, item: usize) -> Option<usize>
         ensures { result ≡ enclosing_set self.now.outlines item }
     {
@@ -124,22 +126,24 @@ impl Links {
         }
     }
 
-    /// The number of the declaration that a name outside the blocks of an item means. A state sees its own declarations
-    /// first.
+    /// The number of the declaration that a name outside the blocks of an item means. A state sees
+    /// its own declarations first.
     pub fn declaration(&self, item: usize, name: &[u8]) -> Option<usize>
         ensures { result ≡ resolve_in self.now.outlines item name.now }
     {
         self.scopes.resolve_in(item, name)
     }
 
-    /// The declaration with a number. Names of state sets and states have numbers too, and are no declarations.
+    /// The declaration with a number. Names of state sets and states have numbers too, and are no
+    /// declarations.
     pub fn declared(&self, declaration: usize) -> Option<Declaration>
         ensures { result ≡ declaration_at self.now.outlines declaration }
     {
         declaration_of(self.scopes.symbol(declaration)?)
     }
 
-    /// How many numbers of declarations there are, those of the names of state sets and states among them.
+    /// How many numbers of declarations there are, those of the names of state sets and states
+    /// among them.
     pub fn declarations(&self) -> usize
         ensures { result ≡ length (entries self.now.outlines) }
     {
@@ -153,7 +157,8 @@ impl Links {
         self.flags.as_slice()
     }
 
-    /// The number of an event flag among all, from 1 on, or None where the declaration is none of them.
+    /// The number of an event flag among all, from 1 on, or None where the declaration is none of
+    /// them.
     pub fn flag_number(&self, declaration: usize) -> Option<usize>
         ensures { result ≡ flags.flag_number self.now.outlines declaration }
     {
@@ -187,8 +192,8 @@ impl Links {
         self.clauses.as_slice()
     }
 
-    /// Whether a sound `monitor` speaks of a channel of the declaration with a number: that of an element, or of the whole
-    /// variable.
+    /// Whether a sound `monitor` speaks of a channel of the declaration with a number: that of an
+    /// element, or of the whole variable.
     pub fn is_monitored(&self, variable: usize, element: Option<u64>) -> bool
         ensures { result ≡ is_monitored self.now.outlines variable element }
     {
@@ -197,23 +202,24 @@ impl Links {
             .is_some()
     }
 
-    /// The first sound `sync` or `syncq` that speaks of a channel of the declaration with a number, by its number among the
-    /// clauses.
+    /// The first sound `sync` or `syncq` that speaks of a channel of the declaration with a number,
+    /// by its number among the clauses.
     pub fn sync_number(&self, variable: usize, element: Option<u64>) -> Option<usize>
         ensures { result ≡ sync_number self.now.outlines variable element }
     {
         self.claims.first_clause(Purpose::Sync, variable, element)
     }
 
-    /// What is found of the order of items, names that are declared twice, and what is found at clauses; each finding once.
+    /// What is found of the order of items, names that are declared twice, and what is found at
+    /// clauses; each finding once.
     pub fn faults(&self) -> &[LinkFault]
         ensures { result.now ≡ faults_of self.now }
     {
         self.faults.as_slice()
     }
 
-    /// All findings where the items have the same outlines and these kinds: a state that became faulty, for one, gives none
-    /// of its own. `set_kinds` puts both in place.
+    /// All findings where the items have the same outlines and these kinds: a state that became
+    /// faulty, for one, gives none of its own. `set_kinds` puts both in place.
     pub fn order_faults_for(
         &self,
         alloc: Global,
@@ -231,7 +237,8 @@ impl Links {
         )
     }
 
-    /// Puts other kinds in place, with the findings that `order_faults_for` answered for them. It takes no memory.
+    /// Puts other kinds in place, with the findings that `order_faults_for` answered for them. It
+    /// takes no memory.
     pub fn set_kinds(&mut self, kinds: Vec<ItemKind>, faults: Vec<LinkFault>)
         requires { faults.items ≡ faults_of (record { outlines = self.old.outlines; kinds = kinds.items }) }
         ensures { self.new ≡ record { outlines = self.old.outlines; kinds = kinds.items } }

@@ -1,5 +1,5 @@
-//! Whether an item sees of the others by some links what it sees by other ones. It is asked after an edit that made links
-//! anew, of the items that were kept, and takes no memory.
+//! Whether an item sees of the others by some links what it sees by other ones. It is asked after
+//! an edit that made links anew, of the items that were kept, and takes no memory.
 
 ghost use Rattle.std.specs.Prelude.{◌≡◌, ◌↔◌, IsTrue, List, ℕ};
 ghost use Rattle.std.specs.List.{list_all};
@@ -115,8 +115,9 @@ fn sees_the_same(old: Place, new: Place, summary: &Summary) -> bool
         && leads_to_the_same(old, new, summary.targets.as_slice())
 }
 
-/// Whether an item sees of the others by the old links, where it has the number `old_item`, what it sees by the new ones,
-/// where it has the number `new_item`. The summary is the item's, the same in both.
+/// Whether an item sees of the others by the old links, where it has the number `old_item`, what it
+/// sees by the new ones, where it has the number `new_item`. The summary is the item's, the same in
+/// both.
 pub fn same_view(
     old: &Links,
     old_item: usize,
@@ -138,7 +139,8 @@ pub fn same_view(
     sees_the_same(before, after, summary)
 }
 
-/// Views are told to be the same exactly where they are equal. A function here does nothing: its contract is the law.
+/// Views are told to be the same exactly where they are equal. A function here does nothing: its
+/// contract is the law.
 pub fn views_told_apart()
     ensures { (ss : List Outline) (i : ℕ) (ts : List Outline) (j : ℕ) (s : Summary) → IsTrue (same_view ss i ts j s) ↔ (view ss i s ≡ view ts j s) }
 {}

@@ -32,13 +32,15 @@ abbrev pub words_after : Option (Bor (List ℕ)) → List (List ℕ)
 words_after None = []
 words_after (Some words) = words_of words.now
 
--- What is at the front, where `next` tells it by the bytes after a line, which has this length with its LF.
+-- What is at the front, where `next` tells it by the bytes after a line, which has this length with
+-- its LF.
 pub record IsWholeAfter (next : List ℕ → Next) (line : ℕ) (after : List ℕ) (command : Command) (len : ℕ) : Type 0 where
   pub from : line ≤ len
   pub inside : len ≤ line + length after
   pub next_is : (more : List ℕ) → next (after ++ more) ≡ Then (request_of command) (drop (len - line) after ++ more)
 
--- The line is the heading of an edit, and after it are at most the bytes of that, without the LF that closes them.
+-- The line is the heading of an edit, and after it are at most the bytes of that, without the LF
+-- that closes them.
 abbrev pub IsOpen : Option Heading → (after : List ℕ) → Type 0
 IsOpen (Some (heading.Edit start stop len)) after = length after ≤ len
 IsOpen _ after = ⊥
@@ -49,18 +51,21 @@ IsFrontAfter heading line after Short = IsOpen heading after
 IsFrontAfter heading line after Malformed = (more : List ℕ) → headed heading (after ++ more) ≡ Unknown
 IsFrontAfter heading line after (Whole command len) = IsWholeAfter (headed heading) line after command len
 
--- A line of at most 80 bytes that no LF ends yet, or the heading of an edit whose bytes aren't all there; by the place of the first LF.
+-- A line of at most 80 bytes that no LF ends yet, or the heading of an edit whose bytes aren't all
+-- there; by the place of the first LF.
 abbrev pub IsBegun : Option ℕ → List ℕ → Type 0
 IsBegun None bytes = length bytes ≤ 80
 IsBegun (Some end) bytes = (end ≤ 80) × IsOpen (heading_of (words_of (take end bytes))) (drop (end + 1) bytes)
 
--- No command is whole, and one may be begun. So the bytes are at most those of the longest line, its LF and the bytes of the longest edit.
+-- No command is whole, and one may be begun. So the bytes are at most those of the longest line,
+-- its LF and the bytes of the longest edit.
 pub record IsShort (bytes : List ℕ) : Type 0 where
   pub next : next_of bytes ≡ unfinished bytes
   pub begun : IsBegun (position (λ c. c == 10) bytes) bytes
   pub few : length bytes ≤ 80 + 1 + 2097152
 
--- A command is begun at the front of the bytes, or none can be there, or one is, whatever follows them.
+-- A command is begun at the front of the bytes, or none can be there, or one is, whatever follows
+-- them.
 abbrev pub IsFront : List ℕ → Front → Type 0
 IsFront bytes Short = IsShort bytes
 IsFront bytes Malformed = (more : List ℕ) → next_of (bytes ++ more) ≡ Unknown

@@ -14,13 +14,15 @@ pub data Request : Type 0 where
   Works : Request
   Edits : (start stop : ℕ) (new : List ℕ) → Request
 
--- What the bytes of a script begin with: there are none, or no well-formed command is whole at their front, or a command and what is after it.
+-- What the bytes of a script begin with: there are none, or no well-formed command is whole at
+-- their front, or a command and what is after it.
 pub data Next : Type 0 where
   Ends : Next
   Unknown : Next
   Then : (request : Request) (rest : List ℕ) → Next
 
--- A line's words, which single spaces part: where two spaces meet, or one begins or ends the line, a word is empty.
+-- A line's words, which single spaces part: where two spaces meet, or one begins or ends the line,
+-- a word is empty.
 abbrev pub words_of : List ℕ → List (List ℕ)
 words_of line = slice_split (λ b. b == 32) line
 

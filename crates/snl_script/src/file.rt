@@ -59,7 +59,8 @@ fn read_more<R: Read>(
     Ok(n > 0)
 }
 
-/// Reads all that a file holds, if it is at most so many bytes. A read that answers an `Err` of any kind makes the file unreadable.
+/// Reads all that a file holds, if it is at most so many bytes. A read that answers an `Err` of any
+/// kind makes the file unreadable.
 pub fn read_whole<R: Read>(
     alloc: Global,
     most: usize,

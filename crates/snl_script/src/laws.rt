@@ -5,8 +5,8 @@ ghost use Rattle.std.specs.Prelude.{◌≡◌, ℕ, List, ◌++◌};
 ghost use Rattle.snl_script.specs.Script.{Request, Then, next_of};
 ghost use Rattle.snl_script.specs.Spelled.{IsSpelled};
 
-/// A command that is whole at the front of some bytes is the one at their front, whatever follows them: so a script means the
-/// same in whatever pieces it is read.
+/// A command that is whole at the front of some bytes is the one at their front, whatever follows
+/// them: so a script means the same in whatever pieces it is read.
 pub fn whole_commands_stay()
     ensures { (bytes more left : List ℕ) (request : Request) → next_of bytes ≡ Then request left
         → next_of (bytes ++ more) ≡ Then request (left ++ more) }

@@ -1,9 +1,9 @@
 //! Scripts and answers, as bytes.
-//! In: a reader that gives a script or a file; numbers and bytes that an answer has. Out: the commands of the script, the bytes of
-//! the file, and the answer to a writer, in few large writes.
+//! In: a reader that gives a script or a file; numbers and bytes that an answer has. Out: the
+//! commands of the script, the bytes of the file, and the answer to a writer, in few large writes.
 //! Knows nothing of sessions, and of what is answered to which command.
-//! `watched` counts calls, `ahead` reads a script, `script` tells its commands, `file` reads a file, `page` writes, and `parts` says
-//! what is told by plain values.
+//! `watched` counts calls, `ahead` reads a script, `script` tells its commands, `file` reads a
+//! file, `page` writes, and `parts` says what is told by plain values.
 #![tactic(auto)]
 
 mod ahead;

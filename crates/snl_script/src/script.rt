@@ -1,6 +1,6 @@
 //! The commands of a script, as they are in its bytes.
-//! In: the bytes of a script that were read so far. Out: the command at their front, if it is there whole.
-//! Knows nothing of readers, sessions and answers.
+//! In: the bytes of a script that were read so far. Out: the command at their front, if it is there
+//! whole. Knows nothing of readers, sessions and answers.
 #![tactic(auto)]
 
 ghost use Rattle.std.specs.Prelude.{◌≡◌, ℕ, ◌+◌, ◌==◌, ◌≤◌, ◌<◌, List, [], ◌∷◌, length, take, drop, Some, None, IfSome, position};

@@ -1,4 +1,5 @@
--- What is in the grammar is read again; or a token is blamed that is free of the levels, so that it lies too deep.
+-- What is in the grammar is read again; or a token is blamed that is free of the levels, so that it
+-- lies too deep.
 use Rattle.std.proofs.Common.{◌≡◌, ℕ, zero, suc, Bool, true, false, List, [], ◌∷◌, ◌++◌, Option, Some, None, Ok, Err, refl, sym, ap, subst, ◌∙◌, append_assoc}
 use Rattle.std.specs.Prelude.{option_to_list}
 use Rattle.std.proofs.lemmas.List.{append-nil}

@@ -1,4 +1,5 @@
--- An expression or nothing before a mark, and what is in the brackets of a statement, can be completed where a reader fails.
+-- An expression or nothing before a mark, and what is in the brackets of a statement, can be
+-- completed where a reader fails.
 use Rattle.std.proofs.Common.{ℕ, List, [], ◌∷◌, Option, Some, None, refl, subst}
 use Rattle.snl_lex.specs.declared.kind.Kind.{Kind}
 use Rattle.snl_lex.specs.declared.kind.Kind.TheVariants as kind

@@ -1,4 +1,5 @@
--- Lists in braces: elements with commas between, and a comma after the last or not. What was read is in the grammar, and what was read before a blamed token can be completed.
+-- Lists in braces: elements with commas between, and a comma after the last or not. What was read
+-- is in the grammar, and what was read before a blamed token can be completed.
 use Rattle.std.proofs.Common.{◌≡◌, ℕ, Bool, true, false, List, [], ◌∷◌, ◌++◌, Option, Some, None, refl, sym, ap, subst, ◌∙◌}
 use Rattle.std.specs.Prelude.{option_to_list}
 use Rattle.std.proofs.lemmas.List.{append-nil}

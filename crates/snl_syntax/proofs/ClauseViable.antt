@@ -1,4 +1,5 @@
--- Clauses, options and foreign names: what was read is in the grammar, and what was read before a blamed token can be completed.
+-- Clauses, options and foreign names: what was read is in the grammar, and what was read before a
+-- blamed token can be completed.
 use Rattle.std.proofs.Common.{◌≡◌, ℕ, Bool, true, false, List, [], ◌∷◌, Option, Some, refl, ap, subst, ◌∙◌}
 use Rattle.snl_lex.specs.declared.kind.Kind.{Kind}
 use Rattle.snl_lex.specs.declared.kind.Kind.TheVariants as kind

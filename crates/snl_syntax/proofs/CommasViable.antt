@@ -1,4 +1,5 @@
--- Lists with commas, strings and links of a tier can be completed where a reader fails, and what it took is in the grammar.
+-- Lists with commas, strings and links of a tier can be completed where a reader fails, and what it
+-- took is in the grammar.
 use Rattle.std.proofs.Common.{◌≡◌, ℕ, eqb, Bool, true, false, cond, List, [], ◌∷◌, ◌++◌, Option, Some, None, refl, sym, ap, subst, ◌∙◌}
 use Rattle.std.proofs.lemmas.Bool.{eqb-true}
 use Rattle.snl_lex.specs.declared.kind.Kind.{Kind}

@@ -1,4 +1,5 @@
--- Declarations: what was read is in the grammar, and what was read before a blamed token can be completed.
+-- Declarations: what was read is in the grammar, and what was read before a blamed token can be
+-- completed.
 use Rattle.std.proofs.Common.{◌≡◌, ℕ, zero, suc, ◌<◌, Bool, false, List, [], ◌∷◌, ◌++◌, Option, Some, None, refl, sym, ap, subst, arith}
 use Rattle.snl_lex.specs.declared.kind.Kind.{Kind}
 use Rattle.snl_lex.specs.declared.kind.Kind.TheVariants as kind

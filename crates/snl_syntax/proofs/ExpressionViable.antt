@@ -1,4 +1,5 @@
--- What readers of expressions took is in the grammar, and where they fail, the tokens before can be completed.
+-- What readers of expressions took is in the grammar, and where they fail, the tokens before can be
+-- completed.
 use Rattle.std.proofs.Common.{◌<◌, ℕ, zero, suc, List, [], ◌∷◌, ◌++◌, refl, arith}
 use Rattle.snl_lex.specs.declared.kind.Kind.TheVariants as kind
 use Rattle.snl_syntax.specs.declared.tree.types.TypeName.{TypeName}

@@ -15,7 +15,8 @@ use Rattle.snl_syntax.specs.Grammar.Base.{First}
 use Rattle.snl_syntax.proofs.Same.{same_true}
 use Rattle.snl_syntax.proofs.Again.{Lacks, is_false, kind_first}
 
--- The level from which on a token continues an expression before it: 0 after an operand, 1 to 10 the tiers, 11 a condition, 12 an assignment, 13 a comma.
+-- The level from which on a token continues an expression before it: 0 after an operand, 1 to 10
+-- the tiers, 11 a condition, 12 an assignment, 13 a comma.
 abbrev pub binds : Kind → ℕ
 binds kind.OpenBracket = 0
 binds kind.OpenParen = 0

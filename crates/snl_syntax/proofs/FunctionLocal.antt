@@ -1,4 +1,5 @@
--- Readers of functions and structs look no further than one token ahead, where the reader of blocks doesn't.
+-- Readers of functions and structs look no further than one token ahead, where the reader of blocks
+-- doesn't.
 use Rattle.std.proofs.Common.{◌-◌, ℕ, zero, suc, Bool, false, List, [], Option, Some, None}
 use Rattle.snl_lex.specs.declared.kind.Kind.{Kind}
 use Rattle.snl_lex.specs.declared.kind.Kind.TheVariants as kind

@@ -1,4 +1,5 @@
--- Functions, structs and items that begin with a type: what was read is in the grammar, and what was read before a blamed token can be completed.
+-- Functions, structs and items that begin with a type: what was read is in the grammar, and what
+-- was read before a blamed token can be completed.
 use Rattle.std.proofs.Common.{◌≡◌, ℕ, zero, suc, ◌-◌, ◌<◌, Bool, false, List, [], ◌∷◌, ◌++◌, Option, Some, None, refl, ap, subst, ◌∙◌, arith}
 use Rattle.snl_lex.specs.declared.kind.Kind.{Kind}
 use Rattle.snl_lex.specs.declared.kind.Kind.TheVariants as kind

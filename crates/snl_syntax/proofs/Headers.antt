@@ -116,7 +116,8 @@ header_closed a b t k n is all stop close =
           ];
     })
 
--- The rest as the code reads it: how far `program NAME ( TEXT ..` goes is told by what is at each place.
+-- The rest as the code reads it: how far `program NAME ( TEXT ..` goes is told by what is at each
+-- place.
 pub record Begins (u : List Mark) : Type 0 where
   pub program : slice_get u 0 ≡ Some mark.Program
   pub name : some_is is_name (slice_get u 1) ≡ true

@@ -1,4 +1,5 @@
--- What readers of items took is in the grammar, and where they fail, the tokens before can be completed.
+-- What readers of items took is in the grammar, and where they fail, the tokens before can be
+-- completed.
 use Rattle.std.proofs.Common.{ℕ, suc, ◌-◌, List, [], ◌∷◌, ◌++◌, Option, Some, refl, sym, subst}
 use Rattle.snl_lex.specs.declared.kind.Kind.{Kind}
 use Rattle.snl_lex.specs.declared.kind.Kind.TheVariants as kind

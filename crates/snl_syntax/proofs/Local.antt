@@ -37,7 +37,8 @@ pub bind_no : {A B : Type 0} (o : Outcome A) (f : A → Reader B) (j : List Numb
 unfolding and_then
 bind_no o f j e = rw e refl
 
--- The reader stopped at m, before or at the place s ∷ j: so the front is what it took, and what is left of the front.
+-- The reader stopped at m, before or at the place s ∷ j: so the front is what it took, and what is
+-- left of the front.
 splits : (front f1 m f2 : List NumberedKind) (s : NumberedKind) (j : List NumberedKind) → front ++ s ∷ j ≡ f1 ++ m → m ≡ f2 ++ s ∷ j → front ≡ f1 ++ f2
 splits front f1 m f2 s j e h =
     let t : front ++ s ∷ j ≡ (f1 ++ f2) ++ s ∷ j = e ∙ ap (λ (l : List NumberedKind). f1 ++ l) h ∙ sym (append_assoc f1 f2 (s ∷ j)) in
@@ -317,7 +318,8 @@ unfolding until_within
 until_within_local step local zero found = refuse_local
 until_within_local step local (suc n) found = bind_local step (again_or found (until_within step n)) local (again_local found (until_within step n) (until_within_local step local n))
 
--- ---- lists, with as many turns as there are tokens and one more: others that are enough give the same
+-- ---- lists, with as many turns as there are tokens and one more: others that are enough give the
+-- same
 
 module _ {A : Type 0} (next : Reader (Option A)) (eats : EatsSome next) where
   option_enough : (n i : ℕ) → ((l : List A) (m : List NumberedKind) → length m < n → length m < i → many_within next n l m ≡ many_within next i l m) → (found : List A) (o : Option A) (m : List NumberedKind) → ((x : A) → o ≡ Some x → (length m < n) × (length m < i)) → more_or found (many_within next n) o m ≡ more_or found (many_within next i) o m

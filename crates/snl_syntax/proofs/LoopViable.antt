@@ -1,4 +1,5 @@
--- Bodies and loops can be completed where a reader fails, and are closed where an `else` comes next.
+-- Bodies and loops can be completed where a reader fails, and are closed where an `else` comes
+-- next.
 use Rattle.std.proofs.Common.{◌≡◌, ℕ, Bool, true, false, List, [], ◌∷◌, ◌++◌, Option, Some, refl, ap, subst, ◌∙◌}
 use Rattle.snl_lex.specs.declared.kind.Kind.{Kind}
 use Rattle.snl_lex.specs.declared.kind.Kind.TheVariants as kind

@@ -1,4 +1,5 @@
--- Operators and their operand can be completed where a reader fails, and what it took is in the grammar.
+-- Operators and their operand can be completed where a reader fails, and what it took is in the
+-- grammar.
 use Rattle.std.proofs.Common.{◌≡◌, ℕ, zero, suc, Bool, false, List, [], ◌∷◌, ◌++◌, length, Option, Some, None, Ok, Err, refl, sym, ap, subst, ◌∙◌, append_assoc}
 use Rattle.std.specs.Prelude.{option_to_list}
 use Rattle.std.proofs.lemmas.List.{append-nil}

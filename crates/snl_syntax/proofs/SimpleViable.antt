@@ -1,4 +1,5 @@
--- Statements that hold no others, and blocks, can be completed where a reader fails, and what it took is in the grammar.
+-- Statements that hold no others, and blocks, can be completed where a reader fails, and what it
+-- took is in the grammar.
 use Rattle.std.proofs.Common.{ℕ, suc, Bool, true, false, List, [], ◌∷◌, ◌++◌, Option, Some, None, refl, ap, subst, ◌∙◌}
 use Rattle.snl_lex.specs.declared.kind.Kind.{Kind}
 use Rattle.snl_lex.specs.declared.kind.Kind.TheVariants as kind

@@ -1,4 +1,5 @@
--- Conditions and assignments can be completed where a reader fails, and what it took is in the grammar.
+-- Conditions and assignments can be completed where a reader fails, and what it took is in the
+-- grammar.
 use Rattle.std.proofs.Common.{◌≡◌, ℕ, suc, List, [], ◌∷◌, ◌++◌, Option, Some, None, refl, sym, subst}
 use Rattle.std.specs.Prelude.{option_to_list}
 use Rattle.std.proofs.lemmas.List.{append-nil}

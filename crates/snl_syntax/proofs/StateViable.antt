@@ -1,4 +1,5 @@
--- What readers of states took is in the grammar, and where they fail, the tokens before can be completed.
+-- What readers of states took is in the grammar, and where they fail, the tokens before can be
+-- completed.
 use Rattle.std.proofs.Common.{ℕ, suc, ◌-◌, List, [], ◌∷◌, ◌++◌, Option, Some, None, refl, sym, ap, subst, ◌∙◌}
 use Rattle.snl_lex.specs.declared.kind.Kind.{Kind}
 use Rattle.snl_lex.specs.declared.kind.Kind.TheVariants as kind

@@ -181,7 +181,8 @@ module _ (free extra depth : ℕ) where
       bind_reads_back free (expect kind.OpenParen k) _ is.opening.0 is.mid t rest (first_reads_back free kind.OpenParen k is.mid is.opening)
       (level_reads_back free extra depth (for_parts depth) (AreForParts (IsExpr free extra depth)) t is.mid rest (parts_again t is.mid rest) is.parts)
 
--- ---- of statements and declarations one level deeper it is given what they begin with, and that they are read again
+-- ---- of statements and declarations one level deeper it is given what they begin with, and that
+-- they are read again
 
 -- what may follow a statement
 abbrev pub Ended : Bool → List NumberedKind → Type 0

@@ -1,4 +1,5 @@
--- One step of an operand can be completed where a reader fails, and after `sizeof` no bracket is met.
+-- One step of an operand can be completed where a reader fails, and after `sizeof` no bracket is
+-- met.
 use Rattle.std.proofs.Common.{◌≡◌, ℕ, Bool, true, false, List, [], ◌∷◌, ◌++◌, Option, Some, None, Ok, Err, refl, sym, ap, ◌∙◌}
 use Rattle.snl_lex.specs.declared.kind.Kind.{Kind}
 use Rattle.snl_lex.specs.declared.kind.Kind.TheVariants as kind

@@ -1,4 +1,5 @@
--- Tiers of binary operators can be completed where a reader fails, and what it took is in the grammar.
+-- Tiers of binary operators can be completed where a reader fails, and what it took is in the
+-- grammar.
 use Rattle.std.proofs.Common.{ℕ, zero, suc, List, [], ◌∷◌, refl, subst}
 use Rattle.snl_lex.specs.declared.kind.Kind.TheVariants as kind
 use Rattle.snl_syntax.specs.declared.operator.Binary.{Binary}

@@ -224,7 +224,8 @@ block_opens free extra (suc depth) b k rest is = (is.m1, is.opening)
 block_opens free (suc extra) zero b k rest is = (is.1.m1, is.1.opening)
 block_opens free zero zero b k rest is = absurd is
 
--- An item that begins with a type is read again, whatever is after it, where the blocks of functions are.
+-- An item that begins with a type is read again, whatever is after it, where the blocks of
+-- functions are.
 pub typed_item_reads_back : (free extra depth levels : ℕ) (block : Reader (List Member)) → ((b : List Member) (k rest : List NumberedKind) → IsBlockWithin free extra levels b k rest → ReadsBack free (block k) b rest) → (t : Item) (k rest : List NumberedKind) → IsTypedItem (IsDeclaration free extra (suc depth)) (IsDeclaration free extra depth) (IsParameter free extra depth) (IsBlockWithin free extra levels) t k rest → ReadsBack free (typed_item (suc depth) block k) t rest
 typed_item_reads_back free extra depth levels block again t k rest is = typed_reads_back free extra depth (IsBlockWithin free extra levels) block (block_opens free extra levels) again t k rest is
 

@@ -1,4 +1,5 @@
--- What a reader took is in the grammar whatever follows, and where it fails, the tokens before the blamed one can be completed.
+-- What a reader took is in the grammar whatever follows, and where it fails, the tokens before the
+-- blamed one can be completed.
 use Rattle.std.proofs.Common.{◌≡◌, ℕ, zero, suc, ◌+◌, ◌<◌, Bool, true, false, List, [], ◌∷◌, ◌++◌, length, Option, Some, None, Ok, Err, refl, sym, ap, subst, ◌∙◌, append_assoc, inl, inr, arith}
 use Rattle.std.specs.Prelude.{option_to_list}
 use Rattle.std.proofs.lemmas.List.{append-nil}

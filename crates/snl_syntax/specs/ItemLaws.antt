@@ -1,4 +1,5 @@
--- The first item of a list is found, and tells no more of the list than the item and the one token after it.
+-- The first item of a list is found, and tells no more of the list than the item and the one token
+-- after it.
 use Rattle.std.specs.Prelude.{◌≡◌, ℕ, zero, suc, ◌+◌, ◌-◌, ◌<◌, ◌≤◌, min, Bool, true, false, cond, List, [], ◌∷◌, length, take, refl}
 use Rattle.std.specs.List.{slice_get}
 use Rattle.std.proofs.Common.{sym, ap, ◌∙◌, inl, inr, arith, subst}

@@ -1,5 +1,6 @@
--- Where the first item of a list of tokens ends: this project's profile, which on correct text agrees with the manual's grammar.
--- All is said of what comes before a place and of the one token after it.
+-- Where the first item of a list of tokens ends: this project's profile, which on correct text
+-- agrees with the manual's grammar. All is said of what comes before a place and of the one token
+-- after it.
 use Rattle.std.specs.Prelude.{ℕ, zero, suc, ◌+◌, ◌-◌, ◌==◌, Bool, true, false, not, ◌&&◌, ◌||◌, cond, List, [], ◌∷◌, ◌++◌, length, take, Option, Some, None}
 use Rattle.std.specs.List.{count_by, slice_get}
 use Rattle.snl_syntax.specs.declared.marks.Mark.{Mark}
@@ -80,7 +81,8 @@ abbrev pub is_empty : List Mark → Bool
 is_empty [] = true
 is_empty _ = false
 
--- The tokens are the front of a list: its first tokens pass these tests, one each, and the rest passes `tail`. A front may break off anywhere.
+-- The tokens are the front of a list: its first tokens pass these tests, one each, and the rest
+-- passes `tail`. A front may break off anywhere.
 abbrev pub begins : List (Mark → Bool) → (List Mark → Bool) → List Mark → Bool
 begins [] tail k = tail k
 begins (p ∷ ps) tail [] = true
@@ -99,8 +101,9 @@ begins_texts (x ∷ k) = cond (is_text x) (begins_texts k) (is_close_paren x && 
 abbrev pub begins_header : List Mark → Bool
 begins_header = begins (is_name ∷ is_open_paren ∷ is_text ∷ []) begins_texts
 
--- An item that begins with no token of its own kind ends after the token `last` and before the token `ahead`: after a `;` at balance 0;
--- after a `}` at balance 0, where it has a body; before `ss` or `program` at any balance; and before a `}` at balance 0.
+-- An item that begins with no token of its own kind ends after the token `last` and before the
+-- token `ahead`: after a `;` at balance 0; after a `}` at balance 0, where it has a body; before
+-- `ss` or `program` at any balance; and before a `}` at balance 0.
 abbrev pub plain_ends : Bool → Mark → Bool → Mark → Bool
 plain_ends is_level last has_body ahead =
     (is_level && is_semicolon last) || (is_level && is_close last && has_body) || is_head ahead || (is_level && is_close ahead)

@@ -1,4 +1,5 @@
--- What the parser makes of an item. It goes by the item's tokens as they are spelled, wherever they are.
+-- What the parser makes of an item. It goes by the item's tokens as they are spelled, wherever they
+-- are.
 use Rattle.std.specs.Prelude.{ℕ, ◌<◌, Bool, List, map, position, Option, Some, None}
 use Rattle.snl_lex.specs.declared.piece.Class.{Class}
 use Rattle.snl_lex.specs.declared.piece.Piece.{Piece}

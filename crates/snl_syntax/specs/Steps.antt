@@ -1,4 +1,5 @@
--- The steps that readers are made of. A reader takes tokens from the left; it answers what it read and what is left, or the tokens from the first one on that it can't take.
+-- The steps that readers are made of. A reader takes tokens from the left; it answers what it read
+-- and what is left, or the tokens from the first one on that it can't take.
 use Rattle.std.specs.Prelude.{◌≡◌, ℕ, zero, suc, Bool, true, false, if◌then◌else◌, List, [], ◌∷◌, ◌++◌, length, Option, Some, None, option_to_list, Result, Ok, Err}
 use Rattle.snl_lex.specs.declared.kind.Kind.{Kind}
 use Rattle.snl_syntax.specs.declared.stop.Stop.{Stop}

@@ -1,11 +1,14 @@
--- With which tokens an item can begin, and which token is at fault where none consists of a list of tokens.
+-- With which tokens an item can begin, and which token is at fault where none consists of a list of
+-- tokens.
 use Rattle.std.specs.Prelude.{◌≡◌, ℕ, suc, ◌<◌, ◌≤◌, ◌⊎◌, List, [], ◌++◌, length, take}
 use Rattle.snl_lex.specs.declared.kind.Kind.{Kind}
 use Rattle.snl_syntax.specs.declared.tree.item.Item.{Item}
 use Rattle.snl_syntax.specs.Tokens.{ahead}
 use Rattle.snl_syntax.specs.Grammar.Items.{IsItemWithin}
 
--- An item can begin with the first n tokens: with tokens to come they make one. The first n are held to the levels of an item. Tokens from the `free`th on, which are all to come, may use `extra` levels more, as many as they need.
+-- An item can begin with the first n tokens: with tokens to come they make one. The first n are
+-- held to the levels of an item. Tokens from the `free`th on, which are all to come, may use
+-- `extra` levels more, as many as they need.
 pub record IsViable (kinds : List Kind) (n : ℕ) : Type 0 where
   pub to_come : List Kind
   pub tree : Item
@@ -23,7 +26,8 @@ pub record AreCutShort (kinds : List Kind) (n : ℕ) : Type 0 where
   pub last : suc n ≡ length kinds
   pub viable : IsViable kinds (suc n)
 
--- The token with this number is at fault: an item can begin with the tokens before it, and with this one too it can't; or it can begin with all tokens, and this is the last one.
+-- The token with this number is at fault: an item can begin with the tokens before it, and with
+-- this one too it can't; or it can begin with all tokens, and this is the last one.
 pub record IsFaultAt (kinds : List Kind) (n : ℕ) : Type 0 where
   pub inside : n < length kinds
   pub before : (m : ℕ) → m ≤ n → IsViable kinds m

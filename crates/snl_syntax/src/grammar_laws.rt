@@ -12,13 +12,15 @@ pub fn one_item()
     ensures { (kinds : List Kind) (t u : Item) → IsItem t kinds → IsItem u kinds → t ≡ u }
 {}
 
-/// The tree that is read of tokens is the one that the grammar has for them, and where nothing is read, the grammar has none.
+/// The tree that is read of tokens is the one that the grammar has for them, and where nothing is
+/// read, the grammar has none.
 pub fn item_read()
     ensures read { (kinds : List Kind) (t : Item) → IsItem t kinds → item_of kinds ≡ Some t }
     ensures told { (kinds : List Kind) (t : Item) → item_of kinds ≡ Some t → IsItem t kinds }
 {}
 
-/// An item can begin with all its tokens; and where it can begin with some, it can with the first of them.
+/// An item can begin with all its tokens; and where it can begin with some, it can with the first
+/// of them.
 pub fn viable_fronts()
     ensures whole { (kinds : List Kind) (t : Item) → IsItem t kinds → IsViable kinds (length kinds) }
     ensures shorter { (kinds : List Kind) (n m : ℕ) → m ≤ n → IsViable kinds n → IsViable kinds m }

@@ -212,7 +212,8 @@ fn whole_item(alloc: Global, kinds: &[Kind], at: usize, depth: usize) -> Result<
     ended(kinds, at, item)
 }
 
-/// How many levels an item has, with the one that its own tokens are in: no token may lie within more than 100.
+/// How many levels an item has, with the one that its own tokens are in: no token may lie within
+/// more than 100.
 const LEVELS: usize = 101;
 
 /// The item that all tokens of these kinds make. A leaf is the number of its token.

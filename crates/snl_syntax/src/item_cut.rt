@@ -1,4 +1,5 @@
-//! The cut into items: the marks of tokens come in, the length of the first item goes out. It knows no grammar.
+//! The cut into items: the marks of tokens come in, the length of the first item goes out. It knows
+//! no grammar.
 
 ghost use Rattle.snl_cut.specs.Cut.{ticked};
 ghost use Rattle.snl_syntax.specs.ItemLaws.{item_front, item_local};
@@ -104,7 +105,8 @@ fn is_after_close_paren(marks: &[Mark], number: usize) -> bool
     number > 0 && is_close_paren_at(marks, number - 1)
 }
 
-// Whether the last brace that raised the balance from 0 followed a `)`, after the mark with this number.
+// Whether the last brace that raised the balance from 0 followed a `)`, after the mark with this
+// number.
 fn opened_by_paren(marks: &[Mark], number: usize, balance: usize, before: bool) -> bool
     ensures { result
         ≡ cond

@@ -1,4 +1,5 @@
-//! The laws of the cut into items. A function here only names a law of every cut: its contract is the law.
+//! The laws of the cut into items. A function here only names a law of every cut: its contract is
+//! the law.
 
 ghost use Rattle.snl_cut.specs.Cut.{EachFirst, IsCut, ends_of, in_a_row, members};
 ghost use Rattle.snl_syntax.specs.ItemLaws.{IsLeast};
@@ -15,8 +16,8 @@ pub fn first_item()
     ensures least { (tokens : List Mark) → 0 < length tokens → IsLeast (ends_after tokens) 1 (item tokens) }
 {}
 
-/// The tokens of any text have one cut into items and no other. Its items follow one another, and each is the first item
-/// of what is left from it on.
+/// The tokens of any text have one cut into items and no other. Its items follow one another, and
+/// each is the first item of what is left from it on.
 pub fn tokens_in_items()
     ensures cut { (tokens : List Mark) → IsCut item tokens (ends_of item tokens) }
     ensures only { (tokens : List Mark) (ends : List ℕ) → IsCut item tokens ends → ends ≡ ends_of item tokens }

@@ -1,4 +1,5 @@
-//! The grammar: the tokens of one item come in, its tree goes out. It knows no offsets and no scopes.
+//! The grammar: the tokens of one item come in, its tree goes out. It knows no offsets and no
+//! scopes.
 #![tactic(auto)]
 
 mod clause;

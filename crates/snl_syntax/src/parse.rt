@@ -73,9 +73,10 @@ fn read_item(alloc: Global, text: &[u8], tokens: &[Piece]) -> Result<Item, Parse
 
 /// The tree of the item that consists of these tokens; a leaf is the number of its token, from 0.
 ///
-/// The tokens are pieces of the text, without white space, comments and markers. A faulty token is found before any
-/// memory is asked for. The grammar is that of the SNL reference of the EPICS sequencer 2.2 manual, with the additions
-/// of this project's profile; no token may lie within more than 100 levels.
+/// The tokens are pieces of the text, without white space, comments and markers. A faulty token is
+/// found before any memory is asked for. The grammar is that of the SNL reference of the EPICS
+/// sequencer 2.2 manual, with the additions of this project's profile; no token may lie within more
+/// than 100 levels.
 pub fn parse_item(
     alloc: Global,
     text: &[u8],
@@ -103,7 +104,8 @@ pub fn parse_item(
     }
 }
 
-/// What the parser makes of the item that consists of these tokens: `parse_item` with want of memory as the only error.
+/// What the parser makes of the item that consists of these tokens: `parse_item` with want of
+/// memory as the only error.
 pub fn parsed(
     alloc: Global,
     text: &[u8],

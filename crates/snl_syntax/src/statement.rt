@@ -188,7 +188,8 @@ fn for_parts(
     Ok((head, at))
 }
 
-/// What is in the brackets of a `for`, within which so many levels are left: a part may be missing, its mark may not.
+/// What is in the brackets of a `for`, within which so many levels are left: a part may be missing,
+/// its mark may not.
 fn for_within(
     alloc: Global,
     kinds: &[Kind],

@@ -20,7 +20,8 @@ impl From<AllocError> for Stop {
     }
 }
 
-/// One step over a list that something else ends: an element, or what ends it with perhaps a last element before.
+/// One step over a list that something else ends: an element, or what ends it with perhaps a last
+/// element before.
 #[derive(Drop)]
 pub enum Step<A, B> {
     More(A),

@@ -27,7 +27,8 @@ fn mark_of_kind(kind: Kind) -> Mark
     }
 }
 
-/// What a token is to the cut into items. White space, comments and markers are no tokens; they give `Other`.
+/// What a token is to the cut into items. White space, comments and markers are no tokens; they
+/// give `Other`.
 pub fn mark(text: &[u8], piece: Piece) -> Mark
     requires { piece.start + piece.len ≤ length text.now }
     ensures { result ≡ mark_of piece.kind (take piece.len (drop piece.start text.now)) }

@@ -142,8 +142,8 @@ pub fn expect(kinds: &[Kind], at: usize, kind: Kind) -> Result<usize, Stop>
     }
 }
 
-/// The place after a token of this kind, beside a value that is held until then. Its type is any, so that the proof of what is freed
-/// on the way out looks into no tree.
+/// The place after a token of this kind, beside a value that is held until then. Its type is any,
+/// so that the proof of what is freed on the way out looks into no tree.
 pub fn past<T: Drop>(kinds: &[Kind], at: usize, kind: Kind, held: T) -> Result<(T, usize), Stop>
     ensures token { ReadsPast kinds.now at result (read.expect kind (ahead kinds.now at)) }
     ensures held { IfOk result (λ r. r.0 ≡ held) }

@@ -1,4 +1,5 @@
-//! Items as trees. A leaf is the number of its token in the item, from 0; nothing in a tree is a byte or an offset.
+//! Items as trees. A leaf is the number of its token in the item, from 0; nothing in a tree is a
+//! byte or an offset.
 
 pub mod clause;
 pub mod declaration;

@@ -11,7 +11,8 @@ abbrev pub row_numbered : List FlagRow → ℕ → Option FlagRow
 row_numbered rows zero = None
 row_numbered rows (suc n) = slice_get rows n
 
--- The flag that is the declaration with a number has the row numbered n, which speaks of that very declaration.
+-- The flag that is the declaration with a number has the row numbered n, which speaks of that very
+-- declaration.
 pub record IsRowOf (text : List ℕ) (xs : List ProgramItem) (number n : ℕ) : Type 0 where
   pub declaration : Declaration
   pub declared : declaration_at (outlines_of text xs) number ≡ Some declaration

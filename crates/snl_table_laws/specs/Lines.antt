@@ -1,4 +1,5 @@
--- Lines of bytes that print in ASCII, and the rows of tables, each of which a listing shows in a line of its own.
+-- Lines of bytes that print in ASCII, and the rows of tables, each of which a listing shows in a
+-- line of its own.
 use Rattle.std.specs.Prelude.{◌≡◌, ℕ, ◌+◌, ◌<◌, ◌≤◌, All, List, [], ◌∷◌, ◌++◌, length, map, sum}
 use Rattle.std.specs.List.{concat}
 use Rattle.snl_tables.specs.declared.rows.ChannelRow.{ChannelRow}
@@ -31,7 +32,8 @@ pub record AreLines (count : ℕ) (bytes : List ℕ) : Type 0 where
 
 -- ---- rows
 
--- What a state that isn't faulty has: its options, transitions and states that statements name, and its wake-up set.
+-- What a state that isn't faulty has: its options, transitions and states that statements name, and
+-- its wake-up set.
 abbrev pub state_details : StateRow → ℕ
 state_details state = length state.options + (length state.transitions + (length state.gotos + 1))
 
@@ -48,7 +50,8 @@ rows_of_state state = 1 + unless_faulty state.mark (state_details state)
 abbrev pub rows_of_set : SetRow → ℕ
 rows_of_set set = 1 + sum (map rows_of_state set.states)
 
--- How many rows tables have: the program's name, its options, the event flags, the channels, and the state sets with their states.
+-- How many rows tables have: the program's name, its options, the event flags, the channels, and
+-- the state sets with their states.
 abbrev pub rows_of : Tables → ℕ
 rows_of tables = 1 + (length tables.options + (length tables.flags + (length tables.channels + sum (map rows_of_set tables.sets))))
 

@@ -9,7 +9,8 @@ is_marked marks n = slice_index_or marks n false
 unfoldable pub marked : List Bool → List ℕ
 marked marks = filter (is_marked marks) (range_with_len 0 (length marks))
 
--- Of each block of 256 numbers that has a marked one, it is noted that it has; and no number before a place is marked.
+-- Of each block of 256 numbers that has a marked one, it is noted that it has; and no number before
+-- a place is marked.
 pub record AreKept (marks blocks : List Bool) (from : ℕ) : Type 0 where
   pub inside : (n : ℕ) → n < length marks → n / 256 < length blocks
   pub noted : (n : ℕ) → is_marked blocks (n / 256) ≡ false → is_marked marks n ≡ false
@@ -26,7 +27,8 @@ pub record IsFirstMarked (marks : List Bool) (from n : ℕ) : Type 0 where
   pub is : is_marked marks n ≡ true
   pub none_before : NoneMarked marks from n
 
--- A place after a number: the block's numbers from that number on, as far as there are any, are before it.
+-- A place after a number: the block's numbers from that number on, as far as there are any, are
+-- before it.
 pub record EndsBlock (limit number end : ℕ) : Type 0 where
   pub after : number < end
   pub within : end ≤ limit

@@ -1,4 +1,5 @@
--- The rows of tables after an edit that shifts what they point to, by what becomes of lines: `line` says it of the line of an offset.
+-- The rows of tables after an edit that shifts what they point to, by what becomes of lines: `line`
+-- says it of the line of an offset.
 use Rattle.std.specs.Prelude.{ℕ, map, option_map}
 use Rattle.snl_lex.specs.declared.lines.Line.{Line}
 use Rattle.snl_lex.specs.declared.shift.Shift.{Shift}

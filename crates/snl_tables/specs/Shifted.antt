@@ -1,5 +1,5 @@
--- The rows of tables after an edit that shifts what they point to, and changes no more than the body of a state, what wakes it and what is
--- known of the states of its set.
+-- The rows of tables after an edit that shifts what they point to, and changes no more than the
+-- body of a state, what wakes it and what is known of the states of its set.
 use Rattle.std.specs.Prelude.{ℕ, zero, suc, List, [], ◌∷◌, map, option_map}
 use Rattle.snl_lex.specs.declared.shift.Shift.{Shift}
 use Rattle.snl_lex.specs.Shift.{shifted_line, shifted_offset}
@@ -71,14 +71,16 @@ changed_at f n [] = []
 changed_at f zero (x ∷ xs) = f x ∷ xs
 changed_at f (suc n) (x ∷ xs) = x ∷ changed_at f n xs
 
--- The row of a state that has another body. It keeps its name, its line, its mark and what wakes it.
+-- The row of a state that has another body. It keeps its name, its line, its mark and what wakes
+-- it.
 abbrev pub with_own_body : StateBody → StateRow → StateRow
 with_own_body body row = record row { options = body.options; transitions = body.transitions; gotos = body.gotos }
 
 abbrev pub with_body_in : ℕ → StateBody → SetRow → SetRow
 with_body_in number body row = record row { states = changed_at (with_own_body body) number row.states }
 
--- The tables with another body of one state, by the number of its set and its own number among the states of the set.
+-- The tables with another body of one state, by the number of its set and its own number among the
+-- states of the set.
 abbrev pub with_body : Tables → ℕ → ℕ → StateBody → Tables
 with_body t set number body = record t { sets = changed_at (with_body_in number body) set t.sets }
 
@@ -89,7 +91,8 @@ with_own_wake wake row = record row { wake = wake }
 abbrev pub with_wake_in : ℕ → List WakeUp → SetRow → SetRow
 with_wake_in number wake row = record row { states = changed_at (with_own_wake wake) number row.states }
 
--- The tables with what wakes one state, by the number of its set and its own number among the states of the set.
+-- The tables with what wakes one state, by the number of its set and its own number among the
+-- states of the set.
 abbrev pub with_wake : Tables → ℕ → ℕ → List WakeUp → Tables
 with_wake t set number wake = record t { sets = changed_at (with_wake_in number wake) set t.sets }
 

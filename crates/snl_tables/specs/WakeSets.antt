@@ -1,4 +1,5 @@
--- The wake-up set of a state: the event flags and the channels on whose change it wakes up, by their numbers.
+-- The wake-up set of a state: the event flags and the channels on whose change it wakes up, by
+-- their numbers.
 use Rattle.std.specs.Prelude.{◌≡◌, ℕ, ◌+◌, ◌<◌, ◌||◌, nat_eq, Bool, true, false, List, [], length, filter}
 use Rattle.std.specs.List.{list_any, range_with_len, slice_index_or}
 use Rattle.snl_tables.specs.declared.rows.StateRow.{StateRow}

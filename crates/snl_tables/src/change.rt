@@ -39,8 +39,8 @@ fn fill_in_sets(sets: &mut Rows<SetRow>, set: usize, number: usize, body: StateB
 }
 
 impl Tables {
-    /// Gives another body to a state, by the number of its set and its own number in the set. Where there is no such state,
-    /// nothing changes.
+    /// Gives another body to a state, by the number of its set and its own number in the set. Where
+    /// there is no such state, nothing changes.
     pub fn set_body(&mut self, set: usize, number: usize, body: StateBody)
         ensures { self.new ≡ rows.with_body self.old set number body }
     {

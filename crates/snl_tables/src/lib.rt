@@ -1,5 +1,6 @@
-//! The tables of a text, as values: rows of options, event flags, channels, state sets and states, and the wake-up set of a
-//! state. It knows no rules: who makes the rows, and who prints them, are other crates.
+//! The tables of a text, as values: rows of options, event flags, channels, state sets and states,
+//! and the wake-up set of a state. It knows no rules: who makes the rows, and who prints them, are
+//! other crates.
 #![tactic(auto)]
 
 mod change;

@@ -99,7 +99,8 @@ fn unmarked(alloc: Global, count: usize) -> Result<Vec<bool>, OutOfMemory>
     vec![in alloc; false; count].map_err(|_| OutOfMemory)
 }
 
-// The first marked number from a place on. It is noted of each block that is passed that it has none.
+// The first marked number from a place on. It is noted of each block that is passed that it has
+// none.
 fn first_from(marks: &[bool], blocks: &mut [bool], from: usize) -> Option<usize>
     requires { AreKept marks.now blocks.old from }
     ensures first { MatchOption result (NoneMarked marks.now 0 (length marks.now)) (IsFirstMarked marks.now 0) }

@@ -1,5 +1,5 @@
-//! The rows of the tables of a text. A name is told by the bytes where it is written, so that a row is small however long the
-//! name is.
+//! The rows of the tables of a text. A name is told by the bytes where it is written, so that a row
+//! is small however long the name is.
 
 use crate::row_list::Rows;
 use snl_lex::Line;
@@ -61,7 +61,8 @@ pub struct ChannelRow {
     pub variable: Span,
     pub element: Option<u64>,
     pub scope: ScopeName,
-    /// The channel's name: the bytes between the quotes, as written, those of adjacent strings joined.
+    /// The channel's name: the bytes between the quotes, as written, those of adjacent strings
+    /// joined.
     pub pv: Name,
     pub is_monitored: bool,
     pub sync: Option<Synced>,
@@ -119,13 +120,13 @@ pub struct StateRow {
     pub transitions: Rows<Destination>,
     /// The states that statements in its transitions name.
     pub gotos: Rows<NamedState>,
-    /// What the names in its conditions mean, in the order of the text, those left out that mean no event flag and no
-    /// variable. Its wake-up set is all of these, each once.
+    /// What the names in its conditions mean, in the order of the text, those left out that mean no
+    /// event flag and no variable. Its wake-up set is all of these, each once.
     pub wake: Items<WakeUp>,
 }
 
-/// What the body of a state says: its options, where its transitions lead and which states statements name, as its row has them.
-/// That of a faulty state says nothing.
+/// What the body of a state says: its options, where its transitions lead and which states
+/// statements name, as its row has them. That of a faulty state says nothing.
 #[derive(Drop)]
 pub struct StateBody {
     pub options: Items<OptionRow>,
@@ -150,8 +151,8 @@ pub struct Tables {
     pub options: Items<OptionRow>,
     pub flags: Rows<FlagRow>,
     pub channels: Rows<ChannelRow>,
-    /// The channels of each variable, rising, by the number of the variable's declaration: one list for all states that
-    /// wake up on it. Most declarations have none.
+    /// The channels of each variable, rising, by the number of the variable's declaration: one list
+    /// for all states that wake up on it. Most declarations have none.
     pub variables: Items<Items<usize>>,
     pub sets: Rows<SetRow>,
 }

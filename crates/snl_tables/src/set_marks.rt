@@ -37,8 +37,8 @@ fn mark_in_sets(sets: &mut Rows<SetRow>, set: usize, marks: &[StateMark])
 }
 
 impl Tables {
-    /// Changes the marks of the states of a set, by the set's number, one by one, as far as there are both. Where there is no such
-    /// set, nothing changes.
+    /// Changes the marks of the states of a set, by the set's number, one by one, as far as there
+    /// are both. Where there is no such set, nothing changes.
     pub fn set_marks(&mut self, set: usize, marks: &[StateMark])
         ensures { self.new ≡ rows.with_marks self.old set marks.now }
     {

@@ -37,8 +37,8 @@ fn wake_in_sets(sets: &mut Rows<SetRow>, set: usize, number: usize, wake: Items<
 }
 
 impl Tables {
-    /// Changes what wakes a state, by the number of its set and its own number in the set. Where there is no such state, nothing
-    /// changes.
+    /// Changes what wakes a state, by the number of its set and its own number in the set. Where
+    /// there is no such state, nothing changes.
     pub fn set_wake(&mut self, set: usize, number: usize, wake: Items<WakeUp>)
         ensures { self.new ≡ rows.with_wake self.old set number wake }
     {

@@ -1,4 +1,5 @@
-//! What rows point to after an edit that shifts it: places are changed in place. No memory is asked for.
+//! What rows point to after an edit that shifts it: places are changed in place. No memory is asked
+//! for.
 
 ghost use Rattle.std.specs.Prelude.{◌≡◌, map, option_map};
 ghost use Rattle.snl_lex.specs.declared.shift.Shift.{Shift};

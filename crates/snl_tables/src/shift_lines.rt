@@ -1,5 +1,5 @@
-//! Tables after an edit before line markers, which shifts what their rows point to and the lines up to the next marker: the rows are changed in
-//! place. No memory is asked for.
+//! Tables after an edit before line markers, which shifts what their rows point to and the lines up
+//! to the next marker: the rows are changed in place. No memory is asked for.
 
 ghost use Rattle.std.specs.Prelude.{◌≡◌, map};
 ghost use Rattle.snl_lex.specs.declared.line_shift.LineShift.{LineShift};
@@ -59,7 +59,8 @@ fn shift_head(name: &mut Span, line: &mut Line, shift: LineShift)
 }
 
 impl Tables {
-    /// Shifts what the rows point to, and their lines, as an edit shifts them that changes nothing else of these tables.
+    /// Shifts what the rows point to, and their lines, as an edit shifts them that changes nothing
+    /// else of these tables.
     pub fn shift_lines(&mut self, shift: LineShift)
         ensures { self.new ≡ moved_tables shift.by (moved_line shift) self.old }
     {

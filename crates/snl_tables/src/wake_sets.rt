@@ -12,7 +12,8 @@ use snl_cut::OutOfMemory;
 use sqlite_items::Items;
 use std::alloc::Global;
 
-/// Marks of event flags and channels, with which the wake-up sets of many states are read, one after another.
+/// Marks of event flags and channels, with which the wake-up sets of many states are read, one
+/// after another.
 #[derive(Drop)]
 pub struct WakeMarks {
     pub flags: NumberSet,

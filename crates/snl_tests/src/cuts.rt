@@ -1,4 +1,5 @@
-//! The cut and the recut by a small front: what is kept, what is made, and how many members are counted.
+//! The cut and the recut by a small front: what is kept, what is made, and how many members are
+//! counted.
 
 ghost use Rattle.snl_tests.specs.Counted.{counted, counted_front, counted_local};
 ghost use Rattle.snl_cut.specs.Cut.{IsEdit, ticked};
@@ -118,7 +119,8 @@ fn cuts_by_the_count_in_front(rt: HostRuntime) -> Result<(), Fail> {
     expect_ends(&rt, rt.alloc(), &[], &[])
 }
 
-// The lists before and after the edit, how many units stay at the front and the back, and what is wanted.
+// The lists before and after the edit, how many units stay at the front and the back, and what is
+// wanted.
 struct Case {
     old: &'static [u8],
     new: &'static [u8],

@@ -1,4 +1,5 @@
-//! Declarations, functions and structs: which tokens make one, and which number is blamed where they don't.
+//! Declarations, functions and structs: which tokens make one, and which number is blamed where
+//! they don't.
 
 use crate::reading::{Row, read_row, read_tables};
 use std::test::Fail;

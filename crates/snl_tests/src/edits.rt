@@ -1,4 +1,5 @@
-//! A program after edits: how many pieces are made anew, and that they are as many as without the old ones.
+//! A program after edits: how many pieces are made anew, and that they are as many as without the
+//! old ones.
 
 ghost use Rattle.snl_cut.specs.Cut.{IsEdit};
 ghost use Rattle.std.specs.Prelude.{◌≡◌, ◌≤◌, ◌+◌, ◌++◌, IfOk, drop, length, take};
@@ -49,7 +50,8 @@ fn count_in(alloc: Global, text: &[u8]) -> Result<usize, Fail> {
     Ok(pieces.len())
 }
 
-// Says how many pieces an edit makes anew, and that as many are there after it as without the old ones.
+// Says how many pieces an edit makes anew, and that as many are there after it as without the old
+// ones.
 fn made_by(
     rt: &impl Abort,
     alloc: Global,
@@ -84,7 +86,8 @@ fn relexed(
     made_by(rt, alloc, text, &now, start, stop, start + new.len())
 }
 
-// What is put into the program before the edit, and where; the edit's range and its new bytes; how many pieces it makes.
+// What is put into the program before the edit, and where; the edit's range and its new bytes; how
+// many pieces it makes.
 struct Case {
     at: usize,
     before: &'static [u8],

@@ -1,5 +1,5 @@
-//! Expressions, mostly as the value of a variable, whose first token has number 3: which tokens make them, and which number
-//! is blamed where they don't.
+//! Expressions, mostly as the value of a variable, whose first token has number 3: which tokens
+//! make them, and which number is blamed where they don't.
 
 use crate::reading::{Row, read_row, read_tables};
 use std::test::Fail;

@@ -1,4 +1,5 @@
-//! Items: which tokens make one, which number is blamed where they don't, and the faulty pieces among them.
+//! Items: which tokens make one, which number is blamed where they don't, and the faulty pieces
+//! among them.
 
 use crate::reading::{Row, fault_of, read_tables, tokens_of};
 use snl_cut::Count;

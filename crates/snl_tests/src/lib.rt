@@ -1,4 +1,5 @@
-//! Tests of the public calls of the crates below, from the bytes of a text on. There is no code of the product here.
+//! Tests of the public calls of the crates below, from the bytes of a text on. There is no code of
+//! the product here.
 //!
 //! Tables hold the words of the language reference and their expected answers, reckoned by hand.
 #![tactic(auto)]

@@ -1,4 +1,5 @@
-//! Lists that change in place: each row says what a list is before, how it changes, and what it is then.
+//! Lists that change in place: each row says what a list is before, how it changes, and what it is
+//! then.
 
 ghost use Rattle.std.specs.Prelude.{◌≡◌, ℕ, ◌+◌, ◌-◌, ◌^◌, ◌<◌, ◌≤◌, IfOk, length, slice_index, true, vec_capacity, vec_len};
 

@@ -1,12 +1,14 @@
-//! Nesting: a hundred levels of each kind are read and let go on the stack that a program has, and one level more is refused.
+//! Nesting: a hundred levels of each kind are read and let go on the stack that a program has, and
+//! one level more is refused.
 
 use crate::reading::{fault_of, tokens_of};
 use snl_syntax::ParseFault;
 use std::alloc::Global;
 use std::test::Fail;
 
-/// A text is a head, an opening part so many times, an inner part, a closing part as many times, and a tail. After these
-/// five parts come how many times the opening part is within 100 levels, and the first token within 101, where it is there once more.
+/// A text is a head, an opening part so many times, an inner part, a closing part as many times,
+/// and a tail. After these five parts come how many times the opening part is within 100 levels,
+/// and the first token within 101, where it is there once more.
 type Nest = (
     &'static str,
     &'static str,
@@ -106,7 +108,8 @@ fn a_hundred_levels_are_read(rt: HostRuntime) -> Result<(), Fail> {
     Ok(())
 }
 
-// Texts that are as long as they may be, since nothing in them opens a level: a head, a part so many times, and a tail.
+// Texts that are as long as they may be, since nothing in them opens a level: a head, a part so
+// many times, and a tail.
 static CHAINS: [(&str, &str, &str); 5] = [
     // an `if` after an `else` is no level deeper
     ("exit { ", "if (a) ; else ", "; }"),

@@ -1,4 +1,5 @@
-//! What the tests of the parser share: a text comes in, its tokens, and what is answered for them as one item, go out.
+//! What the tests of the parser share: a text comes in, its tokens, and what is answered for them
+//! as one item, go out.
 
 ghost use Rattle.snl_lex.specs.Pieces.{LiesIn};
 ghost use Rattle.std.specs.Prelude.{All, IfOk};
@@ -49,7 +50,8 @@ fn read_rows(rt: &impl Abort, alloc: Global, rows: &[Row]) -> Result<(), Fail> {
     Ok(())
 }
 
-/// Reads each text of some tables as one item. Without its last token an item is none, and the token before that is blamed.
+/// Reads each text of some tables as one item. Without its last token an item is none, and the
+/// token before that is blamed.
 pub fn read_tables(rt: &impl Abort, alloc: Global, tables: &[&[Row]]) -> Result<(), Fail> {
     for rows in tables {
         read_rows(rt, alloc, rows)?;

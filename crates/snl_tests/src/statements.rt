@@ -1,4 +1,5 @@
-//! Blocks and statements, each in the block of an `exit`: which tokens make them, and which number is blamed where they don't.
+//! Blocks and statements, each in the block of an `exit`: which tokens make them, and which number
+//! is blamed where they don't.
 
 use crate::reading::{Row, read_tables};
 use std::test::Fail;

@@ -236,7 +236,8 @@ fn statement_of(transition: &Transition) -> Option<&Stmt> {
     }
 }
 
-// The name that is the only condition of the outer `if` of a transition, whether that has an `else`, and the same of the inner one.
+// The name that is the only condition of the outer `if` of a transition, whether that has an
+// `else`, and the same of the inner one.
 fn choices(transition: &Transition) -> Option<[(usize, bool); 2]> {
     let (name, body, has_else) = choice(statement_of(transition)?)?;
     let (inner, _body, inner_has_else) = choice(body)?;

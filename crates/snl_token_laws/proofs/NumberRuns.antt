@@ -42,7 +42,8 @@ joins : (before : List ℕ) (b : ℕ) → is_word_byte b ≡ true → number_joi
 unfolding number_joins
 joins before b h = or_left (is_word_byte b || b == 46) (is_sign b && awaits_sign before) (or_left (is_word_byte b) (b == 46) h)
 
--- Bytes that pass a test go on a number, where none of them leaves a sign to come: `keeps` holds of what is before each.
+-- Bytes that pass a test go on a number, where none of them leaves a sign to come: `keeps` holds of
+-- what is before each.
 pub record IsQuiet (passes : ℕ → Bool) (keeps : List ℕ → Bool) : Type 0 where
   pub word : (b : ℕ) → passes b ≡ true → is_word_byte b ≡ true
   pub kept : (before : List ℕ) (b : ℕ) → keeps before ≡ true → passes b ≡ true → keeps (b ∷ before) ≡ true

@@ -53,7 +53,8 @@ setter_counts text o = last_passes (sets_line text o) (pieces_of text) None tt
 sets_after : (text : List ℕ) (o : ℕ) (p : Piece) → sets_line text o p ≡ true → 0 < lines_between text (piece_end p) o
 sets_after text o p h = counted_if text (piece_end p) o (and_parts (numbers text p) (has_line_between text (piece_end p) o) (sym (sets_is text o p) ∙ h)).1
 
--- How many more lines end before the second offset: so much greater is its number, by the same marker.
+-- How many more lines end before the second offset: so much greater is its number, by the same
+-- marker.
 number_more : (text : List ℕ) (a b n : ℕ) (o : Option Piece) → a ≤ b → lines_between text a b ≡ n → IfSome o (λ p. sets_line text a p ≡ true) → number_by text b o ≡ number_by text a o + n
 number_more text a b n None le more h = omega (arith, more, count_split text 0 a b (omega arith) le)
 number_more text a b n (Some p) le more h =

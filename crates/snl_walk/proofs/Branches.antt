@@ -1,4 +1,5 @@
--- What is found in a choice or a loop, and what a member of a block declares: the fold at a variant.
+-- What is found in a choice or a loop, and what a member of a block declares: the fold at a
+-- variant.
 use Rattle.std.proofs.Common.{◌≡◌, ℕ, List, [], ◌++◌, Option, Some, None, ap, sym, ◌∙◌}
 use Rattle.snl_syntax.specs.declared.tree.expression.Expr.{Expr}
 use Rattle.snl_syntax.specs.declared.tree.declaration.Declaration.{Declaration}

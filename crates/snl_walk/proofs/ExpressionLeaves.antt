@@ -36,7 +36,8 @@ named_indexed n = is_index n.setting.follows
 abbrev NamedLeaves : List Named → List Spelled → Type 0
 NamedLeaves = AreLeaves named_at named_indexed
 
--- A name alone takes its setting as it comes; in any other operand what is found doesn't depend on what follows it.
+-- A name alone takes its setting as it comes; in any other operand what is found doesn't depend on
+-- what follows it.
 record IsAlone (o : Operand) (xs : List Spelled) : Type 0 where
   number : ℕ
   names : (s : Setting) → o.names s ≡ record { token = number; setting = s } ∷ []

@@ -1,5 +1,5 @@
--- No rule is told twice at one token: the tokens of occurrences rise, at one of them no rule is told twice, and what is told of
--- undeclared names is told of nothing else.
+-- No rule is told twice at one token: the tokens of occurrences rise, at one of them no rule is
+-- told twice, and what is told of undeclared names is told of nothing else.
 use Rattle.std.proofs.Common.{◌≡◌, ◌≢◌, ℕ, ◌<◌, Bool, true, false, cond, List, [], ◌∷◌, ◌++◌, map, filter, Option, refl, sym, ap, ◌∙◌, arith}
 use Rattle.std.specs.List.{AllByRecursion as Each, AllPairs, flat_map, list_any}
 use Rattle.std.specs.Str.{bytes_eq}

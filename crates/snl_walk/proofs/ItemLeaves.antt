@@ -1,5 +1,5 @@
--- The occurrences of an item are at leaves of what its tree spells, in their order: so their tokens are tokens of the item, and
--- rise.
+-- The occurrences of an item are at leaves of what its tree spells, in their order: so their tokens
+-- are tokens of the item, and rise.
 use Rattle.std.proofs.Common.{◌≡◌, ℕ, ◌+◌, ◌<◌, false, true, List, [], ◌∷◌, ◌++◌, length, map, slice_get, All, Option, None, Some, subst, refl}
 use Rattle.std.proofs.lemmas.List.{length-map}
 use Rattle.std.proofs.lemmas.List.Elements.{All-from_recursion}

@@ -17,8 +17,8 @@ begins_more [] zs h = absurd h
 begins_more (a ∷ []) zs h = absurd h
 begins_more (a ∷ b ∷ xs) zs h = h
 
--- What is found is at some of the leaves, in their order. `at` says at which number each is, and `indexed` whether a
--- subscript that is an integer alone follows it.
+-- What is found is at some of the leaves, in their order. `at` says at which number each is, and
+-- `indexed` whether a subscript that is an integer alone follows it.
 pub data AreLeaves {A : Type 0} (at : A → ℕ) (indexed : A → Bool) : List A → List Spelled → Type 0 where
   none : AreLeaves at indexed [] []
   past : {ys : List A} {xs : List Spelled} (x : Spelled) → AreLeaves at indexed ys xs → AreLeaves at indexed ys (x ∷ xs)

@@ -1,4 +1,5 @@
--- One step of a loop over occurrences: what it gave, with what the rest gives, is what all of them give.
+-- One step of a loop over occurrences: what it gave, with what the rest gives, is what all of them
+-- give.
 use Rattle.std.proofs.Common.{◌≡◌, ℕ, ◌+◌, ◌<◌, Bool, true, false, cond, List, [], ◌∷◌, ◌++◌, length, map, get_or, drop, Option, ap, sym, ◌∙◌}
 use Rattle.std.specs.List.{flat_map, list_any}
 use Rattle.std.specs.Str.{bytes_eq}

@@ -1,4 +1,5 @@
--- Where the same is answered of the names that an item uses and of its targets, the same is found wrong in it.
+-- Where the same is answered of the names that an item uses and of its targets, the same is found
+-- wrong in it.
 use Rattle.std.proofs.Common.{◌≡◌, ℕ, Bool, true, false, not, ◌&&◌, cond, filter, All, List, [], ◌∷◌, ◌++◌, map, Option, Some, None, is_none, refl, ap, sym, ◌∙◌, true≢false}
 use Rattle.std.proofs.lemmas.List.Elements.{recursion_from_All}
 use Rattle.std.specs.List.{AllByRecursion as Each, flat_map}

@@ -1,4 +1,5 @@
--- What the built-in functions ask of their first argument. They are told by their names, whatever declares these.
+-- What the built-in functions ask of their first argument. They are told by their names, whatever
+-- declares these.
 use Rattle.std.specs.Prelude.{ℕ, Bool, ◌||◌, codes, List, Option, Some, None, if◌then◌else◌}
 use Rattle.std.specs.Str.{bytes_eq}
 use Rattle.snl_walk.specs.declared.occurrence.ArgumentRole.{ArgumentRole}

@@ -72,7 +72,8 @@ is_error W04 = false
 is_error W05 = false
 is_error _ = true
 
--- How many bytes a message quotes, at a token of so many: none, an option's letter, or the whole token.
+-- How many bytes a message quotes, at a token of so many: none, an option's letter, or the whole
+-- token.
 abbrev pub quoted_bytes : Code → ℕ → ℕ
 quoted_bytes E01 len = 0
 quoted_bytes E02 len = 0

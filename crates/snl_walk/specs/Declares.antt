@@ -1,4 +1,5 @@
--- What the scopes of an item declare, in the order of the text, and what each name passes for there.
+-- What the scopes of an item declare, in the order of the text, and what each name passes for
+-- there.
 use Rattle.std.specs.Prelude.{ℕ, Bool, true, false, List, [], ◌∷◌, map, Option, Some, None}
 use Rattle.std.specs.List.{flat_map, list_any}
 use Rattle.std.specs.Str.{bytes_eq}

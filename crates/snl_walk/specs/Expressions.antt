@@ -14,14 +14,15 @@ use Rattle.snl_walk.specs.declared.occurrence.Follows.TheVariants as follows
 use Rattle.snl_walk.specs.declared.occurrence.Named.{Named}
 use Rattle.snl_walk.specs.declared.occurrence.Setting.{Setting}
 
--- What is found in an expression: the name that it is, if it is a name alone; whether it is an integer alone; and the names in
--- it, by how it occurs.
+-- What is found in an expression: the name that it is, if it is a name alone; whether it is an
+-- integer alone; and the names in it, by how it occurs.
 pub record Operand : Type 0 where
   pub name : Option ℕ
   pub is_integer : Bool
   pub names : Setting → List Named
 
--- What is found in a suffix: what it is to the operand before it, and the names in it, by the name directly before it.
+-- What is found in a suffix: what it is to the operand before it, and the names in it, by the name
+-- directly before it.
 pub record Tail : Type 0 where
   pub follows : Follows
   pub is_subscript : Bool
@@ -39,7 +40,8 @@ abbrev pub are_subscripts : List Tail → Bool
 are_subscripts [] = true
 are_subscripts (tail ∷ tails) = tail.is_subscript && are_subscripts tails
 
--- An operand before suffixes. Where these are subscripts alone, it is the argument that the whole is.
+-- An operand before suffixes. Where these are subscripts alone, it is the argument that the whole
+-- is.
 abbrev pub before : List Tail → Setting → Setting
 before tails s = record { follows = following tails; argument_of = if are_subscripts tails then s.argument_of else None }
 

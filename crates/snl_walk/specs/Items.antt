@@ -73,8 +73,8 @@ abbrev pub found_in_struct_member : (ℕ → List ℕ) → StructMember → List
 found_in_struct_member bytes (struct_members.Declaration d) = found_in_declaration bytes [] false d
 found_in_struct_member bytes (struct_members.CBlock n) = []
 
--- The occurrences of an item. What it declares at program level or in its state set is resolved by the links of all items: a
--- definition and the members of a struct see no names here.
+-- The occurrences of an item. What it declares at program level or in its state set is resolved by
+-- the links of all items: a definition and the members of a struct see no names here.
 unfoldable pub occurrences : (ℕ → List ℕ) → Item → List Occurrence
 occurrences bytes (items.Definition d) = found_in_declaration bytes [] false d
 occurrences bytes (items.Entry block) = found_in_block bytes block [] outside

@@ -1,5 +1,6 @@
--- What is found wrong in an item, over its occurrences. `bytes` says what each token is, `outer` what names pass for by their
--- declarations outside the item, and `misses` which states the state set of the item has not.
+-- What is found wrong in an item, over its occurrences. `bytes` says what each token is, `outer`
+-- what names pass for by their declarations outside the item, and `misses` which states the state
+-- set of the item has not.
 use Rattle.std.specs.Prelude.{ℕ, Bool, true, false, not, ◌&&◌, ◌==◌, if◌then◌else◌, codes, List, [], ◌∷◌, ◌++◌, map, Option, Some, None}
 use Rattle.std.specs.List.{flat_map}
 use Rattle.std.specs.Str.{bytes_eq}
@@ -44,7 +45,8 @@ wants_channel _ = false
 abbrev pub rules_at_call : List ℕ → Manner → List Code
 rules_at_call name m = when (not m.in_condition && bytes_eq name (codes "delay")) W03
 
--- At a name that is used: an event flag has to be a name alone, and a variable with a channel may have subscripts.
+-- At a name that is used: an event flag has to be a name alone, and a variable with a channel may
+-- have subscripts.
 abbrev pub rules_at_use : Option Outer → Manner → List Code
 rules_at_use passed m =
     when (wants_flag m.role && is_nothing m.follows && lacks_flag passed) E20 ++ when (wants_channel m.role && lacks_channel passed) E21
@@ -66,7 +68,8 @@ finding token code = record { token = token; code = code }
 abbrev pub found_wrong : (ℕ → List ℕ) → (List ℕ → Option Outer) → (List ℕ → Bool) → Occurrence → List Finding
 found_wrong bytes outer misses o = map (finding o.token) (rules_at outer misses (bytes o.token) o o.what)
 
--- What is wrong at each occurrence by itself, and then the first use of each name that nothing declares.
+-- What is wrong at each occurrence by itself, and then the first use of each name that nothing
+-- declares.
 unfoldable pub findings : (ℕ → List ℕ) → (List ℕ → Option Outer) → (List ℕ → Bool) → List Occurrence → List Finding
 findings bytes outer misses found =
     flat_map (found_wrong bytes outer misses) found ++ map (λ n. finding n W01) (undeclared bytes outer found)

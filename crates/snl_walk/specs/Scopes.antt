@@ -1,5 +1,5 @@
--- The names that are visible in a place of an item, with their declarations: those of the innermost scope first, and those of each
--- scope in the order of the text.
+-- The names that are visible in a place of an item, with their declarations: those of the innermost
+-- scope first, and those of each scope in the order of the text.
 use Rattle.std.specs.Prelude.{ℕ, Bool, List, Option, map}
 use Rattle.std.specs.Map.{lookup}
 use Rattle.std.specs.Str.{bytes_eq}

@@ -1,5 +1,5 @@
--- What is found in the statements of an item, in the order of the text. `bytes` says what each token is, and `visible` which names
--- are visible with what declarations.
+-- What is found in the statements of an item, in the order of the text. `bytes` says what each
+-- token is, and `visible` which names are visible with what declarations.
 use Rattle.std.specs.Prelude.{ℕ, Bool, true, false, not, ◌&&◌, ◌||◌, ◌==◌, if◌then◌else◌, List, [], ◌∷◌, ◌++◌, length, map, option_map, Option, Some, None, is_some}
 use Rattle.std.specs.List.{flat_map}
 use Rattle.snl_syntax.specs.declared.tree.declaration.Declaration.{Declaration}

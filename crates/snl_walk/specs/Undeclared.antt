@@ -1,4 +1,5 @@
--- Names that nothing declares, in the item or outside, and that have no meaning in the language itself.
+-- Names that nothing declares, in the item or outside, and that have no meaning in the language
+-- itself.
 use Rattle.std.specs.Prelude.{ℕ, Bool, not, ◌&&◌, ◌||◌, if◌then◌else◌, codes, nat_eq, List, [], ◌∷◌, ◌++◌, Option, is_none}
 use Rattle.std.specs.List.{list_any, starts_with}
 use Rattle.std.specs.Str.{bytes_eq}

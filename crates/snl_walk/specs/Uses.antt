@@ -1,4 +1,5 @@
--- What the occurrences of an item say to others: the names that it uses, the states that it leads to, and what its conditions mean.
+-- What the occurrences of an item say to others: the names that it uses, the states that it leads
+-- to, and what its conditions mean.
 use Rattle.std.specs.Prelude.{ℕ, ◌+◌, Bool, true, false, not, ◌&&◌, filter, List, [], ◌∷◌, ◌++◌, map, Option, Some, None, if◌then◌else◌}
 use Rattle.std.specs.List.{filter_map}
 use Rattle.snl_lex.specs.Numbers.{int_value_of}

@@ -118,7 +118,8 @@ impl Code {
         )
     }
 
-    /// How many bytes its message quotes, from the first byte of what it is about. `len` is the length of the token there.
+    /// How many bytes its message quotes, from the first byte of what it is about. `len` is the
+    /// length of the token there.
     pub fn quoted_bytes(self, len: usize) -> usize
         ensures { result ≡ quoted_bytes self len }
     {

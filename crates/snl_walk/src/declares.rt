@@ -1,4 +1,5 @@
-//! What the scopes of an item declare: parts of a tree come in, declarations go out, in the order of the text.
+//! What the scopes of an item declare: parts of a tree come in, declarations go out, in the order
+//! of the text.
 
 ghost use Rattle.std.specs.Prelude.{◌≡◌, ◌++◌, true, IfOk, OnOk, map};
 ghost use Rattle.std.specs.List.{flat_map};

@@ -1,4 +1,5 @@
-//! The names in expressions and initialisers, in the order of the text: a tree comes in, occurrences go out.
+//! The names in expressions and initialisers, in the order of the text: a tree comes in,
+//! occurrences go out.
 
 ghost use Rattle.std.specs.Prelude.{◌≡◌, ◌++◌, false, OnOk, map};
 ghost use Rattle.std.specs.List.{flat_map};

@@ -25,8 +25,8 @@ pub fn same_bytes_same_occurrences()
     ensures { (bytes moved : ℕ → List ℕ) (tree : Item) → ((n : ℕ) → bytes n ≡ moved n) → occurrences bytes tree ≡ occurrences moved tree }
 {}
 
-/// In the tree that is read of tokens, each occurrence is at one of these tokens, and at a later one than the occurrence
-/// before it.
+/// In the tree that is read of tokens, each occurrence is at one of these tokens, and at a later
+/// one than the occurrence before it.
 pub fn tokens_rise()
     ensures rise { (bytes : ℕ → List ℕ) (text : List ℕ) (tokens : List Piece) (tree : Item) → item_of (kinds_in text tokens) ≡ Some tree
         → IsStrictlyIncreasing (tokens_of (occurrences bytes tree)) }
@@ -37,7 +37,8 @@ pub fn tokens_rise()
     item_spelled();
 }
 
-/// In the tree of a function that is read of tokens, each occurrence is at a later token than the function's name.
+/// In the tree of a function that is read of tokens, each occurrence is at a later token than the
+/// function's name.
 pub fn functions_are_named_first()
     ensures { (bytes : ℕ → List ℕ) (text : List ℕ) (tokens : List Piece) (f : Function) → item_of (kinds_in text tokens) ≡ Some (items.Function f)
         → All (λ n. f.name < n) (tokens_of (occurrences bytes (items.Function f))) }
@@ -46,8 +47,8 @@ pub fn functions_are_named_first()
     item_spelled();
 }
 
-/// In the tree that is read of tokens, the letters of each option are at one of these tokens, and at a later one than those of
-/// the option before it.
+/// In the tree that is read of tokens, the letters of each option are at one of these tokens, and
+/// at a later one than those of the option before it.
 pub fn option_letters_rise()
     ensures rise { (text : List ℕ) (tokens : List Piece) (tree : Item) → item_of (kinds_in text tokens) ≡ Some tree
         → AllPairs (λ a b. a < b) (letters_in tree) }
@@ -58,7 +59,8 @@ pub fn option_letters_rise()
     item_spelled();
 }
 
-/// In the tree that is read of tokens, the second token after a name whose subscript is an integer alone is an integer.
+/// In the tree that is read of tokens, the second token after a name whose subscript is an integer
+/// alone is an integer.
 pub fn subscripts_stand_second()
     ensures { (bytes : ℕ → List ℕ) (text : List ℕ) (tokens : List Piece) (tree : Item) → item_of (kinds_in text tokens) ≡ Some tree
         → All (λ o. is_indexed o.what ≡ true → slice_get (kinds_in text tokens) (o.token + 2) ≡ Some Kind.Integer) (occurrences bytes tree) }
@@ -67,7 +69,8 @@ pub fn subscripts_stand_second()
     item_spelled();
 }
 
-/// In the tree that is read of tokens no rule is told twice at one token, whatever the other items say.
+/// In the tree that is read of tokens no rule is told twice at one token, whatever the other items
+/// say.
 pub fn each_finding_once()
     ensures { (bytes : ℕ → List ℕ) (outer : List ℕ → Option Outer) (misses : List ℕ → Bool) (text : List ℕ) (tokens : List Piece) (tree : Item)
         → item_of (kinds_in text tokens) ≡ Some tree → AllPairs (λ a b. a ≢ b) (findings bytes outer misses (occurrences bytes tree)) }
@@ -96,7 +99,8 @@ pub fn findings_stand_at_tokens()
     item_spelled();
 }
 
-/// What is found wrong goes by what the other items say of the names that an item uses and of those of its targets alone.
+/// What is found wrong goes by what the other items say of the names that an item uses and of those
+/// of its targets alone.
 pub fn same_answers_same_findings()
     ensures { (bytes : ℕ → List ℕ) (outer other : List ℕ → Option Outer) (misses missed : List ℕ → Bool) (found : List Occurrence)
         → All (λ n. outer (bytes n) ≡ other (bytes n)) (uses found) → All (λ n. misses (bytes n) ≡ missed (bytes n)) (targets found)

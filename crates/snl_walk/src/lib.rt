@@ -1,5 +1,6 @@
-//! What is found in an item, in the order of its text: its tree comes in, a list of occurrences goes out, each with what the
-//! rules ask of its place and with the declaration in the item that its name resolves to. It knows nothing of the other items.
+//! What is found in an item, in the order of its text: its tree comes in, a list of occurrences
+//! goes out, each with what the rules ask of its place and with the declaration in the item that
+//! its name resolves to. It knows nothing of the other items.
 #![tactic(auto)]
 
 mod calls;

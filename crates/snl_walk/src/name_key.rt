@@ -10,7 +10,8 @@ ghost use Rattle.snl_walk.specs.Prints.{joined_hash, print_of};
 
 use std::hash::{FoldHasher, Hash, Hasher};
 
-/// A name as a key of a table. It is hashed by its print, where the bytes of a slice take a write each.
+/// A name as a key of a table. It is hashed by its print, where the bytes of a slice take a write
+/// each.
 #[derive(Clone, Copy)]
 pub struct NameKey<'a> {
     pub bytes: &'a [u8],
@@ -26,9 +27,10 @@ fn joined_hash(a: u64, b: u64) -> u64
     state.finish()
 }
 
-/// The print of a name, which is a hash of all its bytes. Two hashers take them, eight at a time, the second each eight from
-/// the last byte to the first. One word can give a hasher any state that is wanted, but not both; and no two words exchange
-/// their states. What both say is joined in order. So names of one print are found by search alone.
+/// The print of a name, which is a hash of all its bytes. Two hashers take them, eight at a time,
+/// the second each eight from the last byte to the first. One word can give a hasher any state that
+/// is wanted, but not both; and no two words exchange their states. What both say is joined in
+/// order. So names of one print are found by search alone.
 #[tactic(auto, unfolding(crate::specs::Prints::print_of))]
 pub fn print_of(name: &[u8]) -> u64
     ensures { result ≡ print_of name.now }

@@ -1,7 +1,7 @@
 //! What is at the tokens of an item, as far as a rule speaks of it.
 
-/// A declaration in an item, by the token of its name: whether the name passes for an event flag, and for a variable that has a
-/// channel.
+/// A declaration in an item, by the token of its name: whether the name passes for an event flag,
+/// and for a variable that has a channel.
 #[derive(Clone, Copy, Debug, PartialEq, Eq)]
 pub struct Local {
     pub token: usize,
@@ -56,8 +56,8 @@ pub enum What {
     Target,
 }
 
-/// What is at a token of an item, by the token's number in it. `means` is the declaration in the item that a name resolves
-/// to.
+/// What is at a token of an item, by the token's number in it. `means` is the declaration in the
+/// item that a name resolves to.
 #[derive(Clone, Copy, Debug, PartialEq, Eq)]
 pub struct Occurrence {
     pub token: usize,

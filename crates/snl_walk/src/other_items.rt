@@ -3,7 +3,8 @@
 ghost use Rattle.std.specs.Prelude.{◌≡◌, ℕ, Bool, List, Option};
 ghost use Rattle.snl_walk.specs.declared.other_items.Outer.{Outer};
 
-/// What a name passes for by its declaration outside the item: for an event flag, and for a variable that has a channel.
+/// What a name passes for by its declaration outside the item: for an event flag, and for a
+/// variable that has a channel.
 #[derive(Clone, Copy, Debug, PartialEq, Eq)]
 pub struct Outer {
     pub flag: bool,
@@ -16,7 +17,8 @@ pub trait OtherItems {
 
     ghost misses: { Self → List ℕ → Bool };
 
-    /// What a name passes for by its declaration in the nearest scope around the item that declares it.
+    /// What a name passes for by its declaration in the nearest scope around the item that declares
+    /// it.
     fn outer(&self, name: &[u8]) -> Option<Outer>
         ensures { result ≡ outer_of self.now name.now };
 

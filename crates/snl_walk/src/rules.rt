@@ -1,4 +1,5 @@
-//! The rules on what is inside an item: its occurrences come in, what is found wrong at them goes out, in the order of the text.
+//! The rules on what is inside an item: its occurrences come in, what is found wrong at them goes
+//! out, in the order of the text.
 
 ghost use Rattle.std.specs.Prelude.{◌≡◌, ◌++◌, IfOk, OnOk, map};
 ghost use Rattle.std.specs.List.{flat_map};
@@ -108,7 +109,8 @@ fn add_at_call(
     add_when(delays, token, Code::W03, findings)
 }
 
-// Adds what is found wrong at a name that is used, and passes for something or is declared by nothing.
+// Adds what is found wrong at a name that is used, and passes for something or is declared by
+// nothing.
 fn add_at_use(
     token: usize,
     passes: Option<Outer>,
@@ -198,8 +200,9 @@ fn add_undeclared(tokens: &[usize], findings: &mut Vec<Finding>) -> Result<(), O
     Ok(())
 }
 
-/// What is found wrong at the occurrences of an item, where the other items say this of its names: what is wrong at each by
-/// itself, in the order of the text, and then the first use of each name that nothing declares.
+/// What is found wrong at the occurrences of an item, where the other items say this of its names:
+/// what is wrong at each by itself, in the order of the text, and then the first use of each name
+/// that nothing declares.
 #[tactic(auto, unfolding(crate::specs::Rules::findings))]
 pub fn findings<O: OtherItems>(
     source: &Source,

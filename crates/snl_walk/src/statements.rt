@@ -1,4 +1,5 @@
-//! What is found in the statements of an item: a tree comes in, occurrences go out, in the order of the text.
+//! What is found in the statements of an item: a tree comes in, occurrences go out, in the order of
+//! the text.
 
 ghost use Rattle.std.specs.Prelude.{◌≡◌, ◌++◌, IfOk, OnOk};
 ghost use Rattle.snl_walk.specs.Tokens.{IsSource, token_bytes};

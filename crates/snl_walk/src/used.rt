@@ -1,4 +1,5 @@
-//! What an item says to others: its occurrences come in, those go out that use names, lead to states or can wake a state.
+//! What an item says to others: its occurrences come in, those go out that use names, lead to
+//! states or can wake a state.
 
 ghost use Rattle.std.specs.Prelude.{◌≡◌, IfOk};
 ghost use Rattle.snl_walk.specs.Tokens.{IsSource, token_bytes};
@@ -10,15 +11,16 @@ use snl_cut::OutOfMemory;
 use snl_lex::int_value;
 use std::alloc::Global;
 
-/// A use of a name in a condition, by the name's token, with its subscript where that is an integer alone.
+/// A use of a name in a condition, by the name's token, with its subscript where that is an integer
+/// alone.
 #[derive(Clone, Copy, Debug, PartialEq, Eq)]
 pub struct WakeUse {
     pub token: usize,
     pub subscript: Option<u64>,
 }
 
-/// The name of a state that an item leads to, by its token, and whether a statement `state NAME;` names it, else the end of a
-/// transition.
+/// The name of a state that an item leads to, by its token, and whether a statement `state NAME;`
+/// names it, else the end of a transition.
 #[derive(Clone, Copy, Debug, PartialEq, Eq)]
 pub struct TargetUse {
     pub token: usize,

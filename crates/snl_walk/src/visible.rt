@@ -18,8 +18,8 @@ struct Entry<'a> {
     earlier: Option<Local>,
 }
 
-/// Names with their declarations, the last one taken in first, which contracts see as that list. The last declaration of a
-/// name that was taken in counts; a table finds it at once.
+/// Names with their declarations, the last one taken in first, which contracts see as that list.
+/// The last declaration of a name that was taken in counts; a table finds it at once.
 pub(crate) struct Visible<'a> {
     entries: Vec<Entry<'a>>,
     held: IndexMap<NameKey<'a>, Option<Local>>,

@@ -1,7 +1,7 @@
 //! The words of the command line.
 //!
-//! In: the words, the first being the program's name. Out: the file that `--source` names, if it is there. The crate
-//! knows nothing of files and of what the program does with one.
+//! In: the words, the first being the program's name. Out: the file that `--source` names, if it is
+//! there. The crate knows nothing of files and of what the program does with one.
 #![tactic(auto)]
 
 ghost use Rattle.std.specs.Prelude.{◌≡◌, ◌≢◌, false, map, option_map, true, string_bytes};
@@ -18,7 +18,8 @@ use thiserror::Error;
 /// Why the words name no source and don't leave it out either.
 #[derive(Clone, Copy, Debug, PartialEq, Eq, Error)]
 pub enum WordsFault {
-    /// The command doesn't take these words: a word is unknown, the value is missing, there are two, or help is asked for.
+    /// The command doesn't take these words: a word is unknown, the value is missing, there are
+    /// two, or help is asked for.
     #[error("usage: snl_cli [--source FILE]")]
     Usage,
     /// A growth was refused.

@@ -1,5 +1,5 @@
-//! What is known of the states of a set: its items come in, by what is kept of each; the mark of each state goes out. It knows no
-//! tokens.
+//! What is known of the states of a set: its items come in, by what is kept of each; the mark of
+//! each state goes out. It knows no tokens.
 
 ghost use Rattle.std.specs.Prelude.{◌≡◌, ◌<◌, ℕ, IfOk, List, false, filter, length, map, not, slice_index_or};
 ghost use Rattle.std.specs.List.{enumerate_from, filter_map, list_any};
@@ -19,8 +19,8 @@ use snl_scope::{Links, NameRef};
 use snl_tables::StateMark;
 use std::alloc::Global;
 
-/// An item of a state set, by what is kept of it: its number, whether the grammar has no such item, its name, where it is a state that
-/// has one, and the targets of its summary.
+/// An item of a state set, by what is kept of it: its number, whether the grammar has no such item,
+/// its name, where it is a state that has one, and the targets of its summary.
 #[derive(Clone, Copy)]
 pub struct SetMember<'a> {
     pub item: usize,
@@ -127,8 +127,8 @@ fn is_first(links: &Links, member: &SetMember) -> bool
     }
 }
 
-/// What is known of a state, which has this number among the states of its set: the first that holds. `has_faulty` is that an item of
-/// the set is faulty; `reached` is asked only where none is.
+/// What is known of a state, which has this number among the states of its set: the first that
+/// holds. `has_faulty` is that an item of the set is faulty; `reached` is asked only where none is.
 pub(crate) fn first_mark(
     is_faulty: bool,
     is_first: bool,
@@ -183,7 +183,8 @@ fn marks_of(
     Ok(marks)
 }
 
-/// What is known of each state of the set that an item begins, in the order of the text, by all items of the set.
+/// What is known of each state of the set that an item begins, in the order of the text, by all
+/// items of the set.
 pub fn state_marks(
     alloc: Global,
     links: &Links,

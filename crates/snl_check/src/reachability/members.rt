@@ -1,5 +1,5 @@
-//! What is in a state set: the items of a text and their links come in; the states of a set, the targets of each and the mark of
-//! each go out.
+//! What is in a state set: the items of a text and their links come in; the states of a set, the
+//! targets of each and the mark of each go out.
 
 ghost use Rattle.std.specs.Prelude.{◌≡◌, ◌<◌, ◌≤◌, ◌&&◌, ℕ, IfOk, false, length, nat_eq, nat_lt, option_copied, position, None};
 ghost use Rattle.std.specs.List.Sorted.{IsStrictlyIncreasing};
@@ -20,7 +20,8 @@ use snl_cut::OutOfMemory;
 use snl_lex::{Class, Piece, token_text};
 use snl_scope::{Links, sets_open_in_turn};
 
-/// What is in a state set: its states, by the numbers of their items, and whether an item is faulty.
+/// What is in a state set: its states, by the numbers of their items, and whether an item is
+/// faulty.
 #[derive(Drop)]
 pub(crate) struct Members {
     pub states: Vec<usize>,

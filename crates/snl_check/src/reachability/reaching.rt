@@ -1,5 +1,6 @@
-//! The states of a state set that a walk along targets reaches from the initial one: the targets of each state come in; for
-//! each state, whether it is reached, goes out. States are numbers here. It knows nothing of their names, nor of items.
+//! The states of a state set that a walk along targets reaches from the initial one: the targets of
+//! each state come in; for each state, whether it is reached, goes out. States are numbers here. It
+//! knows nothing of their names, nor of items.
 
 ghost use Rattle.std.specs.Prelude.{◌≡◌, ◌<◌, ◌↔◌, ℕ, [], ◌∷◌, false, true, All, IfOk, OnOk, Some, length, replicate, slice_get};
 ghost use Rattle.snl_check.specs.Reach.{AreStates, Enters, IsReached, is_reached, target_lists};
@@ -54,8 +55,8 @@ impl Search {
     }
 }
 
-/// Of each state, whether a walk along targets leads to it from the first one. Each state is taken once, and each of its
-/// targets looked at once.
+/// Of each state, whether a walk along targets leads to it from the first one. Each state is taken
+/// once, and each of its targets looked at once.
 pub fn reach(alloc: Global, targets: &[Vec<usize>]) -> Result<Vec<bool>, OutOfMemory>
     requires { AreStates (target_lists targets.now) }
     ensures each { IfOk result (λ reached. length reached.items ≡ length targets.now) }

@@ -1,5 +1,6 @@
-//! The body of the row of a state: the tokens and the tree of the state and the links come in, its options, where its transitions
-//! lead and which states its statements name go out. It knows no other items.
+//! The body of the row of a state: the tokens and the tree of the state and the links come in, its
+//! options, where its transitions lead and which states its statements name go out. It knows no
+//! other items.
 
 ghost use Rattle.std.specs.Prelude.{◌≡◌, IfOk, map, option_copied};
 ghost use Rattle.std.specs.List.{flat_map};
@@ -87,8 +88,9 @@ fn members_in<'a>(tree: Option<&'a Item>) -> &'a [StateMember]
     }
 }
 
-/// The body of the row of the state that consists of these tokens, of which each lies in the text, and has this number among the
-/// linked items. A faulty state has no tree. `targets` are the names of states that its check told.
+/// The body of the row of the state that consists of these tokens, of which each lies in the text,
+/// and has this number among the linked items. A faulty state has no tree. `targets` are the names
+/// of states that its check told.
 pub fn state_body(
     alloc: Global,
     text: &[u8],

@@ -1,4 +1,5 @@
-//! Names of channels: the strings of a clause come in, what is between their quotes goes out, joined.
+//! Names of channels: the strings of a clause come in, what is between their quotes goes out,
+//! joined.
 
 ghost use Rattle.std.specs.Prelude.{◌≡◌, IfOk};
 ghost use Rattle.snl_walk.specs.Tokens.{IsSource};

@@ -39,7 +39,8 @@ fn which_number(which: Which) -> u64
     }
 }
 
-// Each number has a write of its own: in one write of both, an element could be chosen that gives all variables one hash.
+// Each number has a write of its own: in one write of both, an element could be chosen that gives
+// all variables one hash.
 impl Hash for Key {
     ghost hash_input = { key_fed };
 
@@ -51,8 +52,8 @@ impl Hash for Key {
     }
 }
 
-/// For each element that has a channel the number of the channel, and for each variable of such elements the number of the
-/// first. Contracts see the list of these pairs.
+/// For each element that has a channel the number of the channel, and for each variable of such
+/// elements the number of the first. Contracts see the list of these pairs.
 #[derive(Drop)]
 pub(crate) struct ChannelNumbers {
     held: IndexMap<Key, usize>,
@@ -94,7 +95,8 @@ impl ChannelNumbers {
         Ok(())
     }
 
-    // Adds the keys of the channel with a number: it is one of the variable, of this element, if it is that of one.
+    // Adds the keys of the channel with a number: it is one of the variable, of this element, if it
+    // is that of one.
     fn add_channel(
         &mut self,
         variable: usize,

@@ -1,4 +1,5 @@
-//! The channels of a text: its clauses come in, each channel that a sound `assign` names goes out, in the order of the text.
+//! The channels of a text: its clauses come in, each channel that a sound `assign` names goes out,
+//! in the order of the text.
 
 ghost use Rattle.std.specs.Prelude.{◌≡◌, ◌++◌, IfOk, OnOk, map};
 ghost use Rattle.snl_check.specs.Channels.{assigned_channel, assigned_channels, by_element, channels_in, channels_of_clause};
@@ -11,8 +12,8 @@ use snl_cut::OutOfMemory;
 use snl_syntax::tree::clause::{Channel, Clause};
 use sqlite_items::Items;
 
-/// A channel: the item of its clause, the token that names the variable there, the number of the variable's declaration,
-/// the element, if it is that of one, and the strings of its name.
+/// A channel: the item of its clause, the token that names the variable there, the number of the
+/// variable's declaration, the element, if it is that of one, and the strings of its name.
 #[derive(Clone, Copy)]
 pub(crate) struct AssignedChannel<'a> {
     pub item: usize,
@@ -22,7 +23,8 @@ pub(crate) struct AssignedChannel<'a> {
     pub strings: &'a [usize],
 }
 
-// An `assign`: its item, the token that names its variable, and the number of the variable's declaration.
+// An `assign`: its item, the token that names its variable, and the number of the variable's
+// declaration.
 #[derive(Clone, Copy)]
 struct Assign {
     item: usize,

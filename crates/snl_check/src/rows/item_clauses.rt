@@ -1,5 +1,5 @@
-//! The clauses of a text: the trees of its items and their links come in, the trees of the clauses go out, each with the number
-//! of its item and with what links tell of it.
+//! The clauses of a text: the trees of its items and their links come in, the trees of the clauses
+//! go out, each with the number of its item and with what links tell of it.
 
 ghost use Rattle.std.specs.Prelude.{◌≡◌, ◌++◌, IfOk, OnOk, map, option_copied};
 ghost use Rattle.std.specs.List.{flat_map};

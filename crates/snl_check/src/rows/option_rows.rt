@@ -1,4 +1,5 @@
-//! The rows of options: the items of a text, or the members of a state, come in; the last setting of each known letter goes out.
+//! The rows of options: the items of a text, or the members of a state, come in; the last setting
+//! of each known letter goes out.
 
 ghost use Rattle.std.specs.Prelude.{◌≡◌, ◌++◌, IfOk, OnOk, map, option_map};
 ghost use Rattle.std.specs.List.{flat_map};

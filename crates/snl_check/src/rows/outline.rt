@@ -1,5 +1,5 @@
-//! What the rows of states are made from: their items, the lines of their text, what the check of each gave, and the numbers of
-//! channels.
+//! What the rows of states are made from: their items, the lines of their text, what the check of
+//! each gave, and the numbers of channels.
 
 ghost use Rattle.std.specs.Prelude.{◌≡◌};
 
@@ -9,7 +9,8 @@ use crate::rules::findings::Checked;
 use snl_lex::{Line, LineList};
 use snl_walk::{TargetUse, WakeUse};
 
-/// The items of a text, its lines, what the check of each item gave that isn't faulty, and the numbers of channels.
+/// The items of a text, its lines, what the check of each item gave that isn't faulty, and the
+/// numbers of channels.
 #[derive(Clone, Copy)]
 pub(crate) struct Outline<'a> {
     pub row_source: RowSource<'a>,

@@ -1,4 +1,5 @@
-//! What rows are made from: the items of a text, their clauses and their links come in, scopes go out by their names.
+//! What rows are made from: the items of a text, their clauses and their links come in, scopes go
+//! out by their names.
 
 ghost use Rattle.std.specs.Prelude.{◌≡◌, option_map};
 

@@ -34,7 +34,8 @@ fn mark_of(
     first_mark(is_faulty, is_first, members.has_faulty, reached, number)
 }
 
-// Of each state of a set whether it is reached. Where an item of the set is faulty, nothing is said.
+// Of each state of a set whether it is reached. Where an item of the set is faulty, nothing is
+// said.
 fn reached_among(outline: &Outline, members: &Members, set: usize) -> Result<Vec<bool>, OutOfMemory>
     requires outline { IsOutline outline.now }
     requires states { members.now.states.items ≡ states_in outline.now.row_source.links.now.outlines set }

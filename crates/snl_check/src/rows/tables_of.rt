@@ -108,8 +108,9 @@ fn rows_by_outline(outline: &Outline, channels: &[AssignedChannel]) -> Result<Ta
     })
 }
 
-/// The tables of a text, by its lines and its tokens. `ends` has, for each item, the number of the token after
-/// it; a faulty item has no tree. `checked` has what the check gave of each item that isn't faulty.
+/// The tables of a text, by its lines and its tokens. `ends` has, for each item, the number of the
+/// token after it; a faulty item has no tree. `checked` has what the check gave of each item that
+/// isn't faulty.
 pub fn tables_by_tokens(
     alloc: Global,
     text: &[u8],
@@ -144,7 +145,8 @@ pub fn tables_by_tokens(
     Ok(tables)
 }
 
-/// The tables of a text, by its pieces. `ends` has, for each item, the number of the token after it; a faulty item has no tree.
+/// The tables of a text, by its pieces. `ends` has, for each item, the number of the token after
+/// it; a faulty item has no tree.
 /// `checked` has what the check gave of each item that isn't faulty.
 pub fn tables(
     alloc: Global,

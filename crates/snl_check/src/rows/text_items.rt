@@ -1,4 +1,5 @@
-//! The items of a text: the number of an item comes in, its tokens, its tree and where they are go out. It knows no rules.
+//! The items of a text: the number of an item comes in, its tokens, its tree and where they are go
+//! out. It knows no rules.
 
 ghost use Rattle.std.specs.Prelude.{◌≡◌, option_copied};
 ghost use Rattle.snl_check.specs.Items as items;
@@ -9,7 +10,8 @@ use snl_tables::Span;
 use snl_walk::Source;
 use std::alloc::Global;
 
-/// The tokens of a text, the number of the token after each item, and the trees of the items. A faulty item has no tree.
+/// The tokens of a text, the number of the token after each item, and the trees of the items. A
+/// faulty item has no tree.
 #[derive(Clone, Copy)]
 pub(crate) struct TextItems<'a> {
     pub text: &'a [u8],

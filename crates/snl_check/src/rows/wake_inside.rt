@@ -1,5 +1,6 @@
-//! What wakes a state up after an edit inside it: its tokens, the uses in its conditions and the rows of channels come in, the event
-//! flags, channels and variables that they mean go out. It asks no clause.
+//! What wakes a state up after an edit inside it: its tokens, the uses in its conditions and the
+//! rows of channels come in, the event flags, channels and variables that they mean go out. It asks
+//! no clause.
 
 ghost use Rattle.std.specs.Prelude.{◌≡◌, ◌<◌, ℕ, IfOk, List, length, true};
 ghost use Rattle.std.specs.List.{list_any};
@@ -48,8 +49,9 @@ fn numbers_for(
     Ok(numbers)
 }
 
-/// What wakes a state up, of which an edit changed the inside, whatever became of lines: `own` are its tokens after the edit, and `uses`
-/// those of names in its conditions. The tables are those before the edit: it changed no channel.
+/// What wakes a state up, of which an edit changed the inside, whatever became of lines: `own` are
+/// its tokens after the edit, and `uses` those of names in its conditions. The tables are those
+/// before the edit: it changed no channel.
 pub fn wake_inside(
     alloc: Global,
     text: &[u8],

@@ -1,5 +1,5 @@
-//! What wakes a state up: the uses of names in its conditions come in, the event flags, channels and variables that they mean go
-//! out.
+//! What wakes a state up: the uses of names in its conditions come in, the event flags, channels
+//! and variables that they mean go out.
 
 ghost use Rattle.std.specs.Prelude.{◌≡◌, IfOk, Some, is_some};
 ghost use Rattle.std.specs.List.{filter_map};
@@ -73,7 +73,8 @@ fn wake_up(
     }
 }
 
-/// What the uses of names in the conditions of an item mean, in the order of the text, by the numbers of channels.
+/// What the uses of names in the conditions of an item mean, in the order of the text, by the
+/// numbers of channels.
 pub(crate) fn wakes_by(
     source: &Source,
     links: &Links,

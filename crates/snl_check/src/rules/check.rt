@@ -69,8 +69,9 @@ fn checked_by(source: &Source, tree: &Item, view: &View) -> Result<Checked, OutO
     })
 }
 
-/// Checks the item that consists of these tokens, of which each lies in the text, and has this tree and this number among the
-/// linked ones. Its findings go by its tokens, its tree and what it sees of the other items alone.
+/// Checks the item that consists of these tokens, of which each lies in the text, and has this tree
+/// and this number among the linked ones. Its findings go by its tokens, its tree and what it sees
+/// of the other items alone.
 pub fn check_item(
     alloc: Global,
     text: &[u8],

@@ -1,4 +1,5 @@
-//! The conditions of a state: its uses of names before an edit and its tree after it come in, whether they say the same goes out.
+//! The conditions of a state: its uses of names before an edit and its tree after it come in,
+//! whether they say the same goes out.
 
 ghost use Rattle.std.specs.Prelude.{◌≡◌, ◌↔◌, IfOk, IsTrue, map, option_copied};
 ghost use Rattle.snl_walk.specs.Tokens.{IsSource, token_bytes};
@@ -48,8 +49,9 @@ fn same_uses(other: &Source, uses_there: &[WakeUse], own: &Source, uses: &[WakeU
     true
 }
 
-/// Whether the conditions of an item use the names that another item used, each with the subscript that it had. `uses` are those of
-/// the other's conditions, as its check told them. A faulty item has no tree.
+/// Whether the conditions of an item use the names that another item used, each with the subscript
+/// that it had. `uses` are those of the other's conditions, as its check told them. A faulty item
+/// has no tree.
 pub fn wakes_alike(
     alloc: Global,
     old: &[u8],

@@ -1,5 +1,5 @@
-//! The letters of options: a tree comes in, findings at the single bytes of tokens that are not known, and what an option says of
-//! warnings, go out. It knows nothing of other items' options.
+//! The letters of options: a tree comes in, findings at the single bytes of tokens that are not
+//! known, and what an option says of warnings, go out. It knows nothing of other items' options.
 
 ghost use Rattle.std.specs.Prelude.{◌≡◌, ◌++◌, OnOk};
 ghost use Rattle.std.specs.List.{flat_map};
@@ -64,8 +64,8 @@ fn add_state(
     Ok(())
 }
 
-/// Adds a finding at each unknown letter of the options of an item. One that is in a state set and in no state is out of
-/// place, and sets nothing.
+/// Adds a finding at each unknown letter of the options of an item. One that is in a state set and
+/// in no state is out of place, and sets nothing.
 pub(crate) fn add_unknown_options(
     source: &Source,
     tree: &Item,
@@ -114,8 +114,8 @@ pub(crate) fn is_on(sign: OptionSign) -> bool
     }
 }
 
-/// Whether an item turns warnings on or off, if it does one of them. One that is in a state set is out of place, and
-/// does neither.
+/// Whether an item turns warnings on or off, if it does one of them. One that is in a state set is
+/// out of place, and does neither.
 pub fn warning_setting(source: &Source, tree: &Item, links: &Links, item: usize) -> Option<bool>
     requires { IsSource source.now.text.now source.now.tokens.now }
     ensures { result ≡ warning_setting (token_bytes source.now.text.now source.now.tokens.now) (is_in_set links.now.outlines item) tree.now }

@@ -37,7 +37,8 @@ fn outer_of(fact: Fact) -> Outer
     }
 }
 
-/// What an item sees of the other items: the item is told by its number among those that are linked.
+/// What an item sees of the other items: the item is told by its number among those that are
+/// linked.
 #[derive(Clone, Copy)]
 pub(crate) struct View<'a> {
     pub links: &'a Links,

@@ -9,8 +9,8 @@ use crate::words::add_word;
 use snl_walk::{Finding, Occurrence, OtherItems, Outer, Source, findings};
 use std::test::Fail;
 
-/// Around the items of these tests there are an event flag `e`, a variable `c` with a channel and one without, `v`, and a foreign
-/// name `g`, in a state set whose one state is `z`.
+/// Around the items of these tests there are an event flag `e`, a variable `c` with a channel and
+/// one without, `v`, and a foreign name `g`, in a state set whose one state is `z`.
 struct Around;
 
 fn passing(flag: bool, channel: bool) -> Option<Outer>

@@ -62,7 +62,8 @@ dims_by text tokens no_pointer None = dims_without_length no_pointer
 dims_by text tokens no_pointer (Some None) = dims.Unknown
 dims_by text tokens no_pointer (Some (Some e)) = dims_by_integer text tokens (lone_integer e)
 
--- A declarator with neither `*` nor `[ ]` is plain; its first length is known where the first brackets hold one integer.
+-- A declarator with neither `*` nor `[ ]` is plain; its first length is known where the first
+-- brackets hold one integer.
 abbrev pub dims_of : List ℕ → List Piece → Declarator → Dims
 dims_of text tokens d = dims_by text tokens (length d.pointers == 0) (slice_get d.lengths 0)
 

@@ -1,4 +1,5 @@
-//! To what each declaration is assigned: resolved clauses come in, a table by the numbers of declarations goes out.
+//! To what each declaration is assigned: resolved clauses come in, a table by the numbers of
+//! declarations goes out.
 
 ghost use Rattle.std.specs.Prelude.{◌≡◌, ◌&&◌, ◌++◌, ◌∷◌, [], List, map, is_none, IfOk, OnOk};
 ghost use Rattle.snl_scope.specs.ByNumber.{at_number};

@@ -1,5 +1,5 @@
-//! What sound clauses claim of variables: a clause comes in, and whether it overlaps an earlier one goes out, and which was
-//! the first to speak of a channel.
+//! What sound clauses claim of variables: a clause comes in, and whether it overlaps an earlier one
+//! goes out, and which was the first to speak of a channel.
 
 ghost use Rattle.std.specs.Prelude.{◌≡◌, ◌&&◌, nat_eq, if◌then◌else◌, IfOk, None, OnOk, Some};
 ghost use Rattle.std.specs.Map.{lookup};
@@ -65,7 +65,8 @@ fn extent_number(extent: Extent) -> u64
     }
 }
 
-// Each number has a write of its own: in one write of both, an element could be chosen that gives all variables one hash.
+// Each number has a write of its own: in one write of both, an element could be chosen that gives
+// all variables one hash.
 impl Hash for Claim {
     ghost hash_input = { claim_fed };
 
@@ -99,7 +100,8 @@ fn lesser(first: Option<usize>, second: Option<usize>) -> Option<usize>
     }
 }
 
-/// What is claimed of a variable for a purpose, but for its elements, by the numbers of the first clauses that do.
+/// What is claimed of a variable for a purpose, but for its elements, by the numbers of the first
+/// clauses that do.
 #[derive(Clone, Copy)]
 pub(crate) struct Extents {
     pub any: Option<usize>,
@@ -115,7 +117,8 @@ pub(crate) struct VariableClaims {
     pub sync: Extents,
 }
 
-/// The claims of clauses, each with the number of the first that makes it. Only those on elements are sought in a table.
+/// The claims of clauses, each with the number of the first that makes it. Only those on elements
+/// are sought in a table.
 #[derive(Drop)]
 pub(crate) struct ClauseIndex {
     // for each variable its place among those that are claimed
@@ -181,7 +184,8 @@ fn place_of(places: &[Option<usize>], claimed: &[VariableClaims], variable: usiz
     }
 }
 
-// Adds the number of the first clause that makes a claim on an element. A new claim, as nearly all are, takes one look-up.
+// Adds the number of the first clause that makes a claim on an element. A new claim, as nearly all
+// are, takes one look-up.
 fn add_element(
     elements: &mut IndexMap<Claim, usize>,
     claim: Claim,
@@ -274,7 +278,8 @@ impl ClauseIndex {
         }
     }
 
-    /// The number of the first clause that speaks of the channel of an element, or of that of the whole variable.
+    /// The number of the first clause that speaks of the channel of an element, or of that of the
+    /// whole variable.
     pub(crate) fn first_clause(
         &self,
         purpose: Purpose,

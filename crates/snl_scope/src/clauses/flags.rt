@@ -1,5 +1,5 @@
-//! The event flags: the tables of names come in, and the numbers of the entries that are event flags go out, in the order
-//! of the text. It doesn't know how names are found.
+//! The event flags: the tables of names come in, and the numbers of the entries that are event
+//! flags go out, in the order of the text. It doesn't know how names are found.
 
 ghost use Rattle.std.specs.Prelude.{◌≡◌, suc, IfOk, List, nat_eq, option_map, position};
 ghost use Rattle.std.specs.List.Sorted.{IsStrictlyIncreasing};
@@ -33,8 +33,8 @@ fn flag_stands(symbols: &[Symbol], number: usize) -> bool
     }
 }
 
-/// The numbers of the entries that are event flags. The tables list the first of each name in its namespace, in the order of
-/// the text.
+/// The numbers of the entries that are event flags. The tables list the first of each name in its
+/// namespace, in the order of the text.
 pub(crate) fn flags_of(alloc: Global, tables: &NameTables) -> Result<Vec<usize>, OutOfMemory>
     ensures { IfOk result (λ flags. (ss : List Outline)
         → Follows tables.now.names tables.now.first tables.now.symbols.items tables.now.faults.items (entries ss)

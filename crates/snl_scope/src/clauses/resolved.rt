@@ -1,5 +1,5 @@
-//! What the names in clauses resolve to: the tables of all items and their outlines come in, each clause goes out with the
-//! numbers of its variable and its flag.
+//! What the names in clauses resolve to: the tables of all items and their outlines come in, each
+//! clause goes out with the numbers of its variable and its flag.
 
 ghost use Rattle.std.specs.Prelude.{◌≡◌, ◌++◌, map, IfOk, OnOk, option_and_then};
 ghost use Rattle.snl_scope.specs.Clauses.{clauses_of, linked_clause, resolve_in};

@@ -1,5 +1,5 @@
-//! Which clauses are sound: resolved clauses come in, their links, what is found at them and the claims of the sound ones
-//! go out.
+//! Which clauses are sound: resolved clauses come in, their links, what is found at them and the
+//! claims of the sound ones go out.
 
 ghost use Rattle.std.specs.Prelude.{◌≡◌, ◌&&◌, ◌||◌, ◌++◌, ◌∷◌, [], List, Bool, false, length, not, map, Option, IfOk, OnOk, if◌then◌else◌, option_to_list};
 ghost use Rattle.std.specs.Option.{option_map_or};
@@ -210,8 +210,8 @@ fn link_of(clause: Resolved, is_sound: bool) -> ClauseLink
     }
 }
 
-/// Clauses of which it is known whether they are sound: their links, and the claims of the sound ones, each with the number
-/// of the first that makes it.
+/// Clauses of which it is known whether they are sound: their links, and the claims of the sound
+/// ones, each with the number of the first that makes it.
 #[derive(Drop)]
 pub(crate) struct JudgedClauses {
     pub links: Vec<ClauseLink>,

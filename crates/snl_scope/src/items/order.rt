@@ -1,5 +1,5 @@
-//! What is found of the order of items: the finished tables of their outlines and the kinds of all come in, findings at
-//! items go out.
+//! What is found of the order of items: the finished tables of their outlines and the kinds of all
+//! come in, findings at items go out.
 
 ghost use Rattle.std.specs.Prelude.{◌≡◌, false, ◌++◌, ◌<◌, IfOk, IfSome, OnOk, ◌&&◌, ◌||◌, not, is_none, length, replicate};
 ghost use Rattle.snl_scope.specs.Order.{found_if, header_faults, is_faulty, is_program_word, is_ss_word, misplaced_items, missing_states, order_faults, unmatched_braces};
@@ -140,7 +140,8 @@ fn add_unmatched(
     Ok(())
 }
 
-// Whether an item is a later header, where it is known whether an earlier item begins with `program`.
+// Whether an item is a later header, where it is known whether an earlier item begins with
+// `program`.
 fn is_repeated(kind: ItemKind, opening: Opening, has_program: bool) -> bool
     ensures { result ≡ (not (is_faulty kind) && (is_program_word opening && has_program)) }
 {

@@ -95,8 +95,8 @@ fn is_barred(enclosing_set: Option<usize>, kind: ItemKind) -> bool
     }
 }
 
-/// What the items so far say to the next one: the greatest phase, whether an item of phase 2, 3 or 4 was among them,
-/// and whether one began with `program`.
+/// What the items so far say to the next one: the greatest phase, whether an item of phase 2, 3 or
+/// 4 was among them, and whether one began with `program`.
 #[derive(Clone, Copy)]
 pub(crate) struct Before {
     greatest: u8,

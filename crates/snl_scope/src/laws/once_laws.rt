@@ -1,4 +1,5 @@
-//! The laws of findings that are made once, and of where they are. A function here does nothing: its contract is the law.
+//! The laws of findings that are made once, and of where they are. A function here does nothing:
+//! its contract is the law.
 
 ghost use Rattle.snl_lex.specs.declared.piece.Piece.{Piece};
 ghost use Rattle.snl_scope.specs.FaultPlaces.{IsPlaced, SpeaksOfTokens};
@@ -13,8 +14,8 @@ ghost use Rattle.std.specs.Prelude.{◌≡◌, ◌<◌, ℕ, All, IfSome, List, 
 
 use snl_syntax::{item_read, item_spelled};
 
-/// In the outline of an item, no two declarations are at one token, nor are the variables of two clauses, nor the flags
-/// of two. A faulty item has none of them.
+/// In the outline of an item, no two declarations are at one token, nor are the variables of two
+/// clauses, nor the flags of two. A faulty item has none of them.
 pub fn tokens_declared_once()
     ensures tree { (text : List ℕ) (tokens : List Piece) (t : Item) → item_of (kinds_in text tokens) ≡ Some t → TokensRise (outline_in text tokens (Some t)) }
     ensures faulty { (text : List ℕ) (tokens : List Piece) → TokensRise (outline_in text tokens None) }
@@ -23,7 +24,8 @@ pub fn tokens_declared_once()
     item_spelled();
 }
 
-/// Where the tokens of each outline rise, no finding of the links comes twice: no two have the same item, token and code.
+/// Where the tokens of each outline rise, no finding of the links comes twice: no two have the same
+/// item, token and code.
 pub fn each_fault_once()
     ensures { (l : LinkedItems) → All TokensRise l.outlines → AreFoundOnce (faults_of l) }
 {}
@@ -37,8 +39,8 @@ pub fn outlines_speak_of_tokens()
     item_spelled();
 }
 
-/// Where each outline speaks of tokens of its item alone, each finding of the links is at a token of an item, but for what is
-/// missing altogether.
+/// Where each outline speaks of tokens of its item alone, each finding of the links is at a token
+/// of an item, but for what is missing altogether.
 pub fn faults_have_places()
     ensures { (l : LinkedItems) (counts : ℕ → ℕ) → ((i : ℕ) → IfSome (slice_get l.outlines i) (SpeaksOfTokens (counts i)))
         → All (IsPlaced counts l.outlines) (faults_of l) }

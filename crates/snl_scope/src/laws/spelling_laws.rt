@@ -9,8 +9,9 @@ ghost use Rattle.snl_walk.specs.Tokens.{token_bytes};
 ghost use Rattle.snl_syntax.specs.declared.tree.item.Item.{Item};
 ghost use Rattle.std.specs.Prelude.{◌≡◌, ℕ, List, Option};
 
-/// Tokens that are spelled alike have the same bytes and, with the same tree, the same summary, whichever texts they are in:
-/// both go by their spelling alone. Tokens that are a text by themselves are spelled there as they are.
+/// Tokens that are spelled alike have the same bytes and, with the same tree, the same summary,
+/// whichever texts they are in: both go by their spelling alone. Tokens that are a text by
+/// themselves are spelled there as they are.
 pub fn same_spelling_same_summary()
     ensures bytes { (text moved : List ℕ) (tokens shifted : List Piece) → spelled text tokens ≡ spelled moved shifted → token_bytes text tokens ≡ token_bytes moved shifted }
     ensures summary { (text moved : List ℕ) (tokens shifted : List Piece) → spelled text tokens ≡ spelled moved shifted → (tree : Option Item) → summary_in text tokens tree ≡ summary_in moved shifted tree }

@@ -10,7 +10,8 @@ ghost use Rattle.snl_walk.specs.Once.{once, with_new};
 ghost use Rattle.std.specs.Prelude.{◌≡◌, ◌≢◌, ◌↔◌, ◌++◌, ◌∷◌, [], ℕ, List, None, Some};
 ghost use Rattle.std.specs.List.{AllPairs, Contains};
 
-/// Each name is kept, no other is, and no two are the same; they are in the order in which they come first.
+/// Each name is kept, no other is, and no two are the same; they are in the order in which they
+/// come first.
 pub fn names_kept_once()
     ensures same { (names : List (List ℕ)) → (name : List ℕ) → Contains (once names) name ↔ Contains names name }
     ensures apart { (names : List (List ℕ)) → AllPairs (λ a b. a ≢ b) (once names) }

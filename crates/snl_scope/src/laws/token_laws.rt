@@ -1,4 +1,5 @@
-//! The laws of the tokens that trees and summaries name. A function here does nothing: its contract is the law.
+//! The laws of the tokens that trees and summaries name. A function here does nothing: its contract
+//! is the law.
 
 ghost use Rattle.snl_lex.specs.declared.piece.Piece.{Piece};
 ghost use Rattle.snl_scope.specs.NamedTokens.{NamesItsTokens, target_tokens};
@@ -21,7 +22,8 @@ pub fn names_are_tokens()
     tokens_rise();
 }
 
-/// The targets in the summary of an item are at tokens of the item, each at a later one than the target before it.
+/// The targets in the summary of an item are at tokens of the item, each at a later one than the
+/// target before it.
 pub fn targets_rise()
     ensures rise { (text : List ℕ) (tokens : List Piece) (t : Item) → item_of (kinds_in text tokens) ≡ Some t → IsStrictlyIncreasing (target_tokens (summary_in text tokens (Some t))) }
     ensures own { (text : List ℕ) (tokens : List Piece) (t : Item) → item_of (kinds_in text tokens) ≡ Some t → All (λ n. n < length tokens) (target_tokens (summary_in text tokens (Some t))) }

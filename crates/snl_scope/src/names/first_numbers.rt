@@ -1,4 +1,5 @@
-//! For each name in a namespace, the number of the first that came with it. The names are told by their numbers.
+//! For each name in a namespace, the number of the first that came with it. The names are told by
+//! their numbers.
 
 ghost use Rattle.std.specs.Prelude.{◌≡◌, ◌++◌, ◌∷◌, [], ◌<◌, ℕ, IfOk, OnOk, Some, false, true, if◌then◌else◌, is_some, vec_len};
 ghost use Rattle.std.specs.Map.{lookup};
@@ -12,14 +13,16 @@ use indexmap::IndexMap;
 use snl_cut::OutOfMemory;
 use std::alloc::Global;
 
-/// What the program has under a name, and whether a state set or a state may have something under it, too.
+/// What the program has under a name, and whether a state set or a state may have something under
+/// it, too.
 #[derive(Clone, Copy)]
 pub(crate) struct NameHead {
     pub in_program: Option<usize>,
     pub is_inner: bool,
 }
 
-/// The numbers of the first that came. Most names are the program's alone, and these are found with no look-up in a table.
+/// The numbers of the first that came. Most names are the program's alone, and these are found with
+/// no look-up in a table.
 #[derive(Drop)]
 pub(crate) struct FirstNumbers {
     pub heads: Vec<NameHead>,
@@ -62,8 +65,8 @@ fn make_head(heads: &mut Vec<NameHead>, name: usize) -> Result<(), OutOfMemory>
     Ok(())
 }
 
-// Adds the number of the first that came with a key, and tells whether one came before, which then stays the first. A new
-// key, as nearly all are, takes one look-up.
+// Adds the number of the first that came with a key, and tells whether one came before, which then
+// stays the first. A new key, as nearly all are, takes one look-up.
 fn add_first(table: &mut IndexMap<Key, usize>, key: Key, number: usize) -> Result<bool, OutOfMemory>
     ensures seen { IfOk result (λ seen. seen ≡ is_some (lookup (same_key key) table.old.entries)) }
     ensures stays { IfOk result (λ seen. seen ≡ true → table.new.entries ≡ table.old.entries) }
@@ -119,7 +122,8 @@ impl FirstNumbers {
         head.in_program
     }
 
-    /// The number of the first that came in the scope of a state, or else in the state set, or else in the program.
+    /// The number of the first that came in the scope of a state, or else in the state set, or else
+    /// in the program.
     pub(crate) fn nearest_to(
         &self,
         item: usize,
@@ -170,7 +174,8 @@ impl FirstNumbers {
         Ok(came_before)
     }
 
-    /// Adds the number of the first that came with a key, and tells whether one came before, which then stays the first.
+    /// Adds the number of the first that came with a key, and tells whether one came before, which
+    /// then stays the first.
     pub(crate) fn add(&mut self, key: Key, number: usize) -> Result<bool, OutOfMemory>
         ensures seen { IfOk result (λ seen. seen ≡ is_some (number_under self.old key.namespace key.name)) }
         ensures stays { IfOk result (λ seen. seen ≡ true → AreSame self.old self.new) }

@@ -12,8 +12,9 @@ use snl_walk::print_of;
 use std::alloc::Global;
 use std::marker::Model;
 
-/// Different names, which contracts see as their list. The number of a name is its place in it. A name is found by its print, which is
-/// one hash of all its bytes: as a key of a table it would be hashed byte by byte.
+/// Different names, which contracts see as their list. The number of a name is its place in it. A
+/// name is found by its print, which is one hash of all its bytes: as a key of a table it would be
+/// hashed byte by byte.
 #[derive(Drop)]
 pub(crate) struct Names {
     names: Vec<Name>,

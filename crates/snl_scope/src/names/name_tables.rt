@@ -18,8 +18,8 @@ use snl_cut::OutOfMemory;
 use snl_walk::Code;
 use std::alloc::Global;
 
-/// A name that an item brings into a namespace: `code` is what it gives where an earlier one has the name, and `variable`
-/// is what a declaration says of it.
+/// A name that an item brings into a namespace: `code` is what it gives where an earlier one has
+/// the name, and `variable` is what a declaration says of it.
 #[derive(Clone, Copy)]
 pub(crate) struct Named<'a> {
     pub namespace: Namespace,
@@ -39,8 +39,8 @@ pub(crate) struct Symbol {
     pub variable: Option<Variable>,
 }
 
-/// The names that have come so far: for each name in a namespace the number of the first that came, for each number where it
-/// is, and the findings at those that came again.
+/// The names that have come so far: for each name in a namespace the number of the first that came,
+/// for each number where it is, and the findings at those that came again.
 #[derive(Drop)]
 pub(crate) struct NameTables {
     pub names: Names,

@@ -7,8 +7,8 @@ ghost use Rattle.snl_scope.specs.Hashed.{key_number, namespace_number, same_key_
 
 use std::hash::{Hash, Hasher};
 
-/// A namespace, in which a name is to occur once. A state set is told by the number of its `ss NAME {` item, and a
-/// state by that of its own item.
+/// A namespace, in which a name is to occur once. A state set is told by the number of its `ss NAME
+/// {` item, and a state by that of its own item.
 #[derive(Clone, Copy, PartialEq, Eq)]
 pub(crate) enum Namespace {
     /// The scope of the program.

@@ -1,4 +1,5 @@
-//! The clauses on variables that an item has: its tree comes in, each clause with what it covers goes out.
+//! The clauses on variables that an item has: its tree comes in, each clause with what it covers
+//! goes out.
 
 ghost use Rattle.snl_scope.specs.Summaries.Clauses.{clause_of, clause_on, clauses_in, clauses_of_member, covered_by_channel, covered_by_subscript, element, flag_at};
 ghost use Rattle.snl_walk.specs.Tokens.{IsSource};

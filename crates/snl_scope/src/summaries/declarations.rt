@@ -1,4 +1,5 @@
-//! The names that an item declares outside its blocks: its tree comes in, each name with what a declaration says of it goes out.
+//! The names that an item declares outside its blocks: its tree comes in, each name with what a
+//! declaration says of it goes out.
 
 ghost use Rattle.snl_scope.specs.Summaries.Declares.{declared_at, declared_by_declaration, declared_by_declarator, declared_by_foreign, declared_by_function, declared_by_member, declared_in, declared_in_tree, dims_by_integer, dims_of, foreign_name, function_name, lone_integer, symbol_kind_of};
 ghost use Rattle.snl_walk.specs.Tokens.{IsSource};

@@ -83,8 +83,8 @@ impl SameValue for Outline {
     }
 }
 
-/// Whether two items say the same to the others. Links of the same outlines answer the same, since contracts see them as
-/// the list of these.
+/// Whether two items say the same to the others. Links of the same outlines answer the same, since
+/// contracts see them as the list of these.
 pub fn same_outline(one: &Outline, other: &Outline) -> bool
     ensures { IsTrue result ↔ (one.now ≡ other.now) }
 {

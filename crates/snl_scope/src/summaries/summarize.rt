@@ -1,5 +1,5 @@
-//! The summary of an item: its tokens and its tree come in, what it says to the other items goes out.
-//! It knows nothing of the other items.
+//! The summary of an item: its tokens and its tree come in, what it says to the other items goes
+//! out. It knows nothing of the other items.
 
 ghost use Rattle.snl_scope.specs.Summaries.{kind_of, kind_of_tree, occurrences_in, opening_by_word, opening_in, role_of, second_in, summary_in};
 ghost use Rattle.snl_scope.specs.Summaries.Clauses.{clauses_in};
@@ -64,7 +64,8 @@ fn kind_of(tree: Option<&Item>) -> ItemKind
     }
 }
 
-// What an item of a kind is to the others, where it is known whether it has declarations or clauses.
+// What an item of a kind is to the others, where it is known whether it has declarations or
+// clauses.
 fn role_of(kind: ItemKind, has_some: bool) -> Role
     ensures { result ≡ role_of kind has_some }
 {
@@ -179,8 +180,8 @@ fn few_clauses(source: &Source, tree: Option<&Item>) -> Result<Few<VariableClaus
     Ok(Few::from_vec(source.alloc, clauses_in(source, tree)?)?)
 }
 
-/// The summary of the item that consists of these tokens, of which each lies in the text. `tree` is the item's tree; an item
-/// without one is faulty, and declares and uses nothing.
+/// The summary of the item that consists of these tokens, of which each lies in the text. `tree` is
+/// the item's tree; an item without one is faulty, and declares and uses nothing.
 pub fn summary_of(
     alloc: Global,
     text: &[u8],

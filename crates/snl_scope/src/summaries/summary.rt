@@ -45,7 +45,8 @@ pub enum Role {
     SetBegin,
     /// `}`
     SetEnd,
-    /// A state with declarations or clauses, which are in the state's own scope. A state without any is as any other item.
+    /// A state with declarations or clauses, which are in the state's own scope. A state without
+    /// any is as any other item.
     State,
     Other,
 }
@@ -124,7 +125,8 @@ pub struct VariableClause {
 
 /// What an item says to the others.
 pub struct Outline {
-    /// The names that it declares outside its blocks. Those of a state are in the state's own scope.
+    /// The names that it declares outside its blocks. Those of a state are in the state's own
+    /// scope.
     pub declares: Few<Declared>,
     pub clauses: Few<VariableClause>,
     /// The second token, if that is a name; it has the number 1.

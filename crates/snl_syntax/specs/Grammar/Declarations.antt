@@ -1,4 +1,5 @@
--- Declarations. Inner says what an expression without commas is one level deeper, and Value what comes after `=`.
+-- Declarations. Inner says what an expression without commas is one level deeper, and Value what
+-- comes after `=`.
 use Rattle.std.specs.Prelude.{◌≡◌, ℕ, zero, suc, Bool, false, List, [], ◌∷◌, Option}
 use Rattle.snl_lex.specs.declared.kind.Kind.TheVariants as kind
 use Rattle.snl_syntax.specs.declared.tree.expression.Expr.{Expr}
@@ -37,7 +38,8 @@ pub data IsInitOf (Here : Expr → List NumberedKind → List NumberedKind → T
   value : (x : Expr) → t ≡ inits.Value x → Here x k rest → IsInitOf Here Inner t k rest
   list : (xs : List Init) (trailing : Bool) (mid : List NumberedKind) → t ≡ inits.List xs trailing → First kind.OpenBrace k mid → AreBraced Inner xs trailing mid rest → IsInitOf Here Inner t k rest
 
--- The value of a declarator that is in so many levels; tokens from the `free`th on may use `extra` more.
+-- The value of a declarator that is in so many levels; tokens from the `free`th on may use `extra`
+-- more.
 abbrev pub IsInit : ℕ → ℕ → ℕ → Init → List NumberedKind → List NumberedKind → Type 0
 IsInit free extra (suc depth) t k rest = IsInitOf (IsAssignx free extra (suc depth)) (IsInit free extra depth) t k rest
 IsInit free (suc extra) zero t k rest = AreFree free k × IsInitOf (IsAssignx free (suc extra) zero) (IsInit free extra zero) t k rest

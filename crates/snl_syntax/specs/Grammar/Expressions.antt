@@ -1,4 +1,5 @@
--- Expressions, from the tightest level to the loosest. Inner says what an expression without commas is one level deeper, and Names what the name of a type is there.
+-- Expressions, from the tightest level to the loosest. Inner says what an expression without commas
+-- is one level deeper, and Names what the name of a type is there.
 use Rattle.std.specs.Prelude.{◌≡◌, Bool, true, false, ℕ, zero, suc, List, [], ◌∷◌}
 use Rattle.snl_lex.specs.declared.kind.Kind.TheVariants as kind
 use Rattle.snl_syntax.specs.declared.operator.Binary.{Binary}
@@ -68,7 +69,8 @@ pub data IsPostfix (Inner : Expr → List NumberedKind → List NumberedKind →
   bare : IsPrimary Inner Names t k rest → IsPostfix Inner Names t k rest
   suffixed : (x : Expr) (s : Suffix) (ss : List Suffix) (mid : List NumberedKind) → t ≡ tree.Postfix x (s ∷ ss) → IsPrimary Inner Names x k mid → Each (IsSuffix Inner) (s ∷ ss) mid rest → IsPostfix Inner Names t k rest
 
--- An operator before an operand; the cast is "(" type stars ")". The flag says that `sizeof` is directly before it: then it is no cast.
+-- An operator before an operand; the cast is "(" type stars ")". The flag says that `sizeof` is
+-- directly before it: then it is no cast.
 pub data IsOperator (Names : TypeName → List NumberedKind → List NumberedKind → Type 0) (after : Bool) (t : Prefix) (k rest : List NumberedKind) : Type 0 where
   sign : (op : Sign) → t ≡ prefixes.Sign op → First (sign_mark op) k rest → IsOperator Names after t k rest
   sizeof : t ≡ prefixes.Sizeof → First kind.Sizeof k rest → IsOperator Names after t k rest
@@ -129,7 +131,8 @@ pub data IsSingle (Inner : Expr → List NumberedKind → List NumberedKind → 
   value : IsConditional Inner Names t k rest → IsSingle Inner Names t k rest
   assignment : (target : Expr × Assignment) (targets : List (Expr × Assignment)) (x : Expr) (mid : List NumberedKind) → t ≡ tree.Assigned (target ∷ targets) x → Each (IsTarget Inner Names) (target ∷ targets) k mid → IsConditional Inner Names x mid rest → IsSingle Inner Names t k rest
 
--- An expression without commas, in so many levels; tokens from the `free`th on may use `extra` more.
+-- An expression without commas, in so many levels; tokens from the `free`th on may use `extra`
+-- more.
 abbrev pub IsAssignx : ℕ → ℕ → ℕ → Expr → List NumberedKind → List NumberedKind → Type 0
 IsAssignx free extra (suc depth) t k rest = IsSingle (IsAssignx free extra depth) (Within free extra depth IsTypeName) t k rest
 IsAssignx free (suc extra) zero t k rest = AreFree free k × IsSingle (IsAssignx free extra zero) (Within free extra zero IsTypeName) t k rest

@@ -16,7 +16,8 @@ use Rattle.snl_syntax.specs.Grammar.Types.{IsType, IsPointer}
 use Rattle.snl_syntax.specs.Grammar.Expressions.{AreCommas, IsAssignx}
 use Rattle.snl_syntax.specs.Grammar.Declarations.{IsLength}
 
--- param = type stars [NAME] { "[" [expr] "]" }; Inner says what an expression without commas is one level deeper
+-- param = type stars [NAME] { "[" [expr] "]" }; Inner says what an expression without commas is one
+-- level deeper
 pub record IsParameterOf (Inner : Expr → List NumberedKind → List NumberedKind → Type 0) (t : Parameter) (k rest : List NumberedKind) : Type 0 where
   pub m1 : List NumberedKind
   pub m2 : List NumberedKind
@@ -75,7 +76,8 @@ pub record IsStruct (Inner : Declaration → List NumberedKind → List Numbered
   pub closing : First kind.CloseBrace m4 m5
   pub semicolon : First kind.Semicolon m5 rest
 
--- An item that begins with a type. Here says what a declaration is at an item's own level, and the others what is within its brackets.
+-- An item that begins with a type. Here says what a declaration is at an item's own level, and the
+-- others what is within its brackets.
 pub data IsTypedItem (Here Inner : Declaration → List NumberedKind → List NumberedKind → Type 0) (Param : Parameter → List NumberedKind → List NumberedKind → Type 0) (Block : List Member → List NumberedKind → List NumberedKind → Type 0) (t : Item) (k rest : List NumberedKind) : Type 0 where
   definition : (d : Declaration) → t ≡ items.Definition d → Here d k rest → IsTypedItem Here Inner Param Block t k rest
   function : (f : Function) → t ≡ items.Function f → IsFunction Param Block f k rest → IsTypedItem Here Inner Param Block t k rest

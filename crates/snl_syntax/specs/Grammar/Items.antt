@@ -41,7 +41,8 @@ pub record IsSetBegin (n : ℕ) (k rest : List NumberedKind) : Type 0 where
   pub name : Leaf kind.Name n m1 m2
   pub opening : First kind.OpenBrace m2 rest
 
--- An item that is in two levels more than `depth`: so the members of a state are in one more, and what the brackets of a `when` hold in `depth`. Tokens from the `free`th on may use `extra` more.
+-- An item that is in two levels more than `depth`: so the members of a state are in one more, and
+-- what the brackets of a `when` hold in `depth`. Tokens from the `free`th on may use `extra` more.
 pub data IsItemWithin (free extra depth : ℕ) (t : Item) (k rest : List NumberedKind) : Type 0 where
   header : (n : ℕ) (ns : Option (List ℕ)) → t ≡ items.Header n ns → IsHeader n ns k rest → IsItemWithin free extra depth t k rest
   set_begin : (n : ℕ) → t ≡ items.SsBegin n → IsSetBegin n k rest → IsItemWithin free extra depth t k rest
@@ -56,7 +57,8 @@ pub data IsItemWithin (free extra depth : ℕ) (t : Item) (k rest : List Numbere
   state : (n : ℕ) (ms : List StateMember) → t ≡ items.StateBlock n ms → IsState (IsExpr free extra depth) (IsDeclaration free extra (suc depth)) (IsBlockWithin free extra (suc depth)) n ms k rest → IsItemWithin free extra depth t k rest
   typed : IsTypedItem (IsDeclaration free extra (suc (suc depth))) (IsDeclaration free extra (suc depth)) (IsParameter free extra (suc depth)) (IsBlockWithin free extra (suc (suc depth))) t k rest → IsItemWithin free extra depth t k rest
 
--- The item that all tokens of these kinds make: each leaf is the number of its token, and no token lies within more than 100 levels.
+-- The item that all tokens of these kinds make: each leaf is the number of its token, and no token
+-- lies within more than 100 levels.
 abbrev pub IsItem : Item → List Kind → Type 0
 IsItem t kinds = IsItemWithin 0 0 99 t (ahead kinds 0) []
 

@@ -1,5 +1,8 @@
--- Statements and blocks. Inside says what an expression is one level deeper, Outside what it is at a statement's own level, Head what the brackets of a `for` are, Declared what a declaration is one level deeper, and Inner what a statement is there.
--- A statement that is before an `else` doesn't end with an `if` that has none: it is closed. The flag `closed` is handed on to what a statement ends with.
+-- Statements and blocks. Inside says what an expression is one level deeper, Outside what it is at
+-- a statement's own level, Head what the brackets of a `for` are, Declared what a declaration is
+-- one level deeper, and Inner what a statement is there. A statement that is before an `else`
+-- doesn't end with an `if` that has none: it is closed. The flag `closed` is handed on to what a
+-- statement ends with.
 use Rattle.std.specs.Prelude.{◌≡◌, ◌++◌, ℕ, zero, suc, Bool, true, false, List, [], ◌∷◌, Option, Some, None}
 use Rattle.snl_lex.specs.declared.kind.Kind.{Kind}
 use Rattle.snl_lex.specs.declared.kind.Kind.TheVariants as kind
@@ -15,7 +18,9 @@ use Rattle.snl_syntax.specs.Grammar.Base.{AreFree, Each, First, Leaf, Perhaps, W
 use Rattle.snl_syntax.specs.Grammar.Expressions.{IsExpr}
 use Rattle.snl_syntax.specs.Grammar.Declarations.{IsDeclaration}
 
--- Where a statement is: as a member of a block; as the body of `if`, `while` or `for`, where it is no block, since a block opens its level by its braces; or after `else`, where it is no `if` either, since that goes on with the chain.
+-- Where a statement is: as a member of a block; as the body of `if`, `while` or `for`, where it is
+-- no block, since a block opens its level by its braces; or after `else`, where it is no `if`
+-- either, since that goes on with the chain.
 pub data Place : Type 0 where
   within_block : Place
   as_body : Place

@@ -1,4 +1,5 @@
--- States and their members. Inside says what an expression is within the brackets of `when`, Declared what a declaration is where the members are, and Block what a block is there.
+-- States and their members. Inside says what an expression is within the brackets of `when`,
+-- Declared what a declaration is where the members are, and Block what a block is there.
 use Rattle.std.specs.Prelude.{◌≡◌, ℕ, List}
 use Rattle.snl_lex.specs.declared.kind.Kind.{Kind}
 use Rattle.snl_lex.specs.declared.kind.Kind.TheVariants as kind
@@ -40,7 +41,8 @@ pub record IsTransition (Inside : Expr → List NumberedKind → List NumberedKi
   pub block : Block t.block m3 m4
   pub target : IsTarget t.target m4 rest
 
--- smember = decl | foreign | assign | monitor | sync | syncq | option | ";" | CCODE | entry | exit | when
+-- smember = decl | foreign | assign | monitor | sync | syncq | option | ";" | CCODE | entry | exit
+-- | when
 pub data IsStateMember (Inside : Expr → List NumberedKind → List NumberedKind → Type 0) (Declared : Declaration → List NumberedKind → List NumberedKind → Type 0) (Block : List Member → List NumberedKind → List NumberedKind → Type 0) (t : StateMember) (k rest : List NumberedKind) : Type 0 where
   declaration : (d : Declaration) → t ≡ members.Declaration d → Declared d k rest → IsStateMember Inside Declared Block t k rest
   foreign : (ns : List ℕ) → t ≡ members.Foreign ns → AreForeign ns k rest → IsStateMember Inside Declared Block t k rest

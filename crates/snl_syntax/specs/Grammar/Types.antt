@@ -30,7 +30,8 @@ integer_words integers.LongInt = kind.Long ∷ kind.Int ∷ []
 abbrev pub IsInteger : Integer → List NumberedKind → List NumberedKind → Type 0
 IsInteger t k rest = Fixed (integer_words t) k rest
 
--- base = "void" | integer | "unsigned" [integer] | "int8_t" | .. | "evflag" | ("enum" | "struct" | "union" | "typename") NAME
+-- base = "void" | integer | "unsigned" [integer] | "int8_t" | .. | "evflag" | ("enum" | "struct" |
+-- "union" | "typename") NAME
 abbrev pub IsBase : Base → List NumberedKind → List NumberedKind → Type 0
 IsBase bases.Void k rest = First kind.Void k rest
 IsBase (bases.Integer i) k rest = IsInteger i k rest

@@ -1,7 +1,8 @@
 -- Clauses on variables, options, and foreign names. How each choice is made, by one token alone:
---   After the name of an `assign`, `;` ends it and `[` begins a subscript; else `to` may be, and `{` begins a list of texts, any other token a text.
---   After a text in braces `,` is taken first; then `}` ends the list, and any other token begins a further text.
---   After the name and subscript of a `syncq`, `to` or a name begins its event flag, an integer is the queue's length.
+-- After the name of an `assign`, `;` ends it and `[` begins a subscript; else `to` may be, and `{`
+-- begins a list of texts, any other token a text. After a text in braces `,` is taken first; then
+-- `}` ends the list, and any other token begins a further text. After the name and subscript of a
+-- `syncq`, `to` or a name begins its event flag, an integer is the queue's length.
 use Rattle.std.specs.Prelude.{ℕ, Bool, true, false, List, [], ◌∷◌, Option, Some, None}
 use Rattle.snl_lex.specs.declared.kind.Kind.{Kind}
 use Rattle.snl_lex.specs.declared.kind.Kind.TheVariants as kind

@@ -1,8 +1,10 @@
 -- Declarations. How each choice is made, by one token alone:
 --   After `[` a `]` means that no length is written; any other token begins a length.
---   `{` begins values in braces, and any other token a value. After the opening brace a `}` means that there are none.
---   After a value in braces `,` is taken first; then `}` ends the list, and any other token begins a further value.
---   A declaration and a function begin alike, with a type, stars and a name. So what follows these is read by `declaration_from`, and what follows the type by `declaration_of`.
+-- `{` begins values in braces, and any other token a value. After the opening brace a `}` means
+-- that there are none. After a value in braces `,` is taken first; then `}` ends the list, and any
+-- other token begins a further value. A declaration and a function begin alike, with a type, stars
+-- and a name. So what follows these is read by `declaration_from`, and what follows the type by
+-- `declaration_of`.
 use Rattle.std.specs.Prelude.{ℕ, zero, suc, Bool, true, false, List, [], ◌∷◌, Option, Some, None}
 use Rattle.snl_lex.specs.declared.kind.Kind.{Kind}
 use Rattle.snl_lex.specs.declared.kind.Kind.TheVariants as kind
@@ -96,7 +98,8 @@ unfoldable pub init : ℕ → Reader Init
 init zero = refuse
 init (suc depth) = init_of (assignx (suc depth)) (init depth)
 
--- ---- declarators and declarations; `inner` reads an expression without commas one level deeper, `value` what comes after `=`
+-- ---- declarators and declarations; `inner` reads an expression without commas one level deeper,
+-- `value` what comes after `=`
 
 unfoldable pub some_init : Reader Init → Reader (Option Init)
 some_init value = do

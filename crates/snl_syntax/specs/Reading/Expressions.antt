@@ -1,7 +1,9 @@
 -- Expressions. How each choice is made, by one token alone:
---   `sizeof` is taken first, then a `(` after it; then a token that begins a type makes `sizeof (type)`, and any other an operand in brackets.
---   A `(` is taken first; then a token that begins a type makes a cast, and any other an operand in brackets.
---   What may be assigned to is an operand with what comes before and after it alone; so this is read first, and then an operator that assigns makes it one, and any other token lets the tiers of binary operators go on from it.
+-- `sizeof` is taken first, then a `(` after it; then a token that begins a type makes `sizeof
+-- (type)`, and any other an operand in brackets. A `(` is taken first; then a token that begins a
+-- type makes a cast, and any other an operand in brackets. What may be assigned to is an operand
+-- with what comes before and after it alone; so this is read first, and then an operator that
+-- assigns makes it one, and any other token lets the tiers of binary operators go on from it.
 use Rattle.std.specs.Prelude.{ℕ, zero, suc, ◌==◌, Bool, true, false, List, [], ◌∷◌, Option, Some, None, if◌then◌else◌}
 use Rattle.snl_lex.specs.declared.kind.Kind.{Kind}
 use Rattle.snl_lex.specs.declared.kind.Kind.TheVariants as kind

@@ -1,10 +1,11 @@
--- Functions, structs, and what else an item that begins with a type can be. How each choice is made, by one token alone:
---   After a parameter's stars a name may be.
+-- Functions, structs, and what else an item that begins with a type can be. How each choice is
+-- made, by one token alone: After a parameter's stars a name may be.
 --   After a function's `(` a `)` means that it has no parameters; any other token begins one.
 --   After its `)` a `;` makes a prototype; any other token begins the body.
---   A function and a declaration begin alike, with a type, stars and a name: then `(` makes a function, any other token a declaration.
---   An item's `struct` and a name are taken first: then `{` begins the struct's members, any other token makes them a type.
---   Among a struct's members `}` ends them, CCODE is one, and any other token begins a declaration.
+-- A function and a declaration begin alike, with a type, stars and a name: then `(` makes a
+-- function, any other token a declaration. An item's `struct` and a name are taken first: then `{`
+-- begins the struct's members, any other token makes them a type. Among a struct's members `}` ends
+-- them, CCODE is one, and any other token begins a declaration.
 use Rattle.std.specs.Prelude.{ℕ, zero, suc, ◌-◌, Bool, false, List, [], Option, Some, None}
 use Rattle.snl_lex.specs.declared.kind.Kind.{Kind}
 use Rattle.snl_lex.specs.declared.kind.Kind.TheVariants as kind
@@ -125,7 +126,8 @@ type_from before b = do
   after ← accept kind.Const
   pure (record { leading_const = before; base = b; trailing_const = after })
 
--- ---- items that begin with a type, in so many levels with the one that they are in; `block` reads a function's body
+-- ---- items that begin with a type, in so many levels with the one that they are in; `block` reads
+-- a function's body
 
 unfoldable pub declaration_item : ℕ → QualifiedType → List Pointer → ℕ → Reader Item
 declaration_item depth t ps n = do

@@ -143,7 +143,8 @@ tree_of (Err j) = None
 unfoldable pub item_of : List Kind → Option Item
 item_of kinds = tree_of (whole_item levels (ahead kinds 0))
 
--- The number of the token that is blamed, where no item is read: the last one, if all tokens were read and more are wanted.
+-- The number of the token that is blamed, where no item is read: the last one, if all tokens were
+-- read and more are wanted.
 abbrev pub blamed_in : ℕ → Outcome Item → ℕ
 blamed_in count (Ok p) = count - 1
 blamed_in count (Err j) = min (count - length j) (count - 1)

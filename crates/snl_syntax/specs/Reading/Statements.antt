@@ -1,9 +1,12 @@
 -- Statements and blocks. How each choice is made, by one token alone:
---   A member of a block is a declaration where a token is that begins a type; `}` ends the block, and any other token begins a statement.
---   A statement is chosen by its first token; any that begins no other form begins an expression.
---   The body of `if`, `while`, `for` and `else` is a block where `{` is, which opens its level by its braces; any other token begins a statement one level deeper.
---   After the body of an `if`, `else` is taken first; then `if` goes on with the chain, and any other token begins the body that ends it. So an `else` belongs to the nearest `if`.
---   After `return` and in the brackets of `for`, the mark that ends a part means that it is empty; any other token begins an expression.
+-- A member of a block is a declaration where a token is that begins a type; `}` ends the block, and
+-- any other token begins a statement. A statement is chosen by its first token; any that begins no
+-- other form begins an expression. The body of `if`, `while`, `for` and `else` is a block where `{`
+-- is, which opens its level by its braces; any other token begins a statement one level deeper.
+-- After the body of an `if`, `else` is taken first; then `if` goes on with the chain, and any other
+-- token begins the body that ends it. So an `else` belongs to the nearest `if`. After `return` and
+-- in the brackets of `for`, the mark that ends a part means that it is empty; any other token
+-- begins an expression.
 use Rattle.std.specs.Prelude.{ℕ, zero, suc, Bool, true, false, List, [], Option, Some, None}
 use Rattle.snl_lex.specs.declared.kind.Kind.{Kind}
 use Rattle.snl_lex.specs.declared.kind.Kind.TheVariants as kind
@@ -98,7 +101,8 @@ for_within depth = within depth (for_parts depth)
 unfoldable pub for_head : ℕ → Reader ForHead
 for_head depth = expect kind.OpenParen >> for_within depth
 
--- ---- statements that hold others; `depth` levels are left inside, and `inner` reads a statement there
+-- ---- statements that hold others; `depth` levels are left inside, and `inner` reads a statement
+-- there
 module _ (depth : ℕ) (inner : Reader Stmt) where
   unfoldable pub declared : Reader (Option Member)
   declared = do

@@ -1,7 +1,8 @@
 -- States and their members. How each choice is made, by one token alone:
---   A member is chosen by its first token; `}` ends the members, and any token that begins no other form begins a declaration.
---   In the brackets of `when` a `)` means that nothing is written; any other token begins an expression.
---   After the block of `when`, `state` and `exit` say where the transition leads.
+-- A member is chosen by its first token; `}` ends the members, and any token that begins no other
+-- form begins a declaration. In the brackets of `when` a `)` means that nothing is written; any
+-- other token begins an expression. After the block of `when`, `state` and `exit` say where the
+-- transition leads.
 use Rattle.std.specs.Prelude.{ℕ, ◌-◌, List, [], Option, Some, None}
 use Rattle.snl_lex.specs.declared.kind.Kind.{Kind}
 use Rattle.snl_lex.specs.declared.kind.Kind.TheVariants as kind

@@ -1,4 +1,5 @@
--- The tokens that a tree spells, and what they are made of. Each word here is a list of tokens in the order in which they are.
+-- The tokens that a tree spells, and what they are made of. Each word here is a list of tokens in
+-- the order in which they are.
 use Rattle.std.specs.Prelude.{◌≡◌, ℕ, Bool, true, false, List, [], ◌∷◌, ◌++◌, Option, Some, None, IfSome}
 use Rattle.snl_lex.specs.declared.kind.Kind.{Kind}
 use Rattle.snl_lex.specs.declared.kind.Kind.TheVariants as kind

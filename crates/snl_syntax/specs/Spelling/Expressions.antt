@@ -1,4 +1,5 @@
--- What expressions spell. Brackets are where the tree has a group: what a tree is at its place is the grammar's matter.
+-- What expressions spell. Brackets are where the tree has a group: what a tree is at its place is
+-- the grammar's matter.
 use Rattle.std.specs.Prelude.{ℕ, List, ◌∷◌, ◌++◌, map}
 use Rattle.snl_lex.specs.declared.kind.Kind.TheVariants as kind
 use Rattle.snl_syntax.specs.declared.operator.Binary.{Binary}

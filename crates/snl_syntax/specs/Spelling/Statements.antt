@@ -27,12 +27,14 @@ spell_for_parts head = perhaps spell_expr head.first ++ word kind.Semicolon ++ p
 abbrev pub spell_for_head : ForHead → List Spelled
 spell_for_head head = in_parens (spell_for_parts head)
 
--- One level of a tree, with what each part spells in its place: a member is a declaration or a statement.
+-- One level of a tree, with what each part spells in its place: a member is a declaration or a
+-- statement.
 abbrev pub spell_member_step : Member-F (List Spelled) (List Spelled) → List Spelled
 spell_member_step (Member-F.Declaration d) = spell_declaration d
 spell_member_step (Member-F.Statement s) = s
 
--- An `if` has a condition and a statement for each arm, with "else" between, and perhaps a last "else" with a statement.
+-- An `if` has a condition and a statement for each arm, with "else" between, and perhaps a last
+-- "else" with a statement.
 abbrev pub spell_stmt_step : Stmt-F (List Spelled) (List Spelled) → List Spelled
 spell_stmt_step Stmt-F.Empty = word kind.Semicolon
 spell_stmt_step (Stmt-F.Expr e) = spell_expr e ++ word kind.Semicolon

@@ -21,7 +21,8 @@ spell_target targets.Exit = word kind.Exit
 abbrev pub spell_transition : Transition → List Spelled
 spell_transition t = word kind.When ++ in_parens (perhaps spell_expr t.condition) ++ spell_block t.block ++ spell_target t.target
 
--- smember = decl | foreign | assign | monitor | sync | syncq | option | ";" | CCODE | "entry" block | "exit" block | when
+-- smember = decl | foreign | assign | monitor | sync | syncq | option | ";" | CCODE | "entry" block
+-- | "exit" block | when
 abbrev pub spell_state_member : StateMember → List Spelled
 spell_state_member (members.Declaration d) = spell_declaration d
 spell_state_member (members.Foreign names) = spell_foreign names

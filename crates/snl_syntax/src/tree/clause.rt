@@ -2,7 +2,8 @@
 
 use sqlite_items::Items;
 
-/// To what a variable is assigned. `to` says whether that word is written; a text is one string or more, joined.
+/// To what a variable is assigned. `to` says whether that word is written; a text is one string or
+/// more, joined.
 #[derive(Drop)]
 pub enum Channel {
     /// `assign v;`

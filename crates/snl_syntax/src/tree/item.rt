@@ -23,8 +23,8 @@ pub enum StructMember {
     CBlock(usize),
 }
 
-/// One item of a text. A text of joined strings is the list of their numbers. What has much in it is in memory of its own, so
-/// that an item without anything takes little.
+/// One item of a text. A text of joined strings is the list of their numbers. What has much in it
+/// is in memory of its own, so that an item without anything takes little.
 pub enum Item {
     Header {
         name: usize,

@@ -27,7 +27,8 @@ pub enum Stmt {
     Expr(Expr),
     Block(Items<Member>),
     CCode(usize),
-    /// One condition and its statement, or more with `else if` between; then the statement after a last `else`.
+    /// One condition and its statement, or more with `else if` between; then the statement after a
+    /// last `else`.
     If(Items<(Expr, Stmt)>, Option<Boxed<Stmt>>),
     While(Expr, Boxed<Stmt>),
     For(Boxed<ForHead>, Boxed<Stmt>),

@@ -6,7 +6,8 @@ use Rattle.snl_scope.specs.Prints.{last_with}
 use Rattle.snl_scope.proofs.Prints.{scan}
 use Rattle.snl_scope.proofs.names.name_set.Names.number_among.Given as goal
 
--- A search from the end down to a place has found nothing, and `at` is the next name with the print before that place.
+-- A search from the end down to a place has found nothing, and `at` is the next name with the print
+-- before that place.
 abbrev pub invariant-loop-at : goal.invariant-loop-at
 invariant-loop-at l = record {
   within : l.below ≤ length l.self;
