@@ -1,13 +1,17 @@
 # Completes the words of snl-check in bash.
 
 _snl_check() {
-    local word=$2 before=$3 choices=''
+    local word=$2 before=$3 choices='' home
     # In --format=json the = is a word by itself.
     [ "$word" != = ] || word=''
     [ "$before" != = ] || before=${COMP_WORDS[COMP_CWORD - 2]}
     case $before in
         --format) choices='github json sarif text' ;;
-        --explain | [EW][0-9][0-9]) choices="$(echo E{01..22} W{01..05})" ;;
+        --explain | [EW][0-9][0-9])
+            # The codes are those that the page on the language explains.
+            home=$(readlink -f "$(type -P snl-check)")
+            choices=$(grep -oE '\b[EW][0-9]{2}\b' "${home%/*}/docs/LANGUAGE.md" | sort -u)
+            ;;
         -I)
             mapfile -t COMPREPLY < <(compgen -d -- "$word")
             return

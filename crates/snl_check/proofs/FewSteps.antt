@@ -173,14 +173,14 @@ module _ (targets : List (List ℕ)) where
     unfolding is_reached
     few_steps s l = (few_reached (length targets) s l, reached_few s (omega (arith, l)))
 
-    -- what a search says that marks just what is reached
-    pub told : (marks : List Bool) → length marks ≡ length targets → ((s : ℕ) → (slice_get marks s ≡ Some true) ↔ IsReached targets s) → (s : ℕ) → s < length targets → slice_get marks s ≡ Some (is_reached targets s)
-    told marks as_long says s l =
-        let at = slice_get-get_or marks s false (omega (arith, l, as_long)) in
-        at ∙ ap Some (by (is_reached targets s) (get_or marks s false) refl refl)
+    -- what a search says that listed just what is reached
+    pub each_decided : (listed : List Bool) → length listed ≡ length targets → ((s : ℕ) → (slice_get listed s ≡ Some true) ↔ IsReached targets s) → (s : ℕ) → s < length targets → slice_get listed s ≡ Some (is_reached targets s)
+    each_decided listed as_long says s l =
+        let at = slice_get-get_or listed s false (omega (arith, l, as_long)) in
+        at ∙ ap Some (by (is_reached targets s) (get_or listed s false) refl refl)
       where
-        by : (b m : Bool) → is_reached targets s ≡ b → get_or marks s false ≡ m → m ≡ b
-        by true true is marked = refl
-        by true false is marked = absurd (false≢true (sym marked ∙ get_or_from_slice_get marks s true false ((says s).1 ((few_steps s l).0 is))))
-        by false true is marked = absurd (false≢true (sym is ∙ (few_steps s l).1 ((says s).0 (slice_get-get_or marks s false (omega (arith, l, as_long)) ∙ ap Some marked))))
-        by false false is marked = refl
+        by : (b m : Bool) → is_reached targets s ≡ b → get_or listed s false ≡ m → m ≡ b
+        by true true is is_listed = refl
+        by true false is is_listed = absurd (false≢true (sym is_listed ∙ get_or_from_slice_get listed s true false ((says s).1 ((few_steps s l).0 is))))
+        by false true is is_listed = absurd (false≢true (sym is ∙ (few_steps s l).1 ((says s).0 (slice_get-get_or listed s false (omega (arith, l, as_long)) ∙ ap Some is_listed))))
+        by false false is is_listed = refl

@@ -11,7 +11,8 @@ use Rattle.std.proofs.lemmas.Option.{slice_get-map, slice_get_past, slice_get_re
 use Rattle.snl_check.specs.declared.rows.text_items.TextItems.{TextItems}
 use denote.Bor.{Bor}
 use Rattle.snl_check.specs.Collected.{AreTextItems, items_in}
-use Rattle.snl_check.specs.Items.{EndsWithin, ProgramItem, header_name, program_name, start_of, tokens_in, tree_in}
+use Rattle.snl_item_check.specs.Items.{EndsWithin, ProgramItem, start_of, tokens_in, tree_in}
+use Rattle.snl_check.specs.ItemSpans.{header_name, program_name}
 
 abbrev items_from : List Piece → ℕ → List ℕ → List (Option Item) → List ProgramItem
 items_from tokens from ends trees = map (λ p. record { tokens = p.0; tree = p.1 }) (zip (members tokens from ends) trees)

@@ -1,11 +1,5 @@
-pub mod SameView
 pub mod Each
 pub mod Loops
-pub mod Pairs
-pub mod Within
-mod Bare
-pub mod FaultsOnce
-pub mod LeftToLinks
 pub mod Searching
 pub mod Walks
 pub mod FewSteps
@@ -28,7 +22,6 @@ pub mod ShiftedTables
 pub mod ShiftedWhole
 pub mod ShiftedRows
 pub mod ShiftedAround
-pub mod SameUses
 pub mod SetMembers
-pub mod WakesTold
+pub mod WakesByTable
 pub mod WakesAfter

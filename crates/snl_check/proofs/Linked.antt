@@ -12,12 +12,12 @@ use Rattle.snl_walk.specs.declared.used.TargetUse.{TargetUse}
 use Rattle.snl_walk.specs.Items.{occurrences}
 use Rattle.snl_walk.specs.Tokens.{token_bytes}
 use Rattle.snl_walk.specs.Uses.{targets}
-use Rattle.snl_check.specs.declared.rules.findings.Checked.{Checked}
+use Rattle.snl_item_check.specs.declared.findings.Checked.{Checked}
 use Rattle.snl_check.specs.declared.rows.text_items.TextItems.{TextItems}
 use Rattle.snl_check.specs.Collected.{AreTextItems, items_in}
-use Rattle.snl_check.specs.Items.{ProgramItem, outlines_of, outline_of_item, summary_of_item, tokens_in, tree_in}
+use Rattle.snl_item_check.specs.Items.{ProgramItem, outlines_of, outline_of_item, summary_of_item, tokens_in, tree_in}
 use Rattle.snl_check.specs.Members.{is_faulty_item, target_number, target_numbers}
-use Rattle.snl_check.specs.Told.{Told, nothing, told_by, told_in, told_in_item, told_seen}
+use Rattle.snl_item_check.specs.Told.{Told, nothing, told_by, told_in, told_in_item, told_seen}
 use Rattle.snl_check.proofs.Items.{count_in}
 use Rattle.std.proofs.lemmas.List.{length-map}
 use Rattle.snl_check.proofs.Sets.{get_here}

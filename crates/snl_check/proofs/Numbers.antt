@@ -10,10 +10,10 @@ use Rattle.std.proofs.lemmas.Bool.Decides.{Decides-eqb}
 use Rattle.std.specs.Map.{lookup}
 use Rattle.std.specs.Option.{option_map_or, option_or}
 use Rattle.snl_scope.specs.Below.{all_below}
-use Rattle.snl_check.specs.declared.rows.channel_numbers.Key.{Key}
+use Rattle.snl_check.specs.declared.rows.channel_numbers.ElementKey.{ElementKey}
 use Rattle.snl_check.specs.declared.rows.channel_numbers.Which.{Which}
 use Rattle.snl_check.specs.declared.rows.channel_numbers.Which.TheVariants as which
-use Rattle.snl_check.specs.contracts.rows.channel_numbers.KeyPartialEq.TheImpl as key_eq
+use Rattle.snl_check.specs.contracts.rows.channel_numbers.ElementKeyPartialEq.TheImpl as key_eq
 use Rattle.snl_check.specs.contracts.rows.channel_numbers.WhichPartialEq.TheImpl as which_eq
 use Rattle.snl_check.specs.Channels.{AssignedChannel, channels_of, element_number, is_channel_of, is_element, is_element_of, is_on, variables_before}
 use Rattle.snl_check.specs.Numbered.{Adds, Numbered, element_in, is_key_of, same_key, same_which}
@@ -27,7 +27,7 @@ which_is which.Any (which.Element b) = refl
 which_is (which.Element a) which.Any = refl
 which_is (which.Element a) (which.Element b) = refl
 
-key_is : (a b : Key) → key_eq.eq-value.it a b ≡ same_key a b
+key_is : (a b : ElementKey) → key_eq.eq-value.it a b ≡ same_key a b
 key_is a b = ap (λ e. nat_eq a.variable b.variable && e) (which_is a.which b.which)
 
 which_true : (a b : Which) → same_which a b ≡ true → a ≡ b
@@ -41,13 +41,13 @@ both true true h = (refl, refl)
 both true false h = absurd (true≢false (sym h))
 both false c h = absurd (true≢false (sym h))
 
-key_true : (a b : Key) → same_key a b ≡ true → a ≡ b
+key_true : (a b : ElementKey) → same_key a b ≡ true → a ≡ b
 key_true a b h =
     let t = both (nat_eq a.variable b.variable) (same_which a.which b.which) h in
     let by_variable : a ≡ record a { variable = b.variable } = ap (λ v. record a { variable = v }) ((Decides-eqb a.variable b.variable).0 t.0) in
     by_variable ∙ ap (λ e. record b { which = e }) (which_true a.which b.which t.1)
 
-lookup_is : (m : Key) (held : List (Key × ℕ)) → lookup (key_eq.eq-value.it m) held ≡ lookup (same_key m) held
+lookup_is : (m : ElementKey) (held : List (ElementKey × ℕ)) → lookup (key_eq.eq-value.it m) held ≡ lookup (same_key m) held
 lookup_is m [] = refl
 lookup_is m (e ∷ es) =
     ap (λ b. cond b (Some e.1) (lookup (key_eq.eq-value.it m) es)) (key_is m e.0) ∙ ap (cond (same_key m e.0) (Some e.1)) (lookup_is m es)
@@ -65,13 +65,13 @@ or_new None p h = refl
 or_new (Some k) p h = absurd (true≢false h)
 
 -- what is known of a key is known of an equal one
-known_same : (one q : Key) (held : List (Key × ℕ)) (b : Bool) → is_some (lookup (key_eq.eq-value.it one) held) ≡ b → same_key one q ≡ true
+known_same : (one q : ElementKey) (held : List (ElementKey × ℕ)) (b : Bool) → is_some (lookup (key_eq.eq-value.it one) held) ≡ b → same_key one q ≡ true
     → is_some (lookup (same_key q) held) ≡ b
 known_same one q held b h t = ap (λ c. is_some (lookup (same_key c) held)) (sym (key_true one q t)) ∙ ap is_some (sym (lookup_is one held)) ∙ h
 
 -- a key that no channel has had yet
-pub adds_new : (one : Key) (number : ℕ) (before after : List (Key × ℕ)) → is_some (lookup (key_eq.eq-value.it one) before) ≡ false
-    → ((q : Key) → lookup (key_eq.eq-value.it q) after ≡ cond (key_eq.eq-value.it one q) (Some number) (lookup (key_eq.eq-value.it q) before))
+pub adds_new : (one : ElementKey) (number : ℕ) (before after : List (ElementKey × ℕ)) → is_some (lookup (key_eq.eq-value.it one) before) ≡ false
+    → ((q : ElementKey) → lookup (key_eq.eq-value.it q) after ≡ cond (key_eq.eq-value.it one q) (Some number) (lookup (key_eq.eq-value.it q) before))
     → Adds before after (same_key one) number
 adds_new one number before after absent put =
     record {
@@ -80,27 +80,27 @@ adds_new one number before after absent put =
           ∙ ap (cond (same_key one q) (Some number)) (lookup_is q before) ∙ by q (same_key one q) (known_same one q before false absent);
     }
   where
-    by : (q : Key) (b : Bool) → (b ≡ true → is_some (lookup (same_key q) before) ≡ false)
+    by : (q : ElementKey) (b : Bool) → (b ≡ true → is_some (lookup (same_key q) before) ≡ false)
         → cond b (Some number) (lookup (same_key q) before) ≡ option_or (lookup (same_key q) before) (if b then Some number else None)
     by q true h = sym (or_new (lookup (same_key q) before) (Some number) (h refl))
     by q false h = sym (or_nothing (lookup (same_key q) before))
 
 -- a key that an earlier channel has
-pub adds_known : (one : Key) (number : ℕ) (held : List (Key × ℕ)) → is_some (lookup (key_eq.eq-value.it one) held) ≡ true → Adds held held (same_key one) number
+pub adds_known : (one : ElementKey) (number : ℕ) (held : List (ElementKey × ℕ)) → is_some (lookup (key_eq.eq-value.it one) held) ≡ true → Adds held held (same_key one) number
 adds_known one number held there = record { each = λ q. by q (same_key one q) (known_same one q held true there) }
   where
-    by : (q : Key) (b : Bool) → (b ≡ true → is_some (lookup (same_key q) held) ≡ true)
+    by : (q : ElementKey) (b : Bool) → (b ≡ true → is_some (lookup (same_key q) held) ≡ true)
         → lookup (same_key q) held ≡ option_or (lookup (same_key q) held) (if b then Some number else None)
     by q true h = sym (or_known (lookup (same_key q) held) (Some number) (h refl))
     by q false h = sym (or_nothing (lookup (same_key q) held))
 
 -- a channel of the whole variable has no key
-pub adds_none : (held : List (Key × ℕ)) (has : Key → Bool) (number : ℕ) → ((k : Key) → has k ≡ false) → Adds held held has number
+pub adds_none : (held : List (ElementKey × ℕ)) (has : ElementKey → Bool) (number : ℕ) → ((k : ElementKey) → has k ≡ false) → Adds held held has number
 adds_none held has number h =
     record { each = λ k. sym (ap (λ b. option_or (lookup (same_key k) held) (if b then Some number else None)) (h k) ∙ or_nothing (lookup (same_key k) held)) }
 
 -- one that has the keys of both tests
-pub adds_both : (before between after : List (Key × ℕ)) (p q has : Key → Bool) (number : ℕ) → ((k : Key) → (p k || q k) ≡ has k)
+pub adds_both : (before between after : List (ElementKey × ℕ)) (p q has : ElementKey → Bool) (number : ℕ) → ((k : ElementKey) → (p k || q k) ≡ has k)
     → Adds before between p number → Adds between after q number → Adds before after has number
 adds_both before between after p q has number is a b =
     record {
@@ -118,7 +118,7 @@ adds_both before between after p q has number is a b =
     by None false false = refl
 
 -- the table with one more channel
-pub numbered_more : (cs : List AssignedChannel) (c : AssignedChannel) (before after : List (Key × ℕ)) (number : ℕ) → number ≡ length cs
+pub numbered_more : (cs : List AssignedChannel) (c : AssignedChannel) (before after : List (ElementKey × ℕ)) (number : ℕ) → number ≡ length cs
     → Numbered before cs → Adds before after (is_key_of c) number → Numbered after (cs ++ c ∷ [])
 numbered_more cs c before after number last f a =
     record {
@@ -129,9 +129,9 @@ numbered_more cs c before after number last f a =
     }
 
 -- the keys of a channel of an element
-pub keys_of_element : (c : AssignedChannel) (e : ℕ) (any one : Key) → c.element ≡ Some e
+pub keys_of_element : (c : AssignedChannel) (e : ℕ) (any one : ElementKey) → c.element ≡ Some e
     → any ≡ record { variable = c.variable; which = which.Any } → one ≡ record { variable = c.variable; which = which.Element e }
-    → (k : Key) → (same_key any k || same_key one k) ≡ is_key_of c k
+    → (k : ElementKey) → (same_key any k || same_key one k) ≡ is_key_of c k
 keys_of_element c e any one is first second k =
     ap (λ a. same_key a k || same_key one k) first
     ∙ ap (λ a. same_key (record { variable = c.variable; which = which.Any }) k || same_key a k) second
@@ -145,7 +145,7 @@ keys_of_element c e any one is first second k =
     by false (which.Element x) = refl
 
 -- and one of the whole variable has none
-pub no_keys : (c : AssignedChannel) → c.element ≡ None → (k : Key) → is_key_of c k ≡ false
+pub no_keys : (c : AssignedChannel) → c.element ≡ None → (k : ElementKey) → is_key_of c k ≡ false
 no_keys c is k = ap (λ o. is_on k.variable c && is_element (element_in k.which) o) is ∙ by (is_on k.variable c) k.which
   where
     by : (b : Bool) (w : Which) → (b && is_element (element_in w) None) ≡ false

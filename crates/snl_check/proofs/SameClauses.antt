@@ -16,7 +16,7 @@ use Rattle.snl_scope.specs.Clauses.{LinkedClause, clauses_before, clauses_of, li
 use Rattle.snl_scope.specs.Summaries.{outline_in}
 use Rattle.snl_scope.specs.Summaries.Clauses as summary
 use Rattle.snl_check.specs.Clauses.{clause_in_member, clauses_in_tree, item_clause, item_clauses, item_clauses_before, item_clauses_if, summarized}
-use Rattle.snl_check.specs.Items.{ProgramItem, outlines_of, tokens_in, tree_in}
+use Rattle.snl_item_check.specs.Items.{ProgramItem, outlines_of, tokens_in, tree_in}
 
 members_alike : (text : List ℕ) (tokens : List Piece) (ms : List StateMember) →
     map (summary.clause_of text tokens) (flat_map clause_in_member ms) ≡ flat_map (summary.clauses_of_member text tokens) ms
@@ -50,40 +50,40 @@ tree_alike text tokens items.Empty = refl
 abbrev placed_at : ℕ → VariableClause → ℕ × VariableClause
 placed_at n c = (n, c)
 
-abbrev told : LinkedClause → ℕ × VariableClause
-told c = (c.item, c.clause)
+abbrev numbered : LinkedClause → ℕ × VariableClause
+numbered c = (c.item, c.clause)
 
 -- the clauses of one tree
-tree_told : (text : List ℕ) (tokens : List Piece) (n : ℕ) (tree : Item) →
+tree_same : (text : List ℕ) (tokens : List Piece) (n : ℕ) (tree : Item) →
     map (λ c. (n, summary.clause_of text tokens c)) (clauses_in_tree tree) ≡ map (placed_at n) (summary.clauses_in_tree text tokens tree)
-tree_told text tokens n tree = sym (map-map (placed_at n) (summary.clause_of text tokens) (clauses_in_tree tree)) ∙ ap (map (placed_at n)) (tree_alike text tokens tree)
+tree_same text tokens n tree = sym (map-map (placed_at n) (summary.clause_of text tokens) (clauses_in_tree tree)) ∙ ap (map (placed_at n)) (tree_alike text tokens tree)
 
-some_told : (text : List ℕ) (xs : List ProgramItem) (ss : List Outline) (n : ℕ) (tokens : List Piece) (tree : Option Item) → tokens_in xs n ≡ tokens →
-    map (summarized text xs) (item_clauses_if n tree) ≡ map told (map (linked_clause ss n) (summary.clauses_in text tokens tree))
-some_told text xs ss n tokens None is = refl
-some_told text xs ss n tokens (Some tree) is =
+some_same : (text : List ℕ) (xs : List ProgramItem) (ss : List Outline) (n : ℕ) (tokens : List Piece) (tree : Option Item) → tokens_in xs n ≡ tokens →
+    map (summarized text xs) (item_clauses_if n tree) ≡ map numbered (map (linked_clause ss n) (summary.clauses_in text tokens tree))
+some_same text xs ss n tokens None is = refl
+some_same text xs ss n tokens (Some tree) is =
     map-map (summarized text xs) (item_clause n) (clauses_in_tree tree) ∙ ap (λ ts. map (λ c. (n, summary.clause_of text ts c)) (clauses_in_tree tree)) is
-    ∙ tree_told text tokens n tree ∙ sym (map-map told (linked_clause ss n) (summary.clauses_in_tree text tokens tree))
+    ∙ tree_same text tokens n tree ∙ sym (map-map numbered (linked_clause ss n) (summary.clauses_in_tree text tokens tree))
 
 -- the clauses of the item with a number
-item_told : (text : List ℕ) (xs : List ProgramItem) (ss : List Outline) (n : ℕ) (o : Option ProgramItem) → slice_get xs n ≡ o →
+item_same : (text : List ℕ) (xs : List ProgramItem) (ss : List Outline) (n : ℕ) (o : Option ProgramItem) → slice_get xs n ≡ o →
     map (summarized text xs) (item_clauses_if n (option_and_then (λ x. x.tree) o))
-    ≡ map told (option_map_or (λ (s : Outline). map (linked_clause ss n) s.clauses) (option_map (λ (x : ProgramItem). outline_in text x.tokens x.tree) o) [])
-item_told text xs ss n None is = refl
-item_told text xs ss n (Some x) is = some_told text xs ss n x.tokens x.tree (ap (λ (o : Option ProgramItem). option_map_or (λ y. y.tokens) o []) is)
+    ≡ map numbered (option_map_or (λ (s : Outline). map (linked_clause ss n) s.clauses) (option_map (λ (x : ProgramItem). outline_in text x.tokens x.tree) o) [])
+item_same text xs ss n None is = refl
+item_same text xs ss n (Some x) is = some_same text xs ss n x.tokens x.tree (ap (λ (o : Option ProgramItem). option_map_or (λ y. y.tokens) o []) is)
 
-before_told : (text : List ℕ) (xs : List ProgramItem) (n : ℕ) →
-    map (summarized text xs) (item_clauses_before xs n) ≡ map told (clauses_before (outlines_of text xs) n)
-before_told text xs zero = refl
-before_told text xs (suc n) =
+before_same : (text : List ℕ) (xs : List ProgramItem) (n : ℕ) →
+    map (summarized text xs) (item_clauses_before xs n) ≡ map numbered (clauses_before (outlines_of text xs) n)
+before_same text xs zero = refl
+before_same text xs (suc n) =
     let ss = outlines_of text xs in
     let own = item_clauses_if n (tree_in xs n) in
     let linked : Option Outline → List LinkedClause = λ o. option_map_or (λ (s : Outline). map (linked_clause ss n) s.clauses) o [] in
-    map-append (summarized text xs) (item_clauses_before xs n) own ∙ ap (λ l. l ++ map (summarized text xs) own) (before_told text xs n)
-    ∙ ap (λ l. map told (clauses_before ss n) ++ l)
-    (item_told text xs ss n (slice_get xs n) refl ∙ ap (λ o. map told (linked o)) (sym (slice_get-map (λ (x : ProgramItem). outline_in text x.tokens x.tree) xs n)))
-    ∙ sym (map-append told (clauses_before ss n) (linked (slice_get ss n)))
+    map-append (summarized text xs) (item_clauses_before xs n) own ∙ ap (λ l. l ++ map (summarized text xs) own) (before_same text xs n)
+    ∙ ap (λ l. map numbered (clauses_before ss n) ++ l)
+    (item_same text xs ss n (slice_get xs n) refl ∙ ap (λ o. map numbered (linked o)) (sym (slice_get-map (λ (x : ProgramItem). outline_in text x.tokens x.tree) xs n)))
+    ∙ sym (map-append numbered (clauses_before ss n) (linked (slice_get ss n)))
 
-pub clauses_told : (text : List ℕ) (xs : List ProgramItem) → map (summarized text xs) (item_clauses xs) ≡ map told (clauses_of (outlines_of text xs))
-clauses_told text xs =
-    before_told text xs (length xs) ∙ ap (λ n. map told (clauses_before (outlines_of text xs) n)) (sym (length-map xs (λ (x : ProgramItem). outline_in text x.tokens x.tree)))
+pub clauses_same : (text : List ℕ) (xs : List ProgramItem) → map (summarized text xs) (item_clauses xs) ≡ map numbered (clauses_of (outlines_of text xs))
+clauses_same text xs =
+    before_same text xs (length xs) ∙ ap (λ n. map numbered (clauses_before (outlines_of text xs) n)) (sym (length-map xs (λ (x : ProgramItem). outline_in text x.tokens x.tree)))

@@ -1,4 +1,4 @@
--- What is told of the items of a set is what the items of the text say.
+-- What is kept of the items of a set is what the items of the text say.
 use Rattle.std.proofs.Common.{◌≡◌, ℕ, zero, suc, ◌+◌, ◌<◌, ◌&&◌, ◌||◌, Bool, true, false, not, cond, filter, List, [], ◌∷◌, ◌++◌, length, map, slice_get, slice_index_or, nat_eq, Option, Some, None, is_some, if◌then◌else◌, refl, sym, ap, ap₂, ◌∙◌, subst, arith}
 use Rattle.std.specs.List.{AllByRecursion, AllPairs, enumerate_from, filter_map, list_any}
 use Rattle.std.specs.List.Sorted.{IsStrictlyIncreasing}
@@ -14,9 +14,9 @@ use Rattle.snl_scope.specs.Order.{is_named_state, state_name}
 use Rattle.snl_scope.specs.Places.{stands_in}
 use Rattle.snl_tables.specs.declared.rows.StateMark.{StateMark}
 use Rattle.snl_check.specs.declared.reachability.marks.SetMember.{SetMember}
-use Rattle.snl_check.specs.Items.{ProgramItem, summary_of_item}
-use Rattle.snl_check.specs.Members.{AreSetMembers, IsSetMember, has_faulty, has_name, is_faulty_item, is_first_told, numbers_told, states_in, target_number, target_numbers, targets_among}
-use Rattle.snl_check.specs.States.{first_mark, is_reached_in, is_repeated, mark_of, mark_told, marks_of}
+use Rattle.snl_item_check.specs.Items.{ProgramItem, summary_of_item}
+use Rattle.snl_check.specs.Members.{AreSetMembers, IsSetMember, has_faulty, has_name, is_faulty_item, is_first_by_member, numbers_by_member, states_in, target_number, target_numbers, targets_among}
+use Rattle.snl_check.specs.States.{first_mark, is_reached_in, is_repeated, mark_of, mark_by_member, marks_of}
 use Rattle.snl_check.proofs.Marks.{marks_alike}
 use Rattle.snl_check.proofs.Sets.{all_below_rises, copied_some, get_here}
 
@@ -85,7 +85,7 @@ named_rise ss k ms is =
     rises_by (filter has_name ms)
     (AllPairs-filter (λ a b. a.item < b.item) has_name ms (pairs_of ms (subst IsStrictlyIncreasing (sym is) (all_below_rises (stands_in ss k) (length ss)))))
 
-module _ (text : List ℕ) (xs : List ProgramItem) (ss : List Outline) (k : ℕ) (ms : List SetMember) (told : AreSetMembers text xs ss k ms) where
+module _ (text : List ℕ) (xs : List ProgramItem) (ss : List Outline) (k : ℕ) (ms : List SetMember) (are : AreSetMembers text xs ss k ms) where
   abbrev named : List SetMember
   named = filter has_name ms
 
@@ -93,7 +93,7 @@ module _ (text : List ℕ) (xs : List ProgramItem) (ss : List Outline) (k : ℕ)
   IsMember = IsSetMember text xs ss
 
   each_named : AllByRecursion IsMember named
-  each_named = each_filtered IsMember has_name ms told.each
+  each_named = each_filtered IsMember has_name ms are.each
 
   named_is : (m : SetMember) → IsMember m → has_name m ≡ is_named_state ss m.item
   named_is m is = sym (copied_some m.name) ∙ ap is_some is.name ∙ by (slice_get ss m.item)
@@ -112,7 +112,7 @@ module _ (text : List ℕ) (xs : List ProgramItem) (ss : List Outline) (k : ℕ)
       by false rest = rest
 
   pub states_are : items_of named ≡ states_in ss k
-  states_are = named_items ms told.each ∙ ap (filter (is_named_state ss)) told.items ∙ filter_below (is_named_state ss) (stands_in ss k) (length ss)
+  states_are = named_items ms are.each ∙ ap (filter (is_named_state ss)) are.items ∙ filter_below (is_named_state ss) (stands_in ss k) (length ss)
 
   -- ---- whether an item is faulty
 
@@ -121,11 +121,11 @@ module _ (text : List ℕ) (xs : List ProgramItem) (ss : List Outline) (k : ℕ)
   some_items (m ∷ ms) h = ap₂ (λ a b. a || b) h.0.faulty (some_items ms h.1)
 
   pub faulty_is : list_any (λ (m : SetMember). m.is_faulty) ms ≡ has_faulty xs ss k
-  faulty_is = some_items ms told.each ∙ ap (list_any (is_faulty_item xs)) told.items ∙ any_of_below (is_faulty_item xs) (stands_in ss k) (length ss)
+  faulty_is = some_items ms are.each ∙ ap (list_any (is_faulty_item xs)) are.items ∙ any_of_below (is_faulty_item xs) (stands_in ss k) (length ss)
 
   -- ---- targets
 
-  numbers_are : (states : List ℕ) (m : SetMember) → IsMember m → numbers_told ss states m ≡ target_numbers text xs ss states m.item
+  numbers_are : (states : List ℕ) (m : SetMember) → IsMember m → numbers_by_member ss states m ≡ target_numbers text xs ss states m.item
   numbers_are states m is = ap (filter_map (target_number ss states m.item)) is.targets ∙ by (slice_get xs m.item)
     where
       by : (o : Option ProgramItem) → filter_map (target_number ss states m.item) (option_map_or (λ (x : ProgramItem). (summary_of_item text x).targets) o [])
@@ -133,11 +133,11 @@ module _ (text : List ℕ) (xs : List ProgramItem) (ss : List Outline) (k : ℕ)
       by None = refl
       by (Some x) = refl
 
-  numbers_all : (states : List ℕ) (ns : List SetMember) → AllByRecursion IsMember ns → map (numbers_told ss states) ns ≡ map (target_numbers text xs ss states) (items_of ns)
+  numbers_all : (states : List ℕ) (ns : List SetMember) → AllByRecursion IsMember ns → map (numbers_by_member ss states) ns ≡ map (target_numbers text xs ss states) (items_of ns)
   numbers_all states [] h = refl
   numbers_all states (m ∷ ns) h = ap₂ (λ (l : List ℕ) (ls : List (List ℕ)). l ∷ ls) (numbers_are states m h.0) (numbers_all states ns h.1)
 
-  pub targets_are : map (numbers_told ss (items_of named)) named ≡ targets_among text xs ss (states_in ss k)
+  pub targets_are : map (numbers_by_member ss (items_of named)) named ≡ targets_among text xs ss (states_in ss k)
   targets_are = numbers_all (items_of named) named each_named ∙ ap (λ states. map (target_numbers text xs ss states) states) states_are
 
   -- ---- marks
@@ -145,9 +145,9 @@ module _ (text : List ℕ) (xs : List ProgramItem) (ss : List Outline) (k : ℕ)
   module _ (reached : List Bool)
       (found : has_faulty xs ss k ≡ false → (number : ℕ) → number < length named → slice_index_or reached number false ≡ is_reached_in text xs ss k number) where
     mark_is : (number : ℕ) → number < length named → (m : SetMember) → IsMember m →
-        mark_told ss (list_any (λ (m : SetMember). m.is_faulty) ms) reached number m ≡ mark_of text xs ss k number m.item
+        mark_by_member ss (list_any (λ (m : SetMember). m.is_faulty) ms) reached number m ≡ mark_of text xs ss k number m.item
     mark_is number within m is =
-        let first : (not (is_first_told ss m)) ≡ is_repeated ss m.item =
+        let first : (not (is_first_by_member ss m)) ≡ is_repeated ss m.item =
         ap (λ (o : Option (List ℕ)). not (option_map_or (λ name. option_map_or (nat_eq m.item) (state_of ss m.item name) false) o false)) is.name in
         let there = faulty_is in
         ap₂ (λ (f p : Bool). first_mark f p (list_any (λ (m : SetMember). m.is_faulty) ms) (slice_index_or reached number false)) is.faulty first
@@ -155,13 +155,13 @@ module _ (text : List ℕ) (xs : List ProgramItem) (ss : List Outline) (k : ℕ)
         (slice_index_or reached number false) (is_reached_in text xs ss k number) there (λ clear. found (sym there ∙ clear) number within)
 
     marks_from : (number : ℕ) (ns : List SetMember) → number + length ns ≡ length named → AllByRecursion IsMember ns →
-        map (λ p. mark_told ss (list_any (λ (m : SetMember). m.is_faulty) ms) reached p.0 p.1) (enumerate_from number ns) ≡ map (λ p. mark_of text xs ss k p.0 p.1) (enumerate_from number (items_of ns))
+        map (λ p. mark_by_member ss (list_any (λ (m : SetMember). m.is_faulty) ms) reached p.0 p.1) (enumerate_from number ns) ≡ map (λ p. mark_of text xs ss k p.0 p.1) (enumerate_from number (items_of ns))
     marks_from number [] count h = refl
     marks_from number (m ∷ ns) count h =
         ap₂ (λ (one : StateMark) (rest : List StateMark). one ∷ rest) (mark_is number (omega (arith, count)) m h.0)
         (marks_from (number + 1) ns (omega (arith, count)) h.1)
 
-    pub marks_are : map (λ p. mark_told ss (list_any (λ (m : SetMember). m.is_faulty) ms) reached p.0 p.1) (enumerate_from 0 named) ≡ marks_of text xs ss k
+    pub marks_are : map (λ p. mark_by_member ss (list_any (λ (m : SetMember). m.is_faulty) ms) reached p.0 p.1) (enumerate_from 0 named) ≡ marks_of text xs ss k
     marks_are =
         marks_from 0 named (omega arith) each_named
         ∙ ap (λ (l : List ℕ). map (λ p. mark_of text xs ss k p.0 p.1) (enumerate_from 0 l)) states_are

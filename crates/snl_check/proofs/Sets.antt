@@ -16,9 +16,9 @@ use Rattle.snl_scope.specs.declared.summaries.summary.Outline.{Outline}
 use Rattle.snl_scope.specs.Below.{all_below, any_below}
 use Rattle.snl_scope.specs.Places.{begins_set, ends_set, item_is, open_before, enclosing_set, stands_in}
 use Rattle.snl_check.specs.declared.reachability.marks.SetMember.{SetMember}
-use Rattle.snl_check.specs.Items.{ProgramItem, summary_of_item}
+use Rattle.snl_item_check.specs.Items.{ProgramItem, summary_of_item}
 use Rattle.snl_check.specs.Reach.{AreStates}
-use Rattle.snl_check.specs.Members.{number_among, numbers_told, target_number, target_numbers, targets_among}
+use Rattle.snl_check.specs.Members.{number_among, numbers_by_member, target_number, target_numbers, targets_among}
 
 and_false : (b : Bool) → (b && false) ≡ false
 and_false true = refl
@@ -195,10 +195,10 @@ module _ (ss : List Outline) (states : List ℕ) where
   kept_within : (j : ℕ) (targets : List NameRef) → All (λ n. n < length states) (filter_map (target_number ss states j) targets)
   kept_within j targets = all_kept (target_number ss states j) (λ n. n < length states) (λ target n e. found_among _ n e) targets
 
-  pub told_are_states : (named : List SetMember) → length named ≡ length states → AreStates (map (numbers_told ss states) named)
-  told_are_states named count =
-      subst (λ n. All (All (λ t. t < n)) (map (numbers_told ss states) named)) (sym (length-map named (numbers_told ss states) ∙ count))
-      (All-map (All (λ t. t < length states)) (numbers_told ss states) named (λ i d l. kept_within (get_or named i d).item (get_or named i d).targets.now))
+  pub numbers_are_states : (named : List SetMember) → length named ≡ length states → AreStates (map (numbers_by_member ss states) named)
+  numbers_are_states named count =
+      subst (λ n. All (All (λ t. t < n)) (map (numbers_by_member ss states) named)) (sym (length-map named (numbers_by_member ss states) ∙ count))
+      (All-map (All (λ t. t < length states)) (numbers_by_member ss states) named (λ i d l. kept_within (get_or named i d).item (get_or named i d).targets.now))
 
 module _ (text : List ℕ) (xs : List ProgramItem) (ss : List Outline) (states : List ℕ) where
   numbers_within : (o : Option ProgramItem) (j : ℕ) → All (λ n. n < length states) (option_map_or (λ x. filter_map (target_number ss states j) (summary_of_item text x).targets) o [])

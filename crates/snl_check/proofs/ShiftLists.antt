@@ -4,7 +4,7 @@ use Rattle.std.specs.List.{AllByRecursion, cons_option, enumerate_from, filter_m
 use Rattle.std.specs.Option.{option_map, option_to_list}
 use Rattle.std.proofs.lemmas.List.{map-append}
 use Rattle.snl_scope.specs.Below.{any_below}
-use Rattle.snl_check.specs.Items.{gathered}
+use Rattle.snl_check.specs.Settings.{gathered}
 
 -- ---- made alike
 

@@ -19,8 +19,8 @@ use Rattle.snl_syntax.specs.declared.tree.state.StateMember.TheVariants as membe
 use Rattle.snl_scope.specs.declared.facts.ClauseLink.{ClauseLink}
 use Rattle.snl_scope.specs.declared.facts.Declaration.{Declaration}
 use Rattle.snl_scope.specs.declared.facts.Scope.{Scope}
-use Rattle.snl_walk.specs.declared.codes.Code.{Code}
-use Rattle.snl_walk.specs.declared.codes.Code.TheVariants.{E08, E09}
+use Rattle.snl_codes.specs.declared.code.Code.{Code}
+use Rattle.snl_codes.specs.declared.code.Code.TheVariants.{E08, E09}
 use Rattle.snl_scope.specs.declared.names.namespaces.Namespace.{Namespace}
 use Rattle.snl_scope.specs.declared.names.namespaces.Namespace.TheVariants as namespace
 use Rattle.snl_scope.specs.declared.summaries.summary.Declared.{Declared}
@@ -47,19 +47,20 @@ use Rattle.snl_tables.specs.declared.rows.WakeUp.{WakeUp}
 use Rattle.snl_tables.specs.Moved.{moved_set, moved_state, moved_tables}
 use Rattle.snl_tables.specs.Shifted.{changed_at, shifted_flag, shifted_span, marked, with_body, with_body_in, with_marks, with_marks_in, with_own_body, with_own_wake, with_wake, with_wake_in}
 use Rattle.snl_check.specs.Channels.{AssignedChannel, assigned_channel, assigned_channels, channels_in, channels_of_clause, channels_on}
-use Rattle.snl_check.specs.Clauses.{ItemClause, clause_in_member, clauses_in_tree, item_clause, item_clauses, item_clauses_before, item_clauses_if, told_clauses}
+use Rattle.snl_check.specs.Clauses.{ItemClause, clause_in_member, clauses_in_tree, item_clause, item_clauses, item_clauses_before, item_clauses_if, resolved_clauses}
 use Rattle.snl_check.specs.Conditions.{on_declaration, uses_in, wake_ups}
-use Rattle.snl_check.specs.Items.{ProgramItem, header_name, named_by, span_of, item_name, outline_of_item, outlines_of, summary_of_item, tokens_in, tree_in}
+use Rattle.snl_item_check.specs.Items.{ProgramItem, outline_of_item, outlines_of, summary_of_item, tokens_in, tree_in}
+use Rattle.snl_check.specs.ItemSpans.{header_name, named_by, span_of, item_name}
 use Rattle.snl_check.specs.Members.{is_faulty_item, number_among, states_in, target_number, target_numbers}
 use Rattle.snl_check.specs.Moved.{KeepsItem, KeepsItems, ReplacesItem, ReplacesOne}
-use Rattle.snl_check.specs.View.{is_in_set}
+use Rattle.snl_item_check.specs.View.{is_in_set}
 use Rattle.snl_check.specs.Settings.{LetterSetting, setting_at, setting_in_tree}
 use Rattle.snl_check.specs.Shifted.{shifted_item, start_at}
-use Rattle.snl_check.specs.ShiftedAround.{IsPlacedAt, IsSoundAsItWas, SaysAlike, SaysAlikeAt, is_plain, set_number, state_number, used_by, wakes_of}
+use Rattle.snl_item_check.specs.Told.{nothing, told_in_item, used_by, wakes_of}
+use Rattle.snl_check.specs.ShiftedAround.{IsPlacedAt, IsSoundAsItWas, SaysAlike, SaysAlikeAt, is_plain, set_number, state_number}
 use Rattle.snl_check.specs.Spans.{AreRead}
 use Rattle.snl_check.specs.States.{item_at, line_of_item, mark_of, marks_of, numbered_row, set_row, set_rows, state_body, state_row, state_rows, wake_of}
 use Rattle.snl_check.specs.Tables.{flag_row_at, tables_by, tables_of}
-use Rattle.snl_check.specs.Told.{nothing, told_in_item}
 use Rattle.snl_check.proofs.Each.{each_join, each_of, each_weaker}
 use Rattle.snl_check.proofs.Linked.{outline_at}
 use Rattle.snl_check.proofs.ShiftLists.{map_shift, numbered_shift}
@@ -177,8 +178,8 @@ module _ (laws : SpellingLaws) (old text : List ℕ) (s : Shift) (line : ℕ →
       (everywhere (λ i. AllByRecursion (λ (c : ItemClause). c.item ≢ j) (item_clauses_if i (tree_in xs i)))
       (subst (λ cs. AllByRecursion (λ (c : ItemClause). c.item ≢ j) cs) (sym no_old_clause) tt) (λ i apart. of_item i apart (tree_in xs i)) n)
 
-  told_apart : AllByRecursion (λ (p : ItemClause × ClauseLink). p.0.item ≢ j) (told_clauses xs ss)
-  told_apart = each_beside (λ (c : ItemClause). c.item ≢ j) (item_clauses xs) (clause_links ss) (clauses_apart (length xs))
+  resolved_apart : AllByRecursion (λ (p : ItemClause × ClauseLink). p.0.item ≢ j) (resolved_clauses xs ss)
+  resolved_apart = each_beside (λ (c : ItemClause). c.item ≢ j) (item_clauses xs) (clause_links ss) (clauses_apart (length xs))
 
   abbrev IsOfKept : AssignedChannel → Type 0
   IsOfKept c = IsKept old text s xs ys c.item
@@ -226,7 +227,7 @@ module _ (laws : SpellingLaws) (old text : List ℕ) (s : Shift) (line : ℕ →
   declares_at =
       everywhere (λ n. (o : Outline) → slice_get ss n ≡ Some o → AllByRecursion (λ d. IsPlaced n d.token) o.declares)
       (λ o at.
-      let told : slice_get ss j ≡ Some (outline_of_item old was.0) = outline_at old xs j ∙ ap (option_map (outline_of_item old)) was.1 in
+      let there : slice_get ss j ≡ Some (outline_of_item old was.0) = outline_at old xs j ∙ ap (option_map (outline_of_item old)) was.1 in
       let same : outline_of_item old was.0 ≡ o = cc in
       each_weaker (λ d. IsPlacedAt s was.0 is.0 d.token) (λ d. IsPlaced j d.token) (λ d. placed_here d.token) o.declares
       (subst (λ (o : Outline). AllByRecursion (λ d. IsPlacedAt s was.0 is.0 d.token) o.declares) same replaced.declared))
@@ -266,8 +267,8 @@ module _ (laws : SpellingLaws) (old text : List ℕ) (s : Shift) (line : ℕ →
     flags = each_all (λ number. flag_row_at ys ss number ≡ option_map (shifted_flag s) (flag_row_at xs ss number)) (flags_of ss)
         (λ number. flag_shifts s xs ys ss names number (declared_placed number));
     clauses = same_clauses;
-    told = each_weaker (λ (p : ItemClause × ClauseLink). p.0.item ≢ j) (HasBytes old text xs ys) (λ p apart. (kept p.0.item apart).bytes) (told_clauses xs ss) told_apart;
-    channels = each_flat (λ (p : ItemClause × ClauseLink). p.0.item ≢ j) IsOfKept (channels_of_clause old xs) (told_clauses xs ss) channels_kept told_apart;
+    bytes = each_weaker (λ (p : ItemClause × ClauseLink). p.0.item ≢ j) (HasBytes old text xs ys) (λ p apart. (kept p.0.item apart).bytes) (resolved_clauses xs ss) resolved_apart;
+    channels = each_flat (λ (p : ItemClause × ClauseLink). p.0.item ≢ j) IsOfKept (channels_of_clause old xs) (resolved_clauses xs ss) channels_kept resolved_apart;
   }
 
   -- ---- outlines and marks
@@ -311,9 +312,9 @@ module _ (laws : SpellingLaws) (old text : List ℕ) (s : Shift) (line : ℕ →
   abbrev is_state_in : ℕ → ℕ → Bool
   is_state_in k i = is_named_state ss i && stands_in ss k i
 
-  targets_told : (bytes : List ℕ) (zs : List ProgramItem) (z : ProgramItem) → slice_get zs j ≡ Some z → (states : List ℕ) →
+  targets_meant : (bytes : List ℕ) (zs : List ProgramItem) (z : ProgramItem) → slice_get zs j ≡ Some z → (states : List ℕ) →
       target_numbers bytes zs ss states j ≡ filter_map (λ name. number_among states (state_of ss j name)) (map (λ (m : NameRef). m.name) (summary_of_item bytes z).targets)
-  targets_told bytes zs z at states =
+  targets_meant bytes zs z at states =
       ap (λ (o : Option ProgramItem). option_map_or (λ (x : ProgramItem). filter_map (target_number ss states j) (summary_of_item bytes x).targets) o []) at
       ∙ kept_map (λ (m : NameRef). m.name) (λ name. number_among states (state_of ss j name)) (summary_of_item bytes z).targets
 
@@ -525,7 +526,7 @@ module _ (laws : SpellingLaws) (old text : List ℕ) (s : Shift) (line : ℕ →
               some_faulty = has_faulty_stays old text s xs ys ss set (λ i. ap (λ b. b && stands_in ss set i) (faulty i));
               targets = each_all (λ i. target_numbers text ys ss (states_in ss set) i ≡ target_numbers old xs ss (states_in ss set) i) (states_in ss set)
                   (everywhere (λ i. target_numbers text ys ss (states_in ss set) i ≡ target_numbers old xs ss (states_in ss set) i)
-                  (targets_told text ys y here (states_in ss set) ∙ ap (filter_map name) alike.targets ∙ sym (targets_told old xs was.0 was.1 (states_in ss set)))
+                  (targets_meant text ys y here (states_in ss set) ∙ ap (filter_map name) alike.targets ∙ sym (targets_meant old xs was.0 was.1 (states_in ss set)))
                   (λ i apart. targets_stay old text s xs ys ss i (kept i apart) before (states_in ss set)));
             }
 

@@ -33,10 +33,11 @@ use Rattle.snl_tables.specs.declared.rows.Span.{Span}
 use Rattle.snl_tables.specs.declared.rows.Synced.{Synced}
 use Rattle.snl_tables.specs.Shifted.{shifted_channel, shifted_flag, shifted_scope, shifted_span}
 use Rattle.snl_check.specs.Channels.{AssignedChannel, NamedChannel, assigned_channel, assigned_channels, between_quotes, channels_in, channels_of_clause, channels_on, joined, variables_before}
-use Rattle.snl_check.specs.Clauses.{ItemClause, item_clauses_before, item_clauses_if, told_clauses}
-use Rattle.snl_check.specs.Items.{ProgramItem, gathered, item_name, span_at, tokens_in, tree_in}
-use Rattle.snl_check.specs.View.{is_in_set}
-use Rattle.snl_check.specs.Settings.{LetterSetting, letters_of_program, option_rows, program_options, setting_at, setting_in_tree}
+use Rattle.snl_check.specs.Clauses.{ItemClause, item_clauses_before, item_clauses_if, resolved_clauses}
+use Rattle.snl_item_check.specs.Items.{ProgramItem, tokens_in, tree_in}
+use Rattle.snl_check.specs.Settings.{LetterSetting, gathered, letters_of_program, option_rows, program_options, setting_at, setting_in_tree}
+use Rattle.snl_check.specs.ItemSpans.{item_name, span_at}
+use Rattle.snl_item_check.specs.View.{is_in_set}
 use Rattle.snl_check.specs.Tables.{channel_row, channel_rows, flag_row, flag_row_at, flag_rows, queue_of, scope_name, scope_of_variable, sync_of, synced, synced_by, variables_of}
 use Rattle.snl_check.proofs.ShiftLists.{flat_same, gathered_same, kept_shift, map_shift}
 use Rattle.snl_check.proofs.ShiftedItems.{IsKept, span_at_shifts, tree_stays}
@@ -100,7 +101,7 @@ module _ (xs ys : List ProgramItem) (same : (i : ℕ) → item_clauses_if i (tre
   clauses_before zero = refl
   clauses_before (suc n) = ap₂ (λ (a b : List ItemClause). a ++ b) (clauses_before n) (same n)
 
-  pub clauses_stay : length ys ≡ length xs → (ss : List Outline) → told_clauses ys ss ≡ told_clauses xs ss
+  pub clauses_stay : length ys ≡ length xs → (ss : List Outline) → resolved_clauses ys ss ≡ resolved_clauses xs ss
   clauses_stay count ss = ap (λ (l : List ItemClause). zip l (clause_links ss)) (ap (item_clauses_before ys) count ∙ clauses_before (length xs))
 
 -- ---- channels: what the clauses on them say goes by bytes
@@ -136,8 +137,8 @@ module _ (old text : List ℕ) (tokens shifted : List Piece) (bytes : token_byte
 abbrev pub HasBytes : (old text : List ℕ) (xs ys : List ProgramItem) → ItemClause × ClauseLink → Type 0
 HasBytes old text xs ys p = token_bytes text (tokens_in ys p.0.item) ≡ token_bytes old (tokens_in xs p.0.item)
 
-module _ (old text : List ℕ) (xs ys : List ProgramItem) (ss : List Outline) (told : told_clauses ys ss ≡ told_clauses xs ss)
-    (each : AllByRecursion (HasBytes old text xs ys) (told_clauses xs ss)) where
+module _ (old text : List ℕ) (xs ys : List ProgramItem) (ss : List Outline) (same : resolved_clauses ys ss ≡ resolved_clauses xs ss)
+    (each : AllByRecursion (HasBytes old text xs ys) (resolved_clauses xs ss)) where
   on_clause : (p : ItemClause × ClauseLink) → HasBytes old text xs ys p → channels_of_clause text ys p ≡ channels_of_clause old xs p
   on_clause p bytes = ap (λ l. if p.1.is_sound then l else []) (by p.1.variable p.0.clause)
     where
@@ -152,14 +153,14 @@ module _ (old text : List ℕ) (xs ys : List ProgramItem) (ss : List Outline) (t
 
   pub assigned_stay : assigned_channels text ys ss ≡ assigned_channels old xs ss
   assigned_stay =
-      ap (flat_map (channels_of_clause text ys)) told
-      ∙ flat_same (channels_of_clause text ys) (channels_of_clause old xs) (told_clauses xs ss) (each_clause (told_clauses xs ss) each)
+      ap (flat_map (channels_of_clause text ys)) same
+      ∙ flat_same (channels_of_clause text ys) (channels_of_clause old xs) (resolved_clauses xs ss) (each_clause (resolved_clauses xs ss) each)
 
   pub variables_stay : variables_of text ys ss ≡ variables_of old xs ss
   variables_stay = ap (λ (cs : List AssignedChannel). variables_before cs (length (entries ss))) assigned_stay
 
-  synced_at : (n : ℕ) → option_and_then (synced text ys ss) (slice_get (told_clauses xs ss) n) ≡ option_and_then (synced old xs ss) (slice_get (told_clauses xs ss) n)
-  synced_at n = by (slice_get (told_clauses xs ss) n) (each_got (HasBytes old text xs ys) (told_clauses xs ss) n each)
+  synced_at : (n : ℕ) → option_and_then (synced text ys ss) (slice_get (resolved_clauses xs ss) n) ≡ option_and_then (synced old xs ss) (slice_get (resolved_clauses xs ss) n)
+  synced_at n = by (slice_get (resolved_clauses xs ss) n) (each_got (HasBytes old text xs ys) (resolved_clauses xs ss) n each)
     where
       by : (o : Option (ItemClause × ClauseLink)) → IfSome o (HasBytes old text xs ys) → option_and_then (synced text ys ss) o ≡ option_and_then (synced old xs ss) o
       by None h = refl
@@ -168,10 +169,10 @@ module _ (old text : List ℕ) (xs ys : List ProgramItem) (ss : List Outline) (t
   pub sync_stays : (variable : ℕ) (element : Option ℕ) → sync_of text ys ss variable element ≡ sync_of old xs ss variable element
   sync_stays variable element = by (sync_number ss variable element)
     where
-      by : (o : Option ℕ) → option_and_then (λ n. option_and_then (synced text ys ss) (slice_get (told_clauses ys ss) n)) o
-          ≡ option_and_then (λ n. option_and_then (synced old xs ss) (slice_get (told_clauses xs ss) n)) o
+      by : (o : Option ℕ) → option_and_then (λ n. option_and_then (synced text ys ss) (slice_get (resolved_clauses ys ss) n)) o
+          ≡ option_and_then (λ n. option_and_then (synced old xs ss) (slice_get (resolved_clauses xs ss) n)) o
       by None = refl
-      by (Some n) = ap (λ (l : List (ItemClause × ClauseLink)). option_and_then (synced text ys ss) (slice_get l n)) told ∙ synced_at n
+      by (Some n) = ap (λ (l : List (ItemClause × ClauseLink)). option_and_then (synced text ys ss) (slice_get l n)) same ∙ synced_at n
 
 -- ---- the rows of channels
 

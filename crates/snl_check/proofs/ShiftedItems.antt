@@ -10,7 +10,8 @@ use Rattle.snl_lex.specs.Shift.{most, shifted_offset, shifted_piece}
 use Rattle.snl_walk.specs.Tokens.{token_bytes}
 use Rattle.snl_tables.specs.declared.rows.Span.{Span}
 use Rattle.snl_tables.specs.Shifted.{shifted_span}
-use Rattle.snl_check.specs.Items.{ProgramItem, header_name, named_by, program_name, span_at, span_of, tokens_in, tree_in}
+use Rattle.snl_item_check.specs.Items.{ProgramItem, tokens_in, tree_in}
+use Rattle.snl_check.specs.ItemSpans.{header_name, named_by, program_name, span_at, span_of}
 use Rattle.snl_check.specs.Members.{is_faulty_item}
 use Rattle.snl_check.specs.Shifted.{shifted_item, shifted_tokens}
 

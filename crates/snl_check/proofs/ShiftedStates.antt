@@ -27,12 +27,13 @@ use Rattle.snl_tables.specs.Moved.{moved_set, moved_state}
 use Rattle.snl_tables.specs.Shifted.{shifted_destination, shifted_named, shifted_span}
 use Rattle.snl_check.specs.Channels.{AssignedChannel, assigned_channels}
 use Rattle.snl_check.specs.Conditions.{on_declaration, uses_in, wake_ups}
-use Rattle.snl_check.specs.Items.{ProgramItem, item_name, tokens_in, tree_in}
+use Rattle.snl_item_check.specs.Items.{ProgramItem, tokens_in, tree_in}
+use Rattle.snl_check.specs.ItemSpans.{item_name}
 use Rattle.snl_check.specs.Members.{has_faulty, is_faulty_item, states_in, target_number, target_numbers}
 use Rattle.snl_check.specs.Reach.{is_reached}
 use Rattle.snl_check.specs.Settings.{state_options}
-use Rattle.snl_check.specs.States.{destination, destinations_in_member, gotos_in, is_repeated, is_reached_in, item_at, line_of_item, mark_of, members_in, named_state, numbered_row, set_row, state_row, state_rows}
-use Rattle.snl_check.specs.Told.{Told, by_statements, nothing, told_by, told_in, told_in_item}
+use Rattle.snl_check.specs.States.{by_statements, destination, destinations_in_member, gotos_in, is_reached_in, is_repeated, item_at, line_of_item, mark_of, members_in, named_state, numbered_row, set_row, state_row, state_rows}
+use Rattle.snl_item_check.specs.Told.{Told, nothing, told_by, told_in, told_in_item}
 use Rattle.snl_check.proofs.Linked.{targets_at}
 use Rattle.snl_check.proofs.ShiftLists.{any_same, flat_shift, map_same, map_shift, numbered_shift}
 use Rattle.snl_check.proofs.ShiftedItems.{IsKept, span_at_shifts, tree_stays}
@@ -53,7 +54,7 @@ told_at text xs i = by (slice_get xs i)
     by (Some x) = refl
 
 targets_by : List Outline → List ℕ → ℕ → (ℕ → List ℕ) → Told → List ℕ
-targets_by ss states i bytes told = filter_map (target_number ss states i) (map (λ n. record { name = bytes n; token = n }) (map (λ (u : TargetUse). u.token) told.target_uses))
+targets_by ss states i bytes t = filter_map (target_number ss states i) (map (λ n. record { name = bytes n; token = n }) (map (λ (u : TargetUse). u.token) t.target_uses))
 
 wakes_by : List Outline → List AssignedChannel → ℕ → (ℕ → List ℕ) → List WakeUse → List WakeUp
 wakes_by ss cs i bytes uses = filter_map (λ used. option_and_then (on_declaration ss cs used.subscript) (resolve_in ss i (bytes used.token))) uses

@@ -29,8 +29,9 @@ use Rattle.snl_tables.specs.declared.rows.SetRow.{SetRow}
 use Rattle.snl_tables.specs.Moved.{moved_set, moved_state, moved_tables}
 use Rattle.snl_tables.specs.Shifted.{shifted_flag, shifted_span}
 use Rattle.snl_check.specs.Channels.{assigned_channels}
-use Rattle.snl_check.specs.Clauses.{item_clauses_if, told_clauses}
-use Rattle.snl_check.specs.Items.{ProgramItem, outline_of_item, item_name, outlines_of, tokens_in, tree_in}
+use Rattle.snl_check.specs.Clauses.{item_clauses_if, resolved_clauses}
+use Rattle.snl_item_check.specs.Items.{ProgramItem, outline_of_item, outlines_of, tokens_in, tree_in}
+use Rattle.snl_check.specs.ItemSpans.{item_name}
 use Rattle.snl_check.specs.Members.{has_faulty, is_faulty_item, states_in, target_numbers}
 use Rattle.snl_check.specs.Moved.{KeepsItem}
 use Rattle.snl_check.specs.Settings.{setting_at}
@@ -54,21 +55,21 @@ pub record RestStays (old text : List ℕ) (s : Shift) (xs ys : List ProgramItem
   pub settings : (i : ℕ) → i < length xs → setting_at text ys ss i ≡ setting_at old xs ss i
   pub flags : AllByRecursion (λ number. flag_row_at ys ss number ≡ option_map (shifted_flag s) (flag_row_at xs ss number)) (flags_of ss)
   pub clauses : (i : ℕ) → item_clauses_if i (tree_in ys i) ≡ item_clauses_if i (tree_in xs i)
-  pub told : AllByRecursion (HasBytes old text xs ys) (told_clauses xs ss)
+  pub bytes : AllByRecursion (HasBytes old text xs ys) (resolved_clauses xs ss)
   pub channels : AllByRecursion (λ c. IsKept old text s xs ys c.item) (assigned_channels old xs ss)
 
 module _ (old text : List ℕ) (s : Shift) (xs ys : List ProgramItem) (ss : List Outline) (before : 0 < s.start) (stays : RestStays old text s xs ys ss) where
-  pub same_clauses : told_clauses ys ss ≡ told_clauses xs ss
+  pub same_clauses : resolved_clauses ys ss ≡ resolved_clauses xs ss
   same_clauses = clauses_stay xs ys stays.clauses stays.count ss
 
   pub same_channels : assigned_channels text ys ss ≡ assigned_channels old xs ss
-  same_channels = assigned_stay old text xs ys ss same_clauses stays.told
+  same_channels = assigned_stay old text xs ys ss same_clauses stays.bytes
 
   rows_of_channels : ChannelsStay old text s xs ys ss
   rows_of_channels = record {
     assigned = same_channels;
     scopes = variable_scope_shifts s xs ys ss stays.names;
-    syncs = sync_stays old text xs ys ss same_clauses stays.told;
+    syncs = sync_stays old text xs ys ss same_clauses stays.bytes;
   }
 
   pub tables_but_sets : (line : ℕ → Line → Line) (sets : List SetRow) → set_rows text ys ss ≡ sets → tables_by text ys ss ≡ record (moved_tables s line (tables_by old xs ss)) { sets = sets }
@@ -77,7 +78,7 @@ module _ (old text : List ℕ) (s : Shift) (xs ys : List ProgramItem) (ss : List
       let options = options_stay old text s xs ys ss stays.count stays.settings in
       let flags = flags_shift s xs ys ss stays.names stays.flags in
       let channels = channels_shift old text s xs ys ss rows_of_channels before stays.channels in
-      let variables = variables_stay old text xs ys ss same_clauses stays.told in
+      let variables = variables_stay old text xs ys ss same_clauses stays.bytes in
       cc
 
 -- ---- the rows of state sets

@@ -14,8 +14,9 @@ use Rattle.snl_scope.specs.Places.{is_set_begin, stands_in}
 use Rattle.snl_tables.specs.Moved.{moved_set, moved_tables}
 use Rattle.snl_tables.specs.Shifted.{shifted_flag, shifted_span}
 use Rattle.snl_check.specs.Channels.{assigned_channels}
-use Rattle.snl_check.specs.Clauses.{item_clauses_if, told_clauses}
-use Rattle.snl_check.specs.Items.{ProgramItem, item_name, outlines_of}
+use Rattle.snl_check.specs.Clauses.{item_clauses_if, resolved_clauses}
+use Rattle.snl_item_check.specs.Items.{ProgramItem, outlines_of}
+use Rattle.snl_check.specs.ItemSpans.{item_name}
 use Rattle.snl_check.specs.Members.{states_in, target_numbers}
 use Rattle.snl_check.specs.Moved.{KeepsItems}
 use Rattle.snl_check.specs.Shifted.{shifted_item}
@@ -49,7 +50,7 @@ module _ (old text : List ℕ) (s : Shift) (line : ℕ → Line → Line) (xs : 
       flags = each_all (λ number. flag_row_at ys ss number ≡ option_map (shifted_flag s) (flag_row_at xs ss number)) (flags_of ss)
           (λ number. flag_shifts s xs ys ss names number (λ d e. span_at_shifts old text s xs ys d.item (kept d.item) before d.token));
       clauses = λ i. ap (item_clauses_if i) (tree_stays old text s xs ys i (kept i));
-      told = each_all (HasBytes old text xs ys) (told_clauses xs ss) (λ p. (kept p.0.item).bytes);
+      bytes = each_all (HasBytes old text xs ys) (resolved_clauses xs ss) (λ p. (kept p.0.item).bytes);
       channels = each_all (λ c. IsKept old text s xs ys c.item) (assigned_channels old xs ss) (λ c. kept c.item);
     }
       where

@@ -15,8 +15,8 @@ use Rattle.snl_syntax.specs.declared.tree.state.StateMember.TheVariants as membe
 use Rattle.snl_syntax.specs.declared.tree.state.Target.{Target}
 use Rattle.snl_syntax.specs.declared.tree.state.Target.TheVariants as target
 use Rattle.snl_syntax.specs.Parsing as parsing
-use Rattle.snl_walk.specs.declared.codes.Code.{Code}
-use Rattle.snl_walk.specs.declared.codes.Code.TheVariants.{E08, E09}
+use Rattle.snl_codes.specs.declared.code.Code.{Code}
+use Rattle.snl_codes.specs.declared.code.Code.TheVariants.{E08, E09}
 use Rattle.snl_scope.specs.declared.facts.ClauseLink.{ClauseLink}
 use Rattle.snl_scope.specs.declared.facts.Declaration.{Declaration}
 use Rattle.snl_scope.specs.declared.facts.Scope.{Scope}
@@ -46,13 +46,14 @@ use Rattle.snl_tables.specs.declared.rows.FlagRow.{FlagRow}
 use Rattle.snl_tables.specs.declared.rows.ScopeName.TheVariants as named
 use Rattle.snl_tables.specs.declared.rows.Span.{Span}
 use Rattle.snl_check.specs.Channels.{AssignedChannel, assigned_channel, assigned_channels, channels_in, channels_of_clause, channels_on}
-use Rattle.snl_check.specs.Clauses.{ItemClause, clauses_in_tree, item_clause, item_clauses, item_clauses_before, item_clauses_if, told_clauses}
-use Rattle.snl_check.specs.Items.{ProgramItem, header_name, item_name, named_by, program_name, span_at, span_of, outline_of_item, outlines_of, tokens_in, tree_in}
+use Rattle.snl_check.specs.Clauses.{ItemClause, clauses_in_tree, item_clause, item_clauses, item_clauses_before, item_clauses_if, resolved_clauses}
+use Rattle.snl_item_check.specs.Items.{ProgramItem, outline_of_item, outlines_of, tokens_in, tree_in}
+use Rattle.snl_check.specs.ItemSpans.{header_name, item_name, named_by, program_name, span_at, span_of}
 use Rattle.snl_check.specs.Members.{states_in}
 use Rattle.snl_check.specs.Spans.{AreRead, HasByte, InChannel, InDestination, InFlag, InNamed, InScope, InSet, InState, InTables, SpanLiesIn, TablesHaveBytes, TablesLieIn}
-use Rattle.snl_check.specs.States.{destination, destinations_in_member, gotos_in, item_at, members_in, named_state, numbered_row, set_row}
+use Rattle.snl_check.specs.States.{by_statements, destination, destinations_in_member, gotos_in, item_at, members_in, named_state, numbered_row, set_row}
 use Rattle.snl_check.specs.Tables.{channel_row, flag_row, flag_row_at, scope_name, tables_of}
-use Rattle.snl_check.specs.Told.{by_statements, nothing, told_by}
+use Rattle.snl_item_check.specs.Told.{nothing, told_by}
 use Rattle.snl_check.proofs.Each.{each_image, each_join, each_of, each_weaker}
 use Rattle.snl_check.proofs.Linked.{outline_at}
 use Rattle.snl_check.proofs.SameClauses.{tree_alike}
@@ -317,7 +318,7 @@ module _ (P : Span → Type 0) (text : List ℕ) (xs : List ProgramItem) (names 
 
   channels_hold : AllByRecursion ChannelHolds (assigned_channels text xs ss)
   channels_hold =
-      each_flat (λ (p : ItemClause × ClauseLink). ClauseHolds p.0) ChannelHolds (channels_of_clause text xs) (told_clauses xs ss) clause_channels_hold
+      each_flat (λ (p : ItemClause × ClauseLink). ClauseHolds p.0) ChannelHolds (channels_of_clause text xs) (resolved_clauses xs ss) clause_channels_hold
       (each_beside ClauseHolds (item_clauses xs) (clause_links ss) (clauses_hold (length xs)))
 
   channel_holds : (c : AssignedChannel) → ChannelHolds c → InChannel P (channel_row text xs ss c)

@@ -4,7 +4,7 @@ use Rattle.std.specs.List.{AllByRecursion as Each}
 use Rattle.snl_walk.specs.declared.occurrence.Occurrence.{Occurrence}
 use Rattle.snl_walk.specs.declared.used.TargetUse.{TargetUse}
 use Rattle.snl_walk.specs.Uses.{is_target, leads_on, target_use, target_uses_after, targets}
-use Rattle.snl_check.specs.Told.{by_statements}
+use Rattle.snl_check.specs.States.{by_statements}
 use Rattle.snl_check.proofs.Each.{each_back, each_front}
 
 -- the uses are at the targets

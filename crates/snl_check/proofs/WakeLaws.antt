@@ -18,7 +18,7 @@ use Rattle.snl_tables.specs.declared.rows.WakeUp.TheVariants as wake
 use Rattle.snl_walk.specs.declared.used.WakeUse.{WakeUse}
 use Rattle.snl_check.specs.Channels.{AssignedChannel, assigned_channels, covers_elements, element_number, is_channel_of, is_on, variables_before}
 use Rattle.snl_check.specs.Conditions.{by_flag, on_declaration, on_variable, uses_in, wake_up}
-use Rattle.snl_check.specs.Items.{ProgramItem, outlines_of, tokens_in}
+use Rattle.snl_item_check.specs.Items.{ProgramItem, outlines_of, tokens_in}
 use Rattle.snl_check.specs.Tables.{variables_of}
 use Rattle.snl_check.specs.WakeSets.{HasChannels, HasFlags, channel_meant, covers_channel, covers_flag, declaration_of, is_number, means_channel, means_flag}
 use Rattle.snl_check.proofs.Numbers.{list_at}

@@ -7,7 +7,7 @@ use Rattle.std.proofs.lemmas.List.Elements.{All-contains, All-get_or, All-push, 
 use Rattle.std.proofs.lemmas.Option.{get_or_from_slice_get, slice_get-get_or, slice_get_within}
 use Rattle.std.proofs.Math.Seq.{get_or-append_seam}
 use Rattle.snl_check.specs.declared.reachability.reaching.Search.{Search}
-use Rattle.snl_check.specs.Reach.{AreStates, Enters, HasMarked, IsReached, IsTarget, IsWalk, target_lists}
+use Rattle.snl_check.specs.Reach.{AreStates, Enters, HasReached, IsReached, IsTarget, IsWalk, target_lists}
 
 module _ (targets : List (List ℕ)) where
   -- the initial state is reached by a walk of no steps
@@ -83,20 +83,20 @@ module _ (targets : List (List ℕ)) where
   -- it has come to each target.
   pub record Follows (search : Search) : Type 0 where
     pub as_long : length search.reached.items ≡ length targets
-    pub begins : 0 < length targets → HasMarked search 0
-    pub sound : (s : ℕ) → HasMarked search s → IsReached targets s
-    pub whole : (s : ℕ) → HasMarked search s → Contains search.waiting.items s ⊎ ((t : ℕ) → IsTarget targets s t → HasMarked search t)
-    pub come : (s : ℕ) → Contains search.waiting.items s → HasMarked search s
+    pub begins : 0 < length targets → HasReached search 0
+    pub sound : (s : ℕ) → HasReached search s → IsReached targets s
+    pub whole : (s : ℕ) → HasReached search s → Contains search.waiting.items s ⊎ ((t : ℕ) → IsTarget targets s t → HasReached search t)
+    pub come : (s : ℕ) → Contains search.waiting.items s → HasReached search s
 
   -- a search that has not begun
-  module _ (search : Search) (unmarked : search.reached.items ≡ replicate (length targets) false) (idle : search.waiting.items ≡ []) where
+  module _ (search : Search) (none_yet : search.reached.items ≡ replicate (length targets) false) (idle : search.waiting.items ≡ []) where
     count : length search.reached.items ≡ length targets
-    count = ap length unmarked ∙ length-replicate (length targets) false
+    count = ap length none_yet ∙ length-replicate (length targets) false
 
-    none_marked : (s : ℕ) → HasMarked search s → ⊥
-    none_marked s h =
+    none_reached : (s : ℕ) → HasReached search s → ⊥
+    none_reached s h =
         let l = slice_get_within search.reached.items s true h in
-        let not_here = ap (λ marks. get_or marks s false) unmarked ∙ get_or-replicate (length targets) s false false (omega (arith, l, count)) in
+        let not_here = ap (λ listed. get_or listed s false) none_yet ∙ get_or-replicate (length targets) s false false (omega (arith, l, count)) in
         false≢true (sym not_here ∙ get_or_from_slice_get search.reached.items s true false h)
 
     none_waits : (s : ℕ) → Contains search.waiting.items s → ⊥
@@ -106,8 +106,8 @@ module _ (targets : List (List ℕ)) where
     follows_none none = record {
       as_long = count;
       begins = λ l. absurd (omega (arith, l, none));
-      sound = λ s h. absurd (none_marked s h);
-      whole = λ s h. absurd (none_marked s h);
+      sound = λ s h. absurd (none_reached s h);
+      whole = λ s h. absurd (none_reached s h);
       come = λ s h. absurd (none_waits s h);
     }
 
@@ -116,26 +116,26 @@ module _ (targets : List (List ℕ)) where
         let called : (s : ℕ) → Contains (0 ∷ []) s → 0 ≡ s = λ s h. elim (Contains-push_cases [] 0 s h) [ inl (k, l, e) ↦ absurd (omega (arith, l)) | inr e ↦ e ] in
         record {
           as_long = first.as_long ∙ count;
-          begins = λ l. All-contains (HasMarked new) (0 ∷ []) 0 first.marked (Contains-push [] 0);
-          sound = λ s h. elim (first.fresh s h) [ inl old ↦ absurd (none_marked s old) | inr k ↦ subst (IsReached targets) (called s k.0) (first_reached some) ];
-          whole = λ s h. elim (first.fresh s h) [ inl old ↦ absurd (none_marked s old) | inr k ↦ inl k.1 ];
-          come = λ s h. elim (first.called s h) [ inl old ↦ absurd (none_waits s old) | inr k ↦ All-contains (HasMarked new) (0 ∷ []) s first.marked k ];
+          begins = λ l. All-contains (HasReached new) (0 ∷ []) 0 first.entered (Contains-push [] 0);
+          sound = λ s h. elim (first.fresh s h) [ inl old ↦ absurd (none_reached s old) | inr k ↦ subst (IsReached targets) (called s k.0) (first_reached some) ];
+          whole = λ s h. elim (first.fresh s h) [ inl old ↦ absurd (none_reached s old) | inr k ↦ inl k.1 ];
+          come = λ s h. elim (first.called s h) [ inl old ↦ absurd (none_waits s old) | inr k ↦ All-contains (HasReached new) (0 ∷ []) s first.entered k ];
         }
 
   -- the search takes a state that waits
   module _ (before taken : Search) (s : ℕ) (follows : Follows before) (same : taken.reached.items ≡ before.reached.items) (waited : before.waiting.items ≡ taken.waiting.items ++ s ∷ []) where
-    is_marked : HasMarked before s
-    is_marked = follows.come s (subst (λ states. Contains states s) (sym waited) (Contains-push taken.waiting.items s))
+    was_reached : HasReached before s
+    was_reached = follows.come s (subst (λ states. Contains states s) (sym waited) (Contains-push taken.waiting.items s))
 
     taken_within : s < length targets
-    taken_within = let l = slice_get_within before.reached.items s true is_marked in omega (arith, l, follows.as_long)
+    taken_within = let l = slice_get_within before.reached.items s true was_reached in omega (arith, l, follows.as_long)
 
     -- what the search has come to is the same
-    still : (t : ℕ) → HasMarked before t → HasMarked taken t
-    still t h = ap (λ marks. slice_get marks t) same ∙ h
+    still : (t : ℕ) → HasReached before t → HasReached taken t
+    still t h = ap (λ listed. slice_get listed t) same ∙ h
 
-    ever : (t : ℕ) → HasMarked taken t → HasMarked before t
-    ever t h = ap (λ marks. slice_get marks t) (sym same) ∙ h
+    ever : (t : ℕ) → HasReached taken t → HasReached before t
+    ever t h = ap (λ listed. slice_get listed t) (sym same) ∙ h
 
     rest : (t : ℕ) → Contains taken.waiting.items t → Contains before.waiting.items t
     rest t h = subst (λ states. Contains states t) (sym waited) (Contains-append_left taken.waiting.items (s ∷ []) t h)
@@ -144,14 +144,14 @@ module _ (targets : List (List ℕ)) where
       is_target : (t : ℕ) → Contains row t → IsTarget targets s t
       is_target t h = subst (λ ts. Contains ts t) (sym own) h
 
-      sound : (t : ℕ) → HasMarked new t → IsReached targets t
+      sound : (t : ℕ) → HasReached new t → IsReached targets t
       sound t h =
           elim (comes.fresh t h) [
             | inl old ↦ follows.sound t (ever t old)
-            | inr k ↦ reached_more s t (follows.sound s is_marked) (is_target t k.0) (All-contains (λ t. t < length targets) row t states k.0)
+            | inr k ↦ reached_more s t (follows.sound s was_reached) (is_target t k.0) (All-contains (λ t. t < length targets) row t states k.0)
           ]
 
-      whole : (t : ℕ) → HasMarked new t → Contains new.waiting.items t ⊎ ((u : ℕ) → IsTarget targets t u → HasMarked new u)
+      whole : (t : ℕ) → HasReached new t → Contains new.waiting.items t ⊎ ((u : ℕ) → IsTarget targets t u → HasReached new u)
       whole t h =
           elim (comes.fresh t h) [
             | inr k ↦ inl k.1
@@ -159,7 +159,7 @@ module _ (targets : List (List ℕ)) where
               | inr all ↦ inr (λ u k. comes.kept u (still u (all u k)))
               | inl waits ↦ elim (Contains-push_cases taken.waiting.items s t (subst (λ states. Contains states t) waited waits)) [
                 | inl k ↦ inl (comes.waits t k)
-                | inr e ↦ inr (λ u k. All-contains (HasMarked new) row u comes.marked (subst (λ ts. Contains ts u) own (subst (λ n. IsTarget targets n u) (sym e) k)))
+                | inr e ↦ inr (λ u k. All-contains (HasReached new) row u comes.entered (subst (λ ts. Contains ts u) own (subst (λ n. IsTarget targets n u) (sym e) k)))
               ]
             ]
           ]
@@ -170,14 +170,14 @@ module _ (targets : List (List ℕ)) where
         begins = λ l. comes.kept 0 (still 0 (follows.begins l));
         sound = sound;
         whole = whole;
-        come = λ t h. elim (comes.called t h) [ inl k ↦ comes.kept t (still t (follows.come t (rest t k))) | inr k ↦ All-contains (HasMarked new) row t comes.marked k ];
+        come = λ t h. elim (comes.called t h) [ inl k ↦ comes.kept t (still t (follows.come t (rest t k))) | inr k ↦ All-contains (HasReached new) row t comes.entered k ];
       }
 
   -- at the end nothing waits
-  pub follows_all : (search : Search) → Follows search → length search.waiting.items ≡ 0 → (s : ℕ) → HasMarked search s ↔ IsReached targets s
-  follows_all search follows idle s = (follows.sound s, λ (walk, along). end_of_walk (HasMarked search) goes_on walk 0 s along (follows.begins (some walk along)))
+  pub follows_all : (search : Search) → Follows search → length search.waiting.items ≡ 0 → (s : ℕ) → HasReached search s ↔ IsReached targets s
+  follows_all search follows idle s = (follows.sound s, λ (walk, along). end_of_walk (HasReached search) goes_on walk 0 s along (follows.begins (some walk along)))
     where
-      goes_on : (t u : ℕ) → HasMarked search t → IsTarget targets t u → HasMarked search u
+      goes_on : (t u : ℕ) → HasReached search t → IsTarget targets t u → HasReached search u
       goes_on t u h k = elim (follows.whole t h) [ inl (i, l, e) ↦ absurd (omega (arith, l, idle)) | inr all ↦ all u k ]
 
       -- where there is a walk, there is a state

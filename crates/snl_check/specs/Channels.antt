@@ -12,8 +12,8 @@ use Rattle.snl_scope.specs.declared.facts.ClauseLink.{ClauseLink}
 use Rattle.snl_scope.specs.declared.summaries.summary.Outline.{Outline}
 use Rattle.snl_scope.specs.Below.{all_below}
 use Rattle.snl_walk.specs.Tokens.{token_bytes, value_at}
-use Rattle.snl_check.specs.Clauses.{ItemClause, told_clauses}
-use Rattle.snl_check.specs.Items.{ProgramItem, tokens_in}
+use Rattle.snl_check.specs.Clauses.{ItemClause, resolved_clauses}
+use Rattle.snl_item_check.specs.Items.{ProgramItem, tokens_in}
 
 -- The bytes between the quotes of a string.
 abbrev pub between_quotes : List ℕ → List ℕ
@@ -63,13 +63,13 @@ channels_of_clause text xs (c, link) = if link.is_sound then channels_on text xs
 
 -- The channels in the order of the text.
 abbrev pub assigned_channels : List ℕ → List ProgramItem → List Outline → List AssignedChannel
-assigned_channels text xs ss = flat_map (channels_of_clause text xs) (told_clauses xs ss)
+assigned_channels text xs ss = flat_map (channels_of_clause text xs) (resolved_clauses xs ss)
 
 -- The channel is one of the variable.
 abbrev pub is_on : ℕ → AssignedChannel → Bool
 is_on variable c = nat_eq c.variable variable
 
--- The channel is that of an element of the variable: of any, or of the one that is told.
+-- The channel is that of an element of the variable: of any, or of the one that is given.
 abbrev pub is_element : Option ℕ → Option ℕ → Bool
 is_element None element = is_some element
 is_element (Some e) element = option_map_or (λ k. nat_eq k e) element false

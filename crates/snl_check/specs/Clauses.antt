@@ -1,4 +1,4 @@
--- The clauses of the items of a text: their trees, and beside each what links tell of it.
+-- The clauses of the items of a text: their trees, and beside each what links say of it.
 use Rattle.std.specs.Prelude.{ℕ, zero, suc, List, [], ◌∷◌, ◌++◌, map, length, Option, None, Some}
 use Rattle.std.specs.List.{flat_map, zip}
 use Rattle.snl_syntax.specs.declared.tree.clause.Clause.{Clause}
@@ -11,7 +11,7 @@ use Rattle.snl_scope.specs.declared.summaries.summary.Outline.{Outline}
 use Rattle.snl_scope.specs.declared.summaries.summary.VariableClause.{VariableClause}
 use Rattle.snl_scope.specs.Clauses.{clause_links}
 use Rattle.snl_scope.specs.Summaries.Clauses.{clause_of}
-use Rattle.snl_check.specs.Items.{ProgramItem, tokens_in, tree_in}
+use Rattle.snl_item_check.specs.Items.{ProgramItem, tokens_in, tree_in}
 
 -- The clauses of an item, as trees.
 abbrev pub clause_in_member : StateMember → List Clause
@@ -43,9 +43,9 @@ item_clauses_before xs (suc n) = item_clauses_before xs n ++ item_clauses_if n (
 abbrev pub item_clauses : List ProgramItem → List ItemClause
 item_clauses xs = item_clauses_before xs (length xs)
 
--- The clauses of a text in its order, each with what links tell of it.
-abbrev pub told_clauses : List ProgramItem → List Outline → List (ItemClause × ClauseLink)
-told_clauses xs ss = zip (item_clauses xs) (clause_links ss)
+-- The clauses of a text in its order, each with what links say of it.
+abbrev pub resolved_clauses : List ProgramItem → List Outline → List (ItemClause × ClauseLink)
+resolved_clauses xs ss = zip (item_clauses xs) (clause_links ss)
 
 -- A clause of a text as the summary of its item has it, with the number of the item.
 abbrev pub summarized : List ℕ → List ProgramItem → ItemClause → ℕ × VariableClause

@@ -1,18 +1,19 @@
 -- What the code has collected of a text, as what it is in the text.
-use Rattle.std.specs.Prelude.{◌≡◌, List, map, length, option_copied}
+use Rattle.std.specs.Prelude.{◌≡◌, ℕ, List, map, length, option_copied}
 use Rattle.snl_lex.specs.LineList.{IsLineList}
 use Rattle.snl_scope.specs.declared.facts.ClauseLink.{ClauseLink}
+use Rattle.snl_scope.specs.declared.summaries.summary.Outline.{Outline}
 use Rattle.snl_check.specs.declared.rows.channels.AssignedChannel.{AssignedChannel}
 use Rattle.snl_check.specs.declared.rows.item_clauses.PlacedClause.{PlacedClause}
-use Rattle.snl_check.specs.declared.rows.item_clauses.ToldClause.{ToldClause}
+use Rattle.snl_check.specs.declared.rows.item_clauses.ResolvedClause.{ResolvedClause}
 use Rattle.snl_check.specs.declared.rows.row_source.RowSource.{RowSource}
-use Rattle.snl_check.specs.declared.rows.outline.Outline.{Outline}
+use Rattle.snl_check.specs.declared.rows.state_source.StateSource.{StateSource}
 use Rattle.snl_check.specs.declared.rows.text_items.TextItems.{TextItems}
 use Rattle.snl_check.specs.Channels as channels
-use Rattle.snl_check.specs.Clauses.{ItemClause, told_clauses}
-use Rattle.snl_check.specs.Items.{IsCutUp, ProgramItem, program_items, outlines_of}
+use Rattle.snl_check.specs.Clauses.{ItemClause, resolved_clauses}
+use Rattle.snl_item_check.specs.Items.{IsCutUp, ProgramItem, program_items, outlines_of}
 use Rattle.snl_check.specs.Numbered.{Numbered}
-use Rattle.snl_check.specs.Told.{told_in_item, told_seen}
+use Rattle.snl_item_check.specs.Told.{told_in_item, told_seen}
 
 abbrev pub items_in : TextItems → List ProgramItem
 items_in p = program_items p.tokens.now p.ends.now (map option_copied p.trees.now)
@@ -20,16 +21,20 @@ items_in p = program_items p.tokens.now p.ends.now (map option_copied p.trees.no
 abbrev pub AreTextItems : TextItems → Type 0
 AreTextItems p = IsCutUp p.text.now p.tokens.now p.ends.now (length p.trees.now)
 
+-- What a definition gives over the text, its items and their outlines that rows are made from.
+abbrev pub over : {A : Type 0} → RowSource → (List ℕ → List ProgramItem → List Outline → A) → A
+over r f = f r.program.text.now (items_in r.program) r.links.now.outlines
+
 abbrev pub placed : PlacedClause → ItemClause
 placed p = record { item = p.item; clause = p.clause.now }
 
-abbrev pub told : ToldClause → ItemClause × ClauseLink
-told t = (record { item = t.item; clause = t.clause.now }, t.link)
+abbrev pub resolved : ResolvedClause → ItemClause × ClauseLink
+resolved t = (record { item = t.item; clause = t.clause.now }, t.link)
 
--- The clauses are those of the program's items, with what links tell of each.
+-- The clauses are those of the program's items, with what links say of each.
 pub record IsRowSource (l : RowSource) : Type 0 where
   pub program : AreTextItems l.program
-  pub clauses : map told l.clauses.now ≡ told_clauses (items_in l.program) l.links.now.outlines
+  pub clauses : map resolved l.clauses.now ≡ resolved_clauses (items_in l.program) l.links.now.outlines
 
 -- The links are those of the items.
 pub record IsLinked (l : RowSource) : Type 0 where
@@ -40,8 +45,8 @@ abbrev pub assigned : AssignedChannel → channels.AssignedChannel
 assigned c = record { item = c.item; token = c.token; variable = c.variable; element = c.element; strings = c.strings.now }
 
 -- What the rows of states are made from.
-pub record IsOutline (o : Outline) : Type 0 where
-  pub linked : IsLinked o.row_source
-  pub lines : IsLineList o.row_source.program.text.now o.lines.now.ends.items o.lines.now.markers.items o.lines.now.naming.items
-  pub checked : map told_seen o.checked.now ≡ map (told_in_item o.row_source.program.text.now) (items_in o.row_source.program)
-  pub numbered : Numbered o.numbers.now (channels.assigned_channels o.row_source.program.text.now (items_in o.row_source.program) o.row_source.links.now.outlines)
+pub record IsStateSource (s : StateSource) : Type 0 where
+  pub linked : IsLinked s.row_source
+  pub lines : IsLineList s.row_source.program.text.now s.lines.now
+  pub checked : map told_seen s.checked.now ≡ map (told_in_item s.row_source.program.text.now) (items_in s.row_source.program)
+  pub numbered : Numbered s.numbers.now (over s.row_source channels.assigned_channels)

@@ -10,8 +10,8 @@ use Rattle.snl_tables.specs.declared.rows.WakeUp.{WakeUp}
 use Rattle.snl_tables.specs.declared.rows.WakeUp.TheVariants as wake
 use Rattle.snl_walk.specs.declared.used.WakeUse.{WakeUse}
 use Rattle.snl_check.specs.Channels.{AssignedChannel, covers_elements, element_number}
-use Rattle.snl_check.specs.Items.{ProgramItem, tokens_in}
-use Rattle.snl_check.specs.Told.{told_in}
+use Rattle.snl_item_check.specs.Items.{ProgramItem, tokens_in}
+use Rattle.snl_item_check.specs.Told.{told_in}
 
 -- The uses of names in the conditions of an item.
 abbrev pub uses_in : List ℕ → List ProgramItem → ℕ → List WakeUse

@@ -1,11 +1,6 @@
-pub mod Options
 pub mod Members
-pub mod View
-pub mod ItemFaults
-pub mod SeenNames
 pub mod Reach
-pub mod Items
-pub mod Told
+pub mod ItemSpans
 pub mod Clauses
 pub mod Channels
 pub mod Conditions
@@ -22,4 +17,3 @@ pub mod Spans
 pub mod Shifted
 pub mod ShiftedAround
 pub mod Moved
-pub mod FaultCodes

@@ -1,6 +1,6 @@
 -- What is in a state set: its states, what the targets of each mean, and whether an item is faulty.
--- An item is told by its number among the outlines of all, and a state also by its number among the
--- states of its set.
+-- An item is its number among the outlines of all, and a state has a number among the states of its
+-- set too.
 use Rattle.std.specs.Prelude.{◌≡◌, ℕ, Bool, false, ◌&&◌, List, [], length, map, slice_get, nat_eq, position, is_none, is_some, Option, option_and_then, option_copied}
 use Rattle.std.specs.List.{AllByRecursion, filter_map}
 use Rattle.std.specs.Option.{option_map_or}
@@ -11,7 +11,7 @@ use Rattle.snl_scope.specs.Linked.{state_of}
 use Rattle.snl_scope.specs.Order.{is_named_state, state_name}
 use Rattle.snl_scope.specs.Places.{stands_in}
 use Rattle.snl_check.specs.declared.reachability.marks.SetMember.{SetMember}
-use Rattle.snl_check.specs.Items.{ProgramItem, summary_of_item}
+use Rattle.snl_item_check.specs.Items.{ProgramItem, summary_of_item}
 
 -- The states of the state set that item k begins, faulty or not.
 abbrev pub states_in : List Outline → ℕ → List ℕ
@@ -52,7 +52,7 @@ is_first_state ss j = option_map_or (λ name. option_map_or (nat_eq j) (state_of
 abbrev pub targets_of_item : List ℕ → List ProgramItem → ℕ → List NameRef
 targets_of_item text xs j = option_map_or (λ x. (summary_of_item text x).targets) (slice_get xs j) []
 
--- What is told of an item is so.
+-- What is kept of an item is what the item says.
 pub record IsSetMember (text : List ℕ) (xs : List ProgramItem) (ss : List Outline) (m : SetMember) : Type 0 where
   pub faulty : m.is_faulty ≡ is_faulty_item xs m.item
   pub name : option_copied m.name ≡ name_of_state ss m.item
@@ -63,13 +63,13 @@ pub record AreSetMembers (text : List ℕ) (xs : List ProgramItem) (ss : List Ou
   pub items : map (λ m. m.item) members ≡ all_below (stands_in ss k) (length ss)
   pub each : AllByRecursion (IsSetMember text xs ss) members
 
--- What is told of a set: whether an item of it is a state with a name, what its targets mean, and
+-- The same by what is kept: whether an item of it is a state with a name, what its targets mean, and
 -- what is known of it.
 abbrev pub has_name : SetMember → Bool
 has_name m = is_some m.name
 
-abbrev pub numbers_told : List Outline → List ℕ → SetMember → List ℕ
-numbers_told ss states m = filter_map (target_number ss states m.item) m.targets.now
+abbrev pub numbers_by_member : List Outline → List ℕ → SetMember → List ℕ
+numbers_by_member ss states m = filter_map (target_number ss states m.item) m.targets.now
 
-abbrev pub is_first_told : List Outline → SetMember → Bool
-is_first_told ss m = option_map_or (λ name. option_map_or (nat_eq m.item) (state_of ss m.item name) false) (option_copied m.name) false
+abbrev pub is_first_by_member : List Outline → SetMember → Bool
+is_first_by_member ss m = option_map_or (λ name. option_map_or (nat_eq m.item) (state_of ss m.item name) false) (option_copied m.name) false

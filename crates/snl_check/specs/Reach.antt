@@ -1,4 +1,4 @@
--- The states of a state set that are reached. A state is told by its number in the set, and
+-- The states of a state set that are reached. A state is its number in the set, and
 -- `targets` has the targets of each.
 use Rattle.std.specs.Prelude.{◌≡◌, ◌⊎◌, ◌+◌, ◌-◌, ◌<◌, ℕ, zero, suc, Bool, true, not, ◌&&◌, ◌||◌, nat_eq, List, [], map, length, slice_get, slice_index_or, All, Contains, Some, Vec, count_by}
 use Rattle.std.specs.List.{AllAdjacentBelow, list_any}
@@ -45,8 +45,8 @@ unfoldable pub is_reached : List (List ℕ) → ℕ → Bool
 is_reached targets s = is_reached_within targets (length targets) s
 
 -- A search has come to the state.
-abbrev pub HasMarked : Search → ℕ → Type 0
-HasMarked search s = slice_get search.reached.items s ≡ Some true
+abbrev pub HasReached : Search → ℕ → Type 0
+HasReached search s = slice_get search.reached.items s ≡ Some true
 
 -- How many states a search may still take: those that it has not come to, and those that wait.
 abbrev pub left_to : Search → ℕ
@@ -55,9 +55,9 @@ left_to search = count_by not search.reached.items + length search.waiting.items
 -- The search comes to these states: those that are new to it wait.
 pub record Enters (old new : Search) (states : List ℕ) : Type 0 where
   pub as_long : length new.reached.items ≡ length old.reached.items
-  pub marked : All (HasMarked new) states
-  pub kept : (s : ℕ) → HasMarked old s → HasMarked new s
-  pub fresh : (s : ℕ) → HasMarked new s → HasMarked old s ⊎ (Contains states s × Contains new.waiting.items s)
+  pub entered : All (HasReached new) states
+  pub kept : (s : ℕ) → HasReached old s → HasReached new s
+  pub fresh : (s : ℕ) → HasReached new s → HasReached old s ⊎ (Contains states s × Contains new.waiting.items s)
   pub waits : (s : ℕ) → Contains old.waiting.items s → Contains new.waiting.items s
   pub called : (s : ℕ) → Contains new.waiting.items s → Contains old.waiting.items s ⊎ Contains states s
   pub work : left_to new ≡ left_to old

@@ -2,5 +2,5 @@
 use Rattle.snl_check.specs.declared.rows.option_rows.LetterSetting.{LetterSetting}
 use Rattle.snl_check.specs.Settings as settings
 
-abbrev pub told : LetterSetting → settings.LetterSetting
-told s = record { letters = s.letters.now; is_set = s.is_set }
+abbrev pub as_setting : LetterSetting → settings.LetterSetting
+as_setting s = record { letters = s.letters.now; is_set = s.is_set }

@@ -1,5 +1,5 @@
 -- The options of a program and of a state: what the last setting of each letter says.
-use Rattle.std.specs.Prelude.{ℕ, Bool, List, [], ◌∷◌, codes, if◌then◌else◌, length, Option, None, Some, option_and_then, option_map}
+use Rattle.std.specs.Prelude.{ℕ, zero, suc, Bool, List, [], ◌∷◌, ◌++◌, codes, if◌then◌else◌, length, Option, None, Some, option_and_then, option_map, option_to_list}
 use Rattle.std.specs.List.{filter_map, flat_map}
 use Rattle.std.specs.Option.{option_or}
 use Rattle.snl_syntax.specs.declared.tree.clause.OptionLine.{OptionLine}
@@ -10,9 +10,9 @@ use Rattle.snl_syntax.specs.declared.tree.state.StateMember.TheVariants as membe
 use Rattle.snl_scope.specs.declared.summaries.summary.Outline.{Outline}
 use Rattle.snl_walk.specs.Tokens.{token_bytes}
 use Rattle.snl_tables.specs.declared.rows.OptionRow.{OptionRow}
-use Rattle.snl_check.specs.Options.{has_letter, is_on}
-use Rattle.snl_check.specs.View.{is_in_set}
-use Rattle.snl_check.specs.Items.{ProgramItem, gathered, tokens_in, tree_in}
+use Rattle.snl_item_check.specs.Options.{has_letter, is_on}
+use Rattle.snl_item_check.specs.View.{is_in_set}
+use Rattle.snl_item_check.specs.Items.{ProgramItem, tokens_in, tree_in}
 
 -- The letters of a program's options and those of a state's, by rising bytes.
 abbrev pub letters_of_program : List ℕ
@@ -56,6 +56,11 @@ setting_in_tree bytes _ = None
 abbrev pub setting_at : List ℕ → List ProgramItem → List Outline → ℕ → Option LetterSetting
 setting_at text xs ss item =
     if is_in_set ss item then None else option_and_then (setting_in_tree (token_bytes text (tokens_in xs item))) (tree_in xs item)
+
+-- What the numbers below n give, in order.
+abbrev pub gathered : {X : Type 0} → (ℕ → Option X) → ℕ → List X
+gathered f zero = []
+gathered f (suc n) = gathered f n ++ option_to_list (f n)
 
 -- What the items set for the program, in the order of the text.
 abbrev pub program_settings : List ℕ → List ProgramItem → List Outline → List LetterSetting

@@ -6,7 +6,8 @@ use Rattle.snl_lex.specs.Shift.{shifted_piece}
 use Rattle.snl_scope.specs.declared.summaries.summary.Outline.{Outline}
 use Rattle.snl_scope.specs.Order.{state_name}
 use Rattle.snl_scope.specs.Places.{begins_set}
-use Rattle.snl_check.specs.Items.{ProgramItem, span_of}
+use Rattle.snl_item_check.specs.Items.{ProgramItem}
+use Rattle.snl_check.specs.ItemSpans.{span_of}
 
 abbrev pub shifted_tokens : Shift → List Piece → List Piece
 shifted_tokens s tokens = map (shifted_piece s) tokens

@@ -1,6 +1,6 @@
 -- The items of a text after an edit inside one of them, which says what it said; and where the row
 -- of a state is in the tables.
-use Rattle.std.specs.Prelude.{◌≡◌, ℕ, ◌&&◌, Bool, true, false, is_none, List, [], map, length, slice_get, Option, Some}
+use Rattle.std.specs.Prelude.{◌≡◌, ℕ, ◌&&◌, Bool, true, false, is_none, List, map, length, slice_get, Some}
 use Rattle.snl_lex.specs.declared.shift.Shift.{Shift}
 use Rattle.snl_scope.specs.declared.summaries.summary.ItemKind.{ItemKind}
 use Rattle.snl_scope.specs.declared.summaries.summary.ItemKind.TheVariants as kinds
@@ -8,11 +8,10 @@ use Rattle.snl_scope.specs.declared.summaries.summary.Outline.{Outline}
 use Rattle.snl_scope.specs.Below.{all_below}
 use Rattle.snl_scope.specs.Order.{is_named_state}
 use Rattle.snl_scope.specs.Places.{is_set_begin, stands_in}
-use Rattle.snl_walk.specs.declared.used.WakeUse.{WakeUse}
-use Rattle.snl_walk.specs.Tokens.{token_bytes}
 use Rattle.snl_tables.specs.Shifted.{shifted_span}
-use Rattle.snl_check.specs.Items.{ProgramItem, span_of, summary_of_item}
-use Rattle.snl_check.specs.Told.{told_in_item}
+use Rattle.snl_item_check.specs.Items.{ProgramItem, summary_of_item}
+use Rattle.snl_check.specs.ItemSpans.{span_of}
+use Rattle.snl_item_check.specs.Told.{wakes_of}
 
 -- How many state sets begin before item k, and how many of the states of the set that item k begins
 -- are before item j.
@@ -37,15 +36,6 @@ IsPlacedAt s x y n = span_of (slice_get y.tokens n) ≡ shifted_span s (span_of 
 -- Item j is sound where it was.
 abbrev pub IsSoundAsItWas : (xs ys : List ProgramItem) → ℕ → Type 0
 IsSoundAsItWas xs ys j = (x y : ProgramItem) → slice_get xs j ≡ Some x → slice_get ys j ≡ Some y → is_none y.tree ≡ is_none x.tree
-
--- A use in a condition, by what it says: the name, and the subscript where that is an integer
--- alone.
-abbrev pub used_by : (ℕ → List ℕ) → WakeUse → List ℕ × Option ℕ
-used_by bytes u = (bytes u.token, u.subscript)
-
--- What the conditions of an item say, use by use.
-abbrev pub wakes_of : List ℕ → ProgramItem → List (List ℕ × Option ℕ)
-wakes_of text x = map (used_by (token_bytes text x.tokens)) (told_in_item text x).wake_uses
 
 -- The new state leads where the old one led, its conditions say the same, and it is sound where
 -- that one was: so all states of the set have the marks that they had, and its row has the wake-up

@@ -15,7 +15,7 @@ use Rattle.snl_tables.specs.declared.rows.SetRow.{SetRow}
 use Rattle.snl_tables.specs.declared.rows.Span.{Span}
 use Rattle.snl_tables.specs.declared.rows.StateRow.{StateRow}
 use Rattle.snl_tables.specs.declared.rows.Tables.{Tables}
-use Rattle.snl_check.specs.Items.{ProgramItem, tokens_in, tree_in}
+use Rattle.snl_item_check.specs.Items.{ProgramItem, tokens_in, tree_in}
 
 -- What holds of each span in a row.
 abbrev pub InScope : (Span → Type 0) → ScopeName → Type 0

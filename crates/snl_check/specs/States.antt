@@ -1,5 +1,5 @@
 -- The rows of state sets and of their states.
-use Rattle.std.specs.Prelude.{ℕ, Bool, false, not, if◌then◌else◌, List, [], ◌∷◌, map, length, slice_get, slice_index_or, Option, Some}
+use Rattle.std.specs.Prelude.{ℕ, Bool, false, not, if◌then◌else◌, List, [], ◌∷◌, filter, map, length, slice_get, slice_index_or, Option, Some}
 use Rattle.std.specs.List.{enumerate_from, flat_map}
 use Rattle.snl_lex.specs.declared.lines.Line.{Line}
 use Rattle.snl_lex.specs.declared.piece.Piece.{Piece}
@@ -14,6 +14,7 @@ use Rattle.snl_scope.specs.declared.summaries.summary.Outline.{Outline}
 use Rattle.snl_scope.specs.Below.{all_below}
 use Rattle.snl_scope.specs.Linked.{has_target}
 use Rattle.snl_scope.specs.Places.{is_set_begin}
+use Rattle.snl_walk.specs.declared.used.TargetUse.{TargetUse}
 use Rattle.snl_walk.specs.Tokens.{token_bytes}
 use Rattle.snl_tables.specs.declared.rows.Destination.{Destination}
 use Rattle.snl_tables.specs.declared.rows.Destination.TheVariants as destinations
@@ -27,11 +28,12 @@ use Rattle.snl_tables.specs.declared.rows.WakeUp.{WakeUp}
 use Rattle.snl_check.specs.declared.reachability.marks.SetMember.{SetMember}
 use Rattle.snl_check.specs.Channels.{assigned_channels}
 use Rattle.snl_check.specs.Conditions.{uses_in, wake_ups}
-use Rattle.snl_check.specs.Items.{ProgramItem, item_name, item_start, span_of, tokens_in, tree_in}
-use Rattle.snl_check.specs.Members.{has_faulty, is_faulty_item, is_first_state, is_first_told, states_in, targets_among}
+use Rattle.snl_item_check.specs.Items.{ProgramItem, tokens_in, tree_in}
+use Rattle.snl_check.specs.ItemSpans.{item_name, item_start, span_of}
+use Rattle.snl_check.specs.Members.{has_faulty, is_faulty_item, is_first_state, is_first_by_member, states_in, targets_among}
 use Rattle.snl_check.specs.Reach.{is_reached}
 use Rattle.snl_check.specs.Settings.{state_options}
-use Rattle.snl_check.specs.Told.{by_statements, told_in_item}
+use Rattle.snl_item_check.specs.Told.{told_in_item}
 
 -- The members of a state. A faulty one has none.
 abbrev pub members_in : Option Item → List StateMember
@@ -54,6 +56,10 @@ destination text tokens ss item target.Exit = destinations.Exit
 abbrev pub destinations_in_member : List ℕ → List Piece → List Outline → ℕ → StateMember → List Destination
 destinations_in_member text tokens ss item (members.When t) = destination text tokens ss item t.target ∷ []
 destinations_in_member text tokens ss item _ = []
+
+-- The states that statements `state NAME;` name.
+abbrev pub by_statements : List TargetUse → List ℕ
+by_statements us = map (λ u. u.token) (filter (λ u. u.by_statement) us)
 
 -- The states that statements `state NAME;` in the blocks of transitions name.
 abbrev pub gotos_in : List ℕ → ProgramItem → List ℕ
@@ -102,9 +108,9 @@ mark_of text xs ss k number j = first_mark (is_faulty_item xs j) (is_repeated ss
 abbrev pub marks_of : List ℕ → List ProgramItem → List Outline → ℕ → List StateMark
 marks_of text xs ss k = map (λ p. mark_of text xs ss k p.0 p.1) (enumerate_from 0 (states_in ss k))
 
--- The same, by what is told of the state and of its set.
-abbrev pub mark_told : List Outline → Bool → List Bool → ℕ → SetMember → StateMark
-mark_told ss some_faulty reached number m = first_mark m.is_faulty (not (is_first_told ss m)) some_faulty (slice_index_or reached number false)
+-- The same, by what is kept of the state and known of its set.
+abbrev pub mark_by_member : List Outline → Bool → List Bool → ℕ → SetMember → StateMark
+mark_by_member ss some_faulty reached number m = first_mark m.is_faulty (not (is_first_by_member ss m)) some_faulty (slice_index_or reached number false)
 
 -- What wakes the state that an item is.
 abbrev pub wake_of : List ℕ → List ProgramItem → List Outline → ℕ → List WakeUp

@@ -25,8 +25,9 @@ use Rattle.snl_tables.specs.declared.rows.ScopeName.TheVariants as named
 use Rattle.snl_tables.specs.declared.rows.Synced.{Synced}
 use Rattle.snl_tables.specs.declared.rows.Tables.{Tables}
 use Rattle.snl_check.specs.Channels.{AssignedChannel, assigned_channels, joined, variables_before}
-use Rattle.snl_check.specs.Clauses.{ItemClause, told_clauses}
-use Rattle.snl_check.specs.Items.{ProgramItem, item_name, program_name, span_at, outlines_of, tokens_in}
+use Rattle.snl_check.specs.Clauses.{ItemClause, resolved_clauses}
+use Rattle.snl_item_check.specs.Items.{ProgramItem, outlines_of, tokens_in}
+use Rattle.snl_check.specs.ItemSpans.{item_name, program_name, span_at}
 use Rattle.snl_check.specs.Settings.{program_options}
 use Rattle.snl_check.specs.States.{set_rows}
 
@@ -67,7 +68,7 @@ synced text xs ss (c, link) = synced_by text (tokens_in xs c.item) (option_and_t
 
 -- How a channel of a variable is synced: by the first sound clause that speaks of it.
 abbrev pub sync_of : List ℕ → List ProgramItem → List Outline → ℕ → Option ℕ → Option Synced
-sync_of text xs ss variable element = option_and_then (λ number. option_and_then (synced text xs ss) (slice_get (told_clauses xs ss) number)) (sync_number ss variable element)
+sync_of text xs ss variable element = option_and_then (λ number. option_and_then (synced text xs ss) (slice_get (resolved_clauses xs ss) number)) (sync_number ss variable element)
 
 abbrev pub channel_row : List ℕ → List ProgramItem → List Outline → AssignedChannel → ChannelRow
 channel_row text xs ss c = record {

@@ -12,12 +12,12 @@ pub use Rattle.snl_tables.specs.WakeSets.{covers_channel, covers_flag}
 use Rattle.snl_walk.specs.declared.used.WakeUse.{WakeUse}
 use Rattle.snl_check.specs.Channels.{AssignedChannel, assigned_channels, covers_elements, element_number, is_channel_of}
 use Rattle.snl_check.specs.Conditions.{uses_in, wake_ups}
-use Rattle.snl_check.specs.Items.{ProgramItem, outlines_of, tokens_in}
+use Rattle.snl_item_check.specs.Items.{ProgramItem, outlines_of, tokens_in}
 use Rattle.snl_check.specs.Tables.{variables_of}
 
--- The number is the one that is told, if one is.
+-- The number is the given one, if there is one.
 abbrev pub is_number : ℕ → Option ℕ → Bool
-is_number n told = option_map_or (nat_eq n) told false
+is_number n given = option_map_or (nat_eq n) given false
 
 -- The declaration that a use of a name in an item resolves to.
 abbrev pub declaration_of : List ℕ → List ProgramItem → List Outline → ℕ → WakeUse → Option ℕ

@@ -14,14 +14,15 @@ ghost use Rattle.snl_check.specs.Shifted.{shifted_item};
 ghost use Rattle.snl_check.specs.ShiftedAround.{IsSoundAsItWas, SaysAlikeAt, set_number, state_number};
 ghost use Rattle.snl_check.specs.Spans.{AreRead};
 ghost use Rattle.snl_check.specs.Tables.{tables_of};
-ghost use Rattle.snl_check.specs.Items.{ProgramItem, outlines_of};
+ghost use Rattle.snl_item_check.specs.Items.{ProgramItem, outlines_of};
 
 use snl_scope::{names_are_tokens, same_spelling_same_summary};
 
 /// Where an edit keeps the bytes of all tokens, and the line of each item moves as that of its
 /// second token, the tables of the new text are those of the old one, moved.
 pub fn tables_move()
-    ensures { (old text : List ℕ) (s : Shift) (line : ℕ → Line → Line) (xs : List ProgramItem) → 0 < s.start → AreRead old xs → KeepsItems old text s line xs
+    ensures { (old text : List ℕ) (s : Shift) (line : ℕ → Line → Line) (xs : List ProgramItem)
+        → 0 < s.start → AreRead old xs → KeepsItems old text s line xs
         → tables_of text (map (shifted_item s) xs) ≡ moved_tables s line (tables_of old xs) }
 {
     names_are_tokens();
@@ -32,9 +33,15 @@ pub fn tables_move()
 /// has no clauses, and it says to the others and in its conditions what it said, the rows are
 /// moved, but for the body of its own.
 pub fn tables_move_inside_a_state()
-    ensures { (old text : List ℕ) (s : Shift) (line : ℕ → Line → Line) (xs ys : List ProgramItem) (j set : ℕ) (y : ProgramItem) → 0 < s.start → AreRead old xs → ReplacesOne old text s line xs ys j
-        → enclosing_set (outlines_of old xs) j ≡ Some set → is_named_state (outlines_of old xs) j ≡ true → slice_get ys j ≡ Some y → SaysAlikeAt old text xs ys j
-        → tables_of text ys ≡ with_body (moved_tables s line (tables_of old xs)) (set_number (outlines_of old xs) set) (state_number (outlines_of old xs) set j) (state_body text (outlines_of old xs) j y) }
+    ensures { (old text : List ℕ) (s : Shift) (line : ℕ → Line → Line) (xs ys : List ProgramItem)
+        (j set : ℕ) (y : ProgramItem) → 0 < s.start → AreRead old xs
+        → ReplacesOne old text s line xs ys j
+        → enclosing_set (outlines_of old xs) j ≡ Some set
+        → is_named_state (outlines_of old xs) j ≡ true → slice_get ys j ≡ Some y
+        → SaysAlikeAt old text xs ys j
+        → tables_of text ys ≡ with_body (moved_tables s line (tables_of old xs))
+        (set_number (outlines_of old xs) set) (state_number (outlines_of old xs) set j)
+        (state_body text (outlines_of old xs) j y) }
 {
     names_are_tokens();
     same_spelling_same_summary();
@@ -44,10 +51,17 @@ pub fn tables_move_inside_a_state()
 /// declares, and it has no clauses, the rows are moved, but for its body, what wakes it, and the
 /// marks of the states of its set.
 pub fn tables_move_around_a_state()
-    ensures { (old text : List ℕ) (s : Shift) (line : ℕ → Line → Line) (xs ys : List ProgramItem) (j set : ℕ) (y : ProgramItem) → 0 < s.start → AreRead old xs → ReplacesOne old text s line xs ys j
-        → enclosing_set (outlines_of old xs) j ≡ Some set → is_named_state (outlines_of old xs) j ≡ true → slice_get ys j ≡ Some y
-        → tables_of text ys ≡ with_marks (with_wake (with_body (moved_tables s line (tables_of old xs)) (set_number (outlines_of old xs) set) (state_number (outlines_of old xs) set j) (state_body text (outlines_of old xs) j y))
-        (set_number (outlines_of old xs) set) (state_number (outlines_of old xs) set j) (wake_of text ys (outlines_of old xs) j))
+    ensures { (old text : List ℕ) (s : Shift) (line : ℕ → Line → Line) (xs ys : List ProgramItem)
+        (j set : ℕ) (y : ProgramItem) → 0 < s.start → AreRead old xs
+        → ReplacesOne old text s line xs ys j
+        → enclosing_set (outlines_of old xs) j ≡ Some set
+        → is_named_state (outlines_of old xs) j ≡ true → slice_get ys j ≡ Some y
+        → tables_of text ys ≡ with_marks
+        (with_wake (with_body (moved_tables s line (tables_of old xs))
+        (set_number (outlines_of old xs) set) (state_number (outlines_of old xs) set j)
+        (state_body text (outlines_of old xs) j y))
+        (set_number (outlines_of old xs) set) (state_number (outlines_of old xs) set j)
+        (wake_of text ys (outlines_of old xs) j))
         (set_number (outlines_of old xs) set) (marks_of text ys (outlines_of old xs) set) }
 {
     names_are_tokens();
@@ -58,9 +72,12 @@ pub fn tables_move_around_a_state()
 /// after the names that it declares, and it is plain and has no clauses, the rows are moved, but
 /// for the marks of the states of its set.
 pub fn tables_move_in_a_set()
-    ensures { (old text : List ℕ) (s : Shift) (line : ℕ → Line → Line) (xs ys : List ProgramItem) (j set : ℕ) → 0 < s.start → AreRead old xs → ReplacesOne old text s line xs ys j
-        → enclosing_set (outlines_of old xs) j ≡ Some set → is_named_state (outlines_of old xs) j ≡ false
-        → tables_of text ys ≡ with_marks (moved_tables s line (tables_of old xs)) (set_number (outlines_of old xs) set) (marks_of text ys (outlines_of old xs) set) }
+    ensures { (old text : List ℕ) (s : Shift) (line : ℕ → Line → Line) (xs ys : List ProgramItem)
+        (j set : ℕ) → 0 < s.start → AreRead old xs → ReplacesOne old text s line xs ys j
+        → enclosing_set (outlines_of old xs) j ≡ Some set
+        → is_named_state (outlines_of old xs) j ≡ false
+        → tables_of text ys ≡ with_marks (moved_tables s line (tables_of old xs))
+        (set_number (outlines_of old xs) set) (marks_of text ys (outlines_of old xs) set) }
 {
     names_are_tokens();
     same_spelling_same_summary();
@@ -69,8 +86,10 @@ pub fn tables_move_in_a_set()
 /// Where an edit changes no more than the inside of an item that is in no set, after the names that
 /// it declares, and it is plain and has no clauses, the rows are moved.
 pub fn tables_move_outside_the_sets()
-    ensures { (old text : List ℕ) (s : Shift) (line : ℕ → Line → Line) (xs ys : List ProgramItem) (j : ℕ) → 0 < s.start → AreRead old xs → ReplacesOne old text s line xs ys j
-        → enclosing_set (outlines_of old xs) j ≡ None → tables_of text ys ≡ moved_tables s line (tables_of old xs) }
+    ensures { (old text : List ℕ) (s : Shift) (line : ℕ → Line → Line) (xs ys : List ProgramItem)
+        (j : ℕ) → 0 < s.start → AreRead old xs → ReplacesOne old text s line xs ys j
+        → enclosing_set (outlines_of old xs) j ≡ None
+        → tables_of text ys ≡ moved_tables s line (tables_of old xs) }
 {
     names_are_tokens();
     same_spelling_same_summary();
@@ -80,7 +99,8 @@ pub fn tables_move_outside_the_sets()
 /// names that it declares, and the item is plain, has no clauses, says to the others what it said
 /// and is sound or faulty as it was, the rows are moved.
 pub fn tables_move_around_an_item()
-    ensures { (old text : List ℕ) (s : Shift) (line : ℕ → Line → Line) (xs ys : List ProgramItem) (j : ℕ) → 0 < s.start → AreRead old xs → ReplacesOne old text s line xs ys j
+    ensures { (old text : List ℕ) (s : Shift) (line : ℕ → Line → Line) (xs ys : List ProgramItem)
+        (j : ℕ) → 0 < s.start → AreRead old xs → ReplacesOne old text s line xs ys j
         → is_named_state (outlines_of old xs) j ≡ false → IsSoundAsItWas xs ys j
         → tables_of text ys ≡ moved_tables s line (tables_of old xs) }
 {
@@ -90,6 +110,9 @@ pub fn tables_move_around_an_item()
 
 /// One item between others that are kept is the one that is replaced.
 pub fn one_item_between()
-    ensures { (old text : List ℕ) (s : Shift) (line : ℕ → Line → Line) (x y : ProgramItem) (front back : List ProgramItem) → KeepsItems old text s line front → KeepsItems old text s line back → ReplacesItem old text s line x y
-        → ReplacesOne old text s line (front ++ (x ∷ back)) (map (shifted_item s) front ++ (y ∷ map (shifted_item s) back)) (length front) }
+    ensures { (old text : List ℕ) (s : Shift) (line : ℕ → Line → Line) (x y : ProgramItem)
+        (front back : List ProgramItem) → KeepsItems old text s line front
+        → KeepsItems old text s line back → ReplacesItem old text s line x y
+        → ReplacesOne old text s line (front ++ (x ∷ back))
+        (map (shifted_item s) front ++ (y ∷ map (shifted_item s) back)) (length front) }
 {}

@@ -1,16 +1,11 @@
 -- What an edit leaves of a cut.
-use Rattle.std.proofs.Common.{◌≡◌, ℕ, suc, zero, ◌+◌, ◌-◌, ◌<◌, ◌≤◌, inl, inr, List, [], ◌∷◌, length, drop, take, min, refl, sym, ap, ◌∙◌, subst, arith, length-drop}
-use Rattle.std.proofs.lemmas.List.{take-take, drop-drop, take_all, drop-take, length-take}
+use Rattle.std.proofs.Common.{◌≡◌, ℕ, suc, zero, ◌+◌, ◌-◌, ◌<◌, ◌≤◌, inl, inr, List, [], ◌∷◌, length, drop, take, refl, sym, ap, ◌∙◌, subst, arith, length-drop}
+use Rattle.std.proofs.lemmas.List.{drop-drop, take_all}
 use Rattle.snl_cut.specs.Cut.{IsFront, IsLocal, Walks, IsCut, IsBoundary, Rises, ends_below, last_end, moved, IsEdit}
-use Rattle.snl_cut.proofs.Below.{split, below_last, below_next}
-
--- A member begins where there are units.
-pub some_left : {X : Type 0} (units : List X) (from : ℕ) → from < length units → 0 < length (drop from units)
-some_left units from h = simp length-drop (omega arith)
-
-pub walks_le : {X : Type 0} (first : List X → ℕ) (units : List X) (from : ℕ) (xs : List ℕ) (to : ℕ) → Walks first units from xs to → from ≤ to
-walks_le first units from [] to h = omega (arith, h)
-walks_le first units from (e ∷ es) to h = omega (arith, h.1, walks_le first units e es to h.2)
+use Rattle.snl_cut.proofs.Below.{below_last, below_next}
+use Rattle.std.proofs.lemmas.Bool.{cases_lt}
+use Rattle.snl_facts.specs.Lists.{some_left, part_agrees, also_inside}
+use Rattle.snl_cut.specs.CutLaws.{walks_le, walks_back, same_length}
 
 pub walks_rise : {X : Type 0} (first : List X → ℕ) → IsFront first → (units : List X) (from : ℕ) (xs : List ℕ) (to : ℕ) → Walks first units from xs to → Rises from xs
 walks_rise first front units from [] to h = tt
@@ -27,12 +22,6 @@ pub walks_front : {X : Type 0} (first : List X → ℕ) (units : List X) (from :
 walks_front first units from xs to zero h = refl
 walks_front first units from [] to (suc k) h = refl
 walks_front first units from (e ∷ es) to (suc k) h = (h.0, h.1, walks_front first units e es to k h.2)
-
-pub walks_back : {X : Type 0} (first : List X → ℕ) (units : List X) (from : ℕ) (xs : List ℕ) (to k : ℕ) → Walks first units from xs to
-    → Walks first units (last_end from (take k xs)) (drop k xs) to
-walks_back first units from xs to zero h = h
-walks_back first units from [] to (suc k) h = h
-walks_back first units from (e ∷ es) to (suc k) h = walks_back first units e es to k h.2
 
 -- A boundary is the place where the first members of the cut end, so many of them.
 pub boundary_count : {X : Type 0} (first : List X → ℕ) (units : List X) (from : ℕ) (xs ys : List ℕ) (place : ℕ)
@@ -54,17 +43,6 @@ none_inside {X} first units from [] (y ∷ ys) at place h w lt =
 none_inside {X} first units from (x ∷ xs) (y ∷ ys) at place h w lt =
     let same : y ≡ x = w.1 ∙ sym h.1 in
     none_inside first units x xs ys at place h.2 (subst (λ (p : ℕ). Walks first units p ys place) same w.2) lt
-
--- Two lists that agree before a place agree on any part that lies before it.
-pub part_agrees : {X : Type 0} (old units : List X) (a from m : ℕ) → take a old ≡ take a units → from + m ≤ a → take m (drop from old) ≡ take m (drop from units)
-part_agrees old units a from m h le =
-    let one : take (from + m) old ≡ take (from + m) units = sym (take-take (from + m) a old le) ∙ (ap (take (from + m)) h ∙ take-take (from + m) a units le) in
-    sym (drop-take from m old) ∙ (ap (drop from) one ∙ drop-take from m units)
-
-pub also_inside : {X : Type 0} (old units : List X) (a from : ℕ) → take a old ≡ take a units → from < a → from < length old → from < length units
-also_inside old units a from h lt in_old =
-    let e : min a (length old) ≡ min a (length units) = sym (length-take a old) ∙ (ap length h ∙ length-take a units) in
-    omega arith
 
 -- Members that end before the edit are in both cuts: a front sees one unit past its answer, and no
 -- further.
@@ -98,7 +76,7 @@ pub made_late : {X : Type 0} (first : List X → ℕ) → IsFront first → IsLo
     → IsEdit old units start b c → IsCut first old ends
     → (p : ℕ) → p ≡ last_end 0 (take (ends_below start ends) ends) → p < length units → start ≤ p + first (drop p units)
 made_late {X} first front local old units ends start b c edit cut p is lt =
-    elim (split (p + first (drop p units)) start) [
+    elim (cases_lt (p + first (drop p units)) start) [
       | inl less ↦
           let in_old : p < length old = also_inside units old start p (sym edit.before) (omega arith) lt in
           let agree : take (first (drop p units) + 1) (drop p units) ≡ take (first (drop p units) + 1) (drop p old) = part_agrees units old start p (first (drop p units) + 1) (sym edit.before) (omega arith) in
@@ -120,10 +98,10 @@ pub still_unmet : {X : Type 0} (first : List X → ℕ) (old units : List X) (en
     → (c ≤ at → (k : ℕ) → last_end 0 (take k ends) ≡ (at - c) + b → ⊥) → next ≡ at + first (drop at units)
     → Unmet first old units b c next
 still_unmet first old units ends b c xs at next cut walk unmet none e = λ place lt after in_new in_old.
-    elim (split place at) [
+    elim (cases_lt place at) [
       | inl less ↦ unmet place less after in_new in_old
       | inr more ↦
-          elim (split at place) [
+          elim (cases_lt at place) [
             | inl inner ↦ absurd (omega (arith, none_inside first units 0 xs in_new.0 at place walk in_new.1 inner))
             | inr outer ↦
                 let count = boundary_count first old 0 ends in_old.0 ((place - c) + b) cut in_old.1 in
@@ -132,17 +110,12 @@ still_unmet first old units ends b c xs at next cut walk unmet none e = λ place
           ]
     ]
 
-pub same_length : {X : Type 0} (old units : List X) (start b c : ℕ) → IsEdit old units start b c → (length units - c) + b ≡ length old
-same_length old units start b c edit =
-    let e : length old - b ≡ length units - c = sym (length-drop b old) ∙ (ap length edit.after ∙ length-drop c units) in
-    omega arith
-
 -- The ends of both lists meet, so a place that doesn't meet is before the end.
 pub not_at_end : {X : Type 0} (first : List X → ℕ) (old units : List X) (ends : List ℕ) (start b c at : ℕ)
     → IsEdit old units start b c → IsCut first old ends → at ≤ length units
     → (c ≤ at → (k : ℕ) → last_end 0 (take k ends) ≡ (at - c) + b → ⊥) → at < length units
 not_at_end first old units ends start b c at edit cut inside none =
-    elim (split at (length units)) [
+    elim (cases_lt at (length units)) [
       | inl less ↦ less
       | inr more ↦
           let whole : last_end 0 (take (length ends) ends) ≡ length old = ap (last_end 0) (take_all (length ends) ends (omega arith)) ∙ walks_last first old 0 ends (length old) cut in

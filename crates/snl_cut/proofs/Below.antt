@@ -1,48 +1,23 @@
 -- Where the ends that are below a place stop.
 use Rattle.std.proofs.Common.{◌≡◌, ℕ, suc, zero, ◌<◌, ◌≤◌, ◌⊎◌, inl, inr, List, [], ◌∷◌, length, drop, take, get_or, refl, ap, ◌∙◌, arith}
-use Rattle.std.proofs.lemmas.Bool.Decides.{nat_tests}
 use Rattle.snl_cut.specs.Cut.{Rises, ends_below, last_end}
-
-pub split : (a b : ℕ) → (a < b) ⊎ (b ≤ a)
-split a b = grind (arith, nat_tests)
-
-pub below_yes : (e place : ℕ) (es : List ℕ) → e < place → ends_below place (e ∷ es) ≡ suc (ends_below place es)
-below_yes e place es h = grind (arith, nat_tests)
-
-pub below_no : (e place : ℕ) (es : List ℕ) → place ≤ e → ends_below place (e ∷ es) ≡ 0
-below_no e place es h = grind (arith, nat_tests)
-
-pub below_inside : (place : ℕ) (ends : List ℕ) → ends_below place ends ≤ length ends
-below_inside place [] = omega arith
-below_inside place (e ∷ es) =
-    elim (split e place) [
-      | inl h ↦ omega (arith, below_yes e place es h, below_inside place es)
-      | inr h ↦ omega (arith, below_no e place es h)
-    ]
+use Rattle.std.proofs.lemmas.Bool.{cases_lt}
+use Rattle.snl_cut.specs.CutLaws.{rises_last, rises_at, below_yes, below_no}
 
 -- An end that isn't below the place stops the count.
 pub below_low : (place : ℕ) (ends : List ℕ) (k : ℕ) → k < length ends → place ≤ get_or ends k 0 → ends_below place ends ≤ k
 below_low place [] k lt h = absurd (omega arith)
 below_low place (e ∷ es) zero lt h = omega (arith, below_no e place es h)
 below_low place (e ∷ es) (suc k) lt h =
-    elim (split e place) [
+    elim (cases_lt e place) [
       | inl less ↦ omega (arith, below_yes e place es less, below_low place es k (omega arith) h)
       | inr more ↦ omega (arith, below_no e place es more)
     ]
-
-pub rises_last : (from : ℕ) (ends : List ℕ) → Rises from ends → from ≤ last_end from ends
-rises_last from [] h = omega arith
-rises_last from (e ∷ es) h = omega (arith, h.0, rises_last e es h.1)
 
 pub rises_take : (from : ℕ) (ends : List ℕ) (k : ℕ) → Rises from ends → Rises from (take k ends)
 rises_take from ends zero h = tt
 rises_take from [] (suc k) h = tt
 rises_take from (e ∷ es) (suc k) h = (h.0, rises_take e es k h.1)
-
-pub rises_at : (from : ℕ) (ends : List ℕ) (k : ℕ) → Rises from ends → k < length ends → from < get_or ends k 0
-rises_at from [] k h lt = absurd (omega arith)
-rises_at from (e ∷ es) zero h lt = h.0
-rises_at from (e ∷ es) (suc k) h lt = omega (arith, h.0, rises_at e es k h.1 (omega arith))
 
 -- An end that is below the place is counted.
 pub below_high : (place from : ℕ) (ends : List ℕ) (k : ℕ) → Rises from ends → k < length ends → get_or ends k 0 < place → k < ends_below place ends
@@ -52,18 +27,13 @@ below_high place from (e ∷ es) (suc k) r lt h =
     let first : e < get_or es k 0 = rises_at e es k r.1 (omega arith) in
     omega (arith, below_yes e place es (omega arith), below_high place e es k r.1 (omega arith) h)
 
-pub last_taken : (from : ℕ) (ends : List ℕ) (k : ℕ) → k < length ends → last_end from (take (suc k) ends) ≡ get_or ends k 0
-last_taken from [] k lt = absurd (omega arith)
-last_taken from (e ∷ es) zero lt = refl
-last_taken from (e ∷ es) (suc k) lt = last_taken e es k (omega arith)
-
 -- Where some member ends just at the place, it is the one after those that end below.
 pub exact : (place from : ℕ) (ends : List ℕ) (k : ℕ) → Rises from ends → from < place → last_end from (take k ends) ≡ place
     → (ends_below place ends < length ends) × (get_or ends (ends_below place ends) 0 ≡ place)
 exact place from ends zero r lt h = absurd (omega arith)
 exact place from [] (suc k) r lt h = absurd (omega arith)
 exact place from (e ∷ es) (suc k) r lt h =
-    elim (split e place) [
+    elim (cases_lt e place) [
       | inl less ↦
           let step = below_yes e place es less in
           let rest = exact place e es k r.1 less h in
@@ -79,7 +49,7 @@ exact place from (e ∷ es) (suc k) r lt h =
 pub below_last : (place from : ℕ) (ends : List ℕ) → (ends_below place ends ≡ 0) ⊎ (last_end from (take (ends_below place ends) ends) < place)
 below_last place from [] = inl refl
 below_last place from (e ∷ es) =
-    elim (split e place) [
+    elim (cases_lt e place) [
       | inl less ↦
           inr (rw (below_yes e place es less)
           (elim (below_last place e es) [
@@ -92,7 +62,7 @@ below_last place from (e ∷ es) =
 pub below_next : (place : ℕ) (ends : List ℕ) (e : ℕ) (es : List ℕ) → drop (ends_below place ends) ends ≡ e ∷ es → place ≤ e
 below_next place [] e es h = cc
 below_next place (x ∷ xs) e es h =
-    elim (split x place) [
+    elim (cases_lt x place) [
       | inl less ↦ below_next place xs e es (rw (below_yes x place xs less) at h)
       | inr more ↦ let k = rw (below_no x place xs more) at h in let same : x ≡ e = cc in omega arith
     ]

@@ -4,17 +4,14 @@ use Rattle.std.proofs.lemmas.List.{append-nil}
 use Rattle.std.proofs.lemmas.Bool.Decides.{nat_tests}
 use Rattle.snl_cut.specs.Cut.{IsFront, IsLocal, Walks, IsCut, Rises, ends_below, last_end, moved, fresh, IsEdit, IsRecut}
 use Rattle.snl_cut.proofs.Steps.{walks_on}
-use Rattle.snl_cut.proofs.Below.{split, below_last, below_count, rises_last}
-use Rattle.snl_cut.proofs.Agreeing.{walks_le, walks_last, walks_rise, walks_front, walks_back, front_walk, made_late, same_length, shift, Unmet, some_left}
+use Rattle.snl_cut.proofs.Below.{below_last, below_count}
+use Rattle.snl_cut.proofs.Agreeing.{walks_last, walks_rise, walks_front, front_walk, made_late, shift, Unmet}
+use Rattle.std.proofs.lemmas.Bool.{cases_lt}
+use Rattle.snl_facts.specs.Lists.{some_left}
+use Rattle.snl_cut.specs.CutLaws.{rises_last, walks_le, walks_back, fresh_here, fresh_back, same_length}
 
 fresh_early : (start meet from e : ℕ) (es : List ℕ) → e < start → fresh start meet from (e ∷ es) ≡ fresh start meet e es
 fresh_early start meet from e es h = grind (arith, nat_tests)
-
-fresh_here : (start meet from e : ℕ) (es : List ℕ) → start ≤ e → from < meet → fresh start meet from (e ∷ es) ≡ e ∷ fresh start meet e es
-fresh_here start meet from e es h k = grind (arith, nat_tests)
-
-fresh_late : (start meet from e : ℕ) (es : List ℕ) → meet ≤ from → fresh start meet from (e ∷ es) ≡ fresh start meet e es
-fresh_late start meet from e es h = grind (arith, nat_tests)
 
 -- None of the members that end before the edit is fresh.
 pub fresh_front : (start meet from : ℕ) (xs ys : List ℕ) → Rises from xs → last_end from xs < start
@@ -35,11 +32,6 @@ fresh_made first front units start meet from (e ∷ es) ys w late =
     let start_le : start ≤ e = omega (arith, w.1, late w.0) in
     let later : e < length units → start ≤ e + first (drop e units) = λ h. omega arith in
     fresh_here start meet from e (es ++ ys) start_le (omega (arith, w.1, some.0)) ∙ ap (λ (l : List ℕ). e ∷ l) (fresh_made first front units start meet e es ys w.2 later)
-
--- None of those that begin at the meeting point or after it is.
-pub fresh_back : (start meet from : ℕ) (xs : List ℕ) → Rises from xs → meet ≤ from → fresh start meet from xs ≡ []
-fresh_back start meet from [] r h = refl
-fresh_back start meet from (e ∷ es) r h = fresh_late start meet from e es h ∙ fresh_back start meet e es r.1 (omega (arith, r.0))
 
 -- The kept front ends at or before the edit's start.
 pub early : (ends : List ℕ) (start kept p : ℕ) → kept ≡ ends_below start ends → p ≡ last_end 0 (take kept ends) → p ≤ start
@@ -110,7 +102,7 @@ all_together {X} first front local old units ends start b c edit cut kept is mad
         after = after;
         in_new = (head ++ made, upto);
         in_old = (take count ends, subst (λ (n : ℕ). Walks first old 0 (take count ends) n) there (walks_front first old 0 ends (length old) count cut));
-        least = λ place after in_new in_old. elim (split place at) [ inl less ↦ absurd (unmet place less after in_new in_old) | inr more ↦ more ];
+        least = λ place after in_new in_old. elim (cases_lt place at) [ inl less ↦ absurd (unmet place less after in_new in_old) | inr more ↦ more ];
       };
       kept = is;
       back_inside = omega arith;

@@ -1,7 +1,7 @@
 -- Ends that rise: none is after the last one, and there are no more of them than places.
 use Rattle.std.proofs.Common.{ℕ, zero, suc, ◌+◌, ◌<◌, ◌≤◌, List, [], ◌∷◌, length, get_or, arith}
 use Rattle.snl_cut.specs.Cut.{Rises, last_end}
-use Rattle.snl_cut.proofs.Below.{rises_last}
+use Rattle.snl_cut.specs.CutLaws.{rises_last}
 
 pub rises_under : (from : ℕ) (ends : List ℕ) (i : ℕ) → Rises from ends → i < length ends → get_or ends i 0 ≤ last_end from ends
 rises_under from [] i r lt = absurd (omega arith)

@@ -2,14 +2,11 @@
 use Rattle.std.proofs.Common.{◌≡◌, ℕ, zero, suc, ◌+◌, ◌-◌, ◌≤◌, List, [], ◌∷◌, ◌++◌, length, take, drop, refl, sym, ap, ap₂, ◌∙◌, subst, append_assoc, arith}
 use Rattle.std.proofs.lemmas.List.{drop-drop}
 use Rattle.snl_cut.specs.Cut.{IsFront, IsCut, IsEdit, IsRecut, Rises, last_end, moved, members, members_kept, joined}
-use Rattle.snl_cut.proofs.Below.{rises_last, rises_take}
-use Rattle.snl_cut.proofs.Agreeing.{part_agrees, walks_rise}
+use Rattle.snl_cut.proofs.Below.{rises_take}
+use Rattle.snl_cut.proofs.Agreeing.{walks_rise}
 use Rattle.snl_cut.proofs.Fresh.{early}
-
-members_joined : {X : Type 0} (units : List X) (from : ℕ) (xs ys : List ℕ)
-    → members units from (xs ++ ys) ≡ members units from xs ++ members units (last_end from xs) ys
-members_joined units from [] ys = refl
-members_joined {X} units from (e ∷ es) ys = ap (λ (l : List (List X)). take (e - from) (drop from units) ∷ l) (members_joined units e es ys)
+use Rattle.snl_facts.specs.Lists.{part_agrees}
+use Rattle.snl_cut.specs.CutLaws.{rises_last, members_joined}
 
 members_taken : {X : Type 0} (units : List X) (from : ℕ) (es : List ℕ) (k : ℕ) → members units from (take k es) ≡ take k (members units from es)
 members_taken units from es zero = refl

@@ -1,47 +1,11 @@
 -- The meeting point of a recut is the one that is searched for among the ends.
-use Rattle.std.proofs.Common.{◌≡◌, ℕ, zero, suc, ◌+◌, ◌-◌, ◌<◌, ◌≤◌, ◌⊎◌, inl, inr, Bool, true, false, ◌&&◌, ◌||◌, cond, nat_eq, nat_le, List, [], ◌∷◌, ◌++◌, length, take, drop, refl, sym, ap, ◌∙◌, subst, arith, length-drop}
+use Rattle.std.proofs.Common.{◌≡◌, ℕ, zero, suc, ◌+◌, ◌-◌, ◌<◌, ◌≤◌, ◌⊎◌, inl, inr, Bool, true, ◌&&◌, cond, nat_eq, nat_le, List, [], ◌∷◌, ◌++◌, length, take, drop, refl, sym, ap, ◌∙◌, subst, arith, length-drop}
 use Rattle.std.specs.List.{list_any}
-use Rattle.std.proofs.lemmas.Bool.Decides.{nat_tests}
 use Rattle.snl_cut.specs.Cut.{IsFront, IsCut, IsBoundary, IsMeet, Walks, last_end, is_boundary, meet_from}
-use Rattle.snl_cut.proofs.Below.{split}
 use Rattle.snl_cut.proofs.Steps.{walks_push}
-use Rattle.snl_cut.proofs.Agreeing.{boundary_count, none_inside, some_left}
-
-either : (t : Bool) → (t ≡ true) ⊎ (t ≡ false)
-either true = inl refl
-either false = inr refl
-
-or_first : (a b : Bool) → a ≡ true → (a || b) ≡ true
-or_first true b h = refl
-or_first false b h = cc
-
-or_second : (a b : Bool) → b ≡ true → (a || b) ≡ true
-or_second true b h = refl
-or_second false b h = h
-
-or_cases : (a b : Bool) → (a || b) ≡ true → (a ≡ true) ⊎ (b ≡ true)
-or_cases true b h = inl refl
-or_cases false b h = inr h
-
-and_both : (a b : Bool) → a ≡ true → b ≡ true → (a && b) ≡ true
-and_both true b h k = k
-and_both false b h k = cc
-
-and_parts : (a b : Bool) → (a && b) ≡ true → (a ≡ true) × (b ≡ true)
-and_parts true b h = (refl, h)
-and_parts false b h = cc
-
-eq_yes : (a b : ℕ) → a ≡ b → nat_eq a b ≡ true
-eq_yes a b h = grind (arith, nat_tests)
-
-eq_told : (a b : ℕ) → nat_eq a b ≡ true → a ≡ b
-eq_told a b h = grind (arith, nat_tests)
-
-le_yes : (a b : ℕ) → a ≤ b → nat_le a b ≡ true
-le_yes a b h = grind (arith, nat_tests)
-
-le_told : (a b : ℕ) → nat_le a b ≡ true → a ≤ b
-le_told a b h = grind (arith, nat_tests)
+use Rattle.snl_cut.proofs.Agreeing.{boundary_count, none_inside}
+use Rattle.std.proofs.lemmas.Bool.{cases_Bool, or_left, or_right, or_cases, and_from, and_parts, eq-eqb, eqb-true, le-leb, leb-true, cases_lt}
+use Rattle.snl_facts.specs.Lists.{some_left}
 
 -- an end that is counted off is among the ends
 among : (ends : List ℕ) (from k place : ℕ) → last_end from (take k ends) ≡ place → (from ≡ place) ⊎ (list_any (nat_eq place) ends ≡ true)
@@ -49,8 +13,8 @@ among ends from zero place h = inl h
 among [] from (suc k) place h = inl h
 among (e ∷ es) from (suc k) place h =
     elim (among es e k place h) [
-      | inl here ↦ inr (or_first (nat_eq place e) (list_any (nat_eq place) es) (eq_yes place e (sym here)))
-      | inr later ↦ inr (or_second (nat_eq place e) (list_any (nat_eq place) es) later)
+      | inl here ↦ inr (or_left (nat_eq place e) (list_any (nat_eq place) es) (eq-eqb place e (sym here)))
+      | inr later ↦ inr (or_right (nat_eq place e) (list_any (nat_eq place) es) later)
     ]
 
 -- and one that is among them is the end of a walk
@@ -59,7 +23,7 @@ found : {X : Type 0} (first : List X → ℕ) (units : List X) (from : ℕ) (xs 
 found first units from [] to place w h = cc
 found {X} first units from (x ∷ xs) to place w h =
     elim (or_cases (nat_eq place x) (list_any (nat_eq place) xs) h) [
-      | inl here ↦ (x ∷ [], (w.0, w.1, sym (eq_told place x here)))
+      | inl here ↦ (x ∷ [], (w.0, w.1, sym (eqb-true place x here)))
       | inr later ↦ let rest : (ys : List ℕ) × Walks first units x ys place = found first units x xs to place w.2 later in (x ∷ rest.0, (w.0, w.1, rest.1))
     ]
 
@@ -72,14 +36,14 @@ pub boundary_told : {X : Type 0} (first : List X → ℕ) (old : List X) (ends :
 boundary_told first old ends place cut is =
     let count = boundary_count first old 0 ends is.0 place cut is.1 in
     elim (among ends 0 count.0 place count.1) [
-      | inl here ↦ or_first (nat_eq place 0) (list_any (nat_eq place) ends) (eq_yes place 0 (sym here))
-      | inr there ↦ or_second (nat_eq place 0) (list_any (nat_eq place) ends) there
+      | inl here ↦ or_left (nat_eq place 0) (list_any (nat_eq place) ends) (eq-eqb place 0 (sym here))
+      | inr there ↦ or_right (nat_eq place 0) (list_any (nat_eq place) ends) there
     ]
 
 pub told_boundary : {X : Type 0} (first : List X → ℕ) (old : List X) (ends : List ℕ) (place : ℕ) → IsCut first old ends → is_boundary ends place ≡ true → IsBoundary first old place
 told_boundary first old ends place cut is =
     elim (or_cases (nat_eq place 0) (list_any (nat_eq place) ends) is) [
-      | inl here ↦ ([], sym (eq_told place 0 here))
+      | inl here ↦ ([], sym (eqb-true place 0 here))
       | inr there ↦ found first old 0 ends (length old) place cut there
     ]
 
@@ -94,20 +58,20 @@ searched {X} first front old units ends b c meet at xs (e ∷ es) cut is before 
     let there : Bool = is_boundary ends ((at - c) + b) in
     let test : Bool = nat_le c at && there in
     let rest : ℕ = meet_from ends b c e es in
-    elim (either test) [
+    elim (cases_Bool test) [
       | inl passed ↦
           let both = and_parts (nat_le c at) there passed in
-          let least : meet ≤ at = is.least at (le_told c at both.0) (xs, before) (told_boundary first old ends ((at - c) + b) cut both.1) in
+          let least : meet ≤ at = is.least at (leb-true c at both.0) (xs, before) (told_boundary first old ends ((at - c) + b) cut both.1) in
           ap (λ t. cond t at rest) passed ∙ omega arith
       | inr failed ↦
           let further : at < meet =
-          elim (split at meet) [
+          elim (cases_lt at meet) [
             | inl less ↦ less
             | inr more ↦
                 let same : meet ≡ at = omega arith in
                 let after : c ≤ at = omega (arith, is.after) in
                 let told : there ≡ true = boundary_told first old ends ((at - c) + b) cut (subst (λ (n : ℕ). IsBoundary first old ((n - c) + b)) same is.in_old) in
-                let wrong : test ≡ true = and_both (nat_le c at) there (le_yes c at after) told in
+                let wrong : test ≡ true = and_from (nat_le c at) there (le-leb c at after) told in
                 cc
           ] in
           let within : at + first (drop at units) ≤ meet = none_inside first units 0 xs is.in_new.0 at meet before is.in_new.1 further in

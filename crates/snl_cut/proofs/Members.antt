@@ -2,7 +2,7 @@
 use Rattle.std.proofs.Common.{◌≡◌, ℕ, ◌+◌, ◌-◌, List, [], ◌∷◌, ◌++◌, length, drop, take, sym, ap, ◌∙◌, arith}
 use Rattle.std.proofs.lemmas.List.{take-append-drop, drop_all, drop-drop, length-take-le}
 use Rattle.snl_cut.specs.Cut.{IsFront, Walks, members, in_a_row, EachFirst}
-use Rattle.snl_cut.proofs.Agreeing.{some_left}
+use Rattle.snl_facts.specs.Lists.{some_left}
 
 pub row_from : {X : Type 0} (first : List X → ℕ) → IsFront first → (units : List X) (from : ℕ) (ends : List ℕ)
     → Walks first units from ends (length units) → in_a_row (members units from ends) ≡ drop from units

@@ -1,9 +1,9 @@
 -- There is one cut, and it is `ends_of`.
 use Rattle.std.proofs.Common.{◌≡◌, ℕ, suc, zero, ◌+◌, ◌-◌, ◌<◌, ◌≤◌, inl, inr, List, [], ◌∷◌, length, drop, refl, sym, ◌∙◌, subst, arith, length-drop}
 use Rattle.std.proofs.lemmas.Bool.Decides.{nat_tests}
-use Rattle.snl_cut.specs.Cut.{IsFront, Walks, IsCut, IsMeet, ends_from, ends_of}
-use Rattle.snl_cut.proofs.Below.{split}
-use Rattle.snl_cut.proofs.Agreeing.{some_left}
+use Rattle.snl_cut.specs.Cut.{IsFront, Walks, IsCut, ends_from, ends_of}
+use Rattle.std.proofs.lemmas.Bool.{cases_lt}
+use Rattle.snl_facts.specs.Lists.{some_left}
 
 pub walks_only : {X : Type 0} (first : List X → ℕ) (units : List X) (from : ℕ) (xs ys : List ℕ)
     → Walks first units from xs (length units) → Walks first units from ys (length units) → xs ≡ ys
@@ -30,7 +30,7 @@ pub walks_made : {X : Type 0} (first : List X → ℕ) → IsFront first → (un
 walks_made first front units from zero inside enough = omega arith
 walks_made {X} first front units from (suc fuel) inside enough =
     let P : List ℕ → Type 0 = λ (l : List ℕ). Walks first units from l (length units) in
-    elim (split from (length units)) [
+    elim (cases_lt from (length units)) [
       | inl less ↦
           let some = front (drop from units) (some_left units from less) in
           let fits : first (drop from units) ≤ length units - from = omega (arith, some.1, length-drop from units) in
@@ -41,10 +41,3 @@ walks_made {X} first front units from (suc fuel) inside enough =
 
 pub cut_made : {X : Type 0} (first : List X → ℕ) → IsFront first → (units : List X) → IsCut first units (ends_of first units)
 cut_made first front units = walks_made first front units 0 (length units) (omega arith) (omega arith)
-
--- There is one meeting point.
-pub meet_only : {X : Type 0} (first : List X → ℕ) (old units : List X) (b c m n : ℕ) → IsMeet first old units b c m → IsMeet first old units b c n → m ≡ n
-meet_only first old units b c m n h k =
-    let one : m ≤ n = h.least n k.after k.in_new k.in_old in
-    let other : n ≤ m = k.least m h.after h.in_new h.in_old in
-    omega arith

@@ -5,6 +5,8 @@ use Rattle.std.specs.List.{AllByRecursion as Each}
 use Rattle.std.proofs.lemmas.List.Sums.{sum_by-cons}
 use Rattle.snl_kept.specs.declared.found.findings.Finding.{Finding}
 use Rattle.snl_kept.specs.Order.{goes_before, in_order, put_in_order}
+use Rattle.std.proofs.Math.Bool.{and-false, and-true}
+use Rattle.snl_kept.specs.OrderLaws.{each_put}
 
 abbrev pub one_if : Bool → ℕ
 one_if b = if b then 1 else 0
@@ -33,14 +35,6 @@ pub count_same : {A : Type 0} (p q : A → Bool) → ((x : A) → p x ≡ q x) �
 count_same p q h [] = refl
 count_same p q h (x ∷ xs) = ap (λ b. one_if b + count p xs) (h x) ∙ ap (λ n. one_if (q x) + n) (count_same p q h xs)
 
-pub and_true : (b : Bool) → (b && true) ≡ b
-and_true true = refl
-and_true false = refl
-
-pub and_false : (b : Bool) → (b && false) ≡ false
-and_false true = refl
-and_false false = refl
-
 -- What one test keeps is counted by both.
 pub count-filter : {A : Type 0} (test kept : A → Bool) (xs : List A) → count test (filter kept xs) ≡ count (λ x. test x && kept x) xs
 count-filter test kept [] = refl
@@ -48,8 +42,8 @@ count-filter test kept (x ∷ xs) = by (kept x) (count-filter test kept xs)
   where
     by : (b : Bool) → count test (filter kept xs) ≡ count (λ y. test y && kept y) xs
         → count test (cond b (x ∷ filter kept xs) (filter kept xs)) ≡ one_if (test x && b) + count (λ y. test y && kept y) xs
-    by true h = ap (λ t. one_if t + count test (filter kept xs)) (sym (and_true (test x))) ∙ ap (λ n. one_if (test x && true) + n) h
-    by false h = let none : one_if (test x && false) ≡ 0 = ap one_if (and_false (test x)) in omega (arith, h, none)
+    by true h = ap (λ t. one_if t + count test (filter kept xs)) (sym (and-true (test x))) ∙ ap (λ n. one_if (test x && true) + n) h
+    by false h = let none : one_if (test x && false) ≡ 0 = ap one_if (and-false (test x)) in omega (arith, h, none)
 
 -- Order changes no count.
 count_put : (test : Finding → Bool) (x : Finding) (ys : List Finding) → count test (put_in_order x ys) ≡ one_if (test x) + count test ys
@@ -64,16 +58,3 @@ count_put test x (y ∷ ys) = by (goes_before y x) (count_put test x ys)
 pub count_ordered : (test : Finding → Bool) (xs : List Finding) → count test (in_order xs) ≡ count test xs
 count_ordered test [] = refl
 count_ordered test (x ∷ xs) = count_put test x (in_order xs) ∙ ap (λ n. one_if (test x) + n) (count_ordered test xs)
-
--- What holds of each holds of each in order.
-each_put : (P : Finding → Type 0) (x : Finding) (ys : List Finding) → P x → Each P ys → Each P (put_in_order x ys)
-each_put P x [] h hs = (h, tt)
-each_put P x (y ∷ ys) h hs = by (goes_before y x) (each_put P x ys h hs.1)
-  where
-    by : (b : Bool) → Each P (put_in_order x ys) → Each P (if b then y ∷ put_in_order x ys else x ∷ y ∷ ys)
-    by true rest = (hs.0, rest)
-    by false rest = (h, hs)
-
-pub each_ordered : (P : Finding → Type 0) (xs : List Finding) → Each P xs → Each P (in_order xs)
-each_ordered P [] h = tt
-each_ordered P (x ∷ xs) h = each_put P x (in_order xs) h.0 (each_ordered P xs h.1)

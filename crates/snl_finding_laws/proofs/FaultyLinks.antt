@@ -5,10 +5,10 @@ use Rattle.std.specs.Option.{option_map_or}
 use Rattle.std.specs.List.{AllByRecursion as Each}
 use Rattle.std.proofs.lemmas.Bool.{and_left, or_from, true≢false}
 use Rattle.std.proofs.lemmas.List.{length-map}
-use Rattle.std.proofs.lemmas.Option.{same_Some, slice_get_within}
+use Rattle.std.proofs.lemmas.Option.{same_Some, slice_get_within, slice_get-map}
 use Rattle.snl_syntax.specs.declared.tree.item.Item.{Item}
-use Rattle.snl_walk.specs.declared.codes.Code.{Code}
-use Rattle.snl_walk.specs.declared.codes.Code.TheVariants.{E03, E04, E05, E06, E14}
+use Rattle.snl_codes.specs.declared.code.Code.{Code}
+use Rattle.snl_codes.specs.declared.code.Code.TheVariants.{E03, E04, E05, E06, E14}
 use Rattle.snl_scope.specs.declared.facts.LinkFault.{LinkFault}
 use Rattle.snl_scope.specs.declared.summaries.summary.ItemKind.{ItemKind}
 use Rattle.snl_scope.specs.declared.summaries.summary.ItemKind.TheVariants.{Faulty}
@@ -21,10 +21,10 @@ use Rattle.snl_scope.specs.Names.{Entry, entries, name_faults, repetitions, told
 use Rattle.snl_scope.specs.Order as order
 use Rattle.snl_scope.specs.Places.{begins_set, enclosing_set, ends_set, is_set_begin, is_set_end}
 use Rattle.snl_scope.specs.Summaries.{kind_of, outline_in}
-use Rattle.snl_check.specs.Items.{outline_of_item}
+use Rattle.snl_item_check.specs.Items.{outline_of_item}
 use Rattle.snl_kept.specs.Linked.{linked_of, outlines_of}
 use Rattle.snl_kept.specs.Program.{ProgramItem}
-use Rattle.snl_finding_laws.proofs.Each.{each_append, each_by, each_map, get_mapped}
+use Rattle.snl_facts.specs.Each.{each_append, each_by, each_map}
 
 -- ---- lists of what passes
 
@@ -73,10 +73,10 @@ module _ (text : List ℕ) (xs : List ProgramItem) where
 
   module _ (j : ℕ) (y : ProgramItem) (at : slice_get xs j ≡ Some y) (none : y.tree ≡ None) where
     kind_at : slice_get l.kinds j ≡ Some Faulty
-    kind_at = get_mapped (λ x. kind_of x.tree) xs j ∙ ap (option_map (λ x. kind_of x.tree)) at ∙ ap (λ o. Some (kind_of o)) none
+    kind_at = slice_get-map (λ x. kind_of x.tree) xs j ∙ ap (option_map (λ x. kind_of x.tree)) at ∙ ap (λ o. Some (kind_of o)) none
 
     outline_at : slice_get ss j ≡ Some (outline_in text y.tokens None)
-    outline_at = get_mapped (outline_of_item text) xs j ∙ ap (option_map (outline_of_item text)) at ∙ ap (λ o. Some (outline_in text y.tokens o)) none
+    outline_at = slice_get-map (outline_of_item text) xs j ∙ ap (option_map (outline_of_item text)) at ∙ ap (λ o. Some (outline_in text y.tokens o)) none
 
     kind_fails : (test : ItemKind → Bool) → test Faulty ≡ false → kind_is test l j ≡ false
     kind_fails test h = ap (λ o. option_map_or test o false) kind_at ∙ h
@@ -165,7 +165,7 @@ module _ (text : List ℕ) (xs : List ProgramItem) where
   clauses_at : (n : ℕ) → Each ClauseSound (option_map_or (λ s. map (linked_clause ss n) s.clauses) (slice_get ss n) [])
   clauses_at n =
       let P : Option Outline → Type 0 = λ o. Each ClauseSound (option_map_or (λ s. map (linked_clause ss n) s.clauses) o []) in
-      subst P (sym (get_mapped (outline_of_item text) xs n)) (by_item (slice_get xs n) refl)
+      subst P (sym (slice_get-map (outline_of_item text) xs n)) (by_item (slice_get xs n) refl)
     where
       by_tree : (y : ProgramItem) → slice_get xs n ≡ Some y → (o : Option Item) → y.tree ≡ o → Each ClauseSound (map (linked_clause ss n) (outline_in text y.tokens o).clauses)
       by_tree y at None e = tt

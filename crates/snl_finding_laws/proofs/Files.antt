@@ -12,13 +12,14 @@ use Rattle.snl_lex.specs.Runs.{run_by}
 use Rattle.snl_scope.specs.declared.summaries.summary.Outline.{Outline}
 use Rattle.snl_scope.specs.Below.{all_below}
 use Rattle.snl_scope.specs.Places.{is_set_begin}
-use Rattle.snl_check.specs.Items.{ProgramItem, item_start, outlines_of}
+use Rattle.snl_item_check.specs.Items.{ProgramItem, outlines_of}
+use Rattle.snl_check.specs.ItemSpans.{item_start}
 use Rattle.snl_check.specs.Members.{states_in}
 use Rattle.snl_check.specs.States.{numbered_row, set_row, state_rows}
 use Rattle.snl_kept.specs.Program.{items_of}
 use Rattle.snl_kept.specs.Tables.{tables_in}
 use Rattle.snl_finding_laws.specs.Places.{FileLiesIn, SetFilesLieIn, StateFileLiesIn}
-use Rattle.snl_finding_laws.proofs.Each.{each_by, each_filter, each_map}
+use Rattle.snl_facts.specs.Each.{each_by, each_map, each_filter}
 
 -- A byte that isn't 0 is one of the list.
 byte_there : (bytes : List ℕ) (k : ℕ) → (slice_index bytes k == 34) ≡ true → k < length bytes

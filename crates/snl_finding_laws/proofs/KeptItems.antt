@@ -6,11 +6,14 @@ use Rattle.std.proofs.lemmas.List.{get_or-append-add, get_or_append_left, length
 use Rattle.std.proofs.lemmas.List.Folds.{list_any_at}
 use Rattle.snl_cut.specs.Cut.{ends_below, joined, last_end, members, moved}
 use Rattle.snl_lex.specs.declared.piece.Class.{Class}
+use Rattle.snl_lex.specs.Edit.{Edit}
+use Rattle.snl_items.specs.declared.item_list.ItemChange.{ItemChange}
 use Rattle.snl_items.specs.declared.tokens.TokenEdit.{TokenEdit}
 use Rattle.snl_items.specs.Changes.{IsItemChange}
-use Rattle.snl_items.specs.Fresh.{fresh_items_between}
+use Rattle.snl_items.specs.Fresh.{fresh_items_of}
 use Rattle.snl_items.specs.Items.{item_ends, spelled_items, spellings}
 use Rattle.snl_kept.specs.Stirred.{is_fresh, old_number}
+use Rattle.snl_cut.specs.CutLaws.{length_members}
 
 -- ---- elements by their places
 
@@ -33,10 +36,6 @@ get_dropped : {A : Type 0} (n : ℕ) (xs : List A) (i : ℕ) → slice_get (drop
 get_dropped zero xs i = let same : i ≡ 0 + i = omega arith in ap (slice_get xs) same
 get_dropped (suc n) [] i = refl
 get_dropped (suc n) (x ∷ xs) i = let next : suc (n + i) ≡ suc n + i = omega arith in get_dropped n xs i ∙ ap (slice_get (x ∷ xs)) next
-
-members_count : {A : Type 0} (units : List A) (from : ℕ) (ends : List ℕ) → length (members units from ends) ≡ length ends
-members_count units from [] = refl
-members_count units from (e ∷ es) = ap suc (members_count units e es)
 
 -- ---- the ends after an edit
 
@@ -94,55 +93,55 @@ module _ (old_ends : List ℕ) (old_stop new_stop front : ℕ) (made : List ℕ)
 
 -- ---- the items after an edit
 
-pub kept_alike : (old text : List ℕ) (start old_stop new_stop : ℕ) (edit : TokenEdit) (front : ℕ) (made : List ℕ) (back : ℕ) → IsItemChange old text start old_stop new_stop edit front made back
-    → (i : ℕ) → i < length (item_ends text) → is_fresh (item_ends text) (fresh_items_between old text start old_stop new_stop) i ≡ false
-    → slice_get (spelled_items text) i ≡ slice_get (spelled_items old) (old_number (ends_below edit.start (item_ends old)) (length (item_ends old)) (length (item_ends text)) i)
-kept_alike old text start old_stop new_stop edit front made back is i within kept =
-    elim (cases_lt i front) [
+pub kept_alike : (e : Edit) (edit : TokenEdit) (change : ItemChange) → IsItemChange e edit change
+    → (i : ℕ) → i < length (item_ends e.text) → is_fresh (item_ends e.text) (fresh_items_of e) i ≡ false
+    → slice_get (spelled_items e.text) i ≡ slice_get (spelled_items e.old) (old_number (ends_below edit.start (item_ends e.old)) (length (item_ends e.old)) (length (item_ends e.text)) i)
+kept_alike e edit change is i within kept =
+    elim (cases_lt i change.kept_front) [
       | inl lt ↦
-          let here : i < length (take front (spelled_items old)) = omega (arith, lt, taken) in
-          ap (λ (l : List (List (Class × List ℕ))). slice_get l i) is.items ∙ get_left (take front (spelled_items old)) (between ++ last) i here ∙ get_taken front (spelled_items old) i lt
-          ∙ ap (slice_get (spelled_items old)) (sym (number_is i i (front_number (item_ends old) edit.old_stop edit.new_stop front made back is.order (ends_below edit.start (item_ends old)) is.before i lt)))
+          let here : i < length (take change.kept_front (spelled_items e.old)) = omega (arith, lt, taken) in
+          ap (λ (l : List (List (Class × List ℕ))). slice_get l i) is.items ∙ get_left (take change.kept_front (spelled_items e.old)) (between ++ last) i here ∙ get_taken change.kept_front (spelled_items e.old) i lt
+          ∙ ap (slice_get (spelled_items e.old)) (sym (number_is i i (front_number (item_ends e.old) edit.old_stop edit.new_stop change.kept_front change.made.items change.kept_back is.order (ends_below edit.start (item_ends e.old)) is.before i lt)))
       | inr ge ↦
-          elim (cases_lt (i - front) (length made)) [
+          elim (cases_lt (i - change.kept_front) (length change.made.items)) [
             | inl lt ↦
-                let place : front + (i - front) ≡ i = omega (arith, ge) in
-                let fresh : is_fresh (item_ends text) (fresh_items_between old text start old_stop new_stop) i ≡ true =
-                ap (λ (e : List ℕ). is_fresh e (fresh_items_between old text start old_stop new_stop) i) is.ends
+                let place : change.kept_front + (i - change.kept_front) ≡ i = omega (arith, ge) in
+                let fresh : is_fresh (item_ends e.text) (fresh_items_of e) i ≡ true =
+                ap (λ (es : List ℕ). is_fresh es (fresh_items_of e) i) is.ends
                 ∙ ap (λ (m : List ℕ). is_fresh all m i) (sym is.fresh)
-                ∙ ap (is_fresh all made) (sym place)
-                ∙ made_is_fresh (item_ends old) edit.old_stop edit.new_stop front made back is.order (i - front) lt in
+                ∙ ap (is_fresh all change.made.items) (sym place)
+                ∙ made_is_fresh (item_ends e.old) edit.old_stop edit.new_stop change.kept_front change.made.items change.kept_back is.order (i - change.kept_front) lt in
                 absurd (true≢false (sym fresh ∙ kept))
             | inr past ↦
-                let k : ℕ = i - front - length made in
-                let place : i ≡ length (take front (spelled_items old)) + (length between + k) = omega (arith, ge, past, taken, middle) in
-                let same : i ≡ front + length made + k = omega (arith, ge, past) in
-                let few : k < back = omega (arith, within, same, ap length is.ends, ends_count (item_ends old) edit.old_stop edit.new_stop front made back is.order) in
-                ap (λ (l : List (List (Class × List ℕ))). slice_get l i) is.items ∙ ap (slice_get (take front (spelled_items old) ++ (between ++ last))) place
-                ∙ get_right (take front (spelled_items old)) (between ++ last) (length between + k) ∙ get_right between last k
-                ∙ get_dropped (length (item_ends old) - back) (spelled_items old) k
-                ∙ ap (slice_get (spelled_items old))
-                (sym (number_is i ((length (item_ends old) - back) + k)
-                (ap (old_number (ends_below edit.start (item_ends old)) (length (item_ends old)) (length all)) same
-                ∙ back_number (item_ends old) edit.old_stop edit.new_stop front made back is.order (ends_below edit.start (item_ends old)) is.before k few)))
+                let k : ℕ = i - change.kept_front - length change.made.items in
+                let place : i ≡ length (take change.kept_front (spelled_items e.old)) + (length between + k) = omega (arith, ge, past, taken, middle) in
+                let same : i ≡ change.kept_front + length change.made.items + k = omega (arith, ge, past) in
+                let few : k < change.kept_back = omega (arith, within, same, ap length is.ends, ends_count (item_ends e.old) edit.old_stop edit.new_stop change.kept_front change.made.items change.kept_back is.order) in
+                ap (λ (l : List (List (Class × List ℕ))). slice_get l i) is.items ∙ ap (slice_get (take change.kept_front (spelled_items e.old) ++ (between ++ last))) place
+                ∙ get_right (take change.kept_front (spelled_items e.old)) (between ++ last) (length between + k) ∙ get_right between last k
+                ∙ get_dropped (length (item_ends e.old) - change.kept_back) (spelled_items e.old) k
+                ∙ ap (slice_get (spelled_items e.old))
+                (sym (number_is i ((length (item_ends e.old) - change.kept_back) + k)
+                (ap (old_number (ends_below edit.start (item_ends e.old)) (length (item_ends e.old)) (length all)) same
+                ∙ back_number (item_ends e.old) edit.old_stop edit.new_stop change.kept_front change.made.items change.kept_back is.order (ends_below edit.start (item_ends e.old)) is.before k few)))
           ]
     ]
   where
     all : List ℕ
-    all = joined (item_ends old) edit.old_stop edit.new_stop front made back
+    all = joined (item_ends e.old) edit.old_stop edit.new_stop change.kept_front change.made.items change.kept_back
 
     between : List (List (Class × List ℕ))
-    between = members (spellings text) (last_end 0 (take front (item_ends old))) made
+    between = members (spellings e.text) (last_end 0 (take change.kept_front (item_ends e.old))) change.made.items
 
     last : List (List (Class × List ℕ))
-    last = drop (length (item_ends old) - back) (spelled_items old)
+    last = drop (length (item_ends e.old) - change.kept_back) (spelled_items e.old)
 
-    taken : length (take front (spelled_items old)) ≡ front
-    taken = length-take-le front (spelled_items old) (omega (arith, is.order, members_count (spellings old) 0 (item_ends old)))
+    taken : length (take change.kept_front (spelled_items e.old)) ≡ change.kept_front
+    taken = length-take-le change.kept_front (spelled_items e.old) (omega (arith, is.order, length_members (spellings e.old) 0 (item_ends e.old)))
 
-    middle : length between ≡ length made
-    middle = members_count (spellings text) (last_end 0 (take front (item_ends old))) made
+    middle : length between ≡ length change.made.items
+    middle = length_members (spellings e.text) (last_end 0 (take change.kept_front (item_ends e.old))) change.made.items
 
-    number_is : (j number : ℕ) → old_number (ends_below edit.start (item_ends old)) (length (item_ends old)) (length all) j ≡ number
-        → old_number (ends_below edit.start (item_ends old)) (length (item_ends old)) (length (item_ends text)) j ≡ number
-    number_is j number h = ap (λ (e : List ℕ). old_number (ends_below edit.start (item_ends old)) (length (item_ends old)) (length e) j) is.ends ∙ h
+    number_is : (j number : ℕ) → old_number (ends_below edit.start (item_ends e.old)) (length (item_ends e.old)) (length all) j ≡ number
+        → old_number (ends_below edit.start (item_ends e.old)) (length (item_ends e.old)) (length (item_ends e.text)) j ≡ number
+    number_is j number h = ap (λ (es : List ℕ). old_number (ends_below edit.start (item_ends e.old)) (length (item_ends e.old)) (length es) j) is.ends ∙ h

@@ -1,4 +1,3 @@
-pub mod Each
 pub mod Counts
 pub mod Shown
 pub mod Tokens

@@ -11,9 +11,9 @@ use Rattle.snl_syntax.specs.declared.tree.item.Item.{Item}
 use Rattle.snl_syntax.specs.Outcome.{BlamesWithin, parsed_in}
 use Rattle.snl_syntax.specs.Parsing.{is_bad, kinds_in}
 use Rattle.snl_syntax.specs.Reading.Items.{item_of}
-use Rattle.snl_walk.specs.declared.codes.Code.{Code}
-use Rattle.snl_walk.specs.declared.codes.Code.TheVariants.{E01, E02}
-use Rattle.snl_walk.specs.Codes.{is_error}
+use Rattle.snl_codes.specs.declared.code.Code.{Code}
+use Rattle.snl_codes.specs.declared.code.Code.TheVariants.{E01, E02}
+use Rattle.snl_codes.specs.Codes.{is_error}
 use Rattle.snl_items.specs.Items.{item_ends, marks_of}
 use Rattle.snl_kept.specs.declared.found.findings.Finding.{Finding}
 use Rattle.snl_kept.specs.Checked.{checked_faults}
@@ -25,12 +25,14 @@ use Rattle.snl_kept.specs.Tables.{walked_faults}
 use Rattle.snl_kept.specs.Warnings.{warns_in}
 use Rattle.snl_finding_laws.specs.OwnFaults.{is_at_item, is_bad_token, is_in_span, is_of_parser, is_syntax_error}
 use Rattle.snl_finding_laws.specs.Places.{is_shown}
-use Rattle.snl_finding_laws.proofs.Counts.{and_true, count, count-append, count_none, count_same}
-use Rattle.snl_finding_laws.proofs.Each.{each_by, each_got, each_map, each_weaker}
+use Rattle.snl_finding_laws.proofs.Counts.{count, count-append, count_none, count_same}
 use Rattle.snl_finding_laws.proofs.OtherCodes.{CodesLaw, IsNoParserCode, IsOfOthers, LinkLaws, checked_codes, linked_codes, walked_codes}
 use Rattle.snl_finding_laws.proofs.OwnFaults.{bad_by_outcome, by_outcome, faults_counted, one_by_outcome, syntax_by_outcome}
 use Rattle.snl_finding_laws.proofs.Shown.{diagnostics_counted}
-use Rattle.snl_finding_laws.proofs.Tokens.{AreInARow, InARow, items_in_a_row, items_within, read_item}
+use Rattle.snl_finding_laws.proofs.Tokens.{AreInARow, items_in_a_row, items_within}
+use Rattle.snl_facts.specs.Each.{each_by, each_weaker, each_got, each_map}
+use Rattle.std.proofs.Math.Bool.{and-true}
+use Rattle.snl_kept.specs.TokenLaws.{InARow, read_tree}
 
 -- A test that only codes of the parser pass, which are errors.
 pub record IsParserTest (test : Code → Bool) : Type 0 where
@@ -74,7 +76,7 @@ syntax_code = record { only = only; error = error }
 
 shown_anyway : (t e s w : Bool) → (t && e) ≡ t → ((t && s) && (e || w)) ≡ (t && s)
 shown_anyway false e s w h = refl
-shown_anyway true true s w h = and_true s
+shown_anyway true true s w h = and-true s
 shown_anyway true false s w h = absurd cc
 
 -- ---- all that is found
@@ -91,7 +93,7 @@ pub record FindingLaws (text : List ℕ) : Type 0 where
 pub all_read : (text : List ℕ) → Each (λ x. (t : Item) → x.tree ≡ Some t → item_of (kinds_in text x.tokens) ≡ Some t) (items_of text)
 all_read text =
     each_map (λ x. (t : Item) → x.tree ≡ Some t → item_of (kinds_in text x.tokens) ≡ Some t) (program_item text) (item_tokens text)
-    (each_by (λ tokens. (t : Item) → tree_in text tokens ≡ Some t → item_of (kinds_in text tokens) ≡ Some t) (read_item text) (item_tokens text))
+    (each_by (λ tokens. (t : Item) → tree_in text tokens ≡ Some t → item_of (kinds_in text tokens) ≡ Some t) (read_tree text) (item_tokens text))
 
 abbrev at_item : (Code → Bool) → ProgramItem → Finding → Bool
 at_item test x f = test f.code && is_in_span x f.offset

@@ -5,15 +5,15 @@ use Rattle.std.specs.Option.{option_map_or}
 use Rattle.std.specs.List.{AllByRecursion as Each, cons_option, enumerate_from, filter_map}
 use Rattle.std.proofs.lemmas.Bool.{cases_order, true≢false}
 use Rattle.std.proofs.lemmas.List.Elements.{All-from_recursion, recursion_from_All}
-use Rattle.std.proofs.lemmas.Option.{same_Some}
+use Rattle.std.proofs.lemmas.Option.{same_Some, slice_get-map}
 use Rattle.snl_lex.specs.declared.piece.Piece.{Piece}
 use Rattle.snl_lex.specs.Pieces.{LiesIn, piece_end}
 use Rattle.snl_syntax.specs.declared.outcome.Parsed.{Parsed}
 use Rattle.snl_syntax.specs.declared.outcome.Parsed.TheVariants as parsed
 use Rattle.snl_syntax.specs.declared.tree.item.Item.{Item}
 use Rattle.snl_syntax.specs.Outcome.{parsed_in}
-use Rattle.snl_walk.specs.declared.codes.Code.{Code}
-use Rattle.snl_walk.specs.declared.codes.Code.TheVariants.{E01, E02, W02}
+use Rattle.snl_codes.specs.declared.code.Code.{Code}
+use Rattle.snl_codes.specs.declared.code.Code.TheVariants.{E01, E02, W02}
 use Rattle.snl_walk.specs.Tokens.{token_bytes}
 use Rattle.snl_scope.specs.declared.facts.LinkFault.{LinkFault}
 use Rattle.snl_scope.specs.declared.summaries.summary.Outline.{Outline}
@@ -21,14 +21,15 @@ use Rattle.snl_scope.specs.Below.{all_below}
 use Rattle.snl_scope.specs.FaultPlaces.{IsMissing, IsPlaced, IsPlacedBy}
 use Rattle.snl_scope.specs.Linked as links
 use Rattle.snl_scope.specs.Places.{is_set_begin}
-use Rattle.snl_check.specs.declared.rules.findings.ItemFault.{ItemFault}
-use Rattle.snl_check.specs.ItemFaults.{faults_in}
-use Rattle.snl_check.specs.Items.{item_name, outline_of_item, span_of, tokens_in}
+use Rattle.snl_item_check.specs.declared.findings.ItemFault.{ItemFault}
+use Rattle.snl_item_check.specs.ItemFaults.{faults_in}
+use Rattle.snl_item_check.specs.Items.{outline_of_item, tokens_in}
+use Rattle.snl_check.specs.ItemSpans.{item_name, span_of}
 use Rattle.snl_check.specs.Members.{has_faulty, is_faulty_item, states_in}
 use Rattle.snl_check.specs.Spans.{HasByte, InSet, InState, TablesHaveBytes}
 use Rattle.snl_check.specs.States.{first_mark, is_reached_in, is_repeated, mark_of, numbered_row, set_row, state_rows}
 use Rattle.snl_check.specs.Tables.{tables_of}
-use Rattle.snl_check.specs.View.{is_in_set, known_of, leads_to}
+use Rattle.snl_item_check.specs.View.{is_in_set, known_of, leads_to}
 use Rattle.snl_kept.specs.declared.found.findings.Diagnostic.{Diagnostic}
 use Rattle.snl_kept.specs.declared.found.findings.Finding.{Finding}
 use Rattle.snl_kept.specs.Checked.{at_own_token, checked_faults, found_in_item, moved}
@@ -38,14 +39,15 @@ use Rattle.snl_kept.specs.Linked.{finding_at, linked_faults, linked_finding, lin
 use Rattle.snl_kept.specs.Program.{ProgramItem, items_of}
 use Rattle.snl_kept.specs.Tables.{found_at_state, found_in_set, is_unreached, tables_in, walked_faults}
 use Rattle.snl_finding_laws.specs.OwnFaults.{IsAtFaulty, is_in_span, is_of_parser}
-use Rattle.snl_finding_laws.proofs.Each.{EachTwo, each_append, each_both, each_flat, each_got, each_map, each_weaker, get_mapped}
 use Rattle.snl_finding_laws.proofs.FaultyLinks.{AtSound, links_at_sound}
 use Rattle.snl_finding_laws.proofs.OneFault.{FindingLaws, all_read}
 use Rattle.snl_finding_laws.proofs.OtherCodes.{IsRead, all_speak}
 use Rattle.snl_finding_laws.proofs.OwnFaults.{after_span, before_span, turned}
 use Rattle.snl_finding_laws.proofs.Places.{IsPlace, ItemLaws, bytes_few, places_in}
 use Rattle.snl_finding_laws.proofs.Shown.{each_diagnostic}
-use Rattle.snl_finding_laws.proofs.Tokens.{AllBefore, AreInARow, Before, InARow, items_in_a_row, items_within, missing}
+use Rattle.snl_finding_laws.proofs.Tokens.{AreInARow, items_in_a_row, items_within, missing}
+use Rattle.snl_facts.specs.Each.{each_append, each_weaker, each_both, each_got, each_map, each_flat, EachTwo, numbered}
+use Rattle.snl_kept.specs.TokenLaws.{Before, AllBefore, InARow}
 
 -- ---- elements by their numbers
 
@@ -55,12 +57,6 @@ two_got R (z ∷ zs) zero zero x y h l e f = absurd (omega (arith, l))
 two_got R (z ∷ zs) zero (suc j) x y h l e f = let same : z ≡ x = cc in each_got (R x) zs j y (subst (λ w. Each (R w) zs) same h.0) f
 two_got R (z ∷ zs) (suc i) zero x y h l e f = absurd (omega (arith, l))
 two_got R (z ∷ zs) (suc i) (suc j) x y h l e f = two_got R zs i j x y h.1 (omega (arith, l)) e f
-
-numbered : {A : Type 0} (all rest : List A) (n : ℕ) → ((k : ℕ) → slice_get rest k ≡ slice_get all (n + k)) → Each (λ p. slice_get all p.0 ≡ Some p.1) (enumerate_from n rest)
-numbered all [] n h = tt
-numbered all (x ∷ xs) n h =
-    let first : n + 0 ≡ n = omega arith in
-    (sym (h 0 ∙ ap (slice_get all) first), numbered all xs (n + 1) (λ k. let next : n + suc k ≡ n + 1 + k = omega arith in h (suc k) ∙ ap (slice_get all) next))
 
 module _ (text : List ℕ) (xs : List ProgramItem) (row : AreInARow text xs) (i : ℕ) (x : ProgramItem) (at : slice_get xs i ≡ Some x) (faulty : x.tree ≡ None) where
   own_row : InARow text x.tokens
@@ -126,7 +122,7 @@ module _ (text : List ℕ) (xs : List ProgramItem) (row : AreInARow text xs) (i 
   link_told : (f : LinkFault) → IsPlaced (λ j. length (tokens_in xs j)) (outlines_of text xs) f → AtSound text xs f → Told (linked_finding xs f)
   link_told f placed sound =
       let P : Option Outline → Type 0 = λ o. IsPlacedBy (λ j. length (tokens_in xs j)) (outlines_of text xs) f o in
-      by (slice_get xs f.item) refl (subst P (get_mapped (outline_of_item text) xs f.item) placed)
+      by (slice_get xs f.item) refl (subst P (slice_get-map (outline_of_item text) xs f.item) placed)
     where
       by : (o : Option ProgramItem) → slice_get xs f.item ≡ o → IsPlacedBy (λ j. length (tokens_in xs j)) (outlines_of text xs) f (option_map (outline_of_item text) o)
           → Told (finding_at f.code (option_and_then (λ y. slice_get y.tokens f.token) o))

@@ -8,9 +8,9 @@ use Rattle.snl_lex.specs.declared.piece.Piece.{Piece}
 use Rattle.snl_syntax.specs.declared.tree.item.Item.{Item}
 use Rattle.snl_syntax.specs.Parsing.{kinds_in}
 use Rattle.snl_syntax.specs.Reading.Items.{item_of}
-use Rattle.snl_walk.specs.declared.codes.Code.{Code}
-use Rattle.snl_walk.specs.declared.codes.Code.TheVariants.{E01, E02, W02}
-use Rattle.snl_walk.specs.Codes.{is_item_code, is_link_code}
+use Rattle.snl_codes.specs.declared.code.Code.{Code}
+use Rattle.snl_codes.specs.declared.code.Code.TheVariants.{W02}
+use Rattle.snl_codes.specs.Codes.{Finder, finder_of, finds_by_links, finds_in_items, is_item_code, is_link_code, parser}
 use Rattle.snl_scope.specs.declared.facts.Fact.{Fact}
 use Rattle.snl_scope.specs.declared.facts.LinkFault.{LinkFault}
 use Rattle.snl_scope.specs.declared.summaries.summary.Outline.{Outline}
@@ -20,20 +20,22 @@ use Rattle.snl_scope.specs.LinkedItems.{LinkedItems}
 use Rattle.snl_scope.specs.Summaries.{outline_in}
 use Rattle.snl_tables.specs.declared.rows.SetRow.{SetRow}
 use Rattle.snl_tables.specs.declared.rows.StateRow.{StateRow}
-use Rattle.snl_check.specs.declared.rules.findings.ItemFault.{ItemFault}
-use Rattle.snl_check.specs.ItemFaults.{faults_in}
-use Rattle.snl_check.specs.Items.{outline_of_item, tokens_in}
+use Rattle.snl_item_check.specs.declared.findings.ItemFault.{ItemFault}
+use Rattle.snl_item_check.specs.ItemFaults.{faults_in}
+use Rattle.snl_item_check.specs.Items.{outline_of_item, tokens_in}
 use Rattle.snl_check.specs.Tables.{tables_of}
-use Rattle.snl_check.specs.View.{is_in_set, known_of, leads_to}
+use Rattle.snl_item_check.specs.View.{is_in_set, known_of, leads_to}
 use Rattle.snl_kept.specs.declared.found.findings.Finding.{Finding}
 use Rattle.snl_kept.specs.Checked.{at_own_token, checked_faults, found_in_item}
 use Rattle.snl_kept.specs.Linked.{finding_at, linked_faults, linked_finding, linked_of, outlines_of, token_of}
 use Rattle.snl_kept.specs.Program.{ProgramItem}
 use Rattle.snl_kept.specs.Tables.{found_at_state, found_in_set, is_unreached, walked_faults}
 use Rattle.snl_scope.specs.Summaries.Tokens.{token_bytes}
-use Rattle.snl_finding_laws.specs.OwnFaults.{is_of_parser}
-use Rattle.snl_finding_laws.proofs.Each.{each_by, each_flat, each_got, each_map, each_weaker, get_mapped}
-use Rattle.snl_finding_laws.proofs.Tokens.{AreInARow, InARow}
+use Rattle.snl_finding_laws.specs.OwnFaults.{finds_by_parsing, is_of_parser}
+use Rattle.snl_finding_laws.proofs.Tokens.{AreInARow}
+use Rattle.snl_facts.specs.Each.{each_by, each_weaker, each_got, each_map, each_flat}
+use Rattle.std.proofs.lemmas.Option.{slice_get-map}
+use Rattle.snl_kept.specs.TokenLaws.{InARow}
 
 abbrev pub IsNoParserCode : Code → Type 0
 IsNoParserCode code = is_of_parser code ≡ false
@@ -41,15 +43,19 @@ IsNoParserCode code = is_of_parser code ≡ false
 abbrev pub IsOfOthers : Finding → Type 0
 IsOfOthers f = IsNoParserCode f.code
 
+by_links_alone : (f : Finder) → finds_by_links f ≡ true → finds_by_parsing f ≡ false
+by_links_alone parser h = absurd cc
+by_links_alone _ h = refl
+
 not_linked : (c : Code) → is_link_code c ≡ true → IsNoParserCode c
-not_linked E01 h = absurd cc
-not_linked E02 h = absurd cc
-not_linked _ h = refl
+not_linked c = by_links_alone (finder_of c)
+
+in_items_alone : (f : Finder) → finds_in_items f ≡ true → finds_by_parsing f ≡ false
+in_items_alone parser h = absurd cc
+in_items_alone _ h = refl
 
 not_in_items : (c : Code) → is_item_code c ≡ true → IsNoParserCode c
-not_in_items E01 h = absurd cc
-not_in_items E02 h = absurd cc
-not_in_items _ h = refl
+not_in_items c = in_items_alone (finder_of c)
 
 -- ---- what the links find
 
@@ -73,7 +79,7 @@ pub all_speak : (laws : LinkLaws) (text : List ℕ) (xs : List ProgramItem) → 
     → (i : ℕ) → IfSome (slice_get (outlines_of text xs) i) (SpeaksOfTokens (length (tokens_in xs i)))
 all_speak laws text xs row read i =
     let P : Option Outline → Type 0 = λ o. IfSome o (SpeaksOfTokens (length (tokens_in xs i))) in
-    subst P (sym (get_mapped (outline_of_item text) xs i)) (by (slice_get xs i) refl)
+    subst P (sym (slice_get-map (outline_of_item text) xs i)) (by (slice_get xs i) refl)
   where
     by : (o : Option ProgramItem) → slice_get xs i ≡ o → IfSome (option_map (outline_of_item text) o) (SpeaksOfTokens (length (option_map_or (λ x. x.tokens) o [])))
     by None e = tt

@@ -12,15 +12,18 @@ use Rattle.snl_syntax.specs.declared.tree.item.Item.{Item}
 use Rattle.snl_syntax.specs.Outcome.{BlamesWithin, outcome_by_tree, outcome_of, parsed_in}
 use Rattle.snl_syntax.specs.Parsing.{is_bad, kinds_in}
 use Rattle.snl_syntax.specs.Reading.Items.{fault_of, item_of}
-use Rattle.snl_walk.specs.declared.codes.Code.{Code}
-use Rattle.snl_walk.specs.declared.codes.Code.TheVariants.{E01, E02}
+use Rattle.snl_codes.specs.declared.code.Code.{Code}
+use Rattle.snl_codes.specs.declared.code.Code.TheVariants.{E01, E02}
 use Rattle.snl_kept.specs.declared.found.findings.Finding.{Finding}
 use Rattle.snl_kept.specs.Faults.{at_number, at_token, fault_at, fault_in}
 use Rattle.snl_kept.specs.Program.{ProgramItem, tree_in}
 use Rattle.snl_finding_laws.specs.OwnFaults.{first_byte, is_bad_token, is_in_span, is_of_parser, is_syntax_error, stop_after}
-use Rattle.snl_finding_laws.proofs.Counts.{and_true, count, one_if}
-use Rattle.snl_finding_laws.proofs.Each.{EachTwo, each_got, each_weaker}
-use Rattle.snl_finding_laws.proofs.Tokens.{AllBefore, AreInARow, Before, InARow, missing}
+use Rattle.snl_finding_laws.proofs.Counts.{count, one_if}
+use Rattle.snl_finding_laws.proofs.Tokens.{AreInARow, missing}
+use Rattle.snl_facts.specs.Each.{each_weaker, each_got, EachTwo}
+use Rattle.std.proofs.Math.Bool.{and-true}
+use Rattle.snl_facts.specs.Numbers.{lt_suc}
+use Rattle.snl_kept.specs.TokenLaws.{Before, AllBefore, InARow}
 
 -- ---- spans
 
@@ -146,7 +149,7 @@ at_own_token text test x code n row within = by (slice_get x.tokens n) refl
   where
     by : (o : Option Piece) → slice_get x.tokens n ≡ o → of_option (at_item test x) (option_map (at_token code) o) ≡ one_if (test code)
     by None e = absurd (missing x.tokens n within e)
-    by (Some p) e = ap (λ b. one_if (test code && b)) (in_own_span text x n p row e) ∙ ap one_if (and_true (test code))
+    by (Some p) e = ap (λ b. one_if (test code && b)) (in_own_span text x n p row e) ∙ ap one_if (and-true (test code))
 
 own_counted : (text : List ℕ) (test : Code → Bool) (x : ProgramItem) (o : Parsed) → InARow text x.tokens → BlamesWithin (length x.tokens) o → of_option (at_item test x) (fault_at x.tokens o) ≡ by_outcome test o
 own_counted text test x (parsed.Sound tree) row h = refl
@@ -160,16 +163,13 @@ faults_counted text test xs i x row e within =
 
 -- ---- what the outcome says of the item
 
-first_more : (m n : ℕ) → nat_lt (1 + m) (suc n) ≡ nat_lt m n
-first_more m n = grind (arith, nat_tests)
-
 any_found : {A : Type 0} (p : A → Bool) (xs : List A) → list_any p xs ≡ nat_lt (position_or_len p xs) (length xs)
 any_found p [] = sym (le-ltb 0 0 (omega arith))
 any_found p (x ∷ xs) = by (p x) (any_found p xs)
   where
     by : (b : Bool) → list_any p xs ≡ nat_lt (position_or_len p xs) (length xs) → (b || list_any p xs) ≡ nat_lt (cond (not b) (1 + position_or_len p xs) 0) (suc (length xs))
     by true h = sym (lt-ltb 0 (suc (length xs)) (omega arith))
-    by false h = h ∙ sym (first_more (position_or_len p xs) (length xs))
+    by false h = h ∙ sym (lt_suc (position_or_len p xs) (length xs))
 
 found_if : {A : Type 0} (b : Bool) (x : A) → is_some (cond b (Some x) None) ≡ b
 found_if true x = refl

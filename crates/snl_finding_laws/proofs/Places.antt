@@ -17,9 +17,9 @@ use Rattle.snl_syntax.specs.declared.tree.state.StateMember.TheVariants as membe
 use Rattle.snl_syntax.specs.Outcome.{parsed_in}
 use Rattle.snl_syntax.specs.Parsing.{kinds_in}
 use Rattle.snl_syntax.specs.Reading.Items.{item_of}
-use Rattle.snl_walk.specs.declared.codes.Code.{Code}
-use Rattle.snl_walk.specs.declared.codes.Code.TheVariants.{E01, E02, E03, E04, E05, E06, E18, W02, W03, W04}
-use Rattle.snl_walk.specs.Codes.{quoted_bytes}
+use Rattle.snl_codes.specs.declared.code.Code.{Code}
+use Rattle.snl_codes.specs.declared.code.Code.TheVariants.{E01, E02, W02, W04}
+use Rattle.snl_codes.specs.Codes.{quoted_bytes}
 use Rattle.snl_walk.specs.Items.{occurrences}
 use Rattle.snl_walk.specs.Rules.{findings}
 use Rattle.snl_walk.specs.Tokens.{bytes_if, token_bytes}
@@ -29,11 +29,11 @@ use Rattle.snl_scope.specs.Linked as links
 use Rattle.snl_tables.specs.declared.rows.SetRow.{SetRow}
 use Rattle.snl_tables.specs.declared.rows.StateRow.{StateRow}
 use Rattle.snl_items.specs.Items.{item_ends, marks_of}
-use Rattle.snl_check.specs.declared.rules.findings.ItemFault.{ItemFault}
-use Rattle.snl_check.specs.ItemFaults.{StandsIn, fault_of, faults_in, faults_of_rules}
-use Rattle.snl_check.specs.Options.{found_at_letter, is_known, letter_fault, program_letters, state_letters, unknown_in_member, unknown_letters, unknown_options}
+use Rattle.snl_item_check.specs.declared.findings.ItemFault.{ItemFault}
+use Rattle.snl_item_check.specs.ItemFaults.{StandsIn, fault_of, faults_in, faults_of_rules}
+use Rattle.snl_item_check.specs.Options.{found_at_letter, is_known, letter_fault, program_letters, state_letters, unknown_in_member, unknown_letters, unknown_options}
 use Rattle.snl_check.specs.Spans.{InSet, InState, SpanLiesIn, TablesLieIn}
-use Rattle.snl_check.specs.View.{is_in_set, known_of, leads_to, misses_by, outer_by}
+use Rattle.snl_item_check.specs.View.{is_in_set, known_of, leads_to, misses_by, outer_by}
 use Rattle.snl_kept.specs.declared.found.findings.Finding.{Finding}
 use Rattle.snl_kept.specs.Checked.{at_own_token, checked_faults, found_in_item, moved}
 use Rattle.snl_kept.specs.Diagnostics.{diagnostic, diagnostics_of, found}
@@ -42,10 +42,11 @@ use Rattle.snl_kept.specs.Linked.{finding_at, linked_faults, linked_finding, lin
 use Rattle.snl_kept.specs.Program.{ProgramItem, item_tokens, items_of, program_item}
 use Rattle.snl_kept.specs.Tables.{found_at_state, found_in_set, is_unreached, tables_in, walked_faults}
 use Rattle.snl_finding_laws.specs.Places.{DiagnosticLiesIn}
-use Rattle.snl_finding_laws.proofs.Each.{each_append, each_both, each_by, each_flat, each_got, each_map, each_numbered, each_weaker}
 use Rattle.snl_finding_laws.proofs.Files.{file_lies}
 use Rattle.snl_finding_laws.proofs.Shown.{each_diagnostic}
-use Rattle.snl_finding_laws.proofs.Tokens.{items_within, members_lie, missing, read_item, tokens_lie}
+use Rattle.snl_finding_laws.proofs.Tokens.{items_within, members_lie, missing, tokens_lie}
+use Rattle.snl_facts.specs.Each.{each_append, each_by, each_weaker, each_both, each_got, each_map, each_numbered, each_flat}
+use Rattle.snl_kept.specs.TokenLaws.{read_tree}
 
 -- What a finding quotes lies in the text.
 abbrev Quotes : List ℕ → Finding → Type 0
@@ -58,14 +59,6 @@ record IsSound (text : List ℕ) (x : ProgramItem) : Type 0 where
 
 quoted_within : (code : Code) (len : ℕ) → 1 ≤ len → quoted_bytes code len ≤ len
 quoted_within E01 len h = omega (arith, h)
-quoted_within E02 len h = omega (arith, h)
-quoted_within E03 len h = omega (arith, h)
-quoted_within E04 len h = omega (arith, h)
-quoted_within E05 len h = omega (arith, h)
-quoted_within E06 len h = omega (arith, h)
-quoted_within E18 len h = omega (arith, h)
-quoted_within W03 len h = omega (arith, h)
-quoted_within W04 len h = h
 quoted_within _ len h = omega (arith, h)
 
 -- ---- what the parser finds
@@ -233,7 +226,7 @@ all_sound : (text : List ℕ) → PlaceLaws text → Each (IsSound text) (items_
 unfolding item_tokens
 all_sound text laws =
     each_map (IsSound text) (program_item text) (item_tokens text)
-    (each_weaker (Each (LiesIn text)) (λ tokens. IsSound text (program_item text tokens)) (λ tokens h. record { lie = h; read = read_item text tokens })
+    (each_weaker (Each (LiesIn text)) (λ tokens. IsSound text (program_item text tokens)) (λ tokens h. record { lie = h; read = read_tree text tokens })
     (item_tokens text) (members_lie text 0 (item_ends text) (items_within text laws.rise laws.last) (tokens_lie text laws.inside)))
 
 pub diagnostics_lie : (text : List ℕ) → PlaceLaws text → All (DiagnosticLiesIn text) (diagnostics_of text)

@@ -2,7 +2,7 @@
 use Rattle.std.proofs.Common.{◌≡◌, ℕ, Bool, true, false, ◌&&◌, ◌||◌, List, refl, sym, ap, ◌∙◌}
 use Rattle.std.specs.Prelude.{count_by}
 use Rattle.std.specs.List.{AllByRecursion as Each}
-use Rattle.snl_walk.specs.Codes.{is_error}
+use Rattle.snl_codes.specs.Codes.{is_error}
 use Rattle.snl_kept.specs.declared.found.findings.Diagnostic.{Diagnostic}
 use Rattle.snl_kept.specs.declared.found.findings.Finding.{Finding}
 use Rattle.snl_kept.specs.Diagnostics.{diagnostic, diagnostics_of, found, shown, shown_if}
@@ -10,23 +10,17 @@ use Rattle.snl_kept.specs.Order.{in_order}
 use Rattle.snl_kept.specs.Shifted.{finding_of}
 use Rattle.snl_kept.specs.Warnings.{warns_in}
 use Rattle.snl_finding_laws.specs.Places.{is_shown}
-use Rattle.snl_finding_laws.proofs.Counts.{and_true, count, count-filter, count-map, count_ordered, count_same, counted, each_ordered}
-use Rattle.snl_finding_laws.proofs.Each.{each_filter, each_map}
-
-or_true : (b : Bool) → (b || true) ≡ true
-or_true true = refl
-or_true false = refl
-
-or_false : (b : Bool) → (b || false) ≡ b
-or_false true = refl
-or_false false = refl
+use Rattle.snl_finding_laws.proofs.Counts.{count, count-filter, count-map, count_ordered, count_same, counted}
+use Rattle.snl_facts.specs.Each.{each_map, each_filter}
+use Rattle.std.proofs.Math.Bool.{and-true, or-true, or-false}
+use Rattle.snl_kept.specs.OrderLaws.{each_in_order}
 
 count_shown : (warns : Bool) (test : Finding → Bool) (xs : List Finding) → count test (shown_if warns xs) ≡ count (λ x. test x && (is_error x.code || warns)) xs
 count_shown true test xs =
-    count_same test (λ x. test x && (is_error x.code || true)) (λ x. sym (and_true (test x)) ∙ ap (λ b. test x && b) (sym (or_true (is_error x.code)))) xs
+    count_same test (λ x. test x && (is_error x.code || true)) (λ x. sym (and-true (test x)) ∙ ap (λ b. test x && b) (sym (or-true (is_error x.code)))) xs
 count_shown false test xs =
     count-filter test (λ x. is_error x.code) xs
-    ∙ count_same (λ x. test x && is_error x.code) (λ x. test x && (is_error x.code || false)) (λ x. ap (λ b. test x && b) (sym (or_false (is_error x.code)))) xs
+    ∙ count_same (λ x. test x && is_error x.code) (λ x. test x && (is_error x.code || false)) (λ x. ap (λ b. test x && b) (sym (or-false (is_error x.code)))) xs
 
 pub diagnostics_counted : (text : List ℕ) (test : Diagnostic → Bool) → count_by test (diagnostics_of text) ≡ count (λ x. test (diagnostic text x) && is_shown text x) (found text)
 unfolding diagnostics_of shown
@@ -46,4 +40,4 @@ pub each_diagnostic : (text : List ℕ) (P : Diagnostic → Type 0) → Each (λ
 unfolding diagnostics_of shown
 each_diagnostic text P h =
     each_map P (diagnostic text) (in_order (shown text))
-    (each_ordered (λ x. P (diagnostic text x)) (shown text) (each_shown (λ x. P (diagnostic text x)) (warns_in text) (found text) h))
+    (each_in_order (λ x. P (diagnostic text x)) (shown text) (each_shown (λ x. P (diagnostic text x)) (warns_in text) (found text) h))

@@ -2,8 +2,9 @@
 -- parser's codes.
 use Rattle.std.specs.Prelude.{◌≡◌, ◌⊎◌, ℕ, ◌+◌, ◌&&◌, Bool, true, false, List, [], ◌∷◌, nat_le, nat_lt}
 use Rattle.snl_lex.specs.declared.piece.Piece.{Piece}
-use Rattle.snl_walk.specs.declared.codes.Code.{Code}
-use Rattle.snl_walk.specs.declared.codes.Code.TheVariants.{E01, E02, E05, E06}
+use Rattle.snl_codes.specs.declared.code.Code.{Code}
+use Rattle.snl_codes.specs.declared.code.Code.TheVariants.{E01, E02, E05, E06}
+use Rattle.snl_codes.specs.Codes.{Finder, finder_of, parser}
 use Rattle.snl_kept.specs.declared.found.findings.Diagnostic.{Diagnostic}
 use Rattle.snl_kept.specs.Program.{ProgramItem}
 
@@ -28,10 +29,12 @@ abbrev pub is_syntax_error : Code → Bool
 is_syntax_error E02 = true
 is_syntax_error _ = false
 
+abbrev pub finds_by_parsing : Finder → Bool
+finds_by_parsing parser = true
+finds_by_parsing _ = false
+
 abbrev pub is_of_parser : Code → Bool
-is_of_parser E01 = true
-is_of_parser E02 = true
-is_of_parser _ = false
+is_of_parser c = finds_by_parsing (finder_of c)
 
 -- The diagnostic is in the item's span, and its code passes the test.
 abbrev pub is_at_item : (Code → Bool) → ProgramItem → Diagnostic → Bool

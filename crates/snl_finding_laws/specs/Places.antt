@@ -2,7 +2,7 @@
 use Rattle.std.specs.Prelude.{ℕ, ◌+◌, ◌≤◌, ◌||◌, All, Bool, IfSome, List, length, Option}
 use Rattle.snl_tables.specs.declared.rows.SetRow.{SetRow}
 use Rattle.snl_tables.specs.declared.rows.StateRow.{StateRow}
-use Rattle.snl_walk.specs.Codes.{is_error}
+use Rattle.snl_codes.specs.Codes.{is_error}
 use Rattle.snl_kept.specs.declared.found.findings.Diagnostic.{Diagnostic}
 use Rattle.snl_kept.specs.declared.found.findings.Finding.{Finding}
 use Rattle.snl_kept.specs.Warnings.{warns_in}

@@ -7,8 +7,8 @@ ghost use Rattle.snl_syntax.specs.Parsing.{is_bad};
 ghost use Rattle.std.specs.List.{list_any};
 ghost use Rattle.std.specs.Prelude.{◌≡◌, ◌&&◌, ℕ, All, List, None, Some, count_by, if◌then◌else◌, is_none, not, slice_get, true};
 
-use snl_check::{faults_have_item_codes, faults_stand_at_tokens, faults_stand_in_tokens};
 use snl_cut::ends_in_order;
+use snl_item_check::{faults_have_item_codes, faults_stand_at_tokens, faults_stand_in_tokens};
 use snl_kept::rows_have_bytes;
 use snl_lex::{pieces_as_listed, text_in_pieces};
 use snl_scope::{faults_have_places, outlines_speak_of_tokens};

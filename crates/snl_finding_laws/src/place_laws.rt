@@ -8,8 +8,8 @@ ghost use Rattle.snl_kept.specs.Tables.{tables_in};
 ghost use Rattle.snl_kept.specs.declared.found.findings.Finding.{Finding};
 ghost use Rattle.std.specs.Prelude.{◌≡◌, ◌&&◌, ℕ, All, Bool, List, count_by};
 
-use snl_check::{faults_stand_at_tokens, faults_stand_in_tokens};
 use snl_cut::ends_in_order;
+use snl_item_check::{faults_stand_at_tokens, faults_stand_in_tokens};
 use snl_kept::rows_have_bytes;
 use snl_lex::text_in_pieces;
 use snl_syntax::Tokens;

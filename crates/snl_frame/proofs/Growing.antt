@@ -4,7 +4,9 @@ use Rattle.std.proofs.lemmas.Bool.Decides.{nat_tests}
 use Rattle.std.proofs.lemmas.List.{drop-append-le, take-append-le}
 use Rattle.snl_frame.specs.Frame.{AtFront, Message, NoMessage, Unfinished, after_header, after_line, by_line_end, in_header, length_after, with_body, without_return}
 use Rattle.snl_frame.specs.Front.{grown}
-use Rattle.snl_frame.proofs.Lines.{feed_after, feed_place, feed_stays, found_place, no_place, position-at, too_long}
+use Rattle.snl_frame.proofs.Lines.{too_long}
+use Rattle.snl_facts.specs.Positions.{place_missed}
+use Rattle.snl_facts.specs.Feeds.{feed_place, feed_after, feed_grows}
 
 -- a body that is all there
 after_header-grows : (before : Option ℕ) (after more : List ℕ) →
@@ -60,22 +62,9 @@ long-grows next more before bytes e h = at (leb (length bytes) 256) refl h
         let whole : length (bytes ++ more) ≡ length bytes + length more =
         length-append bytes more in
         let far : length bytes ≤ feed_place (bytes ++ more) =
-        feed_after bytes more (no_place (feed_place bytes) (length bytes) e) in
+        feed_after bytes more (place_missed (feed_place bytes) (length bytes) e) in
         too_long next before (feed_place (bytes ++ more)) (length (bytes ++ more)) (bytes ++ more)
         (omega arith) (omega arith)
-
--- the first LF stays the first, whatever follows
-place_grows : (bytes more : List ℕ) (end : ℕ) → position (λ c. c == 10) bytes ≡ Some end →
-    (position (λ c. c == 10) (bytes ++ more) ≡ Some end) × (end < length bytes)
-place_grows bytes more end h =
-    let at = found_place (feed_place bytes) (length bytes) end h in
-    let front : feed_place (bytes ++ more) ≡ feed_place bytes =
-    feed_stays bytes more (omega (arith, at.0, at.1)) in
-    let long : length (bytes ++ more) ≡ length bytes + length more = length-append bytes more in
-    let found : position (λ c. c == 10) (bytes ++ more) ≡ Some (feed_place (bytes ++ more)) =
-    position-at (feed_place (bytes ++ more)) (length (bytes ++ more))
-    (omega (arith, at.0, at.1)) in
-    (found ∙ ap Some (front ∙ at.0), at.1)
 
 line-grows : (next : Option ℕ → List ℕ → AtFront) (more : List ℕ) (before : Option ℕ) (end : ℕ)
     (bytes : List ℕ) → Stays next more → position (λ c. c == 10) bytes ≡ Some end →
@@ -83,7 +72,7 @@ line-grows : (next : Option ℕ → List ℕ → AtFront) (more : List ℕ) (bef
     by_line_end next before (position (λ c. c == 10) (bytes ++ more)) (bytes ++ more)
     ≡ grown (by_line_end next before (Some end) bytes) more
 line-grows next more before end bytes each e h =
-    let g = place_grows bytes more end e in
+    let g = feed_grows bytes more end e in
     let all : List ℕ = bytes ++ more in
     let tell : Option ℕ → AtFront = λ p. by_line_end next before p all in
     let rest : List ℕ → List ℕ → AtFront =

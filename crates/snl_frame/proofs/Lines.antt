@@ -1,69 +1,20 @@
 -- The first line of a header, and what is after it.
-use Rattle.std.proofs.Common.{◌≡◌, ◌≢◌, ℕ, zero, suc, ◌+◌, ◌-◌, ◌<◌, ◌≤◌, min, List, [], ◌++◌, length, take, drop, Bool, true, false, not, cond, ltb, leb, Option, Some, None, refl, sym, ap, ◌∙◌, arith, length-append, length-drop, position, ◌==◌}
+use Rattle.std.proofs.Common.{◌≡◌, ◌≢◌, ℕ, zero, suc, ◌+◌, ◌-◌, ◌<◌, ◌≤◌, min, List, [], ◌++◌, length, take, drop, Bool, true, false, cond, ltb, leb, Option, Some, None, refl, sym, ap, ◌∙◌, arith, length-append, length-drop, position, ◌==◌}
 use Rattle.std.proofs.lemmas.Bool.{le-leb}
 use Rattle.std.proofs.lemmas.Bool.Decides.{nat_tests}
-use Rattle.std.proofs.lemmas.List.{append-nil, append_assoc, drop-drop, drop-append-le, length-take, take_all, take-append-drop, take-append-le}
-use Rattle.std.proofs.lemmas.List.Folds.{prefix_len-append}
+use Rattle.std.proofs.lemmas.List.{append-nil, drop-drop, drop-append-le, length-take, take_all, take-append-le}
 use Rattle.std.specs.List.{position_or_len}
 use Rattle.snl_frame.specs.declared.messages.Front.{Front}
 use Rattle.snl_frame.specs.declared.messages.Front.TheVariants.{Short, Malformed, HeaderAlone, Whole}
 use Rattle.snl_frame.specs.Front.{IsFrontBy, IsWhole, moved}
 use Rattle.snl_frame.specs.Frame.{AtFront, Message, NoLength, NoMessage, Unfinished, after_line, by_line_end, in_header, without_return}
-
--- where a place is found
-pub found_place : (a n i : ℕ) → cond (ltb a n) (Some a) None ≡ Some i → (a ≡ i) × (i < n)
-found_place a n i h = grind (arith, nat_tests)
-
--- where none is found
-pub no_place : (a n : ℕ) → cond (ltb a n) (Some a) None ≡ None → n ≤ a
-no_place a n h = grind (arith, nat_tests)
-
--- a place that is found
-pub position-at : (a n : ℕ) → a < n → cond (ltb a n) (Some a) None ≡ Some a
-position-at a n h = grind (arith, nat_tests)
+use Rattle.snl_facts.specs.Positions.{place_found, place_missed, place_at}
+use Rattle.snl_facts.specs.Feeds.{feed_place, feed_inside, feed_beyond}
 
 -- a place that is found is inside
 pub place_inside : (bytes : List ℕ) (i : ℕ) → position (λ c. c == 10) bytes ≡ Some i →
     i < length bytes
-place_inside bytes i h = (found_place (position_or_len (λ c. c == 10) bytes) (length bytes) i h).1
-
--- the place of the first LF
-abbrev pub feed_place : List ℕ → ℕ
-feed_place bytes = position_or_len (λ c. c == 10) bytes
-
--- an LF in some bytes is the first, whatever follows them
-pub feed_stays : (bytes more : List ℕ) → feed_place bytes < length bytes →
-    feed_place (bytes ++ more) ≡ feed_place bytes
-feed_stays bytes more h =
-    prefix_len-append (λ c. not (c == 10)) bytes more ∙ grind (arith, nat_tests)
-
--- where there is none, the first is after them
-pub feed_after : (bytes more : List ℕ) → length bytes ≤ feed_place bytes →
-    length bytes ≤ feed_place (bytes ++ more)
-feed_after bytes more h =
-    let f = prefix_len-append (λ c. not (c == 10)) bytes more in
-    grind (arith, nat_tests)
-
--- a list, by a front of it
-by_front : (n : ℕ) (bytes more : List ℕ) → bytes ++ more ≡ take n bytes ++ (drop n bytes ++ more)
-by_front n bytes more =
-    ap (λ (l : List ℕ). l ++ more) (sym (take-append-drop n bytes))
-    ∙ append_assoc (take n bytes) (drop n bytes) more
-
--- an LF in a front of the bytes is their first, whatever follows them
-feed_inside : (n : ℕ) (bytes more : List ℕ) → feed_place (take n bytes) < length (take n bytes) →
-    feed_place (bytes ++ more) ≡ feed_place (take n bytes)
-feed_inside n bytes more h =
-    ap feed_place (by_front n bytes more) ∙ feed_stays (take n bytes) (drop n bytes ++ more) h
-
--- where there is none in a front, the first is after it
-feed_beyond : (n : ℕ) (bytes more : List ℕ) → length (take n bytes) ≤ feed_place (take n bytes) →
-    length (take n bytes) ≤ feed_place (bytes ++ more)
-feed_beyond n bytes more h =
-    let e : feed_place (bytes ++ more) ≡ feed_place (take n bytes ++ (drop n bytes ++ more)) =
-    ap feed_place (by_front n bytes more) in
-    let f = feed_after (take n bytes) (drop n bytes ++ more) h in
-    omega (arith, e, f)
+place_inside bytes i h = (place_found (position_or_len (λ c. c == 10) bytes) (length bytes) i h).1
 
 -- a header that some line may follow begins with a line
 pub in_header-first : (lines : ℕ) (before : Option ℕ) (bytes : List ℕ) → lines ≢ 0 →
@@ -87,14 +38,14 @@ pub in_header-line : (lines : ℕ) (before : Option ℕ) (n : ℕ) (bytes more :
     ≡ after_line (in_header (lines - 1)) before (without_return (take end bytes))
     (drop (end + 1) bytes ++ more)
 in_header-line lines before n bytes more end some few h =
-    let at = found_place (feed_place (take n bytes)) (length (take n bytes)) end h in
+    let at = place_found (feed_place (take n bytes)) (length (take n bytes)) end h in
     let short : end < 257 = omega (arith, at.1, length-take n bytes) in
     let inside : end < length bytes = omega (arith, at.1, length-take n bytes) in
     let place : feed_place (bytes ++ more) ≡ end =
     feed_inside n bytes more (omega (arith, at.0, at.1)) ∙ at.0 in
     let long : length (bytes ++ more) ≡ length bytes + length more = length-append bytes more in
     let found : position (λ c. c == 10) (bytes ++ more) ≡ Some end =
-    position-at (feed_place (bytes ++ more)) (length (bytes ++ more)) (omega arith)
+    place_at (feed_place (bytes ++ more)) (length (bytes ++ more)) (omega arith)
     ∙ ap Some place in
     let line : by_line_end (in_header (lines - 1)) before (Some end) (bytes ++ more)
     ≡ after_line (in_header (lines - 1)) before (without_return (take end (bytes ++ more)))
@@ -130,7 +81,7 @@ pub in_header-long : (lines : ℕ) (before : Option ℕ) (n : ℕ) (bytes more :
     n ≡ min (length bytes) 257 → position (λ c. c == 10) (take n bytes) ≡ None →
     256 < length bytes → in_header lines before (bytes ++ more) ≡ NoMessage
 in_header-long lines before n bytes more some few h long =
-    let none = no_place (feed_place (take n bytes)) (length (take n bytes)) h in
+    let none = place_missed (feed_place (take n bytes)) (length (take n bytes)) h in
     let size : length (take n bytes) ≡ min n (length bytes) = length-take n bytes in
     let beyond = feed_beyond n bytes more none in
     let whole : length (bytes ++ more) ≡ length bytes + length more = length-append bytes more in

@@ -1,30 +1,20 @@
 -- Headers and messages read back.
-use Rattle.std.proofs.Common.{◌≡◌, ◌≢◌, ℕ, ◌+◌, ◌-◌, ◌<◌, ◌≤◌, ◌^◌, List, [], ◌∷◌, ◌++◌, length, take, drop, Bool, true, false, not, ◌&&◌, Option, Some, None, refl, sym, ap, ◌∙◌, codes, arith, lit<, append_assoc, length-append, position, ◌==◌}
+use Rattle.std.proofs.Common.{◌≡◌, ◌≢◌, ℕ, ◌+◌, ◌-◌, ◌<◌, ◌≤◌, ◌^◌, List, [], ◌∷◌, ◌++◌, length, take, drop, Bool, true, not, Option, Some, None, refl, sym, ap, ◌∙◌, codes, arith, lit<, append_assoc, length-append, position, ◌==◌}
 use Rattle.std.specs.Prelude.{decimal, slice_get}
-use Rattle.std.proofs.lemmas.Bool.{le-leb}
+use Rattle.std.proofs.lemmas.Bool.{le-leb, and_parts}
 use Rattle.std.proofs.lemmas.Bool.Decides.{nat_tests}
 use Rattle.std.proofs.lemmas.Fmt.{decimal_is_IsNumeral, length-decimal-le}
 use Rattle.std.proofs.lemmas.List.Folds.{list_all-append}
 use Rattle.std.proofs.lemmas.List.{drop_at, take_at}
-use Rattle.std.specs.Char.{digit_value, is_ascii_digit}
+use Rattle.std.specs.Char.{is_ascii_digit}
 use Rattle.std.specs.List.{list_all, position_or_len}
-use Rattle.std.specs.Str.Parse.{AllDigits}
 use Rattle.snl_frame.specs.Frame.{AtFront, Message, after_header, after_line, at_front, by_line_end, given_or, in_header, length_after, number_of, without_return, without_return_by}
 use Rattle.snl_frame.specs.Framed.{AreFields, IsField, framed, given_by, header_text}
-use Rattle.snl_frame.proofs.Lines.{in_header-first, position-at}
-
-both : (a b : Bool) → (a && b) ≡ true → (a ≡ true) × (b ≡ true)
-both true b h = (refl, h)
-both false b h = cc
+use Rattle.snl_frame.proofs.Lines.{in_header-first}
+use Rattle.snl_facts.specs.Positions.{place_at}
+use Rattle.snl_facts.specs.Digits.{are_digits}
 
 -- ---- the number of a length
-
-one_digit : (c : ℕ) → digit_value c < 10 → is_ascii_digit c ≡ true
-one_digit c h = grind (arith, nat_tests)
-
-all_digits : (word : List ℕ) → AllDigits 10 word → list_all is_ascii_digit word ≡ true
-all_digits [] h = refl
-all_digits (c ∷ cs) h = rw (one_digit c h.0, all_digits cs h.1) refl
 
 -- how a length is written
 record IsWritten (n : ℕ) : Type 0 where
@@ -40,7 +30,7 @@ length_written n most =
     let some : 1 ≤ length (decimal n) = omega (arith, numeral.0.0) in
     let short : length (decimal n) ≤ 19 =
     omega (arith, length-decimal-le 8 n (lit< tt) small fits) in
-    let all : list_all is_ascii_digit (decimal n) ≡ true = all_digits (decimal n) numeral.0.1 in
+    let all : list_all is_ascii_digit (decimal n) ≡ true = are_digits (decimal n) numeral.0.1 in
     record {
       few = short;
       digits = all;
@@ -65,7 +55,7 @@ digit_without c h = grind (arith, nat_tests)
 digits_without : (word : List ℕ) → list_all is_ascii_digit word ≡ true → without_feed word ≡ true
 digits_without [] h = refl
 digits_without (c ∷ cs) h =
-    let p = both (is_ascii_digit c) (list_all is_ascii_digit cs) h in
+    let p = and_parts (is_ascii_digit c) (list_all is_ascii_digit cs) h in
     rw (digit_without c p.0, digits_without cs p.1) refl
 
 without_feed-append : (xs ys : List ℕ) → without_feed xs ≡ true → without_feed ys ≡ true →
@@ -77,7 +67,7 @@ line_end : (line rest : List ℕ) → without_feed line ≡ true →
     position_or_len (λ c. c == 10) (line ++ 10 ∷ rest) ≡ length line
 line_end [] rest h = refl
 line_end (c ∷ line) rest h =
-    let p = both (not (c == 10)) (without_feed line) h in
+    let p = and_parts (not (c == 10)) (without_feed line) h in
     rw p.0 (omega (arith, line_end line rest p.1))
 
 -- some bytes of a header begin with a line
@@ -91,7 +81,7 @@ line_read lines before line after some clean short =
     length-append line (10 ∷ after) ∙ omega arith in
     let place : position_or_len (λ c. c == 10) all ≡ length line = line_end line after clean in
     let found : position (λ c. c == 10) all ≡ Some (length line) =
-    position-at (position_or_len (λ c. c == 10) all) (length all) (omega arith) ∙ ap Some place in
+    place_at (position_or_len (λ c. c == 10) all) (length all) (omega arith) ∙ ap Some place in
     let front : take (length line) all ≡ line = take_at line (10 ∷ after) (length line) refl in
     let back : drop (length line + 1) all ≡ after =
     ap (drop (length line + 1)) (sym (append_assoc line (10 ∷ []) after))

@@ -12,6 +12,7 @@ use Rattle.snl_syntax.specs.Tokens.{NumberedKind}
 use Rattle.snl_syntax.specs.Grammar.Base.{First}
 use Rattle.snl_item_laws.proofs.Lies.{Lies, braces, group, is_calm, is_loose, loose, nothing, parens, squares, token}
 use Rattle.snl_item_laws.proofs.Prefixes.{count_more, last_more, opened_before, opened_now}
+use Rattle.std.proofs.Math.Bool.{and-false}
 
 abbrev pub marks_ahead : List NumberedKind → List Mark
 marks_ahead k = map (λ s. mark_of_kind s.0) k
@@ -31,10 +32,6 @@ pub record At (first : Mark) (tail : List Mark) (b : ℕ) (o : Bool) (last : Mar
 
 abbrev one_if : Bool → ℕ
 one_if b = cond b 1 0
-
-and_false : (b : Bool) → b && false ≡ false
-and_false true = refl
-and_false false = refl
 
 plainly : (first : Mark) (tail : List Mark) (x : Mark) → is_plain first ≡ true → ends_by first tail x ≡ plain_ends (level (first ∷ tail)) (last_of first tail) (has_body first tail) x
 plainly mark.Ss tail x p = absurd (false≢true p)
@@ -79,7 +76,7 @@ module _ (first : Mark) where
         let zc : one_if (is_close x) ≡ 0 = ap one_if not_close in
         record {
           balance = omega (arith, counted is_open x, counted is_close x, at.balance, zo, zc);
-          opened = opened_before first tail x (ap (λ t. level (first ∷ tail) && t) not_open ∙ and_false (level (first ∷ tail))) ∙ at.opened;
+          opened = opened_before first tail x (ap (λ t. level (first ∷ tail) && t) not_open ∙ and-false (level (first ∷ tail))) ∙ at.opened;
           last_is = last_more first tail x;
         }
 

@@ -15,9 +15,9 @@ abbrev pub Setting : Type 0
 Setting = taken_by (before [])
 
 -- a name in an expression
-abbrev pub Named : Type 0
-Named = listed_by (names_in_tails None)
+abbrev pub ExpressionName : Type 0
+ExpressionName = listed_by (names_in_tails None)
 
 -- where a statement is
-abbrev pub Place : Type 0
-Place = taken_by in_loop
+abbrev pub Context : Type 0
+Context = taken_by in_loop

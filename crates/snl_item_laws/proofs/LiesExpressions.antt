@@ -6,7 +6,7 @@ use Rattle.snl_syntax.specs.declared.tree.expression.Expr.{Expr}
 use Rattle.snl_syntax.specs.declared.tree.expression.Prefix.{Prefix}
 use Rattle.snl_syntax.specs.declared.tree.expression.Suffix.{Suffix}
 use Rattle.snl_syntax.specs.declared.tree.types.TypeName.{TypeName}
-use Rattle.snl_syntax.specs.Operators.{assignment_mark, binary_mark, sign_mark}
+use Rattle.snl_syntax.specs.Operators.{assignment_kind, binary_kind, sign_kind}
 use Rattle.snl_syntax.specs.Tokens.{NumberedKind}
 use Rattle.snl_syntax.specs.Grammar.Base.{Each, Leaf, Within}
 use Rattle.snl_syntax.specs.Grammar.Expressions.{AreCommas, AreOperators, AreTexts, IsAfterComma, IsArm, IsAssignx, IsConditional, IsExpr, IsLink, IsOperator, IsPostfix, IsPrefix, IsPrimary, IsSequence, IsSingle, IsSuffix, IsTarget, IsTier, alone, arrow, assignment, bare, call, cast, chain, character, choice, decrement, floating, group, increment, integer, is_sizeof, member, name, one as one_alone, prefixed, several, sign, sizeof, sizeof_type, subscript, suffixed, texts, value}
@@ -73,7 +73,7 @@ module _ (inside : Bool) (d : ℕ) (Inner : Expr → List NumberedKind → List 
   postfix t k rest (suffixed x s ss mid is h hs) = lies_then (primary x k mid h) (each_lie inside (IsSuffix Inner) (suc d) suffix (s ∷ ss) mid rest hs)
 
   operator : (after : Bool) (t : Prefix) (k rest : List NumberedKind) → IsOperator Names after t k rest → Lies inside (suc d) k rest
-  operator after t k rest (sign op is w) = one (sign_mark op) (sign_calm op) w
+  operator after t k rest (sign op is w) = one (sign_kind op) (sign_calm op) w
   operator after t k rest (sizeof is w) = one kind.Sizeof refl w
   operator after t k rest (cast x m1 m2 free is o h c) = parens o (held inside d m1 m2 (names x m1 m2 h)) c (nothing refl)
 
@@ -90,7 +90,7 @@ module _ (inside : Bool) (d : ℕ) (Inner : Expr → List NumberedKind → List 
   tier (suc n) t k rest (alone h) = tier n t k rest h
   tier (suc n) t k rest (chain x link links mid is h hs) =
       lies_then (tier n x k mid h)
-      (each_lie inside (IsLink (suc n) (IsTier Inner Names n)) (suc d) (λ l j end i. token (binary_mark l.0) (binary_calm l.0) i.operator (tier n l.1 i.mid end i.operand)) (link ∷ links) mid rest hs)
+      (each_lie inside (IsLink (suc n) (IsTier Inner Names n)) (suc d) (λ l j end i. token (binary_kind l.0) (binary_calm l.0) i.operator (tier n l.1 i.mid end i.operand)) (link ∷ links) mid rest hs)
 
   arm : (t : Expr × Expr) (k rest : List NumberedKind) → IsArm Inner (IsTier Inner Names 10) t k rest → Lies inside (suc d) k rest
   arm t k rest h =
@@ -101,7 +101,7 @@ module _ (inside : Bool) (d : ℕ) (Inner : Expr → List NumberedKind → List 
   conditional t k rest (choice x a more mid is h hs) = lies_then (tier 10 x k mid h) (each_lie inside (IsArm Inner (IsTier Inner Names 10)) (suc d) arm (a ∷ more) mid rest hs)
 
   target : (t : Expr × Assignment) (k rest : List NumberedKind) → IsTarget Inner Names t k rest → Lies inside (suc d) k rest
-  target t k rest h = lies_then (prefix t.0 k h.mid h.operand) (one (assignment_mark t.1) (assignment_calm t.1) h.operator)
+  target t k rest h = lies_then (prefix t.0 k h.mid h.operand) (one (assignment_kind t.1) (assignment_calm t.1) h.operator)
 
   single : (t : Expr) (k rest : List NumberedKind) → IsSingle Inner Names t k rest → Lies inside (suc d) k rest
   single t k rest (value h) = conditional t k rest h

@@ -19,7 +19,7 @@ use Rattle.snl_syntax.specs.declared.tree.state.Transition.{Transition}
 use Rattle.snl_syntax.specs.declared.tree.statement.Member.{Member}
 use Rattle.snl_syntax.specs.Tokens.{NumberedKind}
 use Rattle.snl_syntax.specs.Grammar.Base.{Each, First, Leaf}
-use Rattle.snl_syntax.specs.Grammar.Clauses.{AreForeign, IsChannel, IsClause, IsFlag, IsOptionLine, IsSubscript, anonymous, assign, element, elements, monitor, option_mark, sync, syncq, syncq_word, whole}
+use Rattle.snl_syntax.specs.Grammar.Clauses.{AreForeign, IsChannel, IsClause, IsFlag, IsOptionLine, IsSubscript, anonymous, assign, element, elements, monitor, option_kind, sync, syncq, syncq_word, whole}
 use Rattle.snl_syntax.specs.Grammar.Declarations.{IsDeclaration}
 use Rattle.snl_syntax.specs.Grammar.Expressions.{AreTexts, IsExpr}
 use Rattle.snl_syntax.specs.Grammar.Functions.{AreParameters, IsBody, IsFunction, IsParameter, IsStruct, IsStructMember, c_block as struct_c_block, declaration as struct_declaration, definition, function, struct_definition}
@@ -48,7 +48,7 @@ module _ (inside : Bool) (d : ℕ) where
     semicolon = h.semicolon;
   }
 
-  sign_lies : (sign : OptionSign) (k rest : List NumberedKind) → First (option_mark sign) k rest → Lies inside (suc d) k rest
+  sign_lies : (sign : OptionSign) (k rest : List NumberedKind) → First (option_kind sign) k rest → Lies inside (suc d) k rest
   sign_lies signs.Plus k rest w = one kind.Plus refl w
   sign_lies signs.Minus k rest w = one kind.Minus refl w
 

@@ -15,13 +15,13 @@ use Rattle.snl_syntax.specs.declared.tree.types.Pointer.{Pointer}
 use Rattle.snl_syntax.specs.declared.tree.types.Pointer.TheVariants as pointers
 use Rattle.snl_syntax.specs.declared.tree.types.QualifiedType.{QualifiedType}
 use Rattle.snl_syntax.specs.declared.tree.types.TypeName.{TypeName}
-use Rattle.snl_syntax.specs.Operators.{assignment_mark, binary_mark, sign_mark}
+use Rattle.snl_syntax.specs.Operators.{assignment_kind, binary_kind, sign_kind}
 use Rattle.snl_syntax.specs.Tokens.{NumberedKind}
 use Rattle.snl_syntax.specs.Grammar.Base.{Each}
 use Rattle.snl_syntax.specs.Grammar.Types.{IsBase, IsInteger, IsPointer, IsType, IsTypeName, integer_words}
 use Rattle.snl_item_laws.proofs.Lies.{AreCalm, Lies, each_lie, fixed_lie, is_calm, leaf_lies, lies_then, one, token, written_lies}
 
-pub binary_calm : (op : Binary) → is_calm (binary_mark op) ≡ true
+pub binary_calm : (op : Binary) → is_calm (binary_kind op) ≡ true
 binary_calm binaries.Or = refl
 binary_calm binaries.And = refl
 binary_calm binaries.BitOr = refl
@@ -41,7 +41,7 @@ binary_calm binaries.Multiply = refl
 binary_calm binaries.Divide = refl
 binary_calm binaries.Remainder = refl
 
-pub assignment_calm : (op : Assignment) → is_calm (assignment_mark op) ≡ true
+pub assignment_calm : (op : Assignment) → is_calm (assignment_kind op) ≡ true
 assignment_calm assignments.Plain = refl
 assignment_calm assignments.Add = refl
 assignment_calm assignments.Subtract = refl
@@ -54,7 +54,7 @@ assignment_calm assignments.BitXor = refl
 assignment_calm assignments.ShiftLeft = refl
 assignment_calm assignments.ShiftRight = refl
 
-pub sign_calm : (op : Sign) → is_calm (sign_mark op) ≡ true
+pub sign_calm : (op : Sign) → is_calm (sign_kind op) ≡ true
 sign_calm signs.Plus = refl
 sign_calm signs.Minus = refl
 sign_calm signs.Not = refl

@@ -13,7 +13,7 @@ use Rattle.snl_syntax.specs.declared.tree.expression.Expr.TheOpen.{Expr-F, Suffi
 use Rattle.snl_syntax.specs.declared.tree.expression.Expr.TheFolds.{fold-roll-Expr, fold-roll-Suffix, ind-Expr, map-Expr, map-Suffix}
 use Rattle.snl_syntax.specs.declared.tree.expression.Expr.TheViews.{roll-Expr, roll-Suffix}
 use Rattle.snl_syntax.specs.declared.tree.expression.Suffix.{Suffix}
-use Rattle.snl_syntax.specs.Operators.{assignment_mark, binary_mark}
+use Rattle.snl_syntax.specs.Operators.{assignment_kind, binary_kind}
 use Rattle.snl_syntax.specs.Spelling.Base.{Spelled, after, commas, joined, perhaps}
 use Rattle.snl_syntax.specs.Spelling.Declarations.{spell_init, spell_init_step, spell_length, spell_value}
 use Rattle.snl_syntax.specs.Spelling.Expressions.{spell_arm, spell_expr, spell_expr_step, spell_link, spell_suffix, spell_suffix_step, spell_target}
@@ -23,18 +23,18 @@ use Rattle.snl_walk.specs.declared.occurrence.What.{What}
 use Rattle.snl_walk.specs.declared.occurrence.What.TheVariants as what
 use Rattle.snl_walk.specs.Expressions.{Operand, Tail, before, expr_step, init_step, names_if, names_in_all, names_in_arguments, names_in_arms, names_in_init, names_in_links, names_in_tails, names_in_targets, names_in_value, names_in_values, operand, plain, suffix_step, tail_of}
 use Rattle.snl_walk.specs.Scopes.{Names, seen}
-use Rattle.snl_item_laws.proofs.Inner.{Named, Setting}
+use Rattle.snl_item_laws.proofs.Inner.{ExpressionName, Setting}
 use Rattle.snl_item_laws.proofs.Told.{AreTold, Case, Sort, a_change, a_jump, a_name, a_target, hidden, jump_here, lead_here, name_here, none, passed, quiet, stay_here, target_here, told-append, told_after, told_before, told_in_braces, told_in_brackets, told_in_parens, told_joined, told_then}
 use Rattle.snl_item_laws.proofs.ToldTypes.{assignment_quiet, binary_quiet, silent_leaf, silent_prefixes, silent_texts, silent_type_name, silent_word, silent_written}
 
-abbrev name_at : Named → ℕ
+abbrev name_at : ExpressionName → ℕ
 name_at n = n.token
 
-abbrev sort_of_name : Named → Sort
+abbrev sort_of_name : ExpressionName → Sort
 sort_of_name n = a_name
 
 module _ (has : Case → Type 0) where
-  abbrev NamesTold : List Named → List Spelled → Type 0
+  abbrev NamesTold : List ExpressionName → List Spelled → Type 0
   NamesTold = AreTold name_at sort_of_name has
 
   -- in whatever setting it is
@@ -83,7 +83,7 @@ module _ (has : Case → Type 0) where
       NamesTold (names_in_links (map (λ (link : Binary × Expr). (link.0, operand link.1)) (map (λ (link : Binary × KnownExpr). (link.0, link.1.0)) links)))
       (joined (map spell_link (map (λ (link : Binary × Expr). (link.0, spell_expr link.1)) (map (λ (link : Binary × KnownExpr). (link.0, link.1.0)) links))))
   links_told [] = none
-  links_told (link ∷ links) = told-append (quiet (binary_mark link.0) None (binary_quiet link.0) (link.1.1 plain)) (links_told links)
+  links_told (link ∷ links) = told-append (quiet (binary_kind link.0) None (binary_quiet link.0) (link.1.1 plain)) (links_told links)
 
   arms_told : (arms : List (KnownExpr × KnownExpr)) →
       NamesTold (names_in_arms (map (λ (arm : Expr × Expr). (operand arm.0, operand arm.1)) (map (λ (arm : KnownExpr × KnownExpr). (arm.0.0, arm.1.0)) arms)))
@@ -95,7 +95,7 @@ module _ (has : Case → Type 0) where
       NamesTold (names_in_targets (map (λ (target : Expr × Assignment). (operand target.0, target.1)) (map (λ (target : KnownExpr × Assignment). (target.0.0, target.1)) targets)))
       (joined (map spell_target (map (λ (target : Expr × Assignment). (spell_expr target.0, target.1)) (map (λ (target : KnownExpr × Assignment). (target.0.0, target.1)) targets))))
   targets_told [] = none
-  targets_told (target ∷ targets) = told-append (told_before (assignment_mark target.1) (assignment_quiet target.1) (target.0.1 plain)) (targets_told targets)
+  targets_told (target ∷ targets) = told-append (told_before (assignment_kind target.1) (assignment_quiet target.1) (target.0.1 plain)) (targets_told targets)
 
   -- one level, where it is known of each part
   abbrev level_of_expr : Expr-F KnownExpr KnownSuffix → Expr-F Expr Suffix
@@ -179,7 +179,7 @@ module _ (has : Case → Type 0) where
   abbrev level_of_init : Init-F KnownInit → Init-F Init
   level_of_init y = map-Init KnownInit Init init_of y
 
-  init_level : (y : Init-F KnownInit) → NamesTold (init_step (map-Init Init (List Named) names_in_init (level_of_init y))) (spell_init_step (map-Init Init (List Spelled) spell_init (level_of_init y)))
+  init_level : (y : Init-F KnownInit) → NamesTold (init_step (map-Init Init (List ExpressionName) names_in_init (level_of_init y))) (spell_init_step (map-Init Init (List Spelled) spell_init (level_of_init y)))
   init_level (Init-F.Value e) = expr_told e
   init_level (Init-F.List vs trailing) = told_in_braces (told_then (values_told vs) (silent_written kind.Comma trailing refl))
 
@@ -187,8 +187,8 @@ module _ (has : Case → Type 0) where
   rolled_init x y is =
       let z = level_of_init y in
       let at_z : ToldOfInit (roll-Init z) =
-      subst (λ (ns : List Named). NamesTold ns (spell_init (roll-Init z))) (sym (fold-roll-Init (List Named) init_step z))
-      (subst (NamesTold (init_step (map-Init Init (List Named) names_in_init z))) (sym (fold-roll-Init (List Spelled) spell_init_step z)) (init_level y)) in
+      subst (λ (ns : List ExpressionName). NamesTold ns (spell_init (roll-Init z))) (sym (fold-roll-Init (List ExpressionName) init_step z))
+      (subst (NamesTold (init_step (map-Init Init (List ExpressionName) names_in_init z))) (sym (fold-roll-Init (List Spelled) spell_init_step z)) (init_level y)) in
       subst (λ v. ToldOfInit (roll-Init v)) is at_z
 
   value_told : (v : Option Init) → NamesTold (names_in_value v) (perhaps spell_value v)
@@ -215,7 +215,7 @@ module _ (has : Case → Type 0) where
   FoundTold = AreTold found_at found_sort has
 
   module _ (bytes : ℕ → List ℕ) (visible : Names) (in_condition : Bool) where
-    seen_told : {ns : List Named} {xs : List Spelled} → AreTold name_at sort_of_name has ns xs → FoundTold (map (seen bytes visible in_condition) ns) xs
+    seen_told : {ns : List ExpressionName} {xs : List Spelled} → AreTold name_at sort_of_name has ns xs → FoundTold (map (seen bytes visible in_condition) ns) xs
     seen_told none = none
     seen_told (quiet k o q l) = quiet k o q (seen_told l)
     seen_told (hidden k n h e j s l) = hidden k n h e j s (seen_told l)

@@ -18,7 +18,7 @@ use Rattle.snl_walk.specs.declared.occurrence.What.TheVariants as what
 use Rattle.snl_walk.specs.Declares.{is_event_flag}
 use Rattle.snl_walk.specs.Scopes.{Names, under_names}
 use Rattle.snl_walk.specs.Statements.{Content, Found, change, content_of, contents_of, declaration_at, declared_by_contents, found_in_block, found_in_branches, found_in_contents, found_in_declaration, found_in_declarator, found_in_expr, found_in_head, found_in_stmt, in_loop, is_wrong_flag, jump, member_step, stmt_step}
-use Rattle.snl_item_laws.proofs.Inner.{Place}
+use Rattle.snl_item_laws.proofs.Inner.{Context}
 use Rattle.snl_item_laws.proofs.Told.{Case, leading, staying, jump_here, lead_here, name_here, none, quiet, stay_here, told-append, told_after, told_before, told_between, told_in_braces, told_in_parens}
 use Rattle.snl_item_laws.proofs.ToldExpressions.{FoundTold, seen_if, seen_in_expr, seen_in_lengths, seen_in_value}
 use Rattle.snl_item_laws.proofs.ToldTypes.{silent_leaf, silent_stars, silent_type, silent_word}
@@ -53,21 +53,21 @@ module _ (bytes : ℕ → List ℕ) where
   abbrev target_at : ℕ → Occurrence
   target_at n = record { token = n; what = what.Target; means = None }
 
-  abbrev ToldAt : Place → List Occurrence → List Spelled → Type 0
-  ToldAt place = FoundTold (Leads place.in_transition)
+  abbrev ToldAt : Context → List Occurrence → List Spelled → Type 0
+  ToldAt context = FoundTold (Leads context.in_transition)
 
-  change_told : (word_at name : ℕ) (place : Place) → ToldAt place (change word_at name place) (leaf kind.State word_at ++ leaf kind.Name name ++ word kind.Semicolon)
-  change_told word_at name place = by place.in_transition
+  change_told : (word_at name : ℕ) (context : Context) → ToldAt context (change word_at name context) (leaf kind.State word_at ++ leaf kind.Name name ++ word kind.Semicolon)
+  change_told word_at name context = by context.in_transition
     where
       by : (b : Bool) → FoundTold (Leads b) (changed word_at b ∷ cond b (target_at name ∷ []) []) (leaf kind.State word_at ++ leaf kind.Name name ++ word kind.Semicolon)
       by true = lead_here (changed word_at true) (target_at name) tt refl refl (silent_word kind.Semicolon refl)
       by false = stay_here (changed word_at false) name tt refl (silent_word kind.Semicolon refl)
 
   abbrev ToldOfStmt : Stmt → Type 0
-  ToldOfStmt s = (visible : Names) (place : Place) → ToldAt place (found_in_stmt bytes s visible place) (spell_stmt s)
+  ToldOfStmt s = (visible : Names) (context : Context) → ToldAt context (found_in_stmt bytes s visible context) (spell_stmt s)
 
   abbrev ToldOfMember : Member → Type 0
-  ToldOfMember m = (visible : Names) (place : Place) → ToldAt place ((content_of bytes m).found visible place) (spell_member m)
+  ToldOfMember m = (visible : Names) (context : Context) → ToldAt context ((content_of bytes m).found visible context) (spell_member m)
 
   -- statements and members of which it is known
   abbrev KnownStmt : Type 0
@@ -82,10 +82,10 @@ module _ (bytes : ℕ → List ℕ) where
   abbrev member_of : KnownMember → Member
   member_of k = k.0
 
-  contents_told : (ms : List KnownMember) (visible : Names) (place : Place) →
-      ToldAt place (found_in_contents (map (content_of bytes) (map member_of ms)) visible place) (joined (map spell_member (map member_of ms)))
-  contents_told [] visible place = none
-  contents_told (m ∷ ms) visible place = told-append (m.1 visible place) (contents_told ms visible place)
+  contents_told : (ms : List KnownMember) (visible : Names) (context : Context) →
+      ToldAt context (found_in_contents (map (content_of bytes) (map member_of ms)) visible context) (joined (map spell_member (map member_of ms)))
+  contents_told [] visible context = none
+  contents_told (m ∷ ms) visible context = told-append (m.1 visible context) (contents_told ms visible context)
 
   -- the arms of an `if`
   abbrev KnownArm : Type 0
@@ -103,31 +103,31 @@ module _ (bytes : ℕ → List ℕ) where
   abbrev spelled_arms : List (Expr × Stmt) → List (List Spelled)
   spelled_arms arms = map spell_choice (map spelled_arm arms)
 
-  module _ (visible : Names) (place : Place) where
+  module _ (visible : Names) (context : Context) where
     abbrev found_in_arm : KnownArm → List Occurrence
-    found_in_arm arm = found_in_expr bytes visible arm.0 ++ found_in_stmt bytes arm.1.0 visible place
+    found_in_arm arm = found_in_expr bytes visible arm.0 ++ found_in_stmt bytes arm.1.0 visible context
 
     abbrev spell_arm : KnownArm → List Spelled
     spell_arm arm = spell_choice (spelled_arm (arm.0, arm.1.0))
 
-    arm_told : (arm : KnownArm) → ToldAt place (found_in_arm arm) (spell_arm arm)
-    arm_told arm = told-append (quiet kind.If None refl (told_in_parens (seen_in_expr (Leads place.in_transition) bytes visible false arm.0))) (arm.1.1 visible place)
+    arm_told : (arm : KnownArm) → ToldAt context (found_in_arm arm) (spell_arm arm)
+    arm_told arm = told-append (quiet kind.If None refl (told_in_parens (seen_in_expr (Leads context.in_transition) bytes visible false arm.0))) (arm.1.1 visible context)
 
-    module _ (last : Option Found) (ys : List Spelled) (l : ToldAt place (found_in_branches bytes [] last visible place) ys) where
+    module _ (last : Option Found) (ys : List Spelled) (l : ToldAt context (found_in_branches bytes [] last visible context) ys) where
       abbrev found_after : List KnownArm → List Occurrence
-      found_after arms = found_in_branches bytes (found_arms (arms_of arms)) last visible place
+      found_after arms = found_in_branches bytes (found_arms (arms_of arms)) last visible context
 
-      arms_after : (arms : List KnownArm) → ToldAt place (found_after arms) (after kind.Else (spelled_arms (arms_of arms)) ++ ys)
+      arms_after : (arms : List KnownArm) → ToldAt context (found_after arms) (after kind.Else (spelled_arms (arms_of arms)) ++ ys)
       arms_after [] = l
       arms_after (arm ∷ arms) =
           let rest = after kind.Else (spelled_arms (arms_of arms)) in
-          quiet kind.Else None refl (subst (ToldAt place (found_in_arm arm ++ found_after arms)) (sym (append_assoc (spell_arm arm) rest ys)) (told-append (arm_told arm) (arms_after arms)))
+          quiet kind.Else None refl (subst (ToldAt context (found_in_arm arm ++ found_after arms)) (sym (append_assoc (spell_arm arm) rest ys)) (told-append (arm_told arm) (arms_after arms)))
 
-      arms_told : (arms : List KnownArm) → ToldAt place (found_after arms) (between kind.Else (spelled_arms (arms_of arms)) ++ ys)
+      arms_told : (arms : List KnownArm) → ToldAt context (found_after arms) (between kind.Else (spelled_arms (arms_of arms)) ++ ys)
       arms_told [] = l
       arms_told (arm ∷ arms) =
           let rest = after kind.Else (spelled_arms (arms_of arms)) in
-          subst (ToldAt place (found_in_arm arm ++ found_after arms)) (sym (append_assoc (spell_arm arm) rest ys)) (told-append (arm_told arm) (arms_after arms))
+          subst (ToldAt context (found_in_arm arm ++ found_after arms)) (sym (append_assoc (spell_arm arm) rest ys)) (told-append (arm_told arm) (arms_after arms))
 
   -- one level, where it is known of each part
   abbrev level_of_stmt : Stmt-F KnownMember KnownStmt → Stmt-F Member Stmt
@@ -136,53 +136,53 @@ module _ (bytes : ℕ → List ℕ) where
   abbrev level_of_member : Member-F KnownMember KnownStmt → Member-F Member Stmt
   level_of_member y = map-Member KnownMember KnownStmt Member Stmt member_of stmt_of y
 
-  stmt_level : (y : Stmt-F KnownMember KnownStmt) (visible : Names) (place : Place) →
-      ToldAt place (stmt_step bytes (map-Stmt Member Stmt Content Found (content_of bytes) (found_in_stmt bytes) (level_of_stmt y)) visible place)
+  stmt_level : (y : Stmt-F KnownMember KnownStmt) (visible : Names) (context : Context) →
+      ToldAt context (stmt_step bytes (map-Stmt Member Stmt Content Found (content_of bytes) (found_in_stmt bytes) (level_of_stmt y)) visible context)
       (spell_stmt_step (map-Stmt Member Stmt (List Spelled) (List Spelled) spell_member spell_stmt (level_of_stmt y)))
-  stmt_level Stmt-F.Empty visible place = silent_word kind.Semicolon refl
-  stmt_level (Stmt-F.Expr e) visible place = told_before kind.Semicolon refl (seen_in_expr (Leads place.in_transition) bytes visible false e)
-  stmt_level (Stmt-F.Block ms) visible place =
-      told_in_braces (contents_told ms (under_names bytes (declared_by_contents (map (content_of bytes) (map member_of ms))) ++ visible) place)
-  stmt_level (Stmt-F.CCode n) visible place = silent_leaf kind.CCode n refl
-  stmt_level (Stmt-F.If arms None) visible place = arms_told visible place None [] none arms
-  stmt_level (Stmt-F.If arms (Some last)) visible place =
-      arms_told visible place (Some (found_in_stmt bytes last.0)) (spell_else (spell_stmt last.0)) (quiet kind.Else None refl (last.1 visible place)) arms
-  stmt_level (Stmt-F.While e body) visible place =
-      told-append (quiet kind.While None refl (told_in_parens (seen_in_expr (Leads place.in_transition) bytes visible false e))) (body.1 visible (in_loop place))
-  stmt_level (Stmt-F.For head body) visible place = told-append (quiet kind.For None refl (head_told (Leads place.in_transition) visible head)) (body.1 visible (in_loop place))
-  stmt_level (Stmt-F.Break n) visible place = jump_here kind.Break (jump n place) refl refl refl refl refl (silent_word kind.Semicolon refl)
-  stmt_level (Stmt-F.Continue n) visible place = jump_here kind.Continue (jump n place) refl refl refl refl refl (silent_word kind.Semicolon refl)
-  stmt_level (Stmt-F.Return value) visible place = told_before kind.Semicolon refl (quiet kind.Return None refl (seen_if (Leads place.in_transition) bytes visible false value))
-  stmt_level (Stmt-F.State n name) visible place = change_told n name place
+  stmt_level Stmt-F.Empty visible context = silent_word kind.Semicolon refl
+  stmt_level (Stmt-F.Expr e) visible context = told_before kind.Semicolon refl (seen_in_expr (Leads context.in_transition) bytes visible false e)
+  stmt_level (Stmt-F.Block ms) visible context =
+      told_in_braces (contents_told ms (under_names bytes (declared_by_contents (map (content_of bytes) (map member_of ms))) ++ visible) context)
+  stmt_level (Stmt-F.CCode n) visible context = silent_leaf kind.CCode n refl
+  stmt_level (Stmt-F.If arms None) visible context = arms_told visible context None [] none arms
+  stmt_level (Stmt-F.If arms (Some last)) visible context =
+      arms_told visible context (Some (found_in_stmt bytes last.0)) (spell_else (spell_stmt last.0)) (quiet kind.Else None refl (last.1 visible context)) arms
+  stmt_level (Stmt-F.While e body) visible context =
+      told-append (quiet kind.While None refl (told_in_parens (seen_in_expr (Leads context.in_transition) bytes visible false e))) (body.1 visible (in_loop context))
+  stmt_level (Stmt-F.For head body) visible context = told-append (quiet kind.For None refl (head_told (Leads context.in_transition) visible head)) (body.1 visible (in_loop context))
+  stmt_level (Stmt-F.Break n) visible context = jump_here kind.Break (jump n context) refl refl refl refl refl (silent_word kind.Semicolon refl)
+  stmt_level (Stmt-F.Continue n) visible context = jump_here kind.Continue (jump n context) refl refl refl refl refl (silent_word kind.Semicolon refl)
+  stmt_level (Stmt-F.Return value) visible context = told_before kind.Semicolon refl (quiet kind.Return None refl (seen_if (Leads context.in_transition) bytes visible false value))
+  stmt_level (Stmt-F.State n name) visible context = change_told n name context
 
-  member_level : (y : Member-F KnownMember KnownStmt) (visible : Names) (place : Place) →
-      ToldAt place ((member_step bytes (map-Member Member Stmt Content Found (content_of bytes) (found_in_stmt bytes) (level_of_member y))).found visible place)
+  member_level : (y : Member-F KnownMember KnownStmt) (visible : Names) (context : Context) →
+      ToldAt context ((member_step bytes (map-Member Member Stmt Content Found (content_of bytes) (found_in_stmt bytes) (level_of_member y))).found visible context)
       (spell_member_step (map-Member Member Stmt (List Spelled) (List Spelled) spell_member spell_stmt (level_of_member y)))
-  member_level (Member-F.Declaration d) visible place = declaration_told (Leads place.in_transition) visible true d
-  member_level (Member-F.Statement s) visible place = s.1 visible place
+  member_level (Member-F.Declaration d) visible context = declaration_told (Leads context.in_transition) visible true d
+  member_level (Member-F.Statement s) visible context = s.1 visible context
 
   rolled_stmt : (x : Stmt-F Member Stmt) (y : Stmt-F KnownMember KnownStmt) → level_of_stmt y ≡ x → ToldOfStmt (roll-Stmt x)
   rolled_stmt x y is =
       let z = level_of_stmt y in
-      let at_z : ToldOfStmt (roll-Stmt z) = λ visible place.
-      subst (λ (f : Found). ToldAt place (f visible place) (spell_stmt (roll-Stmt z))) (sym (fold-roll-Stmt Content Found (member_step bytes) (stmt_step bytes) z))
-      (subst (ToldAt place (stmt_step bytes (map-Stmt Member Stmt Content Found (content_of bytes) (found_in_stmt bytes) z) visible place)) (sym (fold-roll-Stmt (List Spelled) (List Spelled) spell_member_step spell_stmt_step z)) (stmt_level y visible place)) in
+      let at_z : ToldOfStmt (roll-Stmt z) = λ visible context.
+      subst (λ (f : Found). ToldAt context (f visible context) (spell_stmt (roll-Stmt z))) (sym (fold-roll-Stmt Content Found (member_step bytes) (stmt_step bytes) z))
+      (subst (ToldAt context (stmt_step bytes (map-Stmt Member Stmt Content Found (content_of bytes) (found_in_stmt bytes) z) visible context)) (sym (fold-roll-Stmt (List Spelled) (List Spelled) spell_member_step spell_stmt_step z)) (stmt_level y visible context)) in
       subst (λ v. ToldOfStmt (roll-Stmt v)) is at_z
 
   rolled_member : (x : Member-F Member Stmt) (y : Member-F KnownMember KnownStmt) → level_of_member y ≡ x → ToldOfMember (roll-Member x)
   rolled_member x y is =
       let z = level_of_member y in
-      let at_z : ToldOfMember (roll-Member z) = λ visible place.
-      subst (λ (c : Content). ToldAt place (c.found visible place) (spell_member (roll-Member z))) (sym (fold-roll-Member Content Found (member_step bytes) (stmt_step bytes) z))
-      (subst (ToldAt place ((member_step bytes (map-Member Member Stmt Content Found (content_of bytes) (found_in_stmt bytes) z)).found visible place)) (sym (fold-roll-Member (List Spelled) (List Spelled) spell_member_step spell_stmt_step z)) (member_level y visible place)) in
+      let at_z : ToldOfMember (roll-Member z) = λ visible context.
+      subst (λ (c : Content). ToldAt context (c.found visible context) (spell_member (roll-Member z))) (sym (fold-roll-Member Content Found (member_step bytes) (stmt_step bytes) z))
+      (subst (ToldAt context ((member_step bytes (map-Member Member Stmt Content Found (content_of bytes) (found_in_stmt bytes) z)).found visible context)) (sym (fold-roll-Member (List Spelled) (List Spelled) spell_member_step spell_stmt_step z)) (member_level y visible context)) in
       subst (λ v. ToldOfMember (roll-Member v)) is at_z
 
   member_told : (m : Member) → ToldOfMember m
   member_told = ind-Member ToldOfMember ToldOfStmt rolled_member rolled_stmt
 
-  members_told : (ms : List Member) (visible : Names) (place : Place) → ToldAt place (found_in_contents (contents_of bytes ms) visible place) (joined (map spell_member ms))
-  members_told [] visible place = none
-  members_told (m ∷ ms) visible place = told-append (member_told m visible place) (members_told ms visible place)
+  members_told : (ms : List Member) (visible : Names) (context : Context) → ToldAt context (found_in_contents (contents_of bytes ms) visible context) (joined (map spell_member ms))
+  members_told [] visible context = none
+  members_told (m ∷ ms) visible context = told-append (member_told m visible context) (members_told ms visible context)
 
-  pub block_told : (ms : List Member) (visible : Names) (place : Place) → ToldAt place (found_in_block bytes ms visible place) (spell_block ms)
-  block_told ms visible place = told_in_braces (members_told ms (under_names bytes (declared_by_contents (contents_of bytes ms)) ++ visible) place)
+  pub block_told : (ms : List Member) (visible : Names) (context : Context) → ToldAt context (found_in_block bytes ms visible context) (spell_block ms)
+  block_told ms visible context = told_in_braces (members_told ms (under_names bytes (declared_by_contents (contents_of bytes ms)) ++ visible) context)

@@ -18,13 +18,13 @@ use Rattle.snl_syntax.specs.declared.tree.types.Pointer.{Pointer}
 use Rattle.snl_syntax.specs.declared.tree.types.Pointer.TheVariants as pointers
 use Rattle.snl_syntax.specs.declared.tree.types.QualifiedType.{QualifiedType}
 use Rattle.snl_syntax.specs.declared.tree.types.TypeName.{TypeName}
-use Rattle.snl_syntax.specs.Operators.{assignment_mark, binary_mark, sign_mark}
+use Rattle.snl_syntax.specs.Operators.{assignment_kind, binary_kind, sign_kind}
 use Rattle.snl_syntax.specs.Spelling.Base.{joined, leaf, word, written}
 use Rattle.snl_syntax.specs.Spelling.Expressions.{spell_prefix, spell_texts}
 use Rattle.snl_syntax.specs.Spelling.Types.{spell_base, spell_integer, spell_pointer, spell_stars, spell_type, spell_type_name}
 use Rattle.snl_item_laws.proofs.Told.{AreTold, Case, Sort, hidden, is_quiet, none, quiet, silent_joined, told_after, told_in_parens}
 
-pub binary_quiet : (op : Binary) → is_quiet (binary_mark op) ≡ true
+pub binary_quiet : (op : Binary) → is_quiet (binary_kind op) ≡ true
 binary_quiet binaries.Or = refl
 binary_quiet binaries.And = refl
 binary_quiet binaries.BitOr = refl
@@ -44,7 +44,7 @@ binary_quiet binaries.Multiply = refl
 binary_quiet binaries.Divide = refl
 binary_quiet binaries.Remainder = refl
 
-pub assignment_quiet : (op : Assignment) → is_quiet (assignment_mark op) ≡ true
+pub assignment_quiet : (op : Assignment) → is_quiet (assignment_kind op) ≡ true
 assignment_quiet assignments.Plain = refl
 assignment_quiet assignments.Add = refl
 assignment_quiet assignments.Subtract = refl
@@ -57,7 +57,7 @@ assignment_quiet assignments.BitXor = refl
 assignment_quiet assignments.ShiftLeft = refl
 assignment_quiet assignments.ShiftRight = refl
 
-sign_quiet : (op : Sign) → is_quiet (sign_mark op) ≡ true
+sign_quiet : (op : Sign) → is_quiet (sign_kind op) ≡ true
 sign_quiet signs.Plus = refl
 sign_quiet signs.Minus = refl
 sign_quiet signs.Not = refl
@@ -123,7 +123,7 @@ module _ {A : Type 0} {at : A → ℕ} {sort : A → Sort} {has : Case → Type 
   silent_texts ns = silent_joined (leaf kind.Text) (λ n. silent_leaf kind.Text n refl) ns
 
   silent_prefix : (p : Prefix) → AreTold at sort has [] (spell_prefix p)
-  silent_prefix (prefixes.Sign op) = silent_word (sign_mark op) (sign_quiet op)
+  silent_prefix (prefixes.Sign op) = silent_word (sign_kind op) (sign_quiet op)
   silent_prefix prefixes.Sizeof = silent_word kind.Sizeof refl
   silent_prefix (prefixes.Cast t) = told_in_parens (silent_type_name t)
 

@@ -1,25 +1,14 @@
 -- How many tokens end before a place and begin before it, by how many pieces do.
 use Rattle.std.proofs.Common.{◌≡◌, ℕ, zero, suc, ◌-◌, ◌<◌, ◌≤◌, inl, inr, Bool, true, false, cond, nat_lt, List, [], ◌∷◌, length, map, filter, count_by, take, refl, sym, ap, ◌∙◌, arith}
 use Rattle.std.proofs.lemmas.Bool.Decides.{nat_tests}
-use Rattle.std.proofs.lemmas.Bool.{cases_lt}
+use Rattle.std.proofs.lemmas.Bool.{cases_lt, lt-ltb, le-ltb}
 use Rattle.std.proofs.lemmas.List.Sums.{length-filter}
 use Rattle.snl_cut.specs.Cut.{Rises, ends_below, last_end}
 use Rattle.snl_lex.specs.declared.piece.Class.{Class}
 use Rattle.snl_lex.specs.declared.piece.Piece.{Piece}
 use Rattle.snl_lex.specs.PieceList.{is_token_class, listed_pieces}
 use Rattle.snl_lex.specs.Pieces.{is_token, piece_end}
-
-pub is_below : (m n : ℕ) → m < n → nat_lt m n ≡ true
-is_below m n h = grind (arith, nat_tests)
-
-pub not_below : (m n : ℕ) → n ≤ m → nat_lt m n ≡ false
-not_below m n h = grind (arith, nat_tests)
-
-pub below_yes : (e place : ℕ) (es : List ℕ) → e < place → ends_below place (e ∷ es) ≡ suc (ends_below place es)
-below_yes e place es h = ap (λ (t : Bool). cond t (suc (ends_below place es)) 0) (is_below e place h)
-
-pub below_no : (e place : ℕ) (es : List ℕ) → place ≤ e → ends_below place (e ∷ es) ≡ 0
-below_no e place es h = ap (λ (t : Bool). cond t (suc (ends_below place es)) 0) (not_below e place h)
+use Rattle.snl_cut.specs.CutLaws.{below_yes, below_no}
 
 -- A piece that doesn't pass, and one that does, if it is a token.
 none_of : (f : Piece → Bool) (t u : Bool) (p : Piece) (ps : List Piece) → f p ≡ u → u ≡ false → length (filter f (cond t (p ∷ ps) ps)) ≡ length (filter f ps)
@@ -34,7 +23,7 @@ one_of f false u p ps qs e holds same = same
 none_ending : (place from : ℕ) (ps : List Piece) → Rises from (map piece_end ps) → place ≤ from → length (filter (λ p. nat_lt (piece_end p) place) (filter is_token ps)) ≡ 0
 none_ending place from [] r le = refl
 none_ending place from (p ∷ ps) r le =
-    none_of (λ q. nat_lt (piece_end q) place) (is_token p) (nat_lt (piece_end p) place) p (filter is_token ps) refl (not_below (piece_end p) place (omega (arith, r.0)))
+    none_of (λ q. nat_lt (piece_end q) place) (is_token p) (nat_lt (piece_end p) place) p (filter is_token ps) refl (le-ltb (piece_end p) place (omega (arith, r.0)))
     ∙ none_ending place (piece_end p) ps r.1 (omega (arith, r.0))
 
 ending_length : (place from : ℕ) (ps : List Piece) → Rises from (map piece_end ps)
@@ -43,10 +32,10 @@ ending_length place from [] r = refl
 ending_length place from (p ∷ ps) r =
     elim (cases_lt (piece_end p) place) [
       | inl less ↦
-          one_of (λ q. nat_lt (piece_end q) place) (is_token p) (nat_lt (piece_end p) place) p (filter is_token ps) (filter is_token (take (ends_below place (map piece_end ps)) ps)) refl (is_below (piece_end p) place less) (ending_length place (piece_end p) ps r.1)
+          one_of (λ q. nat_lt (piece_end q) place) (is_token p) (nat_lt (piece_end p) place) p (filter is_token ps) (filter is_token (take (ends_below place (map piece_end ps)) ps)) refl (lt-ltb (piece_end p) place less) (ending_length place (piece_end p) ps r.1)
           ∙ ap (λ (n : ℕ). length (filter is_token (take n (p ∷ ps)))) (sym (below_yes (piece_end p) place (map piece_end ps) less))
       | inr more ↦
-          none_of (λ q. nat_lt (piece_end q) place) (is_token p) (nat_lt (piece_end p) place) p (filter is_token ps) refl (not_below (piece_end p) place more)
+          none_of (λ q. nat_lt (piece_end q) place) (is_token p) (nat_lt (piece_end p) place) p (filter is_token ps) refl (le-ltb (piece_end p) place more)
           ∙ none_ending place (piece_end p) ps r.1 more
           ∙ ap (λ (n : ℕ). length (filter is_token (take n (p ∷ ps)))) (sym (below_no (piece_end p) place (map piece_end ps) more))
     ]
@@ -66,7 +55,7 @@ none_beginning place from [] kinds r le = refl
 none_beginning place from (e ∷ es) [] r le = refl
 none_beginning place from (e ∷ es) (k ∷ ks) r le =
     let p : Piece = record { kind = k; start = from; len = e - from } in
-    none_of (λ q. nat_lt q.start place) (is_token p) (nat_lt from place) p (filter is_token (listed_pieces e es ks)) refl (not_below from place le)
+    none_of (λ q. nat_lt q.start place) (is_token p) (nat_lt from place) p (filter is_token (listed_pieces e es ks)) refl (le-ltb from place le)
     ∙ none_beginning place e es ks r.1 (omega (arith, r.0))
 
 beginning_length : (place from : ℕ) (ends : List ℕ) (kinds : List Class) (n : ℕ) → Rises from ends → n ≤ length ends → place ≡ last_end from (take n ends)
@@ -77,7 +66,7 @@ beginning_length place from (x ∷ ends) [] (suc n) r le e = refl
 beginning_length place from (x ∷ ends) (k ∷ kinds) (suc n) r le e =
     let p : Piece = record { kind = k; start = from; len = x - from } in
     one_of (λ q. nat_lt q.start place) (is_token p) (nat_lt from place) p (filter is_token (listed_pieces x ends kinds)) (filter is_token (take n (listed_pieces x ends kinds))) refl
-    (is_below from place (omega (arith, r.0, rises_last x ends n r.1))) (beginning_length place x ends kinds n r.1 (omega arith) e)
+    (lt-ltb from place (omega (arith, r.0, rises_last x ends n r.1))) (beginning_length place x ends kinds n r.1 (omega arith) e)
 
 -- The tokens that begin before a boundary are those among the pieces up to it.
 pub beginning : (place from : ℕ) (ends : List ℕ) (kinds : List Class) (n : ℕ) → Rises from ends → n ≤ length ends → place ≡ last_end from (take n ends)

@@ -4,17 +4,12 @@ use Rattle.std.proofs.lemmas.Bool.{cases_lt}
 use Rattle.std.proofs.lemmas.List.{get_or-drop}
 use Rattle.std.proofs.lemmas.List.Elements.{All-from_get_or}
 use Rattle.snl_cut.specs.Cut.{Rises, ends_below, last_end}
-use Rattle.snl_items.proofs.Counts.{below_no, below_yes}
 use Rattle.snl_items.proofs.Parts.{all_middle}
-
-rises_first : (from : ℕ) (ends : List ℕ) (i : ℕ) → Rises from ends → i < length ends → from < get_or ends i 0
-rises_first from [] i r lt = absurd (omega arith)
-rises_first from (e ∷ es) zero r lt = r.0
-rises_first from (e ∷ es) (suc i) r lt = omega (arith, r.0, rises_first e es i r.1 (omega arith))
+use Rattle.snl_cut.specs.CutLaws.{below_yes, below_no, rises_at}
 
 -- The ends from one number on are greater than the one before them.
 pub ends_above : (from : ℕ) (ends : List ℕ) (k i : ℕ) → Rises from ends → i < length (drop k ends) → last_end from (take k ends) < get_or (drop k ends) i 0
-ends_above from ends zero i r lt = rises_first from ends i r lt
+ends_above from ends zero i r lt = rises_at from ends i r lt
 ends_above from [] (suc k) i r lt = absurd (omega arith)
 ends_above from (e ∷ es) (suc k) i r lt = ends_above e es k i r.1 lt
 
@@ -31,18 +26,3 @@ made_within front made back all limit e h small =
 
 pub all_within : (ends : List ℕ) (limit : ℕ) → ((j : ℕ) → j < length ends → get_or ends j 0 ≤ limit) → limit < 2 ^ 32 → All (λ e. e < 2 ^ 32) ends
 all_within ends limit h small = All-from_get_or (λ e. e < 2 ^ 32) ends 0 (λ i lt. omega (arith, h i lt))
-
--- Fewer ends are below a lesser place.
-pub below_more : (low high : ℕ) (ends : List ℕ) → low ≤ high → ends_below low ends ≤ ends_below high ends
-below_more low high [] le = omega arith
-below_more low high (e ∷ es) le =
-    elim (cases_lt e low) [
-      | inl less ↦ omega (arith, below_yes e low es less, below_yes e high es (omega arith), below_more low high es le)
-      | inr more ↦ omega (arith, below_no e low es more)
-    ]
-
--- Where the item after the one with a number begins: at that one's end.
-pub last_taken : (from : ℕ) (ends : List ℕ) (n : ℕ) → n < length ends → last_end from (take (suc n) ends) ≡ get_or ends n 0
-last_taken from [] n lt = absurd (omega arith)
-last_taken from (e ∷ es) zero lt = refl
-last_taken from (e ∷ es) (suc n) lt = last_taken e es n (omega arith)

@@ -11,9 +11,9 @@ use Rattle.snl_lex.specs.declared.piece.Piece.{Piece}
 use Rattle.snl_lex.specs.PieceList.{is_token_class, listed_pieces, piece_ends, piece_kinds}
 use Rattle.snl_lex.specs.Pieces.{is_token, pieces_of, tokens_of}
 use Rattle.snl_items.specs.OwnTokens.{tokens_before}
-use Rattle.snl_items.proofs.Counts.{below_no, below_yes}
 use Rattle.snl_items.proofs.OwnParts.{dropped_tokens, first_tokens, taken_tokens}
 use Rattle.snl_items.proofs.ShiftedTokens.{begin_after}
+use Rattle.snl_cut.specs.CutLaws.{below_yes, below_no}
 
 rises_at : (from : ℕ) (ends : List ℕ) (k d : ℕ) → Rises from ends → k < length ends → from < get_or ends k d
 rises_at from [] k d r lt = absurd (omega arith)

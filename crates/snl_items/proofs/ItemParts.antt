@@ -3,25 +3,28 @@ use Rattle.std.proofs.Common.{◌≡◌, ℕ, suc, ◌+◌, ◌-◌, ◌≤◌, 
 use Rattle.std.proofs.lemmas.List.{append-nil, drop_all, length-take-le, take_all}
 use Rattle.snl_cut.specs.Cut.{IsRecut, ends_of, fresh_ends, joined, last_end, members, moved}
 use Rattle.snl_lex.specs.declared.piece.Class.{Class}
+use Rattle.snl_lex.specs.Edit.{Edit}
 use Rattle.snl_lex.specs.Pieces.{tokens_of}
 use Rattle.snl_syntax.specs.declared.marks.Mark.{Mark}
 use Rattle.snl_syntax.specs.Items.{item}
+use Rattle.snl_items.specs.declared.item_list.ItemChange.{ItemChange}
+use Rattle.snl_items.specs.declared.tokens.TokenChange.{TokenChange}
 use Rattle.snl_items.specs.declared.tokens.TokenEdit.{TokenEdit}
 use Rattle.snl_items.specs.Items.{item_ends, marks_of, spelled_items, spellings}
-use Rattle.snl_items.specs.Fresh.{fresh_items_between, replaced_alike, token_edit_between}
+use Rattle.snl_items.specs.Fresh.{fresh_items_of, replaced_alike, token_edit_of}
 use Rattle.snl_items.specs.Changes.{IsItemChange, IsTokenChange}
 use Rattle.snl_items.proofs.Alike.{alike_Decides}
-use Rattle.snl_items.proofs.EndPlaces.{below_more}
 use Rattle.snl_items.proofs.Parts.{in_parts}
 use Rattle.snl_items.proofs.TokenParts.{mark_by, marks_by}
+use Rattle.snl_cut.specs.CutLaws.{below_more, length_members}
 
 -- Which items are fresh, by whether the replaced tokens are spelled as before.
-fresh_by : (old text : List ℕ) (start b c : ℕ) (edit : TokenEdit) (t : Bool) → edit ≡ token_edit_between old text start b c → t ≡ replaced_alike old text edit
-    → (if t then [] else fresh_ends item (marks_of old) (marks_of text) edit.start edit.old_stop edit.new_stop) ≡ fresh_items_between old text start b c
-unfolding fresh_items_between
-fresh_by old text start b c edit t is_edit is_same =
-    ap (λ (u : Bool). let l : List ℕ = if u then [] else fresh_ends item (marks_of old) (marks_of text) edit.start edit.old_stop edit.new_stop in l) is_same
-    ∙ ap (λ (e : TokenEdit). let l : List ℕ = if replaced_alike old text e then [] else fresh_ends item (marks_of old) (marks_of text) e.start e.old_stop e.new_stop in l) is_edit
+fresh_by : (e : Edit) (tokens : TokenEdit) (t : Bool) → tokens ≡ token_edit_of e → t ≡ replaced_alike e tokens
+    → (if t then [] else fresh_ends item (marks_of e.old) (marks_of e.text) tokens.start tokens.old_stop tokens.new_stop) ≡ fresh_items_of e
+unfolding fresh_items_of
+fresh_by e tokens t is_edit is_same =
+    ap (λ (u : Bool). let l : List ℕ = if u then [] else fresh_ends item (marks_of e.old) (marks_of e.text) tokens.start tokens.old_stop tokens.new_stop in l) is_same
+    ∙ ap (λ (d : TokenEdit). let l : List ℕ = if replaced_alike e d then [] else fresh_ends item (marks_of e.old) (marks_of e.text) d.start d.old_stop d.new_stop in l) is_edit
 
 -- A recut of the same lists.
 pub recut_of : (olds news : List Mark) (ends : List ℕ) (a b c front : ℕ) (made : List ℕ) (back : ℕ) (olds2 news2 : List Mark) (ends2 : List ℕ) → olds ≡ olds2 → news ≡ news2 → ends ≡ ends2
@@ -31,19 +34,15 @@ recut_of olds news ends a b c front made back olds2 news2 ends2 h i j is =
     (subst (λ (l : List Mark). IsRecut item olds ends2 l a b c front made back) i
     (subst (λ (l : List ℕ). IsRecut item olds l news a b c front made back) j is))
 
-length_members : {X : Type 0} (units : List X) (from : ℕ) (ends : List ℕ) → length (members units from ends) ≡ length ends
-length_members units from [] = refl
-length_members units from (e ∷ es) = ap suc (length_members units e es)
-
-module _ (old text : List ℕ) (start b c : ℕ) (edit : TokenEdit) (made_tokens : _) (made_marks : List Mark) (t : Bool) (is : IsTokenChange old text start b c edit made_tokens made_marks t) where
-  -- Where the tokens are spelled as before, the items are the old ones.
-  module _ (alike : t ≡ true) where
-    middle : take (edit.old_stop - edit.start) (drop edit.start (spellings old)) ≡ take (edit.new_stop - edit.start) (drop edit.start (spellings text))
+module _ (e : Edit) (tokens : TokenChange) (is : IsTokenChange e tokens) where
+  -- Where the tokens are spelled as before, the items are the e.old ones.
+  module _ (alike : tokens.same ≡ true) where
+    middle : take (tokens.edit.old_stop - tokens.edit.start) (drop tokens.edit.start (spellings e.old)) ≡ take (tokens.edit.new_stop - tokens.edit.start) (drop tokens.edit.start (spellings e.text))
     middle =
-        (alike_Decides (take (edit.old_stop - edit.start) (drop edit.start (spellings old))) (take (edit.new_stop - edit.start) (drop edit.start (spellings text)))).0 (sym is.same_is ∙ alike)
+        (alike_Decides (take (tokens.edit.old_stop - tokens.edit.start) (drop tokens.edit.start (spellings e.old))) (take (tokens.edit.new_stop - tokens.edit.start) (drop tokens.edit.start (spellings e.text)))).0 (sym is.same_is ∙ alike)
 
     -- as many as before
-    as_many : edit.old_stop ≡ edit.new_stop
+    as_many : tokens.edit.old_stop ≡ tokens.edit.new_stop
     as_many =
         omega (
           arith,
@@ -52,62 +51,70 @@ module _ (old text : List ℕ) (start b c : ℕ) (edit : TokenEdit) (made_tokens
           is.of_spellings.old_inside,
           is.of_spellings.new_inside,
           ap length middle,
-          length-take-le (edit.old_stop - edit.start) (drop edit.start (spellings old)) (omega (arith, is.of_spellings.old_inside, length-drop edit.start (spellings old))),
-          length-take-le (edit.new_stop - edit.start) (drop edit.start (spellings text)) (omega (arith, is.of_spellings.new_inside, length-drop edit.start (spellings text))),
+          length-take-le (tokens.edit.old_stop - tokens.edit.start) (drop tokens.edit.start (spellings e.old)) (omega (arith, is.of_spellings.old_inside, length-drop tokens.edit.start (spellings e.old))),
+          length-take-le (tokens.edit.new_stop - tokens.edit.start) (drop tokens.edit.start (spellings e.text)) (omega (arith, is.of_spellings.new_inside, length-drop tokens.edit.start (spellings e.text))),
         )
 
-    pub same_spellings : spellings text ≡ spellings old
+    pub same_spellings : spellings e.text ≡ spellings e.old
     same_spellings =
-        in_parts (spellings text) edit.start edit.new_stop is.of_spellings.new_order
+        in_parts (spellings e.text) tokens.edit.start tokens.edit.new_stop is.of_spellings.new_order
         ∙ ap₂ (λ (x y : List (Class × List ℕ)). x ++ y) (sym is.of_spellings.before) (ap₂ (λ (x y : List (Class × List ℕ)). x ++ y) (sym middle) (sym is.of_spellings.after))
-        ∙ sym (in_parts (spellings old) edit.start edit.old_stop is.of_spellings.old_order)
+        ∙ sym (in_parts (spellings e.old) tokens.edit.start tokens.edit.old_stop is.of_spellings.old_order)
 
     -- so no item is fresh
-    pub none_fresh : fresh_items_between old text start b c ≡ []
+    pub none_fresh : fresh_items_of e ≡ []
     none_fresh =
-        sym (ap (λ (u : Bool). let l : List ℕ = if u then [] else fresh_ends item (marks_of old) (marks_of text) edit.start edit.old_stop edit.new_stop in l) (sym alike) ∙ fresh_by old text start b c edit t is.edit_is is.same_is)
+        sym (ap (λ (u : Bool). let l : List ℕ = if u then [] else fresh_ends item (marks_of e.old) (marks_of e.text) tokens.edit.start tokens.edit.old_stop tokens.edit.new_stop in l) (sym alike) ∙ fresh_by e tokens.edit tokens.same is.edit_is is.same_is)
 
-    same_marks : marks_of text ≡ marks_of old
-    same_marks = marks_by text (tokens_of text) ∙ ap (map mark_by) same_spellings ∙ sym (marks_by old (tokens_of old))
+    same_marks : marks_of e.text ≡ marks_of e.old
+    same_marks = marks_by e.text (tokens_of e.text) ∙ ap (map mark_by) same_spellings ∙ sym (marks_by e.old (tokens_of e.old))
 
-    pub same_ends : item_ends text ≡ item_ends old
+    pub same_ends : item_ends e.text ≡ item_ends e.old
     same_ends = ap (ends_of item) same_marks
 
-    none_moved : (ends : List ℕ) (n : ℕ) → length ends ≤ n → moved edit.old_stop edit.new_stop (drop (n - 0) ends) ≡ []
-    none_moved ends n le = ap (moved edit.old_stop edit.new_stop) (drop_all (n - 0) ends (omega arith))
+    none_moved : (ends : List ℕ) (n : ℕ) → length ends ≤ n → moved tokens.edit.old_stop tokens.edit.new_stop (drop (n - 0) ends) ≡ []
+    none_moved ends n le = ap (moved tokens.edit.old_stop tokens.edit.new_stop) (drop_all (n - 0) ends (omega arith))
 
-    pub same_change : (n : ℕ) → n ≡ length (item_ends old) → last_end 0 (item_ends old) ≡ length (marks_of old) → IsItemChange old text start b c edit n [] 0
-    same_change n many last =
-        let ends : List ℕ = item_ends old in
-        let olds : List (List (Class × List ℕ)) = spelled_items old in
-        let long : length olds ≡ length ends = length_members (spellings old) 0 ends in
-        let whole : take (length ends - 0) ends ≡ ends = take_all (length ends - 0) ends (omega arith) in
+    pub same_change : (items : ItemChange) → items.kept_front ≡ length (item_ends e.old) → items.made.items ≡ [] → items.kept_back ≡ 0 → last_end 0 (item_ends e.old) ≡ length (marks_of e.old) → IsItemChange e tokens.edit items
+    same_change items many none_made none_back last =
+        let ends : List ℕ = item_ends e.old in
+        let olds : List (List (Class × List ℕ)) = spelled_items e.old in
+        let long : length olds ≡ length ends = length_members (spellings e.old) 0 ends in
+        let n : ℕ = items.kept_front in
+        let whole : take (length ends - items.kept_back) ends ≡ ends = take_all (length ends - items.kept_back) ends (omega (arith, none_back)) in
+        let as_ends : List ℕ → ℕ → List ℕ = λ (made : List ℕ) (back : ℕ). joined ends tokens.edit.old_stop tokens.edit.new_stop n made back in
+        let as_items : List ℕ → ℕ → List (List (Class × List ℕ)) = λ (made : List ℕ) (back : ℕ). take n olds ++ (members (spellings e.text) (last_end 0 (take n ends)) made ++ drop (length ends - back) olds) in
         record {
-          order = omega arith;
-          before = inr (many, refl);
-          fresh = sym none_fresh;
-          ends = same_ends ∙ sym (ap₂ (λ (x y : List ℕ). (x ++ []) ++ y) (take_all n ends (omega arith)) (none_moved ends (length ends) (omega arith)) ∙ append-nil (ends ++ []) ∙ append-nil ends);
+          order = omega (arith, many, none_back);
+          before = inr (many, none_made);
+          fresh = none_made ∙ sym none_fresh;
+          ends = same_ends ∙ sym (ap₂ (λ (x y : List ℕ). (x ++ []) ++ y) (take_all n ends (omega (arith, many))) (none_moved ends (length ends) (omega arith)) ∙ append-nil (ends ++ []) ∙ append-nil ends)
+              ∙ sym (ap₂ as_ends none_made none_back);
           items = ap₂ (λ (s : List (Class × List ℕ)) (es : List ℕ). members s 0 es) same_spellings same_ends
-              ∙ sym (ap₂ (λ (x y : List (List (Class × List ℕ))). x ++ y) (take_all n olds (omega arith)) (drop_all (length ends - 0) olds (omega arith)) ∙ append-nil olds);
+              ∙ sym (ap₂ (λ (x y : List (List (Class × List ℕ))). x ++ y) (take_all n olds (omega (arith, many, long))) (drop_all (length ends - 0) olds (omega (arith, long))) ∙ append-nil olds)
+              ∙ sym (ap₂ as_items none_made none_back);
           after = omega (arith, ap (last_end 0) whole, last, is.of_marks.old_inside);
           led =
-              let first : last_end 0 (take n ends ++ []) ≡ last_end 0 ends = ap (last_end 0) (append-nil (take n ends) ∙ take_all n ends (omega arith)) in
+              let first : last_end 0 (take n ends ++ items.made.items) ≡ last_end 0 ends = ap (λ (made : List ℕ). last_end 0 (take n ends ++ made)) none_made ∙ ap (last_end 0) (append-nil (take n ends) ∙ take_all n ends (omega (arith, many))) in
               omega (arith, first, ap (last_end 0) whole, last, is.of_marks.old_inside, as_many);
         }
 
   -- Else they are cut again.
-  module _ (other : t ≡ false) where
-    pub cut_again : (front : ℕ) (made : List ℕ) (back : ℕ) → (recut : IsRecut item (marks_of old) (item_ends old) (marks_of text) edit.start edit.old_stop edit.new_stop front made back)
-        → made ≡ fresh_ends item (marks_of old) (marks_of text) edit.start edit.old_stop edit.new_stop
-        → joined (item_ends old) edit.old_stop edit.new_stop front made back ≡ item_ends text
-        → spelled_items text ≡ take front (spelled_items old) ++ (members (spellings text) (last_end 0 (take front (item_ends old))) made ++ drop (length (item_ends old) - back) (spelled_items old))
-        → IsItemChange old text start b c edit front made back
-    cut_again front made back recut made_is joined_is items_are =
-        let place : ℕ = (recut.meet - edit.new_stop) + edit.old_stop in
+  module _ (other : tokens.same ≡ false) where
+    pub cut_again : (items : ItemChange)
+        → (recut : IsRecut item (marks_of e.old) (item_ends e.old) (marks_of e.text) tokens.edit.start tokens.edit.old_stop tokens.edit.new_stop items.kept_front items.made.items items.kept_back)
+        → items.made.items ≡ fresh_ends item (marks_of e.old) (marks_of e.text) tokens.edit.start tokens.edit.old_stop tokens.edit.new_stop
+        → joined (item_ends e.old) tokens.edit.old_stop tokens.edit.new_stop items.kept_front items.made.items items.kept_back ≡ item_ends e.text
+        → spelled_items e.text ≡ take items.kept_front (spelled_items e.old) ++ (members (spellings e.text) (last_end 0 (take items.kept_front (item_ends e.old))) items.made.items ++ drop (length (item_ends e.old) - items.kept_back) (spelled_items e.old))
+        → IsItemChange e tokens.edit items
+    cut_again items recut made_is joined_is items_are =
+        let place : ℕ = (recut.meet - tokens.edit.new_stop) + tokens.edit.old_stop in
         record {
-          order = omega (arith, recut.kept, recut.kept_back, below_more edit.start (suc place) (item_ends old) (omega (arith, is.of_marks.old_order)));
+          order = omega (arith, recut.kept, recut.kept_back, below_more tokens.edit.start (suc place) (item_ends e.old) (omega (arith, is.of_marks.old_order)));
           before = inl recut.kept;
-          fresh = made_is ∙ ap (λ (u : Bool). let l : List ℕ = if u then [] else fresh_ends item (marks_of old) (marks_of text) edit.start edit.old_stop edit.new_stop in l) (sym other) ∙ fresh_by old text start b c edit t is.edit_is is.same_is;
+          fresh = made_is
+              ∙ ap (λ (u : Bool). let l : List ℕ = if u then [] else fresh_ends item (marks_of e.old) (marks_of e.text) tokens.edit.start tokens.edit.old_stop tokens.edit.new_stop in l) (sym other)
+              ∙ fresh_by e tokens.edit tokens.same is.edit_is is.same_is;
           ends = sym joined_is;
           items = items_are;
           after = omega (arith, recut.from);

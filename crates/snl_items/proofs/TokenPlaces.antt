@@ -5,10 +5,12 @@ use Rattle.std.proofs.lemmas.List.Elements.{filter-append}
 use Rattle.snl_cut.specs.Cut.{IsRecut, Rises, ends_of, last_end, meet_of}
 use Rattle.snl_lex.specs.declared.piece.Class.{Class}
 use Rattle.snl_lex.specs.declared.piece.Piece.{Piece}
-use Rattle.snl_lex.specs.PieceList.{IsChange, last_pieces, listed_pieces, piece_ends, piece_kinds, pieces_between}
+use Rattle.snl_lex.specs.PieceList.{last_pieces, listed_pieces, piece_ends, piece_kinds, pieces_between}
+use Rattle.snl_lex.specs.declared.piece_list.PieceChange.{PieceChange}
+use Rattle.snl_lex.specs.Edit.{Edit, IsChange, made_pieces}
 use Rattle.snl_lex.specs.Pieces.{is_token, moved_piece, piece_end, piece_length, pieces_of}
 use Rattle.snl_items.specs.declared.tokens.TokenEdit.{TokenEdit}
-use Rattle.snl_items.specs.Fresh.{beginning_before, ending_before, token_edit_between}
+use Rattle.snl_items.specs.Fresh.{beginning_before, ending_before, token_edit_of}
 use Rattle.snl_items.proofs.Counts.{beginning, ending}
 
 -- Pieces up to one number, and from there up to another.
@@ -31,50 +33,50 @@ at_boundary text place n rises listed le e =
 same_edit : (a b c d e f : ℕ) → a ≡ d → b ≡ e → c ≡ f → let one : TokenEdit = record { start = a; old_stop = b; new_stop = c } in let other : TokenEdit = record { start = d; old_stop = e; new_stop = f } in one ≡ other
 same_edit a b c d e f h i j = cc
 
-module _ (old text : List ℕ) (start b c front : ℕ) (made : List Piece) (back kept_from : ℕ) (made_ends : List ℕ) (made_kinds : List Class) (is : IsChange old text start b c front made back kept_from made_ends made_kinds) where
+module _ (e : Edit) (pieces : PieceChange) (is : IsChange e pieces) where
   -- what the laws of pieces say of both texts, and where the cuts meet
-  module _ (ends : piece_ends old ≡ ends_of piece_length old) (old_rises : Rises 0 (piece_ends old)) (new_rises : Rises 0 (piece_ends text))
-      (old_listed : listed_pieces 0 (piece_ends old) (piece_kinds old) ≡ pieces_of old) (new_listed : listed_pieces 0 (piece_ends text) (piece_kinds text) ≡ pieces_of text)
-      (recut : IsRecut piece_length old (ends_of piece_length old) text start b c front (map piece_end made) back) (meets : meet_of piece_length old text b c ≡ recut.meet) where
-    start_is : ending_before old start ≡ length (filter is_token (take front (pieces_of old)))
-    start_is = ending start 0 (pieces_of old) old_rises ∙ ap (λ (n : ℕ). length (filter is_token (take n (pieces_of old)))) (sym is.recut.kept)
+  module _ (ends : piece_ends e.old ≡ ends_of piece_length e.old) (old_rises : Rises 0 (piece_ends e.old)) (new_rises : Rises 0 (piece_ends e.text))
+      (old_listed : listed_pieces 0 (piece_ends e.old) (piece_kinds e.old) ≡ pieces_of e.old) (new_listed : listed_pieces 0 (piece_ends e.text) (piece_kinds e.text) ≡ pieces_of e.text)
+      (recut : IsRecut piece_length e.old (ends_of piece_length e.old) e.text e.start e.old_stop e.new_stop pieces.kept_front (map piece_end (made_pieces pieces)) pieces.kept_back) (meets : meet_of piece_length e.old e.text e.old_stop e.new_stop ≡ recut.meet) where
+    start_is : ending_before e.old e.start ≡ length (filter is_token (take pieces.kept_front (pieces_of e.old)))
+    start_is = ending e.start 0 (pieces_of e.old) old_rises ∙ ap (λ (n : ℕ). length (filter is_token (take n (pieces_of e.old)))) (sym is.recut.kept)
 
-    old_place : (meet_of piece_length old text b c - c) + b ≡ last_end 0 (take (length (pieces_of old) - back) (piece_ends old))
+    old_place : (meet_of piece_length e.old e.text e.old_stop e.new_stop - e.new_stop) + e.old_stop ≡ last_end 0 (take (length (pieces_of e.old) - pieces.kept_back) (piece_ends e.old))
     old_place =
-        ap (λ (m : ℕ). (m - c) + b) meets ∙ sym recut.from
-        ∙ ap (λ (es : List ℕ). last_end 0 (take (length es - back) es)) (sym ends)
-        ∙ ap (λ (n : ℕ). last_end 0 (take (n - back) (piece_ends old))) (length-map (pieces_of old) piece_end)
+        ap (λ (m : ℕ). (m - e.new_stop) + e.old_stop) meets ∙ sym recut.from
+        ∙ ap (λ (es : List ℕ). last_end 0 (take (length es - pieces.kept_back) es)) (sym ends)
+        ∙ ap (λ (n : ℕ). last_end 0 (take (n - pieces.kept_back) (piece_ends e.old))) (length-map (pieces_of e.old) piece_end)
 
-    old_stop_is : beginning_before old ((meet_of piece_length old text b c - c) + b) ≡ length (filter is_token (take front (pieces_of old))) + length (filter is_token (pieces_between (pieces_of old) front (length (pieces_of old) - back)))
+    old_stop_is : beginning_before e.old ((meet_of piece_length e.old e.text e.old_stop e.new_stop - e.new_stop) + e.old_stop) ≡ length (filter is_token (take pieces.kept_front (pieces_of e.old))) + length (filter is_token (pieces_between (pieces_of e.old) pieces.kept_front (length (pieces_of e.old) - pieces.kept_back)))
     old_stop_is =
-        at_boundary old ((meet_of piece_length old text b c - c) + b) (length (pieces_of old) - back) old_rises old_listed (omega arith) old_place
-        ∙ tokens_upto (pieces_of old) front (length (pieces_of old) - back) (omega (arith, is.order))
+        at_boundary e.old ((meet_of piece_length e.old e.text e.old_stop e.new_stop - e.new_stop) + e.old_stop) (length (pieces_of e.old) - pieces.kept_back) old_rises old_listed (omega arith) old_place
+        ∙ tokens_upto (pieces_of e.old) pieces.kept_front (length (pieces_of e.old) - pieces.kept_back) (omega (arith, is.order))
 
     abbrev new_front : List Piece
-    new_front = take front (pieces_of old) ++ made
+    new_front = take pieces.kept_front (pieces_of e.old) ++ made_pieces pieces
 
-    taken : take (length new_front) (pieces_of text) ≡ new_front
-    taken = ap (take (length new_front)) is.pieces ∙ take_at new_front (map (moved_piece b c) (last_pieces old back)) (length new_front) refl
+    taken : take (length new_front) (pieces_of e.text) ≡ new_front
+    taken = ap (take (length new_front)) is.pieces ∙ take_at new_front (map (moved_piece e.old_stop e.new_stop) (last_pieces e.old pieces.kept_back)) (length new_front) refl
 
-    front_within : length new_front ≤ length (pieces_of text)
-    front_within = omega (arith, ap length is.pieces, length-append new_front (map (moved_piece b c) (last_pieces old back)))
+    front_within : length new_front ≤ length (pieces_of e.text)
+    front_within = omega (arith, ap length is.pieces, length-append new_front (map (moved_piece e.old_stop e.new_stop) (last_pieces e.old pieces.kept_back)))
 
-    new_place : meet_of piece_length old text b c ≡ last_end 0 (take (length new_front) (piece_ends text))
+    new_place : meet_of piece_length e.old e.text e.old_stop e.new_stop ≡ last_end 0 (take (length new_front) (piece_ends e.text))
     new_place =
         meets ∙ sym recut.led
-        ∙ ap (λ (es : List ℕ). last_end 0 (take front es ++ map piece_end made)) (sym ends)
-        ∙ ap (λ (es : List ℕ). last_end 0 (es ++ map piece_end made)) (take-map piece_end front (pieces_of old))
-        ∙ ap (last_end 0) (sym (map-append piece_end (take front (pieces_of old)) made) ∙ ap (map piece_end) (sym taken) ∙ sym (take-map piece_end (length new_front) (pieces_of text)))
+        ∙ ap (λ (es : List ℕ). last_end 0 (take pieces.kept_front es ++ map piece_end (made_pieces pieces))) (sym ends)
+        ∙ ap (λ (es : List ℕ). last_end 0 (es ++ map piece_end (made_pieces pieces))) (take-map piece_end pieces.kept_front (pieces_of e.old))
+        ∙ ap (last_end 0) (sym (map-append piece_end (take pieces.kept_front (pieces_of e.old)) (made_pieces pieces)) ∙ ap (map piece_end) (sym taken) ∙ sym (take-map piece_end (length new_front) (pieces_of e.text)))
 
-    new_stop_is : beginning_before text (meet_of piece_length old text b c) ≡ length (filter is_token (take front (pieces_of old))) + length (filter is_token made)
+    new_stop_is : beginning_before e.text (meet_of piece_length e.old e.text e.old_stop e.new_stop) ≡ length (filter is_token (take pieces.kept_front (pieces_of e.old))) + length (filter is_token (made_pieces pieces))
     new_stop_is =
-        at_boundary text (meet_of piece_length old text b c) (length new_front) new_rises new_listed front_within new_place
+        at_boundary e.text (meet_of piece_length e.old e.text e.old_stop e.new_stop) (length new_front) new_rises new_listed front_within new_place
         ∙ ap (λ (l : List Piece). length (filter is_token l)) taken
-        ∙ ap length (filter-append is_token (take front (pieces_of old)) made) ∙ length-append (filter is_token (take front (pieces_of old))) (filter is_token made)
+        ∙ ap length (filter-append is_token (take pieces.kept_front (pieces_of e.old)) (made_pieces pieces)) ∙ length-append (filter is_token (take pieces.kept_front (pieces_of e.old))) (filter is_token (made_pieces pieces))
 
-    pub edit_is : (edit : TokenEdit) → edit.start ≡ length (filter is_token (take front (pieces_of old)))
-        → edit.old_stop ≡ length (filter is_token (take front (pieces_of old))) + length (filter is_token (pieces_between (pieces_of old) front (length (pieces_of old) - back)))
-        → edit.new_stop ≡ length (filter is_token (take front (pieces_of old))) + length (filter is_token made)
-        → edit ≡ token_edit_between old text start b c
-    unfolding token_edit_between
+    pub edit_is : (edit : TokenEdit) → edit.start ≡ length (filter is_token (take pieces.kept_front (pieces_of e.old)))
+        → edit.old_stop ≡ length (filter is_token (take pieces.kept_front (pieces_of e.old))) + length (filter is_token (pieces_between (pieces_of e.old) pieces.kept_front (length (pieces_of e.old) - pieces.kept_back)))
+        → edit.new_stop ≡ length (filter is_token (take pieces.kept_front (pieces_of e.old))) + length (filter is_token (made_pieces pieces))
+        → edit ≡ token_edit_of e
+    unfolding token_edit_of
     edit_is edit h i j = same_edit edit.start edit.old_stop edit.new_stop _ _ _ (h ∙ sym start_is) (i ∙ sym old_stop_is) (j ∙ sym new_stop_is)

@@ -1,11 +1,10 @@
 -- What an edit of a text makes fresh: how many pieces, and which items.
--- An edit puts the bytes of the new text from `start` up to `new_stop` in the place of those of the
--- old one from `start` up to `old_stop`.
-use Rattle.std.specs.Prelude.{ℕ, ◌+◌, ◌-◌, ◌&&◌, Bool, nat_eq, nat_lt, if◌then◌else◌, List, [], ◌++◌, length, take, drop, count_by, bytes_eq}
+use Rattle.std.specs.Prelude.{ℕ, ◌+◌, ◌-◌, ◌&&◌, Bool, nat_eq, nat_lt, if◌then◌else◌, List, [], length, take, drop, count_by, bytes_eq}
 use Rattle.std.specs.Cmp.Lexicographic.{pointwise}
 use Rattle.snl_cut.specs.Cut.{fresh_ends, meet_of}
 use Rattle.snl_lex.specs.declared.piece.Class.{Class}
 use Rattle.snl_lex.specs.declared.piece.Class.TheVariants.{White, Comment, Marker, CCode, Name, Word, Int, Float, Text, CharLit, Punct, Bad}
+use Rattle.snl_lex.specs.Edit.{Edit, splice}
 use Rattle.snl_lex.specs.Pieces.{piece_end, piece_length, tokens_of}
 use Rattle.snl_syntax.specs.Items.{item}
 use Rattle.snl_items.specs.declared.tokens.TokenEdit.{TokenEdit}
@@ -20,10 +19,10 @@ beginning_before text place = count_by (λ p. nat_lt p.start place) (tokens_of t
 
 -- The edit as one of tokens: those of the old text that end before `start` are kept, and so are
 -- those of both texts that begin at the pieces' meeting point or after it.
-unfoldable pub token_edit_between : (old text : List ℕ) (start old_stop new_stop : ℕ) → TokenEdit
-token_edit_between old text start old_stop new_stop =
-    let meet = meet_of piece_length old text old_stop new_stop in
-    record { start = ending_before old start; old_stop = beginning_before old ((meet - new_stop) + old_stop); new_stop = beginning_before text meet }
+unfoldable pub token_edit_of : Edit → TokenEdit
+token_edit_of e =
+    let meet = meet_of piece_length e.old e.text e.old_stop e.new_stop in
+    record { start = ending_before e.old e.start; old_stop = beginning_before e.old ((meet - e.new_stop) + e.old_stop); new_stop = beginning_before e.text meet }
 
 -- Each class by a number of its own.
 abbrev pub class_number : Class → ℕ
@@ -49,31 +48,28 @@ abbrev pub spelled_alike : List (Class × List ℕ) → List (Class × List ℕ)
 spelled_alike = pointwise same_spelling
 
 -- The old tokens that an edit of tokens replaces are spelled as the new ones.
-abbrev pub replaced_alike : (old text : List ℕ) → TokenEdit → Bool
-replaced_alike old text e =
-    spelled_alike (take (e.old_stop - e.start) (drop e.start (spellings old))) (take (e.new_stop - e.start) (drop e.start (spellings text)))
+abbrev pub replaced_alike : Edit → TokenEdit → Bool
+replaced_alike e tokens =
+    spelled_alike (take (tokens.old_stop - tokens.start) (drop tokens.start (spellings e.old))) (take (tokens.new_stop - tokens.start) (drop tokens.start (spellings e.text)))
 
 -- How many pieces of the new text are fresh.
-unfoldable pub fresh_pieces_between : (old text : List ℕ) (start old_stop new_stop : ℕ) → ℕ
-fresh_pieces_between old text start old_stop new_stop = length (fresh_ends piece_length old text start old_stop new_stop)
+unfoldable pub fresh_pieces_of : Edit → ℕ
+fresh_pieces_of e = length (fresh_ends piece_length e.old e.text e.start e.old_stop e.new_stop)
 
 -- The ends of the fresh items of the new text, as numbers of tokens. Where the replaced tokens are
 -- spelled as before, there is none.
-unfoldable pub fresh_items_between : (old text : List ℕ) (start old_stop new_stop : ℕ) → List ℕ
-fresh_items_between old text start old_stop new_stop =
-    let e = token_edit_between old text start old_stop new_stop in
-    if replaced_alike old text e then [] else fresh_ends item (marks_of old) (marks_of text) e.start e.old_stop e.new_stop
+unfoldable pub fresh_items_of : Edit → List ℕ
+fresh_items_of e =
+    let tokens = token_edit_of e in
+    if replaced_alike e tokens then [] else fresh_ends item (marks_of e.old) (marks_of e.text) tokens.start tokens.old_stop tokens.new_stop
 
 -- The same of an edit of one text, which puts other bytes in the place of those from `start` up to
 -- `stop`.
-abbrev pub spliced : (text : List ℕ) (start stop : ℕ) (new : List ℕ) → List ℕ
-spliced text start stop new = take start text ++ new ++ drop stop text
-
 abbrev pub token_edit : (text : List ℕ) (start stop : ℕ) (new : List ℕ) → TokenEdit
-token_edit text start stop new = token_edit_between text (spliced text start stop new) start stop (start + length new)
+token_edit text start stop new = token_edit_of (splice text start stop new)
 
 abbrev pub fresh_pieces : (text : List ℕ) (start stop : ℕ) (new : List ℕ) → ℕ
-fresh_pieces text start stop new = fresh_pieces_between text (spliced text start stop new) start stop (start + length new)
+fresh_pieces text start stop new = fresh_pieces_of (splice text start stop new)
 
 abbrev pub fresh_items : (text : List ℕ) (start stop : ℕ) (new : List ℕ) → List ℕ
-fresh_items text start stop new = fresh_items_between text (spliced text start stop new) start stop (start + length new)
+fresh_items text start stop new = fresh_items_of (splice text start stop new)

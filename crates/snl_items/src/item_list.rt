@@ -6,17 +6,17 @@
 ghost use Rattle.snl_cut.specs.Cut.{last_end};
 ghost use Rattle.snl_items.specs.Changes.{IsItemChange, IsTokenChange};
 ghost use Rattle.snl_items.specs.Items.{item_ends, marks_of};
-ghost use Rattle.snl_lex.specs.Pieces.{tokens_of};
+ghost use Rattle.snl_lex.specs.Edit.{edit_of};
 ghost use Rattle.std.specs.Prelude.{◌≡◌, ◌+◌, ◌-◌, ◌^◌, ◌<◌, ◌≤◌, ◌++◌, All, IfOk, OnOk, drop, false, length, take, vec_capacity, vec_len};
 
 use crate::laws::few_tokens;
 use crate::spelled::Spelling;
-use crate::tokens::{TokenChange, TokenEdit, marks_of};
+use crate::tokens::{TokenChange, TokenEdit};
 use snl_cut::{
     Count, Narrow, OutOfMemory, cut_all, ends_in_order, made_are_fresh, members_stay, one_cut,
     recut_by, recut_is_cut,
 };
-use snl_lex::{Piece, TextEdit, text_in_pieces};
+use snl_lex::TextEdit;
 use snl_lists::{replace, replace_and_shift};
 use snl_syntax::{Mark, Tokens};
 use std::alloc::Global;
@@ -73,8 +73,8 @@ fn edited(
 // made.
 fn change_ends(ends: &mut Vec<u32>, edit: &TextEdit, tokens: &TokenChange, items: &ItemChange)
     requires ends { ends.old.items ≡ item_ends edit.now.old.now }
-    requires tokens { IsTokenChange edit.now.old.now edit.now.text.now edit.now.start edit.now.old_stop edit.now.new_stop tokens.now.edit tokens.now.made.items tokens.now.marks.items tokens.now.same }
-    requires items { IsItemChange edit.now.old.now edit.now.text.now edit.now.start edit.now.old_stop edit.now.new_stop tokens.now.edit items.now.kept_front items.now.made.items items.now.kept_back }
+    requires tokens { IsTokenChange (edit_of edit.now) tokens.now }
+    requires items { IsItemChange (edit_of edit.now) tokens.now.edit items.now }
     requires room { vec_len ends.old + vec_len items.now.made ≤ vec_capacity ends.old }
     ensures { ends.new.items ≡ item_ends edit.now.text.now }
 {
@@ -92,22 +92,6 @@ fn change_ends(ends: &mut Vec<u32>, edit: &TextEdit, tokens: &TokenChange, items
 }
 
 impl ItemList {
-    /// The items that the tokens of a text are cut into. The only error is want of memory.
-    pub fn of(alloc: Global, text: &[u8], tokens: &[Piece]) -> Result<ItemList, OutOfMemory>
-        requires tokens { tokens.now ≡ tokens_of text.now }
-        requires short { length text.now < 2 ^ 32 }
-        ensures marks { IfOk result (λ l. l.marks.items ≡ marks_of text.now) }
-        ensures ends { IfOk result (λ l. l.ends.items ≡ item_ends text.now) }
-    {
-        text_in_pieces();
-        few_tokens();
-        ends_in_order::<Tokens>();
-        let marks = marks_of(alloc, text, tokens)?;
-        let ends = cut_all(alloc, &Tokens, &marks, &mut Count::new())?;
-        let ends = narrowed(alloc, &ends)?;
-        Ok(ItemList { marks, ends })
-    }
-
     // What an edit makes of the items, where other tokens are spelled in the place of some.
     fn recut(
         &self,
@@ -117,11 +101,11 @@ impl ItemList {
     ) -> Result<ItemChange, OutOfMemory>
         requires marks { self.now.marks.items ≡ marks_of edit.now.old.now }
         requires ends { self.now.ends.items ≡ item_ends edit.now.old.now }
-        requires tokens { IsTokenChange edit.now.old.now edit.now.text.now edit.now.start edit.now.old_stop edit.now.new_stop tokens.now.edit tokens.now.made.items tokens.now.marks.items tokens.now.same }
+        requires tokens { IsTokenChange (edit_of edit.now) tokens.now }
         requires other { tokens.now.same ≡ false }
         ensures { IfOk
             result
-            (λ r. IsItemChange edit.now.old.now edit.now.text.now edit.now.start edit.now.old_stop edit.now.new_stop tokens.now.edit r.kept_front r.made.items r.kept_back) }
+            (λ r. IsItemChange (edit_of edit.now) tokens.now.edit r) }
     {
         recut_is_cut::<Tokens>();
         members_stay::<Tokens, Spelling>();
@@ -158,10 +142,10 @@ impl ItemList {
     ) -> Result<ItemChange, OutOfMemory>
         requires marks { self.now.marks.items ≡ marks_of edit.now.old.now }
         requires ends { self.now.ends.items ≡ item_ends edit.now.old.now }
-        requires tokens { IsTokenChange edit.now.old.now edit.now.text.now edit.now.start edit.now.old_stop edit.now.new_stop tokens.now.edit tokens.now.made.items tokens.now.marks.items tokens.now.same }
+        requires tokens { IsTokenChange (edit_of edit.now) tokens.now }
         ensures { IfOk
             result
-            (λ r. IsItemChange edit.now.old.now edit.now.text.now edit.now.start edit.now.old_stop edit.now.new_stop tokens.now.edit r.kept_front r.made.items r.kept_back) }
+            (λ r. IsItemChange (edit_of edit.now) tokens.now.edit r) }
     {
         if tokens.same {
             ends_in_order::<Tokens>();
@@ -184,8 +168,8 @@ impl ItemList {
         items: &ItemChange,
     ) -> Result<Vec<u32>, OutOfMemory>
         requires ends { self.now.ends.items ≡ item_ends edit.now.old.now }
-        requires tokens { IsTokenChange edit.now.old.now edit.now.text.now edit.now.start edit.now.old_stop edit.now.new_stop tokens.now.edit tokens.now.made.items tokens.now.marks.items tokens.now.same }
-        requires items { IsItemChange edit.now.old.now edit.now.text.now edit.now.start edit.now.old_stop edit.now.new_stop tokens.now.edit items.now.kept_front items.now.made.items items.now.kept_back }
+        requires tokens { IsTokenChange (edit_of edit.now) tokens.now }
+        requires items { IsItemChange (edit_of edit.now) tokens.now.edit items.now }
         ensures { IfOk result (λ r. r.items ≡ item_ends edit.now.text.now) }
     {
         let mut ends = Vec::new(alloc);
@@ -224,8 +208,8 @@ impl ItemList {
     pub fn commit(&mut self, edit: &TextEdit, tokens: &TokenChange, items: &ItemChange)
         requires marks { self.old.marks.items ≡ marks_of edit.now.old.now }
         requires ends { self.old.ends.items ≡ item_ends edit.now.old.now }
-        requires tokens { IsTokenChange edit.now.old.now edit.now.text.now edit.now.start edit.now.old_stop edit.now.new_stop tokens.now.edit tokens.now.made.items tokens.now.marks.items tokens.now.same }
-        requires items { IsItemChange edit.now.old.now edit.now.text.now edit.now.start edit.now.old_stop edit.now.new_stop tokens.now.edit items.now.kept_front items.now.made.items items.now.kept_back }
+        requires tokens { IsTokenChange (edit_of edit.now) tokens.now }
+        requires items { IsItemChange (edit_of edit.now) tokens.now.edit items.now }
         requires marks_room { vec_len self.old.marks + vec_len tokens.now.marks ≤ vec_capacity self.old.marks }
         requires ends_room { vec_len self.old.ends + vec_len items.now.made ≤ vec_capacity self.old.ends }
         ensures marks { self.new.marks.items ≡ marks_of edit.now.text.now }

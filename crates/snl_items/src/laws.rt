@@ -3,17 +3,15 @@
 
 ghost use Rattle.snl_cut.specs.Cut.{IsEdit};
 ghost use Rattle.snl_items.specs.Changes.{IsShiftOf, IsTokenChange, LeavesAround};
-ghost use Rattle.snl_items.specs.Fresh.{fresh_pieces_between};
+ghost use Rattle.snl_items.specs.Fresh.{fresh_pieces_of};
 ghost use Rattle.snl_items.specs.Items.{marks_of};
 ghost use Rattle.snl_items.specs.OwnTokens.{AreCounted};
-ghost use Rattle.snl_items.specs.declared.tokens.TokenEdit.{TokenEdit};
-ghost use Rattle.snl_lex.specs.PieceList.{IsChange};
+ghost use Rattle.snl_items.specs.declared.tokens.TokenChange.{TokenChange};
+ghost use Rattle.snl_lex.specs.Edit.{Edit, IsChange, made_pieces};
 ghost use Rattle.snl_lex.specs.Pieces.{tokens_of};
-ghost use Rattle.snl_lex.specs.declared.piece.Class.{Class};
-ghost use Rattle.snl_lex.specs.declared.piece.Piece.{Piece};
+ghost use Rattle.snl_lex.specs.declared.piece_list.PieceChange.{PieceChange};
 ghost use Rattle.snl_lex.specs.declared.shift.Shift.{Shift};
-ghost use Rattle.snl_syntax.specs.declared.marks.Mark.{Mark};
-ghost use Rattle.std.specs.Prelude.{◌≡◌, ℕ, ◌^◌, ◌<◌, ◌≤◌, Bool, List, length};
+ghost use Rattle.std.specs.Prelude.{◌≡◌, ℕ, ◌^◌, ◌<◌, ◌≤◌, List, length};
 
 use snl_cut::{ends_in_order, made_are_fresh, meets_where_sought, one_cut};
 use snl_lex::{Bytes, pieces_as_listed, text_in_pieces};
@@ -29,9 +27,7 @@ pub fn few_tokens()
 
 /// Just the fresh pieces are made.
 pub fn pieces_are_fresh()
-    ensures { (old text : List ℕ) (start old_stop new_stop front : ℕ) (made : List Piece) (back kept_from : ℕ) (made_ends : List ℕ) (made_kinds : List Class)
-        → IsChange old text start old_stop new_stop front made back kept_from made_ends made_kinds
-        → length made ≡ fresh_pieces_between old text start old_stop new_stop }
+    ensures { (e : Edit) (change : PieceChange) → IsChange e change → length (made_pieces change) ≡ fresh_pieces_of e }
 {
     made_are_fresh::<Bytes>();
     one_cut::<Bytes>();
@@ -40,10 +36,8 @@ pub fn pieces_are_fresh()
 
 // The pieces that an edit keeps have the tokens that it doesn't replace.
 pub fn tokens_counted()
-    ensures { (old text : List ℕ) (start old_stop new_stop front : ℕ) (made : List Piece) (back kept_from : ℕ) (made_ends : List ℕ) (made_kinds : List Class)
-        → IsChange old text start old_stop new_stop front made back kept_from made_ends made_kinds
-        → (edit : TokenEdit) (tokens : List Piece) (marks : List Mark) (same : Bool) → IsTokenChange old text start old_stop new_stop edit tokens marks same
-        → AreCounted old front back edit }
+    ensures { (e : Edit) (pieces : PieceChange) → IsChange e pieces → (tokens : TokenChange) → IsTokenChange e tokens
+        → AreCounted e.old pieces.kept_front pieces.kept_back tokens.edit }
 {
     meets_where_sought::<Bytes>();
     one_cut::<Bytes>();
@@ -54,11 +48,10 @@ pub fn tokens_counted()
 
 /// The tokens that an edit doesn't replace stay where they are or are shifted.
 pub fn tokens_around_stay()
-    ensures { (old text : List ℕ) (start old_stop new_stop front : ℕ) (made : List Piece) (back kept_from : ℕ) (made_ends : List ℕ) (made_kinds : List Class)
-        → IsEdit old text start old_stop new_stop → length old < 2 ^ 32 → length text < 2 ^ 32
-        → IsChange old text start old_stop new_stop front made back kept_from made_ends made_kinds
-        → (edit : TokenEdit) (tokens : List Piece) (marks : List Mark) (same : Bool) → IsTokenChange old text start old_stop new_stop edit tokens marks same
-        → (s : Shift) → IsShiftOf old text start old_stop new_stop s → LeavesAround s (tokens_of old) (tokens_of text) tokens edit }
+    ensures { (e : Edit) (pieces : PieceChange)
+        → IsEdit e.old e.text e.start e.old_stop e.new_stop → length e.old < 2 ^ 32 → length e.text < 2 ^ 32
+        → IsChange e pieces → (tokens : TokenChange) → IsTokenChange e tokens
+        → (s : Shift) → IsShiftOf e s → LeavesAround s (tokens_of e.old) (tokens_of e.text) tokens.made.items tokens.edit }
 {
     tokens_counted();
     one_cut::<Bytes>();

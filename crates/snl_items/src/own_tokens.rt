@@ -5,8 +5,8 @@
 
 ghost use Rattle.snl_items.specs.Changes.{IsTokenChange};
 ghost use Rattle.snl_items.specs.OwnTokens.{tokens_before, tokens_between};
-ghost use Rattle.snl_lex.specs.Made.{made_pieces};
-ghost use Rattle.snl_lex.specs.PieceList.{IsChange, is_token_class, piece_ends, piece_kinds};
+ghost use Rattle.snl_lex.specs.Edit.{IsChange, edit_of};
+ghost use Rattle.snl_lex.specs.PieceList.{is_token_class, piece_ends, piece_kinds};
 ghost use Rattle.snl_lex.specs.Pieces.{moved_piece, tokens_of};
 ghost use Rattle.std.specs.Prelude.{◌≡◌, ◌+◌, ◌-◌, ◌^◌, ◌<◌, ◌≤◌, ◌++◌, All, IfOk, OnOk, count_by, length, map};
 
@@ -86,8 +86,8 @@ pub fn own_tokens_before(
 ) -> Result<Vec<Piece>, OutOfMemory>
     requires ends { pieces.now.ends.items ≡ piece_ends edit.now.old.now }
     requires kinds { pieces.now.kinds.items ≡ piece_kinds edit.now.old.now }
-    requires change { IsChange edit.now.old.now edit.now.text.now edit.now.start edit.now.old_stop edit.now.new_stop change.now.kept_front (made_pieces change.now) change.now.kept_back change.now.kept_from change.now.list.ends.items change.now.list.kinds.items }
-    requires tokens { IsTokenChange edit.now.old.now edit.now.text.now edit.now.start edit.now.old_stop edit.now.new_stop tokens.now.edit tokens.now.made.items tokens.now.marks.items tokens.now.same }
+    requires change { IsChange (edit_of edit.now) change.now }
+    requires tokens { IsTokenChange (edit_of edit.now) tokens.now }
     requires first { first ≤ tokens.now.edit.start }
     requires stop { tokens.now.edit.old_stop ≤ stop }
     requires inside { stop ≤ length (tokens_of edit.now.old.now) }
@@ -111,7 +111,7 @@ pub fn own_tokens_after(
     first: usize,
     stop: usize,
 ) -> Result<Vec<Piece>, OutOfMemory>
-    requires tokens { IsTokenChange edit.now.old.now edit.now.text.now edit.now.start edit.now.old_stop edit.now.new_stop tokens.now.edit tokens.now.made.items tokens.now.marks.items tokens.now.same }
+    requires tokens { IsTokenChange (edit_of edit.now) tokens.now }
     requires first { first ≤ tokens.now.edit.start }
     requires stop { tokens.now.edit.old_stop ≤ stop }
     requires inside { stop ≤ length (tokens_of edit.now.old.now) }

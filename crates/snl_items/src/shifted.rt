@@ -3,6 +3,7 @@
 //! edit.
 
 ghost use Rattle.snl_items.specs.Changes.{AreLeft, AreLeftFrom};
+ghost use Rattle.snl_lex.specs.Edit.{edit_of};
 ghost use Rattle.snl_lex.specs.Pieces.{LiesIn, piece_end};
 ghost use Rattle.snl_lex.specs.Shift.{shifted_piece};
 ghost use Rattle.std.specs.Prelude.{◌≡◌, ◌+◌, ◌<◌, ◌≤◌, ◌^◌, All, IfSome, IsTrue, length, map, take};
@@ -89,7 +90,7 @@ pub fn shifted_from(
 ) -> Option<Shifted>
     requires fits { from + length replaced.now < 2 ^ 64 }
     requires inside { All (LiesIn edit.now.old.now) replaced.now }
-    ensures { IfSome result (AreLeftFrom edit.now.old.now edit.now.text.now edit.now.start edit.now.old_stop edit.now.new_stop same from replaced.now made.now) }
+    ensures { IfSome result (AreLeftFrom (edit_of edit.now) same from replaced.now made.now) }
 {
     if !same {
         return None;

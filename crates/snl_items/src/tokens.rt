@@ -4,8 +4,8 @@
 
 ghost use Rattle.snl_items.specs.Changes.{AreShifted, IsTokenChange};
 ghost use Rattle.snl_items.specs.Items.{mark_in};
-ghost use Rattle.snl_lex.specs.Made.{made_pieces};
-ghost use Rattle.snl_lex.specs.PieceList.{IsChange, is_token_class, piece_ends, piece_kinds};
+ghost use Rattle.snl_lex.specs.Edit.{IsChange, edit_of};
+ghost use Rattle.snl_lex.specs.PieceList.{is_token_class, piece_ends, piece_kinds};
 ghost use Rattle.snl_lex.specs.Pieces.{LiesIn};
 ghost use Rattle.std.specs.Prelude.{◌≡◌, ◌≤◌, All, IfOk, IfSome, count_by, length, map};
 
@@ -94,13 +94,13 @@ impl TokenChange {
     ) -> Result<TokenChange, OutOfMemory>
         requires ends { pieces.now.ends.items ≡ piece_ends edit.now.old.now }
         requires kinds { pieces.now.kinds.items ≡ piece_kinds edit.now.old.now }
-        requires change { IsChange edit.now.old.now edit.now.text.now edit.now.start edit.now.old_stop edit.now.new_stop change.now.kept_front (made_pieces change.now) change.now.kept_back change.now.kept_from change.now.list.ends.items change.now.list.kinds.items }
+        requires change { IsChange (edit_of edit.now) change.now }
         ensures change { IfOk
             result
-            (λ r. IsTokenChange edit.now.old.now edit.now.text.now edit.now.start edit.now.old_stop edit.now.new_stop r.edit r.made.items r.marks.items r.same) }
+            (λ r. IsTokenChange (edit_of edit.now) r) }
         ensures shifted { IfOk
             result
-            (λ r. IfSome r.shifted (λ t. AreShifted edit.now.old.now edit.now.text.now edit.now.start edit.now.old_stop edit.now.new_stop t.by t.before)) }
+            (λ r. IfSome r.shifted (λ t. AreShifted (edit_of edit.now) t.by t.before)) }
     {
         kept_as_spelled();
         meets_where_sought::<Bytes>();

@@ -1,28 +1,21 @@
 -- Which items of a new text are fresh, and the numbers that the kept ones had.
 use Rattle.std.proofs.Common.{arith, ◌≡◌, ◌≢◌, ℕ, zero, suc, ◌+◌, ◌-◌, ◌<◌, ◌≤◌, ◌⊎◌, inl, inr, Bool, true, false, List, [], ◌∷◌, ◌++◌, length, take, drop, get_or, nat_eq, nat_lt, Option, None, Some, refl, sym, ap, subst, ◌∙◌, cond, length-append, length-drop}
-use Rattle.std.proofs.lemmas.Bool.{le-ltb, lt-ltb}
+use Rattle.std.proofs.lemmas.Bool.{le-ltb, lt-ltb, cases_lt}
 use Rattle.std.proofs.lemmas.Bool.Decides.{Decides-eqb, eqb_tells, leb_tells}
 use Rattle.std.proofs.lemmas.List.{get_or-append-add, get_or_append_left, length-map, length-take-le}
 use Rattle.std.proofs.lemmas.List.Folds.{list_any_at, list_any_none}
 use Rattle.snl_cut.specs.Cut.{Rises, joined, moved}
 use Rattle.snl_kept.specs.NewChecks.{kept_of, number_before}
 use Rattle.snl_kept.specs.Stirred.{is_fresh, old_number}
+use Rattle.snl_cut.specs.CutLaws.{rises_at}
 
 -- ---- ends that rise
-
-rises_above : (from : ℕ) (xs : List ℕ) (i : ℕ) → Rises from xs → i < length xs → from < get_or xs i 0
-rises_above from [] i h lt = omega arith
-rises_above from (x ∷ xs) zero h lt = h.0
-rises_above from (x ∷ xs) (suc i) h lt = let after : x < get_or xs i 0 = rises_above x xs i h.1 (omega arith) in omega (arith, h.0, after)
 
 rises_by_number : (from : ℕ) (xs : List ℕ) (i j : ℕ) → Rises from xs → i < j → j < length xs → get_or xs i 0 < get_or xs j 0
 rises_by_number from [] i j h lt inside = omega arith
 rises_by_number from (x ∷ xs) i zero h lt inside = omega arith
-rises_by_number from (x ∷ xs) zero (suc j) h lt inside = rises_above x xs j h.1 (omega arith)
+rises_by_number from (x ∷ xs) zero (suc j) h lt inside = rises_at x xs j h.1 (omega arith)
 rises_by_number from (x ∷ xs) (suc i) (suc j) h lt inside = rises_by_number x xs i j h.1 (omega arith) (omega arith)
-
-below : (a b : ℕ) → (a < b) ⊎ (b ≤ a)
-below a b = elim (leb_tells (suc a) b) [ inl t ↦ inl (omega (arith, t.1)) | inr f ↦ inr (omega (arith, f.1)) ]
 
 -- different numbers have different ends
 differ : (xs : List ℕ) (i j : ℕ) → Rises 0 xs → i < length xs → j < length xs → i ≢ j → get_or xs i 0 ≢ get_or xs j 0
@@ -33,7 +26,7 @@ differ xs i j h within inside ne e =
     ]
   where
     less : (i j : ℕ) → i ≢ j → (i < j) ⊎ (j < i)
-    less i j ne = elim (below i j) [ inl lt ↦ inl lt | inr le ↦ inr (omega arith) ]
+    less i j ne = elim (cases_lt i j) [ inl lt ↦ inl lt | inr le ↦ inr (omega arith) ]
 
 unequal : (a b : ℕ) → a ≢ b → nat_eq a b ≡ false
 unequal a b ne = elim (eqb_tells a b) [ inl t ↦ absurd (ne t.1) | inr f ↦ f.0 ]
@@ -170,7 +163,7 @@ module _ (old ends made : List ℕ) (old_stop new_stop front back : ℕ) (order 
 
     pub numbered : (i : ℕ) → i < length ends → IsNumbered ends made before (length old) i (number_before (kept_of (length old) front made back) i)
     numbered i lt =
-        elim (below i front) [
+        elim (cases_lt i front) [
           | inl b ↦ at_front i lt b
-          | inr f ↦ elim (below i (front + length made)) [ inl t ↦ at_made i lt f t | inr t ↦ at_back i lt t ]
+          | inr f ↦ elim (cases_lt i (front + length made)) [ inl t ↦ at_made i lt f t | inr t ↦ at_back i lt t ]
         ]

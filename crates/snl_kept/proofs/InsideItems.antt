@@ -11,6 +11,7 @@ use Rattle.snl_lex.specs.declared.piece.Piece.{Piece}
 use Rattle.snl_lex.specs.declared.shift.Shift.{Shift}
 use Rattle.snl_lex.specs.Lines.{line_at}
 use Rattle.snl_lex.specs.PieceList.{spelled}
+use Rattle.snl_lex.specs.Edit.{Edit}
 use Rattle.snl_lex.specs.Pieces.{LiesIn, is_token, pieces_of, tokens_of}
 use Rattle.snl_lex.specs.LineShift.{IsLineShift, moved_line}
 use Rattle.snl_lex.specs.Shift.{IsOutside, shifted_offset, shifted_piece}
@@ -27,14 +28,14 @@ use Rattle.snl_scope.specs.declared.summaries.summary.Outline.{Outline}
 use Rattle.snl_scope.specs.declared.summaries.summary.Summary.{Summary}
 use Rattle.snl_tables.specs.declared.rows.Span.{Span}
 use Rattle.snl_tables.specs.Shifted.{shifted_span}
-use Rattle.snl_check.specs.Items.{outline_of_item, span_of}
+use Rattle.snl_item_check.specs.Items.{outline_of_item}
+use Rattle.snl_check.specs.ItemSpans.{span_of}
 use Rattle.snl_check.specs.Moved.{KeepsItem, ReplacesItem, ReplacesOne}
 use Rattle.snl_check.specs.Shifted.{shifted_item, shifted_tokens, start_at}
 use Rattle.snl_check.specs.ShiftedAround.{IsPlacedAt, is_plain}
 use Rattle.snl_kept.specs.declared.entries.Entry.{Entry}
 use Rattle.snl_kept.specs.declared.plan.Changes.{Changes}
 use Rattle.snl_kept.specs.declared.plan.NewCheck.{NewCheck}
-use Rattle.snl_kept.specs.Edit.{Edit}
 use Rattle.snl_kept.specs.Checks.{check_by, links_in, outlines_in}
 use Rattle.snl_kept.specs.Entries.{entry_by}
 use Rattle.snl_kept.specs.Linked.{outlines_of}
@@ -42,17 +43,17 @@ use Rattle.snl_kept.specs.ReplacedItem.{DeclaresInHead, IsInside, IsLeft, IsOneR
 use Rattle.snl_kept.specs.Program.{ProgramItem, item_tokens, items_of, program_item, tree_in}
 use Rattle.snl_kept.specs.NewChecks.{AreChecksMade, kept_of, made_at, made_checks, nones}
 use Rattle.snl_kept.specs.Shifted.{IsOnOneSide}
-use Rattle.snl_kept.specs.Stirred.{stirred_between}
+use Rattle.snl_kept.specs.Stirred.{stirred_of}
 use Rattle.snl_kept.proofs.MadeChecks.{checks_made, made_are_stirred, stirred_told}
 use Rattle.snl_kept.proofs.MemberParts.{element_at, got, got_other, others_mapped, taken_to_last}
 use Rattle.snl_kept.proofs.Rechecks.{Spelled}
-use Rattle.snl_kept.proofs.ShiftedFindings.{stays}
 use Rattle.snl_kept.proofs.ShiftedItems.{all_items, all_kinds, all_outlines}
 use Rattle.snl_kept.proofs.ShiftedLines.{IsAfter, IsInFront, KeepsLine, all_after, all_in_front, in_front}
 use Rattle.snl_kept.proofs.ShiftedText.{along}
-use Rattle.snl_kept.proofs.Sides.{not_le}
 use Rattle.snl_kept.proofs.InsideChecks.{one_check}
 use Rattle.snl_kept.proofs.InsideParts.{IsPastHead, are_parts, back_alike, back_each, entry_is, entry_was, front_alike, front_each, front_olds_count, fronts_count, head_before, head_shifts, own_now, spelled_parts, stops_after, were_parts}
+use Rattle.std.proofs.lemmas.Bool.{lt-leb}
+use Rattle.snl_lex.specs.ShiftLaws.{early_offset}
 
 -- two facts of each
 both : {X : Type 0} (P Q R : X → Type 0) → ((x : X) → P x → Q x → R x) → (xs : List X) → AllByRecursion P xs → AllByRecursion Q xs → AllByRecursion R xs
@@ -95,22 +96,13 @@ module _ (edit : Edit) (c : Changes) (t : LineShift) (x e : Entry) (is : IsInsid
   abbrev text : List ℕ
   text = edit.text
 
-  abbrev start : ℕ
-  start = edit.start
-
-  abbrev old_stop : ℕ
-  old_stop = edit.old_stop
-
-  abbrev new_stop : ℕ
-  new_stop = edit.new_stop
-
   abbrev s : Shift
   s = t.by
 
   abbrev k : ℕ
   k = c.items.kept_front
 
-  past : IsPastHead old text start old_stop new_stop c s
+  past : IsPastHead edit c s
   past = record {
     tokens = is.changed.tokens;
     items = is.changed.items;
@@ -151,20 +143,20 @@ module _ (edit : Edit) (c : Changes) (t : LineShift) (x e : Entry) (is : IsInsid
   back = map (program_item old) back_tokens
 
   number : length front ≡ k
-  number = length-map front_tokens (program_item old) ∙ fronts_count old text start old_stop new_stop c s past
+  number = length-map front_tokens (program_item old) ∙ fronts_count edit c s past
 
   items_were : items_of old ≡ front ++ (program_item old was_own ∷ back)
-  items_were = ap (map (program_item old)) (were_parts old text start old_stop new_stop c s past) ∙ map-append (program_item old) front_tokens (was_own ∷ back_tokens)
+  items_were = ap (map (program_item old)) (were_parts edit c s past) ∙ map-append (program_item old) front_tokens (was_own ∷ back_tokens)
 
   alike_in_front : AllByRecursion (λ m. spelled text (shifted_tokens s m) ≡ spelled old m) front_tokens
-  alike_in_front = front_alike old text start old_stop new_stop c s past
+  alike_in_front = front_alike edit c s past
 
   alike_at_back : AllByRecursion (λ m. spelled text (shifted_tokens s m) ≡ spelled old m) back_tokens
-  alike_at_back = back_alike old text start old_stop new_stop c s past
+  alike_at_back = back_alike edit c s past
 
   items_are : items_of text ≡ map (shifted_item s) front ++ (program_item text is_own ∷ map (shifted_item s) back)
   items_are =
-      ap (map (program_item text)) (are_parts old text start old_stop new_stop c s past)
+      ap (map (program_item text)) (are_parts edit c s past)
       ∙ map-append (program_item text) (map (shifted_tokens s) front_tokens) (is_own ∷ map (shifted_tokens s) back_tokens)
       ∙ ap₂ (λ (a b : List ProgramItem). a ++ (program_item text is_own ∷ b)) (all_items old text s tree_told by_spelling summary_told front_tokens alike_in_front)
       (all_items old text s tree_told by_spelling summary_told back_tokens alike_at_back)
@@ -172,10 +164,10 @@ module _ (edit : Edit) (c : Changes) (t : LineShift) (x e : Entry) (is : IsInsid
   -- ---- the item that is replaced
 
   was_spelled : x ≡ entry_by (spelled old was_own)
-  was_spelled = entry_was old text start old_stop new_stop c s past x is.was
+  was_spelled = entry_was edit c s past x is.was
 
   spelled_so : e ≡ entry_by (spelled text is_own)
-  spelled_so = entry_is old text start old_stop new_stop c s past e is.made
+  spelled_so = entry_is edit c s past e is.made
 
   own_summary : (text : List ℕ) (m : List Piece) → summary_in text m (tree_in text m) ≡ (entry_by (spelled text m)).summary
   own_summary text m =
@@ -263,13 +255,13 @@ module _ (edit : Edit) (c : Changes) (t : LineShift) (x e : Entry) (is : IsInsid
   front_stays =
       along old (StaysItem old text s) front_tokens
       (both (λ m. spelled text (shifted_tokens s m) ≡ spelled old m) (AllByRecursion (IsLeft old s)) (λ m. StaysItem old text s (program_item old m)) stays_one front_tokens alike_in_front
-      (front_each old text start old_stop new_stop c s past (IsLeft old s) left_before))
+      (front_each edit c s past (IsLeft old s) left_before))
 
   back_stays : AllByRecursion (StaysItem old text s) back
   back_stays =
       along old (StaysItem old text s) back_tokens
       (both (λ m. spelled text (shifted_tokens s m) ≡ spelled old m) (AllByRecursion (IsLeft old s)) (λ m. StaysItem old text s (program_item old m)) stays_one back_tokens alike_at_back
-      (back_each old text start old_stop new_stop c s past (IsLeft old s) left_after))
+      (back_each edit c s past (IsLeft old s) left_after))
 
   -- ---- each of the others keeps its bytes and its line
 
@@ -285,7 +277,7 @@ module _ (edit : Edit) (c : Changes) (t : LineShift) (x e : Entry) (is : IsInsid
       (both (λ m. spelled text (shifted_tokens s m) ≡ spelled old m) (λ m. AllByRecursion (IsInFront old text t order line_of) m × IsOnOneSide t.until m) (λ m. KeepsItem old text s (moved_line t) (program_item old m))
       (λ m same there. keeps_one m same (all_in_front old text t order line_of m there.0 there.1)) front_tokens alike_in_front
       (both (AllByRecursion (IsInFront old text t order line_of)) (IsOnOneSide t.until) (λ m. AllByRecursion (IsInFront old text t order line_of) m × IsOnOneSide t.until m) (λ m in_front side. (in_front, side)) front_tokens
-      (front_each old text start old_stop new_stop c s past (IsInFront old text t order line_of) starts_before) (each_taken (IsOnOneSide t.until) k (item_tokens old) is.lines.numbered)))
+      (front_each edit c s past (IsInFront old text t order line_of) starts_before) (each_taken (IsOnOneSide t.until) k (item_tokens old) is.lines.numbered)))
 
   back_keeps : AllByRecursion (KeepsItem old text s (moved_line t)) back
   back_keeps =
@@ -293,7 +285,7 @@ module _ (edit : Edit) (c : Changes) (t : LineShift) (x e : Entry) (is : IsInsid
       (both (λ m. spelled text (shifted_tokens s m) ≡ spelled old m) (λ m. AllByRecursion (IsAfter old text t order line_of) m × IsOnOneSide t.until m) (λ m. KeepsItem old text s (moved_line t) (program_item old m))
       (λ m same there. keeps_one m same (all_after old text t order line_of m there.0 there.1)) back_tokens alike_at_back
       (both (AllByRecursion (IsAfter old text t order line_of)) (IsOnOneSide t.until) (λ m. AllByRecursion (IsAfter old text t order line_of) m × IsOnOneSide t.until m) (λ m after side. (after, side)) back_tokens
-      (back_each old text start old_stop new_stop c s past (IsAfter old text t order line_of) starts_after) (each_dropped (IsOnOneSide t.until) (suc k) (item_tokens old) is.lines.numbered)))
+      (back_each edit c s past (IsAfter old text t order line_of) starts_after) (each_dropped (IsOnOneSide t.until) (suc k) (item_tokens old) is.lines.numbered)))
 
   -- ---- the tokens before the edit of the one that is replaced
 
@@ -304,14 +296,14 @@ module _ (edit : Edit) (c : Changes) (t : LineShift) (x e : Entry) (is : IsInsid
   two n lt = omega (arith, is.head)
 
   head : (n : ℕ) → n < many → slice_get is_own n ≡ option_map (shifted_piece s) (slice_get was_own n)
-  head = head_shifts old text start old_stop new_stop c s past
+  head = head_shifts edit c s past
 
   of_head : (P : Piece → Type 0) → All P before → (n : ℕ) (p : Piece) → n < many → slice_get was_own n ≡ Some p → P p
   of_head P h n p lt there =
-      got P before (last_end 0 (take k (item_ends old)) + n) p (recursion_from_All P before h) (head_before old text start old_stop new_stop c s past n p lt there)
+      got P before (last_end 0 (take k (item_ends old)) + n) p (recursion_from_All P before h) (head_before edit c s past n p lt there)
 
   name_at : (o : Option Piece) → span_of (option_map (shifted_piece s) o) ≡ shifted_span s (span_of o)
-  name_at None = let at : ℕ → Span = λ n. record { start = n; len = 0 } in ap at (sym (stays s 0 is.lines.lines.some_before))
+  name_at None = let at : ℕ → Span = λ n. record { start = n; len = 0 } in ap at (sym (early_offset s 0 is.lines.lines.some_before))
   name_at (Some p) = refl
 
   head_begins : (n : ℕ) → n < 2 → start_at was_own n < s.start
@@ -323,7 +315,7 @@ module _ (edit : Edit) (c : Changes) (t : LineShift) (x e : Entry) (is : IsInsid
 
   -- the line that the next marker numbers is after the edit
   early : (n : ℕ) → n < 2 → nat_le t.until (start_at was_own n) ≡ false
-  early n lt = not_le t.until (start_at was_own n) (omega (arith, head_begins n lt, is.lines.lines.until_after, order))
+  early n lt = lt-leb t.until (start_at was_own n) (omega (arith, head_begins n lt, is.lines.lines.until_after, order))
 
   line_is : line_at text (start_at is_own 0) ≡ moved_line t (start_at was_own 1) (line_at old (start_at was_own 0))
   line_is =
@@ -413,9 +405,9 @@ module _ (edit : Edit) (c : Changes) (t : LineShift) (x e : Entry) (is : IsInsid
   made_is =
       let kept = kept_of count k made c.items.kept_back in
       ap (λ (ts : List Outline). made_checks (outlines_in old) ts kept (spelled_items text)) outlines_same
-      ∙ ap (made_checks (outlines_in old) (outlines_in old) kept) (spelled_parts old text start old_stop new_stop c s past)
+      ∙ ap (made_checks (outlines_in old) (outlines_in old) kept) (spelled_parts edit c s past)
       ∙ one_check views (outlines_in old) count k made c.items.kept_back is.one_made is.one_gone (take k (spelled_items old)) (spelled text is_own) (drop (suc k) (spelled_items old))
-      (front_olds_count old text start old_stop new_stop c s past)
+      (front_olds_count edit c s past)
 
   checks_are : AreChecksMade old text k (nones made) c.items.kept_back (made_at k (own_check old text k))
   checks_are =
@@ -423,7 +415,7 @@ module _ (edit : Edit) (c : Changes) (t : LineShift) (x e : Entry) (is : IsInsid
       (checks_made old text c.tokens.edit.old_stop c.tokens.edit.new_stop k (last_end 0 (take k (item_ends old))) made c.items.kept_back (ends_below c.tokens.edit.start (item_ends old))
       is.changed.items.order is.changed.items.ends (rises text) is.changed.items.before is.changed.items.items (checks_stay (outlines_in old) (outlines_in text)))
 
-  stirred_are : stirred_between edit ≡ length (made_at k (own_check old text k))
+  stirred_are : stirred_of edit ≡ length (made_at k (own_check old text k))
   stirred_are =
       sym (made_are_stirred old text c.tokens.edit.old_stop c.tokens.edit.new_stop k (last_end 0 (take k (item_ends old))) made c.items.kept_back (ends_below c.tokens.edit.start (item_ends old))
       is.changed.items.order is.changed.items.ends (rises text) is.changed.items.before is.changed.items.items (checks_stay (outlines_in old) (outlines_in text))
@@ -438,9 +430,9 @@ module _ (edit : Edit) (c : Changes) (t : LineShift) (x e : Entry) (is : IsInsid
     inside = replaces_inside;
     one = replaces_one;
     first = omega (arith, is.head);
-    stop = stops_after old text start old_stop new_stop c s past;
+    stop = stops_after edit c s past;
     within = omega (arith, lasts old, taken_to_last 0 (k + 1) (item_ends old) (rises old));
-    own_now = own_now old text start old_stop new_stop c s past;
+    own_now = own_now edit c s past;
     outline_was = outline_was;
     kinds = kinds_are;
     was_spelled = was_spelled;

@@ -2,7 +2,7 @@
 use Rattle.std.proofs.Common.{◌≡◌, ℕ, ◌++◌, Bool, true, false, List, [], ◌∷◌, length, map, slice_get, Option, Some, is_none, is_some, option_map, refl, sym, ap, subst, ◌∙◌}
 use Rattle.std.specs.Option.{option_map_or}
 use Rattle.std.proofs.lemmas.List.{length-map}
-use Rattle.std.proofs.lemmas.Option.{slice_get-map}
+use Rattle.std.proofs.lemmas.Option.{slice_get-map, same_Some}
 use Rattle.snl_lex.specs.declared.line_shift.LineShift.{LineShift}
 use Rattle.snl_lex.specs.declared.shift.Shift.{Shift}
 use Rattle.snl_lex.specs.LineShift.{moved_line}
@@ -12,14 +12,14 @@ use Rattle.snl_scope.specs.Order.{is_named_state, state_name}
 use Rattle.snl_scope.specs.Summaries.{kind_of}
 use Rattle.snl_tables.specs.declared.rows.Tables.{Tables}
 use Rattle.snl_tables.specs.Moved.{moved_tables}
-use Rattle.snl_check.specs.Items.{outline_of_item, outlines_of}
+use Rattle.snl_item_check.specs.Items.{outline_of_item, outlines_of}
 use Rattle.snl_check.specs.Shifted.{shifted_item}
 use Rattle.snl_check.specs.ShiftedAround.{IsSoundAsItWas, SaysAlike, SaysAlikeAt, is_plain}
 use Rattle.snl_kept.specs.declared.entries.Entry.{Entry}
 use Rattle.snl_kept.specs.declared.found.findings.Finding.{Finding}
 use Rattle.snl_kept.specs.declared.plan.Changes.{Changes}
 use Rattle.snl_kept.specs.declared.plan.RowChange.{RowChange}
-use Rattle.snl_kept.specs.Edit.{Edit}
+use Rattle.snl_lex.specs.Edit.{Edit}
 use Rattle.snl_kept.specs.Checks.{links_in}
 use Rattle.snl_kept.specs.Diagnostics.{diagnostics_of, shown, shown_if}
 use Rattle.snl_kept.specs.ItemPlan.{IsAfterInside, own_item}
@@ -37,9 +37,6 @@ use Rattle.snl_kept.proofs.InsideTables.{walks_around}
 between : {X : Type 0} (front : List X) (x : X) (back : List X) → slice_get (front ++ (x ∷ back)) (length front) ≡ Some x
 between [] x back = refl
 between (y ∷ front) x back = between front x back
-
-same_one : {X : Type 0} (x y : X) → Some x ≡ Some y → x ≡ y
-same_one x y e = cc
 
 module _ (edit : Edit) (c : Changes) (t : LineShift) (x e : Entry) (one : IsOneReplaced edit c t x e) where
   abbrev old : List ℕ
@@ -82,11 +79,11 @@ module _ (edit : Edit) (c : Changes) (t : LineShift) (x e : Entry) (one : IsOneR
 
   pub sound_as_it_was : is_none is.tree ≡ is_none was.tree → IsSoundAsItWas (items_of old) (items_of text) j
   sound_as_it_was same = λ a b at_a at_b.
-      ap (λ (z : ProgramItem). is_none z.tree) (same_one b is (sym at_b ∙ got_is)) ∙ same ∙ ap (λ (z : ProgramItem). is_none z.tree) (same_one was a (sym got_was ∙ at_a))
+      ap (λ (z : ProgramItem). is_none z.tree) (same_Some b is (sym at_b ∙ got_is)) ∙ same ∙ ap (λ (z : ProgramItem). is_none z.tree) (same_Some was a (sym got_was ∙ at_a))
 
   pub says_alike_at : SaysAlike old text was is → SaysAlikeAt old text (items_of old) (items_of text) j
   says_alike_at alike = λ a b at_a at_b.
-      subst (λ (z : ProgramItem). SaysAlike old text z b) (same_one was a (sym got_was ∙ at_a)) (subst (λ (z : ProgramItem). SaysAlike old text was z) (same_one is b (sym got_is ∙ at_b)) alike)
+      subst (λ (z : ProgramItem). SaysAlike old text z b) (same_Some was a (sym got_was ∙ at_a)) (subst (λ (z : ProgramItem). SaysAlike old text was z) (same_Some is b (sym got_is ∙ at_b)) alike)
 
   -- ---- what the text says
 

@@ -2,12 +2,13 @@
 -- tests.
 use Rattle.std.proofs.Common.{◌≡◌, ℕ, zero, suc, ◌+◌, ◌-◌, ◌<◌, Bool, List, [], ◌∷◌, ◌++◌, length, map, take, drop, slice_get, Option, Some, is_none, option_map, refl, sym, ap, ap₂, ◌∙◌, arith, add-one}
 use Rattle.std.proofs.lemmas.List.{length-take-le}
-use Rattle.std.proofs.lemmas.Option.{slice_get-map}
+use Rattle.std.proofs.lemmas.Option.{slice_get-map, same_Some}
 use Rattle.snl_cut.specs.Cut.{IsEdit, last_end, members}
 use Rattle.snl_lex.specs.declared.piece.Class.{Class}
 use Rattle.snl_lex.specs.declared.piece.Piece.{Piece}
 use Rattle.snl_lex.specs.declared.line_shift.LineShift.{LineShift}
 use Rattle.snl_lex.specs.PieceList.{spelled}
+use Rattle.snl_lex.specs.Edit.{Edit}
 use Rattle.snl_lex.specs.Pieces.{tokens_of}
 use Rattle.snl_items.specs.Changes.{IsShiftOf}
 use Rattle.snl_items.specs.Items.{item_ends, spelled_items}
@@ -21,9 +22,10 @@ use Rattle.snl_scope.specs.declared.summaries.summary.ItemKind.{ItemKind}
 use Rattle.snl_scope.specs.declared.summaries.summary.Outline.{Outline}
 use Rattle.snl_scope.specs.declared.summaries.summary.Summary.{Summary}
 use Rattle.snl_tables.specs.declared.rows.Tables.{Tables}
-use Rattle.snl_check.specs.declared.rules.findings.Checked.{Checked}
-use Rattle.snl_check.specs.Items.{outlines_of, summary_of_item}
-use Rattle.snl_check.specs.ShiftedAround.{SaysAlike, wakes_of}
+use Rattle.snl_item_check.specs.declared.findings.Checked.{Checked}
+use Rattle.snl_item_check.specs.Items.{outlines_of, summary_of_item}
+use Rattle.snl_item_check.specs.Told.{wakes_of}
+use Rattle.snl_check.specs.ShiftedAround.{SaysAlike}
 use Rattle.snl_kept.specs.declared.entries.Entry.{Entry}
 use Rattle.snl_kept.specs.declared.found.findings.Diagnostic.{Diagnostic}
 use Rattle.snl_kept.specs.declared.found.findings.Finding.{Finding}
@@ -31,7 +33,6 @@ use Rattle.snl_kept.specs.declared.ways.one_item.replaced.OldItem.{OldItem}
 use Rattle.snl_kept.specs.declared.ways.one_item.replaced.OwnTokens.{OwnTokens}
 use Rattle.snl_kept.specs.declared.plan.Changes.{Changes}
 use Rattle.snl_kept.specs.declared.plan.RowChange.{RowChange}
-use Rattle.snl_kept.specs.Edit.{Edit}
 use Rattle.snl_kept.specs.Checks.{check_by, checks_from, checks_of, links_in, outlines_in}
 use Rattle.snl_kept.specs.Diagnostics.{diagnostic, diagnostics_of, shown_if}
 use Rattle.snl_kept.specs.Entries.{entries_of, entry_by}
@@ -46,11 +47,8 @@ use Rattle.snl_kept.specs.Tables.{tables_in}
 use Rattle.snl_kept.specs.Warnings.{warns_in}
 use Rattle.snl_kept.proofs.InsideTold.{same_sound, summary_is, tree_is, wakes_are}
 use Rattle.snl_kept.proofs.MemberParts.{element_at, members_parts}
-use Rattle.snl_kept.proofs.Members.{members_count}
 use Rattle.snl_kept.proofs.SpelledItems.{spelled_text}
-
-one_of : {X : Type 0} (x y : X) → Some x ≡ Some y → x ≡ y
-one_of x y e = cc
+use Rattle.snl_cut.specs.CutLaws.{length_members}
 
 -- ---- the item with a number, and what is kept of it
 
@@ -60,7 +58,7 @@ own_got text k lt =
     let ends : List ℕ = item_ends text in
     let all : List (List Piece) = members (tokens_of text) 0 ends in
     let first : ℕ = last_end 0 (take k ends) in
-    let many : length (take k all) ≡ k = length-take-le k all (omega (arith, lt, members_count (tokens_of text) 0 ends)) in
+    let many : length (take k all) ≡ k = length-take-le k all (omega (arith, lt, length_members (tokens_of text) 0 ends)) in
     ap (λ (l : List (List Piece)). slice_get l k) (members_parts (tokens_of text) 0 k ends lt)
     ∙ element_at (take k all) (take (last_end 0 (take (suc k) ends) - first) (drop first (tokens_of text))) (drop (suc k) all) k many
     ∙ ap (λ (n : ℕ). Some (take (last_end 0 (take n ends) - first) (drop first (tokens_of text)))) (sym (add-one k))
@@ -73,16 +71,16 @@ spelled_got text k lt =
 
 pub entry_got : (text : List ℕ) (k : ℕ) (e : Entry) → k < length (item_ends text) → slice_get (entries_of text) k ≡ Some e → e ≡ entry_by (spelled text (own_tokens text k))
 entry_got text k e lt got =
-    one_of e (entry_by (spelled text (own_tokens text k))) (sym got ∙ slice_get-map entry_by (spelled_items text) k ∙ ap (option_map entry_by) (spelled_got text k lt))
+    same_Some e (entry_by (spelled text (own_tokens text k))) (sym got ∙ slice_get-map entry_by (spelled_items text) k ∙ ap (option_map entry_by) (spelled_got text k lt))
 
 check_from : (ss : List Outline) (n k : ℕ) (xs : List (List (Class × List ℕ))) (x : List (Class × List ℕ)) → slice_get xs k ≡ Some x → slice_get (checks_from ss n xs) k ≡ Some (check_by ss (n + k) x)
 check_from ss n k [] x got = absurd cc
-check_from ss n zero (y ∷ ys) x got = ap₂ (λ (i : ℕ) (z : List (Class × List ℕ)). Some (check_by ss i z)) (omega arith) (one_of y x got)
+check_from ss n zero (y ∷ ys) x got = ap₂ (λ (i : ℕ) (z : List (Class × List ℕ)). Some (check_by ss i z)) (omega arith) (same_Some y x got)
 check_from ss n (suc k) (y ∷ ys) x got = check_from ss (n + 1) k ys x got ∙ ap (λ (i : ℕ). Some (check_by ss i x)) (omega arith)
 
 pub check_got : (text : List ℕ) (k : ℕ) (c : Option Checked) → k < length (item_ends text) → slice_get (checks_of text) k ≡ Some c → c ≡ check_by (outlines_in text) k (spelled text (own_tokens text k))
 check_got text k c lt got =
-    one_of c (check_by (outlines_in text) k (spelled text (own_tokens text k)))
+    same_Some c (check_by (outlines_in text) k (spelled text (own_tokens text k)))
     (sym got
     ∙ check_from (outlines_in text) 0 k (spelled_items text) (spelled text (own_tokens text k)) (spelled_got text k lt)
     ∙ ap (λ (i : ℕ). Some (check_by (outlines_in text) i (spelled text (own_tokens text k)))) (omega arith))
@@ -90,7 +88,7 @@ check_got text k c lt got =
 -- ---- an edit inside one item
 
 pub is_inside : (edit : Edit) (c : Changes) (t : LineShift) (w : OldItem) (e : Entry)
-    → IsChanged edit c → IsEdit edit.old edit.text edit.start edit.old_stop edit.new_stop → IsShiftOf edit.old edit.text edit.start edit.old_stop edit.new_stop t.by
+    → IsChanged edit c → IsEdit edit.old edit.text edit.start edit.old_stop edit.new_stop → IsShiftOf edit t.by
     → ShiftsLines edit.old edit.text t → IsOneItem edit.old c → IsWas edit.old c.items.kept_front w → AreEntriesMade edit.old edit.text c.items.kept_front (e ∷ []) c.items.kept_back
     → SaysWhatItSaid edit.old (own_head edit.old c) c.items.kept_front w e → IsInside edit c t w.entry.now e
 is_inside edit c t w e changed edit_is by lines one was made says = record {
@@ -166,12 +164,6 @@ module _ (tree_told : (text : List ℕ) (tokens : List Piece) → sound_tree (pa
       }
 
 -- ---- the links after an edit inside one item
-
--- the kinds of the items after it
-pub kinds_after : (edit : Edit) (c : Changes) (t : LineShift) (x e : Entry) → IsOneReplaced edit c t x e → (ks : List ItemKind) → ks ≡ (links_in edit.old).kinds
-    → take c.items.kept_front ks ++ (e.summary.kind ∷ drop (c.items.kept_front + 1) ks) ≡ (links_in edit.text).kinds
-kinds_after edit c t x e one ks is =
-    ap (λ (l : List ItemKind). take c.items.kept_front l ++ (e.summary.kind ∷ drop (c.items.kept_front + 1) l)) is ∙ sym one.kinds
 
 put_back : {X : Type 0} (x : X) (k : ℕ) (xs : List X) → slice_get xs k ≡ Some x → take k xs ++ (x ∷ drop (suc k) xs) ≡ xs
 put_back x k [] there = absurd cc

@@ -3,12 +3,13 @@
 use Rattle.std.proofs.Common.{◌≡◌, ℕ, suc, ◌+◌, ◌-◌, ◌<◌, ◌≤◌, All, List, [], ◌∷◌, ◌++◌, length, map, take, drop, get_or, slice_get, Some, option_map, sym, ap, ap₂, ◌∙◌, subst, append_assoc, add-one, arith, length-append}
 use Rattle.std.specs.List.{AllByRecursion}
 use Rattle.std.proofs.lemmas.List.{drop-map, drop_at, length-map, length-take-le, map-append, take-map, take_at}
-use Rattle.std.proofs.lemmas.Option.{slice_get-map}
+use Rattle.std.proofs.lemmas.Option.{slice_get-map, same_Some}
 use Rattle.std.proofs.lemmas.Simd.{map-map}
 use Rattle.snl_cut.specs.Cut.{Rises, last_end, members, moved}
 use Rattle.snl_lex.specs.declared.piece.Class.{Class}
 use Rattle.snl_lex.specs.declared.piece.Piece.{Piece}
 use Rattle.snl_lex.specs.declared.shift.Shift.{Shift}
+use Rattle.snl_lex.specs.Edit.{Edit}
 use Rattle.snl_lex.specs.PieceList.{spelled, spelling}
 use Rattle.snl_lex.specs.Pieces.{tokens_of}
 use Rattle.snl_lex.specs.Shift.{shifted_piece}
@@ -23,25 +24,29 @@ use Rattle.snl_kept.specs.ReplacedItem.{own_tokens}
 use Rattle.snl_kept.specs.Planned.{AreEntriesMade}
 use Rattle.snl_kept.specs.Program.{item_tokens}
 use Rattle.snl_kept.proofs.KeptChecks.{agreed}
-use Rattle.snl_kept.proofs.MemberParts.{element_at, get_dropped, get_taken, in_last_members, in_members, last_of_more, members_append, members_at_back, members_drop, members_in_front, members_map, members_parts, members_take, rises_drop, rises_take, same_parts}
-use Rattle.snl_kept.proofs.Members.{entries_count, members_count}
+use Rattle.snl_kept.proofs.MemberParts.{element_at, get_dropped, get_taken, in_last_members, in_members, last_of_more, members_at_back, members_drop, members_in_front, members_map, members_parts, members_take, rises_drop, rises_take, same_parts}
+use Rattle.snl_kept.proofs.Members.{entries_count}
 use Rattle.snl_kept.proofs.OneItem as one_item
 use Rattle.snl_kept.proofs.SpelledItems.{spelled_text}
-
-one_of : {X : Type 0} (x y : X) → Some x ≡ Some y → x ≡ y
-one_of x y e = cc
+use Rattle.snl_cut.specs.CutLaws.{members_joined, length_members}
 
 -- An edit makes one item in the place of one, and is past the first two tokens of that one.
-pub record IsPastHead (old text : List ℕ) (start old_stop new_stop : ℕ) (c : Changes) (s : Shift) : Type 0 where
-  pub tokens : IsTokenChange old text start old_stop new_stop c.tokens.edit c.tokens.made.items c.tokens.marks.items c.tokens.same
-  pub items : IsItemChange old text start old_stop new_stop c.tokens.edit c.items.kept_front c.items.made.items c.items.kept_back
+pub record IsPastHead (e : Edit) (c : Changes) (s : Shift) : Type 0 where
+  pub tokens : IsTokenChange e c.tokens
+  pub items : IsItemChange e c.tokens.edit c.items
   pub one_made : length c.items.made.items ≡ 1
-  pub one_gone : c.items.kept_front + 1 + c.items.kept_back ≡ length (item_ends old)
-  pub around : LeavesAround s (tokens_of old) (tokens_of text) c.tokens.made.items c.tokens.edit
-  pub head : last_end 0 (take c.items.kept_front (item_ends old)) + 2 ≤ c.tokens.edit.start
-  pub rises : Rises 0 (item_ends old)
+  pub one_gone : c.items.kept_front + 1 + c.items.kept_back ≡ length (item_ends e.old)
+  pub around : LeavesAround s (tokens_of e.old) (tokens_of e.text) c.tokens.made.items c.tokens.edit
+  pub head : last_end 0 (take c.items.kept_front (item_ends e.old)) + 2 ≤ c.tokens.edit.start
+  pub rises : Rises 0 (item_ends e.old)
 
-module _ (old text : List ℕ) (start old_stop new_stop : ℕ) (c : Changes) (s : Shift) (is : IsPastHead old text start old_stop new_stop c s) where
+module _ (e : Edit) (c : Changes) (s : Shift) (is : IsPastHead e c s) where
+  abbrev old : List ℕ
+  old = e.old
+
+  abbrev text : List ℕ
+  text = e.text
+
   abbrev edit : TokenEdit
   edit = c.tokens.edit
 
@@ -77,19 +82,19 @@ module _ (old text : List ℕ) (start old_stop new_stop : ℕ) (c : Changes) (s 
   later_ends = moved edit.old_stop edit.new_stop (drop (suc k) (item_ends old))
 
   kept_from : length (item_ends old) - back ≡ suc k
-  kept_from = one_item.kept_from old text start old_stop new_stop edit k made back is.items is.one_made is.one_gone
+  kept_from = one_item.kept_from e edit c.items is.items is.one_made is.one_gone
 
   made_is : made ≡ is_end ∷ []
-  made_is = one_item.made_is old text start old_stop new_stop edit k made back is.items is.one_made is.one_gone
+  made_is = one_item.made_is e edit c.items is.items is.one_made is.one_gone
 
   ends_after : edit.old_stop ≤ was_end
-  ends_after = one_item.ends_after old text start old_stop new_stop edit k made back is.items is.one_made is.one_gone
+  ends_after = one_item.ends_after e edit c.items is.items is.one_made is.one_gone
 
   end_moves : is_end ≡ (was_end - edit.old_stop) + edit.new_stop
-  end_moves = one_item.end_moves old text start old_stop new_stop edit k made back is.items is.one_made is.one_gone
+  end_moves = one_item.end_moves e edit c.items is.items is.one_made is.one_gone
 
   ends_are : item_ends text ≡ (take k (item_ends old) ++ (is_end ∷ [])) ++ later_ends
-  ends_are = one_item.ends_are old text start old_stop new_stop edit k made back is.items is.one_made is.one_gone
+  ends_are = one_item.ends_are e edit c.items is.items is.one_made is.one_gone
 
   -- ---- the tokens before the edit and after it
 
@@ -155,17 +160,17 @@ module _ (old text : List ℕ) (start old_stop new_stop : ℕ) (c : Changes) (s 
       ≡ map (shifted_tokens s) (take k (members (tokens_of old) 0 (item_ends old))) ++ (own ∷ map (shifted_tokens s) (drop (suc k) (members (tokens_of old) 0 (item_ends old))))
   all_members =
       ap (members (tokens_of text) 0) ends_are
-      ∙ members_append (tokens_of text) 0 (take k (item_ends old) ++ (is_end ∷ [])) later_ends
-      ∙ ap₂ (λ (x y : List (List Piece)). x ++ y) (members_append (tokens_of text) 0 (take k (item_ends old)) (is_end ∷ []))
+      ∙ members_joined (tokens_of text) 0 (take k (item_ends old) ++ (is_end ∷ [])) later_ends
+      ∙ ap₂ (λ (x y : List (List Piece)). x ++ y) (members_joined (tokens_of text) 0 (take k (item_ends old)) (is_end ∷ []))
       (ap (λ (n : ℕ). members (tokens_of text) n later_ends) (last_of_more 0 (take k (item_ends old)) is_end))
       ∙ append_assoc (members (tokens_of text) 0 (take k (item_ends old))) (own ∷ []) (members (tokens_of text) is_end later_ends)
       ∙ ap₂ (λ (x y : List (List Piece)). x ++ (own ∷ y)) front_members back_members
 
   begins : last_end 0 (take k (item_ends text)) ≡ first
-  begins = one_item.begins old text start old_stop new_stop edit k made back is.items is.one_made is.one_gone
+  begins = one_item.begins e edit c.items is.items is.one_made is.one_gone
 
   ends : last_end 0 (take (k + 1) (item_ends text)) ≡ is_end
-  ends = one_item.ends old text start old_stop new_stop edit k made back is.items is.one_made is.one_gone
+  ends = one_item.ends e edit c.items is.items is.one_made is.one_gone
 
   is_own : own_tokens text k ≡ own
   is_own = ap₂ (λ (x y : ℕ). take (y - x) (drop x (tokens_of text))) begins ends
@@ -243,7 +248,7 @@ module _ (old text : List ℕ) (start old_stop new_stop : ℕ) (c : Changes) (s 
       is.items.items ∙ ap₂ (λ (l : List ℕ) (n : ℕ). take k olds ++ (members (spellings text) first l ++ drop n olds)) made_is kept_from
 
   olds_count : length olds ≡ length (item_ends old)
-  olds_count = members_count (spellings old) 0 (item_ends old)
+  olds_count = length_members (spellings old) 0 (item_ends old)
 
   pub fronts_count : length (take k (item_tokens old)) ≡ k
   fronts_count =
@@ -293,7 +298,7 @@ module _ (old text : List ℕ) (start old_stop new_stop : ℕ) (c : Changes) (s 
 
   pub entry_was : (x : Entry) → slice_get (entries_of old) k ≡ Some x → x ≡ entry_by (spelled old (own_tokens old k))
   entry_was x there =
-      one_of x (entry_by (spelled old (own_tokens old k)))
+      same_Some x (entry_by (spelled old (own_tokens old k)))
       (sym there ∙ slice_get-map entry_by olds k
       ∙ ap (λ (l : List (List (Class × List ℕ))). option_map entry_by (slice_get l k)) were_spelled
       ∙ ap (option_map entry_by)
@@ -303,7 +308,7 @@ module _ (old text : List ℕ) (start old_stop new_stop : ℕ) (c : Changes) (s 
   pub entry_is : (e : Entry) → AreEntriesMade old text k (e ∷ []) back → e ≡ entry_by (spelled text (own_tokens text k))
   entry_is e made_so =
       let count : length (take k (entries_of old)) ≡ k = length-take-le k (entries_of old) (omega (arith, entries_count old, is.one_gone)) in
-      one_of e (entry_by (spelled text (own_tokens text k)))
+      same_Some e (entry_by (spelled text (own_tokens text k)))
       (sym (element_at (take k (entries_of old)) e (drop (length (entries_of old) - back) (entries_of old)) k count)
       ∙ ap (λ (l : List Entry). slice_get l k) (sym made_so)
       ∙ slice_get-map entry_by (spelled_items text) k

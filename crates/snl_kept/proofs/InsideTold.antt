@@ -10,10 +10,9 @@ use Rattle.snl_scope.specs.SpelledTokens.{bytes_by, summary_by}
 use Rattle.snl_scope.specs.Summaries.{kind_of, kind_of_tree, summary_in}
 use Rattle.snl_scope.specs.Summaries.Tokens.{token_bytes}
 use Rattle.snl_scope.specs.declared.summaries.summary.Outline.{Outline}
-use Rattle.snl_check.specs.declared.rules.findings.Checked.{Checked}
-use Rattle.snl_check.specs.Items.{summary_of_item}
-use Rattle.snl_check.specs.ShiftedAround.{used_by, wakes_of}
-use Rattle.snl_check.specs.Told.{Told, told_in_item, told_kept}
+use Rattle.snl_item_check.specs.declared.findings.Checked.{Checked}
+use Rattle.snl_item_check.specs.Items.{summary_of_item}
+use Rattle.snl_item_check.specs.Told.{Told, told_in_item, told_kept, used_by, wakes_of}
 use Rattle.snl_kept.specs.declared.entries.Entry.{Entry}
 use Rattle.snl_kept.specs.Checks.{check_by, check_of_item, checked_by}
 use Rattle.snl_kept.specs.Entries.{entry_by}

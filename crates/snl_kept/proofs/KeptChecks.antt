@@ -15,12 +15,12 @@ use Rattle.snl_scope.specs.Linked.{fact_of, has_target}
 use Rattle.snl_scope.specs.SpelledTokens.{bytes_by, pieces_from, summary_by, text_of}
 use Rattle.snl_scope.specs.Summaries.Tokens.{token_bytes}
 use Rattle.snl_scope.specs.View.{same_view, view}
-use Rattle.snl_check.specs.declared.rules.findings.Checked.{Checked}
-use Rattle.snl_check.specs.declared.rules.findings.ItemFault.{ItemFault}
-use Rattle.snl_check.specs.SeenNames.{Agree, SameTokens, target_names, used_names}
-use Rattle.snl_check.specs.ItemFaults.{faults_in}
-use Rattle.snl_check.specs.View.{is_in_set, known_of, leads_to}
-use Rattle.snl_check.specs.Told.{target_uses, wake_uses}
+use Rattle.snl_item_check.specs.declared.findings.Checked.{Checked}
+use Rattle.snl_item_check.specs.declared.findings.ItemFault.{ItemFault}
+use Rattle.snl_item_check.specs.SeenNames.{Agree, SameTokens, target_names, used_names}
+use Rattle.snl_item_check.specs.ItemFaults.{faults_in}
+use Rattle.snl_item_check.specs.View.{is_in_set, known_of, leads_to}
+use Rattle.snl_item_check.specs.Told.{target_uses, wake_uses}
 use Rattle.snl_kept.specs.Checks.{check_by, checked_by}
 use Rattle.snl_kept.specs.Entries.{entry_by}
 use Rattle.snl_kept.proofs.Rechecks.{Spelled}

@@ -2,21 +2,13 @@
 use Rattle.std.proofs.Common.{◌≡◌, ℕ, zero, suc, ◌+◌, ◌-◌, ◌≤◌, List, [], ◌∷◌, ◌++◌, map, take, drop, slice_get, Some, sym, ap, ap₂, ◌∙◌, arith}
 use Rattle.std.proofs.lemmas.List.{drop-drop, drop-map, map-append, take-append-drop, take-map}
 use Rattle.snl_kept.proofs.Steps.{take_more}
-
-one_of : {X : Type 0} (x y : X) → Some x ≡ Some y → x ≡ y
-one_of x y e = cc
-
--- what is left from an element on
-pub got_at : {Y : Type 0} (ys : List Y) (i : ℕ) (y : Y) → slice_get ys i ≡ Some y → drop i ys ≡ y ∷ drop (suc i) ys
-got_at [] i y e = absurd cc
-got_at {Y} (z ∷ ys) zero y e = ap (λ (a : Y). a ∷ ys) (one_of z y e)
-got_at (z ∷ ys) (suc i) y e = got_at ys i y e
+use Rattle.snl_facts.specs.Lists.{drop_got}
 
 got_from : {Y : Type 0} (front n : ℕ) (ys : List Y) (y : Y) → slice_get ys (front + n) ≡ Some y → drop n (drop front ys) ≡ y ∷ drop (n + 1) (drop front ys)
 got_from {Y} front n ys y e =
     let next : suc (front + n) ≡ front + (n + 1) = omega arith in
     drop-drop n front ys
-    ∙ got_at ys (front + n) y e
+    ∙ drop_got ys (front + n) y e
     ∙ ap (λ (k : ℕ). y ∷ drop k ys) next
     ∙ ap (λ (l : List Y). y ∷ l) (sym (drop-drop (n + 1) front ys))
 

@@ -14,6 +14,7 @@ pub mod MarkedRows
 pub mod Members
 pub mod Nothing
 pub mod Offsets
+pub mod Families
 pub mod OnceAll
 pub mod OnceItems
 pub mod OnceLinks

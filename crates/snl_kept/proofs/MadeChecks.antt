@@ -5,20 +5,20 @@ use Rattle.std.specs.List.{enumerate_from, flat_map}
 use Rattle.std.proofs.lemmas.List.{length-take-le}
 use Rattle.snl_cut.specs.Cut.{Rises, ends_below, joined, members}
 use Rattle.snl_items.specs.declared.tokens.TokenEdit.{TokenEdit}
-use Rattle.snl_items.specs.Fresh.{fresh_items_between, token_edit_between}
+use Rattle.snl_items.specs.Fresh.{fresh_items_of, token_edit_of}
+use Rattle.snl_lex.specs.Edit.{Edit}
 use Rattle.snl_items.specs.Items.{item_ends, spelled_items, spellings}
 use Rattle.snl_scope.specs.View.{same_view}
 use Rattle.snl_scope.specs.declared.summaries.summary.Outline.{Outline}
-use Rattle.snl_check.specs.declared.rules.findings.Checked.{Checked}
-use Rattle.snl_kept.specs.Edit.{Edit}
+use Rattle.snl_item_check.specs.declared.findings.Checked.{Checked}
 use Rattle.snl_kept.specs.Checks.{check_by, checks_from, checks_of, outlines_in}
 use Rattle.snl_kept.specs.Entries.{entries_of, entry_by}
 use Rattle.snl_kept.specs.NewChecks.{AreChecksMade, kept_of, made_checks, made_for, nones, number_before, put}
-use Rattle.snl_kept.specs.Stirred.{is_stirred, stirred_between}
+use Rattle.snl_kept.specs.Stirred.{is_stirred, stirred_of}
 use Rattle.snl_kept.proofs.FreshNumbers.{IsNumbered, number_at_back, number_at_front, number_of_made, numbered}
-use Rattle.snl_kept.proofs.Members.{members_count}
 use Rattle.snl_kept.proofs.Rechecks.{Spelled, fits_append, fits_kept, fits_made, put_gives}
 use Rattle.snl_kept.proofs.Stirs.{made_count}
+use Rattle.snl_cut.specs.CutLaws.{length_members}
 
 checks_take : (ss : List Outline) (j n : ℕ) (xs : List Spelled) → take n (checks_from ss j xs) ≡ checks_from ss j (take n xs)
 checks_take ss j zero xs = refl
@@ -35,7 +35,7 @@ checks_count ss j [] = refl
 checks_count ss j (x ∷ xs) = ap suc (checks_count ss (j + 1) xs)
 
 pub count_of_checks : (text : List ℕ) → length (checks_of text) ≡ length (item_ends text)
-count_of_checks text = checks_count (outlines_in text) 0 (spelled_items text) ∙ members_count (spellings text) 0 (item_ends text)
+count_of_checks text = checks_count (outlines_in text) 0 (spelled_items text) ∙ length_members (spellings text) 0 (item_ends text)
 
 -- so many items are kept at the front and at the back; `made` are those between
 module _ (old text : List ℕ) (old_stop new_stop front from : ℕ) (made : List ℕ) (back before : ℕ) (order : front + back ≤ length (item_ends old))
@@ -53,10 +53,10 @@ module _ (old text : List ℕ) (old_stop new_stop front from : ℕ) (made : List
   news = members (spellings text) from made
 
   olds_count : length olds ≡ all
-  olds_count = members_count (spellings old) 0 (item_ends old)
+  olds_count = length_members (spellings old) 0 (item_ends old)
 
   news_count : length news ≡ length made
-  news_count = members_count (spellings text) from made
+  news_count = length_members (spellings text) from made
 
   front_count : length (take front olds) ≡ front
   front_count = length-take-le front olds (omega (arith, olds_count))
@@ -97,14 +97,14 @@ module _ (old text : List ℕ) (old_stop new_stop front from : ℕ) (made : List
       ≡ count_by (is_stirred old text before made) (enumerate_from 0 (entries_of text))
   made_are_stirred =
       made_count (outlines_in old) (outlines_in text) (kept_of all front made back) (item_ends text) made before all 0 (spelled_items text)
-      (λ i lt. at i (numbered (item_ends old) (item_ends text) made old_stop new_stop front back order ends_are before rise kept i (omega (arith, lt, members_count (spellings text) 0 (item_ends text)))))
+      (λ i lt. at i (numbered (item_ends old) (item_ends text) made old_stop new_stop front back order ends_are before rise kept i (omega (arith, lt, length_members (spellings text) 0 (item_ends text)))))
     where
       at : (i : ℕ) → IsNumbered (item_ends text) made before all i (number_before (kept_of all front made back) i) → IsNumbered (item_ends text) made before all (0 + i) (number_before (kept_of all front made back) (0 + i))
       at i h = subst (λ (n : ℕ). IsNumbered (item_ends text) made before all n (number_before (kept_of all front made back) n)) (omega arith) h
 
-pub stirred_told : (edit : Edit) (tokens : TokenEdit) (fresh : List ℕ) → tokens ≡ token_edit_between edit.old edit.text edit.start edit.old_stop edit.new_stop
-    → fresh ≡ fresh_items_between edit.old edit.text edit.start edit.old_stop edit.new_stop
-    → count_by (is_stirred edit.old edit.text (ends_below tokens.start (item_ends edit.old)) fresh) (enumerate_from 0 (entries_of edit.text)) ≡ stirred_between edit
-unfolding stirred_between
+pub stirred_told : (edit : Edit) (tokens : TokenEdit) (fresh : List ℕ) → tokens ≡ token_edit_of edit
+    → fresh ≡ fresh_items_of edit
+    → count_by (is_stirred edit.old edit.text (ends_below tokens.start (item_ends edit.old)) fresh) (enumerate_from 0 (entries_of edit.text)) ≡ stirred_of edit
+unfolding stirred_of
 stirred_told edit tokens fresh tokens_are fresh_is =
     ap₂ (λ (e : TokenEdit) (f : List ℕ). count_by (is_stirred edit.old edit.text (ends_below e.start (item_ends edit.old)) f) (enumerate_from 0 (entries_of edit.text))) tokens_are fresh_is

@@ -6,6 +6,7 @@ use Rattle.std.specs.Option.{option_map_or}
 use Rattle.snl_lex.specs.declared.piece.Piece.{Piece}
 use Rattle.snl_lex.specs.declared.line_shift.LineShift.{LineShift}
 use Rattle.snl_lex.specs.PieceList.{spelled}
+use Rattle.snl_lex.specs.Edit.{Edit}
 use Rattle.snl_syntax.specs.Outcome.{parsed_by, parsed_in, sound_tree}
 use Rattle.snl_syntax.specs.declared.tree.item.Item.{Item}
 use Rattle.snl_scope.specs.Linked.{faults_of}
@@ -18,12 +19,12 @@ use Rattle.snl_scope.specs.Summaries.Tokens.{token_bytes}
 use Rattle.snl_scope.specs.declared.summaries.summary.ItemKind.{ItemKind}
 use Rattle.snl_scope.specs.declared.summaries.summary.Outline.{Outline}
 use Rattle.snl_walk.specs.declared.used.WakeUse.{WakeUse}
-use Rattle.snl_check.specs.declared.rules.findings.Checked.{Checked}
+use Rattle.snl_item_check.specs.declared.findings.Checked.{Checked}
 use Rattle.snl_check.specs.Conditions.{uses_in}
-use Rattle.snl_check.specs.Items.{ProgramItem, tokens_in}
+use Rattle.snl_item_check.specs.Items.{ProgramItem, tokens_in}
 use Rattle.snl_check.specs.ShiftedAround.{SaysAlike}
 use Rattle.snl_check.specs.Spans.{AreRead}
-use Rattle.snl_check.specs.Told.{Told, nothing, told_in_item, told_kept}
+use Rattle.snl_item_check.specs.Told.{Told, nothing, told_in_item, told_kept}
 use Rattle.snl_kept.specs.declared.entries.Entry.{Entry}
 use Rattle.snl_kept.specs.declared.lists.Lists.{Lists}
 use Rattle.snl_kept.specs.declared.ways.one_item.replaced.OldItem.{OldItem}
@@ -32,7 +33,6 @@ use Rattle.snl_kept.specs.declared.plan.Changes.{Changes}
 use Rattle.snl_kept.specs.declared.plan.NewLinks.{NewLinks}
 use Rattle.snl_kept.specs.declared.ways.one_item.touched_rows.TouchedRows.{TouchedRows}
 use Rattle.snl_kept.specs.declared.ways.one_item.touched_rows.TouchedRows.TheVariants as touched
-use Rattle.snl_kept.specs.Edit.{Edit}
 use Rattle.snl_kept.specs.Checks.{check_by, links_in, outlines_in}
 use Rattle.snl_kept.specs.Entries.{entries_of}
 use Rattle.snl_kept.specs.ItemPlan.{FitsRows, IsAfterInside, IsOneItem, IsStateAlike, own_item}

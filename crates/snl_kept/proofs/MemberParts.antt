@@ -6,16 +6,12 @@ use Rattle.std.proofs.lemmas.List.{drop-drop, drop-map, drop-take, take-map, tak
 use Rattle.std.proofs.lemmas.List.Elements.{All-drop, All-take, recursion_from_All}
 use Rattle.std.proofs.lemmas.Option.{slice_get-map}
 use Rattle.snl_cut.specs.Cut.{Rises, last_end, members, moved}
+use Rattle.snl_cut.specs.CutLaws.{rises_last}
 
 -- ---- ends
 
--- ends that rise do so up to the last one
-pub rises_to_last : (from : ℕ) (ends : List ℕ) → Rises from ends → from ≤ last_end from ends
-rises_to_last from [] r = omega arith
-rises_to_last from (e ∷ es) r = omega (arith, r.0, rises_to_last e es r.1)
-
 pub taken_to_last : (from n : ℕ) (ends : List ℕ) → Rises from ends → last_end from (take n ends) ≤ last_end from ends
-taken_to_last from zero ends r = rises_to_last from ends r
+taken_to_last from zero ends r = rises_last from ends r
 taken_to_last from (suc n) [] r = omega arith
 taken_to_last from (suc n) (e ∷ es) r = taken_to_last e n es r.1
 
@@ -40,10 +36,6 @@ one_end (e ∷ f ∷ es) h = absurd (omega (arith, h))
 
 -- ---- members
 
-pub members_append : {X : Type 0} (units : List X) (from : ℕ) (xs ys : List ℕ) → members units from (xs ++ ys) ≡ members units from xs ++ members units (last_end from xs) ys
-members_append units from [] ys = refl
-members_append {X} units from (x ∷ xs) ys = ap (λ (l : List (List X)). take (x - from) (drop from units) ∷ l) (members_append units x xs ys)
-
 pub members_take : {X : Type 0} (units : List X) (from n : ℕ) (ends : List ℕ) → take n (members units from ends) ≡ members units from (take n ends)
 members_take units from zero ends = refl
 members_take units from (suc n) [] = refl
@@ -65,7 +57,7 @@ members_parts {X} units from (suc k) (e ∷ es) lt = ap (λ (l : List (List X)).
 pub members_in_front : {X : Type 0} (units : List X) (n from : ℕ) (ends : List ℕ) → Rises from ends → last_end from ends ≤ n → members (take n units) from ends ≡ members units from ends
 members_in_front units n from [] r le = refl
 members_in_front {X} units n from (e ∷ es) r le =
-    let up : e ≤ n = omega (arith, le, rises_to_last e es r.1) in
+    let up : e ≤ n = omega (arith, le, rises_last e es r.1) in
     let rest : from + (n - from) ≡ n = omega (arith, up, r.0) in
     ap₂ (λ (m : List X) (ms : List (List X)). m ∷ ms)
     (ap (λ (i : ℕ). take (e - from) (drop from (take i units))) (sym rest)

@@ -14,6 +14,7 @@ use Rattle.snl_items.specs.Items.{item_ends, spelled_items, spellings}
 use Rattle.snl_kept.specs.Entries.{entries_of, entry_by}
 use Rattle.snl_kept.specs.Parts.{EndsWithin, tokens_between}
 use Rattle.snl_kept.specs.Planned.{AreEntriesMade}
+use Rattle.snl_cut.specs.CutLaws.{length_members}
 
 -- tokens from one number up to another, as they are spelled
 pub spelled_between : (text : List ℕ) (tokens : List Piece) (start stop : ℕ) → take (stop - start) (drop start (spelled text tokens)) ≡ spelled text (tokens_between tokens start stop)
@@ -37,14 +38,9 @@ middle_within from [] [] zs to h = tt
 middle_within from [] (y ∷ ys) zs to h = (h.0, h.1, middle_within y [] ys zs to h.2)
 middle_within from (x ∷ xs) ys zs to h = middle_within x xs ys zs to h.2
 
--- there are as many members as ends
-pub members_count : {X : Type 0} (units : List X) (from : ℕ) (ends : List ℕ) → length (members units from ends) ≡ length ends
-members_count units from [] = refl
-members_count units from (e ∷ es) = ap suc (members_count units e es)
-
 -- as many entries as items
 pub entries_count : (text : List ℕ) → length (entries_of text) ≡ length (item_ends text)
-entries_count text = length-map (spelled_items text) entry_by ∙ members_count (spellings text) 0 (item_ends text)
+entries_count text = length-map (spelled_items text) entry_by ∙ length_members (spellings text) 0 (item_ends text)
 
 -- what is kept of the items follows them
 pub entries_made : (old text : List ℕ) (front from : ℕ) (made : List ℕ) (back : ℕ)

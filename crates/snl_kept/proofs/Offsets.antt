@@ -5,10 +5,10 @@ use Rattle.std.proofs.lemmas.List.{length-take}
 use Rattle.std.proofs.lemmas.List.Elements.{recursion_from_All}
 use Rattle.snl_lex.specs.declared.piece.Piece.{Piece}
 use Rattle.snl_lex.specs.Pieces.{LiesIn}
-use Rattle.snl_walk.specs.declared.codes.Code.{Code}
+use Rattle.snl_codes.specs.declared.code.Code.{Code}
 use Rattle.snl_scope.specs.Summaries.Tokens.{token_bytes, bytes_if}
-use Rattle.snl_check.specs.declared.rules.findings.ItemFault.{ItemFault}
-use Rattle.snl_check.specs.ItemFaults.{StandsIn}
+use Rattle.snl_item_check.specs.declared.findings.ItemFault.{ItemFault}
+use Rattle.snl_item_check.specs.ItemFaults.{StandsIn}
 use Rattle.snl_kept.specs.Checked.{HasOffset, at_own_token}
 use Rattle.snl_kept.specs.Linked.{finding_at}
 

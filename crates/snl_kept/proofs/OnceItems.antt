@@ -13,20 +13,20 @@ use Rattle.snl_syntax.specs.declared.tree.item.Item.{Item}
 use Rattle.snl_syntax.specs.Outcome.{parsed_in}
 use Rattle.snl_syntax.specs.Parsing.{kinds_in}
 use Rattle.snl_syntax.specs.Reading.Items.{item_of}
-use Rattle.snl_walk.specs.declared.codes.Code.{Code}
-use Rattle.snl_walk.specs.declared.codes.Code.TheVariants.{E01, E02, E07}
+use Rattle.snl_codes.specs.declared.code.Code.{Code}
+use Rattle.snl_codes.specs.declared.code.Code.TheVariants.{E01, E02, E07}
 use Rattle.snl_scope.specs.declared.facts.Fact.{Fact}
 use Rattle.snl_scope.specs.declared.summaries.summary.Outline.{Outline}
 use Rattle.snl_scope.specs.Names.{has_own_scope}
 use Rattle.snl_scope.specs.Once.{declared_tokens}
 use Rattle.snl_scope.specs.Summaries.{outline_in}
 use Rattle.snl_scope.specs.Summaries.Tokens.{token_bytes, bytes_if}
-use Rattle.snl_check.specs.declared.rules.findings.ItemFault.{ItemFault}
-use Rattle.snl_walk.specs.Codes.{is_item_code}
-use Rattle.snl_check.specs.FaultCodes.{LeavesToLinks}
-use Rattle.snl_check.specs.ItemFaults.{StandsIn, faults_in}
-use Rattle.snl_check.specs.Items.{outline_of_item}
-use Rattle.snl_check.specs.View.{is_in_set, known_of, leads_to}
+use Rattle.snl_item_check.specs.declared.findings.ItemFault.{ItemFault}
+use Rattle.snl_codes.specs.Codes.{finder_of, is_item_code}
+use Rattle.snl_item_check.specs.FaultCodes.{LeavesToLinks}
+use Rattle.snl_item_check.specs.ItemFaults.{StandsIn, faults_in}
+use Rattle.snl_item_check.specs.Items.{outline_of_item}
+use Rattle.snl_item_check.specs.View.{is_in_set, known_of, leads_to}
 use Rattle.snl_kept.specs.declared.found.findings.Finding.{Finding}
 use Rattle.snl_kept.specs.Checked.{at_own_token, checked_faults, faults_kept, found_in_item}
 use Rattle.snl_kept.specs.Checks.{checked_by}
@@ -34,8 +34,11 @@ use Rattle.snl_kept.specs.Faults.{at_token, fault_at, fault_in, faults_of}
 use Rattle.snl_kept.specs.Linked.{finding_at, outlines_of}
 use Rattle.snl_kept.specs.OnceFound.{DifferInPlace}
 use Rattle.snl_kept.specs.Program.{ProgramItem}
-use Rattle.snl_kept.proofs.OnceTokens.{AllBefore, AreApart, Before, InARow}
-use Rattle.snl_kept.proofs.OnceTwo.{EachTwo, each_both, each_flat, each_got, each_map, each_numbered, each_weaker, numbered, two_flat, two_from_pairs, two_got, two_map, two_numbered, two_with}
+use Rattle.snl_kept.proofs.Families.{IsOf, family_of, of_parser}
+use Rattle.snl_kept.proofs.OnceTokens.{AreApart}
+use Rattle.snl_kept.proofs.OnceTwo.{two_flat, two_got, two_numbered, two_with}
+use Rattle.snl_facts.specs.Each.{each_weaker, each_both, each_got, each_map, two_map, two_from_pairs, each_flat, numbered, each_numbered, EachTwo}
+use Rattle.snl_kept.specs.TokenLaws.{Before, AllBefore, InARow}
 
 -- A finding is at a byte of one of the tokens.
 pub record InTokens (tokens : List Piece) (f : Finding) : Type 0 where
@@ -53,29 +56,17 @@ between x y all f g a b offset code =
 
 -- ---- faulty items
 
-pub is_fault_code : Code → Bool
-is_fault_code E01 = true
-is_fault_code E02 = true
-is_fault_code _ = false
-
-pub fault_codes : (c : Code) → is_fault_code c ≡ true → (c ≡ E01) ⊎ (c ≡ E02)
-unfolding is_fault_code
-fault_codes E01 h = inl refl
-fault_codes E02 h = inr refl
-fault_codes _ h = absurd (false≢true h)
-
 abbrev pub IsFault : ProgramItem → Finding → Type 0
-IsFault x f = InTokens x.tokens f × (is_fault_code f.code ≡ true)
+IsFault x f = InTokens x.tokens f × IsOf of_parser f
 
-at_some : (tokens : List Piece) → Each (λ p. 1 ≤ p.len) tokens → (code : Code) → is_fault_code code ≡ true → (n : ℕ) (o : Option Piece) → slice_get tokens n ≡ o
-    → IfSome (option_map (at_token code) o) (λ f. InTokens tokens f × (is_fault_code f.code ≡ true))
+at_some : (tokens : List Piece) → Each (λ p. 1 ≤ p.len) tokens → (code : Code) → family_of (finder_of code) ≡ of_parser → (n : ℕ) (o : Option Piece) → slice_get tokens n ≡ o
+    → IfSome (option_map (at_token code) o) (λ f. InTokens tokens f × IsOf of_parser f)
 at_some tokens long code is n None at = tt
 at_some tokens long code is n (Some p) at =
     let some = each_got (λ p. 1 ≤ p.len) tokens n p long at in
     (record { number = n; p = p; token = at; low = omega arith; high = omega (arith, some) }, is)
 
-fault_here : (tokens : List Piece) → Each (λ p. 1 ≤ p.len) tokens → (result : Parsed) → IfSome (fault_at tokens result) (λ f. InTokens tokens f × (is_fault_code f.code ≡ true))
-unfolding is_fault_code
+fault_here : (tokens : List Piece) → Each (λ p. 1 ≤ p.len) tokens → (result : Parsed) → IfSome (fault_at tokens result) (λ f. InTokens tokens f × IsOf of_parser f)
 fault_here tokens long (parsed.Sound tree) = tt
 fault_here tokens long (parsed.BadToken at) = at_some tokens long E01 refl at (slice_get tokens at) refl
 fault_here tokens long (parsed.NoItem at) = at_some tokens long E02 refl at (slice_get tokens at) refl
@@ -114,12 +105,12 @@ module _ (text : List ℕ) (xs : List ProgramItem) (apart : AreApart text xs) wh
   faults_once =
       two_kept (fault_in text) DifferInPlace (λ x y. AllBefore x.tokens y.tokens) IsFault (λ x y all f g a b. between x.tokens y.tokens all f g a.0 b.0) xs apart.items faults_here
 
-  code_if : (o : Option Finding) (x : ProgramItem) → IfSome o (IsFault x) → IfSome o (λ f. is_fault_code f.code ≡ true)
+  code_if : (o : Option Finding) (x : ProgramItem) → IfSome o (IsFault x) → IfSome o (IsOf of_parser)
   code_if None x k = tt
   code_if (Some f) x k = k.1
 
-  pub faults_coded : Each (λ f. is_fault_code f.code ≡ true) (faults_of text xs)
-  faults_coded = each_kept (fault_in text) (λ f. is_fault_code f.code ≡ true) (λ x. IfSome (fault_in text x) (IsFault x)) (λ x k. code_if (fault_in text x) x k) xs faults_here
+  pub faults_coded : Each (IsOf of_parser) (faults_of text xs)
+  faults_coded = each_kept (fault_in text) (IsOf of_parser) (λ x. IfSome (fault_in text x) (IsFault x)) (λ x k. code_if (fault_in text x) x k) xs faults_here
 
 -- ---- in items
 

@@ -11,8 +11,8 @@ use Rattle.snl_lex.specs.Pieces.{LiesIn}
 use Rattle.snl_syntax.specs.declared.tree.item.Item.{Item}
 use Rattle.snl_syntax.specs.Parsing.{kinds_in}
 use Rattle.snl_syntax.specs.Reading.Items.{item_of}
-use Rattle.snl_walk.specs.declared.codes.Code.{Code}
-use Rattle.snl_walk.specs.declared.codes.Code.TheVariants.{E05, E06, E07}
+use Rattle.snl_codes.specs.declared.code.Code.{Code}
+use Rattle.snl_codes.specs.declared.code.Code.TheVariants.{E05, E06, E07}
 use Rattle.snl_scope.specs.declared.facts.LinkFault.{LinkFault}
 use Rattle.snl_scope.specs.declared.summaries.summary.Outline.{Outline}
 use Rattle.snl_scope.specs.FaultPlaces.{IsAtItem, IsMissing, IsPlaced, IsPlacedBy, SpeaksOfTokens}
@@ -21,20 +21,18 @@ use Rattle.snl_scope.specs.LinkedItems.{LinkedItems}
 use Rattle.snl_scope.specs.Names.{has_own_scope}
 use Rattle.snl_scope.specs.Once.{AreFoundOnce, declared_tokens}
 use Rattle.snl_scope.specs.Summaries.{outline_in}
-use Rattle.snl_walk.specs.Codes.{is_item_code, is_link_code}
-use Rattle.snl_check.specs.Items.{outline_of_item, tokens_in}
+use Rattle.snl_codes.specs.Codes.{is_item_code, is_link_code}
+use Rattle.snl_item_check.specs.Items.{outline_of_item, tokens_in}
 use Rattle.snl_kept.specs.declared.found.findings.Finding.{Finding}
 use Rattle.snl_kept.specs.Linked.{finding_at, linked_faults, linked_of, outlines_of, linked_finding, token_of}
 use Rattle.snl_kept.specs.OnceFound.{DifferInPlace}
 use Rattle.snl_kept.specs.Program.{ProgramItem}
 use Rattle.snl_kept.proofs.OnceItems.{IsMade, there}
-use Rattle.snl_kept.proofs.OnceTokens.{AreApart, InARow, IsIn, one_item, one_token, same_item}
-use Rattle.snl_kept.proofs.OnceTwo.{EachTwo, each_got, each_map, each_weaker, two_from_pairs, two_map, two_with}
-
-pub get_mapped : {A B : Type 0} (f : A → B) (xs : List A) (i : ℕ) → slice_get (map f xs) i ≡ option_map f (slice_get xs i)
-get_mapped f [] i = refl
-get_mapped f (x ∷ xs) zero = refl
-get_mapped f (x ∷ xs) (suc i) = get_mapped f xs i
+use Rattle.snl_kept.proofs.OnceTokens.{AreApart, IsIn, one_item, one_token, same_item}
+use Rattle.snl_kept.proofs.OnceTwo.{two_with}
+use Rattle.std.proofs.lemmas.Option.{slice_get-map}
+use Rattle.snl_facts.specs.Each.{each_weaker, each_got, each_map, two_map, two_from_pairs, EachTwo}
+use Rattle.snl_kept.specs.TokenLaws.{InARow}
 
 one_fault : (a b : LinkFault) → a.item ≡ b.item → a.token ≡ b.token → a.code ≡ b.code → a ≡ b
 one_fault a b h k m =
@@ -64,7 +62,7 @@ module _ (text : List ℕ) (xs : List ProgramItem) (laws : LinkLaws) (apart : Ar
   counts i = length (tokens_in xs i)
 
   speaks : (i : ℕ) → IfSome (slice_get ss i) (SpeaksOfTokens (counts i))
-  speaks i = subst (λ o. IfSome o (SpeaksOfTokens (counts i))) (sym (get_mapped (outline_of_item text) xs i)) (by (slice_get xs i) refl)
+  speaks i = subst (λ o. IfSome o (SpeaksOfTokens (counts i))) (sym (slice_get-map (outline_of_item text) xs i)) (by (slice_get xs i) refl)
     where
       of : (x : ProgramItem) → InARow text x.tokens → ((t : Item) → x.tree ≡ Some t → item_of (kinds_in text x.tokens) ≡ Some t) → (o : Option Item) → x.tree ≡ o → SpeaksOfTokens (length x.tokens) (outline_in text x.tokens o)
       of x row read None is = laws.faulty text x.tokens row.some
@@ -92,7 +90,7 @@ module _ (text : List ℕ) (xs : List ProgramItem) (laws : LinkLaws) (apart : Ar
     says : IsAtItem (counts f.item) (outline_of_item text x) f
 
   where_is : (f : LinkFault) → IsPlaced counts ss f → AtToken f ⊎ IsMissing ss f
-  where_is f h = by (slice_get xs f.item) refl (subst (IsPlacedBy counts ss f) (get_mapped (outline_of_item text) xs f.item) h)
+  where_is f h = by (slice_get xs f.item) refl (subst (IsPlacedBy counts ss f) (slice_get-map (outline_of_item text) xs f.item) h)
     where
       by : (o : Option ProgramItem) → slice_get xs f.item ≡ o → IsPlacedBy counts ss f (option_map (outline_of_item text) o) → AtToken f ⊎ IsMissing ss f
       by None at g = inr g
@@ -118,7 +116,7 @@ module _ (text : List ℕ) (xs : List ProgramItem) (laws : LinkLaws) (apart : Ar
       record { x = a.x; p = a.p; item = a.item; token = a.token; low = omega (arith, e); high = omega (arith, e, some) }
 
   outline_at : (f : LinkFault) → (a : AtToken f) → slice_get ss f.item ≡ Some (outline_of_item text a.x)
-  outline_at f a = get_mapped (outline_of_item text) xs f.item ∙ ap (option_map (outline_of_item text)) a.item
+  outline_at f a = slice_get-map (outline_of_item text) xs f.item ∙ ap (option_map (outline_of_item text)) a.item
 
   -- what is missing has a code that no finding at a token has
   not_missing : (f g : LinkFault) → AtToken f → IsMissing ss g → f.code ≡ g.code → ⊥

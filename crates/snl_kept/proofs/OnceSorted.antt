@@ -10,30 +10,19 @@ use Rattle.std.specs.declared.cmp.Ordering.{Ordering}
 use Rattle.std.specs.declared.cmp.Ordering.TheVariants.{Less, Equal, Greater}
 use Rattle.std.proofs.lemmas.Bool.{false≢true}
 use Rattle.std.proofs.lemmas.Cmp.{nat_cmp_total, nat_list_cmp_total, on_total, then_total}
-use Rattle.snl_walk.specs.Codes.{is_error, name_of}
+use Rattle.snl_codes.specs.Codes.{is_error, name_of}
 use Rattle.snl_kept.specs.declared.found.findings.Finding.{Finding}
 use Rattle.snl_kept.specs.Diagnostics.{diagnostic, diagnostics_of, found, shown, stands_before}
 use Rattle.snl_kept.specs.OnceFound.{DifferInPlace}
 use Rattle.snl_kept.specs.Order.{goes_before, in_order, put_in_order}
 use Rattle.snl_kept.specs.Program.{items_of}
 use Rattle.snl_kept.specs.Warnings.{shows_warnings}
-use Rattle.snl_kept.proofs.OnceTwo.{EachTwo, pairs_from_two, two_both, two_filter, two_map, two_weaker}
 use Rattle.snl_kept.proofs.Ranks.{all_put_is, both_tie, no_sooner, one_code, ranks, same_finding}
 use Rattle.snl_kept.proofs.Sorting.{Ordered, ordered_all}
+use Rattle.snl_facts.specs.Each.{two_weaker, two_both, two_map, two_filter, pairs_from_two, EachTwo}
+use Rattle.snl_kept.specs.OrderLaws.{each_put, each_in_order}
 
 -- ---- put in order
-
-each_put : (P : Finding → Type 0) (x : Finding) (ys : List Finding) → P x → Each P ys → Each P (put_in_order x ys)
-each_put P x [] p ps = (p, tt)
-each_put P x (y ∷ ys) p ps = by (goes_before y x) (each_put P x ys p ps.1)
-  where
-    by : (b : Bool) → Each P (put_in_order x ys) → Each P (if b then y ∷ put_in_order x ys else x ∷ y ∷ ys)
-    by true rest = (ps.0, rest)
-    by false rest = (p, ps)
-
-each_in_order : (P : Finding → Type 0) (xs : List Finding) → Each P xs → Each P (in_order xs)
-each_in_order P [] ps = tt
-each_in_order P (x ∷ xs) ps = each_put P x (in_order xs) ps.0 (each_in_order P xs ps.1)
 
 once_put : (x : Finding) (ys : List Finding) → Each (DifferInPlace x) ys → EachTwo DifferInPlace ys → EachTwo DifferInPlace (put_in_order x ys)
 once_put x [] h two = (tt, tt)

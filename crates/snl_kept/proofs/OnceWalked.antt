@@ -5,14 +5,15 @@ use Rattle.std.specs.Option.{option_map_or}
 use Rattle.std.proofs.lemmas.Bool.{eqb-true, false≢true}
 use Rattle.snl_lex.specs.declared.piece.Piece.{Piece}
 use Rattle.snl_lex.specs.Pieces.{LiesIn}
-use Rattle.snl_walk.specs.declared.codes.Code.TheVariants.{W02}
+use Rattle.snl_codes.specs.declared.code.Code.TheVariants.{W02}
 use Rattle.snl_scope.specs.declared.summaries.summary.Outline.{Outline}
 use Rattle.snl_scope.specs.Below.{all_below}
 use Rattle.snl_scope.specs.Order.{is_named_state, is_state_word, state_name}
 use Rattle.snl_scope.specs.Places.{is_set_begin, enclosing_set, stands_in}
 use Rattle.snl_scope.specs.Summaries.{second_in}
 use Rattle.snl_tables.specs.declared.rows.StateRow.{StateRow}
-use Rattle.snl_check.specs.Items.{item_name, outline_of_item, span_of}
+use Rattle.snl_item_check.specs.Items.{outline_of_item}
+use Rattle.snl_check.specs.ItemSpans.{item_name, span_of}
 use Rattle.snl_check.specs.Members.{states_in}
 use Rattle.snl_check.specs.States.{numbered_row, set_row}
 use Rattle.snl_kept.specs.declared.found.findings.Finding.{Finding}
@@ -20,9 +21,12 @@ use Rattle.snl_kept.specs.Linked.{outlines_of}
 use Rattle.snl_kept.specs.OnceFound.{DifferInPlace}
 use Rattle.snl_kept.specs.Program.{ProgramItem}
 use Rattle.snl_kept.specs.Tables.{at_state, found_at_state, found_in_set, is_unreached, walked_faults}
-use Rattle.snl_kept.proofs.OnceLinks.{get_mapped}
-use Rattle.snl_kept.proofs.OnceTokens.{AreApart, InARow, IsIn, one_item}
-use Rattle.snl_kept.proofs.OnceTwo.{EachTwo, each_append, each_flat, each_got, each_numbered, each_weaker, two_append, two_flat, two_numbered, two_with}
+use Rattle.snl_kept.proofs.OnceTokens.{AreApart, IsIn, one_item}
+use Rattle.snl_kept.proofs.OnceTwo.{two_flat, two_numbered, two_with}
+use Rattle.snl_facts.specs.Booleans.{and_second, and_first}
+use Rattle.std.proofs.lemmas.Option.{slice_get-map}
+use Rattle.snl_facts.specs.Each.{each_append, each_weaker, each_got, two_append, each_flat, each_numbered, EachTwo}
+use Rattle.snl_kept.specs.TokenLaws.{InARow}
 
 flat_of_map : {A B C : Type 0} (F : B → List C) (g : A → B) (xs : List A) → flat_map F (map g xs) ≡ flat_map (λ x. F (g x)) xs
 flat_of_map F g [] = refl
@@ -47,14 +51,6 @@ passed test (suc n) = by (test n) refl (passed test n)
       two_append (λ a b. a < b) (λ i. (i < n) × (test i ≡ true)) (λ i. i ≡ n) (λ a b l e. omega (arith, l.0, e)) (all_below test n) [] before.0 before.1 tt tt,
     )
 
-and_left : (a b : Bool) → (a && b) ≡ true → a ≡ true
-and_left true b h = refl
-and_left false b h = absurd (false≢true h)
-
-and_right : (a b : Bool) → (a && b) ≡ true → b ≡ true
-and_right true b h = h
-and_right false b h = absurd (false≢true h)
-
 in_one_set : (ss : List Outline) (k m j : ℕ) → stands_in ss k j ≡ true → stands_in ss m j ≡ true → k ≡ m
 in_one_set ss k m j = by (enclosing_set ss j)
   where
@@ -68,7 +64,7 @@ module _ (text : List ℕ) (xs : List ProgramItem) (apart : AreApart text xs) wh
 
   -- the name of a state is a token of its item
   name_is_in : (j : ℕ) → is_named_state ss j ≡ true → IsIn xs j 1 (item_name xs j).start
-  name_is_in j named = by (slice_get xs j) refl (subst (λ o. option_map_or (λ s. is_some (state_name s)) o false ≡ true) (get_mapped (outline_of_item text) xs j) named)
+  name_is_in j named = by (slice_get xs j) refl (subst (λ o. option_map_or (λ s. is_some (state_name s)) o false ≡ true) (slice_get-map (outline_of_item text) xs j) named)
     where
       second : (b : Bool) (tokens : List Piece) → is_some (if b then second_in text tokens else None) ≡ true → (p : Piece) × (slice_get tokens 1 ≡ Some p)
       second false tokens h = absurd (false≢true h)
@@ -105,7 +101,7 @@ module _ (text : List ℕ) (xs : List ProgramItem) (apart : AreApart text xs) wh
   members : (k : ℕ) → Each (IsMember k) (states_in ss k)
   members k =
       each_weaker (λ j. (j < length ss) × ((is_named_state ss j && stands_in ss k j) ≡ true)) (IsMember k)
-      (λ j h. (and_left (is_named_state ss j) (stands_in ss k j) h.1, and_right (is_named_state ss j) (stands_in ss k j) h.1)) (states_in ss k)
+      (λ j h. (and_first (is_named_state ss j) (stands_in ss k j) h.1, and_second (is_named_state ss j) (stands_in ss k j) h.1)) (states_in ss k)
       (passed (λ j. is_named_state ss j && stands_in ss k j) (length ss)).0
 
   abbrev row_of : ℕ → ℕ × ℕ → StateRow

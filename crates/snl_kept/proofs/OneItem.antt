@@ -5,9 +5,11 @@ use Rattle.std.proofs.lemmas.List.{length-drop, length-take-le, take_at}
 use Rattle.std.proofs.lemmas.List.Elements.{All-drop, All-filter, All-take}
 use Rattle.snl_cut.specs.Cut.{last_end, members, moved}
 use Rattle.snl_lex.specs.declared.piece.Class.{Class}
+use Rattle.snl_lex.specs.Edit.{Edit}
 use Rattle.snl_lex.specs.PieceList.{spelled}
 use Rattle.snl_lex.specs.Pieces.{LiesIn, is_token, pieces_of, tokens_of}
 use Rattle.snl_items.specs.declared.tokens.TokenEdit.{TokenEdit}
+use Rattle.snl_items.specs.declared.item_list.ItemChange.{ItemChange}
 use Rattle.snl_items.specs.Changes.{IsItemChange}
 use Rattle.snl_items.specs.Items.{item_ends, spellings}
 use Rattle.snl_kept.specs.declared.entries.Entry.{Entry}
@@ -51,8 +53,23 @@ own_some text i lt h =
       length-take-le (stop - first) (drop first (tokens_of text)) (omega (arith, stop_is, many, end_within 0 (suc i) ends (length (tokens_of text)) (omega arith) h)),
     )
 
-module _ (old text : List ℕ) (start old_stop new_stop : ℕ) (edit : TokenEdit) (k : ℕ) (made : List ℕ) (back : ℕ) (is : IsItemChange old text start old_stop new_stop edit k made back)
-    (one_made : length made ≡ 1) (one_gone : k + 1 + back ≡ length (item_ends old)) where
+module _ (e : Edit) (edit : TokenEdit) (items : ItemChange) (is : IsItemChange e edit items) (one_made : length items.made.items ≡ 1)
+    (one_gone : items.kept_front + 1 + items.kept_back ≡ length (item_ends e.old)) where
+  abbrev old : List ℕ
+  old = e.old
+
+  abbrev text : List ℕ
+  text = e.text
+
+  abbrev k : ℕ
+  k = items.kept_front
+
+  abbrev made : List ℕ
+  made = items.made.items
+
+  abbrev back : ℕ
+  back = items.kept_back
+
   abbrev was_end : ℕ
   was_end = last_end 0 (take (suc k) (item_ends old))
 
@@ -93,17 +110,6 @@ module _ (old text : List ℕ) (start old_stop new_stop : ℕ) (edit : TokenEdit
       ap (last_end 0)
       (ap (take (k + 1)) ends_are ∙ take_at (take k (item_ends old) ++ (get_or made 0 0 ∷ [])) later_ends (k + 1) (omega (arith, length-append (take k (item_ends old)) (get_or made 0 0 ∷ []), count_before)))
       ∙ last_of_more 0 (take k (item_ends old)) (get_or made 0 0)
-
-  -- it is one of the items
-  pub still_there : k < length (item_ends text)
-  still_there =
-      omega (
-        arith,
-        ap length ends_are,
-        length-append (take k (item_ends old) ++ (get_or made 0 0 ∷ [])) later_ends,
-        length-append (take k (item_ends old)) (get_or made 0 0 ∷ []),
-        count_before,
-      )
 
   -- what is kept of it is what its tokens say
   pub one_member : map entry_by (members (spellings text) (last_end 0 (take k (item_ends old))) made) ≡ entry_by (spelled text (own_tokens text k)) ∷ []

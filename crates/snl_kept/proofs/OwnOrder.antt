@@ -3,7 +3,7 @@ use Rattle.std.proofs.Common.{◌≡◌, ℕ, ◌+◌, Bool, true, false, cond, 
 use Rattle.std.specs.Ordering.{is_eq}
 use Rattle.std.specs.declared.cmp.Ordering.{Ordering}
 use Rattle.std.specs.declared.cmp.Ordering.TheVariants.{Less, Equal, Greater}
-use Rattle.snl_walk.specs.Codes.{is_error}
+use Rattle.snl_codes.specs.Codes.{is_error}
 use Rattle.snl_kept.specs.declared.found.findings.Finding.{Finding}
 use Rattle.snl_kept.specs.Diagnostics.{diagnostic, diagnostics_of, shown, shown_if}
 use Rattle.snl_kept.specs.Order.{in_order, order_of}

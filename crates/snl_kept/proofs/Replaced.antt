@@ -1,19 +1,11 @@
 -- A list of which one element is replaced.
 use Rattle.std.proofs.Common.{◌≡◌, ◌≢◌, ℕ, zero, suc, ◌+◌, ◌<◌, ◌≤◌, List, [], ◌∷◌, ◌++◌, length, map, take, drop, Some, None, refl, sym, ap, ap₂, ◌∙◌, arith}
 use Rattle.std.specs.List.{slice_get, slice_set}
-use Rattle.std.proofs.lemmas.Option.{slice_get_within}
+use Rattle.std.proofs.lemmas.Option.{slice_get_within, same_Some}
 use Rattle.std.proofs.lemmas.List.{drop-set, take-append-drop, take-set}
-
-one_of : {X : Type 0} (x y : X) → Some x ≡ Some y → x ≡ y
-one_of x y e = cc
 
 pub replaced_parts : {X : Type 0} (xs : List X) (k : ℕ) (x : X) → k < length xs → slice_set xs k x ≡ take k xs ++ (x ∷ drop (k + 1) xs)
 replaced_parts {X} xs k x lt = sym (take-append-drop k (slice_set xs k x)) ∙ ap₂ (λ (a b : List X). a ++ b) (take-set xs k x) (drop-set xs k x lt)
-
-pub replaced_map : {X Y : Type 0} (f : X → Y) (xs : List X) (k : ℕ) (x : X) → map f (slice_set xs k x) ≡ slice_set (map f xs) k (f x)
-replaced_map f [] k x = refl
-replaced_map f (y ∷ ys) zero x = refl
-replaced_map {Y = Y} f (y ∷ ys) (suc k) x = ap (λ (l : List Y). f y ∷ l) (replaced_map f ys k x)
 
 -- there is an element with each number
 pub none_missing : {X : Type 0} (xs : List X) (n : ℕ) → n < length xs → slice_get xs n ≡ None → ⊥
@@ -24,7 +16,7 @@ none_missing (x ∷ xs) (suc n) lt is = none_missing xs n (omega (arith, lt)) is
 -- by what was there
 pub replaced_same : {X : Type 0} (xs : List X) (k : ℕ) (x : X) → slice_get xs k ≡ Some x → slice_set xs k x ≡ xs
 replaced_same [] k x at = refl
-replaced_same {X} (y ∷ ys) zero x at = ap (λ (a : X). a ∷ ys) (sym (one_of y x at))
+replaced_same {X} (y ∷ ys) zero x at = ap (λ (a : X). a ∷ ys) (sym (same_Some y x at))
 replaced_same {X} (y ∷ ys) (suc k) x at = ap (λ (l : List X). y ∷ l) (replaced_same ys k x at)
 
 pub replaced_here : {X : Type 0} (xs : List X) (k : ℕ) (x : X) → k < length xs → slice_get (slice_set xs k x) k ≡ Some x
@@ -38,16 +30,6 @@ replaced_other (y ∷ ys) zero x zero apart = absurd (apart refl)
 replaced_other (y ∷ ys) zero x (suc i) apart = refl
 replaced_other (y ∷ ys) (suc k) x zero apart = refl
 replaced_other (y ∷ ys) (suc k) x (suc i) apart = replaced_other ys k x i (λ e. apart (ap suc e))
-
-pub replaced_count : {X : Type 0} (xs : List X) (k : ℕ) (x : X) → length (slice_set xs k x) ≡ length xs
-replaced_count [] k x = refl
-replaced_count (y ∷ ys) zero x = refl
-replaced_count (y ∷ ys) (suc k) x = ap suc (replaced_count ys k x)
-
-pub replaced_past : {X : Type 0} (xs : List X) (k : ℕ) (x : X) → length xs ≤ k → slice_set xs k x ≡ xs
-replaced_past [] k x past = refl
-replaced_past (y ∷ ys) zero x past = absurd (omega (arith, past))
-replaced_past {X} (y ∷ ys) (suc k) x past = ap (λ (l : List X). y ∷ l) (replaced_past ys k x (omega (arith, past)))
 
 pub put_back : {X : Type 0} (xs : List X) (k : ℕ) (x : X) → slice_get xs k ≡ Some x → xs ≡ take k xs ++ (x ∷ drop (k + 1) xs)
 put_back xs k x at = sym (replaced_same xs k x at) ∙ replaced_parts xs k x (slice_get_within xs k x at)

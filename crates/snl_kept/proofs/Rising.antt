@@ -8,7 +8,7 @@ use Rattle.snl_syntax.specs.Parsing.{is_bad, kinds_in}
 use Rattle.snl_syntax.specs.Reading.Items.{item_of}
 use Rattle.snl_scope.specs.Once.{TokensRise}
 use Rattle.snl_scope.specs.Summaries.{outline_in}
-use Rattle.snl_check.specs.Items.{outline_of_item}
+use Rattle.snl_item_check.specs.Items.{outline_of_item}
 use Rattle.snl_kept.specs.Program.{program_item}
 
 -- what is known of a tree that is read, and of a faulty item

@@ -18,7 +18,7 @@ use Rattle.snl_scope.specs.Summaries.Tokens.{token_bytes}
 use Rattle.snl_scope.specs.declared.summaries.summary.Outline.{Outline}
 use Rattle.snl_scope.specs.declared.summaries.summary.Summary.{Summary}
 use Rattle.snl_check.specs.declared.reachability.marks.SetMember.{SetMember}
-use Rattle.snl_check.specs.Items.{ProgramItem, summary_of_item}
+use Rattle.snl_item_check.specs.Items.{ProgramItem, summary_of_item}
 use Rattle.snl_check.specs.Members.{AreSetMembers, IsSetMember, is_faulty_item, name_of_state, targets_of_item}
 use Rattle.snl_kept.specs.declared.entries.Entry.{Entry}
 use Rattle.snl_kept.specs.Checks.{outlines_in}
@@ -33,32 +33,9 @@ use Rattle.snl_kept.proofs.Members.{entries_count}
 
 -- ---- one more number
 
-some_here : (test : ℕ → Bool) (n : ℕ) (b : Bool) → test n ≡ b → all_below test (n + 1) ≡ all_below test n ++ (if b then n ∷ [] else [])
-some_here test n b is = ap (all_below test) (add-one n) ∙ ap (λ (c : Bool). all_below test n ++ (if c then n ∷ [] else [])) is
-
 each_added : {X : Type 0} (P : X → Type 0) (xs : List X) (x : X) → AllByRecursion P xs → P x → AllByRecursion P (xs ++ (x ∷ []))
 each_added P [] x each here = (here, tt)
 each_added P (y ∷ ys) x each here = (each.0, each_added P ys x each.1 here)
-
-pub no_members : (text : List ℕ) (ss : List Outline) (k : ℕ) (members : List SetMember) → members ≡ [] → AreMembersBelow text ss k 0 members
-no_members text ss k members none = subst (AreMembersBelow text ss k 0) (sym none) (record { items = refl; each = tt })
-
-pub same_members : (text : List ℕ) (ss : List Outline) (k n : ℕ) (members : List SetMember) → AreMembersBelow text ss k n members → stands_in ss k n ≡ false → AreMembersBelow text ss k (n + 1) members
-same_members text ss k n members so_far out = record {
-  items = so_far.items ∙ sym (some_here (stands_in ss k) n false out ∙ append-nil (all_below (stands_in ss k) n));
-  each = so_far.each;
-}
-
-pub one_member_more : (text : List ℕ) (ss : List Outline) (k n : ℕ) (members more : List SetMember) (m : SetMember) → AreMembersBelow text ss k n members → stands_in ss k n ≡ true → more ≡ members ++ (m ∷ [])
-    → m.item ≡ n → IsSetMember text (items_of text) ss m → AreMembersBelow text ss k (n + 1) more
-one_member_more text ss k n members more m so_far inside added item is =
-    subst (AreMembersBelow text ss k (n + 1)) (sym added) (record {
-      items = map-append (λ (x : SetMember). x.item) members (m ∷ [])
-          ∙ ap (λ (l : List ℕ). l ++ (m.item ∷ [])) so_far.items
-          ∙ ap (λ (i : ℕ). all_below (stands_in ss k) n ++ (i ∷ [])) item
-          ∙ sym (some_here (stands_in ss k) n true inside);
-      each = each_added (IsSetMember text (items_of text) ss) members m so_far.each is;
-    })
 
 pub all_members : (text : List ℕ) (ss : List Outline) (k n : ℕ) (members : List SetMember) → n ≡ length ss → AreMembersBelow text ss k n members → AreSetMembers text (items_of text) ss k members
 all_members text ss k n members all so_far = record {

@@ -14,7 +14,7 @@ use Rattle.snl_lex.specs.Shift.{most, shifted_offset, shifted_piece}
 use Rattle.snl_syntax.specs.declared.outcome.Parsed.{Parsed}
 use Rattle.snl_syntax.specs.declared.outcome.Parsed.TheVariants as parsed
 use Rattle.snl_syntax.specs.declared.tree.item.Item.{Item}
-use Rattle.snl_walk.specs.declared.codes.Code.{Code}
+use Rattle.snl_codes.specs.declared.code.Code.{Code}
 use Rattle.snl_scope.specs.declared.facts.LinkFault.{LinkFault}
 use Rattle.snl_scope.specs.Summaries.Tokens.{token_bytes, bytes_if}
 use Rattle.snl_scope.specs.declared.summaries.summary.Outline.{Outline}
@@ -22,9 +22,9 @@ use Rattle.snl_tables.specs.declared.rows.SetRow.{SetRow}
 use Rattle.snl_tables.specs.declared.rows.StateRow.{StateRow}
 use Rattle.snl_tables.specs.declared.rows.Tables.{Tables}
 use Rattle.snl_tables.specs.Moved.{moved_set, moved_state, moved_tables}
-use Rattle.snl_check.specs.declared.rules.findings.ItemFault.{ItemFault}
-use Rattle.snl_check.specs.Options.{warning_setting}
-use Rattle.snl_check.specs.View.{is_in_set}
+use Rattle.snl_item_check.specs.declared.findings.ItemFault.{ItemFault}
+use Rattle.snl_item_check.specs.Options.{warning_setting}
+use Rattle.snl_item_check.specs.View.{is_in_set}
 use Rattle.snl_check.specs.Shifted.{shifted_item, shifted_tokens}
 use Rattle.snl_kept.specs.declared.found.findings.Finding.{Finding}
 use Rattle.snl_kept.specs.Checked.{at_own_token, faults_kept, found_in_item, moved}
@@ -35,29 +35,7 @@ use Rattle.snl_kept.specs.Program.{ProgramItem}
 use Rattle.snl_kept.specs.Shifted.{shifted_finding}
 use Rattle.snl_kept.specs.Tables.{at_state, found_at_state, found_in_set, is_unreached, walked_in}
 use Rattle.snl_kept.specs.Warnings.{setting_in, setting_of_item}
-
--- What is before an edit stays, and what is after it moves with the bytes.
-pub stays : (s : Shift) (o : ℕ) → o < s.start → shifted_offset s o ≡ o
-stays s o h = ap (λ (t : Bool). if t then o else min ((o - s.old_stop) + s.new_stop) most) (lt-ltb o s.start h)
-
-pub moves : (s : Shift) (o : ℕ) → s.start ≤ o → (o - s.old_stop) + s.new_stop ≤ most → shifted_offset s o ≡ (o - s.old_stop) + s.new_stop
-moves s o h fits =
-    let small : min ((o - s.old_stop) + s.new_stop) most ≡ (o - s.old_stop) + s.new_stop = omega arith in
-    ap (λ (t : Bool). if t then o else min ((o - s.old_stop) + s.new_stop) most) (le-ltb o s.start h) ∙ small
-
-pub filter_map_shift : {X Y : Type 0} (g : Y → Y) (f h : X → Option Y) (xs : List X) → AllByRecursion (λ x. h x ≡ option_map g (f x)) xs → filter_map h xs ≡ map g (filter_map f xs)
-filter_map_shift g f h [] each = refl
-filter_map_shift {Y = Y} g f h (x ∷ xs) each =
-    ap₂ (λ (o : Option Y) (l : List Y). cons_option o l) each.0 (filter_map_shift g f h xs each.1) ∙ by (f x)
-  where
-    by : (o : Option Y) → cons_option (option_map g o) (map g (filter_map f xs)) ≡ map g (cons_option o (filter_map f xs))
-    by None = refl
-    by (Some y) = refl
-
-pub flat_map_shift : {X Y : Type 0} (g : Y → Y) (f h : X → List Y) (xs : List X) → AllByRecursion (λ x. h x ≡ map g (f x)) xs → flat_map h xs ≡ map g (flat_map f xs)
-flat_map_shift g f h [] each = refl
-flat_map_shift {Y = Y} g f h (x ∷ xs) each =
-    ap₂ (λ (y : List Y) (ys : List Y). y ++ ys) each.0 (flat_map_shift g f h xs each.1) ∙ sym (map-append g (f x) (flat_map f xs))
+use Rattle.snl_lex.specs.ShiftLaws.{early_offset, late_offset}
 
 module _ (s : Shift) where
   -- at a faulty item
@@ -98,7 +76,7 @@ module _ (s : Shift) where
   -- by the links: what has no token is at the beginning, which stays
   module _ (before : 0 < s.start) where
     pub finding_shifts : (code : Code) (o : Option Piece) → finding_at code (option_map (shifted_piece s) o) ≡ shifted_finding s (finding_at code o)
-    finding_shifts code None = let x : ℕ → Finding = λ n. record { offset = n; code = code; subject = 0 } in ap x (sym (stays s 0 before))
+    finding_shifts code None = let x : ℕ → Finding = λ n. record { offset = n; code = code; subject = 0 } in ap x (sym (early_offset s 0 before))
     finding_shifts code (Some p) = refl
 
     pub token_shifts : (xs : List ProgramItem) (i n : ℕ) → token_of (map (shifted_item s) xs) i n ≡ option_map (shifted_piece s) (token_of xs i n)
@@ -120,10 +98,10 @@ module _ (s : Shift) where
 
     module _ (old : List ℕ) (order : s.start ≤ s.old_stop) (fits : length old + s.new_stop ≤ most) where
       further : (p : Piece) (byte : ℕ) → (piece_end p ≤ s.start) ⊎ (s.old_stop ≤ p.start) → piece_end p ≤ length old → byte < p.len → shifted_offset s p.start + byte ≡ shifted_offset s (p.start + byte)
-      further p byte (inl h) lies less = ap (λ (n : ℕ). n + byte) (stays s p.start (omega arith)) ∙ sym (stays s (p.start + byte) (omega arith))
+      further p byte (inl h) lies less = ap (λ (n : ℕ). n + byte) (early_offset s p.start (omega arith)) ∙ sym (early_offset s (p.start + byte) (omega arith))
       further p byte (inr h) lies less =
-          let one = moves s p.start (omega arith) (omega arith) in
-          let two = moves s (p.start + byte) (omega arith) (omega arith) in
+          let one = late_offset s p.start (omega arith) (omega arith) in
+          let two = late_offset s (p.start + byte) (omega arith) (omega arith) in
           omega (arith, one, two)
 
       at_byte : (code : Code) (byte : ℕ) (o : Option Piece) → (byte ≡ 0) ⊎ (byte < length (bytes_if old o)) → IfSome o (λ p. ((piece_end p ≤ s.start) ⊎ (s.old_stop ≤ p.start)) × LiesIn old p)

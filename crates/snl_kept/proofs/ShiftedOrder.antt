@@ -13,21 +13,21 @@ use Rattle.snl_lex.specs.declared.shift.Shift.{Shift}
 use Rattle.snl_lex.specs.Lines.{line_at}
 use Rattle.snl_lex.specs.LineShift.{moved_line}
 use Rattle.snl_lex.specs.Shift.{IsOutside, most, shifted_offset}
-use Rattle.snl_walk.specs.Codes.{name_of}
+use Rattle.snl_codes.specs.Codes.{name_of}
 use Rattle.snl_kept.specs.declared.found.findings.Diagnostic.{Diagnostic}
 use Rattle.snl_kept.specs.declared.found.findings.Finding.{Finding}
 use Rattle.snl_kept.specs.Diagnostics.{diagnostic, on_line}
 use Rattle.snl_kept.specs.Order.{goes_before, in_order, put_in_order}
 use Rattle.snl_kept.specs.Shifted.{shifted_diagnostic, shifted_finding}
-use Rattle.snl_kept.proofs.ShiftedFindings.{moves, stays}
+use Rattle.snl_lex.specs.ShiftLaws.{early_offset, late_offset}
 
 module _ (old : List ℕ) (s : Shift) (before : s.start ≤ s.old_stop) (after : s.start ≤ s.new_stop) (fits : length old + s.new_stop ≤ most) where
   -- What is outside the edit keeps its order.
   less : (a b : ℕ) → IsOutside old s a → IsOutside old s b → a < b → shifted_offset s a < shifted_offset s b
-  less a b (inl h) (inl k) lt = omega (arith, stays s a h, stays s b k)
-  less a b (inl h) (inr k) lt = omega (arith, stays s a h, moves s b (omega (arith, k.0)) (omega (arith, k.1)), k.0)
+  less a b (inl h) (inl k) lt = omega (arith, early_offset s a h, early_offset s b k)
+  less a b (inl h) (inr k) lt = omega (arith, early_offset s a h, late_offset s b (omega (arith, k.0)) (omega (arith, k.1)), k.0)
   less a b (inr h) (inl k) lt = absurd (omega (arith, h.0))
-  less a b (inr h) (inr k) lt = omega (arith, moves s a (omega (arith, h.0)) (omega (arith, h.1)), moves s b (omega (arith, k.0)) (omega (arith, k.1)), h.0)
+  less a b (inr h) (inr k) lt = omega (arith, late_offset s a (omega (arith, h.0)) (omega (arith, h.1)), late_offset s b (omega (arith, k.0)) (omega (arith, k.1)), h.0)
 
   compared : (a b : ℕ) → IsOutside old s a → IsOutside old s b → nat_cmp (shifted_offset s a) (shifted_offset s b) ≡ nat_cmp a b
   compared a b h k = sym (nat_cmp_is (shifted_offset s a) (shifted_offset s b) (nat_cmp a b) (by (nat_cmp a b) (ranked a b (nat_cmp a b) refl)))

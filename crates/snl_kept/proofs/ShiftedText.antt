@@ -12,14 +12,15 @@ use Rattle.snl_lex.specs.declared.lines.Line.{Line}
 use Rattle.snl_lex.specs.declared.shift.Shift.{Shift}
 use Rattle.snl_lex.specs.Lines.{line_at}
 use Rattle.snl_lex.specs.PieceList.{spelled}
+use Rattle.snl_lex.specs.Edit.{Edit}
 use Rattle.snl_lex.specs.Pieces.{LiesIn, is_token, pieces_of, tokens_of}
 use Rattle.snl_lex.specs.LineShift.{IsLineShift, moved_line}
 use Rattle.snl_lex.specs.Shift.{IsOutside, most, shifted_offset}
 use Rattle.snl_syntax.specs.Outcome.{parsed_by, parsed_in, sound_tree}
 use Rattle.snl_syntax.specs.declared.tree.item.Item.{Item}
-use Rattle.snl_items.specs.Fresh.{token_edit_between}
+use Rattle.snl_items.specs.Fresh.{token_edit_of}
 use Rattle.snl_items.specs.Items.{item_ends, spelled_items}
-use Rattle.snl_walk.specs.Codes.{is_error}
+use Rattle.snl_codes.specs.Codes.{is_error}
 use Rattle.snl_scope.specs.Linked as links
 use Rattle.snl_scope.specs.LinkedItems.{LinkedItems}
 use Rattle.snl_scope.specs.SpelledTokens.{summary_by}
@@ -35,7 +36,6 @@ use Rattle.snl_check.specs.Spans.{AreRead}
 use Rattle.snl_check.specs.Tables.{tables_of}
 use Rattle.snl_kept.specs.declared.entries.Entry.{Entry}
 use Rattle.snl_kept.specs.declared.found.findings.Finding.{Finding}
-use Rattle.snl_kept.specs.Edit.{Edit}
 use Rattle.snl_kept.specs.Checked.{checked_faults, found_in_item}
 use Rattle.snl_kept.specs.Checks.{checked_by, checks_from, links_in, outlines_in}
 use Rattle.snl_kept.specs.Diagnostics.{diagnostic, diagnostics_of, found, shown}
@@ -45,7 +45,7 @@ use Rattle.snl_kept.specs.Linked.{linked_faults, linked_finding}
 use Rattle.snl_kept.specs.Order.{in_order}
 use Rattle.snl_kept.specs.Program.{ProgramItem, item_tokens, items_of, program_item, tree_in}
 use Rattle.snl_kept.specs.Shifted.{IsShifted, ShiftsAll, shifted_diagnostic, shifted_finding}
-use Rattle.snl_kept.specs.Stirred.{is_stirred, old_number, stirred_between}
+use Rattle.snl_kept.specs.Stirred.{is_stirred, old_number, stirred_of}
 use Rattle.snl_kept.specs.Tables.{tables_in, walked_faults, walked_in}
 use Rattle.snl_kept.specs.Warnings.{last_or, setting_of_item, shows_warnings}
 use Rattle.snl_kept.proofs.MemberParts.{got, in_members}
@@ -54,13 +54,7 @@ use Rattle.snl_kept.proofs.ShiftedItems.{each_alike, each_left, items_shift, lin
 use Rattle.snl_kept.proofs.ShiftedLines.{KeepsLine, lines_kept}
 use Rattle.snl_kept.proofs.ShiftedOrder.{told_shift}
 use Rattle.snl_kept.proofs.TextSpans.{items_are_read}
-
-none_counted : {X : Type 0} (f : X → Bool) (xs : List X) → AllByRecursion (λ x. f x ≡ false) xs → count_by f xs ≡ 0
-none_counted {X} f xs h = sym (length-filter f xs) ∙ none xs h
-  where
-    none : (xs : List X) → AllByRecursion (λ x. f x ≡ false) xs → length (filter f xs) ≡ 0
-    none [] h = refl
-    none (x ∷ xs) h = ap (λ (b : Bool). length (cond b (x ∷ filter f xs) (filter f xs))) h.0 ∙ none xs h.1
+use Rattle.snl_facts.specs.Counts.{no_counted}
 
 same_number : (before n i : ℕ) → old_number before n n i ≡ i
 same_number before n i = by (nat_lt i before)
@@ -267,12 +261,12 @@ module _ (edit : Edit) (t : LineShift) (is : ShiftsAll edit t)
   all_not before [] = tt
   all_not before (e ∷ es) = (not_stirred e before, all_not before es)
 
-  none_stirs : stirred_between edit ≡ 0
-  unfolding stirred_between
+  none_stirs : stirred_of edit ≡ 0
+  unfolding stirred_of
   none_stirs =
-      let before : ℕ = ends_below (token_edit_between old text edit.start edit.old_stop edit.new_stop).start (item_ends old) in
+      let before : ℕ = ends_below (token_edit_of edit).start (item_ends old) in
       ap (λ (fresh : List ℕ). count_by (is_stirred old text before fresh) (enumerate_from 0 (entries_of text))) is.tokens.none_fresh
-      ∙ none_counted (is_stirred old text before []) (enumerate_from 0 (entries_of text)) (all_not before (enumerate_from 0 (entries_of text)))
+      ∙ no_counted (is_stirred old text before []) (enumerate_from 0 (entries_of text)) (all_not before (enumerate_from 0 (entries_of text)))
 
   pub all_shifts : IsShifted edit t
   all_shifts = record {

@@ -2,7 +2,7 @@
 use Rattle.std.proofs.Common.{◌≡◌, ◌≢◌, ℕ, zero, suc, ◌+◌, ◌-◌, ◌<◌, ◌≤◌, ◌⊎◌, inl, inr, ◌||◌, nat_eq, Bool, true, false, All, List, [], ◌∷◌, length, take, drop, get_or, refl, sym, ◌∙◌, subst, arith}
 use Rattle.std.specs.Prelude.{nat_le}
 use Rattle.std.specs.List.{AllByRecursion, list_any}
-use Rattle.std.proofs.lemmas.Bool.{cases_eq, eqb-true, false≢true}
+use Rattle.std.proofs.lemmas.Bool.{cases_eq, eqb-true, false≢true, or_cases, le-leb, lt-leb}
 use Rattle.std.proofs.lemmas.Bool.Decides.{nat_tests}
 use Rattle.std.proofs.lemmas.List.{length-take}
 use Rattle.std.proofs.lemmas.List.Elements.{All-filter, All-take, recursion_from_All}
@@ -46,21 +46,11 @@ module _ (P Q : Piece → Type 0) where
       let same : suc before - suc from ≡ before - from = omega arith in
       (subst (λ (n : ℕ). AllByRecursion P (take n (drop from ts))) (sym same) rest.0, subst (λ (n : ℕ). AllByRecursion Q (drop n (drop from ts))) (sym same) rest.1)
 
-pub at_least : (a b : ℕ) → a ≤ b → nat_le a b ≡ true
-at_least a b h = grind (arith, nat_tests)
-
-pub not_le : (a b : ℕ) → b < a → nat_le a b ≡ false
-not_le a b h = grind (arith, nat_tests)
-
-one_of : (a b : Bool) → (a || b) ≡ true → (a ≡ true) ⊎ (b ≡ true)
-one_of true b h = inl refl
-one_of false b h = inr h
-
 -- What is found among ends that rise is above the first place.
 above : (from : ℕ) (ends : List ℕ) → Rises from ends → {before : ℕ} → list_any (λ e. nat_eq e before) ends ≡ true → from ≤ before
 above from [] r any = absurd (false≢true any)
 above from (e ∷ es) r {before} any =
-    elim (one_of (nat_eq e before) (list_any (λ e. nat_eq e before) es) any) [
+    elim (or_cases (nat_eq e before) (list_any (λ e. nat_eq e before) es) any) [
       | inl is ↦ omega (arith, eqb-true e before is, r.0)
       | inr later ↦ omega (arith, above e es r.1 later, r.0)
     ]
@@ -83,9 +73,9 @@ module _ (place : ℕ) where
   first_side (suc k) n [] other h g some = absurd (omega arith)
   first_side (suc zero) n (p ∷ ps) other h g some = absurd (omega arith)
   first_side (suc (suc k)) n (p ∷ []) other h g some = absurd (omega arith)
-  first_side (suc (suc k)) zero (p ∷ q ∷ ps) other h g some = at_least place p.start g.0 ∙ sym (at_least place q.start g.1.0)
+  first_side (suc (suc k)) zero (p ∷ q ∷ ps) other h g some = le-leb place p.start g.0 ∙ sym (le-leb place q.start g.1.0)
   first_side (suc (suc k)) (suc zero) (p ∷ q ∷ ps) other h g some = absurd (other refl)
-  first_side (suc (suc k)) (suc (suc n)) (p ∷ q ∷ ps) other h g some = not_le place p.start h.0 ∙ sym (not_le place q.start h.1.0)
+  first_side (suc (suc k)) (suc (suc n)) (p ∷ q ∷ ps) other h g some = lt-leb place p.start h.0 ∙ sym (lt-leb place q.start h.1.0)
 
   module _ (before : ℕ) (ts : List Piece) (h : AllByRecursion IsBefore (take before ts)) (g : AllByRecursion IsFrom (drop before ts)) where
     sides : (from : ℕ) (ends : List ℕ) → before ≢ from + 1 → AllByRecursion (λ e. before ≢ e + 1) ends → AllByRecursion (IsOnOneSide place) (members ts from ends)
@@ -112,7 +102,7 @@ module _ (place : ℕ) where
     end_sides : (from : ℕ) (ends : List ℕ) → Rises from ends → list_any (λ e. nat_eq e before) ends ≡ true → AllByRecursion (IsOnOneSide place) (members ts from ends)
     end_sides from [] r any = tt
     end_sides from (e ∷ es) r any =
-        elim (one_of (nat_eq e before) (list_any (λ e. nat_eq e before) es) any) [
+        elim (or_cases (nat_eq e before) (list_any (λ e. nat_eq e before) es) any) [
           | inl is ↦ let same = eqb-true e before is in (here from e (inr (omega (arith, same))) r.0, past_sides e es r.1 (omega (arith, same)))
           | inr later ↦ (here from e (inr (above e es r.1 later)) r.0, end_sides e es r.1 later)
         ]
@@ -120,7 +110,7 @@ module _ (place : ℕ) where
   all_before : (m : List Piece) → AllByRecursion IsBefore m → IsOnOneSide place m
   all_before [] h some = absurd (omega arith)
   all_before (p ∷ []) h some = absurd (omega arith)
-  all_before (p ∷ q ∷ ps) h some = not_le place p.start h.0 ∙ sym (not_le place q.start h.1.0)
+  all_before (p ∷ q ∷ ps) h some = lt-leb place p.start h.0 ∙ sym (lt-leb place q.start h.1.0)
 
   each_before : (ms : List (List Piece)) → AllByRecursion (AllByRecursion IsBefore) ms → AllByRecursion (IsOnOneSide place) ms
   each_before [] h = tt

@@ -132,9 +132,6 @@ module _ {X : Type 0} (lt : X → X → Bool) (order : IsStrictWeakOrder lt) (sa
       ∙ ap (λ z. lt z (get_or (y ∷ ys) k d)) (get_after x (y ∷ ys) (k + 1) d)
       ∙ sorted_from (y ∷ ys) h.1 k d (omega arith)
 
-  pub all_sorted : (xs : List X) → IsSortedBy lt (all_put xs)
-  all_sorted xs = λ k d low within. sorted_from (all_put xs) (ordered_all xs) k d within
-
   pub sorted_is : (xs ys : List X) → ((f : X → ℕ) → sum_by f ys ≡ sum_by f xs) → IsSortedBy lt ys → ys ≡ all_put xs
   sorted_is xs ys sums up = unique ys (all_put xs) (ordered_sorted ys up) (ordered_all xs) (λ f. total_is f ys ∙ sums f ∙ sym (total_is f xs) ∙ sym (total_all f xs))
 

@@ -14,12 +14,13 @@ use Rattle.snl_items.specs.Items.{item_ends, spelled_items, spellings}
 use Rattle.snl_scope.specs.SpelledTokens.{bytes_by}
 use Rattle.snl_scope.specs.declared.summaries.summary.Outline.{Outline}
 use Rattle.snl_scope.specs.Summaries.Tokens.{token_bytes}
-use Rattle.snl_check.specs.declared.rules.findings.Checked.{Checked}
+use Rattle.snl_item_check.specs.declared.findings.Checked.{Checked}
 use Rattle.snl_kept.specs.declared.found.program.Part.{Part}
 use Rattle.snl_kept.specs.Checks.{check_by, check_of_item, checked_by, checks_from, checks_of, checks_over, outlines_in}
 use Rattle.snl_kept.specs.Parts.{item_of_part, spelled_part}
 use Rattle.snl_kept.specs.Program.{ProgramItem, item_tokens, items_of, program_item, tree_in}
-use Rattle.snl_kept.proofs.Members.{members_count, spelled_between}
+use Rattle.snl_kept.proofs.Members.{spelled_between}
+use Rattle.snl_cut.specs.CutLaws.{length_members}
 
 spelled_members : (text : List ℕ) (tokens : List Piece) (from : ℕ) (ends : List ℕ) → members (spelled text tokens) from ends ≡ map (spelled text) (members tokens from ends)
 spelled_members text tokens from [] = refl
@@ -55,4 +56,4 @@ module _ (text : List ℕ)
 
 pub parts_count : (text : List ℕ) (tokens : List Piece) (parts : List Part) → map (item_of_part tokens) parts ≡ items_of text → length parts ≡ length (item_ends text)
 parts_count text tokens parts same =
-    sym (length-map parts (spelled_part text tokens)) ∙ ap length (spelled_parts text tokens parts same) ∙ members_count (spellings text) 0 (item_ends text)
+    sym (length-map parts (spelled_part text tokens)) ∙ ap length (spelled_parts text tokens parts same) ∙ length_members (spellings text) 0 (item_ends text)

@@ -10,10 +10,11 @@ use Rattle.snl_syntax.specs.declared.tree.item.Item.{Item}
 use Rattle.snl_syntax.specs.Parsing.{is_bad, kinds_in}
 use Rattle.snl_syntax.specs.Reading.Items.{item_of}
 use Rattle.snl_scope.specs.Summaries.Tokens.{IsSource}
-use Rattle.snl_check.specs.Items as items
+use Rattle.snl_item_check.specs.Items as items
 use Rattle.snl_check.specs.Spans.{AreRead}
 use Rattle.snl_items.specs.Items.{item_ends}
 use Rattle.snl_kept.specs.Program.{item_tokens, items_of, program_item, tree_in}
+use Rattle.snl_kept.specs.TokenLaws.{read_tree}
 
 -- what holds of each token holds of each of an item
 module _ (text : List ℕ) (P : Piece → Type 0) (tokens : List Piece) (each : All P tokens) where
@@ -21,14 +22,6 @@ module _ (text : List ℕ) (P : Piece → Type 0) (tokens : List Piece) (each : 
   in_item from [] i = All-nil P
   in_item from (e ∷ es) zero = All-take P (e - from) (drop from tokens) (All-drop P from tokens each)
   in_item from (e ∷ es) (suc i) = in_item e es i
-
--- a tree is the one that is read
-pub read_tree : (text : List ℕ) (ts : List Piece) (t : Item) → tree_in text ts ≡ Some t → item_of (kinds_in text ts) ≡ Some t
-read_tree text ts t = by (list_any is_bad ts)
-  where
-    by : (b : Bool) → (if b then None else item_of (kinds_in text ts)) ≡ Some t → item_of (kinds_in text ts) ≡ Some t
-    by true is = absurd cc
-    by false is = is
 
 read_trees : (text : List ℕ) (ms : List (List Piece)) (i : ℕ) (t : Item) → items.tree_in (map (program_item text) ms) i ≡ Some t → item_of (kinds_in text (items.tokens_in (map (program_item text) ms) i)) ≡ Some t
 read_trees text [] i t is = absurd cc

@@ -7,11 +7,11 @@ use Rattle.snl_cut.specs.Cut.{members}
 use Rattle.snl_lex.specs.declared.piece.Piece.{Piece}
 use Rattle.snl_lex.specs.Pieces.{LiesIn, is_token, pieces_of, tokens_of}
 use Rattle.snl_items.specs.Items.{item_ends}
-use Rattle.snl_check.specs.Items.{ProgramItem, program_items}
+use Rattle.snl_item_check.specs.Items.{ProgramItem, program_items}
 use Rattle.snl_kept.specs.declared.found.program.Part.{Part}
 use Rattle.snl_kept.specs.Parts.{item_of_part, tree_of_part}
 use Rattle.snl_kept.specs.Program.{item_tokens, items_of, program_item, tree_in}
-use Rattle.snl_kept.proofs.Members.{members_count}
+use Rattle.snl_cut.specs.CutLaws.{length_members}
 
 -- the tokens of a text lie in it
 pub tokens_lie : (text : List ℕ) (tokens : List Piece) → tokens ≡ tokens_of text → All (LiesIn text) (pieces_of text) → All (LiesIn text) tokens
@@ -35,7 +35,7 @@ module _ (text : List ℕ) (tokens : List Piece) (ends : List ℕ) (parts : List
     (same : map (item_of_part tokens) parts ≡ map (program_item text) (members tokens 0 ends)) where
   -- there are as many as ends
   pub parts_count : length parts ≡ length ends
-  parts_count = sym (length-map parts (item_of_part tokens)) ∙ ap length same ∙ length-map (members tokens 0 ends) (program_item text) ∙ members_count tokens 0 ends
+  parts_count = sym (length-map parts (item_of_part tokens)) ∙ ap length same ∙ length-map (members tokens 0 ends) (program_item text) ∙ length_members tokens 0 ends
 
   -- and the ends and their trees give the items
   pub trees_give : program_items tokens ends (map tree_of_part parts) ≡ map (program_item text) (members tokens 0 ends)

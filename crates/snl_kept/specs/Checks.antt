@@ -10,10 +10,10 @@ use Rattle.snl_scope.specs.LinkedItems.{LinkedItems}
 use Rattle.snl_scope.specs.SpelledTokens.{bytes_by}
 use Rattle.snl_scope.specs.declared.summaries.summary.Outline.{Outline}
 use Rattle.snl_scope.specs.Summaries.Tokens.{token_bytes}
-use Rattle.snl_check.specs.declared.rules.findings.Checked.{Checked}
-use Rattle.snl_check.specs.ItemFaults.{faults_in}
-use Rattle.snl_check.specs.View.{is_in_set, known_of, leads_to}
-use Rattle.snl_check.specs.Told.{target_uses, wake_uses}
+use Rattle.snl_item_check.specs.declared.findings.Checked.{Checked}
+use Rattle.snl_item_check.specs.ItemFaults.{faults_in}
+use Rattle.snl_item_check.specs.View.{is_in_set, known_of, leads_to}
+use Rattle.snl_item_check.specs.Told.{target_uses, wake_uses}
 use Rattle.snl_kept.specs.Linked.{linked_of, outlines_of}
 use Rattle.snl_kept.specs.Program.{ProgramItem, items_of}
 

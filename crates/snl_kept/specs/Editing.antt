@@ -8,7 +8,8 @@ use Rattle.snl_lex.specs.LineList.{IsLineList}
 use Rattle.snl_kept.specs.declared.editing.Editing.{Editing}
 use Rattle.snl_kept.specs.declared.entries.Entry.{Entry}
 use Rattle.snl_kept.specs.Diagnostics.{diagnostics_of}
-use Rattle.snl_kept.specs.Edit.{Edit, edit_of, fresh_items_of, fresh_pieces_of}
+use Rattle.snl_items.specs.Fresh.{fresh_items_of, fresh_pieces_of}
+use Rattle.snl_lex.specs.Edit.{Edit, edit_of}
 use Rattle.snl_kept.specs.ItemPlan.{IsOneItem}
 use Rattle.snl_kept.specs.Kept.{IsListed}
 use Rattle.snl_kept.specs.Planned.{AreEntriesMade, IsChanged}
@@ -34,7 +35,7 @@ pub record IsUnderWay (e : Editing) : Type 0 where
   pub tables : e.tables.now ≡ tables_in (old_in e)
   pub found : e.found.now ≡ diagnostics_of (old_in e)
   pub changes : IsChanged (edit_in e) e.changes.now
-  pub lines : IsLineList (text_in e) e.lines.now.ends.items e.lines.now.markers.items e.lines.now.naming.items
+  pub lines : IsLineList (text_in e) e.lines.now
   pub lexed : e.lexed ≡ fresh_pieces_of (edit_in e)
 
 -- What is kept of the items that the edit makes.
@@ -47,7 +48,7 @@ parsed_in e = length (fresh_items_of (edit_in e))
 
 -- The edit as a shift, and how it shifts lines.
 abbrev pub IsShiftIn : Editing → Shift → Type 0
-IsShiftIn e s = IsShiftOf (old_in e) (text_in e) e.edit.now.start e.edit.now.old_stop e.edit.now.new_stop s
+IsShiftIn e s = IsShiftOf (edit_in e) s
 
 abbrev pub ShiftsLinesIn : Editing → LineShift → Type 0
 ShiftsLinesIn e t = ShiftsLines (old_in e) (text_in e) t

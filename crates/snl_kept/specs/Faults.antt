@@ -5,8 +5,8 @@ use Rattle.snl_lex.specs.declared.piece.Piece.{Piece}
 use Rattle.snl_syntax.specs.declared.outcome.Parsed.{Parsed}
 use Rattle.snl_syntax.specs.declared.outcome.Parsed.TheVariants as parsed
 use Rattle.snl_syntax.specs.Outcome.{parsed_in}
-use Rattle.snl_walk.specs.declared.codes.Code.{Code}
-use Rattle.snl_walk.specs.declared.codes.Code.TheVariants.{E01, E02}
+use Rattle.snl_codes.specs.declared.code.Code.{Code}
+use Rattle.snl_codes.specs.declared.code.Code.TheVariants.{E01, E02}
 use Rattle.snl_kept.specs.declared.found.findings.Finding.{Finding}
 use Rattle.snl_kept.specs.Program.{ProgramItem}
 

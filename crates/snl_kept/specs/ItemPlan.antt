@@ -15,8 +15,9 @@ use Rattle.snl_scope.specs.declared.summaries.summary.ItemKind.{ItemKind}
 use Rattle.snl_scope.specs.declared.summaries.summary.Outline.{Outline}
 use Rattle.snl_tables.specs.declared.rows.Tables.{Tables}
 use Rattle.snl_tables.specs.Moved.{moved_tables}
-use Rattle.snl_check.specs.declared.rules.findings.Checked.{Checked}
-use Rattle.snl_check.specs.ShiftedAround.{is_plain, used_by, wakes_of}
+use Rattle.snl_item_check.specs.declared.findings.Checked.{Checked}
+use Rattle.snl_item_check.specs.Told.{used_by, wakes_of}
+use Rattle.snl_check.specs.ShiftedAround.{is_plain}
 use Rattle.snl_kept.specs.declared.entries.Entry.{Entry}
 use Rattle.snl_kept.specs.declared.found.findings.Diagnostic.{Diagnostic}
 use Rattle.snl_kept.specs.declared.found.findings.Finding.{Finding}
@@ -30,7 +31,7 @@ use Rattle.snl_kept.specs.declared.ways.one_item.touched_rows.TouchedRows.{Touch
 use Rattle.snl_kept.specs.declared.ways.one_item.touched_rows.TouchedRows.TheVariants as touched
 use Rattle.snl_kept.specs.Checks.{checks_of, links_in, outlines_in}
 use Rattle.snl_kept.specs.Diagnostics.{diagnostic, diagnostics_of, shown, shown_if}
-use Rattle.snl_kept.specs.Edit.{Edit}
+use Rattle.snl_lex.specs.Edit.{Edit}
 use Rattle.snl_kept.specs.Entries.{entries_of}
 use Rattle.snl_kept.specs.ReplacedItem.{DeclaresInHead, SparesInside, own_findings, own_shown, own_tokens}
 use Rattle.snl_kept.specs.Order.{in_order}
@@ -40,7 +41,7 @@ use Rattle.snl_kept.specs.Program.{ProgramItem, items_of, program_item}
 use Rattle.snl_kept.specs.NewChecks.{AreChecksMade}
 use Rattle.snl_kept.specs.NewLinks.{AreLinks}
 use Rattle.snl_kept.specs.Shifted.{finding_of}
-use Rattle.snl_kept.specs.Stirred.{stirred_between}
+use Rattle.snl_kept.specs.Stirred.{stirred_of}
 use Rattle.snl_kept.specs.Tables.{tables_in}
 use Rattle.snl_kept.specs.Warnings.{warns_in}
 
@@ -102,7 +103,7 @@ pub record IsOwnPlan (edit : Edit) (c : Changes) (links : NewLinks) (p : OwnPart
   pub are_links : AreLinks edit.old edit.text links
   pub warns : warns_in edit.text ≡ warns_in edit.old
   pub checks : AreChecksMade edit.old edit.text c.items.kept_front p.checks.vacant.items c.items.kept_back p.checks.made.items
-  pub stirred : stirred_between edit ≡ length p.checks.made.items
+  pub stirred : stirred_of edit ≡ length p.checks.made.items
   pub diagnostics : p.diagnostics.items ≡ diagnostics_of edit.text
   pub tables : tables_in edit.text ≡ with_row (moved_tables p.shift.by (moved_line p.shift) (tables_in edit.old)) p.change
 

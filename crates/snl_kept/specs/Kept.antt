@@ -21,7 +21,7 @@ pub record IsListed (text : List ℕ) (l : Lists) : Type 0 where
   pub kinds : l.pieces.kinds.items ≡ piece_kinds text
   pub markers : l.pieces.markers ≡ marker_count text
   -- where the lines end, and the line markers that count
-  pub lines : IsLineList text l.lines.ends.items l.lines.markers.items l.lines.naming.items
+  pub lines : IsLineList text l.lines
   -- what each token is to the cut into items, and where the items end
   pub marks : l.items.marks.items ≡ marks_of text
   pub items : l.items.ends.items ≡ item_ends text
@@ -38,7 +38,7 @@ pub record ArePlaces (text : List ℕ) (l : Lists) : Type 0 where
   pub ends : l.pieces.ends.items ≡ piece_ends text
   pub kinds : l.pieces.kinds.items ≡ piece_kinds text
   pub markers : l.pieces.markers ≡ marker_count text
-  pub lines : IsLineList text l.lines.ends.items l.lines.markers.items l.lines.naming.items
+  pub lines : IsLineList text l.lines
   pub marks : l.items.marks.items ≡ marks_of text
   pub items : l.items.ends.items ≡ item_ends text
 
@@ -79,4 +79,4 @@ pub record HasRoomForPlaces (l : Lists) (c : Changes) : Type 0 where
 pub record HasRoomFor (l : Lists) (c : Changes) (r : ItemsPlan) : Type 0 where
   pub places : HasRoomForPlaces l c
   pub entries : vec_len r.made ≤ l.entries.room
-  pub checks : vec_len r.vacant ≤ l.checks.room
+  pub checks : vec_len r.kept.checks.vacant ≤ l.checks.room

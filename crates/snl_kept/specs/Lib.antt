@@ -2,7 +2,6 @@ pub mod Checked
 pub mod Checks
 pub mod Cost
 pub mod Diagnostics
-pub mod Edit
 pub mod Editing
 pub mod Entries
 pub mod Faults
@@ -20,6 +19,7 @@ pub mod OwnLinks
 pub mod OwnRows
 pub mod Parts
 pub mod Planned
+pub mod Retold
 pub mod Program
 pub mod SetMembers
 pub mod Shifted
@@ -27,3 +27,5 @@ pub mod Stirred
 pub mod Tables
 pub mod Warnings
 pub mod OnceFound
+pub mod TokenLaws
+pub mod OrderLaws

@@ -1,12 +1,12 @@
 -- What is found by the links of the items of a text, each finding at a token of an item.
 use Rattle.std.specs.Prelude.{ℕ, List, map, slice_get, Option, Some, None, option_and_then}
 use Rattle.snl_lex.specs.declared.piece.Piece.{Piece}
-use Rattle.snl_walk.specs.declared.codes.Code.{Code}
-use Rattle.snl_walk.specs.Codes.{quoted_bytes}
+use Rattle.snl_codes.specs.declared.code.Code.{Code}
+use Rattle.snl_codes.specs.Codes.{quoted_bytes}
 use Rattle.snl_scope.specs.declared.facts.LinkFault.{LinkFault}
 use Rattle.snl_scope.specs.Linked as links
 use Rattle.snl_kept.specs.declared.found.findings.Finding.{Finding}
-pub use Rattle.snl_check.specs.Items.{linked_of, outlines_of, summaries_of}
+pub use Rattle.snl_item_check.specs.Items.{linked_of, outlines_of, summaries_of}
 use Rattle.snl_kept.specs.Program.{ProgramItem}
 
 -- A finding at a token. One of what is missing altogether has none, and is at the text's beginning.

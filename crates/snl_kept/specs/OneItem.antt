@@ -3,7 +3,7 @@
 use Rattle.std.specs.Prelude.{ℕ, List}
 use Rattle.snl_scope.specs.declared.summaries.summary.Outline.{Outline}
 use Rattle.snl_kept.specs.declared.ways.one_item.replaced.OneItem.{OneItem}
-use Rattle.snl_kept.specs.Edit.{Edit}
+use Rattle.snl_lex.specs.Edit.{Edit}
 use Rattle.snl_kept.specs.Editing.{IsShiftIn, IsUnderWay, MakesOneItem, ShiftsLinesIn, edit_in, items_in, old_in, text_in}
 use Rattle.snl_kept.specs.ItemPlan.{AreOwnTokens}
 use Rattle.snl_kept.specs.ReplacedItem.{own_head}

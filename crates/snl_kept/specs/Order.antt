@@ -4,7 +4,7 @@ use Rattle.std.specs.Prelude.{Bool, if◌then◌else◌, List, [], ◌∷◌}
 use Rattle.std.specs.Cmp.Lexicographic.{slice_cmp}
 use Rattle.std.specs.Ordering.{is_lt, nat_cmp, ordering_then}
 use Rattle.std.specs.declared.cmp.Ordering.{Ordering}
-use Rattle.snl_walk.specs.Codes.{name_of}
+use Rattle.snl_codes.specs.Codes.{name_of}
 use Rattle.snl_kept.specs.declared.found.findings.Finding.{Finding}
 
 abbrev pub order_by_code : Finding → Finding → Ordering

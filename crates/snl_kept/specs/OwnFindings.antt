@@ -6,7 +6,7 @@ use Rattle.snl_lex.specs.declared.piece.Piece.{Piece}
 use Rattle.snl_lex.specs.declared.shift.Shift.{Shift}
 use Rattle.snl_lex.specs.PieceList.{spelled}
 use Rattle.snl_scope.specs.declared.summaries.summary.Outline.{Outline}
-use Rattle.snl_check.specs.declared.rules.findings.Checked.{Checked}
+use Rattle.snl_item_check.specs.declared.findings.Checked.{Checked}
 use Rattle.snl_kept.specs.declared.found.findings.Finding.{Finding}
 use Rattle.snl_kept.specs.Checks.{check_by}
 use Rattle.snl_kept.specs.Order.{in_order, order_of}

@@ -4,7 +4,7 @@ use Rattle.snl_lex.specs.declared.shift.Shift.{Shift}
 use Rattle.snl_scope.specs.declared.summaries.summary.Outline.{Outline}
 use Rattle.snl_tables.specs.declared.rows.Tables.{Tables}
 use Rattle.snl_tables.specs.Shifted.{with_body, with_marks, with_wake}
-use Rattle.snl_check.specs.Items.{ProgramItem}
+use Rattle.snl_item_check.specs.Items.{ProgramItem}
 use Rattle.snl_check.specs.ShiftedAround.{set_number, state_number}
 use Rattle.snl_check.specs.States.{marks_of, state_body, wake_of}
 use Rattle.snl_kept.specs.declared.found.findings.Finding.{Finding}

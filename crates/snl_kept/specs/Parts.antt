@@ -7,7 +7,7 @@ use Rattle.snl_lex.specs.PieceList.{spelled}
 use Rattle.snl_syntax.specs.Outcome.{parsed_in, sound_tree}
 use Rattle.snl_syntax.specs.declared.tree.item.Item.{Item}
 use Rattle.snl_scope.specs.Summaries.{summary_in}
-pub use Rattle.snl_check.specs.Items.{EndsWithin}
+pub use Rattle.snl_item_check.specs.Items.{EndsWithin}
 use Rattle.snl_kept.specs.declared.found.program.Part.{Part}
 use Rattle.snl_kept.specs.Entries.{entry_by}
 use Rattle.snl_kept.specs.Program.{ProgramItem}

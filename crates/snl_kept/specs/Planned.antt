@@ -1,13 +1,15 @@
 -- What an edit makes of what a session keeps of its text.
 use Rattle.std.specs.Prelude.{◌≡◌, ℕ, ◌-◌, ◌≤◌, IfSome, List, ◌++◌, length, take, drop}
-use Rattle.snl_lex.specs.Made.{made_pieces}
-use Rattle.snl_lex.specs.PieceList.{IsChange}
+use Rattle.snl_lex.specs.Edit.{Edit, IsChange}
 use Rattle.snl_items.specs.declared.item_list.ItemChange.{ItemChange}
 use Rattle.snl_items.specs.Changes.{AreShifted, IsItemChange, IsTokenChange}
+use Rattle.snl_lex.specs.declared.line_list.LineList.{LineList}
+use Rattle.snl_lex.specs.LineList.{IsLineList}
 use Rattle.snl_lex.specs.LineShift.{moved_line}
 use Rattle.snl_tables.specs.Moved.{moved_tables}
 use Rattle.snl_kept.specs.declared.work.Work.{Work}
 use Rattle.snl_kept.specs.declared.entries.Entry.{Entry}
+use Rattle.snl_kept.specs.declared.kept.Kept.{Kept}
 use Rattle.snl_kept.specs.declared.lists.Lists.{Lists}
 use Rattle.snl_kept.specs.declared.plan.Changes.{Changes}
 use Rattle.snl_kept.specs.declared.plan.ItemPlan.{ItemPlan}
@@ -18,9 +20,8 @@ use Rattle.snl_kept.specs.declared.plan.Plan.TheVariants as plan
 use Rattle.snl_kept.specs.declared.plan.WholePlan.{WholePlan}
 use Rattle.snl_kept.specs.Cost.{IsCost}
 use Rattle.snl_kept.specs.Diagnostics.{diagnostics_of, shown}
-use Rattle.snl_kept.specs.Edit.{Edit}
 use Rattle.snl_kept.specs.Entries.{entries_of}
-use Rattle.snl_kept.specs.Kept.{HasRoomFor}
+use Rattle.snl_kept.specs.Kept.{HasRoomFor, IsKept}
 use Rattle.snl_kept.specs.NewChecks.{AreChecksMade}
 use Rattle.snl_kept.specs.NewLinks.{AreLinks}
 use Rattle.snl_kept.specs.Order.{in_order}
@@ -30,11 +31,18 @@ use Rattle.snl_kept.specs.Warnings.{warns_in}
 
 -- What an edit makes of the pieces, the tokens and the items of a text.
 pub record IsChanged (edit : Edit) (c : Changes) : Type 0 where
-  pub pieces : IsChange edit.old edit.text edit.start edit.old_stop edit.new_stop c.pieces.kept_front (made_pieces c.pieces) c.pieces.kept_back c.pieces.kept_from c.pieces.list.ends.items c.pieces.list.kinds.items
-  pub tokens : IsTokenChange edit.old edit.text edit.start edit.old_stop edit.new_stop c.tokens.edit c.tokens.made.items c.tokens.marks.items c.tokens.same
+  pub pieces : IsChange edit c.pieces
+  pub tokens : IsTokenChange edit c.tokens
   -- if the edit leaves all tokens, it shifts them
-  pub shifted : IfSome c.tokens.shifted (λ t. AreShifted edit.old edit.text edit.start edit.old_stop edit.new_stop t.by t.before)
-  pub items : IsItemChange edit.old edit.text edit.start edit.old_stop edit.new_stop c.tokens.edit c.items.kept_front c.items.made.items c.items.kept_back
+  pub shifted : IfSome c.tokens.shifted (λ t. AreShifted edit t.by t.before)
+  pub items : IsItemChange edit c.tokens.edit c.items
+
+-- An edit is to be carried out: what is kept is that of the old text, these are the changes, and
+-- these the lines of the new text.
+pub record IsBegun (edit : Edit) (k : Kept) (c : Changes) (l : LineList) : Type 0 where
+  pub kept : IsKept edit.old k
+  pub changes : IsChanged edit c
+  pub lines : IsLineList edit.text l
 
 -- What is kept of the items of the new text: so much of the old ones at the front, what was made,
 -- and so much of the old ones at the back.
@@ -46,13 +54,12 @@ AreEntriesMade old text front made back =
 -- items.
 pub record AreLinksAndChecks (edit : Edit) (items : ItemChange) (made : LinksAndChecks) : Type 0 where
   pub links : AreLinks edit.old edit.text made.links
-  pub checks : AreChecksMade edit.old edit.text items.kept_front made.vacant.items items.kept_back made.made.items
+  pub checks : AreChecksMade edit.old edit.text items.kept_front made.checks.vacant.items items.kept_back made.checks.made.items
 
 -- What is made of all that is kept of the items.
 pub record IsItemsPlan (edit : Edit) (items : ItemChange) (p : ItemsPlan) : Type 0 where
   pub entries : AreEntriesMade edit.old edit.text items.kept_front p.made.items items.kept_back
-  pub links : AreLinks edit.old edit.text p.links
-  pub checks : AreChecksMade edit.old edit.text items.kept_front p.vacant.items items.kept_back p.checks.items
+  pub kept : AreLinksAndChecks edit items p.kept
   pub warns : p.warns ≡ warns_in edit.text
 
 -- What is made anew of a text on the whole way.

@@ -8,7 +8,7 @@ use Rattle.snl_syntax.specs.declared.tree.item.Item.{Item}
 use Rattle.snl_syntax.specs.Parsing.{is_bad, kinds_in}
 use Rattle.snl_syntax.specs.Reading.Items.{item_of}
 use Rattle.snl_items.specs.Items.{item_ends}
-pub use Rattle.snl_check.specs.Items.{ProgramItem}
+pub use Rattle.snl_item_check.specs.Items.{ProgramItem}
 
 -- The tokens of a text, item by item.
 unfoldable pub item_tokens : List ℕ → List (List Piece)

@@ -6,6 +6,7 @@ use Rattle.snl_lex.specs.declared.piece.Piece.{Piece}
 use Rattle.snl_lex.specs.declared.line_shift.LineShift.{LineShift}
 use Rattle.snl_lex.specs.declared.shift.Shift.{Shift}
 use Rattle.snl_lex.specs.PieceList.{spelled}
+use Rattle.snl_lex.specs.Edit.{Edit}
 use Rattle.snl_lex.specs.Pieces.{LiesIn, piece_end, tokens_of}
 use Rattle.snl_lex.specs.LineShift.{IsLineShift, moved_line}
 use Rattle.snl_lex.specs.Shift.{shifted_piece}
@@ -13,8 +14,8 @@ use Rattle.snl_items.specs.Changes.{IsShiftOf}
 use Rattle.snl_items.specs.Items.{item_ends}
 use Rattle.snl_scope.specs.declared.facts.LinkFault.{LinkFault}
 use Rattle.snl_scope.specs.declared.summaries.summary.Outline.{Outline}
-use Rattle.snl_check.specs.declared.rules.findings.Checked.{Checked}
-use Rattle.snl_check.specs.Items.{outline_of_item}
+use Rattle.snl_item_check.specs.declared.findings.Checked.{Checked}
+use Rattle.snl_item_check.specs.Items.{outline_of_item}
 use Rattle.snl_check.specs.Shifted.{shifted_item, shifted_tokens}
 use Rattle.snl_check.specs.Moved.{ReplacesOne}
 use Rattle.snl_check.specs.ShiftedAround.{is_plain}
@@ -24,7 +25,6 @@ use Rattle.snl_kept.specs.declared.plan.Changes.{Changes}
 use Rattle.snl_kept.specs.Checked.{found_in_item}
 use Rattle.snl_kept.specs.Checks.{check_by, links_in, outlines_in}
 use Rattle.snl_kept.specs.Diagnostics.{shown_of}
-use Rattle.snl_kept.specs.Edit.{Edit}
 use Rattle.snl_kept.specs.Entries.{entries_of, entry_by}
 use Rattle.snl_kept.specs.Faults.{fault_in}
 use Rattle.snl_kept.specs.Planned.{AreEntriesMade, IsChanged}
@@ -32,7 +32,7 @@ use Rattle.snl_kept.specs.Parts.{tokens_between}
 use Rattle.snl_kept.specs.Program.{ProgramItem, items_of, program_item}
 use Rattle.snl_kept.specs.NewChecks.{AreChecksMade, made_at, nones}
 use Rattle.snl_kept.specs.Shifted.{ShiftsLines}
-use Rattle.snl_kept.specs.Stirred.{stirred_between}
+use Rattle.snl_kept.specs.Stirred.{stirred_of}
 
 -- The edit leaves a token of the old text: it is before the edit or after it.
 abbrev pub IsLeft : List ℕ → Shift → Piece → Type 0
@@ -87,7 +87,7 @@ DeclaresInHead head o = All (λ d. d.token < head) o.declares
 pub record IsInside (edit : Edit) (c : Changes) (t : LineShift) (x e : Entry) : Type 0 where
   pub changed : IsChanged edit c
   pub edit_is : IsEdit edit.old edit.text edit.start edit.old_stop edit.new_stop
-  pub by : IsShiftOf edit.old edit.text edit.start edit.old_stop edit.new_stop t.by
+  pub by : IsShiftOf edit t.by
   pub lines : ShiftsLines edit.old edit.text t
   -- one item is made in the place of one
   pub one_made : length c.items.made.items ≡ 1
@@ -108,11 +108,11 @@ pub record IsInside (edit : Edit) (c : Changes) (t : LineShift) (x e : Entry) : 
 abbrev pub own_tokens : List ℕ → ℕ → List Piece
 own_tokens text i = tokens_between (tokens_of text) (own_start text i) (own_start text (i + 1))
 
--- The check of the state that is made, if it is sound.
+-- The check of the item that is made, if it is sound.
 abbrev pub own_check : List ℕ → List ℕ → ℕ → Option Checked
 own_check old text i = check_by (outlines_in old) i (spelled text (own_tokens text i))
 
--- What such an edit does: the state is replaced inside, and no other item is to be checked.
+-- What such an edit does: one item is replaced, and no other is to be checked.
 pub record IsOneReplaced (edit : Edit) (c : Changes) (t : LineShift) (x e : Entry) : Type 0 where
   pub front : List ProgramItem
   pub back : List ProgramItem
@@ -131,4 +131,4 @@ pub record IsOneReplaced (edit : Edit) (c : Changes) (t : LineShift) (x e : Entr
   pub was_spelled : x ≡ entry_by (spelled edit.old (own_tokens edit.old c.items.kept_front))
   pub spelled_so : e ≡ entry_by (spelled edit.text (own_tokens edit.text c.items.kept_front))
   pub checks : AreChecksMade edit.old edit.text c.items.kept_front (nones c.items.made.items) c.items.kept_back (made_at c.items.kept_front (own_check edit.old edit.text c.items.kept_front))
-  pub stirred : stirred_between edit ≡ length (made_at c.items.kept_front (own_check edit.old edit.text c.items.kept_front))
+  pub stirred : stirred_of edit ≡ length (made_at c.items.kept_front (own_check edit.old edit.text c.items.kept_front))

@@ -15,10 +15,10 @@ use Rattle.snl_kept.specs.declared.found.findings.Diagnostic.{Diagnostic}
 use Rattle.snl_kept.specs.declared.found.findings.Finding.{Finding}
 use Rattle.snl_kept.specs.Checks.{checks_of, links_in}
 use Rattle.snl_kept.specs.Diagnostics.{diagnostics_of, on_line}
-use Rattle.snl_kept.specs.Edit.{Edit}
+use Rattle.snl_lex.specs.Edit.{Edit}
 use Rattle.snl_kept.specs.Entries.{entries_of}
 use Rattle.snl_kept.specs.Program.{item_tokens}
-use Rattle.snl_kept.specs.Stirred.{stirred_between}
+use Rattle.snl_kept.specs.Stirred.{stirred_of}
 use Rattle.snl_kept.specs.Tables.{tables_in}
 use Rattle.snl_kept.specs.Warnings.{warns_in}
 
@@ -61,7 +61,7 @@ pub record ShiftsLines (old text : List ℕ) (t : LineShift) : Type 0 where
 pub record ShiftsAll (edit : Edit) (t : LineShift) : Type 0 where
   pub lines : ShiftsLines edit.old edit.text t
   pub before : ℕ
-  pub tokens : AreShifted edit.old edit.text edit.start edit.old_stop edit.new_stop t.by before
+  pub tokens : AreShifted edit t.by before
   -- the edit is not between the two first tokens of an item either
   pub items : AreOnOneSide t.by.start edit.old
   pub found : All (λ d. IsOutside edit.old t.by d.offset) (diagnostics_of edit.old)
@@ -74,4 +74,4 @@ pub record IsShifted (edit : Edit) (t : LineShift) : Type 0 where
   pub warns : warns_in edit.text ≡ warns_in edit.old
   pub found : diagnostics_of edit.text ≡ map (shifted_diagnostic t) (diagnostics_of edit.old)
   pub tables : tables_in edit.text ≡ moved_tables t.by (moved_line t) (tables_in edit.old)
-  pub none_stirred : stirred_between edit ≡ 0
+  pub none_stirred : stirred_of edit ≡ 0

@@ -4,12 +4,12 @@ use Rattle.std.specs.Prelude.{ℕ, ◌+◌, ◌-◌, ◌&&◌, ◌||◌, Bool, n
 use Rattle.std.specs.List.{enumerate_from, list_any}
 use Rattle.snl_cut.specs.Cut.{ends_below}
 use Rattle.snl_syntax.specs.Outcome.{sound_tree}
-use Rattle.snl_items.specs.Fresh.{spliced, token_edit_between}
+use Rattle.snl_items.specs.Fresh.{fresh_items_of, token_edit_of}
+use Rattle.snl_lex.specs.Edit.{Edit, splice}
 use Rattle.snl_items.specs.Items.{item_ends}
 use Rattle.snl_scope.specs.View.{same_view}
 use Rattle.snl_kept.specs.declared.entries.Entry.{Entry}
 use Rattle.snl_kept.specs.Checks.{outlines_in}
-use Rattle.snl_kept.specs.Edit.{Edit, fresh_items_of}
 use Rattle.snl_kept.specs.Entries.{entries_of}
 
 -- Item i, which ends at the end with its number, is fresh if that is a fresh end.
@@ -31,12 +31,12 @@ is_stirred old text before fresh (i, entry) =
     is_some (sound_tree entry.parsed) && (is_fresh (item_ends text) fresh i || not (sees_the_same old text before i entry))
 
 -- How many items of the new text are stirred.
-unfoldable pub stirred_between : Edit → ℕ
-stirred_between edit =
-    let before = ends_below (token_edit_between edit.old edit.text edit.start edit.old_stop edit.new_stop).start (item_ends edit.old) in
+unfoldable pub stirred_of : Edit → ℕ
+stirred_of edit =
+    let before = ends_below (token_edit_of edit).start (item_ends edit.old) in
     count_by (is_stirred edit.old edit.text before (fresh_items_of edit)) (enumerate_from 0 (entries_of edit.text))
 
 -- The same of an edit of one text, which puts other bytes in the place of those from `start` up to
 -- `stop`.
 abbrev pub stirred : (text : List ℕ) (start stop : ℕ) (new : List ℕ) → ℕ
-stirred text start stop new = stirred_between (record { old = text; text = spliced text start stop new; start = start; old_stop = stop; new_stop = start + length new })
+stirred text start stop new = stirred_of (splice text start stop new)

@@ -3,7 +3,7 @@ use Rattle.std.specs.Prelude.{ℕ, Bool, true, false, if◌then◌else◌, List,
 use Rattle.std.specs.List.{flat_map}
 use Rattle.std.specs.Option.{option_map_or}
 use Rattle.snl_lex.specs.declared.shift.Shift.{Shift}
-use Rattle.snl_walk.specs.declared.codes.Code.TheVariants.{W02}
+use Rattle.snl_codes.specs.declared.code.Code.TheVariants.{W02}
 use Rattle.snl_tables.specs.declared.rows.SetRow.{SetRow}
 use Rattle.snl_tables.specs.declared.rows.StateMark.{StateMark}
 use Rattle.snl_tables.specs.declared.rows.StateMark.TheVariants as mark

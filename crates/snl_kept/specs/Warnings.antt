@@ -5,8 +5,8 @@ use Rattle.snl_lex.specs.declared.piece.Piece.{Piece}
 use Rattle.snl_syntax.specs.declared.tree.item.Item.{Item}
 use Rattle.snl_scope.specs.declared.summaries.summary.Outline.{Outline}
 use Rattle.snl_scope.specs.Summaries.Tokens.{token_bytes}
-use Rattle.snl_check.specs.Options.{warning_setting}
-use Rattle.snl_check.specs.View.{is_in_set}
+use Rattle.snl_item_check.specs.Options.{warning_setting}
+use Rattle.snl_item_check.specs.View.{is_in_set}
 use Rattle.snl_kept.specs.Linked.{outlines_of}
 use Rattle.snl_kept.specs.Program.{ProgramItem, items_of}
 

@@ -10,9 +10,10 @@ ghost use Rattle.snl_lex.specs.LineList.{IsLineList};
 ghost use Rattle.snl_kept.specs.Checks.{links_in};
 ghost use Rattle.snl_kept.specs.Cost.{IsCost};
 ghost use Rattle.snl_kept.specs.Diagnostics.{diagnostics_of};
-ghost use Rattle.snl_kept.specs.Edit.{edit_of, fresh_pieces_of};
+ghost use Rattle.snl_items.specs.Fresh.{fresh_pieces_of};
+ghost use Rattle.snl_lex.specs.Edit.{edit_of};
 ghost use Rattle.snl_kept.specs.Kept.{HasRoomFor, HasRoomForPlaces, IsKept};
-ghost use Rattle.snl_kept.specs.Planned.{HasRoom, HasRoomForAll, IsChanged, IsItemPlan, IsPlan, IsWholePlan};
+ghost use Rattle.snl_kept.specs.Planned.{HasRoom, HasRoomForAll, IsBegun, IsItemPlan, IsPlan, IsWholePlan};
 ghost use Rattle.snl_kept.specs.Shifted.{IsShifted, ShiftsAll};
 ghost use Rattle.snl_kept.specs.Tables.{tables_in};
 ghost use Rattle.snl_kept.specs.Warnings.{warns_in};
@@ -58,7 +59,7 @@ impl Drop for Kept {
 
 // The links of the empty text, and what it is judged to say.
 fn judge_nothing(alloc: Global, lines: &LineList) -> Result<(Links, Judgement), OutOfMemory>
-    requires { IsLineList [] lines.now.ends.items lines.now.markers.items lines.now.naming.items }
+    requires { IsLineList [] lines.now }
     ensures links { IfOk result (λ r. r.0 ≡ links_in []) }
     ensures diagnostics { IfOk result (λ r. r.1.diagnostics.items ≡ diagnostics_of []) }
     ensures tables { IfOk result (λ r. r.1.tables ≡ tables_in []) }
@@ -79,7 +80,7 @@ fn judge_nothing(alloc: Global, lines: &LineList) -> Result<(Links, Judgement), 
 impl Kept {
     // What is kept of the empty text, by its lines, its links and what it is judged to say.
     fn of_nothing(alloc: Global, lines: LineList, links: Links, judgement: Judgement) -> Kept
-        requires lines { IsLineList [] lines.ends.items lines.markers.items lines.naming.items }
+        requires lines { IsLineList [] lines }
         requires links { links ≡ links_in [] }
         requires diagnostics { judgement.diagnostics.items ≡ diagnostics_of [] }
         requires tables { judgement.tables ≡ tables_in [] }
@@ -121,9 +122,7 @@ impl Kept {
     // Shifts what is kept, by an edit that shifts all that the text says. There is room for the
     // places that it makes, so it can't fail.
     fn shift(&mut self, edit: &TextEdit, changes: &Changes, lines: LineList, shift: LineShift)
-        requires kept { IsKept edit.now.old.now self.old }
-        requires changes { IsChanged (edit_of edit.now) changes.now }
-        requires lines { IsLineList edit.now.text.now lines.ends.items lines.markers.items lines.naming.items }
+        requires begun { IsBegun (edit_of edit.now) self.old changes.now lines }
         requires shifted { IsShifted (edit_of edit.now) shift }
         requires room { HasRoomForPlaces self.old.lists changes.now }
         ensures { IsKept edit.now.text.now self.new }
@@ -136,9 +135,7 @@ impl Kept {
     // Puts what an edit inside one item makes anew in its place, and shifts the rest. There is room
     // for it, so it can't fail.
     fn put_item(&mut self, edit: &TextEdit, changes: &Changes, lines: LineList, plan: ItemPlan)
-        requires kept { IsKept edit.now.old.now self.old }
-        requires changes { IsChanged (edit_of edit.now) changes.now }
-        requires lines { IsLineList edit.now.text.now lines.ends.items lines.markers.items lines.naming.items }
+        requires begun { IsBegun (edit_of edit.now) self.old changes.now lines }
         requires plan { IsItemPlan (edit_of edit.now) changes.now.items plan }
         requires room { HasRoomFor self.old.lists changes.now plan.items }
         ensures { IsKept edit.now.text.now self.new }
@@ -159,9 +156,7 @@ impl Kept {
     // Puts all that an edit makes anew in its place. There is room for it, so it can't fail.
     #[tactic(auto, unfolding(crate::specs::Diagnostics::diagnostics_of))]
     fn put_whole(&mut self, edit: &TextEdit, changes: &Changes, lines: LineList, plan: WholePlan)
-        requires kept { IsKept edit.now.old.now self.old }
-        requires changes { IsChanged (edit_of edit.now) changes.now }
-        requires lines { IsLineList edit.now.text.now lines.ends.items lines.markers.items lines.naming.items }
+        requires begun { IsBegun (edit_of edit.now) self.old changes.now lines }
         requires plan { IsWholePlan (edit_of edit.now) changes.now.items plan }
         requires room { HasRoomForAll self.old.lists (vec_capacity self.old.found) changes.now plan }
         ensures { IsKept edit.now.text.now self.new }
@@ -179,9 +174,7 @@ impl Kept {
 
     // Puts what an edit makes anew in its place. There is room for it, so it can't fail.
     fn put(&mut self, edit: &TextEdit, changes: &Changes, lines: LineList, plan: Plan)
-        requires kept { IsKept edit.now.old.now self.old }
-        requires changes { IsChanged (edit_of edit.now) changes.now }
-        requires lines { IsLineList edit.now.text.now lines.ends.items lines.markers.items lines.naming.items }
+        requires begun { IsBegun (edit_of edit.now) self.old changes.now lines }
         requires plan { IsPlan (edit_of edit.now) changes.now.items plan }
         requires room { HasRoom self.old.lists (vec_capacity self.old.found) changes.now plan }
         ensures { IsKept edit.now.text.now self.new }
@@ -201,9 +194,7 @@ impl Kept {
         shift: LineShift,
         lexed: u64,
     ) -> Result<Work, OutOfMemory>
-        requires kept { IsKept edit.now.old.now self.old }
-        requires changes { IsChanged (edit_of edit.now) changes.now }
-        requires lines { IsLineList edit.now.text.now lines.ends.items lines.markers.items lines.naming.items }
+        requires begun { IsBegun (edit_of edit.now) self.old changes.now lines }
         requires shift { ShiftsAll (edit_of edit.now) shift }
         requires lexed { lexed ≡ fresh_pieces_of (edit_of edit.now) }
         ensures kept { OnOk result (IsKept edit.now.text.now self.new) }
@@ -229,9 +220,7 @@ impl Kept {
         lines: &LineList,
         lexed: u64,
     ) -> Result<Plan, OutOfMemory>
-        requires kept { IsKept edit.now.old.now self.old }
-        requires changes { IsChanged (edit_of edit.now) changes.now }
-        requires lines { IsLineList edit.now.text.now lines.now.ends.items lines.now.markers.items lines.now.naming.items }
+        requires begun { IsBegun (edit_of edit.now) self.old changes.now lines.now }
         requires lexed { lexed ≡ fresh_pieces_of (edit_of edit.now) }
         ensures kept { IsKept edit.now.old.now self.new }
         ensures plan { IfOk result (IsPlan (edit_of edit.now) changes.now.items) }
@@ -260,9 +249,7 @@ impl Kept {
         lines: LineList,
         lexed: u64,
     ) -> Result<Work, OutOfMemory>
-        requires kept { IsKept edit.now.old.now self.old }
-        requires changes { IsChanged (edit_of edit.now) changes.now }
-        requires lines { IsLineList edit.now.text.now lines.ends.items lines.markers.items lines.naming.items }
+        requires begun { IsBegun (edit_of edit.now) self.old changes.now lines }
         requires lexed { lexed ≡ fresh_pieces_of (edit_of edit.now) }
         ensures kept { OnOk result (IsKept edit.now.text.now self.new) }
         ensures cost { IfOk result (IsCost (edit_of edit.now)) }
@@ -282,9 +269,7 @@ impl Kept {
         lines: LineList,
         lexed: u64,
     ) -> Result<Work, OutOfMemory>
-        requires kept { IsKept edit.now.old.now self.old }
-        requires changes { IsChanged (edit_of edit.now) changes.now }
-        requires lines { IsLineList edit.now.text.now lines.ends.items lines.markers.items lines.naming.items }
+        requires begun { IsBegun (edit_of edit.now) self.old changes.now lines }
         requires lexed { lexed ≡ fresh_pieces_of (edit_of edit.now) }
         ensures kept { OnOk result (IsKept edit.now.text.now self.new) }
         ensures cost { IfOk result (IsCost (edit_of edit.now)) }

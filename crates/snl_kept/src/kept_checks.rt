@@ -8,8 +8,8 @@ ghost use Rattle.snl_kept.specs.NewChecks.{clean_check, made_at, nones, put};
 use crate::plan::NewCheck;
 use crate::shared::Shared;
 use crate::values::values_after;
-use snl_check::Checked;
 use snl_cut::OutOfMemory;
+use snl_item_check::Checked;
 use snl_lists::Ordered;
 use std::alloc::Global;
 

@@ -5,16 +5,16 @@
 
 ghost use Rattle.std.specs.Prelude.{◌≡◌, OnOk};
 ghost use Rattle.snl_lex.specs.LineList.{IsLineList};
-ghost use Rattle.snl_kept.specs.Edit.{edit_of};
+ghost use Rattle.snl_lex.specs.Edit.{edit_of};
 ghost use Rattle.snl_kept.specs.Kept.{ArePlaces, HasRoomFor, HasRoomForPlaces, IsListed, SameItems, SameLists};
 ghost use Rattle.snl_kept.specs.Planned.{IsChanged, IsItemsPlan};
 
 use crate::entries::Entry;
 use crate::kept_checks::put;
-use crate::plan::{Changes, ItemsPlan};
+use crate::plan::{Changes, ItemsPlan, NewChecks};
 use crate::shared::Shared;
-use snl_check::Checked;
 use snl_cut::OutOfMemory;
+use snl_item_check::Checked;
 use snl_items::ItemList;
 use snl_lex::{LineList, PieceList, TextEdit};
 use snl_lists::Ordered;
@@ -61,7 +61,7 @@ impl Lists {
     {
         self.reserve_places(changes)?;
         self.entries.reserve(plan.made.len())?;
-        self.checks.reserve(plan.vacant.len())?;
+        self.checks.reserve(plan.kept.checks.vacant.len())?;
         Ok(())
     }
 
@@ -70,7 +70,7 @@ impl Lists {
     pub fn commit_places(&mut self, edit: &TextEdit, changes: &Changes, lines: LineList)
         requires places { ArePlaces edit.now.old.now self.old }
         requires changes { IsChanged (edit_of edit.now) changes.now }
-        requires lines { IsLineList edit.now.text.now lines.ends.items lines.markers.items lines.naming.items }
+        requires lines { IsLineList edit.now.text.now lines }
         requires room { HasRoomForPlaces self.old changes.now }
         ensures places { ArePlaces edit.now.text.now self.new }
         ensures items { SameItems self.old self.new }
@@ -85,18 +85,19 @@ impl Lists {
     pub fn commit(&mut self, edit: &TextEdit, changes: &Changes, lines: LineList, plan: ItemsPlan)
         requires lists { IsListed edit.now.old.now self.old }
         requires changes { IsChanged (edit_of edit.now) changes.now }
-        requires lines { IsLineList edit.now.text.now lines.ends.items lines.markers.items lines.naming.items }
+        requires lines { IsLineList edit.now.text.now lines }
         requires plan { IsItemsPlan (edit_of edit.now) changes.now.items plan }
         requires room { HasRoomFor self.old changes.now plan }
         ensures { IsListed edit.now.text.now self.new }
     {
-        let ItemsPlan {
-            made,
+        let ItemsPlan { made, kept, warns } = plan;
+        let (
             links,
-            vacant,
-            checks,
-            warns,
-        } = plan;
+            NewChecks {
+                vacant,
+                made: checks,
+            },
+        ) = kept.parts();
         let back = self.entries.len() - changes.items.kept_back;
         self.commit_places(edit, changes, lines);
         self.entries.replace(changes.items.kept_front, back, made);

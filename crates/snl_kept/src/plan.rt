@@ -15,7 +15,8 @@ use crate::entries::Entry;
 use crate::found::findings::{Diagnostic, Finding};
 use crate::shared::Shared;
 use crate::work::Work;
-use snl_check::{Checked, StateBody, StateMark, Tables, WakeUp};
+use snl_check::{StateBody, StateMark, Tables, WakeUp};
+use snl_item_check::Checked;
 use snl_items::{ItemChange, TokenChange};
 use snl_lex::{LineShift, PieceChange};
 use snl_scope::{ItemKind, LinkFault, Links};
@@ -121,12 +122,17 @@ pub struct NewCheck {
     pub check: Shared<Option<Checked>>,
 }
 
-/// What an edit makes of the links and the checks: what becomes of the links, places for the checks
-/// of the items that are made, and the checks.
-pub struct LinksAndChecks {
-    pub links: NewLinks,
+/// The checks that an edit makes, and places for those of the items that it makes.
+#[derive(Drop)]
+pub struct NewChecks {
     pub vacant: Vec<Shared<Option<Checked>>>,
     pub made: Vec<NewCheck>,
+}
+
+/// What an edit makes of the links and the checks.
+pub struct LinksAndChecks {
+    pub links: NewLinks,
+    pub checks: NewChecks,
 }
 
 // By hand, so that whoever holds it need not know what is in it to let it go.
@@ -134,43 +140,29 @@ impl Drop for LinksAndChecks {
     fn drop(self) {
         let LinksAndChecks {
             links: _,
-            vacant: _,
-            made: _,
+            checks: _,
         } = self;
     }
-}
-
-/// What an edit makes of all that is kept of the items: what is kept of those that are made, what
-/// becomes of the links, places for the checks of the items that are made, the checks, and whether
-/// warnings are shown.
-#[derive(Drop)]
-pub struct ItemsPlan {
-    pub made: Vec<Shared<Entry>>,
-    pub links: NewLinks,
-    pub vacant: Vec<Shared<Option<Checked>>>,
-    pub checks: Vec<NewCheck>,
-    pub warns: bool,
 }
 
 impl LinksAndChecks {
-    /// What is made of all that is kept of the items, with what is kept of those that are made and
-    /// whether warnings are shown.
-    pub fn items_plan(self, made: Vec<Shared<Entry>>, warns: bool) -> ItemsPlan
-        ensures { result ≡ record { made = made; links = self.links; vacant = self.vacant; checks = self.made; warns = warns } }
+    /// Both apart.
+    pub fn parts(self) -> (NewLinks, NewChecks)
+        ensures links { result.0 ≡ self.links }
+        ensures checks { result.1 ≡ self.checks }
     {
-        let LinksAndChecks {
-            links,
-            vacant,
-            made: checks,
-        } = self;
-        ItemsPlan {
-            made,
-            links,
-            vacant,
-            checks,
-            warns,
-        }
+        let LinksAndChecks { links, checks } = self;
+        (links, checks)
     }
+}
+
+/// What an edit makes of all that is kept of the items: what is kept of those that are made, the
+/// links and the checks, and whether warnings are shown.
+#[derive(Drop)]
+pub struct ItemsPlan {
+    pub made: Vec<Shared<Entry>>,
+    pub kept: LinksAndChecks,
+    pub warns: bool,
 }
 
 /// Where a state has its row: the number of its set among the state sets, and its own number among

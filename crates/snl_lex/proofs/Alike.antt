@@ -1,12 +1,13 @@
 -- The pieces before and after an edit have the bytes that they had.
-use Rattle.std.proofs.Common.{◌≡◌, ℕ, zero, suc, ◌+◌, ◌-◌, ◌<◌, ◌≤◌, inl, inr, List, [], ◌∷◌, map, take, drop, refl, sym, ap, ◌∙◌, subst, arith}
+use Rattle.std.proofs.Common.{◌≡◌, ℕ, zero, suc, ◌+◌, ◌-◌, ◌≤◌, inl, inr, List, [], ◌∷◌, map, take, drop, refl, sym, ap, ◌∙◌, subst, arith}
 use Rattle.std.specs.List.{AllByRecursion}
 use Rattle.std.proofs.lemmas.List.{drop-drop, take-take, drop-take}
-use Rattle.std.proofs.lemmas.Bool.Decides.{nat_tests}
 use Rattle.snl_cut.specs.Cut.{ends_below, last_end}
 use Rattle.snl_lex.specs.declared.piece.Piece.{Piece}
 use Rattle.snl_lex.specs.Pieces.{bytes_at, moved_piece, piece_at, piece_end, piece_length}
-use Rattle.snl_lex.proofs.Members.{Leads, end_at, split}
+use Rattle.snl_lex.proofs.Members.{Leads, end_at}
+use Rattle.snl_cut.specs.CutLaws.{below_yes, below_no}
+use Rattle.std.proofs.lemmas.Bool.{cases_lt}
 
 -- Two texts that agree before a place agree on any part that lies before it.
 pub part_agrees : (old text : List ℕ) (a from m : ℕ) → take a old ≡ take a text → from + m ≤ a → take m (drop from text) ≡ take m (drop from old)
@@ -14,17 +15,11 @@ part_agrees old text a from m h le =
     let one : take (from + m) text ≡ take (from + m) old = sym (take-take (from + m) a text le) ∙ (ap (take (from + m)) (sym h) ∙ take-take (from + m) a old le) in
     sym (drop-take from m text) ∙ (ap (drop from) one ∙ drop-take from m old)
 
-below_yes : (e place : ℕ) (es : List ℕ) → e < place → ends_below place (e ∷ es) ≡ suc (ends_below place es)
-below_yes e place es h = grind (arith, nat_tests)
-
-below_no : (e place : ℕ) (es : List ℕ) → place ≤ e → ends_below place (e ∷ es) ≡ 0
-below_no e place es h = grind (arith, nat_tests)
-
 pub alike_before : (old text : List ℕ) (start : ℕ) (ps : List Piece) → take start old ≡ take start text
     → AllByRecursion (λ p. bytes_at text p ≡ bytes_at old p) (take (ends_below start (map piece_end ps)) ps)
 alike_before old text start [] h = tt
 alike_before old text start (p ∷ ps) h =
-    elim (split (piece_end p) start) [
+    elim (cases_lt (piece_end p) start) [
       | inl less ↦
           subst (λ (n : ℕ). AllByRecursion (λ q. bytes_at text q ≡ bytes_at old q) (take n (p ∷ ps))) (sym (below_yes (piece_end p) start (map piece_end ps) less))
           (part_agrees old text start p.start p.len h (omega arith), alike_before old text start ps h)

@@ -6,7 +6,9 @@ use Rattle.snl_cut.specs.Cut.{IsEdit, IsRecut, Walks, joined, last_end, moved}
 use Rattle.snl_lex.specs.declared.piece.Class.{Class}
 use Rattle.snl_lex.specs.declared.piece.Class.TheVariants.{Bad}
 use Rattle.snl_lex.specs.declared.piece.Piece.{Piece}
-use Rattle.snl_lex.specs.PieceList.{IsChange, IsRelexed, last_pieces, listed_pieces, piece_ends, piece_kinds, relexed_pieces}
+use Rattle.snl_lex.specs.declared.piece_list.PieceChange.{PieceChange}
+use Rattle.snl_lex.specs.Edit.{Edit, IsChange, made_pieces}
+use Rattle.snl_lex.specs.PieceList.{IsRelexed, last_pieces, listed_pieces, piece_ends, piece_kinds, relexed_pieces}
 use Rattle.snl_lex.specs.Pieces.{LiesIn, moved_piece, piece_end, piece_length, pieces_along, pieces_of}
 use Rattle.snl_lex.proofs.Members.{along_ends, leads_inside, leads_pieces, leads_walk, pieces_lead, walk_back, walk_le, walk_leads}
 
@@ -73,59 +75,65 @@ module _ (old text : List ℕ) (start b c front : ℕ) (ends : List ℕ) (kinds 
       let ps : List Piece = relexed_pieces old front ends kinds in
       ap length is.ends ∙ length-map ps piece_end ∙ sym (ap length is.kinds ∙ length-map ps (λ p. p.kind))
 
-  pub relexed_change : (from kept_from : ℕ) → from ≡ last_end 0 (take front (piece_ends old)) → kept_from ≡ last_end 0 (take (length (piece_ends old) - back) (piece_ends old))
-      → IsChange old text start b c front (listed_pieces from ends kinds) back kept_from ends kinds
-  relexed_change from kept_from e k =
-      let change : IsChange old text start b c front (relexed_pieces old front ends kinds) back kept_from ends kinds = record {
-        order = is.order;
-        recut = subst (λ (m : List ℕ). IsRecut piece_length old (piece_ends old) text start b c front m back) is.ends is.recut;
-        pieces = is.pieces;
-        from = k;
-        ends = is.ends;
-        kinds = is.kinds;
-      } in
-      subst (λ (n : ℕ). IsChange old text start b c front (listed_pieces n ends kinds) back kept_from ends kinds) (sym e) change
+-- What is made of the pieces, as lists, is what an edit makes of them.
+pub relexed_change : (e : Edit) (change : PieceChange)
+    → IsRelexed e.old e.text e.start e.old_stop e.new_stop change.kept_front change.list.ends.items change.list.kinds.items change.kept_back
+    → change.made_from ≡ last_end 0 (take change.kept_front (piece_ends e.old)) → change.kept_from ≡ last_end 0 (take (length (piece_ends e.old) - change.kept_back) (piece_ends e.old)) → IsChange e change
+relexed_change e change is from kept_from =
+    let front : ℕ = change.kept_front in
+    let ends : List ℕ = change.list.ends.items in
+    let kinds : List Class = change.list.kinds.items in
+    let same : relexed_pieces e.old front ends kinds ≡ made_pieces change = ap (λ (n : ℕ). listed_pieces n ends kinds) (sym from) in
+    record {
+      order = is.order;
+      recut = subst (λ (m : List ℕ). IsRecut piece_length e.old (piece_ends e.old) e.text e.start e.old_stop e.new_stop front m change.kept_back) (is.ends ∙ ap (map piece_end) same) is.recut;
+      pieces = is.pieces ∙ ap (λ (l : List Piece). (take front (pieces_of e.old) ++ l) ++ map (moved_piece e.old_stop e.new_stop) (last_pieces e.old change.kept_back)) same;
+      from = kept_from;
+      ends = is.ends ∙ ap (map piece_end) same;
+      kinds = is.kinds ∙ ap (map (λ p. p.kind)) same;
+    }
 
 -- ---- what a change says
 
-module _ (old text : List ℕ) (start b c front : ℕ) (made : List Piece) (back kept_from : ℕ) (made_ends : List ℕ) (made_kinds : List Class) (is : IsChange old text start b c front made back kept_from made_ends made_kinds) where
-  pub as_many : length made_ends ≡ length made_kinds
-  as_many = ap length is.ends ∙ length-map made piece_end ∙ sym (ap length is.kinds ∙ length-map made (λ p. p.kind))
+module _ (e : Edit) (change : PieceChange) (is : IsChange e change) where
+  pub as_many : length change.list.ends.items ≡ length change.list.kinds.items
+  as_many = ap length is.ends ∙ length-map (made_pieces change) piece_end ∙ sym (ap length is.kinds ∙ length-map (made_pieces change) (λ p. p.kind))
 
-  pub made_lies : (k : ℕ) (d : Piece) → k < length made → LiesIn text (get_or made k d)
-  made_lies = part_lies text (take front (pieces_of old)) made (map (moved_piece b c) (last_pieces old back)) is.pieces
+  pub made_lies : (k : ℕ) (d : Piece) → k < length (made_pieces change) → LiesIn e.text (get_or (made_pieces change) k d)
+  made_lies = part_lies e.text (take change.kept_front (pieces_of e.old)) (made_pieces change) (map (moved_piece e.old_stop e.new_stop) (last_pieces e.old change.kept_back)) is.pieces
 
-  -- Where the pieces begin that are kept at the back, counted in ends.
-  pub back_at : (n : ℕ) → n ≡ length (piece_ends old) → drop (n - back) (piece_ends old) ≡ drop (length (piece_ends old) - back) (piece_ends old)
-  back_at n e = ap (λ (m : ℕ). drop (m - back) (piece_ends old)) e
-
-  pub back_above : (i : ℕ) → i < length (drop (length (piece_ends old) - back) (piece_ends old)) → b ≤ slice_index (drop (length (piece_ends old) - back) (piece_ends old)) i
+  -- The ends of the pieces that are kept at the back.
+  pub back_above : (i : ℕ) → i < length (drop (length (piece_ends e.old) - change.kept_back) (piece_ends e.old)) → e.old_stop ≤ slice_index (drop (length (piece_ends e.old) - change.kept_back) (piece_ends e.old)) i
   back_above i lt =
-      let k : ℕ = length (piece_ends old) - back in
-      omega (arith, is.recut.from, walk_above old (last_end 0 (take k (piece_ends old))) (drop k (piece_ends old)) (length old) (rest_walk old k) i lt)
+      let k : ℕ = length (piece_ends e.old) - change.kept_back in
+      omega (arith, is.recut.from, walk_above e.old (last_end 0 (take k (piece_ends e.old))) (drop k (piece_ends e.old)) (length e.old) (rest_walk e.old k) i lt)
 
-  pub back_under : (i : ℕ) → i < length (drop (length (piece_ends old) - back) (piece_ends old)) → slice_index (drop (length (piece_ends old) - back) (piece_ends old)) i ≤ length old
+  pub back_under : (i : ℕ) → i < length (drop (length (piece_ends e.old) - change.kept_back) (piece_ends e.old)) → slice_index (drop (length (piece_ends e.old) - change.kept_back) (piece_ends e.old)) i ≤ length e.old
   back_under i lt =
-      let k : ℕ = length (piece_ends old) - back in
-      walk_under old (last_end 0 (take k (piece_ends old))) (drop k (piece_ends old)) (length old) (rest_walk old k) i lt
+      let k : ℕ = length (piece_ends e.old) - change.kept_back in
+      walk_under e.old (last_end 0 (take k (piece_ends e.old))) (drop k (piece_ends e.old)) (length e.old) (rest_walk e.old k) i lt
 
-  pub new_ends : take front (piece_ends old) ++ (made_ends ++ moved b c (drop (length (piece_ends old) - back) (piece_ends old))) ≡ piece_ends text
+  pub new_ends : take change.kept_front (piece_ends e.old) ++ (change.list.ends.items ++ moved e.old_stop e.new_stop (drop (length (piece_ends e.old) - change.kept_back) (piece_ends e.old))) ≡ piece_ends e.text
   new_ends =
-      let ends : List ℕ = piece_ends old in
-      let tail : List ℕ = moved b c (drop (length ends - back) ends) in
+      let ends : List ℕ = piece_ends e.old in
+      let front : ℕ = change.kept_front in
+      let tail : List ℕ = moved e.old_stop e.new_stop (drop (length ends - change.kept_back) ends) in
+      let made : List ℕ = map piece_end (made_pieces change) in
       ap (λ (l : List ℕ). take front ends ++ (l ++ tail)) is.ends
-      ∙ sym (append_assoc (take front ends) (map piece_end made) tail)
-      ∙ cut_ends text (joined ends b c front (map piece_end made) back) is.recut.whole
+      ∙ sym (append_assoc (take front ends) made tail)
+      ∙ cut_ends e.text (joined ends e.old_stop e.new_stop front made change.kept_back) is.recut.whole
 
-  pub new_kinds : take front (piece_kinds old) ++ (made_kinds ++ drop (length (piece_ends old) - back) (piece_kinds old)) ≡ piece_kinds text
+  pub new_kinds : take change.kept_front (piece_kinds e.old) ++ (change.list.kinds.items ++ drop (length (piece_ends e.old) - change.kept_back) (piece_kinds e.old)) ≡ piece_kinds e.text
   new_kinds =
       let kind : Piece → Class = λ (p : Piece). p.kind in
-      let ps : List Piece = pieces_of old in
-      let many : length (piece_ends old) ≡ length ps = length-map ps piece_end in
-      let tail : List Piece = last_pieces old back in
-      let after : map kind (map (moved_piece b c) tail) ≡ drop (length (piece_ends old) - back) (piece_kinds old) =
-      kinds_moved b c tail ∙ sym (drop-map kind (length ps - back) ps) ∙ ap (λ (n : ℕ). drop (n - back) (piece_kinds old)) (sym many) in
+      let ps : List Piece = pieces_of e.old in
+      let made : List Piece = made_pieces change in
+      let front : ℕ = change.kept_front in
+      let many : length (piece_ends e.old) ≡ length ps = length-map ps piece_end in
+      let tail : List Piece = last_pieces e.old change.kept_back in
+      let after : map kind (map (moved_piece e.old_stop e.new_stop) tail) ≡ drop (length (piece_ends e.old) - change.kept_back) (piece_kinds e.old) =
+      kinds_moved e.old_stop e.new_stop tail ∙ sym (drop-map kind (length ps - change.kept_back) ps) ∙ ap (λ (n : ℕ). drop (n - change.kept_back) (piece_kinds e.old)) (sym many) in
       sym (ap (map kind) is.pieces
-      ∙ map-append kind (take front ps ++ made) (map (moved_piece b c) tail)
+      ∙ map-append kind (take front ps ++ made) (map (moved_piece e.old_stop e.new_stop) tail)
       ∙ ap₂ (λ (x y : List Class). x ++ y) (map-append kind (take front ps) made ∙ ap₂ (λ (x y : List Class). x ++ y) (sym (take-map kind front ps)) (sym is.kinds)) after
-      ∙ append_assoc (take front (piece_kinds old)) made_kinds (drop (length (piece_ends old) - back) (piece_kinds old)))
+      ∙ append_assoc (take front (piece_kinds e.old)) change.list.kinds.items (drop (length (piece_ends e.old) - change.kept_back) (piece_kinds e.old)))

@@ -3,11 +3,10 @@
 use Rattle.std.proofs.Common.{◌≡◌, ◌==◌, ℕ, ◌+◌, ◌-◌, ◌^◌, ◌<◌, ◌≤◌, inl, inr, Bool, true, false, ◌&&◌, ◌||◌, cond, nat_lt, List, [], ◌∷◌, length, take, drop, map, min, count_by, get_or, drop-cons, suc, filter, Option, None, Some, refl, sym, ap, ap₂, ◌∙◌, arith, length-drop}
 use Rattle.std.specs.Prelude.{IfSome, if◌then◌else◌, nat_le, slice_index, unwrap_or}
 use Rattle.std.specs.List.{AllByRecursion}
-use Rattle.std.proofs.lemmas.Bool.Decides.{nat_tests}
 use Rattle.std.proofs.lemmas.List.{drop-take, length-take-le, take-take}
 use Rattle.std.proofs.lemmas.List.Sums.{count_by-le-length}
 use Rattle.snl_cut.specs.Cut.{IsEdit}
-use Rattle.snl_lex.specs.declared.line_list.Marker.{Marker}
+use Rattle.snl_lex.specs.declared.marker_list.Marker.{Marker}
 use Rattle.snl_lex.specs.declared.lines.Line.{Line}
 use Rattle.snl_lex.specs.declared.piece.Piece.{Piece}
 use Rattle.snl_lex.specs.declared.shift.Shift.{Shift}
@@ -17,11 +16,11 @@ use Rattle.snl_lex.specs.Lines.{digit_count, has_line_between, last_of, last_or,
 use Rattle.snl_lex.specs.Pieces.{bytes_at}
 use Rattle.snl_lex.specs.LineShift.{CountsAfter}
 use Rattle.snl_lex.specs.Shift.{most}
-use Rattle.snl_lex.proofs.Along.{count_split}
-use Rattle.snl_lex.proofs.Halving.{count_yes, lt_yes}
 use Rattle.snl_lex.proofs.LineBy.{begin_told, file_in, line_told, line_with}
-use Rattle.snl_lex.proofs.LineEnds.{any_counted, below_is, between_is}
-use Rattle.snl_lex.proofs.Members.{split}
+use Rattle.snl_lex.proofs.LineEnds.{below_is, between_is}
+use Rattle.std.proofs.lemmas.Bool.{cases_lt, lt-ltb, leb-true}
+use Rattle.snl_facts.specs.Counts.{count_yes, any_counted}
+use Rattle.snl_lex.specs.LineLaws.{count_split}
 
 -- ---- a line by the last marker that counts
 
@@ -78,14 +77,11 @@ picked true true false d w h = omega arith
 picked true false c d w h = omega arith
 picked false b c d w h = omega arith
 
-le_told : (a b : ℕ) → nat_le a b ≡ true → a ≤ b
-le_told a b h = grind (arith, nat_tests)
-
 number_small : (bytes : List ℕ) → unwrap_or (marker_number bytes) 0 ≤ small
 unfolding marker_number
 number_small bytes =
     picked (nat_lt 0 (digit_count bytes)) (nat_le (digit_count bytes) 10) (nat_le (written_number bytes) small)
-    (nat_le (length bytes) (number_stop bytes) || is_white (slice_index bytes (number_stop bytes))) (written_number bytes) (le_told (written_number bytes) small)
+    (nat_le (length bytes) (number_stop bytes) || is_white (slice_index bytes (number_stop bytes))) (written_number bytes) (leb-true (written_number bytes) small)
 
 marker_small : (text : List ℕ) (p : Piece) → (marker_of text p).number ≤ small
 marker_small text p = number_small (bytes_at text p)
@@ -126,7 +122,7 @@ line_here text a place order inside h =
 
 pub few_lines : (text : List ℕ) (a b : ℕ) → b ≤ length text → lines_between text a b ≤ b - a
 few_lines text a b inside =
-    elim (split b a) [
+    elim (cases_lt b a) [
       | inl less ↦ omega (arith, none_between text a b (omega arith))
       | inr more ↦
           let size : length (part_of text a b) ≡ b - a = length-take-le (b - a) (drop a text) (omega (arith, length-drop a text)) in
@@ -145,7 +141,7 @@ module _ (old text : List ℕ) (s : Shift) (is : IsCounted old text s) where
   -- Before the edit both texts have the same bytes.
   pub same_part : (a offset : ℕ) → offset ≤ s.start → part_of text a offset ≡ part_of old a offset
   same_part a offset h =
-      elim (split offset a) [
+      elim (cases_lt offset a) [
         | inl less ↦
             let none : offset - a ≡ 0 = omega arith in
             ap (λ (n : ℕ). take n (drop a text)) none ∙ sym (ap (λ (n : ℕ). take n (drop a old)) none)
@@ -196,8 +192,8 @@ module _ (old text : List ℕ) (s : Shift) (is : IsCounted old text s) where
       let some_old : 0 < lines_between old m.end offset = omega (arith, counts, count_split old m.end s.start offset early (omega (arith, h, is.edit.old_order))) in
       let some : 0 < lines_between text m.end to =
       omega (arith, counts, same_count m.end s.start (omega arith), count_split text m.end s.start to early (omega (arith, is.edit.new_order))) in
-      any_counted (λ b. b == 10) (part_of text m.end to) ∙ lt_yes 0 (lines_between text m.end to) some
-      ∙ sym (any_counted (λ b. b == 10) (part_of old m.end offset) ∙ lt_yes 0 (lines_between old m.end offset) some_old)
+      any_counted (λ b. b == 10) (part_of text m.end to) ∙ lt-ltb 0 (lines_between text m.end to) some
+      ∙ sym (any_counted (λ b. b == 10) (part_of old m.end offset) ∙ lt-ltb 0 (lines_between old m.end offset) some_old)
 
   abbrev pub Good : Marker → Type 0
   Good m = CountsAfter old s.start m × IsSmall m

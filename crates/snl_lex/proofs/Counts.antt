@@ -1,11 +1,8 @@
 -- How many of a list pass a test, where a part of it is replaced.
-use Rattle.std.proofs.Common.{◌≡◌, ℕ, ◌+◌, ◌-◌, ◌≤◌, Bool, cond, List, ◌++◌, take, drop, count_by, sym, ap, ◌∙◌, arith}
+use Rattle.std.proofs.Common.{◌≡◌, ℕ, ◌+◌, ◌-◌, ◌≤◌, Bool, List, ◌++◌, take, drop, count_by, sym, ap, ◌∙◌, arith}
 use Rattle.std.proofs.lemmas.List.{drop-drop, take-append-drop}
-use Rattle.std.proofs.lemmas.List.Sums.{sum_by-append}
 use Rattle.snl_lists.specs.Moves.{replaced}
-
-count_append : {X : Type 0} (p : X → Bool) (xs ys : List X) → count_by p (xs ++ ys) ≡ count_by p xs + count_by p ys
-count_append p = sum_by-append (λ x. cond (p x) 1 0)
+use Rattle.snl_facts.specs.Counts.{count_append}
 
 -- Before the part, in it and after it.
 pub count_parted : {X : Type 0} (p : X → Bool) (xs : List X) (start stop : ℕ) → start ≤ stop

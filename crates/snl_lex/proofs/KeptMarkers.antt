@@ -1,6 +1,6 @@
 -- The markers that an edit leaves. Those before it are the same in both texts. From the end of
 -- a marker after it that both texts have on, both are cut alike, so all after that one are moved.
-use Rattle.std.proofs.Common.{◌≡◌, ℕ, zero, suc, ◌+◌, ◌-◌, ◌^◌, ◌<◌, ◌≤◌, inl, inr, Bool, true, false, ◌&&◌, cond, is_some, nat_lt, List, [], ◌∷◌, ◌++◌, length, take, drop, map, min, get_or, slice_get, count_by, filter, Option, Some, None, refl, sym, ap, ap₂, ◌∙◌, subst, arith, length-drop, length-take}
+use Rattle.std.proofs.Common.{◌≡◌, ℕ, zero, suc, ◌+◌, ◌-◌, ◌^◌, ◌<◌, ◌≤◌, inl, inr, Bool, true, false, ◌&&◌, cond, is_some, nat_lt, List, [], ◌∷◌, ◌++◌, length, take, drop, map, get_or, slice_get, count_by, filter, Option, Some, None, refl, sym, ap, ap₂, ◌∙◌, subst, arith, length-drop, length-take}
 use Rattle.std.specs.Prelude.{All, IfSome, option_map, unwrap_or}
 use Rattle.std.specs.List.{AllByRecursion}
 use Rattle.std.specs.List.Sorted.{IsNonDecreasingBy}
@@ -9,7 +9,7 @@ use Rattle.std.proofs.lemmas.List.Elements.{All-append, All-filter}
 use Rattle.std.proofs.lemmas.List.Sums.{count_by-le-length}
 use Rattle.std.proofs.lemmas.Option.{get_or_from_slice_get, slice_get_within}
 use Rattle.snl_cut.specs.Cut.{IsEdit}
-use Rattle.snl_lex.specs.declared.line_list.Marker.{Marker}
+use Rattle.snl_lex.specs.declared.marker_list.Marker.{Marker}
 use Rattle.snl_lex.specs.declared.line_shift.LineShift.{LineShift}
 use Rattle.snl_lex.specs.declared.piece.Class.{Class}
 use Rattle.snl_lex.specs.declared.piece.Piece.{Piece}
@@ -19,16 +19,18 @@ use Rattle.snl_lex.specs.LineShift.{CountsAfter, IsApart, IsLineShift, NumbersFr
 use Rattle.snl_lex.specs.Lines.{is_marker, lines_between, marker_file, marker_number, place_from}
 use Rattle.snl_lex.specs.Local.{first_same}
 use Rattle.snl_lex.specs.Pieces.{bytes_at, first_piece, moved_piece, piece_at, piece_end, piece_length, pieces_of}
-use Rattle.snl_lex.specs.Shift.{most, shifted_offset}
-use Rattle.snl_lex.proofs.Along.{count_split}
+use Rattle.snl_lex.specs.Shift.{most}
 use Rattle.snl_lex.proofs.Alike.{alike_after, part_agrees, start_at}
 use Rattle.snl_lex.proofs.Changes.{edit_lengths}
 use Rattle.snl_lex.proofs.CountedLines.{each, few_lines}
-use Rattle.snl_lex.proofs.Halving.{lt_no, lt_yes}
 use Rattle.snl_lex.proofs.MarkerLists.{back_marked, ends_above, file_inside, front_marked, marked_parts, markers_order, piece_at_end, starts_above}
 use Rattle.snl_lex.proofs.Meeting.{part_same, same_rest}
 use Rattle.snl_lex.proofs.MovedLines.{filter_moved}
-use Rattle.snl_lex.proofs.Members.{Leads, end_at, pieces_lead, split}
+use Rattle.snl_lex.proofs.Members.{Leads, end_at, pieces_lead}
+use Rattle.std.proofs.lemmas.Bool.{cases_lt}
+use Rattle.snl_facts.specs.Lists.{drop_got}
+use Rattle.snl_lex.specs.ShiftLaws.{early_offset, late_offset}
+use Rattle.snl_lex.specs.LineLaws.{count_split}
 
 -- ---- markers in order
 
@@ -111,14 +113,14 @@ parts old text start from (p ∷ ps) (q ∷ qs) same inside new_inside h g =
     let f = piece_at_end text from q qs (length text) g in
     let p_end : piece_end p ≡ from + piece_length (drop from old) = ap piece_end h.1 ∙ end_at old from in
     let q_end : piece_end q ≡ from + piece_length (drop from text) = ap piece_end g.1 ∙ end_at text from in
-    elim (split (piece_end p) start) [
+    elim (cases_lt (piece_end p) start) [
       | inl less ↦
           let first : first_piece (drop from text) ≡ first_piece (drop from old) = same_first old text start from same h.0 (omega (arith, p_end, less)) in
           let is : q ≡ p = g.1 ∙ same_piece old text from first ∙ sym h.1 in
           let there : Leads text (piece_end p) qs (length text) = subst (λ (x : Piece). Leads text (piece_end x) qs (length text)) is f.2 in
           one_more start p q ps qs is less (parts old text start (piece_end p) ps qs same inside new_inside e.2 there)
       | inr more ↦
-          elim (split (piece_end q) start) [
+          elim (cases_lt (piece_end q) start) [
             | inl less ↦
                 let first : first_piece (drop from old) ≡ first_piece (drop from text) = same_first text old start from (sym same) g.0 (omega (arith, q_end, less)) in
                 absurd (omega (arith, p_end, q_end, ap (λ (x : Class × ℕ). x.1) first, less, more))
@@ -177,14 +179,6 @@ after_marker passes text from (p ∷ ps) to h k m there =
 -- Where a marker's file begins is before the marker's end.
 file_before : (text : List ℕ) (p : Piece) (place : ℕ × ℕ) → marker_file (bytes_at text p) ≡ Some place → place.0 < p.len
 file_before text p place h = omega (arith, file_inside (bytes_at text p) place h, length-take p.len (drop p.start text))
-
-early_offset : (s : Shift) (o : ℕ) → o < s.start → shifted_offset s o ≡ o
-early_offset s o h = ap (λ (b : Bool). cond b o (min ((o - s.old_stop) + s.new_stop) most)) (lt_yes o s.start h)
-
-late_offset : (s : Shift) (o : ℕ) → s.start ≤ o → (o - s.old_stop) + s.new_stop ≤ most → shifted_offset s o ≡ (o - s.old_stop) + s.new_stop
-late_offset s o h small =
-    let least : min ((o - s.old_stop) + s.new_stop) most ≡ (o - s.old_stop) + s.new_stop = omega (arith, small) in
-    ap (λ (b : Bool). cond b o (min ((o - s.old_stop) + s.new_stop) most)) (lt_no o s.start h) ∙ least
 
 file_stays : (s : Shift) (start : ℕ) (o : Option (ℕ × ℕ)) → ((place : ℕ × ℕ) → o ≡ Some place → start + place.0 < s.start) → shifted_file s (place_from start o) ≡ place_from start o
 file_stays s start None before = refl
@@ -277,13 +271,6 @@ none_left [] (suc k) h = refl
 none_left (x ∷ xs) zero h = absurd cc
 none_left (x ∷ xs) (suc k) h = none_left xs k h
 
-one_left : {X : Type 0} (xs : List X) (k : ℕ) (x : X) → slice_get xs k ≡ Some x → drop k xs ≡ x ∷ drop (suc k) xs
-one_left [] k x h = absurd cc
-one_left (y ∷ ys) zero x h =
-    let same : y ≡ x = cc in
-    ap (λ z. z ∷ ys) same
-one_left (y ∷ ys) (suc k) x h = one_left ys k x h
-
 leads_le : (text : List ℕ) (from : ℕ) (ps : List Piece) (to : ℕ) → Leads text from ps to → from ≤ to
 leads_le text from [] to h = omega (arith, h)
 leads_le text from (p ∷ ps) to h =
@@ -357,9 +344,9 @@ module _ (old text : List ℕ) (s : Shift) (edit : IsEdit old text s.start s.old
       → drop k (setting_markers text) ≡ moved_all (drop k (setting_markers old))
   rest_shifted k None there new_there late = none_left (setting_markers text) k new_there ∙ sym (ap moved_all (none_left (setting_markers old) k there))
   rest_shifted k (Some m) there new_there late =
-      one_left (setting_markers text) k (shifted_marker s m) new_there
+      drop_got (setting_markers text) k (shifted_marker s m) new_there
       ∙ ap (λ (ms : List Marker). shifted_marker s m ∷ ms) (after_next k m there new_there late)
-      ∙ sym (ap moved_all (one_left (setting_markers old) k m there))
+      ∙ sym (ap moved_all (drop_got (setting_markers old) k m there))
 
   setting_shifted : (k : ℕ) → k ≡ early_in (setting_markers old) → (next : Option Marker) → slice_get (setting_markers old) k ≡ next → slice_get (setting_markers text) k ≡ option_map (shifted_marker s) next
       → IfSome next (λ m. s.old_stop ≤ m.end) → setting_markers text ≡ moved_all (setting_markers old)

@@ -3,16 +3,17 @@ use Rattle.std.proofs.Common.{◌≡◌, ◌==◌, ℕ, zero, suc, ◌+◌, ◌-
 use Rattle.std.specs.Prelude.{slice_index, unwrap_or}
 use Rattle.std.specs.Option.{option_map}
 use Rattle.std.proofs.lemmas.Bool.Decides.{nat_tests}
-use Rattle.snl_lex.specs.declared.line_list.Marker.{Marker}
+use Rattle.snl_lex.specs.declared.marker_list.Marker.{Marker}
 use Rattle.snl_lex.specs.declared.lines.Line.{Line}
 use Rattle.snl_lex.specs.declared.piece.Piece.{Piece}
 use Rattle.snl_lex.specs.LineList.{ends_before, last_before, line_begin, line_ends, marker_of, names, naming_markers, number_after, numbers, setting_markers}
 use Rattle.snl_lex.specs.Lines.{file_by, has_line_between, last_that, line_at, marker_number, names_file, number_by, sets_line}
 use Rattle.snl_lex.specs.Pieces.{bytes_at, piece_end, pieces_of}
-use Rattle.snl_lex.proofs.Along.{names_is, sets_is}
-use Rattle.snl_lex.proofs.Halving.{lt_no}
+use Rattle.snl_lex.proofs.Along.{names_is}
 use Rattle.snl_lex.proofs.LineEnds.{any_none, any_some, below_is, between_is}
 use Rattle.snl_lex.proofs.MarkerLists.{last_told}
+use Rattle.std.proofs.lemmas.Bool.{le-ltb}
+use Rattle.snl_lex.specs.LineLaws.{sets_is}
 
 not_zero : (k : ℕ) → (suc k == 0) ≡ false
 not_zero k = grind (arith, nat_tests)
@@ -26,7 +27,7 @@ begin_some es k =
 -- A line ends at or after a place and before the offset, if the offset's line begins after the
 -- place.
 pub begin_told : (text : List ℕ) (a offset n : ℕ) → ends_before (line_ends text) offset ≡ n → has_line_between text a offset ≡ nat_lt a (line_begin (line_ends text) n)
-begin_told text a offset zero h = any_none text a offset h ∙ sym (lt_no a 0 (omega arith))
+begin_told text a offset zero h = any_none text a offset h ∙ sym (le-ltb a 0 (omega arith))
 begin_told text a offset (suc k) h = any_some text a offset k h ∙ ap (nat_lt a) (sym (begin_some (line_ends text) k))
 
 -- The file of a marker, if there is one.

@@ -130,15 +130,6 @@ pub not_moved : (ps : List Piece) → map (moved_piece 0 0) ps ≡ ps
 not_moved [] = refl
 not_moved (p ∷ ps) = ap₂ (λ (q : Piece) (l : List Piece). q ∷ l) (not_moved_one p) (not_moved ps)
 
--- Tokens stay tokens where they are moved.
-pub tokens_moved : (b c : ℕ) (ps : List Piece) → filter is_token (map (moved_piece b c) ps) ≡ map (moved_piece b c) (filter is_token ps)
-tokens_moved b c [] = refl
-tokens_moved b c (p ∷ ps) =
-    let rest = tokens_moved b c ps in
-    let step : (t : Bool) → cond t (moved_piece b c p ∷ filter is_token (map (moved_piece b c) ps)) (filter is_token (map (moved_piece b c) ps)) ≡ map (moved_piece b c) (cond t (p ∷ filter is_token ps) (filter is_token ps)) =
-    elim [ true ↦ ap (λ (l : List Piece). moved_piece b c p ∷ l) rest | false ↦ rest ] in
-    step (is_token p)
-
 -- All tokens among the pieces that the lists say.
 pub listed_all : (from : ℕ) (ends : List ℕ) (kinds : List Class) (n : ℕ) → n ≡ length ends
     → map (moved_piece 0 0) (filter is_token (pieces_between (listed_pieces from ends kinds) 0 n)) ≡ filter is_token (listed_pieces from ends kinds)

@@ -1,38 +1,32 @@
--- Runs are the longest, a closing mark is the first one, and a mark is the longest one.
-use Rattle.std.proofs.Common.{◌≡◌, ◌==◌, ℕ, zero, suc, ◌+◌, ◌-◌, ◌<◌, ◌≤◌, inl, inr, Bool, true, false, not, cond, ◌&&◌, ◌||◌, List, [], ◌∷◌, length, take, drop, Option, Some, None, refl, sym, ap, ap₂, ◌∙◌, subst, arith}
+-- Runs are the longest, a closing pair is the first one, and a punctuator is the longest one.
+use Rattle.std.proofs.Common.{◌≡◌, ◌==◌, ℕ, zero, suc, ◌+◌, ◌-◌, ◌<◌, ◌≤◌, inl, inr, Bool, true, false, cond, ◌&&◌, List, [], ◌∷◌, length, take, drop, Option, Some, None, refl, sym, ap, ap₂, ◌∙◌, subst, arith}
 use Rattle.std.specs.Prelude.{slice_index, codes, if◌then◌else◌}
 use Rattle.std.specs.Option.{option_map}
 use Rattle.std.specs.List.{list_all}
-use Rattle.std.proofs.lemmas.Bool.{or_left}
+use Rattle.std.proofs.lemmas.Bool.{or_left, cases_lt, true≢false, or_parts, not-true, cond-true}
 use Rattle.std.proofs.lemmas.Bool.Decides.{nat_tests}
 use Rattle.std.proofs.lemmas.List.{drop-drop}
 use Rattle.snl_lex.specs.declared.alphabet.Start.{Start}
 use Rattle.snl_lex.specs.declared.alphabet.Start.TheVariants.{Blank, Letter, Digit, Dot, Hash, Slash, Percent, Quote, Apostrophe, Sign, Stray}
 use Rattle.snl_lex.specs.declared.piece.Class.{Class}
 use Rattle.snl_lex.specs.declared.piece.Class.TheVariants.{White, Comment, Marker, CCode, Name, Word, Bad}
-use Rattle.snl_lex.specs.Alphabet.{is_digit, is_in_line, is_letter, is_mark, is_stray, is_white, is_word_byte, start_of}
+use Rattle.snl_lex.specs.Alphabet.{is_digit, is_in_line, is_letter, is_punctuator, is_stray, is_white, is_word_byte, start_of}
 use Rattle.snl_lex.specs.Longest.{ClosesFirst, IsLongestRun, IsRunOf}
 use Rattle.snl_lex.specs.Pieces.{closed_by, closed_piece, first_piece, piece_by, run_piece}
 use Rattle.snl_lex.specs.Runs.{begins, close_of, run_of}
 use Rattle.snl_lex.specs.Kinds.{is_word}
-use Rattle.snl_lex.proofs.Members.{split}
-
-true_false : true ≡ false → ⊥
-true_false h = cc
-
-second : (a b : Bool) → (a && b) ≡ true → b ≡ true
-second true b h = h
-second false b h = cc
+use Rattle.snl_facts.specs.Booleans.{and_second}
+use Rattle.snl_lex.specs.PieceLaws.{dot_is, slash_is, percent_is, pick_no}
 
 -- ---- runs
 
 more : (p : ℕ → Bool) (x : ℕ) (xs : List ℕ) (r : ℕ) → ((n : ℕ) → n ≤ length xs → list_all p (take n xs) ≡ true → n ≤ r) → (n : ℕ) → n ≤ length (x ∷ xs) → list_all p (take n (x ∷ xs)) ≡ true → n ≤ suc r
 more p x xs r again zero le h = omega arith
-more p x xs r again (suc n) le h = omega (arith, again n (omega (arith, le)) (second (p x) (list_all p (take n xs)) h))
+more p x xs r again (suc n) le h = omega (arith, again n (omega (arith, le)) (and_second (p x) (list_all p (take n xs)) h))
 
 stops : (p : ℕ → Bool) (x : ℕ) (xs : List ℕ) → p x ≡ false → (n : ℕ) → n ≤ length (x ∷ xs) → list_all p (take n (x ∷ xs)) ≡ true → n ≤ 0
 stops p x xs out zero le h = omega arith
-stops p x xs out (suc n) le h = absurd (true_false (sym h ∙ ap (λ (b : Bool). b && list_all p (take n xs)) out))
+stops p x xs out (suc n) le h = absurd (true≢false (sym h ∙ ap (λ (b : Bool). b && list_all p (take n xs)) out))
 
 run_step : (p : ℕ → Bool) (x : ℕ) (xs : List ℕ) (c : Bool) → p x ≡ c → IsLongestRun p xs (run_of p xs) → IsLongestRun p (x ∷ xs) (cond c (suc (run_of p xs)) 0)
 run_step p x xs true h k =
@@ -53,7 +47,7 @@ run_whole p x xs h =
     let one : suc (run_of p xs) ≡ 1 + run_of p xs = omega arith in
     subst (IsLongestRun p (x ∷ xs)) one (run_step p x xs true h (run_longest p xs))
 
--- ---- closing marks
+-- ---- closing pairs
 
 none_there : (a b k : ℕ) → take 2 (drop k []) ≡ a ∷ b ∷ [] → ⊥
 none_there a b zero h = cc
@@ -67,8 +61,8 @@ starts a b x (y ∷ ys) h =
     grind (arith, nat_tests)
 
 none_begins : (c : Bool) → (c && false) ≡ true → ⊥
-none_begins true h = true_false (sym h)
-none_begins false h = true_false (sym h)
+none_begins true h = true≢false (sym h)
+none_begins false h = true≢false (sym h)
 
 stands : (a b x : ℕ) (xs : List ℕ) → (x == a && begins b xs) ≡ true → take 2 (x ∷ xs) ≡ a ∷ b ∷ []
 stands a b x [] h = absurd (none_begins (x == a) h)
@@ -91,7 +85,7 @@ pub record Closing (a : ℕ) (b : ℕ) (v : List ℕ) (n : ℕ) : Type 0 where
   pub least : (k : ℕ) → take 2 (drop k v) ≡ a ∷ b ∷ [] → n ≤ k + 2
 
 later : (a b x : ℕ) (xs : List ℕ) (n m : ℕ) → (x == a && begins b xs) ≡ false → n ≡ suc m → ((k : ℕ) → take 2 (drop k xs) ≡ a ∷ b ∷ [] → m ≤ k + 2) → (k : ℕ) → take 2 (drop k (x ∷ xs)) ≡ a ∷ b ∷ [] → n ≤ k + 2
-later a b x xs n m t s least zero e = absurd (true_false (sym (starts a b x xs e) ∙ t))
+later a b x xs n m t s least zero e = absurd (true≢false (sym (starts a b x xs e) ∙ t))
 later a b x xs n m t s least (suc k) e = omega (arith, s, least k e)
 
 close_at : (a b x : ℕ) (xs : List ℕ) (n : ℕ) (c : Bool) → (x == a && begins b xs) ≡ c → cond c (Some 2) (option_map suc (close_of a b xs)) ≡ Some n
@@ -116,7 +110,7 @@ close_some a b (x ∷ xs) n h = close_at a b x xs n (x == a && begins b xs) refl
 none_at : (a b x : ℕ) (xs : List ℕ) (c : Bool) → (x == a && begins b xs) ≡ c → cond c (Some 2) (option_map suc (close_of a b xs)) ≡ None
     → (close_of a b xs ≡ None → (k : ℕ) → take 2 (drop k xs) ≡ a ∷ b ∷ [] → ⊥) → (k : ℕ) → take 2 (drop k (x ∷ xs)) ≡ a ∷ b ∷ [] → ⊥
 none_at a b x xs true t h again k e = cc
-none_at a b x xs false t h again zero e = true_false (sym (starts a b x xs e) ∙ t)
+none_at a b x xs false t h again zero e = true≢false (sym (starts a b x xs e) ∙ t)
 none_at a b x xs false t h again (suc k) e = again (not_counted (close_of a b xs) h) k e
 
 close_none : (a b : ℕ) (v : List ℕ) → close_of a b v ≡ None → (k : ℕ) → take 2 (drop k v) ≡ a ∷ b ∷ [] → ⊥
@@ -151,81 +145,53 @@ closes_first kind a b u = closes_by kind a b u (close_of a b (drop 2 u)) refl
 
 -- ---- what the first byte says
 
-pick_yes : (c : Bool) (s t : Start) → c ≡ true → cond c s t ≡ s
-pick_yes true s t h = refl
-pick_yes false s t h = cc
-
-pick_no : (c : Bool) (s t r : Start) → c ≡ false → t ≡ r → cond c s t ≡ r
-pick_no true s t r h e = cc
-pick_no false s t r h e = e
-
 letter_not_white : (x : ℕ) → is_letter x ≡ true → is_white x ≡ false
 unfolding is_letter is_white
 letter_not_white x h = grind (arith, nat_tests)
 
-neither : (a b : Bool) → (a || b) ≡ false → (a ≡ false) × (b ≡ false)
-neither true b h = cc
-neither false b h = (refl, h)
-
-not_one : (b : Bool) → not b ≡ true → b ≡ false
-not_one true h = cc
-not_one false h = refl
-
--- A byte that is no mark isn't this one, which is one.
-other_mark : (x k : ℕ) → is_mark (k ∷ []) ≡ true → is_mark (x ∷ []) ≡ false → (x == k) ≡ false
-other_mark x k m h = elim (split x k) [
+-- A byte that is no punctuator isn't this one, which is one.
+other_punctuator : (x k : ℕ) → is_punctuator (k ∷ []) ≡ true → is_punctuator (x ∷ []) ≡ false → (x == k) ≡ false
+other_punctuator x k m h = elim (cases_lt x k) [
   | inl less ↦ grind (arith, nat_tests)
-  | inr above ↦ elim (split k x) [
+  | inr above ↦ elim (cases_lt k x) [
     | inl more ↦ grind (arith, nat_tests)
     | inr same ↦
         let e : x ≡ k = omega (arith, above, same) in
-        absurd (true_false (sym m ∙ (ap (λ (n : ℕ). is_mark (n ∷ [])) (sym e) ∙ h)))
+        absurd (true≢false (sym m ∙ (ap (λ (n : ℕ). is_punctuator (n ∷ [])) (sym e) ∙ h)))
   ]
 ]
 
 white_start : (x : ℕ) → is_white x ≡ true → start_of x ≡ Blank
 unfolding start_of
-white_start x h = pick_yes (is_white x) Blank _ h
+white_start x h = cond-true (is_white x) Blank _ h
 
 letter_start : (x : ℕ) → is_letter x ≡ true → start_of x ≡ Letter
 unfolding start_of
-letter_start x h = pick_no (is_white x) Blank _ Letter (letter_not_white x h) (pick_yes (is_letter x) Letter _ h)
-
-dot_is : is_mark (46 ∷ []) ≡ true
-unfolding is_mark
-dot_is = refl
-
-slash_is : is_mark (47 ∷ []) ≡ true
-unfolding is_mark
-slash_is = refl
-
-percent_is : is_mark (37 ∷ []) ≡ true
-unfolding is_mark
-percent_is = refl
+letter_start x h = pick_no (is_white x) Blank _ Letter (letter_not_white x h) (cond-true (is_letter x) Letter _ h)
 
 stray_start : (x : ℕ) → is_stray x ≡ true → start_of x ≡ Stray
 unfolding start_of is_stray
 stray_start x h =
-    let m = neither _ (is_mark (x ∷ [])) (not_one _ h) in
-    let hash = neither _ (x == 35) m.0 in
-    let apostrophe = neither _ (x == 39) hash.0 in
-    let quote = neither _ (x == 34) apostrophe.0 in
-    let digit = neither _ (is_digit x) quote.0 in
-    let letter = neither (is_white x) (is_letter x) digit.0 in
+    let m = or_parts _ (is_punctuator (x ∷ [])) (not-true _ h) in
+    let hash = or_parts _ (x == 35) m.0 in
+    let apostrophe = or_parts _ (x == 39) hash.0 in
+    let quote = or_parts _ (x == 34) apostrophe.0 in
+    let digit = or_parts _ (is_digit x) quote.0 in
+    let letter = or_parts (is_white x) (is_letter x) digit.0 in
     pick_no (is_white x) Blank _ Stray letter.0
     (pick_no (is_letter x) Letter _ Stray letter.1
     (pick_no (is_digit x) Digit _ Stray digit.1
-    (pick_no (x == 46) Dot _ Stray (other_mark x 46 dot_is m.1)
+    (pick_no (x == 46) Dot _ Stray (other_punctuator x 46 dot_is m.1)
     (pick_no (x == 35) Hash _ Stray hash.1
-    (pick_no (x == 47) Slash _ Stray (other_mark x 47 slash_is m.1)
-    (pick_no (x == 37) Percent _ Stray (other_mark x 37 percent_is m.1)
+    (pick_no (x == 47) Slash _ Stray (other_punctuator x 47 slash_is m.1)
+    (pick_no (x == 37) Percent _ Stray (other_punctuator x 37 percent_is m.1)
     (pick_no (x == 34) Quote _ Stray quote.1
     (pick_no (x == 39) Apostrophe _ Stray apostrophe.1
-    (pick_no (is_mark (x ∷ [])) Sign Stray Stray m.1 refl)))))))))
+    (pick_no (is_punctuator (x ∷ [])) Sign Stray Stray m.1 refl)))))))))
 
 -- ---- the first piece of a text
 
-by_start : (s : Start) (x : ℕ) (xs : List ℕ) → start_of x ≡ s → first_piece (x ∷ xs) ≡ piece_by s (x ∷ xs)
+pub by_start : (s : Start) (x : ℕ) (xs : List ℕ) → start_of x ≡ s → first_piece (x ∷ xs) ≡ piece_by s (x ∷ xs)
 unfolding first_piece
 by_start s x xs h = ap (λ (t : Start). piece_by t (x ∷ xs)) h
 

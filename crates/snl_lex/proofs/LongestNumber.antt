@@ -2,22 +2,19 @@
 use Rattle.std.proofs.Common.{◌≡◌, ◌==◌, ℕ, suc, ◌+◌, ◌-◌, ◌<◌, ◌≤◌, ◌⊎◌, inl, inr, Bool, true, false, cond, ◌&&◌, ◌||◌, List, [], ◌∷◌, ◌++◌, length, take, refl, sym, ap, ap₂, ◌∙◌, subst, arith, append_assoc, length-append}
 use Rattle.std.specs.Prelude.{slice_index}
 use Rattle.std.specs.List.{list_all}
-use Rattle.std.proofs.lemmas.Bool.Decides.{nat_tests}
 use Rattle.std.proofs.lemmas.List.{get_or-append-add}
 use Rattle.std.proofs.Math.Seq.{get_or-append_seam, take-append_seam}
-use Rattle.snl_lex.specs.declared.alphabet.Start.{Start}
-use Rattle.snl_lex.specs.declared.alphabet.Start.TheVariants.{Blank, Letter, Digit, Dot}
+use Rattle.snl_lex.specs.declared.alphabet.Start.TheVariants.{Digit, Dot}
 use Rattle.snl_lex.specs.declared.piece.Class.{Class}
 use Rattle.snl_lex.specs.Alphabet.{is_digit, is_letter, is_plain, is_white, is_word_byte, start_of}
 use Rattle.snl_lex.specs.Local.{run_by_inside}
 use Rattle.snl_lex.specs.Longest.{IsLongestNumber, goes_on}
 use Rattle.snl_lex.specs.Numbers.{awaits_sign, is_power, is_sign, number_class, number_joins}
-use Rattle.snl_lex.specs.Pieces.{first_piece, mark_piece, number_piece, piece_by}
+use Rattle.snl_lex.specs.Pieces.{first_piece, punctuator_piece, number_piece}
 use Rattle.snl_lex.specs.Runs.{run_by}
-use Rattle.snl_lex.proofs.Members.{split}
-
-true_false : true ≡ false → ⊥
-true_false h = cc
+use Rattle.std.proofs.lemmas.Bool.{cases_lt, true≢false, cond-true}
+use Rattle.snl_lex.specs.PieceLaws.{digit_start}
+use Rattle.snl_lex.proofs.Longest.{by_start}
 
 -- The one list is the other from its end.
 abbrev Mirrors : List ℕ → List ℕ → Type 0
@@ -70,7 +67,7 @@ pub record Reaches (u : List ℕ) (from : ℕ) (n : ℕ) : Type 0 where
 
 here_or_on : (u : List ℕ) (from m k : ℕ) → goes_on u from ≡ true → Reaches u (suc from) m → from ≤ k → k < from + suc m → goes_on u k ≡ true
 here_or_on u from m k h r le lt =
-    elim (split from k) [
+    elim (cases_lt from k) [
       | inl less ↦ r.on k (omega (arith, less)) (omega (arith, lt))
       | inr same ↦ let e : from ≡ k = omega (arith, le, same) in subst (λ (n : ℕ). goes_on u n ≡ true) e h
     ]
@@ -105,11 +102,11 @@ number_longest x xs =
       inside = omega (arith, run_by_inside number_joins (x ∷ []) xs);
       run = r.on;
       longest = λ m le h.
-          elim (split (1 + n) m) [
+          elim (cases_lt (1 + n) m) [
             | inl less ↦
                 elim r.over [
                   | inl all ↦ absurd (omega (arith, all, le, less))
-                  | inr stops ↦ absurd (true_false (sym (h (1 + n) (omega arith) less) ∙ stops))
+                  | inr stops ↦ absurd (true≢false (sym (h (1 + n) (omega arith) less) ∙ stops))
                 ]
             | inr more ↦ more
           ];
@@ -117,36 +114,12 @@ number_longest x xs =
 
 -- ---- what the first bytes say
 
-pick_yes : {X : Type 0} (c : Bool) (s t : X) → c ≡ true → cond c s t ≡ s
-pick_yes true s t h = refl
-pick_yes false s t h = cc
-
-pick_no : (c : Bool) (s t r : Start) → c ≡ false → t ≡ r → cond c s t ≡ r
-pick_no true s t r h e = cc
-pick_no false s t r h e = e
-
-digit_not_white : (x : ℕ) → is_digit x ≡ true → is_white x ≡ false
-unfolding is_digit is_white
-digit_not_white x h = grind (arith, nat_tests)
-
-digit_not_letter : (x : ℕ) → is_digit x ≡ true → is_letter x ≡ false
-unfolding is_digit is_letter
-digit_not_letter x h = grind (arith, nat_tests)
-
-digit_start : (x : ℕ) → is_digit x ≡ true → start_of x ≡ Digit
-unfolding start_of
-digit_start x h = pick_no (is_white x) Blank _ Digit (digit_not_white x h) (pick_no (is_letter x) Letter _ Digit (digit_not_letter x h) (pick_yes (is_digit x) Digit _ h))
-
 dot_start : start_of 46 ≡ Dot
 unfolding start_of is_white is_letter is_digit
 dot_start = refl
 
 abbrev IsNumberPiece : List ℕ → Class × ℕ → Type 0
 IsNumberPiece u p = (p.0 ≡ number_class (take p.1 u)) × IsLongestNumber u p.1
-
-by_start : (s : Start) (x : ℕ) (xs : List ℕ) → start_of x ≡ s → first_piece (x ∷ xs) ≡ piece_by s (x ∷ xs)
-unfolding first_piece
-by_start s x xs h = ap (λ (t : Start). piece_by t (x ∷ xs)) h
 
 number_is : (x : ℕ) (xs : List ℕ) → first_piece (x ∷ xs) ≡ number_piece (x ∷ xs) → IsNumberPiece (x ∷ xs) (first_piece (x ∷ xs))
 number_is x xs e = subst (IsNumberPiece (x ∷ xs)) (sym e) (refl, number_longest x xs)
@@ -156,4 +129,4 @@ number_first [] some h = absurd (omega arith)
 number_first (x ∷ xs) some (inl digit) = number_is x xs (by_start Digit x xs (digit_start x digit))
 number_first (x ∷ xs) some (inr dot) =
     let start : start_of x ≡ Dot = ap start_of dot.0 ∙ dot_start in
-    number_is x xs (by_start Dot x xs start ∙ pick_yes (is_digit (slice_index (x ∷ xs) 1)) (number_piece (x ∷ xs)) (mark_piece (x ∷ xs)) dot.1)
+    number_is x xs (by_start Dot x xs start ∙ cond-true (is_digit (slice_index (x ∷ xs) 1)) (number_piece (x ∷ xs)) (punctuator_piece (x ∷ xs)) dot.1)

@@ -9,10 +9,7 @@ use Rattle.snl_lex.specs.Alphabet.{is_digit, is_letter, is_white, start_of}
 use Rattle.snl_lex.specs.Longest.{IsString, is_taken_at, stops_string}
 use Rattle.snl_lex.specs.Pieces.{first_piece, is_taken, string_joins, string_piece}
 use Rattle.snl_lex.specs.Runs.{run_by}
-use Rattle.snl_lex.proofs.Members.{split}
-
-false_true : false ≡ true → ⊥
-false_true h = cc
+use Rattle.std.proofs.lemmas.Bool.{cases_lt}
 
 -- From a place on, so many bytes don't stop a string, and the next one does.
 record Goes (quote : ℕ) (u : List ℕ) (from n : ℕ) : Type 0 where
@@ -21,7 +18,7 @@ record Goes (quote : ℕ) (u : List ℕ) (from n : ℕ) : Type 0 where
 
 here_or_on : (quote : ℕ) (u : List ℕ) (from m k : ℕ) → stops_string quote u from ≡ false → Goes quote u (suc from) m → from ≤ k → k < from + suc m → stops_string quote u k ≡ false
 here_or_on quote u from m k h r le lt =
-    elim (split from k) [
+    elim (cases_lt from k) [
       | inl less ↦ r.on k (omega (arith, less)) (omega (arith, lt))
       | inr same ↦ let e : from ≡ k = omega (arith, le, same) in subst (λ (n : ℕ). stops_string quote u n ≡ false) e h
     ]

@@ -7,22 +7,26 @@ use Rattle.std.specs.List.Sorted.{IsNonDecreasingBy}
 use Rattle.std.proofs.lemmas.List.{get_or_past, length-map, length-take-le, map-append, take-append-drop}
 use Rattle.std.proofs.lemmas.List.Elements.{filter-append}
 use Rattle.std.proofs.Math.Seq.{take-append_seam, drop-append_seam}
-use Rattle.std.proofs.lemmas.Bool.Decides.{nat_tests}
 use Rattle.snl_cut.specs.Cut.{IsEdit, ends_below, last_end}
-use Rattle.snl_lex.specs.declared.line_list.Marker.{Marker}
+use Rattle.snl_lex.specs.declared.marker_list.Marker.{Marker}
 use Rattle.snl_lex.specs.declared.piece.Class.{Class}
 use Rattle.snl_lex.specs.declared.piece.Piece.{Piece}
 use Rattle.snl_lex.specs.Lines.{gap_end, is_marker, last_or, marker_file, marker_number, number_stop, place_from}
 use Rattle.snl_lex.specs.LineList.{IsShort, marked, marker_of, moved_marker, names, numbers}
-use Rattle.snl_lex.specs.PieceList.{IsChange, last_pieces, piece_ends}
+use Rattle.snl_lex.specs.declared.piece_list.PieceChange.{PieceChange}
+use Rattle.snl_lex.specs.Edit.{Edit, IsChange, made_pieces}
+use Rattle.snl_lex.specs.PieceList.{last_pieces, piece_ends}
 use Rattle.snl_lex.specs.Pieces.{bytes_at, moved_piece, piece_end, piece_length, pieces_of, string_joins}
 use Rattle.snl_lex.specs.Runs.{run_by}
 use Rattle.snl_lex.proofs.Alike.{leads_back, start_at}
 use Rattle.snl_lex.proofs.Changes.{rest_walk}
-use Rattle.snl_lex.proofs.Halving.{all_counted, count_parts, lt_no, lt_yes, no_counted}
+use Rattle.snl_lex.proofs.Halving.{all_counted}
 use Rattle.snl_lex.proofs.Kept.{back_bytes, front_bytes}
 use Rattle.snl_lex.proofs.Markers.{closed, file_is, file_with, no_close, no_quote}
-use Rattle.snl_lex.proofs.Members.{Leads, end_at, pieces_lead, some_piece, split, walk_le}
+use Rattle.snl_lex.proofs.Members.{Leads, end_at, pieces_lead, some_piece, walk_le}
+use Rattle.snl_cut.specs.CutLaws.{below_yes, below_no}
+use Rattle.std.proofs.lemmas.Bool.{cases_lt, lt-ltb, le-ltb}
+use Rattle.snl_facts.specs.Counts.{no_counted, count_parts}
 
 -- ---- where pieces end
 
@@ -46,18 +50,12 @@ weaker a b (p ∷ ps) le h = (omega (arith, le, h.0), weaker a b ps le h.1)
 pub ends_above : (text : List ℕ) (from low : ℕ) (ps : List Piece) (to : ℕ) → Leads text from ps to → low ≤ from → AllByRecursion (λ p. low ≤ piece_end p) ps
 ends_above text from low ps to h le = weaker low (suc low) ps (omega arith) (all_above text from low ps to h le)
 
-below_yes : (e place : ℕ) (es : List ℕ) → e < place → ends_below place (e ∷ es) ≡ suc (ends_below place es)
-below_yes e place es h = grind (arith, nat_tests)
-
-below_no : (e place : ℕ) (es : List ℕ) → place ≤ e → ends_below place (e ∷ es) ≡ 0
-below_no e place es h = grind (arith, nat_tests)
-
 -- Those that end before a place are the first ones.
 front_below : (place : ℕ) (ps : List Piece) → AllByRecursion (λ p. piece_end p < place) (take (ends_below place (map piece_end ps)) ps)
 front_below place [] = tt
 front_below place (p ∷ ps) =
     let P : ℕ → Type 0 = λ (n : ℕ). AllByRecursion (λ q. piece_end q < place) (take n (p ∷ ps)) in
-    elim (split (piece_end p) place) [
+    elim (cases_lt (piece_end p) place) [
       | inl less ↦ subst P (sym (below_yes (piece_end p) place (map piece_end ps) less)) (less, front_below place ps)
       | inr more ↦ subst P (sym (below_no (piece_end p) place (map piece_end ps) more)) tt
     ]
@@ -67,7 +65,7 @@ rest_above text place from [] to h = tt
 rest_above text place from (p ∷ ps) to h =
     let k = piece_at_end text from p ps to h in
     let P : ℕ → Type 0 = λ (n : ℕ). AllByRecursion (λ q. place ≤ piece_end q) (drop n (p ∷ ps)) in
-    elim (split (piece_end p) place) [
+    elim (cases_lt (piece_end p) place) [
       | inl less ↦ subst P (sym (below_yes (piece_end p) place (map piece_end ps) less)) (rest_above text place (piece_end p) ps to k.2)
       | inr more ↦
           subst P (sym (below_no (piece_end p) place (map piece_end ps) more))
@@ -124,7 +122,7 @@ marked_before passes text place [] h = tt
 marked_before passes text place (p ∷ ps) h =
     let rest = marked_before passes text place ps h.1 in
     elim (passes p) as (λ b. AllByRecursion (λ m. nat_lt m.end place ≡ true) (map (marker_of text) (cond b (p ∷ filter passes ps) (filter passes ps)))) [
-      | true ↦ (lt_yes (piece_end p) place h.0, rest)
+      | true ↦ (lt-ltb (piece_end p) place h.0, rest)
       | false ↦ rest
     ]
 
@@ -133,7 +131,7 @@ marked_after passes text place [] h = tt
 marked_after passes text place (p ∷ ps) h =
     let rest = marked_after passes text place ps h.1 in
     elim (passes p) as (λ b. AllByRecursion (λ m. nat_lt m.end place ≡ false) (map (marker_of text) (cond b (p ∷ filter passes ps) (filter passes ps)))) [
-      | true ↦ (lt_no (piece_end p) place h.0, rest)
+      | true ↦ (le-ltb (piece_end p) place h.0, rest)
       | false ↦ rest
     ]
 
@@ -187,13 +185,13 @@ markers_order passes text = rise_order 0 (marked passes text (pieces_of text)) (
 
 -- A marker's file lies in the marker.
 quote_in : (s : List ℕ) (n : ℕ) → slice_index s n ≡ 34 → n < length s
-quote_in s n h = elim (split n (length s)) [ inl less ↦ less | inr more ↦ absurd (omega (arith, get_or_past s n 0 more, h)) ]
+quote_in s n h = elim (cases_lt n (length s)) [ inl less ↦ less | inr more ↦ absurd (omega (arith, get_or_past s n 0 more, h)) ]
 
 is_quote : (a : ℕ) → (a ≡ 34) ⊎ (a ≡ 34 → ⊥)
 is_quote a =
-    elim (split a 34) [
+    elim (cases_lt a 34) [
       | inl less ↦ inr (λ e. absurd (omega (arith, less, e)))
-      | inr more ↦ elim (split 34 a) [ inl above ↦ inr (λ e. absurd (omega (arith, above, e))) | inr same ↦ inl (omega (arith, more, same)) ]
+      | inr more ↦ elim (cases_lt 34 a) [ inl above ↦ inr (λ e. absurd (omega (arith, above, e))) | inr same ↦ inl (omega (arith, more, same)) ]
     ]
 
 no_file : (place : ℕ × ℕ) (n : ℕ) → None ≡ Some place → place.0 < n
@@ -289,51 +287,51 @@ back_marked test old text b c (p ∷ ps) h g =
 
 -- ---- what a change makes of the markers
 
-module _ (old text : List ℕ) (start b c front : ℕ) (made : List Piece) (back kept_from : ℕ) (made_ends : List ℕ) (made_kinds : List Class) (edit : IsEdit old text start b c) (is : IsChange old text start b c front made back kept_from made_ends made_kinds) where
-  from_is : kept_from ≡ last_end 0 (take (length (pieces_of old) - back) (piece_ends old))
-  from_is = is.from ∙ ap (λ (n : ℕ). last_end 0 (take (n - back) (piece_ends old))) (length-map (pieces_of old) piece_end)
+module _ (e : Edit) (change : PieceChange) (edit : IsEdit e.old e.text e.start e.old_stop e.new_stop) (is : IsChange e change) where
+  from_is : change.kept_from ≡ last_end 0 (take (length (pieces_of e.old) - change.kept_back) (piece_ends e.old))
+  from_is = is.from ∙ ap (λ (n : ℕ). last_end 0 (take (n - change.kept_back) (piece_ends e.old))) (length-map (pieces_of e.old) piece_end)
 
-  pub from_order : b ≤ kept_from
+  pub from_order : e.old_stop ≤ change.kept_from
   from_order = omega (arith, is.from, is.recut.from)
 
-  pub from_inside : kept_from ≤ length old
+  pub from_inside : change.kept_from ≤ length e.old
   from_inside =
-      let k : ℕ = length (piece_ends old) - back in
-      omega (arith, is.from, walk_le old (last_end 0 (take k (piece_ends old))) (drop k (piece_ends old)) (length old) (rest_walk old k))
+      let k : ℕ = length (piece_ends e.old) - change.kept_back in
+      omega (arith, is.from, walk_le e.old (last_end 0 (take k (piece_ends e.old))) (drop k (piece_ends e.old)) (length e.old) (rest_walk e.old k))
 
-  back_leads : Leads old kept_from (last_pieces old back) (length old)
+  back_leads : Leads e.old change.kept_from (last_pieces e.old change.kept_back) (length e.old)
   back_leads =
-      subst (λ (n : ℕ). Leads old n (last_pieces old back) (length old)) (sym from_is) (leads_back old 0 (pieces_of old) (length old) (length (pieces_of old) - back) (pieces_lead old))
+      subst (λ (n : ℕ). Leads e.old n (last_pieces e.old change.kept_back) (length e.old)) (sym from_is) (leads_back e.old 0 (pieces_of e.old) (length e.old) (length (pieces_of e.old) - change.kept_back) (pieces_lead e.old))
 
-  pub new_markers : (test : Class → List ℕ → Bool) (ms made_ms : List Marker) → ms ≡ marked (passing test old) old (pieces_of old) → made_ms ≡ marked (passing test text) text made
-      → take (count_by (λ m. nat_lt m.end start) ms) ms ++ (made_ms ++ map (moved_marker b c) (drop (count_by (λ m. nat_lt m.end (kept_from + 1)) ms) ms)) ≡ marked (passing test text) text (pieces_of text)
+  pub new_markers : (test : Class → List ℕ → Bool) (ms made_ms : List Marker) → ms ≡ marked (passing test e.old) e.old (pieces_of e.old) → made_ms ≡ marked (passing test e.text) e.text (made_pieces change)
+      → take (count_by (λ m. nat_lt m.end e.start) ms) ms ++ (made_ms ++ map (moved_marker e.old_stop e.new_stop) (drop (count_by (λ m. nat_lt m.end (change.kept_from + 1)) ms) ms)) ≡ marked (passing test e.text) e.text (pieces_of e.text)
   new_markers test ms made_ms whole part =
-      let ps : List Piece = pieces_of old in
-      let k : ℕ = length ps - back in
-      let T : Piece → Bool = passing test old in
-      let N : Piece → Bool = passing test text in
-      let f_is : front ≡ ends_below start (piece_ends old) = is.recut.kept in
-      let before_front : AllByRecursion (λ p. piece_end p < start) (take front ps) = subst (λ (n : ℕ). AllByRecursion (λ p. piece_end p < start) (take n ps)) (sym f_is) (front_below start ps) in
-      let after_front : AllByRecursion (λ p. start ≤ piece_end p) (drop front ps) =
-      subst (λ (n : ℕ). AllByRecursion (λ p. start ≤ piece_end p) (drop n ps)) (sym f_is) (rest_above old start 0 ps (length old) (pieces_lead old)) in
-      let more : suc (last_end 0 (take k (piece_ends old))) ≡ kept_from + 1 = omega (arith, from_is) in
-      let before_back : AllByRecursion (λ p. piece_end p < kept_from + 1) (take k ps) =
-      subst (λ (n : ℕ). AllByRecursion (λ p. piece_end p < n) (take k ps)) more (taken_under old 0 k ps (length old) (pieces_lead old)) in
-      let after_back : AllByRecursion (λ p. kept_from + 1 ≤ piece_end p) (drop k ps) =
-      let one : suc kept_from ≡ kept_from + 1 = omega arith in
-      subst (λ (n : ℕ). AllByRecursion (λ p. n ≤ piece_end p) (drop k ps)) one (all_above old kept_from kept_from (drop k ps) (length old) back_leads (omega arith)) in
-      let at_front = (marked_parts T old start (take front ps) (drop front ps) before_front after_front ms (whole ∙ ap (marked T old) (sym (take-append-drop front ps)))).0 in
-      let at_back = (marked_parts T old (kept_from + 1) (take k ps) (drop k ps) before_back after_back ms (whole ∙ ap (marked T old) (sym (take-append-drop k ps)))).1 in
-      let head : marked N text (take front ps) ≡ marked T old (take front ps) = front_marked test old text (take front ps) (front_bytes old text start b c front (map piece_end made) back edit is.recut) in
-      let tail : marked N text (map (moved_piece b c) (drop k ps)) ≡ map (moved_marker b c) (marked T old (drop k ps)) =
-      back_marked test old text b c (drop k ps) (back_bytes old text start b c front (map piece_end made) back edit is.recut) (starts_above old kept_from b (drop k ps) (length old) back_leads from_order) in
-      let new : marked N text (pieces_of text) ≡ marked T old (take front ps) ++ (marked N text made ++ map (moved_marker b c) (marked T old (drop k ps))) =
-      ap (marked N text) is.pieces
-      ∙ marked_append N text (take front ps ++ made) (map (moved_piece b c) (drop k ps))
-      ∙ ap₂ (λ (x y : List Marker). x ++ y) (marked_append N text (take front ps) made ∙ ap (λ (x : List Marker). x ++ marked N text made) head) tail
-      ∙ append_assoc (marked T old (take front ps)) (marked N text made) (map (moved_marker b c) (marked T old (drop k ps))) in
-      ap₂ (λ (x y : List Marker). x ++ (made_ms ++ map (moved_marker b c) y)) at_front at_back
-      ∙ ap (λ (x : List Marker). marked T old (take front ps) ++ (x ++ map (moved_marker b c) (marked T old (drop k ps)))) part
+      let ps : List Piece = pieces_of e.old in
+      let k : ℕ = length ps - change.kept_back in
+      let T : Piece → Bool = passing test e.old in
+      let N : Piece → Bool = passing test e.text in
+      let f_is : change.kept_front ≡ ends_below e.start (piece_ends e.old) = is.recut.kept in
+      let before_front : AllByRecursion (λ p. piece_end p < e.start) (take change.kept_front ps) = subst (λ (n : ℕ). AllByRecursion (λ p. piece_end p < e.start) (take n ps)) (sym f_is) (front_below e.start ps) in
+      let after_front : AllByRecursion (λ p. e.start ≤ piece_end p) (drop change.kept_front ps) =
+      subst (λ (n : ℕ). AllByRecursion (λ p. e.start ≤ piece_end p) (drop n ps)) (sym f_is) (rest_above e.old e.start 0 ps (length e.old) (pieces_lead e.old)) in
+      let more : suc (last_end 0 (take k (piece_ends e.old))) ≡ change.kept_from + 1 = omega (arith, from_is) in
+      let before_back : AllByRecursion (λ p. piece_end p < change.kept_from + 1) (take k ps) =
+      subst (λ (n : ℕ). AllByRecursion (λ p. piece_end p < n) (take k ps)) more (taken_under e.old 0 k ps (length e.old) (pieces_lead e.old)) in
+      let after_back : AllByRecursion (λ p. change.kept_from + 1 ≤ piece_end p) (drop k ps) =
+      let one : suc change.kept_from ≡ change.kept_from + 1 = omega arith in
+      subst (λ (n : ℕ). AllByRecursion (λ p. n ≤ piece_end p) (drop k ps)) one (all_above e.old change.kept_from change.kept_from (drop k ps) (length e.old) back_leads (omega arith)) in
+      let at_front = (marked_parts T e.old e.start (take change.kept_front ps) (drop change.kept_front ps) before_front after_front ms (whole ∙ ap (marked T e.old) (sym (take-append-drop change.kept_front ps)))).0 in
+      let at_back = (marked_parts T e.old (change.kept_from + 1) (take k ps) (drop k ps) before_back after_back ms (whole ∙ ap (marked T e.old) (sym (take-append-drop k ps)))).1 in
+      let head : marked N e.text (take change.kept_front ps) ≡ marked T e.old (take change.kept_front ps) = front_marked test e.old e.text (take change.kept_front ps) (front_bytes e.old e.text e.start e.old_stop e.new_stop change.kept_front (map piece_end (made_pieces change)) change.kept_back edit is.recut) in
+      let tail : marked N e.text (map (moved_piece e.old_stop e.new_stop) (drop k ps)) ≡ map (moved_marker e.old_stop e.new_stop) (marked T e.old (drop k ps)) =
+      back_marked test e.old e.text e.old_stop e.new_stop (drop k ps) (back_bytes e.old e.text e.start e.old_stop e.new_stop change.kept_front (map piece_end (made_pieces change)) change.kept_back edit is.recut) (starts_above e.old change.kept_from e.old_stop (drop k ps) (length e.old) back_leads from_order) in
+      let new : marked N e.text (pieces_of e.text) ≡ marked T e.old (take change.kept_front ps) ++ (marked N e.text (made_pieces change) ++ map (moved_marker e.old_stop e.new_stop) (marked T e.old (drop k ps))) =
+      ap (marked N e.text) is.pieces
+      ∙ marked_append N e.text (take change.kept_front ps ++ made_pieces change) (map (moved_piece e.old_stop e.new_stop) (drop k ps))
+      ∙ ap₂ (λ (x y : List Marker). x ++ y) (marked_append N e.text (take change.kept_front ps) (made_pieces change) ∙ ap (λ (x : List Marker). x ++ marked N e.text (made_pieces change)) head) tail
+      ∙ append_assoc (marked T e.old (take change.kept_front ps)) (marked N e.text (made_pieces change)) (map (moved_marker e.old_stop e.new_stop) (marked T e.old (drop k ps))) in
+      ap₂ (λ (x y : List Marker). x ++ (made_ms ++ map (moved_marker e.old_stop e.new_stop) y)) at_front at_back
+      ∙ ap (λ (x : List Marker). marked T e.old (take change.kept_front ps) ++ (x ++ map (moved_marker e.old_stop e.new_stop) (marked T e.old (drop k ps)))) part
       ∙ sym new
 
 -- ---- the last marker before a place

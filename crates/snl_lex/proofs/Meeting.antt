@@ -2,13 +2,14 @@
 -- their bytes.
 use Rattle.std.proofs.Common.{get_or, ◌≡◌, ℕ, zero, suc, ◌+◌, ◌-◌, ◌<◌, ◌≤◌, ◌⊎◌, inl, inr, List, [], ◌∷◌, ◌++◌, length, drop, take, map, true, false, cond, nat_lt, nat_le, refl, sym, ap, ◌∙◌, subst, arith, length-drop}
 use Rattle.std.proofs.lemmas.List.{take-take, drop-drop, drop-take, take-append-drop, length-map, drop_more}
-use Rattle.std.proofs.lemmas.Bool.Decides.{nat_tests}
 use Rattle.snl_cut.specs.Cut.{Walks, IsEdit, IsRecut, fresh, moved, last_end, ends_below}
 use Rattle.snl_lex.specs.declared.piece.Class.{Class}
 use Rattle.snl_lex.specs.declared.piece.Piece.{Piece}
 use Rattle.snl_lex.specs.Local.{first_same}
 use Rattle.snl_lex.specs.Pieces.{first_piece, piece_length, piece_at, piece_end, pieces_along, pieces_of, moved_piece}
-use Rattle.snl_lex.proofs.Members.{Leads, split, some_piece, walk_le, walk_front, walk_back, along_append, along_take, along_drop, last_append, leads_pieces, leads_walk, leads_along, pieces_lead, walk_leads}
+use Rattle.snl_lex.proofs.Members.{Leads, some_piece, walk_le, walk_front, walk_back, along_append, along_take, along_drop, last_append, leads_pieces, leads_walk, leads_along, pieces_lead, walk_leads}
+use Rattle.snl_cut.specs.CutLaws.{below_yes, below_no, below_inside, fresh_here}
+use Rattle.std.proofs.lemmas.Bool.{cases_lt}
 
 -- A number is among the numbers of a list.
 abbrev In : ℕ → List ℕ → Type 0
@@ -24,9 +25,6 @@ in_below text from [] to a w h = absurd h
 in_below text from (x ∷ xs) to a w (inl e) = omega (arith, e, walk_le text x xs to w.2)
 in_below text from (x ∷ xs) to a w (inr h) = in_below text x xs to a w.2 h
 
-taken_in : (start meet from e : ℕ) (es : List ℕ) → start ≤ e → from < meet → fresh start meet from (e ∷ es) ≡ e ∷ fresh start meet e es
-taken_in start meet from e es h k = grind (arith, nat_tests)
-
 in_cons : (start meet from x a : ℕ) (es : List ℕ) → In a (fresh start meet x es) → In a (fresh start meet from (x ∷ es))
 in_cons start meet from x a es h =
     let rest : List ℕ = fresh start meet x es in
@@ -37,7 +35,7 @@ in_cons start meet from x a es h =
 
 -- A member that ends at or after the start and begins before the meeting point is fresh.
 in_fresh : (start meet from : ℕ) (xs : List ℕ) (e : ℕ) (es : List ℕ) → start ≤ e → last_end from xs < meet → In e (fresh start meet from (xs ++ e ∷ es))
-in_fresh start meet from [] e es h k = subst (In e) (sym (taken_in start meet from e es h k)) (inl refl)
+in_fresh start meet from [] e es h k = subst (In e) (sym (fresh_here start meet from e es h k)) (inl refl)
 in_fresh start meet from (x ∷ xs) e es h k = in_cons start meet from x e (xs ++ e ∷ es) (in_fresh start meet x xs e es h k)
 
 -- No boundary is inside a member.
@@ -89,10 +87,10 @@ join_walks text from (e ∷ xs) mid ys to h k = (h.0, h.1, join_walks text e xs 
 -- The member that ends at a place begins at one place.
 same_begin : (text : List ℕ) (xs ys : List ℕ) (a b e : ℕ) → Walks piece_length text 0 xs a → Walks piece_length text 0 ys b → a + piece_length (drop a text) ≡ e → b + piece_length (drop b text) ≡ e → a < length text → b < length text → a ≡ b
 same_begin text xs ys a b e h k p q inside_a inside_b =
-    elim (split a b) [
+    elim (cases_lt a b) [
       | inl less ↦ absurd (omega (arith, inside_none text 0 xs ys a b h k less, p, q, (some_piece text b inside_b).0))
       | inr more ↦
-          elim (split b a) [
+          elim (cases_lt b a) [
             | inl less ↦ absurd (omega (arith, inside_none text 0 ys xs b a k h less, p, q, (some_piece text a inside_a).0))
             | inr other ↦ omega arith
           ]
@@ -117,27 +115,13 @@ part_same old text a from m h le =
     let one : take (from + m) old ≡ take (from + m) text = sym (take-take (from + m) a old le) ∙ (ap (take (from + m)) h ∙ take-take (from + m) a text le) in
     sym (drop-take from m old) ∙ (ap (drop from) one ∙ drop-take from m text)
 
-below_yes : (e place : ℕ) (es : List ℕ) → e < place → ends_below place (e ∷ es) ≡ suc (ends_below place es)
-below_yes e place es h = grind (arith, nat_tests)
-
-below_no : (e place : ℕ) (es : List ℕ) → place ≤ e → ends_below place (e ∷ es) ≡ 0
-below_no e place es h = grind (arith, nat_tests)
-
-pub below_inside : (place : ℕ) (es : List ℕ) → ends_below place es ≤ length es
-below_inside place [] = omega arith
-below_inside place (e ∷ es) =
-    elim (split e place) [
-      | inl less ↦ omega (arith, below_yes e place es less, below_inside place es)
-      | inr more ↦ omega (arith, below_no e place es more)
-    ]
-
 front_along : (old text : List ℕ) (a from : ℕ) (es : List ℕ) (to : ℕ) → take a old ≡ take a text → Walks piece_length old from es to
     → pieces_along text from (take (ends_below a es) es) ≡ pieces_along old from (take (ends_below a es) es)
 unfolding piece_at
 front_along old text a from [] to h w = refl
 front_along old text a from (e ∷ es) to h w =
     let P : ℕ → Type 0 = λ (k : ℕ). pieces_along text from (take k (e ∷ es)) ≡ pieces_along old from (take k (e ∷ es)) in
-    elim (split e a) [
+    elim (cases_lt e a) [
       | inl less ↦
           let agree = part_same old text a from (piece_length (drop from old) + 1) h (omega (arith, w.1)) in
           let same : first_piece (drop from text) ≡ first_piece (drop from old) = first_same (drop from old) (drop from text) (omega (arith, w.0, length-drop from old)) agree in
@@ -170,7 +154,7 @@ back_begin old text ends start b c front made back edit cut r e es eq =
     let all_fresh : made ≡ fresh start r.meet 0 (head ++ moved b c (e ∷ es)) = subst (λ (l : List ℕ). made ≡ fresh start r.meet 0 (head ++ moved b c l)) eq r.just_fresh in
     let some = some_piece text m m_back.0 in
     let reached : r.meet ≤ m =
-    elim (split m r.meet) [
+    elim (cases_lt m r.meet) [
       | inl less ↦
           let found : In a (fresh start r.meet 0 (head ++ a ∷ moved b c es)) = in_fresh start r.meet 0 head a (moved b c es) (omega (arith, edit.new_order)) less in
           let made_in : In a made = subst (In a) (sym all_fresh) found in
@@ -241,7 +225,7 @@ below_next place e es (suc m) less lt again = again m (omega arith)
 below_at : (place : ℕ) (es : List ℕ) (k : ℕ) → k < ends_below place es → get_or es k 0 < place
 below_at place [] k lt = absurd (omega arith)
 below_at place (e ∷ es) k lt =
-    elim (split e place) [
+    elim (cases_lt e place) [
       | inl less ↦ below_next place e es k less (omega (arith, below_yes e place es less)) (below_at place es)
       | inr more ↦ absurd (omega (arith, below_no e place es more))
     ]
@@ -251,7 +235,7 @@ pub recut_order : (old text ends : List ℕ) (start b c front : ℕ) (made : Lis
     → IsRecut piece_length old ends text start b c front made back → front + back ≤ length ends
 recut_order old text ends start b c front made back edit cut r =
     let j : ℕ = length ends - back in
-    elim (split j front) [
+    elim (cases_lt j front) [
       | inl less ↦
           let most = below_inside start ends in
           let e : ℕ = get_or ends j 0 in

@@ -1,13 +1,11 @@
 -- The pieces of a text as members of its cut.
-use Rattle.std.proofs.Common.{◌≡◌, ℕ, zero, suc, ◌+◌, ◌<◌, ◌≤◌, ◌⊎◌, inl, inr, List, [], ◌∷◌, ◌++◌, length, drop, take, map, get_or, refl, sym, ap, ◌∙◌, subst, arith, length-drop, length-append}
+use Rattle.std.proofs.Common.{◌≡◌, ℕ, zero, suc, ◌+◌, ◌<◌, ◌≤◌, inl, inr, List, [], ◌∷◌, ◌++◌, length, drop, take, map, get_or, refl, sym, ap, ◌∙◌, subst, arith, length-drop}
 use Rattle.std.proofs.lemmas.Bool.Decides.{nat_tests}
 use Rattle.snl_cut.specs.Cut.{Walks, last_end}
 use Rattle.snl_lex.specs.declared.piece.Piece.{Piece}
 use Rattle.snl_lex.specs.Pieces.{piece_length, piece_at, piece_end, pieces_from, pieces_of, pieces_along, LiesIn}
 use Rattle.snl_lex.specs.Local.{piece_front}
-
-pub split : (a b : ℕ) → (a < b) ⊎ (b ≤ a)
-split a b = grind (arith, nat_tests)
+use Rattle.std.proofs.lemmas.Bool.{cases_lt}
 
 -- The pieces follow one another between the two places.
 abbrev pub Leads : List ℕ → ℕ → List Piece → ℕ → Type 0
@@ -39,7 +37,7 @@ leads_all text from (suc most) (p ∷ ps) h le =
 pub all_lead : (text : List ℕ) (from most : ℕ) → from ≤ length text → length text ≤ from + most → Leads text from (pieces_from text from most) (length text)
 all_lead text from zero inside enough = omega arith
 all_lead text from (suc most) inside enough =
-    elim (split from (length text)) [
+    elim (cases_lt from (length text)) [
       | inl less ↦
           let fits = some_piece text from less in
           subst (λ (l : List Piece). Leads text from l (length text)) (sym (more text from most less)) (less, refl, all_lead text (from + piece_length (drop from text)) most fits.1 (omega (arith, fits.0)))
@@ -142,11 +140,3 @@ pub leads_inside : (text : List ℕ) (from : ℕ) (ps : List Piece) (to : ℕ) �
 leads_inside text from [] to h k d lt = absurd (omega arith)
 leads_inside text from (p ∷ ps) to h zero d lt = subst (LiesIn text) (sym h.1) (piece_lies text from h.0)
 leads_inside text from (p ∷ ps) to h (suc k) d lt = leads_inside text (from + piece_length (drop from text)) ps to h.2 k d (omega arith)
-
-pub length_more : {X : Type 0} (xs : List X) (x : X) → length (xs ++ x ∷ []) ≡ suc (length xs)
-length_more xs x = simp length-append (omega arith)
-
-pub last_taken : (from : ℕ) (ends : List ℕ) (k : ℕ) → k < length ends → last_end from (take (suc k) ends) ≡ get_or ends k 0
-last_taken from [] k lt = absurd (omega arith)
-last_taken from (e ∷ es) zero lt = refl
-last_taken from (e ∷ es) (suc k) lt = last_taken e es k (omega arith)

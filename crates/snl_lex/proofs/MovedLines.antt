@@ -2,12 +2,11 @@
 use Rattle.std.proofs.Common.{◌≡◌, ◌==◌, ℕ, zero, suc, ◌+◌, ◌-◌, ◌<◌, ◌≤◌, inl, inr, Bool, true, false, ◌||◌, cond, nat_lt, List, [], ◌∷◌, ◌++◌, length, take, drop, map, min, get_or, slice_get, filter, Option, None, Some, refl, sym, ap, ap₂, ◌∙◌, subst, arith}
 use Rattle.std.specs.Prelude.{IfSome, if◌then◌else◌, nat_le, option_map}
 use Rattle.std.specs.List.{AllByRecursion}
-use Rattle.std.proofs.lemmas.Bool.{false≢true}
-use Rattle.std.proofs.lemmas.Bool.Decides.{nat_tests}
+use Rattle.std.proofs.lemmas.Bool.{cases_lt, lt-ltb, le-ltb, le-leb, lt-leb, both_ways}
 use Rattle.std.proofs.lemmas.List.{take-append-drop}
 use Rattle.std.proofs.lemmas.List.Elements.{recursion_from_All}
 use Rattle.snl_cut.specs.Cut.{IsEdit}
-use Rattle.snl_lex.specs.declared.line_list.Marker.{Marker}
+use Rattle.snl_lex.specs.declared.marker_list.Marker.{Marker}
 use Rattle.snl_lex.specs.declared.line_shift.LineShift.{LineShift}
 use Rattle.snl_lex.specs.declared.shift.Shift.{Shift}
 use Rattle.snl_lex.specs.LineList.{naming_markers, numbers, setting_markers}
@@ -15,13 +14,11 @@ use Rattle.snl_lex.specs.LineShift.{CountsAfter, IsApart, IsLineShift, NumbersFr
 use Rattle.snl_lex.specs.Lines.{has_line_between, last_of, last_or, line_at, lines_between, part_of}
 use Rattle.snl_lex.specs.Pieces.{pieces_of}
 use Rattle.snl_lex.specs.Shift.{IsOutside, most, shifted_offset}
-use Rattle.snl_lex.proofs.Along.{count_split}
 use Rattle.snl_lex.proofs.Changes.{edit_lengths}
-use Rattle.snl_lex.proofs.Halving.{lt_no, lt_yes}
 use Rattle.snl_lex.proofs.LineBy.{file_in, line_with}
-use Rattle.snl_lex.proofs.LineEnds.{any_counted}
-use Rattle.snl_lex.proofs.Members.{split}
 use Rattle.snl_lex.proofs.CountedLines.{Good, IsCounted, IsSmall, all_small, counts_in_both, filter_keeps, last_for, last_keeps, line_by, line_here, line_is, none_between, number_from, number_in_back, same_count, same_back}
+use Rattle.snl_facts.specs.Counts.{any_counted}
+use Rattle.snl_lex.specs.LineLaws.{count_split}
 
 -- ---- lists of markers
 
@@ -85,17 +82,8 @@ file_moved : (s : Shift) (o : Option Marker) → file_in (option_map (shifted_ma
 file_moved s None = refl
 file_moved s (Some m) = refl
 
-not_both : (b : Bool) → b ≡ false → b ≡ true → ⊥
-not_both b e h = false≢true (sym e ∙ h)
-
 either : (a b c d : Bool) → a ≡ c → b ≡ d → (a || b) ≡ (c || d)
 either a b c d e f = ap₂ (λ (x y : Bool). x || y) e f
-
-le_yes : (a b : ℕ) → a ≤ b → nat_le a b ≡ true
-le_yes a b h = grind (arith, nat_tests)
-
-pub le_no : (a b : ℕ) → b < a → nat_le a b ≡ false
-le_no a b h = grind (arith, nat_tests)
 
 -- ---- an edit by its places
 
@@ -128,10 +116,10 @@ module _ (old text : List ℕ) (t : LineShift) (is : IsLineShift old text t) whe
 
   -- Where an offset is that the edit leaves.
   early_offset : (o : ℕ) → o < s.start → shifted_offset s o ≡ o
-  early_offset o h = ap (λ (b : Bool). if b then o else min ((o - s.old_stop) + s.new_stop) most) (lt_yes o s.start h)
+  early_offset o h = ap (λ (b : Bool). if b then o else min ((o - s.old_stop) + s.new_stop) most) (lt-ltb o s.start h)
 
   late_offset : (o : ℕ) → s.old_stop ≤ o → shifted_offset s o ≡ min ((o - s.old_stop) + s.new_stop) most
-  late_offset o h = ap (λ (b : Bool). if b then o else min ((o - s.old_stop) + s.new_stop) most) (lt_no o s.start (omega (arith, h, is.edit.old_order)))
+  late_offset o h = ap (λ (b : Bool). if b then o else min ((o - s.old_stop) + s.new_stop) most) (le-ltb o s.start (omega (arith, h, is.edit.old_order)))
 
   fits : (o : ℕ) → s.old_stop ≤ o → o ≤ length old → shifted_offset s o ≡ (o - s.old_stop) + s.new_stop
   fits o h inside =
@@ -147,7 +135,7 @@ module _ (old text : List ℕ) (t : LineShift) (is : IsLineShift old text t) whe
   -- A marker that counts for all after the edit is before it.
   stays_before : (m : Marker) → CountsAfter old s.start m → m.end < s.start
   stays_before m h =
-      elim (split m.end s.start) [
+      elim (cases_lt m.end s.start) [
         | inl less ↦ less
         | inr more ↦ absurd (omega (arith, h, none_between old m.end s.start (omega (arith, more))))
       ]
@@ -157,7 +145,7 @@ module _ (old text : List ℕ) (t : LineShift) (is : IsLineShift old text t) whe
       → lines_between text (shifted_offset s a) ((offset - s.old_stop) + s.new_stop) ≡ lines_between old a offset
   count_beyond a offset late h inside =
       let to : ℕ = (offset - s.old_stop) + s.new_stop in
-      elim (split a offset) [
+      elim (cases_lt a offset) [
         | inl less ↦
             let from : ℕ = (a - s.old_stop) + s.new_stop in
             let whole = count_split old s.old_stop a offset late (omega (arith, less)) in
@@ -233,7 +221,7 @@ module _ (old text : List ℕ) (t : LineShift) (is : IsLineShift old text t) whe
   last_before offset h =
       let p : Marker → Bool = λ m. has_line_between old m.end offset in
       let of_late : (m : Marker) → IsLate m → p m ≡ true → CountsAfter old s.start m =
-      λ m late passes. absurd (not_both (p m) (none_any old m.end offset (omega (arith, late, h))) passes) in
+      λ m late passes. absurd (both_ways (p m) (none_any old m.end offset (omega (arith, late, h))) passes) in
       let each : AllByRecursion (λ m. p m ≡ true → CountsAfter old s.start m) setting =
       each_setting (λ m. p m ≡ true → CountsAfter old s.start m)
       (weaker (CountsAfter old s.start) (λ m. p m ≡ true → CountsAfter old s.start m) (λ m early passes. early) (take is.early setting) befores)
@@ -251,7 +239,7 @@ module _ (old text : List ℕ) (t : LineShift) (is : IsLineShift old text t) whe
           let within : m.end < length old = omega (arith, first.0, h, inside) in
           let byte : get_or old m.end 0 ≡ 10 = first.1 within in
           let some = line_here old m.end offset (omega (arith, first.0, h)) inside byte in
-          last_from IsLate (λ m. has_line_between old m.end offset) None setting is.early m there (any_told old m.end offset ∙ lt_yes 0 (lines_between old m.end offset) some) afters
+          last_from IsLate (λ m. has_line_between old m.end offset) None setting is.early m there (any_told old m.end offset ∙ lt-ltb 0 (lines_between old m.end offset) some) afters
 
   -- ---- numbers
 
@@ -293,23 +281,23 @@ module _ (old text : List ℕ) (t : LineShift) (is : IsLineShift old text t) whe
       let apart : IfSome last (IsApart old s) = last_keeps (IsApart old s) None (filter (λ m. has_line_between old m.end offset) setting) tt (filter_keeps (IsApart old s) (λ m. has_line_between old m.end offset) setting setting_apart) in
       ap (line_at text) (early_offset offset h)
       ∙ line_moved offset offset (number_from old offset last) (counted_in_front offset h) (number_in_front offset h last apart)
-      ∙ sym (told offset true (ap (λ (b : Bool). b || nat_le t.until offset) (lt_yes offset s.start h)))
+      ∙ sym (told offset true (ap (λ (b : Bool). b || nat_le t.until offset) (lt-ltb offset s.start h)))
 
   at_back : (offset : ℕ) → s.old_stop ≤ offset → offset ≤ length old → line_at text (shifted_offset s offset) ≡ moved_line t offset (line_at old offset)
   at_back offset h inside =
       let to : ℕ = (offset - s.old_stop) + s.new_stop in
       let last : Option Marker = last_for old offset setting in
-      let late : nat_lt offset s.start ≡ false = lt_no offset s.start (omega (arith, h, is.edit.old_order)) in
+      let late : nat_lt offset s.start ≡ false = le-ltb offset s.start (omega (arith, h, is.edit.old_order)) in
       ap (line_at text) (fits offset h inside)
-      ∙ elim (split offset t.until) [
+      ∙ elim (cases_lt offset t.until) [
         | inl less ↦
             let good = last_before offset less in
             line_moved offset to (min (number_from old offset last + s.new_lines) most - s.old_lines) (counted_at_back offset h inside)
             (of_early to last good ∙ number_in_back old text s counts offset h inside last good)
-            ∙ sym (told offset false (either (nat_lt offset s.start) (nat_le t.until offset) false false late (le_no t.until offset less)))
+            ∙ sym (told offset false (either (nat_lt offset s.start) (nat_le t.until offset) false false late (lt-leb t.until offset less)))
         | inr more ↦
             line_moved offset to (number_from old offset last) (counted_at_back offset h inside) (number_after_marker offset h inside last (last_after offset more inside))
-            ∙ sym (told offset true (either (nat_lt offset s.start) (nat_le t.until offset) false true late (le_yes t.until offset more)))
+            ∙ sym (told offset true (either (nat_lt offset s.start) (nat_le t.until offset) false true late (le-leb t.until offset more)))
       ]
 
   pub lines_moved : (offset : ℕ) → IsOutside old s offset → line_at text (shifted_offset s offset) ≡ moved_line t offset (line_at old offset)

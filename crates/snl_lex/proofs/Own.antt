@@ -2,7 +2,7 @@
 use Rattle.std.proofs.Common.{◌≡◌, ◌==◌, ℕ, zero, suc, ◌+◌, ◌<◌, Bool, true, false, cond, ◌&&◌, ◌||◌, List, [], ◌∷◌, ◌++◌, length, take, drop, get_or, Option, Some, None, is_some, refl, sym, ap, ◌∙◌, subst, arith, length-drop}
 use Rattle.std.specs.Prelude.{slice_index}
 use Rattle.std.specs.List.{flat_map, list_all}
-use Rattle.std.proofs.lemmas.Bool.{or_left, or_right}
+use Rattle.std.proofs.lemmas.Bool.{or_left, or_right, and_from}
 use Rattle.std.proofs.lemmas.Bool.Decides.{nat_tests}
 use Rattle.std.proofs.lemmas.List.{take-append-drop, drop-drop, drop_all}
 use Rattle.snl_lex.specs.declared.alphabet.Start.{Start}
@@ -10,12 +10,13 @@ use Rattle.snl_lex.specs.declared.alphabet.Start.TheVariants.{Blank, Letter, Dig
 use Rattle.snl_lex.specs.declared.piece.Class.{Class}
 use Rattle.snl_lex.specs.declared.piece.Class.TheVariants.{White, Comment, Marker, CCode, Name, Word, Int, Float, Text, CharLit, Punct, Bad}
 use Rattle.snl_lex.specs.declared.piece.Piece.{Piece}
-use Rattle.snl_lex.specs.Alphabet.{is_white, is_letter, is_digit, is_word_byte, is_in_line, is_mark, is_stray, start_of}
+use Rattle.snl_lex.specs.Alphabet.{is_white, is_letter, is_digit, is_word_byte, is_in_line, is_punctuator, is_stray, start_of}
 use Rattle.snl_lex.specs.Runs.{run_of, run_by, close_of}
 use Rattle.snl_lex.specs.Kinds.{is_word}
 use Rattle.snl_lex.specs.Numbers.{awaits_sign, is_float, is_number_byte, is_sign, int_value_of, number_class, number_joins}
-use Rattle.snl_lex.specs.Pieces.{HasOwnBytes, bytes_at, class_byte, closed_by, closed_piece, dot_piece, first_piece, longest_mark, mark_piece, name_piece, number_piece, percent_piece, piece_at, piece_by, piece_length, run_piece, slash_piece, string_joins, string_piece}
+use Rattle.snl_lex.specs.Pieces.{HasOwnBytes, bytes_at, class_byte, closed_by, closed_piece, dot_piece, first_piece, longest_punctuator, punctuator_piece, name_piece, number_piece, percent_piece, piece_at, piece_by, piece_length, run_piece, slash_piece, string_joins, string_piece}
 use Rattle.snl_lex.proofs.Members.{Leads}
+use Rattle.std.proofs.Math.Numerals.{one-add}
 
 -- The pieces from a place on, joined, are the text from there on.
 pub leads_joined : (text : List ℕ) (from : ℕ) (ps : List Piece) → Leads text from ps (length text) → flat_map (bytes_at text) ps ≡ drop from text
@@ -56,26 +57,18 @@ start_right b =
     (right_if (b == 37) Percent _ b (λ e. refl)
     (right_if (b == 34) Quote _ b (λ e. refl)
     (right_if (b == 39) Apostrophe _ b (λ e. refl)
-    (right_if (is_mark (b ∷ [])) Sign Stray b (λ e. refl) refl)))))))))
-
--- Runs.
-both : (x y : Bool) → x ≡ true → y ≡ true → (x && y) ≡ true
-both true y h k = k
-both false y h k = cc
+    (right_if (is_punctuator (b ∷ [])) Sign Stray b (λ e. refl) refl)))))))))
 
 run_passes_at : (p : ℕ → Bool) (x : ℕ) (xs : List ℕ) (c : Bool) → p x ≡ c → list_all p (take (run_of p xs) xs) ≡ true → list_all p (take (cond c (suc (run_of p xs)) 0) (x ∷ xs)) ≡ true
-run_passes_at p x xs true h again = both (p x) (list_all p (take (run_of p xs) xs)) h again
+run_passes_at p x xs true h again = and_from (p x) (list_all p (take (run_of p xs) xs)) h again
 run_passes_at p x xs false h again = refl
 
 run_passes : (p : ℕ → Bool) (xs : List ℕ) → list_all p (take (run_of p xs) xs) ≡ true
 run_passes p [] = refl
 run_passes p (x ∷ xs) = run_passes_at p x xs (p x) refl (run_passes p xs)
 
-one_more : (n : ℕ) → 1 + n ≡ suc n
-one_more n = omega arith
-
 all_more : (p : ℕ → Bool) (x n : ℕ) (xs : List ℕ) → p x ≡ true → list_all p (take n xs) ≡ true → list_all p (take (1 + n) (x ∷ xs)) ≡ true
-all_more p x n xs h k = ap (λ (m : ℕ). list_all p (take m (x ∷ xs))) (one_more n) ∙ both (p x) (list_all p (take n xs)) h k
+all_more p x n xs h k = ap (λ (m : ℕ). list_all p (take m (x ∷ xs))) (one-add n) ∙ and_from (p x) (list_all p (take n xs)) h k
 
 number_is_at : (w d s a : Bool) → (w || d || (s && a)) ≡ true → (w || d || s) ≡ true
 number_is_at true d s a h = refl
@@ -89,7 +82,7 @@ number_is before b h = number_is_at (is_word_byte b) (b == 46) (is_sign b) (awai
 
 numbers_pass_at : (before : List ℕ) (x : ℕ) (xs : List ℕ) (c : Bool) → number_joins before x ≡ c → list_all is_number_byte (take (run_by number_joins (x ∷ before) xs) xs) ≡ true
     → list_all is_number_byte (take (cond c (suc (run_by number_joins (x ∷ before) xs)) 0) (x ∷ xs)) ≡ true
-numbers_pass_at before x xs true h again = both (is_number_byte x) (list_all is_number_byte (take (run_by number_joins (x ∷ before) xs) xs)) (number_is before x h) again
+numbers_pass_at before x xs true h again = and_from (is_number_byte x) (list_all is_number_byte (take (run_by number_joins (x ∷ before) xs) xs)) (number_is before x h) again
 numbers_pass_at before x xs false h again = refl
 
 numbers_pass : (before xs : List ℕ) → list_all is_number_byte (take (run_by number_joins before xs) xs) ≡ true
@@ -160,8 +153,8 @@ dot_own : (x : ℕ) (xs : List ℕ) → (x == 46) ≡ true → IsOwn (x ∷ xs) 
 unfolding is_number_byte
 dot_own x xs h =
     let number = number_own x xs (or_left (is_word_byte x || x == 46) (is_sign x) (or_right (is_word_byte x) (x == 46) h)) in
-    let mark = free_all Punct (take (longest_mark (x ∷ xs)) (x ∷ xs)) refl in
-    elim (is_digit (slice_index (x ∷ xs) 1)) as (λ b. IsOwn (x ∷ xs) (cond b (number_piece (x ∷ xs)) (mark_piece (x ∷ xs)))) [ true ↦ number | false ↦ mark ]
+    let punctuator = free_all Punct (take (longest_punctuator (x ∷ xs)) (x ∷ xs)) refl in
+    elim (is_digit (slice_index (x ∷ xs) 1)) as (λ b. IsOwn (x ∷ xs) (cond b (number_piece (x ∷ xs)) (punctuator_piece (x ∷ xs)))) [ true ↦ number | false ↦ punctuator ]
 
 by_own : (s : Start) (x : ℕ) (xs : List ℕ) → right s x ≡ true → IsOwn (x ∷ xs) (piece_by s (x ∷ xs))
 unfolding is_number_byte
@@ -174,12 +167,12 @@ by_own Slash x xs h =
     let u : List ℕ = x ∷ xs in
     let closed = free_closed Comment (length u) (close_of 42 47 (drop 2 u)) refl in
     free_all (slash_piece u).0 (take (slash_piece u).1 u)
-    (free_if (slice_index u 1 == 47) (run_piece Comment is_in_line u) _ refl (free_if (slice_index u 1 == 42) (closed_piece Comment 42 47 u) (mark_piece u) closed refl))
+    (free_if (slice_index u 1 == 47) (run_piece Comment is_in_line u) _ refl (free_if (slice_index u 1 == 42) (closed_piece Comment 42 47 u) (punctuator_piece u) closed refl))
 by_own Percent x xs h =
     let u : List ℕ = x ∷ xs in
     let closed = free_closed CCode (length u) (close_of 125 37 (drop 2 u)) refl in
     free_all (percent_piece u).0 (take (percent_piece u).1 u)
-    (free_if (slice_index u 1 == 37) (run_piece CCode is_in_line u) _ refl (free_if (slice_index u 1 == 123) (closed_piece CCode 125 37 u) (mark_piece u) closed refl))
+    (free_if (slice_index u 1 == 37) (run_piece CCode is_in_line u) _ refl (free_if (slice_index u 1 == 123) (closed_piece CCode 125 37 u) (punctuator_piece u) closed refl))
 by_own Quote x xs h =
     let u : List ℕ = x ∷ xs in
     let count : ℕ = 1 + run_by (string_joins 34) [] xs in
@@ -188,7 +181,7 @@ by_own Apostrophe x xs h =
     let u : List ℕ = x ∷ xs in
     let count : ℕ = 1 + run_by (string_joins 39) [] xs in
     free_all (string_piece CharLit 39 u).0 (take (string_piece CharLit 39 u).1 u) (free_if (slice_index u count == 39) (CharLit, 1 + count) (Bad, count) refl refl)
-by_own Sign x xs h = free_all Punct (take (longest_mark (x ∷ xs)) (x ∷ xs)) refl
+by_own Sign x xs h = free_all Punct (take (longest_punctuator (x ∷ xs)) (x ∷ xs)) refl
 by_own Stray x xs h = free_all Bad (take (1 + run_of is_stray xs) (x ∷ xs)) refl
 
 first_own : (u : List ℕ) → 0 < length u → IsOwn u (first_piece u)

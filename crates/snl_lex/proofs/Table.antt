@@ -4,7 +4,7 @@ use Rattle.std.proofs.lemmas.Bool.{agree_below_at}
 use Rattle.snl_lex.specs.declared.alphabet.Start.{Start}
 use Rattle.snl_lex.specs.declared.alphabet.Start.TheVariants.{Blank, Letter, Digit, Dot, Hash, Slash, Percent, Quote, Apostrophe, Sign, Stray}
 use Rattle.snl_lex.specs.declared.alphabet.TheConstants.{STARTS}
-use Rattle.snl_lex.specs.Alphabet.{is_white, is_letter, is_digit, is_word_byte, is_mark, is_stray, start_of}
+use Rattle.snl_lex.specs.Alphabet.{is_white, is_letter, is_digit, is_word_byte, is_punctuator, is_stray, start_of}
 
 -- Starts as numbers, and back.
 abbrev number_of : Start → ℕ
@@ -44,7 +44,7 @@ same_start : (s t : Start) → number_of s ≡ number_of t → s ≡ t
 same_start s t e = sym (back s) ∙ (ap start_from e ∙ back t)
 
 pub table_right : (b : ℕ) → b < 256 → get_or STARTS b Blank ≡ start_of b
-unfolding start_of is_white is_letter is_digit is_mark
+unfolding start_of is_white is_letter is_digit is_punctuator
 table_right b lt =
     same_start (get_or STARTS b Blank) (start_of b)
     (eqb-true (number_of (get_or STARTS b Blank)) (number_of (start_of b))
@@ -65,15 +65,15 @@ is_stray_start Stray = true
 is_stray_start _ = false
 
 pub blank_table : (b : ℕ) → b < 256 → is_blank_start (start_of b) ≡ is_white b
-unfolding start_of is_white is_letter is_digit is_mark
+unfolding start_of is_white is_letter is_digit is_punctuator
 blank_table b lt = agree_below_at (λ k. is_blank_start (start_of k)) is_white 256 b refl lt
 
 pub word_table : (b : ℕ) → b < 256 → is_word_start (start_of b) ≡ is_word_byte b
-unfolding start_of is_white is_letter is_digit is_mark is_word_byte
+unfolding start_of is_white is_letter is_digit is_punctuator is_word_byte
 word_table b lt = agree_below_at (λ k. is_word_start (start_of k)) is_word_byte 256 b refl lt
 
 pub stray_table : (b : ℕ) → b < 256 → is_stray_start (start_of b) ≡ is_stray b
-unfolding start_of is_white is_letter is_digit is_mark is_stray
+unfolding start_of is_white is_letter is_digit is_punctuator is_stray
 stray_table b lt = agree_below_at (λ k. is_stray_start (start_of k)) is_stray 256 b refl lt
 
 pub not_blank : (s : Start) → (s ≡ Blank → ⊥) → false ≡ is_blank_start s

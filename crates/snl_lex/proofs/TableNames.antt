@@ -8,12 +8,12 @@ use Rattle.snl_lex.specs.declared.piece.Class.{Class}
 use Rattle.snl_lex.specs.declared.piece.Class.TheVariants.{White, Comment, Marker, CCode, Name, Word, Int, Float, Text, CharLit, Punct, Bad}
 use Rattle.snl_lex.specs.declared.piece.Piece.{Piece}
 use Rattle.snl_lex.specs.declared.kind.Kind.TheVariants as kind
-use Rattle.snl_lex.specs.Alphabet.{is_digit, is_in_line, is_mark, is_stray, is_white, start_of}
+use Rattle.snl_lex.specs.Alphabet.{is_digit, is_in_line, is_punctuator, is_stray, is_white, start_of}
 use Rattle.snl_lex.specs.Kinds.{is_word, kind_of, look_up, punctuators, words}
 use Rattle.snl_lex.specs.Numbers.{int_value_of, is_float, number_class}
-use Rattle.snl_lex.specs.Pieces.{bytes_at, closed_by, closed_piece, first_piece, is_token, mark_piece, number_piece, piece_at, piece_by, piece_length, pieces_of, run_piece, string_joins, string_piece}
+use Rattle.snl_lex.specs.Pieces.{bytes_at, closed_by, closed_piece, first_piece, is_token, punctuator_piece, number_piece, piece_at, piece_by, piece_length, pieces_of, run_piece, string_joins, string_piece}
 use Rattle.snl_lex.specs.Runs.{close_of, run_by}
-use Rattle.snl_lex.proofs.LongestMark.{mark_first}
+use Rattle.snl_lex.proofs.LongestPunctuator.{punctuator_first}
 use Rattle.snl_lex.proofs.Members.{Leads, pieces_lead}
 use Rattle.snl_lex.proofs.Spellings.{missed, not_missed}
 
@@ -56,17 +56,17 @@ by_tells : (s : Start) (u : List ℕ) → Tells u (piece_by s u)
 by_tells Blank u = other u (run_piece White is_white u) refl
 by_tells Letter u = λ h. refl
 by_tells Digit u = number_tells u
-by_tells Dot u = either u (is_digit (slice_index u 1)) (number_piece u) (mark_piece u) (number_tells u) (other u (mark_piece u) refl)
+by_tells Dot u = either u (is_digit (slice_index u 1)) (number_piece u) (punctuator_piece u) (number_tells u) (other u (punctuator_piece u) refl)
 by_tells Hash u = other u (run_piece Marker is_in_line u) refl
 by_tells Slash u =
-    either u (slice_index u 1 == 47) (run_piece Comment is_in_line u) (cond (slice_index u 1 == 42) (closed_piece Comment 42 47 u) (mark_piece u)) (other u (run_piece Comment is_in_line u) refl)
-    (either u (slice_index u 1 == 42) (closed_piece Comment 42 47 u) (mark_piece u) (closed_tells u Comment (length u) (close_of 42 47 (drop 2 u)) refl) (other u (mark_piece u) refl))
+    either u (slice_index u 1 == 47) (run_piece Comment is_in_line u) (cond (slice_index u 1 == 42) (closed_piece Comment 42 47 u) (punctuator_piece u)) (other u (run_piece Comment is_in_line u) refl)
+    (either u (slice_index u 1 == 42) (closed_piece Comment 42 47 u) (punctuator_piece u) (closed_tells u Comment (length u) (close_of 42 47 (drop 2 u)) refl) (other u (punctuator_piece u) refl))
 by_tells Percent u =
-    either u (slice_index u 1 == 37) (run_piece CCode is_in_line u) (cond (slice_index u 1 == 123) (closed_piece CCode 125 37 u) (mark_piece u)) (other u (run_piece CCode is_in_line u) refl)
-    (either u (slice_index u 1 == 123) (closed_piece CCode 125 37 u) (mark_piece u) (closed_tells u CCode (length u) (close_of 125 37 (drop 2 u)) refl) (other u (mark_piece u) refl))
+    either u (slice_index u 1 == 37) (run_piece CCode is_in_line u) (cond (slice_index u 1 == 123) (closed_piece CCode 125 37 u) (punctuator_piece u)) (other u (run_piece CCode is_in_line u) refl)
+    (either u (slice_index u 1 == 123) (closed_piece CCode 125 37 u) (punctuator_piece u) (closed_tells u CCode (length u) (close_of 125 37 (drop 2 u)) refl) (other u (punctuator_piece u) refl))
 by_tells Quote u = string_tells u Text 34 refl
 by_tells Apostrophe u = string_tells u CharLit 39 refl
-by_tells Sign u = other u (mark_piece u) refl
+by_tells Sign u = other u (punctuator_piece u) refl
 by_tells Stray u = other u (run_piece Bad is_stray u) refl
 
 first_tells : (u : List ℕ) → Tells u (first_piece u)
@@ -92,8 +92,8 @@ name_not_in_table u h =
     missed (take (first_piece u).1 u) words (name_told (is_word (take (first_piece u).1 u)) (sym h ∙ first_tells u (ap is_named h)))
 
 punctuator_in_table : (u : List ℕ) → 0 < length u → (first_piece u).0 ≡ Punct → look_up punctuators (take (first_piece u).1 u) ≡ kind.Bad → ⊥
-unfolding is_mark
-punctuator_in_table u some h = not_missed (take (first_piece u).1 u) punctuators refl (mark_first u some h).mark
+unfolding is_punctuator
+punctuator_in_table u some h = not_missed (take (first_piece u).1 u) punctuators refl (punctuator_first u some h).punctuator
 
 -- ---- all pieces of a text
 

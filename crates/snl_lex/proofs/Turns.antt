@@ -1,4 +1,4 @@
--- Runs and closing marks, counted in turn.
+-- Runs and closing pairs, counted in turn.
 use Rattle.std.proofs.lemmas.List.{drop_all, drop_more}
 use Rattle.std.proofs.Common.{◌≡◌, ℕ, suc, ◌+◌, ◌<◌, ◌≤◌, List, [], ◌∷◌, length, take, drop, get_or, Bool, true, false, ◌&&◌, cond, eqb, Option, Some, None, refl, ap, ◌∙◌, arith}
 use Rattle.std.specs.Option.{option_map}
@@ -26,18 +26,8 @@ pub shift_more : (k : ℕ) (o : Option ℕ) → shifted k (option_map suc o) ≡
 shift_more k None = refl
 shift_more k (Some n) = ap Some (omega arith)
 
-pub shift_none : (o : Option ℕ) → o ≡ shifted 0 o
-shift_none None = refl
-shift_none (Some n) = ap Some (omega arith)
-
 begins_next : (b : ℕ) (xs : List ℕ) (k : ℕ) → k < length xs → begins b (drop k xs) ≡ eqb (get_or xs k 0) b
 begins_next b xs k lt = ap (begins b) (drop_more xs k 0 lt)
-
-pub close_here : (a b : ℕ) (xs : List ℕ) (k : ℕ) → k + 1 < length xs → eqb (get_or xs k 0) a ≡ true → eqb (get_or xs (k + 1) 0) b ≡ true → close_of a b (drop k xs) ≡ Some 2
-close_here a b xs k lt h g =
-    ap (close_of a b) (drop_more xs k 0 (omega arith))
-    ∙ ap (λ (c : Bool). cond c (Some 2) (option_map suc (close_of a b (drop (k + 1) xs))))
-    (ap (λ (c : Bool). c && begins b (drop (k + 1) xs)) h ∙ (begins_next b xs (k + 1) lt ∙ g))
 
 pub close_on : (a b : ℕ) (xs : List ℕ) (k : ℕ) → k + 1 < length xs → (eqb (get_or xs k 0) a && eqb (get_or xs (k + 1) 0) b) ≡ false
     → close_of a b (drop k xs) ≡ option_map suc (close_of a b (drop (k + 1) xs))

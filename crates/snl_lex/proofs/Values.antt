@@ -1,5 +1,5 @@
 -- What digits are worth, digit by digit.
-use Rattle.std.proofs.Common.{◌≡◌, ℕ, ◌+◌, ◌*◌, ◌<◌, ◌≤◌, List, [], ◌∷◌, length, drop, get_or, Some, None, ap, arith}
+use Rattle.std.proofs.Common.{◌≡◌, ℕ, ◌+◌, ◌*◌, ◌<◌, ◌≤◌, List, [], ◌∷◌, length, drop, get_or, None, ap, arith}
 use Rattle.std.proofs.lemmas.List.{drop_more}
 use Rattle.std.proofs.lemmas.Bool.Decides.{nat_tests}
 use Rattle.snl_lex.specs.declared.alphabet.NumberBase.{NumberBase}
@@ -21,6 +21,3 @@ value_grows base v (d ∷ ds) = omega (arith, times base v (digit_value d), valu
 
 pub too_large : (v : ℕ) → 18446744073709551616 ≤ v → checked_value v ≡ None
 too_large v h = grind (arith, nat_tests)
-
-pub small_enough : (v : ℕ) → v < 18446744073709551616 → checked_value v ≡ Some v
-small_enough v h = grind (arith, nat_tests)

@@ -1,5 +1,5 @@
 -- What single bytes are, and what a piece begins with.
--- In: a byte, or the bytes of a mark. Out: tests, and what the first byte says of a piece.
+-- In: a byte, or the bytes of a punctuator. Out: tests, and what the first byte says of a piece.
 use Rattle.std.specs.Prelude.{ℕ, Bool, not, ◌&&◌, ◌||◌, ◌==◌, nat_le, List, [], ◌∷◌, if◌then◌else◌}
 use Rattle.snl_lex.specs.declared.alphabet.NumberBase.{NumberBase}
 use Rattle.snl_lex.specs.declared.alphabet.NumberBase.TheVariants.{Octal, Decimal, Hexadecimal}
@@ -38,13 +38,13 @@ is_hexadecimal_digit b = is_digit b || (nat_le 97 b && nat_le b 102) || (nat_le 
 unfoldable pub is_in_line : ℕ → Bool
 is_in_line b = not (b == 10)
 
--- The bytes spell one of the marks, the punctuators of the table.
-unfoldable pub is_mark : List ℕ → Bool
-is_mark bytes = has punctuators bytes
+-- The bytes spell one of the punctuators of the table.
+unfoldable pub is_punctuator : List ℕ → Bool
+is_punctuator bytes = has punctuators bytes
 
--- A byte that begins no class: neither white, nor a letter, a digit, a quote, `#` or a mark.
+-- A byte that begins no class: neither white, nor a letter, a digit, a quote, `#` or a punctuator.
 unfoldable pub is_stray : ℕ → Bool
-is_stray b = not (is_white b || is_letter b || is_digit b || b == 34 || b == 39 || b == 35 || is_mark (b ∷ []))
+is_stray b = not (is_white b || is_letter b || is_digit b || b == 34 || b == 39 || b == 35 || is_punctuator (b ∷ []))
 
 -- What the first byte says of a piece.
 unfoldable pub start_of : ℕ → Start
@@ -58,7 +58,7 @@ start_of b =
     else if b == 37 then Percent
     else if b == 34 then Quote
     else if b == 39 then Apostrophe
-    else if is_mark (b ∷ []) then Sign
+    else if is_punctuator (b ∷ []) then Sign
     else Stray
 
 -- A digit or a dot.

@@ -1,7 +1,8 @@
 -- The lines of a text as lists: its line ends, and the markers that set a line.
 use Rattle.std.specs.Prelude.{◌≡◌, ℕ, suc, ◌+◌, ◌-◌, ◌^◌, ◌<◌, ◌==◌, ◌&&◌, Bool, is_some, List, [], ◌∷◌, ◌++◌, take, drop, map, filter, nat_lt, count_by, slice_index, Option, Some, None, IfSome, unwrap_or, if◌then◌else◌}
 use Rattle.std.specs.Option.{option_map}
-use Rattle.snl_lex.specs.declared.line_list.Marker.{Marker}
+use Rattle.snl_lex.specs.declared.line_list.LineList.{LineList}
+use Rattle.snl_lex.specs.declared.marker_list.Marker.{Marker}
 use Rattle.snl_lex.specs.declared.piece.Piece.{Piece}
 use Rattle.snl_lex.specs.Lines.{file_by, is_marker, last_of, marker_file, marker_number, part_of}
 use Rattle.snl_lex.specs.Pieces.{bytes_at, piece_end, pieces_of}
@@ -43,16 +44,16 @@ abbrev pub naming_markers : List ℕ → List Marker
 naming_markers text = marked (names text) text (pieces_of text)
 
 -- The lists are those of the text's lines.
-pub record IsLineList (text : List ℕ) (ends : List ℕ) (markers : List Marker) (naming : List Marker) : Type 0 where
-  pub at_ends : ends ≡ line_ends text
-  pub at_markers : markers ≡ setting_markers text
-  pub at_naming : naming ≡ naming_markers text
+pub record IsLineList (text : List ℕ) (lines : LineList) : Type 0 where
+  pub at_ends : lines.ends.items ≡ line_ends text
+  pub at_markers : lines.markers.items ≡ setting_markers text
+  pub at_naming : lines.naming.items ≡ naming_markers text
 
 -- The lists are those of a part of the text, which these pieces are.
-pub record IsLinePart (text : List ℕ) (from : ℕ) (to : ℕ) (pieces : List Piece) (ends : List ℕ) (markers : List Marker) (naming : List Marker) : Type 0 where
-  pub at_ends : ends ≡ line_ends_in text from to
-  pub at_markers : markers ≡ marked (numbers text) text pieces
-  pub at_naming : naming ≡ marked (names text) text pieces
+pub record IsLinePart (text : List ℕ) (from to : ℕ) (pieces : List Piece) (lines : LineList) : Type 0 where
+  pub at_ends : lines.ends.items ≡ line_ends_in text from to
+  pub at_markers : lines.markers.items ≡ marked (numbers text) text pieces
+  pub at_naming : lines.naming.items ≡ marked (names text) text pieces
 
 -- Where the line begins before which so many lines end.
 abbrev pub line_begin : List ℕ → ℕ → ℕ

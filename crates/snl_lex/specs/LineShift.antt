@@ -2,7 +2,7 @@
 -- numbers. The markers after it move with their bytes, so from there on each line keeps its number.
 use Rattle.std.specs.Prelude.{◌≡◌, ℕ, ◌+◌, ◌-◌, ◌^◌, ◌<◌, ◌≤◌, ◌⊎◌, ◌||◌, All, if◌then◌else◌, List, drop, length, map, min, nat_le, nat_lt, option_map, slice_get, slice_index, take, Option, Some, None}
 use Rattle.snl_cut.specs.Cut.{IsEdit}
-use Rattle.snl_lex.specs.declared.line_list.Marker.{Marker}
+use Rattle.snl_lex.specs.declared.marker_list.Marker.{Marker}
 use Rattle.snl_lex.specs.declared.line_shift.LineShift.{LineShift}
 use Rattle.snl_lex.specs.declared.lines.Line.{Line}
 use Rattle.snl_lex.specs.declared.shift.Shift.{Shift}

@@ -15,7 +15,7 @@ use Rattle.snl_lex.specs.Alphabet.{is_white, is_digit, is_word_byte, is_in_line,
 use Rattle.snl_lex.specs.Runs.{run_of, run_by, begins, close_of}
 use Rattle.snl_lex.specs.Kinds.{has, is_word, punctuators_of_2, punctuators_of_3}
 use Rattle.snl_lex.specs.Numbers.{number_joins, number_class}
-use Rattle.snl_lex.specs.Pieces.{run_piece, name_piece, number_piece, closed_by, closed_piece, string_joins, string_piece, longest_mark, mark_piece, slash_piece, percent_piece, piece_by, first_piece, piece_length}
+use Rattle.snl_lex.specs.Pieces.{run_piece, name_piece, number_piece, closed_by, closed_piece, string_joins, string_piece, longest_punctuator, punctuator_piece, slash_piece, percent_piece, piece_by, first_piece, piece_length}
 
 -- Pieces of texts that begin with `x`: two that agree after it, so far as one piece reaches and one
 -- byte further, have equal first pieces.
@@ -136,7 +136,7 @@ choice_inside test f g x wf wg xs =
       | false ↦ wg xs
     ]
 
--- Up to a closing mark.
+-- Up to a closing pair.
 begins_some : (b : ℕ) (xs : List ℕ) → begins b xs ≡ true → 1 ≤ length xs
 begins_some b [] h = cc
 begins_some b (x ∷ xs) h = omega arith
@@ -256,7 +256,7 @@ string_inside kind quote x pos xs =
     let m : ℕ = run_by (string_joins quote) [] xs in
     string_inside_at kind quote m xs (eqb (slice_index (x ∷ xs) (1 + m)) quote) (run_by_inside (string_joins quote) [] xs) (quote_there quote x m xs pos)
 
--- Marks.
+-- Punctuators.
 abbrev two : ℕ → ℕ → Bool
 two a b = has punctuators_of_2 (a ∷ b ∷ [])
 
@@ -266,37 +266,37 @@ three a b c = has punctuators_of_3 (a ∷ b ∷ c ∷ [])
 abbrev longest : ℕ → ℕ → ℕ → ℕ
 longest a b c = cond (three a b c) 3 (cond (two a b) 2 1)
 
--- The first two bytes of a mark of three are a mark.
+-- The first two bytes of a punctuator of three are a punctuator.
 three_needs_two : (a b c : ℕ) → three a b c ≡ true → two a b ≡ true
 three_needs_two a b c h = grind (arith, nat_tests)
 
 abbrev sized : Bool → Bool → ℕ
 sized p q = cond p 3 (cond q 2 1)
 
-marks_same_at : (a b c d : ℕ) (p q r : Bool) → three a b c ≡ p → two a b ≡ q → three a b d ≡ r → (2 ≤ sized p q → d ≡ c) → sized r q ≡ sized p q
-marks_same_at a b c d true q true hp hq hr same = refl
-marks_same_at a b c d true q false hp hq hr same = let e : three a b d ≡ three a b c = ap (three a b) (same (omega arith)) in cc
-marks_same_at a b c d false true true hp hq hr same = let e : three a b d ≡ three a b c = ap (three a b) (same (omega arith)) in cc
-marks_same_at a b c d false true false hp hq hr same = refl
-marks_same_at a b c d false false true hp hq hr same = let e : two a b ≡ true = three_needs_two a b d hr in cc
-marks_same_at a b c d false false false hp hq hr same = refl
+punctuators_same_at : (a b c d : ℕ) (p q r : Bool) → three a b c ≡ p → two a b ≡ q → three a b d ≡ r → (2 ≤ sized p q → d ≡ c) → sized r q ≡ sized p q
+punctuators_same_at a b c d true q true hp hq hr same = refl
+punctuators_same_at a b c d true q false hp hq hr same = let e : three a b d ≡ three a b c = ap (three a b) (same (omega arith)) in cc
+punctuators_same_at a b c d false true true hp hq hr same = let e : three a b d ≡ three a b c = ap (three a b) (same (omega arith)) in cc
+punctuators_same_at a b c d false true false hp hq hr same = refl
+punctuators_same_at a b c d false false true hp hq hr same = let e : two a b ≡ true = three_needs_two a b d hr in cc
+punctuators_same_at a b c d false false false hp hq hr same = refl
 
-marks_same : (a b c d : ℕ) → (2 ≤ longest a b c → d ≡ c) → longest a b d ≡ longest a b c
-marks_same a b c d same = marks_same_at a b c d (three a b c) (two a b) (three a b d) refl refl refl same
+punctuators_same : (a b c d : ℕ) → (2 ≤ longest a b c → d ≡ c) → longest a b d ≡ longest a b c
+punctuators_same a b c d same = punctuators_same_at a b c d (three a b c) (two a b) (three a b d) refl refl refl same
 
 longest_least : (a b c : ℕ) → 1 ≤ longest a b c
 longest_least a b c =
     elim (three a b c) as (λ p. 1 ≤ cond p 3 (cond (two a b) 2 1)) [ true ↦ omega arith | false ↦ elim (two a b) as (λ q. 1 ≤ cond q 2 1) [ true ↦ omega arith | false ↦ omega arith ] ]
 
-mark_alone : (x : ℕ) → IsAlone x mark_piece
-unfolding longest_mark
-mark_alone x xs ys h =
+punctuator_alone : (x : ℕ) → IsAlone x punctuator_piece
+unfolding longest_punctuator
+punctuator_alone x xs ys h =
     let a : ℕ = get_or xs 0 0 in
     let b : ℕ = get_or xs 1 0 in
     let n : ℕ = longest x a b in
     let second : get_or ys 0 0 ≡ a = same_at n 0 xs ys (omega (arith, longest_least x a b)) h in
     let third : 2 ≤ n → get_or ys 1 0 ≡ b = λ le. same_at n 1 xs ys (omega arith) h in
-    let lengths : longest x (get_or ys 0 0) (get_or ys 1 0) ≡ n = ap (λ (m : ℕ). longest x m (get_or ys 1 0)) second ∙ marks_same x a b (get_or ys 1 0) third in
+    let lengths : longest x (get_or ys 0 0) (get_or ys 1 0) ≡ n = ap (λ (m : ℕ). longest x m (get_or ys 1 0)) second ∙ punctuators_same x a b (get_or ys 1 0) third in
     ap (λ (m : ℕ). (Punct, m)) lengths
 
 no_three : (a b c : ℕ) → three a b c ≡ true → (0 < b) × (0 < c)
@@ -308,64 +308,64 @@ no_two a b h = grind (arith, nat_tests)
 there : (xs : List ℕ) (k : ℕ) → 0 < get_or xs k 0 → k < length xs
 there xs k h = elim (split k (length xs)) [ inl less ↦ less | inr more ↦ absurd (omega (arith, get_or_past xs k 0 more)) ]
 
-mark_inside_at : (x : ℕ) (xs : List ℕ) (p q : Bool) → three x (get_or xs 0 0) (get_or xs 1 0) ≡ p → two x (get_or xs 0 0) ≡ q → (1 ≤ cond p 3 (cond q 2 1)) × (cond p 3 (cond q 2 1) ≤ suc (length xs))
-mark_inside_at x xs true q hp hq = (omega arith, omega (arith, there xs 1 (no_three x (get_or xs 0 0) (get_or xs 1 0) hp).1))
-mark_inside_at x xs false true hp hq = (omega arith, omega (arith, there xs 0 (no_two x (get_or xs 0 0) hq)))
-mark_inside_at x xs false false hp hq = (omega arith, omega arith)
+punctuator_inside_at : (x : ℕ) (xs : List ℕ) (p q : Bool) → three x (get_or xs 0 0) (get_or xs 1 0) ≡ p → two x (get_or xs 0 0) ≡ q → (1 ≤ cond p 3 (cond q 2 1)) × (cond p 3 (cond q 2 1) ≤ suc (length xs))
+punctuator_inside_at x xs true q hp hq = (omega arith, omega (arith, there xs 1 (no_three x (get_or xs 0 0) (get_or xs 1 0) hp).1))
+punctuator_inside_at x xs false true hp hq = (omega arith, omega (arith, there xs 0 (no_two x (get_or xs 0 0) hq)))
+punctuator_inside_at x xs false false hp hq = (omega arith, omega arith)
 
-mark_inside : (x : ℕ) → IsInside x mark_piece
-unfolding longest_mark
-mark_inside x xs = mark_inside_at x xs (three x (get_or xs 0 0) (get_or xs 1 0)) (two x (get_or xs 0 0)) refl refl
+punctuator_inside : (x : ℕ) → IsInside x punctuator_piece
+unfolding longest_punctuator
+punctuator_inside x xs = punctuator_inside_at x xs (three x (get_or xs 0 0) (get_or xs 1 0)) (two x (get_or xs 0 0)) refl refl
 
 -- All pieces.
 slash_alone : (x : ℕ) → IsAlone x slash_piece
 slash_alone x =
     let closed = closed_alone Comment 42 47 x in
-    let rest = choice_alone (λ b. b == 42) (closed_piece Comment 42 47) mark_piece x closed (mark_alone x) (closed_inside Comment 42 47 x) (mark_inside x) in
-    choice_alone (λ b. b == 47) (run_piece Comment is_in_line) (by_second (λ b. b == 42) (closed_piece Comment 42 47) mark_piece) x (run_alone Comment is_in_line x) rest (run_inside Comment is_in_line x)
-    (choice_inside (λ b. b == 42) (closed_piece Comment 42 47) mark_piece x (closed_inside Comment 42 47 x) (mark_inside x))
+    let rest = choice_alone (λ b. b == 42) (closed_piece Comment 42 47) punctuator_piece x closed (punctuator_alone x) (closed_inside Comment 42 47 x) (punctuator_inside x) in
+    choice_alone (λ b. b == 47) (run_piece Comment is_in_line) (by_second (λ b. b == 42) (closed_piece Comment 42 47) punctuator_piece) x (run_alone Comment is_in_line x) rest (run_inside Comment is_in_line x)
+    (choice_inside (λ b. b == 42) (closed_piece Comment 42 47) punctuator_piece x (closed_inside Comment 42 47 x) (punctuator_inside x))
 
 slash_inside : (x : ℕ) → IsInside x slash_piece
 slash_inside x =
-    choice_inside (λ b. b == 47) (run_piece Comment is_in_line) (by_second (λ b. b == 42) (closed_piece Comment 42 47) mark_piece) x (run_inside Comment is_in_line x)
-    (choice_inside (λ b. b == 42) (closed_piece Comment 42 47) mark_piece x (closed_inside Comment 42 47 x) (mark_inside x))
+    choice_inside (λ b. b == 47) (run_piece Comment is_in_line) (by_second (λ b. b == 42) (closed_piece Comment 42 47) punctuator_piece) x (run_inside Comment is_in_line x)
+    (choice_inside (λ b. b == 42) (closed_piece Comment 42 47) punctuator_piece x (closed_inside Comment 42 47 x) (punctuator_inside x))
 
 percent_alone : (x : ℕ) → IsAlone x percent_piece
 percent_alone x =
     let closed = closed_alone CCode 125 37 x in
-    let rest = choice_alone (λ b. b == 123) (closed_piece CCode 125 37) mark_piece x closed (mark_alone x) (closed_inside CCode 125 37 x) (mark_inside x) in
-    choice_alone (λ b. b == 37) (run_piece CCode is_in_line) (by_second (λ b. b == 123) (closed_piece CCode 125 37) mark_piece) x (run_alone CCode is_in_line x) rest (run_inside CCode is_in_line x)
-    (choice_inside (λ b. b == 123) (closed_piece CCode 125 37) mark_piece x (closed_inside CCode 125 37 x) (mark_inside x))
+    let rest = choice_alone (λ b. b == 123) (closed_piece CCode 125 37) punctuator_piece x closed (punctuator_alone x) (closed_inside CCode 125 37 x) (punctuator_inside x) in
+    choice_alone (λ b. b == 37) (run_piece CCode is_in_line) (by_second (λ b. b == 123) (closed_piece CCode 125 37) punctuator_piece) x (run_alone CCode is_in_line x) rest (run_inside CCode is_in_line x)
+    (choice_inside (λ b. b == 123) (closed_piece CCode 125 37) punctuator_piece x (closed_inside CCode 125 37 x) (punctuator_inside x))
 
 percent_inside : (x : ℕ) → IsInside x percent_piece
 percent_inside x =
-    choice_inside (λ b. b == 37) (run_piece CCode is_in_line) (by_second (λ b. b == 123) (closed_piece CCode 125 37) mark_piece) x (run_inside CCode is_in_line x)
-    (choice_inside (λ b. b == 123) (closed_piece CCode 125 37) mark_piece x (closed_inside CCode 125 37 x) (mark_inside x))
+    choice_inside (λ b. b == 37) (run_piece CCode is_in_line) (by_second (λ b. b == 123) (closed_piece CCode 125 37) punctuator_piece) x (run_inside CCode is_in_line x)
+    (choice_inside (λ b. b == 123) (closed_piece CCode 125 37) punctuator_piece x (closed_inside CCode 125 37 x) (punctuator_inside x))
 
 by_alone : (s : Start) (x : ℕ) → IsAlone x (piece_by s)
 by_alone Blank x = run_alone White is_white x
 by_alone Letter x = name_alone x
 by_alone Digit x = number_alone x
-by_alone Dot x = choice_alone is_digit number_piece mark_piece x (number_alone x) (mark_alone x) (number_inside x) (mark_inside x)
+by_alone Dot x = choice_alone is_digit number_piece punctuator_piece x (number_alone x) (punctuator_alone x) (number_inside x) (punctuator_inside x)
 by_alone Hash x = run_alone Marker is_in_line x
 by_alone Slash x = slash_alone x
 by_alone Percent x = percent_alone x
 by_alone Quote x = string_alone Text 34 x
 by_alone Apostrophe x = string_alone CharLit 39 x
-by_alone Sign x = mark_alone x
+by_alone Sign x = punctuator_alone x
 by_alone Stray x = run_alone Bad is_stray x
 
 by_inside : (s : Start) (x : ℕ) → IsInside x (piece_by s)
 by_inside Blank x = run_inside White is_white x
 by_inside Letter x = name_inside x
 by_inside Digit x = number_inside x
-by_inside Dot x = choice_inside is_digit number_piece mark_piece x (number_inside x) (mark_inside x)
+by_inside Dot x = choice_inside is_digit number_piece punctuator_piece x (number_inside x) (punctuator_inside x)
 by_inside Hash x = run_inside Marker is_in_line x
 by_inside Slash x = slash_inside x
 by_inside Percent x = percent_inside x
 by_inside Quote x = string_inside Text 34 x (omega arith)
 by_inside Apostrophe x = string_inside CharLit 39 x (omega arith)
-by_inside Sign x = mark_inside x
+by_inside Sign x = punctuator_inside x
 by_inside Stray x = run_inside Bad is_stray x
 
 pub piece_front : IsFront piece_length

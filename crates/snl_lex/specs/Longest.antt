@@ -1,10 +1,10 @@
--- What the first piece of a text reaches: the longest run, the first closing mark, the longest
--- mark.
+-- What the first piece of a text reaches: the longest run, the first closing pair, the longest
+-- punctuator.
 use Rattle.std.specs.Prelude.{◌≡◌, ℕ, zero, suc, ◌+◌, ◌-◌, ◌<◌, ◌≤◌, ◌⊎◌, ◌==◌, Bool, true, false, not, ◌&&◌, ◌||◌, List, [], ◌∷◌, length, slice_index, take, drop}
 use Rattle.std.specs.List.{list_all}
 use Rattle.snl_lex.specs.declared.piece.Class.{Class}
 use Rattle.snl_lex.specs.declared.piece.Class.TheVariants.{Bad}
-use Rattle.snl_lex.specs.Alphabet.{is_mark, is_plain, is_word_byte}
+use Rattle.snl_lex.specs.Alphabet.{is_punctuator, is_plain, is_word_byte}
 use Rattle.snl_lex.specs.Numbers.{is_power, is_sign}
 
 -- The longest run of bytes of a set that the text begins with.
@@ -13,11 +13,11 @@ pub record IsLongestRun (passes : ℕ → Bool) (text : List ℕ) (len : ℕ) : 
   pub run : list_all passes (take len text) ≡ true
   pub longest : (n : ℕ) → n ≤ length text → list_all passes (take n text) ≡ true → n ≤ len
 
--- The longest of the marks that the text begins with.
-pub record IsLongestMark (text : List ℕ) (len : ℕ) : Type 0 where
+-- The longest of the punctuators that the text begins with.
+pub record IsLongestPunctuator (text : List ℕ) (len : ℕ) : Type 0 where
   pub inside : len ≤ length text
-  pub mark : is_mark (take len text) ≡ true
-  pub longest : (n : ℕ) → n ≤ length text → is_mark (take n text) ≡ true → n ≤ len
+  pub punctuator : is_punctuator (take len text) ≡ true
+  pub longest : (n : ℕ) → n ≤ length text → is_punctuator (take n text) ≡ true → n ≤ len
 
 -- The two bytes are at a place.
 abbrev pub StandAt : ℕ → ℕ → List ℕ → ℕ → Type 0

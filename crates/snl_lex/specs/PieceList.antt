@@ -57,13 +57,3 @@ pub record IsRelexed (old : List ℕ) (text : List ℕ) (start : ℕ) (old_stop 
   pub ends : made_ends ≡ map piece_end (relexed_pieces old front made_ends made_kinds)
   pub kinds : made_kinds ≡ map (λ p. p.kind) (relexed_pieces old front made_ends made_kinds)
   pub pieces : pieces_of text ≡ (take front (pieces_of old) ++ relexed_pieces old front made_ends made_kinds) ++ map (moved_piece old_stop new_stop) (last_pieces old back)
-
--- An edit keeps so many pieces at the front and, from a place of the old text on, so many at the
--- back. It makes those between: their ends and classes are listed.
-pub record IsChange (old : List ℕ) (text : List ℕ) (start : ℕ) (old_stop : ℕ) (new_stop : ℕ) (front : ℕ) (made : List Piece) (back : ℕ) (kept_from : ℕ) (made_ends : List ℕ) (made_kinds : List Class) : Type 0 where
-  pub order : front + back ≤ length (pieces_of old)
-  pub recut : IsRecut piece_length old (piece_ends old) text start old_stop new_stop front (map piece_end made) back
-  pub pieces : pieces_of text ≡ (take front (pieces_of old) ++ made) ++ map (moved_piece old_stop new_stop) (last_pieces old back)
-  pub from : kept_from ≡ last_end 0 (take (length (piece_ends old) - back) (piece_ends old))
-  pub ends : made_ends ≡ map piece_end made
-  pub kinds : made_kinds ≡ map (λ p. p.kind) made

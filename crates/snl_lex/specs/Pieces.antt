@@ -29,7 +29,7 @@ number_piece u =
     let count = 1 + run_by number_joins (take 1 u) (drop 1 u) in
     (number_class (take count u), count)
 
--- What ends with a closing mark has two bytes and those up to the mark; without one it is the whole
+-- What ends with a closing pair has two bytes and those up to the pair; without one it is the whole
 -- rest, which is faulty.
 abbrev pub closed_by : Class → ℕ → Option ℕ → Class × ℕ
 closed_by kind total None = (Bad, total)
@@ -56,35 +56,35 @@ string_piece kind quote u =
     let count = 1 + run_by (string_joins quote) [] (drop 1 u) in
     if slice_index u count == quote then (kind, 1 + count) else (Bad, count)
 
--- The longest of the marks: three bytes, two, or the first byte, which is a mark. (A byte that
--- isn't there counts as 0, which is in no mark.)
-unfoldable pub longest_mark : List ℕ → ℕ
-longest_mark u =
+-- The longest of the punctuators: three bytes, two, or the first byte, which is a punctuator. (A byte that
+-- isn't there counts as 0, which is in no punctuator.)
+unfoldable pub longest_punctuator : List ℕ → ℕ
+longest_punctuator u =
     let a = slice_index u 0 in
     let b = slice_index u 1 in
     let c = slice_index u 2 in
     if has punctuators_of_3 (a ∷ b ∷ c ∷ []) then 3 else (if has punctuators_of_2 (a ∷ b ∷ []) then 2 else 1)
 
-abbrev pub mark_piece : List ℕ → Class × ℕ
-mark_piece u = (Punct, longest_mark u)
+abbrev pub punctuator_piece : List ℕ → Class × ℕ
+punctuator_piece u = (Punct, longest_punctuator u)
 
--- A slash: a comment, or a mark.
+-- A slash: a comment, or a punctuator.
 abbrev pub slash_piece : List ℕ → Class × ℕ
 slash_piece u =
     if slice_index u 1 == 47 then run_piece Comment is_in_line u
     else if slice_index u 1 == 42 then closed_piece Comment 42 47 u
-    else mark_piece u
+    else punctuator_piece u
 
--- A percent sign: embedded C, or a mark.
+-- A percent sign: embedded C, or a punctuator.
 abbrev pub percent_piece : List ℕ → Class × ℕ
 percent_piece u =
     if slice_index u 1 == 37 then run_piece CCode is_in_line u
     else if slice_index u 1 == 123 then closed_piece CCode 125 37 u
-    else mark_piece u
+    else punctuator_piece u
 
--- A dot: a number, if a digit follows it, or a mark.
+-- A dot: a number, if a digit follows it, or a punctuator.
 abbrev pub dot_piece : List ℕ → Class × ℕ
-dot_piece u = if is_digit (slice_index u 1) then number_piece u else mark_piece u
+dot_piece u = if is_digit (slice_index u 1) then number_piece u else punctuator_piece u
 
 -- The class and length of the first piece, by what it begins with.
 abbrev pub piece_by : Start → List ℕ → Class × ℕ
@@ -97,7 +97,7 @@ piece_by Slash u = slash_piece u
 piece_by Percent u = percent_piece u
 piece_by Quote u = string_piece Text 34 u
 piece_by Apostrophe u = string_piece CharLit 39 u
-piece_by Sign u = mark_piece u
+piece_by Sign u = punctuator_piece u
 piece_by Stray u = run_piece Bad is_stray u
 
 -- The class and length of the first piece of a text that isn't empty.
@@ -149,7 +149,7 @@ tokens_of text = filter is_token (pieces_of text)
 abbrev pub bytes_at : List ℕ → Piece → List ℕ
 bytes_at text p = take p.len (drop p.start text)
 
--- A byte that a piece of the class may have: comments, C code, strings, marks and faulty pieces may
+-- A byte that a piece of the class may have: comments, C code, strings, punctuators and faulty pieces may
 -- have any.
 abbrev pub class_byte : Class → ℕ → Bool
 class_byte White b = is_white b

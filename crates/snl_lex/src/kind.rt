@@ -1,4 +1,4 @@
-//! What a token is to the grammar: a leaf's class, a reserved word, or a mark.
+//! What a token is to the grammar: a leaf's class, a reserved word, or a punctuator.
 
 /// What a token is to the grammar. `syncQ` is a word of its own, read as `syncq`.
 #[derive(Clone, Copy, Debug, PartialEq, Eq)]
@@ -55,7 +55,7 @@ pub enum Kind {
     Struct,
     Union,
     Typename,
-    // marks
+    // punctuators
     OpenBrace,
     CloseBrace,
     OpenParen,

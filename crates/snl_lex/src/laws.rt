@@ -5,7 +5,7 @@ ghost use Rattle.snl_lex.specs.PieceList.{last_pieces, listed_pieces, piece_ends
 ghost use Rattle.snl_lex.specs.Pieces.{HasOwnBytes, LiesIn, bytes_at, first_piece, is_token, moved_piece, piece_end, piece_length, pieces_of};
 ghost use Rattle.snl_lex.specs.Alphabet.{is_digit, is_in_line, is_letter, is_stray, is_white, is_word_byte};
 ghost use Rattle.snl_lex.specs.Classes.{HasItsClass};
-ghost use Rattle.snl_lex.specs.Longest.{ClosesFirst, IsLongestMark, IsLongestNumber, IsLongestRun, IsRunOf, IsString};
+ghost use Rattle.snl_lex.specs.Longest.{ClosesFirst, IsLongestPunctuator, IsLongestNumber, IsLongestRun, IsRunOf, IsString};
 ghost use Rattle.snl_lex.specs.Numbers.{number_class};
 ghost use Rattle.snl_lex.specs.Kinds.{is_word, kind_of, look_up, punctuators, words};
 ghost use Rattle.std.specs.Prelude.{◌≡◌, ℕ, ◌<◌, ◌⊎◌, true, List, All, codes, if◌then◌else◌, length, map, slice_index, take};
@@ -48,9 +48,9 @@ pub fn kept_as_spelled()
 
 /// What the first piece of a text reaches, by the bytes that the text begins with: white space, a
 /// name or word, a marker, a comment or C code of one line and stray bytes are the longest run of
-/// their set; a comment or C code with a closing mark ends with the first one; a string ends with
+/// their set; a comment or C code with a closing pair ends with the first one; a string ends with
 /// the first quote that no backslash takes, unless a line ends before it; a number is its longest
-/// number run, and a mark the longest of the marks that the text begins with.
+/// number run, and a punctuator the longest of the punctuators that the text begins with.
 pub fn first_piece_reaches()
     ensures white { (text : List ℕ) → 0 < length text → is_white (slice_index text 0) ≡ true → IsRunOf White is_white text (first_piece text) }
     ensures name { (text : List ℕ) → 0 < length text → is_letter (slice_index text 0) ≡ true
@@ -62,7 +62,7 @@ pub fn first_piece_reaches()
     ensures code { (text : List ℕ) → take 2 text ≡ codes "%{" → ClosesFirst CCode 125 37 text (first_piece text) }
     ensures number { (text : List ℕ) → 0 < length text → (is_digit (slice_index text 0) ≡ true) ⊎ ((slice_index text 0 ≡ 46) × (is_digit (slice_index text 1) ≡ true))
         → ((first_piece text).0 ≡ number_class (take (first_piece text).1 text)) × IsLongestNumber text (first_piece text).1 }
-    ensures mark { (text : List ℕ) → 0 < length text → (first_piece text).0 ≡ Punct → IsLongestMark text (first_piece text).1 }
+    ensures punctuator { (text : List ℕ) → 0 < length text → (first_piece text).0 ≡ Punct → IsLongestPunctuator text (first_piece text).1 }
     ensures string { (text : List ℕ) → slice_index text 0 ≡ 34 → IsString Text 34 text (first_piece text) }
     ensures character { (text : List ℕ) → slice_index text 0 ≡ 39 → IsString CharLit 39 text (first_piece text) }
     ensures stray { (text : List ℕ) → 0 < length text → is_stray (slice_index text 0) ≡ true → IsRunOf Bad is_stray text (first_piece text) }

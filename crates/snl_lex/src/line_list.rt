@@ -3,31 +3,23 @@
 //! In: a text and its pieces; after an edit both texts. Out: the lists, and by them the line of an
 //! offset.
 
-ghost use Rattle.snl_lex.specs.LineList.{IsLineList, IsLinePart, IsShort, last_before, line_begin, line_ends, line_ends_in, marked, marker_of, moved_marker, names, number_after, numbers, replaced_markers};
-ghost use Rattle.snl_lex.specs.Lines.{line_at, marker_number};
-ghost use Rattle.snl_lex.specs.Made.{made_pieces};
-ghost use Rattle.snl_lex.specs.PieceList.{IsChange, listed_pieces};
-ghost use Rattle.snl_lex.specs.Pieces.{LiesIn, bytes_at, pieces_of};
+ghost use Rattle.snl_lex.specs.Edit.{IsChange, edit_of, made_pieces};
+ghost use Rattle.snl_lex.specs.LineList.{IsLineList, IsLinePart, last_before, line_begin, line_ends, line_ends_in, number_after};
+ghost use Rattle.snl_lex.specs.Lines.{line_at};
+ghost use Rattle.snl_lex.specs.Pieces.{pieces_of};
 ghost use Rattle.snl_lists.specs.Moves.{moved, replaced_and_moved};
-ghost use Rattle.std.specs.List.Sorted.{IsNonDecreasing, IsNonDecreasingBy};
-ghost use Rattle.std.specs.Prelude.{◌≡◌, ℕ, ◌+◌, ◌-◌, ◌^◌, ◌<◌, ◌≤◌, ◌++◌, [], ◌∷◌, All, IfOk, IfSome, OnOk, None, Some, count_by, drop, if◌then◌else◌, is_some, length, map, take, nat_lt, slice_index, vec_capacity, vec_len};
+ghost use Rattle.std.specs.List.Sorted.{IsNonDecreasing};
+ghost use Rattle.std.specs.Prelude.{◌≡◌, ℕ, ◌+◌, ◌-◌, ◌^◌, ◌<◌, ◌≤◌, ◌++◌, IfOk, OnOk, None, Some, count_by, drop, length, take, nat_lt, slice_index, vec_capacity, vec_len};
 
-use crate::lines::{Line, marker_file, marker_number};
-use crate::piece::{Class, Piece};
-use crate::piece_list::{PieceChange, TextEdit};
+use crate::edit::TextEdit;
+use crate::lines::Line;
+use crate::marker_list::{Marker, last_before, list_made, list_marker, replace_markers};
+use crate::piece::Piece;
+use crate::piece_list::PieceChange;
 use memchr::memchr_iter;
 use snl_cut::OutOfMemory;
 use snl_lists::replace;
 use std::alloc::Global;
-
-/// A line marker: where it ends, the number of the line after it, and first byte and length of the
-/// name of its file, if it has one.
-#[derive(Clone, Copy, Debug, PartialEq, Eq, Drop)]
-pub struct Marker {
-    pub end: usize,
-    pub number: u32,
-    pub file: Option<(usize, usize)>,
-}
 
 /// The offsets of the line ends of a text or of a part of it, the line markers among its pieces
 /// that set a line, and those of them that name a file.
@@ -45,38 +37,6 @@ fn places_before(places: &[usize], place: usize) -> usize
     ensures inside { result ≤ length places.now }
 {
     places.partition_point(|end| *end < place)
-}
-
-// Moves the markers from one number on.
-fn move_from(markers: &mut Vec<Marker>, from: usize, old_stop: usize, new_stop: usize)
-    requires from { from ≤ vec_len markers.old }
-    requires short { All IsShort (drop from markers.old.items) }
-    requires stop { new_stop < 2 ^ 32 }
-    ensures { markers.new.items ≡ take from markers.old.items ++ map (moved_marker old_stop new_stop) (drop from markers.old.items) }
-{
-    move_all(&mut markers[from..], old_stop, new_stop);
-}
-
-/// How many markers end before a place. They rise, so few of them are looked at.
-pub fn markers_before(markers: &[Marker], place: usize) -> usize
-    requires { IsNonDecreasingBy (λ (m : Marker). m.end) markers.now }
-    ensures count { result ≡ count_by (λ m. nat_lt m.end place) markers.now }
-    ensures inside { result ≤ length markers.now }
-{
-    markers.partition_point(|marker| marker.end < place)
-}
-
-// The last marker that ends before a place.
-fn last_before(markers: &[Marker], place: usize) -> Option<Marker>
-    requires { IsNonDecreasingBy (λ (m : Marker). m.end) markers.now }
-    ensures { result ≡ last_before place markers.now }
-{
-    let count = markers_before(markers, place);
-    if count == 0 {
-        None
-    } else {
-        Some(markers[count - 1])
-    }
 }
 
 // Where the line begins before which so many lines end.
@@ -119,289 +79,6 @@ fn line_ends_in(
         ends.push(from + place)?;
     }
     Ok(ends)
-}
-
-// The number that a piece sets, if it is a marker that sets one.
-fn number_in(text: &[u8], piece: Piece) -> Option<usize>
-    requires { LiesIn text.now piece }
-    ensures some { is_some result ≡ numbers text.now piece }
-    ensures number { IfSome result (λ n. marker_number (bytes_at text.now piece) ≡ Some n) }
-    ensures small { IfSome result (λ n. n ≤ 2147483647) }
-{
-    if piece.kind != Class::Marker {
-        return None;
-    }
-    match marker_number(&text[piece.start..piece.start + piece.len]) {
-        Some(number) => Some(number as usize),
-        None => None,
-    }
-}
-
-// A piece as a marker, if it is one that sets a line.
-fn marker_in(text: &[u8], piece: Piece) -> Option<Marker>
-    requires { LiesIn text.now piece }
-    ensures { result ≡ (if numbers text.now piece then Some (marker_of text.now piece) else None) }
-{
-    let end = piece.start + piece.len;
-    match number_in(text, piece) {
-        None => None,
-        Some(number) => {
-            let file = match marker_file(&text[piece.start..end]) {
-                Some((start, len)) => Some((piece.start + start, len)),
-                None => None,
-            };
-            Some(Marker {
-                end,
-                number: number as u32,
-                file,
-            })
-        }
-    }
-}
-
-// A marker, moved as the bytes from `old_stop` on are moved to `new_stop`.
-fn moved(marker: Marker, old_stop: usize, new_stop: usize) -> Marker
-    requires short { IsShort marker }
-    requires stop { new_stop < 2 ^ 32 }
-    ensures { result ≡ moved_marker old_stop new_stop marker }
-{
-    Marker {
-        end: marker.end.saturating_sub(old_stop) + new_stop,
-        number: marker.number,
-        file: match marker.file {
-            Some((start, len)) => Some((start.saturating_sub(old_stop) + new_stop, len)),
-            None => None,
-        },
-    }
-}
-
-// Moves markers, as the bytes from `old_stop` on are moved to `new_stop`.
-fn move_all(markers: &mut [Marker], old_stop: usize, new_stop: usize)
-    requires short { All IsShort markers.old }
-    requires stop { new_stop < 2 ^ 32 }
-    ensures { markers.new ≡ map (moved_marker old_stop new_stop) markers.old }
-{
-    for marker in markers {
-        *marker = moved(*marker, old_stop, new_stop);
-    }
-}
-
-// Puts other markers in the place of those that end from `start` up to `kept_from`, and moves those
-// after. There is room for them.
-fn replace_markers(
-    markers: &mut Vec<Marker>,
-    start: usize,
-    kept_from: usize,
-    made: &[Marker],
-    old_stop: usize,
-    new_stop: usize,
-)
-    requires rising { IsNonDecreasingBy (λ (m : Marker). m.end) markers.old.items }
-    requires order { start ≤ kept_from }
-    requires near { kept_from < 2 ^ 32 }
-    requires short { All IsShort markers.old.items }
-    requires stop { new_stop < 2 ^ 32 }
-    requires room { vec_len markers.old + length made.now ≤ vec_capacity markers.old }
-    ensures { markers.new.items ≡ replaced_markers start kept_from made.now old_stop new_stop markers.old.items }
-{
-    let front = markers_before(markers, start);
-    let back = markers_before(markers, kept_from + 1);
-    replace(markers, front, back, made);
-    move_from(markers, front + made.len(), old_stop, new_stop);
-}
-
-// Lists a piece that is a marker, and once more where it names a file.
-fn list_marker(
-    text: &[u8],
-    piece: Piece,
-    markers: &mut Vec<Marker>,
-    naming: &mut Vec<Marker>,
-) -> Result<(), OutOfMemory>
-    requires { LiesIn text.now piece }
-    ensures markers { OnOk result (markers.new.items ≡ markers.old.items ++ marked (numbers text.now) text.now (piece ∷ [])) }
-    ensures naming { OnOk result (naming.new.items ≡ naming.old.items ++ marked (names text.now) text.now (piece ∷ [])) }
-{
-    if let Some(marker) = marker_in(text, piece) {
-        markers.push(marker)?;
-        if marker.file.is_some() {
-            naming.push(marker)?;
-        }
-    }
-    Ok(())
-}
-
-// Lists those of the pieces that an edit makes that are markers.
-fn list_made(
-    text: &[u8],
-    change: &PieceChange,
-    markers: &mut Vec<Marker>,
-    naming: &mut Vec<Marker>,
-) -> Result<(), OutOfMemory>
-    requires kinds { vec_len change.now.list.ends ≡ vec_len change.now.list.kinds }
-    requires inside { All (LiesIn text.now) (made_pieces change.now) }
-    ensures markers { OnOk result (markers.new.items ≡ markers.old.items ++ marked (numbers text.now) text.now (made_pieces change.now)) }
-    ensures naming { OnOk result (naming.new.items ≡ naming.old.items ++ marked (names text.now) text.now (made_pieces change.now)) }
-{
-    let mut start = change.made_from as usize;
-    for number in 0..change.list.ends.len() {
-        let end = change.list.ends[number] as usize;
-        let kind = change.list.kinds[number];
-        if kind.is_marker() {
-            let piece = Piece {
-                kind,
-                start,
-                len: end.saturating_sub(start),
-            };
-            list_marker(text, piece, markers, naming)?;
-        }
-        start = end;
-    }
-    Ok(())
-}
-
-impl LineList {
-    /// The lines of a text.
-    pub fn of(alloc: Global, text: &[u8], pieces: &[Piece]) -> Result<LineList, OutOfMemory>
-        requires pieces { pieces.now ≡ pieces_of text.now }
-        ensures { IfOk result (λ l. IsLineList text.now l.ends.items l.markers.items l.naming.items) }
-    {
-        let ends = line_ends_in(alloc, text, 0, text.len())?;
-        let mut markers = Vec::new(alloc);
-        let mut naming = Vec::new(alloc);
-        for piece in pieces {
-            if piece.kind.is_marker() {
-                list_marker(text, *piece, &mut markers, &mut naming)?;
-            }
-        }
-        Ok(LineList {
-            ends,
-            markers,
-            naming,
-        })
-    }
-
-    /// What an edit makes of the lines: the line ends among the new bytes, and the markers among
-    /// the made pieces.
-    pub fn made(
-        alloc: Global,
-        edit: &TextEdit,
-        change: &PieceChange,
-    ) -> Result<LineList, OutOfMemory>
-        requires { IsChange edit.now.old.now edit.now.text.now edit.now.start edit.now.old_stop edit.now.new_stop change.now.kept_front (made_pieces change.now) change.now.kept_back change.now.kept_from change.now.list.ends.items change.now.list.kinds.items }
-        ensures { IfOk result (λ l. IsLinePart edit.now.text.now edit.now.start edit.now.new_stop (made_pieces change.now) l.ends.items l.markers.items l.naming.items) }
-    {
-        let ends = line_ends_in(alloc, edit.text, edit.start, edit.new_stop)?;
-        let mut markers = Vec::new(alloc);
-        let mut naming = Vec::new(alloc);
-        list_made(edit.text, change, &mut markers, &mut naming)?;
-        Ok(LineList {
-            ends,
-            markers,
-            naming,
-        })
-    }
-
-    /// The line of an offset, which may be any number; one after the text counts as its end. It
-    /// takes no memory, and looks at few places of the lists.
-    pub fn line_by(&self, text: &[u8], offset: usize) -> Line
-        requires { IsLineList text.now self.now.ends.items self.now.markers.items self.now.naming.items }
-        ensures { result ≡ line_at text.now offset }
-    {
-        let count = places_before(&self.ends, offset);
-        let begin = line_begin(&self.ends, count);
-        Line {
-            number: number_after(&self.ends, count, last_before(&self.markers, begin)),
-            file: match last_before(&self.naming, begin) {
-                Some(marker) => marker.file,
-                None => None,
-            },
-        }
-    }
-
-    // The same lists once more.
-    fn copied(&self, alloc: Global) -> Result<LineList, OutOfMemory>
-        ensures ends { IfOk result (λ l. l.ends.items ≡ self.now.ends.items) }
-        ensures markers { IfOk result (λ l. l.markers.items ≡ self.now.markers.items) }
-        ensures naming { IfOk result (λ l. l.naming.items ≡ self.now.naming.items) }
-    {
-        let mut ends = Vec::new(alloc);
-        ends.extend_from_slice(&self.ends)?;
-        let mut markers = Vec::new(alloc);
-        markers.extend_from_slice(&self.markers)?;
-        let mut naming = Vec::new(alloc);
-        naming.extend_from_slice(&self.naming)?;
-        Ok(LineList {
-            ends,
-            markers,
-            naming,
-        })
-    }
-
-    /// The lines of the new text of an edit, where these are the old one's. The only error is want
-    /// of memory.
-    pub fn after(
-        &self,
-        alloc: Global,
-        edit: &TextEdit,
-        change: &PieceChange,
-    ) -> Result<LineList, OutOfMemory>
-        requires lines { IsLineList edit.now.old.now self.now.ends.items self.now.markers.items self.now.naming.items }
-        requires change { IsChange edit.now.old.now edit.now.text.now edit.now.start edit.now.old_stop edit.now.new_stop change.now.kept_front (made_pieces change.now) change.now.kept_back change.now.kept_from change.now.list.ends.items change.now.list.kinds.items }
-        ensures { IfOk result (λ l. IsLineList edit.now.text.now l.ends.items l.markers.items l.naming.items) }
-    {
-        let made = LineList::made(alloc, edit, change)?;
-        let mut lines = self.copied(alloc)?;
-        lines.reserve(&made)?;
-        lines.commit(edit, change, &made);
-        Ok(lines)
-    }
-
-    /// Makes room for so many line ends and markers more. An error leaves the lists as they were.
-    pub fn reserve(&mut self, made: &LineList) -> Result<(), OutOfMemory>
-        ensures ends { self.new.ends.items ≡ self.old.ends.items }
-        ensures markers { self.new.markers.items ≡ self.old.markers.items }
-        ensures naming { self.new.naming.items ≡ self.old.naming.items }
-        ensures ends_room { OnOk result (vec_len self.new.ends + vec_len made.now.ends ≤ vec_capacity self.new.ends) }
-        ensures markers_room { OnOk result (vec_len self.new.markers + vec_len made.now.markers ≤ vec_capacity self.new.markers) }
-        ensures naming_room { OnOk result (vec_len self.new.naming + vec_len made.now.naming ≤ vec_capacity self.new.naming) }
-    {
-        self.ends.reserve(made.ends.len())?;
-        self.markers.reserve(made.markers.len())?;
-        self.naming.reserve(made.naming.len())?;
-        Ok(())
-    }
-
-    /// Makes the list of the old text's lines that of the new one's. There is room for what was
-    /// made, so it can't fail.
-    pub fn commit(&mut self, edit: &TextEdit, change: &PieceChange, made: &LineList)
-        requires lines { IsLineList edit.now.old.now self.old.ends.items self.old.markers.items self.old.naming.items }
-        requires change { IsChange edit.now.old.now edit.now.text.now edit.now.start edit.now.old_stop edit.now.new_stop change.now.kept_front (made_pieces change.now) change.now.kept_back change.now.kept_from change.now.list.ends.items change.now.list.kinds.items }
-        requires made { IsLinePart edit.now.text.now edit.now.start edit.now.new_stop (made_pieces change.now) made.now.ends.items made.now.markers.items made.now.naming.items }
-        requires ends_room { vec_len self.old.ends + vec_len made.now.ends ≤ vec_capacity self.old.ends }
-        requires markers_room { vec_len self.old.markers + vec_len made.now.markers ≤ vec_capacity self.old.markers }
-        requires naming_room { vec_len self.old.naming + vec_len made.now.naming ≤ vec_capacity self.old.naming }
-        ensures { IsLineList edit.now.text.now self.new.ends.items self.new.markers.items self.new.naming.items }
-    {
-        replace_ends(&mut self.ends, edit, &made.ends);
-        let (start, from) = (edit.start, change.kept_from);
-        let (old_stop, new_stop) = (edit.old_stop, edit.new_stop);
-        replace_markers(
-            &mut self.markers,
-            start,
-            from,
-            &made.markers,
-            old_stop,
-            new_stop,
-        );
-        replace_markers(
-            &mut self.naming,
-            start,
-            from,
-            &made.naming,
-            old_stop,
-            new_stop,
-        );
-    }
 }
 
 // Moves places, as the bytes from `old_stop` on are moved to `new_stop`.
@@ -457,4 +134,149 @@ fn replace_ends(ends: &mut Vec<usize>, edit: &TextEdit, made: &[usize])
     let back = places_before(ends, edit.old_stop);
     let (old_stop, new_stop) = (edit.old_stop, edit.new_stop);
     replace_places(ends, front, back, made, old_stop, new_stop);
+}
+
+impl LineList {
+    /// The lines of a text.
+    pub fn of(alloc: Global, text: &[u8], pieces: &[Piece]) -> Result<LineList, OutOfMemory>
+        requires pieces { pieces.now ≡ pieces_of text.now }
+        ensures { IfOk result (λ l. IsLineList text.now l) }
+    {
+        let ends = line_ends_in(alloc, text, 0, text.len())?;
+        let mut markers = Vec::new(alloc);
+        let mut naming = Vec::new(alloc);
+        for piece in pieces {
+            if piece.kind.is_marker() {
+                list_marker(text, *piece, &mut markers, &mut naming)?;
+            }
+        }
+        Ok(LineList {
+            ends,
+            markers,
+            naming,
+        })
+    }
+
+    /// What an edit makes of the lines: the line ends among the new bytes, and the markers among
+    /// the made pieces.
+    pub fn made(
+        alloc: Global,
+        edit: &TextEdit,
+        change: &PieceChange,
+    ) -> Result<LineList, OutOfMemory>
+        requires { IsChange (edit_of edit.now) change.now }
+        ensures { IfOk result (λ l. IsLinePart edit.now.text.now edit.now.start edit.now.new_stop (made_pieces change.now) l) }
+    {
+        let ends = line_ends_in(alloc, edit.text, edit.start, edit.new_stop)?;
+        let mut markers = Vec::new(alloc);
+        let mut naming = Vec::new(alloc);
+        list_made(edit.text, change, &mut markers, &mut naming)?;
+        Ok(LineList {
+            ends,
+            markers,
+            naming,
+        })
+    }
+
+    /// The line of an offset, which may be any number; one after the text counts as its end. It
+    /// takes no memory, and looks at few places of the lists.
+    pub fn line_by(&self, text: &[u8], offset: usize) -> Line
+        requires { IsLineList text.now self.now }
+        ensures { result ≡ line_at text.now offset }
+    {
+        let count = places_before(&self.ends, offset);
+        let begin = line_begin(&self.ends, count);
+        Line {
+            number: number_after(&self.ends, count, last_before(&self.markers, begin)),
+            file: match last_before(&self.naming, begin) {
+                Some(marker) => marker.file,
+                None => None,
+            },
+        }
+    }
+
+    // The same lists once more.
+    fn copied(&self, alloc: Global) -> Result<LineList, OutOfMemory>
+        ensures ends { IfOk result (λ l. l.ends.items ≡ self.now.ends.items) }
+        ensures markers { IfOk result (λ l. l.markers.items ≡ self.now.markers.items) }
+        ensures naming { IfOk result (λ l. l.naming.items ≡ self.now.naming.items) }
+    {
+        let mut ends = Vec::new(alloc);
+        ends.extend_from_slice(&self.ends)?;
+        let mut markers = Vec::new(alloc);
+        markers.extend_from_slice(&self.markers)?;
+        let mut naming = Vec::new(alloc);
+        naming.extend_from_slice(&self.naming)?;
+        Ok(LineList {
+            ends,
+            markers,
+            naming,
+        })
+    }
+
+    /// The lines of the new text of an edit, where these are the old one's. The only error is want
+    /// of memory.
+    pub fn after(
+        &self,
+        alloc: Global,
+        edit: &TextEdit,
+        change: &PieceChange,
+    ) -> Result<LineList, OutOfMemory>
+        requires lines { IsLineList edit.now.old.now self.now }
+        requires change { IsChange (edit_of edit.now) change.now }
+        ensures { IfOk result (λ l. IsLineList edit.now.text.now l) }
+    {
+        let made = LineList::made(alloc, edit, change)?;
+        let mut lines = self.copied(alloc)?;
+        lines.reserve(&made)?;
+        lines.commit(edit, change, &made);
+        Ok(lines)
+    }
+
+    /// Makes room for so many line ends and markers more. An error leaves the lists as they were.
+    pub fn reserve(&mut self, made: &LineList) -> Result<(), OutOfMemory>
+        ensures ends { self.new.ends.items ≡ self.old.ends.items }
+        ensures markers { self.new.markers.items ≡ self.old.markers.items }
+        ensures naming { self.new.naming.items ≡ self.old.naming.items }
+        ensures ends_room { OnOk result (vec_len self.new.ends + vec_len made.now.ends ≤ vec_capacity self.new.ends) }
+        ensures markers_room { OnOk result (vec_len self.new.markers + vec_len made.now.markers ≤ vec_capacity self.new.markers) }
+        ensures naming_room { OnOk result (vec_len self.new.naming + vec_len made.now.naming ≤ vec_capacity self.new.naming) }
+    {
+        self.ends.reserve(made.ends.len())?;
+        self.markers.reserve(made.markers.len())?;
+        self.naming.reserve(made.naming.len())?;
+        Ok(())
+    }
+
+    /// Makes the list of the old text's lines that of the new one's. There is room for what was
+    /// made, so it can't fail.
+    pub fn commit(&mut self, edit: &TextEdit, change: &PieceChange, made: &LineList)
+        requires lines { IsLineList edit.now.old.now self.old }
+        requires change { IsChange (edit_of edit.now) change.now }
+        requires made { IsLinePart edit.now.text.now edit.now.start edit.now.new_stop (made_pieces change.now) made.now }
+        requires ends_room { vec_len self.old.ends + vec_len made.now.ends ≤ vec_capacity self.old.ends }
+        requires markers_room { vec_len self.old.markers + vec_len made.now.markers ≤ vec_capacity self.old.markers }
+        requires naming_room { vec_len self.old.naming + vec_len made.now.naming ≤ vec_capacity self.old.naming }
+        ensures { IsLineList edit.now.text.now self.new }
+    {
+        replace_ends(&mut self.ends, edit, &made.ends);
+        let (start, from) = (edit.start, change.kept_from);
+        let (old_stop, new_stop) = (edit.old_stop, edit.new_stop);
+        replace_markers(
+            &mut self.markers,
+            start,
+            from,
+            &made.markers,
+            old_stop,
+            new_stop,
+        );
+        replace_markers(
+            &mut self.naming,
+            start,
+            from,
+            &made.naming,
+            old_stop,
+            new_stop,
+        );
+    }
 }

@@ -10,9 +10,10 @@ ghost use Rattle.snl_lex.specs.Shift.{IsOutside, shifted_offset};
 ghost use Rattle.std.specs.List.Sorted.{IsNonDecreasingBy};
 ghost use Rattle.std.specs.Prelude.{◌≡◌, ◌^◌, ◌<◌, ◌≤◌, ℕ, All, IfSome, IsTrue, List, length, option_map, slice_get};
 
-use crate::line_list::{LineList, Marker, markers_before};
+use crate::edit::TextEdit;
+use crate::line_list::LineList;
 use crate::lines::Line;
-use crate::piece_list::TextEdit;
+use crate::marker_list::{Marker, markers_before};
 use crate::shift::Shift;
 
 /// An edit of a text, and where the first line begins after it that a line marker numbers: lines
@@ -114,8 +115,8 @@ impl LineShift {
         requires new_stop { by.new_stop ≡ edit.now.new_stop }
         requires old_lines { by.old_lines ≡ lines_between edit.now.old.now edit.now.start edit.now.old_stop }
         requires new_lines { by.new_lines ≡ lines_between edit.now.text.now edit.now.start edit.now.new_stop }
-        requires before { IsLineList edit.now.old.now before.now.ends.items before.now.markers.items before.now.naming.items }
-        requires after { IsLineList edit.now.text.now after.now.ends.items after.now.markers.items after.now.naming.items }
+        requires before { IsLineList edit.now.old.now before.now }
+        requires after { IsLineList edit.now.text.now after.now }
         ensures by { IfSome result (λ t. t.by ≡ by) }
         ensures shift { IfSome result (IsLineShift edit.now.old.now edit.now.text.now) }
     {

@@ -2,13 +2,14 @@
 //! In: the list; after an edit also what is made of the pieces. Out: tokens, each with its place.
 
 ghost use Rattle.snl_cut.specs.Cut.{last_end};
-ghost use Rattle.snl_lex.specs.Made.{made_pieces};
-ghost use Rattle.snl_lex.specs.PieceList.{IsChange, listed_pieces, piece_ends, piece_kinds, pieces_between};
+ghost use Rattle.snl_lex.specs.Edit.{IsChange, edit_of, made_pieces};
+ghost use Rattle.snl_lex.specs.PieceList.{listed_pieces, piece_ends, piece_kinds, pieces_between};
 ghost use Rattle.snl_lex.specs.Pieces.{is_token, moved_piece, pieces_of, tokens_of};
 ghost use Rattle.std.specs.Prelude.{◌≡◌, ℕ, List, ◌+◌, ◌-◌, ◌^◌, ◌<◌, ◌≤◌, ◌++◌, IfOk, filter, length, map, take, vec_capacity, vec_len};
 
+use crate::edit::TextEdit;
 use crate::piece::Piece;
-use crate::piece_list::{PieceChange, PieceList, TextEdit};
+use crate::piece_list::{PieceChange, PieceList};
 use snl_cut::OutOfMemory;
 use std::alloc::Global;
 
@@ -116,16 +117,6 @@ impl PieceList {
         Ok(with_listed_tokens(tokens, self, 0, from, stop, 0, 0))
     }
 
-    /// The tokens of the text of which this is the list. The only error is want of memory.
-    pub fn tokens(&self, alloc: Global) -> Result<Vec<Piece>, OutOfMemory>
-        requires { vec_len self.now.ends ≡ vec_len self.now.kinds }
-        ensures { IfOk
-            result
-            (λ tokens. (text : List ℕ) → self.now.ends.items ≡ piece_ends text → self.now.kinds.items ≡ piece_kinds text → tokens.items ≡ tokens_of text) }
-    {
-        self.tokens_between(alloc, 0, self.ends.len())
-    }
-
     /// The tokens of the new text of an edit, where this is the list of the old one's pieces. The
     /// only error is want of memory.
     pub fn tokens_after(
@@ -136,7 +127,7 @@ impl PieceList {
     ) -> Result<Vec<Piece>, OutOfMemory>
         requires ends { self.now.ends.items ≡ piece_ends edit.now.old.now }
         requires kinds { self.now.kinds.items ≡ piece_kinds edit.now.old.now }
-        requires change { IsChange edit.now.old.now edit.now.text.now edit.now.start edit.now.old_stop edit.now.new_stop change.now.kept_front (made_pieces change.now) change.now.kept_back change.now.kept_from change.now.list.ends.items change.now.list.kinds.items }
+        requires change { IsChange (edit_of edit.now) change.now }
         ensures { IfOk result (λ tokens. tokens.items ≡ tokens_of edit.now.text.now) }
     {
         let count = self.ends.len();

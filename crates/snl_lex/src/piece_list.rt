@@ -3,16 +3,17 @@
 //! In: pieces; after an edit both texts. Out: the lists, those of the new text after a change that
 //! can't fail.
 
-ghost use Rattle.snl_cut.specs.Cut.{Counted, IsEdit, after_ticks};
+ghost use Rattle.snl_cut.specs.Cut.{Counted, after_ticks};
 ghost use Rattle.snl_lex.specs.Lines.{is_marker};
-ghost use Rattle.snl_lex.specs.Made.{made_pieces};
-ghost use Rattle.snl_lex.specs.PieceList.{IsChange, piece_ends, piece_kinds};
+ghost use Rattle.snl_lex.specs.Edit.{IsChange, edit_of};
+ghost use Rattle.snl_lex.specs.PieceList.{piece_ends, piece_kinds};
 ghost use Rattle.snl_lex.specs.Pieces.{piece_end};
 ghost use Rattle.snl_lex.specs.Shift.{marker_count};
 ghost use Rattle.snl_lists.specs.Moves.{replaced};
 ghost use Rattle.std.specs.Prelude.{◌≡◌, ◌+◌, ◌^◌, ◌<◌, ◌≤◌, All, IfOk, OnOk, count_by, length, map, vec_capacity, vec_len};
 
 use crate::cut::{end_by, relex_by};
+use crate::edit::TextEdit;
 use crate::piece::{Class, Piece};
 use snl_cut::{Count, Narrow, OutOfMemory};
 use snl_lists::{replace, replace_and_shift};
@@ -25,19 +26,6 @@ pub struct PieceList {
     pub ends: Vec<u32>,
     pub kinds: Vec<Class>,
     pub markers: usize,
-}
-
-/// An edit of a text: in the new one, other bytes are from `start` up to `new_stop` than in the old
-/// one up to `old_stop`.
-#[derive(Clone, Copy)]
-pub struct TextEdit<'a> {
-    pub old: &'a [u8],
-    pub text: &'a [u8],
-    pub start: usize,
-    pub old_stop: usize,
-    pub new_stop: usize,
-    ghost edit: { IsEdit old.now text.now start old_stop new_stop },
-    ghost short: { (length old.now < 2 ^ 32) × (length text.now < 2 ^ 32) },
 }
 
 /// What an edit makes of the pieces: so many are kept at the front, those that are made follow,
@@ -126,7 +114,7 @@ impl PieceList {
         requires { self.now.ends.items ≡ piece_ends edit.now.old.now }
         ensures change { IfOk
             result
-            (λ r. IsChange edit.now.old.now edit.now.text.now edit.now.start edit.now.old_stop edit.now.new_stop r.kept_front (made_pieces r) r.kept_back r.kept_from r.list.ends.items r.list.kinds.items) }
+            (λ r. IsChange (edit_of edit.now) r) }
         ensures ticks { IfOk result (λ r. work.new ≡ after_ticks work.old (vec_len r.list.ends)) }
         ensures counted { Counted work.old work.new }
     {
@@ -178,7 +166,7 @@ impl PieceList {
         requires ends { self.old.ends.items ≡ piece_ends edit.now.old.now }
         requires kinds { self.old.kinds.items ≡ piece_kinds edit.now.old.now }
         requires markers { self.old.markers ≡ marker_count edit.now.old.now }
-        requires change { IsChange edit.now.old.now edit.now.text.now edit.now.start edit.now.old_stop edit.now.new_stop change.now.kept_front (made_pieces change.now) change.now.kept_back change.now.kept_from change.now.list.ends.items change.now.list.kinds.items }
+        requires change { IsChange (edit_of edit.now) change.now }
         requires ends_room { vec_len self.old.ends + vec_len change.now.list.ends ≤ vec_capacity self.old.ends }
         requires kinds_room { vec_len self.old.kinds + vec_len change.now.list.ends ≤ vec_capacity self.old.kinds }
         ensures ends { self.new.ends.items ≡ piece_ends edit.now.text.now }

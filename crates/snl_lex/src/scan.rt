@@ -4,7 +4,7 @@
 
 ghost use Rattle.snl_lex.specs.Alphabet.{is_in};
 ghost use Rattle.snl_lex.specs.Kinds.{has, punctuators_of_2, punctuators_of_3};
-ghost use Rattle.snl_lex.specs.Pieces.{closed_piece, dot_piece, first_piece, longest_mark, mark_piece, name_piece, number_piece, percent_piece, run_piece, slash_piece, string_joins, string_piece};
+ghost use Rattle.snl_lex.specs.Pieces.{closed_piece, dot_piece, first_piece, longest_punctuator, punctuator_piece, name_piece, number_piece, percent_piece, run_piece, slash_piece, string_joins, string_piece};
 ghost use Rattle.snl_lex.specs.Runs.{close_of, run_by};
 ghost use Rattle.std.specs.Prelude.{◌≡◌, ◌+◌, ◌<◌, ◌≤◌, IfSome, [], ◌∷◌, drop, length, take};
 
@@ -96,8 +96,8 @@ fn string_piece(rest: &[u8], kind: Class, quote: u8) -> (Class, usize)
     }
 }
 
-// Asked of the first byte first, since most marks begin no longer one.
-fn is_mark_of_two(a: u8, b: u8) -> bool
+// Asked of the first byte first, since most punctuators begin no longer one.
+fn is_punctuator_of_two(a: u8, b: u8) -> bool
     ensures { result ≡ has punctuators_of_2 (a ∷ b ∷ []) }
 {
     match a {
@@ -108,32 +108,32 @@ fn is_mark_of_two(a: u8, b: u8) -> bool
     }
 }
 
-fn is_mark_of_three(a: u8, b: u8, c: u8) -> bool
+fn is_punctuator_of_three(a: u8, b: u8, c: u8) -> bool
     ensures { result ≡ has punctuators_of_3 (a ∷ b ∷ c ∷ []) }
 {
     c == b'=' && a == b && (a == b'<' || a == b'>')
 }
 
-#[tactic(auto, unfolding(crate::specs::Pieces::longest_mark))]
-fn mark_length(rest: &[u8]) -> usize
-    ensures { result ≡ longest_mark rest.now }
+#[tactic(auto, unfolding(crate::specs::Pieces::longest_punctuator))]
+fn punctuator_length(rest: &[u8]) -> usize
+    ensures { result ≡ longest_punctuator rest.now }
 {
     let a = byte_at(rest, 0);
     let b = byte_at(rest, 1);
-    if !is_mark_of_two(a, b) {
+    if !is_punctuator_of_two(a, b) {
         1
-    } else if is_mark_of_three(a, b, byte_at(rest, 2)) {
+    } else if is_punctuator_of_three(a, b, byte_at(rest, 2)) {
         3
     } else {
         2
     }
 }
 
-fn mark_piece(rest: &[u8]) -> (Class, usize)
+fn punctuator_piece(rest: &[u8]) -> (Class, usize)
     requires { 0 < length rest.now }
-    ensures { result ≡ mark_piece rest.now }
+    ensures { result ≡ punctuator_piece rest.now }
 {
-    (Class::Punct, mark_length(rest))
+    (Class::Punct, punctuator_length(rest))
 }
 
 fn slash_piece(rest: &[u8]) -> (Class, usize)
@@ -143,7 +143,7 @@ fn slash_piece(rest: &[u8]) -> (Class, usize)
     match byte_at(rest, 1) {
         b'/' => run_piece(rest, Class::Comment, Set::LineBytes),
         b'*' => closed_piece(rest, Class::Comment, b'*', b'/'),
-        _ => mark_piece(rest),
+        _ => punctuator_piece(rest),
     }
 }
 
@@ -154,7 +154,7 @@ fn percent_piece(rest: &[u8]) -> (Class, usize)
     match byte_at(rest, 1) {
         b'%' => run_piece(rest, Class::CCode, Set::LineBytes),
         b'{' => closed_piece(rest, Class::CCode, b'}', b'%'),
-        _ => mark_piece(rest),
+        _ => punctuator_piece(rest),
     }
 }
 
@@ -165,7 +165,7 @@ fn dot_piece(rest: &[u8]) -> (Class, usize)
     if is_digit(byte_at(rest, 1)) {
         number_piece(rest)
     } else {
-        mark_piece(rest)
+        punctuator_piece(rest)
     }
 }
 
@@ -185,7 +185,7 @@ pub fn first_piece(rest: &[u8]) -> (Class, usize)
         Start::Percent => percent_piece(rest),
         Start::Quote => string_piece(rest, Class::Text, b'"'),
         Start::Apostrophe => string_piece(rest, Class::CharLit, b'\''),
-        Start::Sign => mark_piece(rest),
+        Start::Sign => punctuator_piece(rest),
         Start::Stray => run_piece(rest, Class::Bad, Set::Strays),
     }
 }

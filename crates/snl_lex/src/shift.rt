@@ -5,7 +5,7 @@ ghost use Rattle.snl_lex.specs.Lines.{lines_between};
 ghost use Rattle.snl_lex.specs.Shift.{shifted_offset};
 ghost use Rattle.std.specs.Prelude.{◌≡◌, ◌≤◌, length};
 
-use crate::piece_list::TextEdit;
+use crate::edit::TextEdit;
 
 /// An edit of a text, by its places: the bytes from `start` up to `old_stop` became those up to
 /// `new_stop`. So many line ends went with the ones and came with the others.

@@ -13,6 +13,3 @@ escaped_plain (b ∷ bytes) h = by_test (is_printable b) refl h (escaped_plain b
         one : is_printable b ≡ true → escaped_byte b ≡ b ∷ []
         one e = rw e refl
     by_test false is all more = cc
-
-pub shown_byte : (b : ℕ) → is_printable b ≡ true → b ∷ [] ≡ escaped_byte b
-shown_byte b e = rw e refl

@@ -1,18 +1,13 @@
 -- Bytes put after bytes.
-use Rattle.std.proofs.Common.{◌≡◌, ℕ, List, [], ◌++◌, Result, Ok, Err, refl}
+use Rattle.std.proofs.Common.{◌≡◌, ℕ, List, ◌++◌, Result, Ok, Err, refl}
 use Rattle.std.specs.Prelude.{IsErr}
 use Rattle.std.proofs.lemmas.Result.{MatchResult-from_err}
-use Rattle.std.proofs.lemmas.List.{append-nil}
 use Rattle.snl_listing.specs.Sink.{IsSink, Put}
 
 -- bytes were taken, and then more were put
 pub put_on : {S T E : Type 0} {Took Broke : S → S → List ℕ → Type 0} (laws : IsSink Took Broke) (r : Result T E) (s t u : S) (xs ys all : List ℕ) → xs ++ ys ≡ all → Took s t xs → Put r (Took t u) (Broke t u) ys → Put r (Took s u) (Broke s u) all
 put_on laws (Ok x) s t u xs ys all e took put = rw (← e) (laws.more s t u xs ys took put)
 put_on laws (Err x) s t u xs ys all e took put = rw (← e) (laws.broken_on s t u xs ys took put)
-
--- the last bytes
-pub put_last : {T E : Type 0} (Took Broke : List ℕ → Type 0) (r : Result T E) (xs : List ℕ) → Put r Took Broke xs → Put r Took Broke (xs ++ [])
-put_last Took Broke r xs put = rw (append-nil xs) put
 
 -- the sink broke off at the first bytes
 pub put_broken : {S T E : Type 0} {Took Broke : S → S → List ℕ → Type 0} (laws : IsSink Took Broke) (r : Result T E) (s t : S) (xs ys all : List ℕ) → xs ++ ys ≡ all → IsErr r → Broke s t xs → Put r (Took s t) (Broke s t) all

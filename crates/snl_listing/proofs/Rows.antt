@@ -38,8 +38,5 @@ numbered_more_read {X} f n xs i m x h e is = ap (λ (y : X). numbered f n (take 
 pub numbered_all_read : {X : Type 0} (f : ℕ → X → List ℕ) (n : ℕ) (xs : List X) (i m : ℕ) (x : X) → i < length xs → n + i ≡ m → x ≡ get_or xs i x → numbered f n (take i xs) ++ (f m x ++ numbered f (m + 1) (drop (i + 1) xs)) ≡ numbered f n xs
 numbered_all_read {X} f n xs i m x h e is = ap (λ (y : X). numbered f n (take i xs) ++ (f m y ++ numbered f (m + 1) (drop (i + 1) xs))) is ∙ numbered_all f n xs i m x h e
 
-pub rows_more_read : {X : Type 0} (f : X → List ℕ) (xs : List X) (i : ℕ) (x : X) → i < length xs → x ≡ get_or xs i x → flat_map f (take i xs) ++ f x ≡ flat_map f (take (i + 1) xs)
-rows_more_read {X} f xs i x h is = ap (λ (y : X). flat_map f (take i xs) ++ f y) is ∙ rows_more f xs i x h
-
 pub rows_all_read : {X : Type 0} (f : X → List ℕ) (xs : List X) (i : ℕ) (x : X) → i < length xs → x ≡ get_or xs i x → flat_map f (take i xs) ++ (f x ++ flat_map f (drop (i + 1) xs)) ≡ flat_map f xs
 rows_all_read {X} f xs i x h is = ap (λ (y : X). flat_map f (take i xs) ++ (f y ++ flat_map f (drop (i + 1) xs))) is ∙ rows_all f xs i x h

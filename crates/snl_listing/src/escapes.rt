@@ -62,7 +62,8 @@ fn put_hex<S: Sink>(sink: &mut S, byte: u8) -> Result<(), S::Error>
 
 /// Puts a byte as a listing shows it.
 pub(crate) fn put_byte<S: Sink>(sink: &mut S, byte: u8) -> Result<(), S::Error>
-    ensures { Put result (S.Took sink.old sink.new) (S.Broke sink.old sink.new) (escaped_byte byte) }
+    ensures { Put result (S.Took sink.old sink.new) (S.Broke sink.old sink.new)
+        (escaped_byte byte) }
 {
     if is_printable(byte) {
         put_char(sink, char::from(byte))
@@ -73,7 +74,8 @@ pub(crate) fn put_byte<S: Sink>(sink: &mut S, byte: u8) -> Result<(), S::Error>
 
 /// Puts bytes as a listing shows them.
 pub(crate) fn put_escaped<S: Sink>(sink: &mut S, bytes: &[u8]) -> Result<(), S::Error>
-    ensures { Put result (S.Took sink.old sink.new) (S.Broke sink.old sink.new) (escaped bytes.now) }
+    ensures { Put result (S.Took sink.old sink.new) (S.Broke sink.old sink.new)
+        (escaped bytes.now) }
 {
     if let Some(text) = as_they_are(bytes) {
         return sink.put(text);

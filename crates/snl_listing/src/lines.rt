@@ -25,7 +25,8 @@ pub(crate) fn put_program<S: Sink>(
     text: &[u8],
     program: Option<Span>,
 ) -> Result<(), S::Error>
-    ensures { Put result (S.Took sink.old sink.new) (S.Broke sink.old sink.new) (program_line text.now program) }
+    ensures { Put result (S.Took sink.old sink.new) (S.Broke sink.old sink.new)
+        (program_line text.now program) }
 {
     put_line(
         sink,
@@ -38,7 +39,8 @@ pub(crate) fn put_program<S: Sink>(
 }
 
 fn put_option<S: Sink>(sink: &mut S, indent: &str, row: OptionRow) -> Result<(), S::Error>
-    ensures { Put result (S.Took sink.old sink.new) (S.Broke sink.old sink.new) (option_line indent.now row) }
+    ensures { Put result (S.Took sink.old sink.new) (S.Broke sink.old sink.new)
+        (option_line indent.now row) }
 {
     let setting = if row.is_set { "option +" } else { "option -" };
     put_line(
@@ -58,7 +60,8 @@ pub(crate) fn put_options<S: Sink>(
     indent: &str,
     rows: &[OptionRow],
 ) -> Result<(), S::Error>
-    ensures { Put result (S.Took sink.old sink.new) (S.Broke sink.old sink.new) (flat_map (option_line indent.now) rows.now) }
+    ensures { Put result (S.Took sink.old sink.new) (S.Broke sink.old sink.new)
+        (flat_map (option_line indent.now) rows.now) }
 {
     for row in rows {
         put_option(sink, indent, *row)?;
@@ -72,7 +75,8 @@ fn put_flag<S: Sink>(
     number: usize,
     row: &FlagRow,
 ) -> Result<(), S::Error>
-    ensures { Put result (S.Took sink.old sink.new) (S.Broke sink.old sink.new) (flag_line text.now number row.now) }
+    ensures { Put result (S.Took sink.old sink.new) (S.Broke sink.old sink.new)
+        (flag_line text.now number row.now) }
 {
     put_line(
         sink,
@@ -97,7 +101,8 @@ pub(crate) fn put_flags<S: Sink>(
     text: &[u8],
     rows: &[FlagRow],
 ) -> Result<(), S::Error>
-    ensures { Put result (S.Took sink.old sink.new) (S.Broke sink.old sink.new) (numbered (flag_line text.now) 1 rows.now) }
+    ensures { Put result (S.Took sink.old sink.new) (S.Broke sink.old sink.new)
+        (numbered (flag_line text.now) 1 rows.now) }
 {
     for (place, row) in rows.iter().enumerate() {
         put_flag(sink, text, place + 1, row)?;
@@ -117,7 +122,8 @@ fn put_channel<'a, S: Sink>(
     number: usize,
     row: &'a ChannelRow,
 ) -> Result<(), S::Error>
-    ensures { Put result (S.Took sink.old sink.new) (S.Broke sink.old sink.new) (channel_line text.now number row.now) }
+    ensures { Put result (S.Took sink.old sink.new) (S.Broke sink.old sink.new)
+        (channel_line text.now number row.now) }
 {
     put_line(
         sink,
@@ -148,7 +154,8 @@ pub(crate) fn put_channels<S: Sink>(
     text: &[u8],
     rows: &[ChannelRow],
 ) -> Result<(), S::Error>
-    ensures { Put result (S.Took sink.old sink.new) (S.Broke sink.old sink.new) (numbered (channel_line text.now) 0 rows.now) }
+    ensures { Put result (S.Took sink.old sink.new) (S.Broke sink.old sink.new)
+        (numbered (channel_line text.now) 0 rows.now) }
 {
     for (number, row) in rows.iter().enumerate() {
         put_channel(sink, text, number, row)?;

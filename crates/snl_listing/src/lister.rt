@@ -39,7 +39,8 @@ impl Lister {
         sink: &mut S,
     ) -> Result<(), S::Error>
         requires { IsFor tables.now self }
-        ensures { Put result (S.Took sink.old sink.new) (S.Broke sink.old sink.new) (listing_of text.now tables.now) }
+        ensures { Put result (S.Took sink.old sink.new) (S.Broke sink.old sink.new)
+            (listing_of text.now tables.now) }
     {
         put_program(sink, text, tables.program)?;
         put_options(sink, "", tables.options.as_slice())?;

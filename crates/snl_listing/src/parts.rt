@@ -64,7 +64,8 @@ fn name_or_none(text: &[u8], name: Option<Span>) -> Word<'_>
 }
 
 fn put_scope<S: Sink>(sink: &mut S, text: &[u8], scope: ScopeName) -> Result<(), S::Error>
-    ensures { Put result (S.Took sink.old sink.new) (S.Broke sink.old sink.new) (scope_text text.now scope) }
+    ensures { Put result (S.Took sink.old sink.new) (S.Broke sink.old sink.new)
+        (scope_text text.now scope) }
 {
     match scope {
         ScopeName::Program => sink.put("program"),
@@ -85,7 +86,8 @@ fn put_file<S: Sink>(
     text: &[u8],
     file: Option<(usize, usize)>,
 ) -> Result<(), S::Error>
-    ensures { Put result (S.Took sink.old sink.new) (S.Broke sink.old sink.new) (file_text text.now file) }
+    ensures { Put result (S.Took sink.old sink.new) (S.Broke sink.old sink.new)
+        (file_text text.now file) }
 {
     match file {
         None => sink.put(""),
@@ -101,7 +103,8 @@ fn put_file<S: Sink>(
 }
 
 fn put_element<S: Sink>(sink: &mut S, element: Option<u64>) -> Result<(), S::Error>
-    ensures { Put result (S.Took sink.old sink.new) (S.Broke sink.old sink.new) (element_text element) }
+    ensures { Put result (S.Took sink.old sink.new) (S.Broke sink.old sink.new)
+        (element_text element) }
 {
     match element {
         None => sink.put(""),
@@ -131,7 +134,8 @@ fn put_sync<S: Sink>(sink: &mut S, sync: Option<Synced>) -> Result<(), S::Error>
 }
 
 fn put_queue<S: Sink>(sink: &mut S, flag: Word<'_>, queue: Queue) -> Result<(), S::Error>
-    ensures { Put result (S.Took sink.old sink.new) (S.Broke sink.old sink.new) (queue_text (word_text flag.entry) queue) }
+    ensures { Put result (S.Took sink.old sink.new) (S.Broke sink.old sink.new)
+        (queue_text (word_text flag.entry) queue) }
 {
     match queue {
         Queue::Unqueued => put_words(sink, &[Word::Plain(" sync "), flag]),
@@ -152,7 +156,8 @@ fn put_queue<S: Sink>(sink: &mut S, flag: Word<'_>, queue: Queue) -> Result<(), 
 }
 
 fn put_part<S: Sink>(sink: &mut S, part: Part<'_>) -> Result<(), S::Error>
-    ensures { Put result (S.Took sink.old sink.new) (S.Broke sink.old sink.new) (part_text part.entry) }
+    ensures { Put result (S.Took sink.old sink.new) (S.Broke sink.old sink.new)
+        (part_text part.entry) }
 {
     match part {
         Part::Plain(text) => sink.put(text),
@@ -168,7 +173,8 @@ fn put_part<S: Sink>(sink: &mut S, part: Part<'_>) -> Result<(), S::Error>
 
 /// Puts the parts of a line, one after another.
 pub(crate) fn put_line<S: Sink>(sink: &mut S, parts: &[Part<'_>]) -> Result<(), S::Error>
-    ensures { Put result (S.Took sink.old sink.new) (S.Broke sink.old sink.new) (flat_map part_text parts.now) }
+    ensures { Put result (S.Took sink.old sink.new) (S.Broke sink.old sink.new)
+        (flat_map part_text parts.now) }
 {
     for part in parts {
         put_part(sink, *part)?;

@@ -31,7 +31,8 @@ fn mark_word(mark: StateMark) -> &'static str
 }
 
 fn put_state_line<S: Sink>(sink: &mut S, text: &[u8], state: &StateRow) -> Result<(), S::Error>
-    ensures { Put result (S.Took sink.old sink.new) (S.Broke sink.old sink.new) (state_line text.now state.now) }
+    ensures { Put result (S.Took sink.old sink.new) (S.Broke sink.old sink.new)
+        (state_line text.now state.now) }
 {
     put_line(
         sink,
@@ -52,7 +53,8 @@ fn put_state_line<S: Sink>(sink: &mut S, text: &[u8], state: &StateRow) -> Resul
 }
 
 fn put_set_line<S: Sink>(sink: &mut S, text: &[u8], set: &SetRow) -> Result<(), S::Error>
-    ensures { Put result (S.Took sink.old sink.new) (S.Broke sink.old sink.new) (set_line text.now set.now) }
+    ensures { Put result (S.Took sink.old sink.new) (S.Broke sink.old sink.new)
+        (set_line text.now set.now) }
 {
     put_line(
         sink,
@@ -83,7 +85,8 @@ fn put_when<S: Sink>(
     number: usize,
     destination: Destination,
 ) -> Result<(), S::Error>
-    ensures { Put result (S.Took sink.old sink.new) (S.Broke sink.old sink.new) (when_line text.now number destination) }
+    ensures { Put result (S.Took sink.old sink.new) (S.Broke sink.old sink.new)
+        (when_line text.now number destination) }
 {
     let (shown, mark) = match destination {
         Destination::Exit => (Part::Plain("exit"), ""),
@@ -107,7 +110,8 @@ fn put_transitions<S: Sink>(
     text: &[u8],
     transitions: &[Destination],
 ) -> Result<(), S::Error>
-    ensures { Put result (S.Took sink.old sink.new) (S.Broke sink.old sink.new) (numbered (when_line text.now) 0 transitions.now) }
+    ensures { Put result (S.Took sink.old sink.new) (S.Broke sink.old sink.new)
+        (numbered (when_line text.now) 0 transitions.now) }
 {
     for (number, destination) in transitions.iter().enumerate() {
         put_when(sink, text, number, *destination)?;
@@ -116,7 +120,8 @@ fn put_transitions<S: Sink>(
 }
 
 fn put_goto<S: Sink>(sink: &mut S, text: &[u8], target: NamedState) -> Result<(), S::Error>
-    ensures { Put result (S.Took sink.old sink.new) (S.Broke sink.old sink.new) (goto_line text.now target) }
+    ensures { Put result (S.Took sink.old sink.new) (S.Broke sink.old sink.new)
+        (goto_line text.now target) }
 {
     put_line(
         sink,
@@ -130,7 +135,8 @@ fn put_goto<S: Sink>(sink: &mut S, text: &[u8], target: NamedState) -> Result<()
 }
 
 fn put_gotos<S: Sink>(sink: &mut S, text: &[u8], targets: &[NamedState]) -> Result<(), S::Error>
-    ensures { Put result (S.Took sink.old sink.new) (S.Broke sink.old sink.new) (flat_map (goto_line text.now) targets.now) }
+    ensures { Put result (S.Took sink.old sink.new) (S.Broke sink.old sink.new)
+        (flat_map (goto_line text.now) targets.now) }
 {
     for target in targets {
         put_goto(sink, text, *target)?;
@@ -164,8 +170,10 @@ fn put_sets<S: Sink>(
     channels: &mut NumberSet,
     none: &'static str,
 ) -> Result<(), S::Error>
-    ensures put { Put result (S.Took sink.old sink.new) (S.Broke sink.old sink.new) (concat (codes "  wake"
-        ∷ flat_map (λ n. codes " f" ++ decimal n) (marked flags.old) ∷ flat_map (λ n. codes " c" ++ decimal n) (marked channels.old)
+    ensures put { Put result (S.Took sink.old sink.new) (S.Broke sink.old sink.new)
+        (concat (codes "  wake"
+        ∷ flat_map (λ n. codes " f" ++ decimal n) (marked flags.old)
+        ∷ flat_map (λ n. codes " c" ++ decimal n) (marked channels.old)
         ∷ none.now ∷ codes "\n" ∷ [])) }
     ensures no_flag { OnOk result (marked flags.new ≡ []) }
     ensures no_channel { OnOk result (marked channels.new ≡ []) }
@@ -184,7 +192,8 @@ fn put_marked<S: Sink>(
     flags: &mut NumberSet,
     channels: &mut NumberSet,
 ) -> Result<(), S::Error>
-    ensures put { Put result (S.Took sink.old sink.new) (S.Broke sink.old sink.new) (wake_line (marked flags.old) (marked channels.old)) }
+    ensures put { Put result (S.Took sink.old sink.new) (S.Broke sink.old sink.new)
+        (wake_line (marked flags.old) (marked channels.old)) }
     ensures no_flag { OnOk result (marked flags.new ≡ []) }
     ensures no_channel { OnOk result (marked channels.new ≡ []) }
     ensures flag_limit { length flags.new ≡ length flags.old }
@@ -218,7 +227,8 @@ fn put_details<S: Sink>(
     state: &StateRow,
 ) -> Result<(), S::Error>
     requires { IsReady tables.now marks.old }
-    ensures put { Put result (S.Took sink.old sink.new) (S.Broke sink.old sink.new) (state_lines text.now tables.now state.now) }
+    ensures put { Put result (S.Took sink.old sink.new) (S.Broke sink.old sink.new)
+        (state_lines text.now tables.now state.now) }
     ensures ready { OnOk result (IsReady tables.now marks.new) }
 {
     put_options(sink, "  ", state.options.as_slice())?;
@@ -235,7 +245,8 @@ fn put_state<S: Sink>(
     state: &StateRow,
 ) -> Result<(), S::Error>
     requires { IsReady tables.now marks.old }
-    ensures put { Put result (S.Took sink.old sink.new) (S.Broke sink.old sink.new) (state_text text.now tables.now state.now) }
+    ensures put { Put result (S.Took sink.old sink.new) (S.Broke sink.old sink.new)
+        (state_text text.now tables.now state.now) }
     ensures ready { OnOk result (IsReady tables.now marks.new) }
 {
     put_state_line(sink, text, state)?;
@@ -253,7 +264,8 @@ fn put_states<S: Sink>(
     states: &[StateRow],
 ) -> Result<(), S::Error>
     requires { IsReady tables.now marks.old }
-    ensures put { Put result (S.Took sink.old sink.new) (S.Broke sink.old sink.new) (flat_map (state_text text.now tables.now) states.now) }
+    ensures put { Put result (S.Took sink.old sink.new) (S.Broke sink.old sink.new)
+        (flat_map (state_text text.now tables.now) states.now) }
     ensures ready { OnOk result (IsReady tables.now marks.new) }
 {
     for state in states {
@@ -270,7 +282,8 @@ fn put_set<S: Sink>(
     set: &SetRow,
 ) -> Result<(), S::Error>
     requires { IsReady tables.now marks.old }
-    ensures put { Put result (S.Took sink.old sink.new) (S.Broke sink.old sink.new) (set_text text.now tables.now set.now) }
+    ensures put { Put result (S.Took sink.old sink.new) (S.Broke sink.old sink.new)
+        (set_text text.now tables.now set.now) }
     ensures ready { OnOk result (IsReady tables.now marks.new) }
 {
     put_set_line(sink, text, set)?;
@@ -286,7 +299,8 @@ pub(crate) fn put_state_sets<S: Sink>(
     sets: &[SetRow],
 ) -> Result<(), S::Error>
     requires { IsReady tables.now marks.old }
-    ensures put { Put result (S.Took sink.old sink.new) (S.Broke sink.old sink.new) (flat_map (set_text text.now tables.now) sets.now) }
+    ensures put { Put result (S.Took sink.old sink.new) (S.Broke sink.old sink.new)
+        (flat_map (set_text text.now tables.now) sets.now) }
     ensures ready { OnOk result (IsReady tables.now marks.new) }
 {
     for set in sets {

@@ -29,7 +29,8 @@ pub(crate) fn put_number<S: Sink>(sink: &mut S, number: u64) -> Result<(), S::Er
 }
 
 fn put_word<S: Sink>(sink: &mut S, word: Word<'_>) -> Result<(), S::Error>
-    ensures { Put result (S.Took sink.old sink.new) (S.Broke sink.old sink.new) (word_text word.entry) }
+    ensures { Put result (S.Took sink.old sink.new) (S.Broke sink.old sink.new)
+        (word_text word.entry) }
 {
     match word {
         Word::Plain(text) => sink.put(text),
@@ -40,7 +41,8 @@ fn put_word<S: Sink>(sink: &mut S, word: Word<'_>) -> Result<(), S::Error>
 
 /// Puts words, one after another.
 pub(crate) fn put_words<S: Sink>(sink: &mut S, words: &[Word<'_>]) -> Result<(), S::Error>
-    ensures { Put result (S.Took sink.old sink.new) (S.Broke sink.old sink.new) (flat_map word_text words.now) }
+    ensures { Put result (S.Took sink.old sink.new) (S.Broke sink.old sink.new)
+        (flat_map word_text words.now) }
 {
     for word in words {
         put_word(sink, *word)?;

@@ -4,9 +4,7 @@ use Rattle.std.proofs.Common.{◌≡◌, ℕ, ◌+◌, ◌-◌, ◌<◌, ◌≤�
 use Rattle.std.proofs.lemmas.List.{take-append-drop, drop-drop, length-take-le}
 use Rattle.std.proofs.Math.Seq.{take-append_seam, drop-append-add}
 use Rattle.snl_lists.specs.Moves.{replaced}
-
-take_front : {X : Type 0} (front back : List X) (n : ℕ) → n ≡ length front → take n (front ++ back) ≡ front
-take_front front back n e = ap (λ k. take k (front ++ back)) e ∙ take-append_seam front back
+use Rattle.snl_lists.proofs.Keys.{take_front}
 
 drop_front : {X : Type 0} (front back : List X) (n k : ℕ) → n ≡ length front + k → drop n (front ++ back) ≡ drop k back
 drop_front front back n k e = ap (λ j. drop j (front ++ back)) e ∙ drop-append-add front back k

@@ -8,10 +8,6 @@ use Rattle.slab.specs.Slab.{Slab, get, Updates}
 use Rattle.snl_lists.specs.Keyed.{values_of, Differs, IsDistinct, AreStored, IsKeyed, KeepsOthers, Stores, Turned}
 use Rattle.snl_lists.proofs.Keys.{Outside, differs_left, differs_right, distinct_more, not_among, parts}
 
-pub no_items : {T : Type 0} (xs : List T) → length xs ≡ 0 → xs ≡ []
-no_items [] h = refl
-no_items (x ∷ xs) h = absurd (omega (arith, h))
-
 is_some_not_none : {T : Type 0} (o : Option T) → IsSome o → o ≡ None → ⊥
 is_some_not_none None h e = cc
 is_some_not_none (Some x) h e = cc

@@ -10,10 +10,14 @@ use Rattle.snl_place.specs.declared.places.Encoding.{Encoding}
 use Rattle.snl_place.specs.declared.places.Encoding.TheVariants.{Utf8}
 use Rattle.snl_place.specs.declared.places.Place.{Place}
 use Rattle.snl_place.specs.Places.{offset_in, onto, place_in, units}
-use Rattle.snl_place.proofs.LineEnds.{begin_below, begin_from, begin_is, below, below_is}
-use Rattle.snl_place.proofs.LineEnds.{below_none, count_yes, ends_climb, lt_yes, no_feeds}
-use Rattle.snl_place.proofs.LineEnds.{IsEnded, not_ended, split, two_takes}
+use Rattle.snl_place.proofs.LineEnds.{begin_below, begin_from, begin_is, below_is}
+use Rattle.snl_place.proofs.LineEnds.{no_feeds}
+use Rattle.snl_place.proofs.LineEnds.{IsEnded, not_ended, two_takes}
 use Rattle.snl_place.proofs.Walks.{in_line, lines_counted, one_line, same}
+use Rattle.std.proofs.Math.Seq.{take-nil}
+use Rattle.snl_lex.specs.LineLaws.{below, below_none, ends_climb}
+use Rattle.std.proofs.lemmas.Bool.{cases_lt, lt-ltb}
+use Rattle.snl_facts.specs.Counts.{count_yes}
 
 -- ---- the place of an offset is in the line that begins before it
 
@@ -81,11 +85,8 @@ by_step encoding b at o bs es (suc k) false le e h =
 
 count_step : (at o : ℕ) (es : List ℕ) (feed : Bool) → at < o
     → below o (cond feed (at ∷ es) es) ≡ cond feed (suc (below o es)) (below o es)
-count_step at o es true lt = count_yes (λ e. nat_lt e o) at es (lt_yes at o lt)
+count_step at o es true lt = count_yes (λ e. nat_lt e o) at es (lt-ltb at o lt)
 count_step at o es false lt = refl
-
-taken_none : (n : ℕ) → take {A = ℕ} n [] ≡ []
-taken_none n = take_all {A = ℕ} n [] (omega arith)
 
 by_zero : (encoding : Encoding) (at o : ℕ) (bs es : List ℕ) → at ≤ o
     → (place_in encoding (take (o - at) bs)).line ≡ 0
@@ -97,9 +98,9 @@ by_zero encoding at o bs es le l =
 by_ends : (encoding : Encoding) (at : ℕ) (bs : List ℕ) (o : ℕ) → at ≤ o
     → IsBy encoding at bs (line_ends_from at bs) o (below o (line_ends_from at bs))
     (place_in encoding (take (o - at) bs))
-by_ends encoding at [] o le = by_zero encoding at o [] [] le (rw (taken_none (o - at)) refl)
+by_ends encoding at [] o le = by_zero encoding at o [] [] le (rw (take-nil (o - at)) refl)
 by_ends encoding at (b ∷ bs) o le =
-    elim (split at o) [
+    elim (cases_lt at o) [
       | inl less ↦
           let es : List ℕ = line_ends_from (suc at) bs in
           let m : o - at ≡ suc (o - suc at) = omega (arith, less) in

@@ -13,8 +13,9 @@ use Rattle.snl_place.specs.declared.places.Encoding.{Encoding}
 use Rattle.snl_place.specs.declared.places.Encoding.TheVariants.{Utf8, Utf16}
 use Rattle.snl_place.specs.declared.places.Place.{Place}
 use Rattle.snl_place.specs.Places.{IsOneLine, onto, place_in, units}
-use Rattle.snl_place.proofs.LineEnds.{bit, feeds, lt_no, lt_yes, split}
+use Rattle.snl_place.proofs.LineEnds.{bit, feeds}
 use Rattle.snl_place.proofs.Walks.{none_fed, one_line, same}
+use Rattle.std.proofs.lemmas.Bool.{cases_lt, lt-ltb, le-ltb}
 
 -- ---- ASCII
 
@@ -63,10 +64,10 @@ pub record Counts (c : ℕ) (bytes : List ℕ) : Type 0 where
   pub line : c ≢ 10 → feeds bytes ≡ 0
 
 sixteen_one : (c : ℕ) → c < 65536 → length (encode_utf16 c) ≡ 1
-sixteen_one c h = rw (lt_yes c 65536 h) refl
+sixteen_one c h = rw (lt-ltb c 65536 h) refl
 
 sixteen_two : (c : ℕ) → 65536 ≤ c → length (encode_utf16 c) ≡ 2
-sixteen_two c h = rw (lt_no c 65536 h) refl
+sixteen_two c h = rw (le-ltb c 65536 h) refl
 
 sum_one : (a n : ℕ) → a ≡ n → 0 + a ≡ n
 sum_one a n e = omega (arith, e)
@@ -129,22 +130,22 @@ four_bytes b x y z c h large =
 character : (c : ℕ) → Counts c (encode c)
 unfolding encode
 character c =
-    elim (split c 128) [
-      | inl one ↦ rw (lt_yes c 128 one) (one_byte c one)
+    elim (cases_lt c 128) [
+      | inl one ↦ rw (lt-ltb c 128 one) (one_byte c one)
       | inr over_one ↦
-          elim (split c 2048) [
+          elim (cases_lt c 2048) [
             | inl two ↦
                 let few : 192 + c / 64 < 224 = omega (arith, two) in
-                rw (lt_no c 128 over_one, lt_yes c 2048 two)
+                rw (le-ltb c 128 over_one, lt-ltb c 2048 two)
                 (two_bytes (192 + c / 64) c c (omega arith) few (omega (arith, two)))
             | inr over_two ↦
-                elim (split c 65536) [
+                elim (cases_lt c 65536) [
                   | inl three ↦
                       let few : 224 + c / 4096 < 240 = omega (arith, three) in
-                      rw (lt_no c 128 over_one, lt_no c 2048 over_two, lt_yes c 65536 three)
+                      rw (le-ltb c 128 over_one, le-ltb c 2048 over_two, lt-ltb c 65536 three)
                       (three_bytes (224 + c / 4096) (c / 64) c c (omega arith) few three)
                   | inr four ↦
-                      rw (lt_no c 128 over_one, lt_no c 2048 over_two, lt_no c 65536 four)
+                      rw (le-ltb c 128 over_one, le-ltb c 2048 over_two, le-ltb c 65536 four)
                       (four_bytes (240 + c / 262144) (c / 4096) (c / 64) c c (omega arith) four)
                 ]
           ]

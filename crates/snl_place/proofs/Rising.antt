@@ -9,8 +9,11 @@ use Rattle.snl_place.specs.declared.places.Encoding.{Encoding}
 use Rattle.snl_place.specs.declared.places.Place.{Place}
 use Rattle.snl_place.specs.Places.{CutsNoLineEnd, IsNotAfter, ends_line, offset_in, place_in}
 use Rattle.snl_place.specs.Places.{stops, units}
-use Rattle.snl_place.proofs.LineEnds.{count_append, feeds, split, two_takes}
+use Rattle.snl_place.proofs.LineEnds.{feeds, two_takes}
 use Rattle.snl_place.proofs.Walks.{in_line, lines_counted}
+use Rattle.std.proofs.lemmas.Bool.{cases_lt}
+use Rattle.snl_facts.specs.Counts.{count_append}
+use Rattle.std.proofs.Math.Bool.{or-true}
 
 -- ---- an earlier offset has no later place
 
@@ -25,7 +28,7 @@ places_in_order encoding text from to le =
     ap feeds two ∙ count_append (λ b. b == 10) (take from text) part in
     let l : p.line ≡ feeds (take from text) = lines_counted encoding (take from text) in
     let m : q.line ≡ feeds (take to text) = lines_counted encoding (take to text) in
-    elim (split 0 (feeds part)) [
+    elim (cases_lt 0 (feeds part)) [
       | inl some ↦ inl (omega (arith, l, m, parts, some))
       | inr few ↦
           let none : feeds part ≡ 0 = omega (arith, few) in
@@ -42,21 +45,17 @@ places_in_order encoding text from to le =
 abbrev pub IsInOrder : (l c m d : ℕ) → Type 0
 IsInOrder l c m d = (l < m) ⊎ ((l ≡ m) × (c ≤ d))
 
-or_true : (b : Bool) → (b || true) ≡ true
-or_true true = refl
-or_true false = refl
-
 -- Where more units end at a byte, fewer do too.
 more_stops : (c d u : ℕ) (ends : Bool) → c ≤ d → (ltb d u || ends) ≡ true → (ltb c u || ends) ≡ true
-more_stops c d u true le h = or_true (ltb c u)
+more_stops c d u true le h = or-true (ltb c u)
 more_stops c d u false le h = grind (arith, nat_tests)
 
 -- At an LF any units end.
 feed_stops : (encoding : Encoding) (c b : ℕ) (next : Option ℕ) → (b == 10) ≡ true
     → stops encoding c b next ≡ true
-feed_stops encoding c b None e = ap (λ t. ltb c (units encoding b) || t) e ∙ or_true _
+feed_stops encoding c b None e = ap (λ t. ltb c (units encoding b) || t) e ∙ or-true _
 feed_stops encoding c b (Some x) e =
-    ap (λ t. ltb c (units encoding b) || (t || ((b == 13) && (x == 10)))) e ∙ or_true _
+    ap (λ t. ltb c (units encoding b) || (t || ((b == 13) && (x == 10)))) e ∙ or-true _
 
 both_stop : (s t : Bool) (x y : ℕ) → (t ≡ true → s ≡ true) → x ≤ y
     → cond s 0 (1 + x) ≤ cond t 0 (1 + y)
@@ -168,7 +167,7 @@ cut_line encoding b c o bytes false e rest =
     let t : Bool = ltb c (units encoding b) in
     let first : o ≡ 0 → b ≡ 13 → slice_get bytes 0 ≢ Some 10 = λ none is feed.
     let ends : stops encoding c b (slice_get bytes 0) ≡ true =
-    ap (λ x. t || x) (return_ends b bytes is feed) ∙ or_true t in
+    ap (λ x. t || x) (return_ends b bytes is feed) ∙ or-true t in
     let no : true ≡ false = sym ends ∙ e in
     cc in
     one_cut b bytes o first rest

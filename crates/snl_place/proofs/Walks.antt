@@ -12,7 +12,8 @@ use Rattle.snl_place.specs.declared.places.Encoding.TheVariants.{Utf8, Utf16}
 use Rattle.snl_place.specs.declared.places.Place.{Place}
 use Rattle.snl_place.specs.Places.{CutsNoLineEnd, IsOneLine, ends_line, offset_in, onto}
 use Rattle.snl_place.specs.Places.{place_in, stops, units}
-use Rattle.snl_place.proofs.LineEnds.{bit, count_append, feeds}
+use Rattle.snl_place.proofs.LineEnds.{bit, feeds}
+use Rattle.snl_facts.specs.Counts.{count_append}
 
 -- Places with the same parts are the same.
 pub same : (a b c d : ℕ) → a ≡ b → c ≡ d

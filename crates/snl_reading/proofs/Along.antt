@@ -1,15 +1,16 @@
 -- Items along the ends of their tokens, each with its tree.
 use Rattle.std.proofs.Common.{arith, ◌≡◌, ℕ, suc, ◌+◌, ◌-◌, ◌<◌, List, [], ◌∷◌, ◌++◌, All, length, take, drop, get_or, map, Option, refl, ap, sym, subst, ◌∙◌, append_assoc, length-drop, add-one, drop-cons}
 use Rattle.std.specs.List.{zip}
-use Rattle.std.proofs.lemmas.List.{map-append}
+use Rattle.std.proofs.lemmas.List.{map-append, drop_more}
 use Rattle.std.proofs.lemmas.List.Elements.{All-filter}
 use Rattle.snl_cut.specs.Cut.{IsFront, Walks, members}
 use Rattle.snl_lex.specs.declared.piece.Piece.{Piece}
 use Rattle.snl_lex.specs.Pieces.{LiesIn, is_token, pieces_of, tokens_of}
 use Rattle.snl_syntax.specs.declared.tree.item.Item.{Item}
-use Rattle.snl_check.specs.Items.{EndsWithin, ProgramItem, program_items}
+use Rattle.snl_item_check.specs.Items.{EndsWithin, ProgramItem, program_items}
 use Rattle.snl_reading.specs.declared.items.ReadItem.{ReadItem}
 use Rattle.snl_reading.specs.ItemsRead.{AreItems, item_read, items_read, trees_of_items}
+use Rattle.snl_facts.specs.Lists.{some_left}
 
 -- an item of tokens from one number up to another
 abbrev pub item_between : List Piece → ℕ → ℕ → Option Item → ProgramItem
@@ -18,13 +19,6 @@ item_between tokens start stop tree = record { tokens = take (stop - start) (dro
 -- the items from a token on
 abbrev pub items_from : List Piece → ℕ → List ℕ → List (Option Item) → List ProgramItem
 items_from tokens from ends trees = map (λ p. record { tokens = p.0; tree = p.1 }) (zip (members tokens from ends) trees)
-
--- what is left of a list begins with the element here
-pub drop_at : {X : Type 0} (xs : List X) (i : ℕ) (d : X) → i < length xs → drop i xs ≡ get_or xs i d ∷ drop (i + 1) xs
-drop_at xs i d within = rw add-one (drop-cons xs i d within)
-
-pub drop_here : {X : Type 0} (xs : List X) (i : ℕ) (x : X) → i < length xs → x ≡ get_or xs i x → drop i xs ≡ x ∷ drop (i + 1) xs
-drop_here xs i x within is = drop_at xs i x within ∙ ap (λ y. y ∷ drop (i + 1) xs) (sym is)
 
 -- one more item
 pub one_more : (tokens : List Piece) (start stop : ℕ) (es : List ℕ) (t : Option Item) (ts : List (Option Item)) (done now : List ReadItem) (item : ReadItem) (all : List ProgramItem)
@@ -68,14 +62,10 @@ are_items text tokens ends trees xs inside is within each along = record {
       ∙ sym along;
 }
 
--- the ends of a cut are in order, and none is after the last unit
-rest_some : {X : Type 0} (units : List X) (from : ℕ) → from < length units → 0 < length (drop from units)
-rest_some units from h = omega (arith, length-drop from units)
-
 pub ends_within : {X : Type 0} (first : List X → ℕ) → IsFront first → (units : List X) (from : ℕ) (ends : List ℕ) (to : ℕ) → Walks first units from ends to → EndsWithin from ends (length units)
 ends_within first front units from [] to walks = tt
 ends_within first front units from (e ∷ es) to walks =
-    let bounds = front (drop from units) (rest_some units from walks.0) in
+    let bounds = front (drop from units) (some_left units from walks.0) in
     let long : length (drop from units) ≡ length units - from = length-drop from units in
     let within : from < length units = walks.0 in
     let is : e ≡ from + first (drop from units) = walks.1 in

@@ -2,7 +2,7 @@
 use Rattle.std.specs.Prelude.{◌≡◌, ℕ, List, All, length, map, Option, option_copied}
 use Rattle.snl_lex.specs.Pieces.{LiesIn, tokens_of}
 use Rattle.snl_syntax.specs.declared.tree.item.Item.{Item}
-use Rattle.snl_check.specs.Items.{IsCutUp, ProgramItem, program_items}
+use Rattle.snl_item_check.specs.Items.{IsCutUp, ProgramItem, program_items}
 use Rattle.snl_reading.specs.declared.items.ReadItem.{ReadItem}
 
 -- The tree of an item. A faulty one has none.

@@ -2,11 +2,11 @@
 
 ghost use Rattle.std.specs.Prelude.{◌≡◌, All, IfOk, map};
 ghost use Rattle.snl_reading.specs.ItemsRead.{ReadFrom, item_read, items_read};
-ghost use Rattle.snl_check.specs.Told.{told_in_item, told_kept};
+ghost use Rattle.snl_item_check.specs.Told.{told_in_item, told_kept};
 
 use crate::items::ReadItem;
-use snl_check::{Checked, check_item};
 use snl_cut::{Count, OutOfMemory};
+use snl_item_check::{Checked, check_item};
 use snl_scope::Links;
 use std::alloc::Global;
 

@@ -1,7 +1,7 @@
 //! A text comes in; its pieces, its tokens, and where its items end among these go out.
 
 ghost use Rattle.std.specs.Prelude.{◌≡◌, All, IfOk, length};
-ghost use Rattle.snl_check.specs.Items.{EndsWithin};
+ghost use Rattle.snl_item_check.specs.Items.{EndsWithin};
 ghost use Rattle.snl_cut.specs.Cut.{IsCut};
 ghost use Rattle.snl_lex.specs.Pieces.{LiesIn, pieces_of, tokens_of};
 ghost use Rattle.snl_syntax.specs.Items.{item};

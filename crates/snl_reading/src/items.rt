@@ -2,7 +2,7 @@
 //! item has none.
 
 ghost use Rattle.std.specs.Prelude.{◌≡◌, ℕ, All, IfOk, List, length};
-ghost use Rattle.snl_check.specs.Items.{EndsWithin, program_items};
+ghost use Rattle.snl_item_check.specs.Items.{EndsWithin, program_items};
 ghost use Rattle.snl_lex.specs.Pieces.{LiesIn, tokens_of};
 ghost use Rattle.snl_reading.specs.ItemsRead.{AreItems, ReadFrom, items_read};
 

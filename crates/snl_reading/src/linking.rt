@@ -2,7 +2,7 @@
 //! out.
 
 ghost use Rattle.std.specs.Prelude.{◌≡◌, All, IfOk, length, map};
-ghost use Rattle.snl_check.specs.Items.{EndsWithin, outlines_of, summary_of_item};
+ghost use Rattle.snl_item_check.specs.Items.{EndsWithin, outlines_of, summary_of_item};
 ghost use Rattle.snl_lex.specs.Pieces.{LiesIn};
 ghost use Rattle.snl_reading.specs.ItemsRead.{ReadFrom, items_read};
 ghost use Rattle.snl_scope.specs.LinkedItems.{linked_items};

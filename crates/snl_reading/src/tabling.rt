@@ -1,9 +1,9 @@
 //! The items of a text, their links and their checks come in; the tables of the text go out.
 
 ghost use Rattle.std.specs.Prelude.{◌≡◌, All, IfOk, length, map, option_copied};
-ghost use Rattle.snl_check.specs.Items.{EndsWithin, outlines_of};
+ghost use Rattle.snl_item_check.specs.Items.{EndsWithin, outlines_of};
 ghost use Rattle.snl_check.specs.Tables.{tables_of};
-ghost use Rattle.snl_check.specs.Told.{told_in_item, told_kept, told_seen};
+ghost use Rattle.snl_item_check.specs.Told.{told_in_item, told_kept, told_seen};
 ghost use Rattle.snl_lex.specs.Pieces.{LiesIn, pieces_of, tokens_of};
 ghost use Rattle.snl_reading.specs.ItemsRead.{AreItems, ReadFrom, items_read, trees_of_items};
 
@@ -11,8 +11,9 @@ use crate::checking::checks_of;
 use crate::cutting::{item_ends_of, pieces_of, tokens_of};
 use crate::items::{ReadItem, items_of, trees_of};
 use crate::linking::links_among;
-use snl_check::{Checked, Tables, tables};
+use snl_check::{Tables, tables};
 use snl_cut::OutOfMemory;
+use snl_item_check::Checked;
 use snl_lex::Piece;
 use snl_scope::Links;
 use snl_syntax::tree::item::Item;

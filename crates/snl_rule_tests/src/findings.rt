@@ -1,13 +1,13 @@
 //! Items with what is found in them, told from the language's rules.
 
 ghost use Rattle.std.specs.Prelude.{All, ◌≡◌, ◌<◌, length};
-ghost use Rattle.snl_check.specs.Items.{EndsWithin};
+ghost use Rattle.snl_item_check.specs.Items.{EndsWithin};
 ghost use Rattle.snl_lex.specs.Pieces.{LiesIn};
 ghost use Rattle.snl_reading.specs.ItemsRead.{ReadFrom};
 
 use crate::words::add_word;
-use snl_check::{ItemFault, check_item, warning_setting};
 use snl_cut::Count;
+use snl_item_check::{ItemFault, check_item, warning_setting};
 use snl_lex::Piece;
 use snl_reading::{ReadItem, item_ends_of, items_of, links_among, tokens_of, trees_of};
 use snl_scope::Links;

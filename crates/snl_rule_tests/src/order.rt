@@ -1,7 +1,7 @@
 //! Texts with what is found by the order of items and by their names, and the codes of findings.
 
 use crate::questions::{Question, expect_answers};
-use snl_scope::Code;
+use snl_codes::Code;
 use std::test::Fail;
 
 // A text, and what its links find. What is missing altogether is after the last item.

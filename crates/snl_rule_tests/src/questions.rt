@@ -2,7 +2,8 @@
 
 use crate::reading::links;
 use crate::words::{add_coverage, add_digit, add_number, add_option, add_variable, clause_letter};
-use snl_scope::{Assigned, Code, Declaration, Fact, Level, Links, NameKind, Scope};
+use snl_codes::Code;
+use snl_scope::{Assigned, Declaration, Fact, Level, Links, NameKind, Scope};
 use std::alloc::Global;
 use std::process::Abort;
 use std::test::Fail;

@@ -10,10 +10,10 @@ use Rattle.std.specs.Str.{bytes_eq}
 use Rattle.indexmap.specs.IndexMap.{insert_entry}
 use Rattle.snl_scope.specs.declared.facts.LinkFault.{LinkFault}
 use Rattle.snl_scope.specs.declared.names.first_numbers.FirstNumbers.{FirstNumbers}
-use Rattle.snl_scope.specs.declared.names.namespaces.Key.{Key}
+use Rattle.snl_scope.specs.declared.names.namespaces.QualifiedName.{QualifiedName}
 use Rattle.snl_scope.specs.declared.names.namespaces.Namespace.{Namespace}
 use Rattle.snl_scope.specs.declared.names.name_tables.Symbol.{Symbol}
-use Rattle.snl_scope.specs.contracts.names.namespaces.KeyPartialEq.TheImpl as key_eq
+use Rattle.snl_scope.specs.contracts.names.namespaces.QualifiedNamePartialEq.TheImpl as key_eq
 use Rattle.snl_scope.specs.Below.{all_below}
 use Rattle.snl_scope.specs.Flags.{is_first_at}
 use Rattle.snl_scope.specs.Names.{Entry, has_name, number_in, repetition, repetition_at, repetitions}
@@ -42,7 +42,7 @@ or-none : {A : Type 0} (o : Option A) → option_or o None ≡ o
 or-none None = refl
 or-none (Some x) = refl
 
-abbrev key : Namespace → ℕ → Key
+abbrev key : Namespace → ℕ → QualifiedName
 key s n = record { namespace = s; name = n }
 
 under_same : (first first' : FirstNumbers) → AreSame first first' → (s : Namespace) (o : Option ℕ) → option_and_then (number_under first' s) o ≡ option_and_then (number_under first s) o
@@ -188,15 +188,15 @@ module _ (names : List (List ℕ)) (first : FirstNumbers) (symbols : List Symbol
       }
 
 -- the table is read by the test that the code derives
-lookup-same : (p q : Key → Bool) (entries : List (Key × ℕ)) → ((k : Key) → p k ≡ q k) → lookup p entries ≡ lookup q entries
+lookup-same : (p q : QualifiedName → Bool) (entries : List (QualifiedName × ℕ)) → ((k : QualifiedName) → p k ≡ q k) → lookup p entries ≡ lookup q entries
 lookup-same p q [] h = refl
 lookup-same p q (e ∷ es) h = ap (λ b. cond b (Some e.1) (lookup p es)) (h e.0) ∙ ap (λ o. cond (q e.0) (Some e.1) o) (lookup-same p q es h)
 
-pub lookup_is : (k : Key) (entries : List (Key × ℕ)) → lookup (key_eq.eq-value.it k) entries ≡ lookup (same_key k) entries
+pub lookup_is : (k : QualifiedName) (entries : List (QualifiedName × ℕ)) → lookup (key_eq.eq-value.it k) entries ≡ lookup (same_key k) entries
 lookup_is k entries = lookup-same (key_eq.eq-value.it k) (same_key k) entries (key_is k)
 
 -- a value that is put in the place of another and back leaves the entries as they were
-put-back : (eq : Key → Key → Bool) (k : Key) (v w : ℕ) (es : List (Key × ℕ)) → lookup (eq k) es ≡ Some w → insert_entry eq (insert_entry eq es k v) k w ≡ es
+put-back : (eq : QualifiedName → QualifiedName → Bool) (k : QualifiedName) (v w : ℕ) (es : List (QualifiedName × ℕ)) → lookup (eq k) es ≡ Some w → insert_entry eq (insert_entry eq es k v) k w ≡ es
 put-back eq k v w [] h = absurd (cc)
 put-back eq k v w (e ∷ es) h = by (λ f. put-back eq k v w es f) (eq k e.0) refl h
   where
@@ -205,13 +205,13 @@ put-back eq k v w (e ∷ es) h = by (λ f. put-back eq k v w es f) (eq k e.0) re
     by rest true g f = let same : w ≡ e.1 = cc in ap (λ b. if b then (e.0, w) ∷ es else (e.0, v) ∷ insert_entry eq es k w) g ∙ ap (λ x. (e.0, x) ∷ es) same
     by rest false g f = ap (λ b. if b then (e.0, w) ∷ insert_entry eq es k v else e ∷ insert_entry eq (insert_entry eq es k v) k w) g ∙ ap (λ l. e ∷ l) (rest f)
 
-pub first_stays : (k : Key) (number first : ℕ) (entries : List (Key × ℕ)) → Some first ≡ lookup (key_eq.eq-value.it k) entries
+pub first_stays : (k : QualifiedName) (number first : ℕ) (entries : List (QualifiedName × ℕ)) → Some first ≡ lookup (key_eq.eq-value.it k) entries
     → insert_entry key_eq.eq-value.it (insert_entry key_eq.eq-value.it entries k number) k first ≡ entries
 first_stays k number first entries h = put-back key_eq.eq-value.it k number first entries (sym h)
 
-pub put_is : (k : Key) (number : ℕ) (before after : List (Key × ℕ))
-    → ((q : Key) → lookup (key_eq.eq-value.it q) after ≡ cond (key_eq.eq-value.it k q) (Some number) (lookup (key_eq.eq-value.it q) before))
-    → (q : Key) → lookup (same_key q) after ≡ cond (same_key k q) (Some number) (lookup (same_key q) before)
+pub put_is : (k : QualifiedName) (number : ℕ) (before after : List (QualifiedName × ℕ))
+    → ((q : QualifiedName) → lookup (key_eq.eq-value.it q) after ≡ cond (key_eq.eq-value.it k q) (Some number) (lookup (key_eq.eq-value.it q) before))
+    → (q : QualifiedName) → lookup (same_key q) after ≡ cond (same_key k q) (Some number) (lookup (same_key q) before)
 put_is k number before after h q =
     sym (lookup_is q after) ∙ h q ∙ ap (λ b. cond b (Some number) (lookup (key_eq.eq-value.it q) before)) (key_is k q)
     ∙ ap (λ o. cond (same_key k q) (Some number) o) (lookup_is q before)

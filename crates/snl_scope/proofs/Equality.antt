@@ -4,10 +4,10 @@ use Rattle.std.proofs.Common.{◌≡◌, ℕ, Bool, true, false, ◌&&◌, List,
 use Rattle.std.specs.Str.{bytes_eq}
 use Rattle.std.proofs.lemmas.Bool.Decides.{Decides-eqb}
 use Rattle.std.proofs.lemmas.Slice.Eq.{bytes_eq-Decides}
-use Rattle.snl_scope.specs.declared.names.namespaces.Key.{Key}
+use Rattle.snl_scope.specs.declared.names.namespaces.QualifiedName.{QualifiedName}
 use Rattle.snl_scope.specs.declared.names.namespaces.Namespace.{Namespace}
 use Rattle.snl_scope.specs.declared.names.namespaces.Namespace.TheVariants as namespace
-use Rattle.snl_scope.specs.contracts.names.namespaces.KeyPartialEq.TheImpl as key_eq
+use Rattle.snl_scope.specs.contracts.names.namespaces.QualifiedNamePartialEq.TheImpl as key_eq
 use Rattle.snl_scope.specs.contracts.names.namespaces.NamespacePartialEq.TheImpl as namespace_eq
 use Rattle.snl_scope.specs.Names.{Entry, has_name, same_namespace}
 use Rattle.snl_scope.specs.NameTables.{same_key}
@@ -39,7 +39,7 @@ namespace_is (namespace.States a) (namespace.State b) = refl
 namespace_is (namespace.States a) namespace.Sets = refl
 namespace_is (namespace.States a) (namespace.States b) = refl
 
-pub key_is : (a b : Key) → key_eq.eq-value.it a b ≡ same_key a b
+pub key_is : (a b : QualifiedName) → key_eq.eq-value.it a b ≡ same_key a b
 key_is a b = ap (λ c. c && nat_eq a.name b.name) (namespace_is a.namespace b.namespace)
 
 pub namespace_true : (a b : Namespace) → same_namespace a b ≡ true → a ≡ b
@@ -82,10 +82,10 @@ both true false h = absurd (true≢false (sym h))
 both false c h = absurd (true≢false (sym h))
 
 -- what an equal key and an entry of a name are
-pub key_true : (a b : Key) → same_key a b ≡ true → (a.namespace ≡ b.namespace) × (a.name ≡ b.name)
+pub key_true : (a b : QualifiedName) → same_key a b ≡ true → (a.namespace ≡ b.namespace) × (a.name ≡ b.name)
 key_true a b h = let p = both (same_namespace a.namespace b.namespace) (nat_eq a.name b.name) h in (namespace_true a.namespace b.namespace p.0, (Decides-eqb a.name b.name).0 p.1)
 
-pub key_same : (a : Key) → same_key a a ≡ true
+pub key_same : (a : QualifiedName) → same_key a a ≡ true
 key_same a = ap (λ b. b && nat_eq a.name a.name) (namespace_same a.namespace) ∙ (Decides-eqb a.name a.name).1 refl
 
 pub name_true : (s : Namespace) (name : List ℕ) (e : Entry) → has_name s name e ≡ true → (s ≡ e.namespace) × (name ≡ e.name)

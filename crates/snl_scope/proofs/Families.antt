@@ -1,14 +1,15 @@
 -- Findings that differ, by their items and by the families of their codes: those of order, of
 -- names, and of clauses.
-use Rattle.std.proofs.Common.{◌≡◌, ◌≢◌, ℕ, ◌<◌, ◌≤◌, List, ◌++◌, ap, arith}
+use Rattle.std.proofs.Common.{◌≡◌, ◌≢◌, ℕ, ◌<◌, ◌≤◌, if◌then◌else◌, List, ◌++◌, ap, arith}
 use Rattle.std.specs.List.{AllByRecursion as Each}
-use Rattle.snl_walk.specs.declared.codes.Code.{Code}
-use Rattle.snl_walk.specs.declared.codes.Code.TheVariants.{E03, E04, E05, E06, E07, E08, E09, E11, E12, E13, E14, E15, E16, E22, W05}
+use Rattle.snl_codes.specs.declared.code.Code.{Code}
+use Rattle.snl_codes.specs.declared.code.Code.TheVariants.{E03, E04, E05, E06, E07, E08, E09, E14}
+use Rattle.snl_codes.specs.Codes.{is_link_code}
 use Rattle.snl_scope.specs.declared.facts.LinkFault.{LinkFault}
 use Rattle.snl_scope.proofs.Pairs.{EachTwo, each_weaker, two_parts}
 
--- A number for each of the codes of order and of names, and for those of clauses one at variables
--- and one at flags. The links have no others.
+-- A number for each of the codes of order and of names. Those at clauses have two: one at flags, one
+-- at variables. The links have no others.
 abbrev pub rank : Code → ℕ
 rank E03 = 3
 rank E04 = 4
@@ -17,15 +18,8 @@ rank E06 = 6
 rank E07 = 7
 rank E08 = 8
 rank E09 = 9
-rank E11 = 10
-rank E12 = 10
-rank E13 = 10
 rank E14 = 11
-rank E15 = 10
-rank E16 = 10
-rank E22 = 10
-rank W05 = 10
-rank _ = 12
+rank c = if is_link_code c then 10 else 12
 
 abbrev pub Differ : LinkFault → LinkFault → Type 0
 Differ f g = f ≢ g

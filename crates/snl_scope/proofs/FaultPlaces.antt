@@ -4,8 +4,8 @@ use Rattle.std.specs.List.{AllByRecursion as Each, Contains}
 use Rattle.std.specs.Option.{option_map_or, option_to_list}
 use Rattle.std.proofs.lemmas.Bool.{cases_lt, false≢true}
 use Rattle.std.proofs.lemmas.List.Elements.{All-contains_itself, All-from_recursion, recursion_from_All}
-use Rattle.snl_walk.specs.declared.codes.Code.{Code}
-use Rattle.snl_walk.specs.declared.codes.Code.TheVariants.{E03, E04, E05, E06, E07, E08, E09, E11, E12, E13, E14, E15, E16, E22, W05}
+use Rattle.snl_codes.specs.declared.code.Code.{Code}
+use Rattle.snl_codes.specs.declared.code.Code.TheVariants.{E03, E04, E05, E06, E07, E08, E09}
 use Rattle.snl_scope.specs.declared.facts.LinkFault.{LinkFault}
 use Rattle.snl_scope.specs.declared.names.namespaces.Namespace.{Namespace}
 use Rattle.snl_scope.specs.declared.names.namespaces.Namespace.TheVariants as namespace
@@ -14,7 +14,7 @@ use Rattle.snl_scope.specs.declared.summaries.summary.Outline.{Outline}
 use Rattle.snl_scope.specs.declared.summaries.summary.VariableClause.{VariableClause}
 use Rattle.snl_scope.specs.Below.{all_below, any_below}
 use Rattle.snl_scope.specs.Clauses.{LinkedClause, clause_faults, clauses_before, clauses_of, linked_clause}
-use Rattle.snl_walk.specs.Codes.{is_link_code}
+use Rattle.snl_codes.specs.Codes.{is_link_code}
 use Rattle.snl_scope.specs.FaultPlaces.{DeclaresOutside, IsPlaced, IsPlacedBy, NoneIs, SpeaksOfTokens}
 use Rattle.snl_scope.specs.Linked.{faults_of}
 use Rattle.snl_scope.specs.LinkedItems.{LinkedItems}
@@ -75,21 +75,7 @@ none_is test ss h i s at = ap (λ o. option_map_or test o false) (sym at) ∙ no
 
 link_code : (c : Code) → rank c < 12 → is_link_code c ≡ true
 link_code E03 h = refl
-link_code E04 h = refl
-link_code E05 h = refl
-link_code E06 h = refl
-link_code E07 h = refl
-link_code E08 h = refl
-link_code E09 h = refl
-link_code E11 h = refl
-link_code E12 h = refl
-link_code E13 h = refl
-link_code E14 h = refl
-link_code E15 h = refl
-link_code E16 h = refl
-link_code E22 h = refl
-link_code W05 h = refl
-link_code _ h = absurd (omega (arith, h))
+link_code _ h = grind arith
 
 and_left : (a b : Bool) → (a && b) ≡ true → a ≡ true
 and_left true b h = refl

@@ -2,8 +2,8 @@
 use Rattle.std.proofs.Common.{◌≡◌, Bool, true, false, not, ◌&&◌, List, [], ◌∷◌, ◌++◌, map, Option, None, Some, refl, sym, ap, ◌∙◌, append_assoc, if◌then◌else◌}
 use Rattle.std.proofs.lemmas.List.{append-nil, map-append}
 use Rattle.std.specs.List.{zip}
-use Rattle.snl_walk.specs.declared.codes.Code.{Code}
-use Rattle.snl_walk.specs.declared.codes.Code.TheVariants.{E13, E15, E16}
+use Rattle.snl_codes.specs.declared.code.Code.{Code}
+use Rattle.snl_codes.specs.declared.code.Code.TheVariants.{E13, E15, E16}
 use Rattle.snl_scope.specs.declared.facts.ClauseLink.{ClauseLink}
 use Rattle.snl_scope.specs.declared.summaries.summary.Variable.{Variable}
 use Rattle.snl_scope.specs.Claims.{sound_among}
@@ -21,10 +21,6 @@ code_by c v is_assigned is_repeated =
     else None
 
 module _ (es : List Entry) (cs : List LinkedClause) where
-  pub sound-push : (sound ds : List LinkedClause) (d : LinkedClause) → sound_after es cs sound (ds ++ d ∷ []) ≡ with_clause es cs (sound_after es cs sound ds) d
-  sound-push sound [] d = refl
-  sound-push sound (c ∷ ds) d = sound-push (with_clause es cs sound c) ds d
-
   pub found-push : (sound ds : List LinkedClause) (d : LinkedClause)
       → found_after es cs sound (ds ++ d ∷ []) ≡ found_after es cs sound ds ++ found_at es cs (sound_after es cs sound ds) d
   found-push sound [] d = append-nil (found_at es cs sound d)

@@ -5,12 +5,12 @@ use Rattle.std.proofs.lemmas.List.{get_or-set_other, get_or-set_same, length-set
 use Rattle.std.proofs.lemmas.Option.{slice_get-get_or}
 use Rattle.std.proofs.lemmas.Bool.Decides.{Decides-eqb}
 use Rattle.snl_scope.specs.declared.items.heads.Head.{Head}
-use Rattle.snl_scope.specs.declared.items.heads.Member.TheVariants as member
+use Rattle.snl_scope.specs.declared.items.heads.Sought.TheVariants as sought
 use Rattle.snl_scope.specs.declared.summaries.summary.Outline.{Outline}
 use Rattle.snl_scope.specs.Below.{any_below}
 use Rattle.snl_scope.specs.Order.{has_state, is_closed, is_stateless, is_unmatched}
 use Rattle.snl_scope.specs.Places.{begins_set, ends_set, is_set_begin, item_is, enclosing_set, stands_in}
-use Rattle.snl_scope.specs.NameTables.{Marked, head_of, is_member, set_of, with_mark}
+use Rattle.snl_scope.specs.NameTables.{Marked, head_of, is_sought, set_of, with_mark}
 use Rattle.snl_scope.proofs.Searches.{get-or}
 use Rattle.snl_scope.proofs.OpenSets.{place_within}
 use Rattle.snl_scope.proofs.OrderSteps.{head_here}
@@ -68,15 +68,15 @@ module _ (ss : List Outline) (i : ℕ) (h : Head) (at : slice_get (map head_of s
       → mark ≡ any_below (λ j. item_is test ss j && stands_in ss i j) (length ss)
   read test marks mark m e = e ∙ get-or marks i mark (get_or marks i false) (slice_get-get_or marks i false (omega (arith, l, m.len))) ∙ m.each i l
 
-  pub unmatched_here : (marks : List Bool) (mark : Bool) → Marked (is_member member.End) marks ss (length ss) → mark ≡ get_or marks i mark
+  pub unmatched_here : (marks : List Bool) (mark : Bool) → Marked (is_sought sought.End) marks ss (length ss) → mark ≡ get_or marks i mark
       → ((begins_set h.role && not mark) || (ends_set h.role && is_none (enclosing_set ss i))) ≡ is_unmatched ss i
   unmatched_here marks mark m e =
-      ap (λ b. (begins_set h.role && not b) || (ends_set h.role && is_none (enclosing_set ss i))) (read (is_member member.End) marks mark m e)
+      ap (λ b. (begins_set h.role && not b) || (ends_set h.role && is_none (enclosing_set ss i))) (read (is_sought sought.End) marks mark m e)
       ∙ ap (λ b. (b && not (is_closed ss i)) || (ends_set h.role && is_none (enclosing_set ss i))) (sym (head_here ss i h at (λ h. begins_set h.role)))
       ∙ ap (λ b. (is_set_begin ss i && not (is_closed ss i)) || (b && is_none (enclosing_set ss i))) (sym (head_here ss i h at (λ h. ends_set h.role)))
 
-  pub stateless_here : (marks : List Bool) (mark : Bool) → Marked (is_member member.State) marks ss (length ss) → mark ≡ get_or marks i mark
+  pub stateless_here : (marks : List Bool) (mark : Bool) → Marked (is_sought sought.State) marks ss (length ss) → mark ≡ get_or marks i mark
       → (begins_set h.role && not mark) ≡ is_stateless ss i
   stateless_here marks mark m e =
-      ap (λ b. begins_set h.role && not b) (read (is_member member.State) marks mark m e)
+      ap (λ b. begins_set h.role && not b) (read (is_sought sought.State) marks mark m e)
       ∙ ap (λ b. b && not (has_state ss i)) (sym (head_here ss i h at (λ h. begins_set h.role)))

@@ -1,14 +1,12 @@
 -- Lemmas on the numbers of names: what one more is to a search from the front.
-use Rattle.std.proofs.Common.{◌≡◌, ℕ, suc, ◌+◌, ◌≤◌, Bool, not, nat_lt, true, false, cond, List, [], ◌∷◌, ◌++◌, length, map, Option, None, Some, is_some, ◌||◌, refl, sym, ap, ◌∙◌, arith, add-zero, zero-add, if◌then◌else◌}
+use Rattle.std.proofs.Common.{◌≡◌, ℕ, suc, ◌+◌, ◌≤◌, Bool, not, nat_lt, true, false, cond, List, [], ◌∷◌, ◌++◌, length, Option, None, Some, is_some, ◌||◌, refl, sym, ap, ◌∙◌, arith, add-zero, zero-add, if◌then◌else◌}
 use Rattle.std.specs.List.{list_any, position, position_from, position_or_len}
 use Rattle.std.specs.Option.{option_or}
 use Rattle.std.specs.Str.{bytes_eq}
 use Rattle.std.proofs.lemmas.Bool.Decides.{nat_tests}
-use Rattle.std.proofs.lemmas.List.Sums.{prefix_len-le-length}
-use borrow.Author.Tests.{lt-ltb, lt-leb, ltb-false}
+use borrow.Author.Tests.{lt-ltb, lt-leb}
 use Rattle.std.proofs.lemmas.Slice.Eq.{bytes_eq-Decides}
 use Rattle.snl_scope.specs.Claims.{lesser}
-use Rattle.snl_scope.specs.NameTables.{with_name}
 
 zero-lt : (n : ℕ) → nat_lt 0 (suc n) ≡ true
 zero-lt n = lt-ltb 0 (suc n) (omega arith)
@@ -33,13 +31,6 @@ from_here p i (x ∷ xs) = by (p x) (from_here p (i + 1) xs)
 
 position_is : {A : Type 0} (p : A → Bool) (xs : List A) → position p xs ≡ position_from p 0 xs
 position_is p xs = sym (from_here p 0 xs ∙ ap (λ n. cond (nat_lt (position_or_len p xs) (length xs)) (Some n) None) (zero-add (position_or_len p xs)))
-
-position_from-map : {A B : Type 0} (p : B → Bool) (f : A → B) (i : ℕ) (xs : List A) → position_from (λ x. p (f x)) i xs ≡ position_from p i (map f xs)
-position_from-map p f i [] = refl
-position_from-map p f i (x ∷ xs) = ap (cond (p (f x)) (Some i)) (position_from-map p f (i + 1) xs)
-
-pub position-map : {A B : Type 0} (p : B → Bool) (f : A → B) (xs : List A) → position (λ x. p (f x)) xs ≡ position p (map f xs)
-position-map p f xs = position_is (λ x. p (f x)) xs ∙ position_from-map p f 0 xs ∙ sym (position_is p (map f xs))
 
 position_from-push : {A : Type 0} (p : A → Bool) (i : ℕ) (xs : List A) (x : A)
     → position_from p i (xs ++ x ∷ []) ≡ option_or (position_from p i xs) (cond (p x) (Some (i + length xs)) None)
@@ -117,10 +108,6 @@ any_from p i (x ∷ xs) = by (p x) (any_from p (i + 1) xs)
 pub any-position : {A : Type 0} (p : A → Bool) (xs : List A) → list_any p xs ≡ is_some (position p xs)
 any-position p xs = any_from p 0 xs ∙ ap is_some (sym (position_is p xs))
 
--- a list that a search finds nothing in has nothing that passes
-pub none-any : {A : Type 0} (p : A → Bool) (xs : List A) → None ≡ position p xs → list_any p xs ≡ false
-none-any p xs h = any-position p xs ∙ ap is_some (sym h)
-
 pub bytes_eq-same : (a : List ℕ) → bytes_eq a a ≡ true
 bytes_eq-same a = (bytes_eq-Decides a a).1 refl
 
@@ -129,25 +116,3 @@ pub name-new : (names : List (List ℕ)) (name : List ℕ) → None ≡ position
 name-new names name h =
     position-push (bytes_eq name) names name ∙ ap (λ o. option_or o (cond (bytes_eq name name) (Some (length names)) None)) (sym h)
     ∙ ap (λ b. cond b (Some (length names)) None) (bytes_eq-same name)
-
-pub with_name-known : (names : List (List ℕ)) (name : List ℕ) (n : ℕ) → Some n ≡ position (bytes_eq name) names → names ≡ with_name names name
-with_name-known names name n h = ap (λ o. cond (is_some o) names (names ++ name ∷ [])) h
-
-pub with_name-new : (names : List (List ℕ)) (name : List ℕ) → None ≡ position (bytes_eq name) names → names ++ name ∷ [] ≡ with_name names name
-with_name-new names name h = ap (λ o. cond (is_some o) names (names ++ name ∷ [])) h
-
--- a name that is taken in stays where it is known, and comes last where it is new
-pub with_name-taken : (names : List (List ℕ)) (name : List ℕ) → (if list_any (bytes_eq name) names then names else names ++ name ∷ []) ≡ with_name names name
-with_name-taken names name = ap (λ b. if b then names else names ++ name ∷ []) (any-position (bytes_eq name) names)
-
-pub name-taken : (names : List (List ℕ)) (name : List ℕ) → position (bytes_eq name) (with_name names name) ≡ Some (position_or_len (bytes_eq name) names)
-name-taken names name = by (nat_lt (position_or_len (bytes_eq name) names) (length names)) refl
-  where
-    is : (b : Bool) → nat_lt (position_or_len (bytes_eq name) names) (length names) ≡ b → position (bytes_eq name) names ≡ cond b (Some (position_or_len (bytes_eq name) names)) None
-    is b h = ap (λ c. cond c (Some (position_or_len (bytes_eq name) names)) None) h
-
-    by : (b : Bool) → nat_lt (position_or_len (bytes_eq name) names) (length names) ≡ b → position (bytes_eq name) (with_name names name) ≡ Some (position_or_len (bytes_eq name) names)
-    by true h = ap (λ o. position (bytes_eq name) (if is_some o then names else names ++ name ∷ [])) (is true h) ∙ is true h
-    by false h =
-        let whole : length names ≡ position_or_len (bytes_eq name) names = omega (arith, prefix_len-le-length (λ x. not (bytes_eq name x)) names, ltb-false (position_or_len (bytes_eq name) names) (length names) h) in
-        ap (λ o. position (bytes_eq name) (if is_some o then names else names ++ name ∷ [])) (is false h) ∙ name-new names name (sym (is false h)) ∙ ap Some whole

@@ -2,8 +2,8 @@
 use Rattle.std.proofs.Common.{◌≡◌, ℕ, zero, suc, ◌<◌, ◌≤◌, Bool, true, false, not, ◌&&◌, ◌⊎◌, inl, inr, List, [], ◌∷◌, length, map, Option, None, Some, IfSome, slice_get, arith, refl, subst, sym, ap, ◌∙◌, if◌then◌else◌}
 use Rattle.std.specs.List.{AllByRecursion as Each, flat_map, list_any}
 use Rattle.std.specs.Option.{option_map_or, option_to_list}
-use Rattle.snl_walk.specs.declared.codes.Code.{Code}
-use Rattle.snl_walk.specs.declared.codes.Code.TheVariants.{E11, E13, E14, E15, E16}
+use Rattle.snl_codes.specs.declared.code.Code.{Code}
+use Rattle.snl_codes.specs.declared.code.Code.TheVariants.{E11, E13, E14, E15, E16}
 use Rattle.snl_scope.specs.declared.facts.LinkFault.{LinkFault}
 use Rattle.snl_scope.specs.declared.summaries.summary.ClauseKind.{ClauseKind}
 use Rattle.snl_scope.specs.declared.summaries.summary.ClauseKind.TheVariants as kind

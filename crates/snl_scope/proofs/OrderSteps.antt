@@ -3,18 +3,18 @@ use Rattle.std.proofs.Common.{◌≡◌, ℕ, zero, suc, ◌+◌, Bool, true, fa
 use Rattle.std.specs.Option.{option_map, option_map_or, option_and_then}
 use Rattle.std.proofs.lemmas.Bool.Decides.{nat_tests}
 use Rattle.std.proofs.lemmas.Option.{slice_get-map}
-use Rattle.snl_walk.specs.declared.codes.Code.{Code}
+use Rattle.snl_codes.specs.declared.code.Code.{Code}
 use Rattle.snl_scope.specs.declared.facts.LinkFault.{LinkFault}
 use Rattle.snl_scope.specs.declared.items.heads.Head.{Head}
-use Rattle.snl_scope.specs.declared.items.heads.Member.{Member}
-use Rattle.snl_scope.specs.declared.items.heads.Member.TheVariants as member
+use Rattle.snl_scope.specs.declared.items.heads.Sought.{Sought}
+use Rattle.snl_scope.specs.declared.items.heads.Sought.TheVariants as sought
 use Rattle.snl_scope.specs.declared.summaries.summary.ItemKind.{ItemKind}
 use Rattle.snl_scope.specs.declared.summaries.summary.Outline.{Outline}
 use Rattle.snl_scope.specs.Below.{all_below, any_below}
 use Rattle.snl_scope.specs.LinkedItems.{LinkedItems, kind_is}
 use Rattle.snl_scope.specs.Order.{at_item, at_items_where, exceeds, found_if, has_begun, is_barred, is_barred_in_sets, is_faulty, is_late, is_main, is_misplaced, is_program_item, is_program_word, is_repeated_header, is_state, is_state_word, phase, phase_of, state_name}
 use Rattle.snl_scope.specs.Places.{ends_set, item_is, enclosing_set}
-use Rattle.snl_scope.specs.NameTables.{and_item, barred_at, before, greatest_before, head_of, heads_member, is_below, is_member, misplaced_after, phase_in, with_phase}
+use Rattle.snl_scope.specs.NameTables.{and_item, barred_at, before, greatest_before, head_of, is_sought_head, is_below, is_sought, misplaced_after, phase_in, with_phase}
 
 map-append : {A B : Type 0} (f : A → B) (xs ys : List A) → map f (xs ++ ys) ≡ map f xs ++ map f ys
 map-append f [] ys = refl
@@ -69,9 +69,9 @@ module _ (ss : List Outline) (i : ℕ) (h : Head) (at : slice_get (map head_of s
       by None e = absurd (cc)
       by (Some s) e = ap (λ o. option_map_or test o false) e
 
-  pub member_here : (m : Member) → item_is (is_member m) ss i ≡ heads_member m h
-  member_here member.End = head_here (λ h. ends_set h.role)
-  member_here member.State = by (slice_get ss i) known
+  pub sought_here : (m : Sought) → item_is (is_sought m) ss i ≡ is_sought_head m h
+  sought_here sought.End = head_here (λ h. ends_set h.role)
+  sought_here sought.State = by (slice_get ss i) known
     where
       by : (o : Option Outline) → option_map head_of o ≡ Some h → option_map_or (λ s. is_some (state_name s)) o false ≡ (is_state_word h.opening && h.is_named)
       by None e = absurd (cc)

@@ -3,11 +3,6 @@ use Rattle.std.proofs.Common.{◌≡◌, ℕ, zero, suc, ◌<◌, Bool, true, fa
 use borrow.Author.Tests.{lt-ltb, lt-leb}
 use Rattle.snl_scope.specs.Below.{any_below, last_below}
 
--- tests that agree below n find the same
-pub any_below-same : (p q : ℕ → Bool) (n : ℕ) → ((k : ℕ) → k < n → p k ≡ q k) → any_below p n ≡ any_below q n
-any_below-same p q zero h = refl
-any_below-same p q (suc n) h = ap (λ b. b || any_below p n) (h n (omega arith)) ∙ ap (λ b. q n || b) (any_below-same p q n (λ k l. h k (omega arith)))
-
 pub any_below-none : (p : ℕ → Bool) (n : ℕ) → ((k : ℕ) → k < n → p k ≡ false) → any_below p n ≡ false
 any_below-none p zero h = refl
 any_below-none p (suc n) h = ap (λ b. b || any_below p n) (h n (omega arith)) ∙ any_below-none p n (λ k l. h k (omega arith))
@@ -43,11 +38,6 @@ pub get-map : {A B : Type 0} (f : A → B) (xs : List A) (i : ℕ) (x : A) → i
 get-map f [] i x h e = absurd (not-suc-le-zero h)
 get-map f (y ∷ ys) zero x h e = ap (λ z. Some (f z)) (sym e)
 get-map f (y ∷ ys) (suc i) x h e = get-map f ys i x (omega (arith, h)) e
-
-pub within-map : {A B : Type 0} (f : A → B) (xs : List A) (i : ℕ) → i < length xs → i < length (map f xs)
-within-map f [] i h = h
-within-map f (y ∷ ys) zero h = omega arith
-within-map f (y ∷ ys) (suc i) h = let l = within-map f ys i (omega (arith, h)) in omega (arith, l)
 
 pub get-or : {A : Type 0} (xs : List A) (i : ℕ) (d x : A) → slice_get xs i ≡ Some x → get_or xs i d ≡ x
 get-or [] i d x h = absurd (cc)

@@ -3,8 +3,8 @@
 use Rattle.std.specs.Prelude.{ℕ, zero, suc, Bool, true, false, not, ◌&&◌, if◌then◌else◌, List, [], ◌∷◌, ◌++◌, map, length, slice_get, nat_eq, nat_lt, Option, None, Some, is_some, option_and_then, option_to_list}
 use Rattle.std.specs.List.{list_any, zip}
 use Rattle.std.specs.Option.{option_map_or, option_or}
-use Rattle.snl_walk.specs.declared.codes.Code.{Code}
-use Rattle.snl_walk.specs.declared.codes.Code.TheVariants.{E11, E12, E13, E14, E15, E16, E22, W05}
+use Rattle.snl_codes.specs.declared.code.Code.{Code}
+use Rattle.snl_codes.specs.declared.code.Code.TheVariants.{E11, E12, E13, E14, E15, E16, E22, W05}
 use Rattle.snl_scope.specs.declared.facts.Assigned.{Assigned}
 use Rattle.snl_scope.specs.declared.facts.Assigned.TheVariants as assigned
 use Rattle.snl_scope.specs.declared.facts.ClauseLink.{ClauseLink}
@@ -22,7 +22,7 @@ use Rattle.snl_scope.specs.declared.summaries.summary.SymbolKind.TheVariants as 
 use Rattle.snl_scope.specs.declared.summaries.summary.Outline.{Outline}
 use Rattle.snl_scope.specs.declared.summaries.summary.Variable.{Variable}
 use Rattle.snl_scope.specs.declared.summaries.summary.VariableClause.{VariableClause}
-use Rattle.snl_walk.specs.Codes.{is_error}
+use Rattle.snl_codes.specs.Codes.{is_error}
 use Rattle.snl_scope.specs.Names.{Entry, entries, number_in, resolve}
 use Rattle.snl_scope.specs.Places.{enclosing_set}
 
@@ -158,6 +158,10 @@ sound_clauses ss = sound_after (entries ss) (clauses_of ss) [] (clauses_of ss)
 abbrev pub soundness_after : List Entry → List LinkedClause → List LinkedClause → List LinkedClause → List Bool
 soundness_after es cs sound [] = []
 soundness_after es cs sound (d ∷ ds) = is_sound es cs sound d ∷ soundness_after es cs (with_clause es cs sound d) ds
+
+-- Clauses, each with whether it is sound.
+abbrev pub with_soundness : List Entry → List LinkedClause → List (LinkedClause × Bool)
+with_soundness es cs = zip cs (soundness_after es cs [] cs)
 
 abbrev pub soundness : List Outline → List Bool
 soundness ss = soundness_after (entries ss) (clauses_of ss) [] (clauses_of ss)

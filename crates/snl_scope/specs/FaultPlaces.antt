@@ -1,8 +1,8 @@
 -- Where the findings of links are.
 use Rattle.std.specs.Prelude.{◌≡◌, ℕ, ◌<◌, ◌⊎◌, Bool, true, false, List, length, slice_get, Option, None, Some, is_some}
 use Rattle.std.specs.List.{AllByRecursion, Contains}
-use Rattle.snl_walk.specs.declared.codes.Code.TheVariants.{E05, E06, E07}
-use Rattle.snl_walk.specs.Codes.{is_link_code}
+use Rattle.snl_codes.specs.declared.code.Code.TheVariants.{E05, E06, E07}
+use Rattle.snl_codes.specs.Codes.{is_link_code}
 use Rattle.snl_scope.specs.declared.facts.LinkFault.{LinkFault}
 use Rattle.snl_scope.specs.declared.summaries.summary.Outline.{Outline}
 use Rattle.snl_scope.specs.Names.{has_own_scope}

@@ -13,10 +13,10 @@ use Rattle.snl_scope.specs.declared.clauses.clause_index.Purpose.TheVariants as 
 use Rattle.snl_scope.specs.contracts.clauses.clause_index.ClaimPartialEq.TheImpl as claim_eq
 use Rattle.snl_scope.specs.contracts.clauses.clause_index.ExtentPartialEq.TheImpl as extent_eq
 use Rattle.snl_scope.specs.contracts.clauses.clause_index.PurposePartialEq.TheImpl as purpose_eq
-use Rattle.snl_scope.specs.declared.names.namespaces.Key.{Key}
+use Rattle.snl_scope.specs.declared.names.namespaces.QualifiedName.{QualifiedName}
 use Rattle.snl_scope.specs.declared.names.namespaces.Namespace.{Namespace}
 use Rattle.snl_scope.specs.declared.names.namespaces.Namespace.TheVariants as namespace
-use Rattle.snl_scope.specs.contracts.names.namespaces.KeyPartialEq.TheImpl as key_eq
+use Rattle.snl_scope.specs.contracts.names.namespaces.QualifiedNamePartialEq.TheImpl as key_eq
 use Rattle.snl_scope.specs.contracts.names.namespaces.NamespacePartialEq.TheImpl as namespace_eq
 
 -- That of a namespace. No item is both a state set and a state, so their scopes have one number.
@@ -27,7 +27,7 @@ namespace_number (namespace.State n) = n
 namespace_number namespace.Sets = 9223372036854775808
 namespace_number (namespace.States n) = 18446744073709551615 - n
 
-abbrev pub key_number : Key → ℕ
+abbrev pub key_number : QualifiedName → ℕ
 key_number k = namespace_number k.namespace * 18446744073709551616 + k.name
 
 same_number : (a b : Namespace) → namespace_eq.eq-value.it a b ≡ true → namespace_number a ≡ namespace_number b
@@ -57,7 +57,7 @@ same_number (namespace.States a) (namespace.State b) h = absurd (true≢false (s
 same_number (namespace.States a) namespace.Sets h = absurd (true≢false (sym h))
 same_number (namespace.States a) (namespace.States b) h = ap (λ n. 18446744073709551615 - n) ((Decides-eqb a b).0 h)
 
-pub same_key_number : (a b : Key) → key_eq.eq-value.it a b ≡ true → key_number a ≡ key_number b
+pub same_key_number : (a b : QualifiedName) → key_eq.eq-value.it a b ≡ true → key_number a ≡ key_number b
 same_key_number a b h =
     let spaces = same_number a.namespace b.namespace (first_so _ _ h) in
     let names = (Decides-eqb a.name b.name).0 (second_so _ _ h) in

@@ -5,17 +5,18 @@ use Rattle.std.specs.Option.{option_map_or, option_or}
 use Rattle.snl_scope.specs.declared.facts.LinkFault.{LinkFault}
 use Rattle.snl_scope.specs.declared.items.heads.Head.{Head}
 use Rattle.snl_scope.specs.declared.items.phases.Before.{Before}
-use Rattle.snl_scope.specs.declared.items.heads.Member.{Member}
-use Rattle.snl_scope.specs.declared.items.heads.Member.TheVariants as member
+use Rattle.snl_scope.specs.declared.items.heads.Sought.{Sought}
+use Rattle.snl_scope.specs.declared.items.heads.Sought.TheVariants as sought
 use Rattle.snl_scope.specs.declared.names.first_numbers.FirstNumbers.{FirstNumbers}
 use Rattle.snl_scope.specs.declared.names.first_numbers.NameHead.{NameHead}
-use Rattle.snl_scope.specs.declared.names.namespaces.Key.{Key}
+use Rattle.snl_scope.specs.declared.names.namespaces.QualifiedName.{QualifiedName}
 use Rattle.snl_scope.specs.declared.names.namespaces.Namespace.{Namespace}
 use Rattle.snl_scope.specs.declared.names.namespaces.Namespace.TheVariants as namespace
 use Rattle.snl_scope.specs.declared.summaries.summary.ItemKind.{ItemKind}
 use Rattle.snl_scope.specs.declared.summaries.summary.Opening.{Opening}
 use Rattle.snl_scope.specs.declared.summaries.summary.Outline.{Outline}
-use Rattle.snl_scope.specs.declared.names.name_tables.Named.{Named}
+use Rattle.snl_scope.specs.declared.names.name_tables.NameEntry.{NameEntry}
+use Rattle.snl_scope.specs.declared.names.name_tables.NameTables.{NameTables}
 use Rattle.snl_scope.specs.declared.names.name_tables.Symbol.{Symbol}
 use Rattle.snl_scope.specs.Below.{all_below, any_below}
 use Rattle.snl_scope.specs.Flags.{declares_flag, is_first_at}
@@ -74,24 +75,24 @@ and_item b p k o = record {
 abbrev pub head_of : Outline → Head
 head_of s = record { role = s.role; opening = s.opening; is_named = is_some s.second }
 
--- The item is what the members of a state set are searched for.
-abbrev pub is_member : Member → Outline → Bool
-is_member member.End s = ends_set s.role
-is_member member.State s = is_some (state_name s)
+-- The item is what is sought in state sets.
+abbrev pub is_sought : Sought → Outline → Bool
+is_sought sought.End s = ends_set s.role
+is_sought sought.State s = is_some (state_name s)
 
 -- The same, told of its head.
-abbrev pub heads_member : Member → Head → Bool
-heads_member member.End h = ends_set h.role
-heads_member member.State h = is_state_word h.opening && h.is_named
+abbrev pub is_sought_head : Sought → Head → Bool
+is_sought_head sought.End h = ends_set h.role
+is_sought_head sought.State h = is_state_word h.opening && h.is_named
 
--- Whether a member that passes the test is in each state set, as far as the first n items tell.
+-- Whether an item that passes the test is in each state set, as far as the first n items tell.
 pub record Marked (test : Outline → Bool) (marks : List Bool) (ss : List Outline) (n : ℕ) : Type 0 where
   pub len : length marks ≡ length ss
   pub each : (k : ℕ) → k < length ss → get_or marks k false ≡ any_below (λ j. item_is test ss j && stands_in ss k j) n
 
--- The state set that a member is in, if it is one.
+-- The state set that an item is in, if it is sought.
 abbrev pub set_of : Bool → Option ℕ → Option ℕ
-set_of is_member p = if is_member then p else None
+set_of is_sought p = if is_sought then p else None
 
 -- The marks with one more.
 abbrev pub with_mark : List Bool → Option ℕ → List Bool
@@ -102,7 +103,7 @@ abbrev pub with_name : List (List ℕ) → List ℕ → List (List ℕ)
 with_name names name = if is_some (position (bytes_eq name) names) then names else names ++ name ∷ []
 
 -- One name in one namespace.
-abbrev pub same_key : Key → Key → Bool
+abbrev pub same_key : QualifiedName → QualifiedName → Bool
 same_key a b = same_namespace a.namespace b.namespace && nat_eq a.name b.name
 
 abbrev pub is_program : Namespace → Bool
@@ -138,7 +139,7 @@ pub record AreSame (old new : FirstNumbers) : Type 0 where
   pub inner : (n : ℕ) → (name_head new.heads.items n).is_inner ≡ (name_head old.heads.items n).is_inner
 
 -- A key has come that is new.
-pub record IsPut (old new : FirstNumbers) (key : Key) (number : ℕ) : Type 0 where
+pub record IsPut (old new : FirstNumbers) (key : QualifiedName) (number : ℕ) : Type 0 where
   pub under : (s : Namespace) (n : ℕ) → number_under new s n ≡ (if same_key key (record { namespace = s; name = n }) then Some number else number_under old s n)
   pub inner : TellsInner old → TellsInner new
 
@@ -172,6 +173,9 @@ pub record Follows (names : List (List ℕ)) (first : FirstNumbers) (symbols : L
   pub again : faults ≡ repetitions [] es
   pub firsts : first.numbers.items ≡ all_below (is_first_at es) (length es)
 
+abbrev pub TablesFollow : NameTables → List Entry → Type 0
+TablesFollow t es = Follows t.names t.first t.symbols.items t.faults.items es
+
 -- A name that is handed in, as an entry.
-abbrev pub entry_of : Named → Entry
+abbrev pub entry_of : NameEntry → Entry
 entry_of d = record { namespace = d.namespace; name = d.name.now; item = d.item; token = d.token; code = d.code; variable = d.variable }

@@ -44,7 +44,8 @@ fn bound(role: Role) -> Role
 
 // Whether items bound the same state sets as others do in their place, one by one.
 fn bound_the_same(old: &[&Outline], new: &[&Outline]) -> bool
-    ensures { IsTrue result → bounds (map (λ s. s.now) old.now) ≡ bounds (map (λ s. s.now) new.now) }
+    ensures { IsTrue result
+        → bounds (map (λ s. s.now) old.now) ≡ bounds (map (λ s. s.now) new.now) }
 {
     if old.len() != new.len() {
         return false;
@@ -58,7 +59,8 @@ fn bound_the_same(old: &[&Outline], new: &[&Outline]) -> bool
 }
 
 fn add_declared<'a>(declares: &'a [Declared], names: &mut Vec<&'a [u8]>) -> Result<(), OutOfMemory>
-    ensures { OnOk result (map (λ n. n.now) names.new.items ≡ map (λ n. n.now) names.old.items ++ map (λ d. d.name) declares.now) }
+    ensures { OnOk result (map (λ n. n.now) names.new.items ≡ map (λ n. n.now) names.old.items
+        ++ map (λ d. d.name) declares.now) }
 {
     for declared in declares {
         names.push(declared.name.bytes())?;
@@ -70,7 +72,8 @@ fn add_clauses<'a>(
     clauses: &'a [VariableClause],
     names: &mut Vec<&'a [u8]>,
 ) -> Result<(), OutOfMemory>
-    ensures { OnOk result (map (λ n. n.now) names.new.items ≡ map (λ n. n.now) names.old.items ++ map (λ c. c.variable.name) clauses.now) }
+    ensures { OnOk result (map (λ n. n.now) names.new.items ≡ map (λ n. n.now) names.old.items
+        ++ map (λ c. c.variable.name) clauses.now) }
 {
     for clause in clauses {
         names.push(clause.variable.name.bytes())?;
@@ -80,7 +83,8 @@ fn add_clauses<'a>(
 
 // Adds the names that an item speaks of.
 fn add_spoken<'a>(outline: &'a Outline, names: &mut Vec<&'a [u8]>) -> Result<(), OutOfMemory>
-    ensures { OnOk result (map (λ n. n.now) names.new.items ≡ map (λ n. n.now) names.old.items ++ spoken outline.now) }
+    ensures { OnOk result (map (λ n. n.now) names.new.items ≡ map (λ n. n.now) names.old.items
+        ++ spoken outline.now) }
 {
     add_declared(outline.declares.as_slice(), names)?;
     add_clauses(outline.clauses.as_slice(), names)?;
@@ -91,7 +95,8 @@ fn add_spoken<'a>(outline: &'a Outline, names: &mut Vec<&'a [u8]>) -> Result<(),
 }
 
 fn add_spoken_by<'a>(outlines: &[&'a Outline], names: &mut Vec<&'a [u8]>) -> Result<(), OutOfMemory>
-    ensures { OnOk result (map (λ n. n.now) names.new.items ≡ map (λ n. n.now) names.old.items ++ spoken_by (map (λ s. s.now) outlines.now)) }
+    ensures { OnOk result (map (λ n. n.now) names.new.items ≡ map (λ n. n.now) names.old.items
+        ++ spoken_by (map (λ s. s.now) outlines.now)) }
 {
     for outline in outlines {
         add_spoken(outline, names)?;
@@ -119,7 +124,8 @@ impl<'a> EditedNames<'a> {
         old: &[&'a Outline],
         new: &[&'a Outline],
     ) -> Result<Option<EditedNames<'a>>, OutOfMemory>
-        ensures { IfOk result (λ edited. IfSome edited (AreEditedNames (map (λ s. s.now) old.now) (map (λ s. s.now) new.now))) }
+        ensures { IfOk result (λ edited. IfSome edited
+            (AreEditedNames (map (λ s. s.now) old.now) (map (λ s. s.now) new.now))) }
     {
         if !bound_the_same(old, new) {
             return Ok(None);
@@ -161,10 +167,14 @@ impl<'a> EditedNames<'a> {
 pub fn unspoken_names()
     ensures places { (before old new after : List Outline) → bounds old ≡ bounds new
         → (i : ℕ) → enclosing_set (before ++ (old ++ after)) i ≡ enclosing_set (before ++ (new ++ after)) i }
-    ensures facts { (before old new after : List Outline) → bounds old ≡ bounds new → (name : List ℕ) → is_among (spoken_by old ++ spoken_by new) name ≡ false
+    ensures facts { (before old new after : List Outline) → bounds old ≡ bounds new
+        → (name : List ℕ) → is_among (spoken_by old ++ spoken_by new) name ≡ false
         → (i : ℕ) → fact_of (before ++ (old ++ after)) i name ≡ fact_of (before ++ (new ++ after)) i name }
-    ensures targets { (before old new after : List Outline) → bounds old ≡ bounds new → (name : List ℕ) → is_among (spoken_by old ++ spoken_by new) name ≡ false
-        → (i : ℕ) → has_target (before ++ (old ++ after)) i name ≡ has_target (before ++ (new ++ after)) i name }
-    ensures views { (before old new after : List Outline) (names : List (List ℕ)) → AreEditedNames old new names
+    ensures targets { (before old new after : List Outline) → bounds old ≡ bounds new
+        → (name : List ℕ) → is_among (spoken_by old ++ spoken_by new) name ≡ false
+        → (i : ℕ) → has_target (before ++ (old ++ after)) i name
+        ≡ has_target (before ++ (new ++ after)) i name }
+    ensures views { (before old new after : List Outline) (names : List (List ℕ))
+        → AreEditedNames old new names
         → KeepsViews (before ++ (old ++ after)) (before ++ (new ++ after)) names }
 {}

@@ -30,7 +30,8 @@ fn add_told(
     repeated: &[LinkFault],
     faults: &mut Vec<LinkFault>,
 ) -> Result<(), OutOfMemory>
-    ensures { OnOk result (faults.new.items ≡ faults.old.items ++ filter (told_by kinds.now) repeated.now) }
+    ensures { OnOk result (faults.new.items ≡ faults.old.items
+        ++ filter (told_by kinds.now) repeated.now) }
 {
     for fault in repeated {
         if is_told(kinds, *fault) {
@@ -61,7 +62,8 @@ pub(crate) fn all_faults(
     requires as_many { length kinds.now ≡ length scopes.now }
     requires names { repeated.now ≡ repetitions [] (entries scopes.now) }
     requires clauses { at_clauses.now ≡ clause_faults scopes.now }
-    ensures { IfOk result (λ faults. faults.items ≡ faults_of (record { outlines = scopes.now; kinds = kinds.now })) }
+    ensures { IfOk result (λ faults. faults.items
+        ≡ faults_of (record { outlines = scopes.now; kinds = kinds.now })) }
 {
     let mut faults = Vec::new(alloc);
     add_order_faults(alloc, scopes, kinds, &mut faults)?;

@@ -26,7 +26,7 @@ pub use laws::spelling_laws::same_spelling_same_summary;
 pub use laws::summary_laws::{names_kept_once, plain_state_outline};
 pub use laws::token_laws::{names_are_tokens, targets_rise};
 pub use links::{Links, link};
-pub use snl_walk::{Code, Source};
+pub use snl_walk::Source;
 pub use summaries::name::Name;
 pub use summaries::same_outline::same_outline;
 pub use summaries::summarize::summary_of;

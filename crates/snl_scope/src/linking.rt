@@ -53,8 +53,10 @@ fn ghost_of(outlines: &[&Outline]) -> GhostOutlines
 /// What the names of all items mean.
 pub(crate) fn linked_names(alloc: Global, outlines: &[&Outline]) -> Result<LinkedNames, OutOfMemory>
     ensures scopes { IfOk result (λ names. names.scopes ≡ map (λ s. s.now) outlines.now) }
-    ensures flags { IfOk result (λ names. names.flags.items ≡ flags_of (map (λ s. s.now) outlines.now)) }
-    ensures repeated { IfOk result (λ names. names.repeated.items ≡ repetitions [] (entries (map (λ s. s.now) outlines.now))) }
+    ensures flags { IfOk result
+        (λ names. names.flags.items ≡ flags_of (map (λ s. s.now) outlines.now)) }
+    ensures repeated { IfOk result (λ names. names.repeated.items
+        ≡ repetitions [] (entries (map (λ s. s.now) outlines.now))) }
 {
     let places = places_of(alloc, outlines)?;
     let heads = heads_of(alloc, outlines)?;
@@ -89,7 +91,8 @@ pub(crate) fn linked_clauses(
 ) -> Result<LinkedClauses, OutOfMemory>
     requires { scopes.now ≡ map (λ s. s.now) outlines.now }
     ensures clauses { IfOk result (λ made. made.clauses.items ≡ clause_links scopes.now) }
-    ensures claims { IfOk result (λ made. Claimed made.claims (zip (clauses_of scopes.now) (soundness scopes.now))) }
+    ensures claims { IfOk result
+        (λ made. Claimed made.claims (zip (clauses_of scopes.now) (soundness scopes.now))) }
     ensures assigned { IfOk result (λ made. Assigns made.assigned.items (clauses_of scopes.now)) }
     ensures found { IfOk result (λ made. made.faults.items ≡ clause_faults scopes.now) }
 {

@@ -226,7 +226,8 @@ impl Links {
         kinds: &[ItemKind],
     ) -> Result<Vec<LinkFault>, OutOfMemory>
         requires { length kinds.now ≡ length self.now.outlines }
-        ensures { IfOk result (λ faults. faults.items ≡ faults_of (record { outlines = self.now.outlines; kinds = kinds.now })) }
+        ensures { IfOk result (λ faults. faults.items
+            ≡ faults_of (record { outlines = self.now.outlines; kinds = kinds.now })) }
     {
         all_faults(
             alloc,
@@ -240,7 +241,8 @@ impl Links {
     /// Puts other kinds in place, with the findings that `order_faults_for` answered for them. It
     /// takes no memory.
     pub fn set_kinds(&mut self, kinds: Vec<ItemKind>, faults: Vec<LinkFault>)
-        requires { faults.items ≡ faults_of (record { outlines = self.old.outlines; kinds = kinds.items }) }
+        requires { faults.items
+            ≡ faults_of (record { outlines = self.old.outlines; kinds = kinds.items }) }
         ensures { self.new ≡ record { outlines = self.old.outlines; kinds = kinds.items } }
     {
         self.kinds = kinds;
@@ -295,7 +297,11 @@ fn scope_in(namespace: Namespace) -> Option<Scope>
 
 // The declaration that is there, if it is one.
 fn declaration_of(symbol: Symbol) -> Option<Declaration>
-    ensures { result ≡ option_and_then (λ v. option_map (λ s. variable_declaration symbol.item symbol.token s v) (scope_in symbol.namespace)) symbol.variable }
+    ensures { result
+        ≡ option_and_then
+        (λ v. option_map (λ s. variable_declaration symbol.item symbol.token s v)
+        (scope_in symbol.namespace))
+        symbol.variable }
 {
     Some(Declaration {
         variable: symbol.variable?,
@@ -318,7 +324,8 @@ fn links_of(
     requires claims { Claimed made.claims (zip (clauses_of names.scopes) (soundness names.scopes)) }
     requires assigned { Assigns made.assigned.items (clauses_of names.scopes) }
     requires at_clauses { made.faults.items ≡ clause_faults names.scopes }
-    requires faults { faults.items ≡ faults_of (record { outlines = names.scopes; kinds = kinds.items }) }
+    requires faults { faults.items
+        ≡ faults_of (record { outlines = names.scopes; kinds = kinds.items }) }
     ensures { result ≡ record { outlines = names.scopes; kinds = kinds.items } }
 {
     let LinkedNames {
@@ -356,10 +363,14 @@ fn clauses_and_faults(
     requires repeated { names.now.repeated.items ≡ repetitions [] (entries names.now.scopes) }
     requires kinds { length kinds.now ≡ length names.now.scopes }
     ensures clauses { IfOk result (λ made. made.0.clauses.items ≡ clause_links names.now.scopes) }
-    ensures claims { IfOk result (λ made. Claimed made.0.claims (zip (clauses_of names.now.scopes) (soundness names.now.scopes))) }
-    ensures assigned { IfOk result (λ made. Assigns made.0.assigned.items (clauses_of names.now.scopes)) }
-    ensures at_clauses { IfOk result (λ made. made.0.faults.items ≡ clause_faults names.now.scopes) }
-    ensures faults { IfOk result (λ made. made.1.items ≡ faults_of (record { outlines = names.now.scopes; kinds = kinds.now })) }
+    ensures claims { IfOk result (λ made. Claimed made.0.claims
+        (zip (clauses_of names.now.scopes) (soundness names.now.scopes))) }
+    ensures assigned { IfOk result
+        (λ made. Assigns made.0.assigned.items (clauses_of names.now.scopes)) }
+    ensures at_clauses { IfOk result
+        (λ made. made.0.faults.items ≡ clause_faults names.now.scopes) }
+    ensures faults { IfOk result (λ made. made.1.items
+        ≡ faults_of (record { outlines = names.now.scopes; kinds = kinds.now })) }
 {
     let made = linked_clauses(alloc, &names.scopes, outlines)?;
     let faults = all_faults(alloc, &names.scopes, kinds, &names.repeated, &made.faults)?;
@@ -372,7 +383,8 @@ fn link_outlines(
     outlines: &[&Outline],
 ) -> Result<Links, OutOfMemory>
     requires { length kinds.items ≡ length outlines.now }
-    ensures { IfOk result (λ l. l ≡ record { outlines = map (λ s. s.now) outlines.now; kinds = kinds.items }) }
+    ensures { IfOk result
+        (λ l. l ≡ record { outlines = map (λ s. s.now) outlines.now; kinds = kinds.items }) }
 {
     let names = linked_names(alloc, outlines)?;
     let (made, faults) = clauses_and_faults(alloc, &kinds, &names, outlines)?;

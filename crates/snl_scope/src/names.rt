@@ -2,7 +2,7 @@
 
 pub(crate) mod first_numbers;
 pub(crate) mod ghost_outlines;
-pub(crate) mod name_set;
 pub(crate) mod name_tables;
 pub(crate) mod namespaces;
+pub(crate) mod numbered_names;
 pub(crate) mod scopes;

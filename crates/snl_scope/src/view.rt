@@ -78,15 +78,18 @@ fn is_same_known(one: Option<Fact>, other: Option<Fact>) -> bool
     }
 }
 
-// An item among those that are linked.
+// An item, and the links by which it sees the others.
 #[derive(Clone, Copy)]
-struct Place<'a> {
+struct Viewpoint<'a> {
     links: &'a Links,
     item: usize,
 }
 
-fn knows_the_same(old: Place, new: Place, names: &[Name]) -> bool
-    ensures { result ≡ list_all (λ name. same_known (fact_of old.entry.links.now.outlines old.entry.item name) (fact_of new.entry.links.now.outlines new.entry.item name)) names.now }
+fn knows_the_same(old: Viewpoint, new: Viewpoint, names: &[Name]) -> bool
+    ensures { result
+        ≡ list_all (λ name. same_known
+        (fact_of old.entry.links.now.outlines old.entry.item name)
+        (fact_of new.entry.links.now.outlines new.entry.item name)) names.now }
 {
     names.iter().all(|name| {
         let before = old.links.fact(old.item, name.bytes());
@@ -95,8 +98,11 @@ fn knows_the_same(old: Place, new: Place, names: &[Name]) -> bool
     })
 }
 
-fn leads_to_the_same(old: Place, new: Place, targets: &[NameRef]) -> bool
-    ensures { result ≡ list_all (λ t. same_bool (has_target old.entry.links.now.outlines old.entry.item t.name) (has_target new.entry.links.now.outlines new.entry.item t.name)) targets.now }
+fn leads_to_the_same(old: Viewpoint, new: Viewpoint, targets: &[NameRef]) -> bool
+    ensures { result
+        ≡ list_all (λ t. same_bool
+        (has_target old.entry.links.now.outlines old.entry.item t.name)
+        (has_target new.entry.links.now.outlines new.entry.item t.name)) targets.now }
 {
     targets.iter().all(|target| {
         let before = old.links.has_target(old.item, target.name.bytes());
@@ -105,8 +111,10 @@ fn leads_to_the_same(old: Place, new: Place, targets: &[NameRef]) -> bool
     })
 }
 
-fn sees_the_same(old: Place, new: Place, summary: &Summary) -> bool
-    ensures { result ≡ same_view old.entry.links.now.outlines old.entry.item new.entry.links.now.outlines new.entry.item summary.now }
+fn sees_the_same(old: Viewpoint, new: Viewpoint, summary: &Summary) -> bool
+    ensures { result
+        ≡ same_view old.entry.links.now.outlines old.entry.item
+        new.entry.links.now.outlines new.entry.item summary.now }
 {
     is_same(
         old.links.enclosing_set(old.item).is_some(),
@@ -125,14 +133,17 @@ pub fn same_view(
     new_item: usize,
     summary: &Summary,
 ) -> bool
-    ensures told { result ≡ same_view old.now.outlines old_item new.now.outlines new_item summary.now }
-    ensures equal { IsTrue result ↔ (view old.now.outlines old_item summary.now ≡ view new.now.outlines new_item summary.now) }
+    ensures told { result
+        ≡ same_view old.now.outlines old_item new.now.outlines new_item summary.now }
+    ensures equal { IsTrue result
+        ↔ (view old.now.outlines old_item summary.now
+        ≡ view new.now.outlines new_item summary.now) }
 {
-    let before = Place {
+    let before = Viewpoint {
         links: old,
         item: old_item,
     };
-    let after = Place {
+    let after = Viewpoint {
         links: new,
         item: new_item,
     };
@@ -142,5 +153,6 @@ pub fn same_view(
 /// Views are told to be the same exactly where they are equal. A function here does nothing: its
 /// contract is the law.
 pub fn views_told_apart()
-    ensures { (ss : List Outline) (i : ℕ) (ts : List Outline) (j : ℕ) (s : Summary) → IsTrue (same_view ss i ts j s) ↔ (view ss i s ≡ view ts j s) }
+    ensures { (ss : List Outline) (i : ℕ) (ts : List Outline) (j : ℕ) (s : Summary)
+        → IsTrue (same_view ss i ts j s) ↔ (view ss i s ≡ view ts j s) }
 {}

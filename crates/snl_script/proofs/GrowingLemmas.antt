@@ -4,7 +4,7 @@ use Rattle.std.proofs.lemmas.List.{drop-append-le, take-append-le}
 use Rattle.snl_script.specs.declared.script.Heading.{Heading}
 use Rattle.snl_script.specs.declared.script.Heading.TheVariants.{Check, List as Listing, Work, Edit}
 use Rattle.snl_script.specs.Script.{Request, Next, Unknown, Then, closed, headed, heading_of, lined, next_of, words_of}
-use Rattle.snl_script.proofs.ScriptLemmas.{place_grows}
+use Rattle.snl_facts.specs.Feeds.{feed_grows}
 
 closed-grows : (request : Request) (bytes more left : List ℕ) (next : Request) → closed request bytes ≡ Then next left → closed request (bytes ++ more) ≡ Then next (left ++ more)
 closed-grows request [] more left next h = cc
@@ -49,7 +49,7 @@ next_of-grows (b ∷ bytes) more left request h = at (position (λ c. c == 10) (
         short : (c : Bool) → leb end 80 ≡ c → cond c (headed (heading_of (words_of (take end (b ∷ bytes)))) (drop (end + 1) (b ∷ bytes))) Unknown ≡ Then request left → next_of ((b ∷ bytes) ++ more) ≡ Then request (left ++ more)
         short false t w = cc
         short true t w =
-            let grown = place_grows (b ∷ bytes) more end e in
+            let grown = feed_grows (b ∷ bytes) more end e in
             let front : take end ((b ∷ bytes) ++ more) ≡ take end (b ∷ bytes) = take-append-le end (b ∷ bytes) more (omega (arith, grown.1)) in
             let back : drop (end + 1) ((b ∷ bytes) ++ more) ≡ drop (end + 1) (b ∷ bytes) ++ more = drop-append-le (end + 1) (b ∷ bytes) more (omega (arith, grown.1)) in
             let found : next_of ((b ∷ bytes) ++ more) ≡ lined (Some end) ((b ∷ bytes) ++ more) = ap (λ (o : Option ℕ). lined o ((b ∷ bytes) ++ more)) grown.0 in

@@ -2,8 +2,7 @@
 use Rattle.std.proofs.Common.{◌≡◌, ℕ, suc, ◌+◌, ◌-◌, ◌<◌, ◌≤◌, min, List, [], ◌∷◌, ◌++◌, length, take, drop, Bool, true, false, not, cond, ltb, leb, Option, Some, None, refl, sym, ap, ◌∙◌, subst, codes, arith, length-append, length-drop, position, ◌==◌}
 use Rattle.std.proofs.lemmas.Bool.{le-leb}
 use Rattle.std.proofs.lemmas.Bool.Decides.{nat_tests}
-use Rattle.std.proofs.lemmas.List.{append-nil, append_assoc, drop_all, drop-drop, drop-append-le, length-take, take-append-drop, take-append-le}
-use Rattle.std.proofs.lemmas.List.Folds.{prefix_len-append}
+use Rattle.std.proofs.lemmas.List.{append-nil, drop_all, drop-drop, drop-append-le, length-take, take-append-le}
 use Rattle.std.proofs.lemmas.List.Splits.{slice_split_first}
 use Rattle.std.specs.List.{onto_first, position_or_len, slice_split}
 use Rattle.std.specs.Str.{bytes_eq}
@@ -13,18 +12,13 @@ use Rattle.snl_script.specs.declared.script.Heading.{Heading}
 use Rattle.snl_script.specs.declared.script.Heading.TheVariants.{Check, List as Listing, Work, Edit}
 use Rattle.snl_script.specs.Front.{IsBegun, IsFront, IsFrontAfter, IsOpen, request_of, unfinished}
 use Rattle.snl_script.specs.Script.{Edits, Unknown, Then, closed, edit_of, edit_with, headed, heading_of, lined, lone, next_of, number_of, words_of}
-
--- where a place is found
-found_place : (a n i : ℕ) → cond (ltb a n) (Some a) None ≡ Some i → (a ≡ i) × (i < n)
-found_place a n i h = grind (arith, nat_tests)
-
--- where none is found
-no_place : (a n : ℕ) → cond (ltb a n) (Some a) None ≡ None → n ≤ a
-no_place a n h = grind (arith, nat_tests)
+use Rattle.snl_facts.specs.Positions.{place_found, place_missed, place_at}
+use Rattle.snl_facts.specs.Feeds.{feed_place, feed_inside, feed_beyond}
+use Rattle.std.proofs.lemmas.Option.{cond_some}
 
 -- a line with no space is one word
 pub words_of-none : (line : List ℕ) → position (λ b. b == 32) line ≡ None → words_of line ≡ line ∷ []
-words_of-none line h = one line (no_place (position_or_len (λ b. b == 32) line) (length line) h)
+words_of-none line h = one line (place_missed (position_or_len (λ b. b == 32) line) (length line) h)
   where
     split : (c : Bool) (x : ℕ) (xs : List ℕ) → (length xs ≤ position_or_len (λ b. b == 32) xs → slice_split (λ b. b == 32) xs ≡ xs ∷ []) → suc (length xs) ≤ cond (not c) (1 + position_or_len (λ b. b == 32) xs) 0 → cond c ([] ∷ slice_split (λ b. b == 32) xs) (onto_first x (slice_split (λ b. b == 32) xs)) ≡ (x ∷ xs) ∷ []
     split true x xs more h = absurd (omega arith)
@@ -37,7 +31,7 @@ words_of-none line h = one line (no_place (position_or_len (λ b. b == 32) line)
 -- the first word ends at the first space
 pub words_of-some : (line : List ℕ) (end : ℕ) → position (λ b. b == 32) line ≡ Some end → words_of line ≡ take end line ∷ words_of (drop (end + 1) line)
 words_of-some line end h =
-    let at = found_place (position_or_len (λ b. b == 32) line) (length line) end h in
+    let at = place_found (position_or_len (λ b. b == 32) line) (length line) end h in
     let at_end : position_or_len (λ b. b == 32) line ≡ end = at.0 in
     let inside : position_or_len (λ b. b == 32) line < length line = omega (arith, at.0, at.1) in
     let split : slice_split (λ b. b == 32) line ≡ take (position_or_len (λ b. b == 32) line) line ∷ slice_split (λ b. b == 32) (drop (position_or_len (λ b. b == 32) line + 1) line) = slice_split_first (λ b. b == 32) line 0 inside in
@@ -64,28 +58,6 @@ edit_of_more a b c more = let w = one_word more in ap (λ (l : List (List ℕ)).
 pub lone_more : (heading : Heading) (more : List ℕ) → lone heading (words_of more) ≡ None
 lone_more heading more = let w = one_word more in ap (lone heading) w.2
 
--- the place of the first LF
-abbrev feed_place : List ℕ → ℕ
-feed_place bytes = position_or_len (λ c. c == 10) bytes
-
--- a list, by a front of it
-by_front : (n : ℕ) (bytes more : List ℕ) → bytes ++ more ≡ take n bytes ++ (drop n bytes ++ more)
-by_front n bytes more = ap (λ (l : List ℕ). l ++ more) (sym (take-append-drop n bytes)) ∙ append_assoc (take n bytes) (drop n bytes) more
-
--- an LF in a front of the bytes is their first, whatever follows them
-feed_inside : (n : ℕ) (bytes more : List ℕ) → feed_place (take n bytes) < length (take n bytes) → feed_place (bytes ++ more) ≡ feed_place (take n bytes)
-feed_inside n bytes more h =
-    let front : feed_place (take n bytes ++ (drop n bytes ++ more)) ≡ feed_place (take n bytes) =
-    prefix_len-append (λ c. not (c == 10)) (take n bytes) (drop n bytes ++ more) ∙ grind (arith, nat_tests) in
-    ap feed_place (by_front n bytes more) ∙ front
-
--- where there is none in a front, the first is after it
-feed_after : (n : ℕ) (bytes more : List ℕ) → length (take n bytes) ≤ feed_place (take n bytes) → length (take n bytes) ≤ feed_place (bytes ++ more)
-feed_after n bytes more h =
-    let e : feed_place (bytes ++ more) ≡ feed_place (take n bytes ++ (drop n bytes ++ more)) = ap feed_place (by_front n bytes more) in
-    let f = prefix_len-append (λ c. not (c == 10)) (take n bytes) (drop n bytes ++ more) in
-    grind (arith, nat_tests)
-
 -- some bytes begin with their first line
 pub next_of-lined : (bytes : List ℕ) → 0 < length bytes → next_of bytes ≡ lined (position (λ c. c == 10) bytes) bytes
 next_of-lined [] h = absurd (omega arith)
@@ -95,19 +67,15 @@ unfinished-some : (bytes : List ℕ) → 0 < length bytes → unfinished bytes �
 unfinished-some [] h = absurd (omega arith)
 unfinished-some (b ∷ bytes) h = refl
 
--- a place that is found
-pub position-at : (a n : ℕ) → a < n → cond (ltb a n) (Some a) None ≡ Some a
-position-at a n h = grind (arith, nat_tests)
-
 -- the line at the front of the bytes, which ends within 80 bytes
 pub next_of-line : (n : ℕ) (bytes more : List ℕ) (end : ℕ) → n ≤ 81 → position (λ c. c == 10) (take n bytes) ≡ Some end → next_of (bytes ++ more) ≡ headed (heading_of (words_of (take end bytes))) (drop (end + 1) bytes ++ more)
 next_of-line n bytes more end few h =
-    let at = found_place (feed_place (take n bytes)) (length (take n bytes)) end h in
+    let at = place_found (feed_place (take n bytes)) (length (take n bytes)) end h in
     let short : end < 81 = omega (arith, at.1, length-take n bytes) in
     let inside : end < length bytes = omega (arith, at.1, length-take n bytes) in
     let place : feed_place (bytes ++ more) ≡ end = feed_inside n bytes more (omega (arith, at.0, at.1)) ∙ at.0 in
     let long : length (bytes ++ more) ≡ length bytes + length more = length-append bytes more in
-    let found : position (λ c. c == 10) (bytes ++ more) ≡ Some end = position-at (feed_place (bytes ++ more)) (length (bytes ++ more)) (omega arith) ∙ ap Some place in
+    let found : position (λ c. c == 10) (bytes ++ more) ≡ Some end = place_at (feed_place (bytes ++ more)) (length (bytes ++ more)) (omega arith) ∙ ap Some place in
     let line : lined (Some end) (bytes ++ more) ≡ headed (heading_of (words_of (take end (bytes ++ more)))) (drop (end + 1) (bytes ++ more)) = rw (le-leb end 80 (omega arith)) refl in
     next_of-lined (bytes ++ more) (omega arith) ∙ ap (λ (o : Option ℕ). lined o (bytes ++ more)) found ∙ line ∙
     ap (λ (l : List ℕ). headed (heading_of (words_of l)) (drop (end + 1) (bytes ++ more))) (take-append-le end bytes more (omega arith)) ∙
@@ -116,9 +84,9 @@ next_of-line n bytes more end few h =
 -- a line of more than 80 bytes is no command
 pub next_of-long : (n : ℕ) (bytes more : List ℕ) → n ≡ min (length bytes) 81 → position (λ c. c == 10) (take n bytes) ≡ None → 80 < length bytes → next_of (bytes ++ more) ≡ Unknown
 next_of-long n bytes more few h long =
-    let none = no_place (feed_place (take n bytes)) (length (take n bytes)) h in
+    let none = place_missed (feed_place (take n bytes)) (length (take n bytes)) h in
     let size : length (take n bytes) ≡ min n (length bytes) = length-take n bytes in
-    let after = feed_after n bytes more none in
+    let after = feed_beyond n bytes more none in
     let whole : length (bytes ++ more) ≡ length bytes + length more = length-append bytes more in
     next_of-lined (bytes ++ more) (omega arith) ∙ too_long (feed_place (bytes ++ more)) (length (bytes ++ more)) (bytes ++ more) (omega arith)
   where
@@ -132,18 +100,13 @@ next_of-long n bytes more few h long =
         split true = rw big_test refl
         split false = refl
 
--- a test that holds where a heading came of it
-some-if : {X : Type 0} (b : Bool) (x y : X) → cond b (Some x) None ≡ Some y → (b ≡ true) × (x ≡ y)
-some-if true x y h = (refl, cc)
-some-if false x y h = cc
-
 -- an edit puts in at most 2,097,152 bytes
 edit_with-few : (a b c : Option ℕ) (start stop len : ℕ) → edit_with a b c ≡ Some (Edit start stop len) → len ≤ 2097152
 edit_with-few None b c start stop len h = cc
 edit_with-few (Some x) None c start stop len h = cc
 edit_with-few (Some x) (Some y) None start stop len h = cc
 edit_with-few (Some x) (Some y) (Some z) start stop len h =
-    let p = some-if (leb z 2097152) (Edit x y z) (Edit start stop len) h in
+    let p = cond_some (leb z 2097152) (Edit x y z) (Edit start stop len) h in
     let same : z ≡ len = let e = p.1 in cc in
     let within : leb z 2097152 ≡ true = p.0 in
     grind (arith, nat_tests)
@@ -191,14 +154,14 @@ open-few words after h = by (heading_of words) refl h
 -- what is at the front of the bytes, from what comes after their line
 pub IsFront-after : (n : ℕ) (bytes : List ℕ) (end : ℕ) (heading : Option Heading) (front : Front) → n ≤ 81 → position (λ c. c == 10) (take n bytes) ≡ Some end → heading ≡ heading_of (words_of (take end bytes)) → IsFrontAfter heading (end + 1) (drop (end + 1) bytes) front → IsFront bytes front
 IsFront-after n bytes end heading Short few h is f =
-    let at = found_place (feed_place (take n bytes)) (length (take n bytes)) end h in
+    let at = place_found (feed_place (take n bytes)) (length (take n bytes)) end h in
     let inside : end < length bytes = omega (arith, at.1, length-take n bytes) in
     let rest : length (drop (end + 1) bytes) ≡ length bytes - (end + 1) = length-drop (end + 1) bytes in
     let begun : IsOpen (heading_of (words_of (take end bytes))) (drop (end + 1) bytes) = subst (λ (o : Option Heading). IsOpen o (drop (end + 1) bytes)) is f in
     let most : length (drop (end + 1) bytes) ≤ 2097152 = open-few (words_of (take end bytes)) (drop (end + 1) bytes) begun in
     let short : end ≤ 80 = omega (arith, at.1, length-take n bytes) in
     let place : feed_place bytes ≡ end = ap feed_place (sym (append-nil bytes)) ∙ feed_inside n bytes [] (omega (arith, at.0, at.1)) ∙ at.0 in
-    let found : position (λ c. c == 10) bytes ≡ Some end = position-at (feed_place bytes) (length bytes) (omega arith) ∙ ap Some place in
+    let found : position (λ c. c == 10) bytes ≡ Some end = place_at (feed_place bytes) (length bytes) (omega arith) ∙ ap Some place in
     record {
       next = ap next_of (sym (append-nil bytes)) ∙ next_of-line n bytes [] end few h ∙ ap (λ (o : Option Heading). headed o (drop (end + 1) bytes ++ [])) (sym is) ∙ ap (headed heading) (append-nil (drop (end + 1) bytes)) ∙ open-unknown heading (drop (end + 1) bytes) f ∙ sym (unfinished-some bytes (omega arith));
       begun = subst (λ (o : Option ℕ). IsBegun o bytes) (sym found) (short, begun);
@@ -206,7 +169,7 @@ IsFront-after n bytes end heading Short few h is f =
     }
 IsFront-after n bytes end heading Malformed few h is f = λ more. next_of-line n bytes more end few h ∙ ap (λ (o : Option Heading). headed o (drop (end + 1) bytes ++ more)) (sym is) ∙ f more
 IsFront-after n bytes end heading (Whole command len) few h is f =
-    let at = found_place (feed_place (take n bytes)) (length (take n bytes)) end h in
+    let at = place_found (feed_place (take n bytes)) (length (take n bytes)) end h in
     let inside : end < length bytes = omega (arith, at.1, length-take n bytes) in
     let rest : length (drop (end + 1) bytes) ≡ length bytes - (end + 1) = length-drop (end + 1) bytes in
     let from : end + 1 ≤ len = f.from in
@@ -217,11 +180,3 @@ IsFront-after n bytes end heading (Whole command len) few h is f =
       inside = omega arith;
       next = λ more. next_of-line n bytes more end few h ∙ ap (λ (o : Option Heading). headed o (drop (end + 1) bytes ++ more)) (sym is) ∙ f.next_is more ∙ ap (λ (l : List ℕ). Then (request_of command) (l ++ more)) both;
     }
-
--- the first LF stays the first, whatever follows
-pub place_grows : (bytes more : List ℕ) (end : ℕ) → position (λ c. c == 10) bytes ≡ Some end → (position (λ c. c == 10) (bytes ++ more) ≡ Some end) × (end < length bytes)
-place_grows bytes more end h =
-    let at = found_place (feed_place bytes) (length bytes) end h in
-    let front : feed_place (bytes ++ more) ≡ feed_place bytes = prefix_len-append (λ c. not (c == 10)) bytes more ∙ grind (arith, nat_tests) in
-    let long : length (bytes ++ more) ≡ length bytes + length more = length-append bytes more in
-    (position-at (feed_place (bytes ++ more)) (length (bytes ++ more)) (omega (arith, at.0, at.1)) ∙ ap Some (front ∙ at.0), at.1)

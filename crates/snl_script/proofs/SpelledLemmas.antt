@@ -1,23 +1,21 @@
 -- The bytes of a command are that command.
-use Rattle.std.proofs.Common.{◌≡◌, ℕ, zero, suc, ◌+◌, ◌<◌, ◌≤◌, ◌^◌, List, [], ◌∷◌, ◌++◌, length, take, drop, Bool, true, false, not, cond, Option, Some, refl, sym, ap, ◌∙◌, codes, arith, lit<, lit≤, append_assoc, length-append, position, ◌==◌, ◌&&◌}
+use Rattle.std.proofs.Common.{◌≡◌, ℕ, zero, suc, ◌+◌, ◌<◌, ◌≤◌, ◌^◌, List, [], ◌∷◌, ◌++◌, length, take, drop, Bool, true, false, not, cond, Option, Some, refl, sym, ap, ◌∙◌, codes, arith, lit<, lit≤, append_assoc, length-append, position, ◌==◌}
 use Rattle.std.specs.Prelude.{decimal, replicate}
-use Rattle.std.proofs.lemmas.Bool.{le-leb}
+use Rattle.std.proofs.lemmas.Bool.{le-leb, and_parts}
 use Rattle.std.proofs.lemmas.Bool.Decides.{nat_tests}
 use Rattle.std.proofs.lemmas.Fmt.{decimal_is_IsNumeral}
 use Rattle.std.proofs.lemmas.List.Folds.{list_all-append}
 use Rattle.std.proofs.lemmas.List.{drop_at, take_at}
-use Rattle.std.specs.Char.{digit_value, is_ascii_digit}
+use Rattle.std.specs.Char.{is_ascii_digit}
 use Rattle.std.specs.List.{concat, list_all, onto_first, position_or_len}
-use Rattle.std.specs.Str.Parse.{AllDigits, digits_value}
+use Rattle.std.specs.Str.Parse.{digits_value}
 use Rattle.snl_script.specs.declared.script.Heading.{Heading}
 use Rattle.snl_script.specs.declared.script.Heading.TheVariants.{Edit}
 use Rattle.snl_script.specs.Script.{Request, Checks, Lists, Works, Edits, Then, edit_with, headed, heading_of, lined, next_of, number_of, words_of}
-use Rattle.snl_script.proofs.ScriptLemmas.{next_of-lined, position-at}
+use Rattle.snl_script.proofs.ScriptLemmas.{next_of-lined}
 use Rattle.snl_script.specs.Spelled.{IsEdit, IsNumeral, IsSpelled}
-
-both : (a b : Bool) → (a && b) ≡ true → (a ≡ true) × (b ≡ true)
-both true b h = (refl, h)
-both false b h = cc
+use Rattle.snl_facts.specs.Positions.{place_at}
+use Rattle.snl_facts.specs.Digits.{are_digits}
 
 -- a byte that is no space goes before the first word
 onto : (c : ℕ) (line word : List ℕ) (words : List (List ℕ)) → not (c == 32) ≡ true → words_of line ≡ word ∷ words → words_of (c ∷ line) ≡ (c ∷ word) ∷ words
@@ -28,13 +26,6 @@ onto c line word words other h = by (c == 32) other
     by false e = ap (onto_first c) h
 
 -- ---- numbers
-
-one_digit : (c : ℕ) → digit_value c < 10 → is_ascii_digit c ≡ true
-one_digit c h = grind (arith, nat_tests)
-
-all_digits : (word : List ℕ) → AllDigits 10 word → list_all is_ascii_digit word ≡ true
-all_digits [] h = refl
-all_digits (c ∷ cs) h = rw (one_digit c h.0, all_digits cs h.1) refl
 
 zeros-digits : (n : ℕ) (word : List ℕ) → list_all is_ascii_digit word ≡ true → list_all is_ascii_digit (replicate n 48 ++ word) ≡ true
 zeros-digits zero word h = h
@@ -58,7 +49,7 @@ numeral_value : (number : ℕ) (word : List ℕ) → IsNumeral number word → H
 numeral_value number word is =
     let fits : number < 2 ^ 64 = let small : number < 10 ^ 19 = is.small in omega arith in
     let plain = decimal_is_IsNumeral number fits in
-    let plain_digits : list_all is_ascii_digit (decimal number) ≡ true = all_digits (decimal number) plain.0.1 in
+    let plain_digits : list_all is_ascii_digit (decimal number) ≡ true = are_digits (decimal number) plain.0.1 in
     record {
       some = omega (arith, ap length is.digits, zeros-length is.zeros (decimal number), plain.0.0);
       few = is.few;
@@ -81,7 +72,7 @@ digit_without byte c low h = grind (arith, nat_tests)
 digits_without : (byte : ℕ) (word : List ℕ) → byte < 48 → list_all is_ascii_digit word ≡ true → without byte word ≡ true
 digits_without byte [] low h = refl
 digits_without byte (c ∷ cs) low h =
-    let p = both (is_ascii_digit c) (list_all is_ascii_digit cs) h in
+    let p = and_parts (is_ascii_digit c) (list_all is_ascii_digit cs) h in
     rw (digit_without byte c low p.0, digits_without byte cs low p.1) refl
 
 without-append : (byte : ℕ) (xs ys : List ℕ) → without byte xs ≡ true → without byte ys ≡ true → without byte (xs ++ ys) ≡ true
@@ -91,17 +82,17 @@ without-append byte xs ys h k = list_all-append (λ c. not (c == byte)) xs ys �
 feed_after : (line rest : List ℕ) → without 10 line ≡ true → position_or_len (λ c. c == 10) (line ++ 10 ∷ rest) ≡ length line
 feed_after [] rest h = refl
 feed_after (c ∷ line) rest h =
-    let p = both (not (c == 10)) (without 10 line) h in
+    let p = and_parts (not (c == 10)) (without 10 line) h in
     rw p.0 (omega (arith, feed_after line rest p.1))
 
 -- a word goes up to the first space
 word_before : (word rest : List ℕ) → without 32 word ≡ true → words_of (word ++ 32 ∷ rest) ≡ word ∷ words_of rest
 word_before [] rest h = refl
-word_before (c ∷ word) rest h = onto c (word ++ 32 ∷ rest) word (words_of rest) (both (not (c == 32)) (without 32 word) h).0 (word_before word rest (both (not (c == 32)) (without 32 word) h).1)
+word_before (c ∷ word) rest h = onto c (word ++ 32 ∷ rest) word (words_of rest) (and_parts (not (c == 32)) (without 32 word) h).0 (word_before word rest (and_parts (not (c == 32)) (without 32 word) h).1)
 
 word_last : (word : List ℕ) → without 32 word ≡ true → words_of word ≡ word ∷ []
 word_last [] h = refl
-word_last (c ∷ word) h = onto c word word [] (both (not (c == 32)) (without 32 word) h).0 (word_last word (both (not (c == 32)) (without 32 word) h).1)
+word_last (c ∷ word) h = onto c word word [] (and_parts (not (c == 32)) (without 32 word) h).0 (word_last word (and_parts (not (c == 32)) (without 32 word) h).1)
 
 -- some bytes begin with a line, which is a heading
 line_read : (line after : List ℕ) → without 10 line ≡ true → length line ≤ 80 → next_of (line ++ 10 ∷ after) ≡ headed (heading_of (words_of line)) after
@@ -109,7 +100,7 @@ line_read line after clean short =
     let all : List ℕ = line ++ 10 ∷ after in
     let size : length all ≡ length line + (1 + length after) = length-append line (10 ∷ after) ∙ omega arith in
     let place : position_or_len (λ c. c == 10) all ≡ length line = feed_after line after clean in
-    let found : position (λ c. c == 10) all ≡ Some (length line) = position-at (position_or_len (λ c. c == 10) all) (length all) (omega arith) ∙ ap Some place in
+    let found : position (λ c. c == 10) all ≡ Some (length line) = place_at (position_or_len (λ c. c == 10) all) (length all) (omega arith) ∙ ap Some place in
     let front : take (length line) all ≡ line = take_at line (10 ∷ after) (length line) refl in
     let back : drop (length line + 1) all ≡ after =
     ap (drop (length line + 1)) (sym (append_assoc line (10 ∷ []) after)) ∙ drop_at (line ++ 10 ∷ []) after (length line + 1) (length-append line (10 ∷ [])) in

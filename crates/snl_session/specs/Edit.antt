@@ -1,6 +1,6 @@
 -- An edit of a text by a range of bytes: when it is refused, and the text that it gives.
 use Rattle.std.specs.Prelude.{ℕ, ◌+◌, ◌-◌, ◌||◌, nat_lt, if◌then◌else◌, List, length, Option, Some, None}
-pub use Rattle.snl_items.specs.Fresh.{spliced}
+pub use Rattle.snl_lex.specs.Edit.{spliced}
 use Rattle.snl_session.specs.declared.edits.Refused.{Refused}
 use Rattle.snl_session.specs.declared.edits.Refused.TheVariants.{Range, Size}
 

@@ -13,6 +13,6 @@ pub use snl_check::{
     ChannelRow, Destination, FlagRow, NamedState, OptionRow, Queue, ScopeName, SetRow, Span,
     StateMark, StateRow, Synced, Tables, WakeUp,
 };
+pub use snl_codes::Code;
 pub use snl_kept::{Diagnostic, Work, found_once, linked_once, rows_have_bytes};
 pub use snl_listing::{Lister, Sink};
-pub use snl_scope::Code;

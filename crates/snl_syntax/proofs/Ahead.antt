@@ -1,4 +1,4 @@
--- The tokens from a place on.
+-- The tokens from a number on.
 use Rattle.std.proofs.Common.{◌≡◌, ℕ, suc, ◌+◌, ◌-◌, ◌<◌, ◌≤◌, true, false, List, [], ◌∷◌, length, get_or, drop, Some, None, Ok, Err, refl, ap, ◌∙◌, add-one, drop-cons, length-drop}
 use Rattle.std.proofs.lemmas.List.{drop_all}
 use Rattle.snl_lex.specs.declared.kind.Kind.{Kind}

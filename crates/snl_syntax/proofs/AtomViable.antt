@@ -10,7 +10,7 @@ use Rattle.snl_syntax.specs.declared.tree.expression.Prefix.{Prefix}
 use Rattle.snl_syntax.specs.declared.tree.expression.Prefix.TheVariants as prefixes
 use Rattle.snl_syntax.specs.declared.tree.expression.Expr.{Expr}
 use Rattle.snl_syntax.specs.declared.tree.expression.Expr.TheVariants as tree
-use Rattle.snl_syntax.specs.Operators.{sign_mark}
+use Rattle.snl_syntax.specs.Operators.{sign_kind}
 use Rattle.snl_syntax.specs.Tokens.{NumberedKind}
 use Rattle.snl_syntax.specs.Steps.{Reader, pure, expect}
 use Rattle.snl_syntax.specs.Grammar.Base.{First, Leaf}
@@ -73,15 +73,15 @@ module _ (free extra : ℕ) (Inner : Expr → List NumberedKind → List Numbere
   step_makes b n rest room = last_step Inner Names b (numbered_kinds n Int ++ rest) rest (atom_makes n rest room)
 
   -- an operator, and the shortest operand after it
-  into_signed : (b : Bool) (op : Sign) (y : Step Prefix Expr) (k rest : List NumberedKind) → Both (Leaf (sign_mark op)) (λ _. IsNothing (steps.More (prefixes.Sign op))) y k rest → IsStep Inner Names b y k rest
-  into_signed b op y k rest (both n m e h) = subst (λ z. IsStep Inner Names b z k rest) h.0 (sign op refl (first_then (sign_mark op) n k m rest e h.1))
+  into_signed : (b : Bool) (op : Sign) (y : Step Prefix Expr) (k rest : List NumberedKind) → Both (Leaf (sign_kind op)) (λ _. IsNothing (steps.More (prefixes.Sign op))) y k rest → IsStep Inner Names b y k rest
+  into_signed b op y k rest (both n m e h) = subst (λ z. IsStep Inner Names b z k rest) h.0 (sign op refl (first_then (sign_kind op) n k m rest e h.1))
 
-  aim_signed : (b : Bool) (op : Sign) (k rest : List NumberedKind) → Joint (Leaf (sign_mark op)) (λ _. Operation Inner Names false) k rest → Operation Inner Names b k rest
+  aim_signed : (b : Bool) (op : Sign) (k rest : List NumberedKind) → Joint (Leaf (sign_kind op)) (λ _. Operation Inner Names false) k rest → Operation Inner Names b k rest
   aim_signed b op k rest h = (prefixes.Sign op ∷ h.3.0, h.3.1, h.3.2, h.3.3, (h.1, sign op refl (h.0, h.2), h.3.4), h.3.5)
 
   pub signed_viable : (b : Bool) (op : Sign) → Viable free extra (signed op) (IsStep Inner Names b) (Operation Inner Names b)
   unfolding signed
-  signed_viable b op = lighter free extra (signed op) _ (IsStep Inner Names b) _ (Operation Inner Names b) (into_signed b op) (aim_signed b op) (bind_viable free extra (expect (sign_mark op)) (λ _. pure (steps.More (prefixes.Sign op))) (Leaf (sign_mark op)) (λ _. IsNothing (steps.More (prefixes.Sign op))) (λ _. Operation Inner Names false) Int (expect_completable free extra (sign_mark op)).viable (λ _. pure_never free extra (steps.More (prefixes.Sign op)) (Operation Inner Names false)) (λ _. step_makes false))
+  signed_viable b op = lighter free extra (signed op) _ (IsStep Inner Names b) _ (Operation Inner Names b) (into_signed b op) (aim_signed b op) (bind_viable free extra (expect (sign_kind op)) (λ _. pure (steps.More (prefixes.Sign op))) (Leaf (sign_kind op)) (λ _. IsNothing (steps.More (prefixes.Sign op))) (λ _. Operation Inner Names false) Int (expect_completable free extra (sign_kind op)).viable (λ _. pure_never free extra (steps.More (prefixes.Sign op)) (Operation Inner Names false)) (λ _. step_makes false))
 
 module _ (free extra : ℕ) (Inner : Expr → List NumberedKind → List NumberedKind → Type 0) (Names : TypeName → List NumberedKind → List NumberedKind → Type 0) (inner : Reader Expr) (names : Reader TypeName) where
   into_plain : (b : Bool) (y : Step Prefix Expr) (k rest : List NumberedKind) → Both (IsPrimary Inner Names) (λ x. IsNothing (steps.Last None x)) y k rest → IsStep Inner Names b y k rest

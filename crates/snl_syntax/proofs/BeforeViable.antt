@@ -20,7 +20,7 @@ use Rattle.snl_syntax.proofs.ExpressionViable.{expr_completable}
 abbrev pub Semi : List Kind
 Semi = kind.Semicolon ∷ []
 
--- ---- an expression or nothing, and a mark
+-- ---- an expression or nothing, and the token that ends it
 
 module _ (free extra : ℕ) (R : Expr → List NumberedKind → List NumberedKind → Type 0) (p : Reader Expr) (f : Completable free extra p R Int) where
   into_some : (x : Kind) (y : Option Expr) (k rest : List NumberedKind) → Both R (λ e. Both (Leaf x) (λ _. IsNothing (Some e))) y k rest → IsBefore x R y k rest

@@ -18,7 +18,7 @@ use Rattle.snl_syntax.specs.Grammar.Base.{First, Leaf, Perhaps}
 use Rattle.snl_syntax.specs.Grammar.Types.{Written}
 use Rattle.snl_syntax.specs.Grammar.Expressions.{IsAfterComma, AreCommas, AreTexts}
 use Rattle.snl_syntax.specs.Grammar.Declarations.{AreBraced}
-use Rattle.snl_syntax.specs.Grammar.Clauses.{AreForeign, option_mark, IsOptionLine, IsSubscript, IsFlag, IsChannel, anonymous, whole as is_whole, element as is_element, elements as are_elements, IsAssign, IsMonitor, IsSync, IsSyncq, IsClause, assign as is_assign, monitor as is_monitor, sync as is_sync, syncq as is_syncq}
+use Rattle.snl_syntax.specs.Grammar.Clauses.{AreForeign, option_kind, IsOptionLine, IsSubscript, IsFlag, IsChannel, anonymous, whole as is_whole, element as is_element, elements as are_elements, IsAssign, IsMonitor, IsSync, IsSyncq, IsClause, assign as is_assign, monitor as is_monitor, sync as is_sync, syncq as is_syncq}
 use Rattle.snl_syntax.specs.Reading.Expressions.{next_comma, commas, texts}
 use Rattle.snl_syntax.specs.Reading.Clauses.{foreign, sign_by, sign, option_line, subscript, some_subscript, subscript_by, subscript_part, flag, some_flag, flag_by, flag_part, some_queue, queue_by, queue_part, after_comma_by, after_comma, text_step_by, text_step, some_elements, elements_by, elements, whole, channel_to_by, channel_to, named_channel, element, channel_by, channel, assign, monitor, sync, syncq_rest, clause_by, clause}
 use Rattle.snl_syntax.proofs.Local.{expect_local}
@@ -76,7 +76,7 @@ module _ (free : ℕ) where
   unfolding foreign
   foreign_reads_back ns k rest is = bind_reads_back free (expect kind.Foreign k) _ (is.word.0) is.m1 (ns) rest (first_reads_back free kind.Foreign k is.m1 is.word) (bind_reads_back free (commas (expect kind.Name) is.m1) _ (ns) is.m2 (ns) rest (names_reads_back ns is.m1 is.m2 is.names (first_lacks kind.Semicolon kind.Comma is.m2 rest refl is.semicolon)) (bind_reads_back free (expect kind.Semicolon is.m2) _ (is.semicolon.0) rest (ns) rest (first_reads_back free kind.Semicolon is.m2 rest is.semicolon) (pure_reads_back free (ns) rest)))
 
-  sign_reads_back : (s : OptionSign) (k rest : List NumberedKind) → First (option_mark s) k rest → ReadsBack free (sign k) s rest
+  sign_reads_back : (s : OptionSign) (k rest : List NumberedKind) → First (option_kind s) k rest → ReadsBack free (sign k) s rest
   unfolding sign
   sign_reads_back signs.Plus k rest f = reads_back_at free (sign k) (sign_by (Some kind.Plus) k) signs.Plus rest (ap (λ o. sign_by o k) (kind_first kind.Plus k rest f)) (word_reads_back free kind.Plus signs.Plus k rest f)
   sign_reads_back signs.Minus k rest f = reads_back_at free (sign k) (sign_by (Some kind.Minus) k) signs.Minus rest (ap (λ o. sign_by o k) (kind_first kind.Minus k rest f)) (word_reads_back free kind.Minus signs.Minus k rest f)

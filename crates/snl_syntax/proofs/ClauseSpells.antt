@@ -6,7 +6,7 @@ use Rattle.snl_syntax.specs.declared.tree.clause.OptionSign.TheVariants as signs
 use Rattle.snl_syntax.specs.Tokens.{NumberedKind}
 use Rattle.snl_syntax.specs.Grammar.Base.{First, Leaf, Perhaps}
 use Rattle.snl_syntax.specs.Grammar.Expressions.{AreTexts}
-use Rattle.snl_syntax.specs.Grammar.Clauses.{AreForeign, option_mark, IsOptionLine, IsSubscript, IsFlag, IsChannel, anonymous, whole, element, elements, syncq_word, IsClause, assign, monitor, sync, syncq}
+use Rattle.snl_syntax.specs.Grammar.Clauses.{AreForeign, option_kind, IsOptionLine, IsSubscript, IsFlag, IsChannel, anonymous, whole, element, elements, syncq_word, IsClause, assign, monitor, sync, syncq}
 use Rattle.snl_syntax.specs.Spelling.Base.{leaf, perhaps}
 use Rattle.snl_syntax.specs.Spelling.Expressions.{spell_texts}
 use Rattle.snl_syntax.specs.Spelling.Clauses.{spell_foreign, spell_sign, spell_option_line, spell_subscript, spell_flag, spell_channel, spell_syncq, spell_clause}
@@ -22,7 +22,7 @@ name_spells n k rest e = leaf_covers e
 pub foreign_spells : Spells AreForeign spell_foreign
 foreign_spells t k rest is = word_covers is.word and commas_spell (Leaf kind.Name) (leaf kind.Name) name_spells t is.m1 is.m2 is.names and word_covers is.semicolon
 
-sign_spells : (sign : OptionSign) (k rest : List NumberedKind) → First (option_mark sign) k rest → Covers (spell_sign sign) k rest
+sign_spells : (sign : OptionSign) (k rest : List NumberedKind) → First (option_kind sign) k rest → Covers (spell_sign sign) k rest
 sign_spells signs.Plus k rest f = word_covers f
 sign_spells signs.Minus k rest f = word_covers f
 

@@ -17,7 +17,7 @@ use Rattle.snl_syntax.specs.Grammar.Base.{First, Leaf, Perhaps}
 use Rattle.snl_syntax.specs.Grammar.Types.{Written}
 use Rattle.snl_syntax.specs.Grammar.Expressions.{IsAfterComma, AreCommas, AreTexts}
 use Rattle.snl_syntax.specs.Grammar.Declarations.{AreBraced}
-use Rattle.snl_syntax.specs.Grammar.Clauses.{AreForeign, option_mark, IsOptionLine, IsSubscript, IsFlag, IsChannel, anonymous, whole as is_whole, element as is_element, elements as are_elements, syncq_word, IsClause, assign as is_assign, monitor as is_monitor, sync as is_sync, syncq as is_syncq}
+use Rattle.snl_syntax.specs.Grammar.Clauses.{AreForeign, option_kind, IsOptionLine, IsSubscript, IsFlag, IsChannel, anonymous, whole as is_whole, element as is_element, elements as are_elements, syncq_word, IsClause, assign as is_assign, monitor as is_monitor, sync as is_sync, syncq as is_syncq}
 use Rattle.snl_syntax.specs.Reading.Expressions.{commas, texts}
 use Rattle.snl_syntax.specs.Reading.Clauses.{foreign, sign_by, sign, option_line, subscript, some_subscript, subscript_by, subscript_part, flag, some_flag, flag_by, flag_part, some_queue, queue_by, queue_part, after_comma_by, after_comma, text_step_by, text_step, some_elements, elements_by, elements, whole, channel_to_by, channel_to, named_channel, element, channel_by, channel, assign, monitor, sync, syncq_rest, syncq, syncq_capital, clause_by, clause}
 use Rattle.snl_syntax.proofs.Viable.{Makes, Viable, Completable, Exists, Both, both, IsNothing, Ends, bind_completable, into_completable, choice_viable, refuse_viable, expect_completable, accept_completable, pure_completable}
@@ -32,7 +32,7 @@ abbrev make_flag : Bool → ℕ → Flag
 make_flag b n = record { to = b; name = n }
 
 abbrev IsSign : OptionSign → List NumberedKind → List NumberedKind → Type 0
-IsSign s k rest = First (option_mark s) k rest
+IsSign s k rest = First (option_kind s) k rest
 
 module _ (free extra : ℕ) where
   into_foreign : (y : List ℕ) (k rest : List NumberedKind) → Both (Leaf kind.Foreign) (λ _. Both (AreCommas (Leaf kind.Name)) (λ ns. Both (Leaf kind.Semicolon) (λ _. IsNothing (ns)))) y k rest → (AreForeign) y k rest

@@ -6,7 +6,7 @@ use Rattle.snl_lex.specs.declared.kind.Kind.{Kind}
 use Rattle.snl_lex.specs.declared.kind.Kind.TheVariants as kind
 use Rattle.snl_syntax.specs.declared.operator.Binary.{Binary}
 use Rattle.snl_syntax.specs.declared.tree.expression.Expr.{Expr}
-use Rattle.snl_syntax.specs.Operators.{tier, binary_of, binary_mark}
+use Rattle.snl_syntax.specs.Operators.{tier, binary_of, binary_kind}
 use Rattle.snl_syntax.specs.Tokens.{NumberedKind}
 use Rattle.snl_syntax.specs.Steps.{Reader, pure, expect, many}
 use Rattle.snl_syntax.specs.Grammar.Base.{Each, Leaf}
@@ -61,13 +61,13 @@ module _ (free extra : ℕ) where
   unfolding texts
   texts_completable = into_completable free extra texts _ AreTexts (kind.Text ∷ []) into_texts (bind_completable free extra (expect kind.Text) _ (Leaf kind.Text) (λ n. Lists (Leaf kind.Text) (n ∷ [])) (kind.Text ∷ []) [] (expect_completable free extra kind.Text) (λ n. many_completable free extra (Leaf kind.Text) next_text next_text_viable (n ∷ [])))
 
--- ---- operators, by their marks
+-- ---- operators, by their tokens
 module _ (free extra : ℕ) (n : ℕ) (R : Expr → List NumberedKind → List NumberedKind → Type 0) (p : Reader Expr) (f : Completable free extra p R Int) where
-  into_link : (op : Binary) → tier op ≡ n → (y : Option (Binary × Expr)) (k rest : List NumberedKind) → Both (Leaf (binary_mark op)) (λ _. Both R (λ x. IsNothing (Some (op, x)))) y k rest → Next (IsLink n R) y k rest
+  into_link : (op : Binary) → tier op ≡ n → (y : Option (Binary × Expr)) (k rest : List NumberedKind) → Both (Leaf (binary_kind op)) (λ _. Both R (λ x. IsNothing (Some (op, x)))) y k rest → Next (IsLink n R) y k rest
   into_link op t y k rest (both i m e (both x m2 r h)) = subst (λ z. Next (IsLink n R) z k rest) h.0 (record { mid = m; operator = (i, e); of_tier = t; operand = subst (λ l. R x m l) h.1 r })
 
   link_viable : (op : Binary) → tier op ≡ n → Viable free extra (link_by p (Some op)) (Next (IsLink n R)) (Exists (Next (IsLink n R)))
-  link_viable op t = (into_completable free extra (link_by p (Some op)) _ (Next (IsLink n R)) (binary_mark op ∷ Int) (into_link op t) (bind_completable free extra (expect (binary_mark op)) _ (Leaf (binary_mark op)) (λ _. Both R (λ x. IsNothing (Some (op, x)))) (binary_mark op ∷ []) Int (expect_completable free extra (binary_mark op)) (λ _. bind_completable free extra p _ R (λ x. IsNothing (Some (op, x))) Int [] f (λ x. pure_completable free extra (Some (op, x)))))).viable
+  link_viable op t = (into_completable free extra (link_by p (Some op)) _ (Next (IsLink n R)) (binary_kind op ∷ Int) (into_link op t) (bind_completable free extra (expect (binary_kind op)) _ (Leaf (binary_kind op)) (λ _. Both R (λ x. IsNothing (Some (op, x)))) (binary_kind op ∷ []) Int (expect_completable free extra (binary_kind op)) (λ _. bind_completable free extra p _ R (λ x. IsNothing (Some (op, x))) Int [] f (λ x. pure_completable free extra (Some (op, x)))))).viable
 
   no_link_viable : Viable free extra (link_by p None) (Next (IsLink n R)) (Exists (Next (IsLink n R)))
   no_link_viable = (into_completable free extra (pure None) (IsNothing None) (Next (IsLink n R)) [] (none_next (IsLink n R)) (pure_completable free extra None)).viable

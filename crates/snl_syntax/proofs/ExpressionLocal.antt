@@ -14,7 +14,7 @@ use Rattle.snl_syntax.specs.declared.tree.expression.Suffix.{Suffix}
 use Rattle.snl_syntax.specs.declared.tree.expression.Suffix.TheVariants as suffixes
 use Rattle.snl_syntax.specs.declared.tree.expression.Expr.{Expr}
 use Rattle.snl_syntax.specs.declared.tree.expression.Expr.TheVariants as tree
-use Rattle.snl_syntax.specs.Operators.{binary_mark, assignment_mark, sign_mark}
+use Rattle.snl_syntax.specs.Operators.{binary_kind, assignment_kind, sign_kind}
 use Rattle.snl_syntax.specs.Tokens.{NumberedKind}
 use Rattle.snl_syntax.specs.Steps.{Reader, and_then, pure, kind_at, expect, word, many, until}
 use Rattle.snl_syntax.specs.Reading.Types.{type_name, begins_type}
@@ -89,7 +89,7 @@ atom_local = choice_local atom_by atom_by_local
 
 link_by_local : (operand : Reader Expr) → Local operand → (o : Option Binary) → Local (link_by operand o)
 link_by_local operand local None = pure_local None
-link_by_local operand local (Some op) = bind_local (expect (binary_mark op)) _ (expect_local (binary_mark op)) (λ _. bind_local operand _ local (λ x. pure_local (Some (op, x))))
+link_by_local operand local (Some op) = bind_local (expect (binary_kind op)) _ (expect_local (binary_kind op)) (λ _. bind_local operand _ local (λ x. pure_local (Some (op, x))))
 
 link_local : (n : ℕ) (operand : Reader Expr) → Local operand → Local (next_link n operand)
 unfolding next_link
@@ -97,7 +97,7 @@ link_local n operand local = choice_local (λ o. link_by operand (binary_in n o)
 
 link_by_eats : (operand : Reader Expr) → Local operand → (o : Option Binary) → EatsSome (link_by operand o)
 link_by_eats operand local None = none_eats
-link_by_eats operand local (Some op) = eats_some (link_by operand (Some op)) (bind_eats (expect (binary_mark op)) (λ _. λ k. and_then (operand k) (λ x. pure (Some (op, x)))) (expect_eats (binary_mark op)) (λ _. bind_local operand _ local (λ x. pure_local (Some (op, x)))))
+link_by_eats operand local (Some op) = eats_some (link_by operand (Some op)) (bind_eats (expect (binary_kind op)) (λ _. λ k. and_then (operand k) (λ x. pure (Some (op, x)))) (expect_eats (binary_kind op)) (λ _. bind_local operand _ local (λ x. pure_local (Some (op, x)))))
 
 pub link_eats : (n : ℕ) (operand : Reader Expr) → Local operand → EatsSome (next_link n operand)
 unfolding next_link
@@ -105,7 +105,7 @@ link_eats n operand local k x m e = link_by_eats operand local (binary_in n (kin
 
 signed_local : (op : Sign) → Local (signed op)
 unfolding signed
-signed_local op = bind_local (expect (sign_mark op)) _ (expect_local (sign_mark op)) (λ _. pure_local (steps.More (prefixes.Sign op)))
+signed_local op = bind_local (expect (sign_kind op)) _ (expect_local (sign_kind op)) (λ _. pure_local (steps.More (prefixes.Sign op)))
 
 member_local : (x : Kind) (make : ℕ → Suffix) → Local (member x make)
 unfolding member
@@ -232,7 +232,7 @@ module _ (inner : Reader Expr) (names : Reader TypeName) (local : Local inner) (
 
   signed_eats : (op : Sign) → Eats (signed op)
   unfolding signed
-  signed_eats op = bind_eats (expect (sign_mark op)) (λ _. pure (steps.More (prefixes.Sign op))) (expect_eats (sign_mark op)) (λ _. pure_local (steps.More (prefixes.Sign op)))
+  signed_eats op = bind_eats (expect (sign_kind op)) (λ _. pure (steps.More (prefixes.Sign op))) (expect_eats (sign_kind op)) (λ _. pure_local (steps.More (prefixes.Sign op)))
 
   sizeof_eats : Eats (sizeof inner names)
   unfolding sizeof
@@ -308,7 +308,7 @@ module _ (inner : Reader Expr) (names : Reader TypeName) (local : Local inner) (
   conditional_local x = bind_local (tiers_from inner names 10 x) _ (tiers_local 10 x) (λ first. bind_local (many (next_arm inner names) []) _ (many_local (next_arm inner names) arm_eats arm_local []) (λ arms. pure_local (conditional first arms)))
 
   target_by_local : (x : Expr) (o : Option Assignment) → Local (target_by inner names x o)
-  target_by_local x (Some op) = bind_local (expect (assignment_mark op)) _ (expect_local (assignment_mark op)) (λ _. pure_local (steps.More (x, op)))
+  target_by_local x (Some op) = bind_local (expect (assignment_kind op)) _ (expect_local (assignment_kind op)) (λ _. pure_local (steps.More (x, op)))
   target_by_local x None = bind_local (conditional_from inner names x) _ (conditional_local x) (λ y. pure_local (steps.Last None y))
 
   target_rest_local : (x : Expr) → Local (λ k. target_by inner names x (assignment_in (kind_at k)) k)
@@ -322,7 +322,7 @@ module _ (inner : Reader Expr) (names : Reader TypeName) (local : Local inner) (
   value_eats x k y m e = bind_ok (conditional_from inner names x k) _ (steps.More y, m) e (λ z m' e1 e2. let v = ok_is (steps.Last None z) (steps.More y) m' m e2 in let h : steps.Last None z ≡ steps.More y = v.0 in absurd cc)
 
   target_by_eats : (x : Expr) (o : Option Assignment) → EatsMore (target_by inner names x o)
-  target_by_eats x (Some op) = eats_more (target_by inner names x (Some op)) (bind_eats (expect (assignment_mark op)) (λ _. pure (steps.More (x, op))) (expect_eats (assignment_mark op)) (λ _. pure_local (steps.More (x, op))))
+  target_by_eats x (Some op) = eats_more (target_by inner names x (Some op)) (bind_eats (expect (assignment_kind op)) (λ _. pure (steps.More (x, op))) (expect_eats (assignment_kind op)) (λ _. pure_local (steps.More (x, op))))
   target_by_eats x None = value_eats x
 
   pub target_eats : EatsMore (target_step inner names)

@@ -8,7 +8,7 @@ use Rattle.snl_syntax.specs.declared.operator.Binary.TheVariants as binaries
 use Rattle.snl_syntax.specs.declared.operator.Assignment.{Assignment}
 use Rattle.snl_syntax.specs.declared.operator.Assignment.TheVariants as assignments
 use Rattle.snl_syntax.specs.Tokens.{NumberedKind, same}
-use Rattle.snl_syntax.specs.Operators.{tier, binary_of, binary_mark, assignment_of, assignment_mark}
+use Rattle.snl_syntax.specs.Operators.{tier, binary_of, binary_kind, assignment_of, assignment_kind}
 use Rattle.snl_syntax.specs.Steps.{kind_at}
 use Rattle.snl_syntax.specs.Reading.Expressions.{in_tier, binary_in, assignment_in}
 use Rattle.snl_syntax.specs.Grammar.Base.{First}
@@ -74,7 +74,7 @@ pub stops_lacks : (n : ℕ) (k : List NumberedKind) (x : Kind) → Stops n k →
 stops_lacks n [] x h le = tt
 stops_lacks n (s ∷ k) x h le = is_false (same s.0 x) (λ e. let b : binds s.0 ≡ binds x = ap binds (same_true s.0 x e) in let lt : n < binds s.0 = h in omega arith)
 
-pub binds-mark : (op : Binary) → binds (binary_mark op) ≡ tier op
+pub binds-mark : (op : Binary) → binds (binary_kind op) ≡ tier op
 binds-mark binaries.Or = refl
 binds-mark binaries.And = refl
 binds-mark binaries.BitOr = refl
@@ -115,7 +115,7 @@ binary_tier kind.Slash binaries.Divide e = refl
 binary_tier kind.Percent binaries.Remainder e = refl
 binary_tier _ op e = absurd cc
 
-binary-mark : (op : Binary) → binary_of (binary_mark op) ≡ Some op
+binary-mark : (op : Binary) → binary_of (binary_kind op) ≡ Some op
 binary-mark binaries.Or = refl
 binary-mark binaries.And = refl
 binary-mark binaries.BitOr = refl
@@ -146,13 +146,13 @@ unfolding kind_at
 binary_none n [] h = refl
 binary_none n (s ∷ k) h = in_tier_none n (binary_of s.0) (λ op e. let r : binds s.0 ≡ tier op = binary_tier s.0 op e in let lt : n < binds s.0 = h in omega arith)
 
-pub binary_some : (n : ℕ) (op : Binary) (k rest : List NumberedKind) → First (binary_mark op) k rest → tier op ≡ n → binary_in n (kind_at k) ≡ Some op
+pub binary_some : (n : ℕ) (op : Binary) (k rest : List NumberedKind) → First (binary_kind op) k rest → tier op ≡ n → binary_in n (kind_at k) ≡ Some op
 binary_some n op k rest f r =
     let same : eqb (tier op) n ≡ true = eq-eqb (tier op) n r in
     let here : in_tier n (Some op) ≡ Some op = rw same refl in
-    ap (binary_in n) (kind_first (binary_mark op) k rest f) ∙ ap (in_tier n) (binary-mark op) ∙ here
+    ap (binary_in n) (kind_first (binary_kind op) k rest f) ∙ ap (in_tier n) (binary-mark op) ∙ here
 
-assignment-mark : (op : Assignment) → assignment_of (assignment_mark op) ≡ Some op
+assignment-mark : (op : Assignment) → assignment_of (assignment_kind op) ≡ Some op
 assignment-mark assignments.Plain = refl
 assignment-mark assignments.Add = refl
 assignment-mark assignments.Subtract = refl
@@ -165,10 +165,10 @@ assignment-mark assignments.BitXor = refl
 assignment-mark assignments.ShiftLeft = refl
 assignment-mark assignments.ShiftRight = refl
 
-pub assignment_some : (op : Assignment) (k rest : List NumberedKind) → First (assignment_mark op) k rest → assignment_in (kind_at k) ≡ Some op
-assignment_some op k rest f = ap assignment_in (kind_first (assignment_mark op) k rest f) ∙ assignment-mark op
+pub assignment_some : (op : Assignment) (k rest : List NumberedKind) → First (assignment_kind op) k rest → assignment_in (kind_at k) ≡ Some op
+assignment_some op k rest f = ap assignment_in (kind_first (assignment_kind op) k rest f) ∙ assignment-mark op
 
-pub binds-assignment : (op : Assignment) → binds (assignment_mark op) ≡ 12
+pub binds-assignment : (op : Assignment) → binds (assignment_kind op) ≡ 12
 binds-assignment assignments.Plain = refl
 binds-assignment assignments.Add = refl
 binds-assignment assignments.Subtract = refl
@@ -204,7 +204,7 @@ unfolding kind_at
 stops_quiet [] h = refl
 stops_quiet (s ∷ k) h = quiet_kind s.0 h
 
-quiet_mark : (op : Binary) → assignment_of (binary_mark op) ≡ None
+quiet_mark : (op : Binary) → assignment_of (binary_kind op) ≡ None
 quiet_mark binaries.Or = refl
 quiet_mark binaries.And = refl
 quiet_mark binaries.BitOr = refl
@@ -224,5 +224,5 @@ quiet_mark binaries.Multiply = refl
 quiet_mark binaries.Divide = refl
 quiet_mark binaries.Remainder = refl
 
-pub binary_quiet : (op : Binary) (k rest : List NumberedKind) → First (binary_mark op) k rest → Quiet k
-binary_quiet op k rest f = ap assignment_in (kind_first (binary_mark op) k rest f) ∙ quiet_mark op
+pub binary_quiet : (op : Binary) (k rest : List NumberedKind) → First (binary_kind op) k rest → Quiet k
+binary_quiet op k rest f = ap assignment_in (kind_first (binary_kind op) k rest f) ∙ quiet_mark op

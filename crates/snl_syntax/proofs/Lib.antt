@@ -1,3 +1,4 @@
+pub mod Opened
 pub mod Same
 pub mod Ahead
 pub mod Turns

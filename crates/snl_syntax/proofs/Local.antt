@@ -205,9 +205,6 @@ expect_local x = record { took = expect_took x; blamed = expect_blamed x; reads 
 
 -- ---- a word that may be there
 
-ok_rest : {A : Type 0} (a b : A) (k l : List NumberedKind) → (let p : Outcome A = Ok (a, k) in p ≡ Ok (b, l)) → (a ≡ b) × (k ≡ l)
-ok_rest a b k l e = ok_is a b k l e
-
 accept_took : (x : Kind) (k : List NumberedKind) (b : Bool) (m : List NumberedKind) → accept x k ≡ Ok (b, m) → (front : List NumberedKind) × (k ≡ front ++ m)
 unfolding accept
 accept_took x [] b m e = ([], (ok_is false b [] m e).1)

@@ -12,7 +12,7 @@ use Rattle.snl_syntax.specs.declared.tree.expression.Prefix.TheVariants as prefi
 use Rattle.snl_syntax.specs.declared.tree.expression.Suffix.{Suffix}
 use Rattle.snl_syntax.specs.declared.tree.expression.Expr.{Expr}
 use Rattle.snl_syntax.specs.declared.tree.expression.Expr.TheVariants as tree
-use Rattle.snl_syntax.specs.Operators.{sign_mark}
+use Rattle.snl_syntax.specs.Operators.{sign_kind}
 use Rattle.snl_syntax.specs.Tokens.{NumberedKind, same}
 use Rattle.snl_syntax.specs.Steps.{Reader, kind_at, expect, many, until}
 use Rattle.snl_syntax.specs.Grammar.Base.{Each, First, Leaf}
@@ -54,7 +54,7 @@ unfolding kind_at
 no_type [] h = absurd h
 no_type (s ∷ k) h = no_type_kind s.0 h
 
-signs_open : (op : Sign) → same (sign_mark op) kind.OpenParen ≡ false
+signs_open : (op : Sign) → same (sign_kind op) kind.OpenParen ≡ false
 signs_open signs.Plus = refl
 signs_open signs.Minus = refl
 signs_open signs.Not = refl
@@ -122,11 +122,11 @@ module _ (free : ℕ) (Inner : Expr → List NumberedKind → List NumberedKind 
       by_prefix kind.Sizeof _ k m m f (bind_reads_back free (expect kind.Sizeof k) _ f.0 m _ m (first_reads_back free kind.Sizeof k m f)
       (read (ap (λ q. sizeof_by inner names q m) (kind_first o.0 m o.1 o.2) ∙ bare_by o.0 m o.3)))
 
-  signed_reads_back : (op : Sign) (k m : List NumberedKind) → First (sign_mark op) k m → ReadsBack free (signed op k) (steps.More (prefixes.Sign op)) m
+  signed_reads_back : (op : Sign) (k m : List NumberedKind) → First (sign_kind op) k m → ReadsBack free (signed op k) (steps.More (prefixes.Sign op)) m
   unfolding signed
-  signed_reads_back op k m f = bind_reads_back free (expect (sign_mark op) k) _ f.0 m _ m (first_reads_back free (sign_mark op) k m f) (pure_reads_back free (steps.More (prefixes.Sign op)) m)
+  signed_reads_back op k m f = bind_reads_back free (expect (sign_kind op) k) _ f.0 m _ m (first_reads_back free (sign_kind op) k m f) (pure_reads_back free (steps.More (prefixes.Sign op)) m)
 
-  sign_reads_back : (op : Sign) (k m : List NumberedKind) → First (sign_mark op) k m → ReadsBack free (prefix_step inner names k) (steps.More (prefixes.Sign op)) m
+  sign_reads_back : (op : Sign) (k m : List NumberedKind) → First (sign_kind op) k m → ReadsBack free (prefix_step inner names k) (steps.More (prefixes.Sign op)) m
   unfolding prefix_by
   sign_reads_back signs.Plus k m f = by_prefix kind.Plus _ k m m f (signed_reads_back signs.Plus k m f)
   sign_reads_back signs.Minus k m f = by_prefix kind.Minus _ k m m f (signed_reads_back signs.Minus k m f)
@@ -198,7 +198,7 @@ module _ (free : ℕ) (Inner : Expr → List NumberedKind → List NumberedKind 
   size_last found t k m rest f (is_sizeof_type x m1 m2 m3 is g o r q) h = with_more found prefixes.Sizeof [] t k m rest (size_reads_back k m f (kind.Sizeof, m1, g, refl)) (no_more (found ++ prefixes.Sizeof ∷ []) t m rest (is_sizeof_type x m1 m2 m3 is g o r q) h)
 
   no_cast_opens : (op : Prefix) (k m : List NumberedKind) → IsOperator Names true op k m → Opens k
-  no_cast_opens op k m (sign s is f) = (sign_mark s, m, f, signs_open s)
+  no_cast_opens op k m (sign s is f) = (sign_kind s, m, f, signs_open s)
   no_cast_opens op k m (is_size is f) = (kind.Sizeof, m, f, refl)
   no_cast_opens op k m (is_cast x m1 m2 b is o r g) = absurd cc
 

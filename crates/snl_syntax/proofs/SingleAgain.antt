@@ -10,7 +10,7 @@ use Rattle.snl_syntax.specs.declared.stop.Step.TheVariants as steps
 use Rattle.snl_syntax.specs.declared.tree.types.TypeName.{TypeName}
 use Rattle.snl_syntax.specs.declared.tree.expression.Prefix.{Prefix}
 use Rattle.snl_syntax.specs.declared.tree.expression.Expr.{Expr}
-use Rattle.snl_syntax.specs.Operators.{sign_mark, assignment_mark}
+use Rattle.snl_syntax.specs.Operators.{sign_kind, assignment_kind}
 use Rattle.snl_syntax.specs.Tokens.{NumberedKind, same}
 use Rattle.snl_syntax.specs.Steps.{Reader, kind_at, expect, many, until}
 use Rattle.snl_syntax.specs.Grammar.Base.{Each, First, Within}
@@ -27,7 +27,7 @@ use Rattle.snl_syntax.proofs.ExpressionAgain.{begins_expr, sequence_again}
 use Rattle.snl_syntax.proofs.OperandAgain.{prefix_again}
 use Rattle.snl_syntax.proofs.TierAgain.{Goes, split, goes_stop, tiers_again, operand_again}
 
-signs_begin : (op : Sign) → begins_expr (sign_mark op) ≡ true
+signs_begin : (op : Sign) → begins_expr (sign_kind op) ≡ true
 signs_begin signs.Plus = refl
 signs_begin signs.Minus = refl
 signs_begin signs.Not = refl
@@ -67,7 +67,7 @@ module _ (Inner : Expr → List NumberedKind → List NumberedKind → Type 0) (
   postfix_begins t k rest (is_suffixed x s ss mid is p e) = primary_begins x k mid p
 
   operator_begins : (b : Bool) (op : Prefix) (k m : List NumberedKind) → IsOperator Names b op k m → Heads begins_expr k
-  operator_begins b op k m (sign s is f) = first_heads (sign_mark s) begins_expr k m (signs_begin s) f
+  operator_begins b op k m (sign s is f) = first_heads (sign_kind s) begins_expr k m (signs_begin s) f
   operator_begins b op k m (is_size is f) = first_heads kind.Sizeof begins_expr k m refl f
   operator_begins b op k m (is_cast x m1 m2 c is o r g) = first_heads kind.OpenParen begins_expr k m1 refl o
 
@@ -152,10 +152,10 @@ module _ (free : ℕ) (Inner : Expr → List NumberedKind → List NumberedKind 
   unfolding target_step
   target_reads_back target k m is =
       let b = binds-assignment target.1 in
-      let lt : 0 < binds (assignment_mark target.1) = omega arith in
-      bind_reads_back free (prefix inner names k) _ target.0 is.mid (steps.More target) m (operand_first target.0 k is.mid is.operand (first_stops (assignment_mark target.1) 0 is.mid m lt is.operator))
+      let lt : 0 < binds (assignment_kind target.1) = omega arith in
+      bind_reads_back free (prefix inner names k) _ target.0 is.mid (steps.More target) m (operand_first target.0 k is.mid is.operand (first_stops (assignment_kind target.1) 0 is.mid m lt is.operator))
       (reads_back_at free _ (target_by inner names target.0 (Some target.1) is.mid) (steps.More target) m (ap (λ o. target_by inner names target.0 o is.mid) (assignment_some target.1 is.mid m is.operator))
-      (bind_reads_back free (expect (assignment_mark target.1) is.mid) _ is.operator.0 m (steps.More target) m (first_reads_back free (assignment_mark target.1) is.mid m is.operator) (pure_reads_back free (steps.More target) m)))
+      (bind_reads_back free (expect (assignment_kind target.1) is.mid) _ is.operator.0 m (steps.More target) m (first_reads_back free (assignment_kind target.1) is.mid m is.operator) (pure_reads_back free (steps.More target) m)))
 
   value_reads_back : (t : Expr) (k rest : List NumberedKind) → IsConditional Inner Names t k rest → Stops 12 rest → ReadsBack free (target_step inner names k) (steps.Last None t) rest
   unfolding target_step

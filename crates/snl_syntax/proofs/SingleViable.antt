@@ -10,7 +10,7 @@ use Rattle.snl_syntax.specs.declared.stop.Step.{Step}
 use Rattle.snl_syntax.specs.declared.stop.Step.TheVariants as steps
 use Rattle.snl_syntax.specs.declared.tree.types.TypeName.{TypeName}
 use Rattle.snl_syntax.specs.declared.tree.expression.Expr.{Expr}
-use Rattle.snl_syntax.specs.Operators.{assignment_mark}
+use Rattle.snl_syntax.specs.Operators.{assignment_kind}
 use Rattle.snl_syntax.specs.Tokens.{NumberedKind}
 use Rattle.snl_syntax.specs.Steps.{Reader, pure, expect, many, until}
 use Rattle.snl_syntax.specs.Grammar.Base.{Each, Leaf}
@@ -94,18 +94,18 @@ module _ (free extra : ℕ) (Inner : Expr → List NumberedKind → List Numbere
   after_whole_makes : (x : Expr) → Makes free extra (AfterWhole x) []
   after_whole_makes x n rest room = let t = (conditional_completable x).makes n rest room in value_whole x t.0 rest rest t.1
 
-  into_target : (x : Expr) (op : Assignment) (s : Step (Expr × Assignment) Expr) (k rest : List NumberedKind) → Both (Leaf (assignment_mark op)) (λ _. IsNothing (a_target x op)) s k rest → After x s k rest
-  into_target x op s k rest (both n m e h) front p = subst (λ z. StepOf Target Value z front rest) h.0 (record { mid = k; operand = p; operator = first_then (assignment_mark op) n k m rest e h.1 })
+  into_target : (x : Expr) (op : Assignment) (s : Step (Expr × Assignment) Expr) (k rest : List NumberedKind) → Both (Leaf (assignment_kind op)) (λ _. IsNothing (a_target x op)) s k rest → After x s k rest
+  into_target x op s k rest (both n m e h) front p = subst (λ z. StepOf Target Value z front rest) h.0 (record { mid = k; operand = p; operator = first_then (assignment_kind op) n k m rest e h.1 })
 
   -- the shortest value
   whole_makes : Makes free extra (Whole Target Value) Int
   whole_makes n rest room = let p = (prefix_completable free extra Inner Names inner names fi fn).makes n rest room in after_whole_makes p.0 (suc n) rest (free_after free extra ((kind.Integer, n) ∷ []) rest room) (numbered_kinds n Int ++ rest) p.1
 
-  target_aim : (x : Expr) (op : Assignment) (k rest : List NumberedKind) → Joint (Leaf (assignment_mark op)) (λ _. Whole Target Value) k rest → AfterWhole x k rest
+  target_aim : (x : Expr) (op : Assignment) (k rest : List NumberedKind) → Joint (Leaf (assignment_kind op)) (λ _. Whole Target Value) k rest → AfterWhole x k rest
   target_aim x op k rest h front p = let w = h.3 in ((x, op) ∷ w.0, w.1, w.2, w.3, (h.1, record { mid = k; operand = p; operator = (h.0, h.2) }, w.4), w.5)
 
   target_viable : (x : Expr) (op : Assignment) → Viable free extra (target_by inner names x (Some op)) (After x) (AfterWhole x)
-  target_viable x op = lighter free extra (target_by inner names x (Some op)) _ (After x) _ (AfterWhole x) (into_target x op) (target_aim x op) (bind_viable free extra (expect (assignment_mark op)) (λ _. pure (a_target x op)) (Leaf (assignment_mark op)) (λ _. IsNothing (a_target x op)) (λ _. Whole Target Value) Int (expect_completable free extra (assignment_mark op)).viable (λ _. pure_never free extra (a_target x op) (Whole Target Value)) (λ _. whole_makes))
+  target_viable x op = lighter free extra (target_by inner names x (Some op)) _ (After x) _ (AfterWhole x) (into_target x op) (target_aim x op) (bind_viable free extra (expect (assignment_kind op)) (λ _. pure (a_target x op)) (Leaf (assignment_kind op)) (λ _. IsNothing (a_target x op)) (λ _. Whole Target Value) Int (expect_completable free extra (assignment_kind op)).viable (λ _. pure_never free extra (a_target x op) (Whole Target Value)) (λ _. whole_makes))
 
   into_value : (x : Expr) (s : Step (Expr × Assignment) Expr) (k rest : List NumberedKind) → Both (Conditional x) (λ y. IsNothing (a_value y)) s k rest → After x s k rest
   into_value x s k rest (both y m c h) front p = subst (λ z. StepOf Target Value z front rest) h.0 (refl, subst (λ l. IsConditional Inner Names y front l) h.1 (c front p))

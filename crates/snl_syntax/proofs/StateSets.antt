@@ -6,11 +6,6 @@ use Rattle.snl_syntax.specs.declared.marks.Mark.TheVariants as mark
 use Rattle.snl_syntax.specs.Items.{ends_after, is_name, is_open, item, some_is}
 use Rattle.snl_syntax.specs.ItemLaws.{least_here, least_next}
 
--- after `ss` there is no name
-ends_one : (k : List Mark) → some_is is_name (slice_get k 0) ≡ false → ends_after (mark.Ss ∷ k) 1 ≡ true
-ends_one [] h = refl
-ends_one (y ∷ k) h = ap (λ (b : Bool). not (b && true)) h
-
 -- after `ss` there is a name
 on_one : (k : List Mark) → some_is is_name (slice_get k 0) ≡ true → ends_after (mark.Ss ∷ k) 1 ≡ false
 on_one [] h = cc
@@ -33,9 +28,6 @@ ends_three (y ∷ []) h o = cc
 ends_three (y ∷ z ∷ []) h o = refl
 ends_three (y ∷ z ∷ w ∷ k) h o = ap (λ (b : Bool). not (b && (is_open z && false))) h ∙ ap (λ (b : Bool). not (b && false)) o
 
-state_set_one : (k : List Mark) → some_is is_name (slice_get k 0) ≡ false → item (mark.Ss ∷ k) ≡ 1
-state_set_one k h = least_here (ends_after (mark.Ss ∷ k)) 1 (length k) (ends_one k h)
-
 state_set_two : (k : List Mark) → some_is is_name (slice_get k 0) ≡ true → some_is is_open (slice_get k 1) ≡ false → item (mark.Ss ∷ k) ≡ 2
 state_set_two [] h o = cc
 state_set_two (y ∷ k) h o =
@@ -50,10 +42,6 @@ state_set_three (y ∷ z ∷ k) h o =
     least_next p 1 (length (y ∷ z ∷ k)) (on_one (y ∷ z ∷ k) h)
     ∙ least_next p 2 (length (z ∷ k)) (on_two (y ∷ z ∷ k) h o)
     ∙ least_here p 3 (length k) (ends_three (y ∷ z ∷ k) h o)
-
-pub state_set_bare : (u : List Mark) → slice_get u 0 ≡ Some mark.Ss → some_is is_name (slice_get u 1) ≡ false → item u ≡ 1
-state_set_bare [] f h = cc
-state_set_bare (x ∷ k) f h = let same : x ≡ mark.Ss = cc in ap (λ (y : Mark). item (y ∷ k)) same ∙ state_set_one k h
 
 pub state_set_named : (u : List Mark) → slice_get u 0 ≡ Some mark.Ss → some_is is_name (slice_get u 1) ≡ true → some_is is_open (slice_get u 2) ≡ false → item u ≡ 2
 state_set_named [] f h o = cc

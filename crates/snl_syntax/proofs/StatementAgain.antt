@@ -116,7 +116,7 @@ untyped kind.Union h = absurd cc
 untyped kind.Typename h = absurd cc
 untyped _ h = refl
 
--- ---- an expression or nothing, and a mark
+-- ---- an expression or nothing, and the token that ends it
 
 semicolon_some : (p : Reader Expr) (d : Kind) → begins_expr d ≡ true → semicolon_by p (Some d) ≡ some_before kind.Semicolon p
 semicolon_some p kind.Semicolon e = absurd cc

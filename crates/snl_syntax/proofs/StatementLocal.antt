@@ -18,7 +18,7 @@ use Rattle.snl_syntax.proofs.TypeLaws.{word_local}
 use Rattle.snl_syntax.proofs.ExpressionLocal.{expr_local}
 use Rattle.snl_syntax.proofs.DeclarationLocal.{declaration_local, declaration_eats}
 
--- ---- an expression or nothing, and a mark
+-- ---- an expression or nothing, and the token that ends it
 
 before_local : (x : Kind) (p : Reader Expr) → Local p → Local (some_before x p)
 unfolding some_before

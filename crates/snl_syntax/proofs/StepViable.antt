@@ -12,7 +12,7 @@ use Rattle.snl_syntax.specs.declared.tree.expression.Prefix.{Prefix}
 use Rattle.snl_syntax.specs.declared.tree.expression.Prefix.TheVariants as prefixes
 use Rattle.snl_syntax.specs.declared.tree.expression.Expr.{Expr}
 use Rattle.snl_syntax.specs.declared.tree.expression.Expr.TheVariants as tree
-use Rattle.snl_syntax.specs.Operators.{sign_mark}
+use Rattle.snl_syntax.specs.Operators.{sign_kind}
 use Rattle.snl_syntax.specs.Tokens.{NumberedKind}
 use Rattle.snl_syntax.specs.Steps.{Outcome, Reader, refuse, kind_at, expect}
 use Rattle.snl_syntax.specs.Grammar.Expressions.{is_sizeof}
@@ -99,7 +99,7 @@ module _ (inner : Reader Expr) (names : Reader TypeName) where
 
   signed_ready : (a : Sign) (k : List NumberedKind) (op : Prefix) (m : List NumberedKind) → signed a k ≡ Ok (steps.More op, m) → Ready (is_sizeof op) m
   unfolding signed
-  signed_ready a k op m e h q = bind_ok (expect (sign_mark a) k) _ (steps.More op, m) e (λ x m' e1 e2. no_size (prefixes.Sign a) op refl (more_is (steps.More (prefixes.Sign a)) op m' m e2).0 h)
+  signed_ready a k op m e h q = bind_ok (expect (sign_kind a) k) _ (steps.More op, m) e (λ x m' e1 e2. no_size (prefixes.Sign a) op refl (more_is (steps.More (prefixes.Sign a)) op m' m e2).0 h)
 
   plain_ready : (k : List NumberedKind) (op : Prefix) (m : List NumberedKind) → plain inner names k ≡ Ok (steps.More op, m) → Ready (is_sizeof op) m
   unfolding plain

@@ -3,7 +3,7 @@ use Rattle.std.proofs.Common.{◌≡◌, ◌<◌, ℕ, zero, suc, List, [], ◌�
 use Rattle.snl_syntax.specs.declared.operator.Binary.{Binary}
 use Rattle.snl_syntax.specs.declared.tree.types.TypeName.{TypeName}
 use Rattle.snl_syntax.specs.declared.tree.expression.Expr.{Expr}
-use Rattle.snl_syntax.specs.Operators.{binary_mark}
+use Rattle.snl_syntax.specs.Operators.{binary_kind}
 use Rattle.snl_syntax.specs.Tokens.{NumberedKind}
 use Rattle.snl_syntax.specs.Steps.{Reader, expect, many}
 use Rattle.snl_syntax.specs.Grammar.Base.{Each}
@@ -29,8 +29,8 @@ module _ (free : ℕ) (Inner : Expr → List NumberedKind → List NumberedKind 
   link_stops n link k m is =
       let b = binds-mark link.0 in
       let r = is.of_tier in
-      let lt : n < binds (binary_mark link.0) = omega arith in
-      first_stops (binary_mark link.0) n k is.mid lt is.operator
+      let lt : n < binds (binary_kind link.0) = omega arith in
+      first_stops (binary_kind link.0) n k is.mid lt is.operator
 
   links_stop : (n : ℕ) (links : List (Binary × Expr)) (k rest : List NumberedKind) → Each (IsLink (suc n) (IsTier Inner Names n)) links k rest → Stops (suc n) rest → Stops n k
   links_stop n [] k rest e h = subst (Stops n) (sym e) (stops_less n (suc n) rest (omega arith) h)
@@ -47,7 +47,7 @@ module _ (free : ℕ) (Inner : Expr → List NumberedKind → List NumberedKind 
   unfolding next_link
   link_by_again n go link k m is h =
       reads_back_at free _ (link_by (operand inner names n) (Some link.0) k) (Some link) m (ap (λ o. link_by (operand inner names n) o k) (binary_some (suc n) link.0 k is.mid is.operator is.of_tier))
-      (bind_reads_back free (expect (binary_mark link.0) k) _ is.operator.0 is.mid (Some link) m (first_reads_back free (binary_mark link.0) k is.mid is.operator)
+      (bind_reads_back free (expect (binary_kind link.0) k) _ is.operator.0 is.mid (Some link) m (first_reads_back free (binary_kind link.0) k is.mid is.operator)
       (bind_reads_back free (operand inner names n is.mid) _ link.1 m (Some link) m (go link.1 is.mid m is.operand h) (pure_reads_back free (Some link) m)))
 
   no_link : (n : ℕ) (k : List NumberedKind) → Stops (suc n) k → ReadsBack free (next_link (suc n) (operand inner names n) k) None k

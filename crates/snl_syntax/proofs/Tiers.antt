@@ -10,10 +10,6 @@ use Rattle.snl_syntax.specs.Tokens.{NumberedKind}
 use Rattle.snl_syntax.specs.Steps.{Outcome, Reader, and_then, kind_at, many, many_within, more_or, pure, ◌>>=◌, Fails}
 use Rattle.snl_syntax.specs.Reading.Expressions.{binary_in, tiers_from, operand, next_link, link_by, chained}
 
-pub tiers_zero : (inner : Reader Expr) (names : Reader TypeName) (n : ℕ) (x : Expr) (k : List NumberedKind) → n ≡ 0 → tiers_from inner names n x k ≡ Ok (x, k)
-unfolding tiers_from
-tiers_zero inner names n x k e = ap (λ m. tiers_from inner names m x k) e
-
 -- an operand after which no operator comes is alone, whatever the tier
 pub tiers_alone : (inner : Reader Expr) (names : Reader TypeName) (n : ℕ) (x : Expr) (k : List NumberedKind) → ((tier : ℕ) → binary_in tier (kind_at k) ≡ None) → tiers_from inner names n x k ≡ Ok (x, k)
 unfolding tiers_from next_link many many_within and_then

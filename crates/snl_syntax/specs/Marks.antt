@@ -7,7 +7,7 @@ use Rattle.snl_syntax.specs.declared.marks.Mark.{Mark}
 use Rattle.snl_syntax.specs.declared.marks.Mark.TheVariants as mark
 use Rattle.snl_lex.specs.Kinds.{kind_of}
 
--- The words and marks that begin, end or nest an item, names, texts and C code; the cut tells all
+-- The words and punctuators that begin, end or nest an item, names, texts and C code; the cut tells all
 -- others not apart.
 abbrev pub mark_of_kind : Kind → Mark
 mark_of_kind kind.Program = mark.Program

@@ -1,4 +1,4 @@
--- The operators of expressions: their marks, and how tightly those between operands bind.
+-- The operators of expressions: their tokens, and how tightly those between operands bind.
 use Rattle.std.specs.Prelude.{ℕ, Option, Some, None}
 use Rattle.snl_lex.specs.declared.kind.Kind.{Kind}
 use Rattle.snl_lex.specs.declared.kind.Kind.TheVariants as kind
@@ -30,25 +30,25 @@ tier binaries.Multiply = 1
 tier binaries.Divide = 1
 tier binaries.Remainder = 1
 
-abbrev pub binary_mark : Binary → Kind
-binary_mark binaries.Or = kind.BarBar
-binary_mark binaries.And = kind.AmpersandAmpersand
-binary_mark binaries.BitOr = kind.Bar
-binary_mark binaries.BitXor = kind.Caret
-binary_mark binaries.BitAnd = kind.Ampersand
-binary_mark binaries.Equal = kind.EqualEqual
-binary_mark binaries.NotEqual = kind.NotEqual
-binary_mark binaries.Less = kind.Less
-binary_mark binaries.Greater = kind.Greater
-binary_mark binaries.LessEqual = kind.LessEqual
-binary_mark binaries.GreaterEqual = kind.GreaterEqual
-binary_mark binaries.ShiftLeft = kind.LessLess
-binary_mark binaries.ShiftRight = kind.GreaterGreater
-binary_mark binaries.Add = kind.Plus
-binary_mark binaries.Subtract = kind.Minus
-binary_mark binaries.Multiply = kind.Star
-binary_mark binaries.Divide = kind.Slash
-binary_mark binaries.Remainder = kind.Percent
+abbrev pub binary_kind : Binary → Kind
+binary_kind binaries.Or = kind.BarBar
+binary_kind binaries.And = kind.AmpersandAmpersand
+binary_kind binaries.BitOr = kind.Bar
+binary_kind binaries.BitXor = kind.Caret
+binary_kind binaries.BitAnd = kind.Ampersand
+binary_kind binaries.Equal = kind.EqualEqual
+binary_kind binaries.NotEqual = kind.NotEqual
+binary_kind binaries.Less = kind.Less
+binary_kind binaries.Greater = kind.Greater
+binary_kind binaries.LessEqual = kind.LessEqual
+binary_kind binaries.GreaterEqual = kind.GreaterEqual
+binary_kind binaries.ShiftLeft = kind.LessLess
+binary_kind binaries.ShiftRight = kind.GreaterGreater
+binary_kind binaries.Add = kind.Plus
+binary_kind binaries.Subtract = kind.Minus
+binary_kind binaries.Multiply = kind.Star
+binary_kind binaries.Divide = kind.Slash
+binary_kind binaries.Remainder = kind.Percent
 
 abbrev pub binary_of : Kind → Option Binary
 binary_of kind.BarBar = Some binaries.Or
@@ -71,18 +71,18 @@ binary_of kind.Slash = Some binaries.Divide
 binary_of kind.Percent = Some binaries.Remainder
 binary_of _ = None
 
-abbrev pub assignment_mark : Assignment → Kind
-assignment_mark assignments.Plain = kind.Equal
-assignment_mark assignments.Add = kind.PlusEqual
-assignment_mark assignments.Subtract = kind.MinusEqual
-assignment_mark assignments.Multiply = kind.StarEqual
-assignment_mark assignments.Divide = kind.SlashEqual
-assignment_mark assignments.Remainder = kind.PercentEqual
-assignment_mark assignments.BitAnd = kind.AmpersandEqual
-assignment_mark assignments.BitOr = kind.BarEqual
-assignment_mark assignments.BitXor = kind.CaretEqual
-assignment_mark assignments.ShiftLeft = kind.LessLessEqual
-assignment_mark assignments.ShiftRight = kind.GreaterGreaterEqual
+abbrev pub assignment_kind : Assignment → Kind
+assignment_kind assignments.Plain = kind.Equal
+assignment_kind assignments.Add = kind.PlusEqual
+assignment_kind assignments.Subtract = kind.MinusEqual
+assignment_kind assignments.Multiply = kind.StarEqual
+assignment_kind assignments.Divide = kind.SlashEqual
+assignment_kind assignments.Remainder = kind.PercentEqual
+assignment_kind assignments.BitAnd = kind.AmpersandEqual
+assignment_kind assignments.BitOr = kind.BarEqual
+assignment_kind assignments.BitXor = kind.CaretEqual
+assignment_kind assignments.ShiftLeft = kind.LessLessEqual
+assignment_kind assignments.ShiftRight = kind.GreaterGreaterEqual
 
 abbrev pub assignment_of : Kind → Option Assignment
 assignment_of kind.Equal = Some assignments.Plain
@@ -98,23 +98,12 @@ assignment_of kind.LessLessEqual = Some assignments.ShiftLeft
 assignment_of kind.GreaterGreaterEqual = Some assignments.ShiftRight
 assignment_of _ = None
 
-abbrev pub sign_mark : Sign → Kind
-sign_mark signs.Plus = kind.Plus
-sign_mark signs.Minus = kind.Minus
-sign_mark signs.Not = kind.Exclamation
-sign_mark signs.Complement = kind.Tilde
-sign_mark signs.Dereference = kind.Star
-sign_mark signs.Address = kind.Ampersand
-sign_mark signs.Increment = kind.PlusPlus
-sign_mark signs.Decrement = kind.MinusMinus
-
-abbrev pub sign_of : Kind → Option Sign
-sign_of kind.Plus = Some signs.Plus
-sign_of kind.Minus = Some signs.Minus
-sign_of kind.Exclamation = Some signs.Not
-sign_of kind.Tilde = Some signs.Complement
-sign_of kind.Star = Some signs.Dereference
-sign_of kind.Ampersand = Some signs.Address
-sign_of kind.PlusPlus = Some signs.Increment
-sign_of kind.MinusMinus = Some signs.Decrement
-sign_of _ = None
+abbrev pub sign_kind : Sign → Kind
+sign_kind signs.Plus = kind.Plus
+sign_kind signs.Minus = kind.Minus
+sign_kind signs.Not = kind.Exclamation
+sign_kind signs.Complement = kind.Tilde
+sign_kind signs.Dereference = kind.Star
+sign_kind signs.Address = kind.Ampersand
+sign_kind signs.Increment = kind.PlusPlus
+sign_kind signs.Decrement = kind.MinusMinus

@@ -42,7 +42,11 @@ abbrev pub Reads : {A : Type 0} → List Kind → Result (A × ℕ) Stop → Out
 Reads kinds (Ok x) read = read ≡ Ok (x.0, ahead kinds x.1)
 Reads kinds (Err s) read = Fails kinds s read
 
--- the same of one token, whose number is its place
+-- the same of a reader that begins at the token with this number
+abbrev pub ReadsFrom : {A : Type 0} → List Kind → ℕ → Result (A × ℕ) Stop → Reader A → Type 0
+ReadsFrom kinds at result reader = Reads kinds result (reader (ahead kinds at))
+
+-- the same of one token, whose number is where the reader began
 abbrev pub ReadsToken : List Kind → ℕ → Result ℕ Stop → Outcome ℕ → Type 0
 ReadsToken kinds at (Ok after) read = read ≡ Ok (at, ahead kinds after)
 ReadsToken kinds at (Err s) read = Fails kinds s read
@@ -68,7 +72,7 @@ unfoldable pub accept : Kind → Reader Bool
 accept x [] = Ok (false, [])
 accept x (s ∷ k) = if same s.0 x then Ok (true, k) else Ok (false, s ∷ k)
 
--- a word or mark that means a value
+-- a token that means a value
 abbrev pub word : {A : Type 0} → Kind → A → Reader A
 word x a = expect x >> pure a
 

@@ -11,7 +11,7 @@ abbrev pub numbered : ℕ → List Kind → List NumberedKind
 numbered n [] = []
 numbered n (x ∷ xs) = (x, n) ∷ numbered (suc n) xs
 
--- the tokens from a place on
+-- the tokens from a number on
 unfoldable pub ahead : List Kind → ℕ → List NumberedKind
 ahead kinds at = numbered at (drop at kinds)
 

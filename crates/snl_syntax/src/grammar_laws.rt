@@ -22,16 +22,20 @@ pub fn item_read()
 /// An item can begin with all its tokens; and where it can begin with some, it can with the first
 /// of them.
 pub fn viable_fronts()
-    ensures whole { (kinds : List Kind) (t : Item) → IsItem t kinds → IsViable kinds (length kinds) }
-    ensures shorter { (kinds : List Kind) (n m : ℕ) → m ≤ n → IsViable kinds n → IsViable kinds m }
+    ensures whole { (kinds : List Kind) (t : Item) →
+        IsItem t kinds → IsViable kinds (length kinds) }
+    ensures shorter { (kinds : List Kind) (n m : ℕ) →
+        m ≤ n → IsViable kinds n → IsViable kinds m }
 {}
 
 /// One token of a list at most is at fault.
 pub fn one_fault()
-    ensures { (kinds : List Kind) (n m : ℕ) → IsFaultAt kinds n → IsFaultAt kinds m → n ≡ m }
+    ensures { (kinds : List Kind) (n m : ℕ) →
+        IsFaultAt kinds n → IsFaultAt kinds m → n ≡ m }
 {}
 
 /// Where tokens make no item, the token that is blamed is the one at fault.
 pub fn blamed_at_fault()
-    ensures { (kinds : List Kind) → 0 < length kinds → item_of kinds ≡ None → IsFaultAt kinds (fault_of kinds) }
+    ensures { (kinds : List Kind) →
+        0 < length kinds → item_of kinds ≡ None → IsFaultAt kinds (fault_of kinds) }
 {}

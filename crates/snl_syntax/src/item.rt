@@ -1,10 +1,11 @@
 //! Reads items: the kinds of an item's tokens come in, its tree goes out.
+#![tactic(auto, unfolding(crate::proofs::Opened::Items::items))]
 
-ghost use Rattle.std.specs.Prelude.{◌≡◌, ◌<◌, ◌-◌};
+ghost use Rattle.std.specs.Prelude.{◌<◌};
 ghost use Rattle.snl_syntax.specs.Reading.Items as spec;
 ghost use Rattle.snl_syntax.specs.Reading.Statements as statements;
 ghost use Rattle.snl_syntax.specs.Steps as read;
-ghost use Rattle.snl_syntax.specs.Steps.{Reads};
+ghost use Rattle.snl_syntax.specs.Steps.{ReadsFrom};
 ghost use Rattle.snl_syntax.specs.Tokens.{ahead};
 ghost use Rattle.snl_lex.specs.declared.kind.Kind.TheVariants as kind;
 ghost use Rattle.snl_syntax.specs.declared.tree.item.Item.TheVariants as items;
@@ -39,13 +40,14 @@ impl Blocks for Bodies {
     }
 }
 
-#[tactic(auto, unfolding(crate::specs::Reading::Items::some_texts, crate::specs::Steps::and_then))]
+// "(" texts ")"
+// ("P=sp:")
 fn some_texts(
     alloc: Global,
     kinds: &[Kind],
     at: usize,
 ) -> Result<(Option<Items<usize>>, usize), Stop>
-    ensures { Reads kinds.now result (spec.some_texts (ahead kinds.now at)) }
+    ensures { ReadsFrom kinds.now at result spec.some_texts }
 {
     let at = expect(kinds, at, Kind::OpenParen)?;
     let (texts, at) = texts(alloc, kinds, at)?;
@@ -53,13 +55,14 @@ fn some_texts(
     Ok((Some(texts), at))
 }
 
-#[tactic(auto, unfolding(crate::specs::Reading::Items::texts_part, crate::specs::Steps::and_then))]
+// [ "(" texts ")" ]
+// ("P=sp:")
 fn texts_part(
     alloc: Global,
     kinds: &[Kind],
     at: usize,
 ) -> Result<(Option<Items<usize>>, usize), Stop>
-    ensures { Reads kinds.now result (spec.texts_part (ahead kinds.now at)) }
+    ensures { ReadsFrom kinds.now at result spec.texts_part }
 {
     match kind_at(kinds, at) {
         Some(Kind::OpenParen) => some_texts(alloc, kinds, at),
@@ -67,9 +70,10 @@ fn texts_part(
     }
 }
 
-#[tactic(auto, unfolding(crate::specs::Reading::Items::header, crate::specs::Steps::and_then))]
+// header = "program" NAME [ "(" texts ")" ]
+// program pump ("P=sp:")
 fn header(alloc: Global, kinds: &[Kind], at: usize) -> Result<(Item, usize), Stop>
-    ensures { Reads kinds.now result (spec.header (ahead kinds.now at)) }
+    ensures { ReadsFrom kinds.now at result spec.header }
 {
     let at = expect(kinds, at, Kind::Program)?;
     let name = at;
@@ -78,9 +82,10 @@ fn header(alloc: Global, kinds: &[Kind], at: usize) -> Result<(Item, usize), Sto
     Ok((Item::Header { name, parameters }, at))
 }
 
-#[tactic(auto, unfolding(crate::specs::Reading::Items::set_begin, crate::specs::Steps::and_then))]
+// ssbegin = "ss" NAME "{"
+// ss valve {
 fn set_begin(kinds: &[Kind], at: usize) -> Result<(Item, usize), Stop>
-    ensures { Reads kinds.now result (spec.set_begin (ahead kinds.now at)) }
+    ensures { ReadsFrom kinds.now at result spec.set_begin }
 {
     let at = expect(kinds, at, Kind::Ss)?;
     let name = at;
@@ -89,75 +94,84 @@ fn set_begin(kinds: &[Kind], at: usize) -> Result<(Item, usize), Stop>
     Ok((Item::SsBegin { name }, at))
 }
 
-#[tactic(auto, unfolding(crate::specs::Steps::and_then))]
+// ssend = "}"
+// }
 fn set_end(kinds: &[Kind], at: usize) -> Result<(Item, usize), Stop>
-    ensures { Reads kinds.now result (read.word kind.CloseBrace items.SsEnd (ahead kinds.now at)) }
+    ensures { ReadsFrom kinds.now at result (read.word kind.CloseBrace items.SsEnd) }
 {
     let at = expect(kinds, at, Kind::CloseBrace)?;
     Ok((Item::SsEnd, at))
 }
 
-#[tactic(auto, unfolding(crate::specs::Steps::and_then))]
+// empty = ";"
+// ;
 fn empty(kinds: &[Kind], at: usize) -> Result<(Item, usize), Stop>
-    ensures { Reads kinds.now result (read.word kind.Semicolon items.Empty (ahead kinds.now at)) }
+    ensures { ReadsFrom kinds.now at result (read.word kind.Semicolon items.Empty) }
 {
     let at = expect(kinds, at, Kind::Semicolon)?;
     Ok((Item::Empty, at))
 }
 
-#[tactic(auto, unfolding(crate::specs::Reading::Items::c_block, crate::specs::Steps::and_then))]
+// cblock = CCODE
+// %{ int ticks; }%
 fn c_block(kinds: &[Kind], at: usize) -> Result<(Item, usize), Stop>
-    ensures { Reads kinds.now result (spec.c_block (ahead kinds.now at)) }
+    ensures { ReadsFrom kinds.now at result spec.c_block }
 {
     let number = at;
     let at = expect(kinds, at, Kind::CCode)?;
     Ok((Item::CBlock(number), at))
 }
 
-#[tactic(auto, unfolding(crate::specs::Reading::Items::foreign_item, crate::specs::Steps::and_then))]
+// foreign
+// foreign stdout, stderr;
 fn foreign_item(alloc: Global, kinds: &[Kind], at: usize) -> Result<(Item, usize), Stop>
-    ensures { Reads kinds.now result (spec.foreign_item (ahead kinds.now at)) }
+    ensures { ReadsFrom kinds.now at result spec.foreign_item }
 {
     let (names, at) = foreign(alloc, kinds, at)?;
     Ok((Item::Foreign(names), at))
 }
 
-#[tactic(auto, unfolding(crate::specs::Reading::Items::clause_item, crate::specs::Steps::and_then))]
+// assign | monitor | sync | syncq
+// monitor speed;
 fn clause_item(alloc: Global, kinds: &[Kind], at: usize) -> Result<(Item, usize), Stop>
-    ensures { Reads kinds.now result (spec.clause_item (ahead kinds.now at)) }
+    ensures { ReadsFrom kinds.now at result spec.clause_item }
 {
     let (clause, at) = clause(alloc, kinds, at)?;
     Ok((Item::Clause(Boxed::new(alloc, clause)?), at))
 }
 
-#[tactic(auto, unfolding(crate::specs::Reading::Items::option_item, crate::specs::Steps::and_then))]
+// option
+// option +r;
 fn option_item(kinds: &[Kind], at: usize) -> Result<(Item, usize), Stop>
-    ensures { Reads kinds.now result (spec.option_item (ahead kinds.now at)) }
+    ensures { ReadsFrom kinds.now at result spec.option_item }
 {
     let (line, at) = option_line(kinds, at)?;
     Ok((Item::OptionLine(line), at))
 }
 
-#[tactic(auto, unfolding(crate::specs::Reading::Items::entry_item, crate::specs::Steps::and_then))]
+// entry
+// entry { n = 0; }
 fn entry_item(alloc: Global, kinds: &[Kind], at: usize, depth: usize) -> Result<(Item, usize), Stop>
-    ensures { Reads kinds.now result (spec.entry_item depth (ahead kinds.now at)) }
+    ensures { ReadsFrom kinds.now at result (spec.entry_item depth) }
 {
     let (block, at) = entry_block(alloc, kinds, at, depth)?;
     Ok((Item::Entry(block), at))
 }
 
-#[tactic(auto, unfolding(crate::specs::Reading::Items::exit_item, crate::specs::Steps::and_then))]
+// exit
+// exit { n = 0; }
 fn exit_item(alloc: Global, kinds: &[Kind], at: usize, depth: usize) -> Result<(Item, usize), Stop>
-    ensures { Reads kinds.now result (spec.exit_item depth (ahead kinds.now at)) }
+    ensures { ReadsFrom kinds.now at result (spec.exit_item depth) }
 {
     let (block, at) = exit_block(alloc, kinds, at, depth)?;
     Ok((Item::Exit(block), at))
 }
 
-#[tactic(auto, unfolding(crate::specs::Reading::Items::state_item, crate::specs::Steps::and_then))]
+// state = "state" NAME "{" { smember } "}"
+// state idle { when () { } exit }
 fn state_item(alloc: Global, kinds: &[Kind], at: usize, depth: usize) -> Result<(Item, usize), Stop>
     requires two { 1 < depth }
-    ensures { Reads kinds.now result (spec.state_item depth (ahead kinds.now at)) }
+    ensures { ReadsFrom kinds.now at result (spec.state_item depth) }
 {
     let at = expect(kinds, at, Kind::State)?;
     let name = at;
@@ -167,10 +181,11 @@ fn state_item(alloc: Global, kinds: &[Kind], at: usize, depth: usize) -> Result<
 }
 
 /// An item, in so many levels with the one that it is in.
-#[tactic(auto, unfolding(crate::specs::Reading::Items::item, crate::specs::Steps::and_then))]
+// item = header | ssbegin | ssend | empty | cblock | foreign | option
+//     | assign | monitor | sync | syncq | entry | exit | state | decl | function | struct
 fn item(alloc: Global, kinds: &[Kind], at: usize, depth: usize) -> Result<(Item, usize), Stop>
     requires two { 1 < depth }
-    ensures { Reads kinds.now result (spec.item depth (ahead kinds.now at)) }
+    ensures { ReadsFrom kinds.now at result (spec.item depth) }
 {
     match kind_at(kinds, at) {
         Some(Kind::Program) => header(alloc, kinds, at),
@@ -193,9 +208,9 @@ fn item(alloc: Global, kinds: &[Kind], at: usize, depth: usize) -> Result<(Item,
 }
 
 /// An item after which the tokens end.
-#[tactic(auto, unfolding(crate::specs::Reading::Items::ended, crate::specs::Steps::and_then))]
+// nothing, where the tokens end
 fn ended(kinds: &[Kind], at: usize, item: Item) -> Result<(Item, usize), Stop>
-    ensures { Reads kinds.now result (spec.ended item (ahead kinds.now at)) }
+    ensures { ReadsFrom kinds.now at result (spec.ended item) }
 {
     match kind_at(kinds, at) {
         None => Ok((item, at)),
@@ -203,10 +218,11 @@ fn ended(kinds: &[Kind], at: usize, item: Item) -> Result<(Item, usize), Stop>
     }
 }
 
-#[tactic(auto, unfolding(crate::specs::Reading::Items::whole_item, crate::specs::Steps::and_then))]
+// item, to the end of the tokens
+// monitor speed;
 fn whole_item(alloc: Global, kinds: &[Kind], at: usize, depth: usize) -> Result<(Item, usize), Stop>
     requires two { 1 < depth }
-    ensures { Reads kinds.now result (spec.whole_item depth (ahead kinds.now at)) }
+    ensures { ReadsFrom kinds.now at result (spec.whole_item depth) }
 {
     let (item, at) = item(alloc, kinds, at, depth)?;
     ended(kinds, at, item)

@@ -3,10 +3,13 @@
 
 ghost use Rattle.snl_cut.specs.Cut.{ticked};
 ghost use Rattle.snl_syntax.specs.ItemLaws.{item_front, item_local};
-ghost use Rattle.snl_syntax.specs.Items.{balance_after, is_after, is_close, is_close_paren, is_name, is_open, is_open_paren, is_plain, is_text, item, plain_ends_at, some_is};
+ghost use Rattle.snl_syntax.specs.Items.{is_close, is_close_paren, is_name, is_open};
+ghost use Rattle.snl_syntax.specs.Items.{is_open_paren, is_plain, is_text, some_is};
+ghost use Rattle.snl_syntax.specs.Items.{balance_after, is_after, item, plain_ends_at};
 ghost use Rattle.snl_syntax.specs.declared.marks.Mark.TheVariants as mark;
 ghost use Rattle.std.specs.List.{slice_get};
-ghost use Rattle.std.specs.Prelude.{◌≡◌, ◌==◌, ◌&&◌, ◌+◌, ◌^◌, ◌<◌, ◌≤◌, cond, false, length, true, ℕ};
+ghost use Rattle.std.specs.Prelude.{◌≡◌, ◌==◌, ◌&&◌, ◌+◌, ◌^◌, ◌<◌, ◌≤◌};
+ghost use Rattle.std.specs.Prelude.{cond, false, length, true, ℕ};
 
 use crate::marks::Mark;
 use snl_cut::{Count, Front};
@@ -62,12 +65,13 @@ fn state_set_length(rest: &[Mark]) -> usize
     }
 }
 
-// Where the texts end that are from a place on without a gap.
+// Where the texts end that follow one another from this mark on.
 fn texts_end(rest: &[Mark], start: usize) -> usize
     requires { start ≤ length rest.now }
     ensures low { start ≤ result }
     ensures high { result ≤ length rest.now }
-    ensures texts { (k : ℕ) → start ≤ k → k < result → some_is is_text (slice_get rest.now k) ≡ true }
+    ensures texts { (k : ℕ) → start ≤ k → k < result →
+        some_is is_text (slice_get rest.now k) ≡ true }
     ensures stop { some_is is_text (slice_get rest.now result) ≡ false }
 {
     let mut end = start;

@@ -13,16 +13,20 @@ use snl_cut::one_cut;
 /// The first item has a token at least, ends where it has to, and no item ends before.
 pub fn first_item()
     ensures within { (tokens : List Mark) → 0 < length tokens → item tokens ≤ length tokens }
-    ensures least { (tokens : List Mark) → 0 < length tokens → IsLeast (ends_after tokens) 1 (item tokens) }
+    ensures least { (tokens : List Mark) → 0 < length tokens →
+        IsLeast (ends_after tokens) 1 (item tokens) }
 {}
 
 /// The tokens of any text have one cut into items and no other. Its items follow one another, and
 /// each is the first item of what is left from it on.
 pub fn tokens_in_items()
     ensures cut { (tokens : List Mark) → IsCut item tokens (ends_of item tokens) }
-    ensures only { (tokens : List Mark) (ends : List ℕ) → IsCut item tokens ends → ends ≡ ends_of item tokens }
-    ensures joined { (tokens : List Mark) → in_a_row (members tokens 0 (ends_of item tokens)) ≡ tokens }
-    ensures first { (tokens : List Mark) → EachFirst item (members tokens 0 (ends_of item tokens)) }
+    ensures only { (tokens : List Mark) (ends : List ℕ) →
+        IsCut item tokens ends → ends ≡ ends_of item tokens }
+    ensures joined { (tokens : List Mark) →
+        in_a_row (members tokens 0 (ends_of item tokens)) ≡ tokens }
+    ensures first { (tokens : List Mark) →
+        EachFirst item (members tokens 0 (ends_of item tokens)) }
 {
     one_cut::<Tokens>();
 }

@@ -16,6 +16,7 @@ mod operator;
 mod outcome;
 mod outcome_laws;
 mod parse;
+mod parts;
 mod spelling_laws;
 mod state;
 mod statement;

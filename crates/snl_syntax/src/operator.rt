@@ -1,4 +1,4 @@
-//! The operators of expressions, and the tables of their marks.
+//! The operators of expressions, and the tables of the tokens that they are spelled by.
 
 ghost use Rattle.std.specs.Prelude.{◌≡◌};
 ghost use Rattle.snl_syntax.specs.Operators as spec;
@@ -44,7 +44,7 @@ pub enum Assignment {
     ShiftRight,
 }
 
-/// A mark before an operand.
+/// An operator of one token before an operand.
 #[derive(Clone, Copy, Debug, PartialEq, Eq)]
 pub enum Sign {
     Plus,
@@ -83,9 +83,9 @@ pub fn tier(op: Binary) -> usize
     }
 }
 
-/// The mark of an operator.
-pub fn binary_mark(op: Binary) -> Kind
-    ensures { result ≡ spec.binary_mark op }
+/// The token of an operator.
+pub fn binary_kind(op: Binary) -> Kind
+    ensures { result ≡ spec.binary_kind op }
 {
     match op {
         Binary::Or => Kind::BarBar,
@@ -109,7 +109,7 @@ pub fn binary_mark(op: Binary) -> Kind
     }
 }
 
-/// The operator that a mark is between two operands.
+/// The operator that a token is between two operands.
 pub fn binary_of(kind: Kind) -> Option<Binary>
     ensures { result ≡ spec.binary_of kind }
 {
@@ -136,9 +136,9 @@ pub fn binary_of(kind: Kind) -> Option<Binary>
     }
 }
 
-/// The mark of an operator that assigns.
-pub fn assignment_mark(op: Assignment) -> Kind
-    ensures { result ≡ spec.assignment_mark op }
+/// The token of an operator that assigns.
+pub fn assignment_kind(op: Assignment) -> Kind
+    ensures { result ≡ spec.assignment_kind op }
 {
     match op {
         Assignment::Plain => Kind::Equal,
@@ -155,7 +155,7 @@ pub fn assignment_mark(op: Assignment) -> Kind
     }
 }
 
-/// The operator that a mark is after what is assigned to.
+/// The operator that a token is after what is assigned to.
 pub fn assignment_of(kind: Kind) -> Option<Assignment>
     ensures { result ≡ spec.assignment_of kind }
 {
@@ -175,9 +175,9 @@ pub fn assignment_of(kind: Kind) -> Option<Assignment>
     }
 }
 
-/// The mark of a sign.
-pub fn sign_mark(op: Sign) -> Kind
-    ensures { result ≡ spec.sign_mark op }
+/// The token of a sign.
+pub fn sign_kind(op: Sign) -> Kind
+    ensures { result ≡ spec.sign_kind op }
 {
     match op {
         Sign::Plus => Kind::Plus,
@@ -188,22 +188,5 @@ pub fn sign_mark(op: Sign) -> Kind
         Sign::Address => Kind::Ampersand,
         Sign::Increment => Kind::PlusPlus,
         Sign::Decrement => Kind::MinusMinus,
-    }
-}
-
-/// The sign that a mark is before an operand.
-pub fn sign_of(kind: Kind) -> Option<Sign>
-    ensures { result ≡ spec.sign_of kind }
-{
-    match kind {
-        Kind::Plus => Some(Sign::Plus),
-        Kind::Minus => Some(Sign::Minus),
-        Kind::Exclamation => Some(Sign::Not),
-        Kind::Tilde => Some(Sign::Complement),
-        Kind::Star => Some(Sign::Dereference),
-        Kind::Ampersand => Some(Sign::Address),
-        Kind::PlusPlus => Some(Sign::Increment),
-        Kind::MinusMinus => Some(Sign::Decrement),
-        _ => None,
     }
 }

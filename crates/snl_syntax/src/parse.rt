@@ -89,7 +89,8 @@ pub fn parse_item(
     ensures bad { bad_in result ≡ position is_bad tokens.now }
     ensures tree { IfOk result (λ t. item_of (kinds_in text.now tokens.now) ≡ Some t) }
     ensures found { IfOk result (λ t. IsItem t (kinds_in text.now tokens.now)) }
-    ensures spelled { IfOk result (λ t. Matches (spell_item t) (ahead (kinds_in text.now tokens.now) 0)) }
+    ensures spelled { IfOk result (λ t.
+        Matches (spell_item t) (ahead (kinds_in text.now tokens.now) 0)) }
     ensures only { IfOk result (λ t. IsOnlyItem t (kinds_in text.now tokens.now)) }
     ensures none { IfNoItem result (λ n. item_of (kinds_in text.now tokens.now) ≡ None) }
     ensures no_item { IfNoItem result (λ n. MakeNoItem (kinds_in text.now tokens.now)) }

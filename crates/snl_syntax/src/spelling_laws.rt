@@ -12,5 +12,6 @@ ghost use Rattle.std.specs.Prelude.{List};
 /// The item that tokens make by the grammar spells these tokens, one for one: each has the kind
 /// that is spelled there, and each leaf is the number of its token.
 pub fn item_spelled()
-    ensures spelled { (t : Item) → (kinds : List Kind) → IsItem t kinds → Matches (spell_item t) (ahead kinds 0) }
+    ensures spelled { (t : Item) → (kinds : List Kind) →
+        IsItem t kinds → Matches (spell_item t) (ahead kinds 0) }
 {}

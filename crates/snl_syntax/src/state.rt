@@ -1,11 +1,11 @@
 //! Reads states and their members.
+#![tactic(auto, unfolding(crate::proofs::Opened::States::states))]
 
-ghost use Rattle.std.specs.Prelude.{◌≡◌, ◌<◌, ◌-◌, [], Some};
+ghost use Rattle.std.specs.Prelude.{◌<◌, [], Some};
 ghost use Rattle.snl_syntax.specs.Reading.States as spec;
 ghost use Rattle.snl_syntax.specs.Reading.Statements as statements;
 ghost use Rattle.snl_syntax.specs.Steps as read;
-ghost use Rattle.snl_syntax.specs.Steps.{Reads};
-ghost use Rattle.snl_syntax.specs.Tokens.{ahead};
+ghost use Rattle.snl_syntax.specs.Steps.{ReadsFrom};
 ghost use Rattle.snl_lex.specs.declared.kind.Kind.TheVariants as kind;
 
 use crate::clause::{clause, foreign, option_line};
@@ -20,36 +20,39 @@ use sqlite_items::Items;
 use std::alloc::Global;
 
 /// `entry` and its block, in so many levels with the one that they are in.
-#[tactic(auto, unfolding(crate::specs::Reading::States::entry_block, crate::specs::Steps::and_then))]
+// entry = "entry" block
+// entry { n = 0; }
 pub fn entry_block(
     alloc: Global,
     kinds: &[Kind],
     at: usize,
     depth: usize,
 ) -> Result<(Items<Member>, usize), Stop>
-    ensures { Reads kinds.now result (spec.entry_block (statements.block depth) (ahead kinds.now at)) }
+    ensures { ReadsFrom kinds.now at result (spec.entry_block (statements.block depth)) }
 {
     let at = expect(kinds, at, Kind::Entry)?;
     block(alloc, kinds, at, depth)
 }
 
 /// `exit` and its block, in so many levels with the one that they are in.
-#[tactic(auto, unfolding(crate::specs::Reading::States::exit_block, crate::specs::Steps::and_then))]
+// exit = "exit" block
+// exit { n = 0; }
 pub fn exit_block(
     alloc: Global,
     kinds: &[Kind],
     at: usize,
     depth: usize,
 ) -> Result<(Items<Member>, usize), Stop>
-    ensures { Reads kinds.now result (spec.exit_block (statements.block depth) (ahead kinds.now at)) }
+    ensures { ReadsFrom kinds.now at result (spec.exit_block (statements.block depth)) }
 {
     let at = expect(kinds, at, Kind::Exit)?;
     block(alloc, kinds, at, depth)
 }
 
-#[tactic(auto, unfolding(crate::specs::Reading::States::next_state, crate::specs::Steps::and_then))]
+// "state" NAME
+// state idle
 fn next_state(kinds: &[Kind], at: usize) -> Result<(Target, usize), Stop>
-    ensures { Reads kinds.now result (spec.next_state (ahead kinds.now at)) }
+    ensures { ReadsFrom kinds.now at result spec.next_state }
 {
     let at = expect(kinds, at, Kind::State)?;
     let name = at;
@@ -57,9 +60,10 @@ fn next_state(kinds: &[Kind], at: usize) -> Result<(Target, usize), Stop>
     Ok((Target::State(name), at))
 }
 
-#[tactic(auto, unfolding(crate::specs::Reading::States::target, crate::specs::Steps::and_then))]
+// "state" NAME | "exit"
+// exit
 fn target(kinds: &[Kind], at: usize) -> Result<(Target, usize), Stop>
-    ensures { Reads kinds.now result (spec.target (ahead kinds.now at)) }
+    ensures { ReadsFrom kinds.now at result spec.target }
 {
     match kind_at(kinds, at) {
         Some(Kind::State) => next_state(kinds, at),
@@ -71,7 +75,8 @@ fn target(kinds: &[Kind], at: usize) -> Result<(Target, usize), Stop>
     }
 }
 
-#[tactic(auto, unfolding(crate::specs::Reading::States::transition, crate::specs::Steps::and_then))]
+// when = "when" "(" [expr] ")" block ( "state" NAME | "exit" )
+// when (v > 3) { n = 1; } state idle
 fn transition(
     alloc: Global,
     kinds: &[Kind],
@@ -79,7 +84,7 @@ fn transition(
     depth: usize,
 ) -> Result<(Transition, usize), Stop>
     requires some { 0 < depth }
-    ensures { Reads kinds.now result (spec.transition depth (ahead kinds.now at)) }
+    ensures { ReadsFrom kinds.now at result (spec.transition depth) }
 {
     let at = expect(kinds, at, Kind::When)?;
     let at = expect(kinds, at, Kind::OpenParen)?;
@@ -94,46 +99,50 @@ fn transition(
     Ok((transition, at))
 }
 
-#[tactic(auto, unfolding(crate::specs::Reading::States::declared_member, crate::specs::Steps::and_then))]
+// decl
+// int n = 1;
 fn declared_member(
     alloc: Global,
     kinds: &[Kind],
     at: usize,
     depth: usize,
 ) -> Result<(Option<StateMember>, usize), Stop>
-    ensures { Reads kinds.now result (spec.declared_member depth (ahead kinds.now at)) }
+    ensures { ReadsFrom kinds.now at result (spec.declared_member depth) }
 {
     let (member, at) = declaration(alloc, kinds, at, depth)?;
     Ok((Some(StateMember::Declaration(member)), at))
 }
 
-#[tactic(auto, unfolding(crate::specs::Reading::States::entry_member, crate::specs::Steps::and_then))]
+// entry
+// entry { n = 0; }
 fn entry_member(
     alloc: Global,
     kinds: &[Kind],
     at: usize,
     depth: usize,
 ) -> Result<(Option<StateMember>, usize), Stop>
-    ensures { Reads kinds.now result (spec.entry_member depth (ahead kinds.now at)) }
+    ensures { ReadsFrom kinds.now at result (spec.entry_member depth) }
 {
     let (block, at) = entry_block(alloc, kinds, at, depth)?;
     Ok((Some(StateMember::Entry(block)), at))
 }
 
-#[tactic(auto, unfolding(crate::specs::Reading::States::exit_member, crate::specs::Steps::and_then))]
+// exit
+// exit { n = 0; }
 fn exit_member(
     alloc: Global,
     kinds: &[Kind],
     at: usize,
     depth: usize,
 ) -> Result<(Option<StateMember>, usize), Stop>
-    ensures { Reads kinds.now result (spec.exit_member depth (ahead kinds.now at)) }
+    ensures { ReadsFrom kinds.now at result (spec.exit_member depth) }
 {
     let (block, at) = exit_block(alloc, kinds, at, depth)?;
     Ok((Some(StateMember::Exit(block)), at))
 }
 
-#[tactic(auto, unfolding(crate::specs::Reading::States::when_member, crate::specs::Steps::and_then))]
+// when
+// when (v > 3) { n = 1; } state idle
 fn when_member(
     alloc: Global,
     kinds: &[Kind],
@@ -141,62 +150,69 @@ fn when_member(
     depth: usize,
 ) -> Result<(Option<StateMember>, usize), Stop>
     requires some { 0 < depth }
-    ensures { Reads kinds.now result (spec.when_member depth (ahead kinds.now at)) }
+    ensures { ReadsFrom kinds.now at result (spec.when_member depth) }
 {
     let (transition, at) = transition(alloc, kinds, at, depth)?;
     Ok((Some(StateMember::When(transition)), at))
 }
 
-#[tactic(auto, unfolding(crate::specs::Reading::States::foreign_member, crate::specs::Steps::and_then))]
+// foreign
+// foreign stdout;
 fn foreign_member(
     alloc: Global,
     kinds: &[Kind],
     at: usize,
 ) -> Result<(Option<StateMember>, usize), Stop>
-    ensures { Reads kinds.now result (spec.foreign_member (ahead kinds.now at)) }
+    ensures { ReadsFrom kinds.now at result spec.foreign_member }
 {
     let (names, at) = foreign(alloc, kinds, at)?;
     Ok((Some(StateMember::Foreign(names)), at))
 }
 
-#[tactic(auto, unfolding(crate::specs::Reading::States::clause_member, crate::specs::Steps::and_then))]
+// assign | monitor | sync | syncq
+// monitor speed;
 fn clause_member(
     alloc: Global,
     kinds: &[Kind],
     at: usize,
 ) -> Result<(Option<StateMember>, usize), Stop>
-    ensures { Reads kinds.now result (spec.clause_member (ahead kinds.now at)) }
+    ensures { ReadsFrom kinds.now at result spec.clause_member }
 {
     let (clause, at) = clause(alloc, kinds, at)?;
     Ok((Some(StateMember::Clause(clause)), at))
 }
 
-#[tactic(auto, unfolding(crate::specs::Reading::States::option_member, crate::specs::Steps::and_then))]
+// option
+// option -t;
 fn option_member(kinds: &[Kind], at: usize) -> Result<(Option<StateMember>, usize), Stop>
-    ensures { Reads kinds.now result (spec.option_member (ahead kinds.now at)) }
+    ensures { ReadsFrom kinds.now at result spec.option_member }
 {
     let (line, at) = option_line(kinds, at)?;
     Ok((Some(StateMember::OptionLine(line)), at))
 }
 
-#[tactic(auto, unfolding(crate::specs::Reading::States::c_member, crate::specs::Steps::and_then))]
+// CCODE
+// %{ int ticks; }%
 fn c_member(kinds: &[Kind], at: usize) -> Result<(Option<StateMember>, usize), Stop>
-    ensures { Reads kinds.now result (spec.c_member (ahead kinds.now at)) }
+    ensures { ReadsFrom kinds.now at result spec.c_member }
 {
     let number = at;
     let at = expect(kinds, at, Kind::CCode)?;
     Ok((Some(StateMember::CBlock(number)), at))
 }
 
-#[tactic(auto, unfolding(crate::specs::Steps::and_then))]
+// ";"
+// ;
 fn empty_member(kinds: &[Kind], at: usize) -> Result<(Option<StateMember>, usize), Stop>
-    ensures { Reads kinds.now result (spec.member_by 0 (Some kind.Semicolon) (ahead kinds.now at)) }
+    ensures { ReadsFrom kinds.now at result (spec.member_by 0 (Some kind.Semicolon)) }
 {
     let at = expect(kinds, at, Kind::Semicolon)?;
     Ok((Some(StateMember::Empty), at))
 }
 
-#[tactic(auto, unfolding(crate::specs::Reading::States::next_member, crate::specs::Steps::and_then))]
+// smember, or nothing before "}", where
+// smember = decl | foreign | assign | monitor | sync | syncq | option | ";" | CCODE
+//     | entry | exit | when
 fn next_member(
     alloc: Global,
     kinds: &[Kind],
@@ -204,7 +220,7 @@ fn next_member(
     depth: usize,
 ) -> Result<(Option<StateMember>, usize), Stop>
     requires some { 0 < depth }
-    ensures { Reads kinds.now result (spec.next_member depth (ahead kinds.now at)) }
+    ensures { ReadsFrom kinds.now at result (spec.next_member depth) }
 {
     match kind_at(kinds, at) {
         Some(Kind::CloseBrace) => Ok((None, at)),
@@ -224,6 +240,8 @@ fn next_member(
     }
 }
 
+// { smember }
+// int n; when () { } exit
 fn members(
     alloc: Global,
     kinds: &[Kind],
@@ -231,7 +249,7 @@ fn members(
     depth: usize,
 ) -> Result<(Items<StateMember>, usize), Stop>
     requires some { 0 < depth }
-    ensures { Reads kinds.now result (read.many (spec.next_member depth) [] (ahead kinds.now start)) }
+    ensures { ReadsFrom kinds.now start result (read.many (spec.next_member depth) []) }
 {
     let mut found = Items::new(alloc);
     let mut at = start;
@@ -247,7 +265,8 @@ fn members(
 }
 
 /// A state's members in braces, within which so many levels are left.
-#[tactic(auto, unfolding(crate::specs::Reading::States::state_members, crate::specs::Steps::and_then))]
+// "{" { smember } "}"
+// { int n; when () { } exit }
 pub fn state_members(
     alloc: Global,
     kinds: &[Kind],
@@ -255,7 +274,7 @@ pub fn state_members(
     depth: usize,
 ) -> Result<(Items<StateMember>, usize), Stop>
     requires some { 0 < depth }
-    ensures { Reads kinds.now result (spec.state_members depth (ahead kinds.now at)) }
+    ensures { ReadsFrom kinds.now at result (spec.state_members depth) }
 {
     let at = expect(kinds, at, Kind::OpenBrace)?;
     let (all, at) = members(alloc, kinds, at, depth)?;

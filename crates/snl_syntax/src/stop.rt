@@ -6,7 +6,7 @@ ghost use Rattle.snl_syntax.specs.declared.stop.Stop.TheVariants.{OutOfMemory};
 use std::alloc::AllocError;
 
 /// Why a reader stopped: at the token with this number, which it can't take, or for want of memory.
-#[derive(Clone, Copy, Debug, PartialEq, Eq)]
+#[derive(Clone, Copy)]
 pub enum Stop {
     Here(usize),
     OutOfMemory,

@@ -112,7 +112,7 @@ fn code(kind: Kind) -> u8
     }
 }
 
-/// What the token at a place is.
+/// The kind of the token with this number, if there is one.
 pub fn kind_at(kinds: &[Kind], at: usize) -> Option<Kind>
     ensures { result ≡ read.kind_at (ahead kinds.now at) }
 {
@@ -123,7 +123,7 @@ pub fn kind_at(kinds: &[Kind], at: usize) -> Option<Kind>
     }
 }
 
-// Whether the token at a place is of this kind, as it is then the one to be taken.
+// Whether the token with this number is of this kind, as it is then the one to be taken.
 fn sees(kinds: &[Kind], at: usize, kind: Kind) -> bool
     requires { at < length kinds.now }
     ensures { result ≡ spec.same (get_or kinds.now at kind) kind }
@@ -131,7 +131,7 @@ fn sees(kinds: &[Kind], at: usize, kind: Kind) -> bool
     code(kinds[at]) == code(kind)
 }
 
-/// The place after a token of this kind.
+/// The number after that of a token of this kind, which has to be there.
 pub fn expect(kinds: &[Kind], at: usize, kind: Kind) -> Result<usize, Stop>
     ensures { ReadsToken kinds.now at result (read.expect kind (ahead kinds.now at)) }
 {
@@ -142,8 +142,8 @@ pub fn expect(kinds: &[Kind], at: usize, kind: Kind) -> Result<usize, Stop>
     }
 }
 
-/// The place after a token of this kind, beside a value that is held until then. Its type is any,
-/// so that the proof of what is freed on the way out looks into no tree.
+/// The same beside a value that is held until then. Its type is any, so that the proof of what is
+/// freed on the way out looks into no tree.
 pub fn past<T: Drop>(kinds: &[Kind], at: usize, kind: Kind, held: T) -> Result<(T, usize), Stop>
     ensures token { ReadsPast kinds.now at result (read.expect kind (ahead kinds.now at)) }
     ensures held { IfOk result (λ r. r.0 ≡ held) }
@@ -157,7 +157,8 @@ pub fn beside<T: Drop, A: Drop>(
     held: T,
     read: Result<(A, usize), Stop>,
 ) -> Result<((T, A), usize), Stop>
-    ensures { (kinds : List Kind) (outcome : Outcome _) → Reads kinds read outcome → Reads kinds result (and_then outcome (λ a. pure (held, a))) }
+    ensures { (kinds : List Kind) (outcome : Outcome _) → Reads kinds read outcome →
+        Reads kinds result (and_then outcome (λ a. pure (held, a))) }
 {
     match read {
         Ok((found, at)) => Ok(((held, found), at)),
@@ -165,7 +166,7 @@ pub fn beside<T: Drop, A: Drop>(
     }
 }
 
-/// Whether a token of this kind comes next, and the place after it then.
+/// Whether a token of this kind comes next, and the number of the token to go on with.
 pub fn accept(kinds: &[Kind], at: usize, kind: Kind) -> (bool, usize)
     ensures { read.accept kind (ahead kinds.now at) ≡ Ok (result.0, ahead kinds.now result.1) }
 {
@@ -176,7 +177,7 @@ pub fn accept(kinds: &[Kind], at: usize, kind: Kind) -> (bool, usize)
     }
 }
 
-/// How many elements a list can have at most that begins at a place, and one more.
+/// How many elements a list can have at most that begins at a token, and one more.
 pub fn turns(kinds: &[Kind], at: usize) -> usize
     ensures { result ≡ suc (length (ahead kinds.now at)) }
 {

@@ -1,11 +1,11 @@
 //! Reads types and names of types.
+#![tactic(auto, unfolding(crate::proofs::Opened::Types::types))]
 
-ghost use Rattle.std.specs.Prelude.{◌≡◌, [], suc, length};
+ghost use Rattle.std.specs.Prelude.{◌≡◌};
 ghost use Rattle.snl_lex.specs.declared.kind.Kind.TheVariants as kind;
 ghost use Rattle.snl_syntax.specs.declared.tree.types.Base.TheVariants as bases;
-ghost use Rattle.snl_syntax.specs.Tokens.{ahead};
 ghost use Rattle.snl_syntax.specs.Steps as read;
-ghost use Rattle.snl_syntax.specs.Steps.{Reads};
+ghost use Rattle.snl_syntax.specs.Steps.{ReadsFrom};
 ghost use Rattle.snl_syntax.specs.Reading.Types as spec;
 
 use crate::stop::Stop;
@@ -15,30 +15,33 @@ use snl_lex::Kind;
 use sqlite_items::Items;
 use std::alloc::Global;
 
-#[tactic(auto, unfolding(crate::specs::Steps::and_then))]
+// "char" | "int"
+// char
 fn integer_word(
     kinds: &[Kind],
     at: usize,
     word: Kind,
     integer: Integer,
 ) -> Result<(Integer, usize), Stop>
-    ensures { Reads kinds.now result (read.word word integer (ahead kinds.now at)) }
+    ensures { ReadsFrom kinds.now at result (read.word word integer) }
 {
     let at = expect(kinds, at, word)?;
     Ok((integer, at))
 }
 
-#[tactic(auto, unfolding(crate::specs::Steps::and_then))]
+// "void" | "int8_t" | .. | "evflag"
+// double
 fn base_word(kinds: &[Kind], at: usize, word: Kind, base: Base) -> Result<(Base, usize), Stop>
-    ensures { Reads kinds.now result (read.word word base (ahead kinds.now at)) }
+    ensures { ReadsFrom kinds.now at result (read.word word base) }
 {
     let at = expect(kinds, at, word)?;
     Ok((base, at))
 }
 
-#[tactic(auto, unfolding(crate::specs::Reading::Types::short_integer, crate::specs::Steps::and_then))]
+// "short" ["int"]
+// short int
 fn short_integer(kinds: &[Kind], at: usize) -> Result<(Integer, usize), Stop>
-    ensures { Reads kinds.now result (spec.short_integer (ahead kinds.now at)) }
+    ensures { ReadsFrom kinds.now at result spec.short_integer }
 {
     let at = expect(kinds, at, Kind::Short)?;
     let (more, at) = accept(kinds, at, Kind::Int);
@@ -50,9 +53,10 @@ fn short_integer(kinds: &[Kind], at: usize) -> Result<(Integer, usize), Stop>
     Ok((integer, at))
 }
 
-#[tactic(auto, unfolding(crate::specs::Reading::Types::long_integer, crate::specs::Steps::and_then))]
+// "long" ["int"]
+// long int
 fn long_integer(kinds: &[Kind], at: usize) -> Result<(Integer, usize), Stop>
-    ensures { Reads kinds.now result (spec.long_integer (ahead kinds.now at)) }
+    ensures { ReadsFrom kinds.now at result spec.long_integer }
 {
     let at = expect(kinds, at, Kind::Long)?;
     let (more, at) = accept(kinds, at, Kind::Int);
@@ -64,9 +68,10 @@ fn long_integer(kinds: &[Kind], at: usize) -> Result<(Integer, usize), Stop>
     Ok((integer, at))
 }
 
-#[tactic(auto, unfolding(crate::specs::Reading::Types::integer, crate::specs::Reading::Types::integer_by, crate::specs::Steps::and_then))]
+// integer = "char" | "short" ["int"] | "int" | "long" ["int"]
+// long int
 fn integer(kinds: &[Kind], at: usize) -> Result<(Integer, usize), Stop>
-    ensures { Reads kinds.now result (spec.integer (ahead kinds.now at)) }
+    ensures { ReadsFrom kinds.now at result spec.integer }
 {
     match kind_at(kinds, at) {
         Some(Kind::Char) => integer_word(kinds, at, Kind::Char, Integer::Char),
@@ -89,17 +94,19 @@ fn begins_integer(kind: Option<Kind>) -> bool
     }
 }
 
-#[tactic(auto, unfolding(crate::specs::Reading::Types::plain_integer, crate::specs::Steps::and_then))]
+// integer, as a base
+// long int
 fn plain_integer(kinds: &[Kind], at: usize) -> Result<(Base, usize), Stop>
-    ensures { Reads kinds.now result (spec.plain_integer (ahead kinds.now at)) }
+    ensures { ReadsFrom kinds.now at result spec.plain_integer }
 {
     let (integer, at) = integer(kinds, at)?;
     Ok((Base::Integer(integer), at))
 }
 
-#[tactic(auto, unfolding(crate::specs::Reading::Types::unsigned_rest, crate::specs::Steps::and_then))]
+// [integer], after `unsigned`
+// short
 fn unsigned_rest(kinds: &[Kind], at: usize) -> Result<(Base, usize), Stop>
-    ensures { Reads kinds.now result (spec.unsigned_rest (ahead kinds.now at)) }
+    ensures { ReadsFrom kinds.now at result spec.unsigned_rest }
 {
     if begins_integer(kind_at(kinds, at)) {
         let (integer, at) = integer(kinds, at)?;
@@ -109,17 +116,19 @@ fn unsigned_rest(kinds: &[Kind], at: usize) -> Result<(Base, usize), Stop>
     }
 }
 
-#[tactic(auto, unfolding(crate::specs::Reading::Types::unsigned, crate::specs::Steps::and_then))]
+// "unsigned" [integer]
+// unsigned short
 fn unsigned(kinds: &[Kind], at: usize) -> Result<(Base, usize), Stop>
-    ensures { Reads kinds.now result (spec.unsigned (ahead kinds.now at)) }
+    ensures { ReadsFrom kinds.now at result spec.unsigned }
 {
     let at = expect(kinds, at, Kind::Unsigned)?;
     unsigned_rest(kinds, at)
 }
 
-#[tactic(auto, unfolding(crate::specs::Reading::Types::named, crate::specs::Steps::and_then))]
+// "enum" NAME
+// enum mode
 fn enum_base(kinds: &[Kind], at: usize) -> Result<(Base, usize), Stop>
-    ensures { Reads kinds.now result (spec.named kind.Enum bases.Enum (ahead kinds.now at)) }
+    ensures { ReadsFrom kinds.now at result (spec.named kind.Enum bases.Enum) }
 {
     let at = expect(kinds, at, Kind::Enum)?;
     let name = at;
@@ -127,9 +136,10 @@ fn enum_base(kinds: &[Kind], at: usize) -> Result<(Base, usize), Stop>
     Ok((Base::Enum(name), at))
 }
 
-#[tactic(auto, unfolding(crate::specs::Reading::Types::named, crate::specs::Steps::and_then))]
+// "struct" NAME
+// struct range
 fn struct_base(kinds: &[Kind], at: usize) -> Result<(Base, usize), Stop>
-    ensures { Reads kinds.now result (spec.named kind.Struct bases.Struct (ahead kinds.now at)) }
+    ensures { ReadsFrom kinds.now at result (spec.named kind.Struct bases.Struct) }
 {
     let at = expect(kinds, at, Kind::Struct)?;
     let name = at;
@@ -137,9 +147,10 @@ fn struct_base(kinds: &[Kind], at: usize) -> Result<(Base, usize), Stop>
     Ok((Base::Struct(name), at))
 }
 
-#[tactic(auto, unfolding(crate::specs::Reading::Types::named, crate::specs::Steps::and_then))]
+// "union" NAME
+// union value
 fn union_base(kinds: &[Kind], at: usize) -> Result<(Base, usize), Stop>
-    ensures { Reads kinds.now result (spec.named kind.Union bases.Union (ahead kinds.now at)) }
+    ensures { ReadsFrom kinds.now at result (spec.named kind.Union bases.Union) }
 {
     let at = expect(kinds, at, Kind::Union)?;
     let name = at;
@@ -147,9 +158,10 @@ fn union_base(kinds: &[Kind], at: usize) -> Result<(Base, usize), Stop>
     Ok((Base::Union(name), at))
 }
 
-#[tactic(auto, unfolding(crate::specs::Reading::Types::named, crate::specs::Steps::and_then))]
+// "typename" NAME
+// typename epicsTime
 fn typename_base(kinds: &[Kind], at: usize) -> Result<(Base, usize), Stop>
-    ensures { Reads kinds.now result (spec.named kind.Typename bases.Typename (ahead kinds.now at)) }
+    ensures { ReadsFrom kinds.now at result (spec.named kind.Typename bases.Typename) }
 {
     let at = expect(kinds, at, Kind::Typename)?;
     let name = at;
@@ -157,9 +169,11 @@ fn typename_base(kinds: &[Kind], at: usize) -> Result<(Base, usize), Stop>
     Ok((Base::Typename(name), at))
 }
 
-#[tactic(auto, unfolding(crate::specs::Reading::Types::base, crate::specs::Reading::Types::base_by, crate::specs::Steps::and_then))]
+// base = "void" | integer | "unsigned" [integer] | "int8_t" | .. | "evflag"
+//     | ( "enum" | "struct" | "union" | "typename" ) NAME
+// unsigned short
 fn base(kinds: &[Kind], at: usize) -> Result<(Base, usize), Stop>
-    ensures { Reads kinds.now result (spec.base (ahead kinds.now at)) }
+    ensures { ReadsFrom kinds.now at result spec.base }
 {
     match kind_at(kinds, at) {
         Some(Kind::Void) => base_word(kinds, at, Kind::Void, Base::Void),
@@ -187,9 +201,10 @@ fn base(kinds: &[Kind], at: usize) -> Result<(Base, usize), Stop>
 }
 
 /// A type: a base, and `const` before and after it or not.
-#[tactic(auto, unfolding(crate::specs::Reading::Types::type_of, crate::specs::Steps::and_then))]
+// type = ["const"] base ["const"]
+// const char
 pub fn type_of(kinds: &[Kind], at: usize) -> Result<(QualifiedType, usize), Stop>
-    ensures { Reads kinds.now result (spec.type_of (ahead kinds.now at)) }
+    ensures { ReadsFrom kinds.now at result spec.type_of }
 {
     let (leading_const, at) = accept(kinds, at, Kind::Const);
     let (base, at) = base(kinds, at)?;
@@ -202,9 +217,10 @@ pub fn type_of(kinds: &[Kind], at: usize) -> Result<(QualifiedType, usize), Stop
     Ok((of, at))
 }
 
-#[tactic(auto, unfolding(crate::specs::Reading::Types::next_pointer, crate::specs::Steps::and_then))]
+// [ "*" ["const"] ]
+// * const
 fn next_pointer(kinds: &[Kind], at: usize) -> Result<(Option<Pointer>, usize), Stop>
-    ensures { Reads kinds.now result (spec.next_pointer (ahead kinds.now at)) }
+    ensures { ReadsFrom kinds.now at result spec.next_pointer }
 {
     match kind_at(kinds, at) {
         Some(Kind::Star) => {
@@ -222,8 +238,10 @@ fn next_pointer(kinds: &[Kind], at: usize) -> Result<(Option<Pointer>, usize), S
 }
 
 /// The stars after a type.
+// stars = { "*" ["const"] }
+// **
 pub fn stars(alloc: Global, kinds: &[Kind], start: usize) -> Result<(Items<Pointer>, usize), Stop>
-    ensures { Reads kinds.now result (spec.stars (ahead kinds.now start)) }
+    ensures { ReadsFrom kinds.now start result spec.stars }
 {
     let mut found = Items::new(alloc);
     let mut at = start;
@@ -239,9 +257,10 @@ pub fn stars(alloc: Global, kinds: &[Kind], start: usize) -> Result<(Items<Point
 }
 
 /// A type and the stars after it.
-#[tactic(auto, unfolding(crate::specs::Reading::Types::type_name, crate::specs::Steps::and_then))]
+// type stars
+// const char *
 pub fn type_name(alloc: Global, kinds: &[Kind], at: usize) -> Result<(TypeName, usize), Stop>
-    ensures { Reads kinds.now result (spec.type_name (ahead kinds.now at)) }
+    ensures { ReadsFrom kinds.now at result spec.type_name }
 {
     let (of, at) = type_of(kinds, at)?;
     let (pointers, at) = stars(alloc, kinds, at)?;

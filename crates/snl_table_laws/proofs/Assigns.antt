@@ -7,9 +7,9 @@ use Rattle.std.proofs.lemmas.Bool.{and_parts, eq-eqb, false_from_ne_true, lt-ltb
 use Rattle.std.proofs.lemmas.List.Elements.{Contains-get_or}
 use Rattle.std.proofs.lemmas.List.Folds.{list_any_at}
 use Rattle.std.proofs.lemmas.List.Quantifiers.{all_pairs_push}
-use Rattle.snl_walk.specs.declared.codes.Code.{Code}
-use Rattle.snl_walk.specs.declared.codes.Code.TheVariants.{E11, E12, E13, E15, E16}
-use Rattle.snl_walk.specs.Codes.{is_error}
+use Rattle.snl_codes.specs.declared.code.Code.{Code}
+use Rattle.snl_codes.specs.declared.code.Code.TheVariants.{E11, E12, E13, E15, E16}
+use Rattle.snl_codes.specs.Codes.{is_error}
 use Rattle.snl_scope.specs.declared.summaries.summary.ClauseKind.TheVariants as kind
 use Rattle.snl_scope.specs.declared.summaries.summary.Coverage.{Coverage}
 use Rattle.snl_scope.specs.declared.summaries.summary.Coverage.TheVariants.{Whole, Element, Front}

@@ -9,7 +9,7 @@ use Rattle.std.proofs.lemmas.List.Elements.{All-append, All-from_recursion, All-
 use Rattle.std.proofs.lemmas.List.Quantifiers.{all_pairs_push, position-Some}
 use Rattle.std.proofs.lemmas.List.Sums.{position_or_len_is}
 use Rattle.std.proofs.lemmas.Option.{get_or_from_slice_get, none-some, same_Some, slice_get-get_or, slice_get_within}
-use Rattle.snl_walk.specs.declared.codes.Code.TheVariants.{E08, E09}
+use Rattle.snl_codes.specs.declared.code.Code.TheVariants.{E08, E09}
 use Rattle.snl_scope.specs.declared.facts.Declaration.{Declaration}
 use Rattle.snl_scope.specs.declared.facts.Scope.{Scope}
 use Rattle.snl_scope.specs.declared.facts.Scope.TheVariants as scope
@@ -22,7 +22,7 @@ use Rattle.snl_scope.specs.Linked.{declaration_at, entry_declaration, scope_in, 
 use Rattle.snl_scope.specs.Names.{Entry, declared_entry, entries, entries_before, entries_of, has_own_scope, named_entry, scope_at, scope_of, set_entries, set_name, state_entries}
 use Rattle.snl_scope.specs.Order.{state_name}
 use Rattle.snl_scope.specs.Places.{enclosing_set}
-use Rattle.snl_check.specs.Items.{ProgramItem, outlines_of}
+use Rattle.snl_item_check.specs.Items.{ProgramItem, outlines_of}
 use Rattle.snl_check.specs.Tables.{flag_row, flag_row_at, flag_rows, tables_of}
 use Rattle.snl_table_laws.specs.Flags.{IsRowOf, row_numbered}
 

@@ -16,6 +16,7 @@ use Rattle.snl_listing.specs.Listing as listing
 use Rattle.snl_listing.specs.Listing.{channel_line, flag_line, goto_line, listing_of, numbered, option_line, program_line, set_line, set_text, state_line, state_lines, state_text, wake_line, when_line}
 use Rattle.snl_table_laws.specs.Lines.{AreLines, HasByteLetter, HasByteOptions, HasBytePv, HasBytes, IsByte, IsLine, IsPrinted, rows_of, rows_of_set, rows_of_state, state_details, unless_faulty}
 use Rattle.snl_table_laws.proofs.Rows.{channel_is_line, flag_is_line, goto_is_line, option_is_line, program_is_line, set_is_line, state_is_line, wake_is_line, when_is_line}
+use Rattle.std.proofs.lemmas.List.Folds.{concat-append}
 
 -- ---- lines one after another
 
@@ -25,15 +26,11 @@ no_line = record { lines = []; each = All-nil IsLine; joined = refl; number = re
 one_line : (bytes : List ℕ) → IsLine bytes → AreLines 1 bytes
 one_line bytes h = record { lines = bytes ∷ []; each = All-cons IsLine bytes [] h (All-nil IsLine); joined = sym (append-nil bytes); number = refl }
 
-joined-append : (xs ys : List (List ℕ)) → concat (xs ++ ys) ≡ concat xs ++ concat ys
-joined-append [] ys = refl
-joined-append (x ∷ xs) ys = ap (λ (l : List ℕ). x ++ l) (joined-append xs ys) ∙ sym (append_assoc x (concat xs) (concat ys))
-
 then_lines : (m n : ℕ) (a b : List ℕ) → AreLines m a → AreLines n b → AreLines (m + n) (a ++ b)
 then_lines m n a b first more = record {
   lines = first.lines ++ more.lines;
   each = All-append IsLine first.lines more.lines first.each more.each;
-  joined = ap (λ (l : List ℕ). l ++ b) first.joined ∙ ap (λ (l : List ℕ). concat first.lines ++ l) more.joined ∙ sym (joined-append first.lines more.lines);
+  joined = ap (λ (l : List ℕ). l ++ b) first.joined ∙ ap (λ (l : List ℕ). concat first.lines ++ l) more.joined ∙ sym (concat-append first.lines more.lines);
   number = omega (arith, length-append first.lines more.lines, first.number, more.number);
 }
 

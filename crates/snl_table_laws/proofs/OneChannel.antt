@@ -20,47 +20,10 @@ use Rattle.snl_scope.specs.Names.{Entry, entries}
 use Rattle.snl_scope.specs.Summaries.Clauses.{clause_of, covered_by_channel}
 use Rattle.snl_check.specs.Channels.{AssignedChannel, assigned_channel, assigned_channels, by_element, channels_in, channels_of_clause, channels_on}
 use Rattle.snl_check.specs.Clauses.{ItemClause, item_clauses, summarized}
-use Rattle.snl_check.specs.Items.{ProgramItem, outlines_of, tokens_in}
+use Rattle.snl_item_check.specs.Items.{ProgramItem, outlines_of, tokens_in}
 use Rattle.snl_table_laws.specs.Channels.{AreApart, AreOfTwoElements, AssignApart, ChannelsApart, HasElement}
 use Rattle.snl_table_laws.proofs.Assigns.{apart_from_sound}
-
--- ---- lists by recursion
-
-abbrev EachTwo : {A : Type 0} → (A → A → Type 0) → List A → Type 0
-EachTwo R [] = Unit {0}
-EachTwo R (x ∷ xs) = Each (R x) xs × EachTwo R xs
-
-each_append : {A : Type 0} (P : A → Type 0) (xs ys : List A) → Each P xs → Each P ys → Each P (xs ++ ys)
-each_append P [] ys p q = q
-each_append P (x ∷ xs) ys p q = (p.0, each_append P xs ys p.1 q)
-
-each_by : {A : Type 0} (P : A → Type 0) → ((x : A) → P x) → (xs : List A) → Each P xs
-each_by P h [] = tt
-each_by P h (x ∷ xs) = (h x, each_by P h xs)
-
-each_weaker : {A : Type 0} (P Q : A → Type 0) → ((x : A) → P x → Q x) → (xs : List A) → Each P xs → Each Q xs
-each_weaker P Q h [] p = tt
-each_weaker P Q h (x ∷ xs) p = (h x p.0, each_weaker P Q h xs p.1)
-
-each_map : {A B : Type 0} (P : B → Type 0) (f : A → B) (xs : List A) → Each (λ x. P (f x)) xs → Each P (map f xs)
-each_map P f [] p = tt
-each_map P f (x ∷ xs) p = (p.0, each_map P f xs p.1)
-
-two_map : {A B : Type 0} (R : B → B → Type 0) (f : A → B) (xs : List A) → EachTwo (λ x y. R (f x) (f y)) xs → EachTwo R (map f xs)
-two_map R f [] p = tt
-two_map R f (x ∷ xs) p = (each_map (R (f x)) f xs p.0, two_map R f xs p.1)
-
-two_weaker : {A : Type 0} (R S : A → A → Type 0) → ((x y : A) → R x y → S x y) → (xs : List A) → EachTwo R xs → EachTwo S xs
-two_weaker R S h [] p = tt
-two_weaker R S h (x ∷ xs) p = (each_weaker (R x) (S x) (h x) xs p.0, two_weaker R S h xs p.1)
-
-two_append : {A : Type 0} (R : A → A → Type 0) (xs ys : List A) → EachTwo R xs → Each (λ x. Each (R x) ys) xs → EachTwo R ys → EachTwo R (xs ++ ys)
-two_append R [] ys two across more = more
-two_append R (x ∷ xs) ys two across more = (each_append (R x) xs ys two.0 across.0, two_append R xs ys two.1 across.1 more)
-
-pairs_from_two : {A : Type 0} (R : A → A → Type 0) (xs : List A) → EachTwo R xs → AllPairs R xs
-pairs_from_two R [] p = λ i j d h l. absurd (omega arith)
-pairs_from_two R (x ∷ xs) p = AllPairs-cons R x xs (All-from_recursion (R x) xs p.0) (pairs_from_two R xs p.1)
+use Rattle.snl_facts.specs.Each.{each_append, each_by, each_weaker, each_map, two_map, two_weaker, pairs_from_two, EachTwo, two_across}
 
 -- ---- clauses beside what is told of their soundness
 
@@ -213,11 +176,11 @@ all_apart text xs [] cs sound same two = tt
 all_apart text xs (i ∷ items) [] sound same two = absurd cc
 all_apart text xs (i ∷ items) (c ∷ cs) [] same two = tt
 all_apart text xs (i ∷ items) (c ∷ cs) (b ∷ bs) same two =
-    two_append ChannelsApart (channels_of_clause text xs (i, clause_link c b)) (flat_map (channels_of_clause text xs) (told items cs bs)) (judged_own text xs i c b)
+    two_across ChannelsApart (channels_of_clause text xs (i, clause_link c b)) (flat_map (channels_of_clause text xs) (told items cs bs)) (judged_own text xs i c b)
+    (all_apart text xs items cs bs (rest_same text xs i items c cs same) two.1)
     (each_weaker (λ x. (b ≡ true) × IsOf c x) (λ x. Each (ChannelsApart x) (flat_map (channels_of_clause text xs) (told items cs bs)))
     (λ x h. apart_from_rest text xs c x h.1 items cs bs (rest_same text xs i items c cs same) (subst (λ t. Each (JudgedApart (c, t)) (zip cs bs)) h.0 two.0))
     (channels_of_clause text xs (i, clause_link c b)) (of_judged text xs i c b (first_same text xs i items c cs same)))
-    (all_apart text xs items cs bs (rest_same text xs i items c cs same) two.1)
 
 pub one_channel : (text : List ℕ) (xs : List ProgramItem) → AreSame text xs (item_clauses xs) (clauses_of (outlines_of text xs)) → AllPairs ChannelsApart (assigned_channels text xs (outlines_of text xs))
 one_channel text xs same =

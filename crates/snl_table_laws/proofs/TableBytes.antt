@@ -12,7 +12,7 @@ use Rattle.snl_tables.specs.declared.rows.OptionRow.{OptionRow}
 use Rattle.snl_tables.specs.declared.rows.SetRow.{SetRow}
 use Rattle.snl_walk.specs.Tokens.{bytes_if, token_bytes}
 use Rattle.snl_check.specs.Channels.{AssignedChannel, assigned_channels, between_quotes, joined}
-use Rattle.snl_check.specs.Items.{ProgramItem, outlines_of, tokens_in}
+use Rattle.snl_item_check.specs.Items.{ProgramItem, outlines_of, tokens_in}
 use Rattle.snl_check.specs.Settings.{LetterSetting, last_setting, letters_of_program, letters_of_state, option_row, option_rows, program_settings, settings_in_member}
 use Rattle.snl_check.specs.States.{item_at, members_in, numbered_row, set_row, state_rows}
 use Rattle.snl_check.specs.Tables.{channel_row, tables_of}

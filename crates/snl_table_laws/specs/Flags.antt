@@ -3,7 +3,7 @@ use Rattle.std.specs.Prelude.{◌≡◌, ℕ, zero, suc, List, ◌++◌, slice_g
 use Rattle.snl_scope.specs.declared.facts.Declaration.{Declaration}
 use Rattle.snl_scope.specs.Linked.{declaration_at}
 use Rattle.snl_tables.specs.declared.rows.FlagRow.{FlagRow}
-use Rattle.snl_check.specs.Items.{ProgramItem, outlines_of}
+use Rattle.snl_item_check.specs.Items.{ProgramItem, outlines_of}
 use Rattle.snl_check.specs.Tables.{flag_row, tables_of}
 
 -- The row with a number: the first one has the number 1.

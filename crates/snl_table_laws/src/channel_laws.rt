@@ -2,7 +2,7 @@
 //! own: its contract is the law.
 
 ghost use Rattle.snl_check.specs.Channels.{assigned_channels};
-ghost use Rattle.snl_check.specs.Items.{ProgramItem, outlines_of};
+ghost use Rattle.snl_item_check.specs.Items.{ProgramItem, outlines_of};
 ghost use Rattle.snl_scope.specs.Clauses.{sound_clauses};
 ghost use Rattle.snl_scope.specs.declared.summaries.summary.Outline.{Outline};
 ghost use Rattle.snl_table_laws.specs.Channels.{AssignApart, ChannelsApart};

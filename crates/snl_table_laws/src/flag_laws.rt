@@ -1,7 +1,7 @@
 //! The laws of event flags and their numbers. A function here does nothing: its contract is the
 //! law.
 
-ghost use Rattle.snl_check.specs.Items.{ProgramItem, outlines_of};
+ghost use Rattle.snl_item_check.specs.Items.{ProgramItem, outlines_of};
 ghost use Rattle.snl_check.specs.Tables.{tables_of};
 ghost use Rattle.snl_listing.specs.Listing.{flag_line, listing_of};
 ghost use Rattle.snl_scope.specs.Flags.{flag_number};

@@ -1,7 +1,7 @@
 //! The laws of the listing: a line of ASCII for each row. A function here does nothing: its
 //! contract is the law.
 
-ghost use Rattle.snl_check.specs.Items.{ProgramItem};
+ghost use Rattle.snl_item_check.specs.Items.{ProgramItem};
 ghost use Rattle.snl_check.specs.Tables.{tables_of};
 ghost use Rattle.snl_listing.specs.Listing.{channel_line, flag_line, goto_line, listing_of, option_line, program_line, set_line, state_line, wake_line, when_line};
 ghost use Rattle.snl_table_laws.specs.Lines.{AreLines, HasByteLetter, HasBytePv, HasBytes, IsByte, IsLine, rows_of};

@@ -1,4 +1,4 @@
--- Marks of numbers: the mark of a number is at its place in a list.
+-- Sets of numbers as bits: a number's bit is at its place in a list, and its being set marks it.
 use Rattle.std.specs.Prelude.{◌≡◌, ℕ, ◌/◌, ◌<◌, ◌≤◌, Bool, true, false, List, length, filter}
 use Rattle.std.specs.List.{range_with_len, slice_index_or}
 

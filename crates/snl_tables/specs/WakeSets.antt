@@ -46,7 +46,7 @@ pub record Inserts (old new : List Bool) (numbers : List ℕ) : Type 0 where
 abbrev pub AreSeen : (variables : List (List ℕ)) (seen channels : List Bool) → Type 0
 AreSeen variables seen channels = (variable n : ℕ) → is_marked seen variable ≡ true → n < length channels → holds (channels_of variables variable) n ≡ true → is_marked channels n ≡ true
 
--- Marks that the numbers of some tables fit.
+-- Bits for the numbers of some tables.
 pub record IsFor (tables : Tables) (marks : WakeMarks) : Type 0 where
   pub flags : length marks.flags ≡ length tables.flags + 1
   pub channels : length marks.channels ≡ length tables.channels

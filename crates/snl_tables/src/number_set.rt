@@ -13,7 +13,7 @@ use std::marker::Model;
 /// A block has so many numbers.
 const BLOCK: usize = 256;
 
-/// Numbers below a limit. Contracts see a mark for each number.
+/// Numbers below a limit. Contracts see a bit for each number.
 #[derive(Drop)]
 pub struct NumberSet {
     marks: Vec<bool>,
@@ -74,7 +74,8 @@ impl NumberSet {
     /// Takes out the least number.
     #[tactic(auto, using(crate::proofs::Marking::kept_taken, crate::proofs::Marking::marked_first, crate::proofs::Marking::marked_none))]
     pub fn take_first(&mut self) -> Option<usize>
-        ensures taken { MatchOption result ((marked self.old ≡ []) × (marked self.new ≡ [])) (λ n. marked self.old ≡ n ∷ marked self.new) }
+        ensures taken { MatchOption result ((marked self.old ≡ []) × (marked self.new ≡ []))
+            (λ n. marked self.old ≡ n ∷ marked self.new) }
         ensures below { IfSome result (λ n. n < length self.old) }
         ensures limit { length self.new ≡ length self.old }
     {
@@ -103,7 +104,8 @@ fn unmarked(alloc: Global, count: usize) -> Result<Vec<bool>, OutOfMemory>
 // none.
 fn first_from(marks: &[bool], blocks: &mut [bool], from: usize) -> Option<usize>
     requires { AreKept marks.now blocks.old from }
-    ensures first { MatchOption result (NoneMarked marks.now 0 (length marks.now)) (IsFirstMarked marks.now 0) }
+    ensures first { MatchOption result (NoneMarked marks.now 0 (length marks.now))
+        (IsFirstMarked marks.now 0) }
     ensures kept { AreKept marks.now blocks.new from }
 {
     let mut at = from;

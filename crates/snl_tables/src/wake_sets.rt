@@ -12,8 +12,8 @@ use snl_cut::OutOfMemory;
 use sqlite_items::Items;
 use std::alloc::Global;
 
-/// Marks of event flags and channels, with which the wake-up sets of many states are read, one
-/// after another.
+/// Bits of event flags and channels, with which the wake-up sets of many states are read, one after
+/// another.
 #[derive(Drop)]
 pub struct WakeMarks {
     pub flags: NumberSet,
@@ -36,7 +36,7 @@ impl WakeMarks {
         })
     }
 
-    /// Marks the wake-up set of a state.
+    /// Sets the bits of the wake-up set of a state.
     pub fn mark(&mut self, tables: &Tables, state: &StateRow)
         requires fit { IsFor tables.now self.old }
         requires no_flag { marked self.old.flags ≡ [] }
@@ -56,7 +56,7 @@ impl WakeMarks {
     }
 }
 
-// Marks what uses cover.
+// Sets the bits of what uses cover.
 #[tactic(auto, using(crate::proofs::WakeLemmas::marked_empty))]
 fn mark_uses(
     flags: &mut NumberSet,

@@ -25,7 +25,7 @@ fn lists_of(alloc: Global, text: &[u8]) -> Result<Lists, Fail>
     ensures ends { IfOk result (λ l. l.pieces.ends.items ≡ piece_ends text.now) }
     ensures kinds { IfOk result (λ l. l.pieces.kinds.items ≡ piece_kinds text.now) }
     ensures markers { IfOk result (λ l. l.pieces.markers ≡ marker_count text.now) }
-    ensures lines { IfOk result (λ l. IsLineList text.now l.lines.ends.items l.lines.markers.items l.lines.naming.items) }
+    ensures lines { IfOk result (λ l. IsLineList text.now l.lines) }
 {
     let pieces = lex(alloc, text, &mut Count::new())?;
     Ok(Lists {
@@ -39,8 +39,8 @@ fn change(alloc: Global, lists: &mut Lists, edit: &TextEdit) -> Result<(), Fail>
     requires ends { lists.old.pieces.ends.items ≡ piece_ends edit.now.old.now }
     requires kinds { lists.old.pieces.kinds.items ≡ piece_kinds edit.now.old.now }
     requires markers { lists.old.pieces.markers ≡ marker_count edit.now.old.now }
-    requires lines { IsLineList edit.now.old.now lists.old.lines.ends.items lists.old.lines.markers.items lists.old.lines.naming.items }
-    ensures { IfOk result (λ _. IsLineList edit.now.text.now lists.new.lines.ends.items lists.new.lines.markers.items lists.new.lines.naming.items) }
+    requires lines { IsLineList edit.now.old.now lists.old.lines }
+    ensures { IfOk result (λ _. IsLineList edit.now.text.now lists.new.lines) }
 {
     let change = lists.pieces.change(alloc, edit, &mut Count::new())?;
     let made = LineList::made(alloc, edit, &change)?;
@@ -90,7 +90,7 @@ fn expect_same(rt: &impl Abort, kept: &Lists, anew: &Lists) {
 // The line of each offset, by the lists and by the pieces.
 fn expect_lines(rt: &impl Abort, alloc: Global, kept: &LineList, text: &[u8]) -> Result<(), Fail>
     requires small { length text.now < 2000 }
-    requires lines { IsLineList text.now kept.now.ends.items kept.now.markers.items kept.now.naming.items }
+    requires lines { IsLineList text.now kept.now }
 {
     let pieces = lex(alloc, text, &mut Count::new())?;
     for offset in 0..text.len() + 2 {

@@ -9,27 +9,13 @@ use Rattle.snl_lex.specs.declared.piece.Piece.{Piece}
 use Rattle.snl_lex.specs.LineList.{numbers}
 use Rattle.snl_lex.specs.Lines.{has_line_between, last_or, lines_between, marker_file, names_file, part_of, sets_line}
 use Rattle.snl_lex.specs.Pieces.{bytes_at, piece_end}
+use Rattle.snl_lex.specs.LineLaws.{part_split, sets_is}
+use Rattle.snl_facts.specs.Counts.{any_counted}
 
 -- ---- line ends
 
 abbrev pub ends_line : ℕ → Bool
 ends_line b = b == 10
-
-take_split : (m n : ℕ) (u : List ℕ) → take (m + n) u ≡ take m u ++ take n (drop m u)
-take_split m n u =
-    sym (take-append-drop m (take (m + n) u))
-    ∙ (ap (λ (l : List ℕ). l ++ drop m (take (m + n) u)) (take-take m (m + n) u (omega arith)) ∙ ap (λ (l : List ℕ). take m u ++ l) (drop-take m n u))
-
-part_split : (text : List ℕ) (a b c : ℕ) → a ≤ b → b ≤ c → part_of text a c ≡ part_of text a b ++ part_of text b c
-part_split text a b c ab bc =
-    let whole : c - a ≡ (b - a) + (c - b) = omega arith in
-    let there : a + (b - a) ≡ b = omega arith in
-    ap (λ (n : ℕ). take n (drop a text)) whole
-    ∙ (take_split (b - a) (c - b) (drop a text)
-    ∙ ap (λ (l : List ℕ). part_of text a b ++ take (c - b) l) (drop-drop (b - a) a text ∙ ap (λ (n : ℕ). drop n text) there))
-
-pub count_split : (text : List ℕ) (a b c : ℕ) → a ≤ b → b ≤ c → lines_between text a c ≡ lines_between text a b + lines_between text b c
-count_split text a b c ab bc = ap (count_by ends_line) (part_split text a b c ab bc) ∙ sum_by-append (λ (x : ℕ). cond (ends_line x) 1 0) (part_of text a b) (part_of text b c)
 
 pub count_none : (text : List ℕ) (a b : ℕ) → b ≤ a → lines_between text a b ≡ 0
 count_none text a b h = let none : b - a ≡ 0 = omega arith in ap (λ (n : ℕ). count_by ends_line (take n (drop a text))) none
@@ -42,16 +28,6 @@ count_one text at lt end =
     ap (λ (n : ℕ). count_by ends_line (take n (drop at text))) one
     ∙ ap (λ (l : List ℕ). count_by ends_line (take 1 l)) here
     ∙ ap (λ (b : Bool). 0 + cond b 1 0) tested
-
-any_counted : (p : ℕ → Bool) (xs : List ℕ) → list_any p xs ≡ nat_lt 0 (count_by p xs)
-any_counted p [] = refl
-any_counted p (x ∷ xs) =
-    let here : list_any p (x ∷ xs) ≡ nat_lt 0 (cond (p x) 1 0 + count_by p xs) =
-    elim (p x) as (λ t. (t || list_any p xs) ≡ nat_lt 0 (cond t 1 0 + count_by p xs)) [
-      | true ↦ sym (lt-ltb 0 (1 + count_by p xs) (omega arith))
-      | false ↦ any_counted p xs ∙ ap (nat_lt 0) (omega arith)
-    ] in
-    here ∙ ap (nat_lt 0) (sym (sum_by-cons (λ y. cond (p y) 1 0) x xs))
 
 pub has_counted : (text : List ℕ) (a b : ℕ) → has_line_between text a b ≡ nat_lt 0 (lines_between text a b)
 has_counted text a b = any_counted ends_line (part_of text a b)
@@ -71,10 +47,6 @@ ordered_if text a b h =
     elim (cases_lt a b) [ inl less ↦ less | inr more ↦ absurd (omega (arith, h, count_none text a b more)) ]
 
 -- ---- tests of pieces
-
-pub sets_is : (text : List ℕ) (o : ℕ) (p : Piece) → sets_line text o p ≡ (numbers text p && has_line_between text (piece_end p) o)
-unfolding sets_line
-sets_is text o p = refl
 
 pub names_is : (text : List ℕ) (o : ℕ) (p : Piece) → names_file text o p ≡ (sets_line text o p && is_some (marker_file (bytes_at text p)))
 unfolding names_file

@@ -1,4 +1,4 @@
-pub mod Marks
+pub mod PunctuatorBytes
 pub mod PunctuatorFronts
 pub mod Told
 pub mod Limits

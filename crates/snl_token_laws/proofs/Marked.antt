@@ -12,9 +12,10 @@ use Rattle.snl_lex.specs.LineList.{numbers}
 use Rattle.snl_lex.specs.Lines.{file_by, has_line_between, is_marker, last_of, last_or, line_at, lines_between, marker_file, marker_number, names_file, number_by, place_from, sets_line}
 use Rattle.snl_lex.specs.Pieces.{LiesIn, bytes_at, piece_at, piece_end, piece_length, pieces_from, pieces_of}
 use Rattle.snl_lex.specs.Runs.{run_of}
-use Rattle.snl_token_laws.proofs.Counted.{all_first, all_rest, count_none, count_one, filter_same, has_none, has_some, names_is, names_same, sets_is}
+use Rattle.snl_token_laws.proofs.Counted.{all_first, all_rest, count_none, count_one, filter_same, has_none, has_some, names_is, names_same}
 use Rattle.snl_token_laws.proofs.Rising.{EndsLine, alike_after, file_is, namer, number_is, setter}
 use Rattle.snl_token_laws.proofs.Told.{told_at}
+use Rattle.snl_lex.specs.LineLaws.{sets_is}
 
 -- ---- where a marker ends
 

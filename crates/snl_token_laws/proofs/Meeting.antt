@@ -3,6 +3,7 @@ use Rattle.std.proofs.Common.{◌≡◌, ℕ, ◌+◌, ◌-◌, ◌≤◌, ◌�
 use Rattle.std.specs.List.{list_any}
 use Rattle.std.proofs.lemmas.Bool.{and_from, and_parts, cases_Bool, eq-eqb, eqb-true, false≢true, le-leb, leb-true, or_cases, or_left, or_right}
 use Rattle.snl_cut.specs.Cut.{IsCut, IsEdit, IsMeet, Rises, Walks, ends_of, is_boundary, last_end, meet_from, meet_of}
+use Rattle.snl_cut.specs.CutLaws.{same_length}
 
 -- ---- boundaries
 
@@ -93,10 +94,6 @@ meet_least old_ends b c at (e ∷ es) place r m h =
 
 -- ---- the meeting point
 
--- Both lists have as many units after the edit.
-pub rest_same : {X : Type 0} (old units : List X) (start b c : ℕ) → IsEdit old units start b c → (length units - c) + b ≡ length old
-rest_same {X} old units start b c is = omega (arith, is.old_inside, is.new_inside, ap length is.after, length-drop b old, length-drop c units)
-
 pub edit_meets : {X : Type 0} (first : List X → ℕ) → ((units : List X) → IsCut first units (ends_of first units)) → ((units : List X) → Rises 0 (ends_of first units)) → ((units : List X) → last_end 0 (ends_of first units) ≡ length units)
     → (old units : List X) (start b c : ℕ) → IsEdit old units start b c → IsMeet first old units b c (meet_of first old units b c)
 edit_meets {X} first cut rises last old units start b c is =
@@ -106,7 +103,7 @@ edit_meets {X} first cut rises last old units start b c is =
     let old_last : is_boundary old_ends (length old) ≡ true = test_among old_ends (length old) (led_among first old 0 old_ends old_ends (length old) (cut old) (cut old)) in
     let both_last : meets old_ends b c (last_end 0 ends) ≡ true =
     ap (meets old_ends b c) (last units)
-    ∙ and_from (nat_le c (length units)) (is_boundary old_ends ((length units - c) + b)) (le-leb c (length units) is.new_inside) (ap (is_boundary old_ends) (rest_same old units start b c is) ∙ old_last) in
+    ∙ and_from (nat_le c (length units)) (is_boundary old_ends ((length units - c) + b)) (le-leb c (length units) is.new_inside) (ap (is_boundary old_ends) (same_length old units start b c is) ∙ old_last) in
     let here = and_parts (nat_le c meet) (is_boundary old_ends ((meet - c) + b)) (meet_meets old_ends b c 0 ends both_last) in
     record {
       after = leb-true c meet here.0;

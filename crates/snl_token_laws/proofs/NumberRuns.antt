@@ -18,6 +18,8 @@ use Rattle.snl_lex.specs.Runs.{run_by}
 use Rattle.snl_token_laws.specs.Written.{goes_on_digits, hexadecimal, octal}
 use Rattle.snl_token_laws.proofs.Limits.{int_class}
 use Rattle.snl_token_laws.proofs.Values.{all_digits, decimal_digit_is, decimal_value, hexadecimal_digit_is, hexadecimal_value, octal_value}
+use Rattle.snl_lex.specs.PieceLaws.{digit_not_white, digit_not_letter, digit_start}
+use Rattle.std.proofs.Math.Numerals.{one-add}
 
 -- ---- the run of a number
 
@@ -28,10 +30,6 @@ stops_at false false true true h k = cc
 stops_at false false false true h k = cc
 stops_at false true sign awaits h k = cc
 stops_at true dot sign awaits h k = cc
-
-joins_at : (word rest : Bool) → word ≡ true → (word || rest) ≡ true
-joins_at true rest h = refl
-joins_at false rest h = cc
 
 stops : (before rest : List ℕ) → awaits_sign before ≡ false → goes_on_digits rest ≡ false → run_by number_joins before rest ≡ 0
 unfolding number_joins
@@ -105,36 +103,15 @@ letters_quiet = record {
 
 -- ---- the piece
 
-digit_at : (white letter digit : Bool) (other : Start) → white ≡ false → letter ≡ false → digit ≡ true → cond white Blank (cond letter Letter (cond digit Digit other)) ≡ Digit
-digit_at true letter digit other h k l = cc
-digit_at false true digit other h k l = cc
-digit_at false false true other h k l = refl
-digit_at false false false other h k l = cc
-
-digit_not_white : (b : ℕ) → is_digit b ≡ true → is_white b ≡ false
-unfolding is_digit is_white
-digit_not_white b h = grind (arith, nat_tests)
-
-digit_no_letter : (b : ℕ) → is_digit b ≡ true → is_letter b ≡ false
-unfolding is_digit is_letter
-digit_no_letter b h = grind (arith, nat_tests)
-
-digit_starts : (b : ℕ) → is_digit b ≡ true → start_of b ≡ Digit
-unfolding start_of
-digit_starts b h = digit_at (is_white b) (is_letter b) (is_digit b) _ (digit_not_white b h) (digit_no_letter b h) h
-
-one_more : (n : ℕ) → 1 + n ≡ suc n
-one_more n = omega arith
-
 -- A number that begins with a digit, of which the run and the value are known.
 number_first : (c : ℕ) (cs rest : List ℕ) (v : ℕ) → is_digit c ≡ true → run_by number_joins (c ∷ []) (cs ++ rest) ≡ length cs → int_value_of (c ∷ cs) ≡ Some v
     → first_piece ((c ∷ cs) ++ rest) ≡ (Int, length (c ∷ cs))
 unfolding first_piece
 number_first c cs rest v d run value =
     let u : List ℕ = c ∷ cs ++ rest in
-    let count : 1 + run_by number_joins (c ∷ []) (cs ++ rest) ≡ length (c ∷ cs) = ap (λ (n : ℕ). 1 + n) run ∙ one_more (length cs) in
+    let count : 1 + run_by number_joins (c ∷ []) (cs ++ rest) ≡ length (c ∷ cs) = ap (λ (n : ℕ). 1 + n) run ∙ one-add (length cs) in
     let bytes : take (length (c ∷ cs)) u ≡ c ∷ cs = take-append_seam (c ∷ cs) rest in
-    ap (λ (s : Start). piece_by s u) (digit_starts c d)
+    ap (λ (s : Start). piece_by s u) (digit_start c d)
     ∙ ap (λ (n : ℕ). (number_class (take n u), n)) count
     ∙ ap (λ (k : Class). (k, length (c ∷ cs))) (ap number_class bytes ∙ int_class (c ∷ cs) v value)
 

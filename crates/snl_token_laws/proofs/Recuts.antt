@@ -4,7 +4,9 @@ use Rattle.std.proofs.lemmas.Bool.{cases_lt, cond-false, cond-true, le-leb, le-l
 use Rattle.std.proofs.lemmas.List.{drop-drop, drop-take, length-take, take-append-drop, take-take}
 use Rattle.snl_cut.specs.Cut.{IsCut, IsEdit, IsFront, IsLocal, IsMeet, IsRecut, Rises, Walks, ends_below, ends_of, fresh, fresh_ends, joined, last_end, meet_of, moved}
 use Rattle.snl_token_laws.specs.Recuts.{back_of}
-use Rattle.snl_token_laws.proofs.Meeting.{IsAmong, among_above, among_rest, led_among, rest_same}
+use Rattle.snl_token_laws.proofs.Meeting.{IsAmong, among_above, among_rest, led_among}
+use Rattle.snl_cut.specs.CutLaws.{below_inside, below_more, walks_le, walks_back, fresh_back, same_length}
+use Rattle.snl_facts.specs.Lists.{part_agrees, also_inside}
 
 -- ---- ends below a place
 
@@ -13,22 +15,6 @@ below_yes place e es h = cond-true (nat_lt e place) (suc (ends_below place es)) 
 
 below_no : (place e : ℕ) (es : List ℕ) → place ≤ e → ends_below place (e ∷ es) ≡ 0
 below_no place e es h = cond-false (nat_lt e place) (suc (ends_below place es)) 0 (le-ltb e place h)
-
-below_inside : (place : ℕ) (es : List ℕ) → ends_below place es ≤ length es
-below_inside place [] = omega arith
-below_inside place (e ∷ es) =
-    elim (cases_lt e place) [
-      | inl less ↦ omega (arith, below_yes place e es less, below_inside place es)
-      | inr more ↦ omega (arith, below_no place e es more)
-    ]
-
-below_more : (a b : ℕ) (es : List ℕ) → a ≤ b → ends_below a es ≤ ends_below b es
-below_more a b [] h = omega arith
-below_more a b (e ∷ es) h =
-    elim (cases_lt e a) [
-      | inl less ↦ omega (arith, below_yes a e es less, below_yes b e es (omega arith), below_more a b es h)
-      | inr more ↦ omega (arith, below_no a e es more)
-    ]
 
 -- None of the ends above a place is below it.
 below_none : (place from : ℕ) (es : List ℕ) → Rises from es → place ≤ from → ends_below place es ≡ 0
@@ -47,44 +33,25 @@ upto_last from (e ∷ es) place r h =
           subst G (sym (below_yes (suc place) e es (omega (arith, among_above e es place r.1 rest)))) (upto_last e es place r.1 rest)
     ]
 
-walk_rest : {X : Type 0} (first : List X → ℕ) (units : List X) (from : ℕ) (es : List ℕ) (to k : ℕ) → Walks first units from es to → Walks first units (last_end from (take k es)) (drop k es) to
-walk_rest first units from es to zero w = w
-walk_rest first units from [] to (suc k) w = w
-walk_rest first units from (e ∷ es) to (suc k) w = walk_rest first units e es to k w.2
-
-walk_inside : {X : Type 0} (first : List X → ℕ) (units : List X) (from : ℕ) (es : List ℕ) (to : ℕ) → Walks first units from es to → from ≤ to
-walk_inside first units from [] to w = omega (arith, w)
-walk_inside first units from (e ∷ es) to w = omega (arith, w.1, walk_inside first units e es to w.2)
-
 -- ---- before the edit
-
-part_same : {X : Type 0} (old units : List X) (start from n : ℕ) → take start old ≡ take start units → from + n ≤ start → take n (drop from old) ≡ take n (drop from units)
-part_same old units start from n e le =
-    let whole : take (from + n) old ≡ take (from + n) units = sym (take-take (from + n) start old le) ∙ (ap (take (from + n)) e ∙ take-take (from + n) start units le) in
-    sym (drop-take from n old) ∙ (ap (drop from) whole ∙ drop-take from n units)
-
-also_there : {X : Type 0} (old units : List X) (start from : ℕ) → take start old ≡ take start units → from < start → from < length old → from < length units
-also_there old units start from e lt inside =
-    let same : min start (length old) ≡ min start (length units) = sym (length-take start old) ∙ (ap length e ∙ length-take start units) in
-    omega arith
 
 -- A member of one list that ends before the edit is one of the other.
 early_same : {X : Type 0} (first : List X → ℕ) → IsLocal first → (old units : List X) (start from : ℕ) → take start old ≡ take start units → from < length old → from + first (drop from old) < start
     → first (drop from units) ≡ first (drop from old)
 early_same {X} first local old units start from e inside early =
-    local (drop from old) (drop from units) (omega (arith, length-drop from old)) (part_same old units start from (first (drop from old) + 1) e (omega arith))
+    local (drop from old) (drop from units) (omega (arith, length-drop from old)) (part_agrees old units start from (first (drop from old) + 1) e (omega arith))
 
 early_ends : {X : Type 0} (first : List X → ℕ) → IsLocal first → (old units : List X) (start : ℕ) → take start old ≡ take start units → (from : ℕ) (xs ys : List ℕ)
     → Walks first old from xs (length old) → Walks first units from ys (length units) → take (ends_below start xs) xs ≡ take (ends_below start ys) ys
 early_ends first local old units start e from [] [] v w = refl
 early_ends {X} first local old units start e from [] (y ∷ ys) v w =
     elim (cases_lt y start) [
-      | inl less ↦ absurd (omega (arith, v, w.1, also_there units old start from (sym e) (omega (arith, w.1)) w.0))
+      | inl less ↦ absurd (omega (arith, v, w.1, also_inside units old start from (sym e) (omega (arith, w.1)) w.0))
       | inr more ↦ sym (ap (λ (n : ℕ). take n (y ∷ ys)) (below_no start y ys more))
     ]
 early_ends {X} first local old units start e from (x ∷ xs) [] v w =
     elim (cases_lt x start) [
-      | inl less ↦ absurd (omega (arith, w, v.1, also_there old units start from e (omega (arith, v.1)) v.0))
+      | inl less ↦ absurd (omega (arith, w, v.1, also_inside old units start from e (omega (arith, v.1)) v.0))
       | inr more ↦ ap (λ (n : ℕ). take n (x ∷ xs)) (below_no start x xs more)
     ]
 early_ends {X} first local old units start e from (x ∷ xs) (y ∷ ys) v w =
@@ -120,7 +87,7 @@ late_ends {X} first old units b c at from (x ∷ xs) (y ∷ ys) e le is lo lu v 
     let here : y ≡ (x - b) + c = omega arith in
     let next : drop x old ≡ drop y units =
     ap (λ (k : ℕ). drop k old) x_is ∙ (sym (drop-drop n at old) ∙ (ap (drop n) e ∙ (drop-drop n from units ∙ sym (ap (λ (k : ℕ). drop k units) y_is)))) in
-    let rest : ys ≡ moved b c xs = late_ends first old units b c x y xs ys next (omega arith) here (walk_inside first old x xs (length old) v.2) (walk_inside first units y ys (length units) w.2) v.2 w.2 in
+    let rest : ys ≡ moved b c xs = late_ends first old units b c x y xs ys next (omega arith) here (walks_le first old x xs (length old) v.2) (walks_le first units y ys (length units) w.2) v.2 w.2 in
     ap₂ (λ (k : ℕ) (l : List ℕ). k ∷ l) here rest
 
 drop_none : (n : ℕ) → drop {A = ℕ} n [] ≡ []
@@ -128,16 +95,6 @@ drop_none zero = refl
 drop_none (suc n) = refl
 
 -- ---- fresh members
-
-fresh_none : (start meet from : ℕ) (es : List ℕ) → Rises from es → meet ≤ from → fresh start meet from es ≡ []
-fresh_none start meet from [] r h = refl
-fresh_none start meet from (e ∷ es) r h =
-    let rest : fresh start meet e es ≡ [] = fresh_none start meet e es r.1 (omega (arith, r.0)) in
-    let inner : cond (nat_lt from meet) (e ∷ fresh start meet e es) (fresh start meet e es) ≡ fresh start meet e es = cond-false (nat_lt from meet) (e ∷ fresh start meet e es) (fresh start meet e es) (le-ltb from meet h) in
-    elim (cases_lt e start) [
-      | inl less ↦ cond-false (nat_le start e) (cond (nat_lt from meet) (e ∷ fresh start meet e es) (fresh start meet e es)) (fresh start meet e es) (lt-leb start e less) ∙ rest
-      | inr more ↦ cond-true (nat_le start e) (cond (nat_lt from meet) (e ∷ fresh start meet e es) (fresh start meet e es)) (fresh start meet e es) (le-leb start e more) ∙ (inner ∙ rest)
-    ]
 
 -- The fresh ends are those up to the meeting point that are not below the edit.
 fresh_is : (start meet from : ℕ) (es : List ℕ) → Rises from es → start ≤ meet → IsAmong from es meet → fresh start meet from es ≡ drop (ends_below start es) (take (ends_below (suc meet) es) es)
@@ -148,7 +105,7 @@ fresh_is start meet from (e ∷ es) r le among =
       | inl here ↦
           let none : ends_below (suc meet) (e ∷ es) ≡ 0 = below_no (suc meet) e es (omega (arith, r.0)) in
           let nothing : drop (ends_below start (e ∷ es)) (take (ends_below (suc meet) (e ∷ es)) (e ∷ es)) ≡ [] = ap (λ (k : ℕ). drop (ends_below start (e ∷ es)) (take k (e ∷ es))) none ∙ drop_none (ends_below start (e ∷ es)) in
-          fresh_none start meet from (e ∷ es) r (omega arith) ∙ sym nothing
+          fresh_back start meet from (e ∷ es) r (omega arith) ∙ sym nothing
       | inr later ↦
           let there = among_rest from e es meet later in
           let low : e ≤ meet = among_above e es meet r.1 there in
@@ -194,10 +151,10 @@ edit_recut {X} first front local cut rises old units start b c edit is =
     let made_is : made ≡ drop (ends_below start news) (take k news) = fresh_is start m 0 news (rises units) (omega (arith, edit.new_order, is.after)) in_new in
     let upto : take low olds ++ made ≡ take k news =
     ap₂ (λ (x y : List ℕ). x ++ y) fronts made_is ∙ front_and_fresh (ends_below start news) k news (below_more start (suc m) news (omega (arith, edit.new_order, is.after))) in
-    let rest_old : Walks first old at (drop count olds) (length old) = subst (λ (n : ℕ). Walks first old n (drop count olds) (length old)) old_last (walk_rest first old 0 olds (length old) count (cut old)) in
-    let rest_new : Walks first units m (drop k news) (length units) = subst (λ (n : ℕ). Walks first units n (drop k news) (length units)) new_last (walk_rest first units 0 news (length units) k (cut units)) in
-    let inside : m ≤ length units = walk_inside first units m (drop k news) (length units) rest_new in
-    let whole_old = rest_same old units start b c edit in
+    let rest_old : Walks first old at (drop count olds) (length old) = subst (λ (n : ℕ). Walks first old n (drop count olds) (length old)) old_last (walks_back first old 0 olds (length old) count (cut old)) in
+    let rest_new : Walks first units m (drop k news) (length units) = subst (λ (n : ℕ). Walks first units n (drop k news) (length units)) new_last (walks_back first units 0 news (length units) k (cut units)) in
+    let inside : m ≤ length units = walks_le first units m (drop k news) (length units) rest_new in
+    let whole_old = same_length old units start b c edit in
     let same_rest : drop at old ≡ drop m units =
     ap (λ (n : ℕ). drop n old) (omega arith) ∙ (sym (drop-drop (m - c) b old) ∙ (ap (drop (m - c)) edit.after ∙ (drop-drop (m - c) c units ∙ ap (λ (n : ℕ). drop n units) (omega (arith, is.after))))) in
     let backs : drop k news ≡ moved b c (drop count olds) =

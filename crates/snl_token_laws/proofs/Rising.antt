@@ -8,7 +8,8 @@ use Rattle.snl_lex.specs.LineList.{numbers}
 use Rattle.snl_lex.specs.Lines.{file_by, file_of, has_line_between, last_of, last_that, line_at, line_number_of, lines_between, marker_file, names_file, number_by, sets_line}
 use Rattle.snl_lex.specs.Pieces.{bytes_at, piece_end, pieces_of}
 use Rattle.snl_token_laws.specs.Unmarked.{IsPlainEnd}
-use Rattle.snl_token_laws.proofs.Counted.{count_none, count_one, count_split, counted_if, filter_same, has_counted, has_none, has_some, last_passes, names_is, names_same, ordered_if, sets_is, sets_same}
+use Rattle.snl_token_laws.proofs.Counted.{count_none, count_one, counted_if, filter_same, has_counted, has_none, has_some, last_passes, names_is, names_same, ordered_if, sets_same}
+use Rattle.snl_lex.specs.LineLaws.{count_split, sets_is}
 
 pub number_is : (text : List ℕ) (o : ℕ) → (line_at text o).number ≡ line_number_of text o
 unfolding line_at

@@ -8,10 +8,10 @@ use Rattle.snl_lex.specs.declared.piece.Class.TheVariants.{Comment, Marker, CCod
 use Rattle.snl_lex.specs.Alphabet.{is_digit, is_in_line, is_word_byte, start_of}
 use Rattle.snl_lex.specs.Kinds.{is_word}
 use Rattle.snl_lex.specs.Numbers.{int_value_of, is_float, number_class}
-use Rattle.snl_lex.specs.Pieces.{closed_by, closed_piece, first_piece, mark_piece, number_piece, piece_by, run_piece, string_joins}
+use Rattle.snl_lex.specs.Pieces.{closed_by, closed_piece, first_piece, punctuator_piece, number_piece, piece_by, run_piece, string_joins}
 use Rattle.snl_lex.specs.Runs.{close_of, run_by, run_of}
 use Rattle.snl_token_laws.specs.Fronts.{IsPunctuatorFront}
-use Rattle.snl_token_laws.proofs.Marks.{says, start_says}
+use Rattle.snl_token_laws.proofs.PunctuatorBytes.{says, start_says}
 use Rattle.snl_token_laws.proofs.PunctuatorFronts.{dot_front, percent_front, sign_front, slash_front}
 
 -- What the class of the first piece tells, which has so many bytes.
@@ -50,16 +50,16 @@ told_by Letter x xs e h = told_word (x ∷ xs) (1 + run_of is_word_byte xs) (is_
 told_by Digit x xs e h = told_number (x ∷ xs)
 told_by Dot x xs e h =
     let u : List ℕ = x ∷ xs in
-    told_if u (is_digit (slice_index u 1)) (number_piece u) (mark_piece u) (λ _. told_number u) (λ f. dot_front x xs h f)
+    told_if u (is_digit (slice_index u 1)) (number_piece u) (punctuator_piece u) (λ _. told_number u) (λ f. dot_front x xs h f)
 told_by Hash x xs e h = refl
 told_by Slash x xs e h =
     let u : List ℕ = x ∷ xs in
     told_if u (slice_index u 1 == 47) (run_piece Comment is_in_line u) _ (λ _. tt)
-    (λ f. told_if u (slice_index u 1 == 42) (closed_piece Comment 42 47 u) (mark_piece u) (λ _. told_closed u Comment (length u) (close_of 42 47 (drop 2 u)) (λ _. tt)) (λ g. slash_front x xs h f g))
+    (λ f. told_if u (slice_index u 1 == 42) (closed_piece Comment 42 47 u) (punctuator_piece u) (λ _. told_closed u Comment (length u) (close_of 42 47 (drop 2 u)) (λ _. tt)) (λ g. slash_front x xs h f g))
 told_by Percent x xs e h =
     let u : List ℕ = x ∷ xs in
     told_if u (slice_index u 1 == 37) (run_piece CCode is_in_line u) _ (λ _. tt)
-    (λ f. told_if u (slice_index u 1 == 123) (closed_piece CCode 125 37 u) (mark_piece u) (λ _. told_closed u CCode (length u) (close_of 125 37 (drop 2 u)) (λ _. tt)) (λ g. percent_front x xs h f g))
+    (λ f. told_if u (slice_index u 1 == 123) (closed_piece CCode 125 37 u) (punctuator_piece u) (λ _. told_closed u CCode (length u) (close_of 125 37 (drop 2 u)) (λ _. tt)) (λ g. percent_front x xs h f g))
 told_by Quote x xs e h =
     let u : List ℕ = x ∷ xs in
     let n : ℕ = 1 + run_by (string_joins 34) [] xs in

@@ -15,6 +15,7 @@ use Rattle.snl_lex.specs.Alphabet.{is_digit, is_digit_in, is_hexadecimal_digit, 
 use Rattle.snl_lex.specs.Numbers.{base_of, checked_value, digit_value, from_digits, int_value_of, is_int_suffix, radix, value_after, value_in}
 use Rattle.snl_lex.specs.Runs.{run_of}
 use Rattle.snl_token_laws.specs.Written.{hexadecimal, octal}
+use Rattle.snl_lex.specs.PieceLaws.{small_enough}
 
 -- ---- single digits
 
@@ -64,9 +65,6 @@ all_run p (x ∷ xs) h =
     let parts = and_parts (p x) (list_all p xs) h in
     ap (λ (b : Bool). cond b (suc (run_of p xs)) 0) parts.0 ∙ ap suc (all_run p xs parts.1)
 
-fits : (v : ℕ) → v < 18446744073709551616 → checked_value v ≡ Some v
-fits v h = ap (λ (b : Bool). cond b (Some v) None) (lt-ltb v 18446744073709551616 h)
-
 -- Digits of the base, and nothing else.
 digits_in : (base : NumberBase) (bytes : List ℕ) (v : ℕ) → 0 < length bytes → list_all (is_digit_in base) bytes ≡ true → value_after base 0 bytes ≡ v → v < 18446744073709551616 → value_in base bytes ≡ Some v
 unfolding value_in is_int_suffix
@@ -78,7 +76,7 @@ digits_in base bytes v some all worth low =
     let suffix : is_int_suffix (drop count bytes) ≡ true = ap is_int_suffix end in
     let test : (nat_lt 0 count && is_int_suffix (drop count bytes)) ≡ true = and_from (nat_lt 0 count) (is_int_suffix (drop count bytes)) (lt-ltb 0 count (omega arith)) suffix in
     let value : value_after base 0 (take count bytes) ≡ v = ap (value_after base 0) front ∙ worth in
-    ap (λ (b : Bool). cond b (checked_value (value_after base 0 (take count bytes))) None) test ∙ ap checked_value value ∙ fits v low
+    ap (λ (b : Bool). cond b (checked_value (value_after base 0 (take count bytes))) None) test ∙ ap checked_value value ∙ small_enough v low
 
 -- The digits that std writes.
 written_in : (base : NumberBase) (capital : Bool) (v : ℕ) → 2 ≤ radix base → v < radix base ^ 64 → v < 18446744073709551616 → ((c : ℕ) → std_digit_value c < radix base → is_digit_in base c ≡ true)

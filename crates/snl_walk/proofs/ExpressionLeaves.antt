@@ -13,13 +13,13 @@ use Rattle.snl_syntax.specs.declared.tree.expression.Expr.TheOpen.{Expr-F, Suffi
 use Rattle.snl_syntax.specs.declared.tree.expression.Expr.TheFolds.{fold-roll-Expr, fold-roll-Suffix, ind-Expr, map-Expr, map-Suffix}
 use Rattle.snl_syntax.specs.declared.tree.expression.Expr.TheViews.{roll-Expr, roll-Suffix}
 use Rattle.snl_syntax.specs.declared.tree.expression.Suffix.{Suffix}
-use Rattle.snl_syntax.specs.Operators.{assignment_mark, binary_mark}
+use Rattle.snl_syntax.specs.Operators.{assignment_kind, binary_kind}
 use Rattle.snl_syntax.specs.Spelling.Base.{Spelled, after, commas, in_brackets, in_parens, joined, leaf, perhaps, word, written}
 use Rattle.snl_syntax.specs.Spelling.Declarations.{spell_init, spell_init_step, spell_length, spell_value}
 use Rattle.snl_syntax.specs.Spelling.Expressions.{spell_arm, spell_expr, spell_expr_step, spell_link, spell_prefix, spell_suffix, spell_suffix_step, spell_target, spell_texts}
 use Rattle.snl_syntax.specs.Spelling.Types.{spell_type_name}
 use Rattle.snl_walk.specs.declared.occurrence.Follows.TheVariants as follows
-use Rattle.snl_walk.specs.declared.occurrence.Named.{Named}
+use Rattle.snl_walk.specs.declared.occurrence.ExpressionName.{ExpressionName}
 use Rattle.snl_walk.specs.declared.occurrence.Occurrence.{Occurrence}
 use Rattle.snl_walk.specs.declared.occurrence.Setting.{Setting}
 use Rattle.snl_walk.specs.Expressions.{Operand, Tail, before, expr_step, following, init_step, names_if, names_in_all, names_in_arguments, names_in_arms, names_in_init, names_in_links, names_in_tails, names_in_targets, names_in_value, names_in_values, naming, operand, plain, subscript_by, suffix_step, tail_of}
@@ -27,13 +27,13 @@ use Rattle.snl_walk.specs.Scopes.{Names, seen}
 use Rattle.snl_walk.specs.Uses.{is_index, is_indexed}
 use Rattle.snl_walk.proofs.Leaves.{AreLeaves, BeginsIndex, none, past, here, begins_more, leaves-append, leaves_before, leaves_after, leaves_in_parens, leaves_joined, no_leaves, one_leaf}
 
-abbrev pub named_at : Named → ℕ
+abbrev pub named_at : ExpressionName → ℕ
 named_at n = n.token
 
-abbrev pub named_indexed : Named → Bool
+abbrev pub named_indexed : ExpressionName → Bool
 named_indexed n = is_index n.setting.follows
 
-abbrev NamedLeaves : List Named → List Spelled → Type 0
+abbrev NamedLeaves : List ExpressionName → List Spelled → Type 0
 NamedLeaves = AreLeaves named_at named_indexed
 
 -- A name alone takes its setting as it comes; in any other operand what is found doesn't depend on
@@ -73,7 +73,7 @@ plainly : (o : Operand) (xs : List Spelled) → HasLeaves o xs → NamedLeaves (
 plainly o xs h = at_setting o xs plain refl h
 
 -- an expression that is more than a name or an integer
-more : (names : List Named) (xs : List Spelled) → NamedLeaves names xs → HasLeaves (naming names) xs
+more : (names : List ExpressionName) (xs : List Spelled) → NamedLeaves names xs → HasLeaves (naming names) xs
 more names xs l = record { leaves = inr (λ s. l); integer = λ e. absurd (true≢false (sym e)) }
 
 -- expressions and suffixes of which it is known
@@ -116,9 +116,9 @@ postfix_leaves x ps s = by x.1.leaves
     by (inr f) = leaves-append (f (before (map tail_of (map suffix_of ps)) s)) (tails_leaves (operand x.0).name ps)
     by (inl a) =
         let inner : Setting = before (map tail_of (map suffix_of ps)) s in
-        let ns : List Named = names_in_tails (operand x.0).name (map tail_of (map suffix_of ps)) in
+        let ns : List ExpressionName = names_in_tails (operand x.0).name (map tail_of (map suffix_of ps)) in
         let ys : List Spelled = joined (map spell_suffix (map suffix_of ps)) in
-        subst (λ (l : List Named). NamedLeaves (l ++ ns) (spell_expr x.0 ++ ys)) (sym (a.names inner))
+        subst (λ (l : List ExpressionName). NamedLeaves (l ++ ns) (spell_expr x.0 ++ ys)) (sym (a.names inner))
         (subst (λ (xs : List Spelled). NamedLeaves (record { token = a.number; setting = inner } ∷ ns) (xs ++ ys)) (sym a.spelled)
         (here kind.Name (record { token = a.number; setting = inner }) (index_first ps) (tails_leaves (operand x.0).name ps)))
 
@@ -138,7 +138,7 @@ link_leaves : (links : List (Binary × KnownExpr)) →
     NamedLeaves (names_in_links (map (λ (link : Binary × Expr). (link.0, operand link.1)) (map (λ (link : Binary × KnownExpr). (link.0, link.1.0)) links)))
     (joined (map spell_link (map (λ (link : Binary × Expr). (link.0, spell_expr link.1)) (map (λ (link : Binary × KnownExpr). (link.0, link.1.0)) links))))
 link_leaves [] = none
-link_leaves (link ∷ links) = leaves-append (leaves_after (word (binary_mark link.0)) (in_expr link.1)) (link_leaves links)
+link_leaves (link ∷ links) = leaves-append (leaves_after (word (binary_kind link.0)) (in_expr link.1)) (link_leaves links)
 
 arm_leaves : (arms : List (KnownExpr × KnownExpr)) →
     NamedLeaves (names_in_arms (map (λ (arm : Expr × Expr). (operand arm.0, operand arm.1)) (map (λ (arm : KnownExpr × KnownExpr). (arm.0.0, arm.1.0)) arms)))
@@ -151,7 +151,7 @@ target_leaves : (targets : List (KnownExpr × Assignment)) →
     NamedLeaves (names_in_targets (map (λ (target : Expr × Assignment). (operand target.0, target.1)) (map (λ (target : KnownExpr × Assignment). (target.0.0, target.1)) targets)))
     (joined (map spell_target (map (λ (target : Expr × Assignment). (spell_expr target.0, target.1)) (map (λ (target : KnownExpr × Assignment). (target.0.0, target.1)) targets))))
 target_leaves [] = none
-target_leaves (target ∷ targets) = leaves-append (leaves_before (word (assignment_mark target.1)) (in_expr target.0)) (target_leaves targets)
+target_leaves (target ∷ targets) = leaves-append (leaves_before (word (assignment_kind target.1)) (in_expr target.0)) (target_leaves targets)
 
 -- one level, where it is known of each part
 abbrev level_of_expr : Expr-F KnownExpr KnownSuffix → Expr-F Expr Suffix
@@ -246,7 +246,7 @@ value_leaves (v ∷ vs) = leaves-append v.1 (more_values vs)
 abbrev level_of_init : Init-F KnownInit → Init-F Init
 level_of_init y = map-Init KnownInit Init init_of y
 
-init_level : (y : Init-F KnownInit) → NamedLeaves (init_step (map-Init Init (List Named) names_in_init (level_of_init y))) (spell_init_step (map-Init Init (List Spelled) spell_init (level_of_init y)))
+init_level : (y : Init-F KnownInit) → NamedLeaves (init_step (map-Init Init (List ExpressionName) names_in_init (level_of_init y))) (spell_init_step (map-Init Init (List Spelled) spell_init (level_of_init y)))
 init_level (Init-F.Value e) = expr_leaves e
 init_level (Init-F.List vs trailing) =
     leaves_after (word kind.OpenBrace) (leaves_before (word kind.CloseBrace) (leaves_before (written kind.Comma trailing) (value_leaves vs)))
@@ -255,8 +255,8 @@ rolled_init : (x : Init-F Init) (y : Init-F KnownInit) → level_of_init y ≡ x
 rolled_init x y is =
     let z = level_of_init y in
     let at_z : LeavesOfInit (roll-Init z) =
-    subst (λ (ns : List Named). NamedLeaves ns (spell_init (roll-Init z))) (sym (fold-roll-Init (List Named) init_step z))
-    (subst (NamedLeaves (init_step (map-Init Init (List Named) names_in_init z))) (sym (fold-roll-Init (List Spelled) spell_init_step z)) (init_level y)) in
+    subst (λ (ns : List ExpressionName). NamedLeaves ns (spell_init (roll-Init z))) (sym (fold-roll-Init (List ExpressionName) init_step z))
+    (subst (NamedLeaves (init_step (map-Init Init (List ExpressionName) names_in_init z))) (sym (fold-roll-Init (List Spelled) spell_init_step z)) (init_level y)) in
     subst (λ v. LeavesOfInit (roll-Init v)) is at_z
 
 init_leaves : (i : Init) → LeavesOfInit i
@@ -278,7 +278,7 @@ abbrev pub FoundLeaves : List Occurrence → List Spelled → Type 0
 FoundLeaves = AreLeaves found_at found_indexed
 
 module _ (bytes : ℕ → List ℕ) (visible : Names) (in_condition : Bool) where
-  seen_leaves : {ns : List Named} {xs : List Spelled} → NamedLeaves ns xs → FoundLeaves (map (seen bytes visible in_condition) ns) xs
+  seen_leaves : {ns : List ExpressionName} {xs : List Spelled} → NamedLeaves ns xs → FoundLeaves (map (seen bytes visible in_condition) ns) xs
   seen_leaves none = none
   seen_leaves (past x l) = past x (seen_leaves l)
   seen_leaves (here k n f l) = here k (seen bytes visible in_condition n) f (seen_leaves l)

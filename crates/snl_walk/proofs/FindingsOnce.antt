@@ -4,8 +4,8 @@ use Rattle.std.proofs.Common.{◌≡◌, ◌≢◌, ℕ, ◌<◌, Bool, true, fa
 use Rattle.std.specs.List.{AllByRecursion as Each, AllPairs, flat_map, list_any}
 use Rattle.std.specs.Str.{bytes_eq}
 use Rattle.std.proofs.lemmas.Bool.{false≢true}
-use Rattle.snl_walk.specs.declared.codes.Code.{Code}
-use Rattle.snl_walk.specs.declared.codes.Code.TheVariants.{E07, E10, E17, E18, E19, E20, E21, W01, W03}
+use Rattle.snl_codes.specs.declared.code.Code.{Code}
+use Rattle.snl_codes.specs.declared.code.Code.TheVariants.{E07, E10, E17, E18, E19, E20, E21, W01, W03}
 use Rattle.snl_walk.specs.declared.occurrence.Occurrence.{Occurrence}
 use Rattle.snl_walk.specs.declared.occurrence.What.{What}
 use Rattle.snl_walk.specs.declared.occurrence.What.TheVariants as what
@@ -13,7 +13,7 @@ use Rattle.snl_walk.specs.declared.other_items.Outer.{Outer}
 use Rattle.snl_walk.specs.declared.rules.Finding.{Finding}
 use Rattle.snl_walk.specs.Items.{tokens_of}
 use Rattle.snl_walk.specs.Once.{with_new}
-use Rattle.snl_walk.specs.Codes.{is_occurrence_code}
+use Rattle.snl_codes.specs.Codes.{is_occurrence_code}
 use Rattle.snl_walk.specs.Rules.{finding, findings, found_wrong, is_repeated, rules_at, rules_at_call, rules_at_use, when}
 use Rattle.snl_walk.specs.Passing.{passes}
 use Rattle.snl_walk.specs.Undeclared.{firsts_after, is_undeclared, undeclared}

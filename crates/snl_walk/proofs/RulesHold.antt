@@ -2,8 +2,8 @@
 use Rattle.std.proofs.Common.{◌≡◌, ℕ, Bool, true, false, cond, List, [], ◌∷◌, ◌++◌, map, Option, None, inl, inr, refl, sym, ap, ◌∙◌}
 use Rattle.std.specs.List.{AllByRecursion as Each, flat_map}
 use Rattle.std.proofs.lemmas.Bool.{false≢true}
-use Rattle.snl_walk.specs.declared.codes.Code.{Code}
-use Rattle.snl_walk.specs.declared.codes.Code.TheVariants.{E07, W01}
+use Rattle.snl_codes.specs.declared.code.Code.{Code}
+use Rattle.snl_codes.specs.declared.code.Code.TheVariants.{E07, W01}
 use Rattle.snl_walk.specs.declared.occurrence.Manner.{Manner}
 use Rattle.snl_walk.specs.declared.occurrence.Local.{Local}
 use Rattle.snl_walk.specs.declared.occurrence.Occurrence.{Occurrence}
@@ -11,7 +11,7 @@ use Rattle.snl_walk.specs.declared.occurrence.What.{What}
 use Rattle.snl_walk.specs.declared.occurrence.What.TheVariants as what
 use Rattle.snl_walk.specs.declared.other_items.Outer.{Outer}
 use Rattle.snl_walk.specs.declared.rules.Finding.{Finding}
-use Rattle.snl_walk.specs.Codes.{Finder, finder_of, finds_at_occurrences, finds_by_rules, is_occurrence_code, is_rule_code, rules}
+use Rattle.snl_codes.specs.Codes.{Finder, finder_of, finds_at_occurrences, finds_by_rules, is_occurrence_code, is_rule_code, rules}
 use Rattle.snl_walk.specs.Passing.{passes}
 use Rattle.snl_walk.specs.Repeated.{IsApartFrom, IsNoRepetitionAt}
 use Rattle.snl_walk.specs.Rules.{finding, findings, found_wrong, is_repeated, rules_at, rules_at_call, rules_at_name, rules_at_use, when}

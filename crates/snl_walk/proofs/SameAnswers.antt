@@ -8,7 +8,7 @@ use Rattle.snl_walk.specs.declared.occurrence.Occurrence.{Occurrence}
 use Rattle.snl_walk.specs.declared.occurrence.What.{What}
 use Rattle.snl_walk.specs.declared.occurrence.What.TheVariants as what
 use Rattle.snl_walk.specs.declared.other_items.Outer.{Outer}
-use Rattle.snl_walk.specs.declared.codes.Code.TheVariants.{E10, W01}
+use Rattle.snl_codes.specs.declared.code.Code.TheVariants.{E10, W01}
 use Rattle.snl_walk.specs.Passing.{passes}
 use Rattle.snl_walk.specs.Rules.{finding, findings, found_wrong, rules_at, rules_at_call, rules_at_use, when}
 use Rattle.snl_walk.specs.Undeclared.{firsts_after, is_built_in, is_undeclared, undeclared}

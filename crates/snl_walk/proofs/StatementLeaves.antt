@@ -15,7 +15,7 @@ use Rattle.snl_syntax.specs.Spelling.Declarations.{spell_declaration, spell_decl
 use Rattle.snl_syntax.specs.Spelling.Statements.{spell_block, spell_choice, spell_else, spell_for_head, spell_member, spell_member_step, spell_stmt, spell_stmt_step}
 use Rattle.snl_syntax.specs.Spelling.Types.{spell_stars, spell_type}
 use Rattle.snl_walk.specs.declared.occurrence.Occurrence.{Occurrence}
-use Rattle.snl_walk.specs.declared.occurrence.Place.{Place}
+use Rattle.snl_walk.specs.declared.occurrence.Context.{Context}
 use Rattle.snl_walk.specs.declared.occurrence.What.TheVariants as what
 use Rattle.snl_walk.specs.Declares.{is_event_flag}
 use Rattle.snl_walk.specs.Scopes.{Names, under_names}
@@ -46,18 +46,18 @@ module _ (bytes : ℕ → List ℕ) where
   abbrev target_at : ℕ → Occurrence
   target_at n = record { token = n; what = what.Target; means = None }
 
-  change_leaves : (word_at name : ℕ) (place : Place) → FoundLeaves (change word_at name place) (leaf kind.State word_at ++ leaf kind.Name name ++ word kind.Semicolon)
-  change_leaves word_at name place = here kind.State (changed word_at place.in_transition) (λ e. absurd (true≢false (sym e))) (target place.in_transition)
+  change_leaves : (word_at name : ℕ) (context : Context) → FoundLeaves (change word_at name context) (leaf kind.State word_at ++ leaf kind.Name name ++ word kind.Semicolon)
+  change_leaves word_at name context = here kind.State (changed word_at context.in_transition) (λ e. absurd (true≢false (sym e))) (target context.in_transition)
     where
       target : (b : Bool) → FoundLeaves (cond b (target_at name ∷ []) []) (leaf kind.Name name ++ word kind.Semicolon)
       target true = leaves_before (word kind.Semicolon) (one_leaf kind.Name (target_at name) refl)
       target false = no_leaves (leaf kind.Name name ++ word kind.Semicolon)
 
   abbrev LeavesOfStmt : Stmt → Type 0
-  LeavesOfStmt s = (visible : Names) (place : Place) → FoundLeaves (found_in_stmt bytes s visible place) (spell_stmt s)
+  LeavesOfStmt s = (visible : Names) (context : Context) → FoundLeaves (found_in_stmt bytes s visible context) (spell_stmt s)
 
   abbrev LeavesOfMember : Member → Type 0
-  LeavesOfMember m = (visible : Names) (place : Place) → FoundLeaves ((content_of bytes m).found visible place) (spell_member m)
+  LeavesOfMember m = (visible : Names) (context : Context) → FoundLeaves ((content_of bytes m).found visible context) (spell_member m)
 
   -- statements and members of which it is known
   abbrev KnownStmt : Type 0
@@ -72,10 +72,10 @@ module _ (bytes : ℕ → List ℕ) where
   abbrev member_of : KnownMember → Member
   member_of k = k.0
 
-  content_leaves : (ms : List KnownMember) (visible : Names) (place : Place) →
-      FoundLeaves (found_in_contents (map (content_of bytes) (map member_of ms)) visible place) (joined (map spell_member (map member_of ms)))
-  content_leaves [] visible place = none
-  content_leaves (m ∷ ms) visible place = leaves-append (m.1 visible place) (content_leaves ms visible place)
+  content_leaves : (ms : List KnownMember) (visible : Names) (context : Context) →
+      FoundLeaves (found_in_contents (map (content_of bytes) (map member_of ms)) visible context) (joined (map spell_member (map member_of ms)))
+  content_leaves [] visible context = none
+  content_leaves (m ∷ ms) visible context = leaves-append (m.1 visible context) (content_leaves ms visible context)
 
   -- the arms of an `if`
   abbrev KnownArm : Type 0
@@ -93,19 +93,19 @@ module _ (bytes : ℕ → List ℕ) where
   abbrev spelled_arms : List (Expr × Stmt) → List (List Spelled)
   spelled_arms arms = map spell_choice (map spelled_arm arms)
 
-  module _ (visible : Names) (place : Place) where
+  module _ (visible : Names) (context : Context) where
     abbrev found_in_arm : KnownArm → List Occurrence
-    found_in_arm arm = found_in_expr bytes visible arm.0 ++ found_in_stmt bytes arm.1.0 visible place
+    found_in_arm arm = found_in_expr bytes visible arm.0 ++ found_in_stmt bytes arm.1.0 visible context
 
     abbrev spell_arm : KnownArm → List Spelled
     spell_arm arm = spell_choice (spelled_arm (arm.0, arm.1.0))
 
     arm_leaves : (arm : KnownArm) → FoundLeaves (found_in_arm arm) (spell_arm arm)
-    arm_leaves arm = leaves-append (leaves_after (word kind.If) (leaves_in_parens (seen_in_expr bytes visible false arm.0))) (arm.1.1 visible place)
+    arm_leaves arm = leaves-append (leaves_after (word kind.If) (leaves_in_parens (seen_in_expr bytes visible false arm.0))) (arm.1.1 visible context)
 
-    module _ (last : Option Found) (ys : List Spelled) (l : FoundLeaves (found_in_branches bytes [] last visible place) ys) where
+    module _ (last : Option Found) (ys : List Spelled) (l : FoundLeaves (found_in_branches bytes [] last visible context) ys) where
       abbrev found_after : List KnownArm → List Occurrence
-      found_after arms = found_in_branches bytes (found_arms (arms_of arms)) last visible place
+      found_after arms = found_in_branches bytes (found_arms (arms_of arms)) last visible context
 
       arms_after : (arms : List KnownArm) → FoundLeaves (found_after arms) (after kind.Else (spelled_arms (arms_of arms)) ++ ys)
       arms_after [] = l
@@ -126,54 +126,54 @@ module _ (bytes : ℕ → List ℕ) where
   abbrev level_of_member : Member-F KnownMember KnownStmt → Member-F Member Stmt
   level_of_member y = map-Member KnownMember KnownStmt Member Stmt member_of stmt_of y
 
-  stmt_level : (y : Stmt-F KnownMember KnownStmt) (visible : Names) (place : Place) →
-      FoundLeaves (stmt_step bytes (map-Stmt Member Stmt Content Found (content_of bytes) (found_in_stmt bytes) (level_of_stmt y)) visible place)
+  stmt_level : (y : Stmt-F KnownMember KnownStmt) (visible : Names) (context : Context) →
+      FoundLeaves (stmt_step bytes (map-Stmt Member Stmt Content Found (content_of bytes) (found_in_stmt bytes) (level_of_stmt y)) visible context)
       (spell_stmt_step (map-Stmt Member Stmt (List Spelled) (List Spelled) spell_member spell_stmt (level_of_stmt y)))
-  stmt_level Stmt-F.Empty visible place = no_leaves (word kind.Semicolon)
-  stmt_level (Stmt-F.Expr e) visible place = leaves_before (word kind.Semicolon) (seen_in_expr bytes visible false e)
-  stmt_level (Stmt-F.Block ms) visible place =
-      leaves_after (word kind.OpenBrace) (leaves_before (word kind.CloseBrace) (content_leaves ms (under_names bytes (declared_by_contents (map (content_of bytes) (map member_of ms))) ++ visible) place))
-  stmt_level (Stmt-F.CCode n) visible place = no_leaves (leaf kind.CCode n)
-  stmt_level (Stmt-F.If arms None) visible place = arms_leaves visible place None [] none arms
-  stmt_level (Stmt-F.If arms (Some last)) visible place =
-      arms_leaves visible place (Some (found_in_stmt bytes last.0)) (spell_else (spell_stmt last.0)) (leaves_after (word kind.Else) (last.1 visible place)) arms
-  stmt_level (Stmt-F.While e body) visible place =
-      leaves-append (leaves_after (word kind.While) (leaves_in_parens (seen_in_expr bytes visible false e))) (body.1 visible (in_loop place))
-  stmt_level (Stmt-F.For head body) visible place = leaves-append (leaves_after (word kind.For) (head_leaves visible head)) (body.1 visible (in_loop place))
-  stmt_level (Stmt-F.Break n) visible place = leaves_before (word kind.Semicolon) (one_leaf kind.Break (jump n place) refl)
-  stmt_level (Stmt-F.Continue n) visible place = leaves_before (word kind.Semicolon) (one_leaf kind.Continue (jump n place) refl)
-  stmt_level (Stmt-F.Return value) visible place = leaves_before (word kind.Semicolon) (leaves_after (word kind.Return) (seen_if bytes visible false value))
-  stmt_level (Stmt-F.State n name) visible place = change_leaves n name place
+  stmt_level Stmt-F.Empty visible context = no_leaves (word kind.Semicolon)
+  stmt_level (Stmt-F.Expr e) visible context = leaves_before (word kind.Semicolon) (seen_in_expr bytes visible false e)
+  stmt_level (Stmt-F.Block ms) visible context =
+      leaves_after (word kind.OpenBrace) (leaves_before (word kind.CloseBrace) (content_leaves ms (under_names bytes (declared_by_contents (map (content_of bytes) (map member_of ms))) ++ visible) context))
+  stmt_level (Stmt-F.CCode n) visible context = no_leaves (leaf kind.CCode n)
+  stmt_level (Stmt-F.If arms None) visible context = arms_leaves visible context None [] none arms
+  stmt_level (Stmt-F.If arms (Some last)) visible context =
+      arms_leaves visible context (Some (found_in_stmt bytes last.0)) (spell_else (spell_stmt last.0)) (leaves_after (word kind.Else) (last.1 visible context)) arms
+  stmt_level (Stmt-F.While e body) visible context =
+      leaves-append (leaves_after (word kind.While) (leaves_in_parens (seen_in_expr bytes visible false e))) (body.1 visible (in_loop context))
+  stmt_level (Stmt-F.For head body) visible context = leaves-append (leaves_after (word kind.For) (head_leaves visible head)) (body.1 visible (in_loop context))
+  stmt_level (Stmt-F.Break n) visible context = leaves_before (word kind.Semicolon) (one_leaf kind.Break (jump n context) refl)
+  stmt_level (Stmt-F.Continue n) visible context = leaves_before (word kind.Semicolon) (one_leaf kind.Continue (jump n context) refl)
+  stmt_level (Stmt-F.Return value) visible context = leaves_before (word kind.Semicolon) (leaves_after (word kind.Return) (seen_if bytes visible false value))
+  stmt_level (Stmt-F.State n name) visible context = change_leaves n name context
 
-  member_level : (y : Member-F KnownMember KnownStmt) (visible : Names) (place : Place) →
-      FoundLeaves ((member_step bytes (map-Member Member Stmt Content Found (content_of bytes) (found_in_stmt bytes) (level_of_member y))).found visible place)
+  member_level : (y : Member-F KnownMember KnownStmt) (visible : Names) (context : Context) →
+      FoundLeaves ((member_step bytes (map-Member Member Stmt Content Found (content_of bytes) (found_in_stmt bytes) (level_of_member y))).found visible context)
       (spell_member_step (map-Member Member Stmt (List Spelled) (List Spelled) spell_member spell_stmt (level_of_member y)))
-  member_level (Member-F.Declaration d) visible place = declaration_leaves visible true d
-  member_level (Member-F.Statement s) visible place = s.1 visible place
+  member_level (Member-F.Declaration d) visible context = declaration_leaves visible true d
+  member_level (Member-F.Statement s) visible context = s.1 visible context
 
   rolled_stmt : (x : Stmt-F Member Stmt) (y : Stmt-F KnownMember KnownStmt) → level_of_stmt y ≡ x → LeavesOfStmt (roll-Stmt x)
   rolled_stmt x y is =
       let z = level_of_stmt y in
-      let at_z : LeavesOfStmt (roll-Stmt z) = λ visible place.
-      subst (λ (f : Found). FoundLeaves (f visible place) (spell_stmt (roll-Stmt z))) (sym (fold-roll-Stmt Content Found (member_step bytes) (stmt_step bytes) z))
-      (subst (FoundLeaves (stmt_step bytes (map-Stmt Member Stmt Content Found (content_of bytes) (found_in_stmt bytes) z) visible place)) (sym (fold-roll-Stmt (List Spelled) (List Spelled) spell_member_step spell_stmt_step z)) (stmt_level y visible place)) in
+      let at_z : LeavesOfStmt (roll-Stmt z) = λ visible context.
+      subst (λ (f : Found). FoundLeaves (f visible context) (spell_stmt (roll-Stmt z))) (sym (fold-roll-Stmt Content Found (member_step bytes) (stmt_step bytes) z))
+      (subst (FoundLeaves (stmt_step bytes (map-Stmt Member Stmt Content Found (content_of bytes) (found_in_stmt bytes) z) visible context)) (sym (fold-roll-Stmt (List Spelled) (List Spelled) spell_member_step spell_stmt_step z)) (stmt_level y visible context)) in
       subst (λ v. LeavesOfStmt (roll-Stmt v)) is at_z
 
   rolled_member : (x : Member-F Member Stmt) (y : Member-F KnownMember KnownStmt) → level_of_member y ≡ x → LeavesOfMember (roll-Member x)
   rolled_member x y is =
       let z = level_of_member y in
-      let at_z : LeavesOfMember (roll-Member z) = λ visible place.
-      subst (λ (c : Content). FoundLeaves (c.found visible place) (spell_member (roll-Member z))) (sym (fold-roll-Member Content Found (member_step bytes) (stmt_step bytes) z))
-      (subst (FoundLeaves ((member_step bytes (map-Member Member Stmt Content Found (content_of bytes) (found_in_stmt bytes) z)).found visible place)) (sym (fold-roll-Member (List Spelled) (List Spelled) spell_member_step spell_stmt_step z)) (member_level y visible place)) in
+      let at_z : LeavesOfMember (roll-Member z) = λ visible context.
+      subst (λ (c : Content). FoundLeaves (c.found visible context) (spell_member (roll-Member z))) (sym (fold-roll-Member Content Found (member_step bytes) (stmt_step bytes) z))
+      (subst (FoundLeaves ((member_step bytes (map-Member Member Stmt Content Found (content_of bytes) (found_in_stmt bytes) z)).found visible context)) (sym (fold-roll-Member (List Spelled) (List Spelled) spell_member_step spell_stmt_step z)) (member_level y visible context)) in
       subst (λ v. LeavesOfMember (roll-Member v)) is at_z
 
   member_leaves : (m : Member) → LeavesOfMember m
   member_leaves = ind-Member LeavesOfMember LeavesOfStmt rolled_member rolled_stmt
 
-  in_block : (ms : List Member) (visible : Names) (place : Place) → FoundLeaves (found_in_contents (contents_of bytes ms) visible place) (joined (map spell_member ms))
-  in_block [] visible place = none
-  in_block (m ∷ ms) visible place = leaves-append (member_leaves m visible place) (in_block ms visible place)
+  in_block : (ms : List Member) (visible : Names) (context : Context) → FoundLeaves (found_in_contents (contents_of bytes ms) visible context) (joined (map spell_member ms))
+  in_block [] visible context = none
+  in_block (m ∷ ms) visible context = leaves-append (member_leaves m visible context) (in_block ms visible context)
 
-  pub block_leaves : (ms : List Member) (visible : Names) (place : Place) → FoundLeaves (found_in_block bytes ms visible place) (spell_block ms)
-  block_leaves ms visible place =
-      leaves_after (word kind.OpenBrace) (leaves_before (word kind.CloseBrace) (in_block ms (under_names bytes (declared_by_contents (contents_of bytes ms)) ++ visible) place))
+  pub block_leaves : (ms : List Member) (visible : Names) (context : Context) → FoundLeaves (found_in_block bytes ms visible context) (spell_block ms)
+  block_leaves ms visible context =
+      leaves_after (word kind.OpenBrace) (leaves_before (word kind.CloseBrace) (in_block ms (under_names bytes (declared_by_contents (contents_of bytes ms)) ++ visible) context))

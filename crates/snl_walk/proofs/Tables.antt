@@ -9,7 +9,7 @@ use Rattle.std.proofs.lemmas.Option.{slice_get-get_or, slice_get_within}
 use Rattle.indexmap.specs.IndexMap.{insert_entry}
 use Rattle.snl_walk.specs.declared.name_key.NameKey.{NameKey}
 use Rattle.snl_walk.specs.declared.occurrence.Local.{Local}
-use Rattle.snl_walk.specs.declared.visible.Entry.{Entry}
+use Rattle.snl_walk.specs.declared.visible.VisibleName.{VisibleName}
 use Rattle.snl_walk.specs.Scopes.{look_up}
 use Rattle.snl_walk.specs.Stack.{IsStacked, KeepsEarlier, newest_first, shown, told_by}
 
@@ -63,17 +63,17 @@ told-insert (e ∷ es) name v other = by (told-insert es name v other) (bytes_eq
     by rest false h = ap (λ t. cond (bytes_eq other e.0.bytes.now) e.1 t) rest ∙ later h (bytes_eq other e.0.bytes.now) refl
 
 -- one more entry is before the others
-pub newest-push : (es : List Entry) (e : Entry) → newest_first (es ++ e ∷ []) ≡ shown e ∷ newest_first es
-newest-push es e = ap (λ (l : List Entry). map shown l) (reverse-append es (e ∷ []))
+pub newest-push : (es : List VisibleName) (e : VisibleName) → newest_first (es ++ e ∷ []) ≡ shown e ∷ newest_first es
+newest-push es e = ap (λ (l : List VisibleName). map shown l) (reverse-append es (e ∷ []))
 
-kept-push : (es : List Entry) (e : Entry) → reverse (es ++ e ∷ []) ≡ e ∷ reverse es
+kept-push : (es : List VisibleName) (e : VisibleName) → reverse (es ++ e ∷ []) ≡ e ∷ reverse es
 kept-push es e = reverse-append es (e ∷ [])
 
 abbrev pub key_of : Bor (List ℕ) → NameKey
 key_of name = record { bytes = name }
 
 -- a declaration is taken in
-pub stack-push : (es : List Entry) (table : Table) (e : Entry) (name : Bor (List ℕ)) → e.name ≡ name → e.earlier ≡ look_up name.now (newest_first es) → IsStacked es table →
+pub stack-push : (es : List VisibleName) (table : Table) (e : VisibleName) (name : Bor (List ℕ)) → e.name ≡ name → e.earlier ≡ look_up name.now (newest_first es) → IsStacked es table →
     IsStacked (es ++ e ∷ []) (insert_entry same_names table (key_of name) (Some e.declared))
 stack-push es table e name is before h = record {
   told = λ n. told-insert table (key_of name) (Some e.declared) n
@@ -84,7 +84,7 @@ stack-push es table e name is before h = record {
 }
 
 -- the last declaration is let go
-pub stack-pop : (es : List Entry) (table : Table) (e : Entry) → IsStacked (es ++ e ∷ []) table → IsStacked es (insert_entry same_names table (key_of e.name) e.earlier)
+pub stack-pop : (es : List VisibleName) (table : Table) (e : VisibleName) → IsStacked (es ++ e ∷ []) table → IsStacked es (insert_entry same_names table (key_of e.name) e.earlier)
 stack-pop es table e h = record {
   told = λ n. told-insert table (key_of e.name) e.earlier n ∙ by n (bytes_eq n e.name.now) refl;
   kept = kept.1;
@@ -98,11 +98,11 @@ stack-pop es table e h = record {
     by n false is = h.told n ∙ ap (look_up n) (newest-push es e) ∙ ap (λ b. cond b (Some e.declared) (look_up n (newest_first es))) is
 
 -- the last entry is the one that is taken off
-pub put_back : (es rest : List Entry) (n : ℕ) (e : Entry) (taken : Option Entry) → n ≡ length es → slice_get es (length es - 1) ≡ Some e →
+pub put_back : (es rest : List VisibleName) (n : ℕ) (e : VisibleName) (taken : Option VisibleName) → n ≡ length es → slice_get es (length es - 1) ≡ Some e →
     (0 < n → taken ≡ Some (get_or es (n - 1) e)) → es ≡ rest ++ option_to_list taken → es ≡ rest ++ e ∷ []
 put_back es rest n e taken counts last value is =
     let within : length es - 1 < length es = slice_get_within es (length es - 1) e last in
     let read : slice_get es (length es - 1) ≡ Some (get_or es (length es - 1) e) = slice_get-get_or es (length es - 1) e within in
     let some : taken ≡ Some (get_or es (n - 1) e) = value (omega arith) in
     let same : taken ≡ Some e = some ∙ ap (λ k. Some (get_or es (k - 1) e)) counts ∙ sym read ∙ last in
-    is ∙ ap (λ (r : Option Entry). rest ++ option_to_list r) same
+    is ∙ ap (λ (r : Option VisibleName). rest ++ option_to_list r) same

@@ -11,7 +11,7 @@ use Rattle.snl_syntax.specs.declared.tree.expression.Expr.TheFolds.{fold-Expr, f
 use Rattle.snl_syntax.specs.declared.tree.expression.Suffix.{Suffix}
 use Rattle.snl_walk.specs.declared.occurrence.Follows.{Follows}
 use Rattle.snl_walk.specs.declared.occurrence.Follows.TheVariants as follows
-use Rattle.snl_walk.specs.declared.occurrence.Named.{Named}
+use Rattle.snl_walk.specs.declared.occurrence.ExpressionName.{ExpressionName}
 use Rattle.snl_walk.specs.declared.occurrence.Setting.{Setting}
 
 -- What is found in an expression: the name that it is, if it is a name alone; whether it is an
@@ -19,14 +19,14 @@ use Rattle.snl_walk.specs.declared.occurrence.Setting.{Setting}
 pub record Operand : Type 0 where
   pub name : Option ℕ
   pub is_integer : Bool
-  pub names : Setting → List Named
+  pub names : Setting → List ExpressionName
 
 -- What is found in a suffix: what it is to the operand before it, and the names in it, by the name
 -- directly before it.
 pub record Tail : Type 0 where
   pub follows : Follows
   pub is_subscript : Bool
-  pub names : Option ℕ → List Named
+  pub names : Option ℕ → List ExpressionName
 
 -- Nothing follows, and it is no first argument.
 abbrev pub plain : Setting
@@ -46,33 +46,33 @@ abbrev pub before : List Tail → Setting → Setting
 before tails s = record { follows = following tails; argument_of = if are_subscripts tails then s.argument_of else None }
 
 -- The names in suffixes: the first of them directly follows the operand's name.
-abbrev pub names_in_tails : Option ℕ → List Tail → List Named
+abbrev pub names_in_tails : Option ℕ → List Tail → List ExpressionName
 names_in_tails name [] = []
 names_in_tails name (tail ∷ tails) = tail.names name ++ names_in_tails None tails
 
 -- The arguments of a call: the first is that of the called name.
-abbrev pub names_in_arguments : Option ℕ → List Operand → List Named
+abbrev pub names_in_arguments : Option ℕ → List Operand → List ExpressionName
 names_in_arguments call [] = []
 names_in_arguments call (x ∷ xs) = x.names (record { follows = follows.Nothing; argument_of = call }) ++ names_in_arguments None xs
 
-abbrev pub names_in_links : List (Binary × Operand) → List Named
+abbrev pub names_in_links : List (Binary × Operand) → List ExpressionName
 names_in_links [] = []
 names_in_links (link ∷ links) = link.1.names plain ++ names_in_links links
 
-abbrev pub names_in_arms : List (Operand × Operand) → List Named
+abbrev pub names_in_arms : List (Operand × Operand) → List ExpressionName
 names_in_arms [] = []
 names_in_arms (arm ∷ arms) = arm.0.names plain ++ arm.1.names plain ++ names_in_arms arms
 
-abbrev pub names_in_targets : List (Operand × Assignment) → List Named
+abbrev pub names_in_targets : List (Operand × Assignment) → List ExpressionName
 names_in_targets [] = []
 names_in_targets (target ∷ targets) = target.0.names plain ++ names_in_targets targets
 
-abbrev pub names_in_all : List Operand → List Named
+abbrev pub names_in_all : List Operand → List ExpressionName
 names_in_all [] = []
 names_in_all (x ∷ xs) = x.names plain ++ names_in_all xs
 
 -- An expression that is more than a name or an integer.
-abbrev pub naming : List Named → Operand
+abbrev pub naming : List ExpressionName → Operand
 naming names = record { name = None; is_integer = false; names = λ s. names }
 
 -- One level of a tree, with what is found in each part in its place.
@@ -104,26 +104,26 @@ operand = fold-Expr Operand Tail expr_step suffix_step
 abbrev pub tail_of : Suffix → Tail
 tail_of = fold-Suffix Operand Tail expr_step suffix_step
 
-abbrev pub names_in_expr : Setting → Expr → List Named
+abbrev pub names_in_expr : Setting → Expr → List ExpressionName
 names_in_expr s e = (operand e).names s
 
 -- An expression that may be missing.
-abbrev pub names_if : Option Expr → List Named
+abbrev pub names_if : Option Expr → List ExpressionName
 names_if None = []
 names_if (Some e) = names_in_expr plain e
 
-abbrev pub names_in_values : List (List Named) → List Named
+abbrev pub names_in_values : List (List ExpressionName) → List ExpressionName
 names_in_values [] = []
 names_in_values (value ∷ values) = value ++ names_in_values values
 
 -- One level of an initialiser, with the names in each value in it in its place.
-abbrev pub init_step : Init-F (List Named) → List Named
+abbrev pub init_step : Init-F (List ExpressionName) → List ExpressionName
 init_step (Init-F.Value e) = names_in_expr plain e
 init_step (Init-F.List values trailing) = names_in_values values
 
-abbrev pub names_in_init : Init → List Named
-names_in_init = fold-Init (List Named) init_step
+abbrev pub names_in_init : Init → List ExpressionName
+names_in_init = fold-Init (List ExpressionName) init_step
 
-abbrev pub names_in_value : Option Init → List Named
+abbrev pub names_in_value : Option Init → List ExpressionName
 names_in_value None = []
 names_in_value (Some init) = names_in_init init

@@ -13,7 +13,7 @@ use Rattle.snl_syntax.specs.declared.tree.state.Target.TheVariants as target
 use Rattle.snl_syntax.specs.declared.tree.state.Transition.{Transition}
 use Rattle.snl_syntax.specs.declared.tree.statement.Member.{Member}
 use Rattle.snl_walk.specs.declared.occurrence.Occurrence.{Occurrence}
-use Rattle.snl_walk.specs.declared.occurrence.Place.{Place}
+use Rattle.snl_walk.specs.declared.occurrence.Context.{Context}
 use Rattle.snl_walk.specs.declared.occurrence.What.TheVariants as what
 use Rattle.snl_walk.specs.Declares.{declared_by_parameter, declared_by_state}
 use Rattle.snl_walk.specs.Expressions.{names_if}
@@ -21,10 +21,10 @@ use Rattle.snl_walk.specs.Scopes.{Names, seen, under_names}
 use Rattle.snl_walk.specs.Statements.{declaration_at, found_in_block, found_in_declaration}
 
 -- A block at entry or exit, or of a function; and the block of a transition.
-abbrev pub outside : Place
+abbrev pub outside : Context
 outside = record { in_loop = false; in_transition = false }
 
-abbrev pub in_transition : Place
+abbrev pub in_transition : Context
 in_transition = record { in_loop = false; in_transition = true }
 
 abbrev pub found_in_target : Target → List Occurrence

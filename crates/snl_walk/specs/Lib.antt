@@ -1,4 +1,3 @@
-pub mod Codes
 pub mod Tokens
 pub mod Once
 pub mod Calls

@@ -1,7 +1,7 @@
 -- Where no name is told as declared again.
 use Rattle.std.specs.Prelude.{◌≡◌, ◌⊎◌, ℕ, List, None}
 use Rattle.std.specs.List.{Contains}
-use Rattle.snl_walk.specs.declared.codes.Code.TheVariants.{E07}
+use Rattle.snl_codes.specs.declared.code.Code.TheVariants.{E07}
 use Rattle.snl_walk.specs.declared.occurrence.Occurrence.{Occurrence}
 use Rattle.snl_walk.specs.declared.rules.Finding.{Finding}
 

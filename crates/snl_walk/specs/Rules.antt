@@ -4,8 +4,8 @@
 use Rattle.std.specs.Prelude.{ℕ, Bool, true, false, not, ◌&&◌, ◌==◌, if◌then◌else◌, codes, List, [], ◌∷◌, ◌++◌, map, Option, Some, None}
 use Rattle.std.specs.List.{flat_map}
 use Rattle.std.specs.Str.{bytes_eq}
-use Rattle.snl_walk.specs.declared.codes.Code.{Code}
-use Rattle.snl_walk.specs.declared.codes.Code.TheVariants.{E07, E10, E17, E18, E19, E20, E21, W01, W03}
+use Rattle.snl_codes.specs.declared.code.Code.{Code}
+use Rattle.snl_codes.specs.declared.code.Code.TheVariants.{E07, E10, E17, E18, E19, E20, E21, W01, W03}
 use Rattle.snl_walk.specs.declared.occurrence.ArgumentRole.{ArgumentRole}
 use Rattle.snl_walk.specs.declared.occurrence.ArgumentRole.TheVariants as role
 use Rattle.snl_walk.specs.declared.occurrence.Follows.{Follows}

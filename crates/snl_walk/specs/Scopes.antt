@@ -5,7 +5,7 @@ use Rattle.std.specs.Map.{lookup}
 use Rattle.std.specs.Str.{bytes_eq}
 use Rattle.snl_walk.specs.declared.occurrence.Local.{Local}
 use Rattle.snl_walk.specs.declared.occurrence.Manner.{Manner}
-use Rattle.snl_walk.specs.declared.occurrence.Named.{Named}
+use Rattle.snl_walk.specs.declared.occurrence.ExpressionName.{ExpressionName}
 use Rattle.snl_walk.specs.declared.occurrence.Occurrence.{Occurrence}
 use Rattle.snl_walk.specs.declared.occurrence.Setting.{Setting}
 use Rattle.snl_walk.specs.declared.occurrence.What.TheVariants as what
@@ -32,5 +32,5 @@ abbrev pub manner_of : (ℕ → List ℕ) → Bool → Setting → Manner
 manner_of bytes in_condition s = record { follows = s.follows; role = role_in bytes s.argument_of; in_condition = in_condition }
 
 -- A name in an expression, where these names are visible.
-abbrev pub seen : (ℕ → List ℕ) → Names → Bool → Named → Occurrence
+abbrev pub seen : (ℕ → List ℕ) → Names → Bool → ExpressionName → Occurrence
 seen bytes visible in_condition n = record { token = n.token; what = what.Name (manner_of bytes in_condition n.setting); means = resolve bytes visible n.token }

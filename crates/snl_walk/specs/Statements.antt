@@ -12,15 +12,15 @@ use Rattle.snl_syntax.specs.declared.tree.statement.Member.TheFolds.{fold-Member
 use Rattle.snl_syntax.specs.declared.tree.statement.Stmt.{Stmt}
 use Rattle.snl_walk.specs.declared.occurrence.Local.{Local}
 use Rattle.snl_walk.specs.declared.occurrence.Occurrence.{Occurrence}
-use Rattle.snl_walk.specs.declared.occurrence.Place.{Place}
+use Rattle.snl_walk.specs.declared.occurrence.Context.{Context}
 use Rattle.snl_walk.specs.declared.occurrence.What.TheVariants as what
 use Rattle.snl_walk.specs.Declares.{declared_in_block, is_event_flag}
 use Rattle.snl_walk.specs.Expressions.{names_if, names_in_expr, names_in_value, plain}
 use Rattle.snl_walk.specs.Scopes.{Names, resolve, seen, under_names}
 
--- What is found in a part of an item, by the names that are visible there and its place.
+-- What is found in a part of an item, by the names that are visible there and its context.
 abbrev pub Found : Type 0
-Found = Names → Place → List Occurrence
+Found = Names → Context → List Occurrence
 
 abbrev pub found_in_expr : (ℕ → List ℕ) → Names → Expr → List Occurrence
 found_in_expr bytes visible e = map (seen bytes visible false) (names_in_expr plain e)
@@ -60,47 +60,47 @@ abbrev pub declared_by_contents : List Content → List Local
 declared_by_contents [] = []
 declared_by_contents (content ∷ contents) = content.declares ++ declared_by_contents contents
 
-abbrev pub found_in_contents : List Content → Names → Place → List Occurrence
-found_in_contents [] visible place = []
-found_in_contents (content ∷ contents) visible place = content.found visible place ++ found_in_contents contents visible place
+abbrev pub found_in_contents : List Content → Names → Context → List Occurrence
+found_in_contents [] visible context = []
+found_in_contents (content ∷ contents) visible context = content.found visible context ++ found_in_contents contents visible context
 
 -- A block is a scope: in it, what it declares anywhere is before what is visible around it.
 abbrev pub found_in_block_of : (ℕ → List ℕ) → List Content → Found
-found_in_block_of bytes contents visible place = found_in_contents contents (under_names bytes (declared_by_contents contents) ++ visible) place
+found_in_block_of bytes contents visible context = found_in_contents contents (under_names bytes (declared_by_contents contents) ++ visible) context
 
 -- A choice: its conditions, each before its statement, and the last branch.
 abbrev pub found_in_branches : (ℕ → List ℕ) → List (Expr × Found) → Option Found → Found
-found_in_branches bytes [] None visible place = []
-found_in_branches bytes [] (Some last) visible place = last visible place
-found_in_branches bytes (arm ∷ arms) last visible place = found_in_expr bytes visible arm.0 ++ arm.1 visible place ++ found_in_branches bytes arms last visible place
+found_in_branches bytes [] None visible context = []
+found_in_branches bytes [] (Some last) visible context = last visible context
+found_in_branches bytes (arm ∷ arms) last visible context = found_in_expr bytes visible arm.0 ++ arm.1 visible context ++ found_in_branches bytes arms last visible context
 
-abbrev pub in_loop : Place → Place
-in_loop place = record { in_loop = true; in_transition = place.in_transition }
+abbrev pub in_loop : Context → Context
+in_loop context = record { in_loop = true; in_transition = context.in_transition }
 
-abbrev pub jump : ℕ → Place → Occurrence
-jump word place = record { token = word; what = what.Jump place.in_loop; means = None }
+abbrev pub jump : ℕ → Context → Occurrence
+jump word context = record { token = word; what = what.Jump context.in_loop; means = None }
 
 -- In the block of a transition the item leads on to the state that the statement names.
-abbrev pub change : ℕ → ℕ → Place → List Occurrence
-change word name place =
-    record { token = word; what = what.Change place.in_transition; means = None }
-    ∷ (if place.in_transition then record { token = name; what = what.Target; means = None } ∷ [] else [])
+abbrev pub change : ℕ → ℕ → Context → List Occurrence
+change word name context =
+    record { token = word; what = what.Change context.in_transition; means = None }
+    ∷ (if context.in_transition then record { token = name; what = what.Target; means = None } ∷ [] else [])
 
 -- One level of a statement, with what is found in each statement in it in its place.
 abbrev pub stmt_step : (ℕ → List ℕ) → Stmt-F Content Found → Found
-stmt_step bytes (Stmt-F.Expr e) visible place = found_in_expr bytes visible e
-stmt_step bytes (Stmt-F.Block contents) visible place = found_in_block_of bytes contents visible place
-stmt_step bytes (Stmt-F.If arms last) visible place = found_in_branches bytes arms last visible place
-stmt_step bytes (Stmt-F.While e body) visible place = found_in_expr bytes visible e ++ body visible (in_loop place)
-stmt_step bytes (Stmt-F.For head body) visible place = found_in_head bytes visible head ++ body visible (in_loop place)
-stmt_step bytes (Stmt-F.Break word) visible place = jump word place ∷ []
-stmt_step bytes (Stmt-F.Continue word) visible place = jump word place ∷ []
-stmt_step bytes (Stmt-F.Return value) visible place = found_if bytes visible value
-stmt_step bytes (Stmt-F.State word name) visible place = change word name place
-stmt_step bytes _ visible place = []
+stmt_step bytes (Stmt-F.Expr e) visible context = found_in_expr bytes visible e
+stmt_step bytes (Stmt-F.Block contents) visible context = found_in_block_of bytes contents visible context
+stmt_step bytes (Stmt-F.If arms last) visible context = found_in_branches bytes arms last visible context
+stmt_step bytes (Stmt-F.While e body) visible context = found_in_expr bytes visible e ++ body visible (in_loop context)
+stmt_step bytes (Stmt-F.For head body) visible context = found_in_head bytes visible head ++ body visible (in_loop context)
+stmt_step bytes (Stmt-F.Break word) visible context = jump word context ∷ []
+stmt_step bytes (Stmt-F.Continue word) visible context = jump word context ∷ []
+stmt_step bytes (Stmt-F.Return value) visible context = found_if bytes visible value
+stmt_step bytes (Stmt-F.State word name) visible context = change word name context
+stmt_step bytes _ visible context = []
 
 abbrev pub member_step : (ℕ → List ℕ) → Member-F Content Found → Content
-member_step bytes (Member-F.Declaration d) = record { declares = declared_in_block d; found = λ visible place. found_in_declaration bytes visible true d }
+member_step bytes (Member-F.Declaration d) = record { declares = declared_in_block d; found = λ visible context. found_in_declaration bytes visible true d }
 member_step bytes (Member-F.Statement s) = record { declares = []; found = s }
 
 abbrev pub found_in_stmt : (ℕ → List ℕ) → Stmt → Found

@@ -2,7 +2,7 @@
 
 ghost use Rattle.std.specs.Prelude.{◌≡◌};
 ghost use Rattle.snl_walk.specs.Calls.{asks_for_channel, asks_for_flag, role_by, role_in};
-ghost use Rattle.snl_walk.specs.Tokens.{IsSource, token_bytes};
+ghost use Rattle.snl_walk.specs.Tokens.{IsSource, bytes_in};
 
 use crate::occurrence::ArgumentRole;
 use crate::source::Source;
@@ -46,7 +46,7 @@ fn role_by(name: &[u8]) -> ArgumentRole
 /// The role of the first argument in the call of the name at this token, if it is one.
 pub(crate) fn role_in(source: &Source, call: Option<usize>) -> ArgumentRole
     requires { IsSource source.now.text.now source.now.tokens.now }
-    ensures { result ≡ role_in (token_bytes source.now.text.now source.now.tokens.now) call }
+    ensures { result ≡ role_in (bytes_in source.now) call }
 {
     match call {
         Some(call) => role_by(source.bytes(call)),

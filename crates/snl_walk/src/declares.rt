@@ -3,7 +3,7 @@
 
 ghost use Rattle.std.specs.Prelude.{◌≡◌, ◌++◌, true, IfOk, OnOk, map};
 ghost use Rattle.std.specs.List.{flat_map};
-ghost use Rattle.snl_walk.specs.Tokens.{IsSource, token_bytes};
+ghost use Rattle.snl_walk.specs.Tokens.{IsSource, bytes_in};
 ghost use Rattle.snl_walk.specs.Declares.{assigned_in_state, declare, declared_by_member, declared_by_parameter, declared_by_state, declared_in_block, declared_in_state, is_event_flag};
 ghost use Rattle.snl_walk.specs.Statements.{contents_of, declared_by_contents};
 
@@ -24,7 +24,8 @@ pub(crate) fn is_event_flag(base: Base) -> bool
 }
 
 fn add_in_block(declaration: &Declaration, declared: &mut Vec<Local>) -> Result<(), OutOfMemory>
-    ensures { OnOk result (declared.new.items ≡ declared.old.items ++ declared_in_block declaration.now) }
+    ensures { OnOk result (declared.new.items ≡ declared.old.items
+        ++ declared_in_block declaration.now) }
 {
     let flag = is_event_flag(declaration.of.base);
     for declarator in declaration.declarators.as_slice() {
@@ -42,7 +43,8 @@ pub(crate) fn declared_by_block(
     source: &Source,
     members: &[Member],
 ) -> Result<Vec<Local>, OutOfMemory>
-    ensures { IfOk result (λ v. v.items ≡ declared_by_contents (contents_of (token_bytes source.now.text.now source.now.tokens.now) members.now)) }
+    ensures { IfOk result
+        (λ v. v.items ≡ declared_by_contents (contents_of (bytes_in source.now) members.now)) }
 {
     let mut declared = Vec::new(source.alloc);
     for member in members {
@@ -80,7 +82,7 @@ fn assigned_in_state<'a>(
     members: &[StateMember],
 ) -> Result<NameSet<'a>, OutOfMemory>
     requires { IsSource source.now.text.now source.now.tokens.now }
-    ensures { IfOk result (λ names. names ≡ assigned_in_state (token_bytes source.now.text.now source.now.tokens.now) members.now) }
+    ensures { IfOk result (λ names. names ≡ assigned_in_state (bytes_in source.now) members.now) }
 {
     let mut names = NameSet::new(source.alloc);
     for member in members {
@@ -98,7 +100,8 @@ fn add_in_state(
     declared: &mut Vec<Local>,
 ) -> Result<(), OutOfMemory>
     requires { IsSource source.now.text.now source.now.tokens.now }
-    ensures { OnOk result (declared.new.items ≡ declared.old.items ++ declared_in_state (token_bytes source.now.text.now source.now.tokens.now) assigned.now declaration.now) }
+    ensures { OnOk result (declared.new.items ≡ declared.old.items
+        ++ declared_in_state (bytes_in source.now) assigned.now declaration.now) }
 {
     let flag = is_event_flag(declaration.of.base);
     for declarator in declaration.declarators.as_slice() {
@@ -112,7 +115,8 @@ fn add_in_state(
 }
 
 fn add_foreign(names: &[usize], declared: &mut Vec<Local>) -> Result<(), OutOfMemory>
-    ensures { OnOk result (declared.new.items ≡ declared.old.items ++ map (λ n. declare n true true) names.now) }
+    ensures { OnOk result (declared.new.items ≡ declared.old.items
+        ++ map (λ n. declare n true true) names.now) }
 {
     for name in names {
         declared.push(Local {
@@ -132,7 +136,8 @@ fn add_members(
     declared: &mut Vec<Local>,
 ) -> Result<(), OutOfMemory>
     requires { IsSource source.now.text.now source.now.tokens.now }
-    ensures { OnOk result (declared.new.items ≡ declared.old.items ++ flat_map (declared_by_member (token_bytes source.now.text.now source.now.tokens.now) assigned.now) members.now) }
+    ensures { OnOk result (declared.new.items ≡ declared.old.items
+        ++ flat_map (declared_by_member (bytes_in source.now) assigned.now) members.now) }
 {
     for member in members {
         match member {
@@ -159,7 +164,7 @@ pub(crate) fn declared_by_state(
     members: &[StateMember],
 ) -> Result<Vec<Local>, OutOfMemory>
     requires { IsSource source.now.text.now source.now.tokens.now }
-    ensures { IfOk result (λ v. v.items ≡ declared_by_state (token_bytes source.now.text.now source.now.tokens.now) members.now) }
+    ensures { IfOk result (λ v. v.items ≡ declared_by_state (bytes_in source.now) members.now) }
 {
     let assigned = assigned_in_state(source, members)?;
     let mut declared = Vec::new(source.alloc);

@@ -3,12 +3,12 @@
 
 ghost use Rattle.std.specs.Prelude.{◌≡◌, ◌++◌, false, OnOk, map};
 ghost use Rattle.std.specs.List.{flat_map};
-ghost use Rattle.snl_walk.specs.Tokens.{IsSource, token_bytes};
+ghost use Rattle.snl_walk.specs.Tokens.{IsSource, bytes_in};
 ghost use Rattle.snl_walk.specs.Scopes.{manner_of, seen};
 ghost use Rattle.snl_walk.specs.Expressions.{are_subscripts, before, following, names_if, names_in_all, names_in_arguments, names_in_arms, names_in_expr, names_in_init, names_in_links, names_in_tails, names_in_targets, names_in_value, names_in_values, operand, plain, subscript_by, tail_of};
 
 use crate::calls::role_in;
-use crate::occurrence::{Follows, Manner, Named, Occurrence, Setting, What};
+use crate::occurrence::{ExpressionName, Follows, Manner, Occurrence, Setting, What};
 use crate::source::Source;
 use crate::visible::Visible;
 use snl_cut::OutOfMemory;
@@ -113,7 +113,7 @@ fn before(suffixes: &[Suffix], setting: Setting) -> Setting
 
 fn manner_of(source: &Source, in_condition: bool, setting: Setting) -> Manner
     requires { IsSource source.now.text.now source.now.tokens.now }
-    ensures { result ≡ manner_of (token_bytes source.now.text.now source.now.tokens.now) in_condition setting }
+    ensures { result ≡ manner_of (bytes_in source.now) in_condition setting }
 {
     Manner {
         follows: setting.follows,
@@ -123,9 +123,9 @@ fn manner_of(source: &Source, in_condition: bool, setting: Setting) -> Manner
 }
 
 // A name where these are visible.
-fn seen(source: &Source, names: &Visible, in_condition: bool, name: Named) -> Occurrence
+fn seen(source: &Source, names: &Visible, in_condition: bool, name: ExpressionName) -> Occurrence
     requires { IsSource source.now.text.now source.now.tokens.now }
-    ensures { result ≡ seen (token_bytes source.now.text.now source.now.tokens.now) names.now in_condition name }
+    ensures { result ≡ seen (bytes_in source.now) names.now in_condition name }
 {
     Occurrence {
         token: name.token,
@@ -145,11 +145,12 @@ pub(crate) fn add_expr(
     found: &mut Vec<Occurrence>,
 ) -> Result<(), OutOfMemory>
     requires { IsSource source.now.text.now source.now.tokens.now }
-    ensures { OnOk result (found.new.items ≡ found.old.items ++ map (seen (token_bytes source.now.text.now source.now.tokens.now) names.now in_condition) (names_in_expr setting expr.now)) }
+    ensures { OnOk result (found.new.items ≡ found.old.items
+        ++ map (seen (bytes_in source.now) names.now in_condition) (names_in_expr setting expr.now)) }
 {
     match expr {
         Expr::Name(token) => {
-            let name = Named {
+            let name = ExpressionName {
                 token: *token,
                 setting,
             };
@@ -208,7 +209,9 @@ fn add_suffixes(
     found: &mut Vec<Occurrence>,
 ) -> Result<(), OutOfMemory>
     requires { IsSource source.now.text.now source.now.tokens.now }
-    ensures { OnOk result (found.new.items ≡ found.old.items ++ map (seen (token_bytes source.now.text.now source.now.tokens.now) names.now in_condition) (names_in_tails name (map tail_of suffixes.now))) }
+    ensures { OnOk result (found.new.items ≡ found.old.items
+        ++ map (seen (bytes_in source.now) names.now in_condition)
+        (names_in_tails name (map tail_of suffixes.now))) }
 {
     let mut call = name;
     for suffix in suffixes {
@@ -229,7 +232,8 @@ fn add_suffix(
     found: &mut Vec<Occurrence>,
 ) -> Result<(), OutOfMemory>
     requires { IsSource source.now.text.now source.now.tokens.now }
-    ensures { OnOk result (found.new.items ≡ found.old.items ++ map (seen (token_bytes source.now.text.now source.now.tokens.now) names.now in_condition) ((tail_of suffix.now).names call)) }
+    ensures { OnOk result (found.new.items ≡ found.old.items
+        ++ map (seen (bytes_in source.now) names.now in_condition) ((tail_of suffix.now).names call)) }
 {
     match suffix {
         Suffix::Subscript(index) => add_expr(source, names, in_condition, index, plain(), found),
@@ -258,7 +262,9 @@ fn add_arguments(
     found: &mut Vec<Occurrence>,
 ) -> Result<(), OutOfMemory>
     requires { IsSource source.now.text.now source.now.tokens.now }
-    ensures { OnOk result (found.new.items ≡ found.old.items ++ map (seen (token_bytes source.now.text.now source.now.tokens.now) names.now in_condition) (names_in_arguments call (map operand exprs.now))) }
+    ensures { OnOk result (found.new.items ≡ found.old.items
+        ++ map (seen (bytes_in source.now) names.now in_condition)
+        (names_in_arguments call (map operand exprs.now))) }
 {
     let mut argument_of = call;
     for expr in exprs {
@@ -281,7 +287,9 @@ fn add_links(
     found: &mut Vec<Occurrence>,
 ) -> Result<(), OutOfMemory>
     requires { IsSource source.now.text.now source.now.tokens.now }
-    ensures { OnOk result (found.new.items ≡ found.old.items ++ map (seen (token_bytes source.now.text.now source.now.tokens.now) names.now in_condition) (names_in_links (map (λ link. (link.0, operand link.1)) links.now))) }
+    ensures { OnOk result (found.new.items ≡ found.old.items
+        ++ map (seen (bytes_in source.now) names.now in_condition)
+        (names_in_links (map (λ link. (link.0, operand link.1)) links.now))) }
 {
     for link in links {
         add_expr(source, names, in_condition, &link.1, plain(), found)?;
@@ -298,7 +306,9 @@ fn add_arms(
     found: &mut Vec<Occurrence>,
 ) -> Result<(), OutOfMemory>
     requires { IsSource source.now.text.now source.now.tokens.now }
-    ensures { OnOk result (found.new.items ≡ found.old.items ++ map (seen (token_bytes source.now.text.now source.now.tokens.now) names.now in_condition) (names_in_arms (map (λ arm. (operand arm.0, operand arm.1)) arms.now))) }
+    ensures { OnOk result (found.new.items ≡ found.old.items
+        ++ map (seen (bytes_in source.now) names.now in_condition)
+        (names_in_arms (map (λ arm. (operand arm.0, operand arm.1)) arms.now))) }
 {
     for arm in arms {
         add_expr(source, names, in_condition, &arm.0, plain(), found)?;
@@ -316,7 +326,9 @@ fn add_targets(
     found: &mut Vec<Occurrence>,
 ) -> Result<(), OutOfMemory>
     requires { IsSource source.now.text.now source.now.tokens.now }
-    ensures { OnOk result (found.new.items ≡ found.old.items ++ map (seen (token_bytes source.now.text.now source.now.tokens.now) names.now in_condition) (names_in_targets (map (λ target. (operand target.0, target.1)) targets.now))) }
+    ensures { OnOk result (found.new.items ≡ found.old.items
+        ++ map (seen (bytes_in source.now) names.now in_condition)
+        (names_in_targets (map (λ target. (operand target.0, target.1)) targets.now))) }
 {
     for target in targets {
         add_expr(source, names, in_condition, &target.0, plain(), found)?;
@@ -333,7 +345,9 @@ fn add_all(
     found: &mut Vec<Occurrence>,
 ) -> Result<(), OutOfMemory>
     requires { IsSource source.now.text.now source.now.tokens.now }
-    ensures { OnOk result (found.new.items ≡ found.old.items ++ map (seen (token_bytes source.now.text.now source.now.tokens.now) names.now in_condition) (names_in_all (map operand exprs.now))) }
+    ensures { OnOk result (found.new.items ≡ found.old.items
+        ++ map (seen (bytes_in source.now) names.now in_condition)
+        (names_in_all (map operand exprs.now))) }
 {
     for expr in exprs {
         add_expr(source, names, in_condition, expr, plain(), found)?;
@@ -350,7 +364,8 @@ pub(crate) fn add_optional(
     found: &mut Vec<Occurrence>,
 ) -> Result<(), OutOfMemory>
     requires { IsSource source.now.text.now source.now.tokens.now }
-    ensures { OnOk result (found.new.items ≡ found.old.items ++ map (seen (token_bytes source.now.text.now source.now.tokens.now) names.now in_condition) (names_if expr.now)) }
+    ensures { OnOk result (found.new.items ≡ found.old.items
+        ++ map (seen (bytes_in source.now) names.now in_condition) (names_if expr.now)) }
 {
     match expr {
         Some(expr) => add_expr(source, names, in_condition, expr, plain(), found),
@@ -366,7 +381,8 @@ pub(crate) fn add_lengths(
     found: &mut Vec<Occurrence>,
 ) -> Result<(), OutOfMemory>
     requires { IsSource source.now.text.now source.now.tokens.now }
-    ensures { OnOk result (found.new.items ≡ found.old.items ++ map (seen (token_bytes source.now.text.now source.now.tokens.now) names.now false) (flat_map names_if lengths.now)) }
+    ensures { OnOk result (found.new.items ≡ found.old.items
+        ++ map (seen (bytes_in source.now) names.now false) (flat_map names_if lengths.now)) }
 {
     for length in lengths {
         add_optional(source, names, false, length, found)?;
@@ -383,7 +399,8 @@ fn add_init(
     found: &mut Vec<Occurrence>,
 ) -> Result<(), OutOfMemory>
     requires { IsSource source.now.text.now source.now.tokens.now }
-    ensures { OnOk result (found.new.items ≡ found.old.items ++ map (seen (token_bytes source.now.text.now source.now.tokens.now) names.now false) (names_in_init init.now)) }
+    ensures { OnOk result (found.new.items ≡ found.old.items
+        ++ map (seen (bytes_in source.now) names.now false) (names_in_init init.now)) }
 {
     match init {
         Init::Value(value) => add_expr(source, names, false, value, plain(), found),
@@ -399,7 +416,9 @@ fn add_inits(
     found: &mut Vec<Occurrence>,
 ) -> Result<(), OutOfMemory>
     requires { IsSource source.now.text.now source.now.tokens.now }
-    ensures { OnOk result (found.new.items ≡ found.old.items ++ map (seen (token_bytes source.now.text.now source.now.tokens.now) names.now false) (names_in_values (map names_in_init values.now))) }
+    ensures { OnOk result (found.new.items ≡ found.old.items
+        ++ map (seen (bytes_in source.now) names.now false)
+        (names_in_values (map names_in_init values.now))) }
 {
     for value in values {
         add_init(source, names, value, found)?;
@@ -415,7 +434,8 @@ pub(crate) fn add_value(
     found: &mut Vec<Occurrence>,
 ) -> Result<(), OutOfMemory>
     requires { IsSource source.now.text.now source.now.tokens.now }
-    ensures { OnOk result (found.new.items ≡ found.old.items ++ map (seen (token_bytes source.now.text.now source.now.tokens.now) names.now false) (names_in_value value.now)) }
+    ensures { OnOk result (found.new.items ≡ found.old.items
+        ++ map (seen (bytes_in source.now) names.now false) (names_in_value value.now)) }
 {
     match value {
         Some(init) => add_init(source, names, init.get(), found),

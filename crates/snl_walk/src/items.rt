@@ -2,7 +2,7 @@
 
 ghost use Rattle.std.specs.Prelude.{◌≡◌, ◌++◌, [], false, IfOk, OnOk, map};
 ghost use Rattle.std.specs.List.{flat_map};
-ghost use Rattle.snl_walk.specs.Tokens.{IsSource, token_bytes};
+ghost use Rattle.snl_walk.specs.Tokens.{IsSource, bytes_in};
 ghost use Rattle.snl_walk.specs.Items.{found_in_function, found_in_member, found_in_named, found_in_parameter, found_in_state, found_in_struct_member, found_in_target, found_in_transition, found_with_body, in_transition, occurrences, outside};
 ghost use Rattle.snl_walk.specs.Declares.{declared_by_parameter, declared_by_state};
 ghost use Rattle.snl_walk.specs.Scopes.{under_names};
@@ -10,7 +10,7 @@ ghost use Rattle.snl_walk.specs.Statements.{declaration_at, found_in_block, foun
 
 use crate::declares::{declared_by_parameters, declared_by_state};
 use crate::expressions::{add_lengths, add_optional};
-use crate::occurrence::{Occurrence, Place, What};
+use crate::occurrence::{Context, Occurrence, What};
 use crate::source::Source;
 use crate::statements::{add_block, add_declaration, declaration_at, enter};
 use crate::visible::Visible;
@@ -20,20 +20,20 @@ use snl_syntax::tree::item::{Function, Item, StructMember};
 use snl_syntax::tree::state::{StateMember, Target, Transition};
 use snl_syntax::tree::statement::Member;
 
-// The place of a block at entry or exit, or of a function.
-fn outside() -> Place
+// The context of a block at entry or exit, or of a function.
+fn outside() -> Context
     ensures { result ≡ outside }
 {
-    Place {
+    Context {
         in_loop: false,
         in_transition: false,
     }
 }
 
-fn in_transition() -> Place
+fn in_transition() -> Context
     ensures { result ≡ in_transition }
 {
-    Place {
+    Context {
         in_loop: false,
         in_transition: true,
     }
@@ -59,7 +59,8 @@ fn add_transition<'a>(
     found: &mut Vec<Occurrence>,
 ) -> Result<(), OutOfMemory>
     requires { IsSource source.now.text.now source.now.tokens.now }
-    ensures found { OnOk result (found.new.items ≡ found.old.items ++ found_in_transition (token_bytes source.now.text.now source.now.tokens.now) names.old transition.now) }
+    ensures found { OnOk result (found.new.items ≡ found.old.items
+        ++ found_in_transition (bytes_in source.now) names.old transition.now) }
     ensures names { OnOk result (names.new ≡ names.old) }
 {
     add_optional(source, names, true, &transition.condition, found)?;
@@ -80,7 +81,8 @@ fn add_names(
     found: &mut Vec<Occurrence>,
 ) -> Result<(), OutOfMemory>
     requires { IsSource source.now.text.now source.now.tokens.now }
-    ensures { OnOk result (found.new.items ≡ found.old.items ++ map (declaration_at (token_bytes source.now.text.now source.now.tokens.now) names.now false) tokens.now) }
+    ensures { OnOk result (found.new.items ≡ found.old.items
+        ++ map (declaration_at (bytes_in source.now) names.now false) tokens.now) }
 {
     for token in tokens {
         found.push(declaration_at(source, names, false, *token))?;
@@ -95,7 +97,8 @@ fn add_member<'a>(
     found: &mut Vec<Occurrence>,
 ) -> Result<(), OutOfMemory>
     requires { IsSource source.now.text.now source.now.tokens.now }
-    ensures found { OnOk result (found.new.items ≡ found.old.items ++ found_in_member (token_bytes source.now.text.now source.now.tokens.now) names.old member.now) }
+    ensures found { OnOk result (found.new.items ≡ found.old.items
+        ++ found_in_member (bytes_in source.now) names.old member.now) }
     ensures names { OnOk result (names.new ≡ names.old) }
 {
     match member {
@@ -120,7 +123,8 @@ fn add_members<'a>(
     found: &mut Vec<Occurrence>,
 ) -> Result<(), OutOfMemory>
     requires { IsSource source.now.text.now source.now.tokens.now }
-    ensures { OnOk result (found.new.items ≡ found.old.items ++ flat_map (found_in_member (token_bytes source.now.text.now source.now.tokens.now) names.old) members.now) }
+    ensures { OnOk result (found.new.items ≡ found.old.items
+        ++ flat_map (found_in_member (bytes_in source.now) names.old) members.now) }
 {
     for member in members {
         add_member(source, names, member, found)?;
@@ -134,7 +138,8 @@ fn names_of_state<'a>(
     members: &[StateMember],
 ) -> Result<Visible<'a>, OutOfMemory>
     requires { IsSource source.now.text.now source.now.tokens.now }
-    ensures { IfOk result (λ names. names ≡ under_names (token_bytes source.now.text.now source.now.tokens.now) (declared_by_state (token_bytes source.now.text.now source.now.tokens.now) members.now)) }
+    ensures { IfOk result (λ names. names
+        ≡ under_names (bytes_in source.now) (declared_by_state (bytes_in source.now) members.now)) }
 {
     let declared = declared_by_state(source, members)?;
     let mut names = Visible::new(source.alloc);
@@ -148,7 +153,8 @@ fn add_state(
     found: &mut Vec<Occurrence>,
 ) -> Result<(), OutOfMemory>
     requires { IsSource source.now.text.now source.now.tokens.now }
-    ensures { OnOk result (found.new.items ≡ found.old.items ++ found_in_state (token_bytes source.now.text.now source.now.tokens.now) members.now) }
+    ensures { OnOk result (found.new.items ≡ found.old.items
+        ++ found_in_state (bytes_in source.now) members.now) }
 {
     let mut names = names_of_state(source, members)?;
     add_members(source, &mut names, members, found)
@@ -160,7 +166,8 @@ fn add_prototype(
     found: &mut Vec<Occurrence>,
 ) -> Result<(), OutOfMemory>
     requires { IsSource source.now.text.now source.now.tokens.now }
-    ensures { OnOk result (found.new.items ≡ found.old.items ++ flat_map (found_in_parameter (token_bytes source.now.text.now source.now.tokens.now) []) parameters.now) }
+    ensures { OnOk result (found.new.items ≡ found.old.items
+        ++ flat_map (found_in_parameter (bytes_in source.now) []) parameters.now) }
 {
     let names = Visible::new(source.alloc);
     for parameter in parameters {
@@ -176,7 +183,8 @@ fn add_parameter(
     found: &mut Vec<Occurrence>,
 ) -> Result<(), OutOfMemory>
     requires { IsSource source.now.text.now source.now.tokens.now }
-    ensures { OnOk result (found.new.items ≡ found.old.items ++ found_in_named (token_bytes source.now.text.now source.now.tokens.now) names.now parameter.now) }
+    ensures { OnOk result (found.new.items ≡ found.old.items
+        ++ found_in_named (bytes_in source.now) names.now parameter.now) }
 {
     if let Some(token) = parameter.name {
         found.push(declaration_at(source, names, false, token))?;
@@ -191,7 +199,8 @@ fn add_parameters(
     found: &mut Vec<Occurrence>,
 ) -> Result<(), OutOfMemory>
     requires { IsSource source.now.text.now source.now.tokens.now }
-    ensures { OnOk result (found.new.items ≡ found.old.items ++ flat_map (found_in_named (token_bytes source.now.text.now source.now.tokens.now) names.now) parameters.now) }
+    ensures { OnOk result (found.new.items ≡ found.old.items
+        ++ flat_map (found_in_named (bytes_in source.now) names.now) parameters.now) }
 {
     for parameter in parameters {
         add_parameter(source, names, parameter, found)?;
@@ -205,7 +214,8 @@ fn names_of_parameters<'a>(
     parameters: &[Parameter],
 ) -> Result<Visible<'a>, OutOfMemory>
     requires { IsSource source.now.text.now source.now.tokens.now }
-    ensures { IfOk result (λ names. names ≡ under_names (token_bytes source.now.text.now source.now.tokens.now) (flat_map declared_by_parameter parameters.now)) }
+    ensures { IfOk result (λ names. names
+        ≡ under_names (bytes_in source.now) (flat_map declared_by_parameter parameters.now)) }
 {
     let declared = declared_by_parameters(source, parameters)?;
     let mut names = Visible::new(source.alloc);
@@ -220,7 +230,8 @@ fn add_with_body(
     found: &mut Vec<Occurrence>,
 ) -> Result<(), OutOfMemory>
     requires { IsSource source.now.text.now source.now.tokens.now }
-    ensures { OnOk result (found.new.items ≡ found.old.items ++ found_with_body (token_bytes source.now.text.now source.now.tokens.now) parameters.now block.now) }
+    ensures { OnOk result (found.new.items ≡ found.old.items
+        ++ found_with_body (bytes_in source.now) parameters.now block.now) }
 {
     let mut names = names_of_parameters(source, parameters)?;
     add_parameters(source, &names, parameters, found)?;
@@ -233,7 +244,8 @@ fn add_function(
     found: &mut Vec<Occurrence>,
 ) -> Result<(), OutOfMemory>
     requires { IsSource source.now.text.now source.now.tokens.now }
-    ensures { OnOk result (found.new.items ≡ found.old.items ++ found_in_function (token_bytes source.now.text.now source.now.tokens.now) function.now.parameters function.now.body) }
+    ensures { OnOk result (found.new.items ≡ found.old.items
+        ++ found_in_function (bytes_in source.now) function.now.parameters function.now.body) }
 {
     match &function.body {
         Some(block) => {
@@ -256,7 +268,8 @@ fn add_struct_member(
 ) -> Result<(), OutOfMemory>
     requires source { IsSource source.now.text.now source.now.tokens.now }
     requires nothing { names.now ≡ [] }
-    ensures { OnOk result (found.new.items ≡ found.old.items ++ found_in_struct_member (token_bytes source.now.text.now source.now.tokens.now) member.now) }
+    ensures { OnOk result (found.new.items ≡ found.old.items
+        ++ found_in_struct_member (bytes_in source.now) member.now) }
 {
     match member {
         StructMember::Declaration(declaration) => {
@@ -272,7 +285,8 @@ fn add_struct(
     found: &mut Vec<Occurrence>,
 ) -> Result<(), OutOfMemory>
     requires { IsSource source.now.text.now source.now.tokens.now }
-    ensures { OnOk result (found.new.items ≡ found.old.items ++ flat_map (found_in_struct_member (token_bytes source.now.text.now source.now.tokens.now)) members.now) }
+    ensures { OnOk result (found.new.items ≡ found.old.items
+        ++ flat_map (found_in_struct_member (bytes_in source.now)) members.now) }
 {
     let names = Visible::new(source.alloc);
     for member in members {
@@ -288,7 +302,8 @@ fn add_definition(
     found: &mut Vec<Occurrence>,
 ) -> Result<(), OutOfMemory>
     requires { IsSource source.now.text.now source.now.tokens.now }
-    ensures { OnOk result (found.new.items ≡ found.old.items ++ found_in_declaration (token_bytes source.now.text.now source.now.tokens.now) [] false declaration.now) }
+    ensures { OnOk result (found.new.items ≡ found.old.items
+        ++ found_in_declaration (bytes_in source.now) [] false declaration.now) }
 {
     let names = Visible::new(source.alloc);
     add_declaration(source, &names, false, declaration, found)
@@ -301,7 +316,8 @@ fn add_outer_block(
     found: &mut Vec<Occurrence>,
 ) -> Result<(), OutOfMemory>
     requires { IsSource source.now.text.now source.now.tokens.now }
-    ensures { OnOk result (found.new.items ≡ found.old.items ++ found_in_block (token_bytes source.now.text.now source.now.tokens.now) block.now [] outside) }
+    ensures { OnOk result (found.new.items ≡ found.old.items
+        ++ found_in_block (bytes_in source.now) block.now [] outside) }
 {
     let mut names = Visible::new(source.alloc);
     add_block(source, &mut names, outside(), block, found)
@@ -310,7 +326,8 @@ fn add_outer_block(
 #[tactic(auto, unfolding(crate::specs::Items::occurrences))]
 fn add_item(source: &Source, tree: &Item, found: &mut Vec<Occurrence>) -> Result<(), OutOfMemory>
     requires { IsSource source.now.text.now source.now.tokens.now }
-    ensures { OnOk result (found.new.items ≡ found.old.items ++ occurrences (token_bytes source.now.text.now source.now.tokens.now) tree.now) }
+    ensures { OnOk result (found.new.items ≡ found.old.items
+        ++ occurrences (bytes_in source.now) tree.now) }
 {
     match tree {
         Item::Definition(declaration) => add_definition(source, declaration.get(), found),
@@ -336,7 +353,7 @@ fn add_item(source: &Source, tree: &Item, found: &mut Vec<Occurrence>) -> Result
 /// What is found in an item, in the order of its text.
 pub fn occurrences(source: &Source, tree: &Item) -> Result<Vec<Occurrence>, OutOfMemory>
     requires { IsSource source.now.text.now source.now.tokens.now }
-    ensures { IfOk result (λ v. v.items ≡ occurrences (token_bytes source.now.text.now source.now.tokens.now) tree.now) }
+    ensures { IfOk result (λ v. v.items ≡ occurrences (bytes_in source.now) tree.now) }
 {
     let mut found = Vec::new(source.alloc);
     add_item(source, tree, &mut found)?;

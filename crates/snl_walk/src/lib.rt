@@ -4,7 +4,6 @@
 #![tactic(auto)]
 
 mod calls;
-mod codes;
 mod declares;
 mod expressions;
 mod items;
@@ -20,7 +19,6 @@ mod undeclared;
 mod used;
 mod visible;
 
-pub use codes::Code;
 pub use items::occurrences;
 pub use laws::{
     each_finding_once, findings_have_rule_codes, findings_stand_at_tokens,

@@ -67,7 +67,8 @@ impl Eq for NameKey<'_> {
 impl Hash for NameKey<'_> {
     ghost hash_input = { λ a. fed.u64 (print_of a.bytes.now) };
 
-    ghost respects_eq = { λ a b h. ap (λ n. fed.u64 (print_of n)) ((bytes_eq-Decides a.bytes.now b.bytes.now).0 h) };
+    ghost respects_eq = { λ a b h. ap (λ n. fed.u64 (print_of n))
+        ((bytes_eq-Decides a.bytes.now b.bytes.now).0 h) };
 
     fn hash<H: Hasher>(&self, state: &mut H) {
         state.write_u64(print_of(self.bytes));

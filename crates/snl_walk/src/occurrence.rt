@@ -78,14 +78,14 @@ pub(crate) struct Setting {
 
 /// A name in an expression, before it is known what it resolves to.
 #[derive(Clone, Copy)]
-pub(crate) struct Named {
+pub(crate) struct ExpressionName {
     pub token: usize,
     pub setting: Setting,
 }
 
-/// Where a statement is.
+/// What a statement is in: a loop of its block, the block of a transition.
 #[derive(Clone, Copy)]
-pub(crate) struct Place {
+pub(crate) struct Context {
     pub in_loop: bool,
     /// In the block of a transition.
     pub in_transition: bool,

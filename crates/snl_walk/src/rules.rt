@@ -3,17 +3,17 @@
 
 ghost use Rattle.std.specs.Prelude.{◌≡◌, ◌++◌, IfOk, OnOk, map};
 ghost use Rattle.std.specs.List.{flat_map};
-ghost use Rattle.snl_walk.specs.declared.codes.Code.{Code};
+ghost use Rattle.snl_codes.specs.declared.code.Code.{Code};
 ghost use Rattle.snl_walk.specs.Passing.{lacks_channel, lacks_flag, passes};
 ghost use Rattle.snl_walk.specs.Rules.{finding, findings, found_wrong, is_nothing, is_repeated, rules_at, rules_at_call, rules_at_name, rules_at_use, wants_channel, wants_flag, when};
-ghost use Rattle.snl_walk.specs.Tokens.{IsSource, token_bytes};
+ghost use Rattle.snl_walk.specs.Tokens.{IsSource, bytes_in};
 
-use crate::codes::Code;
 use crate::occurrence::{ArgumentRole, Follows, Local, Manner, Occurrence, What};
 use crate::other_items::{OtherItems, Outer};
 use crate::source::Source;
 use crate::undeclared::undeclared;
 use crate::used::is_call;
+use snl_codes::Code;
 use snl_cut::OutOfMemory;
 
 /// What is found at a token of an item (docs/LANGUAGE.md).
@@ -88,7 +88,8 @@ fn add_when(
     code: Code,
     findings: &mut Vec<Finding>,
 ) -> Result<(), OutOfMemory>
-    ensures { OnOk result (findings.new.items ≡ findings.old.items ++ map (finding token) (when holds code)) }
+    ensures { OnOk result (findings.new.items ≡ findings.old.items
+        ++ map (finding token) (when holds code)) }
 {
     if holds {
         findings.push(Finding { token, code })?;
@@ -103,7 +104,8 @@ fn add_at_call(
     manner: Manner,
     findings: &mut Vec<Finding>,
 ) -> Result<(), OutOfMemory>
-    ensures { OnOk result (findings.new.items ≡ findings.old.items ++ map (finding token) (rules_at_call name.now manner)) }
+    ensures { OnOk result (findings.new.items ≡ findings.old.items
+        ++ map (finding token) (rules_at_call name.now manner)) }
 {
     let delays = !manner.in_condition && name == b"delay".as_slice();
     add_when(delays, token, Code::W03, findings)
@@ -117,7 +119,8 @@ fn add_at_use(
     manner: Manner,
     findings: &mut Vec<Finding>,
 ) -> Result<(), OutOfMemory>
-    ensures { OnOk result (findings.new.items ≡ findings.old.items ++ map (finding token) (rules_at_use passes manner)) }
+    ensures { OnOk result (findings.new.items ≡ findings.old.items
+        ++ map (finding token) (rules_at_use passes manner)) }
 {
     let no_flag = wants_flag(manner.role) && is_nothing(manner.follows) && lacks_flag(passes);
     let no_channel = wants_channel(manner.role) && lacks_channel(passes);
@@ -133,7 +136,8 @@ fn add_at_name(
     manner: Manner,
     findings: &mut Vec<Finding>,
 ) -> Result<(), OutOfMemory>
-    ensures { OnOk result (findings.new.items ≡ findings.old.items ++ map (finding token) (rules_at_name name.now passes manner)) }
+    ensures { OnOk result (findings.new.items ≡ findings.old.items
+        ++ map (finding token) (rules_at_name name.now passes manner)) }
 {
     if is_call(manner.follows) {
         add_at_call(token, name, manner, findings)
@@ -149,7 +153,10 @@ fn add_at<O: OtherItems>(
     occurrence: Occurrence,
     findings: &mut Vec<Finding>,
 ) -> Result<(), OutOfMemory>
-    ensures { OnOk result (findings.new.items ≡ findings.old.items ++ map (finding occurrence.token) (rules_at (O.outer_of others.now) (O.misses others.now) name.now occurrence occurrence.what)) }
+    ensures { OnOk result (findings.new.items ≡ findings.old.items
+        ++ map (finding occurrence.token)
+        (rules_at (O.outer_of others.now) (O.misses others.now) name.now occurrence
+        occurrence.what)) }
 {
     let token = occurrence.token;
     match occurrence.what {
@@ -179,7 +186,9 @@ fn add_each<O: OtherItems>(
     findings: &mut Vec<Finding>,
 ) -> Result<(), OutOfMemory>
     requires { IsSource source.now.text.now source.now.tokens.now }
-    ensures { OnOk result (findings.new.items ≡ findings.old.items ++ flat_map (found_wrong (token_bytes source.now.text.now source.now.tokens.now) (O.outer_of others.now) (O.misses others.now)) found.now) }
+    ensures { OnOk result (findings.new.items ≡ findings.old.items
+        ++ flat_map (found_wrong (bytes_in source.now) (O.outer_of others.now) (O.misses others.now))
+        found.now) }
 {
     for occurrence in found {
         let name = source.bytes(occurrence.token);
@@ -189,7 +198,8 @@ fn add_each<O: OtherItems>(
 }
 
 fn add_undeclared(tokens: &[usize], findings: &mut Vec<Finding>) -> Result<(), OutOfMemory>
-    ensures { OnOk result (findings.new.items ≡ findings.old.items ++ map (λ n. finding n Code.W01) tokens.now) }
+    ensures { OnOk result (findings.new.items ≡ findings.old.items
+        ++ map (λ n. finding n Code.W01) tokens.now) }
 {
     for token in tokens {
         findings.push(Finding {
@@ -210,7 +220,8 @@ pub fn findings<O: OtherItems>(
     found: &[Occurrence],
 ) -> Result<Vec<Finding>, OutOfMemory>
     requires { IsSource source.now.text.now source.now.tokens.now }
-    ensures { IfOk result (λ v. v.items ≡ findings (token_bytes source.now.text.now source.now.tokens.now) (O.outer_of others.now) (O.misses others.now) found.now) }
+    ensures { IfOk result (λ v. v.items
+        ≡ findings (bytes_in source.now) (O.outer_of others.now) (O.misses others.now) found.now) }
 {
     let mut findings = Vec::new(source.alloc);
     add_each(source, others, found, &mut findings)?;

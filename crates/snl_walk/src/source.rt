@@ -1,7 +1,7 @@
 //! The tokens of an item, by their numbers: a number comes in, the bytes of its token go out.
 
 ghost use Rattle.std.specs.Prelude.{◌≡◌, ◌+◌};
-ghost use Rattle.snl_walk.specs.Tokens.{IsSource, token_bytes, value_at};
+ghost use Rattle.snl_walk.specs.Tokens.{IsSource, bytes_in, value_at};
 
 use snl_lex::{Piece, int_value, token_text};
 use std::alloc::Global;
@@ -19,7 +19,7 @@ impl<'a> Source<'a> {
     #[tactic(auto, unfolding(crate::specs::Tokens::token_bytes))]
     pub fn bytes(&self, number: usize) -> &'a [u8]
         requires { IsSource self.now.text.now self.now.tokens.now }
-        ensures { result.now ≡ token_bytes self.now.text.now self.now.tokens.now number }
+        ensures { result.now ≡ bytes_in self.now number }
     {
         match self.tokens.get(number) {
             Some(piece) => token_text(self.text, *piece),
@@ -39,7 +39,7 @@ impl<'a> Source<'a> {
     #[tactic(auto, unfolding(crate::specs::Tokens::token_bytes))]
     pub(crate) fn bytes_after(&self, number: usize, distance: usize) -> &'a [u8]
         requires { IsSource self.now.text.now self.now.tokens.now }
-        ensures { result.now ≡ token_bytes self.now.text.now self.now.tokens.now (number + distance) }
+        ensures { result.now ≡ bytes_in self.now (number + distance) }
     {
         match number.checked_add(distance) {
             Some(number) => self.bytes(number),

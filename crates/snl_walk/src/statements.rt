@@ -2,13 +2,13 @@
 //! the text.
 
 ghost use Rattle.std.specs.Prelude.{◌≡◌, ◌++◌, IfOk, OnOk};
-ghost use Rattle.snl_walk.specs.Tokens.{IsSource, token_bytes};
+ghost use Rattle.snl_walk.specs.Tokens.{IsSource, bytes_in};
 ghost use Rattle.snl_walk.specs.Statements.{change, content_of, declaration_at, found_in_block, found_in_declaration, found_in_declarator, found_in_head, found_in_stmt, has_more, in_loop, jump};
 ghost use Rattle.snl_walk.specs.Scopes.{under_names};
 
 use crate::declares::{declared_by_block, is_event_flag};
 use crate::expressions::{add_expr, add_lengths, add_optional, add_value, plain};
-use crate::occurrence::{Local, Occurrence, Place, What};
+use crate::occurrence::{Context, Local, Occurrence, What};
 use crate::source::Source;
 use crate::visible::Visible;
 use snl_cut::OutOfMemory;
@@ -22,7 +22,8 @@ pub(crate) fn enter<'a>(
     names: &mut Visible<'a>,
 ) -> Result<(), OutOfMemory>
     requires { IsSource source.now.text.now source.now.tokens.now }
-    ensures { OnOk result (names.new ≡ under_names (token_bytes source.now.text.now source.now.tokens.now) declared.now ++ names.old) }
+    ensures { OnOk result (names.new ≡ under_names (bytes_in source.now) declared.now
+        ++ names.old) }
 {
     let mut left = declared.len();
     while left > 0 {
@@ -48,7 +49,7 @@ pub(crate) fn declaration_at(
     token: usize,
 ) -> Occurrence
     requires { IsSource source.now.text.now source.now.tokens.now }
-    ensures { result ≡ declaration_at (token_bytes source.now.text.now source.now.tokens.now) names.now is_wrong token }
+    ensures { result ≡ declaration_at (bytes_in source.now) names.now is_wrong token }
 {
     Occurrence {
         token,
@@ -67,7 +68,8 @@ fn add_declarator(
     found: &mut Vec<Occurrence>,
 ) -> Result<(), OutOfMemory>
     requires { IsSource source.now.text.now source.now.tokens.now }
-    ensures { OnOk result (found.new.items ≡ found.old.items ++ found_in_declarator (token_bytes source.now.text.now source.now.tokens.now) names.now is_flag in_block declarator.now) }
+    ensures { OnOk result (found.new.items ≡ found.old.items
+        ++ found_in_declarator (bytes_in source.now) names.now is_flag in_block declarator.now) }
 {
     let is_wrong = is_flag && (in_block || has_more(declarator));
     found.push(declaration_at(source, names, is_wrong, declarator.name))?;
@@ -84,7 +86,8 @@ pub(crate) fn add_declaration(
     found: &mut Vec<Occurrence>,
 ) -> Result<(), OutOfMemory>
     requires { IsSource source.now.text.now source.now.tokens.now }
-    ensures { OnOk result (found.new.items ≡ found.old.items ++ found_in_declaration (token_bytes source.now.text.now source.now.tokens.now) names.now in_block declaration.now) }
+    ensures { OnOk result (found.new.items ≡ found.old.items
+        ++ found_in_declaration (bytes_in source.now) names.now in_block declaration.now) }
 {
     let is_flag = is_event_flag(declaration.of.base);
     for declarator in declaration.declarators.as_slice() {
@@ -101,29 +104,30 @@ fn add_head(
     found: &mut Vec<Occurrence>,
 ) -> Result<(), OutOfMemory>
     requires { IsSource source.now.text.now source.now.tokens.now }
-    ensures { OnOk result (found.new.items ≡ found.old.items ++ found_in_head (token_bytes source.now.text.now source.now.tokens.now) names.now head.now) }
+    ensures { OnOk result (found.new.items ≡ found.old.items
+        ++ found_in_head (bytes_in source.now) names.now head.now) }
 {
     add_optional(source, names, false, &head.first, found)?;
     add_optional(source, names, false, &head.condition, found)?;
     add_optional(source, names, false, &head.step, found)
 }
 
-fn in_loop(place: Place) -> Place
-    ensures { result ≡ in_loop place }
+fn in_loop(context: Context) -> Context
+    ensures { result ≡ in_loop context }
 {
-    Place {
+    Context {
         in_loop: true,
-        in_transition: place.in_transition,
+        in_transition: context.in_transition,
     }
 }
 
-fn jump(word: usize, place: Place) -> Occurrence
-    ensures { result ≡ jump word place }
+fn jump(word: usize, context: Context) -> Occurrence
+    ensures { result ≡ jump word context }
 {
     Occurrence {
         token: word,
         what: What::Jump {
-            in_loop: place.in_loop,
+            in_loop: context.in_loop,
         },
         means: None,
     }
@@ -133,19 +137,19 @@ fn jump(word: usize, place: Place) -> Occurrence
 fn add_change(
     word: usize,
     name: usize,
-    place: Place,
+    context: Context,
     found: &mut Vec<Occurrence>,
 ) -> Result<(), OutOfMemory>
-    ensures { OnOk result (found.new.items ≡ found.old.items ++ change word name place) }
+    ensures { OnOk result (found.new.items ≡ found.old.items ++ change word name context) }
 {
     found.push(Occurrence {
         token: word,
         what: What::Change {
-            in_transition: place.in_transition,
+            in_transition: context.in_transition,
         },
         means: None,
     })?;
-    if place.in_transition {
+    if context.in_transition {
         found.push(Occurrence {
             token: name,
             what: What::Target,
@@ -160,45 +164,46 @@ fn add_change(
 fn add_statement<'a>(
     source: &Source<'a>,
     names: &mut Visible<'a>,
-    place: Place,
+    context: Context,
     statement: &Stmt,
     found: &mut Vec<Occurrence>,
 ) -> Result<(), OutOfMemory>
     requires { IsSource source.now.text.now source.now.tokens.now }
-    ensures found { OnOk result (found.new.items ≡ found.old.items ++ found_in_stmt (token_bytes source.now.text.now source.now.tokens.now) statement.now names.old place) }
+    ensures found { OnOk result (found.new.items ≡ found.old.items
+        ++ found_in_stmt (bytes_in source.now) statement.now names.old context) }
     ensures names { OnOk result (names.new ≡ names.old) }
 {
     match statement {
         Stmt::Expr(expr) => add_expr(source, names, false, expr, plain(), found),
-        Stmt::Block(members) => add_block(source, names, place, members.as_slice(), found),
+        Stmt::Block(members) => add_block(source, names, context, members.as_slice(), found),
         Stmt::If(arms, last) => {
             for arm in arms.as_slice() {
                 add_expr(source, names, false, &arm.0, plain(), found)?;
-                add_statement(source, names, place, &arm.1, found)?;
+                add_statement(source, names, context, &arm.1, found)?;
             }
             match last {
-                Some(last) => add_statement(source, names, place, last.get(), found),
+                Some(last) => add_statement(source, names, context, last.get(), found),
                 None => Ok(()),
             }
         }
         Stmt::While(condition, body) => {
             add_expr(source, names, false, condition, plain(), found)?;
-            add_statement(source, names, in_loop(place), body.get(), found)
+            add_statement(source, names, in_loop(context), body.get(), found)
         }
         Stmt::For(head, body) => {
             add_head(source, names, head.get(), found)?;
-            add_statement(source, names, in_loop(place), body.get(), found)
+            add_statement(source, names, in_loop(context), body.get(), found)
         }
         Stmt::Break(word) => {
-            found.push(jump(*word, place))?;
+            found.push(jump(*word, context))?;
             Ok(())
         }
         Stmt::Continue(word) => {
-            found.push(jump(*word, place))?;
+            found.push(jump(*word, context))?;
             Ok(())
         }
         Stmt::Return(value) => add_optional(source, names, false, value, found),
-        Stmt::State { word, name } => add_change(*word, *name, place, found),
+        Stmt::State { word, name } => add_change(*word, *name, context, found),
         Stmt::Empty | Stmt::CCode(_) => Ok(()),
     }
 }
@@ -208,19 +213,20 @@ fn add_statement<'a>(
 fn add_content<'a>(
     source: &Source<'a>,
     names: &mut Visible<'a>,
-    place: Place,
+    context: Context,
     member: &Member,
     found: &mut Vec<Occurrence>,
 ) -> Result<(), OutOfMemory>
     requires { IsSource source.now.text.now source.now.tokens.now }
-    ensures found { OnOk result (found.new.items ≡ found.old.items ++ (content_of (token_bytes source.now.text.now source.now.tokens.now) member.now).found names.old place) }
+    ensures found { OnOk result (found.new.items ≡ found.old.items
+        ++ (content_of (bytes_in source.now) member.now).found names.old context) }
     ensures names { OnOk result (names.new ≡ names.old) }
 {
     match member {
         Member::Declaration(declaration) => {
             add_declaration(source, names, true, declaration, found)
         }
-        Member::Statement(statement) => add_statement(source, names, place, statement, found),
+        Member::Statement(statement) => add_statement(source, names, context, statement, found),
     }
 }
 
@@ -229,18 +235,19 @@ fn add_content<'a>(
 pub(crate) fn add_block<'a>(
     source: &Source<'a>,
     names: &mut Visible<'a>,
-    place: Place,
+    context: Context,
     members: &[Member],
     found: &mut Vec<Occurrence>,
 ) -> Result<(), OutOfMemory>
     requires { IsSource source.now.text.now source.now.tokens.now }
-    ensures found { OnOk result (found.new.items ≡ found.old.items ++ found_in_block (token_bytes source.now.text.now source.now.tokens.now) members.now names.old place) }
+    ensures found { OnOk result (found.new.items ≡ found.old.items
+        ++ found_in_block (bytes_in source.now) members.now names.old context) }
     ensures names { OnOk result (names.new ≡ names.old) }
 {
     let declared = declared_by_block(source, members)?;
     enter(source, &declared, names)?;
     for member in members {
-        add_content(source, names, place, member, found)?;
+        add_content(source, names, context, member, found)?;
     }
     names.leave(declared.len())
 }

@@ -4,7 +4,7 @@ ghost use Rattle.std.specs.Prelude.{◌≡◌, [], ◌∷◌, ◌++◌, IfOk, On
 ghost use Rattle.std.specs.List.{list_any};
 ghost use Rattle.snl_walk.specs.Once.{with_new};
 ghost use Rattle.snl_walk.specs.Undeclared.{is_built_in, is_channel_constant, is_constant, is_undeclared, undeclared};
-ghost use Rattle.snl_walk.specs.Tokens.{IsSource, token_bytes};
+ghost use Rattle.snl_walk.specs.Tokens.{IsSource, bytes_in};
 
 use crate::name_set::NameSet;
 use crate::occurrence::Occurrence;
@@ -52,7 +52,8 @@ fn add_first<'a>(
     firsts: &mut Vec<usize>,
 ) -> Result<(), OutOfMemory>
     ensures names { OnOk result (names.new ≡ with_new names.old name.now) }
-    ensures firsts { OnOk result (firsts.new.items ≡ firsts.old.items ++ (if list_any (bytes_eq name.now) names.old then [] else token ∷ [])) }
+    ensures firsts { OnOk result (firsts.new.items ≡ firsts.old.items
+        ++ (if list_any (bytes_eq name.now) names.old then [] else token ∷ [])) }
 {
     if names.add(name)? {
         firsts.push(token)?;
@@ -67,7 +68,8 @@ pub(crate) fn undeclared<O: OtherItems>(
     found: &[Occurrence],
 ) -> Result<Vec<usize>, OutOfMemory>
     requires { IsSource source.now.text.now source.now.tokens.now }
-    ensures { IfOk result (λ v. v.items ≡ undeclared (token_bytes source.now.text.now source.now.tokens.now) (O.outer_of others.now) found.now) }
+    ensures { IfOk result
+        (λ v. v.items ≡ undeclared (bytes_in source.now) (O.outer_of others.now) found.now) }
 {
     let mut names = NameSet::new(source.alloc);
     let mut firsts = Vec::new(source.alloc);

@@ -2,7 +2,7 @@
 //! states or can wake a state.
 
 ghost use Rattle.std.specs.Prelude.{◌≡◌, IfOk};
-ghost use Rattle.snl_walk.specs.Tokens.{IsSource, token_bytes};
+ghost use Rattle.snl_walk.specs.Tokens.{IsSource, bytes_in};
 ghost use Rattle.snl_walk.specs.Uses.{is_call, is_target, is_use, leads_on, subscript_at, target_uses, targets, uses, wake_use, wake_uses, waking};
 
 use crate::occurrence::{Follows, Manner, Occurrence, What};
@@ -107,7 +107,7 @@ pub fn target_uses(alloc: Global, found: &[Occurrence]) -> Result<Vec<TargetUse>
 // The subscript of a use, where it is an integer alone: the second token after the name.
 fn subscript_at(source: &Source, token: usize, follows: Follows) -> Option<u64>
     requires { IsSource source.now.text.now source.now.tokens.now }
-    ensures { result ≡ subscript_at (token_bytes source.now.text.now source.now.tokens.now) token follows }
+    ensures { result ≡ subscript_at (bytes_in source.now) token follows }
 {
     match follows {
         Follows::Index => int_value(source.bytes_after(token, 2)),
@@ -117,7 +117,7 @@ fn subscript_at(source: &Source, token: usize, follows: Follows) -> Option<u64>
 
 fn wake_use(source: &Source, token: usize, manner: Manner) -> WakeUse
     requires { IsSource source.now.text.now source.now.tokens.now }
-    ensures { result ≡ wake_use (token_bytes source.now.text.now source.now.tokens.now) token manner }
+    ensures { result ≡ wake_use (bytes_in source.now) token manner }
 {
     WakeUse {
         token,
@@ -128,7 +128,7 @@ fn wake_use(source: &Source, token: usize, manner: Manner) -> WakeUse
 // The use that an occurrence is, if it is in a condition.
 fn waking(source: &Source, token: usize, what: What) -> Option<WakeUse>
     requires { IsSource source.now.text.now source.now.tokens.now }
-    ensures { result ≡ waking (token_bytes source.now.text.now source.now.tokens.now) token what }
+    ensures { result ≡ waking (bytes_in source.now) token what }
 {
     match what {
         What::Name(manner) => {
@@ -145,7 +145,7 @@ fn waking(source: &Source, token: usize, what: What) -> Option<WakeUse>
 /// The uses in the conditions of a state, in the order of the text: what can wake it.
 pub fn wake_uses(source: &Source, found: &[Occurrence]) -> Result<Vec<WakeUse>, OutOfMemory>
     requires { IsSource source.now.text.now source.now.tokens.now }
-    ensures { IfOk result (λ v. v.items ≡ wake_uses (token_bytes source.now.text.now source.now.tokens.now) found.now) }
+    ensures { IfOk result (λ v. v.items ≡ wake_uses (bytes_in source.now) found.now) }
 {
     let mut uses = Vec::new(source.alloc);
     for occurrence in found {

@@ -12,7 +12,7 @@ use std::marker::Model;
 
 // A declaration, and what its name meant before it was taken in.
 #[derive(Drop)]
-struct Entry<'a> {
+struct VisibleName<'a> {
     name: &'a [u8],
     declared: Local,
     earlier: Option<Local>,
@@ -21,7 +21,7 @@ struct Entry<'a> {
 /// Names with their declarations, the last one taken in first, which contracts see as that list.
 /// The last declaration of a name that was taken in counts; a table finds it at once.
 pub(crate) struct Visible<'a> {
-    entries: Vec<Entry<'a>>,
+    entries: Vec<VisibleName<'a>>,
     held: IndexMap<NameKey<'a>, Option<Local>>,
 }
 
@@ -77,7 +77,7 @@ impl<'a> Visible<'a> {
     {
         self.entries.reserve(1)?;
         let held = self.held.insert(NameKey { bytes: name }, Some(declared))?;
-        self.entries.push_reserved(Entry {
+        self.entries.push_reserved(VisibleName {
             name,
             declared,
             earlier: held.flatten(),

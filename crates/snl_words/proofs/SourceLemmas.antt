@@ -1,5 +1,5 @@
 -- The command, as clap's definitions see it.
-use Rattle.std.proofs.Common.{◌≡◌, ◌∙◌, ap, refl, true, false, Bool, List, codes}
+use Rattle.std.proofs.Common.{◌≡◌, ◌∙◌, ap, refl, true, List, codes}
 use Rattle.clap.specs.declared.parser.matches.ArgMatches.{ArgMatches}
 use Rattle.clap.specs.Words.{App, HasMatchesOf, Row, Text, first_of, first_value, found_of, is_simple, matches_of, new_app, takes, with_rule}
 use Rattle.clap.proofs.OnLiterals.{clap_on_literals}
@@ -27,7 +27,3 @@ value-is app words matches is has =
 pub takes_words-is : (app : App) (words : List Text) → app ≡ source_app → takes app words ≡ takes_words words
 unfolding takes_words
 takes_words-is app words is = ap (λ (a : App). takes a words) is
-
-pub false_unless : (b : Bool) → (b ≡ true → ⊥) → b ≡ false
-false_unless true h = absurd (h refl)
-false_unless false h = refl

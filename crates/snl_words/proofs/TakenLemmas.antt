@@ -20,14 +20,12 @@ use Rattle.clap.proofs.OnLiterals.{clap_on_literals}
 use Rattle.clap.proofs.TakesLemmas.{leaf_takes}
 use Rattle.snl_words.specs.Source.{source_app, takes_words}
 use Rattle.snl_words.proofs.SourceLemmas.{source_app-is_simple}
+use Rattle.std.proofs.lemmas.Bool.{and_from}
 
 -- two steps without a fault
 neither : (a b : Kinds) → or_else a b ≡ [] → (a ≡ []) × (b ≡ [])
 neither [] b h = (refl, h)
 neither (k ∷ ks) b h = cc
-
-both_pass : (a b : Bool) → a ≡ true → b ≡ true → (a && b) ≡ true
-both_pass a b h k = rw (h, k) refl
 
 -- the fault comes only where the test fails
 no_kind : (b : Bool) (k : ErrorKind) → cond b [] (k ∷ []) ≡ [] → b ≡ true
@@ -40,7 +38,7 @@ values-taken : (a : Rule) (vs : List Text) → values_fault a vs ≡ [] → valu
 values-taken a [] h = refl
 values-taken a (v ∷ vs) h =
     let p = neither _ _ h in
-    both_pass (value_passes a v) (values_pass a vs) (no_kind (value_passes a v) _ p.0) (values-taken a vs p.1)
+    and_from (value_passes a v) (values_pass a vs) (no_kind (value_passes a v) _ p.0) (values-taken a vs p.1)
 
 range-taken : (least most n : ℕ) → range_kinds least most n ≡ [] → (nat_le least n ≡ true) × (nat_le n most ≡ true)
 range-taken least most n h = (grind (arith, nat_tests), grind (arith, nat_tests))
@@ -56,7 +54,7 @@ repeat-taken again id rows h = go (has_row id rows) again _ h
 set-taken : (again : Bool) (a : Rule) (values : List Text) (rows : List Row) → set_fault again a values rows ≡ [] → set_passes again a values rows ≡ true
 set-taken again a values rows h =
     let p = neither _ _ h in
-    both_pass (not (has_row a.id rows) || again) (values_pass a values) (repeat-taken again a.id rows p.0) (values-taken a values p.1)
+    and_from (not (has_row a.id rows) || again) (values_pass a values) (repeat-taken again a.id rows p.0) (values-taken a values p.1)
 
 count-taken : (a : Rule) (values : List Text) (rows : List Row) → count_fault a values rows ≡ [] → count_passes a values rows ≡ true
 count-taken a [] rows h = no_kind _ _ h
@@ -77,7 +75,7 @@ use-taken : (again : Bool) (a : Rule) (values : List Text) (rows : List Row) →
 use-taken again a values rows h =
     let p = neither _ _ h in
     let range = range-taken (unwrap_or_range a.range).start_inclusive (most_values a) (length values) p.0 in
-    both_pass _ _ range.0 (both_pass _ _ range.1 (action-taken (action_of a) again a (values_or_missing a values) rows p.1))
+    and_from _ _ range.0 (and_from _ _ range.1 (action-taken (action_of a) again a (values_or_missing a values) rows p.1))
 
 -- ---- a word
 
@@ -95,7 +93,7 @@ settle-taken c again h e = at h.pending e
 react-taken : (c : List Rule) (again : Bool) (a : Rule) (values : List Text) (h : Held) → react_fault c again a values h ≡ [] → react_passes c again a values h ≡ true
 react-taken c again a values h e =
     let p = neither _ _ e in
-    both_pass _ _ (settle-taken c again h p.0) (use-taken again a values (settled c h).rows p.1)
+    and_from _ _ (settle-taken c again h p.0) (use-taken again a values (settled c h).rows p.1)
 
 option-taken : (c : List Rule) (again : Bool) (a : Rule) (v : Option Text) (h : Held) → option_fault c again a v h ≡ [] → option_passes c again a v h ≡ true
 option-taken c again a (Some v) h e = react-taken c again a (v ∷ []) h e
@@ -118,7 +116,7 @@ short-taken c again (Some a) rest h faults passes then e = by (takes_values a) e
     by true p = option-taken c again a (attached_value rest) h p
     by false p =
         let q = neither _ _ p in
-        both_pass _ _ (react-taken c again a [] h q.0) (then (reacted c a [] h) q.1)
+        and_from _ _ (react-taken c again a [] h q.0) (then (reacted c a [] h) q.1)
 
 bundle-taken : (c : List Rule) (again : Bool) (o : Option ℕ) (flags : Text) (skip : ℕ) (h : Held) (faults : Text → ℕ → Held → Kinds) (passes : Text → ℕ → Held → Bool) → ((f : Text) (n : ℕ) (g : Held) → faults f n g ≡ [] → passes f n g ≡ true) → bundle_step_fault c again o flags skip h faults ≡ [] → bundle_step_passes c again o flags skip h passes ≡ true
 bundle-taken c again None flags skip h faults passes then e = refl
@@ -190,14 +188,14 @@ turn-taken s names w word e = by (is_some w.stopped) e
     by true p = refl
     by false p =
         let q = neither _ _ p in
-        both_pass _ _ (word-taken s names w.is_trailing w.waiting word w.held q.0) (step-taken s w.position met.0 met.1 q.1)
+        and_from _ _ (word-taken s names w.is_trailing w.waiting word w.held q.0) (step-taken s w.position met.0 met.1 q.1)
 
 walk-taken : (s : Shape) (names : Names) (w : Walk) (words : List Text) → walk_fault s names w words ≡ [] → walk_passes s names w words ≡ true
 unfolding walk_fault walk_passes
 walk-taken s names w [] e = refl
 walk-taken s names w (word ∷ words) e =
     let p = neither _ _ e in
-    both_pass _ _ (turn-taken s names w word p.0) (walk-taken s names (walked s.rules names w word) words p.1)
+    and_from _ _ (turn-taken s names w word p.0) (walk-taken s names (walked s.rules names w word) words p.1)
 
 -- where no default is refused and nothing else is wanted, the walk decides
 level-taken : (s : Shape) (h : Held) (words : List Text) → list_all default_passes s.rules ≡ true → ((rows : List Row) → is_valid s rows false ≡ true) → level_fault s [] h words false [] ≡ [] → level_passes s [] h words false ≡ true
@@ -205,8 +203,8 @@ level-taken s h words defaults valid e =
     let end = (walk s.rules [] h words).held in
     let p = neither (walk_fault s [] (walk_from h) words) _ e in
     let q = neither (settle_fault s.rules s.args_override_self end) _ p.1 in
-    let after : (list_all default_passes s.rules && is_valid s (finished s.rules end) false) ≡ true = both_pass _ _ defaults (valid (finished s.rules end)) in
-    both_pass _ _ (walk-taken s [] (walk_from h) words p.0) (both_pass _ _ (settle-taken s.rules s.args_override_self end q.0) after)
+    let after : (list_all default_passes s.rules && is_valid s (finished s.rules end) false) ≡ true = and_from _ _ defaults (valid (finished s.rules end)) in
+    and_from _ _ (walk-taken s [] (walk_from h) words p.0) (and_from _ _ (settle-taken s.rules s.args_override_self end q.0) after)
 
 source_app-is_simple_and_free : is_simple_and_free source_app ≡ true
 unfolding source_app clap_on_literals
@@ -231,7 +229,7 @@ words-taken words h =
     let args = argument_words source_app words in
     let none = source_app-has_no_subcommand in
     let level = level-taken (built source_app).top nothing_held args source_app-has_defaults source_app-wants_nothing (sym (leaf_fault (built source_app) nothing_held args none) ∙ h) in
-    both_pass _ _ source_app-is_simple (leaf_takes (built source_app) nothing_held args none level)
+    and_from _ _ source_app-is_simple (leaf_takes (built source_app) nothing_held args none level)
 
 -- a command that found no fault, by the definition of it
 pub found-taken : (app : App) (words : List Text) → app ≡ source_app → (is_simple_and_free app ≡ true → fault_of app words ≡ []) → takes_words words ≡ true

@@ -6,10 +6,10 @@ ghost use Rattle.std.specs.List.{enumerate_from, filter_map, list_any};
 ghost use Rattle.std.specs.List.Sorted.{IsStrictlyIncreasing};
 ghost use Rattle.snl_scope.specs.Below.{all_below};
 ghost use Rattle.snl_scope.specs.Places.{stands_in};
-ghost use Rattle.snl_check.specs.Items.{ProgramItem};
-ghost use Rattle.snl_check.specs.Members.{AreSetMembers, has_name, is_first_told, numbers_told, target_number};
+ghost use Rattle.snl_item_check.specs.Items.{ProgramItem};
+ghost use Rattle.snl_check.specs.Members.{AreSetMembers, has_name, is_first_by_member, numbers_by_member, target_number};
 ghost use Rattle.snl_check.specs.Reach.{is_reached, target_lists};
-ghost use Rattle.snl_check.specs.States.{first_mark, mark_told, marks_of};
+ghost use Rattle.snl_check.specs.States.{first_mark, mark_by_member, marks_of};
 
 use crate::reachability::members::{is_first_of, target_number};
 use crate::reachability::reaching::reach;
@@ -70,7 +70,8 @@ fn target_numbers(
     targets: &[NameRef],
 ) -> Result<Vec<usize>, OutOfMemory>
     requires { IsStrictlyIncreasing states.now }
-    ensures { IfOk result (λ numbers. numbers.items ≡ filter_map (target_number links.now.outlines states.now state) targets.now) }
+    ensures { IfOk result (λ numbers. numbers.items
+        ≡ filter_map (target_number links.now.outlines states.now state) targets.now) }
 {
     let mut numbers = with_room(alloc, targets.len())?;
     for target in targets {
@@ -89,7 +90,8 @@ fn targets_of(
     named: &[SetMember],
 ) -> Result<Vec<Vec<usize>>, OutOfMemory>
     requires { IsStrictlyIncreasing states.now }
-    ensures { IfOk result (λ targets. target_lists targets.items ≡ map (numbers_told links.now.outlines states.now) named.now) }
+    ensures { IfOk result (λ targets. target_lists targets.items
+        ≡ map (numbers_by_member links.now.outlines states.now) named.now) }
 {
     let mut targets = with_room(alloc, named.len())?;
     for member in named {
@@ -107,7 +109,9 @@ fn reached_among(
 ) -> Result<Vec<bool>, OutOfMemory>
     requires { IsStrictlyIncreasing (map (λ m. m.item) named.now) }
     ensures { IfOk result (λ reached. has_faulty ≡ false → (number : ℕ) → number < length named.now
-        → slice_index_or reached.items number false ≡ is_reached (map (numbers_told links.now.outlines (map (λ m. m.item) named.now)) named.now) number) }
+        → slice_index_or reached.items number false
+        ≡ is_reached (map (numbers_by_member links.now.outlines
+        (map (λ m. m.item) named.now)) named.now) number) }
 {
     if has_faulty {
         return Ok(Vec::new(alloc));
@@ -119,7 +123,7 @@ fn reached_among(
 
 // Whether a state is the first of its name in its set.
 fn is_first(links: &Links, member: &SetMember) -> bool
-    ensures { result ≡ is_first_told links.now.outlines member.now }
+    ensures { result ≡ is_first_by_member links.now.outlines member.now }
 {
     match member.name {
         Some(name) => is_first_of(links, member.item, name),
@@ -136,7 +140,8 @@ pub(crate) fn first_mark(
     reached: &[bool],
     number: usize,
 ) -> StateMark
-    ensures { result ≡ first_mark is_faulty (not is_first) has_faulty (slice_index_or reached.now number false) }
+    ensures { result ≡ first_mark is_faulty (not is_first) has_faulty
+        (slice_index_or reached.now number false) }
 {
     if is_faulty {
         return StateMark::Faulty;
@@ -160,7 +165,7 @@ fn mark_of(
     number: usize,
     member: &SetMember,
 ) -> StateMark
-    ensures { result ≡ mark_told links.now.outlines has_faulty reached.now number member.now }
+    ensures { result ≡ mark_by_member links.now.outlines has_faulty reached.now number member.now }
 {
     let is_first = is_first(links, member);
     first_mark(member.is_faulty, is_first, has_faulty, reached, number)
@@ -174,7 +179,8 @@ fn marks_of(
     named: &[SetMember],
 ) -> Result<Vec<StateMark>, OutOfMemory>
     ensures { IfOk result (λ marks. marks.items
-        ≡ map (λ p. mark_told links.now.outlines has_faulty reached.now p.0 p.1) (enumerate_from 0 named.now)) }
+        ≡ map (λ p. mark_by_member links.now.outlines has_faulty reached.now p.0 p.1)
+        (enumerate_from 0 named.now)) }
 {
     let mut marks = with_room(alloc, named.len())?;
     for (number, member) in named.iter().enumerate() {
@@ -191,8 +197,10 @@ pub fn state_marks(
     set: usize,
     members: &[SetMember],
 ) -> Result<Vec<StateMark>, OutOfMemory>
-    requires items { map (λ m. m.item) members.now ≡ all_below (stands_in links.now.outlines set) (length links.now.outlines) }
-    ensures marks { (text : List ℕ) (xs : List ProgramItem) → AreSetMembers text xs links.now.outlines set members.now
+    requires items { map (λ m. m.item) members.now
+        ≡ all_below (stands_in links.now.outlines set) (length links.now.outlines) }
+    ensures marks { (text : List ℕ) (xs : List ProgramItem)
+        → AreSetMembers text xs links.now.outlines set members.now
         → IfOk result (λ marks. marks.items ≡ marks_of text xs links.now.outlines set) }
 {
     let named = named_among(alloc, members)?;

@@ -1,5 +1,5 @@
-//! What is in a state set: the items of a text and their links come in; the states of a set, the
-//! targets of each and the mark of each go out.
+//! What is in a state set: the items of a text and their links come in; the states of a set and the
+//! targets of each go out, and whether an item is faulty or the first state of its name.
 
 ghost use Rattle.std.specs.Prelude.{◌≡◌, ◌<◌, ◌≤◌, ◌&&◌, ℕ, IfOk, false, length, nat_eq, nat_lt, option_copied, position, None};
 ghost use Rattle.std.specs.List.Sorted.{IsStrictlyIncreasing};
@@ -9,13 +9,13 @@ ghost use Rattle.snl_scope.specs.Order.{is_state_word, state_name};
 ghost use Rattle.snl_scope.specs.Places.{stands_in};
 ghost use Rattle.snl_scope.specs.Summaries.{opening_by_word, outline_in};
 ghost use Rattle.snl_walk.specs.Tokens.{IsSource};
-ghost use Rattle.snl_check.specs.Collected.{IsLinked, IsOutline, items_in};
+ghost use Rattle.snl_check.specs.Collected.{IsLinked, IsStateSource, items_in, over};
 ghost use Rattle.snl_check.specs.Members.{has_faulty, is_faulty_item, is_first_state, name_of_state, number_among, states_in, target_numbers, targets_among};
 ghost use Rattle.snl_check.specs.Reach.{target_lists};
 
-use crate::rows::outline::Outline;
 use crate::rows::room::with_room;
 use crate::rows::row_source::RowSource;
+use crate::rows::state_source::StateSource;
 use snl_cut::OutOfMemory;
 use snl_lex::{Class, Piece, token_text};
 use snl_scope::{Links, sets_open_in_turn};
@@ -90,7 +90,8 @@ fn end_of(links: &Links, set: usize, count: usize) -> usize
     requires set { set < count }
     ensures within { result ≤ count }
     ensures some { set < result }
-    ensures items { (j : ℕ) → j < count → stands_in links.now.outlines set j ≡ (nat_lt set j && nat_lt j result) }
+    ensures items { (j : ℕ) → j < count
+        → stands_in links.now.outlines set j ≡ (nat_lt set j && nat_lt j result) }
 {
     sets_open_in_turn();
     for item in set + 1..count {
@@ -105,8 +106,10 @@ fn end_of(links: &Links, set: usize, count: usize) -> usize
 pub(crate) fn members_of(row_source: &RowSource, set: usize) -> Result<Members, OutOfMemory>
     requires linked { IsLinked row_source.now }
     requires set { set < length row_source.now.program.trees.now }
-    ensures states { IfOk result (λ m. m.states.items ≡ states_in row_source.now.links.now.outlines set) }
-    ensures faulty { IfOk result (λ m. m.has_faulty ≡ has_faulty (items_in row_source.now.program) row_source.now.links.now.outlines set) }
+    ensures states { IfOk result (λ m. m.states.items
+        ≡ states_in row_source.now.links.now.outlines set) }
+    ensures faulty { IfOk result (λ m. m.has_faulty
+        ≡ has_faulty (items_in row_source.now.program) row_source.now.links.now.outlines set) }
 {
     let end = end_of(row_source.links, set, row_source.program.trees.len());
     let mut states = Vec::new(row_source.program.alloc);
@@ -148,20 +151,21 @@ pub(crate) fn target_number(
 
 // The targets of a state, by their numbers among the states of its set.
 fn target_numbers(
-    outline: &Outline,
+    state_source: &StateSource,
     states: &[usize],
     state: usize,
 ) -> Result<Vec<usize>, OutOfMemory>
-    requires outline { IsOutline outline.now }
+    requires state_source { IsStateSource state_source.now }
     requires rising { IsStrictlyIncreasing states.now }
-    ensures { IfOk result (λ v. v.items ≡ target_numbers outline.now.row_source.program.text.now (items_in outline.now.row_source.program) outline.now.row_source.links.now.outlines states.now state) }
+    ensures { IfOk result (λ v. v.items
+        ≡ over state_source.now.row_source target_numbers states.now state) }
 {
-    let source = outline.row_source.program.source(state);
-    let targets = outline.target_uses(state);
+    let source = state_source.row_source.program.source(state);
+    let targets = state_source.target_uses(state);
     let mut numbers = with_room(source.alloc, targets.len())?;
     for target in targets {
         let name = source.bytes(target.token);
-        if let Some(number) = target_number(outline.row_source.links, states, state, name) {
+        if let Some(number) = target_number(state_source.row_source.links, states, state, name) {
             numbers.push(number)?;
         }
     }
@@ -170,23 +174,25 @@ fn target_numbers(
 
 /// The targets of each state of a set.
 pub(crate) fn targets_among(
-    outline: &Outline,
+    state_source: &StateSource,
     states: &[usize],
 ) -> Result<Vec<Vec<usize>>, OutOfMemory>
-    requires outline { IsOutline outline.now }
+    requires state_source { IsStateSource state_source.now }
     requires rising { IsStrictlyIncreasing states.now }
-    ensures { IfOk result (λ v. target_lists v.items ≡ targets_among outline.now.row_source.program.text.now (items_in outline.now.row_source.program) outline.now.row_source.links.now.outlines states.now) }
+    ensures { IfOk result (λ v. target_lists v.items
+        ≡ over state_source.now.row_source targets_among states.now) }
 {
-    let mut targets = with_room(outline.row_source.program.alloc, states.len())?;
+    let mut targets = with_room(state_source.row_source.program.alloc, states.len())?;
     for state in states {
-        targets.push(target_numbers(outline, states, *state)?)?;
+        targets.push(target_numbers(state_source, states, *state)?)?;
     }
     Ok(targets)
 }
 
 /// Whether a state is the first of a name in its set.
 pub(crate) fn is_first_of(links: &Links, state: usize, name: &[u8]) -> bool
-    ensures { result ≡ option_map_or (nat_eq state) (state_of links.now.outlines state name.now) false }
+    ensures { result ≡ option_map_or (nat_eq state)
+        (state_of links.now.outlines state name.now) false }
 {
     match links.state(state, name) {
         Some(first) => state == first,

@@ -60,8 +60,10 @@ impl Search {
 pub fn reach(alloc: Global, targets: &[Vec<usize>]) -> Result<Vec<bool>, OutOfMemory>
     requires { AreStates (target_lists targets.now) }
     ensures each { IfOk result (λ reached. length reached.items ≡ length targets.now) }
-    ensures reached { IfOk result (λ reached. (s : ℕ) → (slice_get reached.items s ≡ Some true) ↔ IsReached (target_lists targets.now) s) }
-    ensures told { IfOk result (λ reached. (s : ℕ) → s < length targets.now → slice_get reached.items s ≡ Some (is_reached (target_lists targets.now) s)) }
+    ensures reached { IfOk result (λ reached. (s : ℕ)
+        → (slice_get reached.items s ≡ Some true) ↔ IsReached (target_lists targets.now) s) }
+    ensures decided { IfOk result (λ reached. (s : ℕ) → s < length targets.now
+        → slice_get reached.items s ≡ Some (is_reached (target_lists targets.now) s)) }
 {
     let mut search = Search::new(alloc, targets.len())?;
     if !targets.is_empty() {

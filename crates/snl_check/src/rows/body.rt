@@ -6,7 +6,7 @@ ghost use Rattle.std.specs.Prelude.{◌≡◌, IfOk, map, option_copied};
 ghost use Rattle.std.specs.List.{flat_map};
 ghost use Rattle.snl_walk.specs.Tokens.{IsSource};
 ghost use Rattle.snl_check.specs.States as states;
-ghost use Rattle.snl_check.specs.Told.{by_statements, told_in_item};
+ghost use Rattle.snl_item_check.specs.Told.{told_in_item};
 
 use crate::rows::option_rows::state_options;
 use crate::rows::text_items::span_of;
@@ -23,7 +23,9 @@ use std::alloc::Global;
 // A state that an item names at a token.
 fn named_state(source: &Source, links: &Links, item: usize, token: usize) -> NamedState
     requires { IsSource source.now.text.now source.now.tokens.now }
-    ensures { result ≡ states.named_state source.now.text.now source.now.tokens.now links.now.outlines item token }
+    ensures { result
+        ≡ states.named_state source.now.text.now source.now.tokens.now
+        links.now.outlines item token }
 {
     NamedState {
         name: span_of(source.tokens.get(token)),
@@ -33,7 +35,9 @@ fn named_state(source: &Source, links: &Links, item: usize, token: usize) -> Nam
 
 fn destination(source: &Source, links: &Links, item: usize, target: Target) -> Destination
     requires { IsSource source.now.text.now source.now.tokens.now }
-    ensures { result ≡ states.destination source.now.text.now source.now.tokens.now links.now.outlines item target }
+    ensures { result
+        ≡ states.destination source.now.text.now source.now.tokens.now
+        links.now.outlines item target }
 {
     match target {
         Target::State(name) => Destination::State(named_state(source, links, item, name)),
@@ -49,7 +53,9 @@ fn destinations(
     members: &[StateMember],
 ) -> Result<Vec<Destination>, OutOfMemory>
     requires { IsSource source.now.text.now source.now.tokens.now }
-    ensures { IfOk result (λ v. v.items ≡ flat_map (states.destinations_in_member source.now.text.now source.now.tokens.now links.now.outlines item) members.now) }
+    ensures { IfOk result (λ v. v.items
+        ≡ flat_map (states.destinations_in_member source.now.text.now source.now.tokens.now
+        links.now.outlines item) members.now) }
 {
     let mut destinations = Vec::new(source.alloc);
     for member in members {
@@ -68,7 +74,9 @@ fn gotos(
     targets: &[TargetUse],
 ) -> Result<Vec<NamedState>, OutOfMemory>
     requires { IsSource source.now.text.now source.now.tokens.now }
-    ensures { IfOk result (λ v. v.items ≡ map (states.named_state source.now.text.now source.now.tokens.now links.now.outlines item) (by_statements targets.now)) }
+    ensures { IfOk result (λ v. v.items
+        ≡ map (states.named_state source.now.text.now source.now.tokens.now links.now.outlines item)
+        (states.by_statements targets.now)) }
 {
     let mut gotos = Vec::new(source.alloc);
     for target in targets {
@@ -101,8 +109,12 @@ pub fn state_body(
     targets: &[TargetUse],
 ) -> Result<StateBody, OutOfMemory>
     requires source { IsSource text.now tokens.now }
-    requires targets { targets.now ≡ (told_in_item text.now (record { tokens = tokens.now; tree = option_copied tree })).target_uses }
-    ensures body { IfOk result (λ body. body ≡ states.state_body text.now links.now.outlines item (record { tokens = tokens.now; tree = option_copied tree.entry })) }
+    requires targets { targets.now
+        ≡ (told_in_item text.now
+        (record { tokens = tokens.now; tree = option_copied tree })).target_uses }
+    ensures body { IfOk result (λ body. body
+        ≡ states.state_body text.now links.now.outlines item
+        (record { tokens = tokens.now; tree = option_copied tree.entry })) }
 {
     let source = Source {
         text,

@@ -22,7 +22,8 @@ fn between_quotes(string: &[u8]) -> &[u8]
 /// What is between the quotes of strings, joined.
 pub(crate) fn joined(source: &Source, strings: &[usize]) -> Result<Name, OutOfMemory>
     requires { IsSource source.now.text.now source.now.tokens.now }
-    ensures { IfOk result (λ name. name ≡ joined source.now.text.now source.now.tokens.now strings.now) }
+    ensures { IfOk result (λ name. name
+        ≡ joined source.now.text.now source.now.tokens.now strings.now) }
 {
     let mut bytes = Vec::new(source.alloc);
     for string in strings {

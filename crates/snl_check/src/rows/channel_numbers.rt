@@ -4,7 +4,7 @@ ghost use Rattle.std.specs.Prelude.{◌≡◌, [], IfOk, OnOk, length, map};
 ghost use Rattle.std.specs.Map.{lookup};
 ghost use Rattle.snl_check.specs.Collected.{assigned};
 ghost use Rattle.snl_check.specs.Hashed.{key_fed, same_key_fed, which_number};
-ghost use Rattle.snl_check.specs.Numbered.{Adds, AddsAll, Numbered, TellsBelow, element_at, has_key, same_key};
+ghost use Rattle.snl_check.specs.Numbered.{Adds, AddsAll, Numbered, HoldsBelow, element_at, has_key, same_key};
 
 use crate::rows::channels::AssignedChannel;
 use indexmap::IndexMap;
@@ -25,7 +25,7 @@ pub(crate) enum Which {
 
 /// An element of the variable that is the declaration with a number.
 #[derive(Clone, Copy, PartialEq, Eq)]
-pub(crate) struct Key {
+pub(crate) struct ElementKey {
     pub variable: usize,
     pub which: Which,
 }
@@ -41,7 +41,7 @@ fn which_number(which: Which) -> u64
 
 // Each number has a write of its own: in one write of both, an element could be chosen that gives
 // all variables one hash.
-impl Hash for Key {
+impl Hash for ElementKey {
     ghost hash_input = { key_fed };
 
     ghost respects_eq = { same_key_fed };
@@ -56,20 +56,20 @@ impl Hash for Key {
 /// elements the number of the first. Contracts see the list of these pairs.
 #[derive(Drop)]
 pub(crate) struct ChannelNumbers {
-    held: IndexMap<Key, usize>,
+    held: IndexMap<ElementKey, usize>,
 }
 
 impl Model for ChannelNumbers {
     ghost use Rattle.std.specs.Prelude.{ℕ, List};
-    ghost use Rattle.snl_check.specs.declared.rows.channel_numbers.Key.{Key};
+    ghost use Rattle.snl_check.specs.declared.rows.channel_numbers.ElementKey.{ElementKey};
 
-    ghost Value = { List (Key × ℕ) };
+    ghost Value = { List (ElementKey × ℕ) };
 
     ghost view = { λ a. a.held.entries };
 }
 
 impl ChannelNumbers {
-    /// None.
+    /// The numbers of no channel.
     pub(crate) fn new(alloc: Global) -> ChannelNumbers
         ensures { result ≡ [] }
     {
@@ -79,14 +79,14 @@ impl ChannelNumbers {
     }
 
     /// The number of the first channel with the key.
-    pub(crate) fn number(&self, key: Key) -> Option<usize>
+    pub(crate) fn number(&self, key: ElementKey) -> Option<usize>
         ensures { result ≡ lookup (same_key key) self.now }
     {
         self.held.get(&key).copied()
     }
 
     // Adds a key of the channel with a number. One that had it before stays the first.
-    fn add(&mut self, key: Key, number: usize) -> Result<(), OutOfMemory>
+    fn add(&mut self, key: ElementKey, number: usize) -> Result<(), OutOfMemory>
         ensures { OnOk result (Adds self.old self.new (same_key key) number) }
     {
         if !self.held.contains_key(&key) {
@@ -108,11 +108,11 @@ impl ChannelNumbers {
         let Some(element) = element else {
             return Ok(());
         };
-        let any = Key {
+        let any = ElementKey {
             variable,
             which: Which::Any,
         };
-        let one = Key {
+        let one = ElementKey {
             variable,
             which: Which::Element(element),
         };
@@ -163,7 +163,7 @@ pub(crate) fn numbers_by_rows(
     rows: &[ChannelRow],
     lists: &[Items<usize>],
 ) -> Result<ChannelNumbers, OutOfMemory>
-    ensures { IfOk result (λ numbers. TellsBelow numbers rows.now lists.now (length lists.now)) }
+    ensures { IfOk result (λ numbers. HoldsBelow numbers rows.now lists.now (length lists.now)) }
 {
     let mut numbers = ChannelNumbers::new(alloc);
     for (variable, list) in lists.iter().enumerate() {

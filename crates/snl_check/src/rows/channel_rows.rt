@@ -2,7 +2,7 @@
 
 ghost use Rattle.std.specs.Prelude.{◌≡◌, ◌++◌, ◌∷◌, [], IfOk, OnOk, map};
 ghost use Rattle.snl_check.specs.Channels.{variables_before};
-ghost use Rattle.snl_check.specs.Collected.{IsRowSource, assigned, items_in};
+ghost use Rattle.snl_check.specs.Collected.{IsRowSource, assigned, over};
 ghost use Rattle.snl_check.specs.Tables.{channel_row};
 
 use crate::rows::channel_names::joined;
@@ -17,7 +17,7 @@ use std::alloc::Global;
 
 fn channel_row(row_source: &RowSource, channel: AssignedChannel) -> Result<ChannelRow, OutOfMemory>
     requires { IsRowSource row_source.now }
-    ensures { IfOk result (λ row. row ≡ channel_row row_source.now.program.text.now (items_in row_source.now.program) row_source.now.links.now.outlines (assigned channel.entry)) }
+    ensures { IfOk result (λ row. row ≡ over row_source.now channel_row (assigned channel.entry)) }
 {
     Ok(ChannelRow {
         variable: row_source.program.span(channel.item, channel.token),
@@ -38,7 +38,7 @@ pub(crate) fn channel_rows(
 ) -> Result<Vec<ChannelRow>, OutOfMemory>
     requires { IsRowSource row_source.now }
     ensures { IfOk result (λ rows. rows.items
-        ≡ map (channel_row row_source.now.program.text.now (items_in row_source.now.program) row_source.now.links.now.outlines) (map assigned channels.now)) }
+        ≡ map (over row_source.now channel_row) (map assigned channels.now)) }
 {
     let mut rows = with_room(row_source.program.alloc, channels.len())?;
     for channel in channels {
@@ -70,7 +70,8 @@ pub(crate) fn variables(
     count: usize,
     channels: &[AssignedChannel],
 ) -> Result<Vec<Items<usize>>, OutOfMemory>
-    ensures { IfOk result (λ lists. lists.items ≡ variables_before (map assigned channels.now) count) }
+    ensures { IfOk result (λ lists. lists.items
+        ≡ variables_before (map assigned channels.now) count) }
 {
     let mut lists = no_channels(alloc, count)?;
     for (number, channel) in channels.iter().enumerate() {

@@ -3,10 +3,10 @@
 
 ghost use Rattle.std.specs.Prelude.{◌≡◌, ◌++◌, IfOk, OnOk, map};
 ghost use Rattle.snl_check.specs.Channels.{assigned_channel, assigned_channels, by_element, channels_in, channels_of_clause};
-ghost use Rattle.snl_check.specs.Collected.{IsRowSource, assigned, items_in, told};
-ghost use Rattle.snl_check.specs.Items.{tokens_in};
+ghost use Rattle.snl_check.specs.Collected.{IsRowSource, assigned, items_in, over, resolved};
+ghost use Rattle.snl_item_check.specs.Items.{tokens_in};
 
-use crate::rows::item_clauses::ToldClause;
+use crate::rows::item_clauses::ResolvedClause;
 use crate::rows::row_source::RowSource;
 use snl_cut::OutOfMemory;
 use snl_syntax::tree::clause::{Channel, Clause};
@@ -34,7 +34,9 @@ struct Assign {
 
 impl Assign {
     fn channel<'a>(self, element: Option<u64>, strings: &'a [usize]) -> AssignedChannel<'a>
-        ensures { assigned result ≡ assigned_channel self.item self.token self.variable (record { element = element; strings = strings.now }) }
+        ensures { assigned result
+            ≡ assigned_channel self.item self.token self.variable
+            (record { element = element; strings = strings.now }) }
     {
         AssignedChannel {
             item: self.item,
@@ -53,7 +55,9 @@ fn add_list<'a>(
     channels: &mut Vec<AssignedChannel<'a>>,
 ) -> Result<(), OutOfMemory>
     ensures { OnOk result (map assigned channels.new.items
-        ≡ map assigned channels.old.items ++ map (assigned_channel assign.item assign.token assign.variable) (by_element 0 lists.now)) }
+        ≡ map assigned channels.old.items
+        ++ map (assigned_channel assign.item assign.token assign.variable)
+        (by_element 0 lists.now)) }
 {
     for (element, strings) in lists.iter().enumerate() {
         channels.push(assign.channel(Some(element as u64), strings.as_slice()))?;
@@ -70,8 +74,10 @@ fn add_channels<'a>(
 ) -> Result<(), OutOfMemory>
     requires { IsRowSource row_source.now }
     ensures { OnOk result (map assigned channels.new.items
-        ≡ map assigned channels.old.items ++ map (assigned_channel assign.item assign.token assign.variable)
-        (channels_in row_source.now.program.text.now (tokens_in (items_in row_source.now.program) assign.item) channel.now)) }
+        ≡ map assigned channels.old.items
+        ++ map (assigned_channel assign.item assign.token assign.variable)
+        (channels_in row_source.now.program.text.now
+        (tokens_in (items_in row_source.now.program) assign.item) channel.now)) }
 {
     match channel {
         Channel::Anonymous => channels.push(assign.channel(None, &[]))?,
@@ -97,12 +103,14 @@ fn add_channels<'a>(
 // Adds the channels of a clause: a sound `assign` has them.
 fn add_clause<'a>(
     row_source: &RowSource<'a>,
-    clause: ToldClause<'a>,
+    clause: ResolvedClause<'a>,
     channels: &mut Vec<AssignedChannel<'a>>,
 ) -> Result<(), OutOfMemory>
     requires { IsRowSource row_source.now }
     ensures { OnOk result (map assigned channels.new.items
-        ≡ map assigned channels.old.items ++ channels_of_clause row_source.now.program.text.now (items_in row_source.now.program) (told clause.entry)) }
+        ≡ map assigned channels.old.items
+        ++ channels_of_clause row_source.now.program.text.now (items_in row_source.now.program)
+        (resolved clause.entry)) }
 {
     if !clause.link.is_sound {
         return Ok(());
@@ -126,7 +134,7 @@ pub(crate) fn assigned_channels<'a>(
 ) -> Result<Vec<AssignedChannel<'a>>, OutOfMemory>
     requires { IsRowSource row_source.now }
     ensures { IfOk result (λ channels. map assigned channels.items
-        ≡ assigned_channels row_source.now.program.text.now (items_in row_source.now.program) row_source.now.links.now.outlines) }
+        ≡ over row_source.now assigned_channels) }
 {
     let mut channels = Vec::new(row_source.program.alloc);
     for clause in row_source.clauses {

@@ -11,7 +11,8 @@ use snl_tables::FlagRow;
 // The row of the flag that is the declaration with a number.
 fn flag_row_at(row_source: &RowSource, number: usize) -> Option<FlagRow>
     requires { IsRowSource row_source.now }
-    ensures { result ≡ flag_row_at (items_in row_source.now.program) row_source.now.links.now.outlines number }
+    ensures { result ≡ flag_row_at
+        (items_in row_source.now.program) row_source.now.links.now.outlines number }
 {
     let declaration = row_source.links.declared(number)?;
     Some(FlagRow {
@@ -23,7 +24,8 @@ fn flag_row_at(row_source: &RowSource, number: usize) -> Option<FlagRow>
 /// The event flags in the order of the text.
 pub(crate) fn flag_rows(row_source: &RowSource) -> Result<Vec<FlagRow>, OutOfMemory>
     requires { IsRowSource row_source.now }
-    ensures { IfOk result (λ rows. rows.items ≡ flag_rows (items_in row_source.now.program) row_source.now.links.now.outlines) }
+    ensures { IfOk result (λ rows. rows.items
+        ≡ flag_rows (items_in row_source.now.program) row_source.now.links.now.outlines) }
 {
     let mut rows = Vec::new(row_source.program.alloc);
     for number in row_source.links.flags() {

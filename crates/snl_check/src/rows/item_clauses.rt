@@ -1,10 +1,10 @@
 //! The clauses of a text: the trees of its items and their links come in, the trees of the clauses
-//! go out, each with the number of its item and with what links tell of it.
+//! go out, each with the number of its item and with what links say of it.
 
 ghost use Rattle.std.specs.Prelude.{◌≡◌, ◌++◌, IfOk, OnOk, map, option_copied};
 ghost use Rattle.std.specs.List.{flat_map};
-ghost use Rattle.snl_check.specs.Clauses.{clause_in_member, clauses_in_tree, item_clause, item_clauses, item_clauses_if, told_clauses};
-ghost use Rattle.snl_check.specs.Collected.{AreTextItems, items_in, placed, told};
+ghost use Rattle.snl_check.specs.Clauses.{clause_in_member, clauses_in_tree, item_clause, item_clauses, item_clauses_if, resolved_clauses};
+ghost use Rattle.snl_check.specs.Collected.{AreTextItems, items_in, placed, resolved};
 
 use crate::rows::text_items::TextItems;
 use snl_cut::OutOfMemory;
@@ -20,9 +20,9 @@ struct PlacedClause<'a> {
     clause: &'a Clause,
 }
 
-/// A clause, the number of its item, and what links tell of it.
+/// A clause, the number of its item, and what links say of it.
 #[derive(Clone, Copy)]
-pub(crate) struct ToldClause<'a> {
+pub(crate) struct ResolvedClause<'a> {
     pub item: usize,
     pub clause: &'a Clause,
     pub link: ClauseLink,
@@ -34,7 +34,8 @@ fn add_members<'a>(
     members: &'a [StateMember],
     clauses: &mut Vec<PlacedClause<'a>>,
 ) -> Result<(), OutOfMemory>
-    ensures { OnOk result (map placed clauses.new.items ≡ map placed clauses.old.items ++ map (item_clause item) (flat_map clause_in_member members.now)) }
+    ensures { OnOk result (map placed clauses.new.items ≡ map placed clauses.old.items
+        ++ map (item_clause item) (flat_map clause_in_member members.now)) }
 {
     for member in members {
         if let StateMember::Clause(clause) = member {
@@ -50,7 +51,8 @@ fn add_item<'a>(
     tree: Option<&'a Item>,
     clauses: &mut Vec<PlacedClause<'a>>,
 ) -> Result<(), OutOfMemory>
-    ensures { OnOk result (map placed clauses.new.items ≡ map placed clauses.old.items ++ item_clauses_if item (option_copied tree.entry)) }
+    ensures { OnOk result (map placed clauses.new.items ≡ map placed clauses.old.items
+        ++ item_clauses_if item (option_copied tree.entry)) }
 {
     match tree {
         Some(Item::Clause(clause)) => {
@@ -70,7 +72,8 @@ fn add_item<'a>(
 // The clauses of all items, in the order of the text.
 fn item_clauses<'a>(program: &TextItems<'a>) -> Result<Vec<PlacedClause<'a>>, OutOfMemory>
     requires { AreTextItems program.now }
-    ensures { IfOk result (λ clauses. map placed clauses.items ≡ item_clauses (items_in program.now)) }
+    ensures { IfOk result (λ clauses. map placed clauses.items
+        ≡ item_clauses (items_in program.now)) }
 {
     let mut clauses = Vec::new(program.alloc);
     for item in 0..program.trees.len() {
@@ -79,20 +82,21 @@ fn item_clauses<'a>(program: &TextItems<'a>) -> Result<Vec<PlacedClause<'a>>, Ou
     Ok(clauses)
 }
 
-/// The clauses of all items, in the order of the text, each with what links tell of it.
-pub(crate) fn told_clauses<'a>(
+/// The clauses of all items, in the order of the text, each with what links say of it.
+pub(crate) fn resolved_clauses<'a>(
     program: &TextItems<'a>,
     links: &Links,
-) -> Result<Vec<ToldClause<'a>>, OutOfMemory>
+) -> Result<Vec<ResolvedClause<'a>>, OutOfMemory>
     requires { AreTextItems program.now }
-    ensures { IfOk result (λ clauses. map told clauses.items ≡ told_clauses (items_in program.now) links.now.outlines) }
+    ensures { IfOk result (λ clauses. map resolved clauses.items
+        ≡ resolved_clauses (items_in program.now) links.now.outlines) }
 {
     let placed = item_clauses(program)?;
     let links = links.clauses();
     let mut clauses = Vec::new(program.alloc);
     for (number, placed) in placed.iter().enumerate() {
         if number < links.len() {
-            clauses.push(ToldClause {
+            clauses.push(ResolvedClause {
                 item: placed.item,
                 clause: placed.clause,
                 link: links[number],

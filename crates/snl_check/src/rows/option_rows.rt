@@ -4,14 +4,13 @@
 ghost use Rattle.std.specs.Prelude.{◌≡◌, ◌++◌, IfOk, OnOk, map, option_map};
 ghost use Rattle.std.specs.List.{flat_map};
 ghost use Rattle.snl_walk.specs.Tokens.{IsSource, token_bytes};
-ghost use Rattle.snl_check.specs.Collected.{IsRowSource, items_in};
-ghost use Rattle.snl_check.specs.SettingTrees.{told};
+ghost use Rattle.snl_check.specs.Collected.{IsRowSource, over};
+ghost use Rattle.snl_check.specs.SettingTrees.{as_setting};
 ghost use Rattle.snl_check.specs.Settings.{last_setting, option_rows, program_options, program_settings, setting_at, setting_of, settings_in_member, state_options};
 
 use crate::rows::row_source::RowSource;
-use crate::rules::options::is_on;
-use crate::rules::view::View;
 use snl_cut::OutOfMemory;
+use snl_item_check::{View, is_on};
 use snl_syntax::tree::clause::OptionLine;
 use snl_syntax::tree::item::Item;
 use snl_syntax::tree::state::StateMember;
@@ -34,7 +33,8 @@ struct LetterSetting<'a> {
 
 fn setting_of<'a>(source: &Source<'a>, line: OptionLine) -> LetterSetting<'a>
     requires { IsSource source.now.text.now source.now.tokens.now }
-    ensures { told result ≡ setting_of (token_bytes source.now.text.now source.now.tokens.now) line }
+    ensures { as_setting result
+        ≡ setting_of (token_bytes source.now.text.now source.now.tokens.now) line }
 {
     LetterSetting {
         letters: source.bytes(line.letters),
@@ -44,7 +44,7 @@ fn setting_of<'a>(source: &Source<'a>, line: OptionLine) -> LetterSetting<'a>
 
 // The last setting of a letter.
 fn last_setting(letter: u8, settings: &[LetterSetting]) -> Option<bool>
-    ensures { result ≡ last_setting letter (map told settings.now) }
+    ensures { result ≡ last_setting letter (map as_setting settings.now) }
 {
     let mut last = None;
     for setting in settings {
@@ -61,7 +61,8 @@ fn option_rows(
     letters: &[u8],
     settings: &[LetterSetting],
 ) -> Result<Vec<OptionRow>, OutOfMemory>
-    ensures { IfOk result (λ rows. rows.items ≡ option_rows letters.now (map told settings.now)) }
+    ensures { IfOk result (λ rows. rows.items
+        ≡ option_rows letters.now (map as_setting settings.now)) }
 {
     let mut rows = Vec::new(alloc);
     for letter in letters {
@@ -78,7 +79,7 @@ fn option_rows(
 // What an item sets for the program.
 fn setting_at<'a>(row_source: &RowSource<'a>, item: usize) -> Option<LetterSetting<'a>>
     requires { IsRowSource row_source.now }
-    ensures { option_map told result ≡ setting_at row_source.now.program.text.now (items_in row_source.now.program) row_source.now.links.now.outlines item }
+    ensures { option_map as_setting result ≡ over row_source.now setting_at item }
 {
     let view = View {
         links: row_source.links,
@@ -95,8 +96,8 @@ fn setting_at<'a>(row_source: &RowSource<'a>, item: usize) -> Option<LetterSetti
 
 fn program_settings<'a>(row_source: &RowSource<'a>) -> Result<Vec<LetterSetting<'a>>, OutOfMemory>
     requires { IsRowSource row_source.now }
-    ensures { IfOk result (λ settings. map told settings.items
-        ≡ program_settings row_source.now.program.text.now (items_in row_source.now.program) row_source.now.links.now.outlines) }
+    ensures { IfOk result (λ settings. map as_setting settings.items
+        ≡ over row_source.now program_settings) }
 {
     let mut settings = Vec::new(row_source.program.alloc);
     for item in 0..row_source.program.trees.len() {
@@ -110,8 +111,7 @@ fn program_settings<'a>(row_source: &RowSource<'a>) -> Result<Vec<LetterSetting<
 /// The options of a program.
 pub(crate) fn program_options(row_source: &RowSource) -> Result<Vec<OptionRow>, OutOfMemory>
     requires { IsRowSource row_source.now }
-    ensures { IfOk result (λ rows. rows.items
-        ≡ program_options row_source.now.program.text.now (items_in row_source.now.program) row_source.now.links.now.outlines) }
+    ensures { IfOk result (λ rows. rows.items ≡ over row_source.now program_options) }
 {
     let settings = program_settings(row_source)?;
     option_rows(row_source.program.alloc, PROGRAM_LETTERS, &settings)
@@ -124,8 +124,10 @@ fn add_settings<'a>(
     settings: &mut Vec<LetterSetting<'a>>,
 ) -> Result<(), OutOfMemory>
     requires { IsSource source.now.text.now source.now.tokens.now }
-    ensures { OnOk result (map told settings.new.items
-        ≡ map told settings.old.items ++ flat_map (settings_in_member (token_bytes source.now.text.now source.now.tokens.now)) members.now) }
+    ensures { OnOk result (map as_setting settings.new.items
+        ≡ map as_setting settings.old.items
+        ++ flat_map (settings_in_member
+        (token_bytes source.now.text.now source.now.tokens.now)) members.now) }
 {
     for member in members {
         if let StateMember::OptionLine(line) = member {
@@ -141,7 +143,8 @@ pub(crate) fn state_options(
     members: &[StateMember],
 ) -> Result<Vec<OptionRow>, OutOfMemory>
     requires { IsSource source.now.text.now source.now.tokens.now }
-    ensures { IfOk result (λ rows. rows.items ≡ state_options (token_bytes source.now.text.now source.now.tokens.now) members.now) }
+    ensures { IfOk result (λ rows. rows.items
+        ≡ state_options (token_bytes source.now.text.now source.now.tokens.now) members.now) }
 {
     let mut settings = Vec::new(source.alloc);
     add_settings(source, members, &mut settings)?;

@@ -3,7 +3,7 @@
 
 ghost use Rattle.std.specs.Prelude.{◌≡◌, option_map};
 
-use crate::rows::item_clauses::ToldClause;
+use crate::rows::item_clauses::ResolvedClause;
 use crate::rows::text_items::TextItems;
 use snl_scope::{Links, Scope};
 use snl_tables::{ScopeName, Span};
@@ -12,13 +12,13 @@ use snl_tables::{ScopeName, Span};
 #[derive(Clone, Copy)]
 pub(crate) struct RowSource<'a> {
     pub program: TextItems<'a>,
-    pub clauses: &'a [ToldClause<'a>],
+    pub clauses: &'a [ResolvedClause<'a>],
     pub links: &'a Links,
 }
 
 impl<'a> RowSource<'a> {
     ghost use Rattle.snl_check.specs.Collected.{IsRowSource, items_in};
-    ghost use Rattle.snl_check.specs.Items.{item_name};
+    ghost use Rattle.snl_check.specs.ItemSpans.{item_name};
     ghost use Rattle.snl_check.specs.Tables.{scope_name, scope_of_variable};
 
     /// Where the name of a state set or of a state is.
@@ -39,7 +39,8 @@ impl<'a> RowSource<'a> {
     /// A scope by its names.
     pub(crate) fn scope_name(&self, scope: Scope) -> ScopeName
         requires { IsRowSource self.now }
-        ensures { result ≡ scope_name (items_in self.now.program) self.now.links.now.outlines scope }
+        ensures { result ≡ scope_name
+            (items_in self.now.program) self.now.links.now.outlines scope }
     {
         match scope {
             Scope::Program => ScopeName::Program,
@@ -54,7 +55,8 @@ impl<'a> RowSource<'a> {
     /// The scope that declares a variable.
     pub(crate) fn scope_of_variable(&self, variable: usize) -> ScopeName
         requires { IsRowSource self.now }
-        ensures { result ≡ scope_of_variable (items_in self.now.program) self.now.links.now.outlines variable }
+        ensures { result ≡ scope_of_variable
+            (items_in self.now.program) self.now.links.now.outlines variable }
     {
         match self.links.declared(variable) {
             Some(declaration) => self.scope_name(declaration.scope),

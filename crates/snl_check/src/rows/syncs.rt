@@ -3,10 +3,10 @@
 ghost use Rattle.std.specs.Prelude.{◌≡◌, option_and_then};
 ghost use Rattle.snl_scope.specs.Flags.{flag_number};
 ghost use Rattle.snl_walk.specs.Tokens.{IsSource};
-ghost use Rattle.snl_check.specs.Collected.{IsRowSource, items_in, told};
+ghost use Rattle.snl_check.specs.Collected.{IsRowSource, over, resolved};
 ghost use Rattle.snl_check.specs.Tables as tables;
 
-use crate::rows::item_clauses::ToldClause;
+use crate::rows::item_clauses::ResolvedClause;
 use crate::rows::row_source::RowSource;
 use snl_scope::Links;
 use snl_syntax::tree::clause::Clause;
@@ -32,9 +32,9 @@ fn flag_number(links: &Links, flag: Option<usize>) -> Option<usize>
 }
 
 // How a clause syncs what it speaks of.
-fn synced(row_source: &RowSource, clause: ToldClause) -> Option<Synced>
+fn synced(row_source: &RowSource, clause: ResolvedClause) -> Option<Synced>
     requires { IsRowSource row_source.now }
-    ensures { result ≡ tables.synced row_source.now.program.text.now (items_in row_source.now.program) row_source.now.links.now.outlines (told clause.entry) }
+    ensures { result ≡ over row_source.now tables.synced (resolved clause.entry) }
 {
     let flag = flag_number(row_source.links, clause.link.flag);
     match clause.clause {
@@ -70,7 +70,7 @@ pub(crate) fn sync_of(
     element: Option<u64>,
 ) -> Option<Synced>
     requires { IsRowSource row_source.now }
-    ensures { result ≡ tables.sync_of row_source.now.program.text.now (items_in row_source.now.program) row_source.now.links.now.outlines variable element }
+    ensures { result ≡ over row_source.now tables.sync_of variable element }
 {
     let number = row_source.links.sync_number(variable, element)?;
     let clause = row_source.clauses.get(number)?;

@@ -5,24 +5,24 @@ ghost use Rattle.std.specs.Prelude.{◌≡◌, IfOk, length, map, option_copied}
 ghost use Rattle.snl_lex.specs.LineList.{IsLineList};
 ghost use Rattle.snl_lex.specs.Pieces.{pieces_of, tokens_of};
 ghost use Rattle.snl_check.specs.Channels.{assigned_channels};
-ghost use Rattle.snl_check.specs.Collected.{IsLinked, IsOutline, assigned, items_in};
-ghost use Rattle.snl_check.specs.Items.{IsCutUp, program_items, outlines_of};
+ghost use Rattle.snl_check.specs.Collected.{IsLinked, IsStateSource, assigned, items_in, over};
+ghost use Rattle.snl_item_check.specs.Items.{IsCutUp, program_items, outlines_of};
 ghost use Rattle.snl_check.specs.States.{set_rows};
 ghost use Rattle.snl_check.specs.Tables.{tables_by, tables_of};
-ghost use Rattle.snl_check.specs.Told.{told_in_item, told_seen};
+ghost use Rattle.snl_item_check.specs.Told.{told_in_item, told_seen};
 
 use crate::rows::channel_numbers::numbers_of;
 use crate::rows::channel_rows::{channel_rows, variables};
 use crate::rows::channels::{AssignedChannel, assigned_channels};
 use crate::rows::flag_rows::flag_rows;
-use crate::rows::item_clauses::told_clauses;
+use crate::rows::item_clauses::resolved_clauses;
 use crate::rows::option_rows::program_options;
-use crate::rows::outline::Outline;
 use crate::rows::row_source::RowSource;
 use crate::rows::set_rows::set_rows;
+use crate::rows::state_source::StateSource;
 use crate::rows::text_items::TextItems;
-use crate::rules::findings::Checked;
 use snl_cut::OutOfMemory;
+use snl_item_check::Checked;
 use snl_lex::{LineList, Piece, tokens_among};
 use snl_scope::Links;
 use snl_syntax::tree::item::Item;
@@ -37,9 +37,10 @@ fn rows_of(
     checked: &[Option<&Checked>],
 ) -> Result<Tables, OutOfMemory>
     requires linked { IsLinked row_source.now }
-    requires lines { IsLineList row_source.now.program.text.now lines.now.ends.items lines.now.markers.items lines.now.naming.items }
-    requires checked { map told_seen checked.now ≡ map (told_in_item row_source.now.program.text.now) (items_in row_source.now.program) }
-    ensures { IfOk result (λ t. t ≡ tables_by row_source.now.program.text.now (items_in row_source.now.program) row_source.now.links.now.outlines) }
+    requires lines { IsLineList row_source.now.program.text.now lines.now }
+    requires checked { map told_seen checked.now
+        ≡ map (told_in_item row_source.now.program.text.now) (items_in row_source.now.program) }
+    ensures { IfOk result (λ t. t ≡ over row_source.now tables_by) }
 {
     let channels = assigned_channels(row_source)?;
     let tables = rows_by_channels(row_source, lines, checked, &channels)?;
@@ -54,42 +55,45 @@ fn rows_by_channels(
     channels: &[AssignedChannel],
 ) -> Result<Tables, OutOfMemory>
     requires linked { IsLinked row_source.now }
-    requires lines { IsLineList row_source.now.program.text.now lines.now.ends.items lines.now.markers.items lines.now.naming.items }
-    requires checked { map told_seen checked.now ≡ map (told_in_item row_source.now.program.text.now) (items_in row_source.now.program) }
-    requires channels { map assigned channels.now ≡ assigned_channels row_source.now.program.text.now (items_in row_source.now.program) row_source.now.links.now.outlines }
-    ensures { IfOk result (λ t. t ≡ tables_by row_source.now.program.text.now (items_in row_source.now.program) row_source.now.links.now.outlines) }
+    requires lines { IsLineList row_source.now.program.text.now lines.now }
+    requires checked { map told_seen checked.now
+        ≡ map (told_in_item row_source.now.program.text.now) (items_in row_source.now.program) }
+    requires channels { map assigned channels.now ≡ over row_source.now assigned_channels }
+    ensures { IfOk result (λ t. t ≡ over row_source.now tables_by) }
 {
     let numbers = numbers_of(row_source.program.alloc, channels)?;
-    let outline = Outline {
+    let state_source = StateSource {
         row_source: *row_source,
         lines,
         checked,
         numbers: &numbers,
     };
-    let tables = rows_by_outline(&outline, channels)?;
+    let tables = rows_by_state_source(&state_source, channels)?;
     Ok(tables)
 }
 
 // The rows of state sets, while other rows are held. These are of any type, so that the proof of
 // what is freed on the way out looks into no row.
-fn then_sets<T: Drop>(outline: &Outline, held: T) -> Result<(T, Vec<SetRow>), OutOfMemory>
-    requires { IsOutline outline.now }
+fn then_sets<T: Drop>(state_source: &StateSource, held: T) -> Result<(T, Vec<SetRow>), OutOfMemory>
+    requires { IsStateSource state_source.now }
     ensures held { IfOk result (λ both. both.0 ≡ held) }
-    ensures sets { IfOk result (λ both. both.1.items
-        ≡ set_rows outline.now.row_source.program.text.now (items_in outline.now.row_source.program) outline.now.row_source.links.now.outlines) }
+    ensures sets { IfOk result (λ both. both.1.items ≡ over state_source.now.row_source set_rows) }
 {
-    let sets = set_rows(outline)?;
+    let sets = set_rows(state_source)?;
     Ok((held, sets))
 }
 
 // The rows of all tables, by what those of state sets are made from.
-fn rows_by_outline(outline: &Outline, channels: &[AssignedChannel]) -> Result<Tables, OutOfMemory>
-    requires outline { IsOutline outline.now }
+fn rows_by_state_source(
+    state_source: &StateSource,
+    channels: &[AssignedChannel],
+) -> Result<Tables, OutOfMemory>
+    requires state_source { IsStateSource state_source.now }
     requires channels { map assigned channels.now
-        ≡ assigned_channels outline.now.row_source.program.text.now (items_in outline.now.row_source.program) outline.now.row_source.links.now.outlines }
-    ensures { IfOk result (λ t. t ≡ tables_by outline.now.row_source.program.text.now (items_in outline.now.row_source.program) outline.now.row_source.links.now.outlines) }
+        ≡ over state_source.now.row_source assigned_channels }
+    ensures { IfOk result (λ t. t ≡ over state_source.now.row_source tables_by) }
 {
-    let row_source = &outline.row_source;
+    let row_source = &state_source.row_source;
     let alloc = row_source.program.alloc;
     let variables = variables(alloc, row_source.links.declarations(), channels)?;
     let program = row_source.program.name();
@@ -97,7 +101,7 @@ fn rows_by_outline(outline: &Outline, channels: &[AssignedChannel]) -> Result<Ta
     let flags = flag_rows(row_source)?;
     let channels = channel_rows(row_source, channels)?;
     let held = (variables, options, flags, channels);
-    let ((variables, options, flags, channels), sets) = then_sets(outline, held)?;
+    let ((variables, options, flags, channels), sets) = then_sets(state_source, held)?;
     Ok(Tables {
         program,
         options: Items::from_vec(options),
@@ -121,12 +125,16 @@ pub fn tables_by_tokens(
     links: &Links,
     checked: &[Option<&Checked>],
 ) -> Result<Tables, OutOfMemory>
-    requires lines { IsLineList text.now lines.now.ends.items lines.now.markers.items lines.now.naming.items }
+    requires lines { IsLineList text.now lines.now }
     requires tokens { tokens.now ≡ tokens_of text.now }
     requires cut { IsCutUp text.now tokens.now ends.now (length items.now) }
-    requires links { links.now.outlines ≡ outlines_of text.now (program_items tokens.now ends.now (map option_copied items.now)) }
-    requires checked { map told_seen checked.now ≡ map (told_in_item text.now) (program_items tokens.now ends.now (map option_copied items.now)) }
-    ensures { IfOk result (λ t. t ≡ tables_of text.now (program_items tokens.now ends.now (map option_copied items.now))) }
+    requires links { links.now.outlines
+        ≡ outlines_of text.now (program_items tokens.now ends.now (map option_copied items.now)) }
+    requires checked { map told_seen checked.now
+        ≡ map (told_in_item text.now)
+        (program_items tokens.now ends.now (map option_copied items.now)) }
+    ensures { IfOk result (λ t. t
+        ≡ tables_of text.now (program_items tokens.now ends.now (map option_copied items.now))) }
 {
     let program = TextItems {
         text,
@@ -135,7 +143,7 @@ pub fn tables_by_tokens(
         trees: items,
         alloc,
     };
-    let clauses = told_clauses(&program, links)?;
+    let clauses = resolved_clauses(&program, links)?;
     let row_source = RowSource {
         program,
         clauses: &clauses,
@@ -159,9 +167,15 @@ pub fn tables(
 ) -> Result<Tables, OutOfMemory>
     requires pieces { pieces.now ≡ pieces_of text.now }
     requires cut { IsCutUp text.now (tokens_of text.now) ends.now (length items.now) }
-    requires links { links.now.outlines ≡ outlines_of text.now (program_items (tokens_of text.now) ends.now (map option_copied items.now)) }
-    requires checked { map told_seen checked.now ≡ map (told_in_item text.now) (program_items (tokens_of text.now) ends.now (map option_copied items.now)) }
-    ensures { IfOk result (λ t. t ≡ tables_of text.now (program_items (tokens_of text.now) ends.now (map option_copied items.now))) }
+    requires links { links.now.outlines
+        ≡ outlines_of text.now
+        (program_items (tokens_of text.now) ends.now (map option_copied items.now)) }
+    requires checked { map told_seen checked.now
+        ≡ map (told_in_item text.now)
+        (program_items (tokens_of text.now) ends.now (map option_copied items.now)) }
+    ensures { IfOk result (λ t. t
+        ≡ tables_of text.now (program_items (tokens_of text.now) ends.now
+        (map option_copied items.now))) }
 {
     let lines = LineList::of(alloc, text, pieces)?;
     let tokens = tokens_among(alloc, pieces)?;

@@ -2,7 +2,7 @@
 //! out. It knows no rules.
 
 ghost use Rattle.std.specs.Prelude.{◌≡◌, option_copied};
-ghost use Rattle.snl_check.specs.Items as items;
+ghost use Rattle.snl_check.specs.ItemSpans as spans;
 
 use snl_lex::Piece;
 use snl_syntax::tree::item::Item;
@@ -23,7 +23,7 @@ pub(crate) struct TextItems<'a> {
 
 /// Where a token is.
 pub(crate) fn span_of(token: Option<&Piece>) -> Span
-    ensures { result ≡ items.span_of (option_copied token.entry) }
+    ensures { result ≡ spans.span_of (option_copied token.entry) }
 {
     match token {
         Some(token) => Span {
@@ -38,7 +38,8 @@ impl<'a> TextItems<'a> {
     ghost use Rattle.std.specs.Prelude.{◌<◌, ◌≤◌, length, option_and_then, slice_get, slice_index};
     ghost use Rattle.snl_walk.specs.Tokens.{IsSource};
     ghost use Rattle.snl_check.specs.Collected.{AreTextItems, items_in};
-    ghost use Rattle.snl_check.specs.Items.{header_name, program_name, span_at, start_of, tokens_in, tree_in};
+    ghost use Rattle.snl_item_check.specs.Items.{start_of, tokens_in, tree_in};
+    ghost use Rattle.snl_check.specs.ItemSpans.{header_name, program_name, span_at};
 
     // The number of the first token of an item.
     fn start(&self, item: usize) -> usize

@@ -8,9 +8,9 @@ ghost use Rattle.snl_lex.specs.declared.lines.Line.{Line};
 ghost use Rattle.snl_lex.specs.declared.shift.Shift.{Shift};
 ghost use Rattle.snl_walk.specs.Tokens.{IsSource};
 ghost use Rattle.snl_check.specs.Conditions.{uses_in};
-ghost use Rattle.snl_check.specs.Items.{ProgramItem, outlines_of, tokens_in};
+ghost use Rattle.snl_item_check.specs.Items.{ProgramItem, outlines_of, tokens_in};
 ghost use Rattle.snl_check.specs.Moved.{ReplacesOne};
-ghost use Rattle.snl_check.specs.Numbered.{Tells, has_subscript};
+ghost use Rattle.snl_check.specs.Numbered.{HoldsRows, has_subscript};
 ghost use Rattle.snl_check.specs.Spans.{AreRead};
 ghost use Rattle.snl_check.specs.States.{wake_of};
 ghost use Rattle.snl_check.specs.Tables.{tables_of};
@@ -36,7 +36,8 @@ fn numbers_for(
     uses: &[WakeUse],
     tables: &Tables,
 ) -> Result<ChannelNumbers, OutOfMemory>
-    ensures { IfOk result (λ numbers. list_any has_subscript uses.now ≡ true → Tells numbers tables.now) }
+    ensures { IfOk result (λ numbers. list_any has_subscript uses.now ≡ true
+        → HoldsRows numbers tables.now) }
 {
     if !some_subscript(uses) {
         return Ok(ChannelNumbers::new(alloc));
@@ -62,8 +63,10 @@ pub fn wake_inside(
     tables: &Tables,
 ) -> Result<Vec<WakeUp>, OutOfMemory>
     requires { IsSource text.now own.now }
-    ensures { (old : List ℕ) (s : Shift) (line : ℕ → Line → Line) (xs ys : List ProgramItem) → 0 < s.start → AreRead old xs → ReplacesOne old text.now s line xs ys item
-        → tables.now ≡ tables_of old xs → links.now.outlines ≡ outlines_of old xs → own.now ≡ tokens_in ys item → uses.now ≡ uses_in text.now ys item
+    ensures { (old : List ℕ) (s : Shift) (line : ℕ → Line → Line) (xs ys : List ProgramItem)
+        → 0 < s.start → AreRead old xs → ReplacesOne old text.now s line xs ys item
+        → tables.now ≡ tables_of old xs → links.now.outlines ≡ outlines_of old xs
+        → own.now ≡ tokens_in ys item → uses.now ≡ uses_in text.now ys item
         → IfOk result (λ wake. wake.items ≡ wake_of text.now ys (outlines_of old xs) item) }
 {
     names_are_tokens();

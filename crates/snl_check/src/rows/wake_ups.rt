@@ -6,13 +6,13 @@ ghost use Rattle.std.specs.List.{filter_map};
 ghost use Rattle.std.specs.Map.{lookup};
 ghost use Rattle.snl_walk.specs.Tokens.{IsSource};
 ghost use Rattle.snl_check.specs.Channels.{assigned_channels};
-ghost use Rattle.snl_check.specs.Collected.{IsOutline, items_in};
+ghost use Rattle.snl_check.specs.Collected.{IsStateSource, items_in, over};
 ghost use Rattle.snl_check.specs.Conditions as conditions;
 ghost use Rattle.snl_check.specs.Numbered as numbered;
 
-use crate::rows::channel_numbers::{ChannelNumbers, Key, Which};
-use crate::rows::outline::Outline;
+use crate::rows::channel_numbers::{ChannelNumbers, ElementKey, Which};
 use crate::rows::room::with_room;
+use crate::rows::state_source::StateSource;
 use snl_cut::OutOfMemory;
 use snl_scope::Links;
 use snl_tables::WakeUp;
@@ -22,7 +22,7 @@ use snl_walk::{Source, WakeUse};
 fn covers_elements(numbers: &ChannelNumbers, variable: usize) -> bool
     ensures { result ≡ is_some (lookup (numbered.same_key (numbered.any_of variable)) numbers.now) }
 {
-    let any = Key {
+    let any = ElementKey {
         variable,
         which: Which::Any,
     };
@@ -33,7 +33,7 @@ fn covers_elements(numbers: &ChannelNumbers, variable: usize) -> bool
 fn element_number(numbers: &ChannelNumbers, variable: usize, element: u64) -> Option<usize>
     ensures { result ≡ lookup (numbered.same_key (numbered.one_of variable element)) numbers.now }
 {
-    numbers.number(Key {
+    numbers.number(ElementKey {
         variable,
         which: Which::Element(element),
     })
@@ -64,7 +64,9 @@ fn wake_up(
     used: WakeUse,
 ) -> Option<WakeUp>
     requires { IsSource source.now.text.now source.now.tokens.now }
-    ensures { result ≡ numbered.wake_by source.now.text.now source.now.tokens.now links.now.outlines numbers.now item used }
+    ensures { result
+        ≡ numbered.wake_by source.now.text.now source.now.tokens.now
+        links.now.outlines numbers.now item used }
 {
     let declaration = links.declaration(item, source.bytes(used.token))?;
     match links.flag_number(declaration) {
@@ -83,7 +85,9 @@ pub(crate) fn wakes_by(
     uses: &[WakeUse],
 ) -> Result<Vec<WakeUp>, OutOfMemory>
     requires { IsSource source.now.text.now source.now.tokens.now }
-    ensures { IfOk result (λ wake. wake.items ≡ filter_map (numbered.wake_by source.now.text.now source.now.tokens.now links.now.outlines numbers.now item) uses.now) }
+    ensures { IfOk result (λ wake. wake.items
+        ≡ filter_map (numbered.wake_by source.now.text.now source.now.tokens.now
+        links.now.outlines numbers.now item) uses.now) }
 {
     let mut wake = with_room(source.alloc, uses.len())?;
     for used in uses {
@@ -95,19 +99,19 @@ pub(crate) fn wakes_by(
 }
 
 /// What the uses of names in the conditions of an item mean, in the order of the text.
-pub(crate) fn wake_ups(outline: &Outline, item: usize) -> Result<Vec<WakeUp>, OutOfMemory>
-    requires { IsOutline outline.now }
-    ensures { IfOk result (λ wake. wake.items
-        ≡ conditions.wake_ups outline.now.row_source.program.text.now (items_in outline.now.row_source.program) outline.now.row_source.links.now.outlines
-        (assigned_channels outline.now.row_source.program.text.now (items_in outline.now.row_source.program) outline.now.row_source.links.now.outlines) item
-        (conditions.uses_in outline.now.row_source.program.text.now (items_in outline.now.row_source.program) item)) }
+pub(crate) fn wake_ups(state_source: &StateSource, item: usize) -> Result<Vec<WakeUp>, OutOfMemory>
+    requires { IsStateSource state_source.now }
+    ensures { IfOk result (λ wake. wake.items ≡ over state_source.now.row_source conditions.wake_ups
+        (over state_source.now.row_source assigned_channels) item
+        (conditions.uses_in state_source.now.row_source.program.text.now
+        (items_in state_source.now.row_source.program) item)) }
 {
-    let source = outline.row_source.program.source(item);
-    let uses = outline.wake_uses(item);
+    let source = state_source.row_source.program.source(item);
+    let uses = state_source.wake_uses(item);
     let wake = wakes_by(
         &source,
-        outline.row_source.links,
-        outline.numbers,
+        state_source.row_source.links,
+        state_source.numbers,
         item,
         uses,
     )?;

@@ -12,8 +12,8 @@ use crate::found::findings::Finding;
 use crate::found::linked::finding_at;
 use crate::found::program::Part;
 use crate::shared::Shared;
-use snl_check::{Checked, ItemFault, faults_stand_in_tokens};
 use snl_cut::OutOfMemory;
+use snl_item_check::{Checked, ItemFault, faults_stand_in_tokens};
 use snl_lex::Piece;
 
 // A finding of an item, at its byte in its token.

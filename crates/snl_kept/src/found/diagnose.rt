@@ -60,7 +60,7 @@ pub fn on_lines(
     lines: &LineList,
     found: &[Finding],
 ) -> Result<Vec<Diagnostic>, OutOfMemory>
-    requires { IsLineList text.now lines.now.ends.items lines.now.markers.items lines.now.naming.items }
+    requires { IsLineList text.now lines.now }
     ensures { IfOk result (λ v. v.items ≡ map (diagnostic text.now) found.now) }
 {
     let mut diagnostics = Vec::with_capacity(alloc, found.len())?;
@@ -87,7 +87,7 @@ pub fn put_on_lines(
     findings: &[Finding],
     found: &mut Vec<Diagnostic>,
 )
-    requires lines { IsLineList text.now lines.now.ends.items lines.now.markers.items lines.now.naming.items }
+    requires lines { IsLineList text.now lines.now }
     requires room { length findings.now ≤ vec_capacity found.old }
     ensures { found.new.items ≡ map (diagnostic text.now) findings.now }
 {

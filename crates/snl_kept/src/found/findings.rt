@@ -1,7 +1,7 @@
 //! What is found at a place of a text, with and without its line.
 #![tactic(auto)]
 
-use snl_scope::Code;
+use snl_codes::Code;
 
 /// What is found at a byte offset of the text.
 #[derive(Clone, Copy, Debug, PartialEq, Eq)]

@@ -8,9 +8,10 @@ ghost use Rattle.snl_kept.specs.Parts.{IsPart, item_of_part};
 
 use crate::found::findings::Finding;
 use crate::found::program::Part;
+use snl_codes::Code;
 use snl_cut::OutOfMemory;
 use snl_lex::Piece;
-use snl_scope::{Code, LinkFault};
+use snl_scope::LinkFault;
 
 /// A finding at a token, or at the text's beginning.
 pub fn finding_at(code: Code, token: Option<Piece>) -> Finding

@@ -19,9 +19,10 @@ ghost use Rattle.snl_kept.specs.Program.{program_item};
 use crate::entries::Entry;
 use crate::found::findings::Finding;
 use crate::shared::Shared;
+use snl_codes::Code;
 use snl_cut::{OutOfMemory, one_cut};
 use snl_lex::{LineList, Piece};
-use snl_scope::{Code, same_spelling_same_summary};
+use snl_scope::same_spelling_same_summary;
 use snl_syntax::{Parsed, Tokens, outcome_told, same_spelling_same_tree};
 use std::alloc::Global;
 
@@ -34,7 +35,7 @@ pub struct CutText<'a> {
     pub tokens: &'a [Piece],
     pub ends: &'a [u32],
     pub entries: &'a [&'a Shared<Entry>],
-    ghost lines_are: { IsLineList text.now lines.now.ends.items lines.now.markers.items lines.now.naming.items },
+    ghost lines_are: { IsLineList text.now lines.now },
     ghost tokens_are: { tokens.now ≡ tokens_of text.now },
     ghost ends_are: { ends.now ≡ item_ends text.now },
     ghost entries_are: { map (λ e. e.now) entries.now ≡ entries_of text.now },

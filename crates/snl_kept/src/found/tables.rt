@@ -5,16 +5,17 @@
 ghost use Rattle.std.specs.Prelude.{◌≡◌, IfOk, length, map, option_copied};
 ghost use Rattle.snl_lex.specs.LineList.{IsLineList};
 ghost use Rattle.snl_lex.specs.Pieces.{tokens_of};
-ghost use Rattle.snl_check.specs.Items.{IsCutUp, outlines_of, program_items};
+ghost use Rattle.snl_item_check.specs.Items.{IsCutUp, outlines_of, program_items};
 ghost use Rattle.snl_check.specs.Tables.{tables_of};
-ghost use Rattle.snl_check.specs.Told.{told_kept, told_seen};
+ghost use Rattle.snl_item_check.specs.Told.{told_kept, told_seen};
 ghost use Rattle.snl_kept.specs.Checks.{checks_over};
 ghost use Rattle.snl_kept.specs.Parts.{item_of_part, tree_of_part};
 
 use crate::found::program::Part;
 use crate::shared::Shared;
-use snl_check::{Checked, Tables, tables_by_tokens};
+use snl_check::{Tables, tables_by_tokens};
 use snl_cut::OutOfMemory;
+use snl_item_check::Checked;
 use snl_lex::{LineList, Piece};
 use snl_scope::Links;
 use snl_syntax::tree::item::Item;
@@ -77,7 +78,7 @@ pub fn tables_of(
     links: &Links,
     checks: &[&Shared<Option<Checked>>],
 ) -> Result<Tables, OutOfMemory>
-    requires lines { IsLineList text.now lines.now.ends.items lines.now.markers.items lines.now.naming.items }
+    requires lines { IsLineList text.now lines.now }
     requires tokens { tokens.now ≡ tokens_of text.now }
     requires cut { IsCutUp text.now tokens.now ends.now (length parts.now) }
     requires items { program_items tokens.now ends.now (map tree_of_part parts.now) ≡ map (item_of_part tokens.now) parts.now }

@@ -8,8 +8,8 @@ ghost use Rattle.snl_kept.specs.Tables.{found_at_state, is_unreached, walked_in}
 
 use crate::found::findings::Finding;
 use snl_check::{StateMark, StateRow, Tables};
+use snl_codes::Code;
 use snl_cut::OutOfMemory;
-use snl_scope::Code;
 
 /// Whether no walk reaches a state, by its mark.
 pub fn is_unreached(mark: StateMark) -> bool

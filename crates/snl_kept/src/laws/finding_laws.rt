@@ -5,7 +5,7 @@ ghost use Rattle.std.specs.Prelude.{◌≡◌, ◌++◌, ℕ, List, true, length
 ghost use Rattle.snl_lex.specs.declared.shift.Shift.{Shift};
 ghost use Rattle.snl_scope.specs.Linked.{faults_of};
 ghost use Rattle.snl_scope.specs.Summaries.{kind_of};
-ghost use Rattle.snl_check.specs.Items.{ProgramItem};
+ghost use Rattle.snl_item_check.specs.Items.{ProgramItem};
 ghost use Rattle.snl_check.specs.ShiftedAround.{is_plain};
 ghost use Rattle.snl_kept.specs.Checks.{links_in};
 ghost use Rattle.snl_kept.specs.declared.found.findings.Finding.{Finding};
@@ -18,7 +18,7 @@ ghost use Rattle.snl_kept.specs.Shifted.{finding_of};
 ghost use Rattle.snl_kept.specs.Tables.{tables_in, walked_in};
 ghost use Rattle.snl_kept.specs.Warnings.{shows_warnings, warns_in};
 
-use snl_check::faults_stand_in_tokens;
+use snl_item_check::faults_stand_in_tokens;
 use snl_scope::same_spelling_same_summary;
 use snl_syntax::same_spelling_same_tree;
 

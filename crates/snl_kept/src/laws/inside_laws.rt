@@ -7,7 +7,7 @@ ghost use Rattle.snl_scope.specs.Linked.{faults_of};
 ghost use Rattle.snl_scope.specs.Order.{state_name};
 ghost use Rattle.snl_scope.specs.Places.{enclosing_set};
 ghost use Rattle.snl_check.specs.ShiftedAround.{SaysAlike};
-ghost use Rattle.snl_kept.specs.Edit.{Edit};
+ghost use Rattle.snl_lex.specs.Edit.{Edit};
 ghost use Rattle.snl_kept.specs.declared.entries.Entry.{Entry};
 ghost use Rattle.snl_kept.specs.declared.plan.Changes.{Changes};
 ghost use Rattle.snl_kept.specs.declared.ways.one_item.touched_rows.TouchedRows.TheVariants as touched;

@@ -2,20 +2,20 @@
 //! nothing: its contract is the law.
 
 ghost use Rattle.snl_lex.specs.declared.line_shift.LineShift.{LineShift};
-ghost use Rattle.snl_kept.specs.Edit.{Edit};
+ghost use Rattle.snl_lex.specs.Edit.{Edit};
 ghost use Rattle.snl_kept.specs.ReplacedItem.{IsInside, IsOneReplaced};
 ghost use Rattle.snl_kept.specs.declared.entries.Entry.{Entry};
 ghost use Rattle.snl_kept.specs.declared.plan.Changes.{Changes};
 
-use snl_check::equal_views;
 use snl_cut::ends_in_order;
+use snl_item_check::equal_views;
 use snl_items::tokens_around_stay;
 use snl_lex::{lines_move, text_in_pieces};
 use snl_scope::{same_spelling_same_summary, views_told_apart};
 use snl_syntax::{Tokens, outcome_told, same_spelling_same_tree};
 
-/// Such an edit replaces the state inside. The other items are shifted and say what they said, and
-/// no other is to be checked.
+/// Such an edit replaces one item. The others are shifted and say what they said, and none of these
+/// is to be checked.
 pub fn one_item_replaced()
     ensures { (edit : Edit) (c : Changes) (t : LineShift) (x e : Entry) → IsInside edit c t x e
         → IsOneReplaced edit c t x e }

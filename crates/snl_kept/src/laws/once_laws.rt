@@ -7,7 +7,7 @@ ghost use Rattle.snl_kept.specs.OnceFound.{ArePlacedOnce};
 
 use crate::found::program::items_end_in_order;
 use crate::laws::text_laws::linked_once;
-use snl_check::{
+use snl_item_check::{
     each_item_finding_once, faults_have_item_codes, faults_stand_at_tokens, faults_stand_in_tokens,
     outer_names_left_to_links,
 };

@@ -2,10 +2,11 @@
 //! is the law.
 
 ghost use Rattle.snl_lex.specs.declared.line_shift.LineShift.{LineShift};
-ghost use Rattle.snl_kept.specs.Edit.{Edit};
+ghost use Rattle.snl_lex.specs.Edit.{Edit};
 ghost use Rattle.snl_kept.specs.Shifted.{IsShifted, ShiftsAll};
 
-use snl_check::{faults_stand_in_tokens, tables_move};
+use snl_check::tables_move;
+use snl_item_check::faults_stand_in_tokens;
 use snl_lex::{lines_move, text_in_pieces};
 use snl_scope::{same_spelling_same_summary, views_told_apart};
 use snl_syntax::{outcome_told, same_spelling_same_tree};

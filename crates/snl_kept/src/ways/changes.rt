@@ -4,7 +4,7 @@
 
 ghost use Rattle.std.specs.Prelude.{◌≡◌, IfOk, vec_len};
 ghost use Rattle.snl_cut.specs.Cut.{after_ticks};
-ghost use Rattle.snl_kept.specs.Edit.{edit_of};
+ghost use Rattle.snl_lex.specs.Edit.{edit_of};
 ghost use Rattle.snl_kept.specs.Kept.{IsListed};
 ghost use Rattle.snl_kept.specs.Planned.{IsChanged};
 

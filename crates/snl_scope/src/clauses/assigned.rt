@@ -38,7 +38,8 @@ fn is_first(assigned: &[Option<Assigned>], variable: usize, kind: ClauseKind) ->
 
 // Notes a clause, where it is the first that assigns its variable.
 fn note(assigned: &mut Vec<Option<Assigned>>, clause: Resolved) -> Result<(), OutOfMemory>
-    ensures { OnOk result ((cs : List LinkedClause) → Assigns assigned.old.items cs → Assigns assigned.new.items (cs ++ linked clause.entry ∷ [])) }
+    ensures { OnOk result ((cs : List LinkedClause) → Assigns assigned.old.items cs
+        → Assigns assigned.new.items (cs ++ linked clause.entry ∷ [])) }
 {
     if let Some(variable) = clause.variable {
         if is_first(assigned, variable, clause.clause.kind) {

@@ -192,7 +192,8 @@ fn add_element(
     number: usize,
 ) -> Result<(), OutOfMemory>
     ensures { OnOk result ((m : Claim) → lookup (same_claim m) elements.new.entries
-        ≡ option_or (lookup (same_claim m) elements.old.entries) (if same_claim claim m then Some number else None)) }
+        ≡ option_or (lookup (same_claim m) elements.old.entries)
+        (if same_claim claim m then Some number else None)) }
 {
     match elements.insert(claim, number)? {
         None => Ok(()),
@@ -217,7 +218,8 @@ impl ClauseIndex {
 
     // What is claimed of a variable for a purpose, but for its elements.
     fn extents(&self, purpose: Purpose, variable: usize) -> Extents
-        ensures { result ≡ extents_on self.now.places.items self.now.claimed.items variable purpose }
+        ensures { result
+            ≡ extents_on self.now.places.items self.now.claimed.items variable purpose }
     {
         match place_of(&self.places, &self.claimed, variable) {
             Some(place) => extents_for(self.claimed[place], purpose),
@@ -251,7 +253,8 @@ impl ClauseIndex {
 
     // Whether one of the first elements is claimed.
     fn has_front(&self, purpose: Purpose, variable: usize, length: usize) -> bool
-        ensures { result ≡ any_below (λ k. has_claim self.now purpose variable (Extent.Element k)) length }
+        ensures { result
+            ≡ any_below (λ k. has_claim self.now purpose variable (Extent.Element k)) length }
     {
         for element in 0..length {
             if self.has(purpose, variable, Extent::Element(element as u64)) {
@@ -301,7 +304,9 @@ impl ClauseIndex {
     fn claim(&mut self, variable: usize) -> Result<usize, OutOfMemory>
         ensures same { OnOk result (KeepsExtents self.old self.new) }
         ensures elements { OnOk result (self.new.elements ≡ self.old.elements) }
-        ensures place { IfOk result (λ place. place_of self.new.places.items self.new.claimed.items variable ≡ Some place) }
+        ensures place { IfOk result
+            (λ place.
+            place_of self.new.places.items self.new.claimed.items variable ≡ Some place) }
     {
         if let Some(place) = place_of(&self.places, &self.claimed, variable) {
             return Ok(place);
@@ -326,7 +331,8 @@ impl ClauseIndex {
         extent: Extent,
         number: usize,
     ) -> Result<(), OutOfMemory>
-        ensures { OnOk result (AddsOn self.old self.new (record { purpose = purpose; variable = variable; extent = extent }) number) }
+        ensures { OnOk result (AddsOn self.old self.new
+            (record { purpose = purpose; variable = variable; extent = extent }) number) }
     {
         let place = self.claim(variable)?;
         let claims = self.claimed[place];
@@ -344,7 +350,8 @@ impl ClauseIndex {
         number: usize,
     ) -> Result<(), OutOfMemory>
         ensures { OnOk result (Adds self.old self.new
-            (same_claim (record { purpose = purpose; variable = variable; extent = extent })) number) }
+            (same_claim (record { purpose = purpose; variable = variable; extent = extent }))
+            number) }
     {
         match extent {
             Extent::Any | Extent::Whole => self.add_on(purpose, variable, extent, number),
@@ -368,7 +375,12 @@ impl ClauseIndex {
         number: usize,
     ) -> Result<(), OutOfMemory>
         ensures { OnOk result (Adds self.old self.new
-            (λ m. any_below (λ k. same_claim (record { purpose = purpose; variable = variable; extent = Extent.Element k }) m) length) number) }
+            (λ m. any_below (λ k. same_claim (record {
+              purpose = purpose;
+              variable = variable;
+              extent = Extent.Element k;
+            }) m) length)
+            number) }
     {
         for element in 0..length {
             self.add(purpose, variable, Extent::Element(element as u64), number)?;

@@ -6,7 +6,7 @@ ghost use Rattle.std.specs.List.Sorted.{IsStrictlyIncreasing};
 ghost use Rattle.snl_scope.specs.declared.summaries.summary.Outline.{Outline};
 ghost use Rattle.snl_scope.specs.Flags.{declares_flag, flags_of};
 ghost use Rattle.snl_scope.specs.Names.{entries};
-ghost use Rattle.snl_scope.specs.NameTables.{Follows, flag_stands};
+ghost use Rattle.snl_scope.specs.NameTables.{TablesFollow, flag_stands};
 
 use crate::names::name_tables::{NameTables, Symbol};
 use crate::summaries::summary::{SymbolKind, Variable};
@@ -37,7 +37,7 @@ fn flag_stands(symbols: &[Symbol], number: usize) -> bool
 /// namespace, in the order of the text.
 pub(crate) fn flags_of(alloc: Global, tables: &NameTables) -> Result<Vec<usize>, OutOfMemory>
     ensures { IfOk result (λ flags. (ss : List Outline)
-        → Follows tables.now.names tables.now.first tables.now.symbols.items tables.now.faults.items (entries ss)
+        → TablesFollow tables.now (entries ss)
         → flags.items ≡ flags_of ss) }
 {
     let mut flags = Vec::new(alloc);

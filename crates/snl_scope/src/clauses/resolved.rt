@@ -47,7 +47,8 @@ fn add_clauses<'a>(
     clauses: &'a [VariableClause],
     found: &mut Vec<Resolved<'a>>,
 ) -> Result<(), OutOfMemory>
-    ensures { OnOk result (map linked found.new.items ≡ map linked found.old.items ++ map (linked_clause scopes.now item) clauses.now) }
+    ensures { OnOk result (map linked found.new.items ≡ map linked found.old.items
+        ++ map (linked_clause scopes.now item) clauses.now) }
 {
     for clause in clauses {
         found.push(resolve_clause(scopes, item, clause))?;

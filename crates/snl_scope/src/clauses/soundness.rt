@@ -5,11 +5,11 @@ ghost use Rattle.std.specs.Prelude.{◌≡◌, ◌&&◌, ◌||◌, ◌++◌, ◌
 ghost use Rattle.std.specs.Option.{option_map_or};
 ghost use Rattle.std.specs.List.{list_any, zip};
 ghost use Rattle.snl_scope.specs.Claims.{Claimed, sound_among};
-ghost use Rattle.snl_scope.specs.Clauses.{LinkedClause, assigns, at_name_ref, clash, clause_link, code_on, found_after, found_at_flag, has_wrong_flag, is_assign, is_assignable, is_event_flag, misfits, repetition_code, soundness_after, variable_code};
-ghost use Rattle.snl_walk.specs.Codes.{is_error};
+ghost use Rattle.snl_scope.specs.Clauses.{LinkedClause, assigns, at_name_ref, clash, clause_link, code_on, found_after, found_at_flag, has_wrong_flag, is_assign, is_assignable, is_event_flag, misfits, repetition_code, variable_code, with_soundness};
+ghost use Rattle.snl_codes.specs.Codes.{is_error};
 ghost use Rattle.snl_scope.specs.Names.{entries};
 ghost use Rattle.snl_scope.specs.Resolved.{Assigns, linked};
-ghost use Rattle.snl_walk.specs.declared.codes.Code.{Code};
+ghost use Rattle.snl_codes.specs.declared.code.Code.{Code};
 
 use crate::by_number::at_number;
 use crate::clauses::assigned::is_assign;
@@ -18,8 +18,8 @@ use crate::clauses::resolved::Resolved;
 use crate::facts::{Assigned, ClauseLink, LinkFault};
 use crate::names::scopes::Scopes;
 use crate::summaries::summary::{ClauseKind, Coverage, Dims, SymbolKind, Variable, VariableClause};
+use snl_codes::Code;
 use snl_cut::OutOfMemory;
-use snl_walk::Code;
 use std::alloc::Global;
 
 // Whether a channel can be assigned to it.
@@ -66,7 +66,8 @@ fn code_on(
     is_assigned: bool,
     is_repeated: bool,
 ) -> Option<Code>
-    ensures { result ≡ (if is_assign clause.now.kind && not (is_assignable variable.symbol_kind) then Some Code.E15
+    ensures { result ≡ (if is_assign clause.now.kind && not (is_assignable variable.symbol_kind)
+        then Some Code.E15
         else if misfits variable.dims clause.now.coverage then Some Code.E16
         else if not (is_assign clause.now.kind) && not is_assigned then Some Code.E13
         else if is_repeated then Some (repetition_code clause.now.kind)
@@ -93,7 +94,8 @@ fn variable_code(
     claims: &ClauseIndex,
     clause: Resolved,
 ) -> Option<Code>
-    ensures { (cs : List LinkedClause) → (judged : List (LinkedClause × Bool)) → Assigns assigned.now cs → Claimed claims.now judged
+    ensures { (cs : List LinkedClause) → (judged : List (LinkedClause × Bool))
+        → Assigns assigned.now cs → Claimed claims.now judged
         → result ≡ variable_code (entries scopes.now) cs (sound_among judged) (linked clause.entry) }
 {
     let number = match clause.variable {
@@ -130,7 +132,9 @@ fn add_at_variable(
     code: Option<Code>,
     faults: &mut Vec<LinkFault>,
 ) -> Result<(), OutOfMemory>
-    ensures { OnOk result (faults.new.items ≡ faults.old.items ++ map (at_name_ref clause.entry.item clause.entry.clause.now.variable) (option_to_list code)) }
+    ensures { OnOk result (faults.new.items ≡ faults.old.items
+        ++ map (at_name_ref clause.entry.item clause.entry.clause.now.variable)
+        (option_to_list code)) }
 {
     if let Some(code) = code {
         faults.push(LinkFault {
@@ -149,7 +153,10 @@ fn add_at_flag(
     faults: &mut Vec<LinkFault>,
 ) -> Result<(), OutOfMemory>
     ensures { OnOk result (faults.new.items ≡ faults.old.items
-        ++ (if is_wrong then map (λ m. at_name_ref clause.entry.item m Code.E14) (option_to_list clause.entry.clause.now.flag) else [])) }
+        ++ (if is_wrong
+        then map (λ m. at_name_ref clause.entry.item m Code.E14)
+        (option_to_list clause.entry.clause.now.flag)
+        else [])) }
 {
     match &clause.clause.flag {
         Some(flag) if is_wrong => {
@@ -180,7 +187,8 @@ fn make_claims(
     number: usize,
     is_sound: bool,
 ) -> Result<(), OutOfMemory>
-    ensures { OnOk result ((judged : List (LinkedClause × Bool)) → number ≡ length judged → Claimed claims.old judged
+    ensures { OnOk result ((judged : List (LinkedClause × Bool))
+        → number ≡ length judged → Claimed claims.old judged
         → Claimed claims.new (judged ++ (linked clause.entry, is_sound) ∷ [])) }
 {
     if let Some(variable) = clause.variable {
@@ -231,9 +239,9 @@ fn judge_all(
     requires no_links { links.old.items ≡ [] }
     requires no_claims { Claimed claims.old [] }
     ensures links { OnOk result (links.new.items ≡ map (λ p. clause_link p.0 p.1)
-        (zip (map linked clauses.now) (soundness_after (entries scopes.now) (map linked clauses.now) [] (map linked clauses.now)))) }
+        (with_soundness (entries scopes.now) (map linked clauses.now))) }
     ensures claims { OnOk result (Claimed claims.new
-        (zip (map linked clauses.now) (soundness_after (entries scopes.now) (map linked clauses.now) [] (map linked clauses.now)))) }
+        (with_soundness (entries scopes.now) (map linked clauses.now))) }
     ensures found { OnOk result (faults.new.items ≡ faults.old.items
         ++ found_after (entries scopes.now) (map linked clauses.now) [] (map linked clauses.now)) }
 {
@@ -259,9 +267,9 @@ pub(crate) fn judged_clauses(
 ) -> Result<JudgedClauses, OutOfMemory>
     requires { Assigns assigned.now (map linked clauses.now) }
     ensures links { IfOk result (λ judged. judged.links.items ≡ map (λ p. clause_link p.0 p.1)
-        (zip (map linked clauses.now) (soundness_after (entries scopes.now) (map linked clauses.now) [] (map linked clauses.now)))) }
+        (with_soundness (entries scopes.now) (map linked clauses.now))) }
     ensures claims { IfOk result (λ judged. Claimed judged.claims
-        (zip (map linked clauses.now) (soundness_after (entries scopes.now) (map linked clauses.now) [] (map linked clauses.now)))) }
+        (with_soundness (entries scopes.now) (map linked clauses.now))) }
     ensures found { OnOk result (faults.new.items ≡ faults.old.items
         ++ found_after (entries scopes.now) (map linked clauses.now) [] (map linked clauses.now)) }
 {

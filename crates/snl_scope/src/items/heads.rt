@@ -1,7 +1,7 @@
 //! What the order of items asks of their outlines, in flat lists.
 
 ghost use Rattle.std.specs.Prelude.{◌≡◌, IfOk, map};
-ghost use Rattle.snl_scope.specs.NameTables.{head_of, heads_member};
+ghost use Rattle.snl_scope.specs.NameTables.{head_of, is_sought_head};
 
 use crate::summaries::summary::{Opening, Outline, Role};
 use snl_cut::OutOfMemory;
@@ -37,20 +37,20 @@ pub(crate) fn heads_of(alloc: Global, outlines: &[&Outline]) -> Result<Vec<Head>
     Ok(heads)
 }
 
-/// What a state set is searched for.
+/// What is sought in state sets.
 #[derive(Clone, Copy)]
-pub(crate) enum Member {
+pub(crate) enum Sought {
     /// The `}` that closes it.
     End,
     /// A state with a name, faulty or not.
     State,
 }
 
-pub(crate) fn is_member(member: Member, head: Head) -> bool
-    ensures { result ≡ heads_member member head }
+pub(crate) fn is_sought(sought: Sought, head: Head) -> bool
+    ensures { result ≡ is_sought_head sought head }
 {
-    match member {
-        Member::End => matches!(head.role, Role::SetEnd),
-        Member::State => matches!(head.opening, Opening::State) && head.is_named,
+    match sought {
+        Sought::End => matches!(head.role, Role::SetEnd),
+        Sought::State => matches!(head.opening, Opening::State) && head.is_named,
     }
 }

@@ -11,7 +11,8 @@ pub(crate) fn outlines_of<'a>(
     alloc: Global,
     summaries: &[&'a Summary],
 ) -> Result<Vec<&'a Outline>, OutOfMemory>
-    ensures { IfOk result (λ outlines. map (λ s. s.now) outlines.items ≡ map (λ s. s.now.outline) summaries.now) }
+    ensures { IfOk result
+        (λ outlines. map (λ s. s.now) outlines.items ≡ map (λ s. s.now.outline) summaries.now) }
 {
     let mut outlines = Vec::with_capacity(alloc, summaries.len())?;
     for summary in summaries {

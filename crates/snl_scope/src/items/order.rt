@@ -4,15 +4,15 @@
 ghost use Rattle.std.specs.Prelude.{◌≡◌, false, ◌++◌, ◌<◌, IfOk, IfSome, OnOk, ◌&&◌, ◌||◌, not, is_none, length, replicate};
 ghost use Rattle.snl_scope.specs.Order.{found_if, header_faults, is_faulty, is_program_word, is_ss_word, misplaced_items, missing_states, order_faults, unmatched_braces};
 ghost use Rattle.snl_scope.specs.Places.{begins_set, ends_set};
-ghost use Rattle.snl_scope.specs.NameTables.{Marked, is_member, set_of, with_mark};
+ghost use Rattle.snl_scope.specs.NameTables.{Marked, is_sought, set_of, with_mark};
 
 use crate::facts::LinkFault;
-use crate::items::heads::{Member, is_member};
+use crate::items::heads::{Sought, is_sought};
 use crate::items::phases::{Before, begins_with_program};
 use crate::names::scopes::Scopes;
 use crate::summaries::summary::{ItemKind, Opening, Role};
+use snl_codes::Code;
 use snl_cut::OutOfMemory;
-use snl_walk::Code;
 use std::alloc::Global;
 
 /// Whether an item of the kind is faulty.
@@ -54,7 +54,8 @@ fn add_misplaced(
     faults: &mut Vec<LinkFault>,
 ) -> Result<(), OutOfMemory>
     requires { length kinds.now ≡ length scopes.now }
-    ensures { OnOk result (faults.new.items ≡ faults.old.items ++ misplaced_items (record { outlines = scopes.now; kinds = kinds.now })) }
+    ensures { OnOk result (faults.new.items ≡ faults.old.items
+        ++ misplaced_items (record { outlines = scopes.now; kinds = kinds.now })) }
 {
     let mut before = Before::new();
     for item in 0..kinds.len() {
@@ -77,11 +78,11 @@ fn unmarked(alloc: Global, len: usize) -> Result<Vec<bool>, OutOfMemory>
     }
 }
 
-// The state set that a member is in, if it is one.
-fn set_of(is_member: bool, enclosing_set: Option<usize>) -> Option<usize>
-    ensures { result ≡ set_of is_member enclosing_set }
+// The state set that an item is in, if it is sought.
+fn set_of(is_sought: bool, enclosing_set: Option<usize>) -> Option<usize>
+    ensures { result ≡ set_of is_sought enclosing_set }
 {
-    if is_member { enclosing_set } else { None }
+    if is_sought { enclosing_set } else { None }
 }
 
 fn mark(marks: &mut Vec<bool>, set: Option<usize>)
@@ -93,15 +94,16 @@ fn mark(marks: &mut Vec<bool>, set: Option<usize>)
     }
 }
 
-// For each item, whether it begins a state set that has such a member.
-fn sets_with(alloc: Global, member: Member, scopes: &Scopes) -> Result<Vec<bool>, OutOfMemory>
-    ensures { IfOk result (λ marks. Marked (is_member member) marks.items scopes.now (length scopes.now)) }
+// For each item, whether it begins a state set that has what is sought.
+fn sets_with(alloc: Global, sought: Sought, scopes: &Scopes) -> Result<Vec<bool>, OutOfMemory>
+    ensures { IfOk result
+        (λ marks. Marked (is_sought sought) marks.items scopes.now (length scopes.now)) }
 {
     let count = scopes.item_count();
     let mut marks = unmarked(alloc, count)?;
     for item in 0..count {
-        let is_member = is_member(member, scopes.head(item));
-        mark(&mut marks, set_of(is_member, scopes.enclosing_set(item)));
+        let is_sought = is_sought(sought, scopes.head(item));
+        mark(&mut marks, set_of(is_sought, scopes.enclosing_set(item)));
     }
     Ok(marks)
 }
@@ -114,7 +116,8 @@ fn begins_set(role: Role) -> bool
 
 // Whether an item is a state set that nothing closes, or a `}` that closes none.
 fn is_unmatched(role: Role, enclosing_set: Option<usize>, is_closed: bool) -> bool
-    ensures { result ≡ ((begins_set role && not is_closed) || (ends_set role && is_none enclosing_set)) }
+    ensures { result
+        ≡ ((begins_set role && not is_closed) || (ends_set role && is_none enclosing_set)) }
 {
     match role {
         Role::SetBegin => !is_closed,
@@ -131,7 +134,7 @@ fn add_unmatched(
 ) -> Result<(), OutOfMemory>
     ensures { OnOk result (faults.new.items ≡ faults.old.items ++ unmatched_braces scopes.now) }
 {
-    let closed = sets_with(alloc, Member::End, scopes)?;
+    let closed = sets_with(alloc, Sought::End, scopes)?;
     for item in 0..closed.len() {
         let role = scopes.head(item).role;
         let is_unmatched = is_unmatched(role, scopes.enclosing_set(item), closed[item]);
@@ -161,7 +164,8 @@ fn add_header_faults(
     faults: &mut Vec<LinkFault>,
 ) -> Result<(), OutOfMemory>
     requires { length kinds.now ≡ length scopes.now }
-    ensures { OnOk result (faults.new.items ≡ faults.old.items ++ header_faults (record { outlines = scopes.now; kinds = kinds.now })) }
+    ensures { OnOk result (faults.new.items ≡ faults.old.items
+        ++ header_faults (record { outlines = scopes.now; kinds = kinds.now })) }
 {
     let mut has_program = false;
     for item in 0..kinds.len() {
@@ -197,7 +201,7 @@ fn add_missing_states(
 ) -> Result<(), OutOfMemory>
     ensures { OnOk result (faults.new.items ≡ faults.old.items ++ missing_states scopes.now) }
 {
-    let with_state = sets_with(alloc, Member::State, scopes)?;
+    let with_state = sets_with(alloc, Sought::State, scopes)?;
     let mut has_set = false;
     for item in 0..with_state.len() {
         let head = scopes.head(item);
@@ -220,7 +224,8 @@ pub(crate) fn add_order_faults(
     faults: &mut Vec<LinkFault>,
 ) -> Result<(), OutOfMemory>
     requires { length kinds.now ≡ length scopes.now }
-    ensures { OnOk result (faults.new.items ≡ faults.old.items ++ order_faults (record { outlines = scopes.now; kinds = kinds.now })) }
+    ensures { OnOk result (faults.new.items ≡ faults.old.items
+        ++ order_faults (record { outlines = scopes.now; kinds = kinds.now })) }
 {
     add_misplaced(scopes, kinds, faults)?;
     add_unmatched(alloc, scopes, faults)?;

@@ -20,7 +20,8 @@ fn place_in(role: Role, outer: Option<usize>) -> Option<usize>
 
 // The state set that is open after an item.
 fn open_after(role: Role, item: usize, outer: Option<usize>) -> Option<usize>
-    ensures { result ≡ (if begins_set role then Some item else (if ends_set role then None else outer)) }
+    ensures { result
+        ≡ (if begins_set role then Some item else (if ends_set role then None else outer)) }
 {
     match role {
         Role::SetBegin => Some(item),
@@ -34,7 +35,8 @@ pub(crate) fn places_of(
     alloc: Global,
     outlines: &[&Outline],
 ) -> Result<Vec<Option<usize>>, OutOfMemory>
-    ensures { IfOk result (λ places. Placed places.items (map (λ s. s.now) outlines.now) (length outlines.now)) }
+    ensures { IfOk result
+        (λ places. Placed places.items (map (λ s. s.now) outlines.now) (length outlines.now)) }
 {
     let mut places = Vec::with_capacity(alloc, outlines.len())?;
     let mut outer = None;

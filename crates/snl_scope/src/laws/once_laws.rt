@@ -17,8 +17,10 @@ use snl_syntax::{item_read, item_spelled};
 /// In the outline of an item, no two declarations are at one token, nor are the variables of two
 /// clauses, nor the flags of two. A faulty item has none of them.
 pub fn tokens_declared_once()
-    ensures tree { (text : List ℕ) (tokens : List Piece) (t : Item) → item_of (kinds_in text tokens) ≡ Some t → TokensRise (outline_in text tokens (Some t)) }
-    ensures faulty { (text : List ℕ) (tokens : List Piece) → TokensRise (outline_in text tokens None) }
+    ensures tree { (text : List ℕ) (tokens : List Piece) (t : Item)
+        → item_of (kinds_in text tokens) ≡ Some t → TokensRise (outline_in text tokens (Some t)) }
+    ensures faulty { (text : List ℕ) (tokens : List Piece)
+        → TokensRise (outline_in text tokens None) }
 {
     item_read();
     item_spelled();
@@ -32,8 +34,11 @@ pub fn each_fault_once()
 
 /// The outline of an item speaks of tokens of the item alone.
 pub fn outlines_speak_of_tokens()
-    ensures tree { (text : List ℕ) (tokens : List Piece) (t : Item) → 0 < length tokens → item_of (kinds_in text tokens) ≡ Some t → SpeaksOfTokens (length tokens) (outline_in text tokens (Some t)) }
-    ensures faulty { (text : List ℕ) (tokens : List Piece) → 0 < length tokens → SpeaksOfTokens (length tokens) (outline_in text tokens None) }
+    ensures tree { (text : List ℕ) (tokens : List Piece) (t : Item)
+        → 0 < length tokens → item_of (kinds_in text tokens) ≡ Some t
+        → SpeaksOfTokens (length tokens) (outline_in text tokens (Some t)) }
+    ensures faulty { (text : List ℕ) (tokens : List Piece)
+        → 0 < length tokens → SpeaksOfTokens (length tokens) (outline_in text tokens None) }
 {
     item_read();
     item_spelled();
@@ -42,6 +47,7 @@ pub fn outlines_speak_of_tokens()
 /// Where each outline speaks of tokens of its item alone, each finding of the links is at a token
 /// of an item, but for what is missing altogether.
 pub fn faults_have_places()
-    ensures { (l : LinkedItems) (counts : ℕ → ℕ) → ((i : ℕ) → IfSome (slice_get l.outlines i) (SpeaksOfTokens (counts i)))
+    ensures { (l : LinkedItems) (counts : ℕ → ℕ)
+        → ((i : ℕ) → IfSome (slice_get l.outlines i) (SpeaksOfTokens (counts i)))
         → All (IsPlaced counts l.outlines) (faults_of l) }
 {}

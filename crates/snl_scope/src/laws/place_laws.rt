@@ -10,7 +10,9 @@ ghost use Rattle.std.specs.Prelude.{◌≡◌, ◌<◌, ℕ, suc, List, Some, No
 /// one. The item that begins a state set is before those in it.
 pub fn sets_open_in_turn()
     ensures opened { (ss : List Outline) (i : ℕ) (s : Outline) → slice_get ss i ≡ Some s
-        → open_before ss (suc i) ≡ (if begins_set s.role then Some i else (if ends_set s.role then None else open_before ss i)) }
-    ensures placed { (ss : List Outline) (i : ℕ) (s : Outline) → slice_get ss i ≡ Some s → enclosing_set ss i ≡ (if begins_set s.role then None else open_before ss i) }
+        → open_before ss (suc i) ≡ (if begins_set s.role then Some i
+        else (if ends_set s.role then None else open_before ss i)) }
+    ensures placed { (ss : List Outline) (i : ℕ) (s : Outline) → slice_get ss i ≡ Some s
+        → enclosing_set ss i ≡ (if begins_set s.role then None else open_before ss i) }
     ensures within { (ss : List Outline) (i k : ℕ) → enclosing_set ss i ≡ Some k → k < i }
 {}

@@ -13,9 +13,15 @@ ghost use Rattle.std.specs.Prelude.{◌≡◌, ℕ, List, Option};
 /// whichever texts they are in: both go by their spelling alone. Tokens that are a text by
 /// themselves are spelled there as they are.
 pub fn same_spelling_same_summary()
-    ensures bytes { (text moved : List ℕ) (tokens shifted : List Piece) → spelled text tokens ≡ spelled moved shifted → token_bytes text tokens ≡ token_bytes moved shifted }
-    ensures summary { (text moved : List ℕ) (tokens shifted : List Piece) → spelled text tokens ≡ spelled moved shifted → (tree : Option Item) → summary_in text tokens tree ≡ summary_in moved shifted tree }
-    ensures bytes_by_spelling { (text : List ℕ) (tokens : List Piece) → token_bytes text tokens ≡ bytes_by (spelled text tokens) }
-    ensures alone { (tokens : List (Class × List ℕ)) → spelled (text_of tokens) (pieces_from 0 tokens) ≡ tokens }
-    ensures summary_by_spelling { (text : List ℕ) (tokens : List Piece) (tree : Option Item) → summary_in text tokens tree ≡ summary_by (spelled text tokens) tree }
+    ensures bytes { (text moved : List ℕ) (tokens shifted : List Piece)
+        → spelled text tokens ≡ spelled moved shifted → token_bytes text tokens ≡ token_bytes moved shifted }
+    ensures summary { (text moved : List ℕ) (tokens shifted : List Piece)
+        → spelled text tokens ≡ spelled moved shifted
+        → (tree : Option Item) → summary_in text tokens tree ≡ summary_in moved shifted tree }
+    ensures bytes_by_spelling { (text : List ℕ) (tokens : List Piece)
+        → token_bytes text tokens ≡ bytes_by (spelled text tokens) }
+    ensures alone { (tokens : List (Class × List ℕ))
+        → spelled (text_of tokens) (pieces_from 0 tokens) ≡ tokens }
+    ensures summary_by_spelling { (text : List ℕ) (tokens : List Piece) (tree : Option Item)
+        → summary_in text tokens tree ≡ summary_by (spelled text tokens) tree }
 {}

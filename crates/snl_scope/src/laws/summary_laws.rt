@@ -13,9 +13,11 @@ ghost use Rattle.std.specs.List.{AllPairs, Contains};
 /// Each name is kept, no other is, and no two are the same; they are in the order in which they
 /// come first.
 pub fn names_kept_once()
-    ensures same { (names : List (List ℕ)) → (name : List ℕ) → Contains (once names) name ↔ Contains names name }
+    ensures same { (names : List (List ℕ))
+        → (name : List ℕ) → Contains (once names) name ↔ Contains names name }
     ensures apart { (names : List (List ℕ)) → AllPairs (λ a b. a ≢ b) (once names) }
-    ensures ordered { (names : List (List ℕ)) → (name : List ℕ) → once (names ++ name ∷ []) ≡ with_new (once names) name }
+    ensures ordered { (names : List (List ℕ))
+        → (name : List ℕ) → once (names ++ name ∷ []) ≡ with_new (once names) name }
 {}
 
 /// A state that declares nothing and has no clauses says the same to the others while it is faulty.

@@ -15,7 +15,8 @@ use snl_walk::tokens_rise;
 
 /// The tree that is read of tokens names none but these tokens.
 pub fn names_are_tokens()
-    ensures { (text : List ℕ) (tokens : List Piece) (t : Item) → item_of (kinds_in text tokens) ≡ Some t → NamesItsTokens text tokens t }
+    ensures { (text : List ℕ) (tokens : List Piece) (t : Item)
+        → item_of (kinds_in text tokens) ≡ Some t → NamesItsTokens text tokens t }
 {
     item_read();
     item_spelled();
@@ -25,8 +26,12 @@ pub fn names_are_tokens()
 /// The targets in the summary of an item are at tokens of the item, each at a later one than the
 /// target before it.
 pub fn targets_rise()
-    ensures rise { (text : List ℕ) (tokens : List Piece) (t : Item) → item_of (kinds_in text tokens) ≡ Some t → IsStrictlyIncreasing (target_tokens (summary_in text tokens (Some t))) }
-    ensures own { (text : List ℕ) (tokens : List Piece) (t : Item) → item_of (kinds_in text tokens) ≡ Some t → All (λ n. n < length tokens) (target_tokens (summary_in text tokens (Some t))) }
+    ensures rise { (text : List ℕ) (tokens : List Piece) (t : Item)
+        → item_of (kinds_in text tokens) ≡ Some t
+        → IsStrictlyIncreasing (target_tokens (summary_in text tokens (Some t))) }
+    ensures own { (text : List ℕ) (tokens : List Piece) (t : Item)
+        → item_of (kinds_in text tokens) ≡ Some t
+        → All (λ n. n < length tokens) (target_tokens (summary_in text tokens (Some t))) }
 {
     tokens_rise();
 }

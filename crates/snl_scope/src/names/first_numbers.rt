@@ -4,11 +4,11 @@
 ghost use Rattle.std.specs.Prelude.{◌≡◌, ◌++◌, ◌∷◌, [], ◌<◌, ℕ, IfOk, OnOk, Some, false, true, if◌then◌else◌, is_some, vec_len};
 ghost use Rattle.std.specs.Map.{lookup};
 ghost use Rattle.std.specs.Option.{option_or};
-ghost use Rattle.snl_scope.specs.declared.names.namespaces.Key.{Key};
+ghost use Rattle.snl_scope.specs.declared.names.namespaces.QualifiedName.{QualifiedName};
 ghost use Rattle.snl_scope.specs.declared.names.namespaces.Namespace.{Namespace};
 ghost use Rattle.snl_scope.specs.NameTables.{AreSame, IsPut, TellsInner, is_inner, is_program, name_head, nearest_under, number_under, same_key};
 
-use crate::names::namespaces::{Key, Namespace};
+use crate::names::namespaces::{Namespace, QualifiedName};
 use indexmap::IndexMap;
 use snl_cut::OutOfMemory;
 use std::alloc::Global;
@@ -27,7 +27,7 @@ pub(crate) struct NameHead {
 pub(crate) struct FirstNumbers {
     pub heads: Vec<NameHead>,
     // those that are elsewhere
-    pub elsewhere: IndexMap<Key, usize>,
+    pub elsewhere: IndexMap<QualifiedName, usize>,
     // all, in the order in which they came
     pub numbers: Vec<usize>,
 }
@@ -67,11 +67,16 @@ fn make_head(heads: &mut Vec<NameHead>, name: usize) -> Result<(), OutOfMemory>
 
 // Adds the number of the first that came with a key, and tells whether one came before, which then
 // stays the first. A new key, as nearly all are, takes one look-up.
-fn add_first(table: &mut IndexMap<Key, usize>, key: Key, number: usize) -> Result<bool, OutOfMemory>
+fn add_first(
+    table: &mut IndexMap<QualifiedName, usize>,
+    key: QualifiedName,
+    number: usize,
+) -> Result<bool, OutOfMemory>
     ensures seen { IfOk result (λ seen. seen ≡ is_some (lookup (same_key key) table.old.entries)) }
     ensures stays { IfOk result (λ seen. seen ≡ true → table.new.entries ≡ table.old.entries) }
-    ensures put { IfOk result (λ seen. seen ≡ false → (q : Key) →
-        lookup (same_key q) table.new.entries ≡ (if same_key key q then Some number else lookup (same_key q) table.old.entries)) }
+    ensures put { IfOk result (λ seen. seen ≡ false → (q : QualifiedName) →
+        lookup (same_key q) table.new.entries ≡ (if same_key key q then Some number
+        else lookup (same_key q) table.old.entries)) }
 {
     match table.insert(key, number)? {
         None => Ok(false),
@@ -101,7 +106,10 @@ impl FirstNumbers {
     {
         match namespace {
             Namespace::Program => name_head(&self.heads, name).in_program,
-            _ => self.elsewhere.get(&Key { namespace, name }).copied(),
+            _ => self
+                .elsewhere
+                .get(&QualifiedName { namespace, name })
+                .copied(),
         }
     }
 
@@ -131,7 +139,8 @@ impl FirstNumbers {
         name: usize,
     ) -> Option<usize>
         requires { TellsInner self.now }
-        ensures { result ≡ option_or (number_under self.now (Namespace.State item) name) (nearest_under self.now enclosing_set name) }
+        ensures { result ≡ option_or (number_under self.now (Namespace.State item) name)
+            (nearest_under self.now enclosing_set name) }
     {
         if name_head(&self.heads, name).is_inner {
             let own = self.number_under(Namespace::State(item), name);
@@ -147,7 +156,8 @@ impl FirstNumbers {
         requires { name < vec_len self.old.heads }
         ensures seen { result ≡ is_some (number_under self.old Namespace.Program name) }
         ensures stays { result ≡ true → AreSame self.old self.new }
-        ensures put { result ≡ false → IsPut self.old self.new (record { namespace = Namespace.Program; name = name }) number }
+        ensures put { result ≡ false → IsPut self.old self.new
+            (record { namespace = Namespace.Program; name = name }) number }
         ensures numbers { self.new.numbers ≡ self.old.numbers }
     {
         let head = &mut self.heads[name];
@@ -159,10 +169,11 @@ impl FirstNumbers {
     }
 
     // Adds a number in another namespace, and tells whether one came before.
-    fn add_elsewhere(&mut self, key: Key, number: usize) -> Result<bool, OutOfMemory>
+    fn add_elsewhere(&mut self, key: QualifiedName, number: usize) -> Result<bool, OutOfMemory>
         requires elsewhere { is_program key.namespace ≡ false }
         requires there { key.name < vec_len self.old.heads }
-        ensures seen { IfOk result (λ seen. seen ≡ is_some (number_under self.old key.namespace key.name)) }
+        ensures seen { IfOk result
+            (λ seen. seen ≡ is_some (number_under self.old key.namespace key.name)) }
         ensures stays { IfOk result (λ seen. seen ≡ true → AreSame self.old self.new) }
         ensures put { IfOk result (λ seen. seen ≡ false → IsPut self.old self.new key number) }
         ensures numbers { OnOk result (self.new.numbers ≡ self.old.numbers) }
@@ -176,11 +187,13 @@ impl FirstNumbers {
 
     /// Adds the number of the first that came with a key, and tells whether one came before, which
     /// then stays the first.
-    pub(crate) fn add(&mut self, key: Key, number: usize) -> Result<bool, OutOfMemory>
-        ensures seen { IfOk result (λ seen. seen ≡ is_some (number_under self.old key.namespace key.name)) }
+    pub(crate) fn add(&mut self, key: QualifiedName, number: usize) -> Result<bool, OutOfMemory>
+        ensures seen { IfOk result
+            (λ seen. seen ≡ is_some (number_under self.old key.namespace key.name)) }
         ensures stays { IfOk result (λ seen. seen ≡ true → AreSame self.old self.new) }
         ensures put { IfOk result (λ seen. seen ≡ false → IsPut self.old self.new key number) }
-        ensures numbers { IfOk result (λ seen. self.new.numbers.items ≡ self.old.numbers.items ++ (if seen then [] else number ∷ [])) }
+        ensures numbers { IfOk result (λ seen. self.new.numbers.items ≡ self.old.numbers.items
+            ++ (if seen then [] else number ∷ [])) }
     {
         make_head(&mut self.heads, key.name)?;
         let came_before = match key.namespace {

@@ -5,23 +5,23 @@ ghost use Rattle.snl_scope.specs.Names.{Entry, declared_entry, entries, entries_
 ghost use Rattle.snl_scope.specs.Order.{state_name};
 ghost use Rattle.snl_scope.specs.Places as Places;
 ghost use Rattle.snl_scope.specs.declared.summaries.summary.Outline.{Outline};
-ghost use Rattle.snl_walk.specs.declared.codes.Code.{Code};
+ghost use Rattle.snl_codes.specs.declared.code.Code.{Code};
 ghost use Rattle.snl_scope.specs.declared.names.namespaces.Namespace.{Namespace};
-ghost use Rattle.snl_scope.specs.NameTables.{Follows, Placed, entry_of, number_by, symbol_of};
+ghost use Rattle.snl_scope.specs.NameTables.{Placed, TablesFollow, entry_of, number_by, symbol_of};
 
 use crate::facts::LinkFault;
 use crate::names::first_numbers::FirstNumbers;
-use crate::names::name_set::Names;
-use crate::names::namespaces::{Key, Namespace};
+use crate::names::namespaces::{Namespace, QualifiedName};
+use crate::names::numbered_names::NumberedNames;
 use crate::summaries::summary::{Declared, Opening, Outline, Role, Variable};
+use snl_codes::Code;
 use snl_cut::OutOfMemory;
-use snl_walk::Code;
 use std::alloc::Global;
 
 /// A name that an item brings into a namespace: `code` is what it gives where an earlier one has
 /// the name, and `variable` is what a declaration says of it.
 #[derive(Clone, Copy)]
-pub(crate) struct Named<'a> {
+pub(crate) struct NameEntry<'a> {
     pub namespace: Namespace,
     pub name: &'a [u8],
     pub item: usize,
@@ -43,13 +43,13 @@ pub(crate) struct Symbol {
 /// for each number where it is, and the findings at those that came again.
 #[derive(Drop)]
 pub(crate) struct NameTables {
-    pub names: Names,
+    pub names: NumberedNames,
     pub first: FirstNumbers,
     pub symbols: Vec<Symbol>,
     pub faults: Vec<LinkFault>,
 }
 
-fn symbol_of(named: Named) -> Symbol
+fn symbol_of(named: NameEntry) -> Symbol
     ensures { result ≡ symbol_of (entry_of named.entry) }
 {
     Symbol {
@@ -62,7 +62,7 @@ fn symbol_of(named: Named) -> Symbol
 
 /// The number of the first that came with a name in a namespace.
 pub(crate) fn number_in(
-    names: &Names,
+    names: &NumberedNames,
     first: &FirstNumbers,
     namespace: Namespace,
     name: &[u8],
@@ -73,8 +73,9 @@ pub(crate) fn number_in(
 }
 
 // Adds what a name gives that came again.
-fn add_repetition(named: Named, faults: &mut Vec<LinkFault>) -> Result<(), OutOfMemory>
-    ensures { OnOk result (faults.new.items ≡ faults.old.items ++ repetition_at (entry_of named.entry)) }
+fn add_repetition(named: NameEntry, faults: &mut Vec<LinkFault>) -> Result<(), OutOfMemory>
+    ensures { OnOk result (faults.new.items ≡ faults.old.items
+        ++ repetition_at (entry_of named.entry)) }
 {
     if let Some(code) = named.code {
         faults.push(LinkFault {
@@ -98,7 +99,8 @@ fn scope_at(enclosing_set: Option<usize>) -> Namespace
 
 // The scope that an item declares in.
 fn scope_of(role: Role, item: usize, enclosing_set: Option<usize>) -> Namespace
-    ensures { result ≡ (if has_own_scope role then Namespace.State item else scope_at enclosing_set) }
+    ensures { result
+        ≡ (if has_own_scope role then Namespace.State item else scope_at enclosing_set) }
 {
     match role {
         Role::State => Namespace::State(item),
@@ -138,25 +140,25 @@ fn state_name(outline: &Outline) -> Option<&[u8]>
 impl NameTables {
     /// With room for so many symbols. How many different names there are among them isn't known.
     pub(crate) fn new(alloc: Global, room: usize) -> Result<NameTables, OutOfMemory>
-        ensures { IfOk result (λ t. Follows t.names t.first t.symbols.items t.faults.items []) }
+        ensures { IfOk result (λ t. TablesFollow t []) }
     {
         let symbols = Vec::with_capacity(alloc, room)?;
         Ok(NameTables {
-            names: Names::new(alloc),
+            names: NumberedNames::new(alloc),
             first: FirstNumbers::new(alloc),
             symbols,
             faults: Vec::new(alloc),
         })
     }
 
-    fn add(&mut self, alloc: Global, named: Named) -> Result<(), OutOfMemory>
+    fn add(&mut self, alloc: Global, named: NameEntry) -> Result<(), OutOfMemory>
         ensures { OnOk result ((es : List Entry)
-            → Follows self.old.names self.old.first self.old.symbols.items self.old.faults.items es
-            → Follows self.new.names self.new.first self.new.symbols.items self.new.faults.items (es ++ entry_of named.entry ∷ [])) }
+            → TablesFollow self.old es
+            → TablesFollow self.new (es ++ entry_of named.entry ∷ [])) }
     {
         let number = self.symbols.len();
         let name = self.names.add(alloc, named.name)?;
-        let key = Key {
+        let key = QualifiedName {
             namespace: named.namespace,
             name,
         };
@@ -171,14 +173,14 @@ impl NameTables {
     // Adds the name of the state set that an item begins.
     fn add_set(&mut self, alloc: Global, item: usize, outline: &Outline) -> Result<(), OutOfMemory>
         ensures { OnOk result ((es : List Entry)
-            → Follows self.old.names self.old.first self.old.symbols.items self.old.faults.items es
-            → Follows self.new.names self.new.first self.new.symbols.items self.new.faults.items (es ++ set_entries item outline.now)) }
+            → TablesFollow self.old es
+            → TablesFollow self.new (es ++ set_entries item outline.now)) }
     {
         match set_name(outline) {
             None => Ok(()),
             Some(name) => self.add(
                 alloc,
-                Named {
+                NameEntry {
                     namespace: Namespace::Sets,
                     name,
                     item,
@@ -199,13 +201,13 @@ impl NameTables {
         outline: &Outline,
     ) -> Result<(), OutOfMemory>
         ensures { OnOk result ((es : List Entry)
-            → Follows self.old.names self.old.first self.old.symbols.items self.old.faults.items es
-            → Follows self.new.names self.new.first self.new.symbols.items self.new.faults.items (es ++ state_entries enclosing_set item outline.now)) }
+            → TablesFollow self.old es
+            → TablesFollow self.new (es ++ state_entries enclosing_set item outline.now)) }
     {
         match (enclosing_set, state_name(outline)) {
             (Some(set), Some(name)) => self.add(
                 alloc,
-                Named {
+                NameEntry {
                     namespace: Namespace::States(set),
                     name,
                     item,
@@ -227,13 +229,13 @@ impl NameTables {
         declares: &[Declared],
     ) -> Result<(), OutOfMemory>
         ensures { OnOk result ((es : List Entry)
-            → Follows self.old.names self.old.first self.old.symbols.items self.old.faults.items es
-            → Follows self.new.names self.new.first self.new.symbols.items self.new.faults.items (es ++ map (declared_entry scope item) declares.now)) }
+            → TablesFollow self.old es
+            → TablesFollow self.new (es ++ map (declared_entry scope item) declares.now)) }
     {
         for declared in declares {
             self.add(
                 alloc,
-                Named {
+                NameEntry {
                     namespace: scope,
                     name: declared.name.bytes(),
                     item,
@@ -253,9 +255,10 @@ impl NameTables {
         item: usize,
         outline: &Outline,
     ) -> Result<(), OutOfMemory>
-        ensures { OnOk result ((ss : List Outline) → enclosing_set ≡ Places.enclosing_set ss item → (es : List Entry)
-            → Follows self.old.names self.old.first self.old.symbols.items self.old.faults.items es
-            → Follows self.new.names self.new.first self.new.symbols.items self.new.faults.items (es ++ entries_of ss item outline.now)) }
+        ensures { OnOk result ((ss : List Outline)
+            → enclosing_set ≡ Places.enclosing_set ss item → (es : List Entry)
+            → TablesFollow self.old es
+            → TablesFollow self.new (es ++ entries_of ss item outline.now)) }
     {
         self.add_set(alloc, item, outline)?;
         self.add_state(alloc, enclosing_set, item, outline)?;
@@ -289,7 +292,7 @@ pub(crate) fn tables_of(
     places: &[Option<usize>],
 ) -> Result<NameTables, OutOfMemory>
     requires { Placed places.now (map (λ s. s.now) outlines.now) (length outlines.now) }
-    ensures { IfOk result (λ t. Follows t.names t.first t.symbols.items t.faults.items (entries (map (λ s. s.now) outlines.now))) }
+    ensures { IfOk result (λ t. TablesFollow t (entries (map (λ s. s.now) outlines.now))) }
 {
     let mut tables = NameTables::new(alloc, symbol_counts(outlines, places))?;
     for item in 0..outlines.len() {

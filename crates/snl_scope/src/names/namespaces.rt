@@ -23,9 +23,9 @@ pub(crate) enum Namespace {
     States(usize),
 }
 
-/// A name, by its number, in a namespace.
+/// A name, by its number, in a namespace: a key of tables.
 #[derive(Clone, Copy, PartialEq, Eq)]
-pub(crate) struct Key {
+pub(crate) struct QualifiedName {
     pub namespace: Namespace,
     pub name: usize,
 }
@@ -43,7 +43,7 @@ fn namespace_number(namespace: Namespace) -> u64
 }
 
 // By one write of a number, where a variant and its fields would take a write each.
-impl Hash for Key {
+impl Hash for QualifiedName {
     ghost hash_input = { λ k. fed.u128 (key_number k) };
 
     ghost respects_eq = { λ a b h. ap fed.u128 (same_key_number a b h) };

@@ -2,12 +2,12 @@
 
 ghost use Rattle.std.specs.Prelude.{◌≡◌};
 
-use crate::items::heads::{Head, Member, is_member};
+use crate::items::heads::{Head, Sought, is_sought};
 use crate::names::first_numbers::FirstNumbers;
 use crate::names::ghost_outlines::GhostOutlines;
-use crate::names::name_set::Names;
 use crate::names::name_tables::{Symbol, number_in};
 use crate::names::namespaces::Namespace;
+use crate::names::numbered_names::NumberedNames;
 use crate::summaries::summary::{Role, Variable};
 use std::marker::Model;
 
@@ -16,7 +16,7 @@ use std::marker::Model;
 pub(crate) struct Scopes {
     pub places: Vec<Option<usize>>,
     pub heads: Vec<Head>,
-    pub names: Names,
+    pub names: NumberedNames,
     pub first: FirstNumbers,
     pub symbols: Vec<Symbol>,
     pub made_of: GhostOutlines,
@@ -93,7 +93,7 @@ impl Scopes {
         ensures { result ≡ is_named_state self.now item }
     {
         match self.heads.get(item) {
-            Some(head) => is_member(Member::State, *head),
+            Some(head) => is_sought(Sought::State, *head),
             None => false,
         }
     }

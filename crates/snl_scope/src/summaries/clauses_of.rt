@@ -53,7 +53,8 @@ fn covered_by_channel(source: &Source, channel: &Channel) -> Coverage
 
 fn flag_of(source: &Source, flag: Option<Flag>) -> Result<Option<NameRef>, OutOfMemory>
     requires { IsSource source.now.text.now source.now.tokens.now }
-    ensures { IfOk result (λ m. m ≡ option_map (flag_at source.now.text.now source.now.tokens.now) flag) }
+    ensures { IfOk result
+        (λ m. m ≡ option_map (flag_at source.now.text.now source.now.tokens.now) flag) }
 {
     match flag {
         None => Ok(None),
@@ -69,7 +70,8 @@ fn clause_on(
     flag: Option<Flag>,
 ) -> Result<VariableClause, OutOfMemory>
     requires { IsSource source.now.text.now source.now.tokens.now }
-    ensures { IfOk result (λ c. c ≡ clause_on source.now.text.now source.now.tokens.now kind name coverage flag) }
+    ensures { IfOk result
+        (λ c. c ≡ clause_on source.now.text.now source.now.tokens.now kind name coverage flag) }
 {
     Ok(VariableClause {
         variable: name_ref_at(source, name)?,
@@ -81,7 +83,8 @@ fn clause_on(
 
 fn clause_of(source: &Source, clause: &Clause) -> Result<VariableClause, OutOfMemory>
     requires { IsSource source.now.text.now source.now.tokens.now }
-    ensures { IfOk result (λ c. c ≡ clause_of source.now.text.now source.now.tokens.now clause.now) }
+    ensures { IfOk result
+        (λ c. c ≡ clause_of source.now.text.now source.now.tokens.now clause.now) }
 {
     match clause {
         Clause::Assign { name, channel } => {
@@ -119,7 +122,8 @@ fn add_state(
     clauses: &mut Vec<VariableClause>,
 ) -> Result<(), OutOfMemory>
     requires { IsSource source.now.text.now source.now.tokens.now }
-    ensures { OnOk result (clauses.new.items ≡ clauses.old.items ++ flat_map (clauses_of_member source.now.text.now source.now.tokens.now) members.now) }
+    ensures { OnOk result (clauses.new.items ≡ clauses.old.items
+        ++ flat_map (clauses_of_member source.now.text.now source.now.tokens.now) members.now) }
 {
     for member in members {
         if let StateMember::Clause(clause) = member {
@@ -135,7 +139,8 @@ pub(crate) fn clauses_in(
     tree: Option<&Item>,
 ) -> Result<Vec<VariableClause>, OutOfMemory>
     requires { IsSource source.now.text.now source.now.tokens.now }
-    ensures { IfOk result (λ v. v.items ≡ clauses_in source.now.text.now source.now.tokens.now (option_copied tree.entry)) }
+    ensures { IfOk result (λ v. v.items
+        ≡ clauses_in source.now.text.now source.now.tokens.now (option_copied tree.entry)) }
 {
     let mut clauses = Vec::new(source.alloc);
     match tree {

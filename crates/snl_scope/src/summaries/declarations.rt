@@ -72,7 +72,8 @@ fn dims_of(source: &Source, declarator: &Declarator) -> Dims
 
 fn declared_at(source: &Source, variable: Variable, number: usize) -> Result<Declared, OutOfMemory>
     requires { IsSource source.now.text.now source.now.tokens.now }
-    ensures { IfOk result (λ d. d ≡ declared_at source.now.text.now source.now.tokens.now variable number) }
+    ensures { IfOk result
+        (λ d. d ≡ declared_at source.now.text.now source.now.tokens.now variable number) }
 {
     Ok(Declared {
         name: name_at(source, number)?,
@@ -87,7 +88,8 @@ fn declared_by_declarator(
     declarator: &Declarator,
 ) -> Result<Declared, OutOfMemory>
     requires { IsSource source.now.text.now source.now.tokens.now }
-    ensures { IfOk result (λ d. d ≡ declared_by_declarator source.now.text.now source.now.tokens.now symbol_kind declarator.now) }
+    ensures { IfOk result (λ d. d
+        ≡ declared_by_declarator source.now.text.now source.now.tokens.now symbol_kind declarator.now) }
 {
     let dims = dims_of(source, declarator);
     declared_at(source, Variable { dims, symbol_kind }, declarator.name)
@@ -99,7 +101,8 @@ fn add_declaration(
     declared: &mut Vec<Declared>,
 ) -> Result<(), OutOfMemory>
     requires { IsSource source.now.text.now source.now.tokens.now }
-    ensures { OnOk result (declared.new.items ≡ declared.old.items ++ declared_by_declaration source.now.text.now source.now.tokens.now declaration.now) }
+    ensures { OnOk result (declared.new.items ≡ declared.old.items
+        ++ declared_by_declaration source.now.text.now source.now.tokens.now declaration.now) }
 {
     let symbol_kind = symbol_kind_of(declaration.of.base);
     for declarator in declaration.declarators.as_slice() {
@@ -114,7 +117,8 @@ fn add_foreign(
     declared: &mut Vec<Declared>,
 ) -> Result<(), OutOfMemory>
     requires { IsSource source.now.text.now source.now.tokens.now }
-    ensures { OnOk result (declared.new.items ≡ declared.old.items ++ declared_by_foreign source.now.text.now source.now.tokens.now names.now) }
+    ensures { OnOk result (declared.new.items ≡ declared.old.items
+        ++ declared_by_foreign source.now.text.now source.now.tokens.now names.now) }
 {
     let variable = Variable {
         dims: Dims::Unknown,
@@ -133,7 +137,8 @@ fn add_function(
     declared: &mut Vec<Declared>,
 ) -> Result<(), OutOfMemory>
     requires { IsSource source.now.text.now source.now.tokens.now }
-    ensures { OnOk result (declared.new.items ≡ declared.old.items ++ declared_by_function source.now.text.now source.now.tokens.now function.now) }
+    ensures { OnOk result (declared.new.items ≡ declared.old.items
+        ++ declared_by_function source.now.text.now source.now.tokens.now function.now) }
 {
     let variable = Variable {
         dims: Dims::Unknown,
@@ -154,7 +159,8 @@ fn add_member(
     declared: &mut Vec<Declared>,
 ) -> Result<(), OutOfMemory>
     requires { IsSource source.now.text.now source.now.tokens.now }
-    ensures { OnOk result (declared.new.items ≡ declared.old.items ++ declared_by_member source.now.text.now source.now.tokens.now member.now) }
+    ensures { OnOk result (declared.new.items ≡ declared.old.items
+        ++ declared_by_member source.now.text.now source.now.tokens.now member.now) }
 {
     match member {
         StateMember::Declaration(declaration) => add_declaration(source, declaration, declared),
@@ -175,7 +181,8 @@ fn add_state(
     declared: &mut Vec<Declared>,
 ) -> Result<(), OutOfMemory>
     requires { IsSource source.now.text.now source.now.tokens.now }
-    ensures { OnOk result (declared.new.items ≡ declared.old.items ++ flat_map (declared_by_member source.now.text.now source.now.tokens.now) members.now) }
+    ensures { OnOk result (declared.new.items ≡ declared.old.items
+        ++ flat_map (declared_by_member source.now.text.now source.now.tokens.now) members.now) }
 {
     for member in members {
         add_member(source, member, declared)?;
@@ -185,7 +192,8 @@ fn add_state(
 
 fn add_tree(source: &Source, tree: &Item, declared: &mut Vec<Declared>) -> Result<(), OutOfMemory>
     requires { IsSource source.now.text.now source.now.tokens.now }
-    ensures { OnOk result (declared.new.items ≡ declared.old.items ++ declared_in_tree source.now.text.now source.now.tokens.now tree.now) }
+    ensures { OnOk result (declared.new.items ≡ declared.old.items
+        ++ declared_in_tree source.now.text.now source.now.tokens.now tree.now) }
 {
     match tree {
         Item::Definition(declaration) => add_declaration(source, declaration.get(), declared),
@@ -217,7 +225,8 @@ pub(crate) fn declared_in(
     tree: Option<&Item>,
 ) -> Result<Vec<Declared>, OutOfMemory>
     requires { IsSource source.now.text.now source.now.tokens.now }
-    ensures { IfOk result (λ v. v.items ≡ declared_in source.now.text.now source.now.tokens.now (option_copied tree.entry)) }
+    ensures { IfOk result (λ v. v.items
+        ≡ declared_in source.now.text.now source.now.tokens.now (option_copied tree.entry)) }
 {
     let mut declared = Vec::new(source.alloc);
     if let Some(tree) = tree {

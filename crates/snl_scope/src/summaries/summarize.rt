@@ -6,7 +6,7 @@ ghost use Rattle.snl_scope.specs.Summaries.Clauses.{clauses_in};
 ghost use Rattle.snl_scope.specs.Summaries.Declares.{declared_in};
 ghost use Rattle.snl_scope.specs.Summaries.Tokens.{name_ref_at};
 ghost use Rattle.snl_walk.specs.Once.{once};
-ghost use Rattle.snl_walk.specs.Tokens.{IsSource, token_bytes};
+ghost use Rattle.snl_walk.specs.Tokens.{IsSource, bytes_in};
 ghost use Rattle.snl_walk.specs.Uses.{targets, uses};
 ghost use Rattle.std.specs.Prelude.{◌≡◌, IfOk, map, option_copied};
 
@@ -125,7 +125,8 @@ fn second_of(source: &Source) -> Result<Option<Boxed<Name>>, OutOfMemory>
 // What is found in the item; in a faulty one nothing is.
 fn occurrences_in(source: &Source, tree: Option<&Item>) -> Result<Vec<Occurrence>, OutOfMemory>
     requires { IsSource source.now.text.now source.now.tokens.now }
-    ensures { IfOk result (λ v. v.items ≡ occurrences_in (token_bytes source.now.text.now source.now.tokens.now) (option_copied tree.entry)) }
+    ensures { IfOk result
+        (λ v. v.items ≡ occurrences_in (bytes_in source.now) (option_copied tree.entry)) }
 {
     match tree {
         Some(tree) => occurrences(source, tree),
@@ -136,7 +137,7 @@ fn occurrences_in(source: &Source, tree: Option<&Item>) -> Result<Vec<Occurrence
 // The names that the item uses, each once.
 fn used_names(source: &Source, found: &[Occurrence]) -> Result<Few<Name>, OutOfMemory>
     requires { IsSource source.now.text.now source.now.tokens.now }
-    ensures { IfOk result (λ names. names ≡ once (map (token_bytes source.now.text.now source.now.tokens.now) (uses found.now))) }
+    ensures { IfOk result (λ names. names ≡ once (map (bytes_in source.now) (uses found.now))) }
 {
     names_once(source, &uses(source.alloc, found)?)
 }
@@ -144,7 +145,8 @@ fn used_names(source: &Source, found: &[Occurrence]) -> Result<Few<Name>, OutOfM
 // The states that the item leads to.
 fn target_names(source: &Source, found: &[Occurrence]) -> Result<Few<NameRef>, OutOfMemory>
     requires { IsSource source.now.text.now source.now.tokens.now }
-    ensures { IfOk result (λ m. m ≡ map (name_ref_at source.now.text.now source.now.tokens.now) (targets found.now)) }
+    ensures { IfOk result (λ m. m
+        ≡ map (name_ref_at source.now.text.now source.now.tokens.now) (targets found.now)) }
 {
     name_refs(source, &targets(source.alloc, found)?)
 }
@@ -155,10 +157,11 @@ fn asked_names(
     tree: Option<&Item>,
 ) -> Result<(Few<Name>, Few<NameRef>), OutOfMemory>
     requires { IsSource source.now.text.now source.now.tokens.now }
-    ensures uses { IfOk result (λ asked. asked.0 ≡ once (map (token_bytes source.now.text.now source.now.tokens.now)
-        (uses (occurrences_in (token_bytes source.now.text.now source.now.tokens.now) (option_copied tree.entry))))) }
-    ensures targets { IfOk result (λ asked. asked.1 ≡ map (name_ref_at source.now.text.now source.now.tokens.now)
-        (targets (occurrences_in (token_bytes source.now.text.now source.now.tokens.now) (option_copied tree.entry)))) }
+    ensures uses { IfOk result (λ asked. asked.0 ≡ once (map (bytes_in source.now)
+        (uses (occurrences_in (bytes_in source.now) (option_copied tree.entry))))) }
+    ensures targets { IfOk result
+        (λ asked. asked.1 ≡ map (name_ref_at source.now.text.now source.now.tokens.now)
+        (targets (occurrences_in (bytes_in source.now) (option_copied tree.entry)))) }
 {
     let found = occurrences_in(source, tree)?;
     let uses = used_names(source, &found)?;
@@ -168,14 +171,16 @@ fn asked_names(
 
 fn few_declared(source: &Source, tree: Option<&Item>) -> Result<Few<Declared>, OutOfMemory>
     requires { IsSource source.now.text.now source.now.tokens.now }
-    ensures { IfOk result (λ few. few ≡ declared_in source.now.text.now source.now.tokens.now (option_copied tree.entry)) }
+    ensures { IfOk result (λ few. few
+        ≡ declared_in source.now.text.now source.now.tokens.now (option_copied tree.entry)) }
 {
     Ok(Few::from_vec(source.alloc, declared_in(source, tree)?)?)
 }
 
 fn few_clauses(source: &Source, tree: Option<&Item>) -> Result<Few<VariableClause>, OutOfMemory>
     requires { IsSource source.now.text.now source.now.tokens.now }
-    ensures { IfOk result (λ few. few ≡ clauses_in source.now.text.now source.now.tokens.now (option_copied tree.entry)) }
+    ensures { IfOk result (λ few. few
+        ≡ clauses_in source.now.text.now source.now.tokens.now (option_copied tree.entry)) }
 {
     Ok(Few::from_vec(source.alloc, clauses_in(source, tree)?)?)
 }
@@ -189,7 +194,8 @@ pub fn summary_of(
     tree: Option<&Item>,
 ) -> Result<Summary, OutOfMemory>
     requires { IsSource text.now tokens.now }
-    ensures { IfOk result (λ summary. summary ≡ summary_in text.now tokens.now (option_copied tree.entry)) }
+    ensures { IfOk result
+        (λ summary. summary ≡ summary_in text.now tokens.now (option_copied tree.entry)) }
 {
     let source = Source {
         text,

@@ -2,7 +2,7 @@
 
 ghost use Rattle.snl_scope.specs.Summaries.Tokens.{name_ref_at};
 ghost use Rattle.snl_walk.specs.Once.{once};
-ghost use Rattle.snl_walk.specs.Tokens.{IsSource, token_bytes};
+ghost use Rattle.snl_walk.specs.Tokens.{IsSource, bytes_in};
 ghost use Rattle.std.specs.Prelude.{◌≡◌, IfOk, map};
 
 use crate::summaries::name::Name;
@@ -14,7 +14,7 @@ use snl_walk::{NameSet, Source};
 /// A copy of the bytes of a token.
 pub(crate) fn name_at(source: &Source, number: usize) -> Result<Name, OutOfMemory>
     requires { IsSource source.now.text.now source.now.tokens.now }
-    ensures { IfOk result (λ n. n ≡ token_bytes source.now.text.now source.now.tokens.now number) }
+    ensures { IfOk result (λ n. n ≡ bytes_in source.now number) }
 {
     Name::new(source.alloc, source.bytes(number))
 }
@@ -33,7 +33,8 @@ pub(crate) fn name_ref_at(source: &Source, number: usize) -> Result<NameRef, Out
 /// The names at tokens, each with its token.
 pub(crate) fn name_refs(source: &Source, numbers: &[usize]) -> Result<Few<NameRef>, OutOfMemory>
     requires { IsSource source.now.text.now source.now.tokens.now }
-    ensures { IfOk result (λ m. m ≡ map (name_ref_at source.now.text.now source.now.tokens.now) numbers.now) }
+    ensures { IfOk result
+        (λ m. m ≡ map (name_ref_at source.now.text.now source.now.tokens.now) numbers.now) }
 {
     let mut name_refs = Vec::new(source.alloc);
     for number in numbers {
@@ -45,7 +46,7 @@ pub(crate) fn name_refs(source: &Source, numbers: &[usize]) -> Result<Few<NameRe
 /// The names at tokens, each once, in the order in which they come first.
 pub(crate) fn names_once(source: &Source, numbers: &[usize]) -> Result<Few<Name>, OutOfMemory>
     requires { IsSource source.now.text.now source.now.tokens.now }
-    ensures { IfOk result (λ names. names ≡ once (map (token_bytes source.now.text.now source.now.tokens.now) numbers.now)) }
+    ensures { IfOk result (λ names. names ≡ once (map (bytes_in source.now) numbers.now)) }
 {
     let mut found = NameSet::new(source.alloc);
     let mut names = Vec::new(source.alloc);

@@ -17,7 +17,7 @@ First x k rest = (n : ℕ) × (k ≡ ((x, n) ∷ rest))
 abbrev pub Leaf : Kind → ℕ → List NumberedKind → List NumberedKind → Type 0
 Leaf x n k rest = k ≡ ((x, n) ∷ rest)
 
--- these words and marks
+-- these tokens
 abbrev pub Fixed : List Kind → List NumberedKind → List NumberedKind → Type 0
 Fixed = Each First
 

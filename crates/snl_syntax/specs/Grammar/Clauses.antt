@@ -24,9 +24,9 @@ pub record AreForeign (t : List ℕ) (k rest : List NumberedKind) : Type 0 where
   pub names : AreCommas (Leaf kind.Name) t m1 m2
   pub semicolon : First kind.Semicolon m2 rest
 
-abbrev pub option_mark : OptionSign → Kind
-option_mark signs.Plus = kind.Plus
-option_mark signs.Minus = kind.Minus
+abbrev pub option_kind : OptionSign → Kind
+option_kind signs.Plus = kind.Plus
+option_kind signs.Minus = kind.Minus
 
 -- option = "option" ( "+" | "-" ) NAME ";"
 pub record IsOptionLine (t : OptionLine) (k rest : List NumberedKind) : Type 0 where
@@ -34,7 +34,7 @@ pub record IsOptionLine (t : OptionLine) (k rest : List NumberedKind) : Type 0 w
   pub m2 : List NumberedKind
   pub m3 : List NumberedKind
   pub word : First kind.Option k m1
-  pub sign : First (option_mark t.sign) m1 m2
+  pub sign : First (option_kind t.sign) m1 m2
   pub letters : Leaf kind.Name t.letters m2 m3
   pub semicolon : First kind.Semicolon m3 rest
 

@@ -12,7 +12,7 @@ use Rattle.snl_syntax.specs.declared.tree.expression.Suffix.{Suffix}
 use Rattle.snl_syntax.specs.declared.tree.expression.Suffix.TheVariants as suffixes
 use Rattle.snl_syntax.specs.declared.tree.expression.Expr.{Expr}
 use Rattle.snl_syntax.specs.declared.tree.expression.Expr.TheVariants as tree
-use Rattle.snl_syntax.specs.Operators.{tier, binary_mark, assignment_mark, sign_mark}
+use Rattle.snl_syntax.specs.Operators.{tier, binary_kind, assignment_kind, sign_kind}
 use Rattle.snl_syntax.specs.Tokens.{NumberedKind}
 use Rattle.snl_syntax.specs.Grammar.Base.{AreFree, Each, First, Leaf, Within}
 use Rattle.snl_syntax.specs.Grammar.Types.{IsTypeName}
@@ -72,7 +72,7 @@ pub data IsPostfix (Inner : Expr → List NumberedKind → List NumberedKind →
 -- An operator before an operand; the cast is "(" type stars ")". The flag says that `sizeof` is
 -- directly before it: then it is no cast.
 pub data IsOperator (Names : TypeName → List NumberedKind → List NumberedKind → Type 0) (after : Bool) (t : Prefix) (k rest : List NumberedKind) : Type 0 where
-  sign : (op : Sign) → t ≡ prefixes.Sign op → First (sign_mark op) k rest → IsOperator Names after t k rest
+  sign : (op : Sign) → t ≡ prefixes.Sign op → First (sign_kind op) k rest → IsOperator Names after t k rest
   sizeof : t ≡ prefixes.Sizeof → First kind.Sizeof k rest → IsOperator Names after t k rest
   cast : (x : TypeName) (m1 m2 : List NumberedKind) → after ≡ false → t ≡ prefixes.Cast x → First kind.OpenParen k m1 → Names x m1 m2 → First kind.CloseParen m2 rest → IsOperator Names after t k rest
 
@@ -92,7 +92,7 @@ pub data IsPrefix (Inner : Expr → List NumberedKind → List NumberedKind → 
 -- an operator of this tier, and an operand
 pub record IsLink (n : ℕ) (Operand : Expr → List NumberedKind → List NumberedKind → Type 0) (link : Binary × Expr) (k rest : List NumberedKind) : Type 0 where
   pub mid : List NumberedKind
-  pub operator : First (binary_mark link.0) k mid
+  pub operator : First (binary_kind link.0) k mid
   pub of_tier : tier link.0 ≡ n
   pub operand : Operand link.1 mid rest
 
@@ -124,7 +124,7 @@ pub data IsConditional (Inner : Expr → List NumberedKind → List NumberedKind
 pub record IsTarget (Inner : Expr → List NumberedKind → List NumberedKind → Type 0) (Names : TypeName → List NumberedKind → List NumberedKind → Type 0) (target : Expr × Assignment) (k rest : List NumberedKind) : Type 0 where
   pub mid : List NumberedKind
   pub operand : IsPrefix Inner Names target.0 k mid
-  pub operator : First (assignment_mark target.1) mid rest
+  pub operator : First (assignment_kind target.1) mid rest
 
 -- assignx = { prefix op } cond
 pub data IsSingle (Inner : Expr → List NumberedKind → List NumberedKind → Type 0) (Names : TypeName → List NumberedKind → List NumberedKind → Type 0) (t : Expr) (k rest : List NumberedKind) : Type 0 where

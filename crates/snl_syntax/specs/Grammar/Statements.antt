@@ -34,7 +34,7 @@ abbrev pub may_be_choice : Place → Bool
 may_be_choice after_else = false
 may_be_choice _ = true
 
--- an expression or nothing, and a mark
+-- an expression or nothing, and the token that ends it
 pub record IsBefore (x : Kind) (R : Expr → List NumberedKind → List NumberedKind → Type 0) (e : Option Expr) (k rest : List NumberedKind) : Type 0 where
   pub mid : List NumberedKind
   pub value : Perhaps R e k mid

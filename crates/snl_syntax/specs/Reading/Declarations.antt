@@ -5,7 +5,7 @@
 -- other token begins a further value. A declaration and a function begin alike, with a type, stars
 -- and a name. So what follows these is read by `declaration_from`, and what follows the type by
 -- `declaration_of`.
-use Rattle.std.specs.Prelude.{ℕ, zero, suc, Bool, true, false, List, [], ◌∷◌, Option, Some, None}
+use Rattle.std.specs.Prelude.{◌-◌, ℕ, zero, suc, Bool, true, false, List, [], ◌∷◌, Option, Some, None}
 use Rattle.snl_lex.specs.declared.kind.Kind.{Kind}
 use Rattle.snl_lex.specs.declared.kind.Kind.TheVariants as kind
 use Rattle.snl_syntax.specs.declared.stop.Step.{Step}
@@ -156,3 +156,7 @@ module _ (inner : Reader Expr) (value : Reader Init) where
 unfoldable pub declaration : ℕ → Reader Declaration
 declaration zero = refuse
 declaration (suc depth) = declaration_in (assignx depth) (init (suc depth))
+
+-- a rule of declarations, in so many levels with the one that it is in
+abbrev pub in_levels : {A : Type 0} → ℕ → (Reader Expr → Reader Init → A) → A
+in_levels depth rule = rule (assignx (depth - 1)) (init depth)

@@ -20,7 +20,7 @@ use Rattle.snl_syntax.specs.declared.tree.expression.Suffix.{Suffix}
 use Rattle.snl_syntax.specs.declared.tree.expression.Suffix.TheVariants as suffixes
 use Rattle.snl_syntax.specs.declared.tree.expression.Expr.{Expr}
 use Rattle.snl_syntax.specs.declared.tree.expression.Expr.TheVariants as tree
-use Rattle.snl_syntax.specs.Operators.{tier, binary_of, binary_mark, assignment_of, assignment_mark, sign_mark}
+use Rattle.snl_syntax.specs.Operators.{tier, binary_of, binary_kind, assignment_of, assignment_kind, sign_kind}
 use Rattle.snl_syntax.specs.Steps.{Reader, ◌>>=◌, ◌>>◌, pure, refuse, kind_at, expect, word, many, until, within}
 use Rattle.snl_syntax.specs.Reading.Types.{type_name, begins_type}
 
@@ -125,7 +125,7 @@ assignment_in (Some d) = assignment_of d
 abbrev pub link_by : Reader Expr → Option Binary → Reader (Option (Binary × Expr))
 link_by operand None = pure None
 link_by operand (Some op) = do
-  expect (binary_mark op)
+  expect (binary_kind op)
   x ← operand
   pure (Some (op, x))
 
@@ -135,7 +135,7 @@ next_link n operand = λ k. link_by operand (binary_in n (kind_at k)) k
 
 unfoldable pub signed : Sign → Reader (Step Prefix Expr)
 signed op = do
-  expect (sign_mark op)
+  expect (sign_kind op)
   pure (steps.More (prefixes.Sign op))
 
 unfoldable pub member : Kind → (ℕ → Suffix) → Reader (Option Suffix)
@@ -293,7 +293,7 @@ module _ (inner : Reader Expr) (names : Reader TypeName) where
 
   abbrev pub target_by : Expr → Option Assignment → Reader (Step (Expr × Assignment) Expr)
   target_by x (Some op) = do
-    expect (assignment_mark op)
+    expect (assignment_kind op)
     pure (steps.More (x, op))
   target_by x None = do
     y ← conditional_from x
@@ -322,3 +322,7 @@ assignx (suc depth) = single (assignx depth) (type_within depth)
 -- an expression, in so many levels
 abbrev pub expr : ℕ → Reader Expr
 expr depth = sequence (assignx depth)
+
+-- a rule of expressions, where so many levels are left inside
+abbrev pub inside : {A : Type 0} → ℕ → (Reader Expr → Reader TypeName → A) → A
+inside depth rule = rule (assignx depth) (type_within depth)

@@ -5,7 +5,7 @@
 -- is, which opens its level by its braces; any other token begins a statement one level deeper.
 -- After the body of an `if`, `else` is taken first; then `if` goes on with the chain, and any other
 -- token begins the body that ends it. So an `else` belongs to the nearest `if`. After `return` and
--- in the brackets of `for`, the mark that ends a part means that it is empty; any other token
+-- in the brackets of `for`, the token that ends a part means that it is empty; any other
 -- begins an expression.
 use Rattle.std.specs.Prelude.{ℕ, zero, suc, Bool, true, false, List, [], Option, Some, None}
 use Rattle.snl_lex.specs.declared.kind.Kind.{Kind}
@@ -23,7 +23,7 @@ use Rattle.snl_syntax.specs.Reading.Types.{begins_type}
 use Rattle.snl_syntax.specs.Reading.Expressions.{expr}
 use Rattle.snl_syntax.specs.Reading.Declarations.{declaration}
 
--- ---- an expression or nothing, and the mark after it
+-- ---- an expression or nothing, and the token that ends it
 
 unfoldable pub some_before : Kind → Reader Expr → Reader (Option Expr)
 some_before x p = do
@@ -94,7 +94,7 @@ for_parts depth = do
   c ← before_paren (expr depth)
   pure (record { first = a; condition = b; step = c })
 
--- a part may be missing, so that nothing but its mark lies within the brackets
+-- a part may be missing, so that nothing but the token that ends it lies within the brackets
 abbrev pub for_within : ℕ → Reader ForHead
 for_within depth = within depth (for_parts depth)
 
@@ -221,3 +221,7 @@ stmt (suc depth) = stmt_of depth (stmt depth) (suc depth)
 unfoldable pub block : ℕ → Reader (List Member)
 block zero = refuse
 block (suc depth) = block_of depth (stmt depth)
+
+-- a rule of statements that hold others, where so many levels are left inside
+abbrev pub inside : {A : Type 0} → ℕ → (ℕ → Reader Stmt → A) → A
+inside depth rule = rule depth (stmt depth)

@@ -9,7 +9,7 @@ use Rattle.snl_syntax.specs.Tokens.{NumberedKind}
 abbrev pub Spelled : Type 0
 Spelled = Kind × Option ℕ
 
--- a word or mark
+-- a word or a punctuator
 abbrev pub word : Kind → List Spelled
 word x = (x, None) ∷ []
 

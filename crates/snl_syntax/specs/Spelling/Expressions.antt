@@ -10,7 +10,7 @@ use Rattle.snl_syntax.specs.declared.tree.expression.Suffix.{Suffix}
 use Rattle.snl_syntax.specs.declared.tree.expression.Expr.{Expr}
 use Rattle.snl_syntax.specs.declared.tree.expression.Expr.TheOpen.{Expr-F, Suffix-F}
 use Rattle.snl_syntax.specs.declared.tree.expression.Expr.TheFolds.{fold-Expr, fold-Suffix}
-use Rattle.snl_syntax.specs.Operators.{binary_mark, assignment_mark, sign_mark}
+use Rattle.snl_syntax.specs.Operators.{binary_kind, assignment_kind, sign_kind}
 use Rattle.snl_syntax.specs.Spelling.Base.{Spelled, word, leaf, joined, commas, in_parens, in_brackets}
 use Rattle.snl_syntax.specs.Spelling.Types.{spell_type_name}
 
@@ -18,15 +18,15 @@ use Rattle.snl_syntax.specs.Spelling.Types.{spell_type_name}
 abbrev pub spell_texts : List ℕ → List Spelled
 spell_texts texts = joined (map (leaf kind.Text) texts)
 
--- a mark, "sizeof" or "(" type stars ")"
+-- a sign, "sizeof" or "(" type stars ")"
 abbrev pub spell_prefix : Prefix → List Spelled
-spell_prefix (prefixes.Sign op) = word (sign_mark op)
+spell_prefix (prefixes.Sign op) = word (sign_kind op)
 spell_prefix prefixes.Sizeof = word kind.Sizeof
 spell_prefix (prefixes.Cast name) = in_parens (spell_type_name name)
 
 -- an operator and an operand
 abbrev pub spell_link : Binary × List Spelled → List Spelled
-spell_link link = word (binary_mark link.0) ++ link.1
+spell_link link = word (binary_kind link.0) ++ link.1
 
 -- "?" expr ":" or
 abbrev pub spell_arm : List Spelled × List Spelled → List Spelled
@@ -34,7 +34,7 @@ spell_arm arm = word kind.Question ++ arm.0 ++ word kind.Colon ++ arm.1
 
 -- prefix op
 abbrev pub spell_target : List Spelled × Assignment → List Spelled
-spell_target target = target.0 ++ word (assignment_mark target.1)
+spell_target target = target.0 ++ word (assignment_kind target.1)
 
 -- One level of a tree, with what each part spells in its place.
 abbrev pub spell_suffix_step : Suffix-F (List Spelled) (List Spelled) → List Spelled

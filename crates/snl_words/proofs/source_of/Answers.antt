@@ -1,13 +1,14 @@
 use Rattle.std.proofs.Common.{◌≡◌, ◌∙◌, ap, map, Some}
 use Rattle.clap.specs.Words.{kind_of}
 use Rattle.clap.specs.declared.error.kind.ErrorKind.TheVariants.{OutOfMemory}
-use Rattle.snl_words.proofs.SourceLemmas.{takes_words-is, value-is, false_unless}
+use Rattle.snl_words.proofs.SourceLemmas.{takes_words-is, value-is}
 use Rattle.snl_words.proofs.TakenLemmas.{found-taken}
 use Rattle.snl_words.proofs.source_of.Goals as goal
+use Rattle.std.proofs.lemmas.Bool.{false_from_ne_true}
 
 pub returns-in-Err-clause-usage : goal.returns-in-Err-clause-usage
 returns-in-Err-clause-usage c =
-    λ refused. false_unless _ (λ taken.
+    λ refused. false_from_ne_true _ (λ taken.
     let starved : kind_of c.in-Err.error ≡ OutOfMemory = c.in-Err.ensures.passes (takes_words-is _ (map (λ w. w.now) c.args.words.now) c.in_ok-command.ensures ∙ taken) in
     c.fault_of.ensures (cc) (c.kind.ensures ∙ starved))
 

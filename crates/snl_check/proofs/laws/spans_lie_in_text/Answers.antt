@@ -1,4 +1,4 @@
-use Rattle.snl_check.specs.Items.{tokens_in}
+use Rattle.snl_item_check.specs.Items.{tokens_in}
 use Rattle.snl_check.proofs.SpanLaws.{have_bytes, tables_lie}
 use Rattle.snl_check.proofs.laws.spans_lie_in_text.Goals as goal
 

@@ -1,9 +1,10 @@
 use Rattle.std.proofs.Common.{◌++◌, length, suc, take, ℕ, arith, sym, ap, ◌∙◌, refl}
 use Rattle.snl_cut.specs.Cut.{ticked, last_end}
 use Rattle.snl_cut.proofs.Steps.{walks_on, walks_push, notes_push, length_push}
-use Rattle.snl_cut.proofs.Agreeing.{walks_rise, walks_last, still_unmet, not_at_end, same_length}
+use Rattle.snl_cut.proofs.Agreeing.{walks_rise, walks_last, still_unmet, not_at_end}
 use Rattle.snl_cut.proofs.Fresh.{early, head_walk, all_together}
 use Rattle.snl_cut.proofs.again.recut_noted.Goals as goal
+use Rattle.snl_cut.specs.CutLaws.{same_length}
 
 pub count_below-kept_front-requires : goal.count_below-kept_front-requires
 count_below-kept_front-requires g c =

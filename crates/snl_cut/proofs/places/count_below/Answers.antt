@@ -1,6 +1,7 @@
 use Rattle.std.proofs.Common.{◌+◌, ◌-◌, ◌/◌, arith, ℕ}
-use Rattle.snl_cut.proofs.Below.{below_inside, below_low, below_high}
+use Rattle.snl_cut.proofs.Below.{below_low, below_high}
 use Rattle.snl_cut.proofs.places.count_below.Goals as goal
+use Rattle.snl_cut.specs.CutLaws.{below_inside}
 
 pub loop-low-init : goal.loop-low-init
 loop-low-init g c = record { least = omega arith; most = omega (arith, below_inside c.args.place (g.E.Ends.listed c.args.ends.now)); inside = omega arith }

@@ -1,6 +1,7 @@
 use Rattle.std.proofs.Common.{arith, ap, ◌∙◌, sym, add-one, get_or}
-use Rattle.snl_cut.proofs.Below.{last_taken, exact}
+use Rattle.snl_cut.proofs.Below.{exact}
 use Rattle.snl_cut.proofs.places.members_to.Goals as goal
+use Rattle.snl_cut.specs.CutLaws.{last_taken}
 
 pub returns-then-below-count : goal.returns-then-below-count
 returns-then-below-count g c = λ k h.

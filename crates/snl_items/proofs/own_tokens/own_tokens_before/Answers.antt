@@ -2,7 +2,7 @@ use Rattle.std.proofs.Common.{◌≡◌, ℕ, ◌-◌, List, count_by, filter, l
 use Rattle.std.proofs.lemmas.List.{length-map}
 use Rattle.snl_lex.specs.declared.piece.Class.{Class}
 use Rattle.snl_lex.specs.declared.piece.Piece.{Piece}
-use Rattle.snl_lex.specs.Made.{made_pieces}
+use Rattle.snl_lex.specs.Edit.{edit_of}
 use Rattle.snl_lex.specs.PieceList.{is_token_class, piece_kinds}
 use Rattle.snl_lex.specs.Pieces.{is_token, pieces_of, tokens_of}
 use Rattle.snl_items.specs.OwnTokens.{AreCounted, tokens_before}
@@ -19,8 +19,7 @@ tokens_back-from-requires-clause-some c =
     let change = c.args.change.now in
     let tokens = c.args.tokens.now in
     let counted : AreCounted edit.old.now change.kept_front change.kept_back tokens.edit =
-    c.tokens_counted.ensures edit.old.now edit.text.now edit.start edit.old_stop edit.new_stop change.kept_front (made_pieces change) change.kept_back change.kept_from change.list.ends.items change.list.kinds.items c.requires.change
-    tokens.edit tokens.made.items tokens.marks.items tokens.same c.requires.tokens in
+    c.tokens_counted.ensures (edit_of edit) change c.requires.change tokens c.requires.tokens in
     let starts = ap (λ (l : List Class). tokens_before l change.kept_front) (c.deref.ensures.value ∙ c.requires.kinds) ∙ counted.start in
     omega (arith, starts)
 
@@ -31,8 +30,7 @@ tokens_on-to-requires-clause-some c =
     let change = c.args.change.now in
     let tokens = c.args.tokens.now in
     let counted : AreCounted old change.kept_front change.kept_back tokens.edit =
-    c.tokens_counted.ensures old edit.text.now edit.start edit.old_stop edit.new_stop change.kept_front (made_pieces change) change.kept_back change.kept_from change.list.ends.items change.list.kinds.items c.requires.change
-    tokens.edit tokens.made.items tokens.marks.items tokens.same c.requires.tokens in
+    c.tokens_counted.ensures (edit_of edit) change c.requires.change tokens c.requires.tokens in
     let many : c.len.result ≡ length (piece_kinds old) = omega (arith, c.len.ensures, c.args.pieces.now.kinds.ok, ap length c.requires.kinds) in
     let stops =
     among old c.deref-2.result.now c.args.pieces.now.kinds.items (c.len.result - change.kept_back) (length (piece_kinds old) - change.kept_back) tokens.edit.old_stop
@@ -48,8 +46,7 @@ returns c =
     let tokens = c.args.tokens.now in
     let ps : List Piece = pieces_of old in
     let counted : AreCounted old change.kept_front change.kept_back tokens.edit =
-    c.tokens_counted.ensures old edit.text.now edit.start edit.old_stop edit.new_stop change.kept_front (made_pieces change) change.kept_back change.kept_from change.list.ends.items change.list.kinds.items c.requires.change
-    tokens.edit tokens.made.items tokens.marks.items tokens.same c.requires.tokens in
+    c.tokens_counted.ensures (edit_of edit) change c.requires.change tokens c.requires.tokens in
     let many : c.len.result ≡ length (piece_kinds old) = omega (arith, c.len.ensures, c.args.pieces.now.kinds.ok, ap length c.requires.kinds) in
     let starts = among old c.deref.result.now c.args.pieces.now.kinds.items change.kept_front change.kept_front tokens.edit.start c.deref.ensures.value c.requires.kinds refl counted.start in
     let stops =

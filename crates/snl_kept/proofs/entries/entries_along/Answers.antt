@@ -5,8 +5,8 @@ use Rattle.snl_lex.specs.declared.piece.Piece.{Piece}
 use Rattle.snl_kept.specs.Entries.{entry_by}
 use Rattle.snl_kept.specs.Parts.{EndsWithin}
 use Rattle.snl_kept.proofs.Members.{spelled_between}
-use Rattle.snl_kept.proofs.Steps.{drop_at}
 use Rattle.snl_kept.proofs.entries.entries_along.Goals as goal
+use Rattle.std.proofs.lemmas.List.{drop_more}
 
 pub loop-end-preserved : goal.loop-end-preserved
 loop-end-preserved c =
@@ -18,7 +18,7 @@ loop-end-preserved c =
     let stop = get_or ends i 0 in
     let done = c.loop-end.entries.items in
     let rest = map entry_by (members (spelled text tokens) stop (drop (i + 1) ends)) in
-    let here = drop_at ends i 0 c.loop-end-test.true in
+    let here = drop_more ends i 0 c.loop-end-test.true in
     let left : EndsWithin start (stop ∷ drop (i + 1) ends) (length tokens) = subst (λ l. EndsWithin start l (length tokens)) here c.loop-end.invariant.ends in
     let same = c.loop-end.invariant.common in
     let own = ap (λ (l : List ℕ × List Piece). entry_by (spelled l.0 (take (stop - start) (drop start l.1)))) same in

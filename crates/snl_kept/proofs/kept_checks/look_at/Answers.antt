@@ -1,10 +1,10 @@
 use Rattle.std.proofs.Common.{arith, ◌≡◌, ◌+◌, ◌∷◌, List, drop, map, Option, Bor, sym, ap, ◌∙◌}
 use Rattle.std.proofs.lemmas.List.{length-map, map-set, set_past}
-use Rattle.snl_check.specs.declared.rules.findings.Checked.{Checked}
+use Rattle.snl_item_check.specs.declared.findings.Checked.{Checked}
 use Rattle.snl_kept.specs.NewChecks.{put}
-use Rattle.snl_kept.proofs.Steps.{drop_here}
 use Rattle.snl_kept.proofs.kept_checks.look_at.Goals as goal
 use Rattle.snl_kept.proofs.kept_checks.look_at.Goals.{then-one-len, else-one-len}
+use Rattle.snl_facts.specs.Lists.{drop_here}
 
 pub loop-one-preserved : goal.loop-one-preserved
 loop-one-preserved c =

@@ -1,7 +1,7 @@
 use Rattle.std.proofs.Common.{arith, ◌≡◌, ◌∷◌, [], List, length, Option, refl, sym, ap, ◌∙◌}
 use Rattle.std.specs.Vec.Iter.{into_iter_items}
 use Rattle.std.proofs.lemmas.List.{set_past}
-use Rattle.snl_check.specs.declared.rules.findings.Checked.{Checked}
+use Rattle.snl_item_check.specs.declared.findings.Checked.{Checked}
 use Rattle.snl_kept.specs.declared.plan.NewCheck.{NewCheck}
 use Rattle.snl_kept.specs.NewChecks.{put}
 use Rattle.snl_kept.proofs.kept_checks.put.Goals as goal

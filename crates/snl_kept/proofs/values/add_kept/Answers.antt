@@ -2,9 +2,10 @@ use Rattle.std.proofs.Common.{arith, ◌≡◌, ℕ, zero, suc, ◌+◌, ◌-◌
 use Rattle.std.specs.List.{slice_get}
 use Rattle.std.proofs.lemmas.List.{get_or-drop, map-append}
 use Rattle.std.proofs.lemmas.Option.{slice_get-get_or}
-use Rattle.snl_kept.proofs.Steps.{drop_here, take_more}
+use Rattle.snl_kept.proofs.Steps.{take_more}
 use Rattle.snl_kept.proofs.values.add_kept.Goals as goal
 use Rattle.snl_kept.proofs.values.add_kept.Goals.{in-Some+in_ok-push, in_default}
+use Rattle.snl_facts.specs.Lists.{drop_here}
 
 -- one more of the values from one number on
 one_more : {X : Type 0} (values : List X) (from n : ℕ) (x : X) → from ≤ n → n < length values → Some x ≡ slice_get values n

@@ -11,8 +11,8 @@ ghost use Rattle.snl_kept.specs.ReplacedItem.{DeclaresInHead, SparesInside};
 
 use crate::entries::Entry;
 use crate::ways::one_item::replaced::OwnTokens;
-use snl_check::{Checked, wakes_alike};
 use snl_cut::OutOfMemory;
+use snl_item_check::{Checked, wakes_alike};
 use snl_lex::TextEdit;
 use snl_scope::{ItemKind, Links, NameRef, Outline, same_outline};
 use std::alloc::Global;

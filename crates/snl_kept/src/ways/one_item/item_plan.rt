@@ -30,7 +30,7 @@ use crate::laws::inside_laws::{
 };
 use crate::laws::item_laws::one_item_replaced;
 use crate::lists::Lists;
-use crate::plan::{Changes, ItemPlan, ItemsPlan, NewCheck, NewLinks, RowChange};
+use crate::plan::{Changes, ItemPlan, ItemsPlan, LinksAndChecks, NewChecks, NewLinks, RowChange};
 use crate::shared::Shared;
 use crate::ways::one_item::alike::{found_little, says_the_same, spares_inside};
 use crate::ways::one_item::own_diagnostics::own_diagnostics;
@@ -39,26 +39,19 @@ use crate::ways::one_item::own_rows::own_change;
 use crate::ways::one_item::replaced::{OldItem, OneItem};
 use crate::ways::one_item::touched_rows::{TouchedRows, touched_by, touches_little};
 use crate::work::Work;
-use snl_check::{Checked, check_item};
 use snl_cut::{Count, OutOfMemory};
+use snl_item_check::{Checked, check_item};
 use snl_lex::{LineShift, Piece, text_in_pieces};
 use snl_scope::{Links, same_spelling_same_summary};
 use snl_syntax::{outcome_told, same_spelling_same_tree};
 use std::alloc::Global;
-
-/// A place for the check of each item that is made, and the check of the one, if it is sound.
-#[derive(Drop)]
-pub struct OwnChecks {
-    pub vacant: Vec<Shared<Option<Checked>>>,
-    pub made: Vec<NewCheck>,
-}
 
 /// What an edit makes of an item, besides what is kept of it and the links: a place for its check
 /// and the check, if it is sound, the diagnostics of the new text, how the rows are shifted, and
 /// what changes in them.
 #[derive(Drop)]
 pub struct OwnParts {
-    pub checks: OwnChecks,
+    pub checks: NewChecks,
     pub diagnostics: Vec<Diagnostic>,
     pub shift: LineShift,
     pub change: RowChange,
@@ -102,7 +95,7 @@ fn own_checks(
     changes: &Changes,
     item: usize,
     check: Option<Checked>,
-) -> Result<OwnChecks, OutOfMemory>
+) -> Result<NewChecks, OutOfMemory>
     ensures vacant { IfOk result (λ c. c.vacant.items ≡ nones changes.now.items.made.items) }
     ensures made { IfOk result (λ c. c.made.items ≡ made_at item check) }
 {
@@ -110,7 +103,7 @@ fn own_checks(
     let clean = clean_check(alloc)?;
     let mut made = Vec::new(alloc);
     add_made(alloc, item, check, &clean, &mut made)?;
-    Ok(OwnChecks { vacant, made })
+    Ok(NewChecks { vacant, made })
 }
 
 // The edit is inside the item. This does nothing: its contract is the law of such an edit.
@@ -296,9 +289,10 @@ pub fn item_plan(editing: &Editing, made: Vec<Shared<Entry>>, plan: OwnPlan, wor
     ItemPlan {
         items: ItemsPlan {
             made,
-            links,
-            vacant: parts.checks.vacant,
-            checks: parts.checks.made,
+            kept: LinksAndChecks {
+                links,
+                checks: parts.checks,
+            },
             warns: editing.lists.warns,
         },
         diagnostics: parts.diagnostics,

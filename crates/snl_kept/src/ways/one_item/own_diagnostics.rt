@@ -26,8 +26,8 @@ use crate::found::own_findings::{findings_around, own_findings};
 use crate::plan::RowChange;
 use crate::ways::one_item::replaced::{OldItem, OneItem};
 use crate::ways::one_item::set_findings::{add_shown_come, add_shown_gone};
-use snl_check::Checked;
 use snl_cut::OutOfMemory;
+use snl_item_check::Checked;
 use snl_lex::{LineList, Piece, Shift};
 use std::alloc::Global;
 
@@ -62,7 +62,7 @@ fn diagnostics_around(
     gone: &[Finding],
     come: &[Finding],
 ) -> Result<Vec<Diagnostic>, OutOfMemory>
-    requires lines { IsLineList text.now lines.now.ends.items lines.now.markers.items lines.now.naming.items }
+    requires lines { IsLineList text.now lines.now }
     ensures { IfOk result (λ v. v.items ≡ map (diagnostic text.now) (found_around shift gone.now come.now (map finding_of found.now))) }
 {
     let findings = findings_around(alloc, found, shift, gone, come)?;

@@ -6,12 +6,12 @@ ghost use Rattle.std.specs.Prelude.{◌≡◌, All, IfOk};
 ghost use Rattle.snl_lex.specs.PieceList.{spelled};
 ghost use Rattle.snl_lex.specs.Pieces.{LiesIn};
 ghost use Rattle.snl_check.specs.States.{marks_of, state_body, wake_of};
-ghost use Rattle.snl_check.specs.Told.{told_kept};
+ghost use Rattle.snl_item_check.specs.Told.{told_kept};
 ghost use Rattle.snl_kept.specs.OneItem.{IsOneItemEdit, item_of, old_of, outlines_by, text_of};
 ghost use Rattle.snl_kept.specs.declared.ways.one_item.touched_rows.TouchedRows.TheVariants as rows;
 ghost use Rattle.snl_kept.specs.Checks.{check_by, outlines_in};
 ghost use Rattle.snl_kept.specs.Entries.{entry_by};
-ghost use Rattle.snl_kept.specs.MadeRows.{AreItemsAfter, IsInPlace};
+ghost use Rattle.snl_kept.specs.MadeRows.{AreItemsAfter, IsInPlace, IsOwnMade};
 ghost use Rattle.snl_kept.specs.OwnRows.{change_told};
 ghost use Rattle.snl_kept.specs.Program.{items_of, program_item};
 ghost use Rattle.snl_kept.specs.Tables.{tables_in};
@@ -25,9 +25,10 @@ use crate::ways::one_item::replaced::OneItem;
 use crate::ways::one_item::set_members::set_members;
 use crate::ways::one_item::touched_rows::TouchedRows;
 use snl_check::{
-    Checked, StateBody, StateMark, Tables, WakeUp, WakeUse, state_body, state_marks, wake_inside,
+    StateBody, StateMark, Tables, WakeUp, WakeUse, state_body, state_marks, wake_inside,
 };
 use snl_cut::OutOfMemory;
+use snl_item_check::Checked;
 use snl_lex::{Piece, TextEdit};
 use snl_scope::{Links, same_spelling_same_summary};
 use snl_syntax::{outcome_told, same_spelling_same_tree};
@@ -125,11 +126,7 @@ fn state_change(
     check: &Option<Checked>,
 ) -> Result<RowChange, OutOfMemory>
     requires one { IsOneItemEdit one.now }
-    requires within { All (LiesIn (text_of one.now)) one.now.own.now.is.items }
-    requires items { AreItemsAfter (old_of one.now) (text_of one.now) one.now.editing.lists.now (item_of one.now) entry.now }
-    requires place { IsInPlace (old_of one.now) (text_of one.now) (item_of one.now) one.now.own.now.is.items }
-    requires entry { entry.now ≡ entry_by (spelled (text_of one.now) one.now.own.now.is.items) }
-    requires check { check.now ≡ check_by (outlines_by one.now) (item_of one.now) (spelled (text_of one.now) one.now.own.now.is.items) }
+    requires made { IsOwnMade one.now entry.now check.now }
     ensures { IfOk result (λ r. r ≡ change_told (text_of one.now) (items_of (text_of one.now)) (outlines_by one.now) (item_of one.now) (program_item (text_of one.now) one.now.own.now.is.items) (rows.State set)) }
 {
     let Editing {
@@ -163,11 +160,7 @@ pub fn own_change(
     check: &Option<Checked>,
 ) -> Result<RowChange, OutOfMemory>
     requires one { IsOneItemEdit one.now }
-    requires within { All (LiesIn (text_of one.now)) one.now.own.now.is.items }
-    requires items { AreItemsAfter (old_of one.now) (text_of one.now) one.now.editing.lists.now (item_of one.now) entry.now }
-    requires place { IsInPlace (old_of one.now) (text_of one.now) (item_of one.now) one.now.own.now.is.items }
-    requires entry { entry.now ≡ entry_by (spelled (text_of one.now) one.now.own.now.is.items) }
-    requires check { check.now ≡ check_by (outlines_by one.now) (item_of one.now) (spelled (text_of one.now) one.now.own.now.is.items) }
+    requires made { IsOwnMade one.now entry.now check.now }
     ensures { IfOk result (λ r. r ≡ change_told (text_of one.now) (items_of (text_of one.now)) (outlines_by one.now) (item_of one.now) (program_item (text_of one.now) one.now.own.now.is.items) touched) }
 {
     let Editing {

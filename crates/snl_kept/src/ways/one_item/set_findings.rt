@@ -16,9 +16,9 @@ use crate::found::own_findings::add_all;
 use crate::found::walked::{add_states, is_unreached};
 use crate::plan::RowChange;
 use snl_check::{StateMark, StateRow, Tables};
+use snl_codes::Code;
 use snl_cut::OutOfMemory;
 use snl_lex::Shift;
-use snl_scope::Code;
 use std::alloc::Global;
 
 // The states of a set, by its number among the rows.

@@ -17,8 +17,8 @@ use crate::entries::Entry;
 use crate::found::program::Part;
 use crate::kept_checks::{add_made, clean_check};
 use crate::plan::NewCheck;
-use snl_check::{Checked, check_item};
 use snl_cut::{Count, OutOfMemory};
+use snl_item_check::{Checked, check_item};
 use snl_lex::Piece;
 use snl_scope::{
     EditedNames, Links, Summary, same_spelling_same_summary, same_view, views_told_apart,

@@ -13,7 +13,8 @@ ghost use Rattle.snl_kept.specs.Order.{in_order};
 ghost use Rattle.snl_kept.specs.Parts.{IsPart, item_of_part};
 ghost use Rattle.snl_kept.specs.Planned.{AreLinksAndChecks};
 ghost use Rattle.snl_kept.specs.Program.{items_of, program_item};
-ghost use Rattle.snl_kept.specs.Stirred.{stirred_between};
+ghost use Rattle.snl_kept.specs.Retold.{IsRetold};
+ghost use Rattle.snl_kept.specs.Stirred.{stirred_of};
 ghost use Rattle.snl_kept.specs.Tables.{tables_in};
 ghost use Rattle.snl_kept.specs.Warnings.{warns_in};
 
@@ -22,14 +23,14 @@ use crate::entries::Entry;
 use crate::found::judge::{Told, in_order, told_in};
 use crate::found::program::{CutText, Part, items_end_in_order, parts_along};
 use crate::kept_checks::{checks_in, vacant_for};
-use crate::plan::{LinksAndChecks, NewCheck, NewLinks};
+use crate::plan::{LinksAndChecks, NewCheck, NewChecks, NewLinks};
 use crate::shared::Shared;
 use crate::values::values_after;
 use crate::ways::whole::edited::edited_names;
 use crate::ways::whole::recheck::{BothLinks, KeptItems, recheck};
 use crate::ways::whole::relink::relink;
-use snl_check::equal_views;
 use snl_cut::{Count, OutOfMemory, ends_in_order};
+use snl_item_check::equal_views;
 use snl_items::ItemChange;
 use snl_lex::{Piece, text_in_pieces};
 use snl_scope::{same_spelling_same_summary, views_told_apart};
@@ -75,7 +76,7 @@ fn checks_after(
     requires made { AreEntriesIn editing.now made.now }
     requires links { AreLinks (old_in editing.now) (text_in editing.now) links.now }
     ensures checks { IfOk result (λ made. AreChecksMade (old_in editing.now) (text_in editing.now) (items_in editing.now).kept_front (nones (items_in editing.now).made.items) (items_in editing.now).kept_back made.items) }
-    ensures stirred { IfOk result (λ made. length made.items ≡ stirred_between (edit_in editing.now)) }
+    ensures stirred { IfOk result (λ made. length made.items ≡ stirred_of (edit_in editing.now)) }
     ensures ticks { IfOk result (λ made. work.new ≡ after_ticks work.old (length made.items)) }
 {
     text_in_pieces();
@@ -113,17 +114,14 @@ fn recheck_after(
     requires parts { All (IsPart (text_in editing.now) tokens.now) parts.now }
     requires made { AreEntriesIn editing.now made.now }
     ensures kept { IfOk result (AreLinksAndChecks (edit_in editing.now) (items_in editing.now)) }
-    ensures stirred { IfOk result (λ r. length r.made.items ≡ stirred_between (edit_in editing.now)) }
-    ensures ticks { IfOk result (λ r. work.new ≡ after_ticks work.old (length r.made.items)) }
+    ensures stirred { IfOk result (λ r. length r.checks.made.items ≡ stirred_of (edit_in editing.now)) }
+    ensures ticks { IfOk result (λ r. work.new ≡ after_ticks work.old (length r.checks.made.items)) }
 {
     let links = relink(alloc, editing, tokens, parts, made)?;
     let vacant = vacant_for(alloc, &editing.changes.items.made)?;
     let made = checks_after(alloc, editing, tokens, parts, made, &links, work)?;
-    Ok(LinksAndChecks {
-        links,
-        vacant,
-        made,
-    })
+    let checks = NewChecks { vacant, made };
+    Ok(LinksAndChecks { links, checks })
 }
 
 // What is shown of what is found in the new text, by its items and what is made of the links and
@@ -151,9 +149,9 @@ fn told_after(
         alloc,
         &lists.checks,
         items.kept_front,
-        &kept.vacant,
+        &kept.checks.vacant,
         back,
-        &kept.made,
+        &kept.checks.made,
     )?;
     let links = kept.links.after(&lists.links);
     let faults = kept.links.faults(&lists.links);
@@ -174,12 +172,8 @@ fn retell_parts(
     requires items { map (item_of_part cut.now.tokens.now) parts.now ≡ map (program_item cut.now.text.now) (members cut.now.tokens.now 0 cut.now.ends.now) }
     requires parts { All (IsPart cut.now.text.now cut.now.tokens.now) parts.now }
     requires made { AreEntriesIn editing.now made.now }
-    ensures shown { IfOk result (λ r. r.told.shown.items ≡ shown (text_in editing.now)) }
-    ensures tables { IfOk result (λ r. r.told.tables ≡ tables_in (text_in editing.now)) }
-    ensures warns { IfOk result (λ r. r.told.warns ≡ warns_in (text_in editing.now)) }
-    ensures kept { IfOk result (λ r. AreLinksAndChecks (edit_in editing.now) (items_in editing.now) r.kept) }
-    ensures stirred { IfOk result (λ r. length r.kept.made.items ≡ stirred_between (edit_in editing.now)) }
-    ensures ticks { IfOk result (λ r. work.new ≡ after_ticks work.old (length r.kept.made.items)) }
+    ensures told { IfOk result (IsRetold editing.now (shown (text_in editing.now))) }
+    ensures ticks { IfOk result (λ r. work.new ≡ after_ticks work.old (length r.kept.checks.made.items)) }
 {
     let kept = recheck_after(alloc, editing, cut.tokens, parts, made, work)?;
     let told = told_after(alloc, editing, cut, parts, &kept)?;
@@ -197,12 +191,8 @@ fn retell_cut(
     requires editing { IsUnderWay editing.now }
     requires text { cut.now.text.now ≡ text_in editing.now }
     requires made { AreEntriesIn editing.now made.now }
-    ensures shown { IfOk result (λ r. r.told.shown.items ≡ shown (text_in editing.now)) }
-    ensures tables { IfOk result (λ r. r.told.tables ≡ tables_in (text_in editing.now)) }
-    ensures warns { IfOk result (λ r. r.told.warns ≡ warns_in (text_in editing.now)) }
-    ensures kept { IfOk result (λ r. AreLinksAndChecks (edit_in editing.now) (items_in editing.now) r.kept) }
-    ensures stirred { IfOk result (λ r. length r.kept.made.items ≡ stirred_between (edit_in editing.now)) }
-    ensures ticks { IfOk result (λ r. work.new ≡ after_ticks work.old (length r.kept.made.items)) }
+    ensures told { IfOk result (IsRetold editing.now (shown (text_in editing.now))) }
+    ensures ticks { IfOk result (λ r. work.new ≡ after_ticks work.old (length r.kept.checks.made.items)) }
 {
     items_end_in_order();
     let parts = parts_along(alloc, cut.text, cut.tokens, cut.ends, cut.entries)?;
@@ -221,12 +211,8 @@ fn retell(
     requires editing { IsUnderWay editing.now }
     requires tokens { tokens.now ≡ tokens_of (text_in editing.now) }
     requires made { AreEntriesIn editing.now made.now }
-    ensures shown { IfOk result (λ r. r.told.shown.items ≡ shown (text_in editing.now)) }
-    ensures tables { IfOk result (λ r. r.told.tables ≡ tables_in (text_in editing.now)) }
-    ensures warns { IfOk result (λ r. r.told.warns ≡ warns_in (text_in editing.now)) }
-    ensures kept { IfOk result (λ r. AreLinksAndChecks (edit_in editing.now) (items_in editing.now) r.kept) }
-    ensures stirred { IfOk result (λ r. length r.kept.made.items ≡ stirred_between (edit_in editing.now)) }
-    ensures ticks { IfOk result (λ r. work.new ≡ after_ticks work.old (length r.kept.made.items)) }
+    ensures told { IfOk result (IsRetold editing.now (shown (text_in editing.now))) }
+    ensures ticks { IfOk result (λ r. work.new ≡ after_ticks work.old (length r.kept.checks.made.items)) }
 {
     let lists = editing.lists;
     let edit = editing.edit;
@@ -257,12 +243,8 @@ pub fn rejudge(
     requires editing { IsUnderWay editing.now }
     requires tokens { tokens.now ≡ tokens_of (text_in editing.now) }
     requires made { AreEntriesIn editing.now made.now }
-    ensures shown { IfOk result (λ r. r.told.shown.items ≡ in_order (shown (text_in editing.now))) }
-    ensures tables { IfOk result (λ r. r.told.tables ≡ tables_in (text_in editing.now)) }
-    ensures warns { IfOk result (λ r. r.told.warns ≡ warns_in (text_in editing.now)) }
-    ensures kept { IfOk result (λ r. AreLinksAndChecks (edit_in editing.now) (items_in editing.now) r.kept) }
-    ensures stirred { IfOk result (λ r. length r.kept.made.items ≡ stirred_between (edit_in editing.now)) }
-    ensures ticks { IfOk result (λ r. work.new ≡ after_ticks work.old (length r.kept.made.items)) }
+    ensures told { IfOk result (IsRetold editing.now (in_order (shown (text_in editing.now)))) }
+    ensures ticks { IfOk result (λ r. work.new ≡ after_ticks work.old (length r.kept.checks.made.items)) }
 {
     let Retold { told, kept } = retell(alloc, editing, tokens, made, work)?;
     let told = in_order(told)?;

@@ -11,7 +11,7 @@ ghost use Rattle.snl_kept.specs.Planned.{IsWholePlan};
 use crate::editing::Editing;
 use crate::entries::{Entry, entries_along};
 use crate::found::program::items_end_in_order;
-use crate::plan::WholePlan;
+use crate::plan::{ItemsPlan, WholePlan};
 use crate::shared::Shared;
 use crate::ways::whole::rejudge::rejudge;
 use crate::work::Work;
@@ -58,7 +58,11 @@ fn whole_plan(
     let mut checked = Count::new();
     let retold = rejudge(alloc, editing, tokens, &made, &mut checked)?;
     Ok(WholePlan {
-        items: retold.kept.items_plan(made, retold.told.warns),
+        items: ItemsPlan {
+            made,
+            kept: retold.kept,
+            warns: retold.told.warns,
+        },
         findings: retold.told.shown,
         tables: retold.told.tables,
         work: Work {

@@ -1,7 +1,7 @@
 use Rattle.std.proofs.Common.{◌≡◌, ◌-◌, suc, take, arith, sym, ap, ◌∙◌}
 use Rattle.snl_cut.specs.Cut.{last_end}
-use Rattle.snl_lex.proofs.Members.{last_taken}
 use Rattle.snl_lex.proofs.cut.end_by.Goals as goal
+use Rattle.snl_cut.specs.CutLaws.{last_taken}
 
 pub returns-else-count-eq0 : goal.returns-else-count-eq0
 returns-else-count-eq0 g c =

@@ -2,9 +2,10 @@ use Rattle.std.proofs.Common.{◌≡◌, ℕ, suc, ◌+◌, ◌≤◌, List, [],
 use Rattle.snl_cut.specs.Cut.{ticked}
 use Rattle.snl_lex.specs.declared.piece.Piece.{Piece}
 use Rattle.snl_lex.specs.Pieces.{piece_at}
-use Rattle.snl_lex.proofs.Members.{Leads, leads_on, leads_pieces, leads_inside, leads_walk, length_more}
+use Rattle.snl_lex.proofs.Members.{Leads, leads_on, leads_pieces, leads_inside, leads_walk}
 use Rattle.snl_lex.proofs.Own.{leads_joined, leads_own}
 use Rattle.snl_lex.proofs.cut.lex.Goals as goal
+use Rattle.snl_facts.specs.Lists.{length_more}
 
 pub loop-at-preserved : goal.loop-at-preserved
 unfolding piece_at

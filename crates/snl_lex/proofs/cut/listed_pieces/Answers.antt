@@ -3,9 +3,9 @@ use Rattle.snl_cut.specs.Cut.{last_end}
 use Rattle.snl_lex.specs.declared.piece.Class.{Class}
 use Rattle.snl_lex.specs.declared.piece.Piece.{Piece}
 use Rattle.snl_lex.specs.PieceList.{listed_pieces, pieces_between}
-use Rattle.snl_lex.proofs.Members.{last_taken}
 use Rattle.snl_lex.proofs.Listed.{between_all, listed_more}
 use Rattle.snl_lex.proofs.cut.listed_pieces.Goals as goal
+use Rattle.snl_cut.specs.CutLaws.{last_taken}
 
 get_or_same : (kinds : List Class) (n : ℕ) (d e : Class) → n < length kinds → get_or kinds n d ≡ get_or kinds n e
 get_or_same [] n d e lt = absurd (omega arith)

@@ -1,5 +1,5 @@
 use Rattle.snl_lex.proofs.Longest.{code_first, comment_first, line_code_first, line_comment_first, marker_first, name_first, stray_first, white_first}
-use Rattle.snl_lex.proofs.LongestMark.{mark_first}
+use Rattle.snl_lex.proofs.LongestPunctuator.{punctuator_first}
 use Rattle.snl_lex.proofs.LongestNumber.{number_first}
 use Rattle.snl_lex.proofs.LongestString.{character_first, text_first}
 use Rattle.snl_lex.proofs.laws.first_piece_reaches.Goals as goal
@@ -28,8 +28,8 @@ returns-clause-code c = code_first
 pub returns-clause-stray : goal.returns-clause-stray
 returns-clause-stray c = stray_first
 
-pub returns-clause-mark : goal.returns-clause-mark
-returns-clause-mark c = mark_first
+pub returns-clause-punctuator : goal.returns-clause-punctuator
+returns-clause-punctuator c = punctuator_first
 
 pub returns-clause-number : goal.returns-clause-number
 returns-clause-number c = number_first

@@ -2,8 +2,8 @@ use Rattle.std.proofs.Common.{◌≡◌, ℕ, suc, ◌+◌, ◌-◌, ◌<◌, �
 use Rattle.std.proofs.lemmas.List.{length-take-le}
 use Rattle.memchr.specs.Find.{Passes, is_byte, places}
 use Rattle.memchr.proofs.lemmas.CallerLemmas.{All-places}
-use Rattle.snl_lex.proofs.LineEnds.{ends_are_places}
 use Rattle.snl_lex.proofs.line_list.line_ends_in.Goals as goal
+use Rattle.snl_lex.specs.LineLaws.{ends_are_places}
 
 pub loop-place-init : goal.loop-place-init
 loop-place-init c =

@@ -1,7 +1,7 @@
 use Rattle.std.proofs.Common.{ℕ, ltb, rules}
 use Rattle.std.proofs.lemmas.List.Sorted.{IsPartitionPoint-from_clause, IsPartitionedBy-ltb}
-use Rattle.snl_lex.proofs.Halving.{count_at}
 use Rattle.snl_lex.proofs.line_list.places_before.Goals as goal
+use Rattle.snl_facts.specs.Counts.{count_at}
 
 pub returns-clause-count : goal.returns-clause-count
 returns-clause-count c =

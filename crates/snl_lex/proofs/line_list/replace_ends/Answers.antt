@@ -2,8 +2,9 @@ use Rattle.std.proofs.Common.{◌≡◌, arith, sym, ap, ◌∙◌, subst}
 use Rattle.std.specs.List.Sorted.{IsNonDecreasing}
 use Rattle.snl_lex.specs.LineList.{line_ends}
 use Rattle.snl_lex.proofs.Changes.{edit_lengths}
-use Rattle.snl_lex.proofs.LineEnds.{after_above, after_under, below, below_more, edited_ends, ends_order}
+use Rattle.snl_lex.proofs.LineEnds.{after_above, after_under, edited_ends}
 use Rattle.snl_lex.proofs.line_list.replace_ends.Goals as goal
+use Rattle.snl_lex.specs.LineLaws.{below, below_more, ends_order}
 
 pub places_before-front-requires : goal.places_before-front-requires
 places_before-front-requires c = subst IsNonDecreasing (sym (c.deref.ensures.value ∙ c.requires.ends)) (ends_order c.args.edit.now.old.now)

@@ -1,8 +1,8 @@
 use Rattle.std.proofs.Common.{◌≡◌, ◌-◌, suc, take, arith, sym, ap, ◌∙◌}
 use Rattle.std.proofs.lemmas.List.{get_or_read}
 use Rattle.snl_cut.specs.Cut.{last_end}
-use Rattle.snl_lex.proofs.Members.{last_taken}
 use Rattle.snl_lex.proofs.listed_tokens.start_at.Goals as goal
+use Rattle.snl_cut.specs.CutLaws.{last_taken}
 
 pub returns-else-number-eq0 : goal.returns-else-number-eq0
 returns-else-number-eq0 c =

@@ -6,10 +6,10 @@ use Rattle.snl_lex.specs.declared.piece.Class.TheVariants.{White}
 use Rattle.snl_lex.specs.declared.piece.Piece.{Piece}
 use Rattle.snl_lex.specs.PieceList.{listed_pieces, pieces_between, is_token_class}
 use Rattle.snl_lex.specs.Pieces.{is_token, moved_piece}
-use Rattle.snl_lex.proofs.Members.{last_taken}
 use Rattle.snl_lex.proofs.Listed.{between_none, listed_more, pushed_piece, tokens_and_one}
 use Rattle.snl_lex.proofs.listed_tokens.with_listed_tokens.Goals as goal
 use Rattle.snl_lex.proofs.listed_tokens.with_listed_tokens.Goals.{then-is_token, else-is_token}
+use Rattle.snl_cut.specs.CutLaws.{last_taken}
 
 -- One piece more: its token, if it is one, is added.
 one_more : (begin : ℕ) (ends : List ℕ) (kinds : List Class) (from n b c : ℕ) (end : ℕ) (kind : Class) (start : ℕ) (before : List Piece)

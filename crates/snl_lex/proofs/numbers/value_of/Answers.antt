@@ -1,8 +1,9 @@
 use Rattle.std.proofs.Common.{◌≡◌, ℕ, ◌+◌, ◌*◌, List, drop, get_or, sym, ap, ◌∙◌, arith}
 use Rattle.std.proofs.lemmas.List.{drop_all}
 use Rattle.snl_lex.specs.Numbers.{checked_value, digit_value, radix, value_after}
-use Rattle.snl_lex.proofs.Values.{after_more, value_grows, too_large, small_enough}
+use Rattle.snl_lex.proofs.Values.{after_more, value_grows, too_large}
 use Rattle.snl_lex.proofs.numbers.value_of.Goals as goal
+use Rattle.snl_lex.specs.PieceLaws.{small_enough}
 
 pub returns-in_err-checked_mul : goal.returns-in_err-checked_mul
 returns-in_err-checked_mul c =

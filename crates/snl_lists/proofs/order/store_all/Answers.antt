@@ -1,7 +1,7 @@
 use Rattle.std.proofs.Common.{◌≡◌, ◌+◌, ◌≤◌, ◌++◌, [], ◌∷◌, arith, rules, length, vec_len, vec_capacity, sym, ap, ◌∙◌, append_assoc}
-use Rattle.std.proofs.lemmas.List.{append-nil}
+use Rattle.std.proofs.lemmas.List.{append-nil, nil_from_length}
 use Rattle.std.specs.Vec.Iter.{into_iter_items}
-use Rattle.snl_lists.proofs.Storing.{no_items, stores_none, stores_more}
+use Rattle.snl_lists.proofs.Storing.{stores_none, stores_more}
 use Rattle.snl_lists.proofs.order.store_all.Goals as goal
 
 pub loop-item-init : goal.loop-item-init
@@ -43,5 +43,5 @@ pub returns : goal.returns
 returns g c =
     let none : length (into_iter_items c.loop-item.item-iterator) ≡ 0 = omega (arith, c.in-None.ensures.steps.0, c.loop-item.item-iterator.rest.ok) in
     let all : c.loop-item.yielded ≡ c.args.items.items =
-    sym (append-nil c.loop-item.yielded) ∙ ap (λ l. c.loop-item.yielded ++ l) (sym (no_items (into_iter_items c.loop-item.item-iterator) none)) ∙ c.loop-item.invariant.all in
+    sym (append-nil c.loop-item.yielded) ∙ ap (λ l. c.loop-item.yielded ++ l) (sym (nil_from_length (into_iter_items c.loop-item.item-iterator) none)) ∙ c.loop-item.invariant.all in
     record { stores = rw (← all) c.loop-item.invariant.stores }

@@ -2,8 +2,8 @@ use Rattle.std.proofs.Common.{◌≡◌, ℕ, suc, ◌+◌, ◌<◌, ◌++◌, [
 use Rattle.std.proofs.Common.{ap, ap₂, sym, ◌∙◌, subst, arith, append_assoc}
 use Rattle.memchr.specs.Find.{Passes, is_byte, places}
 use Rattle.memchr.proofs.lemmas.CallerLemmas.{All-places}
-use Rattle.snl_place.proofs.EditedEnds.{ends_are_places}
 use Rattle.snl_place.proofs.draft.line_ends_from.Goals as goal
+use Rattle.snl_lex.specs.LineLaws.{ends_are_places}
 
 pub loop-place-init : goal.loop-place-init
 loop-place-init c =

@@ -1,7 +1,7 @@
 use Rattle.std.proofs.Common.{◌≡◌, ◌≤◌, ℕ, List, length, ap, ◌∙◌, arith}
 use Rattle.snl_place.proofs.EditedEnds.{moved_then_replaced}
-use Rattle.snl_place.proofs.LineEnds.{below, below_more}
 use Rattle.snl_place.proofs.draft.replace_ends.Goals as goal
+use Rattle.snl_lex.specs.LineLaws.{below, below_more}
 
 pub replace-requires-clause-range : goal.replace-requires-clause-range
 replace-requires-clause-range c =

@@ -1,8 +1,9 @@
 use Rattle.std.proofs.Common.{◌≤◌, ℕ, List, length, subst, sym}
 use Rattle.snl_lex.specs.LineList.{line_ends}
 use Rattle.snl_place.proofs.ByLines.{by_begins}
-use Rattle.snl_place.proofs.LineEnds.{begin_is, begin_under, below}
+use Rattle.snl_place.proofs.LineEnds.{begin_is, begin_under}
 use Rattle.snl_place.proofs.line_places.lines_begin.Goals as goal
+use Rattle.snl_lex.specs.LineLaws.{below}
 
 pub returns-clause-offset : goal.returns-clause-offset
 returns-clause-offset c = λ text offset.

@@ -1,8 +1,8 @@
 use Rattle.std.proofs.Common.{◌≡◌, ◌≤◌, ℕ, List, ap, sym, subst, ◌∙◌}
 use Rattle.snl_lex.specs.LineList.{line_begin, line_ends}
 use Rattle.snl_place.proofs.ByLines.{placed}
-use Rattle.snl_place.proofs.LineEnds.{below}
 use Rattle.snl_place.proofs.line_places.place_by.Goals as goal
+use Rattle.snl_lex.specs.LineLaws.{below}
 
 pub slice_bounds-units_in-count : goal.slice_bounds-units_in-count
 slice_bounds-units_in-count c =

@@ -1,5 +1,5 @@
 use Rattle.std.proofs.Common.{◌≡◌, map, take}
-use Rattle.snl_check.specs.Told.{told_in_item, told_kept}
+use Rattle.snl_item_check.specs.Told.{told_in_item, told_kept}
 use Rattle.snl_reading.specs.ItemsRead.{items_read}
 use Rattle.snl_reading.proofs.checking.checks_of.Given as goal
 

@@ -1,11 +1,12 @@
 use Rattle.std.proofs.Common.{arith, ◌≡◌, ◌+◌, ◌-◌, ◌<◌, ◌∷◌, ◌++◌, [], All, length, drop, get_or, ap, sym, subst, ◌∙◌}
-use Rattle.std.proofs.lemmas.List.{append-nil, drop_all}
+use Rattle.std.proofs.lemmas.List.{append-nil, drop_all, drop_more}
 use Rattle.std.proofs.lemmas.List.Elements.{All-drop, All-push, All-take}
-use Rattle.snl_check.specs.Items.{EndsWithin}
+use Rattle.snl_item_check.specs.Items.{EndsWithin}
 use Rattle.snl_lex.specs.Pieces.{LiesIn}
 use Rattle.snl_reading.specs.ItemsRead.{ReadFrom, items_read}
-use Rattle.snl_reading.proofs.Along.{are_items, drop_at, drop_here, item_between, items_from, one_more}
+use Rattle.snl_reading.proofs.Along.{are_items, item_between, items_from, one_more}
 use Rattle.snl_reading.proofs.items.items_of.Goals as goal
+use Rattle.snl_facts.specs.Lists.{drop_here}
 
 pub loop-number-preserved : goal.loop-number-preserved
 loop-number-preserved c =
@@ -18,7 +19,7 @@ loop-number-preserved c =
     let tree = c.index-trees-number.result in
     let done = c.loop-number.items.items in
     let within : i < length trees = omega (arith, c.loop-number-test.true, c.requires.each) in
-    let here : drop i ends ≡ stop ∷ drop (i + 1) ends = drop_at ends i 0 c.loop-number-test.true in
+    let here : drop i ends ≡ stop ∷ drop (i + 1) ends = drop_more ends i 0 c.loop-number-test.true in
     let there : drop i trees ≡ tree ∷ drop (i + 1) trees = drop_here trees i tree within c.index-trees-number.is in
     let left : EndsWithin start (stop ∷ drop (i + 1) ends) (length tokens) = subst (λ l. EndsWithin start l (length tokens)) here c.loop-number.invariant.ends in
     record {

@@ -1,5 +1,5 @@
 use Rattle.std.proofs.Common.{◌≡◌, ℕ, List, ◌++◌, All, drop, length}
-use Rattle.snl_check.specs.Items.{EndsWithin, program_items}
+use Rattle.snl_item_check.specs.Items.{EndsWithin, program_items}
 use Rattle.snl_lex.specs.Pieces.{LiesIn}
 use Rattle.snl_reading.specs.ItemsRead.{ReadFrom, items_read}
 use Rattle.snl_reading.proofs.Along.{items_from}

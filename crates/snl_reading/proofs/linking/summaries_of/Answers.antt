@@ -3,7 +3,7 @@ use Rattle.std.proofs.lemmas.List.{take_all}
 use Rattle.std.proofs.lemmas.Simd.{map-map}
 use Rattle.snl_scope.specs.declared.summaries.summary.Outline.{Outline}
 use Rattle.snl_scope.specs.declared.summaries.summary.Summary.{Summary}
-use Rattle.snl_check.specs.Items.{summary_of_item}
+use Rattle.snl_item_check.specs.Items.{summary_of_item}
 use Rattle.snl_reading.specs.ItemsRead.{items_read}
 use Rattle.snl_reading.proofs.linking.summaries_of.Goals as goal
 

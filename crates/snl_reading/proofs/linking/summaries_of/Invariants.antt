@@ -1,5 +1,5 @@
 use Rattle.std.proofs.Common.{◌≡◌, map, take}
-use Rattle.snl_check.specs.Items.{summary_of_item}
+use Rattle.snl_item_check.specs.Items.{summary_of_item}
 use Rattle.snl_reading.specs.ItemsRead.{items_read}
 use Rattle.snl_reading.proofs.linking.summaries_of.Given as goal
 

@@ -4,7 +4,7 @@ use Rattle.snl_lex.specs.declared.piece.Class.TheVariants.{Punct}
 use Rattle.snl_lex.specs.Pieces.{LiesIn, pieces_of}
 use Rattle.snl_lex.specs.Classes.{HasItsClass}
 use Rattle.snl_token_laws.specs.Fronts.{IsPunctuatorFront}
-use Rattle.snl_token_laws.proofs.Marks.{first_byte}
+use Rattle.snl_token_laws.proofs.PunctuatorBytes.{first_byte}
 use Rattle.snl_token_laws.proofs.PunctuatorFronts.{front_punct, front_some}
 use Rattle.snl_token_laws.proofs.Told.{told_at}
 use Rattle.snl_token_laws.proofs.punctuators.punctuators_by_front.Goals as goal
@@ -19,7 +19,7 @@ pub returns-clause-no_other : goal.returns-clause-no_other
 returns-clause-no_other c = λ text some e. told_at text Punct some e
 
 pub returns-clause-longest : goal.returns-clause-longest
-returns-clause-longest c = λ text is. c.first_piece_reaches.ensures.mark text (front_some text is) (front_punct text is)
+returns-clause-longest c = λ text is. c.first_piece_reaches.ensures.punctuator text (front_some text is) (front_punct text is)
 
 -- A piece of the text, by its front.
 piece_front : (text : List ℕ) (p : Piece) → HasItsClass text p → LiesIn text p → (p.kind ≡ Punct → IsPunctuatorFront (drop p.start text)) × (IsPunctuatorFront (drop p.start text) → p.kind ≡ Punct)

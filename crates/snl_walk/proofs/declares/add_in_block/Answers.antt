@@ -1,4 +1,4 @@
-use Rattle.std.proofs.Common.{List, [], ◌∷◌, ◌++◌, ◌∙◌, false, map, ap, refl, sym}
+use Rattle.std.proofs.Common.{List, [], ◌∷◌, ◌++◌, ◌∙◌, false, map, ap, refl}
 use Rattle.snl_syntax.specs.declared.tree.declaration.Declarator.{Declarator}
 use Rattle.snl_walk.specs.Declares.{declare, is_event_flag}
 use Rattle.snl_walk.proofs.Loops.{one_more, at_end}

@@ -1,7 +1,7 @@
 use Rattle.std.proofs.lemmas.List.Elements.{All-from_recursion}
 use Rattle.std.proofs.Common.{◌≡◌, true}
 use Rattle.snl_walk.specs.declared.rules.Finding.{Finding}
-use Rattle.snl_walk.specs.Codes.{is_rule_code}
+use Rattle.snl_codes.specs.Codes.{is_rule_code}
 use Rattle.snl_walk.specs.Rules.{findings}
 use Rattle.snl_walk.proofs.RulesHold.{rule_codes}
 use Rattle.snl_walk.proofs.laws.findings_have_rule_codes.Goals as goal

@@ -1,6 +1,6 @@
 use Rattle.std.proofs.Common.{refl, ℕ, List, map}
 use Rattle.snl_walk.specs.Rules.{finding}
-use Rattle.snl_walk.specs.declared.codes.Code.TheVariants.{W01}
+use Rattle.snl_codes.specs.declared.code.Code.TheVariants.{W01}
 use Rattle.snl_walk.proofs.Loops.{at_end}
 use Rattle.snl_walk.proofs.rules.add_undeclared.Goals as goal
 

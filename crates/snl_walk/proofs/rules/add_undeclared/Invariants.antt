@@ -1,5 +1,5 @@
 use Rattle.std.proofs.Common.{◌≡◌, ◌++◌, map, drop}
-use Rattle.snl_walk.specs.declared.codes.Code.TheVariants.{W01}
+use Rattle.snl_codes.specs.declared.code.Code.TheVariants.{W01}
 use Rattle.snl_walk.specs.Rules.{finding}
 use Rattle.snl_walk.proofs.rules.add_undeclared.Given as goal
 

@@ -8,6 +8,6 @@ use Rattle.snl_check.proofs.reachability.members.target_numbers.Given as goal
 -- the numbers of the targets so far, and those of the rest, are those of all
 abbrev pub invariant-loop-target : goal.invariant-loop-target
 invariant-loop-target l =
-    let numbers = filter_map (target_number l.outline.row_source.links.now.outlines l.states l.state) in
+    let numbers = filter_map (target_number l.state_source.row_source.links.now.outlines l.states l.state) in
     let name_ref = λ (u : TargetUse). name_ref_at l.source.text.now l.source.tokens.now u.token in
     l.numbers.items ++ numbers (map name_ref (drop l.target-index l.targets)) ≡ numbers (map name_ref l.targets)

@@ -6,4 +6,4 @@ use Rattle.snl_check.proofs.reachability.members.targets_among.Given as goal
 
 -- the targets of the states so far
 abbrev pub invariant-loop-state : goal.invariant-loop-state
-invariant-loop-state l = target_lists l.targets.items ≡ map (target_numbers l.outline.row_source.program.text.now (items_in l.outline.row_source.program) l.outline.row_source.links.now.outlines l.states) (take l.state-index l.states)
+invariant-loop-state l = target_lists l.targets.items ≡ map (target_numbers l.state_source.row_source.program.text.now (items_in l.state_source.row_source.program) l.state_source.row_source.links.now.outlines l.states) (take l.state-index l.states)

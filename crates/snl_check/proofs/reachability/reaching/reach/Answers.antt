@@ -3,7 +3,7 @@ use Rattle.std.proofs.lemmas.Bool.{eqb-false, eqb-true}
 use Rattle.std.proofs.lemmas.List.{length-map}
 use Rattle.snl_check.specs.declared.reachability.reaching.Search.{Search}
 use Rattle.snl_check.specs.Reach.{target_lists}
-use Rattle.snl_check.proofs.FewSteps.{told}
+use Rattle.snl_check.proofs.FewSteps.{each_decided}
 use Rattle.snl_check.proofs.Walks.{Follows, follows_all, follows_first, follows_more, follows_none, own_states, own_targets, row_within}
 use Rattle.snl_check.proofs.reachability.reaching.reach.Goals as goal
 use Rattle.snl_check.proofs.reachability.reaching.reach.Goals.{then-not-is_empty+in_ok-enter, else-not-is_empty}
@@ -13,14 +13,14 @@ loop-state-init c =
     let rows = c.args.targets.now in
     let targets = target_lists rows in
     let same = length-map rows (λ row. row.items) in
-    let unmarked = c.in_ok-search.ensures.reached ∙ ap (λ n. replicate n false) (sym same) in
+    let none_yet = c.in_ok-search.ensures.reached ∙ ap (λ n. replicate n false) (sym same) in
     elim c.if-not-is_empty.branch [
       | then-not-is_empty+in_ok-enter w ↦
           let some = eqb-false (length rows) 0 (sym c.is_empty.ensures ∙ w.if-not-is_empty.true) in
-          subst (Follows targets) (sym w.search-is) (follows_first targets c.in_ok-search.search unmarked c.in_ok-search.ensures.waiting w.enter.new.self (omega (arith, some, same)) w.in_ok-enter.ensures)
+          subst (Follows targets) (sym w.search-is) (follows_first targets c.in_ok-search.search none_yet c.in_ok-search.ensures.waiting w.enter.new.self (omega (arith, some, same)) w.in_ok-enter.ensures)
       | else-not-is_empty w ↦
           let none = eqb-true (length rows) 0 (sym c.is_empty.ensures ∙ w.if-not-is_empty.false) in
-          subst (Follows targets) (sym w.search-is) (follows_none targets c.in_ok-search.search unmarked c.in_ok-search.ensures.waiting (same ∙ none))
+          subst (Follows targets) (sym w.search-is) (follows_none targets c.in_ok-search.search none_yet c.in_ok-search.ensures.waiting (same ∙ none))
     ]
 
 pub bounds-targets-state : goal.bounds-targets-state
@@ -52,9 +52,9 @@ pub returns-clause-reached : goal.returns-clause-reached
 returns-clause-reached c =
     follows_all (target_lists c.args.targets.now) c.loop-state.search c.loop-state.invariant (omega (arith, c.in_default.ensures.cases.0, c.loop-state.search.waiting.ok.0))
 
-pub returns-clause-told : goal.returns-clause-told
-returns-clause-told c =
+pub returns-clause-decided : goal.returns-clause-decided
+returns-clause-decided c =
     let rows = c.args.targets.now in
     let search = c.loop-state.search in
     let says = follows_all (target_lists rows) search c.loop-state.invariant (omega (arith, c.in_default.ensures.cases.0, search.waiting.ok.0)) in
-    λ s l. told (target_lists rows) c.requires search.reached.items c.loop-state.invariant.as_long says s (omega (arith, l, length-map rows (λ row. row.items)))
+    λ s l. each_decided (target_lists rows) c.requires search.reached.items c.loop-state.invariant.as_long says s (omega (arith, l, length-map rows (λ row. row.items)))

@@ -1,6 +1,5 @@
 use Rattle.std.proofs.Common.{◌≡◌, ◌++◌, drop, map}
-use Rattle.snl_check.specs.States.{named_state}
-use Rattle.snl_check.specs.Told.{by_statements}
+use Rattle.snl_check.specs.States.{by_statements, named_state}
 use Rattle.snl_check.proofs.rows.body.gotos.Given as goal
 
 -- those so far and those of the rest are all

@@ -1,7 +1,7 @@
 use Rattle.std.proofs.Common.{◌≡◌, ◌++◌, drop, map}
 use Rattle.std.specs.List.{flat_map}
 use Rattle.snl_walk.specs.Tokens.{token_bytes}
-use Rattle.snl_check.specs.SettingTrees.{told}
+use Rattle.snl_check.specs.SettingTrees.{as_setting}
 use Rattle.snl_check.specs.Settings.{settings_in_member}
 use Rattle.snl_check.proofs.rows.option_rows.add_settings.Given as goal
 
@@ -9,5 +9,5 @@ use Rattle.snl_check.proofs.rows.option_rows.add_settings.Given as goal
 abbrev pub invariant-loop-member : goal.invariant-loop-member
 invariant-loop-member l =
     let bytes = token_bytes l.source.text.now l.source.tokens.now in
-    map told l.settings.items ++ flat_map (settings_in_member bytes) (drop l.member-index l.members)
-    ≡ map told l.initial.settings.items ++ flat_map (settings_in_member bytes) l.members
+    map as_setting l.settings.items ++ flat_map (settings_in_member bytes) (drop l.member-index l.members)
+    ≡ map as_setting l.initial.settings.items ++ flat_map (settings_in_member bytes) l.members

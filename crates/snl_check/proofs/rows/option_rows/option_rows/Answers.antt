@@ -1,7 +1,7 @@
 use Rattle.std.proofs.Common.{◌≡◌, ◌+◌, ◌++◌, drop, get_or, map, option_map, sym, ap, append_assoc, ◌∙◌, refl}
 use Rattle.std.specs.List.{cons_option, filter_map}
 use Rattle.std.proofs.lemmas.Option.{slice_get-get_or}
-use Rattle.snl_check.specs.SettingTrees.{told}
+use Rattle.snl_check.specs.SettingTrees.{as_setting}
 use Rattle.snl_check.specs.Settings.{option_row, option_row_of}
 use Rattle.snl_check.proofs.Beside.{kept_more}
 use Rattle.snl_check.proofs.Loops.{at_end}
@@ -10,7 +10,7 @@ use Rattle.snl_check.proofs.rows.option_rows.option_rows.Goals.{in-Some+in_ok-pu
 
 pub loop-letter-preserved : goal.loop-letter-preserved
 loop-letter-preserved c =
-    let row = option_row_of (map told c.args.settings.now) in
+    let row = option_row_of (map as_setting c.args.settings.now) in
     let letters = c.args.letters.now in
     let n = c.loop-letter.letter-index in
     let letter = get_or letters n 0 in
@@ -28,4 +28,4 @@ loop-letter-preserved c =
 
 pub returns : goal.returns
 returns c =
-    at_end (filter_map (option_row_of (map told c.args.settings.now))) refl c.args.letters.now c.loop-letter.letter-index c.loop-letter.rows.items _ c.loop-letter-test.false c.loop-letter.invariant
+    at_end (filter_map (option_row_of (map as_setting c.args.settings.now))) refl c.args.letters.now c.loop-letter.letter-index c.loop-letter.rows.items _ c.loop-letter-test.false c.loop-letter.invariant

@@ -1,7 +1,6 @@
 use Rattle.std.proofs.Common.{◌≡◌, length, ap, ◌∙◌, arith}
 use Rattle.snl_check.specs.Collected.{items_in}
-use Rattle.snl_check.specs.Items.{gathered}
-use Rattle.snl_check.specs.Settings.{setting_at}
+use Rattle.snl_check.specs.Settings.{gathered, setting_at}
 use Rattle.snl_check.proofs.Items.{count_in}
 use Rattle.snl_check.proofs.rows.option_rows.program_settings.Goals as goal
 

@@ -8,7 +8,7 @@ use Rattle.snl_check.proofs.rows.set_rows.set_rows.Goals as goal
 
 pub returns : goal.returns
 returns c =
-    let row_source = c.args.outline.now.row_source in
+    let row_source = c.args.state_source.now.row_source in
     let ss = row_source.links.now.outlines in
     let count : length row_source.program.trees.now ≡ length ss = counted row_source.program ss c.requires.linked.row_source.program c.requires.linked.outlines in
     let at_end : c.loop-item.item ≡ length ss = omega (arith, c.loop-item-test.false, c.loop-item.auto.item-end, count) in

@@ -8,4 +8,4 @@ use Rattle.snl_check.proofs.rows.set_rows.set_rows.Given as goal
 -- the rows of the state sets that the items so far begin
 abbrev pub invariant-loop-item : goal.invariant-loop-item
 invariant-loop-item l =
-    l.rows.items ≡ map (set_row l.outline.row_source.program.text.now (items_in l.outline.row_source.program) l.outline.row_source.links.now.outlines) (all_below (is_set_begin l.outline.row_source.links.now.outlines) l.item)
+    l.rows.items ≡ map (set_row l.state_source.row_source.program.text.now (items_in l.state_source.row_source.program) l.state_source.row_source.links.now.outlines) (all_below (is_set_begin l.state_source.row_source.links.now.outlines) l.item)

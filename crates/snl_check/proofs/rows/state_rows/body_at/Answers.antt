@@ -1,13 +1,13 @@
 use Rattle.std.proofs.Common.{◌≡◌, IfOk, List, Option, ap₂, subst}
 use Rattle.snl_lex.specs.declared.piece.Piece.{Piece}
 use Rattle.snl_syntax.specs.declared.tree.item.Item.{Item}
-use Rattle.snl_check.specs.Items.{ProgramItem}
+use Rattle.snl_item_check.specs.Items.{ProgramItem}
 use Rattle.snl_check.specs.States as states
 use Rattle.snl_check.proofs.rows.state_rows.body_at.Goals as goal
 
 pub returns : goal.returns
 returns c =
-    let row_source = c.args.outline.now.row_source in
+    let row_source = c.args.state_source.now.row_source in
     let made = c.state_body.result in
     let item : List Piece → Option Item → ProgramItem = λ tokens tree. record { tokens = tokens; tree = tree } in
     let Is : ProgramItem → Type 0 = λ x. IfOk made (λ body. body ≡ states.state_body row_source.program.text.now row_source.links.now.outlines c.args.item x) in

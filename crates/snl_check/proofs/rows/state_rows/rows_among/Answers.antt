@@ -1,4 +1,4 @@
-use Rattle.std.proofs.Common.{◌≡◌, ◌<◌, ◌+◌, ◌++◌, ◌∷◌, ◌&&◌, [], false, length, map, take, get_or, sym, ap, subst, ◌∙◌, arith}
+use Rattle.std.proofs.Common.{◌≡◌, ◌<◌, ◌+◌, ◌++◌, ◌∷◌, ◌&&◌, [], length, map, take, get_or, sym, ap, subst, ◌∙◌, arith}
 use Rattle.std.specs.List.{enumerate_from}
 use Rattle.std.proofs.lemmas.Option.{slice_get-get_or}
 use Rattle.snl_scope.specs.Order.{is_named_state}
@@ -14,31 +14,31 @@ use Rattle.snl_check.proofs.rows.state_rows.rows_among.Goals as goal
 
 pub mark_of-mark-requires-clause-state : goal.mark_of-mark-requires-clause-state
 mark_of-mark-requires-clause-state c =
-    let row_source = c.args.outline.now.row_source in
+    let row_source = c.args.state_source.now.row_source in
     let ss = row_source.links.now.outlines in
     let n = c.loop-number.number in
     let states = c.deref-state-items.result.now in
     let is : states ≡ states_in ss c.args.set = c.deref-state-items.ensures.value ∙ c.requires.states in
-    let count : length row_source.program.trees.now ≡ length ss = counted row_source.program ss c.requires.outline.linked.row_source.program c.requires.outline.linked.outlines in
+    let count : length row_source.program.trees.now ≡ length ss = counted row_source.program ss c.requires.state_source.linked.row_source.program c.requires.state_source.linked.outlines in
     let within : get_or states n 0 < length ss =
     subst (λ l. get_or l n 0 < length ss) (sym is) (within_below (λ j. is_named_state ss j && stands_in ss c.args.set j) (length ss) n 0 (subst (λ l. n < length l) is c.loop-number-test.true)) in
     omega (arith, within, count)
 
 pub state_row-requires-clause-item : goal.state_row-requires-clause-item
 state_row-requires-clause-item c =
-    let row_source = c.args.outline.now.row_source in
+    let row_source = c.args.state_source.now.row_source in
     let ss = row_source.links.now.outlines in
     let n = c.loop-number.number in
     let states = c.deref-state-items.result.now in
     let is : states ≡ states_in ss c.args.set = c.deref-state-items.ensures.value ∙ c.requires.states in
-    let count : length row_source.program.trees.now ≡ length ss = counted row_source.program ss c.requires.outline.linked.row_source.program c.requires.outline.linked.outlines in
+    let count : length row_source.program.trees.now ≡ length ss = counted row_source.program ss c.requires.state_source.linked.row_source.program c.requires.state_source.linked.outlines in
     let within : get_or states n 0 < length ss =
     subst (λ l. get_or l n 0 < length ss) (sym is) (within_below (λ j. is_named_state ss j && stands_in ss c.args.set j) (length ss) n 0 (subst (λ l. n < length l) is c.loop-number-test.true)) in
     omega (arith, within, count)
 
 pub loop-number-preserved : goal.loop-number-preserved
 loop-number-preserved c =
-    let row_source = c.args.outline.now.row_source in
+    let row_source = c.args.state_source.now.row_source in
     let text = row_source.program.text.now in
     let xs = items_in row_source.program in
     let ss = row_source.links.now.outlines in

@@ -6,6 +6,6 @@ use Rattle.snl_check.proofs.rows.wake_inside.wake_inside.Goals as goal
 pub returns : goal.returns
 returns c =
     let laws : SpellingLaws = record { named = c.names_are_tokens.ensures; summaries = c.same_spelling_same_summary.ensures.summary } in
-    λ old s line xs ys before read rep is linked tokens told.
+    λ old s line xs ys before read rep is linked tokens same_uses.
     c.in_ok-wake.ensures
-    ∙ wakes_after laws old c.args.text.now s line xs ys c.args.item before read rep c.in_ok-numbers.numbers c.args.tables.now c.args.links.now.outlines c.args.own.now c.args.uses.now is linked tokens told c.in_ok-numbers.ensures
+    ∙ wakes_after laws old c.args.text.now s line xs ys c.args.item before read rep c.in_ok-numbers.numbers c.args.tables.now c.args.links.now.outlines c.args.own.now c.args.uses.now is linked tokens same_uses c.in_ok-numbers.ensures

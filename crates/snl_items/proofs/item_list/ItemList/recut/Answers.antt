@@ -1,10 +1,10 @@
-use Rattle.std.proofs.Common.{◌≡◌, ℕ, ◌-◌, ◌<◌, ◌^◌, List, ◌++◌, length, take, drop, sym, subst, ap₂, ◌∙◌, arith}
+use Rattle.std.proofs.Common.{◌≡◌, ℕ, ◌-◌, ◌<◌, ◌^◌, List, ◌++◌, length, take, drop, sym, ap₂, ◌∙◌, arith}
 use Rattle.std.proofs.lemmas.List.Elements.{All-same}
 use Rattle.snl_cut.specs.Cut.{IsRecut, moved}
+use Rattle.snl_lex.specs.Edit.{edit_of}
 use Rattle.snl_syntax.specs.declared.marks.Mark.{Mark}
 use Rattle.snl_syntax.specs.Items.{item}
 use Rattle.snl_items.specs.Items.{item_ends, marks_of, spellings}
-use Rattle.snl_items.specs.Changes.{IsItemChange}
 use Rattle.snl_items.proofs.EndPlaces.{made_within}
 use Rattle.snl_items.proofs.ItemParts.{cut_again, recut_of}
 use Rattle.snl_items.proofs.item_list.ItemList.recut.Goals as goal
@@ -52,5 +52,8 @@ returns c =
     let made_is = c.made_are_fresh.ensures (marks_of old) (marks_of text) e.start e.old_stop e.new_stop front made back recut in
     let joined_is = c.recut_is_cut.ensures (marks_of old) (marks_of text) e.start e.old_stop e.new_stop front made back recut in
     let items_are = c.members_stay.ensures (marks_of old) (marks_of text) e.start e.old_stop e.new_stop front made back (spellings old) (spellings text) c.requires.tokens.of_spellings recut in
-    subst (λ (l : List ℕ). IsItemChange old text edit.start edit.old_stop edit.new_stop e front l back) (sym (c.in_ok-narrowed.ensures ∙ c.deref-6.ensures.value))
-    (cut_again old text edit.start edit.old_stop edit.new_stop e tokens.made.items tokens.marks.items tokens.same c.requires.tokens c.requires.other front made back recut made_is joined_is items_are)
+    cut_again (edit_of edit) tokens c.requires.tokens c.requires.other _
+    (rw (c.in_ok-narrowed.ensures, c.deref-6.ensures.value) recut)
+    (rw (c.in_ok-narrowed.ensures, c.deref-6.ensures.value) made_is)
+    (rw (c.in_ok-narrowed.ensures, c.deref-6.ensures.value) joined_is)
+    (rw (c.in_ok-narrowed.ensures, c.deref-6.ensures.value) items_are)

@@ -1,8 +1,8 @@
 use Rattle.std.proofs.Common.{◌≡◌, ◌-◌, suc, take, arith, sym, ap, ◌∙◌}
 use Rattle.std.proofs.lemmas.List.{get_or_read}
 use Rattle.snl_cut.specs.Cut.{last_end}
-use Rattle.snl_items.proofs.EndPlaces.{last_taken}
 use Rattle.snl_items.proofs.item_list.ItemList.start_of.Goals as goal
+use Rattle.snl_cut.specs.CutLaws.{last_taken}
 
 pub returns-else-number-eq0 : goal.returns-else-number-eq0
 returns-else-number-eq0 c =

@@ -3,7 +3,7 @@ use Rattle.std.proofs.lemmas.List.{length-map, take-map}
 use Rattle.std.proofs.lemmas.List.Elements.{All-same}
 use Rattle.snl_cut.specs.Cut.{IsRecut, Rises, ends_of}
 use Rattle.snl_lex.specs.declared.piece.Piece.{Piece}
-use Rattle.snl_lex.specs.Made.{made_pieces}
+use Rattle.snl_lex.specs.Edit.{edit_of, made_pieces}
 use Rattle.snl_lex.specs.PieceList.{is_token_class, last_pieces, piece_ends, pieces_between, spelled}
 use Rattle.snl_lex.specs.Pieces.{LiesIn, is_token, moved_piece, piece_end, piece_length, pieces_of}
 use Rattle.snl_items.specs.declared.tokens.TokenEdit.{TokenEdit}
@@ -63,7 +63,7 @@ returns-clause-change c =
     let d : ℕ = edit.new_stop in
     let front : ℕ = change.kept_front in
     let back : ℕ = change.kept_back in
-    let made : List Piece = (made_pieces change) in
+    let made : List Piece = made_pieces change in
     let ps : List Piece = pieces_of old in
     let many : c.len.result ≡ length ps = omega (arith, c.len.ensures, c.args.pieces.now.ends.ok, ap length c.requires.ends, length-map ps piece_end) in
     let front_same = c.kept_as_spelled.ensures.front_tokens old text start b d front (map piece_end made) back edit.edit is.recut in
@@ -87,9 +87,9 @@ returns-clause-change c =
     let old_same = ap (spelled old) (c.deref-2.ensures.value ∙ replaced_is) in
     let new_same = ap (spelled text) (c.deref-3.ensures.value ∙ made_is) in
     let e : TokenEdit = record { start = c.count_tokens-start.result; old_stop = c.count_tokens-start.result + c.len-2.result; new_stop = c.count_tokens-start.result + c.len-3.result } in
-    token_change old text start b d front made back change.kept_from change.list.ends.items change.list.kinds.items is front_same back_same e starts old_stops new_stops
-    (edit_is old text start b d front made back change.kept_from change.list.ends.items change.list.kinds.items is old_ends old_rises new_rises (c.pieces_as_listed.ensures old) (c.pieces_as_listed.ensures text) recut meets e starts old_stops new_stops)
-    c.in_ok-made.made.items c.in_ok-marks.marks.items c.are_spelled_alike-alike.result made_is
+    token_change (edit_of edit) change is front_same back_same _ starts old_stops new_stops
+    (edit_is (edit_of edit) change is old_ends old_rises new_rises (c.pieces_as_listed.ensures old) (c.pieces_as_listed.ensures text) recut meets e starts old_stops new_stops)
+    made_is
     (c.in_ok-marks.ensures ∙ ap (map (mark_in text)) c.deref.ensures.value)
     (λ h. sym old_same ∙ c.are_spelled_alike-alike.ensures.0 h ∙ new_same)
     (λ h. c.are_spelled_alike-alike.ensures.1 (old_same ∙ h ∙ sym new_same))
@@ -118,10 +118,10 @@ returns-clause-shifted c =
     let old_rises : Rises 0 (piece_ends old) = subst (Rises 0) (sym old_ends) (c.ends_in_order.ensures.rise old) in
     let starts : c.count_tokens-start.result ≡ length (filter is_token (take front ps)) =
     c.count_tokens-start.ensures ∙ ap (count_by is_token_class) (ap (take front) (c.deref-4.ensures.value ∙ c.requires.kinds) ∙ take-map (λ p. p.kind) front ps) ∙ by_class (take front ps) in
-    shifted_told old text edit.start edit.old_stop edit.new_stop front (made_pieces change) back change.kept_from change.list.ends.items change.list.kinds.items is
+    shifted_told (edit_of edit) change is
     old_rises (c.pieces_as_listed.ensures old) (c.text_in_pieces.ensures.inside old)
     (omega (arith, edit.edit.old_order)) (omega (arith, edit.edit.new_inside, edit.short))
-    _ _ _ _ (returns-clause-change c) c.count_tokens-start.result c.deref-5.result.now c.deref-6.result.now starts
+    _ (returns-clause-change c) c.count_tokens-start.result c.deref-5.result.now c.deref-6.result.now starts
     (c.deref-5.ensures.value ∙ c.in_ok-replaced.ensures old c.requires.ends c.requires.kinds ∙ ap (λ (n : ℕ). filter is_token (pieces_between ps front (n - back))) many)
     (c.deref-6.ensures.value ∙ c.in_ok-made.ensures)
     c.shifted_from-shifted.result c.shifted_from-shifted.ensures

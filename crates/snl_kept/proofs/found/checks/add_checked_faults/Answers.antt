@@ -9,9 +9,9 @@ use Rattle.snl_lex.specs.Pieces.{LiesIn}
 use Rattle.snl_syntax.specs.declared.tree.item.Item.{Item}
 use Rattle.snl_scope.specs.declared.summaries.summary.Outline.{Outline}
 use Rattle.snl_scope.specs.Summaries.Tokens.{token_bytes}
-use Rattle.snl_check.specs.declared.rules.findings.Checked.{Checked}
-use Rattle.snl_check.specs.ItemFaults.{StandsIn, faults_in}
-use Rattle.snl_check.specs.View.{is_in_set, known_of, leads_to}
+use Rattle.snl_item_check.specs.declared.findings.Checked.{Checked}
+use Rattle.snl_item_check.specs.ItemFaults.{StandsIn, faults_in}
+use Rattle.snl_item_check.specs.View.{is_in_set, known_of, leads_to}
 use Rattle.snl_kept.specs.declared.found.findings.Finding.{Finding}
 use Rattle.snl_kept.specs.Checked.{HasOffset, at_own_token, faults_kept, found_in_item}
 use Rattle.snl_kept.specs.Checks.{check_of_item, checks_over}

@@ -1,6 +1,6 @@
 use Rattle.std.proofs.Common.{rules, sym, ap, ◌∙◌, cond, filter}
 use Rattle.std.proofs.lemmas.List.Elements.{filter_from_retain}
-use Rattle.snl_walk.specs.Codes.{is_error}
+use Rattle.snl_codes.specs.Codes.{is_error}
 use Rattle.snl_kept.specs.declared.found.findings.Finding.{Finding}
 use Rattle.snl_kept.proofs.found.diagnose.keep_shown.Goals as goal
 

@@ -1,6 +1,6 @@
 use Rattle.std.proofs.Common.{◌≡◌, ◌+◌, ◌-◌, ◌<◌, ◌++◌, ◌∷◌, [], length, map, take, drop, get_or, ap, sym, subst, ◌∙◌, append_assoc, Bor}
 use Rattle.std.specs.List.{All}
-use Rattle.std.proofs.lemmas.List.{map-append}
+use Rattle.std.proofs.lemmas.List.{map-append, drop_more}
 use Rattle.std.proofs.lemmas.List.Elements.{All-push}
 use Rattle.snl_cut.specs.Cut.{members}
 use Rattle.snl_lex.specs.PieceList.{spelled}
@@ -11,8 +11,8 @@ use Rattle.snl_kept.specs.Parts.{EndsWithin, IsPart, item_of_part, tokens_betwee
 use Rattle.snl_kept.specs.Program.{program_item}
 use Rattle.snl_kept.proofs.Members.{spelled_between}
 use Rattle.snl_kept.proofs.Parts.{is_part, part_item, same_first, some_left}
-use Rattle.snl_kept.proofs.Steps.{drop_at, drop_here}
 use Rattle.snl_kept.proofs.found.program.parts_along.Goals as goal
+use Rattle.snl_facts.specs.Lists.{drop_here}
 
 pub loop-number-preserved : goal.loop-number-preserved
 loop-number-preserved c =
@@ -30,7 +30,7 @@ loop-number-preserved c =
     let own = tokens_between tokens start stop in
     let part : Part = record { start = start; stop = stop; entry = entry } in
     let after = map (program_item text) (members tokens stop (drop (i + 1) ends)) in
-    let here : drop i ends ≡ stop ∷ drop (i + 1) ends = drop_at ends i 0 c.loop-number-test.true in
+    let here : drop i ends ≡ stop ∷ drop (i + 1) ends = drop_more ends i 0 c.loop-number-test.true in
     let left : EndsWithin start (stop ∷ drop (i + 1) ends) (length tokens) = subst (λ l. EndsWithin start l (length tokens)) here c.loop-number.invariant.ends in
     let told : map (λ (e : Bor Entry). e.now) (drop i entries) ≡ entry_by (take (stop - start) (drop start spellings)) ∷ map entry_by (members spellings stop (drop (i + 1) ends)) =
     c.loop-number.invariant.entries ∙ ap (λ l. map entry_by (members spellings start l)) here in

@@ -2,7 +2,7 @@ use Rattle.std.proofs.Common.{◌≡◌, ℕ, List, ap, map, ◌∙◌, Bor}
 use Rattle.std.proofs.lemmas.Simd.{map-map}
 use Rattle.snl_scope.specs.declared.summaries.summary.Summary.{Summary}
 use Rattle.snl_scope.specs.LinkedItems.{linked_items}
-use Rattle.snl_check.specs.Items.{ProgramItem, linked_of, summaries_of, summary_of_item}
+use Rattle.snl_item_check.specs.Items.{ProgramItem, linked_of, summaries_of, summary_of_item}
 use Rattle.snl_kept.specs.Parts.{item_of_part}
 use Rattle.snl_kept.proofs.found.summaries.links_of.Goals as goal
 

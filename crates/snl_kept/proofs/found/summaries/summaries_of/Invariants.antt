@@ -1,5 +1,5 @@
 use Rattle.std.proofs.Common.{◌≡◌, take, map}
-use Rattle.snl_check.specs.Items.{summary_of_item}
+use Rattle.snl_item_check.specs.Items.{summary_of_item}
 use Rattle.snl_kept.specs.Parts.{item_of_part}
 use Rattle.snl_kept.proofs.found.summaries.summaries_of.Given as goal
 

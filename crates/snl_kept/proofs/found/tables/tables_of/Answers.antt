@@ -3,8 +3,8 @@ use Rattle.std.specs.List.{enumerate_from}
 use Rattle.snl_lex.specs.declared.piece.Piece.{Piece}
 use Rattle.snl_syntax.specs.declared.tree.item.Item.{Item}
 use Rattle.snl_scope.specs.declared.summaries.summary.Outline.{Outline}
-use Rattle.snl_check.specs.Items.{program_items}
-use Rattle.snl_check.specs.Told.{Told, told_in_item, told_kept, told_seen}
+use Rattle.snl_item_check.specs.Items.{program_items}
+use Rattle.snl_item_check.specs.Told.{Told, told_in_item, told_kept, told_seen}
 use Rattle.snl_kept.specs.Checks.{check_of_item}
 use Rattle.snl_kept.specs.Linked.{outlines_of}
 use Rattle.snl_kept.specs.Parts.{item_of_part}

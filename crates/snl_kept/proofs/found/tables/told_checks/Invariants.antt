@@ -1,5 +1,5 @@
 use Rattle.std.proofs.Common.{◌≡◌, map, take}
-use Rattle.snl_check.specs.Told.{told_kept, told_seen}
+use Rattle.snl_item_check.specs.Told.{told_kept, told_seen}
 use Rattle.snl_kept.proofs.found.tables.told_checks.Given as goal
 
 abbrev pub invariant-loop-check : goal.invariant-loop-check

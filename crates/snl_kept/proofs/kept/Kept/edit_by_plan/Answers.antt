@@ -3,7 +3,7 @@ use Rattle.snl_items.specs.declared.item_list.ItemChange.{ItemChange}
 use Rattle.snl_kept.specs.declared.plan.Plan.{Plan}
 use Rattle.snl_kept.specs.declared.plan.Plan.TheVariants as plan
 use Rattle.snl_kept.specs.Cost.{IsCost}
-use Rattle.snl_kept.specs.Edit.{Edit, edit_of}
+use Rattle.snl_lex.specs.Edit.{Edit, edit_of}
 use Rattle.snl_kept.specs.Planned.{IsPlan, work_of}
 use Rattle.snl_kept.proofs.kept.Kept.edit_by_plan.Goals as goal
 

@@ -1,5 +1,5 @@
 use Rattle.std.proofs.Common.{length, sym, ap}
-use Rattle.snl_kept.specs.Edit.{edit_of}
+use Rattle.snl_lex.specs.Edit.{edit_of}
 use Rattle.snl_kept.proofs.kept.Kept.edit_by_shift.Goals as goal
 
 pub shift-requires-clause-shifted : goal.shift-requires-clause-shifted

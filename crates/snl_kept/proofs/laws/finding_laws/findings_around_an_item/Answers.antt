@@ -1,4 +1,4 @@
-use Rattle.snl_check.specs.View.{is_in_set, known_of, leads_to}
+use Rattle.snl_item_check.specs.View.{is_in_set, known_of, leads_to}
 use Rattle.snl_kept.proofs.OwnFound.{found_is, warnings_stay}
 use Rattle.snl_kept.proofs.laws.finding_laws.findings_around_an_item.Goals as goal
 

@@ -1,6 +1,5 @@
 use Rattle.std.proofs.Common.{◌∙◌}
 use Rattle.std.proofs.lemmas.List.{length-map}
-use Rattle.snl_lex.specs.Made.{made_pieces}
 use Rattle.snl_lex.specs.Pieces.{tokens_of}
 use Rattle.snl_items.specs.Items.{mark_in, marks_of}
 use Rattle.snl_kept.proofs.KeptChecks.{check_stays}
@@ -20,5 +19,4 @@ returns c = λ edit ch t x e is.
     (check_stays c.views_told_apart.ensures c.equal_views.ensures.faults c.same_spelling_same_summary.ensures.bytes_by_spelling c.same_spelling_same_summary.ensures.alone)
     (λ l. c.ends_in_order.ensures.rise (marks_of l))
     (λ l. c.ends_in_order.ensures.last (marks_of l) ∙ length-map (tokens_of l) (mark_in l))
-    (c.tokens_around_stay.ensures edit.old edit.text edit.start edit.old_stop edit.new_stop ch.pieces.kept_front (made_pieces ch.pieces) ch.pieces.kept_back ch.pieces.kept_from ch.pieces.list.ends.items ch.pieces.list.kinds.items
-    is.edit_is is.lines.lines.old_short is.lines.lines.short is.changed.pieces ch.tokens.edit ch.tokens.made.items ch.tokens.marks.items ch.tokens.same is.changed.tokens t.by is.by)
+    (c.tokens_around_stay.ensures edit ch.pieces is.edit_is is.lines.lines.old_short is.lines.lines.short is.changed.pieces ch.tokens is.changed.tokens t.by is.by)

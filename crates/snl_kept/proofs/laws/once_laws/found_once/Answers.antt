@@ -6,8 +6,8 @@ use Rattle.snl_kept.proofs.OnceItems.{CheckLaws}
 use Rattle.snl_kept.proofs.OnceLinks.{LinkLaws}
 use Rattle.snl_kept.proofs.OnceSorted.{diagnostics_rise}
 use Rattle.snl_kept.proofs.OnceTokens.{items_apart}
-use Rattle.snl_kept.proofs.OnceTwo.{pairs_from_two}
 use Rattle.snl_kept.proofs.laws.once_laws.found_once.Goals as goal
+use Rattle.snl_facts.specs.Each.{pairs_from_two}
 
 pub returns-clause-found : goal.returns-clause-found
 unfolding found

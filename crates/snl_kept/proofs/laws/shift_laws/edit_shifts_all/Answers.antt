@@ -1,4 +1,4 @@
-use Rattle.snl_check.specs.View.{is_in_set, known_of, leads_to}
+use Rattle.snl_item_check.specs.View.{is_in_set, known_of, leads_to}
 use Rattle.snl_kept.proofs.ShiftedText.{all_shifts}
 use Rattle.snl_kept.proofs.laws.shift_laws.edit_shifts_all.Goals as goal
 

@@ -1,6 +1,8 @@
-use Rattle.std.proofs.Common.{arith, ◌≡◌, ℕ, ◌-◌, ◌++◌, List, length, take, drop, Option, ap, sym, subst, ◌∙◌}
+use Rattle.std.proofs.Common.{arith, ◌≡◌, ℕ, ◌-◌, ◌++◌, List, length, take, drop, Option, ap, ap₂, sym, subst, ◌∙◌}
 use Rattle.snl_scope.specs.LinkedItems.{LinkedItems}
-use Rattle.snl_check.specs.declared.rules.findings.Checked.{Checked}
+use Rattle.snl_item_check.specs.declared.findings.Checked.{Checked}
+use Rattle.snl_kept.specs.declared.plan.NewCheck.{NewCheck}
+use Rattle.snl_kept.specs.declared.plan.NewChecks.{NewChecks}
 use Rattle.snl_kept.specs.declared.plan.NewLinks.{NewLinks}
 use Rattle.snl_kept.specs.Checks.{checks_of, links_in}
 use Rattle.snl_kept.specs.Entries.{entries_of}
@@ -43,8 +45,8 @@ links_renewed old text new links are made = ap (λ (l : LinkedItems). links_now 
 pub put_in-requires : goal.put_in-requires
 put_in-requires c =
     let old = c.args.edit.now.old.now in
-    let links = c.args.plan.links in
-    subst (λ (l : LinkedItems). HasFaults l links) (sym (c.commit_places.ensures.items.links ∙ c.requires.lists.links)) c.requires.plan.links.faults
+    subst (λ (n : NewLinks). HasFaults c.commit_places.new.self.links n) (sym c.parts-links.ensures.links)
+    (subst (λ (l : LinkedItems). HasFaults l c.args.plan.kept.links) (sym (c.commit_places.ensures.items.links ∙ c.requires.lists.links)) c.requires.plan.kept.links.faults)
 
 pub returns : goal.returns
 returns c =
@@ -65,10 +67,11 @@ returns c =
       entries = c.replace.ensures
           ∙ replaced c.commit_places.new.self.entries.values (entries_of old) plan.made.items items.kept_front items.kept_back c.len.result (ap (λ l. l.values) kept.entries ∙ c.requires.lists.entries) many
           ∙ sym c.requires.plan.entries;
-      links = c.put_in.ensures ∙ links_renewed old c.args.edit.now.text.now plan.links c.commit_places.new.self.links (kept.links ∙ c.requires.lists.links) c.requires.plan.links;
+      links = c.put_in.ensures ∙ ap (links_now c.commit_places.new.self.links) c.parts-links.ensures.links ∙ links_renewed old c.args.edit.now.text.now plan.kept.links c.commit_places.new.self.links (kept.links ∙ c.requires.lists.links) c.requires.plan.kept.links;
       checks = c.put.ensures
-          ∙ ap (λ (l : List (Option Checked)). put l plan.checks.items)
-          (c.replace-2.ensures ∙ replaced c.commit_places.new.self.checks.values (checks_of old) plan.vacant.items items.kept_front items.kept_back c.len.result (ap (λ l. l.values) kept.checks ∙ c.requires.lists.checks) same)
-          ∙ sym c.requires.plan.checks;
+          ∙ ap₂ (λ (l : List (Option Checked)) (m : List NewCheck). put l m)
+          (c.replace-2.ensures ∙ ap (λ (v : List (Option Checked)). take items.kept_front c.commit_places.new.self.checks.values ++ (v ++ drop (c.len.result - items.kept_back) c.commit_places.new.self.checks.values)) (ap (λ (k : NewChecks). k.vacant.items) c.parts-links.ensures.checks) ∙ replaced c.commit_places.new.self.checks.values (checks_of old) plan.kept.checks.vacant.items items.kept_front items.kept_back c.len.result (ap (λ l. l.values) kept.checks ∙ c.requires.lists.checks) same)
+          (ap (λ (k : NewChecks). k.made.items) c.parts-links.ensures.checks)
+          ∙ sym c.requires.plan.kept.checks;
       warns = c.requires.plan.warns;
     }

@@ -1,7 +1,7 @@
 use Rattle.std.proofs.Common.{◌&&◌, ℕ, Bool, List, is_some, arith, sym, ap, ◌∙◌, subst}
 use Rattle.std.specs.Prelude.{All}
 use Rattle.std.specs.List.Sorted.{IsNonDecreasingBy}
-use Rattle.snl_lex.specs.declared.line_list.Marker.{Marker}
+use Rattle.snl_lex.specs.declared.marker_list.Marker.{Marker}
 use Rattle.snl_lex.specs.declared.piece.Class.{Class}
 use Rattle.snl_lex.specs.LineList.{IsShort, names, numbers, replaced_markers}
 use Rattle.snl_lex.specs.Lines.{is_marker, marker_file, marker_number}
@@ -13,7 +13,7 @@ replace_markers-requires-clause-rising c =
     subst (IsNonDecreasingBy (λ (m : Marker). m.end)) (sym c.requires.lines.at_markers) (markers_order (numbers c.args.edit.now.old.now) c.args.edit.now.old.now)
 
 pub replace_markers-requires-clause-near : goal.replace_markers-requires-clause-near
-replace_markers-requires-clause-near c = omega (arith, from_inside _ _ _ _ _ _ _ _ _ _ _ c.args.edit.now.edit c.requires.change, c.args.edit.now.short.0)
+replace_markers-requires-clause-near c = omega (arith, from_inside _ _ c.args.edit.now.edit c.requires.change, c.args.edit.now.short.0)
 
 pub replace_markers-requires-clause-short : goal.replace_markers-requires-clause-short
 replace_markers-requires-clause-short c =
@@ -24,7 +24,7 @@ replace_markers-requires-2-clause-rising c =
     subst (IsNonDecreasingBy (λ (m : Marker). m.end)) (sym c.requires.lines.at_naming) (markers_order (names c.args.edit.now.old.now) c.args.edit.now.old.now)
 
 pub replace_markers-requires-2-clause-near : goal.replace_markers-requires-2-clause-near
-replace_markers-requires-2-clause-near c = omega (arith, from_inside _ _ _ _ _ _ _ _ _ _ _ c.args.edit.now.edit c.requires.change, c.args.edit.now.short.0)
+replace_markers-requires-2-clause-near c = omega (arith, from_inside _ _ c.args.edit.now.edit c.requires.change, c.args.edit.now.short.0)
 
 pub replace_markers-requires-2-clause-short : goal.replace_markers-requires-2-clause-short
 replace_markers-requires-2-clause-short c =
@@ -40,8 +40,8 @@ returns c =
       at_ends = c.replace_ends.ensures;
       at_markers = c.replace_markers.ensures
           ∙ ap (λ (made : List Marker). replaced_markers e.start ch.kept_from made e.old_stop e.new_stop c.args.self.now.markers.items) c.deref-2.ensures.value
-          ∙ new_markers _ _ _ _ _ _ _ _ _ _ _ e.edit c.requires.change sets c.args.self.now.markers.items c.args.made.now.markers.items c.requires.lines.at_markers c.requires.made.at_markers;
+          ∙ new_markers _ _ e.edit c.requires.change sets c.args.self.now.markers.items c.args.made.now.markers.items c.requires.lines.at_markers c.requires.made.at_markers;
       at_naming = c.replace_markers-2.ensures
           ∙ ap (λ (made : List Marker). replaced_markers e.start ch.kept_from made e.old_stop e.new_stop c.args.self.now.naming.items) c.deref-3.ensures.value
-          ∙ new_markers _ _ _ _ _ _ _ _ _ _ _ e.edit c.requires.change tells c.args.self.now.naming.items c.args.made.now.naming.items c.requires.lines.at_naming c.requires.made.at_naming;
+          ∙ new_markers _ _ e.edit c.requires.change tells c.args.self.now.naming.items c.args.made.now.naming.items c.requires.lines.at_naming c.requires.made.at_naming;
     }

@@ -1,11 +1,11 @@
 use Rattle.std.proofs.Common.{◌+◌, ◌^◌, ◌<◌, ℕ, List, Some, None, arith, length, slice_index, sym, ◌∙◌, subst}
 use Rattle.std.specs.List.Sorted.{IsNonDecreasing, IsNonDecreasingBy}
-use Rattle.snl_lex.specs.declared.line_list.Marker.{Marker}
+use Rattle.snl_lex.specs.declared.marker_list.Marker.{Marker}
 use Rattle.snl_lex.specs.LineList.{names, numbers}
 use Rattle.snl_lex.proofs.LineBy.{line_told}
-use Rattle.snl_lex.proofs.LineEnds.{ends_order, ends_under}
 use Rattle.snl_lex.proofs.MarkerLists.{markers_order}
 use Rattle.snl_lex.proofs.line_list.LineList.line_by.Goals as goal
+use Rattle.snl_lex.specs.LineLaws.{ends_order, ends_under}
 
 pub places_before-count-requires : goal.places_before-count-requires
 places_before-count-requires c = subst IsNonDecreasing (sym (c.deref.ensures.value ∙ c.requires.at_ends)) (ends_order c.args.text.now)

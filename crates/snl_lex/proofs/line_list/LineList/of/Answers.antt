@@ -1,6 +1,6 @@
 use Rattle.std.proofs.Common.{◌≡◌, ℕ, ◌+◌, false, List, [], ◌∷◌, ◌++◌, take, get_or, sym, ap, ◌∙◌}
 use Rattle.std.proofs.lemmas.List.{append-nil, take_more}
-use Rattle.snl_lex.specs.declared.line_list.Marker.{Marker}
+use Rattle.snl_lex.specs.declared.marker_list.Marker.{Marker}
 use Rattle.snl_lex.specs.declared.piece.Class.TheVariants.{White}
 use Rattle.snl_lex.specs.declared.piece.Piece.{Piece}
 use Rattle.snl_lex.specs.LineList.{names, numbers}

@@ -2,7 +2,7 @@ use Rattle.std.proofs.Common.{◌≡◌, ℕ, List, sym, ap, ◌∙◌, subst, a
 use Rattle.std.specs.Prelude.{All, option_map}
 use Rattle.std.specs.List.Sorted.{IsNonDecreasingBy}
 use Rattle.std.proofs.lemmas.List.Sorted.{IsNonDecreasingBy-take}
-use Rattle.snl_lex.specs.declared.line_list.Marker.{Marker}
+use Rattle.snl_lex.specs.declared.marker_list.Marker.{Marker}
 use Rattle.snl_lex.specs.LineList.{numbers, setting_markers}
 use Rattle.snl_lex.specs.LineShift.{CountsAfter, NumbersFrom, shifted_marker}
 use Rattle.snl_lex.proofs.KeptMarkers.{leaves_markers}

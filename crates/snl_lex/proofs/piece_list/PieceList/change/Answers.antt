@@ -1,5 +1,6 @@
 use Rattle.std.proofs.Common.{◌≡◌, ℕ, ◌-◌, List, length, take, ap, ap₂, ◌∙◌, arith}
 use Rattle.snl_cut.specs.Cut.{last_end}
+use Rattle.snl_lex.specs.Edit.{edit_of}
 use Rattle.snl_lex.specs.PieceList.{piece_ends}
 use Rattle.snl_lex.proofs.Changes.{ends_inside, front_ends, relexed_change}
 use Rattle.snl_lex.proofs.piece_list.PieceList.change.Goals as goal
@@ -29,5 +30,5 @@ returns-clause-change c =
     let from : c.end_by-made_from.result ≡ last_end 0 (take front (piece_ends old)) = c.end_by-made_from.ensures ∙ ap (λ (l : List ℕ). last_end 0 (take front l)) listed in
     let kept_from : c.end_by-kept_from.result ≡ last_end 0 (take (length (piece_ends old) - back) (piece_ends old)) =
     c.end_by-kept_from.ensures ∙ ap₂ (λ (n : ℕ) (l : List ℕ). last_end 0 (take (n - back) l)) many listed in
-    rw (c.in_ok-ends.ensures, c.deref-2.ensures.value)
-    (relexed_change _ _ _ _ _ _ _ _ _ c.in_ok-relexed.ensures.relexed c.end_by-made_from.result c.end_by-kept_from.result from kept_from)
+    relexed_change (edit_of e) _
+    (rw (c.in_ok-ends.ensures, c.deref-2.ensures.value) c.in_ok-relexed.ensures.relexed) from kept_from

@@ -2,11 +2,12 @@ use Rattle.std.proofs.Common.{◌≡◌, ℕ, ◌-◌, ◌≤◌, List, ◌++◌
 use Rattle.std.proofs.lemmas.List.{length-drop, length-map, take_all}
 use Rattle.std.proofs.lemmas.List.Elements.{filter-append}
 use Rattle.snl_lex.specs.declared.piece.Piece.{Piece}
-use Rattle.snl_lex.specs.Made.{made_pieces}
+use Rattle.snl_lex.specs.Edit.{made_pieces}
 use Rattle.snl_lex.specs.PieceList.{listed_pieces, pieces_between}
 use Rattle.snl_lex.specs.Pieces.{is_token, moved_piece, piece_end, pieces_of}
-use Rattle.snl_lex.proofs.Listed.{listed_all, listed_are, not_moved, tokens_moved}
+use Rattle.snl_lex.proofs.Listed.{listed_all, listed_are, not_moved}
 use Rattle.snl_lex.proofs.piece_list.PieceList.tokens_after.Goals as goal
+use Rattle.snl_lex.specs.PieceLaws.{tokens_moved}
 
 -- The tokens of what is kept at the front, of what is made and of what is kept at the back.
 parts : (ps made all : List Piece) (b c front back count : ℕ) → count ≡ length ps → front ≤ length ps → all ≡ (take front ps ++ made) ++ map (moved_piece b c) (drop (length ps - back) ps)

@@ -4,8 +4,9 @@ use Rattle.std.specs.List.Sorted.{IsNonDecreasing}
 use Rattle.snl_lex.specs.LineList.{line_ends, line_ends_from}
 use Rattle.snl_lists.specs.Moves.{replaced, replaced_and_moved}
 use Rattle.snl_place.proofs.EditedEnds.{edited_ends}
-use Rattle.snl_place.proofs.LineEnds.{below, ends_in, ends_order}
+use Rattle.snl_place.proofs.LineEnds.{ends_in}
 use Rattle.snl_place.proofs.draft.Draft.splice.Goals as goal
+use Rattle.snl_lex.specs.LineLaws.{below, ends_order}
 
 pub replace_ends-requires-clause-rising : goal.replace_ends-requires-clause-rising
 replace_ends-requires-clause-rising c =

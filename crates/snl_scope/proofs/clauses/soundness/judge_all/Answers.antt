@@ -1,12 +1,12 @@
 use Rattle.std.proofs.Common.{◌≡◌, ◌+◌, ◌++◌, ◌∷◌, [], ◌&&◌, Bool, false, not, List, Option, length, length-append, map, take, ap, append_assoc, arith, subst, sym, ◌∙◌, if◌then◌else◌}
 use Rattle.std.proofs.lemmas.List.{map-append, take_all, take_more}
 use Rattle.std.specs.Option.{option_map_or, option_to_list}
-use Rattle.snl_walk.specs.declared.codes.Code.{Code}
-use Rattle.snl_walk.specs.declared.codes.Code.TheVariants.{E14}
+use Rattle.snl_codes.specs.declared.code.Code.{Code}
+use Rattle.snl_codes.specs.declared.code.Code.TheVariants.{E14}
 use Rattle.snl_scope.specs.declared.facts.LinkFault.{LinkFault}
 use Rattle.snl_scope.specs.Claims.{Claimed}
 use Rattle.snl_scope.specs.Clauses.{LinkedClause, at_name_ref, clause_link, found_after, found_at, found_at_flag, found_at_variable, has_wrong_flag, is_sound, sound_after, variable_code}
-use Rattle.snl_walk.specs.Codes.{is_error}
+use Rattle.snl_codes.specs.Codes.{is_error}
 use Rattle.snl_scope.specs.Names.{entries}
 use Rattle.snl_scope.specs.Resolved.{linked}
 use Rattle.snl_scope.proofs.Judging.{found-push, judged-push, judged_after, links-push, links_after, sound-judged}

@@ -1,7 +1,7 @@
 use Rattle.std.proofs.Common.{◌≡◌, ap, sym, ◌∙◌, is_some, Some}
 use Rattle.std.specs.List.{list_any}
 use Rattle.std.specs.Option.{option_map_or}
-use Rattle.snl_walk.specs.declared.codes.Code.TheVariants.{E11}
+use Rattle.snl_codes.specs.declared.code.Code.TheVariants.{E11}
 use Rattle.snl_scope.specs.Claims.{overlaps_claims, sound_among}
 use Rattle.snl_scope.specs.Clauses.{assigns, clash, code_on, variable_at}
 use Rattle.snl_scope.specs.Names.{entries}

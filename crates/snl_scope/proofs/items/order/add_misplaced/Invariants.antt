@@ -1,5 +1,5 @@
 use Rattle.std.proofs.Common.{◌≡◌, ◌++◌, ◌≤◌, length}
-use Rattle.snl_walk.specs.declared.codes.Code.TheVariants.{E03}
+use Rattle.snl_codes.specs.declared.code.Code.TheVariants.{E03}
 use Rattle.snl_scope.specs.LinkedItems.{LinkedItems}
 use Rattle.snl_scope.specs.Order.{at_items_where, is_misplaced}
 use Rattle.snl_scope.specs.NameTables.{before}

@@ -1,5 +1,5 @@
 use Rattle.std.proofs.Common.{◌≡◌, ◌++◌, ◌≤◌, length}
-use Rattle.snl_walk.specs.declared.codes.Code.TheVariants.{E06}
+use Rattle.snl_codes.specs.declared.code.Code.TheVariants.{E06}
 use Rattle.snl_scope.specs.Below.{any_below}
 use Rattle.snl_scope.specs.Order.{at_items_where, is_ss_item, is_stateless}
 use Rattle.snl_scope.proofs.items.order.add_missing_states.Given as goal

@@ -1,5 +1,5 @@
 use Rattle.std.proofs.Common.{◌≡◌, ◌++◌, ◌≤◌, length}
-use Rattle.snl_walk.specs.declared.codes.Code.TheVariants.{E04}
+use Rattle.snl_codes.specs.declared.code.Code.TheVariants.{E04}
 use Rattle.snl_scope.specs.Order.{at_items_where, is_unmatched}
 use Rattle.snl_scope.proofs.items.order.add_unmatched.Given as goal
 

@@ -1,12 +1,12 @@
 use Rattle.std.proofs.Common.{arith, ◌≡◌, ℕ, ◌+◌, ◌-◌, ◌≤◌, ◌||◌, ◌++◌, Bool, true, false, nat_lt, if◌then◌else◌, List, length, take, drop, Some, None, refl, ap, ap₂, sym, subst, ◌∙◌, length-append, length-drop}
 use Rattle.std.proofs.lemmas.Bool.{ltb-false}
 use Rattle.std.proofs.lemmas.List.{length-take-le}
-use Rattle.snl_items.specs.Fresh.{fresh_items_between, fresh_pieces_between}
+use Rattle.snl_items.specs.Fresh.{fresh_items_of, fresh_pieces_of}
+use Rattle.snl_lex.specs.Edit.{Edit}
 use Rattle.snl_session.specs.declared.edits.Refused.TheVariants.{Range, Size}
 use Rattle.snl_session.specs.Edit.{limit, refusal_of, spliced}
-use Rattle.snl_kept.specs.Edit.{Edit}
 use Rattle.snl_kept.specs.Kept.{IsKept}
-use Rattle.snl_kept.specs.Stirred.{stirred_between}
+use Rattle.snl_kept.specs.Stirred.{stirred_of}
 use Rattle.snl_session.proofs.sessions.Session.replace.Goals as goal
 
 -- an edit that isn't refused gives a text that isn't too long
@@ -40,12 +40,13 @@ returns c =
     c.in_ok-text.ensures ∙ ap (λ (t : List ℕ). spliced t c.args.start c.args.stop c.args.new.now) (c.deref.ensures.value ∙ c.self.view_is) in
     let old_is : c.deref-2.result.now ≡ c.args.self.now = c.deref-2.ensures.value ∙ c.self.view_is in
     let new_is : c.deref-3.result.now ≡ spliced c.args.self.now c.args.start c.args.stop c.args.new.now = c.deref-3.ensures.value ∙ text_is in
-    let new_stop : ℕ = c.args.start + length c.args.new.now in
+    let edit : List ℕ → List ℕ → Edit =
+    λ (was is : List ℕ). record { old = was; text = is; start = c.args.start; old_stop = c.args.stop; new_stop = c.args.start + length c.args.new.now } in
     let cost = c.in_ok-work.ensures.cost in
     record {
       ok = text_is;
-      lexed = cost.lexed ∙ ap₂ (λ (old text : List ℕ). fresh_pieces_between old text c.args.start c.args.stop new_stop) old_is new_is;
-      parsed = cost.parsed ∙ ap₂ (λ (old text : List ℕ). length (fresh_items_between old text c.args.start c.args.stop new_stop)) old_is new_is;
-      checked = cost.checked ∙ ap₂ (λ (old text : List ℕ). let edit : Edit = record { old = old; text = text; start = c.args.start; old_stop = c.args.stop; new_stop = new_stop } in stirred_between edit) old_is new_is;
+      lexed = cost.lexed ∙ ap₂ (λ (old text : List ℕ). fresh_pieces_of (edit old text)) old_is new_is;
+      parsed = cost.parsed ∙ ap₂ (λ (old text : List ℕ). length (fresh_items_of (edit old text))) old_is new_is;
+      checked = cost.checked ∙ ap₂ (λ (old text : List ℕ). stirred_of (edit old text)) old_is new_is;
       err = tt;
     }

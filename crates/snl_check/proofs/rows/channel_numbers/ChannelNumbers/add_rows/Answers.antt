@@ -1,7 +1,7 @@
 use Rattle.std.proofs.Common.{get_or, subst}
 use Rattle.std.proofs.lemmas.Option.{slice_get-get_or}
 use Rattle.snl_check.specs.Numbered.{Adds, has_key}
-use Rattle.snl_check.proofs.WakesTold.{adds_none_of, adds_one_more}
+use Rattle.snl_check.proofs.WakesByTable.{adds_none_of, adds_one_more}
 use Rattle.snl_check.proofs.rows.channel_numbers.ChannelNumbers.add_rows.Goals as goal
 
 pub loop-number-init : goal.loop-number-init

@@ -1,6 +1,6 @@
 use Rattle.std.proofs.Common.{◌≡◌, drop}
 use Rattle.snl_check.specs.Collected.{items_in}
-use Rattle.snl_check.specs.Items.{program_name}
+use Rattle.snl_check.specs.ItemSpans.{program_name}
 use Rattle.snl_check.proofs.rows.text_items.TextItems.name.Given as goal
 
 -- no item so far is a header

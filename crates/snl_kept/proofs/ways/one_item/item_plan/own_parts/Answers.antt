@@ -3,15 +3,15 @@ use Rattle.snl_lex.specs.declared.piece.Piece.{Piece}
 use Rattle.snl_lex.specs.declared.line_shift.LineShift.{LineShift}
 use Rattle.snl_lex.specs.LineShift.{moved_line}
 use Rattle.snl_lex.specs.PieceList.{spelled}
+use Rattle.snl_lex.specs.Edit.{edit_of}
 use Rattle.snl_lex.specs.Pieces.{LiesIn}
 use Rattle.snl_scope.specs.Linked.{faults_of}
 use Rattle.snl_scope.specs.declared.summaries.summary.Outline.{Outline}
 use Rattle.snl_tables.specs.Moved.{moved_tables}
-use Rattle.snl_check.specs.declared.rules.findings.Checked.{Checked}
+use Rattle.snl_item_check.specs.declared.findings.Checked.{Checked}
 use Rattle.snl_kept.specs.declared.plan.NewCheck.{NewCheck}
 use Rattle.snl_kept.specs.declared.plan.RowChange.{RowChange}
 use Rattle.snl_kept.specs.Checks.{check_by, links_in, outlines_in}
-use Rattle.snl_kept.specs.Edit.{edit_of}
 use Rattle.snl_kept.specs.Entries.{entry_by}
 use Rattle.snl_kept.specs.ItemPlan.{IsAfterInside, own_item}
 use Rattle.snl_kept.specs.ReplacedItem.{own_check, own_tokens}
@@ -62,21 +62,20 @@ own_diagnostics-requires-clause-within c =
     let text = c.args.one.now.editing.edit.now.text.now in
     subst (All (LiesIn text)) (sym c.requires.one.own.is) (own_lie text c.args.one.now.editing.changes.now.items.kept_front (c.text_in_pieces.ensures.inside text))
 
-pub own_change-requires-clause-within : goal.own_change-requires-clause-within
-own_change-requires-clause-within c =
-    let text = c.args.one.now.editing.edit.now.text.now in
-    subst (All (LiesIn text)) (sym c.requires.one.own.is) (own_lie text c.args.one.now.editing.changes.now.items.kept_front (c.text_in_pieces.ensures.inside text))
-
-pub own_change-requires-clause-items : goal.own_change-requires-clause-items
-own_change-requires-clause-items c =
-    let edit = c.args.one.now.editing.edit.now in
-    items_after edit.old.now edit.text.now c.args.one.now.editing.changes.now c.args.one.now.editing.lists.now c.args.made.now c.requires.one.editing.lists c.requires.one.one c.requires.alone c.replaces_inside.ensures.replaced.inside.outlines
-
-pub own_change-requires-clause-place : goal.own_change-requires-clause-place
-own_change-requires-clause-place c =
-    let edit = c.args.one.now.editing.edit.now in
-    in_place (edit_of edit) c.args.one.now.editing.changes.now c.args.one.now.shift c.args.was.entry.now c.args.made.now c.replaces_inside.ensures.replaced
-    (items_are_read edit.old.now (c.text_in_pieces.ensures.inside edit.old.now)) c.args.one.now.own.now.is.items c.requires.one.own.is
+pub own_change-requires-clause-made : goal.own_change-requires-clause-made
+own_change-requires-clause-made c =
+    let one = c.args.one.now in
+    let edit = one.editing.edit.now in
+    let changes = one.editing.changes.now in
+    record {
+      within = subst (All (LiesIn edit.text.now)) (sym c.requires.one.own.is) (own_lie edit.text.now changes.items.kept_front (c.text_in_pieces.ensures.inside edit.text.now));
+      items = items_after edit.old.now edit.text.now changes one.editing.lists.now c.args.made.now c.requires.one.editing.lists c.requires.one.one c.requires.alone c.replaces_inside.ensures.replaced.inside.outlines;
+      place = in_place (edit_of edit) changes one.shift c.args.was.entry.now c.args.made.now c.replaces_inside.ensures.replaced
+          (items_are_read edit.old.now (c.text_in_pieces.ensures.inside edit.old.now)) one.own.now.is.items c.requires.one.own.is;
+      entry = c.requires.made;
+      check = c.in_ok-check.ensures.check
+          ∙ ap (λ (ts : List Piece). check_by one.editing.lists.now.links.outlines changes.items.kept_front (spelled edit.text.now ts)) c.deref.ensures.value;
+    }
 
 pub returns-clause-inside : goal.returns-clause-inside
 returns-clause-inside c =

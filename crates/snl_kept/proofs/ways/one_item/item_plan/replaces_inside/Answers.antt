@@ -1,4 +1,4 @@
-use Rattle.snl_kept.specs.Edit.{edit_of}
+use Rattle.snl_lex.specs.Edit.{edit_of}
 use Rattle.snl_kept.proofs.InsideMade.{is_inside}
 use Rattle.snl_kept.proofs.ways.one_item.item_plan.replaces_inside.Goals as goal
 

@@ -7,6 +7,7 @@ use Rattle.snl_scope.specs.Below.{all_below}
 use Rattle.snl_scope.specs.Order.{is_named_state}
 use Rattle.snl_scope.specs.Places.{enclosing_set, stands_in}
 use Rattle.snl_kept.proofs.ways.one_item.numbers.state_number.Goals as goal
+use Rattle.std.proofs.Math.Bool.{and-false}
 
 other : (set k : ℕ) → k < set → nat_eq set k ≡ false
 other set k lt = grind (arith, nat_tests)
@@ -15,15 +16,12 @@ not_in : (set n : ℕ) (o : Option ℕ) → ((k : ℕ) → o ≡ Some k → k < 
 not_in set n None within lt = refl
 not_in set n (Some k) within lt = other set k (omega (arith, within k refl))
 
-and_false : (b : Bool) → b && false ≡ false
-and_false = elim [ true ↦ refl | false ↦ refl ]
-
 -- No item before the one that begins a set is in it.
 none_before : (ss : List Outline) (set n : ℕ) → ((i k : ℕ) → enclosing_set ss i ≡ Some k → k < i) → n ≤ set → all_below (λ i. is_named_state ss i && stands_in ss set i) n ≡ []
 none_before ss set zero within le = refl
 none_before ss set (suc n) within le =
     let not : is_named_state ss n && stands_in ss set n ≡ false =
-    ap (λ (b : Bool). is_named_state ss n && b) (not_in set n (enclosing_set ss n) (λ k e. within n k e) (omega arith)) ∙ and_false (is_named_state ss n) in
+    ap (λ (b : Bool). is_named_state ss n && b) (not_in set n (enclosing_set ss n) (λ k e. within n k e) (omega arith)) ∙ and-false (is_named_state ss n) in
     ap (λ (b : Bool). all_below (λ i. is_named_state ss i && stands_in ss set i) n ++ cond b (n ∷ []) []) not
     ∙ append-nil (all_below (λ i. is_named_state ss i && stands_in ss set i) n)
     ∙ none_before ss set n within (omega arith)

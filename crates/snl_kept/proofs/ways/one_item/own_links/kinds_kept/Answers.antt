@@ -4,17 +4,17 @@ use Rattle.std.proofs.lemmas.Option.{slice_get-map}
 use Rattle.snl_scope.specs.declared.summaries.summary.ItemKind.{ItemKind}
 use Rattle.snl_kept.specs.declared.entries.Entry.{Entry}
 use Rattle.snl_kept.specs.ItemPlan.{kinds_kept}
-use Rattle.snl_kept.proofs.KeptOutlines.{got_at}
 use Rattle.snl_kept.proofs.Replaced.{none_missing}
 use Rattle.snl_kept.proofs.Steps.{take_more}
 use Rattle.snl_kept.proofs.ways.one_item.own_links.kinds_kept.Goals as goal
 use Rattle.snl_kept.proofs.ways.one_item.own_links.kinds_kept.Goals.{in-Some+in_ok-push, in_default}
+use Rattle.snl_facts.specs.Lists.{drop_got}
 
 one_more : (es : List Entry) (n : ℕ) (e : Entry) → slice_get es n ≡ Some e → take (n + 1) (kinds_kept es) ≡ take n (kinds_kept es) ++ (e.summary.kind ∷ [])
 one_more es n e at =
     let ks : List ItemKind = kinds_kept es in
     let here : slice_get ks n ≡ Some e.summary.kind = slice_get-map (λ (x : Entry). x.summary.kind) es n ∙ ap (option_map (λ (x : Entry). x.summary.kind)) at in
-    take_more ks n e.summary.kind (got_at ks n e.summary.kind here ∙ ap (λ (k : ℕ). e.summary.kind ∷ drop k ks) (sym (add-one n)))
+    take_more ks n e.summary.kind (drop_got ks n e.summary.kind here ∙ ap (λ (k : ℕ). e.summary.kind ∷ drop k ks) (sym (add-one n)))
 
 pub loop-number-preserved : goal.loop-number-preserved
 loop-number-preserved c =

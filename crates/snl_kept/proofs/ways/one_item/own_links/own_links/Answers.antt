@@ -1,6 +1,6 @@
 use Rattle.std.proofs.Common.{arith, ◌≡◌, ◌<◌, List, length, slice_get, Some, option_map, refl, ap, sym, ◌∙◌}
 use Rattle.std.specs.List.{slice_set}
-use Rattle.std.proofs.lemmas.List.{length-map}
+use Rattle.std.proofs.lemmas.List.{length-map, length-set}
 use Rattle.std.proofs.lemmas.Option.{slice_get-map, slice_get_within}
 use Rattle.snl_scope.specs.declared.summaries.summary.ItemKind.{ItemKind}
 use Rattle.snl_scope.specs.Linked.{faults_of}
@@ -9,7 +9,7 @@ use Rattle.snl_kept.specs.declared.entries.Entry.{Entry}
 use Rattle.snl_kept.specs.Entries.{entries_of}
 use Rattle.snl_kept.specs.ItemPlan.{kinds_kept}
 use Rattle.snl_kept.proofs.InsideMade.{kept_kinds, kept_outlines}
-use Rattle.snl_kept.proofs.Replaced.{put_back, replaced_count, replaced_parts}
+use Rattle.snl_kept.proofs.Replaced.{put_back, replaced_parts}
 use Rattle.snl_kept.proofs.ways.one_item.own_links.own_links.Goals as goal
 
 pub returns-then-is_same_kind : goal.returns-then-is_same_kind
@@ -32,7 +32,7 @@ kinds_if_same-requires c =
     let kept = kept_outlines c.outcome_told.ensures.tree c.same_spelling_same_tree.ensures.by_spelling c.same_spelling_same_summary.ensures.summary_by_spelling c.same_spelling_same_summary.ensures.bytes_by_spelling text in
     let es : List Entry = c.args.lists.now.entries.values in
     ap length c.in_ok-kinds.ensures
-    ∙ replaced_count (kinds_kept es) c.args.item c.args.made.now.summary.kind
+    ∙ length-set (kinds_kept es) c.args.item c.args.made.now.summary.kind
     ∙ length-map es (λ (e : Entry). e.summary.kind)
     ∙ ap length c.requires.lists.entries
     ∙ sym (length-map (entries_of text) (λ (e : Entry). e.summary.outline))

@@ -1,6 +1,7 @@
 use Rattle.std.proofs.Common.{◌≡◌, All, List, [], ◌∷◌, take, sym, ap, subst, ◌∙◌}
 use Rattle.snl_cut.specs.Cut.{last_end}
 use Rattle.snl_lex.specs.declared.piece.Piece.{Piece}
+use Rattle.snl_lex.specs.Edit.{edit_of}
 use Rattle.snl_lex.specs.PieceList.{spelled}
 use Rattle.snl_lex.specs.Pieces.{LiesIn}
 use Rattle.snl_items.specs.Items.{item_ends}
@@ -32,5 +33,5 @@ returns-clause-made c =
     let entry : c.in_ok-entry.entry ≡ entry_by (spelled text (own_tokens text k)) = c.in_ok-entry.ensures.entry ∙ ap (λ (ts : List Piece). entry_by (spelled text ts)) own in
     let one : c.in_ok-made.made.items ≡ entry_by (spelled text (own_tokens text k)) ∷ [] = c.in_ok-made.ensures ∙ ap (λ (e : Entry). let es : List Entry = e ∷ [] in es) entry in
     subst (λ (es : List Entry). AreEntriesMade old text k es back)
-    (one_member old text edit.start edit.old_stop edit.new_stop changes.tokens.edit k made back change c.requires.one.one.one_made c.requires.one.one.one_gone ∙ sym one)
+    (one_member (edit_of edit) changes.tokens.edit changes.items change c.requires.one.one.one_made c.requires.one.one.one_gone ∙ sym one)
     (entries_made old text k (last_end 0 (take k (item_ends old))) made back change.items)

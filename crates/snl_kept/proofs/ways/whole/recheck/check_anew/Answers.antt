@@ -1,5 +1,5 @@
 use Rattle.std.proofs.Common.{◌≡◌, ℕ, ◌&&◌, Bool, true, false, not, [], Option, None, Some, is_some, if◌then◌else◌, option_map, refl}
-use Rattle.snl_check.specs.declared.rules.findings.Checked.{Checked}
+use Rattle.snl_item_check.specs.declared.findings.Checked.{Checked}
 use Rattle.snl_kept.specs.NewChecks.{made_at}
 
 -- no check is made of a faulty item, nor of one that sees what it saw; else the check that there is

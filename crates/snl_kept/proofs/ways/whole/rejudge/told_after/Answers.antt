@@ -1,7 +1,7 @@
 use Rattle.std.proofs.Common.{arith, ◌≡◌, ℕ, ◌-◌, ◌++◌, List, length, map, take, drop, IfOk, Option, Bor, ap, sym, subst, ◌∙◌}
 use Rattle.snl_scope.specs.Linked.{faults_of}
 use Rattle.snl_scope.specs.LinkedItems.{LinkedItems}
-use Rattle.snl_check.specs.declared.rules.findings.Checked.{Checked}
+use Rattle.snl_item_check.specs.declared.findings.Checked.{Checked}
 use Rattle.snl_kept.specs.declared.plan.NewCheck.{NewCheck}
 use Rattle.snl_kept.specs.Checks.{checks_of, links_in, outlines_in}
 use Rattle.snl_kept.specs.NewChecks.{AreChecksMade, put}
@@ -53,8 +53,8 @@ told_in-requires-clause-checks c =
     let old = c.args.editing.now.edit.now.old.now in
     let text = c.args.editing.now.edit.now.text.now in
     let items = c.args.editing.now.changes.now.items in
-    let made = c.args.kept.now.made.items in
-    let vacant = c.args.kept.now.vacant.items in
+    let made = c.args.kept.now.checks.made.items in
+    let vacant = c.args.kept.now.checks.vacant.items in
     let values = c.args.editing.now.lists.now.checks.values in
     let now = λ (k : Bor (Option Checked)). k.now in
     ap (map now) c.deref-3.ensures.value

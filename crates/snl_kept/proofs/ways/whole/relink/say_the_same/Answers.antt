@@ -2,8 +2,8 @@ use Rattle.std.proofs.Common.{arith, ◌≡◌, ◌-◌, length, take, drop, map
 use Rattle.std.proofs.Math.Seq.{take-length}
 use Rattle.snl_kept.specs.ItemPlan.{outlines_kept}
 use Rattle.snl_kept.proofs.KeptOutlines.{all_same, one_more}
-use Rattle.snl_kept.proofs.Steps.{drop_here}
 use Rattle.snl_kept.proofs.ways.whole.relink.say_the_same.Goals as goal
+use Rattle.snl_facts.specs.Lists.{drop_here}
 
 pub loop-number-preserved : goal.loop-number-preserved
 loop-number-preserved c =

@@ -1,6 +1,6 @@
 use Rattle.std.proofs.Common.{◌≡◌, ℕ, ◌+◌, ◌++◌, ◌∷◌, [], List, Option, Some, ap, ap₂, append_assoc, arith, map, subst, sym, take, ◌∙◌}
 use Rattle.std.proofs.lemmas.List.{map_more}
-use Rattle.snl_walk.specs.declared.codes.Code.{Code}
+use Rattle.snl_codes.specs.declared.code.Code.{Code}
 use Rattle.snl_scope.specs.Names.{Entry, declared_entry}
 use Rattle.snl_scope.specs.NameTables.{Follows}
 use Rattle.snl_scope.proofs.names.name_tables.NameTables.add_declared.Goals as goal

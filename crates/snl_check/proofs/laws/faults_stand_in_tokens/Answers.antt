@@ -1,5 +1,0 @@
-use Rattle.snl_check.proofs.Within.{faults_within}
-use Rattle.snl_check.proofs.laws.faults_stand_in_tokens.Goals as goal
-
-pub returns : goal.returns
-returns c = faults_within

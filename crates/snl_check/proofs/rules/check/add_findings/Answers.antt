@@ -1,9 +1,0 @@
-use Rattle.std.proofs.Common.{refl, List, map}
-use Rattle.snl_walk.specs.declared.rules.Finding.{Finding}
-use Rattle.snl_check.specs.ItemFaults.{fault_of}
-use Rattle.snl_check.proofs.Loops.{at_end}
-use Rattle.snl_check.proofs.rules.check.add_findings.Goals as goal
-
-pub returns : goal.returns
-returns c =
-    at_end (λ (fs : List Finding). map fault_of fs) refl c.args.findings.now c.loop-finding.finding-index c.loop-finding.faults.items _ c.loop-finding-test.false c.loop-finding.invariant

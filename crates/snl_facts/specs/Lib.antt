@@ -1,0 +1,11 @@
+pub mod Numbers
+pub mod Booleans
+pub mod Options
+pub mod Lists
+pub mod Counts
+pub mod Positions
+pub mod Each
+pub mod Made
+pub mod Feeds
+pub mod Digits
+pub mod Bytes

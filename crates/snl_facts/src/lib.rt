@@ -1,0 +1,2 @@
+//! Facts on booleans, numbers and lists that the proofs of several crates cite. There is no code.
+#![tactic(auto)]

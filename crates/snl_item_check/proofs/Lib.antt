@@ -1,0 +1,9 @@
+mod Each
+mod Loops
+mod Pairs
+mod SameUses
+mod SameView
+mod Within
+mod Bare
+mod FaultsOnce
+mod LeftToLinks

@@ -1,0 +1,76 @@
+//! Reads the names that `foreign` declares.
+#![tactic(auto, unfolding(crate::proofs::Opened::Clauses::foreign_names))]
+
+ghost use Rattle.snl_lex.specs.declared.kind.Kind.TheVariants as kind;
+ghost use Rattle.snl_syntax.specs.Reading.Clauses as spec;
+ghost use Rattle.snl_syntax.specs.Reading.Expressions as exprs;
+ghost use Rattle.snl_syntax.specs.Steps as read;
+ghost use Rattle.snl_syntax.specs.Steps.{ReadsFrom};
+
+use crate::stop::Stop;
+use crate::token_steps::{expect, kind_at, past, turns};
+use snl_lex::Kind;
+use sqlite_items::Items;
+use std::alloc::Global;
+
+// [ "," NAME ]
+// , stderr
+fn next_name(kinds: &[Kind], at: usize) -> Result<(Option<usize>, usize), Stop>
+    ensures { ReadsFrom kinds.now at result (exprs.next_comma (read.expect kind.Name)) }
+{
+    match kind_at(kinds, at) {
+        Some(Kind::Comma) => {
+            let at = expect(kinds, at, Kind::Comma)?;
+            let name = at;
+            let at = expect(kinds, at, Kind::Name)?;
+            Ok((Some(name), at))
+        }
+        _ => Ok((None, at)),
+    }
+}
+
+// { "," NAME }
+// , stderr, errno
+fn more_names(
+    kinds: &[Kind],
+    start: usize,
+    found: Items<usize>,
+) -> Result<(Items<usize>, usize), Stop>
+    ensures { ReadsFrom kinds.now start result
+        (read.many (exprs.next_comma (read.expect kind.Name)) found) }
+{
+    let mut found = found;
+    let mut at = start;
+    for _turn in 0..turns(kinds, start) {
+        let (next, after) = next_name(kinds, at)?;
+        at = after;
+        match next {
+            None => return Ok((found, at)),
+            Some(item) => found.push(item)?,
+        }
+    }
+    Ok((found, at))
+}
+
+// NAME { "," NAME }
+// stdout, stderr
+fn names(alloc: Global, kinds: &[Kind], at: usize) -> Result<(Items<usize>, usize), Stop>
+    ensures { ReadsFrom kinds.now at result (exprs.commas (read.expect kind.Name)) }
+{
+    let first = at;
+    let at = expect(kinds, at, Kind::Name)?;
+    let mut found = Items::new(alloc);
+    found.push(first)?;
+    more_names(kinds, at, found)
+}
+
+/// `foreign` and names, with `;` after them.
+// foreign = "foreign" NAME { "," NAME } ";"
+// foreign stdout, stderr;
+pub fn foreign(alloc: Global, kinds: &[Kind], at: usize) -> Result<(Items<usize>, usize), Stop>
+    ensures { ReadsFrom kinds.now at result spec.foreign }
+{
+    let at = expect(kinds, at, Kind::Foreign)?;
+    let (names, at) = names(alloc, kinds, at)?;
+    past(kinds, at, Kind::Semicolon, names)
+}

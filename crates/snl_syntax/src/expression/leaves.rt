@@ -1,0 +1,129 @@
+//! Reads operands of one token, and strings.
+#![tactic(auto, unfolding(crate::proofs::Opened::Expressions::leaves))]
+
+ghost use Rattle.snl_lex.specs.declared.kind.Kind.TheVariants as kind;
+ghost use Rattle.snl_syntax.specs.Reading.Expressions as spec;
+ghost use Rattle.snl_syntax.specs.Steps as read;
+ghost use Rattle.snl_syntax.specs.Steps.{ReadsFrom};
+ghost use Rattle.snl_syntax.specs.declared.tree.expression.Expr.TheVariants as tree;
+
+use crate::stop::Stop;
+use crate::token_steps::{expect, kind_at, turns};
+use crate::tree::expression::Expr;
+use snl_lex::Kind;
+use sqlite_items::Items;
+use std::alloc::Global;
+
+// [ TEXT ]
+// "speed"
+fn next_text(kinds: &[Kind], at: usize) -> Result<(Option<usize>, usize), Stop>
+    ensures { ReadsFrom kinds.now at result spec.next_text }
+{
+    match kind_at(kinds, at) {
+        Some(Kind::Text) => {
+            let number = at;
+            let at = expect(kinds, at, Kind::Text)?;
+            Ok((Some(number), at))
+        }
+        _ => Ok((None, at)),
+    }
+}
+
+// { TEXT }
+// "pump:" "speed"
+fn more_texts(
+    kinds: &[Kind],
+    start: usize,
+    found: Items<usize>,
+) -> Result<(Items<usize>, usize), Stop>
+    ensures { ReadsFrom kinds.now start result (read.many spec.next_text found) }
+{
+    let mut found = found;
+    let mut at = start;
+    for _turn in 0..turns(kinds, start) {
+        let (next, after) = next_text(kinds, at)?;
+        at = after;
+        match next {
+            None => return Ok((found, at)),
+            Some(item) => found.push(item)?,
+        }
+    }
+    Ok((found, at))
+}
+
+/// All strings that are side by side, one at least.
+// texts = TEXT { TEXT }
+// "pump:" "speed"
+pub fn texts(alloc: Global, kinds: &[Kind], at: usize) -> Result<(Items<usize>, usize), Stop>
+    ensures { ReadsFrom kinds.now at result spec.texts }
+{
+    let first = at;
+    let at = expect(kinds, at, Kind::Text)?;
+    let mut found = Items::new(alloc);
+    found.push(first)?;
+    more_texts(kinds, at, found)
+}
+
+// NAME
+// speed
+fn name_leaf(kinds: &[Kind], at: usize) -> Result<(Expr, usize), Stop>
+    ensures { ReadsFrom kinds.now at result (spec.leaf kind.Name tree.Name) }
+{
+    let number = at;
+    let at = expect(kinds, at, Kind::Name)?;
+    Ok((Expr::Name(number), at))
+}
+
+// INT
+// 0x1F
+fn integer_leaf(kinds: &[Kind], at: usize) -> Result<(Expr, usize), Stop>
+    ensures { ReadsFrom kinds.now at result (spec.leaf kind.Integer tree.Integer) }
+{
+    let number = at;
+    let at = expect(kinds, at, Kind::Integer)?;
+    Ok((Expr::Integer(number), at))
+}
+
+// FLOAT
+// 2.5e-3
+fn floating_leaf(kinds: &[Kind], at: usize) -> Result<(Expr, usize), Stop>
+    ensures { ReadsFrom kinds.now at result (spec.leaf kind.Floating tree.Floating) }
+{
+    let number = at;
+    let at = expect(kinds, at, Kind::Floating)?;
+    Ok((Expr::Floating(number), at))
+}
+
+// CHAR
+// 'a'
+fn character_leaf(kinds: &[Kind], at: usize) -> Result<(Expr, usize), Stop>
+    ensures { ReadsFrom kinds.now at result (spec.leaf kind.Character tree.Character) }
+{
+    let number = at;
+    let at = expect(kinds, at, Kind::Character)?;
+    Ok((Expr::Character(number), at))
+}
+
+// texts
+// "pump:" "speed"
+fn text(alloc: Global, kinds: &[Kind], at: usize) -> Result<(Expr, usize), Stop>
+    ensures { ReadsFrom kinds.now at result spec.text }
+{
+    let (numbers, at) = texts(alloc, kinds, at)?;
+    Ok((Expr::Text(numbers), at))
+}
+
+// NAME | INT | FLOAT | CHAR | texts
+// speed
+pub(super) fn atom(alloc: Global, kinds: &[Kind], at: usize) -> Result<(Expr, usize), Stop>
+    ensures { ReadsFrom kinds.now at result spec.atom }
+{
+    match kind_at(kinds, at) {
+        Some(Kind::Name) => name_leaf(kinds, at),
+        Some(Kind::Integer) => integer_leaf(kinds, at),
+        Some(Kind::Floating) => floating_leaf(kinds, at),
+        Some(Kind::Character) => character_leaf(kinds, at),
+        Some(Kind::Text) => text(alloc, kinds, at),
+        _ => Err(Stop::Here(at)),
+    }
+}
