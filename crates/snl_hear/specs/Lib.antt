@@ -1,0 +1,9 @@
+pub mod Changes
+pub mod Documents
+pub mod Heard
+pub mod Ids
+pub mod Json
+pub mod Notifications
+pub mod Requests
+pub mod Sound
+pub mod Spelled

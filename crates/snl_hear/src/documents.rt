@@ -1,0 +1,83 @@
+//! What parameters say of a document: its URI, its version, its text, a place in it.
+//! In: the parameters, if there are any. Out: a part of them, if it is there and well formed.
+//! Knows nothing of methods.
+
+ghost use Rattle.std.specs.Prelude.{◌≡◌, option_and_then, option_map};
+ghost use Rattle.serde_json.specs.Find.{get};
+ghost use Rattle.serde_json.specs.View.{view};
+ghost use Rattle.snl_hear.specs.Documents.{document_in, located_in, located_of, number_at, place_in, string_at, text_in, uri_in, version_in};
+
+use serde_json::Value;
+use snl_place::Place;
+
+/// A document and a place in it, as the client names them. The text need not have such a place.
+#[derive(Clone, Copy)]
+pub struct DocumentPlace<'a> {
+    pub uri: &'a str,
+    pub place: Place,
+}
+
+fn number_at(value: &Value, key: &str) -> Option<u64>
+    ensures { result ≡ number_at key.now (view value.now) }
+{
+    value.get(key)?.as_u64()
+}
+
+pub fn string_at<'a>(value: &'a Value, key: &str) -> Option<&'a str>
+    ensures { option_map (λ s. s.now) result ≡ string_at key.now (view value.now) }
+{
+    value.get(key)?.as_str()
+}
+
+/// `{"line": LINE, "character": CHARACTER}`
+pub fn place_in(value: &Value) -> Option<Place>
+    ensures { result ≡ place_in (view value.now) }
+{
+    let line = number_at(value, "line")?;
+    let character = number_at(value, "character")?;
+    Some(Place {
+        line: line as usize,
+        character: character as usize,
+    })
+}
+
+/// `{"textDocument": DOCUMENT}`
+fn document_in<'a>(params: Option<&'a Value>) -> Option<&'a Value>
+    ensures { option_map (λ v. view v.now) result
+        ≡ document_in (option_map (λ v. view v.now) params.entry) }
+{
+    params?.get("textDocument")
+}
+
+/// `{"textDocument": {"uri": URI}}`
+pub fn uri_in<'a>(params: Option<&'a Value>) -> Option<&'a str>
+    ensures { option_map (λ s. s.now) result
+        ≡ uri_in (option_map (λ v. view v.now) params.entry) }
+{
+    string_at(document_in(params)?, "uri")
+}
+
+/// `{"textDocument": {"version": VERSION}}`
+pub fn version_in(params: Option<&Value>) -> Option<u64>
+    ensures { result ≡ version_in (option_map (λ v. view v.now) params.entry) }
+{
+    number_at(document_in(params)?, "version")
+}
+
+/// `{"textDocument": {"text": TEXT}}`
+pub fn text_in<'a>(params: Option<&'a Value>) -> Option<&'a str>
+    ensures { option_map (λ s. s.now) result
+        ≡ text_in (option_map (λ v. view v.now) params.entry) }
+{
+    string_at(document_in(params)?, "text")
+}
+
+/// `{"textDocument": {"uri": URI}, "position": PLACE}`
+pub fn located_in<'a>(params: Option<&'a Value>) -> Option<DocumentPlace<'a>>
+    ensures { option_map (λ at. located_of at) result
+        ≡ located_in (option_map (λ v. view v.now) params.entry) }
+{
+    let uri = uri_in(params)?;
+    let place = place_in(params?.get("position")?)?;
+    Some(DocumentPlace { uri, place })
+}
