@@ -1,6 +1,7 @@
 pub mod Tokens
 pub mod Operators
 pub mod Steps
+pub mod Elements
 pub mod Reading
 pub mod Grammar
 pub mod Viability

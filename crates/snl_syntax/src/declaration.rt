@@ -11,8 +11,10 @@ mod array_lengths;
 mod initial_values;
 
 use crate::declaration::initial_values::init_part;
+use crate::lists::many;
+use crate::parts::single;
 use crate::stop::Stop;
-use crate::token_steps::{expect, kind_at, past, turns};
+use crate::token_steps::{expect, kind_at, past};
 use crate::tree::declaration::{Declaration, Declarator};
 use crate::tree::types::{Pointer, QualifiedType};
 use crate::types::{stars, type_of};
@@ -99,17 +101,13 @@ fn declarators(
     ensures { ReadsFrom kinds.now start result
         (read.many (exprs.next_comma (spec.in_levels depth spec.declarator)) found) }
 {
-    let mut found = found;
-    let mut at = start;
-    for _turn in 0..turns(kinds, start) {
-        let (next, after) = next_declarator(alloc, kinds, at, depth)?;
-        at = after;
-        match next {
-            None => return Ok((found, at)),
-            Some(item) => found.push(item)?,
-        }
-    }
-    Ok((found, at))
+    many(
+        alloc,
+        kinds,
+        start,
+        found,
+        |kinds, at| next_declarator(alloc, kinds, at, depth),
+    )
 }
 
 // { "," dcl } ";"
@@ -125,8 +123,7 @@ fn more_declarators(
     requires some { 0 < depth }
     ensures { ReadsFrom kinds.now at result (spec.in_levels depth spec.more_declarators of first) }
 {
-    let mut found = Items::new(alloc);
-    found.push(first)?;
+    let found = single(alloc, first)?;
     let (declarators, at) = declarators(alloc, kinds, at, depth, found)?;
     past(kinds, at, Kind::Semicolon, Declaration { of, declarators })
 }

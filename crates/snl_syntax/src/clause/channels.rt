@@ -9,9 +9,10 @@ ghost use Rattle.snl_syntax.specs.Steps.{ReadsFrom};
 
 use crate::clause::operands::subscript;
 use crate::expression::texts;
-use crate::parts::ended;
+use crate::lists::until;
+use crate::parts::single;
 use crate::stop::{Step, Stop};
-use crate::token_steps::{accept, expect, kind_at, past, turns};
+use crate::token_steps::{accept, expect, kind_at, past};
 use crate::tree::clause::Channel;
 use snl_lex::Kind;
 use sqlite_items::Items;
@@ -61,17 +62,13 @@ fn more_elements(
 ) -> Result<((Items<Items<usize>>, bool), usize), Stop>
     ensures { ReadsFrom kinds.now start result (read.until spec.text_step found) }
 {
-    let mut found = found;
-    let mut at = start;
-    for _turn in 0..turns(kinds, start) {
-        let (step, after) = text_step(alloc, kinds, at)?;
-        at = after;
-        match step {
-            Step::More(item) => found.push(item)?,
-            Step::Last(last, value) => return Ok(((ended(found, last)?, value), at)),
-        }
-    }
-    Err(Stop::Here(at))
+    until(
+        alloc,
+        kinds,
+        start,
+        found,
+        |kinds, at| text_step(alloc, kinds, at),
+    )
 }
 
 // texts { "," texts } [","] "}"
@@ -85,8 +82,7 @@ fn some_elements(
     ensures { ReadsFrom kinds.now at result (spec.some_elements to) }
 {
     let (first, at) = texts(alloc, kinds, at)?;
-    let mut found = Items::new(alloc);
-    found.push(first)?;
+    let found = single(alloc, first)?;
     let ((texts, trailing), at) = more_elements(alloc, kinds, at, found)?;
     let channel = Channel::Elements {
         to,

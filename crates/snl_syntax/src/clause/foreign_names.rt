@@ -7,8 +7,10 @@ ghost use Rattle.snl_syntax.specs.Reading.Expressions as exprs;
 ghost use Rattle.snl_syntax.specs.Steps as read;
 ghost use Rattle.snl_syntax.specs.Steps.{ReadsFrom};
 
+use crate::lists::many;
+use crate::parts::single;
 use crate::stop::Stop;
-use crate::token_steps::{expect, kind_at, past, turns};
+use crate::token_steps::{expect, kind_at, past};
 use snl_lex::Kind;
 use sqlite_items::Items;
 use std::alloc::Global;
@@ -32,6 +34,7 @@ fn next_name(kinds: &[Kind], at: usize) -> Result<(Option<usize>, usize), Stop>
 // { "," NAME }
 // , stderr, errno
 fn more_names(
+    alloc: Global,
     kinds: &[Kind],
     start: usize,
     found: Items<usize>,
@@ -39,17 +42,7 @@ fn more_names(
     ensures { ReadsFrom kinds.now start result
         (read.many (exprs.next_comma (read.expect kind.Name)) found) }
 {
-    let mut found = found;
-    let mut at = start;
-    for _turn in 0..turns(kinds, start) {
-        let (next, after) = next_name(kinds, at)?;
-        at = after;
-        match next {
-            None => return Ok((found, at)),
-            Some(item) => found.push(item)?,
-        }
-    }
-    Ok((found, at))
+    many(alloc, kinds, start, found, |kinds, at| next_name(kinds, at))
 }
 
 // NAME { "," NAME }
@@ -59,9 +52,8 @@ fn names(alloc: Global, kinds: &[Kind], at: usize) -> Result<(Items<usize>, usiz
 {
     let first = at;
     let at = expect(kinds, at, Kind::Name)?;
-    let mut found = Items::new(alloc);
-    found.push(first)?;
-    more_names(kinds, at, found)
+    let found = single(alloc, first)?;
+    more_names(alloc, kinds, at, found)
 }
 
 /// `foreign` and names, with `;` after them.

@@ -11,6 +11,7 @@ ghost use Rattle.snl_syntax.specs.Tokens.{ahead};
 
 use crate::expression::Expressions;
 use crate::operator::{Binary, binary_kind, binary_of, tier};
+use crate::parts::with;
 use crate::stop::Stop;
 use crate::token_steps::{expect, kind_at, turns};
 use crate::tree::expression::Expr;
@@ -93,7 +94,7 @@ impl<F: Fn(Global, &[Kind], usize, usize) -> Result<(Expr, usize), Stop>> Expres
             at = after;
             match next {
                 None => return Ok((found, at)),
-                Some(item) => found.push(item)?,
+                Some(item) => found = with(self.alloc, found, item)?,
             }
         }
         Ok((found, at))

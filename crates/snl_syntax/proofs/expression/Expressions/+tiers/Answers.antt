@@ -21,7 +21,7 @@ links-returns-in-None g t c =
 
 pub links-loop-turn-preserved : goal.links-loop-turn-preserved
 links-loop-turn-preserved g t c =
-    rw c.in_ok-push-in-Some.ensures.ok (turn_more (next_link c.args.tier (operand (assignx c.args.self.now.depth) (type_within c.args.self.now.depth) (c.args.tier - 1))) (many (next_link c.args.tier (operand (assignx c.args.self.now.depth) (type_within c.args.self.now.depth) (c.args.tier - 1))) [] (ahead c.args.kinds.now c.args.start)) c.turns-turn-end.result c.loop-turn._turn c.loop-turn.found (ahead c.args.kinds.now c.loop-turn.at) c.in-Some.item (ahead c.args.kinds.now c.in_ok-next.after) c.loop-turn-test.true c.loop-turn.invariant (c.in_ok-next.ensures ∙ ap (λ o. Ok (o, ahead c.args.kinds.now c.in_ok-next.after)) c.in-Some.is))
+    rw c.in_ok-found-in-Some.ensures (turn_more (next_link c.args.tier (operand (assignx c.args.self.now.depth) (type_within c.args.self.now.depth) (c.args.tier - 1))) (many (next_link c.args.tier (operand (assignx c.args.self.now.depth) (type_within c.args.self.now.depth) (c.args.tier - 1))) [] (ahead c.args.kinds.now c.args.start)) c.turns-turn-end.result c.loop-turn._turn c.loop-turn.found (ahead c.args.kinds.now c.loop-turn.at) c.in-Some.item (ahead c.args.kinds.now c.in_ok-next.after) c.loop-turn-test.true c.loop-turn.invariant (c.in_ok-next.ensures ∙ ap (λ o. Ok (o, ahead c.args.kinds.now c.in_ok-next.after)) c.in-Some.is))
 
 pub links-returns : goal.links-returns
 links-returns g t c = turns_over (next_link c.args.tier (operand (assignx c.args.self.now.depth) (type_within c.args.self.now.depth) (c.args.tier - 1))) (many (next_link c.args.tier (operand (assignx c.args.self.now.depth) (type_within c.args.self.now.depth) (c.args.tier - 1))) [] (ahead c.args.kinds.now c.args.start)) c.turns-turn-end.result c.loop-turn._turn c.loop-turn.found (ahead c.args.kinds.now c.loop-turn.at) c.loop-turn-test.false c.loop-turn.invariant
