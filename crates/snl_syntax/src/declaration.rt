@@ -88,28 +88,6 @@ fn next_declarator(
     }
 }
 
-// { "," dcl }
-// , high = 2, step
-fn declarators(
-    alloc: Global,
-    kinds: &[Kind],
-    start: usize,
-    depth: usize,
-    found: Items<Declarator>,
-) -> Result<(Items<Declarator>, usize), Stop>
-    requires some { 0 < depth }
-    ensures { ReadsFrom kinds.now start result
-        (read.many (exprs.next_comma (spec.in_levels depth spec.declarator)) found) }
-{
-    many(
-        alloc,
-        kinds,
-        start,
-        found,
-        |kinds, at| next_declarator(alloc, kinds, at, depth),
-    )
-}
-
 // { "," dcl } ";"
 // , high = 2, step;
 fn more_declarators(
@@ -124,7 +102,13 @@ fn more_declarators(
     ensures { ReadsFrom kinds.now at result (spec.in_levels depth spec.more_declarators of first) }
 {
     let found = single(alloc, first)?;
-    let (declarators, at) = declarators(alloc, kinds, at, depth, found)?;
+    let (declarators, at) = many(
+        alloc,
+        kinds,
+        at,
+        found,
+        |kinds, at| next_declarator(alloc, kinds, at, depth),
+    )?;
     past(kinds, at, Kind::Semicolon, Declaration { of, declarators })
 }
 

@@ -52,25 +52,6 @@ fn text_step(
     }
 }
 
-// { "," texts } [","]
-// , "sp:b", "sp:c",
-fn more_elements(
-    alloc: Global,
-    kinds: &[Kind],
-    start: usize,
-    found: Items<Items<usize>>,
-) -> Result<((Items<Items<usize>>, bool), usize), Stop>
-    ensures { ReadsFrom kinds.now start result (read.until spec.text_step found) }
-{
-    until(
-        alloc,
-        kinds,
-        start,
-        found,
-        |kinds, at| text_step(alloc, kinds, at),
-    )
-}
-
 // texts { "," texts } [","] "}"
 // "sp:a", "sp:b" }
 fn some_elements(
@@ -83,7 +64,13 @@ fn some_elements(
 {
     let (first, at) = texts(alloc, kinds, at)?;
     let found = single(alloc, first)?;
-    let ((texts, trailing), at) = more_elements(alloc, kinds, at, found)?;
+    let ((texts, trailing), at) = until(
+        alloc,
+        kinds,
+        at,
+        found,
+        |kinds, at| text_step(alloc, kinds, at),
+    )?;
     let channel = Channel::Elements {
         to,
         texts,

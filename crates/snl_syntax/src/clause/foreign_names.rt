@@ -31,20 +31,6 @@ fn next_name(kinds: &[Kind], at: usize) -> Result<(Option<usize>, usize), Stop>
     }
 }
 
-// { "," NAME }
-// , stderr, errno
-fn more_names(
-    alloc: Global,
-    kinds: &[Kind],
-    start: usize,
-    found: Items<usize>,
-) -> Result<(Items<usize>, usize), Stop>
-    ensures { ReadsFrom kinds.now start result
-        (read.many (exprs.next_comma (read.expect kind.Name)) found) }
-{
-    many(alloc, kinds, start, found, |kinds, at| next_name(kinds, at))
-}
-
 // NAME { "," NAME }
 // stdout, stderr
 fn names(alloc: Global, kinds: &[Kind], at: usize) -> Result<(Items<usize>, usize), Stop>
@@ -53,7 +39,7 @@ fn names(alloc: Global, kinds: &[Kind], at: usize) -> Result<(Items<usize>, usiz
     let first = at;
     let at = expect(kinds, at, Kind::Name)?;
     let found = single(alloc, first)?;
-    more_names(alloc, kinds, at, found)
+    many(alloc, kinds, at, found, |kinds, at| next_name(kinds, at))
 }
 
 /// `foreign` and names, with `;` after them.

@@ -31,19 +31,6 @@ fn next_text(kinds: &[Kind], at: usize) -> Result<(Option<usize>, usize), Stop>
     }
 }
 
-// { TEXT }
-// "pump:" "speed"
-fn more_texts(
-    alloc: Global,
-    kinds: &[Kind],
-    start: usize,
-    found: Items<usize>,
-) -> Result<(Items<usize>, usize), Stop>
-    ensures { ReadsFrom kinds.now start result (read.many spec.next_text found) }
-{
-    many(alloc, kinds, start, found, |kinds, at| next_text(kinds, at))
-}
-
 /// All strings that are side by side, one at least.
 // texts = TEXT { TEXT }
 // "pump:" "speed"
@@ -53,7 +40,7 @@ pub fn texts(alloc: Global, kinds: &[Kind], at: usize) -> Result<(Items<usize>, 
     let first = at;
     let at = expect(kinds, at, Kind::Text)?;
     let found = single(alloc, first)?;
-    more_texts(alloc, kinds, at, found)
+    many(alloc, kinds, at, found, |kinds, at| next_text(kinds, at))
 }
 
 // NAME

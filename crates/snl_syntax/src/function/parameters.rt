@@ -94,27 +94,6 @@ fn next_parameter(
     }
 }
 
-// { "," param }
-// , int n, string
-fn more_parameters(
-    alloc: Global,
-    kinds: &[Kind],
-    start: usize,
-    depth: usize,
-    found: Items<Parameter>,
-) -> Result<(Items<Parameter>, usize), Stop>
-    ensures { ReadsFrom kinds.now start result
-        (read.many (exprs.next_comma (spec.parameter depth)) found) }
-{
-    many(
-        alloc,
-        kinds,
-        start,
-        found,
-        |kinds, at| next_parameter(alloc, kinds, at, depth),
-    )
-}
-
 // param { "," param }
 // double v, int n
 fn comma_parameters(
@@ -127,7 +106,13 @@ fn comma_parameters(
 {
     let (first, at) = parameter(alloc, kinds, at, depth)?;
     let found = single(alloc, first)?;
-    more_parameters(alloc, kinds, at, depth, found)
+    many(
+        alloc,
+        kinds,
+        at,
+        found,
+        |kinds, at| next_parameter(alloc, kinds, at, depth),
+    )
 }
 
 // param { "," param } ")"

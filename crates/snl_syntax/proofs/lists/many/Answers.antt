@@ -1,4 +1,4 @@
-use Rattle.std.proofs.Common.{refl, Ok, ap, ◌∙◌, of_calls}
+use Rattle.std.proofs.Common.{refl, Ok, ap, ◌∙◌}
 use Rattle.std.proofs.lemmas.Result.{err_from_is_err_and}
 use Rattle.snl_syntax.specs.Tokens.{ahead}
 use Rattle.snl_syntax.specs.Steps.{many}
