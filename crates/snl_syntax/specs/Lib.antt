@@ -1,3 +1,4 @@
+pub mod Tiers
 pub mod Tokens
 pub mod Operators
 pub mod Steps
