@@ -1,36 +1,11 @@
--- What holds of each element of a list.
-use Rattle.std.proofs.Common.{◌≡◌, ℕ, Bool, true, false, cond, List, [], ◌∷◌, ◌++◌, map, inl, inr, refl, subst, sym}
+-- What holds of each name, and of each different one.
+use Rattle.std.proofs.Common.{◌≡◌, ℕ, Bool, true, false, cond, List, [], ◌∷◌, ◌++◌, inl, inr, refl, subst, sym}
 use Rattle.std.specs.List.{AllByRecursion, list_any}
 use Rattle.std.specs.Str.{bytes_eq}
 use Rattle.std.proofs.lemmas.Bool.{or_cases}
 use Rattle.std.proofs.lemmas.Slice.Eq.{bytes_eq-Decides}
+use Rattle.snl_facts.specs.Each.{each_front, each_rear}
 use Rattle.snl_walk.specs.Once.{once, once_after, with_new}
-
-pub each_front : {X : Type 0} (P : X → Type 0) (xs ys : List X) → AllByRecursion P (xs ++ ys) → AllByRecursion P xs
-each_front P [] ys h = tt
-each_front P (x ∷ xs) ys h = (h.0, each_front P xs ys h.1)
-
-pub each_back : {X : Type 0} (P : X → Type 0) (xs ys : List X) → AllByRecursion P (xs ++ ys) → AllByRecursion P ys
-each_back P [] ys h = h
-each_back P (x ∷ xs) ys h = each_back P xs ys h.1
-
-pub each_join : {X : Type 0} (P : X → Type 0) (xs ys : List X) → AllByRecursion P xs → AllByRecursion P ys → AllByRecursion P (xs ++ ys)
-each_join P [] ys f b = b
-each_join P (x ∷ xs) ys f b = (f.0, each_join P xs ys f.1 b)
-
-pub each_weaker : {X : Type 0} (P Q : X → Type 0) → ((x : X) → P x → Q x) → (xs : List X) → AllByRecursion P xs → AllByRecursion Q xs
-each_weaker P Q f [] h = tt
-each_weaker P Q f (x ∷ xs) h = (f x h.0, each_weaker P Q f xs h.1)
-
--- what holds of what is made of each
-pub each_of : {X Y : Type 0} (P : Y → Type 0) (f : X → Y) (xs : List X) → AllByRecursion (λ x. P (f x)) xs → AllByRecursion P (map f xs)
-each_of P f [] h = tt
-each_of P f (x ∷ xs) h = (h.0, each_of P f xs h.1)
-
--- what holds of the images
-pub each_image : {X Y : Type 0} (P : Y → Type 0) (f : X → Y) (xs : List X) → AllByRecursion P (map f xs) → AllByRecursion (λ x. P (f x)) xs
-each_image P f [] h = tt
-each_image P f (x ∷ xs) h = (h.0, each_image P f xs h.1)
 
 -- what holds of names holds of one that is among them
 pub each_among : (P : List ℕ → Type 0) (name : List ℕ) (names : List (List ℕ)) → list_any (bytes_eq name) names ≡ true → AllByRecursion P names → P name
@@ -42,7 +17,7 @@ each_among P name (n ∷ ns) is h =
 taken : (P : List ℕ → Type 0) (name : List ℕ) (names : List (List ℕ)) (b : Bool) → list_any (bytes_eq name) names ≡ b →
     AllByRecursion P (cond b names (names ++ name ∷ [])) → AllByRecursion P names × P name
 taken P name names true is h = (h, each_among P name names is h)
-taken P name names false is h = (each_front P names (name ∷ []) h, (each_back P names (name ∷ []) h).0)
+taken P name names false is h = (each_front P names (name ∷ []) h, (each_rear P names (name ∷ []) h).0)
 
 each_once_after : (P : List ℕ → Type 0) (found names : List (List ℕ)) → AllByRecursion P (once_after found names) → AllByRecursion P found × AllByRecursion P names
 each_once_after P found [] h = (h, tt)

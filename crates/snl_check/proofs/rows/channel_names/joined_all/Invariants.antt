@@ -1,6 +1,6 @@
 use Rattle.std.proofs.Common.{◌≡◌, ◌++◌, drop}
 use Rattle.snl_check.specs.Channels.{joined}
-use Rattle.snl_check.proofs.rows.channel_names.joined.Given as goal
+use Rattle.snl_check.proofs.rows.channel_names.joined_all.Given as goal
 
 -- what is joined so far and that of the rest is all
 abbrev pub invariant-loop-string : goal.invariant-loop-string
