@@ -1,7 +1,7 @@
 //! Reads lists, element after element. The elements are of any type, so that the proof of what is
 //! freed on the way out looks into no tree.
 
-ghost use Rattle.std.specs.Prelude.{◌≡◌, ◌∷◌, ◌++◌, [], IfOk, Option};
+ghost use Rattle.std.specs.Prelude.{Option};
 ghost use Rattle.snl_syntax.specs.Elements.{IsReadBy};
 ghost use Rattle.snl_syntax.specs.Steps as read;
 ghost use Rattle.snl_syntax.specs.Steps.{Reader, ReadsFrom};
