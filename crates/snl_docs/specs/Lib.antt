@@ -1,6 +1,7 @@
 pub mod Documents
 pub mod Found
 pub mod Held
+pub mod Known
 pub mod Notices
 pub mod Replies
 pub mod Served

@@ -13,6 +13,7 @@ mod document;
 mod documents;
 mod drafts;
 mod found;
+mod laws;
 mod phase;
 mod replies;
 mod source;
@@ -21,4 +22,5 @@ mod text;
 mod turn;
 
 pub use docs::Docs;
+pub use laws::{others_stay, published_by_text};
 pub use turn::Turn;
