@@ -81,7 +81,8 @@ nothing_told : (P : Reply → Type 0) (ready : Bool) → All P (cond ready [] []
 nothing_told P true = All-nil P
 nothing_told P false = All-nil P
 
-note_by_text : (s : Served) (noted : Noted) → All (IsByText (after_note s noted)) (told_note s noted)
+note_by_text : (s : Served) (noted : Noted) →
+    All (IsByText (after_note s noted)) (told_note s noted)
 note_by_text s Initialized =
     ready_or_not s s.docs [] (All-nil (IsByText (with_docs s s.docs))) (is_ready s.phase)
 note_by_text s Exit = nothing_told (IsByText (after_note s Exit)) (is_ready s.phase)

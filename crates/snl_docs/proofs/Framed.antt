@@ -18,9 +18,11 @@ publish_framed found uri quoted_uri version is = rw is refl
 pub said_framed : (replies : List Reply) → flat_map framed (map body_of replies) ≡ said_of replies
 unfolding framed_reply said_of
 said_framed [] = refl
-said_framed (reply ∷ replies) = ap (λ (l : List ℕ). framed (body_of reply) ++ l) (said_framed replies)
+said_framed (reply ∷ replies) =
+    ap (λ (l : List ℕ). framed (body_of reply) ++ l) (said_framed replies)
 
-pub said_append : (first rest : List Reply) → said_of (first ++ rest) ≡ said_of first ++ said_of rest
+pub said_append : (first rest : List Reply) →
+    said_of (first ++ rest) ≡ said_of first ++ said_of rest
 unfolding said_of
 said_append first rest = flat_map-append framed_reply first rest
 

@@ -22,7 +22,8 @@ returns-in-Some-clause-said c =
 
 pub returns-in-None-clause-state : goal.returns-in-None-clause-state
 returns-in-None-clause-state c =
-    updated_missed c.args.uri.now lost c.args.documents.now c.find.result c.find.ensures c.in-None.is
+    updated_missed c.args.uri.now lost c.args.documents.now c.find.result c.find.ensures
+    c.in-None.is
 
 pub returns-in-None-clause-said : goal.returns-in-None-clause-said
 returns-in-None-clause-said c =
