@@ -1,12 +1,13 @@
-# Brings the program up to date. ./check reads this where something was changed since it was noted
-# what the program was built of. That is in crates/snl_cli/out/built: the paths, the checksums of
-# their files, and a time that is from before these were made.
+# Brings a program up to date. ./check reads this where something was changed since it was noted
+# what the program was built of, and ./lsp --build always. They name the program's crate (target),
+# the program, and the folder (built) in crates/$target/out that has what was noted: the paths, the
+# checksums of their files, and a time that is from before these were made.
 
-binary=crates/snl_cli/out/snl_cli
+binary=crates/$target/out/$target
 
 bring_up_to_date() {
     read_crates
-    find_built_on snl_cli
+    find_built_on "$target"
     sources=(crates.txt)
     # Proofs are no part of this: whatever becomes of them, a program that was proved stays proved.
     for crate in "${built_on[@]}"; do
@@ -16,7 +17,7 @@ bring_up_to_date() {
     done
     is_same && return
     take_lock
-    is_fresh || is_same || { . "$parts/crates.sh" && build; }
+    is_same || { . "$parts/crates.sh" && build; }
     exec {lock}>&-
 }
 
@@ -76,11 +77,11 @@ note() {
     printf '%s\n' "$2" > "$built/$1.$$" && mv "$built/$1.$$" "$built/$1"
 }
 
-# Waits while another check builds the program.
+# Waits while another build is under way, of whichever program.
 take_lock() {
     mkdir -p "$root/crates/snl_cli/out" && exec {lock}> "$root/crates/snl_cli/out/lock" || exit 2
     command -v flock > /dev/null || return 0
     flock -n "$lock" && return
-    say "another check builds the program, and this one waits for it"
+    say "another build is under way, and this one waits for it"
     flock "$lock"
 }

@@ -1,8 +1,8 @@
-# Proves the crates that the program is built on, and builds it. Crates that do not wait for each
+# Proves the crates that a program is built on, and builds it. Crates that do not wait for each
 # other are proved side by side. What is proved is kept in crates/*/out. build.sh reads this.
 
 # How long the first build takes, from a fresh clone.
-build_time="90 minutes of one processor's time"
+build_time=${build_time:-"90 minutes of one processor's time"}
 
 # Of each crate: how many crates wait for it one after another; when it was begun; its processes'
 # group and jobs while it is under way; how far it is; and whether it is proved.
@@ -132,10 +132,9 @@ prove() {
 
 work() {
     cd "$3/crates/$1" || return
-    if [ "$1" = snl_cli ]; then
-        # rt runs the program that it has built, here over a text without errors: then all went well
-        # at status 0.
-        rt run --jobs "$2" <<< $'edit 0 0 50\nprogram p ss a { state i { when () { } state i } }'
+    if [ "$1" = "$target" ]; then
+        # rt runs the program that it has built: all went well where that ends with status 0.
+        trial | rt run --jobs "$2"
     else
         rt check --jobs "$2" && rt lib --jobs "$2"
     fi
@@ -202,9 +201,9 @@ tell_all() {
         line+="; $crate ${far[$crate]}, $((SECONDS - begun[$crate])) s"
     done
     if [ -t 2 ]; then
-        printf '\r\033[Kcheck: %s' "${line:0:72}" >&2
+        printf '\r\033[K%s: %s' "$self" "${line:0:72}" >&2
     else
-        echo "check: $line" >&2
+        echo "$self: $line" >&2
         told=$((SECONDS + 30))
     fi
 }

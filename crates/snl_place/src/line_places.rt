@@ -68,9 +68,9 @@ pub fn place_by(encoding: Encoding, text: &[u8], ends: &[usize], offset: usize) 
     Place { line, character }
 }
 
-/// The place of an offset, from that of an earlier one: it counts on from there where both are on
-/// one line, and looks the line up where they aren't. So offsets that rise are counted once each,
-/// also in a text of one long line.
+/// The place of an offset, from that of another one: it counts on from there where the offset is
+/// after that one on its line, and looks the line up where it isn't. So offsets that rise are
+/// counted once each, also in a text of one long line.
 pub fn place_from(
     encoding: Encoding,
     text: &[u8],
@@ -81,13 +81,12 @@ pub fn place_from(
 ) -> Place
     requires lines { ends.now ≡ line_ends text.now }
     requires small { length text.now < 2 ^ 32 }
-    requires order { earlier ≤ offset }
     requires inside { offset ≤ length text.now }
     requires place { earlier_place ≡ place_in encoding (take earlier text.now) }
     ensures { result ≡ place_in encoding (take offset text.now) }
 {
     let line = earlier_place.line;
-    if is_ended(ends, line, offset) {
+    if offset < earlier || is_ended(ends, line, offset) {
         return place_by(encoding, text, ends, offset);
     }
     let more = units_in(encoding, &text[earlier..offset]);

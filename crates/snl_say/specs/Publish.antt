@@ -4,6 +4,7 @@ use Rattle.std.specs.List.{concat, flat_map}
 use Rattle.json.specs.Print.{quoted}
 use Rattle.serde_json.specs.Data.{Data, array, object, string, number, unsigned, member, Members, no_members, Items, no_items, item}
 use Rattle.snl_place.specs.declared.places.Place.{Place}
+use Rattle.snl_script.specs.Parts.{quoted as in_quotes}
 use Rattle.snl_say.specs.declared.diagnostics.Shown.{Shown}
 use Rattle.snl_say.specs.declared.severity.Severity.{Severity}
 use Rattle.snl_say.specs.declared.severity.Severity.TheVariants.{Error, Warning}
@@ -22,7 +23,7 @@ found_of s = record {
   stop = s.stop;
   severity = s.severity;
   code = s.code.now;
-  message = s.message.now;
+  message = s.message.now ++ in_quotes s.quoted.now;
 }
 
 -- ---- as JSON: the members of an object are in the order of their names

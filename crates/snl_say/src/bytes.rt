@@ -62,15 +62,22 @@ fn put_byte(out: &mut Vec<u8>, byte: u8) -> Result<(), AllocError>
     out.extend_from_slice(&[byte])
 }
 
-/// A string of JSON. Each byte of a message goes through this loop; nearly none has an escape. An
-/// `Err`, of memory, may leave a front of the bytes.
+/// The bytes of a string. Each byte of a message goes through this loop; nearly none has an escape.
+pub fn put_escaped(out: &mut Vec<u8>, bytes: &[u8]) -> Result<(), AllocError>
+    ensures { OnOk result (out.new.items ≡ out.old.items ++ escape bytes.now) }
+{
+    for byte in bytes {
+        put_byte(out, *byte)?;
+    }
+    Ok(())
+}
+
+/// A string of JSON. An `Err`, of memory, may leave a front of the bytes.
 pub fn put_quoted(out: &mut Vec<u8>, bytes: &[u8]) -> Result<(), AllocError>
     ensures { OnOk result (out.new.items ≡ out.old.items ++ quoted bytes.now) }
 {
     out.extend_from_slice(b"\"")?;
-    for byte in bytes {
-        put_byte(out, *byte)?;
-    }
+    put_escaped(out, bytes)?;
     out.extend_from_slice(b"\"")?;
     Ok(())
 }

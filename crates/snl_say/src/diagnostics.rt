@@ -1,18 +1,20 @@
 //! What is found in a document, as the notification `textDocument/publishDiagnostics`.
-//! In: places, codes and messages. Out: the bytes of the notification, after those that are there.
+//! In: places, codes, messages and what they quote. Out: the bytes of the notification, after those that are there.
 //! Knows nothing of texts, and of how places are counted in them.
 
 ghost use Rattle.std.specs.Prelude.{◌≡◌, ◌++◌, ◌∷◌, [], ℕ, List, Option, None, Some, OnOk, codes, flat_map, map};
-ghost use Rattle.json.specs.Print.{quoted};
+ghost use Rattle.json.specs.Print.{escape, quoted};
+ghost use Rattle.snl_script.specs.Parts.{quoted as in_quotes};
 ghost use Rattle.snl_say.specs.Publish.{Found, after_comma, found_of, item_text, items_text, place_text, publish_head, publish_with, range_text, severity_text, version_text};
 
-use crate::bytes::{put_all, put_quoted};
+use crate::bytes::{put_all, put_escaped, put_quoted};
 use crate::severity::Severity;
 use itoa::Buffer;
 use snl_place::Place;
 use std::alloc::AllocError;
 
 /// What is found in a document, from `start` up to `stop`. `code` is the name of the rule: `E10`.
+/// What the message quotes comes after it, where that is not empty.
 #[derive(Clone, Copy)]
 pub struct Shown<'a> {
     pub start: Place,
@@ -20,6 +22,7 @@ pub struct Shown<'a> {
     pub severity: Severity,
     pub code: &'a [u8],
     pub message: &'a [u8],
+    pub quoted: &'a [u8],
 }
 
 /// A place, as `{"character":CHARACTER,"line":LINE}`.
@@ -58,6 +61,32 @@ fn severity_text(severity: Severity) -> &'static [u8]
     }
 }
 
+/// What a message quotes, in a string of JSON: ` 'BYTES'`, where there are some.
+#[tactic(auto, unfolding(json::specs::Print::escape_byte))]
+fn put_in_quotes(out: &mut Vec<u8>, bytes: &[u8]) -> Result<(), AllocError>
+    ensures { OnOk result (out.new.items ≡ out.old.items ++ escape (in_quotes bytes.now)) }
+{
+    if bytes.is_empty() {
+        return Ok(());
+    }
+    out.extend_from_slice(b" '")?;
+    put_escaped(out, bytes)?;
+    out.extend_from_slice(b"'")?;
+    Ok(())
+}
+
+/// A message with what it quotes, as a string of JSON.
+fn put_message(out: &mut Vec<u8>, message: &[u8], bytes: &[u8]) -> Result<(), AllocError>
+    ensures { OnOk result (out.new.items ≡ out.old.items
+        ++ quoted (message.now ++ in_quotes bytes.now)) }
+{
+    out.extend_from_slice(b"\"")?;
+    put_escaped(out, message)?;
+    put_in_quotes(out, bytes)?;
+    out.extend_from_slice(b"\"")?;
+    Ok(())
+}
+
 #[tactic(auto, unfolding(crate::specs::Publish::item_text))]
 fn put_item(out: &mut Vec<u8>, shown: &Shown<'_>) -> Result<(), AllocError>
     ensures { OnOk result (out.new.items ≡ out.old.items ++ item_text (found_of shown.now)) }
@@ -65,7 +94,7 @@ fn put_item(out: &mut Vec<u8>, shown: &Shown<'_>) -> Result<(), AllocError>
     out.extend_from_slice(b"{\"code\":")?;
     put_quoted(out, shown.code)?;
     out.extend_from_slice(b",\"message\":")?;
-    put_quoted(out, shown.message)?;
+    put_message(out, shown.message, shown.quoted)?;
     out.extend_from_slice(b",\"range\":")?;
     put_range(out, shown.start, shown.stop)?;
     out.extend_from_slice(severity_text(shown.severity))?;

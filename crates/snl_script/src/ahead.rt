@@ -90,7 +90,27 @@ impl Ahead {
         ensures turns { IsErrOf result ReadFault.TooManyTurns → (16777216 ≤ calls_of script.old) × (calls_of script.new ≡ calls_of script.old) }
         ensures failed { failed_of script.new ≡ (failed_of script.old || is_failed_read result) }
     {
-        if script.calls() >= MAX_READS {
+        self.read_more_within(script, MAX_READS)
+    }
+
+    /// The same, for a reader that may be read `limit` times.
+    pub fn read_more_within<R: Read>(
+        &mut self,
+        script: &mut Watched<R>,
+        limit: u64,
+    ) -> Result<bool, ReadFault>
+        ensures gains { Gains self.old self.new (R.remaining (inner_of script.old)) (R.remaining (inner_of script.new)) }
+        ensures few { length self.new ≤ length self.old + 4096 }
+        ensures more { result ≡ Ok true → length self.old < length self.new }
+        ensures end { result ≡ Ok false → IsAtEnd (R.remaining (inner_of script.new)) }
+        ensures same { result ≢ Ok true → self.new ≡ self.old }
+        ensures calls { OnOk result (calls_of script.new ≡ calls_of script.old + 1) }
+        ensures most { calls_of script.old ≤ limit → calls_of script.new ≤ limit }
+        ensures turns { IsErrOf result ReadFault.TooManyTurns
+            → (limit ≤ calls_of script.old) × (calls_of script.new ≡ calls_of script.old) }
+        ensures failed { failed_of script.new ≡ (failed_of script.old || is_failed_read result) }
+    {
+        if script.calls() >= limit {
             return Err(ReadFault::TooManyTurns);
         }
         self.close_up();

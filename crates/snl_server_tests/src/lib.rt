@@ -9,4 +9,6 @@ mod asked;
 #[cfg(test)]
 mod heard;
 #[cfg(test)]
+mod served;
+#[cfg(test)]
 mod words;

@@ -51,6 +51,7 @@ impl Session {
     ghost use Rattle.snl_items.specs.Fresh.{fresh_items, fresh_pieces};
     ghost use Rattle.snl_listing.specs.Lister.{IsFor};
     ghost use Rattle.snl_session.specs.Listing.{listing_text};
+    ghost use Rattle.snl_kept.specs.Kept.{IsKept};
     ghost use Rattle.snl_kept.specs.Stirred.{stirred};
     ghost use Rattle.snl_kept.specs.Tables.{tables_in};
 
@@ -85,6 +86,13 @@ impl Session {
         ensures size { length result.now ≤ limit }
     {
         self.text.as_slice()
+    }
+
+    /// What is kept of the text, for whoever asks more of it.
+    pub fn kept(&self) -> &Kept
+        ensures { IsKept self.now result.now }
+    {
+        &self.kept
     }
 
     /// The diagnostics of the text. They rise by offset, and at one offset by code: no two have one

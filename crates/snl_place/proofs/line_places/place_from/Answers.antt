@@ -37,4 +37,4 @@ returns c =
     let no : false ≡ true = c.if-is_ended.ensures.1 (subst P (sym c.requires.lines) h) in
     cc in
     went_on c.args.encoding text c.args.earlier c.args.offset c.args.earlier_place
-    c.units_in-more.result c.requires.order c.requires.place none c.units_in-more.ensures
+    c.units_in-more.result c.if-offset-earlier.false c.requires.place none c.units_in-more.ensures

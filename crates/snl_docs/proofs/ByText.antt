@@ -1,0 +1,152 @@
+-- What is published is found in the text that is kept.
+use Rattle.std.proofs.Common.{◌≡◌, ℕ, Bool, true, false, cond, List, [], ◌∷◌, ◌++◌, map, Option, None, Some, refl, sym, ap, ap₂, ◌∙◌, All}
+use Rattle.std.specs.List.{find, flat_map}
+use Rattle.std.specs.Option.{option_and_then, option_map_or}
+use Rattle.std.proofs.lemmas.List.Elements.{All-append, All-cons, All-nil}
+use Rattle.serde_json.specs.Data.{Data}
+use Rattle.snl_place.specs.declared.places.Encoding.{Encoding}
+use Rattle.snl_hear.specs.Heard.{Heard, NoJson, NoMessage, Response, Request, Notification}
+use Rattle.snl_hear.specs.Notifications.{Noted, Initialized, Exit, DidOpen, DidChange, DidClose, InvalidParams, Other}
+use Rattle.snl_hear.specs.Requests.{Asked, Initialize, Shutdown, DocumentSymbol, Definition, Hover, MethodNotFound}
+use Rattle.snl_hear.specs.Requests as asked
+use Rattle.snl_docs.specs.declared.phase.Phase.{Phase}
+use Rattle.snl_docs.specs.declared.phase.Phase.TheVariants.{New, Ready, Shut, Gone}
+use Rattle.snl_docs.specs.declared.standing.Standing.{Standing}
+use Rattle.snl_docs.specs.declared.standing.Standing.TheVariants.{Checked, Large, Lost}
+use Rattle.snl_docs.specs.Documents.{Doc, after_changes, is_named, lost, opened, put, updated, without}
+use Rattle.snl_docs.specs.Known.{IsByText, document_of, text_of}
+use Rattle.snl_docs.specs.Replies.{Reply, Publish}
+use Rattle.snl_docs.specs.Served.{Served, after, after_heard, after_note, answer_in, is_ready, replied, replies_to, told_note, told_of, told_of_all, told_of_named, with_docs}
+use Rattle.snl_docs.specs.Texts.{standing}
+use Rattle.snl_docs.specs.Told.{found_of_text, notices, stays, told, told_after}
+use Rattle.snl_docs.specs.Turns.{Turn, heard_at}
+use Rattle.snl_docs.proofs.Known.{lost_there, named_so, not_there, put_there, updated_there}
+
+notices_by_text : (s : Served) (uri : List ℕ) (now : Standing) →
+    All (IsByText s) (notices uri now)
+notices_by_text s uri Checked = All-nil (IsByText s)
+notices_by_text s uri Large = All-cons (IsByText s) _ [] tt (All-nil (IsByText s))
+notices_by_text s uri Lost = All-cons (IsByText s) _ [] tt (All-nil (IsByText s))
+
+-- A document as it is kept.
+pub told_by_text : (s : Served) (d : Doc) → text_of d.uri s.docs ≡ d.text →
+    All (IsByText s) (told s.encoding d)
+told_by_text s d kept =
+    All-cons (IsByText s) _ _ (ap (found_of_text s.encoding) (sym kept))
+    (notices_by_text s d.uri (standing d.text))
+
+pub told_after_by_text : (s : Served) (before : Standing) (d : Doc) →
+    text_of d.uri s.docs ≡ d.text → All (IsByText s) (told_after s.encoding before d)
+told_after_by_text s before d kept = by (stays before (standing d.text))
+  where
+    by : (b : Bool) → All (IsByText s) (cond b [] (told s.encoding d))
+    by true = All-nil (IsByText s)
+    by false = told_by_text s d kept
+
+-- The document of a URI after a change of it.
+pub named_by_text : (s : Served) (uri : List ℕ) (change : Doc → Doc) →
+    ((d : Doc) → (change d).uri ≡ d.uri) →
+    All (IsByText (with_docs s (updated uri change s.docs)))
+    (told_of_named s.encoding uri change s.docs)
+named_by_text s uri change name = by (document_of uri s.docs) refl
+  where
+    by : (o : Option Doc) → document_of uri s.docs ≡ o →
+        All (IsByText (with_docs s (updated uri change s.docs)))
+        (option_map_or (told_of s.encoding change) o [])
+    by None e = All-nil (IsByText (with_docs s (updated uri change s.docs)))
+    by (Some d) e =
+        told_after_by_text (with_docs s (updated uri change s.docs)) (standing d.text) (change d)
+        (ap (λ (u : List ℕ). text_of u (updated uri change s.docs))
+        (name d ∙ named_so uri s.docs d e)
+        ∙ ap (option_and_then (λ (doc : Doc). doc.text))
+        (updated_there uri change s.docs d e (name d)))
+
+-- All of them, where each is lost.
+pub all_by_text : (s : Served) (docs : List Doc) → ((uri : List ℕ) → text_of uri s.docs ≡ None) →
+    All (IsByText s) (told_of_all s.encoding docs)
+all_by_text s [] none = All-nil (IsByText s)
+all_by_text s (d ∷ docs) none =
+    All-append (IsByText s) (told_of s.encoding lost d) (told_of_all s.encoding docs)
+    (told_after_by_text s (standing d.text) (lost d) (none d.uri)) (all_by_text s docs none)
+
+-- ---- by the message
+
+ready_or_not : (s : Served) (docs : List Doc) (replies : List Reply) →
+    All (IsByText (with_docs s docs)) replies → (ready : Bool) →
+    All (IsByText (cond ready (with_docs s docs) s)) (cond ready replies [])
+ready_or_not s docs replies all true = all
+ready_or_not s docs replies all false = All-nil (IsByText s)
+
+nothing_told : (P : Reply → Type 0) (ready : Bool) → All P (cond ready [] [])
+nothing_told P true = All-nil P
+nothing_told P false = All-nil P
+
+note_by_text : (s : Served) (noted : Noted) →
+    All (IsByText (after_note s noted)) (told_note s noted)
+note_by_text s Initialized =
+    ready_or_not s s.docs [] (All-nil (IsByText (with_docs s s.docs))) (is_ready s.phase)
+note_by_text s Exit = nothing_told (IsByText (after_note s Exit)) (is_ready s.phase)
+note_by_text s (DidOpen uri version text) =
+    let doc : Doc = opened uri version text in
+    ready_or_not s (put doc s.docs) (told s.encoding doc)
+    (told_by_text (with_docs s (put doc s.docs)) doc
+    (ap (option_and_then (λ (d : Doc). d.text)) (put_there doc s.docs)))
+    (is_ready s.phase)
+note_by_text s (DidChange uri version changes) =
+    let change : Doc → Doc = after_changes s.encoding version changes in
+    ready_or_not s (updated uri change s.docs) (told_of_named s.encoding uri change s.docs)
+    (named_by_text s uri change (λ d. refl)) (is_ready s.phase)
+note_by_text s (DidClose uri) =
+    let now : Served = with_docs s (without uri s.docs) in
+    ready_or_not s (without uri s.docs) (Publish [] uri None ∷ [])
+    (All-cons (IsByText now) (Publish [] uri None) []
+    (ap (λ (o : Option Doc). found_of_text s.encoding (option_and_then (λ (d : Doc). d.text) o))
+    (sym (not_there uri s.docs)))
+    (All-nil (IsByText now)))
+    (is_ready s.phase)
+note_by_text s (InvalidParams None) =
+    ready_or_not s (map lost s.docs) (told_of_all s.encoding s.docs)
+    (all_by_text (with_docs s (map lost s.docs)) s.docs (λ uri. lost_there uri s.docs))
+    (is_ready s.phase)
+note_by_text s (InvalidParams (Some uri)) =
+    ready_or_not s (updated uri lost s.docs) (told_of_named s.encoding uri lost s.docs)
+    (named_by_text s uri lost (λ d. refl)) (is_ready s.phase)
+note_by_text s Other =
+    ready_or_not s s.docs [] (All-nil (IsByText (with_docs s s.docs))) (is_ready s.phase)
+
+-- An answer to a request publishes nothing.
+answer_by_text : (s : Served) (phase : Phase) (id : Data) (asked : Asked) →
+    IsByText s (answer_in phase id asked)
+answer_by_text s New id (Initialize encoding) = tt
+answer_by_text s New id Shutdown = tt
+answer_by_text s New id (DocumentSymbol uri) = tt
+answer_by_text s New id (Definition at) = tt
+answer_by_text s New id (Hover at) = tt
+answer_by_text s New id asked.InvalidParams = tt
+answer_by_text s New id MethodNotFound = tt
+answer_by_text s Ready id (Initialize encoding) = tt
+answer_by_text s Ready id Shutdown = tt
+answer_by_text s Ready id (DocumentSymbol uri) = tt
+answer_by_text s Ready id (Definition at) = tt
+answer_by_text s Ready id (Hover at) = tt
+answer_by_text s Ready id asked.InvalidParams = tt
+answer_by_text s Ready id MethodNotFound = tt
+answer_by_text s Shut id asked = tt
+answer_by_text s (Gone clean) id asked = tt
+
+heard_by_text : (s : Served) (heard : Heard) →
+    All (IsByText (after_heard s heard)) (replies_to s heard)
+heard_by_text s NoJson =
+    let now : Served = with_docs s (map lost s.docs) in
+    All-cons (IsByText now) _ _ tt (all_by_text now s.docs (λ uri. lost_there uri s.docs))
+heard_by_text s NoMessage = All-cons (IsByText s) _ [] tt (All-nil (IsByText s))
+heard_by_text s Response = All-nil (IsByText s)
+heard_by_text s (Request id asked) =
+    let now : Served = after_heard s (Request id asked) in
+    All-cons (IsByText now) (answer_in s.phase id asked) [] (answer_by_text now s.phase id asked)
+    (All-nil (IsByText now))
+heard_by_text s (Notification noted) = note_by_text s noted
+
+pub replied_by_text : (s : Served) (turn : Turn) → All (IsByText (after s turn)) (replied s turn)
+unfolding after
+replied_by_text s turn = heard_by_text s (heard_at turn)

@@ -1,0 +1,171 @@
+-- What the server keeps from one message to the next, and what it answers.
+use Rattle.std.specs.Prelude.{ℕ, List, [], ◌∷◌, ◌++◌, Bool, true, false, Option, Some, None, find, flat_map, map, if◌then◌else◌}
+use Rattle.std.specs.Option.{option_map_or}
+use Rattle.serde_json.specs.Data.{Data, null}
+use Rattle.snl_place.specs.declared.places.Encoding.{Encoding}
+use Rattle.snl_place.specs.declared.places.Encoding.TheVariants.{Utf16}
+use Rattle.snl_hear.specs.Heard.{Heard, NoJson, NoMessage, Response, Request, Notification}
+use Rattle.snl_hear.specs.Notifications.{Noted, Initialized, Exit, DidOpen, DidChange, DidClose, InvalidParams, Other}
+use Rattle.snl_hear.specs.Requests.{Asked, Initialize, Shutdown, DocumentSymbol, Definition, Hover, MethodNotFound}
+use Rattle.snl_hear.specs.Requests as asked
+use Rattle.snl_say.specs.declared.answers.ErrorCode.TheVariants as error
+use Rattle.snl_docs.specs.declared.phase.Phase.{Phase}
+use Rattle.snl_docs.specs.declared.phase.Phase.TheVariants.{New, Ready, Shut, Gone}
+use Rattle.snl_docs.specs.Documents.{Doc, after_changes, is_named, lost, opened, put, updated, without}
+use Rattle.snl_docs.specs.Replies.{Reply, Publish, AnswerError, AnswerInitialize, AnswerNull, body_of}
+use Rattle.snl_docs.specs.Texts.{standing}
+use Rattle.snl_docs.specs.Told.{told, told_after}
+use Rattle.snl_docs.specs.Turns.{Turn, heard_at}
+
+-- The documents that are open, how places are counted, and how far the talk is.
+pub record Served : Type 0 where
+  pub docs : List Doc
+  pub encoding : Encoding
+  pub phase : Phase
+
+unfoldable pub start : Served
+start = record { docs = []; encoding = Utf16; phase = New }
+
+-- It ended: `exit` came, after `shutdown` if it is clean.
+abbrev pub ended_in : Phase → Option Bool
+ended_in New = None
+ended_in Ready = None
+ended_in Shut = None
+ended_in (Gone clean) = Some clean
+
+unfoldable pub ended_of : Served → Option Bool
+ended_of s = ended_in s.phase
+
+abbrev pub is_ready : Phase → Bool
+is_ready New = false
+is_ready Ready = true
+is_ready Shut = false
+is_ready (Gone clean) = false
+
+abbrev pub is_shut : Phase → Bool
+is_shut New = false
+is_shut Ready = false
+is_shut Shut = true
+is_shut (Gone clean) = clean
+
+abbrev pub with_docs : Served → List Doc → Served
+with_docs s docs = record { docs = docs; encoding = s.encoding; phase = s.phase }
+
+abbrev pub in_phase : Served → Phase → Served
+in_phase s phase = record { docs = s.docs; encoding = s.encoding; phase = phase }
+
+-- ---- requests
+
+-- Before `initialize`.
+abbrev pub asked_first : Served → Asked → Served
+asked_first s (Initialize encoding) =
+    record { docs = s.docs; encoding = encoding; phase = Ready }
+asked_first s _ = s
+
+abbrev pub asked_ready : Served → Asked → Served
+asked_ready s Shutdown = in_phase s Shut
+asked_ready s _ = s
+
+abbrev pub after_request : Phase → Served → Asked → Served
+after_request New s asked = asked_first s asked
+after_request Ready s asked = asked_ready s asked
+after_request Shut s asked = s
+after_request (Gone clean) s asked = s
+
+abbrev pub answer_first : (id : Data) → Asked → Reply
+answer_first id (Initialize encoding) = AnswerInitialize id encoding
+answer_first id _ = AnswerError id error.ServerNotInitialized
+
+abbrev pub answer_ready : (id : Data) → Asked → Reply
+answer_ready id (Initialize encoding) = AnswerError id error.InvalidRequest
+answer_ready id Shutdown = AnswerNull id
+answer_ready id asked.InvalidParams = AnswerError id error.InvalidParams
+answer_ready id _ = AnswerError id error.MethodNotFound
+
+-- One answer for each request.
+abbrev pub answer_in : Phase → (id : Data) → Asked → Reply
+answer_in New id asked = answer_first id asked
+answer_in Ready id asked = answer_ready id asked
+answer_in Shut id asked = AnswerError id error.InvalidRequest
+answer_in (Gone clean) id asked = AnswerError id error.InvalidRequest
+
+-- ---- what is told of documents
+
+-- What is told of the document of this URI after a change, if it is open.
+abbrev pub told_of : Encoding → (change : Doc → Doc) → Doc → List Reply
+told_of encoding change doc = told_after encoding (standing doc.text) (change doc)
+
+abbrev pub told_of_named : Encoding → (uri : List ℕ) → (change : Doc → Doc) → List Doc → List Reply
+told_of_named encoding uri change docs =
+    option_map_or (told_of encoding change) (find (is_named uri) docs) []
+
+abbrev pub told_of_all : Encoding → List Doc → List Reply
+told_of_all encoding docs = flat_map (told_of encoding lost) docs
+
+abbrev pub lost_by : (uri : Option (List ℕ)) → List Doc → List Doc
+lost_by None docs = map lost docs
+lost_by (Some uri) docs = updated uri lost docs
+
+abbrev pub told_of_lost : Encoding → (uri : Option (List ℕ)) → List Doc → List Reply
+told_of_lost encoding None docs = told_of_all encoding docs
+told_of_lost encoding (Some uri) docs = told_of_named encoding uri lost docs
+
+-- ---- notifications between `initialize` and `shutdown`
+
+abbrev pub docs_after : Encoding → List Doc → Noted → List Doc
+docs_after encoding docs Initialized = docs
+docs_after encoding docs Exit = docs
+docs_after encoding docs (DidOpen uri version text) = put (opened uri version text) docs
+docs_after encoding docs (DidChange uri version changes) =
+    updated uri (after_changes encoding version changes) docs
+docs_after encoding docs (DidClose uri) = without uri docs
+docs_after encoding docs (InvalidParams uri) = lost_by uri docs
+docs_after encoding docs Other = docs
+
+abbrev pub told_by : Encoding → List Doc → Noted → List Reply
+told_by encoding docs Initialized = []
+told_by encoding docs Exit = []
+told_by encoding docs (DidOpen uri version text) = told encoding (opened uri version text)
+told_by encoding docs (DidChange uri version changes) =
+    told_of_named encoding uri (after_changes encoding version changes) docs
+told_by encoding docs (DidClose uri) = Publish [] uri None ∷ []
+told_by encoding docs (InvalidParams uri) = told_of_lost encoding uri docs
+told_by encoding docs Other = []
+
+-- At other times nothing is done for one but `exit`.
+abbrev pub after_note : Served → Noted → Served
+after_note s Exit = in_phase s (Gone (is_shut s.phase))
+after_note s noted =
+    if is_ready s.phase then with_docs s (docs_after s.encoding s.docs noted) else s
+
+abbrev pub told_note : Served → Noted → List Reply
+told_note s noted = if is_ready s.phase then told_by s.encoding s.docs noted else []
+
+-- ---- messages
+
+-- What is no JSON can have been of any document.
+abbrev pub after_heard : Served → Heard → Served
+after_heard s NoJson = with_docs s (map lost s.docs)
+after_heard s NoMessage = s
+after_heard s Response = s
+after_heard s (Request id asked) = after_request s.phase s asked
+after_heard s (Notification noted) = after_note s noted
+
+abbrev pub replies_to : Served → Heard → List Reply
+replies_to s NoJson = AnswerError null error.ParseError ∷ told_of_all s.encoding s.docs
+replies_to s NoMessage = AnswerError null error.InvalidRequest ∷ []
+replies_to s Response = []
+replies_to s (Request id asked) = answer_in s.phase id asked ∷ []
+replies_to s (Notification noted) = told_note s noted
+
+-- What is kept after a message.
+unfoldable pub after : Served → Turn → Served
+after s turn = after_heard s (heard_at turn)
+
+-- What is said to it, in order.
+abbrev pub replied : Served → Turn → List Reply
+replied s turn = replies_to s (heard_at turn)
+
+-- The bodies of these.
+unfoldable pub replies : Served → Turn → List (List ℕ)
+replies s turn = map body_of (replied s turn)

@@ -1,0 +1,219 @@
+//! What a client's messages do, and what is answered.
+//! In: one message after another. Out: what is said to each, after the bytes that are there.
+//! Knows nothing of readers and writers.
+
+ghost use Rattle.std.specs.Prelude.{◌≡◌, ◌++◌, OnOk, flat_map};
+ghost use Rattle.snl_frame.specs.Framed.{framed};
+ghost use Rattle.snl_hear.specs.Heard.{heard_of};
+ghost use Rattle.snl_hear.specs.Notifications.{noted_of};
+ghost use Rattle.snl_hear.specs.Requests.{asked_of};
+ghost use Rattle.snl_say.specs.Answers.{id_data};
+ghost use Rattle.snl_docs.specs.Replies.{framed_reply, said_of};
+ghost use Rattle.snl_docs.specs.Served.{answer_ready};
+
+use crate::document::Document;
+use crate::documents::{change, close, lose, lose_all, open};
+use crate::phase::Phase;
+use crate::replies::{say_error, say_initialize, say_null};
+use crate::turn::Turn;
+use snl_cut::OutOfMemory;
+use snl_hear::{Body, Message, Notification, Request};
+use snl_place::Encoding;
+use snl_say::{ErrorCode, Id};
+use std::alloc::{AllocError, Global};
+use std::marker::Model;
+
+/// What is kept from one message to the next: the documents that are open, how their places are
+/// counted, and how far the talk is.
+#[derive(Drop)]
+pub struct Docs {
+    documents: Vec<Document>,
+    encoding: Encoding,
+    phase: Phase,
+}
+
+impl Model for Docs {
+    ghost use Rattle.snl_docs.specs.Served.{Served};
+
+    ghost Value = { Served };
+
+    ghost view = { λ d. record {
+      docs = d.documents.items;
+      encoding = d.encoding;
+      phase = d.phase;
+    } };
+}
+
+impl Docs {
+    ghost use Rattle.snl_docs.specs.Served.{after, after_heard, after_note, after_request, answer_in, answer_first, asked_first, docs_after, ended_of, replies, replies_to, start, told_by, told_note, with_docs};
+    ghost use Rattle.snl_docs.specs.Turns.{turn_of};
+
+    /// Nothing is open, and `initialize` is to come.
+    #[tactic(auto, unfolding(crate::specs::Served::start))]
+    pub fn new(alloc: Global) -> Docs
+        ensures { result ≡ start }
+    {
+        Docs {
+            documents: Vec::new(alloc),
+            encoding: Encoding::Utf16,
+            phase: Phase::New,
+        }
+    }
+
+    /// Answers a message. After an `Err`, which is want of memory, nothing is known of what is kept,
+    /// and what is said may be cut short: whoever asks is to end the talk.
+    #[tactic(auto, using(crate::proofs::Framed::said_framed), unfolding(crate::specs::Served::after, crate::specs::Served::replies))]
+    pub fn answer(&mut self, turn: Turn<'_>, said: &mut Vec<u8>) -> Result<(), OutOfMemory>
+        ensures state { OnOk result (self.new ≡ after self.old (turn_of turn.entry)) }
+        ensures said { OnOk result (said.new.items ≡ said.old.items
+            ++ flat_map framed (replies self.old (turn_of turn.entry))) }
+    {
+        let Turn::Body(bytes) = turn else {
+            return self.hear(Message::NoJson, said);
+        };
+        let alloc = *said.allocator();
+        let body = Body::read(alloc, bytes)?;
+        let message = body.message(alloc)?;
+        self.hear(message, said)
+    }
+
+    /// Whether the talk ended after `shutdown`, once `exit` came.
+    #[tactic(auto, unfolding(crate::specs::Served::ended_of))]
+    pub fn ended(&self) -> Option<bool>
+        ensures { result ≡ ended_of self.now }
+    {
+        self.phase.ended()
+    }
+
+    #[tactic(auto, unfolding(crate::specs::Replies::said_of))]
+    fn hear(&mut self, message: Message<'_>, said: &mut Vec<u8>) -> Result<(), OutOfMemory>
+        ensures state { OnOk result (self.new ≡ after_heard self.old (heard_of message.entry)) }
+        ensures said { OnOk result (said.new.items ≡ said.old.items
+            ++ said_of (replies_to self.old (heard_of message.entry))) }
+    {
+        match message {
+            Message::NoJson => {
+                say_error(said, None, ErrorCode::ParseError)?;
+                lose_all(&mut self.documents, self.encoding, said)
+            }
+            Message::NoMessage => {
+                say_error(said, None, ErrorCode::InvalidRequest)?;
+                Ok(())
+            }
+            Message::Response => Ok(()),
+            Message::Request { id, request } => {
+                self.request(id, request, said)?;
+                Ok(())
+            }
+            Message::Notification(told) => self.note(told, said),
+        }
+    }
+
+    fn request(
+        &mut self,
+        id: Id<'_>,
+        request: Request<'_>,
+        said: &mut Vec<u8>,
+    ) -> Result<(), AllocError>
+        ensures state { self.new ≡ after_request self.old.phase self.old (asked_of request.entry) }
+        ensures said { OnOk result (said.new.items ≡ said.old.items
+            ++ framed_reply (answer_in self.old.phase (id_data id.entry)
+            (asked_of request.entry))) }
+    {
+        match self.phase {
+            Phase::New => self.request_first(id, request, said),
+            Phase::Ready => {
+                if let Request::Shutdown = request {
+                    self.phase = Phase::Shut;
+                }
+                answer_ready(said, id, request)
+            }
+            Phase::Shut | Phase::Gone(_) => say_error(said, Some(id), ErrorCode::InvalidRequest),
+        }
+    }
+
+    /// A request before `initialize`, or that one.
+    fn request_first(
+        &mut self,
+        id: Id<'_>,
+        request: Request<'_>,
+        said: &mut Vec<u8>,
+    ) -> Result<(), AllocError>
+        ensures state { self.new ≡ asked_first self.old (asked_of request.entry) }
+        ensures said { OnOk result (said.new.items ≡ said.old.items
+            ++ framed_reply (answer_first (id_data id.entry) (asked_of request.entry))) }
+    {
+        match request {
+            Request::Initialize(encoding) => {
+                self.encoding = encoding;
+                self.phase = Phase::Ready;
+                say_initialize(said, id, encoding)
+            }
+            Request::Shutdown
+            | Request::DocumentSymbol { .. }
+            | Request::Definition(_)
+            | Request::Hover(_)
+            | Request::InvalidParams
+            | Request::MethodNotFound => {
+                say_error(said, Some(id), ErrorCode::ServerNotInitialized)
+            }
+        }
+    }
+
+    #[tactic(auto, unfolding(crate::specs::Replies::said_of))]
+    fn note(&mut self, told: Notification<'_>, said: &mut Vec<u8>) -> Result<(), OutOfMemory>
+        ensures state { OnOk result (self.new ≡ after_note self.old (noted_of told.entry)) }
+        ensures said { OnOk result (said.new.items ≡ said.old.items
+            ++ said_of (told_note self.old (noted_of told.entry))) }
+    {
+        if let Notification::Exit = told {
+            self.phase = Phase::Gone(self.phase.is_shut());
+            return Ok(());
+        }
+        if !self.phase.is_ready() {
+            return Ok(());
+        }
+        self.note_ready(told, said)
+    }
+
+    /// A notification between `initialize` and `shutdown`.
+    fn note_ready(&mut self, told: Notification<'_>, said: &mut Vec<u8>) -> Result<(), OutOfMemory>
+        ensures state { OnOk result (self.new ≡ with_docs self.old
+            (docs_after self.old.encoding self.old.docs (noted_of told.entry))) }
+        ensures said { OnOk result (said.new.items ≡ said.old.items
+            ++ said_of (told_by self.old.encoding self.old.docs (noted_of told.entry))) }
+    {
+        let encoding = self.encoding;
+        let documents = &mut self.documents;
+        match told {
+            Notification::DidOpen { uri, version, text } => {
+                open(documents, encoding, uri, version, text, said)
+            }
+            Notification::DidChange {
+                uri,
+                version,
+                changes,
+            } => change(documents, encoding, uri, version, &changes, said),
+            Notification::DidClose { uri } => close(documents, uri, said),
+            Notification::InvalidParams { uri: Some(uri) } => lose(documents, encoding, uri, said),
+            Notification::InvalidParams { uri: None } => lose_all(documents, encoding, said),
+            Notification::Initialized | Notification::Exit | Notification::Other => Ok(()),
+        }
+    }
+}
+
+/// The answer to a request between `initialize` and `shutdown`.
+fn answer_ready(said: &mut Vec<u8>, id: Id<'_>, request: Request<'_>) -> Result<(), AllocError>
+    ensures { OnOk result (said.new.items ≡ said.old.items
+        ++ framed_reply (answer_ready (id_data id.entry) (asked_of request.entry))) }
+{
+    match request {
+        Request::Shutdown => say_null(said, id),
+        Request::Initialize(_) => say_error(said, Some(id), ErrorCode::InvalidRequest),
+        Request::InvalidParams => say_error(said, Some(id), ErrorCode::InvalidParams),
+        Request::DocumentSymbol { .. }
+        | Request::Definition(_)
+        | Request::Hover(_)
+        | Request::MethodNotFound => say_error(said, Some(id), ErrorCode::MethodNotFound),
+    }
+}

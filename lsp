@@ -1,0 +1,49 @@
+#!/usr/bin/env bash
+# The language server of SNL, for editors: it speaks on standard input and output.
+# ./lsp --build proves and builds it, once; ./lsp starts what is built, at once, or says so in a
+# line and ends with status 2. Editors give a server seconds to answer, so it never builds unasked.
+set -u
+
+# What lines on standard error begin with, and the crate of the program.
+self=lsp
+target=snl_lsp
+
+# Says something in a line of its own, also where a terminal's line tells how far the build is.
+say() {
+    [ ! -t 2 ] || printf '\r\033[K' >&2
+    echo "$self: $*" >&2
+}
+
+fail() {
+    say "$@"
+    exit 2
+}
+
+frame() {
+    printf 'Content-Length: %d\r\n\r\n%s' "${#1}" "$1"
+}
+
+# A talk at whose end the server has status 0: a build runs it once.
+trial() {
+    frame '{"id":1,"method":"initialize"}'
+    frame '{"id":2,"method":"shutdown"}'
+    frame '{"method":"exit"}'
+}
+
+here=${BASH_SOURCE[0]}
+[ ! -L "$here" ] || here=$(readlink -f "$here")
+root=${here%/*}
+[ "$root" != "$here" ] || root=.
+program=$root/crates/$target/out/$target
+
+if [ "${1-}" = --build ]; then
+    parts=$root/everyday
+    built=$root/crates/$target/out/built
+    build_time="two hours of one processor's time, or minutes where ./check is built,"
+    . "$parts/build.sh" && bring_up_to_date
+    say "built: $(realpath "$here") is the command for an editor"
+elif [ -x "$program" ]; then
+    exec "$program"
+else
+    fail "the server is not built: ./lsp --build proves and builds it"
+fi
