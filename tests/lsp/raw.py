@@ -5,11 +5,12 @@ import subprocess
 import tempfile
 
 from protocol import (
-    Checker, Model, Server, bodies, compare, did_change, did_close, did_open, error, frame,
+    LOST, Checker, Model, Server, bodies, compare, did_change, did_close, did_open, error, frame,
     initialize, note, part, request, run,
 )
 
 PUMP = "program pump\nint x;\nss s { state a { when (x) { } state b } state c { } }\n"
+SOUND = "program p ss s { state a { when () { } exit } }"
 URI = "file:///a.stt"
 BEGIN = frame(initialize()) + frame(note("initialized", {}))
 END = frame(request(2, "shutdown")) + frame(note("exit"))
@@ -54,6 +55,12 @@ def between():
     yield "a second initialize", frame(initialize()), [error(1, -32600)]
     yield "a header alone", b"Accept: */*\r\n\r\n", [error(None, -32700)]
     yield "an empty header", b"\r\n", [error(None, -32700)]
+    told = [{"diagnostics": [], "uri": URI, **more} for more in ({"version": 0}, {})]
+    published = [note("textDocument/publishDiagnostics", it) for it in told]
+    lost = note("window/showMessage", {"message": URI + LOST, "type": 1})
+    data = frame(did_open(URI, SOUND)) + b"\r\n\r\n"
+    answers = [published[0], error(None, -32700), published[1], lost, error(None, -32700)]
+    yield "a header alone loses documents", data, answers
     yield "a response", frame(b'{"id":1,"result":null}'), []
     for told in (b"null", b"1.5", b"1e3", b"-0", b"18446744073709551616", b"true", b"[]", b"{}"):
         data = frame(b'{"id":%s,"method":"shutdown"}' % told)
