@@ -1,0 +1,4 @@
+pub mod Faults
+pub mod Front
+pub mod Run
+pub mod Transcript

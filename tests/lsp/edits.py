@@ -1,0 +1,117 @@
+"""Random edits: texts that a seed defines are changed, with places in either encoding, several in a
+message, past the ends of lines and texts and within characters. After each message the publish has
+to be what `snl_cli` finds in the text that the protocol's rules make here.
+
+Usage: edits.py SERVER CLI NUMBER SEED    as many messages, of that seed
+"""
+import json
+import random
+import sys
+
+from protocol import (
+    Checker, Model, Server, did_change, did_open, frame, initialize, note, offset_of, request,
+    wrong_in,
+)
+
+URI = "file:///a.stt"
+# Bytes that make texts: of the language, of lines, of one to four bytes a character.
+WORDS = """program p|int x;|int y[3];|assign x to "dev:x";|monitor x;|sync x to f;|evflag f;|ss s {
+|ss t {|state a {|state b {|when (x > 3) {|when () {|} state a|} state b|} exit|}|{|;|x = y[1];|z
+|efTest(f)|pvPut(x);|option +r;|entry { x = 1; }|exit { }|%%escaped|/* ä😀 */|// é|"a😀b"|'c'|\n|\n
+|\n|\r\n|\r|\t| |for (;;) break;|0x1F|1.5e3|ä|😀|@|/*|*/|"|while (x) { continue; }|state c;
+|if (x) y = 2; else ;|void g(void) { }""".split("|")
+
+
+def some_text(chance, most):
+    return " ".join(chance.choice(WORDS) for _ in range(chance.randrange(most)))
+
+
+def some_place(chance, text):
+    """A place of a text: mostly one in it, else past the end of a line or of the text."""
+    lines = text.split(b"\n")
+    line = chance.randrange(len(lines) + 1)
+    if line == len(lines):
+        return line + chance.randrange(3), chance.randrange(9)
+    most = len(lines[line]) + 1
+    return line, chance.randrange(most if chance.random() < 0.9 else most + 99)
+
+
+def some_change(chance, text, is_utf8):
+    """A change, and the text after it."""
+    if chance.random() < 0.02:
+        new = some_text(chance, 60)
+        return {"text": new}, new.encode()
+    places = [some_place(chance, text), some_place(chance, text)]
+    if chance.random() < 0.7:
+        line, character = places[0]
+        places[1] = line, character + chance.randrange(5)
+    offsets = [offset_of(text, line, character, is_utf8) for line, character in places]
+    if offsets[0] > offsets[1]:
+        places.reverse()
+        offsets.reverse()
+    kept = text[: offsets[0]], text[offsets[1] :]
+    new = some_text(chance, 5) if len(text) < 6000 else ""
+    ends = [{"line": line, "character": character} for line, character in places]
+    change = {"range": {"start": ends[0], "end": ends[1]}, "text": new}
+    return change, kept[0] + new.encode() + kept[1]
+
+
+def some_changes(chance, text, is_utf8):
+    changes = []
+    for _ in range(1 if chance.random() < 0.7 else chance.randrange(2, 9)):
+        change, text = some_change(chance, text, is_utf8)
+        changes.append(change)
+    return changes, text
+
+
+def talk(server, cli, number, seed):
+    """For each message of a talk what is wrong with what is published after it."""
+    chance = random.Random(seed)
+    is_utf8 = bool(seed % 2)
+    encodings = ["utf-16", "utf-8"] if is_utf8 else None
+    checker = Checker(cli)
+    model = Model(checker)
+    it = Server(server)
+    it.send(frame(initialize(encodings)) + frame(note("initialized")))
+    text = some_text(chance, 90).encode()
+    bodies = [initialize(encodings), note("initialized"), did_open(URI, text.decode())]
+    it.send(frame(bodies[2]))
+    for body in bodies:
+        for wanted in model.heard(json.dumps(body)):
+            yield wrong_in(it.body(), wanted, is_utf8)
+    for version in range(1, number + 1):
+        changes, text = some_changes(chance, text, is_utf8)
+        it.send(frame(did_change(URI, changes, version)))
+        wanted = {
+            "findings": checker.found(text)[:1000],
+            "text": text,
+            "params": {"uri": URI, "version": version},
+        }
+        wrong = wrong_in(it.body(), wanted, is_utf8)
+        yield wrong and f"message {version}, {json.dumps(changes)}: {wrong}"
+        if wrong:
+            break
+    it.send(frame(request(2, "shutdown")) + frame(note("exit")))
+    _, errors, status = it.end()
+    checker.end()
+    yield "" if (errors, status) == (b"", 0) else f"status {status}, {errors!r}"
+
+
+def cases(server, cli, number=20000, seed=1):
+    """Talks of 500 messages, by turns in UTF-16 and UTF-8."""
+    for first in range(0, number, 500):
+        at = seed * 1000 + first // 500
+        for wrong in talk(server, cli, min(500, number - first), at):
+            yield f"edits of seed {at}", wrong
+
+
+def main():
+    server, cli, number, seed = sys.argv[1:]
+    told = cases(server, cli, int(number), int(seed))
+    failed = [f"{name}: {wrong}" for name, wrong in told if wrong]
+    print("\n".join(failed) or f"{number} messages: none differs")
+    return 1 if failed else 0
+
+
+if __name__ == "__main__":
+    sys.exit(main())
