@@ -1,1 +1,3 @@
 mod Members
+mod Places
+mod Meant

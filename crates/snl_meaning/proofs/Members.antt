@@ -70,12 +70,15 @@ pub item_count : (text : List ℕ) → length (item_tokens text) ≡ length (ite
 unfolding item_tokens
 item_count text = length_members (tokens_of text) 0 (item_ends text)
 
-pub item_at : (text : List ℕ) (i : ℕ) → i < length (item_ends text) →
-    let start = last_end 0 (take i (item_ends text)) in
-    slice_get (item_tokens text) i ≡
-    Some (take (get_or (item_ends text) i 0 - start) (drop start (tokens_of text)))
+pub item_at : (text : List ℕ) (tokens : List Piece) (ends : List ℕ) (i start stop : ℕ) →
+    tokens ≡ tokens_of text → ends ≡ item_ends text → i < length ends →
+    start ≡ last_end 0 (take i ends) → stop ≡ get_or ends i 0 →
+    Some (take (stop - start) (drop start tokens)) ≡ slice_get (item_tokens text) i
 unfolding item_tokens
-item_at text i within = member_at (tokens_of text) 0 (item_ends text) i within
+item_at text tokens ends i start stop all cut within begins stops =
+    ap₂ (λ (a b : ℕ). Some (take (b - a) (drop a tokens))) begins stops
+    ∙ sym (member_at tokens 0 ends i within)
+    ∙ ap₂ (λ (ts : List Piece) (es : List ℕ). slice_get (members ts 0 es) i) all cut
 
 pub no_item : (text : List ℕ) (i : ℕ) → length (item_ends text) ≤ i → slice_get (item_tokens text) i ≡ None
 unfolding item_tokens
