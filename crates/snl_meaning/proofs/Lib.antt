@@ -1,3 +1,5 @@
 mod Members
 mod Places
 mod Meant
+mod Locals
+mod Outer

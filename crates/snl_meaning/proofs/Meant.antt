@@ -33,8 +33,10 @@ items_lie text i own inside at =
   where
     no_own : Some own ≡ None → ⊥
     no_own e = cc
+
     at_none : length (item_ends text) ≤ i → Some own ≡ None
     at_none past = sym at ∙ no_item text i past
+
     lie : i < length (item_ends text) → All (LiesIn text) own
     lie within =
         let ends = item_ends text in

@@ -65,11 +65,12 @@ is_name_of ss i n = if n == 1 then is_set_begin ss i || is_named_state ss i else
 abbrev pub meant_as_own_name : List Outline → ℕ → ℕ → Option TokenPlace
 meant_as_own_name ss i n = if is_name_of ss i n then Some (record { item = i; token = n }) else None
 
--- What a name means that is no local one, by what is at its token.
+-- What a name means that is no local one, by what is at its token. What an item declares for the
+-- others is in its outline; the name of a struct's member is in no scope.
 abbrev pub meant_outside : List Outline → ℕ → List ℕ → What → Option TokenPlace
 meant_outside ss i name what.Target = state_named ss i name
 meant_outside ss i name (what.Name manner) = declaration_named ss i name
-meant_outside ss i name (what.Declaration is_wrong) = declaration_named ss i name
+meant_outside ss i name (what.Declaration is_wrong) = None
 meant_outside ss i name (what.Jump in_loop) = None
 meant_outside ss i name (what.Change in_transition) = None
 

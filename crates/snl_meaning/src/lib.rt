@@ -8,4 +8,4 @@ mod items;
 mod meanings;
 mod names;
 
-pub use meanings::{Meaning, meaning_in};
+pub use meanings::{Meaning, meaning_at};

@@ -15,6 +15,7 @@ use snl_cut::OutOfMemory;
 use snl_kept::Lists;
 use snl_lex::{Piece, PieceList, text_in_pieces};
 use snl_scope::{Source, same_spelling_same_summary};
+use snl_session::Session;
 use snl_syntax::{outcome_told, same_spelling_same_tree};
 use snl_tables::Span;
 use std::alloc::Global;
@@ -80,9 +81,9 @@ fn all_tokens(alloc: Global, pieces: &PieceList) -> Result<Vec<Piece>, OutOfMemo
     pieces.tokens_between(alloc, 0, pieces.ends.len())
 }
 
-/// What the name at an offset means. None where no token has the byte there, or it means nothing.
+// What the name at an offset means, by the lists of the text.
 #[tactic(auto, unfolding(crate::specs::Meanings::meaning_of))]
-pub fn meaning_in(
+fn meaning_in(
     alloc: Global,
     text: &[u8],
     lists: &Lists,
@@ -104,4 +105,17 @@ pub fn meaning_in(
         return Ok(None);
     };
     Ok(meaning_between(&items, name, declared))
+}
+
+/// What the name means that has the byte at an offset of a session's text. None where no token has
+/// the byte, or it names nothing that the text declares. A name of an item that the grammar has no
+/// tree for means nothing, but for that of a state. The time is that of the text's tokens.
+pub fn meaning_at(
+    alloc: Global,
+    session: &Session,
+    offset: usize,
+) -> Result<Option<Meaning>, OutOfMemory>
+    ensures { IfOk result (λ m. m ≡ meaning_of session.now offset) }
+{
+    meaning_in(alloc, session.text(), &session.kept().lists, offset)
 }

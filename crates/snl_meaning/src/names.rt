@@ -80,8 +80,8 @@ impl LinkedItem<'_> {
     {
         match what {
             What::Target => self.state_named(name),
-            What::Name(_) | What::Declaration { .. } => self.declaration_named(name),
-            What::Jump { .. } | What::Change { .. } => None,
+            What::Name(_) => self.declaration_named(name),
+            What::Declaration { .. } | What::Jump { .. } | What::Change { .. } => None,
         }
     }
 
