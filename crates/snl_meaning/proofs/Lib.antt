@@ -3,3 +3,4 @@ mod Places
 mod Meant
 mod Locals
 mod Outer
+mod Like

@@ -60,7 +60,7 @@ abbrev TokenFits : Namespace → ℕ → Type 0
 TokenFits (namespace.States k) n = n ≡ 1
 TokenFits _ n = Unit {0}
 
-token_is : (text : List ℕ) (own : List Piece) (n : ℕ) → token_bytes text own n ≡ bytes_if text (slice_get own n)
+pub token_is : (text : List ℕ) (own : List Piece) (n : ℕ) → token_bytes text own n ≡ bytes_if text (slice_get own n)
 unfolding token_bytes
 token_is text own n = refl
 

@@ -1,5 +1,5 @@
 -- What the name at a place of a text means: the token that it names.
-use Rattle.std.specs.Prelude.{ℕ, ◌+◌, ◌==◌, ◌||◌, Bool, false, List, [], ◌∷◌, Option, Some, None, find, position, slice_get, option_and_then, option_map, if◌then◌else◌}
+use Rattle.std.specs.Prelude.{ℕ, ◌+◌, ◌==◌, ◌||◌, Bool, false, List, [], ◌∷◌, take, drop, Option, Some, None, find, position, slice_get, option_and_then, option_map, if◌then◌else◌}
 use Rattle.std.specs.List.{list_any}
 use Rattle.std.specs.Option.{option_or}
 use Rattle.snl_lex.specs.declared.piece.Piece.{Piece}
@@ -141,3 +141,7 @@ meaning_from text p = option_and_then (meaning_between (item_tokens text) p) (me
 -- something.
 unfoldable pub meaning_of : List ℕ → ℕ → Option Meaning
 meaning_of text offset = option_and_then (meaning_from text) (place_from offset 0 (item_tokens text))
+
+-- The bytes of a span.
+abbrev pub span_bytes : List ℕ → Span → List ℕ
+span_bytes text s = take s.len (drop s.start text)

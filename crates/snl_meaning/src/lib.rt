@@ -5,7 +5,9 @@
 
 mod item_tokens;
 mod items;
+mod laws;
 mod meanings;
 mod names;
 
+pub use laws::names_mean_their_like;
 pub use meanings::{Meaning, meaning_at};
