@@ -1,7 +1,8 @@
 //! The tokens of a text, cut into items. In: an offset, or the place of a token. Out: the place of
 //! the token that has the byte there, or the token's span.
 
-ghost use Rattle.std.specs.Prelude.{◌≡◌, ◌<◌, ◌≤◌, length, option_copied, position, slice_get, slice_index, take};
+ghost use Rattle.std.specs.Prelude.{◌≡◌, ◌<◌, ◌≤◌, length, option_copied, position, slice_get};
+ghost use Rattle.std.specs.Prelude.{slice_index, take};
 ghost use Rattle.snl_cut.specs.Cut.{last_end};
 ghost use Rattle.snl_kept.specs.Program.{item_tokens};
 ghost use Rattle.snl_asked.specs.Tokens.{has_byte};

@@ -76,7 +76,8 @@ fn all_tokens(alloc: Global, pieces: &PieceList) -> Result<Vec<Piece>, OutOfMemo
     requires { vec_len pieces.now.ends ≡ vec_len pieces.now.kinds }
     ensures { IfOk
         result
-        (λ tokens. (text : List ℕ) → pieces.now.ends.items ≡ piece_ends text → pieces.now.kinds.items ≡ piece_kinds text → tokens.items ≡ tokens_of text) }
+        (λ tokens. (text : List ℕ) → pieces.now.ends.items ≡ piece_ends text
+        → pieces.now.kinds.items ≡ piece_kinds text → tokens.items ≡ tokens_of text) }
 {
     pieces.tokens_between(alloc, 0, pieces.ends.len())
 }

@@ -4,7 +4,11 @@
 ghost use Rattle.std.specs.Prelude.{◌≡◌, IfOk, option_copied};
 ghost use Rattle.snl_scope.specs.Summaries.{occurrences_in};
 ghost use Rattle.snl_walk.specs.Tokens.{IsSource, bytes_in};
-ghost use Rattle.snl_meaning.specs.Meanings.{clause_names, clauses_name, declaration_named, declares_at, is_flag_at, is_name_of, meant_as_own_name, meant_by_local, meant_by_occurrence, meant_by_outline, meant_in, meant_inside, meant_outside, name_of_item, occurrence_at, outline_names, place_of, state_named};
+ghost use Rattle.snl_meaning.specs.Meanings.{clause_names, clauses_name, declaration_named};
+ghost use Rattle.snl_meaning.specs.Meanings.{declares_at, is_flag_at, is_name_of, meant_as_own_name};
+ghost use Rattle.snl_meaning.specs.Meanings.{meant_by_local, meant_by_occurrence, meant_by_outline};
+ghost use Rattle.snl_meaning.specs.Meanings.{meant_in, meant_inside, meant_outside, name_of_item};
+ghost use Rattle.snl_meaning.specs.Meanings.{occurrence_at, outline_names, place_of, state_named};
 
 use crate::items::TokenPlace;
 use snl_cut::OutOfMemory;
@@ -117,7 +121,8 @@ impl LinkedItem<'_> {
     // What a name at a token means of which the item's outline speaks.
     fn meant_by_outline(&self, name: &[u8], outline: &Outline, token: usize) -> Option<TokenPlace>
         ensures { result
-            ≡ meant_by_outline self.now.links.now.outlines self.now.item name.now outline.now token }
+            ≡ meant_by_outline self.now.links.now.outlines self.now.item name.now outline.now
+            token }
     {
         if outline_names(outline, token) {
             self.declaration_named(name)
@@ -195,7 +200,8 @@ pub fn meant_in(
     requires { IsSource source.now.text.now source.now.tokens.now }
     ensures { IfOk
         result
-        (λ m. m ≡ meant_in linked.now.links.now.outlines linked.now.item (bytes_in source.now) (option_copied tree.entry) outline.now token) }
+        (λ m. m ≡ meant_in linked.now.links.now.outlines linked.now.item (bytes_in source.now)
+        (option_copied tree.entry) outline.now token) }
 {
     if let Some(own) = linked.meant_as_own_name(token) {
         return Ok(Some(own));
