@@ -62,7 +62,8 @@ module _ (bytes : ℕ → List ℕ) where
   both : (xs ys : List Occurrence) → Each IsLike xs → Each IsLike ys → Each IsLike (xs ++ ys)
   both = each_append IsLike
 
-  like_all : {A : Type 0} (f : A → List Occurrence) → ((x : A) → Each IsLike (f x)) → (xs : List A) →
+  like_all : {A : Type 0} (f : A → List Occurrence) → ((x : A) → Each IsLike (f x)) →
+      (xs : List A) →
       Each IsLike (flat_map f xs)
   like_all f like [] = tt
   like_all f like (x ∷ xs) = both (f x) (flat_map f xs) (like x) (like_all f like xs)
@@ -80,7 +81,8 @@ module _ (bytes : ℕ → List ℕ) where
         Each IsLike (found_in_declarator bytes visible is_flag in_block d)
     like_declarator is_flag in_block d = (
       looked_up d.name visible named,
-      both (map (seen bytes visible false) (flat_map names_if d.lengths)) (map (seen bytes visible false) (names_in_value d.init))
+      both (map (seen bytes visible false) (flat_map names_if d.lengths))
+          (map (seen bytes visible false) (names_in_value d.init))
           (like_seen false (flat_map names_if d.lengths)) (like_seen false (names_in_value d.init)),
     )
 
@@ -92,7 +94,8 @@ module _ (bytes : ℕ → List ℕ) where
 
     like_head : (head : ForHead) → Each IsLike (found_in_head bytes visible head)
     like_head head =
-        both (found_if bytes visible head.first ++ found_if bytes visible head.condition) (found_if bytes visible head.step)
+        both (found_if bytes visible head.first ++ found_if bytes visible head.condition)
+        (found_if bytes visible head.step)
         (both (found_if bytes visible head.first) (found_if bytes visible head.condition)
         (like_seen false (names_if head.first)) (like_seen false (names_if head.condition)))
         (like_seen false (names_if head.step))
@@ -101,7 +104,8 @@ module _ (bytes : ℕ → List ℕ) where
 
   -- wherever it is, and in whatever context
   abbrev LikeIn : {C : Type 0} → (Names → C → List Occurrence) → Type 0
-  LikeIn {C} f = (visible : Names) → AreNamed visible → (context : C) → Each IsLike (f visible context)
+  LikeIn {C} f = (visible : Names) → AreNamed visible → (context : C) →
+      Each IsLike (f visible context)
 
   abbrev LikeFound : Found → Type 0
   LikeFound f = LikeIn f
@@ -125,10 +129,12 @@ module _ (bytes : ℕ → List ℕ) where
   abbrev member_of : KnownMember → Member
   member_of k = k.0
 
-  like_contents : (ms : List KnownMember) → LikeFound (found_in_contents (map (content_of bytes) (map member_of ms)))
+  like_contents : (ms : List KnownMember) → LikeFound
+      (found_in_contents (map (content_of bytes) (map member_of ms)))
   like_contents [] visible named context = tt
   like_contents (m ∷ ms) visible named context =
-      both ((content_of bytes m.0).found visible context) (found_in_contents (map (content_of bytes) (map member_of ms)) visible context)
+      both ((content_of bytes m.0).found visible context)
+      (found_in_contents (map (content_of bytes) (map member_of ms)) visible context)
       (m.1 visible named context) (like_contents ms visible named context)
 
   like_target_if : (name : ℕ) (b : Bool) →
@@ -141,13 +147,16 @@ module _ (bytes : ℕ → List ℕ) where
   KnownArm = Expr × KnownStmt
 
   abbrev found_arms : List KnownArm → List (Expr × Found)
-  found_arms arms = map (λ (arm : Expr × Stmt). (arm.0, found_in_stmt bytes arm.1)) (map (λ (arm : KnownArm). (arm.0, arm.1.0)) arms)
+  found_arms arms = map (λ (arm : Expr × Stmt). (arm.0, found_in_stmt bytes arm.1))
+      (map (λ (arm : KnownArm). (arm.0, arm.1.0)) arms)
 
-  like_arms : (last : Option Found) → LikeFound (found_in_branches bytes [] last) → (arms : List KnownArm) →
+  like_arms : (last : Option Found) → LikeFound (found_in_branches bytes [] last) →
+      (arms : List KnownArm) →
       LikeFound (found_in_branches bytes (found_arms arms) last)
   like_arms last like [] visible named context = like visible named context
   like_arms last like (arm ∷ arms) visible named context =
-      both (found_in_expr bytes visible arm.0 ++ found_in_stmt bytes arm.1.0 visible context) (found_in_branches bytes (found_arms arms) last visible context)
+      both (found_in_expr bytes visible arm.0 ++ found_in_stmt bytes arm.1.0 visible context)
+      (found_in_branches bytes (found_arms arms) last visible context)
       (both (found_in_expr bytes visible arm.0) (found_in_stmt bytes arm.1.0 visible context)
       (like_seen visible named false (names_in_expr plain arm.0)) (arm.1.1 visible named context))
       (like_arms last like arms visible named context)
@@ -160,43 +169,59 @@ module _ (bytes : ℕ → List ℕ) where
   level_of_member y = map-Member KnownMember KnownStmt Member Stmt member_of stmt_of y
 
   stmt_level : (y : Stmt-F KnownMember KnownStmt) →
-      LikeFound (stmt_step bytes (map-Stmt Member Stmt Content Found (content_of bytes) (found_in_stmt bytes) (level_of_stmt y)))
+      LikeFound (stmt_step bytes (map-Stmt Member Stmt Content Found (content_of bytes)
+      (found_in_stmt bytes) (level_of_stmt y)))
   stmt_level Stmt-F.Empty visible named context = tt
-  stmt_level (Stmt-F.Expr e) visible named context = like_seen visible named false (names_in_expr plain e)
+  stmt_level (Stmt-F.Expr e) visible named context =
+      like_seen visible named false (names_in_expr plain e)
   stmt_level (Stmt-F.Block ms) visible named context =
       let declared = declared_by_contents (map (content_of bytes) (map member_of ms)) in
       like_contents ms (under_names bytes declared ++ visible)
-      (each_append (λ (e : List ℕ × Local). e.0 ≡ bytes e.1.token) (under_names bytes declared) visible (named_under declared) named) context
+      (each_append (λ (e : List ℕ × Local). e.0 ≡ bytes e.1.token)
+      (under_names bytes declared) visible (named_under declared) named) context
   stmt_level (Stmt-F.CCode n) visible named context = tt
-  stmt_level (Stmt-F.If arms None) visible named context = like_arms None (λ v n c. tt) arms visible named context
+  stmt_level (Stmt-F.If arms None) visible named context =
+      like_arms None (λ v n c. tt) arms visible named context
   stmt_level (Stmt-F.If arms (Some last)) visible named context =
       like_arms (Some (found_in_stmt bytes last.0)) last.1 arms visible named context
   stmt_level (Stmt-F.While e body) visible named context =
       both (found_in_expr bytes visible e) (found_in_stmt bytes body.0 visible (in_loop context))
-      (like_seen visible named false (names_in_expr plain e)) (body.1 visible named (in_loop context))
+      (like_seen visible named false (names_in_expr plain e))
+      (body.1 visible named (in_loop context))
   stmt_level (Stmt-F.For head body) visible named context =
       both (found_in_head bytes visible head) (found_in_stmt bytes body.0 visible (in_loop context))
       (like_head visible named head) (body.1 visible named (in_loop context))
   stmt_level (Stmt-F.Break n) visible named context = (tt, tt)
   stmt_level (Stmt-F.Continue n) visible named context = (tt, tt)
-  stmt_level (Stmt-F.Return value) visible named context = like_seen visible named false (names_if value)
-  stmt_level (Stmt-F.State n name) visible named context = (tt, like_target_if name context.in_transition)
+  stmt_level (Stmt-F.Return value) visible named context =
+      like_seen visible named false (names_if value)
+  stmt_level (Stmt-F.State n name) visible named context =
+      (tt, like_target_if name context.in_transition)
 
   member_level : (y : Member-F KnownMember KnownStmt) →
-      LikeFound (member_step bytes (map-Member Member Stmt Content Found (content_of bytes) (found_in_stmt bytes) (level_of_member y))).found
-  member_level (Member-F.Declaration d) visible named context = like_declaration visible named true d
+      LikeFound (member_step bytes (map-Member Member Stmt Content Found (content_of bytes)
+      (found_in_stmt bytes) (level_of_member y))).found
+  member_level (Member-F.Declaration d) visible named context =
+      like_declaration visible named true d
   member_level (Member-F.Statement s) visible named context = s.1 visible named context
 
-  rolled_stmt : (x : Stmt-F Member Stmt) (y : Stmt-F KnownMember KnownStmt) → level_of_stmt y ≡ x → LikeStmt (roll-Stmt x)
+  rolled_stmt : (x : Stmt-F Member Stmt) (y : Stmt-F KnownMember KnownStmt) → level_of_stmt y ≡ x →
+      LikeStmt (roll-Stmt x)
   rolled_stmt x y is =
       let z = level_of_stmt y in
-      let at_z : LikeStmt (roll-Stmt z) = subst LikeFound (sym (fold-roll-Stmt Content Found (member_step bytes) (stmt_step bytes) z)) (stmt_level y) in
+      let at_z : LikeStmt (roll-Stmt z) = subst LikeFound
+      (sym (fold-roll-Stmt Content Found (member_step bytes) (stmt_step bytes) z))
+      (stmt_level y) in
       subst (λ v. LikeStmt (roll-Stmt v)) is at_z
 
-  rolled_member : (x : Member-F Member Stmt) (y : Member-F KnownMember KnownStmt) → level_of_member y ≡ x → LikeMember (roll-Member x)
+  rolled_member : (x : Member-F Member Stmt) (y : Member-F KnownMember KnownStmt) →
+      level_of_member y ≡ x → LikeMember (roll-Member x)
   rolled_member x y is =
       let z = level_of_member y in
-      let at_z : LikeMember (roll-Member z) = subst (λ (c : Content). LikeFound c.found) (sym (fold-roll-Member Content Found (member_step bytes) (stmt_step bytes) z)) (member_level y) in
+      let at_z : LikeMember (roll-Member z) =
+      subst (λ (c : Content). LikeFound c.found)
+      (sym (fold-roll-Member Content Found (member_step bytes) (stmt_step bytes) z))
+      (member_level y) in
       subst (λ v. LikeMember (roll-Member v)) is at_z
 
   like_member : (m : Member) → LikeMember m
@@ -205,14 +230,16 @@ module _ (bytes : ℕ → List ℕ) where
   like_members : (ms : List Member) → LikeFound (found_in_contents (contents_of bytes ms))
   like_members [] visible named context = tt
   like_members (m ∷ ms) visible named context =
-      both ((content_of bytes m).found visible context) (found_in_contents (contents_of bytes ms) visible context)
+      both ((content_of bytes m).found visible context)
+      (found_in_contents (contents_of bytes ms) visible context)
       (like_member m visible named context) (like_members ms visible named context)
 
   like_block : (ms : List Member) → LikeFound (found_in_block bytes ms)
   like_block ms visible named context =
       let declared = declared_by_contents (contents_of bytes ms) in
       like_members ms (under_names bytes declared ++ visible)
-      (each_append (λ (e : List ℕ × Local). e.0 ≡ bytes e.1.token) (under_names bytes declared) visible (named_under declared) named) context
+      (each_append (λ (e : List ℕ × Local). e.0 ≡ bytes e.1.token)
+      (under_names bytes declared) visible (named_under declared) named) context
 
   -- ---- items
 
@@ -230,7 +257,8 @@ module _ (bytes : ℕ → List ℕ) where
         let condition = map (seen bytes visible true) (names_if t.condition) in
         let block = found_in_block bytes t.block visible in_transition in
         both (condition ++ block) (found_in_target t.target)
-        (both condition block (like_seen visible named true (names_if t.condition)) (like_block t.block visible named in_transition))
+        (both condition block (like_seen visible named true (names_if t.condition))
+        (like_block t.block visible named in_transition))
         (like_target t.target)
 
     like_in_member : (m : StateMember) → Each IsLike (found_in_member bytes visible m)
@@ -249,15 +277,18 @@ module _ (bytes : ℕ → List ℕ) where
     like_name (Some n) = (looked_up n visible named, tt)
 
     like_named : (p : Parameter) → Each IsLike (found_in_named bytes visible p)
-    like_named p = both (found_at_name bytes visible p.name) (found_in_parameter bytes visible p) (like_name p.name) (like_parameter p)
+    like_named p = both (found_at_name bytes visible p.name) (found_in_parameter bytes visible p)
+        (like_name p.name) (like_parameter p)
 
-  like_function : (ps : List Parameter) (body : Option (List Member)) → Each IsLike (found_in_function bytes ps body)
+  like_function : (ps : List Parameter) (body : Option (List Member)) →
+      Each IsLike (found_in_function bytes ps body)
   like_function ps None = like_all (found_in_parameter bytes []) (like_parameter [] tt) ps
   like_function ps (Some block) =
       let visible = under_names bytes (flat_map declared_by_parameter ps) in
       let named = named_under (flat_map declared_by_parameter ps) in
       both (flat_map (found_in_named bytes visible) ps) (found_in_block bytes block visible outside)
-      (like_all (found_in_named bytes visible) (like_named visible named) ps) (like_block block visible named outside)
+      (like_all (found_in_named bytes visible) (like_named visible named) ps)
+      (like_block block visible named outside)
 
   like_in_struct : (m : StructMember) → Each IsLike (found_in_struct_member bytes m)
   like_in_struct (struct_members.Declaration d) = like_declaration [] tt false d
@@ -271,7 +302,9 @@ module _ (bytes : ℕ → List ℕ) where
   like_occurrences (items.Exit block) = like_block block [] tt outside
   like_occurrences (items.StateBlock name ms) =
       let visible = under_names bytes (declared_by_state bytes ms) in
-      like_all (found_in_member bytes visible) (like_in_member visible (named_under (declared_by_state bytes ms))) ms
+      like_all (found_in_member bytes visible)
+      (like_in_member visible (named_under (declared_by_state bytes ms))) ms
   like_occurrences (items.Function f) = like_function f.parameters f.body
-  like_occurrences (items.StructDef name ms) = like_all (found_in_struct_member bytes) like_in_struct ms
+  like_occurrences (items.StructDef name ms) =
+      like_all (found_in_struct_member bytes) like_in_struct ms
   like_occurrences _ = tt

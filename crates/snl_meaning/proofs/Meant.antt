@@ -1,5 +1,5 @@
 -- What is kept of an item says what its tokens say.
-use Rattle.std.proofs.Common.{◌≡◌, ℕ, ◌-◌, ◌<◌, ◌≤◌, inl, inr, List, length, take, drop, get_or, refl, All, slice_get, Option, Some, None, option_and_then, option_map, ap, sym, subst, ◌∙◌, arith}
+use Rattle.std.proofs.Common.{◌≡◌, ℕ, ◌-◌, ◌<◌, ◌≤◌, inl, inr, List, length, take, drop, get_or, refl, All, slice_get, Option, Some, None, option_and_then, option_map, ap, sym, subst, ◌∙◌}
 use Rattle.std.proofs.lemmas.Bool.{cases_lt}
 use Rattle.std.proofs.lemmas.List.Elements.{All-drop, All-filter, All-take}
 use Rattle.snl_cut.specs.Cut.{last_end}
@@ -48,7 +48,8 @@ items_lie text i own inside at =
         let same : take (stop - start) (drop start tokens) ≡ own = cc in
         subst (All (LiesIn text)) same
         (All-take (LiesIn text) (stop - start) (drop start tokens)
-        (All-drop (LiesIn text) start tokens (All-filter is_token (LiesIn text) (pieces_of text) inside)))
+        (All-drop (LiesIn text) start tokens (All-filter is_token (LiesIn text)
+        (pieces_of text) inside)))
 
 -- what is kept of it
 pub entry_is : (text : List ℕ) (i : ℕ) (own : List Piece) (entries : List Entry) (e : Entry) →
@@ -63,24 +64,29 @@ entry_is text i own entries e all at got =
 module _ (text : List ℕ) (own : List Piece) (e : Entry) (is : e ≡ entry_by (spelled text own))
     (by_spelling : parsed_in text own ≡ parsed_by (spelled text own))
     (law : sound_tree (parsed_in text own) ≡ tree_in text own)
-    (summary : (tree : Option Item) → summary_in text own tree ≡ summary_by (spelled text own) tree) where
-  tree_by : sound_tree (parsed_by (spelled text own)) ≡ tree_in text own
-  tree_by = ap sound_tree (sym by_spelling) ∙ law
+    (summary : (tree : Option Item) → summary_in text own tree ≡ summary_by (spelled text own) tree)
+  where
+    tree_by : sound_tree (parsed_by (spelled text own)) ≡ tree_in text own
+    tree_by = ap sound_tree (sym by_spelling) ∙ law
 
-  tree_is : sound_tree e.parsed ≡ tree_in text own
-  tree_is = ap (λ (x : Entry). sound_tree x.parsed) is ∙ tree_by
+    tree_is : sound_tree e.parsed ≡ tree_in text own
+    tree_is = ap (λ (x : Entry). sound_tree x.parsed) is ∙ tree_by
 
-  outline_is : e.summary.outline ≡ outline_in text own (tree_in text own)
-  outline_is =
-      ap (λ (x : Entry). x.summary.outline) is
-      ∙ ap (λ (s : Summary). s.outline) (sym (summary (sound_tree (parsed_by (spelled text own)))))
-      ∙ ap (outline_in text own) tree_by
+    outline_is : e.summary.outline ≡ outline_in text own (tree_in text own)
+    outline_is =
+        ap (λ (x : Entry). x.summary.outline) is
+        ∙ ap (λ (s : Summary). s.outline) (sym (summary (sound_tree (parsed_by (spelled text own)))))
+        ∙ ap (outline_in text own) tree_by
 
-  pub meant_told : (p : TokenPlace) (ss : List Outline) (tree : Option Item) → ss ≡ outlines_in text →
-      tree ≡ sound_tree e.parsed → slice_get (item_tokens text) p.item ≡ Some own →
-      meant_in ss p.item (token_bytes text own) tree e.summary.outline p.token ≡ meant_at text p
-  meant_told p ss tree linked read at =
-      ap (λ (os : List Outline). meant_in os p.item (token_bytes text own) tree e.summary.outline p.token) linked
-      ∙ ap (λ (t : Option Item). meant_in (outlines_in text) p.item (token_bytes text own) t e.summary.outline p.token) (read ∙ tree_is)
-      ∙ ap (λ (s : Outline). meant_in (outlines_in text) p.item (token_bytes text own) (tree_in text own) s p.token) outline_is
-      ∙ sym (ap (option_and_then (meant_by_tokens text p.item p.token)) at)
+    pub meant_told : (p : TokenPlace) (ss : List Outline) (tree : Option Item) →
+        ss ≡ outlines_in text →
+        tree ≡ sound_tree e.parsed → slice_get (item_tokens text) p.item ≡ Some own →
+        meant_in ss p.item (token_bytes text own) tree e.summary.outline p.token ≡ meant_at text p
+    meant_told p ss tree linked read at =
+        ap (λ (os : List Outline). meant_in os p.item
+        (token_bytes text own) tree e.summary.outline p.token) linked
+        ∙ ap (λ (t : Option Item). meant_in (outlines_in text) p.item
+        (token_bytes text own) t e.summary.outline p.token) (read ∙ tree_is)
+        ∙ ap (λ (s : Outline). meant_in (outlines_in text) p.item (token_bytes text own)
+        (tree_in text own) s p.token) outline_is
+        ∙ sym (ap (option_and_then (meant_by_tokens text p.item p.token)) at)

@@ -1,5 +1,5 @@
 -- The items of a text: the one with a number, by where it begins and ends.
-use Rattle.std.proofs.Common.{◌≡◌, ℕ, zero, suc, ◌+◌, ◌-◌, ◌<◌, ◌≤◌, List, [], ◌∷◌, length, get_or, take, drop, map, slice_get, Option, Some, None, option_map, refl, ap, ap₂, sym, ◌∙◌, arith}
+use Rattle.std.proofs.Common.{◌≡◌, ℕ, zero, suc, ◌-◌, ◌<◌, ◌≤◌, List, [], ◌∷◌, length, get_or, take, drop, map, slice_get, Option, Some, None, option_map, refl, ap, ap₂, sym, ◌∙◌, arith}
 use Rattle.std.proofs.lemmas.List.{drop-map, take-map}
 use Rattle.std.proofs.lemmas.Option.{slice_get-map}
 use Rattle.snl_cut.specs.Cut.{Rises, last_end, members}
@@ -16,7 +16,8 @@ use Rattle.snl_kept.specs.Program.{item_tokens}
 -- each member begins where the one before it ends
 pub member_at : {X : Type 0} (units : List X) (from : ℕ) (ends : List ℕ) (i : ℕ) → i < length ends →
     slice_get (members units from ends) i ≡
-    Some (take (get_or ends i 0 - last_end from (take i ends)) (drop (last_end from (take i ends)) units))
+    Some (take (get_or ends i 0 - last_end from (take i ends))
+    (drop (last_end from (take i ends)) units))
 member_at units from [] i within = absurd (omega arith)
 member_at units from (e ∷ es) zero within = refl
 member_at units from (e ∷ es) (suc i) within = member_at units e es i (omega arith)
@@ -53,13 +54,15 @@ pub entry_at : (text : List ℕ) (i : ℕ) →
 unfolding item_tokens
 entry_at text i =
     let ms : List (List Piece) = members (tokens_of text) 0 (item_ends text) in
-    let is : spelled_items text ≡ map (spelled text) ms = spelled_members text (tokens_of text) 0 (item_ends text) in
+    let is : spelled_items text ≡ map (spelled text) ms =
+    spelled_members text (tokens_of text) 0 (item_ends text) in
     slice_get-map entry_by (spelled_items text) i
     ∙ ap (λ (l : List (List (Class × List ℕ))). option_map entry_by (slice_get l i)) is
     ∙ ap (option_map entry_by) (slice_get-map (spelled text) ms i)
     ∙ twice (slice_get ms i)
   where
-    twice : (o : Option (List Piece)) → option_map entry_by (option_map (spelled text) o) ≡ option_map (entry_in text) o
+    twice : (o : Option (List Piece)) → option_map entry_by
+        (option_map (spelled text) o) ≡ option_map (entry_in text) o
     twice None = refl
     twice (Some own) = refl
 
@@ -80,7 +83,8 @@ item_at text tokens ends i start stop all cut within begins stops =
     ∙ sym (member_at tokens 0 ends i within)
     ∙ ap₂ (λ (ts : List Piece) (es : List ℕ). slice_get (members ts 0 es) i) all cut
 
-pub no_item : (text : List ℕ) (i : ℕ) → length (item_ends text) ≤ i → slice_get (item_tokens text) i ≡ None
+pub no_item : (text : List ℕ) (i : ℕ) → length (item_ends text) ≤ i →
+    slice_get (item_tokens text) i ≡ None
 unfolding item_tokens
 no_item text i past = no_member (tokens_of text) 0 (item_ends text) i past
 

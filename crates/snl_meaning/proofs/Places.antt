@@ -1,11 +1,9 @@
 -- The first token that has a byte, item by item.
-use Rattle.std.proofs.Common.{◌≡◌, ℕ, suc, ◌+◌, ◌≤◌, List, [], ◌∷◌, length, drop, position, slice_get, Option, Some, None, ap, sym, ◌∙◌, arith, add-one}
-use Rattle.std.proofs.lemmas.List.{drop_all}
+use Rattle.std.proofs.Common.{◌≡◌, ℕ, suc, ◌+◌, List, [], drop, position, slice_get, Option, Some, None, ap, ◌∙◌, arith}
 use Rattle.snl_facts.specs.Lists.{drop_got}
 use Rattle.snl_lex.specs.declared.piece.Piece.{Piece}
 use Rattle.snl_asked.specs.Tokens.{has_byte}
 use Rattle.snl_meaning.specs.Meanings.{place_by, place_from}
-use Rattle.snl_meaning.specs.declared.items.TokenPlace.{TokenPlace}
 
 -- the items from number i on, of which the first has these tokens
 at_item : (offset i : ℕ) (xs : List (List Piece)) (x : List Piece) → slice_get xs i ≡ Some x →
@@ -13,14 +11,16 @@ at_item : (offset i : ℕ) (xs : List (List Piece)) (x : List Piece) → slice_g
     place_by i (position (has_byte offset) x) (place_from offset (i + 1) (drop (suc i) xs))
 at_item offset i xs x at = ap (place_from offset i) (drop_got xs i x at)
 
-pub found_here : (offset i n : ℕ) (xs : List (List Piece)) (x : List Piece) → slice_get xs i ≡ Some x →
+pub found_here : (offset i n : ℕ) (xs : List (List Piece)) (x : List Piece) →
+    slice_get xs i ≡ Some x →
     position (has_byte offset) x ≡ Some n →
     place_from offset i (drop i xs) ≡ Some (record { item = i; token = n })
 found_here offset i n xs x at hit =
     at_item offset i xs x at
     ∙ ap (λ (o : Option ℕ). place_by i o (place_from offset (i + 1) (drop (suc i) xs))) hit
 
-pub found_later : (offset i : ℕ) (xs : List (List Piece)) (x : List Piece) → slice_get xs i ≡ Some x →
+pub found_later : (offset i : ℕ) (xs : List (List Piece)) (x : List Piece) →
+    slice_get xs i ≡ Some x →
     position (has_byte offset) x ≡ None →
     place_from offset i (drop i xs) ≡ place_from offset (i + 1) (drop (i + 1) xs)
 found_later offset i xs x at missed =

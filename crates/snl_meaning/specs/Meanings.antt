@@ -34,7 +34,8 @@ place_by i None rest = rest
 -- tokens, and the first one has a number.
 abbrev pub place_from : ℕ → ℕ → List (List Piece) → Option TokenPlace
 place_from offset i [] = None
-place_from offset i (x ∷ xs) = place_by i (position (has_byte offset) x) (place_from offset (i + 1) xs)
+place_from offset i (x ∷ xs) = place_by i (position (has_byte offset) x)
+    (place_from offset (i + 1) xs)
 
 -- The span of a token.
 abbrev pub span_of : Piece → Span
@@ -56,7 +57,8 @@ state_named ss i name = option_map name_of_item (state_of ss i name)
 
 -- The declaration that a name outside the blocks of item i means.
 abbrev pub declaration_named : List Outline → ℕ → List ℕ → Option TokenPlace
-declaration_named ss i name = option_map place_of (option_and_then (declaration_at ss) (resolve_in ss i name))
+declaration_named ss i name = option_map place_of
+    (option_and_then (declaration_at ss) (resolve_in ss i name))
 
 -- The token is the name of the item: it means itself.
 abbrev pub is_name_of : List Outline → ℕ → ℕ → Bool
@@ -88,7 +90,8 @@ abbrev pub occurrence_at : List Occurrence → ℕ → Option Occurrence
 occurrence_at found n = find (λ o. o.token == n) found
 
 abbrev pub meant_inside : List Outline → ℕ → List ℕ → List Occurrence → ℕ → Option TokenPlace
-meant_inside ss i name found n = option_and_then (meant_by_occurrence ss i name) (occurrence_at found n)
+meant_inside ss i name found n = option_and_then (meant_by_occurrence ss i name)
+    (occurrence_at found n)
 
 -- A clause has the name of its variable or of its flag at a token.
 abbrev pub is_flag_at : ℕ → Option NameRef → Bool
@@ -113,18 +116,22 @@ meant_by_outline ss i name s n = if outline_names s n then declaration_named ss 
 
 -- What token n of item i means, of which these are the bytes of the tokens, the tree and the
 -- outline: the first that there is. In an item without a tree nothing occurs.
-abbrev pub meant_in : List Outline → ℕ → (ℕ → List ℕ) → Option Item → Outline → ℕ → Option TokenPlace
+abbrev pub meant_in : List Outline → ℕ → (ℕ → List ℕ) → Option Item → Outline → ℕ →
+    Option TokenPlace
 meant_in ss i bytes tree s n =
     option_or (meant_as_own_name ss i n)
-    (option_or (meant_inside ss i (bytes n) (occurrences_in bytes tree) n) (meant_by_outline ss i (bytes n) s n))
+    (option_or (meant_inside ss i (bytes n) (occurrences_in bytes tree) n)
+    (meant_by_outline ss i (bytes n) s n))
 
 -- The same of an item that consists of these tokens of a text.
 abbrev pub meant_by_tokens : List ℕ → ℕ → ℕ → List Piece → Option TokenPlace
-meant_by_tokens text i n x = meant_in (outlines_in text) i (token_bytes text x) (tree_in text x) (outline_in text x (tree_in text x)) n
+meant_by_tokens text i n x = meant_in (outlines_in text) i (token_bytes text x) (tree_in text x)
+    (outline_in text x (tree_in text x)) n
 
 -- What a token of a text means.
 abbrev pub meant_at : List ℕ → TokenPlace → Option TokenPlace
-meant_at text p = option_and_then (meant_by_tokens text p.item p.token) (slice_get (item_tokens text) p.item)
+meant_at text p = option_and_then (meant_by_tokens text p.item p.token)
+    (slice_get (item_tokens text) p.item)
 
 -- A name and the one that it means, both by their spans.
 abbrev pub meaning_by : Option Span → Option Span → Option Meaning
@@ -140,7 +147,8 @@ meaning_from text p = option_and_then (meaning_between (item_tokens text) p) (me
 -- What the name means that has the byte at an offset of a text, if there is one and it means
 -- something.
 unfoldable pub meaning_of : List ℕ → ℕ → Option Meaning
-meaning_of text offset = option_and_then (meaning_from text) (place_from offset 0 (item_tokens text))
+meaning_of text offset = option_and_then (meaning_from text)
+    (place_from offset 0 (item_tokens text))
 
 -- The bytes of a span.
 abbrev pub span_bytes : List ℕ → Span → List ℕ

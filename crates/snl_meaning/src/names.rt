@@ -15,7 +15,6 @@ use snl_cut::OutOfMemory;
 use snl_scope::{Declaration, Links, NameRef, Outline, VariableClause};
 use snl_syntax::tree::item::Item;
 use snl_walk::{Local, Occurrence, Source, What, occurrences};
-use std::alloc::Global;
 
 /// The item of a name, by its number among those that are linked.
 #[derive(Clone, Copy)]

@@ -1,4 +1,4 @@
-use Rattle.std.proofs.Common.{◌≤◌, arith, subst, sym}
+use Rattle.std.proofs.Common.{arith, subst, sym}
 use Rattle.snl_cut.specs.Cut.{Rises}
 use Rattle.snl_items.specs.Items.{marks_of}
 use Rattle.snl_meaning.proofs.Members.{begins_below}
