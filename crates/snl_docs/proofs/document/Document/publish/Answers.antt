@@ -16,10 +16,10 @@ returns-in_ok-say_found-in-Some c =
     } in
     let text = Some c.in-Some.session.now in
     let found =
-        ap (map (λ s. found_of s)) c.deref-in-Some.ensures.value ∙ c.in_ok-found-in-Some.ensures
-        ∙ found_by c.args.encoding doc.text text c.in-Some.ensures in
+    ap (map (λ s. found_of s)) c.deref-in-Some.ensures.value ∙ c.in_ok-found-in-Some.ensures
+    ∙ found_by c.args.encoding doc.text text c.in-Some.ensures in
     subst (λ (d : Doc). c.say_found.new.said.items
-        ≡ c.args.said.now.items ++ framed_reply (published c.args.encoding d)) c.self.view_is
+    ≡ c.args.said.now.items ++ framed_reply (published c.args.encoding d)) c.self.view_is
     (publish_is c.args.encoding doc _ _ _ _ c.in_ok-say_found-in-Some.ensures
     (c.deref.ensures.value ∙ c.self.invariant) found)
 
@@ -32,6 +32,6 @@ returns-in_ok-say_found-in-None c =
     } in
     let found = found_by c.args.encoding doc.text None c.in-None.ensures in
     subst (λ (d : Doc). c.say_found-in-None.new.said.items
-        ≡ c.args.said.now.items ++ framed_reply (published c.args.encoding d)) c.self.view_is
+    ≡ c.args.said.now.items ++ framed_reply (published c.args.encoding d)) c.self.view_is
     (publish_is c.args.encoding doc _ _ _ _ c.in_ok-say_found-in-None.ensures
     (c.deref-in-None.ensures.value ∙ c.self.invariant) found)

@@ -20,12 +20,13 @@ followed_no text many =
 
 pub returns : goal.returns
 returns c =
-    elim c.if-text-le-LIMIT.branch
-    [ then-text-le-LIMIT+in_ok-session_over w ↦
-        ap text_of w.held-is ∙ followed_as c.args.text.now _ w.in_ok-session_over.ensures
-        (omega (arith, w.if-text-le-LIMIT.true))
-    | else-text-le-LIMIT+then-text-le-LONGEST+in_ok-of w ↦
-        ap text_of w.held-is ∙ followed_as c.args.text.now _ w.in_ok-of.ensures
-        w.if-text-le-LONGEST.true
-    | else-text-le-LIMIT+else-text-le-LONGEST w ↦
-        ap text_of w.held-is ∙ followed_no c.args.text.now w.if-text-le-LONGEST.false ]
+    elim c.if-text-le-LIMIT.branch [
+      | then-text-le-LIMIT+in_ok-session_over w ↦
+          ap text_of w.held-is ∙ followed_as c.args.text.now _ w.in_ok-session_over.ensures
+          (omega (arith, w.if-text-le-LIMIT.true))
+      | else-text-le-LIMIT+then-text-le-LONGEST+in_ok-of w ↦
+          ap text_of w.held-is ∙ followed_as c.args.text.now _ w.in_ok-of.ensures
+          w.if-text-le-LONGEST.true
+      | else-text-le-LIMIT+else-text-le-LONGEST w ↦
+          ap text_of w.held-is ∙ followed_no c.args.text.now w.if-text-le-LONGEST.false
+    ]
