@@ -2,7 +2,7 @@
 use Rattle.std.proofs.Common.{◌≡◌, ◌⊎◌, ◌↔◌, ◌||◌, ◌&&◌, ℕ, zero, suc, ◌+◌, ◌<◌, ◌≤◌, Bool, true, false, cond, List, [], length, get_or, nat_eq, slice_get, slice_index_or, All, Contains, Some, inl, inr, refl, sym, ap, subst, ◌∙◌, arith}
 use Rattle.std.specs.Cmp.{decided, unsigned_Decides}
 use Rattle.std.proofs.Math.Bool.{or-true}
-use Rattle.std.proofs.lemmas.Bool.{cases_lt, cases_eq, eqb-true, or_cases, false≢true}
+use Rattle.std.proofs.lemmas.Bool.{and_parts, cases_eq, cases_lt, eqb-true, false≢true, or_cases}
 use Rattle.std.proofs.lemmas.List.{get_or_past}
 use Rattle.std.proofs.lemmas.List.Elements.{All-contains, All-get_or}
 use Rattle.std.proofs.lemmas.Map.Views.{Contains-from_any, list_any-from_Contains}
@@ -27,10 +27,6 @@ below_found p (suc n) h =
       | inl e ↦ (n, omega arith, e)
       | inr e ↦ let (k, l, t) = below_found p n e in (k, omega (arith, l), t)
     ]
-
-both : (a b : Bool) → (a && b) ≡ true → (a ≡ true) × (b ≡ true)
-both true b h = (refl, h)
-both false b h = absurd (false≢true h)
 
 -- how many numbers below n pass
 abbrev count_below : (ℕ → Bool) → ℕ → ℕ
@@ -111,7 +107,7 @@ module _ (targets : List (List ℕ)) where
           | inl e ↦ few_reached steps t l e
           | inr e ↦
               let (s, within, k) = below_found (λ s. is_reached_within targets steps s && leads_on targets s t) (length targets) e in
-              let (first, last) = both (is_reached_within targets steps s) (leads_on targets s t) k in
+              let (first, last) = and_parts (is_reached_within targets steps s) (leads_on targets s t) k in
               reached_more targets s t (few_reached steps s within first) (is_target s t last) l
         ]
 
@@ -135,7 +131,7 @@ module _ (targets : List (List ℕ)) where
           | inl e ↦ e
           | inr e ↦
               let (s, within, k) = below_found (λ s. is_reached_within targets steps s && leads_on targets s t) (length targets) e in
-              let (first, last) = both (is_reached_within targets steps s) (leads_on targets s t) k in
+              let (first, last) = and_parts (is_reached_within targets steps s) (leads_on targets s t) k in
               closed s t first (is_target s t last)
         ]
 

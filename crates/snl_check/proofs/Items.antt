@@ -2,6 +2,7 @@
 use Rattle.std.proofs.Common.{◌≡◌, ℕ, zero, suc, ◌+◌, ◌-◌, ◌<◌, ◌≤◌, List, [], ◌∷◌, length, take, drop, map, get_or, slice_get, Option, Some, None, option_and_then, option_map, is_some, true, false, refl, ap, sym, ◌∙◌, arith}
 use Rattle.std.specs.List.{zip}
 use Rattle.std.specs.Option.{option_or}
+use Rattle.snl_facts.specs.Options.{none_or}
 use Rattle.snl_cut.specs.Cut.{members}
 use Rattle.snl_lex.specs.declared.piece.Piece.{Piece}
 use Rattle.snl_syntax.specs.declared.tree.item.Item.{Item}
@@ -107,10 +108,6 @@ some_first : {X : Type 0} (a b : Option X) → is_some a ≡ true → a ≡ opti
 some_first None b h = absurd cc
 some_first (Some x) b h = refl
 
-none_first : {X : Type 0} (a b : Option X) → is_some a ≡ false → option_or a b ≡ b
-none_first None b h = refl
-none_first (Some x) b h = absurd cc
-
 -- a header names the program, if no item before it does
 pub name_at : (xs : List ProgramItem) (i : ℕ) → i < length xs → is_some (option_and_then header_name (slice_get xs i)) ≡ true →
     option_and_then header_name (slice_get xs i) ≡ program_name (drop i xs)
@@ -119,7 +116,7 @@ name_at xs i lt h = some_first (option_and_then header_name (slice_get xs i)) (p
 -- any other item does not
 pub name_step : (xs : List ProgramItem) (i : ℕ) → i < length xs → is_some (option_and_then header_name (slice_get xs i)) ≡ false →
     program_name (drop i xs) ≡ program_name (drop (i + 1) xs)
-name_step xs i lt h = rest_of xs i lt ∙ none_first (option_and_then header_name (slice_get xs i)) (program_name (drop (i + 1) xs)) h
+name_step xs i lt h = rest_of xs i lt ∙ none_or (option_and_then header_name (slice_get xs i)) (program_name (drop (i + 1) xs)) h
 
 pub no_name : (xs : List ProgramItem) (i : ℕ) → length xs ≤ i → program_name (drop i xs) ≡ None
 no_name xs i past = ap program_name (drop_all i xs past)

@@ -1,9 +1,7 @@
-pub mod Each
 pub mod Loops
 pub mod Searching
 pub mod Walks
 pub mod FewSteps
-pub mod Positions
 pub mod Sets
 pub mod Items
 pub mod SameClauses

@@ -1,9 +1,6 @@
--- A loop that adds what the elements of a list give: at its end all is there.
+-- A loop along a list: at its end all of it is taken.
 use Rattle.std.proofs.Math.Seq.{take_all}
-use Rattle.std.proofs.Common.{◌≡◌, ℕ, ◌≤◌, List, [], ◌++◌, length, drop, take, ap, sym, ◌∙◌, append-nil, drop_of_length-le}
-
-pub at_end : {A B : Type 0} (gives : List A → List B) → gives [] ≡ [] → (xs : List A) (i : ℕ) (ys all : List B) → length xs ≤ i → ys ++ gives (drop i xs) ≡ all → ys ≡ all
-at_end gives none xs i ys all past was = sym (append-nil ys) ∙ ap (λ l. ys ++ l) (sym (ap gives (drop_of_length-le xs past) ∙ none)) ∙ was
+use Rattle.std.proofs.Common.{◌≡◌, ℕ, ◌≤◌, List, length, take, ap, ◌∙◌}
 
 pub all_taken : {A : Type 0} {B : Type 0} (gives : List A → B) (xs : List A) (i : ℕ) (ys : B) → length xs ≤ i → ys ≡ gives (take i xs) → ys ≡ gives xs
 all_taken gives xs i ys past was = was ∙ ap gives (take_all i xs past)

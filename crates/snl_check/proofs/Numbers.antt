@@ -3,12 +3,15 @@
 use Rattle.std.proofs.Common.{◌≡◌, ℕ, zero, suc, ◌<◌, ◌≤◌, Bool, true, false, ◌&&◌, ◌||◌, cond, List, [], ◌∷◌, ◌++◌, length, get_or, slice_get, nat_eq, Option, None, Some, is_some, refl, sym, ap, ◌∙◌, true≢false, inl, inr, if◌then◌else◌, arith, length-append}
 use Rattle.std.proofs.Math.ListN.{set}
 use Rattle.std.proofs.Math.Seq.{get_or-append_seam, set-append_seam}
-use Rattle.std.proofs.lemmas.Bool.{cases_lt}
+use Rattle.std.proofs.lemmas.Bool.{and_parts, cases_lt, false_from_ne_true}
 use Rattle.std.proofs.lemmas.List.{append-nil, get_or_append_left, set-append_left}
 use borrow.Author.Tests.{eq-eqb}
 use Rattle.std.proofs.lemmas.Bool.Decides.{Decides-eqb}
 use Rattle.std.specs.Map.{lookup}
 use Rattle.std.specs.Option.{option_map_or, option_or}
+use Rattle.snl_scope.specs.BelowLaws.{all_below_same}
+use Rattle.snl_facts.specs.Options.{none_or, or_none}
+use Rattle.snl_facts.specs.Positions.{position_push}
 use Rattle.snl_scope.specs.Below.{all_below}
 use Rattle.snl_check.specs.declared.rows.channel_numbers.ElementKey.{ElementKey}
 use Rattle.snl_check.specs.declared.rows.channel_numbers.Which.{Which}
@@ -17,8 +20,6 @@ use Rattle.snl_check.specs.contracts.rows.channel_numbers.ElementKeyPartialEq.Th
 use Rattle.snl_check.specs.contracts.rows.channel_numbers.WhichPartialEq.TheImpl as which_eq
 use Rattle.snl_check.specs.Channels.{AssignedChannel, channels_of, element_number, is_channel_of, is_element, is_element_of, is_on, variables_before}
 use Rattle.snl_check.specs.Numbered.{Adds, Numbered, element_in, is_key_of, same_key, same_which}
-use Rattle.snl_check.proofs.Positions.{position_push}
-use Rattle.snl_check.proofs.Sets.{false_if}
 
 -- the table is read by the test that the code derives
 which_is : (a b : Which) → which_eq.eq-value.it a b ≡ same_which a b
@@ -36,14 +37,9 @@ which_true which.Any (which.Element b) h = absurd (true≢false (sym h))
 which_true (which.Element a) which.Any h = absurd (true≢false (sym h))
 which_true (which.Element a) (which.Element b) h = ap which.Element ((Decides-eqb a b).0 h)
 
-both : (b c : Bool) → (b && c) ≡ true → (b ≡ true) × (c ≡ true)
-both true true h = (refl, refl)
-both true false h = absurd (true≢false (sym h))
-both false c h = absurd (true≢false (sym h))
-
 key_true : (a b : ElementKey) → same_key a b ≡ true → a ≡ b
 key_true a b h =
-    let t = both (nat_eq a.variable b.variable) (same_which a.which b.which) h in
+    let t = and_parts (nat_eq a.variable b.variable) (same_which a.which b.which) h in
     let by_variable : a ≡ record a { variable = b.variable } = ap (λ v. record a { variable = v }) ((Decides-eqb a.variable b.variable).0 t.0) in
     by_variable ∙ ap (λ e. record b { which = e }) (which_true a.which b.which t.1)
 
@@ -52,17 +48,9 @@ lookup_is m [] = refl
 lookup_is m (e ∷ es) =
     ap (λ b. cond b (Some e.1) (lookup (key_eq.eq-value.it m) es)) (key_is m e.0) ∙ ap (cond (same_key m e.0) (Some e.1)) (lookup_is m es)
 
-or_nothing : (o : Option ℕ) → option_or o None ≡ o
-or_nothing None = refl
-or_nothing (Some k) = refl
-
 or_known : (o p : Option ℕ) → is_some o ≡ true → option_or o p ≡ o
 or_known None p h = absurd (true≢false (sym h))
 or_known (Some k) p h = refl
-
-or_new : (o p : Option ℕ) → is_some o ≡ false → option_or o p ≡ p
-or_new None p h = refl
-or_new (Some k) p h = absurd (true≢false h)
 
 -- what is known of a key is known of an equal one
 known_same : (one q : ElementKey) (held : List (ElementKey × ℕ)) (b : Bool) → is_some (lookup (key_eq.eq-value.it one) held) ≡ b → same_key one q ≡ true
@@ -82,8 +70,8 @@ adds_new one number before after absent put =
   where
     by : (q : ElementKey) (b : Bool) → (b ≡ true → is_some (lookup (same_key q) before) ≡ false)
         → cond b (Some number) (lookup (same_key q) before) ≡ option_or (lookup (same_key q) before) (if b then Some number else None)
-    by q true h = sym (or_new (lookup (same_key q) before) (Some number) (h refl))
-    by q false h = sym (or_nothing (lookup (same_key q) before))
+    by q true h = sym (none_or (lookup (same_key q) before) (Some number) (h refl))
+    by q false h = sym (or_none (lookup (same_key q) before))
 
 -- a key that an earlier channel has
 pub adds_known : (one : ElementKey) (number : ℕ) (held : List (ElementKey × ℕ)) → is_some (lookup (key_eq.eq-value.it one) held) ≡ true → Adds held held (same_key one) number
@@ -92,12 +80,12 @@ adds_known one number held there = record { each = λ q. by q (same_key one q) (
     by : (q : ElementKey) (b : Bool) → (b ≡ true → is_some (lookup (same_key q) held) ≡ true)
         → lookup (same_key q) held ≡ option_or (lookup (same_key q) held) (if b then Some number else None)
     by q true h = sym (or_known (lookup (same_key q) held) (Some number) (h refl))
-    by q false h = sym (or_nothing (lookup (same_key q) held))
+    by q false h = sym (or_none (lookup (same_key q) held))
 
 -- a channel of the whole variable has no key
 pub adds_none : (held : List (ElementKey × ℕ)) (has : ElementKey → Bool) (number : ℕ) → ((k : ElementKey) → has k ≡ false) → Adds held held has number
 adds_none held has number h =
-    record { each = λ k. sym (ap (λ b. option_or (lookup (same_key k) held) (if b then Some number else None)) (h k) ∙ or_nothing (lookup (same_key k) held)) }
+    record { each = λ k. sym (ap (λ b. option_or (lookup (same_key k) held) (if b then Some number else None)) (h k) ∙ or_none (lookup (same_key k) held)) }
 
 -- one that has the keys of both tests
 pub adds_both : (before between after : List (ElementKey × ℕ)) (p q has : ElementKey → Bool) (number : ℕ) → ((k : ElementKey) → (p k || q k) ≡ has k)
@@ -164,11 +152,6 @@ get_last : (cs : List AssignedChannel) (c : AssignedChannel) → slice_get (cs +
 get_last [] c = refl
 get_last (x ∷ cs) c = get_last cs c
 
-below_alike : (p q : ℕ → Bool) (n : ℕ) → ((j : ℕ) → j < n → p j ≡ q j) → all_below p n ≡ all_below q n
-below_alike p q zero h = refl
-below_alike p q (suc n) h =
-    ap (λ l. l ++ (if p n then n ∷ [] else [])) (below_alike p q n (λ j l. h j (omega (arith, l)))) ∙ ap (λ b. all_below q n ++ (if b then n ∷ [] else [])) (h n (omega arith))
-
 count_more : (cs : List AssignedChannel) (c : AssignedChannel) → length (cs ++ c ∷ []) ≡ suc (length cs)
 count_more cs c = omega (arith, length-append cs (c ∷ []))
 
@@ -176,11 +159,11 @@ channels_more : (cs : List AssignedChannel) (c : AssignedChannel) (v : ℕ) → 
 channels_more cs c v =
     ap (all_below (is_channel_of (cs ++ c ∷ []) v)) (count_more cs c)
     ∙ ap (λ l. l ++ (if is_channel_of (cs ++ c ∷ []) v (length cs) then length cs ∷ [] else []))
-    (below_alike (is_channel_of (cs ++ c ∷ []) v) (is_channel_of cs v) (length cs) (λ j l. ap (λ o. option_map_or (is_on v) o false) (get_front cs c j l)))
+    (all_below_same (is_channel_of (cs ++ c ∷ []) v) (is_channel_of cs v) (length cs) (λ j l. ap (λ o. option_map_or (is_on v) o false) (get_front cs c j l)))
     ∙ ap (λ o. channels_of cs v ++ (if option_map_or (is_on v) o false then length cs ∷ [] else [])) (get_last cs c)
 
 other_variable : (c : AssignedChannel) (v : ℕ) → (c.variable ≡ v → ⊥) → is_on v c ≡ false
-other_variable c v ne = false_if (is_on v c) (λ h. ne ((Decides-eqb c.variable v).0 h))
+other_variable c v ne = false_from_ne_true (is_on v c) (λ h. ne ((Decides-eqb c.variable v).0 h))
 
 channels_other : (cs : List AssignedChannel) (c : AssignedChannel) (v : ℕ) → (c.variable ≡ v → ⊥) → channels_of (cs ++ c ∷ []) v ≡ channels_of cs v
 channels_other cs c v ne = channels_more cs c v ∙ ap (λ b. channels_of cs v ++ (if b then length cs ∷ [] else [])) (other_variable c v ne) ∙ append-nil (channels_of cs v)

@@ -1,12 +1,12 @@
 -- What is kept of the items of a set is what the items of the text say.
-use Rattle.std.proofs.Common.{◌≡◌, ℕ, zero, suc, ◌+◌, ◌<◌, ◌&&◌, ◌||◌, Bool, true, false, not, cond, filter, List, [], ◌∷◌, ◌++◌, length, map, slice_get, slice_index_or, nat_eq, Option, Some, None, is_some, if◌then◌else◌, refl, sym, ap, ap₂, ◌∙◌, subst, arith}
+use Rattle.std.proofs.Common.{◌≡◌, ℕ, zero, suc, ◌+◌, ◌<◌, ◌&&◌, ◌||◌, Bool, true, false, not, cond, filter, List, [], ◌∷◌, length, map, slice_get, slice_index_or, nat_eq, Option, Some, None, is_some, if◌then◌else◌, refl, sym, ap, ap₂, ◌∙◌, subst, arith}
 use Rattle.std.specs.List.{AllByRecursion, AllPairs, enumerate_from, filter_map, list_any}
 use Rattle.std.specs.List.Sorted.{IsStrictlyIncreasing}
 use Rattle.std.specs.Option.{option_and_then, option_map_or}
 use Rattle.std.proofs.lemmas.List.{get_or-map, length-map}
-use Rattle.std.proofs.lemmas.List.Elements.{filter-append}
 use Rattle.std.proofs.lemmas.List.Folds.{list_any-append}
 use Rattle.std.proofs.lemmas.List.Kept.{AllPairs-filter, AllPairs-from_increasing}
+use Rattle.snl_scope.specs.BelowLaws.{all_below_rises, filter_below}
 use Rattle.snl_scope.specs.declared.summaries.summary.Outline.{Outline}
 use Rattle.snl_scope.specs.Below.{all_below, any_below}
 use Rattle.snl_scope.specs.Linked.{state_of}
@@ -18,21 +18,9 @@ use Rattle.snl_item_check.specs.Items.{ProgramItem, summary_of_item}
 use Rattle.snl_check.specs.Members.{AreSetMembers, IsSetMember, has_faulty, has_name, is_faulty_item, is_first_by_member, numbers_by_member, states_in, target_number, target_numbers, targets_among}
 use Rattle.snl_check.specs.States.{first_mark, is_reached_in, is_repeated, mark_of, mark_by_member, marks_of}
 use Rattle.snl_check.proofs.Marks.{marks_alike}
-use Rattle.snl_check.proofs.Sets.{all_below_rises, copied_some, get_here}
+use Rattle.snl_check.proofs.Sets.{copied_some, get_here}
 
 -- ---- numbers below another that pass two tests
-
-pub filter_below : (p q : ℕ → Bool) (n : ℕ) → filter p (all_below q n) ≡ all_below (λ j. p j && q j) n
-filter_below p q zero = refl
-filter_below p q (suc n) =
-    filter-append p (all_below q n) (if q n then n ∷ [] else []) ∙ ap (λ l. l ++ filter p (if q n then n ∷ [] else [])) (filter_below p q n)
-    ∙ ap (λ l. all_below (λ j. p j && q j) n ++ l) (by (q n) (p n) refl)
-  where
-    by : (b c : Bool) → p n ≡ c → filter p (if b then n ∷ [] else []) ≡ (if (p n && b) then n ∷ [] else [])
-    by true true e = ap (λ d. cond d (n ∷ []) []) e ∙ sym (ap (λ d. if (d && true) then n ∷ [] else []) e)
-    by true false e = ap (λ d. cond d (n ∷ []) []) e ∙ sym (ap (λ d. if (d && true) then n ∷ [] else []) e)
-    by false true e = sym (ap (λ d. if (d && false) then n ∷ [] else []) e)
-    by false false e = sym (ap (λ d. if (d && false) then n ∷ [] else []) e)
 
 pub any_of_below : (p q : ℕ → Bool) (n : ℕ) → list_any p (all_below q n) ≡ any_below (λ j. p j && q j) n
 any_of_below p q zero = refl

@@ -1,16 +1,14 @@
 -- The items of a state set follow one another; its states, and what is found in it.
 use Rattle.std.proofs.Common.{◌≡◌, ◌⊎◌, ◌&&◌, ◌||◌, ℕ, zero, suc, ◌+◌, ◌-◌, ◌<◌, ◌≤◌, Bool, true, false, not, List, [], ◌∷◌, ◌++◌, length, length-append, get_or, map, nat_eq, nat_lt, slice_get, All, Option, Some, None, inl, inr, refl, sym, ap, subst, ◌∙◌, add-one, arith, if◌then◌else◌, option_copied, is_some, Bor}
-use Rattle.std.specs.List.{cons_option, filter, filter_map, range_with_len}
-use Rattle.std.specs.List.Sorted.{IsStrictlyIncreasing}
+use Rattle.std.specs.List.{cons_option, filter_map}
 use Rattle.std.specs.Option.{option_map_or}
-use Rattle.std.proofs.lemmas.Bool.{cases_lt, eqb-true, false≢true}
+use Rattle.std.proofs.lemmas.Bool.{cases_lt, eqb-true, false_from_ne_true, false≢true}
 use Rattle.std.proofs.Math.Seq.{get_or-append_seam}
 use Rattle.std.proofs.lemmas.List.{append-nil, get_or_append_left, length-map, map-append}
 use Rattle.std.proofs.lemmas.List.Elements.{All-append, All-map, All-nil, All-push}
 use Rattle.std.proofs.lemmas.List.Quantifiers.{position-Some}
-use Rattle.std.proofs.lemmas.List.FromFn.{filter_of_map_range_with_len_more, get_or-map-range_with_len, length-map-range_with_len}
-use Rattle.std.proofs.lemmas.List.Kept.{IsStrictlyIncreasing-filter}
 use borrow.Author.Tests.{eq-eqb, le-ltb, lt-ltb}
+use Rattle.snl_scope.specs.BelowLaws.{any_below_none}
 use Rattle.snl_scope.specs.declared.summaries.summary.NameRef.{NameRef}
 use Rattle.snl_scope.specs.declared.summaries.summary.Outline.{Outline}
 use Rattle.snl_scope.specs.Below.{all_below, any_below}
@@ -32,10 +30,6 @@ pub get_here : {X : Type 0} (xs : List X) (j : ℕ) → j < length xs → (x : X
 get_here [] j l = absurd (omega (arith, l))
 get_here (x ∷ xs) zero l = (x, refl)
 get_here (x ∷ xs) (suc j) l = get_here xs j (omega (arith, l))
-
-pub false_if : (b : Bool) → (b ≡ true → ⊥) → b ≡ false
-false_if true h = absurd (h refl)
-false_if false h = refl
 
 -- what a test of an item says of its number
 pub is_within : (test : Outline → Bool) (ss : List Outline) (i : ℕ) → item_is test ss i ≡ true → i < length ss
@@ -89,12 +83,12 @@ module _ (law : SetsOpenInTurn) (ss : List Outline) (k : ℕ) where
       stands_is i (back (j - i) i l (omega (arith, le, within)) (subst (λ n. enclosing_set ss n ≡ Some k) (sym same) (stands_from j h)))
 
   none_before : (j : ℕ) → j ≤ k → stands_in ss k j ≡ false
-  none_before j l = false_if (stands_in ss k j) (λ h. let less = law.within ss j k (stands_from j h) in omega (arith, l, less))
+  none_before j l = false_from_ne_true (stands_in ss k j) (λ h. let less = law.within ss j k (stands_from j h) in omega (arith, l, less))
 
   -- after the item that ends the set no item is in it
   none_after : (i : ℕ) → k < i → (i ≡ length ss) ⊎ (stands_in ss k i ≡ false) → (j : ℕ) → i ≤ j → j < length ss → stands_in ss k j ≡ false
   none_after i l end j le within =
-      false_if (stands_in ss k j) (λ h. elim end [ inl all ↦ omega (arith, all, le, within) | inr out ↦ false≢true (sym out ∙ between i j l le within h) ])
+      false_from_ne_true (stands_in ss k j) (λ h. elim end [ inl all ↦ omega (arith, all, le, within) | inr out ↦ false≢true (sym out ∙ between i j l le within h) ])
 
   pub stand_within : (i : ℕ) → k < i → ((j : ℕ) → k < j → j < i → stands_in ss k j ≡ true) → (i ≡ length ss) ⊎ (stands_in ss k i ≡ false) → (j : ℕ) → j < length ss → stands_in ss k j ≡ (nat_lt k j && nat_lt j i)
   stand_within i l inside end j within =
@@ -108,10 +102,6 @@ module _ (law : SetsOpenInTurn) (ss : List Outline) (k : ℕ) where
       ]
 
 -- searches that pass over numbers
-any_none : (p : ℕ → Bool) (n : ℕ) → ((j : ℕ) → j < n → p j ≡ false) → any_below p n ≡ false
-any_none p zero h = refl
-any_none p (suc n) h = ap (λ b. b || any_below p n) (h n (omega arith)) ∙ any_none p n (λ j l. h j (omega (arith, l)))
-
 pub all_none : (p : ℕ → Bool) (n : ℕ) → ((j : ℕ) → j < n → p j ≡ false) → all_below p n ≡ []
 all_none p zero h = refl
 all_none p (suc n) h = ap (λ l. l ++ (if p n then n ∷ [] else [])) (all_none p n (λ j l. h j (omega (arith, l)))) ∙ ap (λ b. if b then n ∷ [] else []) (h n (omega arith))
@@ -129,21 +119,6 @@ any_past p i (suc d) h =
     let same : i + suc d ≡ suc (i + d) = omega arith in
     ap (any_below p) same ∙ ap (λ b. b || any_below p (i + d)) (h (i + d) (omega arith) (omega arith)) ∙ any_past p i d (λ j l m. h j l (omega (arith, m)))
 
--- the numbers below one that pass a test rise
-abbrev numbers : ℕ → List ℕ
-numbers n = map (λ k. k) (range_with_len 0 n)
-
-all_below_filter : (p : ℕ → Bool) (n : ℕ) → all_below p n ≡ filter p (numbers n)
-all_below_filter p zero = refl
-all_below_filter p (suc n) =
-    ap (λ l. l ++ (if p n then n ∷ [] else [])) (all_below_filter p n)
-    ∙ sym (filter_of_map_range_with_len_more p (λ k. k) 0 n n (omega arith)) ∙ ap (λ m. filter p (numbers m)) (add-one n)
-
-pub all_below_rises : (p : ℕ → Bool) (n : ℕ) → IsStrictlyIncreasing (all_below p n)
-all_below_rises p n =
-    subst IsStrictlyIncreasing (sym (all_below_filter p n)) (IsStrictlyIncreasing-filter p (numbers n) (λ k h.
-    omega (arith, h, length-map-range_with_len (λ k. k) 0 n, get_or-map-range_with_len (λ k. k) 0 n k k 0, get_or-map-range_with_len (λ k. k) 0 n (k + 1) (k + 1) 0)))
-
 -- the members of a set, of which the items from `from` up to `end` are all
 module _ (ss : List Outline) (k : ℕ) (test : ℕ → Bool) (end : ℕ) (some : k < end) (within : end ≤ length ss)
     (items : (j : ℕ) → j < length ss → stands_in ss k j ≡ (nat_lt k j && nat_lt j end)) where
@@ -155,7 +130,7 @@ module _ (ss : List Outline) (k : ℕ) (test : ℕ → Bool) (end : ℕ) (some :
   members_none = all_none (λ j. test j && stands_in ss k j) (k + 1) (λ j l. outside j (omega (arith, l, some, within)) (inl (omega (arith, l))))
 
   pub members_no_one : any_below (λ j. test j && stands_in ss k j) (k + 1) ≡ false
-  members_no_one = any_none (λ j. test j && stands_in ss k j) (k + 1) (λ j l. outside j (omega (arith, l, some, within)) (inl (omega (arith, l))))
+  members_no_one = any_below_none (λ j. test j && stands_in ss k j) (k + 1) (λ j l. outside j (omega (arith, l, some, within)) (inl (omega (arith, l))))
 
   -- an item of the set
   here : (i : ℕ) → k < i → i < end → (test i && stands_in ss k i) ≡ test i

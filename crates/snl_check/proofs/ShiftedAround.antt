@@ -3,9 +3,13 @@
 use Rattle.std.proofs.Common.{◌≡◌, ◌≢◌, ℕ, zero, suc, ◌+◌, ◌<◌, ◌&&◌, ◌||◌, Bool, true, false, List, [], ◌∷◌, ◌++◌, length, map, slice_get, nat_eq, Option, Some, None, inl, inr, if◌then◌else◌, refl, sym, subst, ap, ap₂, ◌∙◌, arith, nat_lt, IfSome}
 use Rattle.std.specs.List.{AllByRecursion, enumerate_from, filter_map, flat_map}
 use Rattle.std.specs.Option.{is_none, option_and_then, option_map, option_map_or, option_to_list}
-use Rattle.std.proofs.lemmas.Bool.{cases_eq, eq-eqb, eqb-true, false≢true}
+use Rattle.std.proofs.lemmas.Bool.{and_from, cases_eq, eq-eqb, eqb-true, false_from_ne_true, false≢true}
 use Rattle.std.proofs.lemmas.List.{length-append, length-map}
 use Rattle.std.proofs.lemmas.Option.{slice_get-map}
+use Rattle.snl_tables.specs.ShiftedLaws.{changed_twice}
+use Rattle.snl_scope.specs.BelowLaws.{each_below, each_passing}
+use Rattle.snl_facts.specs.Booleans.{and_first, and_second}
+use Rattle.snl_facts.specs.Each.{each_append, each_map, each_weaker}
 use Rattle.snl_lex.specs.declared.lines.Line.{Line}
 use Rattle.snl_lex.specs.declared.piece.Piece.{Piece}
 use Rattle.snl_lex.specs.declared.shift.Shift.{Shift}
@@ -61,16 +65,15 @@ use Rattle.snl_check.specs.ShiftedAround.{IsPlacedAt, IsSoundAsItWas, SaysAlike,
 use Rattle.snl_check.specs.Spans.{AreRead}
 use Rattle.snl_check.specs.States.{item_at, line_of_item, mark_of, marks_of, numbered_row, set_row, set_rows, state_body, state_row, state_rows, wake_of}
 use Rattle.snl_check.specs.Tables.{flag_row_at, tables_by, tables_of}
-use Rattle.snl_check.proofs.Each.{each_join, each_of, each_weaker}
 use Rattle.snl_check.proofs.Linked.{outline_at}
 use Rattle.snl_check.proofs.ShiftLists.{map_shift, numbered_shift}
-use Rattle.snl_check.proofs.Sets.{false_if, get_here, is_within}
+use Rattle.snl_check.proofs.Sets.{get_here, is_within}
 use Rattle.snl_check.proofs.ShiftedItems.{IsKept, faulty_stays, header_at, header_at_shifts, span_at_shifts, tree_stays}
 use Rattle.snl_check.proofs.ShiftedClauses.{HasBytes, flag_shifts, setting_stays}
 use Rattle.snl_check.proofs.ShiftedStates.{has_faulty_stays, state_row_shifts, targets_stay}
-use Rattle.snl_check.proofs.ShiftedRows.{Parts, and_back, and_both, and_none, changed_twice, each_under, kept_map, map_twice, marked_rows, numbered_changed, parts_at, row_changed, same_by_gets, same_either}
+use Rattle.snl_check.proofs.ShiftedRows.{Parts, and_none, kept_map, map_twice, marked_rows, numbered_changed, parts_at, row_changed, same_by_gets, same_either}
 use Rattle.snl_check.proofs.ShiftedTables.{IsLineKept, IsRowKept, MarksStay, RestStays, SpellingLaws, item_kept, outline_stays, same_channels, same_mark, set_line, set_named, set_shifts, state_line, state_shifts, tables_but_sets}
-use Rattle.snl_check.proofs.SpanLaws.{and_front, each_all, each_below, place_begins, each_beside, each_flat, each_got, tested, tokens_are}
+use Rattle.snl_check.proofs.SpanLaws.{each_all, place_begins, each_beside, each_flat, each_got, tested, tokens_are}
 
 -- ---- what a plain item is not
 
@@ -169,12 +172,12 @@ module _ (laws : SpellingLaws) (old text : List ℕ) (s : Shift) (line : ℕ →
 
   of_item : (i : ℕ) → i ≢ j → (o : Option Item) → AllByRecursion (λ (c : ItemClause). c.item ≢ j) (item_clauses_if i o)
   of_item i apart None = tt
-  of_item i apart (Some tree) = each_of (λ (c : ItemClause). c.item ≢ j) (item_clause i) (clauses_in_tree tree) (each_all (λ (c : Clause). i ≢ j) (clauses_in_tree tree) (λ c. apart))
+  of_item i apart (Some tree) = each_map (λ (c : ItemClause). c.item ≢ j) (item_clause i) (clauses_in_tree tree) (each_all (λ (c : Clause). i ≢ j) (clauses_in_tree tree) (λ c. apart))
 
   clauses_apart : (n : ℕ) → AllByRecursion (λ (c : ItemClause). c.item ≢ j) (item_clauses_before xs n)
   clauses_apart zero = tt
   clauses_apart (suc n) =
-      each_join (λ (c : ItemClause). c.item ≢ j) (item_clauses_before xs n) (item_clauses_if n (tree_in xs n)) (clauses_apart n)
+      each_append (λ (c : ItemClause). c.item ≢ j) (item_clauses_before xs n) (item_clauses_if n (tree_in xs n)) (clauses_apart n)
       (everywhere (λ i. AllByRecursion (λ (c : ItemClause). c.item ≢ j) (item_clauses_if i (tree_in xs i)))
       (subst (λ cs. AllByRecursion (λ (c : ItemClause). c.item ≢ j) cs) (sym no_old_clause) tt) (λ i apart. of_item i apart (tree_in xs i)) n)
 
@@ -190,7 +193,7 @@ module _ (laws : SpellingLaws) (old text : List ℕ) (s : Shift) (line : ℕ →
       on : (o : Option ℕ) (c : Clause) → AllByRecursion IsOfKept (channels_on old xs p.0.item o c)
       on (Some v) (clauses.Assign name channel) =
           let named = channels_in old (tokens_in xs p.0.item) channel in
-          each_of IsOfKept (assigned_channel p.0.item name v) named (each_all (λ n. IsKept old text s xs ys p.0.item) named (λ n. kept p.0.item apart))
+          each_map IsOfKept (assigned_channel p.0.item name v) named (each_all (λ n. IsKept old text s xs ys p.0.item) named (λ n. kept p.0.item apart))
       on _ _ = tt
 
       by : (b : Bool) → AllByRecursion IsOfKept (if b then channels_on old xs p.0.item p.1.variable p.0.clause else [])
@@ -216,7 +219,7 @@ module _ (laws : SpellingLaws) (old text : List ℕ) (s : Shift) (line : ℕ →
 
   declares_placed : (n : ℕ) (o : Outline) → AllByRecursion (λ d. IsPlaced n d.token) o.declares → AllByRecursion IsKeptName (map (declared_entry (scope_of ss n o) n) o.declares)
   declares_placed n o placed =
-      each_of IsKeptName (declared_entry (scope_of ss n o) n) o.declares
+      each_map IsKeptName (declared_entry (scope_of ss n o) n) o.declares
       (each_weaker (λ d. IsPlaced n d.token) (λ d. IsKeptName (declared_entry (scope_of ss n o) n d)) (λ d there. by d there (scope_in (scope_of ss n o))) o.declares placed)
     where
       by : (d : Declared) → IsPlaced n d.token → (c : Option Scope) → IfSome (option_map (λ c. variable_declaration n d.token c d.variable) c) (λ (d : Declaration). IsPlaced d.item d.token)
@@ -235,10 +238,10 @@ module _ (laws : SpellingLaws) (old text : List ℕ) (s : Shift) (line : ℕ →
 
   entries_placed : (n : ℕ) → AllByRecursion IsKeptName (entries_before ss n)
   entries_placed zero = tt
-  entries_placed (suc n) = each_join IsKeptName (entries_before ss n) (option_map_or (entries_of ss n) (slice_get ss n) []) (entries_placed n) (by (slice_get ss n) refl)
+  entries_placed (suc n) = each_append IsKeptName (entries_before ss n) (option_map_or (entries_of ss n) (slice_get ss n) []) (entries_placed n) (by (slice_get ss n) refl)
     where
       named : (namespace : Namespace) (code : Option Code) (words : List (List ℕ)) → AllByRecursion IsKeptName (map (named_entry namespace n code) words)
-      named namespace code words = each_of IsKeptName (named_entry namespace n code) words (each_all (λ name. IsKeptName (named_entry namespace n code name)) words (λ name. tt))
+      named namespace code words = each_map IsKeptName (named_entry namespace n code) words (each_all (λ name. IsKeptName (named_entry namespace n code name)) words (λ name. tt))
 
       states : (p : Option ℕ) (o : Outline) → AllByRecursion IsKeptName (state_entries p n o)
       states None o = tt
@@ -247,8 +250,8 @@ module _ (laws : SpellingLaws) (old text : List ℕ) (s : Shift) (line : ℕ →
       by : (o : Option Outline) → slice_get ss n ≡ o → AllByRecursion IsKeptName (option_map_or (entries_of ss n) o [])
       by None e = tt
       by (Some o) e =
-          each_join IsKeptName (set_entries n o ++ state_entries (enclosing_set ss n) n o) (map (declared_entry (scope_of ss n o) n) o.declares)
-          (each_join IsKeptName (set_entries n o) (state_entries (enclosing_set ss n) n o) (named namespace.Sets (Some E08) (option_to_list (set_name o))) (states (enclosing_set ss n) o))
+          each_append IsKeptName (set_entries n o ++ state_entries (enclosing_set ss n) n o) (map (declared_entry (scope_of ss n o) n) o.declares)
+          (each_append IsKeptName (set_entries n o) (state_entries (enclosing_set ss n) n o) (named namespace.Sets (Some E08) (option_to_list (set_name o))) (states (enclosing_set ss n) o))
           (declares_placed n o (declares_at n o e))
 
   declared_placed : (number : ℕ) (d : Declaration) → declaration_at ss number ≡ Some d → IsPlaced d.item d.token
@@ -328,14 +331,14 @@ module _ (laws : SpellingLaws) (old text : List ℕ) (s : Shift) (line : ℕ →
 
   states_apart : (k : ℕ) → (stands_in ss k j ≡ true → ⊥) → AllByRecursion (λ i. i ≢ j) (states_in ss k)
   states_apart k out =
-      each_below (λ i. i ≢ j) (is_state_in k) (length ss)
-      (λ i in_set here. out (subst (λ m. stands_in ss k m ≡ true) here (and_back (is_named_state ss i) (stands_in ss k i) in_set)))
+      each_passing (λ i. i ≢ j) (is_state_in k) (length ss)
+      (λ i in_set here. out (subst (λ m. stands_in ss k m ≡ true) here (and_second (is_named_state ss i) (stands_in ss k i) in_set)))
 
   marks_outside : (k : ℕ) → (stands_in ss k j ≡ true → ⊥) → MarksStay old text xs ys ss k
   marks_outside k out = record {
     some_faulty = has_faulty_stays old text s xs ys ss k
         (everywhere (λ i. (is_faulty_item ys i && stands_in ss k i) ≡ (is_faulty_item xs i && stands_in ss k i))
-        (and_none (is_faulty_item ys j) (is_faulty_item xs j) (stands_in ss k j) (false_if (stands_in ss k j) out))
+        (and_none (is_faulty_item ys j) (is_faulty_item xs j) (stands_in ss k j) (false_from_ne_true (stands_in ss k j) out))
         (λ i apart. ap (λ b. b && stands_in ss k i) (faulty_stays old text s xs ys i (kept i apart))));
     targets = each_weaker (λ i. i ≢ j) (λ i. target_numbers text ys ss (states_in ss k) i ≡ target_numbers old xs ss (states_in ss k) i)
         (λ i apart. targets_stay old text s xs ys ss i (kept i apart) before (states_in ss k)) (states_in ss k) (states_apart k out);
@@ -344,8 +347,8 @@ module _ (laws : SpellingLaws) (old text : List ℕ) (s : Shift) (line : ℕ →
   set_shift : (k : ℕ) → is_set_begin ss k ≡ true → (stands_in ss k j ≡ true → ⊥) → set_row text ys ss k ≡ moved_set s line (set_row old xs ss k)
   set_shift k is out =
       set_shifts old text s xs ys ss before same k (marks_outside k out) line (names k) (line_of_set k is)
-      (each_below (IsRowKept old text s line xs ys) (is_state_in k) (length ss)
-      (λ i in_set. row_kept i (λ here. out (subst (λ m. stands_in ss k m ≡ true) here (and_back (is_named_state ss i) (stands_in ss k i) in_set))) (and_front (is_named_state ss i) (stands_in ss k i) in_set)))
+      (each_passing (IsRowKept old text s line xs ys) (is_state_in k) (length ss)
+      (λ i in_set. row_kept i (λ here. out (subst (λ m. stands_in ss k m ≡ true) here (and_second (is_named_state ss i) (stands_in ss k i) in_set))) (and_first (is_named_state ss i) (stands_in ss k i) in_set)))
 
   tables_if : (sets : List SetRow) → set_rows text ys ss ≡ sets → tables_of text ys ≡ record (moved_tables s line (tables_of old xs)) { sets = sets }
   tables_if sets is = ap (tables_by text ys) outlines_stay ∙ tables_but_sets old text s xs ys ss before rest_stays line sets is
@@ -354,7 +357,7 @@ module _ (laws : SpellingLaws) (old text : List ℕ) (s : Shift) (line : ℕ →
   tables_of_sets each =
       tables_if (map (moved_set s line) (set_rows old xs ss))
       (map_shift (moved_set s line) (set_row old xs ss) (set_row text ys ss) (all_below (is_set_begin ss) (length ss))
-      (each_below (λ k. set_row text ys ss k ≡ moved_set s line (set_row old xs ss k)) (is_set_begin ss) (length ss) each))
+      (each_passing (λ k. set_row text ys ss k ≡ moved_set s line (set_row old xs ss k)) (is_set_begin ss) (length ss) each))
 
   -- ---- where it is in no set
 
@@ -393,7 +396,7 @@ module _ (laws : SpellingLaws) (old text : List ℕ) (s : Shift) (line : ℕ →
         let front = all_below (is_set_begin ss) set in
         ap (map (set_row text ys ss)) set_parts.whole
         ∙ row_changed (set_row text ys ss) (λ k. moved_set s line (set_row old xs ss k)) c front set set_parts.after
-        (each_under (λ k. set_row text ys ss k ≡ moved_set s line (set_row old xs ss k)) (is_set_begin ss) set (λ k l is. set_shift k is (other_set k (λ same. omega (arith, same, l)))))
+        (each_below (λ k. set_row text ys ss k ≡ moved_set s line (set_row old xs ss k)) (is_set_begin ss) set (λ k l is. set_shift k is (other_set k (λ same. omega (arith, same, l)))))
         here set_parts.each
         ∙ ap (changed_at c (set_number ss set))
         (map_twice (moved_set s line) (set_row old xs ss) (front ++ (set ∷ set_parts.after))
@@ -424,9 +427,9 @@ module _ (laws : SpellingLaws) (old text : List ℕ) (s : Shift) (line : ℕ →
     module _ (unnamed_here : is_named_state ss j ≡ false) where
       other_states : AllByRecursion (λ i. (n : ℕ) → unmarked (n, i) ≡ shifted_row (n, i)) (states_in ss set)
       other_states =
-          each_below (λ i. (n : ℕ) → unmarked (n, i) ≡ shifted_row (n, i)) (is_state_in set) (length ss)
+          each_passing (λ i. (n : ℕ) → unmarked (n, i) ≡ shifted_row (n, i)) (is_state_in set) (length ss)
           (λ i in_set.
-          let named : is_named_state ss i ≡ true = and_front (is_named_state ss i) (stands_in ss set i) in_set in
+          let named : is_named_state ss i ≡ true = and_first (is_named_state ss i) (stands_in ss set i) in_set in
           unmarked_shifts i (row_kept i (elsewhere unnamed_here i named) named))
 
       pub tables_in_set : tables_of text ys ≡ with_marks (moved_tables s line (tables_of old xs)) (set_number ss set) marks
@@ -450,8 +453,8 @@ module _ (laws : SpellingLaws) (old text : List ℕ) (s : Shift) (line : ℕ →
 
       state_parts : Parts (λ i. IsRowKept old text s line xs ys i) (is_state_in set) (length ss) j
       state_parts =
-          parts_at (λ i. IsRowKept old text s line xs ys i) (is_state_in set) (length ss) j inside (and_both (is_named_state ss j) (stands_in ss set j) named_here stands_here)
-          (λ i l m is. row_kept i (λ same. omega (arith, same, l)) (and_front (is_named_state ss i) (stands_in ss set i) is))
+          parts_at (λ i. IsRowKept old text s line xs ys i) (is_state_in set) (length ss) j inside (and_from (is_named_state ss j) (stands_in ss set j) named_here stands_here)
+          (λ i l m is. row_kept i (λ same. omega (arith, same, l)) (and_first (is_named_state ss i) (stands_in ss set i) is))
 
       line_here : line_of_item text ys j ≡ line (item_name xs j).start (line_of_item old xs j)
       line_here =
@@ -482,7 +485,7 @@ module _ (laws : SpellingLaws) (old text : List ℕ) (s : Shift) (line : ℕ →
           let IsShifted : ℕ → Type 0 = λ i. (n : ℕ) → row (n, i) ≡ shifted_row (n, i) in
           ap (λ (l : List ℕ). map row (enumerate_from 0 l)) state_parts.whole
           ∙ numbered_changed row shifted_row c 0 front j state_parts.after
-          (each_under IsShifted (is_state_in set) j (λ i l is. shifts i (row_kept i (λ same. omega (arith, same, l)) (and_front (is_named_state ss i) (stands_in ss set i) is))))
+          (each_below IsShifted (is_state_in set) j (λ i l is. shifts i (row_kept i (λ same. omega (arith, same, l)) (and_first (is_named_state ss i) (stands_in ss set i) is))))
           (subst (λ n. row (n, j) ≡ c (shifted_row (n, j))) zero own)
           (each_weaker (IsRowKept old text s line xs ys) IsShifted shifts state_parts.after state_parts.each)
           ∙ ap (λ (l : List ℕ). changed_at c number (map shifted_row (enumerate_from 0 l))) (sym state_parts.whole)
@@ -571,7 +574,7 @@ module _ (laws : SpellingLaws) (old text : List ℕ) (s : Shift) (line : ℕ →
         (λ i apart. faulty_stays old text s xs ys i (kept i apart))
 
     states_elsewhere : (k : ℕ) → AllByRecursion (λ i. i ≢ j) (states_in ss k)
-    states_elsewhere k = each_below (λ i. i ≢ j) (is_state_in k) (length ss) (λ i in_set. elsewhere unnamed i (and_front (is_named_state ss i) (stands_in ss k i) in_set))
+    states_elsewhere k = each_passing (λ i. i ≢ j) (is_state_in k) (length ss) (λ i in_set. elsewhere unnamed i (and_first (is_named_state ss i) (stands_in ss k i) in_set))
 
     marks_all : (k : ℕ) → MarksStay old text xs ys ss k
     marks_all k = record {
@@ -583,8 +586,8 @@ module _ (laws : SpellingLaws) (old text : List ℕ) (s : Shift) (line : ℕ →
     set_stays : (k : ℕ) → is_set_begin ss k ≡ true → set_row text ys ss k ≡ moved_set s line (set_row old xs ss k)
     set_stays k begins =
         set_shifts old text s xs ys ss before same k (marks_all k) line (names k) (line_of_set k begins)
-        (each_below (IsRowKept old text s line xs ys) (is_state_in k) (length ss)
-        (λ i in_set. let named : is_named_state ss i ≡ true = and_front (is_named_state ss i) (stands_in ss k i) in_set in row_kept i (elsewhere unnamed i named) named))
+        (each_passing (IsRowKept old text s line xs ys) (is_state_in k) (length ss)
+        (λ i in_set. let named : is_named_state ss i ≡ true = and_first (is_named_state ss i) (stands_in ss k i) in_set in row_kept i (elsewhere unnamed i named) named))
 
     pub tables_around : tables_of text ys ≡ moved_tables s line (tables_of old xs)
     tables_around = tables_of_sets set_stays

@@ -3,6 +3,7 @@
 use Rattle.std.proofs.Common.{◌≡◌, ℕ, zero, suc, ◌<◌, Bool, List, [], ◌∷◌, ◌++◌, length, map, slice_get, Option, Some, None, IfSome, if◌then◌else◌, refl, ap, ap₂, ◌∙◌}
 use Rattle.std.specs.List.{AllByRecursion, flat_map, zip}
 use Rattle.std.specs.Option.{option_and_then, option_map, option_map_or, unwrap_or}
+use Rattle.snl_facts.specs.Made.{filter_map_changed}
 use Rattle.snl_lex.specs.declared.piece.Piece.{Piece}
 use Rattle.snl_lex.specs.declared.shift.Shift.{Shift}
 use Rattle.snl_lex.specs.Numbers.{int_value_of}
@@ -39,7 +40,7 @@ use Rattle.snl_check.specs.Settings.{LetterSetting, gathered, letters_of_program
 use Rattle.snl_check.specs.ItemSpans.{item_name, span_at}
 use Rattle.snl_item_check.specs.View.{is_in_set}
 use Rattle.snl_check.specs.Tables.{channel_row, channel_rows, flag_row, flag_row_at, flag_rows, queue_of, scope_name, scope_of_variable, sync_of, synced, synced_by, variables_of}
-use Rattle.snl_check.proofs.ShiftLists.{flat_same, gathered_same, kept_shift, map_shift}
+use Rattle.snl_check.proofs.ShiftLists.{flat_same, gathered_same, map_shift}
 use Rattle.snl_check.proofs.ShiftedItems.{IsKept, span_at_shifts, tree_stays}
 use Rattle.snl_check.proofs.SpanLaws.{each_got}
 
@@ -92,7 +93,7 @@ module _ (s : Shift) (xs ys : List ProgramItem) (ss : List Outline) (names : (i 
 
   pub flags_shift : AllByRecursion (λ number. flag_row_at ys ss number ≡ option_map (shifted_flag s) (flag_row_at xs ss number)) (flags_of ss) →
       flag_rows ys ss ≡ map (shifted_flag s) (flag_rows xs ss)
-  flags_shift each = kept_shift (shifted_flag s) (flag_row_at xs ss) (flag_row_at ys ss) (flags_of ss) each
+  flags_shift each = filter_map_changed (shifted_flag s) (flag_row_at xs ss) (flag_row_at ys ss) (flags_of ss) each
 
 -- ---- clauses
 

@@ -2,23 +2,14 @@
 use Rattle.std.proofs.Common.{◌≡◌, ℕ, zero, suc, ◌+◌, ◌<◌, ◌&&◌, Bool, true, false, List, [], ◌∷◌, ◌++◌, length, map, slice_get, Option, inl, inr, if◌then◌else◌, refl, sym, subst, ap, ap₂, ◌∙◌, arith, append_assoc}
 use Rattle.std.specs.List.{AllByRecursion, cons_option, enumerate_from, filter_map}
 use Rattle.std.proofs.lemmas.Bool.{cases_eq, false≢true}
+use Rattle.snl_facts.specs.Each.{each_append}
 use Rattle.snl_scope.specs.Below.{all_below}
 use Rattle.snl_tables.specs.declared.rows.StateMark.{StateMark}
 use Rattle.snl_tables.specs.declared.rows.StateRow.{StateRow}
 use Rattle.snl_tables.specs.Shifted.{changed_at, marked, with_own_mark}
-use Rattle.snl_check.proofs.Each.{each_join}
 use Rattle.snl_check.proofs.ShiftLists.{map_same}
 
 -- ---- numbers below another: those before a number that passes, it, and those after it
-
-pub each_under : (P : ℕ → Type 0) (p : ℕ → Bool) (n : ℕ) → ((i : ℕ) → i < n → p i ≡ true → P i) → AllByRecursion P (all_below p n)
-each_under P p zero h = tt
-each_under P p (suc n) h =
-    each_join P (all_below p n) (if p n then n ∷ [] else []) (each_under P p n (λ i l. h i (omega (arith, l)))) (by (p n) refl)
-  where
-    by : (b : Bool) → p n ≡ b → AllByRecursion P (if b then n ∷ [] else [])
-    by true e = (h n (omega arith) e, tt)
-    by false e = tt
 
 pub record Parts (P : ℕ → Type 0) (p : ℕ → Bool) (n k : ℕ) : Type 0 where
   pub after : List ℕ
@@ -39,7 +30,7 @@ parts_at P p (suc n) k l is h =
           record {
             after = before.after ++ (if p n then n ∷ [] else []);
             whole = ap (λ xs. xs ++ (if p n then n ∷ [] else [])) before.whole ∙ append_assoc (all_below p k) (k ∷ before.after) (if p n then n ∷ [] else []);
-            each = each_join P before.after (if p n then n ∷ [] else []) before.each (by (p n) refl (omega (arith, l, apart)));
+            each = each_append P before.after (if p n then n ∷ [] else []) before.each (by (p n) refl (omega (arith, l, apart)));
           }
     ]
   where
@@ -68,11 +59,6 @@ numbered_changed {Y = Y} f g c n [] k after b e a =
 numbered_changed {Y = Y} f g c n (x ∷ xs) k after b e a =
     let here : n + suc (length xs) ≡ (n + 1) + length xs = omega arith in
     ap₂ (λ (y : Y) (ys : List Y). y ∷ ys) (b.0 n) (numbered_changed f g c (n + 1) xs k after b.1 (subst (λ (m : ℕ). f (m, k) ≡ c (g (m, k))) here e) a)
-
-pub changed_twice : {Y : Type 0} (f g : Y → Y) (n : ℕ) (ys : List Y) → changed_at f n (changed_at g n ys) ≡ changed_at (λ y. f (g y)) n ys
-changed_twice f g n [] = refl
-changed_twice f g zero (y ∷ ys) = refl
-changed_twice {Y = Y} f g (suc n) (y ∷ ys) = ap (λ (l : List Y). y ∷ l) (changed_twice f g n ys)
 
 -- rows that are others but for their marks
 pub marked_rows : (mark : ℕ → ℕ → StateMark) (f g : ℕ × ℕ → StateRow) → ((n j : ℕ) → f (n, j) ≡ with_own_mark (mark n j) (g (n, j))) → (n : ℕ) (js : List ℕ) →
@@ -103,14 +89,6 @@ and_none true true false h = refl
 and_none true false false h = refl
 and_none false true false h = refl
 and_none false false false h = refl
-
-pub and_both : (a b : Bool) → a ≡ true → b ≡ true → (a && b) ≡ true
-and_both true b e f = f
-and_both false b e f = absurd (false≢true e)
-
-pub and_back : (a b : Bool) → (a && b) ≡ true → b ≡ true
-and_back true b h = h
-and_back false b h = absurd (false≢true h)
 
 pub same_either : {X : Type 0} (b : Bool) (o : X) → (if b then o else o) ≡ o
 same_either true o = refl

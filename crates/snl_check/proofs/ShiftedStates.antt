@@ -3,6 +3,8 @@
 use Rattle.std.proofs.Common.{◌≡◌, ℕ, ◌<◌, ◌&&◌, Bool, List, [], ◌∷◌, length, map, slice_get, Option, Some, None, if◌then◌else◌, refl, sym, ap, ap₂, ◌∙◌}
 use Rattle.std.specs.List.{AllByRecursion, filter_map, flat_map}
 use Rattle.std.specs.Option.{option_and_then, option_map_or}
+use Rattle.snl_scope.specs.BelowLaws.{any_below_same}
+use Rattle.snl_facts.specs.Made.{flat_map_changed}
 use Rattle.snl_lex.specs.declared.lines.Line.{Line}
 use Rattle.snl_lex.specs.declared.shift.Shift.{Shift}
 use Rattle.snl_syntax.specs.declared.tree.item.Item.{Item}
@@ -35,7 +37,7 @@ use Rattle.snl_check.specs.Settings.{state_options}
 use Rattle.snl_check.specs.States.{by_statements, destination, destinations_in_member, gotos_in, is_reached_in, is_repeated, item_at, line_of_item, mark_of, members_in, named_state, numbered_row, set_row, state_row, state_rows}
 use Rattle.snl_item_check.specs.Told.{Told, nothing, told_by, told_in, told_in_item}
 use Rattle.snl_check.proofs.Linked.{targets_at}
-use Rattle.snl_check.proofs.ShiftLists.{any_same, flat_shift, map_same, map_shift, numbered_shift}
+use Rattle.snl_check.proofs.ShiftLists.{map_same, map_shift, numbered_shift}
 use Rattle.snl_check.proofs.ShiftedItems.{IsKept, span_at_shifts, tree_stays}
 use Rattle.snl_check.proofs.SpanLaws.{each_all}
 
@@ -83,7 +85,7 @@ module _ (old text : List ℕ) (s : Shift) (xs ys : List ProgramItem) (ss : List
     transitions_shift =
         let ms = members_in (tree_in xs i) in
         ap (λ (t : Option Item). flat_map (destinations_in_member text (tokens_in ys i) ss i) (members_in t)) (tree_stays old text s xs ys i kept)
-        ∙ flat_shift (shifted_destination s) (destinations_in_member old (tokens_in xs i) ss i) (destinations_in_member text (tokens_in ys i) ss i) ms
+        ∙ flat_map_changed (shifted_destination s) (destinations_in_member old (tokens_in xs i) ss i) (destinations_in_member text (tokens_in ys i) ss i) ms
         (each_all (λ m. destinations_in_member text (tokens_in ys i) ss i m ≡ map (shifted_destination s) (destinations_in_member old (tokens_in xs i) ss i m)) ms member_shifts)
 
     own_told_stays : told_in_item text (item_at ys i) ≡ told_in_item old (item_at xs i)
@@ -134,7 +136,7 @@ module _ (old text : List ℕ) (s : Shift) (xs ys : List ProgramItem) (ss : List
       if faulty then mark.Faulty else if repeated then mark.Repeated else if unknown then mark.Unknown else if reached then mark.Reached else mark.Unreached
 
   pub has_faulty_stays : (k : ℕ) → ((i : ℕ) → (is_faulty_item ys i && stands_in ss k i) ≡ (is_faulty_item xs i && stands_in ss k i)) → has_faulty ys ss k ≡ has_faulty xs ss k
-  has_faulty_stays k same = any_same (λ i. is_faulty_item ys i && stands_in ss k i) (λ i. is_faulty_item xs i && stands_in ss k i) (length ss) (λ i l. same i)
+  has_faulty_stays k same = any_below_same (λ i. is_faulty_item ys i && stands_in ss k i) (λ i. is_faulty_item xs i && stands_in ss k i) (length ss) (λ i l. same i)
 
   reached_stays : (k number : ℕ) → AllByRecursion (λ j. target_numbers text ys ss (states_in ss k) j ≡ target_numbers old xs ss (states_in ss k) j) (states_in ss k) →
       is_reached_in text ys ss k number ≡ is_reached_in old xs ss k number

@@ -5,6 +5,7 @@ use Rattle.std.proofs.Math.Path.{fun_ext}
 use Rattle.std.proofs.lemmas.Bool.{false≢true}
 use Rattle.std.specs.List.{AllByRecursion}
 use Rattle.std.specs.Option.{option_and_then, option_map, option_map_or, is_some}
+use Rattle.snl_facts.specs.Each.{each_weaker}
 use Rattle.snl_lex.specs.declared.lines.Line.{Line}
 use Rattle.snl_lex.specs.declared.piece.Class.{Class}
 use Rattle.snl_lex.specs.declared.piece.Piece.{Piece}
@@ -42,7 +43,6 @@ use Rattle.snl_check.specs.Tables.{flag_row_at, tables_by}
 use Rattle.snl_check.proofs.ShiftedItems.{IsKept, faulty_stays, header_at, program_shifts, tokens_shift}
 use Rattle.snl_check.proofs.ShiftedClauses.{ChannelsStay, HasBytes, assigned_stay, channels_shift, clauses_stay, flags_shift, options_stay, sync_stays, variable_scope_shifts, variables_stay}
 use Rattle.snl_check.proofs.ShiftedStates.{mark_stays, set_row_shifts, state_row_shifts, state_rows_shift}
-use Rattle.snl_check.proofs.Each.{each_weaker}
 use Rattle.snl_check.proofs.SpanLaws.{second_there, some_if, tested, tokens_are}
 
 -- ---- all rows but those of state sets

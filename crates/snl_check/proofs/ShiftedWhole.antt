@@ -4,6 +4,8 @@ use Rattle.std.proofs.Common.{◌≡◌, ℕ, suc, ◌<◌, ◌&&◌, true, List
 use Rattle.std.proofs.lemmas.List.{length-map}
 use Rattle.std.proofs.lemmas.Option.{slice_get-map}
 use Rattle.std.specs.Option.{option_map}
+use Rattle.snl_scope.specs.BelowLaws.{each_passing}
+use Rattle.snl_facts.specs.Booleans.{and_first}
 use Rattle.snl_lex.specs.declared.lines.Line.{Line}
 use Rattle.snl_lex.specs.declared.shift.Shift.{Shift}
 use Rattle.snl_scope.specs.declared.summaries.summary.Outline.{Outline}
@@ -28,7 +30,7 @@ use Rattle.snl_check.proofs.ShiftedItems.{IsKept, faulty_stays, header_at_shifts
 use Rattle.snl_check.proofs.ShiftedClauses.{HasBytes, flag_shifts, setting_stays}
 use Rattle.snl_check.proofs.ShiftedStates.{has_faulty_stays, targets_stay}
 use Rattle.snl_check.proofs.ShiftedTables.{IsRowKept, MarksStay, RestStays, SpellingLaws, item_kept, outline_stays, same_channels, set_line, set_named, set_shifts, state_line, tables_but_sets}
-use Rattle.snl_check.proofs.SpanLaws.{and_front, each_all, each_below}
+use Rattle.snl_check.proofs.SpanLaws.{each_all}
 
 module _ (old text : List ℕ) (s : Shift) (line : ℕ → Line → Line) (xs : List ProgramItem) (keeps : KeepsItems old text s line xs) where
   abbrev ys : List ProgramItem
@@ -87,12 +89,12 @@ module _ (laws : SpellingLaws) (old text : List ℕ) (s : Shift) (line : ℕ →
       set_shifts old text s xs shifted ss before same k (marks_stay old text s line xs keeps ss before k) line
       (span_at_shifts old text s xs shifted k (kept old text s line xs keeps k) before 1)
       (set_line old text s line xs shifted k (at old text s line xs keeps k) (keeps k) (set_named laws old xs read k is) is)
-      (each_below (IsRowKept old text s line xs shifted) (λ j. is_named_state ss j && stands_in ss k j) (length ss) (λ j is. row_kept j (and_front (is_named_state ss j) (stands_in ss k j) is)))
+      (each_passing (IsRowKept old text s line xs shifted) (λ j. is_named_state ss j && stands_in ss k j) (length ss) (λ j is. row_kept j (and_first (is_named_state ss j) (stands_in ss k j) is)))
 
   sets_shift : set_rows text shifted ss ≡ map (moved_set s line) (set_rows old xs ss)
   sets_shift =
       map_shift (moved_set s line) (set_row old xs ss) (set_row text shifted ss) (all_below (is_set_begin ss) (length ss))
-      (each_below (λ k. set_row text shifted ss k ≡ moved_set s line (set_row old xs ss k)) (is_set_begin ss) (length ss) set_shift)
+      (each_passing (λ k. set_row text shifted ss k ≡ moved_set s line (set_row old xs ss k)) (is_set_begin ss) (length ss) set_shift)
 
   pub tables_kept : tables_of text (map (shifted_item s) xs) ≡ moved_tables s line (tables_of old xs)
   tables_kept =

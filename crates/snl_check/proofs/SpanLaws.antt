@@ -5,6 +5,9 @@ use Rattle.std.specs.List.{AllByRecursion, cons_option, enumerate_from, filter_m
 use Rattle.std.specs.Option.{option_and_then, option_map, option_map_or, option_or, option_to_list}
 use Rattle.std.proofs.lemmas.Bool.{false≢true}
 use Rattle.std.proofs.lemmas.Option.{get_or_from_slice_get, slice_get_within}
+use Rattle.snl_scope.specs.BelowLaws.{each_passing}
+use Rattle.snl_facts.specs.Booleans.{and_first}
+use Rattle.snl_facts.specs.Each.{each_append, each_map, each_unmap, each_weaker}
 use Rattle.snl_lex.specs.declared.piece.Piece.{Piece}
 use Rattle.snl_syntax.specs.declared.tree.clause.Clause.{Clause}
 use Rattle.snl_syntax.specs.declared.tree.clause.Clause.TheVariants as clauses
@@ -54,7 +57,6 @@ use Rattle.snl_check.specs.Spans.{AreRead, HasByte, InChannel, InDestination, In
 use Rattle.snl_check.specs.States.{by_statements, destination, destinations_in_member, gotos_in, item_at, members_in, named_state, numbered_row, set_row}
 use Rattle.snl_check.specs.Tables.{channel_row, flag_row, flag_row_at, scope_name, tables_of}
 use Rattle.snl_item_check.specs.Told.{nothing, told_by}
-use Rattle.snl_check.proofs.Each.{each_image, each_join, each_of, each_weaker}
 use Rattle.snl_check.proofs.Linked.{outline_at}
 use Rattle.snl_check.proofs.SameClauses.{tree_alike}
 use Rattle.snl_check.proofs.Sets.{get_here}
@@ -76,7 +78,7 @@ each_kept {Y = Y} P f (x ∷ xs) h = by (f x) refl (each_kept P f xs h)
 
 pub each_flat : {X Y : Type 0} (P : X → Type 0) (Q : Y → Type 0) (f : X → List Y) (xs : List X) → ((x : X) → P x → AllByRecursion Q (f x)) → AllByRecursion P xs → AllByRecursion Q (flat_map f xs)
 each_flat P Q f [] h each = tt
-each_flat P Q f (x ∷ xs) h each = each_join Q (f x) (flat_map f xs) (h x each.0) (each_flat P Q f xs h each.1)
+each_flat P Q f (x ∷ xs) h each = each_append Q (f x) (flat_map f xs) (h x each.0) (each_flat P Q f xs h each.1)
 
 pub each_beside : {X Y : Type 0} (P : X → Type 0) (xs : List X) (ys : List Y) → AllByRecursion P xs → AllByRecursion (λ (p : X × Y). P p.0) (zip xs ys)
 each_beside P [] ys h = tt
@@ -87,24 +89,12 @@ each_counted : {Y : Type 0} (P : Y → Type 0) (f : ℕ × ℕ → Y) (n : ℕ) 
 each_counted P f n [] h = tt
 each_counted P f n (j ∷ js) h = (h.0 n, each_counted P f (n + 1) js h.1)
 
-pub each_below : (P : ℕ → Type 0) (test : ℕ → Bool) (n : ℕ) → ((k : ℕ) → test k ≡ true → P k) → AllByRecursion P (all_below test n)
-each_below P test zero h = tt
-each_below P test (suc n) h = each_join P (all_below test n) (if test n then n ∷ [] else []) (each_below P test n h) (by (test n) refl)
-  where
-    by : (b : Bool) → test n ≡ b → AllByRecursion P (if b then n ∷ [] else [])
-    by true e = (h n e, tt)
-    by false e = tt
-
 pub each_got : {X : Type 0} (P : X → Type 0) (xs : List X) (n : ℕ) → AllByRecursion P xs → IfSome (slice_get xs n) P
 each_got P [] n h = tt
 each_got P (x ∷ xs) zero h = h.0
 each_got P (x ∷ xs) (suc n) h = each_got P xs n h.1
 
 -- ---- tests
-
-pub and_front : (a b : Bool) → (a && b) ≡ true → a ≡ true
-and_front true b h = refl
-and_front false b h = absurd (false≢true h)
 
 pub some_if : {X : Type 0} (b : Bool) (o : Option X) → is_some (if b then o else None) ≡ true → is_some o ≡ true
 some_if true o h = h
@@ -122,7 +112,7 @@ pub place_begins : (ss : List Outline) (i k : ℕ) → enclosing_set ss i ≡ So
 place_begins ss i k = by (item_is (λ s. not (begins_set s.role)) ss i)
   where
     by : (b : Bool) → (if b then open_before ss i else None) ≡ Some k → is_set_begin ss k ≡ true
-    by true e = and_front (is_set_begin ss k) (not (ends_between ss k i)) (last_passes (λ k. is_set_begin ss k && not (ends_between ss k i)) i k e)
+    by true e = and_first (is_set_begin ss k) (not (ends_between ss k i)) (last_passes (λ k. is_set_begin ss k && not (ends_between ss k i)) i k e)
     by false e = absurd cc
 
 -- what a test of an item's outline says of the item
@@ -253,9 +243,9 @@ module _ (P : Span → Type 0) (text : List ℕ) (xs : List ProgramItem) (names 
   item_entries_hold i x at =
       let s = outline_of_item text x in
       let declared = map (declared_entry (scope_of ss i s) i) s.declares in
-      each_join EntryHolds (set_entries i s ++ state_entries (enclosing_set ss i) i s) declared
-      (each_join EntryHolds (set_entries i s) (state_entries (enclosing_set ss i) i s) (names_hold namespace.Sets i (Some E08) (set_name s)) (states_hold (enclosing_set ss i) i s))
-      (each_of EntryHolds (declared_entry (scope_of ss i s) i) s.declares
+      each_append EntryHolds (set_entries i s ++ state_entries (enclosing_set ss i) i s) declared
+      (each_append EntryHolds (set_entries i s) (state_entries (enclosing_set ss i) i s) (names_hold namespace.Sets i (Some E08) (set_name s)) (states_hold (enclosing_set ss i) i s))
+      (each_map EntryHolds (declared_entry (scope_of ss i s) i) s.declares
       (each_weaker (λ d. P (span_at xs i d.token)) (λ d. EntryHolds (declared_entry (scope_of ss i s) i d))
       (λ d p. entry_holds (scope_of ss i s) i d (scope_holds i x at) p) s.declares
       (declared_hold i x.tokens x.tree (tokens_are xs i x at) (ap (option_and_then (λ (x : ProgramItem). x.tree)) at))))
@@ -263,7 +253,7 @@ module _ (P : Span → Type 0) (text : List ℕ) (xs : List ProgramItem) (names 
   entries_hold : (n : ℕ) → AllByRecursion EntryHolds (entries_before ss n)
   entries_hold zero = tt
   entries_hold (suc n) =
-      each_join EntryHolds (entries_before ss n) (option_map_or (entries_of ss n) (slice_get ss n) []) (entries_hold n)
+      each_append EntryHolds (entries_before ss n) (option_map_or (entries_of ss n) (slice_get ss n) []) (entries_hold n)
       (subst (λ o. AllByRecursion EntryHolds (option_map_or (entries_of ss n) o [])) (sym (outline_at text xs n)) (by (slice_get xs n) refl))
     where
       by : (o : Option ProgramItem) → slice_get xs n ≡ o → AllByRecursion EntryHolds (option_map_or (entries_of ss n) (option_map (outline_of_item text) o) [])
@@ -296,17 +286,17 @@ module _ (P : Span → Type 0) (text : List ℕ) (xs : List ProgramItem) (names 
   tree_clauses_hold n None is = tt
   tree_clauses_hold n (Some t) is =
       let tokens = tokens_in xs n in
-      each_of ClauseHolds (item_clause n) (clauses_in_tree t)
-      (each_image (λ c. P (span_at xs n c.variable.token)) (summary.clause_of text tokens) (clauses_in_tree t)
+      each_map ClauseHolds (item_clause n) (clauses_in_tree t)
+      (each_unmap (λ c. P (span_at xs n c.variable.token)) (summary.clause_of text tokens) (clauses_in_tree t)
       (subst (AllByRecursion (λ c. P (span_at xs n c.variable.token))) (sym (tree_alike text tokens t)) (names.variables n t is)))
 
   clauses_hold : (n : ℕ) → AllByRecursion ClauseHolds (item_clauses_before xs n)
   clauses_hold zero = tt
-  clauses_hold (suc n) = each_join ClauseHolds (item_clauses_before xs n) (item_clauses_if n (tree_in xs n)) (clauses_hold n) (tree_clauses_hold n (tree_in xs n) refl)
+  clauses_hold (suc n) = each_append ClauseHolds (item_clauses_before xs n) (item_clauses_if n (tree_in xs n)) (clauses_hold n) (tree_clauses_hold n (tree_in xs n) refl)
 
   named_channels_hold : (item : ℕ) (variable : Option ℕ) (c : Clause) → ClauseHolds (item_clause item c) → AllByRecursion ChannelHolds (channels_on text xs item variable c)
   named_channels_hold item (Some variable) (clauses.Assign name channel) h =
-      each_of ChannelHolds (assigned_channel item name variable) (channels_in text (tokens_in xs item) channel) (each_all (λ n. P (span_at xs item name)) (channels_in text (tokens_in xs item) channel) (λ n. h))
+      each_map ChannelHolds (assigned_channel item name variable) (channels_in text (tokens_in xs item) channel) (each_all (λ n. P (span_at xs item name)) (channels_in text (tokens_in xs item) channel) (λ n. h))
   named_channels_hold item variable c h = tt
 
   clause_channels_hold : (p : ItemClause × ClauseLink) → ClauseHolds p.0 → AllByRecursion ChannelHolds (channels_of_clause text xs p)
@@ -353,7 +343,7 @@ module _ (P : Span → Type 0) (text : List ℕ) (xs : List ProgramItem) (names 
       of_members (m ∷ ms) h =
           let found = found_in_member bytes visible m in
           let rest = flat_map (found_in_member bytes visible) ms in
-          each_join (InDestination P) (destinations_in_member text (tokens_in xs item) ss item m) (flat_map (destinations_in_member text (tokens_in xs item) ss item) ms)
+          each_append (InDestination P) (destinations_in_member text (tokens_in xs item) ss item m) (flat_map (destinations_in_member text (tokens_in xs item) ss item) ms)
           (destinations_hold m (targets_in_front TokenHolds found rest h)) (of_members ms (targets_in_back TokenHolds found rest h))
 
     tree_holds : (o : Option Item) → tree_in xs item ≡ o → AllByRecursion (InDestination P) (flat_map (destinations_in_member text (tokens_in xs item) ss item) (members_in o))
@@ -374,7 +364,7 @@ module _ (P : Span → Type 0) (text : List ℕ) (xs : List ProgramItem) (names 
   state_row_holds k number j h = record {
     name = h;
     transitions = tree_holds j (tree_in xs j) refl;
-    gotos = each_of (InNamed P) (named_state text (tokens_in xs j) ss j) (gotos_in text (item_at xs j)) (gotos_hold j);
+    gotos = each_map (InNamed P) (named_state text (tokens_in xs j) ss j) (gotos_in text (item_at xs j)) (gotos_hold j);
   }
 
   set_row_holds : (k : ℕ) → is_set_begin ss k ≡ true → InSet P (set_row text xs ss k)
@@ -382,16 +372,16 @@ module _ (P : Span → Type 0) (text : List ℕ) (xs : List ProgramItem) (names 
     name = set_holds k h;
     states =
         each_counted (InState P) (numbered_row text xs ss k) 0 (states_in ss k)
-        (each_below (λ j. (i : ℕ) → InState P (numbered_row text xs ss k (i, j))) (λ j. is_named_state ss j && stands_in ss k j) (length ss)
-        (λ j is i. state_row_holds k i j (named_state_holds j (and_front (is_named_state ss j) (stands_in ss k j) is))));
+        (each_passing (λ j. (i : ℕ) → InState P (numbered_row text xs ss k (i, j))) (λ j. is_named_state ss j && stands_in ss k j) (length ss)
+        (λ j is i. state_row_holds k i j (named_state_holds j (and_first (is_named_state ss j) (stands_in ss k j) is))));
   }
 
   tables_hold : InTables P (tables_of text xs)
   tables_hold = record {
     program = program_holds P xs names.own;
     flags = each_kept (InFlag P) (flag_row_at xs ss) (flags_of ss) flag_holds;
-    channels = each_of (InChannel P) (channel_row text xs ss) (assigned_channels text xs ss) (each_weaker ChannelHolds (λ c. InChannel P (channel_row text xs ss c)) channel_holds (assigned_channels text xs ss) channels_hold);
-    sets = each_of (InSet P) (set_row text xs ss) (all_below (is_set_begin ss) (length ss)) (each_below (λ k. InSet P (set_row text xs ss k)) (is_set_begin ss) (length ss) set_row_holds);
+    channels = each_map (InChannel P) (channel_row text xs ss) (assigned_channels text xs ss) (each_weaker ChannelHolds (λ c. InChannel P (channel_row text xs ss c)) channel_holds (assigned_channels text xs ss) channels_hold);
+    sets = each_map (InSet P) (set_row text xs ss) (all_below (is_set_begin ss) (length ss)) (each_passing (λ k. InSet P (set_row text xs ss k)) (is_set_begin ss) (length ss) set_row_holds);
   }
 
 -- ---- they lie in the text

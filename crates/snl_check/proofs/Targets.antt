@@ -1,11 +1,11 @@
 -- The targets of an item among its occurrences, and those that its check tells.
 use Rattle.std.proofs.Common.{◌≡◌, ℕ, Bool, true, false, cond, filter, List, [], ◌∷◌, ◌++◌, map, refl, ap, subst}
 use Rattle.std.specs.List.{AllByRecursion as Each}
+use Rattle.snl_facts.specs.Each.{each_front, each_rear}
 use Rattle.snl_walk.specs.declared.occurrence.Occurrence.{Occurrence}
 use Rattle.snl_walk.specs.declared.used.TargetUse.{TargetUse}
 use Rattle.snl_walk.specs.Uses.{is_target, leads_on, target_use, target_uses_after, targets}
 use Rattle.snl_check.specs.States.{by_statements}
-use Rattle.snl_check.proofs.Each.{each_back, each_front}
 
 -- the uses are at the targets
 pub uses_at_targets : (led : Bool) (os : List Occurrence) → map (λ u. u.token) (target_uses_after led os) ≡ targets os
@@ -32,7 +32,7 @@ module _ (P : ℕ → Type 0) where
   targets_in_front os ps h = each_front P (targets os) (targets ps) (subst (Each P) (targets-append os ps) h)
 
   pub targets_in_back : (os ps : List Occurrence) → Each P (targets (os ++ ps)) → Each P (targets ps)
-  targets_in_back os ps h = each_back P (targets os) (targets ps) (subst (Each P) (targets-append os ps) h)
+  targets_in_back os ps h = each_rear P (targets os) (targets ps) (subst (Each P) (targets-append os ps) h)
 
   pub each_by_statements : (us : List TargetUse) → Each P (map (λ u. u.token) us) → Each P (by_statements us)
   each_by_statements [] h = tt

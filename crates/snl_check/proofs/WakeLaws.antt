@@ -2,7 +2,7 @@
 use Rattle.std.proofs.Common.{◌≡◌, ◌&&◌, ◌||◌, ◌<◌, ◌++◌, ◌∷◌, [], ℕ, zero, suc, Bool, true, false, List, length, nat_eq, nat_lt, get_or, Option, Some, None, inl, inr, refl, sym, ap, ◌∙◌, arith, if◌then◌else◌}
 use Rattle.std.specs.List.{cons_option, filter_map, list_any, position}
 use Rattle.std.specs.Option.{is_none, option_and_then, option_map, option_map_or, option_or}
-use Rattle.std.proofs.lemmas.Bool.{cases_lt, eqb-true}
+use Rattle.std.proofs.lemmas.Bool.{cases_lt, eqb-true, false_from_ne_true}
 use Rattle.std.proofs.lemmas.List.Quantifiers.{position-Some}
 use Rattle.std.proofs.lemmas.Option.{slice_get_past}
 use borrow.Author.Tests.{eq-eqb, le-ltb, lt-ltb}
@@ -22,7 +22,6 @@ use Rattle.snl_item_check.specs.Items.{ProgramItem, outlines_of, tokens_in}
 use Rattle.snl_check.specs.Tables.{variables_of}
 use Rattle.snl_check.specs.WakeSets.{HasChannels, HasFlags, channel_meant, covers_channel, covers_flag, declaration_of, is_number, means_channel, means_flag}
 use Rattle.snl_check.proofs.Numbers.{list_at}
-use Rattle.snl_check.proofs.Sets.{false_if}
 
 -- a test of what is kept is a test of what it was made from
 any_kept : {A B : Type 0} (p : B → Bool) (f : A → Option B) (q : A → Bool) → ((a : A) → option_map_or p (f a) false ≡ q a) → (us : List A) → list_any p (filter_map f us) ≡ list_any q us
@@ -65,10 +64,10 @@ among_below p n (suc m) =
     or_and_false false b = and_no b
 
     other : n < m → nat_eq n m ≡ false
-    other l = false_if (nat_eq n m) (λ h. let same : n ≡ m = eqb-true n m h in omega (arith, same, l))
+    other l = false_from_ne_true (nat_eq n m) (λ h. let same : n ≡ m = eqb-true n m h in omega (arith, same, l))
 
     beyond : m < n → nat_eq n m ≡ false
-    beyond l = false_if (nat_eq n m) (λ h. let same : n ≡ m = eqb-true n m h in omega (arith, same, l))
+    beyond l = false_from_ne_true (nat_eq n m) (λ h. let same : n ≡ m = eqb-true n m h in omega (arith, same, l))
 
     or_no : (b : Bool) → (b || false) ≡ b
     or_no true = refl

@@ -4,10 +4,12 @@ use Rattle.std.proofs.Common.{◌≡◌, ◌≢◌, ℕ, zero, suc, ◌+◌, ◌
 use Rattle.std.specs.List.{cons_option, filter_map, list_any, position}
 use Rattle.std.specs.Map.{lookup}
 use Rattle.std.specs.Option.{option_and_then, option_map, option_map_or, option_or}
-use Rattle.std.proofs.lemmas.Bool.{cases_eq, eq-eqb, eqb-true}
+use Rattle.std.proofs.lemmas.Bool.{cases_eq, eq-eqb, eqb-true, false_from_ne_true}
 use Rattle.std.proofs.lemmas.List.{length-take-le}
 use Rattle.std.proofs.lemmas.List.Quantifiers.{position-Some}
 use Rattle.std.proofs.lemmas.Option.{slice_get-map}
+use Rattle.snl_facts.specs.Options.{or_none}
+use Rattle.snl_facts.specs.Positions.{any_position, position_push}
 use Rattle.snl_scope.specs.declared.names.namespaces.Namespace.TheVariants as namespace
 use Rattle.snl_scope.specs.declared.summaries.summary.Outline.{Outline}
 use Rattle.snl_scope.specs.Below.{all_below}
@@ -28,8 +30,7 @@ use Rattle.snl_check.specs.Conditions.{by_flag, on_declaration, on_variable, wak
 use Rattle.snl_item_check.specs.Items.{ProgramItem, tokens_in}
 use Rattle.snl_check.specs.Numbered.{Adds, AddsAll, HoldsBelow, element_at, element_in, first_meant, first_of, has_key, has_subscript, meant_by, same_key, variable_by, wake_by}
 use Rattle.snl_check.proofs.Numbers.{list_at, lists_count}
-use Rattle.snl_check.proofs.Positions.{any_position, position_push}
-use Rattle.snl_check.proofs.Sets.{false_if, get_here}
+use Rattle.snl_check.proofs.Sets.{get_here}
 
 -- ---- a name means a declaration that there is
 
@@ -91,10 +92,6 @@ module _ (text : List ℕ) (xs : List ProgramItem) (ss : List Outline) (cs : Lis
 or_joins : (o p q : Option ℕ) → option_or (option_or o p) q ≡ option_or o (option_or p q)
 or_joins None p q = refl
 or_joins (Some n) p q = refl
-
-or_none : (o : Option ℕ) → option_or o None ≡ o
-or_none None = refl
-or_none (Some n) = refl
 
 first_join : (p : ℕ → Bool) (ns ms : List ℕ) → first_of p (ns ++ ms) ≡ option_or (first_of p ns) (first_of p ms)
 first_join p [] ms = refl
@@ -158,7 +155,7 @@ holds_one_more before after rows lists n holds all = record { below = below; pas
     other k apart =
         all.each k
         ∙ ap (option_or (lookup (same_key k) before)) (first_none (λ m. has_key n (element_at rows m) k) (get_or lists n [])
-        (λ m. ap (λ b. b && is_element (element_in k.which) (element_at rows m)) (false_if (nat_eq n k.variable) (λ h. apart (eqb-true n k.variable h)))))
+        (λ m. ap (λ b. b && is_element (element_in k.which) (element_at rows m)) (false_from_ne_true (nat_eq n k.variable) (λ h. apart (eqb-true n k.variable h)))))
         ∙ or_none (lookup (same_key k) before)
 
     below : (k : ElementKey) → k.variable < n + 1 → lookup (same_key k) after ≡ first_meant rows k.which (get_or lists k.variable [])

@@ -20,6 +20,7 @@ pub use reachability::reaching::reach;
 pub use rows::body::state_body;
 pub use rows::tables_of::{tables, tables_by_tokens};
 pub use rows::wake_inside::wake_inside;
+pub use snl_item_check::{Checked, ItemFault, check_item};
 pub use snl_tables::{
     ChannelRow, Destination, FlagRow, NamedState, OptionRow, Queue, ScopeName, SetRow, Span,
     StateBody, StateMark, StateRow, Synced, Tables, WakeUp,

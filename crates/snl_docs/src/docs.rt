@@ -60,8 +60,8 @@ impl Docs {
         }
     }
 
-    /// Answers a message. After an `Err`, which is want of memory, nothing is known of what is kept,
-    /// and what is said may be cut short: whoever asks is to end the talk.
+    /// Answers a message. After an `Err`, which is want of memory, nothing is known of what is
+    /// kept, and what is said may be cut short: whoever asks is to end the talk.
     #[tactic(auto, using(crate::proofs::Framed::said_framed), unfolding(crate::specs::Served::after, crate::specs::Served::replies))]
     pub fn answer(&mut self, turn: Turn<'_>, said: &mut Vec<u8>) -> Result<(), OutOfMemory>
         ensures state { OnOk result (self.new ≡ after self.old (turn_of turn.entry)) }

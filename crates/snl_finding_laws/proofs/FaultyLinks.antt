@@ -6,6 +6,7 @@ use Rattle.std.specs.List.{AllByRecursion as Each}
 use Rattle.std.proofs.lemmas.Bool.{and_left, or_from, true≢false}
 use Rattle.std.proofs.lemmas.List.{length-map}
 use Rattle.std.proofs.lemmas.Option.{same_Some, slice_get_within, slice_get-map}
+use Rattle.snl_scope.specs.BelowLaws.{any_below_none, each_passing}
 use Rattle.snl_syntax.specs.declared.tree.item.Item.{Item}
 use Rattle.snl_codes.specs.declared.code.Code.{Code}
 use Rattle.snl_codes.specs.declared.code.Code.TheVariants.{E03, E04, E05, E06, E14}
@@ -27,18 +28,6 @@ use Rattle.snl_kept.specs.Program.{ProgramItem}
 use Rattle.snl_facts.specs.Each.{each_append, each_by, each_map}
 
 -- ---- lists of what passes
-
-none_below : (test : ℕ → Bool) (n : ℕ) → ((k : ℕ) → test k ≡ false) → any_below test n ≡ false
-none_below test zero h = refl
-none_below test (suc n) h = or_from (test n) (any_below test n) (h n) (none_below test n h)
-
-each_below : (test : ℕ → Bool) (P : ℕ → Type 0) → ((k : ℕ) → test k ≡ true → P k) → (n : ℕ) → Each P (all_below test n)
-each_below test P h zero = tt
-each_below test P h (suc n) = each_append P (all_below test n) (if test n then n ∷ [] else []) (each_below test P h n) (last (test n) refl)
-  where
-    last : (b : Bool) → test n ≡ b → Each P (if b then n ∷ [] else [])
-    last true e = (h n e, tt)
-    last false e = tt
 
 each_passed : {A : Type 0} (test : A → Bool) (P : A → Type 0) → ((x : A) → test x ≡ true → P x) → (xs : List A) → Each P (filter test xs)
 each_passed test P h [] = tt
@@ -99,7 +88,7 @@ module _ (text : List ℕ) (xs : List ProgramItem) where
     not_misplaced : order.is_misplaced l j ≡ false
     not_misplaced =
         let late : order.is_late l j ≡ false =
-        none_below (λ k. order.exceeds (order.phase l k) (order.phase l j)) j (λ k. ap (order.exceeds (order.phase l k)) no_phase ∙ exceeds_none (order.phase l k)) in
+        any_below_none (λ k. order.exceeds (order.phase l k) (order.phase l j)) j (λ k less. ap (order.exceeds (order.phase l k)) no_phase ∙ exceeds_none (order.phase l k)) in
         let barred : order.is_barred l j ≡ false =
         kind_fails (λ k. if is_none (enclosing_set ss j) then order.is_state k else order.is_barred_in_sets k)
         (elim (is_none (enclosing_set ss j)) as (λ (b : Bool). (if b then order.is_state Faulty else order.is_barred_in_sets Faulty) ≡ false) [ true ↦ refl | false ↦ refl ]) in
@@ -128,7 +117,7 @@ module _ (text : List ℕ) (xs : List ProgramItem) where
   at_items : (code : Code) (test : ℕ → Bool) → ((j : ℕ) (y : ProgramItem) → slice_get xs j ≡ Some y → y.tree ≡ None → test j ≡ false) → (n : ℕ) → Each AtSound (order.at_items_where code test n)
   at_items code test h n =
       each_map AtSound (order.at_item code) (all_below test n)
-      (each_below test NotFaulty (λ k passes. sound_if k (λ y at none. true≢false (sym passes ∙ h k y at none))) n)
+      (each_passing NotFaulty test n (λ k passes. sound_if k (λ y at none. true≢false (sym passes ∙ h k y at none))))
 
   after_last : NotFaulty (length ss)
   after_last = λ y at. absurd (omega (arith, slice_get_within xs (length ss) y at, length-map xs (outline_of_item text)))

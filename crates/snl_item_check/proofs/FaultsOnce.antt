@@ -4,6 +4,7 @@ use Rattle.std.proofs.Common.{◌≡◌, ◌≢◌, ℕ, ◌+◌, ◌<◌, ◌�
 use Rattle.std.specs.List.{AllByRecursion as Each, AllPairs, enumerate_from, flat_map}
 use Rattle.std.proofs.lemmas.Bool.{false≢true}
 use Rattle.std.proofs.lemmas.List.Elements.{All-from_recursion, recursion_from_All}
+use Rattle.snl_facts.specs.Each.{EachTwo, across, each_append, each_map, each_weaker, pairs_from_two, two_across, two_from_pairs, two_map, two_weaker}
 use Rattle.snl_syntax.specs.declared.tree.item.Item.{Item}
 use Rattle.snl_syntax.specs.declared.tree.item.Item.TheVariants as items
 use Rattle.snl_syntax.specs.declared.tree.state.StateMember.{StateMember}
@@ -16,8 +17,6 @@ use Rattle.snl_codes.specs.declared.code.Code.TheVariants.{W04}
 use Rattle.snl_item_check.specs.declared.findings.ItemFault.{ItemFault}
 use Rattle.snl_item_check.specs.ItemFaults.{fault_of}
 use Rattle.snl_item_check.specs.Options.{found_at_letter, is_known, letter_fault, program_letters, state_letters, unknown_in_member, unknown_letters, unknown_options}
-use Rattle.snl_item_check.proofs.Each.{each_join, each_of, each_weaker}
-use Rattle.snl_item_check.proofs.Pairs.{EachTwo, across, pairs_from_two, two-append, two-map, two_from_pairs, two_weaker}
 
 abbrev Differ : {A : Type 0} → A → A → Type 0
 Differ a b = a ≢ b
@@ -29,7 +28,7 @@ same_finding f g e =
     ap₂ (λ (t : ℕ) (c : Code). let k : Finding = record { token = t; code = c } in k) (ap (λ (k : ItemFault). k.token) e) (ap (λ (k : ItemFault). k.code) e)
 
 rules_apart : (fs : List Finding) → AllPairs (λ a b. a ≢ b) fs → EachTwo Differ (map fault_of fs)
-rules_apart fs h = two-map Differ fault_of fs (two_weaker Differ (λ f g. fault_of f ≢ fault_of g) (λ f g ne e. ne (same_finding f g e)) fs (two_from_pairs Differ fs h))
+rules_apart fs h = two_map Differ fault_of fs (two_weaker Differ (λ f g. fault_of f ≢ fault_of g) (λ f g ne e. ne (same_finding f g e)) fs (two_from_pairs Differ fs h))
 
 abbrev IsOther : ItemFault → Type 0
 IsOther f = f.code ≢ W04
@@ -84,7 +83,7 @@ module _ (bytes : ℕ → List ℕ) where
   members_stand : (P : ℕ → Type 0) (ms : List StateMember) → Each P (letters ms) → Each (IsLetter P) (in_members ms)
   members_stand P [] h = tt
   members_stand P (members.OptionLine line ∷ ms) h =
-      each_join (IsLetter P) (unknown_letters bytes state_letters line) (in_members ms) (line_stands P state_letters line.letters h.0) (members_stand P ms h.1)
+      each_append (IsLetter P) (unknown_letters bytes state_letters line) (in_members ms) (line_stands P state_letters line.letters h.0) (members_stand P ms h.1)
   members_stand P (members.Declaration d ∷ ms) h = members_stand P ms h
   members_stand P (members.Foreign names ∷ ms) h = members_stand P ms h
   members_stand P (members.Clause clause ∷ ms) h = members_stand P ms h
@@ -97,7 +96,7 @@ module _ (bytes : ℕ → List ℕ) where
   members_apart : (ms : List StateMember) → EachTwo (λ a b. a < b) (letters ms) → EachTwo Differ (in_members ms)
   members_apart [] h = tt
   members_apart (members.OptionLine line ∷ ms) h =
-      two-append Differ (unknown_letters bytes state_letters line) (in_members ms) (letters_apart state_letters line.letters 0 (bytes line.letters)) (members_apart ms h.1)
+      two_across Differ (unknown_letters bytes state_letters line) (in_members ms) (letters_apart state_letters line.letters 0 (bytes line.letters)) (members_apart ms h.1)
       (across Differ (IsLetter (λ n. n ≡ line.letters)) (IsLetter (λ n. line.letters < n))
       (λ f g here later e. let same : f.token ≡ g.token = ap (λ (k : ItemFault). k.token) e in omega (arith, here.0, later.0, same))
       (unknown_letters bytes state_letters line) (in_members ms) (line_stands (λ n. n ≡ line.letters) state_letters line.letters refl) (members_stand (λ n. line.letters < n) ms h.0))
@@ -133,7 +132,7 @@ module _ (bytes : ℕ → List ℕ) where
   faults_apart in_set t fs ruled differ rise =
       let os = unknown_options bytes in_set t in
       pairs_from_two Differ (map fault_of fs ++ os)
-      (two-append Differ (map fault_of fs) os (rules_apart fs differ) (options_apart in_set t (two_from_pairs (λ a b. a < b) (letters_in t) rise))
+      (two_across Differ (map fault_of fs) os (rules_apart fs differ) (options_apart in_set t (two_from_pairs (λ a b. a < b) (letters_in t) rise))
       (across Differ IsOther (IsLetter (λ n. Unit {0})) (λ f g other letter e. other (ap (λ (k : ItemFault). k.code) e ∙ letter.1)) (map fault_of fs) os
       (rules_other fs (recursion_from_All HasRuleCode fs ruled)) (options_stand (λ n. Unit {0}) in_set t (every (letters_in t)))))
 
@@ -142,6 +141,6 @@ module _ (bytes : ℕ → List ℕ) where
   faults_stand count in_set t fs found letters =
       let os = unknown_options bytes in_set t in
       All-from_recursion (λ (f : ItemFault). f.token < count) (map fault_of fs ++ os)
-      (each_join (λ (f : ItemFault). f.token < count) (map fault_of fs) os
-      (each_of (λ (f : ItemFault). f.token < count) fault_of fs (recursion_from_All (λ (f : Finding). f.token < count) fs found))
+      (each_append (λ (f : ItemFault). f.token < count) (map fault_of fs) os
+      (each_map (λ (f : ItemFault). f.token < count) fault_of fs (recursion_from_All (λ (f : Finding). f.token < count) fs found))
       (each_weaker (IsLetter (λ n. n < count)) (λ f. f.token < count) (λ f h. h.0) os (options_stand (λ n. n < count) in_set t (recursion_from_All (λ n. n < count) (letters_in t) letters))))

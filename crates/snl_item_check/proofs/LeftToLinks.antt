@@ -1,11 +1,12 @@
 -- What is found in an item has codes of its own, but for E07: and this is at no name that the item
 -- declares in a scope that isn't its own, since such names are resolved in no scope of the item, or
 -- come before all that is found in it.
-use Rattle.std.proofs.Common.{◌≡◌, ◌⊎◌, ℕ, ◌<◌, Bool, true, false, ◌||◌, nat_lt, All, suc, List, [], ◌∷◌, ◌++◌, length, map, inl, inr, Option, None, Some, refl, sym, ap, subst, ◌∙◌, arith}
-use borrow.Author.Tests.{lt-ltb}
+use Rattle.std.proofs.Common.{◌≡◌, ◌⊎◌, ℕ, ◌<◌, Bool, true, false, ◌||◌, nat_lt, All, List, [], ◌∷◌, ◌++◌, length, map, inl, inr, Option, None, Some, refl, sym, ap, subst, ◌∙◌, arith}
 use Rattle.std.specs.List.{AllByRecursion as Each, Contains, flat_map}
 use Rattle.std.proofs.lemmas.Bool.{false≢true}
 use Rattle.std.proofs.lemmas.List.Elements.{All-contains, All-from_recursion, All-nil, recursion_from_All}
+use Rattle.snl_facts.specs.Numbers.{zero_lt}
+use Rattle.snl_facts.specs.Each.{each_append, each_by, each_map, each_unmap, each_weaker}
 use Rattle.snl_lex.specs.declared.piece.Piece.{Piece}
 use Rattle.snl_syntax.specs.declared.tree.declaration.Declaration.{Declaration}
 use Rattle.snl_syntax.specs.declared.tree.declaration.Declarator.{Declarator}
@@ -38,16 +39,11 @@ use Rattle.snl_walk.specs.Repeated.{IsApartFrom, IsNoRepetitionAt}
 use Rattle.snl_item_check.specs.FaultCodes.{LeavesToLinks}
 use Rattle.snl_item_check.specs.ItemFaults.{fault_of}
 use Rattle.snl_item_check.specs.Options.{unknown_options}
-use Rattle.snl_item_check.proofs.Each.{each_image, each_join, each_of, each_weaker}
 use Rattle.snl_item_check.proofs.FaultsOnce.{IsLetter, every, options_stand}
-
-each_by : {X : Type 0} (P : X → Type 0) → ((x : X) → P x) → (xs : List X) → Each P xs
-each_by P h [] = tt
-each_by P h (x ∷ xs) = (h x, each_by P h xs)
 
 each_flat : {X Y : Type 0} (P : Y → Type 0) (f : X → List Y) → ((x : X) → Each P (f x)) → (xs : List X) → Each P (flat_map f xs)
 each_flat P f h [] = tt
-each_flat P f h (x ∷ xs) = each_join P (f x) (flat_map f xs) (h x) (each_flat P f h xs)
+each_flat P f h (x ∷ xs) = each_append P (f x) (flat_map f xs) (h x) (each_flat P f h xs)
 
 -- ---- codes
 
@@ -64,8 +60,8 @@ pub item_codes : (bytes : ℕ → List ℕ) (in_set : Bool) (t : Item) (fs : Lis
 item_codes bytes in_set t fs told =
     let os = unknown_options bytes in_set t in
     All-from_recursion HasItemCode (map fault_of fs ++ os)
-    (each_join HasItemCode (map fault_of fs) os
-    (each_of HasItemCode fault_of fs
+    (each_append HasItemCode (map fault_of fs) os
+    (each_map HasItemCode fault_of fs
     (each_weaker (λ (f : Finding). is_rule_code f.code ≡ true) (λ (f : Finding). is_item_code f.code ≡ true) (λ f h. by_items (finder_of f.code) h) fs (recursion_from_All (λ (f : Finding). is_rule_code f.code ≡ true) fs told)))
     (each_weaker (IsLetter bytes (λ n. Unit {0})) HasItemCode (λ f h. ap is_item_code h.1) os (options_stand bytes (λ n. Unit {0}) in_set t (every bytes (letters_in t)))))
 
@@ -81,7 +77,7 @@ module _ (bytes : ℕ → List ℕ) where
 
   in_declarator : (is_flag : Bool) (d : Declarator) → Each MeansNothing (found_in_declarator bytes [] is_flag false d)
   in_declarator is_flag d =
-      (refl, each_join MeansNothing (map (seen bytes [] false) (flat_map names_if d.lengths)) (map (seen bytes [] false) (names_in_value d.init)) (each_nothing (seen bytes [] false) (λ n. refl) (flat_map names_if d.lengths)) (each_nothing (seen bytes [] false) (λ n. refl) (names_in_value d.init)))
+      (refl, each_append MeansNothing (map (seen bytes [] false) (flat_map names_if d.lengths)) (map (seen bytes [] false) (names_in_value d.init)) (each_nothing (seen bytes [] false) (λ n. refl) (flat_map names_if d.lengths)) (each_nothing (seen bytes [] false) (λ n. refl) (names_in_value d.init)))
 
   in_definition : (d : Declaration) → Each MeansNothing (found_in_declaration bytes [] false d)
   in_definition d = each_flat MeansNothing (found_in_declarator bytes [] (is_event_flag d.of.base) false) (in_declarator (is_event_flag d.of.base)) d.declarators
@@ -91,9 +87,6 @@ no_member x h = All-contains (λ y. ⊥) [] x (All-nil (λ y. ⊥)) h
 
 only_member : (a n : ℕ) → Contains (a ∷ []) n → n ≡ a
 only_member a n h = All-contains (λ y. y ≡ a) (a ∷ []) n (All-from_recursion (λ y. y ≡ a) (a ∷ []) (refl, tt)) h
-
-zero_lt : (n : ℕ) → nat_lt 0 (suc n) ≡ true
-zero_lt n = lt-ltb 0 (suc n) (omega arith)
 
 -- a state that isn't a scope of its own declares nothing
 state_declares : (ds : List Declared) (b : Bool) → has_own_scope (role_of kinds.State (nat_lt 0 (length ds) || b)) ≡ false → ds ≡ []
@@ -117,7 +110,7 @@ module _ (bytes : ℕ → List ℕ) (text : List ℕ) (tokens : List Piece) wher
       each_weaker (λ o. f.name < o.token) (IsFreeOf (items.Function f))
       (λ o l. inr (λ h. let same = only_member f.name o.token (subst (λ b. Contains (map (λ d. d.token) (declared_if_body (declared_at text tokens function_name f.name) b)) o.token) is h) in omega (arith, l, same)))
       (occurrences bytes (items.Function f))
-      (each_image (λ n. f.name < n) (λ o. o.token) (occurrences bytes (items.Function f)) (recursion_from_All (λ n. f.name < n) (tokens_of (occurrences bytes (items.Function f))) after))
+      (each_unmap (λ n. f.name < n) (λ o. o.token) (occurrences bytes (items.Function f)) (recursion_from_All (λ n. f.name < n) (tokens_of (occurrences bytes (items.Function f))) after))
 
   free_in : (t : Item) → ((f : Function) → t ≡ items.Function f → All (λ n. f.name < n) (tokens_of (occurrences bytes (items.Function f)))) → has_own_scope (outline_in text tokens (Some t)).role ≡ false → Each (IsFreeOf t) (occurrences bytes t)
   unfolding occurrences
@@ -155,7 +148,7 @@ module _ (bytes : ℕ → List ℕ) (text : List ℕ) (tokens : List Piece) wher
     left_to_links =
         let os = unknown_options bytes in_set t in
         All-from_recursion (LeavesToLinks s) (map fault_of fs ++ os)
-        (each_join (LeavesToLinks s) (map fault_of fs) os
-        (each_of (LeavesToLinks s) fault_of fs (left_if (has_own_scope s.role) refl))
+        (each_append (LeavesToLinks s) (map fault_of fs) os
+        (each_map (LeavesToLinks s) fault_of fs (left_if (has_own_scope s.role) refl))
         (each_weaker (IsLetter bytes (λ n. Unit {0})) (LeavesToLinks s) (λ f letter e inner h. let other : W04 ≡ E07 = sym letter.1 ∙ e in cc) os
         (options_stand bytes (λ n. Unit {0}) in_set t (every bytes (letters_in t)))))

@@ -1,6 +1,4 @@
-mod Each
-mod Loops
-mod Pairs
+mod EachName
 mod SameUses
 mod SameView
 mod Within

@@ -2,6 +2,8 @@
 use Rattle.std.proofs.Common.{◌≡◌, ℕ, Bool, not, ◌&&◌, ◌++◌, All, List, map, Option, option_map, ap, ◌∙◌}
 use Rattle.std.proofs.Math.Path.{fun_ext}
 use Rattle.std.proofs.lemmas.List.Elements.{All-from_recursion, All-weaker, recursion_from_All}
+use Rattle.snl_item_check.proofs.EachName.{each_once}
+use Rattle.snl_facts.specs.Each.{each_unmap}
 use Rattle.snl_lex.specs.declared.piece.Piece.{Piece}
 use Rattle.snl_syntax.specs.declared.tree.item.Item.{Item}
 use Rattle.snl_walk.specs.declared.occurrence.Occurrence.{Occurrence}
@@ -17,7 +19,6 @@ use Rattle.snl_item_check.specs.SeenNames.{Agree, SameTokens, target_names, used
 use Rattle.snl_item_check.specs.ItemFaults.{fault_of, faults_in}
 use Rattle.snl_item_check.specs.Options.{unknown_options}
 use Rattle.snl_item_check.specs.View.{misses_by, outer_by, outer_of}
-use Rattle.snl_item_check.proofs.Each.{each_image, each_once}
 
 -- the same is found wrong where the same is answered of uses and targets
 abbrev pub AnswersTell : Type 0
@@ -40,15 +41,15 @@ module _ (tell : AnswersTell) (text : List ℕ) (tokens : List Piece) (tree : It
   uses_agree agree =
       All-weaker (λ n. fact (bytes n) ≡ other (bytes n)) (λ n. outer_by fact (bytes n) ≡ outer_by other (bytes n)) (λ n h. ap (option_map outer_of) h) (uses found)
       (All-from_recursion (λ n. fact (bytes n) ≡ other (bytes n)) (uses found)
-      (each_image (λ name. fact name ≡ other name) bytes (uses found)
+      (each_unmap (λ name. fact name ≡ other name) bytes (uses found)
       (each_once (λ name. fact name ≡ other name) (map bytes (uses found)) (recursion_from_All (λ name. fact name ≡ other name) (used_names text tokens tree) agree))))
 
   targets_agree : Agree target another (target_names text tokens tree) → All (λ n. misses_by in_set target (bytes n) ≡ misses_by in_set another (bytes n)) (targets found)
   targets_agree agree =
       All-weaker (λ n. target (bytes n) ≡ another (bytes n)) (λ n. misses_by in_set target (bytes n) ≡ misses_by in_set another (bytes n)) (λ n h. ap (λ b. in_set && not b) h) (targets found)
       (All-from_recursion (λ n. target (bytes n) ≡ another (bytes n)) (targets found)
-      (each_image (λ (m : NameRef). target m.name ≡ another m.name) (name_ref_at text tokens) (targets found)
-      (each_image (λ name. target name ≡ another name) (λ (m : NameRef). m.name) (map (name_ref_at text tokens) (targets found))
+      (each_unmap (λ (m : NameRef). target m.name ≡ another m.name) (name_ref_at text tokens) (targets found)
+      (each_unmap (λ name. target name ≡ another name) (λ (m : NameRef). m.name) (map (name_ref_at text tokens) (targets found))
       (recursion_from_All (λ name. target name ≡ another name) (target_names text tokens tree) agree))))
 
   pub faults_agree : Agree fact other (used_names text tokens tree) → Agree target another (target_names text tokens tree) →

@@ -2,6 +2,7 @@
 use Rattle.std.proofs.Common.{ℕ, ◌+◌, ◌<◌, ◌≤◌, inl, inr, refl, Bool, true, false, cond, List, [], ◌∷◌, length, map, Option, arith}
 use Rattle.std.specs.List.{All, AllByRecursion, enumerate_from, flat_map}
 use Rattle.std.proofs.lemmas.List.Elements.{All-from_recursion}
+use Rattle.snl_facts.specs.Each.{each_append}
 use Rattle.snl_syntax.specs.declared.tree.clause.OptionLine.{OptionLine}
 use Rattle.snl_syntax.specs.declared.tree.item.Item.{Item}
 use Rattle.snl_syntax.specs.declared.tree.item.Item.TheVariants as items
@@ -15,7 +16,6 @@ use Rattle.snl_item_check.specs.declared.findings.ItemFault.{ItemFault}
 use Rattle.snl_item_check.specs.ItemFaults.{StandsIn, fault_of, faults_in, faults_of_rules}
 use Rattle.snl_item_check.specs.Options.{found_at_letter, is_known, letter_fault, program_letters, state_letters, unknown_in_member, unknown_letters, unknown_options}
 use Rattle.snl_item_check.specs.View.{misses_by, outer_by}
-use Rattle.snl_item_check.proofs.Each.{each_join}
 
 abbrev Within : (ℕ → List ℕ) → List ItemFault → Type 0
 Within bytes faults = AllByRecursion (StandsIn bytes) faults
@@ -33,7 +33,7 @@ at_letters : (bytes : ℕ → List ℕ) (known : List ℕ) (token n : ℕ) (lett
     Within bytes (flat_map (found_at_letter known token) (enumerate_from n letters))
 at_letters bytes known token n [] h = tt
 at_letters bytes known token n (x ∷ xs) h =
-    each_join (StandsIn bytes) (found_at_letter known token (n, x)) (flat_map (found_at_letter known token) (enumerate_from (n + 1) xs))
+    each_append (StandsIn bytes) (found_at_letter known token (n, x)) (flat_map (found_at_letter known token) (enumerate_from (n + 1) xs))
     (at_letter bytes known token n x (omega arith)) (at_letters bytes known token (n + 1) xs (omega arith))
 
 in_option : (bytes : ℕ → List ℕ) (known : List ℕ) (line : OptionLine) → Within bytes (unknown_letters bytes known line)
@@ -52,7 +52,7 @@ in_member bytes (members.When t) = tt
 
 in_members : (bytes : ℕ → List ℕ) (ms : List StateMember) → Within bytes (flat_map (unknown_in_member bytes) ms)
 in_members bytes [] = tt
-in_members bytes (m ∷ ms) = each_join (StandsIn bytes) (unknown_in_member bytes m) (flat_map (unknown_in_member bytes) ms) (in_member bytes m) (in_members bytes ms)
+in_members bytes (m ∷ ms) = each_append (StandsIn bytes) (unknown_in_member bytes m) (flat_map (unknown_in_member bytes) ms) (in_member bytes m) (in_members bytes ms)
 
 in_options : (bytes : ℕ → List ℕ) (in_set : Bool) (tree : Item) → Within bytes (unknown_options bytes in_set tree)
 in_options bytes true (items.OptionLine line) = tt
@@ -74,5 +74,5 @@ in_options bytes in_set items.Empty = tt
 pub faults_within : (bytes : ℕ → List ℕ) (tree : Item) (in_set : Bool) (fact : List ℕ → Option Fact) (target : List ℕ → Bool) → All (StandsIn bytes) (faults_in bytes tree in_set fact target)
 faults_within bytes tree in_set fact target =
     All-from_recursion (StandsIn bytes) (faults_in bytes tree in_set fact target)
-    (each_join (StandsIn bytes) (faults_of_rules bytes tree in_set fact target) (unknown_options bytes in_set tree)
+    (each_append (StandsIn bytes) (faults_of_rules bytes tree in_set fact target) (unknown_options bytes in_set tree)
     (at_tokens bytes (findings bytes (outer_by fact) (misses_by in_set target) (occurrences bytes tree))) (in_options bytes in_set tree))

@@ -1,40 +1,21 @@
 -- Tokens are spelled alike where their spellings are equal.
-use Rattle.std.proofs.Common.{◌≡◌, ℕ, ◌==◌, Bool, List, refl, sym, ap, ap₂, ◌∙◌, Decides, IsTrue, if◌then◌else◌, nat_eq}
+use Rattle.std.proofs.Common.{◌≡◌, ℕ, Bool, List, refl, ap, ap₂, Decides, IsTrue}
+use denote.Enum.Bare.{same_true, true_same}
 use Rattle.std.specs.Str.{bytes_eq}
-use Rattle.std.proofs.lemmas.Bool.Decides.{Decides-and, Decides-eqb, Decides-like, same_from_decides}
+use Rattle.std.proofs.lemmas.Bool.Decides.{Decides-and, Decides-like, same_from_decides}
 use Rattle.std.proofs.lemmas.Slice.Eq.{bytes_eq-Decides, slice_eq-Decides}
 use Rattle.snl_lex.specs.declared.piece.Class.{Class}
-use Rattle.snl_lex.specs.declared.piece.Class.TheVariants.{White, Comment, Marker, CCode, Name, Word, Int, Float, Text, CharLit, Punct, Bad}
-use Rattle.snl_items.specs.Fresh.{class_number, same_spelling, spelled_alike}
+use Rattle.snl_lex.specs.contracts.piece.Class.{the_type}
+use Rattle.snl_lex.specs.contracts.piece.ClassPartialEq.TheImpl as class_eq
+use Rattle.snl_items.specs.Fresh.{same_spelling, spelled_alike}
 
--- The class with a number.
-class_at : ℕ → Class
-class_at n =
-    if n == 0 then White else (if n == 1 then Comment else (if n == 2 then Marker else (if n == 3 then CCode else (if n == 4 then Name else (if n == 5 then Word
-    else (if n == 6 then Int else (if n == 7 then Float else (if n == 8 then Text else (if n == 9 then CharLit else (if n == 10 then Punct else Bad))))))))))
-
-class_back : (k : Class) → class_at (class_number k) ≡ k
-unfolding class_at
-class_back White = refl
-class_back Comment = refl
-class_back Marker = refl
-class_back CCode = refl
-class_back Name = refl
-class_back Word = refl
-class_back Int = refl
-class_back Float = refl
-class_back Text = refl
-class_back CharLit = refl
-class_back Punct = refl
-class_back Bad = refl
-
-one_class : (k l : Class) → class_number k ≡ class_number l → k ≡ l
-one_class k l e = sym (class_back k) ∙ ap class_at e ∙ class_back l
+class_Decides : (k l : Class) → Decides (class_eq.eq-value.it k l) (k ≡ l)
+class_Decides k l = (same_true the_type tt k l, true_same the_type k l)
 
 same_Decides : (s t : Class × List ℕ) → Decides (same_spelling s t) (s ≡ t)
 same_Decides s t =
-    Decides-like (same_spelling s t) (λ h. ap₂ (λ (k : Class) (b : List ℕ). let p : Class × List ℕ = (k, b) in p) (one_class s.0 t.0 h.0) h.1) (λ e. (ap (λ p. class_number p.0) e, ap (λ p. p.1) e))
-    (Decides-and (nat_eq (class_number s.0) (class_number t.0)) (bytes_eq s.1 t.1) (Decides-eqb (class_number s.0) (class_number t.0)) (bytes_eq-Decides s.1 t.1))
+    Decides-like (same_spelling s t) (λ h. ap₂ (λ (k : Class) (b : List ℕ). let p : Class × List ℕ = (k, b) in p) h.0 h.1) (λ e. (ap (λ p. p.0) e, ap (λ p. p.1) e))
+    (Decides-and (class_eq.eq-value.it s.0 t.0) (bytes_eq s.1 t.1) (class_Decides s.0 t.0) (bytes_eq-Decides s.1 t.1))
 
 pub alike_Decides : (xs ys : List (Class × List ℕ)) → Decides (spelled_alike xs ys) (xs ≡ ys)
 alike_Decides xs ys = slice_eq-Decides same_Decides xs ys (spelled_alike xs ys) refl

@@ -1,11 +1,10 @@
 -- Where items end, among numbers that rise.
-use Rattle.std.proofs.Common.{refl, ◌≡◌, ℕ, zero, suc, ◌+◌, ◌<◌, ◌≤◌, ◌^◌, inl, inr, All, List, [], ◌∷◌, ◌++◌, length, take, drop, get_or, sym, arith, length-drop}
-use Rattle.std.proofs.lemmas.Bool.{cases_lt}
+use Rattle.std.proofs.Common.{◌≡◌, ℕ, zero, suc, ◌+◌, ◌<◌, ◌≤◌, ◌^◌, All, List, [], ◌∷◌, ◌++◌, length, take, drop, get_or, sym, arith, length-drop}
 use Rattle.std.proofs.lemmas.List.{get_or-drop}
 use Rattle.std.proofs.lemmas.List.Elements.{All-from_get_or}
-use Rattle.snl_cut.specs.Cut.{Rises, ends_below, last_end}
+use Rattle.snl_cut.specs.Cut.{Rises, last_end}
 use Rattle.snl_items.proofs.Parts.{all_middle}
-use Rattle.snl_cut.specs.CutLaws.{below_yes, below_no, rises_at}
+use Rattle.snl_cut.specs.CutLaws.{rises_at}
 
 -- The ends from one number on are greater than the one before them.
 pub ends_above : (from : ℕ) (ends : List ℕ) (k i : ℕ) → Rises from ends → i < length (drop k ends) → last_end from (take k ends) < get_or (drop k ends) i 0

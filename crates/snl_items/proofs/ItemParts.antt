@@ -1,5 +1,5 @@
 -- What an edit of a text makes of its items.
-use Rattle.std.proofs.Common.{◌≡◌, ℕ, suc, ◌+◌, ◌-◌, ◌≤◌, Bool, true, false, List, [], ◌∷◌, ◌++◌, length, map, take, drop, if◌then◌else◌, inl, inr, refl, sym, ap, ap₂, ◌∙◌, subst, arith, length-drop}
+use Rattle.std.proofs.Common.{◌≡◌, ℕ, suc, ◌+◌, ◌-◌, ◌≤◌, Bool, true, false, List, [], ◌++◌, length, map, take, drop, if◌then◌else◌, inl, inr, sym, ap, ap₂, ◌∙◌, subst, arith, length-drop}
 use Rattle.std.proofs.lemmas.List.{append-nil, drop_all, length-take-le, take_all}
 use Rattle.snl_cut.specs.Cut.{IsRecut, ends_of, fresh_ends, joined, last_end, members, moved}
 use Rattle.snl_lex.specs.declared.piece.Class.{Class}

@@ -1,7 +1,7 @@
 -- Where the tokens are that an edit keeps at the front and at the back.
-use Rattle.std.proofs.Common.{◌≡◌, ℕ, zero, suc, ◌+◌, ◌-◌, ◌<◌, ◌≤◌, inl, inr, Bool, if◌then◌else◌, min, All, IfSome, Option, Some, None, List, [], ◌∷◌, ◌++◌, length, map, filter, take, drop, refl, sym, ap, ap₂, ◌∙◌, subst, arith, length-append}
+use Rattle.std.proofs.Common.{◌≡◌, ℕ, zero, suc, ◌+◌, ◌-◌, ◌≤◌, inl, inr, All, IfSome, Option, Some, None, List, [], ◌∷◌, ◌++◌, length, map, filter, take, drop, refl, sym, ap, ap₂, ◌∙◌, subst, arith, length-append}
 use Rattle.std.specs.List.{AllByRecursion}
-use Rattle.std.proofs.lemmas.Bool.{cases_lt, lt-ltb, le-ltb}
+use Rattle.std.proofs.lemmas.Bool.{cases_lt}
 use Rattle.std.proofs.lemmas.List.{drop-append-le, drop-drop, drop_at, length-map, map-append, take-append-le}
 use Rattle.std.proofs.Math.Seq.{take-append-add}
 use Rattle.std.proofs.lemmas.List.Elements.{All-append, All-drop, All-filter, All-from_recursion, All-same, All-take, All-weaker, recursion_from_All}
@@ -13,8 +13,7 @@ use Rattle.snl_lex.specs.PieceList.{last_pieces, listed_pieces, piece_ends, piec
 use Rattle.snl_lex.specs.declared.piece_list.PieceChange.{PieceChange}
 use Rattle.snl_lex.specs.Edit.{Edit, IsChange, made_pieces}
 use Rattle.snl_lex.specs.Pieces.{LiesIn, is_token, moved_piece, piece_end, pieces_of, tokens_of}
-use Rattle.snl_lex.specs.Shift.{most, shifted_offset, shifted_piece}
-use Rattle.snl_syntax.specs.declared.marks.Mark.{Mark}
+use Rattle.snl_lex.specs.Shift.{most, shifted_piece}
 use Rattle.snl_items.specs.declared.shifted.Shifted.{Shifted}
 use Rattle.snl_items.specs.declared.tokens.TokenChange.{TokenChange}
 use Rattle.snl_items.specs.Changes.{AreLeft, AreLeftFrom, AreShifted, IsShiftOf, IsTokenChange, LeavesAround}

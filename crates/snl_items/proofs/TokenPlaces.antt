@@ -3,7 +3,6 @@ use Rattle.std.proofs.Common.{◌≡◌, ℕ, ◌+◌, ◌-◌, ◌≤◌, List,
 use Rattle.std.proofs.lemmas.List.{drop-take, length-map, map-append, take-map, take_at, take-append-drop, take-take}
 use Rattle.std.proofs.lemmas.List.Elements.{filter-append}
 use Rattle.snl_cut.specs.Cut.{IsRecut, Rises, ends_of, last_end, meet_of}
-use Rattle.snl_lex.specs.declared.piece.Class.{Class}
 use Rattle.snl_lex.specs.declared.piece.Piece.{Piece}
 use Rattle.snl_lex.specs.PieceList.{last_pieces, listed_pieces, piece_ends, piece_kinds, pieces_between}
 use Rattle.snl_lex.specs.declared.piece_list.PieceChange.{PieceChange}

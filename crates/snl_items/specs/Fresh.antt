@@ -1,9 +1,9 @@
 -- What an edit of a text makes fresh: how many pieces, and which items.
-use Rattle.std.specs.Prelude.{ℕ, ◌+◌, ◌-◌, ◌&&◌, Bool, nat_eq, nat_lt, if◌then◌else◌, List, [], length, take, drop, count_by, bytes_eq}
+use Rattle.std.specs.Prelude.{ℕ, ◌+◌, ◌-◌, ◌&&◌, Bool, nat_lt, if◌then◌else◌, List, [], length, take, drop, count_by, bytes_eq}
 use Rattle.std.specs.Cmp.Lexicographic.{pointwise}
 use Rattle.snl_cut.specs.Cut.{fresh_ends, meet_of}
 use Rattle.snl_lex.specs.declared.piece.Class.{Class}
-use Rattle.snl_lex.specs.declared.piece.Class.TheVariants.{White, Comment, Marker, CCode, Name, Word, Int, Float, Text, CharLit, Punct, Bad}
+use Rattle.snl_lex.specs.contracts.piece.ClassPartialEq.TheImpl as class_eq
 use Rattle.snl_lex.specs.Edit.{Edit, splice}
 use Rattle.snl_lex.specs.Pieces.{piece_end, piece_length, tokens_of}
 use Rattle.snl_syntax.specs.Items.{item}
@@ -24,24 +24,9 @@ token_edit_of e =
     let meet = meet_of piece_length e.old e.text e.old_stop e.new_stop in
     record { start = ending_before e.old e.start; old_stop = beginning_before e.old ((meet - e.new_stop) + e.old_stop); new_stop = beginning_before e.text meet }
 
--- Each class by a number of its own.
-abbrev pub class_number : Class → ℕ
-class_number White = 0
-class_number Comment = 1
-class_number Marker = 2
-class_number CCode = 3
-class_number Name = 4
-class_number Word = 5
-class_number Int = 6
-class_number Float = 7
-class_number Text = 8
-class_number CharLit = 9
-class_number Punct = 10
-class_number Bad = 11
-
 -- Two tokens have one class and the same bytes.
 abbrev pub same_spelling : Class × List ℕ → Class × List ℕ → Bool
-same_spelling s t = nat_eq (class_number s.0) (class_number t.0) && bytes_eq s.1 t.1
+same_spelling s t = class_eq.eq-value.it s.0 t.0 && bytes_eq s.1 t.1
 
 -- As many tokens, spelled alike one by one.
 abbrev pub spelled_alike : List (Class × List ℕ) → List (Class × List ℕ) → Bool

@@ -14,7 +14,6 @@ use Rattle.snl_items.specs.Changes.{IsShiftOf}
 use Rattle.snl_items.specs.Items.{item_ends, spelled_items}
 use Rattle.snl_syntax.specs.Outcome.{parsed_by, parsed_in, sound_tree}
 use Rattle.snl_syntax.specs.declared.tree.item.Item.{Item}
-use Rattle.snl_scope.specs.LinkedItems.{LinkedItems}
 use Rattle.snl_scope.specs.SpelledTokens.{bytes_by, summary_by}
 use Rattle.snl_scope.specs.Summaries.{kind_of, summary_in}
 use Rattle.snl_scope.specs.Summaries.Tokens.{token_bytes}
@@ -37,7 +36,7 @@ use Rattle.snl_kept.specs.Checks.{check_by, checks_from, checks_of, links_in, ou
 use Rattle.snl_kept.specs.Diagnostics.{diagnostic, diagnostics_of, shown_if}
 use Rattle.snl_kept.specs.Entries.{entries_of, entry_by}
 use Rattle.snl_kept.specs.ItemPlan.{AreOwnTokens, IsAfterInside, IsOneItem, IsStateAlike, IsWas, SaysWhatItSaid, come_by, diagnostics_by, gone_by, kinds_kept, outlines_kept, own_item, wakes_told}
-use Rattle.snl_kept.specs.ReplacedItem.{IsInside, IsOneReplaced, own_findings, own_head, own_shown, own_tokens}
+use Rattle.snl_kept.specs.ReplacedItem.{IsInside, own_findings, own_head, own_shown, own_tokens}
 use Rattle.snl_kept.specs.OwnFindings.{found_around}
 use Rattle.snl_kept.specs.OwnRows.{come_of, gone_of}
 use Rattle.snl_kept.specs.Planned.{AreEntriesMade, IsChanged}
@@ -162,22 +161,6 @@ module _ (tree_told : (text : List ℕ) (tokens : List Piece) → sound_tree (pa
             ∙ ap₂ (λ (ts : List Piece) (c : Option Checked). wakes_told (token_bytes old ts) c) own_are.was check
             ∙ wakes_are tree_told by_spelling summary_told bytes_told (outlines_in old) k old (own_tokens old k);
       }
-
--- ---- the links after an edit inside one item
-
-put_back : {X : Type 0} (x : X) (k : ℕ) (xs : List X) → slice_get xs k ≡ Some x → take k xs ++ (x ∷ drop (suc k) xs) ≡ xs
-put_back x k [] there = absurd cc
-put_back {X = X} x zero (y ∷ ys) there = let same : x ≡ y = cc in ap (λ (z : X). z ∷ ys) same
-put_back {X = X} x (suc k) (y ∷ ys) there = ap (λ (l : List X). y ∷ l) (put_back x k ys there)
-
--- where the item is of the kind that it was, they stay
-pub links_stay : (edit : Edit) (c : Changes) (t : LineShift) (x e : Entry) → IsOneReplaced edit c t x e
-    → slice_get (links_in edit.old).kinds c.items.kept_front ≡ Some e.summary.kind → links_in edit.text ≡ links_in edit.old
-links_stay edit c t x e one same =
-    ap₂ (λ (os : List Outline) (ks : List ItemKind). let l : LinkedItems = record { outlines = os; kinds = ks } in l) one.inside.outlines
-    (one.kinds
-    ∙ ap (λ (n : ℕ). take c.items.kept_front (links_in edit.old).kinds ++ (e.summary.kind ∷ drop n (links_in edit.old).kinds)) (add-one c.items.kept_front)
-    ∙ put_back e.summary.kind c.items.kept_front (links_in edit.old).kinds same)
 
 -- ---- what the text says after it
 

@@ -5,6 +5,7 @@ use Rattle.std.proofs.Common.{◌≡◌, ℕ, zero, suc, List, [], ◌∷◌, �
 use Rattle.std.specs.List.{flat_map}
 use Rattle.std.specs.Option.{option_map_or}
 use Rattle.std.proofs.lemmas.List.{append-nil, map-append}
+use Rattle.snl_tables.specs.ShiftedLaws.{changed_twice}
 use Rattle.snl_lex.specs.declared.lines.Line.{Line}
 use Rattle.snl_lex.specs.declared.shift.Shift.{Shift}
 use Rattle.snl_tables.specs.declared.rows.SetRow.{SetRow}
@@ -57,11 +58,6 @@ marks_tell_set number body wake marks row =
     ∙ marks_tell (with_own_body body) (λ (state : StateRow). refl) (λ (m : StateMark) (state : StateRow). refl) marks number row.states
 
 -- ---- the rows of all sets
-
-changed_twice : {X : Type 0} (f g : X → X) (n : ℕ) (xs : List X) → changed_at f n (changed_at g n xs) ≡ changed_at (λ x. f (g x)) n xs
-changed_twice f g n [] = refl
-changed_twice f g zero (x ∷ xs) = refl
-changed_twice {X = X} f g (suc n) (x ∷ xs) = ap (λ (l : List X). x ∷ l) (changed_twice f g n xs)
 
 -- what is found at states by other marks is the same, whatever becomes of lines
 module _ (s : Shift) (line : ℕ → Line → Line) where

@@ -1,8 +1,9 @@
 -- States that are not reached are found at different offsets: each is named in an item of its own.
-use Rattle.std.proofs.Common.{◌≡◌, ℕ, zero, suc, ◌<◌, Bool, true, false, ◌&&◌, nat_eq, List, [], ◌∷◌, ◌++◌, length, map, slice_get, Option, None, Some, is_some, option_map, refl, sym, ap, subst, ◌∙◌, arith, if◌then◌else◌}
+use Rattle.std.proofs.Common.{◌≡◌, ℕ, ◌<◌, Bool, true, false, ◌&&◌, nat_eq, List, [], ◌∷◌, ◌++◌, length, map, slice_get, Option, None, Some, is_some, option_map, refl, sym, ap, subst, ◌∙◌, arith, if◌then◌else◌}
 use Rattle.std.specs.List.{AllByRecursion as Each, enumerate_from, flat_map}
 use Rattle.std.specs.Option.{option_map_or}
 use Rattle.std.proofs.lemmas.Bool.{eqb-true, false≢true}
+use Rattle.snl_scope.specs.BelowLaws.{each_passing, two_below}
 use Rattle.snl_lex.specs.declared.piece.Piece.{Piece}
 use Rattle.snl_lex.specs.Pieces.{LiesIn}
 use Rattle.snl_codes.specs.declared.code.Code.TheVariants.{W02}
@@ -25,31 +26,12 @@ use Rattle.snl_kept.proofs.OnceTokens.{AreApart, IsIn, one_item}
 use Rattle.snl_kept.proofs.OnceTwo.{two_flat, two_numbered, two_with}
 use Rattle.snl_facts.specs.Booleans.{and_second, and_first}
 use Rattle.std.proofs.lemmas.Option.{slice_get-map}
-use Rattle.snl_facts.specs.Each.{each_append, each_weaker, each_got, two_append, each_flat, each_numbered, EachTwo}
+use Rattle.snl_facts.specs.Each.{each_weaker, each_got, each_flat, each_numbered, EachTwo}
 use Rattle.snl_kept.specs.TokenLaws.{InARow}
 
 flat_of_map : {A B C : Type 0} (F : B → List C) (g : A → B) (xs : List A) → flat_map F (map g xs) ≡ flat_map (λ x. F (g x)) xs
 flat_of_map F g [] = refl
 flat_of_map F g (x ∷ xs) = ap (λ l. F (g x) ++ l) (flat_of_map F g xs)
-
--- the numbers below one that pass a test: they pass it, and rise
-passed : (test : ℕ → Bool) (n : ℕ) → Each (λ i. (i < n) × (test i ≡ true)) (all_below test n) × EachTwo (λ a b. a < b) (all_below test n)
-passed test zero = (tt, tt)
-passed test (suc n) = by (test n) refl (passed test n)
-  where
-    here : Each (λ i. (i < n) × (test i ≡ true)) (all_below test n) → Each (λ i. (i < suc n) × (test i ≡ true)) (all_below test n)
-    here = each_weaker (λ i. (i < n) × (test i ≡ true)) (λ i. (i < suc n) × (test i ≡ true)) (λ i h. (omega (arith, h.0), h.1)) (all_below test n)
-
-    by : (b : Bool) → test n ≡ b → Each (λ i. (i < n) × (test i ≡ true)) (all_below test n) × EachTwo (λ a b. a < b) (all_below test n)
-        → Each (λ i. (i < suc n) × (test i ≡ true)) (all_below test n ++ (if b then n ∷ [] else [])) × EachTwo (λ a b. a < b) (all_below test n ++ (if b then n ∷ [] else []))
-    by true is before = (
-      each_append (λ i. (i < suc n) × (test i ≡ true)) (all_below test n) (n ∷ []) (here before.0) ((omega arith, is), tt),
-      two_append (λ a b. a < b) (λ i. (i < n) × (test i ≡ true)) (λ i. i ≡ n) (λ a b l e. omega (arith, l.0, e)) (all_below test n) (n ∷ []) before.0 before.1 (refl, tt) (tt, tt),
-    )
-    by false is before = (
-      each_append (λ i. (i < suc n) × (test i ≡ true)) (all_below test n) [] (here before.0) tt,
-      two_append (λ a b. a < b) (λ i. (i < n) × (test i ≡ true)) (λ i. i ≡ n) (λ a b l e. omega (arith, l.0, e)) (all_below test n) [] before.0 before.1 tt tt,
-    )
 
 in_one_set : (ss : List Outline) (k m j : ℕ) → stands_in ss k j ≡ true → stands_in ss m j ≡ true → k ≡ m
 in_one_set ss k m j = by (enclosing_set ss j)
@@ -100,9 +82,8 @@ module _ (text : List ℕ) (xs : List ProgramItem) (apart : AreApart text xs) wh
 
   members : (k : ℕ) → Each (IsMember k) (states_in ss k)
   members k =
-      each_weaker (λ j. (j < length ss) × ((is_named_state ss j && stands_in ss k j) ≡ true)) (IsMember k)
-      (λ j h. (and_first (is_named_state ss j) (stands_in ss k j) h.1, and_second (is_named_state ss j) (stands_in ss k j) h.1)) (states_in ss k)
-      (passed (λ j. is_named_state ss j && stands_in ss k j) (length ss)).0
+      each_passing (IsMember k) (λ j. is_named_state ss j && stands_in ss k j) (length ss)
+      (λ j is. (and_first (is_named_state ss j) (stands_in ss k j) is, and_second (is_named_state ss j) (stands_in ss k j) is))
 
   abbrev row_of : ℕ → ℕ × ℕ → StateRow
   row_of k p = numbered_row text xs ss k p
@@ -121,7 +102,7 @@ module _ (text : List ℕ) (xs : List ProgramItem) (apart : AreApart text xs) wh
   in_set k =
       let ns : List (ℕ × ℕ) = enumerate_from 0 (states_in ss k) in
       let own : Each (λ p. IsMember k p.1) ns = each_numbered (IsMember k) 0 (states_in ss k) (members k) in
-      let rise : EachTwo (λ p q. p.1 < q.1) ns = two_numbered (λ a b. a < b) 0 (states_in ss k) (passed (λ j. is_named_state ss j && stands_in ss k j) (length ss)).1 in
+      let rise : EachTwo (λ p q. p.1 < q.1) ns = two_numbered (λ a b. a < b) 0 (states_in ss k) (two_below (λ j. is_named_state ss j && stands_in ss k j) (length ss)) in
       let both : EachTwo (λ p q. IsMember k p.1 × IsMember k q.1 × (p.1 < q.1)) ns =
       two_with (λ p q. p.1 < q.1) (λ p. IsMember k p.1) (λ p q. IsMember k p.1 × IsMember k q.1 × (p.1 < q.1)) (λ p q m n l. (m, n, l)) ns own rise in
       let same = sym (flat_of_map found_at_state (row_of k) ns) in (
@@ -149,7 +130,7 @@ module _ (text : List ℕ) (xs : List ProgramItem) (apart : AreApart text xs) wh
   pub walked_once : EachTwo DifferInPlace (walked_faults text xs)
   walked_once =
       subst (EachTwo DifferInPlace) (sym (flat_of_map found_in_set (set_row text xs ss) sets))
-      (two_flat (λ k. found_in_set (set_row text xs ss k)) DifferInPlace (λ k m. k < m) AtState between_sets sets (passed (is_set_begin ss) (length ss)).1 (every_set sets))
+      (two_flat (λ k. found_in_set (set_row text xs ss k)) DifferInPlace (λ k m. k < m) AtState between_sets sets (two_below (is_set_begin ss) (length ss)) (every_set sets))
 
   pub walked_coded : Each (λ f. f.code ≡ W02) (walked_faults text xs)
   walked_coded =

@@ -23,10 +23,19 @@ use std::alloc::Global;
 use std::marker::Model;
 
 /// An item as it is kept.
-#[derive(Drop)]
 pub struct Entry {
     pub parsed: Parsed,
     pub summary: Summary,
+}
+
+// By hand, so that whoever holds one need not know what is in it to let it go.
+impl Drop for Entry {
+    fn drop(self) {
+        let Entry {
+            parsed: _,
+            summary: _,
+        } = self;
+    }
 }
 
 // The most entries that others share.

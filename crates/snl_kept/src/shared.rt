@@ -8,9 +8,15 @@ use std::marker::Model;
 use std::rc::Rc;
 
 /// A value that others may hold too, and that nobody changes. Contracts see the value.
-#[derive(Drop)]
 pub struct Shared<T> {
     held: Rc<T, Global>,
+}
+
+// By hand, so that whoever holds one need not know what is shared to let it go.
+impl<T: Drop> Drop for Shared<T> {
+    fn drop(self) {
+        let Shared { held: _ } = self;
+    }
 }
 
 impl<T> Model for Shared<T> {

@@ -1,5 +1,6 @@
 //! What is found in a document, as the notification `textDocument/publishDiagnostics`.
-//! In: places, codes, messages and what they quote. Out: the bytes of the notification, after those that are there.
+//! In: places, codes, messages and what they quote. Out: the bytes of the notification, after those
+//! that are there.
 //! Knows nothing of texts, and of how places are counted in them.
 
 ghost use Rattle.std.specs.Prelude.{◌≡◌, ◌++◌, ◌∷◌, [], ℕ, List, Option, None, Some, OnOk, codes, flat_map, map};

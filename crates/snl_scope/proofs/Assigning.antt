@@ -4,6 +4,7 @@ use Rattle.std.proofs.Common.{◌≡◌, ℕ, Bool, true, false, ◌&&◌, ◌||
 use Rattle.std.proofs.lemmas.Bool.Decides.{Decides-eqb}
 use Rattle.std.specs.List.{list_any}
 use Rattle.std.specs.Option.{option_or, unwrap_or}
+use Rattle.std.proofs.lemmas.Bool.{and_parts}
 use Rattle.snl_scope.specs.declared.facts.Assigned.{Assigned}
 use Rattle.snl_scope.specs.declared.facts.Assigned.TheVariants.{Unassigned}
 use Rattle.snl_scope.specs.ByNumber.{at_number}
@@ -42,19 +43,14 @@ assigns-first (c ∷ cs) n = by (assigns (Some n) c) (assigns-first cs n)
     by true h = refl
     by false h = h
 
-both-true : (b c : Bool) → (b && c) ≡ true → (b ≡ true) × (c ≡ true)
-both-true true true h = (refl, refl)
-both-true true false h = absurd (true≢false (sym h))
-both-true false c h = absurd (true≢false (sym h))
-
 assigns-kind : (c : LinkedClause) (q : ℕ) → assigns (Some q) c ≡ true → is_assign c.clause.kind ≡ true
-assigns-kind c q h = (both-true (is_assign c.clause.kind) (same_number (Some q) c.variable) h).0
+assigns-kind c q h = (and_parts (is_assign c.clause.kind) (same_number (Some q) c.variable) h).0
 
 numbers : (a b : Option ℕ) (q v : ℕ) → a ≡ Some q → b ≡ Some v → same_number a b ≡ true → q ≡ v
 numbers a b q v g h s = (Decides-eqb q v).0 (ap (λ x. same_number x (Some v)) (sym g) ∙ ap (λ y. same_number a y) (sym h) ∙ s)
 
 assigns-number : (c : LinkedClause) (q v : ℕ) → c.variable ≡ Some v → assigns (Some q) c ≡ true → q ≡ v
-assigns-number c q v is h = numbers (Some q) c.variable q v refl is (both-true (is_assign c.clause.kind) (same_number (Some q) c.variable) h).1
+assigns-number c q v is h = numbers (Some q) c.variable q v refl is (and_parts (is_assign c.clause.kind) (same_number (Some q) c.variable) h).1
 
 -- the table stays where each declaration that the clause assigns is in it
 stays : (held : List (Option Assigned)) (cs : List LinkedClause) (c : LinkedClause) → Assigns held cs
@@ -69,7 +65,7 @@ stays held cs c f known = record { each = λ q. f.each q ∙ sym (first_assign-p
 pub no_variable : (held : List (Option Assigned)) (cs : List LinkedClause) (c : LinkedClause) → Assigns held cs → c.variable ≡ None → Assigns held (cs ++ c ∷ [])
 no_variable held cs c f h =
     stays held cs c f (λ q t.
-    absurd (true≢false (sym (both-true (is_assign c.clause.kind) (same_number (Some q) c.variable) t).1 ∙ ap (λ o. same_number (Some q) o) h)))
+    absurd (true≢false (sym (and_parts (is_assign c.clause.kind) (same_number (Some q) c.variable) t).1 ∙ ap (λ o. same_number (Some q) o) h)))
 
 -- the clause assigns nothing, or something that the table tells of
 pub not_first : (held : List (Option Assigned)) (cs : List LinkedClause) (c : LinkedClause) (v : ℕ) → Assigns held cs → c.variable ≡ Some v
@@ -90,14 +86,14 @@ pub assigned_now : (held held' : List (Option Assigned)) (cs : List LinkedClause
 assigned_now held held' cs c v f is first put = record { each = λ q. put q ∙ by q (nat_eq v q) refl ∙ sym (first_assign-push cs c q) }
   where
     kind : is_assign c.clause.kind ≡ true
-    kind = (both-true (is_assign c.clause.kind) (is_none (at_number held v)) first).0
+    kind = (and_parts (is_assign c.clause.kind) (is_none (at_number held v)) first).0
 
     missing : (o : Option Assigned) → is_none o ≡ true → is_some o ≡ false
     missing None h = refl
     missing (Some x) h = absurd (true≢false (sym h))
 
     absent : is_some (at_number held v) ≡ false
-    absent = missing (at_number held v) (both-true (is_assign c.clause.kind) (is_none (at_number held v)) first).1
+    absent = missing (at_number held v) (and_parts (is_assign c.clause.kind) (is_none (at_number held v)) first).1
 
     test : (q : ℕ) → assigns (Some q) c ≡ nat_eq q v
     test q = ap (λ b. b && same_number (Some q) c.variable) kind ∙ ap (λ o. same_number (Some q) o) is

@@ -3,6 +3,7 @@ use Rattle.std.proofs.Common.{◌≡◌, ℕ, inl, inr, Bool, true, false, ◌&&
 use Rattle.std.specs.Prelude.{slice_get}
 use Rattle.std.proofs.lemmas.Bool.Decides.{Decides-eqb, nat_tests}
 use Rattle.std.specs.Option.{option_and_then, option_map_or}
+use Rattle.std.proofs.lemmas.Bool.{cases_Bool}
 use Rattle.snl_scope.specs.declared.clauses.clause_index.Claim.{Claim}
 use Rattle.snl_scope.specs.declared.clauses.clause_index.Extents.{Extents}
 use Rattle.snl_scope.specs.declared.clauses.clause_index.Purpose.{Purpose}
@@ -11,7 +12,7 @@ use Rattle.snl_scope.specs.declared.clauses.clause_index.VariableClaims.{Variabl
 use Rattle.std.proofs.lemmas.Option.{get_or_from_slice_get}
 use Rattle.snl_scope.specs.ByNumber.{IsPutAt, at_number}
 use Rattle.snl_scope.specs.Claims.{extents_at, extents_for, extents_on, no_extents, own_place, place_of, same_purpose, with_extent, with_extents}
-use Rattle.snl_scope.proofs.Elements.{get_after, get_kept, get_last, set_other, set_there, told}
+use Rattle.snl_scope.proofs.Elements.{get_after, get_kept, get_last, set_other, set_there}
 use Rattle.snl_scope.proofs.FirstClaims.{purpose_true}
 
 self_eq : (n : ℕ) → nat_eq n n ≡ true
@@ -66,7 +67,7 @@ module _ (places places' : List (Option ℕ)) (claimed : List VariableClaims) (v
       ∙ ap (λ (b : Bool). if b then Some (length claimed) else None) (self_eq variable)
 
   pub placed_keeps : place_of places claimed variable ≡ None → (v : ℕ) (p : Purpose) → extents_on places' (claimed ++ fresh ∷ []) v p ≡ extents_on places claimed v p
-  placed_keeps none v p = elim (told (nat_eq variable v)) [
+  placed_keeps none v p = elim (cases_Bool (nat_eq variable v)) [
     | inl same ↦
         let e : variable ≡ v = (Decides-eqb variable v).0 same in
         ap (λ (w : ℕ). extents_on places' (claimed ++ fresh ∷ []) w p) (sym e)
@@ -88,7 +89,7 @@ own_at claimed v place (Some r) h c at = by (slice_get claimed r) refl h
   where
     by : (q : Option VariableClaims) → slice_get claimed r ≡ q → option_and_then (λ e. if nat_eq e.variable v then Some r else None) q ≡ Some place → nat_eq c.variable v ≡ true
     by None g t = cc
-    by (Some d) g t = elim (told (nat_eq d.variable v)) [
+    by (Some d) g t = elim (cases_Bool (nat_eq d.variable v)) [
       | inl own ↦
           let s : Some r ≡ Some place = sym (ap (λ (b : Bool). if b then Some r else None) own) ∙ t in
           let e : r ≡ place = cc in
@@ -106,7 +107,7 @@ own_there claimed v place (Some r) h c at = by (slice_get claimed r) refl h
   where
     by : (q : Option VariableClaims) → slice_get claimed r ≡ q → option_and_then (λ e. if nat_eq e.variable v then Some r else None) q ≡ Some place → slice_get claimed place ≡ Some c
     by None g t = cc
-    by (Some d) g t = elim (told (nat_eq d.variable v)) [
+    by (Some d) g t = elim (cases_Bool (nat_eq d.variable v)) [
       | inl own ↦
           let s : Some r ≡ Some place = sym (ap (λ (b : Bool). if b then Some r else None) own) ∙ t in
           let e : r ≡ place = cc in
@@ -140,7 +141,7 @@ module _ (claimed : List VariableClaims) (place : ℕ) (c d : VariableClaims) (a
   -- the places stay the variables' own
   own_stays : (v : ℕ) (o : Option ℕ) → own_place (set claimed place d) v o ≡ own_place claimed v o
   own_stays v None = refl
-  own_stays v (Some r) = elim (told (nat_eq place r)) [
+  own_stays v (Some r) = elim (cases_Bool (nat_eq place r)) [
     | inl same ↦
         let e : place ≡ r = (Decides-eqb place r).0 same in
         let test = λ (q : Option VariableClaims). option_and_then (λ x. if nat_eq x.variable v then Some r else None) q in
@@ -156,7 +157,7 @@ module _ (claimed : List VariableClaims) (place : ℕ) (c d : VariableClaims) (a
   other_stays v p apart (Some r) = by (slice_get claimed r) refl
     where
       elsewhere : (x : VariableClaims) → slice_get claimed r ≡ Some x → nat_eq x.variable v ≡ true → nat_eq place r ≡ false
-      elsewhere x h own = elim (told (nat_eq place r)) [
+      elsewhere x h own = elim (cases_Bool (nat_eq place r)) [
         | inl same ↦
             let e : place ≡ r = (Decides-eqb place r).0 same in
             let two : Some c ≡ Some x = sym at ∙ ap (slice_get claimed) e ∙ h in
@@ -213,7 +214,7 @@ module _ (places : List (Option ℕ)) (claimed : List VariableClaims) (one : Cla
   no_more false v p = refl
 
   pub one_more : (v : ℕ) (p : Purpose) → extents_on places (set claimed place made) v p ≡ expected (same_purpose one.purpose p) (nat_eq one.variable v) v p
-  one_more v p = elim (told (nat_eq one.variable v)) [
+  one_more v p = elim (cases_Bool (nat_eq one.variable v)) [
     | inl same ↦
         let e : one.variable ≡ v = (Decides-eqb one.variable v).0 same in
         ap (λ (w : ℕ). extents_on places (set claimed place made) w p) (sym e) ∙ here p

@@ -1,11 +1,7 @@
 -- Elements of lists, by their numbers.
-use Rattle.std.proofs.Common.{◌≡◌, ℕ, zero, suc, ◌⊎◌, inl, inr, Bool, true, false, List, [], ◌∷◌, ◌++◌, length, set, nat_eq, None, Some, refl, sym, ◌∙◌, arith, true≢false}
+use Rattle.std.proofs.Common.{◌≡◌, ℕ, zero, suc, ◌⊎◌, inl, inr, false, List, [], ◌∷◌, ◌++◌, length, set, nat_eq, None, Some, refl, sym, ◌∙◌, arith, true≢false}
 use Rattle.std.specs.Prelude.{slice_get}
 use Rattle.std.proofs.lemmas.Bool.Decides.{nat_tests}
-
-pub told : (b : Bool) → (b ≡ true) ⊎ (b ≡ false)
-told true = inl refl
-told false = inr refl
 
 pub get_kept : {A : Type 0} (xs : List A) (x c : A) (r : ℕ) → slice_get xs r ≡ Some c → slice_get (xs ++ x ∷ []) r ≡ Some c
 get_kept [] x c r h = cc

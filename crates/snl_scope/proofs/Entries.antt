@@ -8,6 +8,8 @@ use Rattle.std.specs.Map.{lookup}
 use Rattle.std.specs.Option.{option_and_then, option_or}
 use Rattle.std.specs.Str.{bytes_eq}
 use Rattle.indexmap.specs.IndexMap.{insert_entry}
+use Rattle.snl_facts.specs.Options.{none_or, or_none}
+use Rattle.snl_facts.specs.Positions.{position_push}
 use Rattle.snl_scope.specs.declared.facts.LinkFault.{LinkFault}
 use Rattle.snl_scope.specs.declared.names.first_numbers.FirstNumbers.{FirstNumbers}
 use Rattle.snl_scope.specs.declared.names.namespaces.QualifiedName.{QualifiedName}
@@ -20,7 +22,6 @@ use Rattle.snl_scope.specs.Names.{Entry, has_name, number_in, repetition, repeti
 use Rattle.snl_scope.specs.NameTables.{AreSame, Follows, IsPut, number_by, number_under, same_key, symbol_of, with_name}
 use Rattle.snl_scope.proofs.Equality.{key_is, key_true, key_same, name_same, name_true}
 use Rattle.snl_scope.proofs.FirstEntries.{firsts-new, firsts-seen}
-use Rattle.snl_scope.proofs.Numbering.{position-push}
 
 -- the findings with one more entry
 repetitions-push : (earlier es : List Entry) (e : Entry) → repetitions earlier (es ++ e ∷ []) ≡ repetitions earlier es ++ repetition (earlier ++ es) e
@@ -33,14 +34,6 @@ repetitions-push earlier (x ∷ xs) e =
 some-or : {A : Type 0} (o p : Option A) → is_some o ≡ true → option_or o p ≡ o
 some-or None p h = absurd (true≢false (sym h))
 some-or (Some x) p h = refl
-
-none-or : {A : Type 0} (o p : Option A) → is_some o ≡ false → option_or o p ≡ p
-none-or None p h = refl
-none-or (Some x) p h = absurd (true≢false h)
-
-or-none : {A : Type 0} (o : Option A) → option_or o None ≡ o
-or-none None = refl
-or-none (Some x) = refl
 
 abbrev key : Namespace → ℕ → QualifiedName
 key s n = record { namespace = s; name = n }
@@ -62,7 +55,7 @@ module _ (names : List (List ℕ)) (first : FirstNumbers) (symbols : List Symbol
       later (Some n) b = refl
 
       by : (o : Option ℕ) → number_by (if is_some o then names else names ++ name ∷ []) first s other ≡ number_by names first s other
-      by None = ap (option_and_then (number_under first s)) (position-push (bytes_eq other) names name) ∙ later (position (bytes_eq other) names) (bytes_eq other name)
+      by None = ap (option_and_then (number_under first s)) (position_push (bytes_eq other) names name) ∙ later (position (bytes_eq other) names) (bytes_eq other name)
       by (Some n) = refl
 
   longer : (name : List ℕ) → length names ≤ length (with_name names name)
@@ -94,14 +87,14 @@ module _ (names : List (List ℕ)) (first : FirstNumbers) (symbols : List Symbol
       seen = ap is_some (sym (f.tabled.found e.namespace e.name)) ∙ ap is_some here ∙ there
 
       stays : (s : Namespace) (name : List ℕ) → number_in es s name ≡ number_in (es ++ e ∷ []) s name
-      stays s name = sym (position-push (has_name s name) es e ∙ by (has_name s name e) refl)
+      stays s name = sym (position_push (has_name s name) es e ∙ by (has_name s name e) refl)
         where
           by : (b : Bool) → has_name s name e ≡ b → option_or (number_in es s name) (cond (has_name s name e) (Some (length es)) None) ≡ number_in es s name
           by true h =
               let p = name_true s name e h in
               some-or (number_in es s name) (cond (has_name s name e) (Some (length es)) None)
               (ap (λ t. is_some (number_in es t name)) p.0 ∙ ap (λ n. is_some (number_in es e.namespace n)) p.1 ∙ seen)
-          by false h = ap (λ b. option_or (number_in es s name) (cond b (Some (length es)) None)) h ∙ or-none (number_in es s name)
+          by false h = ap (λ b. option_or (number_in es s name) (cond b (Some (length es)) None)) h ∙ or_none (number_in es s name)
 
       pub follows_again : (first' : FirstNumbers) → AreSame first first' → first'.numbers.items ≡ first.numbers.items
           → (symbols' : List Symbol) (faults' : List LinkFault) → symbols' ≡ symbols ++ symbol_of e ∷ [] → faults' ≡ faults ++ repetition_at e
@@ -132,13 +125,13 @@ module _ (names : List (List ℕ)) (first : FirstNumbers) (symbols : List Symbol
           ∙ sym ((bytes_eq-Decides e.name (get_or names k [])).0 (position-Some (bytes_eq e.name) names k [] numbered).1)
 
       found : (s : Namespace) (name : List ℕ) → number_by names first' s name ≡ number_in (es ++ e ∷ []) s name
-      found s name = by (position (bytes_eq name) names) refl ∙ sym (position-push (has_name s name) es e)
+      found s name = by (position (bytes_eq name) names) refl ∙ sym (position_push (has_name s name) es e)
         where
           before : (o : Option ℕ) → position (bytes_eq name) names ≡ o → number_in es s name ≡ option_and_then (number_under first s) o
           before o h = sym (f.tabled.found s name) ∙ ap (option_and_then (number_under first s)) h
 
           other : has_name s name e ≡ false → option_or (number_in es s name) (cond (has_name s name e) (Some (length es)) None) ≡ number_in es s name
-          other h = ap (λ b. option_or (number_in es s name) (cond b (Some (length es)) None)) h ∙ or-none (number_in es s name)
+          other h = ap (λ b. option_or (number_in es s name) (cond b (Some (length es)) None)) h ∙ or_none (number_in es s name)
 
           by : (o : Option ℕ) → position (bytes_eq name) names ≡ o
               → option_and_then (number_under first' s) o ≡ option_or (number_in es s name) (cond (has_name s name e) (Some (length es)) None)
@@ -160,7 +153,7 @@ module _ (names : List (List ℕ)) (first : FirstNumbers) (symbols : List Symbol
                   let same : has_name s name e ≡ true = ap (λ t. has_name t name e) (sym p.0) ∙ ap (λ m. has_name e.namespace m e) n ∙ name_same e in
                   let gone : is_some (number_in es s name) ≡ false = ap (λ t. is_some (number_in es t name)) (sym p.0) ∙ ap (λ m. is_some (number_in es e.namespace m)) n ∙ unseen in
                   ap (λ b. cond b (Some number) (number_under first s j)) g ∙ ap Some counted
-                  ∙ sym (none-or (number_in es s name) (cond (has_name s name e) (Some (length es)) None) gone ∙ ap (λ b. cond b (Some (length es)) None) same)
+                  ∙ sym (none_or (number_in es s name) (cond (has_name s name e) (Some (length es)) None) gone ∙ ap (λ b. cond b (Some (length es)) None) same)
               compared false g =
                   ap (λ b. cond b (Some number) (number_under first s j)) g ∙ sym (before (Some j) h) ∙ sym (differs (has_name s name e) refl)
                 where

@@ -1,9 +1,10 @@
 -- Spaces and keys are the same where their tests say so, and the tests are those that the code
 -- derives.
-use Rattle.std.proofs.Common.{◌≡◌, ℕ, Bool, true, false, ◌&&◌, List, nat_eq, refl, sym, ap, ◌∙◌, true≢false}
+use Rattle.std.proofs.Common.{◌≡◌, ℕ, true, ◌&&◌, List, nat_eq, refl, sym, ap, ◌∙◌, true≢false}
 use Rattle.std.specs.Str.{bytes_eq}
 use Rattle.std.proofs.lemmas.Bool.Decides.{Decides-eqb}
 use Rattle.std.proofs.lemmas.Slice.Eq.{bytes_eq-Decides}
+use Rattle.std.proofs.lemmas.Bool.{and_parts}
 use Rattle.snl_scope.specs.declared.names.namespaces.QualifiedName.{QualifiedName}
 use Rattle.snl_scope.specs.declared.names.namespaces.Namespace.{Namespace}
 use Rattle.snl_scope.specs.declared.names.namespaces.Namespace.TheVariants as namespace
@@ -76,20 +77,15 @@ namespace_same (namespace.State a) = (Decides-eqb a a).1 refl
 namespace_same namespace.Sets = refl
 namespace_same (namespace.States a) = (Decides-eqb a a).1 refl
 
-both : (b c : Bool) → (b && c) ≡ true → (b ≡ true) × (c ≡ true)
-both true true h = (refl, refl)
-both true false h = absurd (true≢false (sym h))
-both false c h = absurd (true≢false (sym h))
-
 -- what an equal key and an entry of a name are
 pub key_true : (a b : QualifiedName) → same_key a b ≡ true → (a.namespace ≡ b.namespace) × (a.name ≡ b.name)
-key_true a b h = let p = both (same_namespace a.namespace b.namespace) (nat_eq a.name b.name) h in (namespace_true a.namespace b.namespace p.0, (Decides-eqb a.name b.name).0 p.1)
+key_true a b h = let p = and_parts (same_namespace a.namespace b.namespace) (nat_eq a.name b.name) h in (namespace_true a.namespace b.namespace p.0, (Decides-eqb a.name b.name).0 p.1)
 
 pub key_same : (a : QualifiedName) → same_key a a ≡ true
 key_same a = ap (λ b. b && nat_eq a.name a.name) (namespace_same a.namespace) ∙ (Decides-eqb a.name a.name).1 refl
 
 pub name_true : (s : Namespace) (name : List ℕ) (e : Entry) → has_name s name e ≡ true → (s ≡ e.namespace) × (name ≡ e.name)
-name_true s name e h = let p = both (same_namespace s e.namespace) (bytes_eq name e.name) h in (namespace_true s e.namespace p.0, (bytes_eq-Decides name e.name).0 p.1)
+name_true s name e h = let p = and_parts (same_namespace s e.namespace) (bytes_eq name e.name) h in (namespace_true s e.namespace p.0, (bytes_eq-Decides name e.name).0 p.1)
 
 pub name_same : (e : Entry) → has_name e.namespace e.name e ≡ true
 name_same e = ap (λ b. b && bytes_eq e.name e.name) (namespace_same e.namespace) ∙ (bytes_eq-Decides e.name e.name).1 refl

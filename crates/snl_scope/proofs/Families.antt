@@ -2,11 +2,11 @@
 -- names, and of clauses.
 use Rattle.std.proofs.Common.{◌≡◌, ◌≢◌, ℕ, ◌<◌, ◌≤◌, if◌then◌else◌, List, ◌++◌, ap, arith}
 use Rattle.std.specs.List.{AllByRecursion as Each}
+use Rattle.snl_facts.specs.Each.{EachTwo, each_weaker, two_append}
 use Rattle.snl_codes.specs.declared.code.Code.{Code}
 use Rattle.snl_codes.specs.declared.code.Code.TheVariants.{E03, E04, E05, E06, E07, E08, E09, E14}
 use Rattle.snl_codes.specs.Codes.{is_link_code}
 use Rattle.snl_scope.specs.declared.facts.LinkFault.{LinkFault}
-use Rattle.snl_scope.proofs.Pairs.{EachTwo, each_weaker, two_parts}
 
 -- A number for each of the codes of order and of names. Those at clauses have two: one at flags, one
 -- at variables. The links have no others.
@@ -35,11 +35,11 @@ differ_by_rank f g h = λ e. h (ap (λ x. rank x.code) e)
 
 -- The codes of one list are below those of the other.
 pub two_by_rank : (n : ℕ) (fs gs : List LinkFault) → Each (λ f. rank f.code < n) fs → EachTwo Differ fs → Each (λ g. n ≤ rank g.code) gs → EachTwo Differ gs → EachTwo Differ (fs ++ gs)
-two_by_rank n = two_parts Differ (λ f. rank f.code < n) (λ g. n ≤ rank g.code) (λ f g l h. differ_by_rank f g (λ e. omega (arith, l, h, e)))
+two_by_rank n = two_append Differ (λ f. rank f.code < n) (λ g. n ≤ rank g.code) (λ f g l h. differ_by_rank f g (λ e. omega (arith, l, h, e)))
 
 -- The items of one list are before those of the other.
 pub two_by_item : (n : ℕ) (fs gs : List LinkFault) → Each (λ f. f.item < n) fs → EachTwo Differ fs → Each (λ g. n ≤ g.item) gs → EachTwo Differ gs → EachTwo Differ (fs ++ gs)
-two_by_item n = two_parts Differ (λ f. f.item < n) (λ g. n ≤ g.item) (λ f g l h. differ_by_item f g (λ e. omega (arith, l, h, e)))
+two_by_item n = two_append Differ (λ f. f.item < n) (λ g. n ≤ g.item) (λ f g l h. differ_by_item f g (λ e. omega (arith, l, h, e)))
 
 -- a list of which each finding has one code
 pub rank_under : (n : ℕ) (code : Code) (fs : List LinkFault) → rank code < n → Each (λ f. f.code ≡ code) fs → Each (λ f. rank f.code < n) fs

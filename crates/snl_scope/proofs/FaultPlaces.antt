@@ -1,9 +1,12 @@
 -- Each finding of links is at a token of an item, but for what is missing altogether.
-use Rattle.std.proofs.Common.{◌≡◌, ◌⊎◌, ℕ, zero, suc, ◌<◌, Bool, true, false, not, ◌&&◌, ◌||◌, All, List, [], ◌∷◌, ◌++◌, length, map, Option, None, Some, IfSome, is_some, slice_get, inl, inr, refl, sym, ap, subst, ◌∙◌, arith, if◌then◌else◌}
+use Rattle.std.proofs.Common.{◌≡◌, ◌⊎◌, ℕ, zero, suc, ◌<◌, Bool, true, false, not, ◌||◌, All, List, [], ◌∷◌, ◌++◌, length, map, Option, None, Some, IfSome, is_some, slice_get, inl, inr, refl, sym, ap, subst, ◌∙◌, arith, if◌then◌else◌}
 use Rattle.std.specs.List.{AllByRecursion as Each, Contains}
 use Rattle.std.specs.Option.{option_map_or, option_to_list}
 use Rattle.std.proofs.lemmas.Bool.{cases_lt, false≢true}
 use Rattle.std.proofs.lemmas.List.Elements.{All-contains_itself, All-from_recursion, recursion_from_All}
+use Rattle.snl_scope.specs.BelowLaws.{each_below}
+use Rattle.snl_facts.specs.Booleans.{and_first, and_second}
+use Rattle.snl_facts.specs.Each.{each_append, each_both, each_map, each_unmap, each_weaker}
 use Rattle.snl_codes.specs.declared.code.Code.{Code}
 use Rattle.snl_codes.specs.declared.code.Code.TheVariants.{E03, E04, E05, E06, E07, E08, E09}
 use Rattle.snl_scope.specs.declared.facts.LinkFault.{LinkFault}
@@ -25,20 +28,8 @@ use Rattle.snl_scope.specs.Places.{begins_set, is_set_begin, item_is, enclosing_
 use Rattle.snl_scope.proofs.Families.{rank}
 use Rattle.snl_scope.proofs.OnceClauses.{AtClause, after_each, each_flags}
 use Rattle.snl_scope.proofs.OnceNames.{Gives, each-filter, repeated_each}
-use Rattle.snl_scope.proofs.Pairs.{each-append, each-map, each_both, each_unmap, each_weaker}
 
 -- ---- searches among the numbers below one
-
-passed : (p : ℕ → Bool) (n : ℕ) → Each (λ i. (i < n) × (p i ≡ true)) (all_below p n)
-passed p zero = tt
-passed p (suc n) =
-    each-append (λ i. (i < suc n) × (p i ≡ true)) (all_below p n) (if p n then n ∷ [] else [])
-    (each_weaker (λ i. (i < n) × (p i ≡ true)) (λ i. (i < suc n) × (p i ≡ true)) (λ i h. (omega (arith, h.0), h.1)) (all_below p n) (passed p n))
-    (by (p n) refl)
-  where
-    by : (b : Bool) → p n ≡ b → Each (λ i. (i < suc n) × (p i ≡ true)) (if b then n ∷ [] else [])
-    by true e = ((omega arith, e), tt)
-    by false e = tt
 
 either_false : (a b : Bool) → (a || b) ≡ false → (a ≡ false) × (b ≡ false)
 either_false true b h = absurd (false≢true (sym h))
@@ -77,14 +68,6 @@ link_code : (c : Code) → rank c < 12 → is_link_code c ≡ true
 link_code E03 h = refl
 link_code _ h = grind arith
 
-and_left : (a b : Bool) → (a && b) ≡ true → a ≡ true
-and_left true b h = refl
-and_left false b h = absurd (false≢true h)
-
-and_right : (a b : Bool) → (a && b) ≡ true → b ≡ true
-and_right true b h = h
-and_right false b h = absurd (false≢true h)
-
 not_true : (b : Bool) → not b ≡ true → b ≡ false
 not_true true h = absurd (false≢true h)
 not_true false h = refl
@@ -111,8 +94,8 @@ module _ (counts : ℕ → ℕ) (ss : List Outline) (speaks : (i : ℕ) → IfSo
   at_firsts : (code : Code) (test : ℕ → Bool) → is_link_code code ≡ true → ((i : ℕ) → test i ≡ true → code ≡ E05 → is_program_item ss i ≡ true)
       → ((i : ℕ) → test i ≡ true → code ≡ E06 → is_set_begin ss i ≡ true) → (code ≡ E07 → ⊥) → Each Placed (at_items_where code test (length ss))
   at_firsts code test known program set other =
-      each-map Placed (at_item code) (all_below test (length ss))
-      (each_weaker (λ i. (i < length ss) × (test i ≡ true)) (λ i. Placed (at_item code i)) (λ i h. at_first code i h.0 known (program i h.1) (set i h.1) other) (all_below test (length ss)) (passed test (length ss)))
+      each_map Placed (at_item code) (all_below test (length ss))
+      (each_below (λ i. Placed (at_item code i)) test (length ss) (λ i l is. at_first code i l known (program i is) (set i is) other))
 
   missing : (code : Code) (b : Bool) → (b ≡ true → ((code ≡ E05) × NoneIs (λ s. is_program_word s.opening) ss) ⊎ ((code ≡ E06) × NoneIs (λ s. is_ss_word s.opening) ss)) → Each Placed (found_if b code (length ss))
   missing code true h = (subst (IsPlacedBy counts ss (at_item code (length ss))) (sym (outside ss)) (record { item = refl; token = refl; code = h refl }), tt)
@@ -171,7 +154,7 @@ module _ (counts : ℕ → ℕ) (ss : List Outline) (speaks : (i : ℕ) → IfSo
 
     declared_placed : Each EntryPlaced (map (declared_entry (scope_of ss i s) i) s.declares)
     declared_placed =
-        each-map EntryPlaced (declared_entry (scope_of ss i s) i) s.declares
+        each_map EntryPlaced (declared_entry (scope_of ss i s) i) s.declares
         (each_weaker (λ d. (d.token < counts i) × Contains (declared_tokens s) d.token) (λ d. EntryPlaced (declared_entry (scope_of ss i s) i d))
         (λ d h. entry_placed i s at (declared_entry (scope_of ss i s) i d) refl h.0 (scope_ranks (scope_of ss i s)) (λ e. record { outside = not_own e; declared = h.1 }))
         s.declares
@@ -181,8 +164,8 @@ module _ (counts : ℕ → ℕ) (ss : List Outline) (speaks : (i : ℕ) → IfSo
 
     entries_placed : Each EntryPlaced (entries_of ss i s)
     entries_placed =
-        each-append EntryPlaced (set_entries i s ++ state_entries (enclosing_set ss i) i s) (map (declared_entry (scope_of ss i s) i) s.declares)
-        (each-append EntryPlaced (set_entries i s) (state_entries (enclosing_set ss i) i s)
+        each_append EntryPlaced (set_entries i s ++ state_entries (enclosing_set ss i) i s) (map (declared_entry (scope_of ss i s) i) s.declares)
+        (each_append EntryPlaced (set_entries i s) (state_entries (enclosing_set ss i) i s)
         (named namespace.Sets E08 (omega arith) (omega arith) (λ e. cc) (set_name s) (some_if (begins_set s.role) s.second)) (state_placed (enclosing_set ss i)))
         declared_placed
 
@@ -193,7 +176,7 @@ module _ (counts : ℕ → ℕ) (ss : List Outline) (speaks : (i : ℕ) → IfSo
   before_placed : (n : ℕ) → Each EntryPlaced (entries_before ss n)
   before_placed zero = tt
   before_placed (suc n) =
-      each-append EntryPlaced (entries_before ss n) (option_map_or (entries_of ss n) (slice_get ss n) []) (before_placed n) (entries_if n (slice_get ss n) refl (speaks n))
+      each_append EntryPlaced (entries_before ss n) (option_map_or (entries_of ss n) (slice_get ss n) []) (before_placed n) (entries_if n (slice_get ss n) refl (speaks n))
 
   -- ---- clauses
 
@@ -213,7 +196,7 @@ module _ (counts : ℕ → ℕ) (ss : List Outline) (speaks : (i : ℕ) → IfSo
   clauses_if : (i : ℕ) (o : Option Outline) → slice_get ss i ≡ o → IfSome o (SpeaksOfTokens (counts i)) → Each ClausePlaced (option_map_or (λ s. map (linked_clause ss i) s.clauses) o [])
   clauses_if i None at says = tt
   clauses_if i (Some s) at says =
-      each-map ClausePlaced (linked_clause ss i) s.clauses
+      each_map ClausePlaced (linked_clause ss i) s.clauses
       (each_weaker (BothBelow (counts i)) (λ c. ClausePlaced (linked_clause ss i c)) (λ c h. clause_placed i s at c h.0 h.1) s.clauses
       (each_both (λ c. c.variable.token < counts i) (λ c. (m : NameRef) → c.flag ≡ Some m → m.token < counts i) s.clauses
       (each_unmap (λ n. n < counts i) (λ c. c.variable.token) s.clauses says.variables)
@@ -222,7 +205,7 @@ module _ (counts : ℕ → ℕ) (ss : List Outline) (speaks : (i : ℕ) → IfSo
   clauses_placed : (n : ℕ) → Each ClausePlaced (clauses_before ss n)
   clauses_placed zero = tt
   clauses_placed (suc n) =
-      each-append ClausePlaced (clauses_before ss n) (option_map_or (λ s. map (linked_clause ss n) s.clauses) (slice_get ss n) []) (clauses_placed n) (clauses_if n (slice_get ss n) refl (speaks n))
+      each_append ClausePlaced (clauses_before ss n) (option_map_or (λ s. map (linked_clause ss n) s.clauses) (slice_get ss n) []) (clauses_placed n) (clauses_if n (slice_get ss n) refl (speaks n))
 
 -- ---- all of them
 
@@ -232,23 +215,23 @@ module _ (l : LinkedItems) (counts : ℕ → ℕ) (speaks : (i : ℕ) → IfSome
 
   headers_placed : Each IsPlacedThere (header_faults l)
   headers_placed =
-      each-append IsPlacedThere (at_items_where E05 (is_repeated_header l) (length l.outlines)) (if_missing E05 (is_program_item l.outlines) (length l.outlines))
-      (at_firsts counts l.outlines speaks E05 (is_repeated_header l) refl (λ i h e. and_left _ _ (and_right _ _ h)) (λ i h e. absurd cc) (λ e. cc))
+      each_append IsPlacedThere (at_items_where E05 (is_repeated_header l) (length l.outlines)) (if_missing E05 (is_program_item l.outlines) (length l.outlines))
+      (at_firsts counts l.outlines speaks E05 (is_repeated_header l) refl (λ i h e. and_first _ _ (and_second _ _ h)) (λ i h e. absurd cc) (λ e. cc))
       (missing counts l.outlines speaks E05 (not (any_below (is_program_item l.outlines) (length l.outlines)))
       (λ h. inl (refl, none_is (λ s. is_program_word s.opening) l.outlines (not_true (any_below (is_program_item l.outlines) (length l.outlines)) h))))
 
   states_placed : Each IsPlacedThere (missing_states l.outlines)
   states_placed =
-      each-append IsPlacedThere (at_items_where E06 (is_stateless l.outlines) (length l.outlines)) (if_missing E06 (is_ss_item l.outlines) (length l.outlines))
-      (at_firsts counts l.outlines speaks E06 (is_stateless l.outlines) refl (λ i h e. absurd cc) (λ i h e. and_left _ _ h) (λ e. cc))
+      each_append IsPlacedThere (at_items_where E06 (is_stateless l.outlines) (length l.outlines)) (if_missing E06 (is_ss_item l.outlines) (length l.outlines))
+      (at_firsts counts l.outlines speaks E06 (is_stateless l.outlines) refl (λ i h e. absurd cc) (λ i h e. and_first _ _ h) (λ e. cc))
       (missing counts l.outlines speaks E06 (not (any_below (is_ss_item l.outlines) (length l.outlines)))
       (λ h. inr (refl, none_is (λ s. is_ss_word s.opening) l.outlines (not_true (any_below (is_ss_item l.outlines) (length l.outlines)) h))))
 
   order_placed : Each IsPlacedThere (order_faults l)
   order_placed =
-      each-append IsPlacedThere (misplaced_items l ++ unmatched_braces l.outlines ++ header_faults l) (missing_states l.outlines)
-      (each-append IsPlacedThere (misplaced_items l ++ unmatched_braces l.outlines) (header_faults l)
-      (each-append IsPlacedThere (misplaced_items l) (unmatched_braces l.outlines)
+      each_append IsPlacedThere (misplaced_items l ++ unmatched_braces l.outlines ++ header_faults l) (missing_states l.outlines)
+      (each_append IsPlacedThere (misplaced_items l ++ unmatched_braces l.outlines) (header_faults l)
+      (each_append IsPlacedThere (misplaced_items l) (unmatched_braces l.outlines)
       (at_firsts counts l.outlines speaks E03 (is_misplaced l) refl (λ i h e. absurd cc) (λ i h e. absurd cc) (λ e. cc))
       (at_firsts counts l.outlines speaks E04 (is_unmatched l.outlines) refl (λ i h e. absurd cc) (λ i h e. absurd cc) (λ e. cc)))
       headers_placed)
@@ -257,7 +240,7 @@ module _ (l : LinkedItems) (counts : ℕ → ℕ) (speaks : (i : ℕ) → IfSome
   pub faults_placed : All IsPlacedThere (faults_of l)
   faults_placed =
       All-from_recursion IsPlacedThere (faults_of l)
-      (each-append IsPlacedThere (order_faults l ++ name_faults l) (clause_faults l.outlines)
-      (each-append IsPlacedThere (order_faults l) (name_faults l) order_placed
+      (each_append IsPlacedThere (order_faults l ++ name_faults l) (clause_faults l.outlines)
+      (each_append IsPlacedThere (order_faults l) (name_faults l) order_placed
       (each-filter (told_by l.kinds) IsPlacedThere (repetitions [] (entries l.outlines)) (repeated_each IsPlacedThere [] (entries l.outlines) (before_placed counts l.outlines speaks (length l.outlines)))))
       (after_each (entries l.outlines) (clauses_of l.outlines) IsPlacedThere [] (clauses_of l.outlines) (clauses_placed counts l.outlines speaks (length l.outlines))))

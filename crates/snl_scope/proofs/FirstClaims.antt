@@ -6,6 +6,8 @@ use Rattle.std.proofs.lemmas.Bool.Decides.{Decides-eqb}
 use Rattle.std.specs.List.{list_any, position}
 use Rattle.std.specs.Map.{lookup}
 use Rattle.std.specs.Option.{option_or}
+use Rattle.snl_facts.specs.Options.{or_none}
+use Rattle.snl_facts.specs.Positions.{any_position, position_push}
 use Rattle.snl_scope.specs.declared.clauses.clause_index.Claim.{Claim}
 use Rattle.snl_scope.specs.declared.clauses.clause_index.ClauseIndex.{ClauseIndex}
 use Rattle.snl_scope.specs.declared.clauses.clause_index.Extent.{Extent}
@@ -17,7 +19,6 @@ use Rattle.snl_scope.specs.contracts.clauses.clause_index.ExtentPartialEq.TheImp
 use Rattle.snl_scope.specs.contracts.clauses.clause_index.PurposePartialEq.TheImpl as purpose_eq
 use Rattle.snl_scope.specs.Claims.{Adds, Claimed, claim_in, claims, makes, purpose_of, same_claim, same_extent, same_purpose, sound_among}
 use Rattle.snl_scope.specs.Clauses.{LinkedClause, same_number}
-use Rattle.snl_scope.proofs.Numbering.{any-position, position-push}
 
 -- the table of claims is read by the test that the code derives
 purpose_is : (a b : Purpose) → purpose_eq.eq-value.it a b ≡ same_purpose a b
@@ -89,10 +90,6 @@ lookup_is m [] = refl
 lookup_is m (e ∷ es) =
     ap (λ b. cond b (Some e.1) (lookup (claim_eq.eq-value.it m) es)) (claim_is m e.0) ∙ ap (cond (same_claim m e.0) (Some e.1)) (lookup_is m es)
 
-or-nothing : (o : Option ℕ) → option_or o None ≡ o
-or-nothing None = refl
-or-nothing (Some k) = refl
-
 -- what is known of a claim is known of an equal one
 known-same : (one q : Claim) (held : List (Claim × ℕ)) (o : Option ℕ) → lookup (claim_eq.eq-value.it one) held ≡ o → same_claim one q ≡ true → lookup (same_claim q) held ≡ o
 known-same one q held o h t = ap (λ c. lookup (same_claim c) held) (sym (claim_true one q t)) ∙ sym (lookup_is one held) ∙ h
@@ -112,7 +109,7 @@ puts-new one number before after absent put = λ q.
     by : (q : Claim) (b : Bool) → (b ≡ true → lookup (same_claim q) before ≡ None)
         → cond b (Some number) (lookup (same_claim q) before) ≡ option_or (lookup (same_claim q) before) (if b then Some number else None)
     by q true h = sym (ap (λ o. option_or o (Some number)) (h refl))
-    by q false h = sym (or-nothing (lookup (same_claim q) before))
+    by q false h = sym (or_none (lookup (same_claim q) before))
 
 -- a claim that an earlier clause has made: the number that is put in its place is taken back
 pub puts-known : (one : Claim) (number earlier : ℕ) (before between after : List (Claim × ℕ)) → lookup (claim_eq.eq-value.it one) before ≡ Some earlier
@@ -127,7 +124,7 @@ puts-known one number earlier before between after there put back = λ q.
     by : (q : Claim) (b : Bool) → (b ≡ true → lookup (same_claim q) before ≡ Some earlier)
         → cond b (Some earlier) (cond b (Some number) (lookup (same_claim q) before)) ≡ option_or (lookup (same_claim q) before) (if b then Some number else None)
     by q true h = sym (ap (λ o. option_or o (Some number)) (h refl))
-    by q false h = sym (or-nothing (lookup (same_claim q) before))
+    by q false h = sym (or_none (lookup (same_claim q) before))
 
 pub adds-same : (before after : ClauseIndex) (p q : Claim → Bool) (number : ℕ) → ((m : Claim) → p m ≡ q m) → Adds before after p number → Adds before after q number
 adds-same before after p q number h a = record { each = λ m. a.each m ∙ ap (λ b. option_or (claim_in before m) (if b then Some number else None)) (h m) }
@@ -157,7 +154,7 @@ claimed-sound judged c before after v number f is last a =
     record {
       each = λ m.
           a.each m ∙ ap (λ o. put m (made m o) number) (sym is) ∙ ap (put m (makes c m)) last
-          ∙ ap (λ o. option_or o (if makes c m then Some (length judged) else None)) (f.each m) ∙ sym (position-push (λ p. p.1 && makes p.0 m) judged (c, true));
+          ∙ ap (λ o. option_or o (if makes c m then Some (length judged) else None)) (f.each m) ∙ sym (position_push (λ p. p.1 && makes p.0 m) judged (c, true));
     }
   where
     made : Claim → Option ℕ → Bool
@@ -168,7 +165,7 @@ claimed-sound judged c before after v number f is last a =
 
 -- some sound clause passes where the first that does has a number
 pub any-among : (q : LinkedClause → Bool) (judged : List (LinkedClause × Bool)) → is_some (position (λ p. p.1 && q p.0) judged) ≡ list_any q (sound_among judged)
-any-among q judged = sym (any-position (λ p. p.1 && q p.0) judged) ∙ among judged
+any-among q judged = sym (any_position (λ p. p.1 && q p.0) judged) ∙ among judged
   where
     among : (ps : List (LinkedClause × Bool)) → list_any (λ p. p.1 && q p.0) ps ≡ list_any q (sound_among ps)
     among [] = refl

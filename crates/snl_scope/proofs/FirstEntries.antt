@@ -4,18 +4,18 @@ use borrow.Author.Tests.{eq-eqb, ne_eqb}
 use Rattle.std.proofs.lemmas.List.{append-nil}
 use Rattle.std.proofs.lemmas.List.Quantifiers.{position-Some}
 use Rattle.std.specs.Option.{option_map_or, option_or}
+use Rattle.snl_scope.specs.BelowLaws.{all_below_same}
+use Rattle.snl_facts.specs.Positions.{position_push}
 use Rattle.snl_scope.specs.Below.{all_below}
 use Rattle.snl_scope.specs.Flags.{is_first, is_first_at}
 use Rattle.snl_scope.specs.Names.{Entry, has_name, number_in}
 use Rattle.snl_scope.proofs.Equality.{name_same}
-use Rattle.snl_scope.proofs.Numbering.{position-push}
-use Rattle.snl_scope.proofs.Rising.{all_below-same}
 use Rattle.snl_scope.proofs.Searches.{get-front, get-last}
 
 module _ (es : List Entry) (e : Entry) where
   -- an entry that came before stays first, or not
   first-kept : (k : ℕ) → k < length es → (x : Entry) → is_first (es ++ e ∷ []) k x ≡ is_first es k x
-  first-kept k l x = ap (λ o. option_map_or (nat_eq k) o false) (position-push (has_name x.namespace x.name) es e) ∙ by (number_in es x.namespace x.name) (has_name x.namespace x.name e)
+  first-kept k l x = ap (λ o. option_map_or (nat_eq k) o false) (position_push (has_name x.namespace x.name) es e) ∙ by (number_in es x.namespace x.name) (has_name x.namespace x.name e)
     where
       by : (o : Option ℕ) (b : Bool) → option_map_or (nat_eq k) (option_or o (cond b (Some (length es)) None)) false ≡ option_map_or (nat_eq k) o false
       by (Some n) b = refl
@@ -33,14 +33,14 @@ module _ (es : List Entry) (e : Entry) where
   is_first_at-last : is_first_at (es ++ e ∷ []) (length es) ≡ option_map_or (nat_eq (length es)) (option_or (number_in es e.namespace e.name) (Some (length es))) false
   is_first_at-last =
       ap (λ o. option_map_or (is_first (es ++ e ∷ []) (length es)) o false) (get-last es e)
-      ∙ ap (λ o. option_map_or (nat_eq (length es)) o false) (position-push (has_name e.namespace e.name) es e
+      ∙ ap (λ o. option_map_or (nat_eq (length es)) o false) (position_push (has_name e.namespace e.name) es e
       ∙ ap (λ b. option_or (number_in es e.namespace e.name) (cond b (Some (length es)) None)) (name_same e))
 
   more : all_below (is_first_at (es ++ e ∷ [])) (length (es ++ e ∷ [])) ≡ all_below (is_first_at es) (length es) ++ (if is_first_at (es ++ e ∷ []) (length es) then length es ∷ [] else [])
   more =
       let longer : length (es ++ e ∷ []) ≡ suc (length es) = omega (arith, length-append es (e ∷ [])) in
       ap (all_below (is_first_at (es ++ e ∷ []))) longer
-      ∙ ap (λ l. l ++ (if is_first_at (es ++ e ∷ []) (length es) then length es ∷ [] else [])) (all_below-same (is_first_at (es ++ e ∷ [])) (is_first_at es) (length es) is_first_at-kept)
+      ∙ ap (λ l. l ++ (if is_first_at (es ++ e ∷ []) (length es) then length es ∷ [] else [])) (all_below_same (is_first_at (es ++ e ∷ [])) (is_first_at es) (length es) is_first_at-kept)
 
   pub firsts-seen : is_some (number_in es e.namespace e.name) ≡ true → all_below (is_first_at (es ++ e ∷ [])) (length (es ++ e ∷ [])) ≡ all_below (is_first_at es) (length es)
   firsts-seen seen =

@@ -4,7 +4,7 @@ use Rattle.std.proofs.Common.{◌≡◌, ℕ, suc, ◌+◌, Bool, true, false, n
 use Rattle.std.specs.List.{position, position_or_len}
 use Rattle.std.specs.Option.{option_map}
 use Rattle.std.specs.Str.{bytes_eq}
-use Rattle.std.proofs.lemmas.Bool.Decides.{nat_tests}
+use Rattle.snl_facts.specs.Numbers.{lt_suc, zero_lt}
 use Rattle.snl_scope.specs.declared.names.namespaces.Namespace.{Namespace}
 use Rattle.snl_scope.specs.Names.{Entry, has_name, same_namespace}
 
@@ -26,26 +26,20 @@ pub record Present {X : Type 0} (p : X → Bool) (xs : List X) (k : ℕ) (x : X)
 abbrev pub Located : {X : Type 0} → (X → Bool) → List X → Type 0
 Located {X} p xs = Absent p xs ⊎ ((k : ℕ) × (x : X) × Present p xs k x)
 
-lt-suc : (m n : ℕ) → nat_lt (1 + m) (suc n) ≡ nat_lt m n
-lt-suc m n = grind (arith, nat_tests)
-
-lt-zero : (n : ℕ) → nat_lt 0 (suc n) ≡ true
-lt-zero n = grind (arith, nat_tests)
-
 module _ {X : Type 0} (p : X → Bool) where
   position-here : (x : X) (xs : List X) → p x ≡ true → position p (x ∷ xs) ≡ Some 0
   position-here x xs h =
       let n : ℕ = length xs in
       let m : ℕ = position_or_len p xs in
       ap (λ (b : Bool). cond (nat_lt (cond (not b) (1 + m) 0) (suc n)) (Some (cond (not b) (1 + m) 0)) None) h
-      ∙ ap (λ (b : Bool). cond b (Some 0) None) (lt-zero n)
+      ∙ ap (λ (b : Bool). cond b (Some 0) None) (zero_lt n)
 
   position-later : (x : X) (xs : List X) → p x ≡ false → position p (x ∷ xs) ≡ option_map suc (position p xs)
   position-later x xs h =
       let n : ℕ = length xs in
       let m : ℕ = position_or_len p xs in
       ap (λ (b : Bool). cond (nat_lt (cond (not b) (1 + m) 0) (suc n)) (Some (cond (not b) (1 + m) 0)) None) h
-      ∙ ap (λ (b : Bool). cond b (Some (1 + m)) None) (lt-suc m n) ∙ by m (nat_lt m n)
+      ∙ ap (λ (b : Bool). cond b (Some (1 + m)) None) (lt_suc m n) ∙ by m (nat_lt m n)
     where
       by : (m : ℕ) (b : Bool) → cond b (Some (1 + m)) None ≡ option_map suc (cond b (Some m) None)
       by m true = let e : 1 + m ≡ suc m = omega arith in ap Some e

@@ -10,6 +10,7 @@ use Rattle.std.proofs.lemmas.Map.Made.{AllPairs-from_IsDistinct}
 use Rattle.std.proofs.lemmas.Map.Views.{list_any-from_Contains}
 use Rattle.std.proofs.lemmas.Slice.Eq.{bytes_eq-Decides}
 use Rattle.indexmap.proofs.CallerLemmas.{Contains-list_any}
+use Rattle.snl_facts.specs.Bytes.{same_bytes}
 use Rattle.snl_walk.specs.Once.{once, once_after, with_new}
 
 -- a further name goes after the others, unless it is among them
@@ -49,12 +50,9 @@ among_after found (x ∷ xs) name =
     ∙ ap (λ b. b || list_any (bytes_eq name) xs) (among_if (list_any (bytes_eq x) found) found x name refl)
     ∙ or_assoc (list_any (bytes_eq name) found) (bytes_eq name x) (list_any (bytes_eq name) xs)
 
-equal : (a b : List ℕ) → bytes_eq a b ≡ true → a ≡ b
-equal a b = (bytes_eq-Decides a b).0
-
 pub once_same : (names : List (List ℕ)) (name : List ℕ) → Contains (once names) name ↔ Contains names name
 once_same names name =
     let kept : list_any (bytes_eq name) (once names) ≡ list_any (bytes_eq name) names = among_after [] names name in (
-      λ h. Contains-list_any bytes_eq equal names name (sym kept ∙ list_any-from_Contains nat_list_eq_equiv name (once names) h),
-      λ h. Contains-list_any bytes_eq equal (once names) name (kept ∙ list_any-from_Contains nat_list_eq_equiv name names h),
+      λ h. Contains-list_any bytes_eq same_bytes names name (sym kept ∙ list_any-from_Contains nat_list_eq_equiv name (once names) h),
+      λ h. Contains-list_any bytes_eq same_bytes (once names) name (kept ∙ list_any-from_Contains nat_list_eq_equiv name names h),
     )

@@ -1,10 +1,10 @@
 -- The leaves of what a tree spells: their numbers rise, since each is the number of its token.
 use Rattle.std.proofs.Common.{◌≡◌, ℕ, suc, ◌<◌, ◌≤◌, List, [], ◌∷◌, ◌++◌, map, Some, sym, subst, arith}
 use Rattle.std.specs.List.{AllByRecursion as Each, flat_map}
+use Rattle.snl_facts.specs.Each.{EachTwo, each_weaker}
 use Rattle.snl_lex.specs.declared.kind.Kind.{Kind}
 use Rattle.snl_syntax.specs.Spelling.Base.{Matches, Spelled, after, between, joined, leaf, word}
 use Rattle.snl_syntax.specs.Tokens.{ahead, numbered}
-use Rattle.snl_scope.proofs.Pairs.{EachTwo, each_weaker}
 
 -- The numbers are some of the leaves, in their order.
 pub data AreLeaves : List ℕ → List Spelled → Type 0 where

@@ -9,7 +9,6 @@ pub mod Numbering
 pub mod Numbered
 pub mod Prints
 pub mod Equality
-pub mod Rising
 pub mod FirstEntries
 pub mod Entries
 pub mod Pairs

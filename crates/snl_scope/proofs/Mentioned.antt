@@ -6,6 +6,7 @@ use Rattle.std.proofs.lemmas.List.{append-nil, map-append}
 use Rattle.std.proofs.lemmas.List.Concat.{flat_map_single}
 use Rattle.std.specs.List.{flat_map}
 use Rattle.std.specs.List.Sorted.{IsStrictlyIncreasing}
+use Rattle.snl_facts.specs.Each.{rising_from_two}
 use Rattle.snl_lex.specs.declared.piece.Piece.{Piece}
 use Rattle.snl_lex.specs.declared.kind.Kind.{Kind}
 use Rattle.snl_lex.specs.declared.kind.Kind.TheVariants as kind
@@ -35,7 +36,6 @@ use Rattle.snl_scope.specs.Summaries.{outline_in}
 use Rattle.snl_scope.specs.Summaries.Clauses.{clause_of, clauses_in_tree, clauses_of_member}
 use Rattle.snl_scope.specs.Summaries.Declares.{declared_at, declared_by_declaration, declared_by_declarator, declared_by_foreign, declared_by_function, declared_by_member, declared_if_body, declared_in_tree, foreign_name, function_name, symbol_kind_of}
 use Rattle.snl_scope.proofs.Leaves.{AreLeaves, leaves_after, leaves_before, leaves_between, leaves_joined, leaves_rise, no_leaves, one_leaf}
-use Rattle.snl_scope.proofs.Pairs.{rising_from_two}
 
 abbrev tokens_declared : List Declared → List ℕ
 tokens_declared = map (λ d. d.token)

@@ -3,6 +3,7 @@
 use Rattle.std.proofs.Common.{◌≡◌, ℕ, suc, ◌+◌, ◌<◌, List, [], ◌∷◌, ◌++◌, length, map, None, Some, subst, arith}
 use Rattle.std.proofs.lemmas.List.{length-map}
 use Rattle.std.specs.List.{All, AllByRecursion as Each}
+use Rattle.snl_facts.specs.Each.{each_unmap, each_weaker}
 use Rattle.snl_lex.specs.declared.piece.Piece.{Piece}
 use Rattle.snl_lex.specs.declared.kind.Kind.{Kind}
 use Rattle.snl_lex.specs.declared.kind.Kind.TheVariants as kind
@@ -21,7 +22,6 @@ use Rattle.snl_scope.specs.Summaries.Clauses.{clauses_in_tree}
 use Rattle.snl_scope.specs.Summaries.Declares.{declared_in_tree}
 use Rattle.snl_scope.proofs.Leaves.{AreLeaves, none, past, here, leaves_before, leaves_after, one_leaf}
 use Rattle.snl_scope.proofs.Mentioned.{declared_leaves, variable_leaves}
-use Rattle.snl_scope.proofs.Pairs.{each_unmap, each_weaker}
 use Rattle.snl_scope.proofs.SomeTokens.{all_where}
 
 -- ---- leaves are tokens

@@ -1,18 +1,13 @@
 -- Lemmas on the numbers of names: what one more is to a search from the front.
-use Rattle.std.proofs.Common.{◌≡◌, ℕ, suc, ◌+◌, ◌≤◌, Bool, not, nat_lt, true, false, cond, List, [], ◌∷◌, ◌++◌, length, Option, None, Some, is_some, ◌||◌, refl, sym, ap, ◌∙◌, arith, add-zero, zero-add, if◌then◌else◌}
-use Rattle.std.specs.List.{list_any, position, position_from, position_or_len}
+use Rattle.std.proofs.Common.{◌≡◌, ℕ, suc, ◌+◌, ◌≤◌, Bool, not, nat_lt, true, false, cond, List, [], ◌∷◌, ◌++◌, length, Option, None, Some, ◌||◌, refl, sym, ap, ◌∙◌, arith, add-zero, zero-add, if◌then◌else◌}
+use Rattle.std.specs.List.{position, position_from, position_or_len}
 use Rattle.std.specs.Option.{option_or}
 use Rattle.std.specs.Str.{bytes_eq}
-use Rattle.std.proofs.lemmas.Bool.Decides.{nat_tests}
 use borrow.Author.Tests.{lt-ltb, lt-leb}
 use Rattle.std.proofs.lemmas.Slice.Eq.{bytes_eq-Decides}
+use Rattle.snl_facts.specs.Positions.{position_push}
+use Rattle.snl_facts.specs.Numbers.{lt_suc, zero_lt}
 use Rattle.snl_scope.specs.Claims.{lesser}
-
-zero-lt : (n : ℕ) → nat_lt 0 (suc n) ≡ true
-zero-lt n = lt-ltb 0 (suc n) (omega arith)
-
-more-lt : (m n : ℕ) → nat_lt m n ≡ nat_lt (1 + m) (suc n)
-more-lt m n = grind (arith, nat_tests)
 
 -- the first place that passes, by a recursion that counts up
 from_here : {A : Type 0} (p : A → Bool) (i : ℕ) (xs : List A)
@@ -23,33 +18,14 @@ from_here p i (x ∷ xs) = by (p x) (from_here p (i + 1) xs)
     by : (b : Bool) → position_from p (i + 1) xs ≡ cond (nat_lt (position_or_len p xs) (length xs)) (Some (i + 1 + position_or_len p xs)) None
         → cond b (Some i) (position_from p (i + 1) xs)
         ≡ cond (nat_lt (cond (not b) (1 + position_or_len p xs) 0) (suc (length xs))) (Some (i + cond (not b) (1 + position_or_len p xs) 0)) None
-    by true h = ap Some (sym (add-zero i)) ∙ sym (ap (λ b. cond b (Some (i + 0)) None) (zero-lt (length xs)))
+    by true h = ap Some (sym (add-zero i)) ∙ sym (ap (λ b. cond b (Some (i + 0)) None) (zero_lt (length xs)))
     by false h =
         let e : i + 1 + position_or_len p xs ≡ i + (1 + position_or_len p xs) = omega arith in
         h ∙ ap (λ n. cond (nat_lt (position_or_len p xs) (length xs)) (Some n) None) e
-        ∙ ap (λ b. cond b (Some (i + (1 + position_or_len p xs))) None) (more-lt (position_or_len p xs) (length xs))
+        ∙ ap (λ b. cond b (Some (i + (1 + position_or_len p xs))) None) (sym (lt_suc (position_or_len p xs) (length xs)))
 
 position_is : {A : Type 0} (p : A → Bool) (xs : List A) → position p xs ≡ position_from p 0 xs
 position_is p xs = sym (from_here p 0 xs ∙ ap (λ n. cond (nat_lt (position_or_len p xs) (length xs)) (Some n) None) (zero-add (position_or_len p xs)))
-
-position_from-push : {A : Type 0} (p : A → Bool) (i : ℕ) (xs : List A) (x : A)
-    → position_from p i (xs ++ x ∷ []) ≡ option_or (position_from p i xs) (cond (p x) (Some (i + length xs)) None)
-position_from-push p i [] x = ap (λ n. cond (p x) (Some n) None) (sym (add-zero i))
-position_from-push p i (y ∷ ys) x = by (p y) (position_from-push p (i + 1) ys x ∙ ap (λ n. option_or (position_from p (i + 1) ys) (cond (p x) (Some n) None)) shift)
-  where
-    shift : i + 1 + length ys ≡ i + length (y ∷ ys)
-    shift = omega arith
-
-    by : (b : Bool) → position_from p (i + 1) (ys ++ x ∷ []) ≡ option_or (position_from p (i + 1) ys) (cond (p x) (Some (i + length (y ∷ ys))) None)
-        → cond b (Some i) (position_from p (i + 1) (ys ++ x ∷ [])) ≡ option_or (cond b (Some i) (position_from p (i + 1) ys)) (cond (p x) (Some (i + length (y ∷ ys))) None)
-    by true h = refl
-    by false h = h
-
--- a search with one more element
-pub position-push : {A : Type 0} (p : A → Bool) (xs : List A) (x : A) → position p (xs ++ x ∷ []) ≡ option_or (position p xs) (cond (p x) (Some (length xs)) None)
-position-push p xs x =
-    position_is p (xs ++ x ∷ []) ∙ position_from-push p 0 xs x ∙ ap (λ o. option_or o (cond (p x) (Some (0 + length xs)) None)) (sym (position_is p xs))
-    ∙ ap (λ n. option_or (position p xs) (cond (p x) (Some n) None)) (zero-add (length xs))
 
 position_from-same : {A : Type 0} (p q : A → Bool) (i : ℕ) (xs : List A) → ((x : A) → p x ≡ q x) → position_from p i xs ≡ position_from q i xs
 position_from-same p q i [] h = refl
@@ -97,22 +73,11 @@ position-either p q xs =
     ap (λ o. lesser o (position q xs)) (position_is p xs) ∙ ap (lesser (position_from p 0 xs)) (position_is q xs) ∙ from-either p q 0 xs
     ∙ sym (position_is (λ x. p x || q x) xs)
 
-any_from : {A : Type 0} (p : A → Bool) (i : ℕ) (xs : List A) → list_any p xs ≡ is_some (position_from p i xs)
-any_from p i [] = refl
-any_from p i (x ∷ xs) = by (p x) (any_from p (i + 1) xs)
-  where
-    by : (b : Bool) → list_any p xs ≡ is_some (position_from p (i + 1) xs) → (b || list_any p xs) ≡ is_some (cond b (Some i) (position_from p (i + 1) xs))
-    by true h = refl
-    by false h = h
-
-pub any-position : {A : Type 0} (p : A → Bool) (xs : List A) → list_any p xs ≡ is_some (position p xs)
-any-position p xs = any_from p 0 xs ∙ ap is_some (sym (position_is p xs))
-
 pub bytes_eq-same : (a : List ℕ) → bytes_eq a a ≡ true
 bytes_eq-same a = (bytes_eq-Decides a a).1 refl
 
 -- a new name comes last
 pub name-new : (names : List (List ℕ)) (name : List ℕ) → None ≡ position (bytes_eq name) names → position (bytes_eq name) (names ++ name ∷ []) ≡ Some (length names)
 name-new names name h =
-    position-push (bytes_eq name) names name ∙ ap (λ o. option_or o (cond (bytes_eq name name) (Some (length names)) None)) (sym h)
+    position_push (bytes_eq name) names name ∙ ap (λ o. option_or o (cond (bytes_eq name name) (Some (length names)) None)) (sym h)
     ∙ ap (λ b. cond b (Some (length names)) None) (bytes_eq-same name)

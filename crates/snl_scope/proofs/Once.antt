@@ -2,6 +2,7 @@
 use Rattle.std.proofs.Common.{◌<◌, ◌≤◌, ◌++◌, arith}
 use Rattle.std.proofs.lemmas.List.Elements.{recursion_from_All}
 use Rattle.std.specs.List.{All, AllByRecursion as Each}
+use Rattle.snl_facts.specs.Each.{EachTwo, each_append, each_weaker, pairs_from_two}
 use Rattle.snl_scope.specs.Clauses.{clause_faults}
 use Rattle.snl_scope.specs.LinkedItems.{LinkedItems}
 use Rattle.snl_scope.specs.Names.{name_faults}
@@ -11,7 +12,6 @@ use Rattle.snl_scope.proofs.Families.{Differ, rank, two_by_rank}
 use Rattle.snl_scope.proofs.OnceClauses.{clause_ranks, clauses_once}
 use Rattle.snl_scope.proofs.OnceNames.{names_once, names_ranks}
 use Rattle.snl_scope.proofs.OnceOrder.{order_once, order_ranks}
-use Rattle.snl_scope.proofs.Pairs.{EachTwo, each-append, each_weaker, pairs_from_two}
 
 module _ (l : LinkedItems) (rise : All TokensRise l.outlines) where
   each_rises : Each TokensRise l.outlines
@@ -25,7 +25,7 @@ module _ (l : LinkedItems) (rise : All TokensRise l.outlines) where
 
   two_families_ranks : Each (λ f. rank f.code < 10) (order_faults l ++ name_faults l)
   two_families_ranks =
-      each-append (λ f. rank f.code < 10) (order_faults l) (name_faults l)
+      each_append (λ f. rank f.code < 10) (order_faults l) (name_faults l)
       (each_weaker (λ f. rank f.code < 7) (λ f. rank f.code < 10) (λ f h. omega (arith, h)) (order_faults l) (order_ranks l))
       (each_weaker (λ f. (7 ≤ rank f.code) × (rank f.code < 10)) (λ f. rank f.code < 10) (λ f h. h.1) (name_faults l) (names_ranks l each_rises))
 

@@ -2,6 +2,7 @@
 use Rattle.std.proofs.Common.{◌≡◌, ℕ, zero, suc, ◌<◌, ◌≤◌, Bool, true, false, not, ◌&&◌, ◌⊎◌, inl, inr, List, [], ◌∷◌, length, map, Option, None, Some, IfSome, slice_get, arith, refl, subst, sym, ap, ◌∙◌, if◌then◌else◌}
 use Rattle.std.specs.List.{AllByRecursion as Each, flat_map, list_any}
 use Rattle.std.specs.Option.{option_map_or, option_to_list}
+use Rattle.snl_facts.specs.Each.{EachTwo, each_append, each_by, each_front, each_map, each_rear, each_weaker, two_append, two_both, two_map, two_unmap, two_weaker}
 use Rattle.snl_codes.specs.declared.code.Code.{Code}
 use Rattle.snl_codes.specs.declared.code.Code.TheVariants.{E11, E13, E14, E15, E16}
 use Rattle.snl_scope.specs.declared.facts.LinkFault.{LinkFault}
@@ -15,7 +16,7 @@ use Rattle.snl_scope.specs.Clauses.{LinkedClause, assigns, at_name_ref, clash, c
 use Rattle.snl_scope.specs.Names.{Entry, entries}
 use Rattle.snl_scope.specs.Once.{TokensRise, flag_tokens, tokens_of_flag, variable_tokens}
 use Rattle.snl_scope.proofs.Families.{Differ, differ_by_rank, rank}
-use Rattle.snl_scope.proofs.Pairs.{EachTwo, across_append, each-append, each-map, each_at, each_by, each_front, each_rear, each_weaker, two-map, two_both, two_from_rising, two_parts, two_rear, two_unmap, two_weaker}
+use Rattle.snl_scope.proofs.Pairs.{across_append, each_at, two_from_rising, two_rear}
 
 -- What is found at the variable of a clause, and at its flag.
 pub record AtVariable (c : LinkedClause) (f : LinkFault) : Type 0 where
@@ -96,25 +97,25 @@ module _ (es : List Entry) (cs : List LinkedClause) where
 
     found_each : (sound : List LinkedClause) → Each (AtClause c) (found_at es cs sound c)
     found_each sound =
-        each-append (AtClause c) (found_at_variable es cs sound c) (found_at_flag es c)
+        each_append (AtClause c) (found_at_variable es cs sound c) (found_at_flag es c)
         (each_weaker (AtVariable c) (AtClause c) (λ f p. inl p) (found_at_variable es cs sound c) (at_variable sound).0)
         (each_weaker (AtFlag c) (AtClause c) (λ f p. inr p) (found_at_flag es c) at_flag.0)
 
     found_once : (sound : List LinkedClause) → EachTwo Differ (found_at es cs sound c)
     found_once sound =
-        two_parts Differ (AtVariable c) (AtFlag c) (λ f g p q. differ_by_rank f g (λ r. omega (arith, r, p.code, q.code))) (found_at_variable es cs sound c) (found_at_flag es c)
+        two_append Differ (AtVariable c) (AtFlag c) (λ f g p q. differ_by_rank f g (λ r. omega (arith, r, p.code, q.code))) (found_at_variable es cs sound c) (found_at_flag es c)
         (at_variable sound).0 (at_variable sound).1 at_flag.0 at_flag.1
 
   -- what holds of all that is found at clauses
   pub after_each : (P : LinkFault → Type 0) (sound ds : List LinkedClause) → Each (λ c. (f : LinkFault) → AtClause c f → P f) ds → Each P (found_after es cs sound ds)
   after_each P sound [] h = tt
   after_each P sound (d ∷ ds) h =
-      each-append P (found_at es cs sound d) (found_after es cs (with_clause es cs sound d) ds) (each_weaker (AtClause d) P h.0 (found_at es cs sound d) (found_each d sound)) (after_each P (with_clause es cs sound d) ds h.1)
+      each_append P (found_at es cs sound d) (found_after es cs (with_clause es cs sound d) ds) (each_weaker (AtClause d) P h.0 (found_at es cs sound d) (found_each d sound)) (after_each P (with_clause es cs sound d) ds h.1)
 
   after_once : (sound ds : List LinkedClause) → EachTwo StandApart ds → EachTwo Differ (found_after es cs sound ds)
   after_once sound [] h = tt
   after_once sound (d ∷ ds) h =
-      two_parts Differ (AtClause d) (λ g. (f : LinkFault) → AtClause d f → Differ f g) (λ f g p q. q f p) (found_at es cs sound d) (found_after es cs (with_clause es cs sound d) ds)
+      two_append Differ (AtClause d) (λ g. (f : LinkFault) → AtClause d f → Differ f g) (λ f g p q. q f p) (found_at es cs sound d) (found_after es cs (with_clause es cs sound d) ds)
       (found_each d sound) (found_once d sound)
       (after_each (λ g. (f : LinkFault) → AtClause d f → Differ f g) (with_clause es cs sound d) ds (each_weaker (StandApart d) (λ c. (g : LinkFault) → AtClause c g → (f : LinkFault) → AtClause d f → Differ f g) (λ c apart g q f p. stand_apart d c apart f g p q) ds h.0))
       (after_once (with_clause es cs sound d) ds h.1)
@@ -173,8 +174,8 @@ module _ (ss : List Outline) where
       → Each (λ c. c.item ≡ n) (option_map_or (λ s. map (linked_clause ss n) s.clauses) o []) × EachTwo StandApart (option_map_or (λ s. map (linked_clause ss n) s.clauses) o [])
   clauses_if n None h = (tt, tt)
   clauses_if n (Some s) h = (
-    each-map (λ c. c.item ≡ n) (linked_clause ss n) s.clauses (each_by (λ c. n ≡ n) (λ c. refl) s.clauses),
-    two-map StandApart (linked_clause ss n) s.clauses (two_weaker BothRise (λ c d. StandApart (linked_clause ss n c) (linked_clause ss n d)) (linked_apart n) s.clauses (item_clauses s h)),
+    each_map (λ c. c.item ≡ n) (linked_clause ss n) s.clauses (each_by (λ c. n ≡ n) (λ c. refl) s.clauses),
+    two_map StandApart (linked_clause ss n) s.clauses (two_weaker BothRise (λ c d. StandApart (linked_clause ss n c) (linked_clause ss n d)) (linked_apart n) s.clauses (item_clauses s h)),
   )
 
   clauses_apart : Each TokensRise ss → (n : ℕ) → Each (λ c. c.item < n) (clauses_before ss n) × EachTwo StandApart (clauses_before ss n)
@@ -183,10 +184,10 @@ module _ (ss : List Outline) where
       let before : Each (λ c. c.item < n) (clauses_before ss n) × EachTwo StandApart (clauses_before ss n) = clauses_apart rise n in
       let last : List LinkedClause = option_map_or (λ s. map (linked_clause ss n) s.clauses) (slice_get ss n) [] in
       let here : Each (λ c. c.item ≡ n) last × EachTwo StandApart last = clauses_if n (slice_get ss n) (each_at TokensRise ss n rise) in (
-        each-append (λ c. c.item < suc n) (clauses_before ss n) last
+        each_append (λ c. c.item < suc n) (clauses_before ss n) last
             (each_weaker (λ c. c.item < n) (λ c. c.item < suc n) (λ c h. omega (arith, h)) (clauses_before ss n) before.0)
             (each_weaker (λ c. c.item ≡ n) (λ c. c.item < suc n) (λ c h. omega (arith, h)) last here.0),
-        two_parts StandApart (λ c. c.item < n) (λ c. c.item ≡ n) (λ c d p q. apart_by_item c d (omega (arith, p, q))) (clauses_before ss n) last before.0 before.1 here.0 here.1,
+        two_append StandApart (λ c. c.item < n) (λ c. c.item ≡ n) (λ c d p q. apart_by_item c d (omega (arith, p, q))) (clauses_before ss n) last before.0 before.1 here.0 here.1,
       )
 
   pub clauses_once : Each TokensRise ss → EachTwo Differ (clause_faults ss)

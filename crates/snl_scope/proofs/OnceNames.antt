@@ -2,6 +2,7 @@
 use Rattle.std.proofs.Common.{◌≡◌, ℕ, zero, suc, ◌<◌, ◌≤◌, Bool, true, false, List, [], ◌∷◌, ◌++◌, filter, length, map, Option, None, Some, IfSome, is_some, slice_get, arith, refl, subst, sym, if◌then◌else◌}
 use Rattle.std.specs.List.{AllByRecursion as Each}
 use Rattle.std.specs.Option.{option_map_or, option_to_list}
+use Rattle.snl_facts.specs.Each.{EachTwo, each_append, each_by, each_map, each_weaker, two_append, two_map, two_unmap, two_weaker}
 use Rattle.snl_codes.specs.declared.code.Code.{Code}
 use Rattle.snl_codes.specs.declared.code.Code.TheVariants.{E08, E09}
 use Rattle.snl_scope.specs.declared.facts.LinkFault.{LinkFault}
@@ -14,7 +15,7 @@ use Rattle.snl_scope.specs.Once.{TokensRise, declared_tokens}
 use Rattle.snl_scope.specs.Order.{state_name}
 use Rattle.snl_scope.specs.Places.{enclosing_set}
 use Rattle.snl_scope.proofs.Families.{Differ, differ_by_item, differ_by_rank, differ_by_token, rank}
-use Rattle.snl_scope.proofs.Pairs.{EachTwo, each-append, each-map, each_at, each_by, each_weaker, two-map, two_from_rising, two_parts, two_unmap, two_weaker}
+use Rattle.snl_scope.proofs.Pairs.{each_at, two_from_rising}
 
 -- What an entry gives: its item, its token and its code.
 pub record Gives (e : Entry) (f : LinkFault) : Type 0 where
@@ -41,12 +42,12 @@ given earlier e = given_if (is_some (number_in earlier e.namespace e.name)) e
 pub repeated_each : (P : LinkFault → Type 0) (earlier es : List Entry) → Each (λ e. (f : LinkFault) → Gives e f → P f) es → Each P (repetitions earlier es)
 repeated_each P earlier [] h = tt
 repeated_each P earlier (e ∷ es) h =
-    each-append P (repetition earlier e) (repetitions (earlier ++ e ∷ []) es) (each_weaker (Gives e) P h.0 (repetition earlier e) (given earlier e).0) (repeated_each P (earlier ++ e ∷ []) es h.1)
+    each_append P (repetition earlier e) (repetitions (earlier ++ e ∷ []) es) (each_weaker (Gives e) P h.0 (repetition earlier e) (given earlier e).0) (repeated_each P (earlier ++ e ∷ []) es h.1)
 
 repeated_once : (earlier es : List Entry) → EachTwo GiveApart es → EachTwo Differ (repetitions earlier es)
 repeated_once earlier [] h = tt
 repeated_once earlier (e ∷ es) h =
-    two_parts Differ (Gives e) (λ g. (f : LinkFault) → Gives e f → Differ f g) (λ f g p q. q f p) (repetition earlier e) (repetitions (earlier ++ e ∷ []) es)
+    two_append Differ (Gives e) (λ g. (f : LinkFault) → Gives e f → Differ f g) (λ f g p q. q f p) (repetition earlier e) (repetitions (earlier ++ e ∷ []) es)
     (given earlier e).0 (given earlier e).1
     (repeated_each (λ g. (f : LinkFault) → Gives e f → Differ f g) (earlier ++ e ∷ []) es (each_weaker (GiveApart e) (λ d. (g : LinkFault) → Gives d g → (f : LinkFault) → Gives e f → Differ f g) (λ d apart g q f p. apart f g p q) es h.0))
     (repeated_once (earlier ++ e ∷ []) es h.1)
@@ -96,21 +97,21 @@ module _ (ss : List Outline) (i : ℕ) (s : Outline) where
 
   declared_once : (scope : Namespace) → TokensRise s → Each (IsOf i 7 8) (map (declared_entry scope i) s.declares) × EachTwo GiveApart (map (declared_entry scope i) s.declares)
   declared_once scope rise = (
-    each-map (IsOf i 7 8) (declared_entry scope i) s.declares (each_by (λ d. IsOf i 7 8 (declared_entry scope i d)) (λ d. record { item = refl; code = by_scope scope }) s.declares),
-    two-map GiveApart (declared_entry scope i) s.declares
+    each_map (IsOf i 7 8) (declared_entry scope i) s.declares (each_by (λ d. IsOf i 7 8 (declared_entry scope i d)) (λ d. record { item = refl; code = by_scope scope }) s.declares),
+    two_map GiveApart (declared_entry scope i) s.declares
         (two_weaker (λ a b. a.token < b.token) (λ a b. GiveApart (declared_entry scope i a) (declared_entry scope i b)) (λ a b. apart_by_token (declared_entry scope i a) (declared_entry scope i b)) s.declares
         (two_unmap (λ a b. a < b) (λ d. d.token) s.declares (two_from_rising (declared_tokens s) rise.declared))),
   )
 
   named_before : Each (IsOf i 8 10) (set_entries i s ++ state_entries (enclosing_set ss i) i s)
   named_before =
-      each-append (IsOf i 8 10) (set_entries i s) (state_entries (enclosing_set ss i) i s)
+      each_append (IsOf i 8 10) (set_entries i s) (state_entries (enclosing_set ss i) i s)
       (each_weaker (IsOf i 8 9) (IsOf i 8 10) (wider i 8 9 8 10 (omega arith) (omega arith)) (set_entries i s) set_once.0)
       (each_weaker (IsOf i 9 10) (IsOf i 8 10) (wider i 9 10 8 10 (omega arith) (omega arith)) (state_entries (enclosing_set ss i) i s) (state_once (enclosing_set ss i)).0)
 
   named_apart : EachTwo GiveApart (set_entries i s ++ state_entries (enclosing_set ss i) i s)
   named_apart =
-      two_parts GiveApart (IsOf i 8 9) (IsOf i 9 10) (λ d e a b. apart_by_rank i 8 9 9 10 (omega arith) d e a b) (set_entries i s) (state_entries (enclosing_set ss i) i s)
+      two_append GiveApart (IsOf i 8 9) (IsOf i 9 10) (λ d e a b. apart_by_rank i 8 9 9 10 (omega arith) d e a b) (set_entries i s) (state_entries (enclosing_set ss i) i s)
       set_once.0 set_once.1 (state_once (enclosing_set ss i)).0 (state_once (enclosing_set ss i)).1
 
   -- apart_by_rank wants the lower ranks first
@@ -120,10 +121,10 @@ module _ (ss : List Outline) (i : ℕ) (s : Outline) where
   item_entries : TokensRise s → Each (IsOf i 7 10) (entries_of ss i s) × EachTwo GiveApart (entries_of ss i s)
   item_entries rise =
       let declared : Each (IsOf i 7 8) (map (declared_entry (scope_of ss i s) i) s.declares) × EachTwo GiveApart (map (declared_entry (scope_of ss i s) i) s.declares) = declared_once (scope_of ss i s) rise in (
-        each-append (IsOf i 7 10) (set_entries i s ++ state_entries (enclosing_set ss i) i s) (map (declared_entry (scope_of ss i s) i) s.declares)
+        each_append (IsOf i 7 10) (set_entries i s ++ state_entries (enclosing_set ss i) i s) (map (declared_entry (scope_of ss i s) i) s.declares)
             (each_weaker (IsOf i 8 10) (IsOf i 7 10) (wider i 8 10 7 10 (omega arith) (omega arith)) (set_entries i s ++ state_entries (enclosing_set ss i) i s) named_before)
             (each_weaker (IsOf i 7 8) (IsOf i 7 10) (wider i 7 8 7 10 (omega arith) (omega arith)) (map (declared_entry (scope_of ss i s) i) s.declares) declared.0),
-        two_parts GiveApart (IsOf i 8 10) (IsOf i 7 8) apart_from_declared (set_entries i s ++ state_entries (enclosing_set ss i) i s) (map (declared_entry (scope_of ss i s) i) s.declares)
+        two_append GiveApart (IsOf i 8 10) (IsOf i 7 8) apart_from_declared (set_entries i s ++ state_entries (enclosing_set ss i) i s) (map (declared_entry (scope_of ss i s) i) s.declares)
             named_before named_apart declared.0 declared.1,
       )
 
@@ -161,10 +162,10 @@ module _ (ss : List Outline) (rise : Each TokensRise ss) where
       let before : Each (IsBefore n) (entries_before ss n) × EachTwo GiveApart (entries_before ss n) = entries_once n in
       let last : List Entry = option_map_or (entries_of ss n) (slice_get ss n) [] in
       let here : Each (IsOf n 7 10) last × EachTwo GiveApart last = entries_if n (slice_get ss n) (each_at TokensRise ss n rise) in (
-        each-append (IsBefore (suc n)) (entries_before ss n) last
+        each_append (IsBefore (suc n)) (entries_before ss n) last
             (each_weaker (IsBefore n) (IsBefore (suc n)) (λ e h. record { item = omega (arith, h.item); code = h.code }) (entries_before ss n) before.0)
             (each_weaker (IsOf n 7 10) (IsBefore (suc n)) (λ e h. record { item = omega (arith, h.item); code = h.code }) last here.0),
-        two_parts GiveApart (IsBefore n) (IsOf n 7 10) (λ d e p q. apart_by_item d e (omega (arith, p.item, q.item))) (entries_before ss n) last before.0 before.1 here.0 here.1,
+        two_append GiveApart (IsBefore n) (IsOf n 7 10) (λ d e p q. apart_by_item d e (omega (arith, p.item, q.item))) (entries_before ss n) last before.0 before.1 here.0 here.1,
       )
 
   repetitions_once : EachTwo Differ (repetitions [] (entries ss))

@@ -1,36 +1,19 @@
 -- No finding of the order of items comes twice.
-use Rattle.std.proofs.Common.{◌≡◌, ℕ, zero, suc, ◌<◌, ◌≤◌, Bool, true, false, not, cond, List, [], ◌∷◌, ◌++◌, length, arith, refl, if◌then◌else◌}
+use Rattle.std.proofs.Common.{◌≡◌, ℕ, ◌<◌, ◌≤◌, Bool, true, false, not, ◌++◌, length, arith, refl}
 use Rattle.std.specs.List.{AllByRecursion as Each}
+use Rattle.snl_scope.specs.BelowLaws.{each_below, each_passing, two_below}
+use Rattle.snl_facts.specs.Each.{EachTwo, each_append, each_map, two_map, two_weaker}
 use Rattle.snl_codes.specs.declared.code.Code.{Code}
 use Rattle.snl_codes.specs.declared.code.Code.TheVariants.{E03, E04, E05, E06}
 use Rattle.snl_scope.specs.Below.{all_below, any_below}
 use Rattle.snl_scope.specs.LinkedItems.{LinkedItems}
 use Rattle.snl_scope.specs.Order.{at_item, at_items_where, found_if, header_faults, if_missing, is_misplaced, is_program_item, is_repeated_header, is_ss_item, is_stateless, is_unmatched, misplaced_items, missing_states, order_faults, unmatched_braces}
 use Rattle.snl_scope.proofs.Families.{Differ, differ_by_item, rank, rank_from, rank_under, two_by_item, two_by_rank}
-use Rattle.snl_scope.proofs.Pairs.{EachTwo, each-append, each-map, each_weaker, two-map, two_parts, two_weaker}
-
--- the numbers below one that pass a test
-module _ (test : ℕ → Bool) where
-  last_if : (b : Bool) (n : ℕ) → Each (λ i. i ≡ n) (cond b (n ∷ []) []) × EachTwo (λ a b. a < b) (cond b (n ∷ []) [])
-  last_if true n = ((refl, tt), (tt, tt))
-  last_if false n = (tt, tt)
-
-  passing : (n : ℕ) → Each (λ i. i < n) (all_below test n) × EachTwo (λ a b. a < b) (all_below test n)
-  passing zero = (tt, tt)
-  passing (suc n) =
-      let before : Each (λ i. i < n) (all_below test n) × EachTwo (λ a b. a < b) (all_below test n) = passing n in
-      let last : List ℕ = (if test n then n ∷ [] else []) in
-      let here : Each (λ i. i ≡ n) last × EachTwo (λ a b. a < b) last = last_if (test n) n in (
-        each-append (λ i. i < suc n) (all_below test n) last
-            (each_weaker (λ i. i < n) (λ i. i < suc n) (λ i h. omega (arith, h)) (all_below test n) before.0)
-            (each_weaker (λ i. i ≡ n) (λ i. i < suc n) (λ i h. omega (arith, h)) last here.0),
-        two_parts (λ a b. a < b) (λ i. i < n) (λ i. i ≡ n) (λ a b l e. omega (arith, l, e)) (all_below test n) last before.0 before.1 here.0 here.1,
-      )
 
 module _ (code : Code) where
   -- each of the findings has the code
   coded_items : (test : ℕ → Bool) (n : ℕ) → Each (λ f. f.code ≡ code) (at_items_where code test n)
-  coded_items test n = each-map (λ f. f.code ≡ code) (at_item code) (all_below test n) (each_weaker (λ i. i < n) (λ i. code ≡ code) (λ i h. refl) (all_below test n) (passing test n).0)
+  coded_items test n = each_map (λ f. f.code ≡ code) (at_item code) (all_below test n) (each_passing (λ i. code ≡ code) test n (λ i is. refl))
 
   coded_if : (b : Bool) (n : ℕ) → Each (λ f. f.code ≡ code) (found_if b code n)
   coded_if true n = (refl, tt)
@@ -39,11 +22,11 @@ module _ (code : Code) where
   -- and none comes twice
   once_at_items : (test : ℕ → Bool) (n : ℕ) → EachTwo Differ (at_items_where code test n)
   once_at_items test n =
-      two-map Differ (at_item code) (all_below test n)
-      (two_weaker (λ a b. a < b) (λ a b. Differ (at_item code a) (at_item code b)) (λ a b l. differ_by_item (at_item code a) (at_item code b) (λ e. omega (arith, l, e))) (all_below test n) (passing test n).1)
+      two_map Differ (at_item code) (all_below test n)
+      (two_weaker (λ a b. a < b) (λ a b. Differ (at_item code a) (at_item code b)) (λ a b l. differ_by_item (at_item code a) (at_item code b) (λ e. omega (arith, l, e))) (all_below test n) (two_below test n))
 
   within_items : (test : ℕ → Bool) (n : ℕ) → Each (λ f. f.item < n) (at_items_where code test n)
-  within_items test n = each-map (λ f. f.item < n) (at_item code) (all_below test n) (passing test n).0
+  within_items test n = each_map (λ f. f.item < n) (at_item code) (all_below test n) (each_below (λ i. i < n) test n (λ i l is. l))
 
   once_if : (b : Bool) (n : ℕ) → Each (λ f. n ≤ f.item) (found_if b code n) × EachTwo Differ (found_if b code n)
   once_if true n = ((omega arith, tt), (tt, tt))
@@ -56,12 +39,12 @@ module _ (code : Code) where
       two_by_item n (at_items_where code test n) (if_missing code other n) (within_items test n) (once_at_items test n) missing.0 missing.1
 
   coded_or_missing : (test other : ℕ → Bool) (n : ℕ) → Each (λ f. f.code ≡ code) (at_items_where code test n ++ if_missing code other n)
-  coded_or_missing test other n = each-append (λ f. f.code ≡ code) (at_items_where code test n) (if_missing code other n) (coded_items test n) (coded_if (not (any_below other n)) n)
+  coded_or_missing test other n = each_append (λ f. f.code ≡ code) (at_items_where code test n) (if_missing code other n) (coded_items test n) (coded_if (not (any_below other n)) n)
 
 module _ (l : LinkedItems) where
   early_ranks : (n : ℕ) → 4 < n → Each (λ f. rank f.code < n) (misplaced_items l ++ unmatched_braces l.outlines)
   early_ranks n h =
-      each-append (λ f. rank f.code < n) (misplaced_items l) (unmatched_braces l.outlines)
+      each_append (λ f. rank f.code < n) (misplaced_items l) (unmatched_braces l.outlines)
       (rank_under n E03 (misplaced_items l) (omega (arith, h)) (coded_items E03 (is_misplaced l) (length l.outlines)))
       (rank_under n E04 (unmatched_braces l.outlines) h (coded_items E04 (is_unmatched l.outlines) (length l.outlines)))
 
@@ -85,7 +68,7 @@ module _ (l : LinkedItems) where
 
   header_ranks : (n : ℕ) → 5 < n → Each (λ f. rank f.code < n) (misplaced_items l ++ unmatched_braces l.outlines ++ header_faults l)
   header_ranks n h =
-      each-append (λ f. rank f.code < n) (misplaced_items l ++ unmatched_braces l.outlines) (header_faults l)
+      each_append (λ f. rank f.code < n) (misplaced_items l ++ unmatched_braces l.outlines) (header_faults l)
       (early_ranks n (omega (arith, h))) (rank_under n E05 (header_faults l) h coded_headers)
 
   coded_states : Each (λ f. f.code ≡ E06) (missing_states l.outlines)
@@ -100,5 +83,5 @@ module _ (l : LinkedItems) where
 
   pub order_ranks : Each (λ f. rank f.code < 7) (order_faults l)
   order_ranks =
-      each-append (λ f. rank f.code < 7) (misplaced_items l ++ unmatched_braces l.outlines ++ header_faults l) (missing_states l.outlines)
+      each_append (λ f. rank f.code < 7) (misplaced_items l ++ unmatched_braces l.outlines ++ header_faults l) (missing_states l.outlines)
       (header_ranks 7 (omega arith)) (rank_under 7 E06 (missing_states l.outlines) (omega arith) coded_states)

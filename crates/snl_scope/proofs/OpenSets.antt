@@ -2,11 +2,13 @@
 use Rattle.std.proofs.Common.{◌≡◌, ℕ, suc, ◌+◌, ◌<◌, Bool, true, false, not, ◌&&◌, ◌||◌, List, [], ◌∷◌, ◌++◌, Option, None, Some, slice_get, nat_lt, refl, sym, ap, ◌∙◌, arith, length-append, if◌then◌else◌}
 use Rattle.std.specs.Option.{option_map_or}
 use borrow.Author.Count.{below_more}
+use Rattle.std.proofs.lemmas.Bool.{lt-ltb}
+use Rattle.snl_scope.specs.BelowLaws.{any_below_none}
 use Rattle.snl_scope.specs.declared.summaries.summary.Outline.{Outline}
 use Rattle.snl_scope.specs.Below.{last_below}
 use Rattle.snl_scope.specs.Places.{begins_set, ends_between, ends_set, is_set_begin, is_set_end, open_before, enclosing_set}
 use Rattle.snl_scope.specs.NameTables.{Placed}
-use Rattle.snl_scope.proofs.Searches.{any_below-none, get-front, get-last, last_below-none, last_below-same, last_below-within, nat_lt-false, nat_lt-true}
+use Rattle.snl_scope.proofs.Searches.{get-front, get-last, last_below-none, last_below-same, last_below-within, nat_lt-false}
 
 module _ (ss : List Outline) (i : ℕ) where
   and-false : (b : Bool) → (b && false) ≡ false
@@ -22,14 +24,14 @@ module _ (ss : List Outline) (i : ℕ) where
   opens b =
       ap (λ c. if (c && not (ends_between ss i (suc i))) then Some i else earlier) b
       ∙ ap (λ c. if not c then Some i else earlier)
-      (any_below-none (λ j. nat_lt i j && is_set_end ss j) (suc i) (λ j l. ap (λ c. c && is_set_end ss j) (nat_lt-false j i l)))
+      (any_below_none (λ j. nat_lt i j && is_set_end ss j) (suc i) (λ j l. ap (λ c. c && is_set_end ss j) (nat_lt-false j i l)))
 
   -- one that ends a state set leaves none open
   closes : is_set_begin ss i ≡ false → is_set_end ss i ≡ true → open_before ss (suc i) ≡ None
   closes b e =
       ap (λ c. if (c && not (ends_between ss i (suc i))) then Some i else earlier) b
       ∙ last_below-none (λ k. is_set_begin ss k && not (ends_between ss k (suc i))) i (λ k l.
-      ap (λ c. is_set_begin ss k && not ((c && is_set_end ss i) || ends_between ss k i)) (nat_lt-true k i l)
+      ap (λ c. is_set_begin ss k && not ((c && is_set_end ss i) || ends_between ss k i)) (lt-ltb k i l)
       ∙ ap (λ c. is_set_begin ss k && not (c || ends_between ss k i)) e ∙ and-false (is_set_begin ss k))
 
   -- and any other changes nothing

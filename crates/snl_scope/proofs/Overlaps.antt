@@ -3,6 +3,7 @@ use Rattle.std.proofs.Common.{◌≡◌, ℕ, zero, suc, Bool, true, false, ◌&
 use Rattle.std.proofs.Math.Bool.{or_comm, or-false}
 use Rattle.std.proofs.lemmas.Bool.Decides.{Decides-eqb, nat_tests}
 use Rattle.std.specs.List.{list_any}
+use Rattle.snl_scope.specs.BelowLaws.{any_below_same}
 use Rattle.snl_scope.specs.declared.clauses.clause_index.Claim.{Claim}
 use Rattle.snl_scope.specs.declared.clauses.clause_index.ClauseIndex.{ClauseIndex}
 use Rattle.snl_scope.specs.declared.clauses.clause_index.Extent.{Extent}
@@ -46,10 +47,6 @@ below-and false c p (suc n) = below-and false c p n
 below-nothing : (n : ℕ) → any_below (λ k. false) n ≡ false
 below-nothing zero = refl
 below-nothing (suc n) = below-nothing n
-
-below-same : (p q : ℕ → Bool) (n : ℕ) → ((k : ℕ) → p k ≡ q k) → any_below p n ≡ any_below q n
-below-same p q zero h = refl
-below-same p q (suc n) h = ap (λ b. b || any_below p n) (h n) ∙ ap (λ b. q n || b) (below-same p q n h)
 
 eq-sym : (a b : ℕ) → nat_eq a b ≡ nat_eq b a
 eq-sym a b = grind (arith, nat_tests)
@@ -145,7 +142,7 @@ element_overlaps a (coverage.Front k) = refl
 
 front_overlaps : (n : ℕ) (d : Coverage) → (claims d extent.Whole || any_below (λ k. claims d (extent.Element k)) n) ≡ overlaps (coverage.Front n) d
 front_overlaps n coverage.Whole = refl
-front_overlaps n (coverage.Element b) = below-same (λ k. nat_eq b k) (λ k. nat_eq k b) n (λ k. eq-sym b k) ∙ below-one b n
+front_overlaps n (coverage.Element b) = any_below_same (λ k. nat_eq b k) (λ k. nat_eq k b) n (λ k l. eq-sym b k) ∙ below-one b n
 front_overlaps n (coverage.Front j) = below-front j n
 
 or-any : {A : Type 0} (p q : A → Bool) (xs : List A) → (list_any p xs || list_any q xs) ≡ list_any (λ x. p x || q x) xs
@@ -207,7 +204,7 @@ module _ (held : ClauseIndex) (judged : List (LinkedClause × Bool)) (c : Linked
   at_front n h =
       ap (λ b. b || any_below (λ k. has_claim held (purpose_of c.clause.kind) v (extent.Element k)) n) (claimed-told held judged f (claim extent.Whole))
       ∙ ap (λ b. list_any (λ d. makes d (claim extent.Whole)) sound || b)
-      (below-same (λ k. has_claim held (purpose_of c.clause.kind) v (extent.Element k)) (λ k. list_any (λ d. makes d (claim (extent.Element k))) sound) n (λ k. claimed-told held judged f (claim (extent.Element k)))
+      (any_below_same (λ k. has_claim held (purpose_of c.clause.kind) v (extent.Element k)) (λ k. list_any (λ d. makes d (claim (extent.Element k))) sound) n (λ k l. claimed-told held judged f (claim (extent.Element k)))
       ∙ below-any (λ k d. makes d (claim (extent.Element k))) sound n)
       ∙ or-any (λ d. makes d (claim extent.Whole)) (λ d. any_below (λ k. makes d (claim (extent.Element k))) n) sound
       ∙ list_any-same (λ d. makes d (claim extent.Whole) || any_below (λ k. makes d (claim (extent.Element k))) n) (clash c) sound (λ d.

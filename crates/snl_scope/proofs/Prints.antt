@@ -1,5 +1,5 @@
 -- Names that are found by their prints.
-use Rattle.std.proofs.Common.{◌≡◌, ◌==◌, ℕ, zero, suc, ◌<◌, ◌≤◌, inl, inr, ◌⊎◌, Bool, true, false, cond, nat_eq, nat_lt, List, [], ◌∷◌, ◌++◌, length, get_or, take, Option, None, Some, refl, sym, ap, ◌∙◌, arith, true≢false, length-append}
+use Rattle.std.proofs.Common.{◌≡◌, ◌==◌, ℕ, zero, suc, ◌<◌, ◌≤◌, inl, inr, ◌⊎◌, Bool, true, false, cond, nat_eq, nat_lt, List, [], ◌∷◌, ◌++◌, length, get_or, take, Option, None, Some, refl, sym, ap, ◌∙◌, arith, true≢false}
 use Rattle.std.specs.Prelude.{if◌then◌else◌, slice_get}
 use Rattle.std.specs.List.{position}
 use Rattle.std.specs.Map.{lookup}
@@ -9,10 +9,14 @@ use Rattle.std.proofs.lemmas.Bool.Decides.{nat_tests}
 use Rattle.std.proofs.lemmas.List.{get_or_append_left, length-take-le, take_all}
 use Rattle.std.proofs.lemmas.Slice.Eq.{bytes_eq-Decides}
 use Rattle.std.proofs.Math.Seq.{get_or-append_seam, take-suc}
+use Rattle.std.proofs.lemmas.Bool.{cases_Bool, eqb-true, ltb-false, ltb-true}
+use Rattle.snl_facts.specs.Lists.{length_more}
+use Rattle.snl_facts.specs.Options.{or_none}
+use Rattle.snl_facts.specs.Positions.{position_push}
 use Rattle.snl_walk.specs.Prints.{print_of}
 use Rattle.snl_scope.specs.Prints.{AreFound, last_with}
-use Rattle.snl_scope.proofs.Elements.{get_last, told}
-use Rattle.snl_scope.proofs.Numbering.{name-new, position-push}
+use Rattle.snl_scope.proofs.Elements.{get_last}
+use Rattle.snl_scope.proofs.Numbering.{name-new}
 
 abbrev Name : Type 0
 Name = List ℕ
@@ -36,15 +40,11 @@ scan_is name names (suc n) found h =
     let size : length (take n names) ≡ n = length-take-le n names (omega (arith, h)) in
     let more : position (bytes_eq name) (take (suc n) names) ≡ option_or before (cond t (Some n) None) =
     ap (position (bytes_eq name)) (take-suc names n [] (omega (arith, h)))
-    ∙ position-push (bytes_eq name) (take n names) x
+    ∙ position_push (bytes_eq name) (take n names) x
     ∙ ap (λ (k : ℕ). option_or before (cond t (Some k) None)) size in
     scan_is name names n (if t then Some n else found) (omega (arith, h))
     ∙ sym (either before None found t n)
     ∙ sym (ap (λ (o : Option ℕ). option_or o found) more)
-
-or_none : (p : Option ℕ) → option_or p None ≡ p
-or_none None = refl
-or_none (Some n) = refl
 
 pub scan_whole : (name : Name) (names : List Name) → scan name names (length names) None ≡ position (bytes_eq name) names
 scan_whole name names =
@@ -55,13 +55,10 @@ scan_whole name names =
 self_eq : (n : ℕ) → (n == n) ≡ true
 self_eq n = grind (arith, nat_tests)
 
-eq_told : (a b : ℕ) → (a == b) ≡ true → a ≡ b
-eq_told a b h = grind (arith, nat_tests)
-
 -- A name of another print is another name.
 other : (name x : Name) → (print_of x == print_of name) ≡ false → bytes_eq name x ≡ false
 other name x h =
-    elim (told (bytes_eq name x)) [
+    elim (cases_Bool (bytes_eq name x)) [
       | inl same ↦
           let e : name ≡ x = (bytes_eq-Decides name x).0 same in
           absurd (true≢false (sym (self_eq (print_of name)) ∙ ap (λ (y : Name). print_of y == print_of name) e ∙ h))
@@ -73,7 +70,7 @@ pub none_found : (name : Name) (names : List Name) (n : ℕ) → last_with names
 none_found name names zero h found = refl
 none_found name names (suc n) h found =
     let x : Name = get_or names n [] in
-    elim (told (print_of x == print_of name)) [
+    elim (cases_Bool (print_of x == print_of name)) [
       | inl same ↦
           let some : Some n ≡ None = sym (ap (λ (b : Bool). if b then Some n else last_with names (print_of name) n) same) ∙ h in
           cc
@@ -92,13 +89,13 @@ pub last_found : (name : Name) (names : List Name) (n k : ℕ) → last_with nam
 last_found name names zero k h = cc
 last_found name names (suc n) k h =
     let x : Name = get_or names n [] in
-    elim (told (print_of x == print_of name)) [
+    elim (cases_Bool (print_of x == print_of name)) [
       | inl same ↦
           let some : Some n ≡ Some k = sym (ap (λ (b : Bool). if b then Some n else last_with names (print_of name) n) same) ∙ h in
           let e : n ≡ k = cc in
           record {
             below = omega (arith, e);
-            print = ap (λ (m : ℕ). print_of (get_or names m [])) (sym e) ∙ eq_told (print_of x) (print_of name) same;
+            print = ap (λ (m : ℕ). print_of (get_or names m [])) (sym e) ∙ eqb-true (print_of x) (print_of name) same;
             skipped = λ found. ap (λ (m : ℕ). scan name names (suc m) found) e;
           }
       | inr apart ↦
@@ -120,20 +117,11 @@ same_got (x ∷ xs) (suc n) d e h = same_got xs n d e (omega (arith, h))
 
 -- ---- a name more
 
-lt_told : (a b : ℕ) → nat_lt a b ≡ true → a < b
-lt_told a b h = grind (arith, nat_tests)
-
-ge_told : (a b : ℕ) → nat_lt a b ≡ false → b ≤ a
-ge_told a b h = grind (arith, nat_tests)
-
 kept_before : (names : List Name) (name : Name) (print n : ℕ) → n ≤ length names → last_with (names ++ name ∷ []) print n ≡ last_with names print n
 kept_before names name print zero h = refl
 kept_before names name print (suc n) h =
     ap (λ (x : Name). if print_of x == print then Some n else last_with (names ++ name ∷ []) print n) (get_or_append_left names (name ∷ []) [] n (omega (arith, h)))
     ∙ ap (λ (o : Option ℕ). if print_of (get_or names n []) == print then Some n else o) (kept_before names name print n (omega (arith, h)))
-
-one_more : {X : Type 0} (xs : List X) (x : X) → length (xs ++ x ∷ []) ≡ suc (length xs)
-one_more {X} xs x = length-append xs (x ∷ []) ∙ omega arith
 
 get_front : (xs : List (Option ℕ)) (x : Option ℕ) (n : ℕ) → n < length xs → slice_get (xs ++ x ∷ []) n ≡ slice_get xs n
 get_front [] x n h = absurd (omega (arith, h))
@@ -141,12 +129,12 @@ get_front (y ∷ ys) x zero h = refl
 get_front (y ∷ ys) x (suc n) h = get_front ys x n (omega (arith, h))
 
 below_or_last : (n m : ℕ) → n < suc m → (n < m) ⊎ (n ≡ m)
-below_or_last n m h = elim (told (nat_lt n m)) [ inl less ↦ inl (lt_told n m less) | inr more ↦ inr (omega (arith, h, ge_told n m more)) ]
+below_or_last n m h = elim (cases_Bool (nat_lt n m)) [ inl less ↦ inl (ltb-true n m less) | inr more ↦ inr (omega (arith, h, ltb-false n m more)) ]
 
 -- A name that is found is found in the same place with one more.
 stays_first : (names : List Name) (name x : Name) (n : ℕ) → position (bytes_eq x) names ≡ Some n → position (bytes_eq x) (names ++ name ∷ []) ≡ Some n
 stays_first names name x n h =
-    position-push (bytes_eq x) names name
+    position_push (bytes_eq x) names name
     ∙ ap (λ (o : Option ℕ). option_or o (cond (bytes_eq x name) (Some (length names)) None)) h
 
 pub found_with : (names : List Name) (earlier : List (Option ℕ)) (last after : List (ℕ × ℕ)) (name : Name) (before : Option ℕ) → AreFound names earlier last → position (bytes_eq name) names ≡ None → before ≡ last_with names (print_of name) (length names)
@@ -155,9 +143,9 @@ found_with names earlier last after name before is new told_before put =
     let all : List Name = names ++ name ∷ [] in
     let last_name : get_or all (length names) [] ≡ name = get_or-append_seam names name [] [] in
     record {
-      count = one_more earlier before ∙ ap suc is.count ∙ sym (one_more names name);
+      count = length_more earlier before ∙ ap suc is.count ∙ sym (length_more names name);
       different = λ n h.
-          let lt : n < suc (length names) = omega (arith, h, one_more names name) in
+          let lt : n < suc (length names) = omega (arith, h, length_more names name) in
           elim (below_or_last n (length names) lt) [
             | inl less ↦
                 ap (λ (x : Name). position (bytes_eq x) all) (get_or_append_left names (name ∷ []) [] n less)
@@ -171,9 +159,9 @@ found_with names earlier last after name before is new told_before put =
           put q
           ∙ ap (λ (o : Option ℕ). if nat_eq (print_of name) q then Some (length names) else o) (is.by_print q ∙ sym (kept_before names name q (length names) (omega arith)))
           ∙ ap (λ (x : Name). if print_of x == q then Some (length names) else last_with all q (length names)) (sym last_name)
-          ∙ ap (last_with all q) (sym (one_more names name));
+          ∙ ap (last_with all q) (sym (length_more names name));
       before = λ n h.
-          let lt : n < suc (length names) = omega (arith, h, one_more names name) in
+          let lt : n < suc (length names) = omega (arith, h, length_more names name) in
           elim (below_or_last n (length names) lt) [
             | inl less ↦
                 get_front earlier before n (omega (arith, less, is.count))

@@ -1,11 +1,7 @@
 -- Lemmas on searches among numbers, and on the list that a loop reads by index.
-use Rattle.std.proofs.Common.{◌≡◌, ℕ, zero, suc, ◌<◌, Bool, true, false, ◌||◌, List, [], ◌∷◌, ◌++◌, length, map, get_or, None, Some, slice_get, nat_lt, refl, sym, ap, ◌∙◌, arith, not-suc-le-zero, if◌then◌else◌}
-use borrow.Author.Tests.{lt-ltb, lt-leb}
-use Rattle.snl_scope.specs.Below.{any_below, last_below}
-
-pub any_below-none : (p : ℕ → Bool) (n : ℕ) → ((k : ℕ) → k < n → p k ≡ false) → any_below p n ≡ false
-any_below-none p zero h = refl
-any_below-none p (suc n) h = ap (λ b. b || any_below p n) (h n (omega arith)) ∙ any_below-none p n (λ k l. h k (omega arith))
+use Rattle.std.proofs.Common.{◌≡◌, ℕ, zero, suc, ◌<◌, Bool, true, false, List, [], ◌∷◌, ◌++◌, length, map, get_or, None, Some, slice_get, nat_lt, refl, sym, ap, ◌∙◌, arith, not-suc-le-zero, if◌then◌else◌}
+use borrow.Author.Tests.{lt-leb}
+use Rattle.snl_scope.specs.Below.{last_below}
 
 pub last_below-same : (p q : ℕ → Bool) (n : ℕ) → ((k : ℕ) → k < n → p k ≡ q k) → last_below p n ≡ last_below q n
 last_below-same p q zero h = refl
@@ -26,9 +22,6 @@ last_below-within p (suc n) k h = by (p n) (last_below-within p n k) h
     by : (b : Bool) → (last_below p n ≡ Some k → k < n) → (if b then Some n else last_below p n) ≡ Some k → k < suc n
     by true g e = let m : n ≡ k = cc in omega (arith, m)
     by false g e = let l = g e in omega (arith, l)
-
-pub nat_lt-true : (a b : ℕ) → a < b → nat_lt a b ≡ true
-nat_lt-true a b h = lt-ltb a b h
 
 pub nat_lt-false : (a b : ℕ) → a < suc b → nat_lt b a ≡ false
 nat_lt-false a b h = lt-leb (suc b) a h

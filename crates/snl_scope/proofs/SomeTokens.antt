@@ -4,12 +4,13 @@ use Rattle.std.proofs.Common.{◌≡◌, ℕ, ◌<◌, Bool, true, false, cond, 
 use Rattle.std.proofs.lemmas.List.Elements.{recursion_from_All}
 use Rattle.std.specs.List.{All, AllByRecursion as Each}
 use Rattle.std.specs.List.Sorted.{IsStrictlyIncreasing}
+use Rattle.snl_facts.specs.Each.{EachTwo, rising_from_two}
 use Rattle.snl_lex.specs.declared.piece.Piece.{Piece}
 use Rattle.snl_scope.specs.Summaries.Tokens.{name_ref_at}
 use Rattle.snl_walk.specs.declared.occurrence.Occurrence.{Occurrence}
 use Rattle.snl_walk.specs.Items.{tokens_of}
 use Rattle.snl_walk.specs.Uses.{tokens_where}
-use Rattle.snl_scope.proofs.Pairs.{EachTwo, rising_from_two, two_from_rising}
+use Rattle.snl_scope.proofs.Pairs.{two_from_rising}
 
 module _ (test : Occurrence → Bool) where
   each_where : (P : ℕ → Type 0) (found : List Occurrence) → Each P (tokens_of found) → Each P (tokens_where test found)

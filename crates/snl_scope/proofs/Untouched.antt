@@ -39,10 +39,6 @@ neither : (a b : Bool) → (a || b) ≡ false → (a ≡ false) × (b ≡ false)
 neither true b h = absurd (true≢false h)
 neither false b h = (refl, h)
 
-both : (a b : Bool) → (a && b) ≡ true → (a ≡ true) × (b ≡ true)
-both true b h = (refl, h)
-both false b h = absurd (true≢false (sym h))
-
 -- An item that takes the place of another: neither speaks of the name.
 pub record Swapped (name : List ℕ) (o p : Option Outline) : Type 0 where
   pub was : Outline

@@ -2,6 +2,7 @@
 use Rattle.std.proofs.Common.{◌≡◌, ◌↔◌, ℕ, Bool, true, false, ◌&&◌, IsTrue, List, [], ◌∷◌, map, nat_eq, Option, None, Some, is_some, refl, sym, ap, ap₂, subst, ◌∙◌, true≢false}
 use Rattle.std.specs.List.{list_all}
 use Rattle.std.proofs.lemmas.Bool.Decides.{Decides-eqb}
+use Rattle.std.proofs.lemmas.Bool.{and_parts}
 use Rattle.snl_scope.specs.declared.facts.Assigned.{Assigned}
 use Rattle.snl_scope.specs.declared.facts.Assigned.TheVariants as assigned
 use Rattle.snl_scope.specs.declared.facts.NameKind.{NameKind}
@@ -16,10 +17,6 @@ use Rattle.snl_scope.specs.declared.summaries.summary.Summary.{Summary}
 use Rattle.snl_scope.specs.Linked.{fact_of, has_target}
 use Rattle.snl_scope.specs.Places.{enclosing_set}
 use Rattle.snl_scope.specs.View.{same_assigned, same_name_kind, same_bool, same_dims, same_facts, same_known, same_level, same_view, view}
-
-both : (a b : Bool) → (a && b) ≡ true → (a ≡ true) × (b ≡ true)
-both true b h = (refl, h)
-both false b h = absurd (true≢false (sym h))
 
 nat_same : (a : ℕ) → nat_eq a a ≡ true
 nat_same a = (Decides-eqb a a).1 refl
@@ -80,9 +77,9 @@ assigned_same assigned.Elements = refl
 
 facts_equal : (a b : Fact) → same_facts a b ≡ true → a ≡ b
 facts_equal a b h =
-    let last = both (same_dims a.dims b.dims && same_level a.level b.level && same_name_kind a.kind b.kind) (same_assigned a.assigned b.assigned) h in
-    let third = both (same_dims a.dims b.dims && same_level a.level b.level) (same_name_kind a.kind b.kind) last.0 in
-    let first = both (same_dims a.dims b.dims) (same_level a.level b.level) third.0 in
+    let last = and_parts (same_dims a.dims b.dims && same_level a.level b.level && same_name_kind a.kind b.kind) (same_assigned a.assigned b.assigned) h in
+    let third = and_parts (same_dims a.dims b.dims && same_level a.level b.level) (same_name_kind a.kind b.kind) last.0 in
+    let first = and_parts (same_dims a.dims b.dims) (same_level a.level b.level) third.0 in
     λ j. record {
       dims = dims_equal a.dims b.dims first.0 j;
       level = level_equal a.level b.level first.1 j;
@@ -111,7 +108,7 @@ module _ {X A : Type 0} (same : A → A → Bool) (equal : (a b : A) → same a 
   all_equal : (xs : List X) → list_all (λ x. same (f x) (g x)) xs ≡ true → map f xs ≡ map g xs
   all_equal [] h = refl
   all_equal (x ∷ xs) h =
-      let parts = both (same (f x) (g x)) (list_all (λ x. same (f x) (g x)) xs) h in
+      let parts = and_parts (same (f x) (g x)) (list_all (λ x. same (f x) (g x)) xs) h in
       ap₂ (λ (a : A) (rest : List A). a ∷ rest) (equal (f x) (g x) parts.0) (all_equal xs parts.1)
 
   all_same : (xs : List X) → map f xs ≡ map g xs → list_all (λ x. same (f x) (g x)) xs ≡ true
@@ -133,8 +130,8 @@ module _ (ss : List Outline) (i : ℕ) (ts : List Outline) (j : ℕ) (s : Summar
 
   view_from : same_view ss i ts j s ≡ true → view ss i s ≡ view ts j s
   view_from h =
-      let last = both (placed && known) led h in
-      let first = both placed known last.0 in
+      let last = and_parts (placed && known) led h in
+      let first = and_parts placed known last.0 in
       let place_is : is_some (enclosing_set ss i) ≡ is_some (enclosing_set ts j) = bool_equal (is_some (enclosing_set ss i)) (is_some (enclosing_set ts j)) first.0 in
       let facts_are = all_equal same_known known_equal known_same (λ name. fact_of ss i name) (λ name. fact_of ts j name) s.uses first.1 in
       let leads_are = all_equal same_bool bool_equal bool_same (λ t. has_target ss i t.name) (λ t. has_target ts j t.name) s.targets last.1 in

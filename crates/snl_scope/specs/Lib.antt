@@ -1,4 +1,5 @@
 pub mod Below
+pub mod BelowLaws
 pub mod ByNumber
 pub mod LinkedItems
 pub mod Places

@@ -29,7 +29,6 @@ use std::marker::Model;
 
 /// What names mean among the items of a text, which contracts see as their outlines and kinds.
 /// Links of the same outlines and kinds are the same value, and give the same answers.
-#[derive(Drop)]
 pub struct Links {
     scopes: Scopes,
     kinds: Vec<ItemKind>,
@@ -41,6 +40,23 @@ pub struct Links {
     repeated: Vec<LinkFault>,
     at_clauses: Vec<LinkFault>,
     faults: Vec<LinkFault>,
+}
+
+// By hand, so that whoever holds links need not know what is in them to let them go.
+impl Drop for Links {
+    fn drop(self) {
+        let Links {
+            scopes: _,
+            kinds: _,
+            clauses: _,
+            claims: _,
+            assigned: _,
+            flags: _,
+            repeated: _,
+            at_clauses: _,
+            faults: _,
+        } = self;
+    }
 }
 
 impl Model for Links {

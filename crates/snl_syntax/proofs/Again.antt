@@ -2,6 +2,7 @@
 -- lies too deep.
 use Rattle.std.proofs.Common.{◌≡◌, ℕ, zero, suc, Bool, true, false, List, [], ◌∷◌, ◌++◌, Option, Some, None, Ok, Err, refl, sym, ap, subst, ◌∙◌, append_assoc}
 use Rattle.std.specs.Prelude.{option_to_list}
+use Rattle.std.proofs.lemmas.Bool.{false_from_ne_true}
 use Rattle.std.proofs.lemmas.List.{append-nil}
 use Rattle.snl_lex.specs.declared.kind.Kind.{Kind}
 use Rattle.snl_syntax.specs.declared.stop.Step.{Step}
@@ -65,12 +66,8 @@ abbrev pub Lacks : Kind → List NumberedKind → Type 0
 Lacks x [] = Unit {0}
 Lacks x (s ∷ k) = same s.0 x ≡ false
 
-pub is_false : (b : Bool) → (b ≡ true → ⊥) → b ≡ false
-is_false true h = absurd (h refl)
-is_false false h = refl
-
 pub differ : (p : Kind → Bool) (a b : Kind) → p a ≡ true → p b ≡ false → same a b ≡ false
-differ p a b t f = is_false (same a b) (λ e. let h : p a ≡ p b = ap p (same_true a b e) in absurd cc)
+differ p a b t f = false_from_ne_true (same a b) (λ e. let h : p a ≡ p b = ap p (same_true a b e) in absurd cc)
 
 pub first_lacks : (x y : Kind) (k rest : List NumberedKind) → same x y ≡ false → First x k rest → Lacks y k
 first_lacks x y k rest h f = subst (Lacks y) (sym f.1) h

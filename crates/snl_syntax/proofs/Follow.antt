@@ -1,6 +1,6 @@
 -- What may come after an expression, and what it begins with.
 use Rattle.std.proofs.Common.{◌≡◌, ℕ, ◌<◌, ◌≤◌, true, false, eqb, List, [], ◌∷◌, Option, Some, None, refl, sym, ap, subst, ◌∙◌, arith}
-use Rattle.std.proofs.lemmas.Bool.{eqb-true, eq-eqb}
+use Rattle.std.proofs.lemmas.Bool.{eq-eqb, eqb-true, false_from_ne_true}
 use Rattle.snl_lex.specs.declared.kind.Kind.{Kind}
 use Rattle.snl_lex.specs.declared.kind.Kind.TheVariants as kind
 use Rattle.snl_syntax.specs.declared.operator.Binary.{Binary}
@@ -13,7 +13,7 @@ use Rattle.snl_syntax.specs.Steps.{kind_at}
 use Rattle.snl_syntax.specs.Reading.Expressions.{in_tier, binary_in, assignment_in}
 use Rattle.snl_syntax.specs.Grammar.Base.{First}
 use Rattle.snl_syntax.proofs.Same.{same_true}
-use Rattle.snl_syntax.proofs.Again.{Lacks, is_false, kind_first}
+use Rattle.snl_syntax.proofs.Again.{Lacks, kind_first}
 
 -- The level from which on a token continues an expression before it: 0 after an operand, 1 to 10
 -- the tiers, 11 a condition, 12 an assignment, 13 a comma.
@@ -72,7 +72,7 @@ first_stops x n k rest lt f = subst (Stops n) (sym f.1) lt
 
 pub stops_lacks : (n : ℕ) (k : List NumberedKind) (x : Kind) → Stops n k → binds x ≤ n → Lacks x k
 stops_lacks n [] x h le = tt
-stops_lacks n (s ∷ k) x h le = is_false (same s.0 x) (λ e. let b : binds s.0 ≡ binds x = ap binds (same_true s.0 x e) in let lt : n < binds s.0 = h in omega arith)
+stops_lacks n (s ∷ k) x h le = false_from_ne_true (same s.0 x) (λ e. let b : binds s.0 ≡ binds x = ap binds (same_true s.0 x e) in let lt : n < binds s.0 = h in omega arith)
 
 pub binds-mark : (op : Binary) → binds (binary_kind op) ≡ tier op
 binds-mark binaries.Or = refl
@@ -138,7 +138,7 @@ binary-mark binaries.Remainder = refl
 in_tier_none : (n : ℕ) (o : Option Binary) → ((op : Binary) → o ≡ Some op → n < tier op) → in_tier n o ≡ None
 in_tier_none n None h = refl
 in_tier_none n (Some op) h =
-    let no : eqb (tier op) n ≡ false = is_false (eqb (tier op) n) (λ e. let q : tier op ≡ n = eqb-true (tier op) n e in let lt : n < tier op = h op refl in omega arith) in
+    let no : eqb (tier op) n ≡ false = false_from_ne_true (eqb (tier op) n) (λ e. let q : tier op ≡ n = eqb-true (tier op) n e in let lt : n < tier op = h op refl in omega arith) in
     rw no refl
 
 pub binary_none : (n : ℕ) (k : List NumberedKind) → Stops n k → binary_in n (kind_at k) ≡ None

@@ -1,9 +1,9 @@
 -- What the parser makes of an item goes by its tokens as they are spelled.
-use Rattle.std.proofs.Common.{◌≡◌, ℕ, suc, ◌+◌, ◌<◌, Bool, true, false, not, cond, ◌||◌, nat_lt, List, [], ◌∷◌, length, map, position, Option, Some, None, is_some, refl, sym, ap, ap₂, subst, ◌∙◌, arith}
-use Rattle.std.specs.List.{list_any, position_or_len}
-use Rattle.std.proofs.lemmas.Bool.Decides.{nat_tests}
+use Rattle.std.proofs.Common.{◌≡◌, ℕ, ◌<◌, Bool, cond, List, [], ◌∷◌, length, map, position, Option, Some, None, is_some, refl, sym, ap, ap₂, subst, ◌∙◌}
+use Rattle.std.specs.List.{list_any}
 use Rattle.std.proofs.lemmas.List.{length-map}
 use Rattle.std.proofs.lemmas.List.Quantifiers.{position-Some}
+use Rattle.snl_facts.specs.Positions.{any_position, position_map}
 use Rattle.snl_lex.specs.declared.piece.Piece.{Piece}
 use Rattle.snl_lex.specs.PieceList.{spelled, spelling}
 use Rattle.snl_lex.specs.declared.kind.Kind.{Kind}
@@ -16,19 +16,12 @@ use Rattle.snl_syntax.proofs.ParserAnswers.{some_kinds}
 
 -- ---- by the spelling
 
-first-map : {A B : Type 0} (p : B → Bool) (f : A → B) (xs : List A) → position_or_len (λ x. p (f x)) xs ≡ position_or_len p (map f xs)
-first-map p f [] = refl
-first-map p f (x ∷ xs) = ap (λ n. cond (not (p (f x))) (1 + n) 0) (first-map p f xs)
-
-position-map : {A B : Type 0} (p : B → Bool) (f : A → B) (xs : List A) → position (λ x. p (f x)) xs ≡ position p (map f xs)
-position-map p f xs = ap₂ (λ n m. cond (nat_lt n m) (Some n) None) (first-map p f xs) (sym (length-map xs f))
-
 pub kinds_spelled : (text : List ℕ) (tokens : List Piece) → kinds_in text tokens ≡ map kind_by (spelled text tokens)
 kinds_spelled text [] = refl
 kinds_spelled text (p ∷ ps) = ap (λ (l : List Kind). kind_by (spelling text p) ∷ l) (kinds_spelled text ps)
 
 pub bad_spelled : (text : List ℕ) (tokens : List Piece) → position is_bad tokens ≡ position is_bad_by (spelled text tokens)
-bad_spelled text tokens = position-map is_bad_by (spelling text) tokens
+bad_spelled text tokens = position_map is_bad_by (spelling text) tokens
 
 pub parsed_spelled : (text : List ℕ) (tokens : List Piece) → parsed_in text tokens ≡ parsed_by (spelled text tokens)
 parsed_spelled text tokens = ap₂ outcome_of (bad_spelled text tokens) (kinds_spelled text tokens)
@@ -44,25 +37,6 @@ module _ (text moved : List ℕ) (tokens shifted : List Piece) (same : spelled t
   same_parsed = ap₂ outcome_of same_bad same_kinds
 
 -- ---- the tree, and where a fault is
-
-lt_after : (n m : ℕ) → nat_lt (1 + n) (suc m) ≡ nat_lt n m
-lt_after n m = grind (arith, nat_tests)
-
-lt_first : (m : ℕ) → true ≡ nat_lt 0 (suc m)
-lt_first m = grind (arith, nat_tests)
-
-is_some-cond : (b : Bool) (n : ℕ) → is_some (cond b (Some n) None) ≡ b
-is_some-cond true n = refl
-is_some-cond false n = refl
-
-any_here : (b r : Bool) (n m : ℕ) → r ≡ is_some (cond (nat_lt n m) (Some n) None)
-    → (b || r) ≡ is_some (cond (nat_lt (cond (not b) (1 + n) 0) (suc m)) (Some (cond (not b) (1 + n) 0)) None)
-any_here true r n m h = lt_first m ∙ sym (is_some-cond (nat_lt 0 (suc m)) 0)
-any_here false r n m h = h ∙ is_some-cond (nat_lt n m) n ∙ sym (lt_after n m) ∙ sym (is_some-cond (nat_lt (1 + n) (suc m)) (1 + n))
-
-any_position : {X : Type 0} (p : X → Bool) (xs : List X) → list_any p xs ≡ is_some (position p xs)
-any_position p [] = refl
-any_position p (x ∷ xs) = any_here (p x) (list_any p xs) _ (length xs) (any_position p xs)
 
 tree_by_tree : (o : Option Item) (blamed : ℕ) → sound_tree (outcome_by_tree o blamed) ≡ o
 tree_by_tree (Some tree) blamed = refl

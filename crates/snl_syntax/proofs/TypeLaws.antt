@@ -1,5 +1,6 @@
 -- The laws of types and of their names: no look ahead, completion, reading again.
 use Rattle.std.proofs.Common.{◌≡◌, ℕ, Bool, true, false, List, [], ◌∷◌, Option, Some, None, Ok, refl, sym, ap, subst, ◌∙◌}
+use Rattle.std.proofs.lemmas.Bool.{false_from_ne_true}
 use Rattle.snl_lex.specs.declared.kind.Kind.{Kind}
 use Rattle.snl_lex.specs.declared.kind.Kind.TheVariants as kind
 use Rattle.snl_syntax.specs.declared.tree.types.Integer.{Integer}
@@ -18,7 +19,7 @@ use Rattle.snl_syntax.specs.Grammar.Types.{Written, integer_words, IsInteger, Is
 use Rattle.snl_syntax.proofs.Same.{same_true}
 use Rattle.snl_syntax.proofs.Local.{Local, EatsSome, bind_local, choice_local, pure_local, refuse_local, expect_local, accept_local, many_local, bind_eats, expect_eats, eats_some, none_eats}
 use Rattle.snl_syntax.proofs.Viable.{Makes, Viable, Completable, Exists, Both, both, Next, Lists, IsNothing, bind_completable, into_completable, choice_viable, refuse_viable, expect_completable, accept_completable, pure_completable, many_completable}
-use Rattle.snl_syntax.proofs.Again.{ReadsBack, reads_back_at, bind_reads_back, pure_reads_back, expect_reads_back, first_reads_back, kind_first, Lacks, first_lacks, is_false, written_reads_back, many_reads_back, read}
+use Rattle.snl_syntax.proofs.Again.{ReadsBack, reads_back_at, bind_reads_back, pure_reads_back, expect_reads_back, first_reads_back, kind_first, Lacks, first_lacks, written_reads_back, many_reads_back, read}
 
 -- ---- no look ahead
 
@@ -305,7 +306,7 @@ first_base_stops x k rest h f = subst BaseStops (sym f.1) h
 
 stops_lack : (x : Kind) (k : List NumberedKind) → goes_on x ≡ true → BaseStops k → Lacks x k
 stops_lack x [] t h = tt
-stops_lack x (s ∷ k) t h = is_false (same s.0 x) (λ e. let g : goes_on s.0 ≡ goes_on x = ap goes_on (same_true s.0 x e) in let f : goes_on s.0 ≡ false = h in absurd cc)
+stops_lack x (s ∷ k) t h = false_from_ne_true (same s.0 x) (λ e. let g : goes_on s.0 ≡ goes_on x = ap goes_on (same_true s.0 x e) in let f : goes_on s.0 ≡ false = h in absurd cc)
 
 no_integer_kind : (d : Kind) → goes_on d ≡ false → begins_integer (Some d) ≡ false
 no_integer_kind kind.Char e = absurd cc

@@ -1,6 +1,8 @@
+pub mod Tiers
 pub mod Tokens
 pub mod Operators
 pub mod Steps
+pub mod Elements
 pub mod Reading
 pub mod Grammar
 pub mod Viability

@@ -11,8 +11,10 @@ mod array_lengths;
 mod initial_values;
 
 use crate::declaration::initial_values::init_part;
+use crate::lists::many;
+use crate::parts::single;
 use crate::stop::Stop;
-use crate::token_steps::{expect, kind_at, past, turns};
+use crate::token_steps::{expect, kind_at, past};
 use crate::tree::declaration::{Declaration, Declarator};
 use crate::tree::types::{Pointer, QualifiedType};
 use crate::types::{stars, type_of};
@@ -86,32 +88,6 @@ fn next_declarator(
     }
 }
 
-// { "," dcl }
-// , high = 2, step
-fn declarators(
-    alloc: Global,
-    kinds: &[Kind],
-    start: usize,
-    depth: usize,
-    found: Items<Declarator>,
-) -> Result<(Items<Declarator>, usize), Stop>
-    requires some { 0 < depth }
-    ensures { ReadsFrom kinds.now start result
-        (read.many (exprs.next_comma (spec.in_levels depth spec.declarator)) found) }
-{
-    let mut found = found;
-    let mut at = start;
-    for _turn in 0..turns(kinds, start) {
-        let (next, after) = next_declarator(alloc, kinds, at, depth)?;
-        at = after;
-        match next {
-            None => return Ok((found, at)),
-            Some(item) => found.push(item)?,
-        }
-    }
-    Ok((found, at))
-}
-
 // { "," dcl } ";"
 // , high = 2, step;
 fn more_declarators(
@@ -125,9 +101,14 @@ fn more_declarators(
     requires some { 0 < depth }
     ensures { ReadsFrom kinds.now at result (spec.in_levels depth spec.more_declarators of first) }
 {
-    let mut found = Items::new(alloc);
-    found.push(first)?;
-    let (declarators, at) = declarators(alloc, kinds, at, depth, found)?;
+    let found = single(alloc, first)?;
+    let (declarators, at) = many(
+        alloc,
+        kinds,
+        at,
+        found,
+        |kinds, at| next_declarator(alloc, kinds, at, depth),
+    )?;
     past(kinds, at, Kind::Semicolon, Declaration { of, declarators })
 }
 

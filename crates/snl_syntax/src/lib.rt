@@ -11,6 +11,7 @@ mod grammar_laws;
 mod item;
 mod item_cut;
 mod item_laws;
+mod lists;
 mod marks;
 mod operator;
 mod outcome;

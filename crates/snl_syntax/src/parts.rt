@@ -1,31 +1,46 @@
 //! Puts parts of a tree together. The parts are of any type, so that the proof of what is freed on
 //! the way out looks into no tree.
 
-ghost use Rattle.std.specs.Prelude.{◌≡◌, ◌++◌, IfOk, option_to_list};
+ghost use Rattle.std.specs.Prelude.{◌≡◌, [], ◌∷◌, ◌++◌, IfOk, option_to_list};
 
 use sqlite_items::{Boxed, Items};
 use std::alloc::{AllocError, Global};
 
-/// The elements of a list, with a last one if there is one.
-pub fn ended<T: Drop>(found: Items<T>, last: Option<T>) -> Result<Items<T>, AllocError>
-    ensures { IfOk result (λ all. all ≡ found ++ option_to_list last) }
+/// A list of one element, with room for no more.
+pub fn single<T: Drop>(alloc: Global, item: T) -> Result<Items<T>, AllocError>
+    ensures { IfOk result (λ all. all ≡ item ∷ []) }
 {
-    let mut found = found;
-    if let Some(item) = last {
-        found.push(item)?;
+    let mut items = Vec::with_capacity(alloc, 1)?;
+    items.push(item)?;
+    Ok(Items::from_vec(items))
+}
+
+/// The elements of a list, and one more. Most lists have one element, so the first one gets room
+/// for itself alone.
+pub fn with<T: Drop>(alloc: Global, found: Items<T>, item: T) -> Result<Items<T>, AllocError>
+    ensures { IfOk result (λ all. all ≡ found ++ item ∷ []) }
+{
+    if found.is_empty() {
+        return single(alloc, item);
     }
+    let mut found = found;
+    found.push(item)?;
     Ok(found)
 }
 
-/// The same, with a value that comes after them.
-pub fn ended_beside<T: Drop, A: Drop>(
+/// The elements of a list, with a last one if there is one, and a value that comes after them.
+pub fn ended<T: Drop, A: Drop>(
+    alloc: Global,
     found: Items<T>,
     last: Option<T>,
     value: A,
 ) -> Result<(Items<T>, A), AllocError>
     ensures { IfOk result (λ all. all ≡ (found ++ option_to_list last, value)) }
 {
-    let all = ended(found, last)?;
+    let all = match last {
+        Some(item) => with(alloc, found, item)?,
+        None => found,
+    };
     Ok((all, value))
 }
 

@@ -10,9 +10,10 @@ ghost use Rattle.snl_lex.specs.declared.kind.Kind.TheVariants as kind;
 
 use crate::clause::{clause, foreign, option_line};
 use crate::declaration::declaration;
+use crate::lists::many;
 use crate::statement::{before_paren, block};
 use crate::stop::Stop;
-use crate::token_steps::{beside, expect, kind_at, turns};
+use crate::token_steps::{beside, expect, kind_at};
 use crate::tree::state::{StateMember, Target, Transition};
 use crate::tree::statement::Member;
 use snl_lex::Kind;
@@ -251,17 +252,13 @@ fn members(
     requires some { 0 < depth }
     ensures { ReadsFrom kinds.now start result (read.many (spec.next_member depth) []) }
 {
-    let mut found = Items::new(alloc);
-    let mut at = start;
-    for _turn in 0..turns(kinds, start) {
-        let (next, after) = next_member(alloc, kinds, at, depth)?;
-        at = after;
-        match next {
-            None => return Ok((found, at)),
-            Some(item) => found.push(item)?,
-        }
-    }
-    Ok((found, at))
+    many(
+        alloc,
+        kinds,
+        start,
+        Items::new(alloc),
+        |kinds, at| next_member(alloc, kinds, at, depth),
+    )
 }
 
 /// A state's members in braces, within which so many levels are left.

@@ -8,8 +8,9 @@ ghost use Rattle.snl_syntax.specs.Steps as read;
 ghost use Rattle.snl_syntax.specs.Steps.{ReadsFrom};
 ghost use Rattle.snl_syntax.specs.Reading.Types as spec;
 
+use crate::lists::many;
 use crate::stop::Stop;
-use crate::token_steps::{accept, expect, kind_at, turns};
+use crate::token_steps::{accept, expect, kind_at};
 use crate::tree::types::{Base, Integer, Pointer, QualifiedType, TypeName};
 use snl_lex::Kind;
 use sqlite_items::Items;
@@ -243,17 +244,13 @@ fn next_pointer(kinds: &[Kind], at: usize) -> Result<(Option<Pointer>, usize), S
 pub fn stars(alloc: Global, kinds: &[Kind], start: usize) -> Result<(Items<Pointer>, usize), Stop>
     ensures { ReadsFrom kinds.now start result spec.stars }
 {
-    let mut found = Items::new(alloc);
-    let mut at = start;
-    for _turn in 0..turns(kinds, start) {
-        let (next, after) = next_pointer(kinds, at)?;
-        at = after;
-        match next {
-            None => return Ok((found, at)),
-            Some(item) => found.push(item)?,
-        }
-    }
-    Ok((found, at))
+    many(
+        alloc,
+        kinds,
+        start,
+        Items::new(alloc),
+        |kinds, at| next_pointer(kinds, at),
+    )
 }
 
 /// A type and the stars after it.

@@ -4,11 +4,12 @@ use Rattle.std.specs.Prelude.{if◌then◌else◌}
 use Rattle.std.specs.List.{All, AllByRecursion as Each, AllPairs, cons_option, filter_map, position, position_or_len}
 use Rattle.std.specs.Option.{option_map_or}
 use Rattle.std.proofs.lemmas.Bool.{and_parts, eq-eqb, eqb-true, lt-ltb, ne_eqb}
-use Rattle.std.proofs.lemmas.List.{append-nil}
 use Rattle.std.proofs.lemmas.List.Elements.{All-append, All-from_recursion, All-get_or, All-map, All-nil, All-weaker, recursion_from_All}
-use Rattle.std.proofs.lemmas.List.Quantifiers.{all_pairs_push, position-Some}
+use Rattle.std.proofs.lemmas.List.Quantifiers.{position-Some}
 use Rattle.std.proofs.lemmas.List.Sums.{position_or_len_is}
 use Rattle.std.proofs.lemmas.Option.{get_or_from_slice_get, none-some, same_Some, slice_get-get_or, slice_get_within}
+use Rattle.std.proofs.lemmas.List.Kept.{AllPairs-from_increasing}
+use Rattle.snl_scope.specs.BelowLaws.{all_below_rises, each_below, each_passing}
 use Rattle.snl_codes.specs.declared.code.Code.TheVariants.{E08, E09}
 use Rattle.snl_scope.specs.declared.facts.Declaration.{Declaration}
 use Rattle.snl_scope.specs.declared.facts.Scope.{Scope}
@@ -104,33 +105,16 @@ flag_declared ss number h = by_entry (slice_get (entries ss) number) refl h
 -- ---- lists of numbers that pass
 
 all_pass : (test : ℕ → Bool) (n : ℕ) → All (λ k. test k ≡ true) (all_below test n)
-all_pass test zero = All-nil (λ k. test k ≡ true)
-all_pass test (suc n) = All-append (λ k. test k ≡ true) (all_below test n) (if test n then n ∷ [] else []) (all_pass test n) (last (test n) refl)
-  where
-    last : (b : Bool) → test n ≡ b → All (λ k. test k ≡ true) (if b then n ∷ [] else [])
-    last true e = All-from_recursion (λ k. test k ≡ true) (n ∷ []) (e, tt)
-    last false e = All-nil (λ k. test k ≡ true)
+all_pass test n = All-from_recursion (λ k. test k ≡ true) (all_below test n) (each_passing (λ k. test k ≡ true) test n (λ k is. is))
 
 all_under : (test : ℕ → Bool) (n : ℕ) → All (λ k. k < n) (all_below test n)
-all_under test zero = All-nil (λ k. k < 0)
-all_under test (suc n) =
-    All-append (λ k. k < suc n) (all_below test n) (if test n then n ∷ [] else [])
-    (All-weaker (λ k. k < n) (λ k. k < suc n) (λ k h. omega (arith, h)) (all_below test n) (all_under test n)) (last (test n))
-  where
-    last : (b : Bool) → All (λ k. k < suc n) (if b then n ∷ [] else [])
-    last true = All-from_recursion (λ k. k < suc n) (n ∷ []) (omega arith, tt)
-    last false = All-nil (λ k. k < suc n)
+all_under test n = All-from_recursion (λ k. k < n) (all_below test n) (each_below (λ k. k < n) test n (λ k l is. l))
 
 abbrev Rise : List ℕ → Type 0
 Rise numbers = AllPairs (λ a b. a < b) numbers
 
 all_rise : (test : ℕ → Bool) (n : ℕ) → Rise (all_below test n)
-all_rise test zero = λ i j d lt within. absurd (omega (arith, within))
-all_rise test (suc n) = one_more (test n) (all_rise test n)
-  where
-    one_more : (b : Bool) → Rise (all_below test n) → Rise (all_below test n ++ (if b then n ∷ [] else []))
-    one_more true h = all_pairs_push (λ a b. a < b) (all_below test n) n h (λ k d lt. All-get_or (λ m. m < n) (all_below test n) k d lt (all_under test n))
-    one_more false h = subst Rise (sym (append-nil (all_below test n))) h
+all_rise test n = AllPairs-from_increasing (all_below test n) (all_below_rises test n)
 
 -- ---- numbers by places
 

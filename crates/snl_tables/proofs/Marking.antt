@@ -1,11 +1,12 @@
 -- The first marked number, and the list of marked numbers.
-use Rattle.std.proofs.Common.{◌≡◌, ◌≢◌, ℕ, zero, suc, ◌+◌, ◌-◌, ◌<◌, ◌≤◌, List, [], ◌∷◌, Bool, true, false, cond, ltb, length, take, drop, get_or, filter, Option, Some, None, refl, sym, ap, ◌∙◌, arith, length-drop, position, set, length-set}
+use Rattle.std.proofs.Common.{◌≡◌, ◌≢◌, ℕ, zero, suc, ◌+◌, ◌-◌, ◌<◌, ◌≤◌, List, [], ◌∷◌, Bool, true, false, length, take, drop, get_or, filter, Option, Some, None, refl, sym, ap, ◌∙◌, arith, length-drop, position, set, length-set}
 use Rattle.std.proofs.Common.{inl, inr, ◌==◌, MatchOption, is_none}
 use Rattle.std.proofs.lemmas.Bool.{cases_eq}
 use Rattle.std.proofs.lemmas.Bool.Decides.{nat_tests}
 use Rattle.std.proofs.lemmas.List.{get_or-drop, get_or-set_other, get_or-set_same, get_or-take, length-take}
 use Rattle.std.proofs.lemmas.List.Sums.{fails_before_first, passes_at_first}
 use Rattle.std.specs.List.{position_or_len, range_with_len}
+use Rattle.snl_facts.specs.Positions.{place_found, place_missed}
 use Rattle.snl_tables.specs.Marks.{AreKept, IsFirstMarked, NoneMarked, is_marked, marked}
 
 -- ---- the first mark of a part of the marks
@@ -17,22 +18,16 @@ first_place marks = position_or_len (λ mark. mark) marks
 part_mark : (marks : List Bool) (from to n : ℕ) → from ≤ n → n < to → get_or (take (to - from) (drop from marks)) (n - from) false ≡ is_marked marks n
 part_mark marks from to n h k = get_or-take (to - from) (drop from marks) (n - from) false (omega arith) ∙ get_or-drop from marks (n - from) false ∙ ap (λ (m : ℕ). get_or marks m false) (omega arith)
 
-no_place : (a n : ℕ) → cond (ltb a n) (Some a) None ≡ None → n ≤ a
-no_place a n h = grind (arith, nat_tests)
-
-found_place : (a n i : ℕ) → cond (ltb a n) (Some a) None ≡ Some i → (a ≡ i) × (i < n)
-found_place a n i h = grind (arith, nat_tests)
-
 pub no_first : (marks : List Bool) (from to : ℕ) → to ≤ length marks → position (λ (mark : Bool). mark) (take (to - from) (drop from marks)) ≡ None → NoneMarked marks from to
 no_first marks from to inside h n from_on below =
     let part : List Bool = take (to - from) (drop from marks) in
-    let size : length part ≤ first_place part = no_place (first_place part) (length part) h in
+    let size : length part ≤ first_place part = place_missed (first_place part) (length part) h in
     sym (part_mark marks from to n from_on below) ∙ fails_before_first (λ mark. mark) part (n - from) false (omega (arith, size, length-take (to - from) (drop from marks), length-drop from marks))
 
 pub is_first : (marks : List Bool) (from to place : ℕ) → from ≤ to → to ≤ length marks → position (λ (mark : Bool). mark) (take (to - from) (drop from marks)) ≡ Some place → IsFirstMarked marks from (from + place)
 is_first marks from to place ordered inside h =
     let part : List Bool = take (to - from) (drop from marks) in
-    let at = found_place (first_place part) (length part) place h in
+    let at = place_found (first_place part) (length part) place h in
     let here : first_place part ≡ place = at.0 in
     let short : place < to - from = omega (arith, at.1, length-take (to - from) (drop from marks)) in
     let inner : first_place part < length part = omega (arith, at.0, at.1) in

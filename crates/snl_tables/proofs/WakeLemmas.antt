@@ -5,6 +5,7 @@ use Rattle.std.proofs.lemmas.Bool.Decides.{nat_tests}
 use Rattle.std.proofs.lemmas.List.{length-replicate, get_or-replicate, get_or-set_other, get_or-set_same, get_or_past}
 use Rattle.std.proofs.lemmas.List.Folds.{list_any_more}
 use Rattle.std.specs.List.{list_any, range_with_len}
+use Rattle.std.proofs.Math.Bool.{or-false, or-true}
 use Rattle.snl_tables.specs.declared.rows.StateRow.{StateRow}
 use Rattle.snl_tables.specs.declared.rows.Tables.{Tables}
 use Rattle.snl_tables.specs.declared.rows.WakeUp.{WakeUp}
@@ -14,17 +15,9 @@ use Rattle.snl_tables.proofs.Marking.{filter_same, marked_none}
 
 -- ---- sets
 
-or_true : (a : Bool) → (a || true) ≡ true
-or_true true = refl
-or_true false = refl
-
 or_true_right : (a b : Bool) → (a || (b || true)) ≡ true
 or_true_right true b = refl
-or_true_right false b = or_true b
-
-or_false_right : (a : Bool) → (a || false) ≡ a
-or_false_right true = refl
-or_false_right false = refl
+or_true_right false b = or-true b
 
 pub marked_new : (count : ℕ) → marked (replicate count false) ≡ []
 marked_new count = marked_none (replicate count false) (λ n a b. get_or-replicate count n false false (omega (arith, length-replicate count false)))
@@ -64,7 +57,7 @@ inserts_more old new numbers i number h is inserted = record {
     each n below (inr other) =
         let here : is_marked (set new number true) n ≡ is_marked new n = get_or-set_other new number n true false other in
         let test : nat_eq n number ≡ false = grind (arith, nat_tests) in
-        rw (here, more n, test, inserted.each n below) (ap (λ (b : Bool). is_marked old n || b) (sym (or_false_right (holds (take i numbers) n))))
+        rw (here, more n, test, inserted.each n below) (ap (λ (b : Bool). is_marked old n || b) (sym (or-false (holds (take i numbers) n))))
 
 -- what was seen is put in already
 pub seen_inserted : (variables : List (List ℕ)) (seen channels : List Bool) (number : ℕ) → AreSeen variables seen channels → is_marked seen number ≡ true → Inserts channels channels (channels_of variables number)
@@ -72,13 +65,13 @@ seen_inserted variables seen channels number are here = record { limit = refl; e
   where
     each : (n : ℕ) → n < length channels → (held : Bool) → holds (channels_of variables number) n ≡ held → is_marked channels n ≡ (is_marked channels n || holds (channels_of variables number) n)
     each n below true h = rw (are number n here below h) refl
-    each n below false h = rw h (sym (or_false_right (is_marked channels n)))
+    each n below false h = rw h (sym (or-false (is_marked channels n)))
 
 -- an unknown variable has no channels
 pub none_inserted : (variables : List (List ℕ)) (channels : List Bool) (number : ℕ) → length variables ≤ number → Inserts channels channels (channels_of variables number)
 none_inserted variables channels number past = record {
   limit = refl;
-  each = λ n below. rw (get_or_past variables number [] past) (sym (or_false_right (is_marked channels n)));
+  each = λ n below. rw (get_or_past variables number [] past) (sym (or-false (is_marked channels n)));
 }
 
 -- a variable was put in, and is seen
@@ -88,7 +81,7 @@ seen_more variables seen old new number are inserted variable n marked_there bel
     at ∙ elim (cases_eq variable number) [ inl same ↦ here same | inr other ↦ there other ]
   where
     here : variable ≡ number → (is_marked old n || holds (channels_of variables number) n) ≡ true
-    here same = ap (λ (v : ℕ). is_marked old n || holds (channels_of variables v) n) (sym same) ∙ ap (λ (b : Bool). is_marked old n || b) held ∙ or_true (is_marked old n)
+    here same = ap (λ (v : ℕ). is_marked old n || holds (channels_of variables v) n) (sym same) ∙ ap (λ (b : Bool). is_marked old n || b) held ∙ or-true (is_marked old n)
 
     there : (variable ≡ number → ⊥) → (is_marked old n || holds (channels_of variables number) n) ≡ true
     there other = ap (λ (b : Bool). b || holds (channels_of variables number) n) (are variable n (sym (get_or-set_other seen number variable true false other) ∙ marked_there) (omega (arith, inserted.limit)) held)

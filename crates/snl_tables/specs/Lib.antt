@@ -1,4 +1,5 @@
 pub mod Marks
 pub mod WakeSets
 pub mod Shifted
+pub mod ShiftedLaws
 pub mod Moved

@@ -56,7 +56,6 @@ pub struct Synced {
 }
 
 /// A channel: of an element of a variable, or of the whole variable. Channels are numbered from 0.
-#[derive(Drop)]
 pub struct ChannelRow {
     pub variable: Span,
     pub element: Option<u64>,
@@ -108,7 +107,6 @@ pub enum WakeUp {
 }
 
 /// A state of a state set. Of a faulty one no more is known than its name and its line.
-#[derive(Drop)]
 pub struct StateRow {
     pub name: Span,
     /// That of the item's first token.
@@ -135,7 +133,6 @@ pub struct StateBody {
 }
 
 /// A state set, and its states in the order of the text.
-#[derive(Drop)]
 pub struct SetRow {
     pub name: Span,
     /// That of the item's first token.
@@ -155,6 +152,44 @@ pub struct Tables {
     /// for all states that wake up on it. Most declarations have none.
     pub variables: Items<Items<usize>>,
     pub sets: Rows<SetRow>,
+}
+
+// By hand, so that whoever holds rows need not know what is in them to let them go.
+impl Drop for ChannelRow {
+    fn drop(self) {
+        let ChannelRow {
+            variable: _,
+            element: _,
+            scope: _,
+            pv: _,
+            is_monitored: _,
+            sync: _,
+        } = self;
+    }
+}
+
+impl Drop for StateRow {
+    fn drop(self) {
+        let StateRow {
+            name: _,
+            line: _,
+            mark: _,
+            options: _,
+            transitions: _,
+            gotos: _,
+            wake: _,
+        } = self;
+    }
+}
+
+impl Drop for SetRow {
+    fn drop(self) {
+        let SetRow {
+            name: _,
+            line: _,
+            states: _,
+        } = self;
+    }
 }
 
 // By hand, so that whoever holds tables need not know what is in their rows to let them go.

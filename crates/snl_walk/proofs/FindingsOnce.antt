@@ -19,7 +19,7 @@ use Rattle.snl_walk.specs.Passing.{passes}
 use Rattle.snl_walk.specs.Undeclared.{firsts_after, is_undeclared, undeclared}
 use Rattle.snl_walk.specs.Uses.{is_call, tokens_where}
 use Rattle.snl_walk.proofs.RulesHold.{wrong_hold}
-use Rattle.snl_walk.proofs.Pairs.{EachTwo, across, each-append, each-filter, each-map, each_unmap, each_weaker, pairs_from_two, two-append, two-filter, two-map, two_unmap, two_weaker}
+use Rattle.snl_facts.specs.Each.{EachTwo, across, each_append, each_by, each_filter, each_map, each_unmap, each_weaker, pairs_from_two, two_across, two_filter, two_map, two_unmap, two_weaker}
 
 abbrev Differ : {A : Type 0} → A → A → Type 0
 Differ a b = a ≢ b
@@ -59,10 +59,6 @@ module _ (outer : List ℕ → Option Outer) (misses : List ℕ → Bool) (name 
 abbrev Later : Occurrence → Occurrence → Type 0
 Later a b = a.token < b.token
 
-each_by : {A : Type 0} (P : A → Type 0) → ((x : A) → P x) → (xs : List A) → Each P xs
-each_by P h [] = tt
-each_by P h (x ∷ xs) = (h x, each_by P h xs)
-
 module _ (bytes : ℕ → List ℕ) (outer : List ℕ → Option Outer) (misses : List ℕ → Bool) where
   abbrev wrong_at : Occurrence → List Finding
   wrong_at o = found_wrong bytes outer misses o
@@ -71,23 +67,23 @@ module _ (bytes : ℕ → List ℕ) (outer : List ℕ → Option Outer) (misses 
   rules_of o = rules_at outer misses (bytes o.token) o o.what
 
   at_token : (o : Occurrence) → Each (λ f. f.token ≡ o.token) (wrong_at o)
-  at_token o = each-map (λ f. f.token ≡ o.token) (finding o.token) (rules_of o) (each_by (λ r. o.token ≡ o.token) (λ r. refl) (rules_of o))
+  at_token o = each_map (λ f. f.token ≡ o.token) (finding o.token) (rules_of o) (each_by (λ r. o.token ≡ o.token) (λ r. refl) (rules_of o))
 
   apart_at : (o : Occurrence) → EachTwo Differ (wrong_at o)
   apart_at o =
-      two-map Differ (finding o.token) (rules_of o)
+      two_map Differ (finding o.token) (rules_of o)
       (two_weaker Differ (λ r s. finding o.token r ≢ finding o.token s) (λ r s ne e. ne (ap (λ (f : Finding). f.code) e)) (rules_of o) (rules_apart outer misses (bytes o.token) o o.what))
 
   after : (n : ℕ) (os : List Occurrence) → Each (λ o. n < o.token) os → Each (λ f. n < f.token) (flat_map wrong_at os)
   after n [] h = tt
   after n (o ∷ os) h =
-      each-append (λ f. n < f.token) (wrong_at o) (flat_map wrong_at os)
+      each_append (λ f. n < f.token) (wrong_at o) (flat_map wrong_at os)
       (each_weaker (λ f. f.token ≡ o.token) (λ f. n < f.token) (λ f is. omega (arith, is, h.0)) (wrong_at o) (at_token o)) (after n os h.1)
 
   wrong_apart : (os : List Occurrence) → EachTwo Later os → EachTwo Differ (flat_map wrong_at os)
   wrong_apart [] h = tt
   wrong_apart (o ∷ os) h =
-      two-append Differ (wrong_at o) (flat_map wrong_at os) (apart_at o) (wrong_apart os h.1)
+      two_across Differ (wrong_at o) (flat_map wrong_at os) (apart_at o) (wrong_apart os h.1)
       (across Differ (λ f. f.token ≡ o.token) (λ f. o.token < f.token) (λ f g at later e. let same : f.token ≡ g.token = ap (λ (k : Finding). k.token) e in omega (arith, at, later, same)) (wrong_at o) (flat_map wrong_at os) (at_token o) (after o.token os h.0))
 
   abbrev OtherFinding : Finding → Type 0
@@ -121,25 +117,25 @@ module _ (bytes : ℕ → List ℕ) (outer : List ℕ → Option Outer) (misses 
   undeclared_apart : (os : List Occurrence) → EachTwo Later os → EachTwo Differ (map told_undeclared (undeclared bytes outer os))
   undeclared_apart os h =
       let test : Occurrence → Bool = λ o. is_undeclared outer (bytes o.token) o in
-      let rise : EachTwo (λ a b. a < b) (tokens_where test os) = two-map (λ a b. a < b) (λ (o : Occurrence). o.token) _ (two-filter Later test os h) in
-      two-map Differ told_undeclared (undeclared bytes outer os)
+      let rise : EachTwo (λ a b. a < b) (tokens_where test os) = two_map (λ a b. a < b) (λ (o : Occurrence). o.token) _ (two_filter Later test os h) in
+      two_map Differ told_undeclared (undeclared bytes outer os)
       (two_weaker (λ a b. a < b) (λ a b. told_undeclared a ≢ told_undeclared b) (λ a b less e. let same : a ≡ b = ap (λ (k : Finding). k.token) e in omega (arith, less, same)) (undeclared bytes outer os) (firsts_rise [] (tokens_where test os) rise))
 
   -- each finding is at an occurrence
   wrong_stand : (P : ℕ → Type 0) (os : List Occurrence) → Each P (tokens_of os) → Each (λ f. P f.token) (flat_map wrong_at os)
   wrong_stand P [] h = tt
   wrong_stand P (o ∷ os) h =
-      each-append (λ f. P f.token) (wrong_at o) (flat_map wrong_at os) (each-map (λ f. P f.token) (finding o.token) (rules_of o) (each_by (λ r. P o.token) (λ r. h.0) (rules_of o))) (wrong_stand P os h.1)
+      each_append (λ f. P f.token) (wrong_at o) (flat_map wrong_at os) (each_map (λ f. P f.token) (finding o.token) (rules_of o) (each_by (λ r. P o.token) (λ r. h.0) (rules_of o))) (wrong_stand P os h.1)
 
   each_where : (P : ℕ → Type 0) (test : Occurrence → Bool) (os : List Occurrence) → Each P (tokens_of os) → Each P (tokens_where test os)
-  each_where P test os h = each-map P (λ (o : Occurrence). o.token) (filter test os) (each-filter (λ (o : Occurrence). P o.token) test os (each_unmap P (λ (o : Occurrence). o.token) os h))
+  each_where P test os h = each_map P (λ (o : Occurrence). o.token) (filter test os) (each_filter (λ (o : Occurrence). P o.token) test os (each_unmap P (λ (o : Occurrence). o.token) os h))
 
   pub findings_stand : (P : ℕ → Type 0) (os : List Occurrence) → Each P (tokens_of os) → Each (λ f. P f.token) (findings bytes outer misses os)
   unfolding findings
   findings_stand P os h =
       let us : List ℕ = undeclared bytes outer os in
-      each-append (λ f. P f.token) (flat_map wrong_at os) (map told_undeclared us) (wrong_stand P os h)
-      (each-map (λ f. P f.token) told_undeclared us (each_first P [] (tokens_where (λ o. is_undeclared outer (bytes o.token) o) os) (each_where P (λ o. is_undeclared outer (bytes o.token) o) os h)))
+      each_append (λ f. P f.token) (flat_map wrong_at os) (map told_undeclared us) (wrong_stand P os h)
+      (each_map (λ f. P f.token) told_undeclared us (each_first P [] (tokens_where (λ o. is_undeclared outer (bytes o.token) o) os) (each_where P (λ o. is_undeclared outer (bytes o.token) o) os h)))
 
   pub findings_apart : (os : List Occurrence) → EachTwo (λ a b. a < b) (tokens_of os) → AllPairs (λ a b. a ≢ b) (findings bytes outer misses os)
   unfolding findings
@@ -147,6 +143,6 @@ module _ (bytes : ℕ → List ℕ) (outer : List ℕ → Option Outer) (misses 
       let later : EachTwo Later os = two_unmap (λ a b. a < b) (λ (o : Occurrence). o.token) os rise in
       let us : List ℕ = undeclared bytes outer os in
       pairs_from_two Differ (flat_map wrong_at os ++ map told_undeclared us)
-      (two-append Differ (flat_map wrong_at os) (map told_undeclared us) (wrong_apart os later) (undeclared_apart os later)
+      (two_across Differ (flat_map wrong_at os) (map told_undeclared us) (wrong_apart os later) (undeclared_apart os later)
       (across Differ OtherFinding (λ f. f.code ≡ W01) (λ f g other is e. other (ap (λ (k : Finding). k.code) e ∙ is)) (flat_map wrong_at os) (map told_undeclared us) (wrong_other os)
-      (each-map (λ (f : Finding). f.code ≡ W01) told_undeclared us (each_by (λ n. W01 ≡ W01) (λ n. refl) us))))
+      (each_map (λ (f : Finding). f.code ≡ W01) told_undeclared us (each_by (λ n. W01 ≡ W01) (λ n. refl) us))))

@@ -36,7 +36,7 @@ use Rattle.snl_walk.specs.Statements.{declaration_at}
 use Rattle.snl_walk.specs.Uses.{is_indexed}
 use Rattle.snl_walk.proofs.ExpressionLeaves.{FoundLeaves, found_at, found_indexed, seen_if, seen_in_lengths}
 use Rattle.snl_walk.proofs.Leaves.{none, leaves-append, leaves_before, leaves_after, leaves_below, leaves_between, leaves_in_parens, leaves_joined, leaves_rise, no_leaves, one_leaf, second_tokens}
-use Rattle.snl_walk.proofs.Pairs.{EachTwo, rising_from_two}
+use Rattle.snl_facts.specs.Each.{EachTwo, rising_from_two}
 use Rattle.snl_walk.proofs.StatementLeaves.{block_leaves, declaration_leaves}
 
 module _ (bytes : ℕ → List ℕ) where

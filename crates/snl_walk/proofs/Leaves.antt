@@ -5,7 +5,7 @@ use Rattle.snl_lex.specs.declared.kind.Kind.{Kind}
 use Rattle.snl_lex.specs.declared.kind.Kind.TheVariants as kind
 use Rattle.snl_syntax.specs.Spelling.Base.{Matches, Spelled, after, between, in_parens, joined, word}
 use Rattle.snl_syntax.specs.Tokens.{ahead, numbered}
-use Rattle.snl_walk.proofs.Pairs.{EachTwo, each_weaker}
+use Rattle.snl_facts.specs.Each.{EachTwo, each_weaker}
 
 -- a subscript that begins with an integer
 abbrev pub BeginsIndex : List Spelled → Type 0

@@ -4,7 +4,6 @@ pub mod Loops
 pub mod OccurrenceLoops
 pub mod Operands
 pub mod Branches
-pub mod Pairs
 pub mod Leaves
 pub mod ExpressionLeaves
 pub mod StatementLeaves

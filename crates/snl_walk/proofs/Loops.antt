@@ -1,14 +1,8 @@
 -- A loop that adds to a list: what was added, with what the rest gives, is what all of it gives.
-use Rattle.std.proofs.Common.{◌≡◌, ℕ, suc, ◌+◌, ◌<◌, ◌≤◌, List, [], ◌∷◌, ◌++◌, length, map, get_or, drop, refl, ap, sym, ◌∙◌, add-one, append-nil, append_assoc, drop-cons, drop_of_length-le, Bool, true, false, filter, cond}
-use Rattle.std.proofs.lemmas.List.{map-append}
+use Rattle.std.proofs.Common.{◌≡◌, ℕ, ◌+◌, ◌<◌, List, [], ◌∷◌, ◌++◌, length, map, get_or, drop, refl, ap, sym, ◌∙◌, append_assoc, Bool, true, false, filter, cond}
+use Rattle.std.proofs.lemmas.List.{drop_more, map-append}
 use Rattle.std.specs.List.{flat_map}
-
--- at one more, what is left is that and the rest
-pub left : {A : Type 0} (xs : List A) (i : ℕ) (x : A) → i < length xs → x ≡ get_or xs i x → drop i xs ≡ x ∷ drop (i + 1) xs
-left xs i x within at = drop-cons xs i x within ∙ ap (λ y. y ∷ drop (suc i) xs) (sym at) ∙ ap (λ n. x ∷ drop n xs) (sym (add-one i))
-
-pub left_at : {A : Type 0} (xs : List A) (i : ℕ) (d : A) → i < length xs → drop i xs ≡ get_or xs i d ∷ drop (i + 1) xs
-left_at xs i d within = drop-cons xs i d within ∙ ap (λ n. get_or xs i d ∷ drop n xs) (sym (add-one i))
+use Rattle.snl_facts.specs.Lists.{drop_here}
 
 -- what is added goes from what is left to what is there
 pub taken : {B : Type 0} (ys zs own before after all : List B) → ys ++ before ≡ all → before ≡ own ++ after → zs ≡ ys ++ own → zs ++ after ≡ all
@@ -22,7 +16,7 @@ pub one_more : {A B : Type 0} (gives : List A → List B) (own : A → List B) �
     (xs : List A) (i : ℕ) (x : A) (ys zs all : List B) → i < length xs → x ≡ get_or xs i x →
     ys ++ gives (drop i xs) ≡ all → zs ≡ ys ++ own x → zs ++ gives (drop (i + 1) xs) ≡ all
 one_more gives own step xs i x ys zs all within at =
-    λ was now. taken ys zs (own x) (gives (drop i xs)) (gives (drop (i + 1) xs)) all was (ap gives (left xs i x within at) ∙ step x (drop (i + 1) xs)) now
+    λ was now. taken ys zs (own x) (gives (drop i xs)) (gives (drop (i + 1) xs)) all was (ap gives (drop_here xs i x within at) ∙ step x (drop (i + 1) xs)) now
 
 pub one_more_of_each : {A B : Type 0} (own : A → List B) (xs : List A) (i : ℕ) (x : A) (ys zs all : List B) → i < length xs → x ≡ get_or xs i x →
     ys ++ flat_map own (drop i xs) ≡ all → zs ≡ ys ++ own x → zs ++ flat_map own (drop (i + 1) xs) ≡ all
@@ -34,10 +28,6 @@ pub one_more_mapped : {A N B : Type 0} (see : N → B) (gives : List A → List 
 one_more_mapped see gives own step =
     one_more (λ xs. map see (gives xs)) (λ x. map see (own x)) (λ x xs. ap (map see) (step x xs) ∙ map-append see (own x) (gives xs))
 
--- when nothing is left, all is there
-pub at_end : {A B : Type 0} (gives : List A → List B) → gives [] ≡ [] → (xs : List A) (i : ℕ) (ys all : List B) → length xs ≤ i → ys ++ gives (drop i xs) ≡ all → ys ≡ all
-at_end gives none xs i ys all past was = sym (append-nil ys) ∙ ap (λ l. ys ++ l) (sym (ap gives (drop_of_length-le xs past) ∙ none)) ∙ was
-
 -- of a list of which some are left out, by the value at a number
 module _ {A B : Type 0} (keeps : A → Bool) (see : A → B) where
   abbrev kept : List A → List B
@@ -48,10 +38,10 @@ module _ {A B : Type 0} (keeps : A → Bool) (see : A → B) where
   kept-cons x xs false e = ap (λ v. map see (cond v (x ∷ filter keeps xs) (filter keeps xs))) e
 
   pub kept_next : (xs : List A) (i : ℕ) (d : A) → i < length xs → keeps (get_or xs i d) ≡ true → kept (drop i xs) ≡ see (get_or xs i d) ∷ kept (drop (i + 1) xs)
-  kept_next xs i d within keeps_it = ap kept (left_at xs i d within) ∙ kept-cons (get_or xs i d) (drop (i + 1) xs) true keeps_it
+  kept_next xs i d within keeps_it = ap kept (drop_more xs i d within) ∙ kept-cons (get_or xs i d) (drop (i + 1) xs) true keeps_it
 
   pub kept_later : (xs : List A) (i : ℕ) (d : A) → i < length xs → keeps (get_or xs i d) ≡ false → kept (drop i xs) ≡ kept (drop (i + 1) xs)
-  kept_later xs i d within keeps_not = ap kept (left_at xs i d within) ∙ kept-cons (get_or xs i d) (drop (i + 1) xs) false keeps_not
+  kept_later xs i d within keeps_not = ap kept (drop_more xs i d within) ∙ kept-cons (get_or xs i d) (drop (i + 1) xs) false keeps_not
 
   pub one_kept : (xs : List A) (i : ℕ) (d : A) (ys zs all : List B) → i < length xs → keeps (get_or xs i d) ≡ true →
       ys ++ kept (drop i xs) ≡ all → zs ≡ ys ++ see (get_or xs i d) ∷ [] → zs ++ kept (drop (i + 1) xs) ≡ all

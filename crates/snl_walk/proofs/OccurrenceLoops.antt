@@ -11,7 +11,8 @@ use Rattle.snl_walk.specs.Once.{with_new}
 use Rattle.snl_walk.specs.Rules.{finding, found_wrong, rules_at}
 use Rattle.snl_walk.specs.Undeclared.{firsts_after, is_undeclared}
 use Rattle.snl_walk.specs.Uses.{is_target, leads_on, target_use, target_uses_after, tokens_where}
-use Rattle.snl_walk.proofs.Loops.{kept_later, kept_next, left_at, taken}
+use Rattle.std.proofs.lemmas.List.{drop_more}
+use Rattle.snl_walk.proofs.Loops.{kept_later, kept_next, taken}
 
 module _ (found : List Occurrence) (i : ℕ) (d : Occurrence) (within : i < length found) where
   abbrev here : Occurrence
@@ -24,13 +25,13 @@ module _ (found : List Occurrence) (i : ℕ) (d : Occurrence) (within : i < leng
       zs ≡ ys ++ target_use here.token led ∷ [] → zs ++ target_uses_after (leads_on here.what) rest ≡ all
   target_there led ys zs all is was now =
       taken ys zs (target_use here.token led ∷ []) (target_uses_after led (drop i found)) (target_uses_after (leads_on here.what) rest) all was
-      (ap (target_uses_after led) (left_at found i d within) ∙ ap (λ b. cond b (target_use here.token led ∷ []) [] ++ target_uses_after (leads_on here.what) rest) is) now
+      (ap (target_uses_after led) (drop_more found i d within) ∙ ap (λ b. cond b (target_use here.token led ∷ []) [] ++ target_uses_after (leads_on here.what) rest) is) now
 
   pub no_target_there : (led : Bool) (ys zs all : List TargetUse) → is_target here.what ≡ false → ys ++ target_uses_after led (drop i found) ≡ all →
       zs ≡ ys → zs ++ target_uses_after (leads_on here.what) rest ≡ all
   no_target_there led ys zs all is was same =
       ap (λ l. l ++ target_uses_after (leads_on here.what) rest) same
-      ∙ ap (λ l. ys ++ l) (sym (ap (target_uses_after led) (left_at found i d within) ∙ ap (λ b. cond b (target_use here.token led ∷ []) [] ++ target_uses_after (leads_on here.what) rest) is))
+      ∙ ap (λ l. ys ++ l) (sym (ap (target_uses_after led) (drop_more found i d within) ∙ ap (λ b. cond b (target_use here.token led ∷ []) [] ++ target_uses_after (leads_on here.what) rest) is))
       ∙ was
 
   module _ (bytes : ℕ → List ℕ) (outer : List ℕ → Option Outer) (name : List ℕ) (same_name : name ≡ bytes here.token) where
@@ -38,7 +39,7 @@ module _ (found : List Occurrence) (i : ℕ) (d : Occurrence) (within : i < leng
         zs ≡ ys ++ map (finding here.token) (rules_at outer misses name here here.what) → zs ++ flat_map (found_wrong bytes outer misses) rest ≡ all
     wrong_there misses ys zs all was now =
         taken ys zs (found_wrong bytes outer misses here) (flat_map (found_wrong bytes outer misses) (drop i found)) (flat_map (found_wrong bytes outer misses) rest) all was
-        (ap (flat_map (found_wrong bytes outer misses)) (left_at found i d within)) (now ∙ ap (λ n. ys ++ map (finding here.token) (rules_at outer misses n here here.what)) same_name)
+        (ap (flat_map (found_wrong bytes outer misses)) (drop_more found i d within)) (now ∙ ap (λ n. ys ++ map (finding here.token) (rules_at outer misses n here here.what)) same_name)
 
     abbrev undeclared_at : Occurrence → Bool
     undeclared_at o = is_undeclared outer (bytes o.token) o

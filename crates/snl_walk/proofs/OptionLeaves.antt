@@ -18,7 +18,7 @@ use Rattle.snl_syntax.specs.Spelling.States.{spell_state_member}
 use Rattle.snl_syntax.specs.Tokens.{ahead}
 use Rattle.snl_walk.specs.Options.{letters_in, letters_in_member}
 use Rattle.snl_walk.proofs.Leaves.{AreLeaves, leaves_after, leaves_before, leaves_below, leaves_joined, leaves_rise, no_leaves, one_leaf}
-use Rattle.snl_walk.proofs.Pairs.{EachTwo, pairs_from_two}
+use Rattle.snl_facts.specs.Each.{EachTwo, pairs_from_two}
 
 abbrev at : ℕ → ℕ
 at n = n

@@ -17,7 +17,7 @@ use Rattle.snl_walk.specs.Repeated.{IsApartFrom, IsNoRepetitionAt}
 use Rattle.snl_walk.specs.Rules.{finding, findings, found_wrong, is_repeated, rules_at, rules_at_call, rules_at_name, rules_at_use, when}
 use Rattle.snl_walk.specs.Undeclared.{undeclared}
 use Rattle.snl_walk.specs.Uses.{is_call}
-use Rattle.snl_walk.proofs.Pairs.{each-append, each-map}
+use Rattle.snl_facts.specs.Each.{each_append, each_by, each_map}
 
 -- ---- at one occurrence
 
@@ -30,7 +30,7 @@ module _ (P : Code → Type 0) (rule : (c : Code) → is_occurrence_code c ≡ t
   one b c is = when_told b c (λ t. rule c is)
 
   two : (a b : Bool) (c d : Code) → is_occurrence_code c ≡ true → is_occurrence_code d ≡ true → Each P (when a c ++ when b d)
-  two a b c d h k = each-append P (when a c) (when b d) (one a c h) (one b d k)
+  two a b c d h k = each_append P (when a c) (when b d) (one a c h) (one b d k)
 
   at_name : (name : List ℕ) (passed : Option Outer) (m : Manner) → Each P (rules_at_name name passed m)
   at_name name passed m = by (is_call m.follows)
@@ -41,17 +41,13 @@ module _ (P : Code → Type 0) (rule : (c : Code) → is_occurrence_code c ≡ t
 
   module _ (outer : List ℕ → Option Outer) (misses : List ℕ → Bool) (name : List ℕ) (o : Occurrence) where
     pub rules_hold : (is_repeated o.token o.means ≡ true → P E07) → (w : What) → Each P (rules_at outer misses name o w)
-    rules_hold again (what.Declaration is_wrong) = each-append P (when (is_repeated o.token o.means) E07) (when is_wrong _) (when_told _ E07 again) (one is_wrong _ refl)
+    rules_hold again (what.Declaration is_wrong) = each_append P (when (is_repeated o.token o.means) E07) (when is_wrong _) (when_told _ E07 again) (one is_wrong _ refl)
     rules_hold again (what.Change in_transition) = one _ _ refl
     rules_hold again (what.Jump in_loop) = one _ _ refl
     rules_hold again what.Target = one _ _ refl
     rules_hold again (what.Name m) = at_name name (passes outer name o.means) m
 
 -- ---- in all
-
-each_by : {A : Type 0} (P : A → Type 0) → ((x : A) → P x) → (xs : List A) → Each P xs
-each_by P h [] = tt
-each_by P h (x ∷ xs) = (h x, each_by P h xs)
 
 module _ (bytes : ℕ → List ℕ) (outer : List ℕ → Option Outer) (misses : List ℕ → Bool) (F : Finding → Type 0) where
   abbrev MayRepeat : Occurrence → Type 0
@@ -60,16 +56,16 @@ module _ (bytes : ℕ → List ℕ) (outer : List ℕ → Option Outer) (misses 
   pub wrong_hold : ((n : ℕ) (c : Code) → is_occurrence_code c ≡ true → F (finding n c)) → (os : List Occurrence) → Each MayRepeat os → Each F (flat_map (found_wrong bytes outer misses) os)
   wrong_hold rule [] h = tt
   wrong_hold rule (o ∷ os) h =
-      each-append F (found_wrong bytes outer misses o) (flat_map (found_wrong bytes outer misses) os)
-      (each-map F (finding o.token) (rules_at outer misses (bytes o.token) o o.what)
+      each_append F (found_wrong bytes outer misses o) (flat_map (found_wrong bytes outer misses) os)
+      (each_map F (finding o.token) (rules_at outer misses (bytes o.token) o o.what)
       (rules_hold (λ c. F (finding o.token c)) (rule o.token) outer misses (bytes o.token) o h.0 o.what))
       (wrong_hold rule os h.1)
 
   pub findings_hold : ((n : ℕ) (c : Code) → is_occurrence_code c ≡ true → F (finding n c)) → ((n : ℕ) → F (finding n W01)) → (os : List Occurrence) → Each MayRepeat os → Each F (findings bytes outer misses os)
   unfolding findings
   findings_hold rule none os h =
-      each-append F (flat_map (found_wrong bytes outer misses) os) (map (λ n. finding n W01) (undeclared bytes outer os)) (wrong_hold rule os h)
-      (each-map F (λ n. finding n W01) (undeclared bytes outer os) (each_by (λ n. F (finding n W01)) none (undeclared bytes outer os)))
+      each_append F (flat_map (found_wrong bytes outer misses) os) (map (λ n. finding n W01) (undeclared bytes outer os)) (wrong_hold rule os h)
+      (each_map F (λ n. finding n W01) (undeclared bytes outer os) (each_by (λ n. F (finding n W01)) none (undeclared bytes outer os)))
 
 -- ---- codes of rules
 

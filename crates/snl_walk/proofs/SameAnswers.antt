@@ -13,7 +13,7 @@ use Rattle.snl_walk.specs.Passing.{passes}
 use Rattle.snl_walk.specs.Rules.{finding, findings, found_wrong, rules_at, rules_at_call, rules_at_use, when}
 use Rattle.snl_walk.specs.Undeclared.{firsts_after, is_built_in, is_undeclared, undeclared}
 use Rattle.snl_walk.specs.Uses.{is_call, is_target, is_use, tokens_where}
-use Rattle.snl_walk.proofs.Pairs.{each_both, each_weaker}
+use Rattle.snl_facts.specs.Each.{each_both, each_weaker}
 
 -- what holds at the occurrences that pass a test
 each_passing : (P : ℕ → Type 0) (test : Occurrence → Bool) (os : List Occurrence) → Each P (tokens_where test os) → Each (λ o. test o ≡ true → P o.token) os

@@ -1,7 +1,7 @@
 //! What the built-in functions want as their first argument.
 
 ghost use Rattle.std.specs.Prelude.{◌≡◌};
-ghost use Rattle.snl_walk.specs.Calls.{asks_for_channel, asks_for_flag, role_by, role_in};
+ghost use Rattle.snl_walk.specs.Calls.{acts_on_channel, asks_for_channel, asks_for_flag, role_by, role_in, tells_of_channel};
 ghost use Rattle.snl_walk.specs.Tokens.{IsSource, bytes_in};
 
 use crate::occurrence::ArgumentRole;
@@ -16,19 +16,30 @@ fn asks_for_flag(name: &[u8]) -> bool
         || name == b"efTestAndClear".as_slice()
 }
 
-fn asks_for_channel(name: &[u8]) -> bool
-    ensures { result ≡ asks_for_channel name.now }
+fn acts_on_channel(name: &[u8]) -> bool
+    ensures { result ≡ acts_on_channel name.now }
 {
     name == b"pvGet".as_slice()
         || name == b"pvPut".as_slice()
         || name == b"pvMonitor".as_slice()
         || name == b"pvStopMonitor".as_slice()
         || name == b"pvAssign".as_slice()
-        || name == b"pvConnected".as_slice()
+}
+
+fn tells_of_channel(name: &[u8]) -> bool
+    ensures { result ≡ tells_of_channel name.now }
+{
+    name == b"pvConnected".as_slice()
         || name == b"pvAssigned".as_slice()
         || name == b"pvStatus".as_slice()
         || name == b"pvSeverity".as_slice()
         || name == b"pvTimeStamp".as_slice()
+}
+
+fn asks_for_channel(name: &[u8]) -> bool
+    ensures { result ≡ asks_for_channel name.now }
+{
+    acts_on_channel(name) || tells_of_channel(name)
 }
 
 fn role_by(name: &[u8]) -> ArgumentRole

@@ -1,9 +1,9 @@
 //! What is found in the statements of an item: a tree comes in, occurrences go out, in the order of
 //! the text.
 
-ghost use Rattle.std.specs.Prelude.{◌≡◌, ◌++◌, IfOk, OnOk};
+ghost use Rattle.std.specs.Prelude.{◌≡◌, [], ◌∷◌, ◌++◌, IfOk, OnOk};
 ghost use Rattle.snl_walk.specs.Tokens.{IsSource, bytes_in};
-ghost use Rattle.snl_walk.specs.Statements.{change, content_of, declaration_at, found_in_block, found_in_declaration, found_in_declarator, found_in_head, found_in_stmt, has_more, in_loop, jump};
+ghost use Rattle.snl_walk.specs.Statements.{change, content_of, declaration_at, found_in_block, found_in_branches, found_in_declaration, found_in_declarator, found_in_head, found_in_stmt, has_more, in_loop, jump, last_of};
 ghost use Rattle.snl_walk.specs.Scopes.{under_names};
 
 use crate::declares::{declared_by_block, is_event_flag};
@@ -14,6 +14,7 @@ use crate::visible::Visible;
 use snl_cut::OutOfMemory;
 use snl_syntax::tree::declaration::{Declaration, Declarator};
 use snl_syntax::tree::statement::{ForHead, Member, Stmt};
+use sqlite_items::Boxed;
 
 /// Takes in what a scope declares: its first declaration comes first.
 pub(crate) fn enter<'a>(
@@ -121,16 +122,18 @@ fn in_loop(context: Context) -> Context
     }
 }
 
-fn jump(word: usize, context: Context) -> Occurrence
-    ensures { result ≡ jump word context }
+// Adds a `break` or a `continue`.
+fn add_jump(word: usize, context: Context, found: &mut Vec<Occurrence>) -> Result<(), OutOfMemory>
+    ensures { OnOk result (found.new.items ≡ found.old.items ++ jump word context ∷ []) }
 {
-    Occurrence {
+    found.push(Occurrence {
         token: word,
         what: What::Jump {
             in_loop: context.in_loop,
         },
         means: None,
-    }
+    })?;
+    Ok(())
 }
 
 // Adds a statement `state NAME;`.
@@ -181,10 +184,7 @@ fn add_statement<'a>(
                 add_expr(source, names, false, &arm.0, plain(), found)?;
                 add_statement(source, names, context, &arm.1, found)?;
             }
-            match last {
-                Some(last) => add_statement(source, names, context, last.get(), found),
-                None => Ok(()),
-            }
+            add_last(source, names, context, last, found)
         }
         Stmt::While(condition, body) => {
             add_expr(source, names, false, condition, plain(), found)?;
@@ -194,17 +194,31 @@ fn add_statement<'a>(
             add_head(source, names, head.get(), found)?;
             add_statement(source, names, in_loop(context), body.get(), found)
         }
-        Stmt::Break(word) => {
-            found.push(jump(*word, context))?;
-            Ok(())
-        }
-        Stmt::Continue(word) => {
-            found.push(jump(*word, context))?;
-            Ok(())
-        }
+        Stmt::Break(word) | Stmt::Continue(word) => add_jump(*word, context, found),
         Stmt::Return(value) => add_optional(source, names, false, value, found),
         Stmt::State { word, name } => add_change(*word, *name, context, found),
         Stmt::Empty | Stmt::CCode(_) => Ok(()),
+    }
+}
+
+// Adds what is found after the last `else` of a choice.
+#[cycle(statements)]
+fn add_last<'a>(
+    source: &Source<'a>,
+    names: &mut Visible<'a>,
+    context: Context,
+    last: &Option<Boxed<Stmt>>,
+    found: &mut Vec<Occurrence>,
+) -> Result<(), OutOfMemory>
+    requires { IsSource source.now.text.now source.now.tokens.now }
+    ensures found { OnOk result (found.new.items ≡ found.old.items
+        ++ found_in_branches (bytes_in source.now) [] (last_of (bytes_in source.now) last.now)
+        names.old context) }
+    ensures names { OnOk result (names.new ≡ names.old) }
+{
+    match last {
+        Some(last) => add_statement(source, names, context, last.get(), found),
+        None => Ok(()),
     }
 }
 

@@ -19,8 +19,8 @@ fn between_quotes(string: &[u8]) -> &[u8]
     &string[1..string.len() - 1]
 }
 
-/// What is between the quotes of strings, joined.
-pub(crate) fn joined(source: &Source, strings: &[usize]) -> Result<Name, OutOfMemory>
+// What is between the quotes of strings, one after another.
+fn joined_all(source: &Source, strings: &[usize]) -> Result<Name, OutOfMemory>
     requires { IsSource source.now.text.now source.now.tokens.now }
     ensures { IfOk result (λ name. name
         ≡ joined source.now.text.now source.now.tokens.now strings.now) }
@@ -35,4 +35,17 @@ pub(crate) fn joined(source: &Source, strings: &[usize]) -> Result<Name, OutOfMe
         }
     }
     Name::new(source.alloc, &bytes)
+}
+
+/// What is between the quotes of strings, joined. Nearly all names are of one string, and are
+/// copied once.
+pub(crate) fn joined(source: &Source, strings: &[usize]) -> Result<Name, OutOfMemory>
+    requires { IsSource source.now.text.now source.now.tokens.now }
+    ensures { IfOk result (λ name. name
+        ≡ joined source.now.text.now source.now.tokens.now strings.now) }
+{
+    match strings {
+        [string] => Name::new(source.alloc, between_quotes(source.bytes(*string))),
+        _ => joined_all(source, strings),
+    }
 }

@@ -7,6 +7,7 @@ ghost use Rattle.snl_check.specs.Collected.{IsRowSource, assigned, items_in, ove
 ghost use Rattle.snl_item_check.specs.Items.{tokens_in};
 
 use crate::rows::item_clauses::ResolvedClause;
+use crate::rows::room::with_room;
 use crate::rows::row_source::RowSource;
 use snl_cut::OutOfMemory;
 use snl_syntax::tree::clause::{Channel, Clause};
@@ -136,7 +137,7 @@ pub(crate) fn assigned_channels<'a>(
     ensures { IfOk result (λ channels. map assigned channels.items
         ≡ over row_source.now assigned_channels) }
 {
-    let mut channels = Vec::new(row_source.program.alloc);
+    let mut channels = with_room(row_source.program.alloc, row_source.clauses.len())?;
     for clause in row_source.clauses {
         add_clause(row_source, *clause, &mut channels)?;
     }

@@ -6,6 +6,7 @@ ghost use Rattle.std.specs.List.{flat_map};
 ghost use Rattle.snl_check.specs.Clauses.{clause_in_member, clauses_in_tree, item_clause, item_clauses, item_clauses_if, resolved_clauses};
 ghost use Rattle.snl_check.specs.Collected.{AreTextItems, items_in, placed, resolved};
 
+use crate::rows::room::with_room;
 use crate::rows::text_items::TextItems;
 use snl_cut::OutOfMemory;
 use snl_scope::{ClauseLink, Links};
@@ -69,13 +70,16 @@ fn add_item<'a>(
     }
 }
 
-// The clauses of all items, in the order of the text.
-fn item_clauses<'a>(program: &TextItems<'a>) -> Result<Vec<PlacedClause<'a>>, OutOfMemory>
+// The clauses of all items, in the order of the text. Room is made for so many.
+fn item_clauses<'a>(
+    program: &TextItems<'a>,
+    room: usize,
+) -> Result<Vec<PlacedClause<'a>>, OutOfMemory>
     requires { AreTextItems program.now }
     ensures { IfOk result (λ clauses. map placed clauses.items
         ≡ item_clauses (items_in program.now)) }
 {
-    let mut clauses = Vec::new(program.alloc);
+    let mut clauses = with_room(program.alloc, room)?;
     for item in 0..program.trees.len() {
         add_item(item, program.tree(item), &mut clauses)?;
     }
@@ -91,9 +95,9 @@ pub(crate) fn resolved_clauses<'a>(
     ensures { IfOk result (λ clauses. map resolved clauses.items
         ≡ resolved_clauses (items_in program.now) links.now.outlines) }
 {
-    let placed = item_clauses(program)?;
     let links = links.clauses();
-    let mut clauses = Vec::new(program.alloc);
+    let placed = item_clauses(program, links.len())?;
+    let mut clauses = with_room(program.alloc, links.len())?;
     for (number, placed) in placed.iter().enumerate() {
         if number < links.len() {
             clauses.push(ResolvedClause {

@@ -119,12 +119,22 @@ pub(crate) struct VariableClaims {
 
 /// The claims of clauses, each with the number of the first that makes it. Only those on elements
 /// are sought in a table.
-#[derive(Drop)]
 pub(crate) struct ClauseIndex {
     // for each variable its place among those that are claimed
     pub places: Vec<Option<usize>>,
     pub claimed: Vec<VariableClaims>,
     pub elements: IndexMap<Claim, usize>,
+}
+
+// By hand, so that whoever holds claims need not know how they are held to let them go.
+impl Drop for ClauseIndex {
+    fn drop(self) {
+        let ClauseIndex {
+            places: _,
+            claimed: _,
+            elements: _,
+        } = self;
+    }
 }
 
 const NO_EXTENTS: Extents = Extents {

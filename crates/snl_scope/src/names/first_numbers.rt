@@ -23,13 +23,23 @@ pub(crate) struct NameHead {
 
 /// The numbers of the first that came. Most names are the program's alone, and these are found with
 /// no look-up in a table.
-#[derive(Drop)]
 pub(crate) struct FirstNumbers {
     pub heads: Vec<NameHead>,
     // those that are elsewhere
     pub elsewhere: IndexMap<QualifiedName, usize>,
     // all, in the order in which they came
     pub numbers: Vec<usize>,
+}
+
+// By hand, so that whoever holds numbers need not know how they are held to let them go.
+impl Drop for FirstNumbers {
+    fn drop(self) {
+        let FirstNumbers {
+            heads: _,
+            elsewhere: _,
+            numbers: _,
+        } = self;
+    }
 }
 
 const NO_HEAD: NameHead = NameHead {
@@ -88,16 +98,17 @@ fn add_first(
 }
 
 impl FirstNumbers {
-    pub(crate) fn new(alloc: Global) -> FirstNumbers
-        ensures heads { result.heads.items ≡ [] }
-        ensures elsewhere { result.elsewhere.entries ≡ [] }
-        ensures numbers { result.numbers.items ≡ [] }
+    /// No numbers, with room for those of so many names.
+    pub(crate) fn with_room(alloc: Global, room: usize) -> Result<FirstNumbers, OutOfMemory>
+        ensures heads { IfOk result (λ first. first.heads.items ≡ []) }
+        ensures elsewhere { IfOk result (λ first. first.elsewhere.entries ≡ []) }
+        ensures numbers { IfOk result (λ first. first.numbers.items ≡ []) }
     {
-        FirstNumbers {
-            heads: Vec::new(alloc),
+        Ok(FirstNumbers {
+            heads: Vec::with_capacity(alloc, room)?,
             elsewhere: IndexMap::new(alloc),
-            numbers: Vec::new(alloc),
-        }
+            numbers: Vec::with_capacity(alloc, room)?,
+        })
     }
 
     /// The number of the first that came in a namespace.

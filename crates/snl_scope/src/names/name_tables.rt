@@ -137,15 +137,19 @@ fn state_name(outline: &Outline) -> Option<&[u8]>
     }
 }
 
+// For so many names there is room at once. All symbols may have one name.
+const FEW_NAMES: usize = 1024;
+
 impl NameTables {
     /// With room for so many symbols. How many different names there are among them isn't known.
     pub(crate) fn new(alloc: Global, room: usize) -> Result<NameTables, OutOfMemory>
         ensures { IfOk result (λ t. TablesFollow t []) }
     {
+        let few = room.min(FEW_NAMES);
         let symbols = Vec::with_capacity(alloc, room)?;
         Ok(NameTables {
-            names: NumberedNames::new(alloc),
-            first: FirstNumbers::new(alloc),
+            names: NumberedNames::with_room(alloc, few)?,
+            first: FirstNumbers::with_room(alloc, few)?,
             symbols,
             faults: Vec::new(alloc),
         })

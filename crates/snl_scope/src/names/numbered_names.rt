@@ -15,13 +15,23 @@ use std::marker::Model;
 /// Different names, which contracts see as their list. The number of a name is its place in it. A
 /// name is found by its print, which is one hash of all its bytes: as a key of a table it would be
 /// hashed byte by byte.
-#[derive(Drop)]
 pub(crate) struct NumberedNames {
     names: Vec<Name>,
     // for each name the one before it that has the same print
     earlier: Vec<Option<usize>>,
     // the last name that has a print
     last: IndexMap<u64, usize>,
+}
+
+// By hand, so that whoever holds names need not know how they are held to let them go.
+impl Drop for NumberedNames {
+    fn drop(self) {
+        let NumberedNames {
+            names: _,
+            earlier: _,
+            last: _,
+        } = self;
+    }
 }
 
 impl Model for NumberedNames {
@@ -36,14 +46,15 @@ impl Model for NumberedNames {
 }
 
 impl NumberedNames {
-    pub(crate) fn new(alloc: Global) -> NumberedNames
-        ensures { result ≡ [] }
+    /// No names, with room for so many.
+    pub(crate) fn with_room(alloc: Global, room: usize) -> Result<NumberedNames, OutOfMemory>
+        ensures { IfOk result (λ names. names ≡ []) }
     {
-        NumberedNames {
-            names: Vec::new(alloc),
-            earlier: Vec::new(alloc),
-            last: IndexMap::new(alloc),
-        }
+        Ok(NumberedNames {
+            names: Vec::with_capacity(alloc, room)?,
+            earlier: Vec::with_capacity(alloc, room)?,
+            last: IndexMap::with_capacity(alloc, room)?,
+        })
     }
 
     // The name with this print that is this one, sought from the last of them to the first.

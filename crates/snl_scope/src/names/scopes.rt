@@ -12,7 +12,6 @@ use crate::summaries::summary::{Role, Variable};
 use std::marker::Model;
 
 /// The finished tables of all items, which contracts see as the list of their outlines.
-#[derive(Drop)]
 pub(crate) struct Scopes {
     pub places: Vec<Option<usize>>,
     pub heads: Vec<Head>,
@@ -20,6 +19,20 @@ pub(crate) struct Scopes {
     pub first: FirstNumbers,
     pub symbols: Vec<Symbol>,
     pub made_of: GhostOutlines,
+}
+
+// By hand, so that whoever holds tables need not know what is in them to let them go.
+impl Drop for Scopes {
+    fn drop(self) {
+        let Scopes {
+            places: _,
+            heads: _,
+            names: _,
+            first: _,
+            symbols: _,
+            made_of: _,
+        } = self;
+    }
 }
 
 impl Model for Scopes {

@@ -133,6 +133,14 @@ fn add_state(
     Ok(())
 }
 
+// How many clauses an item has, for which room is made. Those of a state aren't counted.
+fn room_for(tree: Option<&Item>) -> usize {
+    match tree {
+        Some(Item::Clause(_)) => 1,
+        _ => 0,
+    }
+}
+
 /// The clauses that an item has.
 pub(crate) fn clauses_in(
     source: &Source,
@@ -142,7 +150,7 @@ pub(crate) fn clauses_in(
     ensures { IfOk result (λ v. v.items
         ≡ clauses_in source.now.text.now source.now.tokens.now (option_copied tree.entry)) }
 {
-    let mut clauses = Vec::new(source.alloc);
+    let mut clauses = Vec::with_capacity(source.alloc, room_for(tree))?;
     match tree {
         Some(Item::Clause(clause)) => clauses.push(clause_of(source, clause.get())?)?,
         Some(Item::StateBlock { name: _, members }) => {

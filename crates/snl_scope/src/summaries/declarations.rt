@@ -219,6 +219,16 @@ fn add_tree(source: &Source, tree: &Item, declared: &mut Vec<Declared>) -> Resul
     }
 }
 
+// How many names an item declares, for which room is made. Those of a state aren't counted.
+fn room_for(tree: Option<&Item>) -> usize {
+    match tree {
+        Some(Item::Definition(declaration)) => declaration.get().declarators.len(),
+        Some(Item::Foreign(names)) => names.len(),
+        Some(Item::Function(function)) => if function.get().body.is_some() { 1 } else { 0 },
+        _ => 0,
+    }
+}
+
 /// The names that an item declares outside its blocks.
 pub(crate) fn declared_in(
     source: &Source,
@@ -228,7 +238,7 @@ pub(crate) fn declared_in(
     ensures { IfOk result (λ v. v.items
         ≡ declared_in source.now.text.now source.now.tokens.now (option_copied tree.entry)) }
 {
-    let mut declared = Vec::new(source.alloc);
+    let mut declared = Vec::with_capacity(source.alloc, room_for(tree))?;
     if let Some(tree) = tree {
         add_tree(source, tree, &mut declared)?;
     }

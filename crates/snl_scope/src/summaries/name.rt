@@ -18,9 +18,16 @@ enum Held {
 }
 
 /// A name, which contracts see as its bytes.
-#[derive(Debug, Drop)]
+#[derive(Debug)]
 pub struct Name {
     held: Held,
+}
+
+// By hand, so that whoever holds a name need not know how it is held to let it go.
+impl Drop for Name {
+    fn drop(self) {
+        let Name { held: _ } = self;
+    }
 }
 
 impl Model for Name {

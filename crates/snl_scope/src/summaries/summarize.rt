@@ -1,7 +1,7 @@
 //! The summary of an item: its tokens and its tree come in, what it says to the other items goes
 //! out. It knows nothing of the other items.
 
-ghost use Rattle.snl_scope.specs.Summaries.{kind_of, kind_of_tree, occurrences_in, opening_by_word, opening_in, role_of, second_in, summary_in};
+ghost use Rattle.snl_scope.specs.Summaries.{kind_of, kind_of_tree, occurrences_in, opening_by_word, opening_in, outline_in, role_of, second_in, summary_in};
 ghost use Rattle.snl_scope.specs.Summaries.Clauses.{clauses_in};
 ghost use Rattle.snl_scope.specs.Summaries.Declares.{declared_in};
 ghost use Rattle.snl_scope.specs.Summaries.Tokens.{name_ref_at};
@@ -185,6 +185,25 @@ fn few_clauses(source: &Source, tree: Option<&Item>) -> Result<Few<VariableClaus
     Ok(Few::from_vec(source.alloc, clauses_in(source, tree)?)?)
 }
 
+// What the item says to the others.
+fn outline_of(source: &Source, tree: Option<&Item>) -> Result<Outline, OutOfMemory>
+    requires { IsSource source.now.text.now source.now.tokens.now }
+    ensures { IfOk result (λ outline. outline
+        ≡ outline_in source.now.text.now source.now.tokens.now (option_copied tree.entry)) }
+{
+    let second = second_of(source)?;
+    let declares = few_declared(source, tree)?;
+    let clauses = few_clauses(source, tree)?;
+    let has_some = 0 < declares.len() || 0 < clauses.len();
+    Ok(Outline {
+        declares,
+        clauses,
+        second,
+        role: role_of(kind_of(tree), has_some),
+        opening: opening_of(source),
+    })
+}
+
 /// The summary of the item that consists of these tokens, of which each lies in the text. `tree` is
 /// the item's tree; an item without one is faulty, and declares and uses nothing.
 pub fn summary_of(
@@ -202,21 +221,10 @@ pub fn summary_of(
         tokens,
         alloc,
     };
-    let declares = few_declared(&source, tree)?;
-    let clauses = few_clauses(&source, tree)?;
+    let outline = outline_of(&source, tree)?;
     let (uses, targets) = asked_names(&source, tree)?;
-    let second = second_of(&source)?;
-    let kind = kind_of(tree);
-    let has_some = 0 < declares.len() || 0 < clauses.len();
-    let outline = Outline {
-        declares,
-        clauses,
-        second,
-        role: role_of(kind, has_some),
-        opening: opening_of(&source),
-    };
     Ok(Summary {
-        kind,
+        kind: kind_of(tree),
         outline,
         uses,
         targets,

@@ -36,7 +36,7 @@ pub(crate) fn name_refs(source: &Source, numbers: &[usize]) -> Result<Few<NameRe
     ensures { IfOk result
         (λ m. m ≡ map (name_ref_at source.now.text.now source.now.tokens.now) numbers.now) }
 {
-    let mut name_refs = Vec::new(source.alloc);
+    let mut name_refs = Vec::with_capacity(source.alloc, numbers.len())?;
     for number in numbers {
         name_refs.push(name_ref_at(source, *number)?)?;
     }

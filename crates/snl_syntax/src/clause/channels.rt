@@ -9,9 +9,10 @@ ghost use Rattle.snl_syntax.specs.Steps.{ReadsFrom};
 
 use crate::clause::operands::subscript;
 use crate::expression::texts;
-use crate::parts::ended;
+use crate::lists::until;
+use crate::parts::single;
 use crate::stop::{Step, Stop};
-use crate::token_steps::{accept, expect, kind_at, past, turns};
+use crate::token_steps::{accept, expect, kind_at, past};
 use crate::tree::clause::Channel;
 use snl_lex::Kind;
 use sqlite_items::Items;
@@ -51,29 +52,6 @@ fn text_step(
     }
 }
 
-// { "," texts } [","]
-// , "sp:b", "sp:c",
-fn more_elements(
-    alloc: Global,
-    kinds: &[Kind],
-    start: usize,
-    found: Items<Items<usize>>,
-) -> Result<((Items<Items<usize>>, bool), usize), Stop>
-    ensures { ReadsFrom kinds.now start result (read.until spec.text_step found) }
-{
-    let mut found = found;
-    let mut at = start;
-    for _turn in 0..turns(kinds, start) {
-        let (step, after) = text_step(alloc, kinds, at)?;
-        at = after;
-        match step {
-            Step::More(item) => found.push(item)?,
-            Step::Last(last, value) => return Ok(((ended(found, last)?, value), at)),
-        }
-    }
-    Err(Stop::Here(at))
-}
-
 // texts { "," texts } [","] "}"
 // "sp:a", "sp:b" }
 fn some_elements(
@@ -85,9 +63,14 @@ fn some_elements(
     ensures { ReadsFrom kinds.now at result (spec.some_elements to) }
 {
     let (first, at) = texts(alloc, kinds, at)?;
-    let mut found = Items::new(alloc);
-    found.push(first)?;
-    let ((texts, trailing), at) = more_elements(alloc, kinds, at, found)?;
+    let found = single(alloc, first)?;
+    let ((texts, trailing), at) = until(
+        alloc,
+        kinds,
+        at,
+        found,
+        |kinds, at| text_step(alloc, kinds, at),
+    )?;
     let channel = Channel::Elements {
         to,
         texts,

@@ -7,8 +7,10 @@ ghost use Rattle.snl_syntax.specs.Reading.Expressions as exprs;
 ghost use Rattle.snl_syntax.specs.Steps as read;
 ghost use Rattle.snl_syntax.specs.Steps.{ReadsFrom};
 
+use crate::lists::many;
+use crate::parts::single;
 use crate::stop::Stop;
-use crate::token_steps::{expect, kind_at, past, turns};
+use crate::token_steps::{expect, kind_at, past};
 use snl_lex::Kind;
 use sqlite_items::Items;
 use std::alloc::Global;
@@ -29,29 +31,6 @@ fn next_name(kinds: &[Kind], at: usize) -> Result<(Option<usize>, usize), Stop>
     }
 }
 
-// { "," NAME }
-// , stderr, errno
-fn more_names(
-    kinds: &[Kind],
-    start: usize,
-    found: Items<usize>,
-) -> Result<(Items<usize>, usize), Stop>
-    ensures { ReadsFrom kinds.now start result
-        (read.many (exprs.next_comma (read.expect kind.Name)) found) }
-{
-    let mut found = found;
-    let mut at = start;
-    for _turn in 0..turns(kinds, start) {
-        let (next, after) = next_name(kinds, at)?;
-        at = after;
-        match next {
-            None => return Ok((found, at)),
-            Some(item) => found.push(item)?,
-        }
-    }
-    Ok((found, at))
-}
-
 // NAME { "," NAME }
 // stdout, stderr
 fn names(alloc: Global, kinds: &[Kind], at: usize) -> Result<(Items<usize>, usize), Stop>
@@ -59,9 +38,8 @@ fn names(alloc: Global, kinds: &[Kind], at: usize) -> Result<(Items<usize>, usiz
 {
     let first = at;
     let at = expect(kinds, at, Kind::Name)?;
-    let mut found = Items::new(alloc);
-    found.push(first)?;
-    more_names(kinds, at, found)
+    let found = single(alloc, first)?;
+    many(alloc, kinds, at, found, |kinds, at| next_name(kinds, at))
 }
 
 /// `foreign` and names, with `;` after them.

@@ -6,8 +6,9 @@ ghost use Rattle.snl_syntax.specs.Reading.Expressions as exprs;
 ghost use Rattle.snl_syntax.specs.Steps.{ReadsFrom};
 
 use crate::expression::expr;
+use crate::lists::many;
 use crate::stop::Stop;
-use crate::token_steps::{expect, kind_at, past, turns};
+use crate::token_steps::{expect, kind_at, past};
 use crate::tree::expression::Expr;
 use snl_lex::Kind;
 use sqlite_items::Items;
@@ -74,15 +75,11 @@ pub fn lengths(
 ) -> Result<(Items<Option<Expr>>, usize), Stop>
     ensures { ReadsFrom kinds.now start result (spec.lengths (exprs.assignx depth)) }
 {
-    let mut found = Items::new(alloc);
-    let mut at = start;
-    for _turn in 0..turns(kinds, start) {
-        let (next, after) = next_length(alloc, kinds, at, depth)?;
-        at = after;
-        match next {
-            None => return Ok((found, at)),
-            Some(item) => found.push(item)?,
-        }
-    }
-    Ok((found, at))
+    many(
+        alloc,
+        kinds,
+        start,
+        Items::new(alloc),
+        |kinds, at| next_length(alloc, kinds, at, depth),
+    )
 }

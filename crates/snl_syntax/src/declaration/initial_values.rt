@@ -9,7 +9,7 @@ ghost use Rattle.snl_syntax.specs.Steps as read;
 ghost use Rattle.snl_syntax.specs.Steps.{ReadsFrom};
 
 use crate::expression::assignx;
-use crate::parts::ended;
+use crate::parts::{ended, single, with};
 use crate::stop::{Step, Stop};
 use crate::token_steps::{expect, kind_at, past, turns};
 use crate::tree::declaration::Init;
@@ -74,8 +74,8 @@ fn more_values(
         let (step, after) = value_step(alloc, kinds, at, depth)?;
         at = after;
         match step {
-            Step::More(item) => found.push(item)?,
-            Step::Last(last, value) => return Ok(((ended(found, last)?, value), at)),
+            Step::More(item) => found = with(alloc, found, item)?,
+            Step::Last(last, value) => return Ok((ended(alloc, found, last, value)?, at)),
         }
     }
     Err(Stop::Here(at))
@@ -93,8 +93,7 @@ fn some_values(
     ensures { ReadsFrom kinds.now at result (spec.some_values (spec.init depth)) }
 {
     let (first, at) = init(alloc, kinds, at, depth)?;
-    let mut found = Items::new(alloc);
-    found.push(first)?;
+    let found = single(alloc, first)?;
     let ((all, trailing), at) = more_values(alloc, kinds, at, depth, found)?;
     past(kinds, at, Kind::CloseBrace, Init::List(all, trailing))
 }

@@ -9,10 +9,10 @@ ghost use Rattle.snl_syntax.specs.Steps.{ReadsFrom};
 ghost use Rattle.snl_syntax.specs.Tokens.{ahead};
 
 use crate::expression::Expressions;
+use crate::lists::until;
 use crate::operator::{Assignment, assignment_kind, assignment_of};
-use crate::parts::ended_beside;
 use crate::stop::{Step, Stop};
-use crate::token_steps::{kind_at, past, turns};
+use crate::token_steps::{kind_at, past};
 use crate::tree::expression::Expr;
 use snl_lex::Kind;
 use sqlite_items::{Boxed, Items};
@@ -72,17 +72,13 @@ impl<F: Fn(Global, &[Kind], usize, usize) -> Result<(Expr, usize), Stop>> Expres
         ensures { ReadsFrom kinds.now start result
             (read.until (spec.inside self.now.depth spec.target_step) []) }
     {
-        let mut found = Items::new(self.alloc);
-        let mut at = start;
-        for _turn in 0..turns(kinds, start) {
-            let (step, after) = self.target_step(kinds, at)?;
-            at = after;
-            match step {
-                Step::More(item) => found.push(item)?,
-                Step::Last(last, value) => return Ok((ended_beside(found, last, value)?, at)),
-            }
-        }
-        Err(Stop::Here(at))
+        until(
+            self.alloc,
+            kinds,
+            start,
+            Items::new(self.alloc),
+            |kinds, at| self.target_step(kinds, at),
+        )
     }
 
     // assignx = { prefix op } cond

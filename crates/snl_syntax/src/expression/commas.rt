@@ -8,8 +8,10 @@ ghost use Rattle.snl_syntax.specs.Steps as read;
 ghost use Rattle.snl_syntax.specs.Steps.{ReadsFrom};
 
 use crate::expression::Expressions;
+use crate::lists::many;
+use crate::parts::single;
 use crate::stop::Stop;
-use crate::token_steps::{beside, expect, kind_at, past, turns};
+use crate::token_steps::{beside, expect, kind_at, past};
 use crate::tree::expression::Expr;
 use snl_lex::Kind;
 use sqlite_items::{Boxed, Items};
@@ -55,17 +57,13 @@ impl<F: Fn(Global, &[Kind], usize, usize) -> Result<(Expr, usize), Stop>> Expres
         ensures { ReadsFrom kinds.now start result
             (read.many (spec.next_comma (spec.assignx self.now.depth)) found) }
     {
-        let mut found = found;
-        let mut at = start;
-        for _turn in 0..turns(kinds, start) {
-            let (next, after) = self.next_comma(kinds, at)?;
-            at = after;
-            match next {
-                None => return Ok((found, at)),
-                Some(item) => found.push(item)?,
-            }
-        }
-        Ok((found, at))
+        many(
+            self.alloc,
+            kinds,
+            start,
+            found,
+            |kinds, at| self.next_comma(kinds, at),
+        )
     }
 
     // assignx { "," assignx }
@@ -75,8 +73,7 @@ impl<F: Fn(Global, &[Kind], usize, usize) -> Result<(Expr, usize), Stop>> Expres
         ensures { ReadsFrom kinds.now at result (spec.commas (spec.assignx self.now.depth)) }
     {
         let (first, at) = self.nested(kinds, at)?;
-        let mut found = Items::new(self.alloc);
-        found.push(first)?;
+        let found = single(self.alloc, first)?;
         self.more(kinds, at, found)
     }
 

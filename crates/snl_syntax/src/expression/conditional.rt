@@ -8,8 +8,9 @@ ghost use Rattle.snl_syntax.specs.Steps as read;
 ghost use Rattle.snl_syntax.specs.Steps.{ReadsFrom};
 
 use crate::expression::Expressions;
+use crate::lists::many;
 use crate::stop::Stop;
-use crate::token_steps::{beside, expect, kind_at, past, turns};
+use crate::token_steps::{beside, expect, kind_at, past};
 use crate::tree::expression::Expr;
 use snl_lex::Kind;
 use sqlite_items::{Boxed, Items};
@@ -55,17 +56,13 @@ impl<F: Fn(Global, &[Kind], usize, usize) -> Result<(Expr, usize), Stop>> Expres
         ensures { ReadsFrom kinds.now start result
             (read.many (spec.inside self.now.depth spec.next_arm) []) }
     {
-        let mut found = Items::new(self.alloc);
-        let mut at = start;
-        for _turn in 0..turns(kinds, start) {
-            let (next, after) = self.next_arm(kinds, at)?;
-            at = after;
-            match next {
-                None => return Ok((found, at)),
-                Some(item) => found.push(item)?,
-            }
-        }
-        Ok((found, at))
+        many(
+            self.alloc,
+            kinds,
+            start,
+            Items::new(self.alloc),
+            |kinds, at| self.next_arm(kinds, at),
+        )
     }
 
     // cond = { or "?" expr ":" } or, after its first prefix

@@ -7,8 +7,10 @@ ghost use Rattle.snl_syntax.specs.Steps as read;
 ghost use Rattle.snl_syntax.specs.Steps.{ReadsFrom};
 ghost use Rattle.snl_syntax.specs.declared.tree.expression.Expr.TheVariants as tree;
 
+use crate::lists::many;
+use crate::parts::single;
 use crate::stop::Stop;
-use crate::token_steps::{expect, kind_at, turns};
+use crate::token_steps::{expect, kind_at};
 use crate::tree::expression::Expr;
 use snl_lex::Kind;
 use sqlite_items::Items;
@@ -29,28 +31,6 @@ fn next_text(kinds: &[Kind], at: usize) -> Result<(Option<usize>, usize), Stop>
     }
 }
 
-// { TEXT }
-// "pump:" "speed"
-fn more_texts(
-    kinds: &[Kind],
-    start: usize,
-    found: Items<usize>,
-) -> Result<(Items<usize>, usize), Stop>
-    ensures { ReadsFrom kinds.now start result (read.many spec.next_text found) }
-{
-    let mut found = found;
-    let mut at = start;
-    for _turn in 0..turns(kinds, start) {
-        let (next, after) = next_text(kinds, at)?;
-        at = after;
-        match next {
-            None => return Ok((found, at)),
-            Some(item) => found.push(item)?,
-        }
-    }
-    Ok((found, at))
-}
-
 /// All strings that are side by side, one at least.
 // texts = TEXT { TEXT }
 // "pump:" "speed"
@@ -59,9 +39,8 @@ pub fn texts(alloc: Global, kinds: &[Kind], at: usize) -> Result<(Items<usize>, 
 {
     let first = at;
     let at = expect(kinds, at, Kind::Text)?;
-    let mut found = Items::new(alloc);
-    found.push(first)?;
-    more_texts(kinds, at, found)
+    let found = single(alloc, first)?;
+    many(alloc, kinds, at, found, |kinds, at| next_text(kinds, at))
 }
 
 // NAME

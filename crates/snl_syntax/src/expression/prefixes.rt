@@ -10,10 +10,11 @@ ghost use Rattle.snl_syntax.specs.Steps.{ReadsFrom};
 use crate::expression::Expressions;
 use crate::expression::leaves::atom;
 use crate::expression::suffixes::suffixed;
+use crate::lists::until;
 use crate::operator::{Sign, sign_kind};
-use crate::parts::{ended_beside, one_boxed};
+use crate::parts::one_boxed;
 use crate::stop::{Step, Stop};
-use crate::token_steps::{expect, kind_at, past, turns};
+use crate::token_steps::{expect, kind_at, past};
 use crate::tree::expression::{Expr, Prefix};
 use crate::types::begins_type;
 use snl_lex::Kind;
@@ -166,17 +167,13 @@ impl<F: Fn(Global, &[Kind], usize, usize) -> Result<(Expr, usize), Stop>> Expres
         ensures { ReadsFrom kinds.now start result
             (read.until (spec.inside self.now.depth spec.prefix_step) []) }
     {
-        let mut found = Items::new(self.alloc);
-        let mut at = start;
-        for _turn in 0..turns(kinds, start) {
-            let (step, after) = self.prefix_step(kinds, at)?;
-            at = after;
-            match step {
-                Step::More(item) => found.push(item)?,
-                Step::Last(last, value) => return Ok((ended_beside(found, last, value)?, at)),
-            }
-        }
-        Err(Stop::Here(at))
+        until(
+            self.alloc,
+            kinds,
+            start,
+            Items::new(self.alloc),
+            |kinds, at| self.prefix_step(kinds, at),
+        )
     }
 
     // prefix = { pre } postfix

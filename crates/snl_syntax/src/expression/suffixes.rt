@@ -10,8 +10,9 @@ ghost use Rattle.snl_syntax.specs.Steps.{ReadsFrom};
 ghost use Rattle.snl_syntax.specs.declared.tree.expression.Suffix.TheVariants as suffixes;
 
 use crate::expression::Expressions;
+use crate::lists::many;
 use crate::stop::Stop;
-use crate::token_steps::{expect, kind_at, past, turns};
+use crate::token_steps::{expect, kind_at, past};
 use crate::tree::expression::{Expr, Suffix};
 use snl_lex::Kind;
 use sqlite_items::{Boxed, Items};
@@ -124,16 +125,12 @@ impl<F: Fn(Global, &[Kind], usize, usize) -> Result<(Expr, usize), Stop>> Expres
         ensures { ReadsFrom kinds.now start result
             (read.many (spec.inside self.now.depth spec.next_suffix) []) }
     {
-        let mut found = Items::new(self.alloc);
-        let mut at = start;
-        for _turn in 0..turns(kinds, start) {
-            let (next, after) = self.next_suffix(kinds, at)?;
-            at = after;
-            match next {
-                None => return Ok((found, at)),
-                Some(item) => found.push(item)?,
-            }
-        }
-        Ok((found, at))
+        many(
+            self.alloc,
+            kinds,
+            start,
+            Items::new(self.alloc),
+            |kinds, at| self.next_suffix(kinds, at),
+        )
     }
 }

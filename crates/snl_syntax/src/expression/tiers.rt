@@ -7,10 +7,12 @@ ghost use Rattle.snl_syntax.specs.Nests.{Nests};
 ghost use Rattle.snl_syntax.specs.Reading.Expressions as spec;
 ghost use Rattle.snl_syntax.specs.Steps as read;
 ghost use Rattle.snl_syntax.specs.Steps.{ReadsFrom};
+ghost use Rattle.snl_syntax.specs.Tiers.{tier_between, tier_in};
 ghost use Rattle.snl_syntax.specs.Tokens.{ahead};
 
 use crate::expression::Expressions;
 use crate::operator::{Binary, binary_kind, binary_of, tier};
+use crate::parts::with;
 use crate::stop::Stop;
 use crate::token_steps::{expect, kind_at, turns};
 use crate::tree::expression::Expr;
@@ -37,14 +39,23 @@ fn binary_at(kinds: &[Kind], at: usize, wanted: usize) -> Option<Binary>
     if tier(op) == wanted { Some(op) } else { None }
 }
 
-/// Whether an operator with two operands comes next, of whatever tier.
-fn is_binary_next(kinds: &[Kind], at: usize) -> bool
-    ensures { result ≡ false → (tier : ℕ) →
-        spec.binary_in tier (read.kind_at (ahead kinds.now at)) ≡ None }
+/// The tier of the operator that comes next, if it is one between two operands.
+fn tier_at(kinds: &[Kind], at: usize) -> Option<usize>
+    ensures { result ≡ tier_in (read.kind_at (ahead kinds.now at)) }
 {
-    match kind_at(kinds, at) {
-        Some(kind) => binary_of(kind).is_some(),
-        None => false,
+    let op = binary_of(kind_at(kinds, at)?)?;
+    Some(tier(op))
+}
+
+/// The same, if it is above `done` and not above `most`.
+fn tier_between(kinds: &[Kind], at: usize, done: usize, most: usize) -> Option<usize>
+    ensures { result ≡ tier_between done most (tier_in (read.kind_at (ahead kinds.now at))) }
+{
+    let next = tier_at(kinds, at)?;
+    if done < next && next <= most {
+        Some(next)
+    } else {
+        None
     }
 }
 
@@ -93,7 +104,7 @@ impl<F: Fn(Global, &[Kind], usize, usize) -> Result<(Expr, usize), Stop>> Expres
             at = after;
             match next {
                 None => return Ok((found, at)),
-                Some(item) => found.push(item)?,
+                Some(item) => found = with(self.alloc, found, item)?,
             }
         }
         Ok((found, at))
@@ -113,16 +124,18 @@ impl<F: Fn(Global, &[Kind], usize, usize) -> Result<(Expr, usize), Stop>> Expres
         ensures { ReadsFrom kinds.now at result
             (spec.inside self.now.depth spec.tiers_from tier first) }
     {
-        if tier == 0 {
-            return Ok((first, at));
+        let mut first = first;
+        let mut at = at;
+        let mut done = 0;
+        // Each turn takes all operators of one tier. Tiers without one are passed over: most
+        // operands are alone.
+        while let Some(next) = tier_between(kinds, at, done, tier) {
+            let (links, after) = self.links(kinds, at, next)?;
+            first = chained(self.alloc, first, links)?;
+            at = after;
+            done = next;
         }
-        // Most operands are alone: no tier has an operator for them.
-        if !is_binary_next(kinds, at) {
-            return Ok((first, at));
-        }
-        let (first, at) = self.tiers_from(kinds, at, tier - 1, first)?;
-        let (links, at) = self.links(kinds, at, tier)?;
-        Ok((chained(self.alloc, first, links)?, at))
+        Ok((first, at))
     }
 
     // prefix { op prefix }, with operators of the tiers up to this one

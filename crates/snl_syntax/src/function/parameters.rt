@@ -8,8 +8,10 @@ ghost use Rattle.snl_syntax.specs.Steps as read;
 ghost use Rattle.snl_syntax.specs.Steps.{ReadsFrom};
 
 use crate::declaration::lengths;
+use crate::lists::many;
+use crate::parts::single;
 use crate::stop::Stop;
-use crate::token_steps::{expect, kind_at, turns};
+use crate::token_steps::{expect, kind_at};
 use crate::tree::declaration::Parameter;
 use crate::types::{stars, type_of};
 use snl_lex::Kind;
@@ -92,31 +94,6 @@ fn next_parameter(
     }
 }
 
-// { "," param }
-// , int n, string
-fn more_parameters(
-    alloc: Global,
-    kinds: &[Kind],
-    start: usize,
-    depth: usize,
-    found: Items<Parameter>,
-) -> Result<(Items<Parameter>, usize), Stop>
-    ensures { ReadsFrom kinds.now start result
-        (read.many (exprs.next_comma (spec.parameter depth)) found) }
-{
-    let mut found = found;
-    let mut at = start;
-    for _turn in 0..turns(kinds, start) {
-        let (next, after) = next_parameter(alloc, kinds, at, depth)?;
-        at = after;
-        match next {
-            None => return Ok((found, at)),
-            Some(item) => found.push(item)?,
-        }
-    }
-    Ok((found, at))
-}
-
 // param { "," param }
 // double v, int n
 fn comma_parameters(
@@ -128,9 +105,14 @@ fn comma_parameters(
     ensures { ReadsFrom kinds.now at result (exprs.commas (spec.parameter depth)) }
 {
     let (first, at) = parameter(alloc, kinds, at, depth)?;
-    let mut found = Items::new(alloc);
-    found.push(first)?;
-    more_parameters(alloc, kinds, at, depth, found)
+    let found = single(alloc, first)?;
+    many(
+        alloc,
+        kinds,
+        at,
+        found,
+        |kinds, at| next_parameter(alloc, kinds, at, depth),
+    )
 }
 
 // param { "," param } ")"

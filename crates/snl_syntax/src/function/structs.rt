@@ -8,8 +8,9 @@ ghost use Rattle.snl_syntax.specs.Steps as read;
 ghost use Rattle.snl_syntax.specs.Steps.{ReadsFrom};
 
 use crate::declaration::declaration;
+use crate::lists::many;
 use crate::stop::Stop;
-use crate::token_steps::{expect, kind_at, turns};
+use crate::token_steps::{expect, kind_at};
 use crate::tree::item::StructMember;
 use snl_lex::Kind;
 use sqlite_items::Items;
@@ -68,17 +69,13 @@ fn members(
     ensures { ReadsFrom kinds.now start result
         (read.many (spec.next_member (declarations.declaration depth)) []) }
 {
-    let mut found = Items::new(alloc);
-    let mut at = start;
-    for _turn in 0..turns(kinds, start) {
-        let (next, after) = next_member(alloc, kinds, at, depth)?;
-        at = after;
-        match next {
-            None => return Ok((found, at)),
-            Some(item) => found.push(item)?,
-        }
-    }
-    Ok((found, at))
+    many(
+        alloc,
+        kinds,
+        start,
+        Items::new(alloc),
+        |kinds, at| next_member(alloc, kinds, at, depth),
+    )
 }
 
 /// A struct's members in braces, within which so many levels are left, and its `;`.

@@ -8,9 +8,10 @@ ghost use Rattle.snl_syntax.specs.Steps as read;
 ghost use Rattle.snl_syntax.specs.Steps.{ReadsFrom};
 
 use crate::declaration::declaration;
+use crate::lists::many;
 use crate::statement::Statements;
 use crate::stop::Stop;
-use crate::token_steps::{expect, kind_at, past, turns};
+use crate::token_steps::{expect, kind_at, past};
 use crate::tree::statement::{Member, Stmt};
 use crate::types::begins_type;
 use snl_lex::Kind;
@@ -70,17 +71,13 @@ impl<F: Fn(Global, &[Kind], usize, usize) -> Result<(Stmt, usize), Stop>> Statem
         ensures { ReadsFrom kinds.now start result
             (read.many (spec.inside self.now.depth spec.next_member) []) }
     {
-        let mut found = Items::new(self.alloc);
-        let mut at = start;
-        for _turn in 0..turns(kinds, start) {
-            let (next, after) = self.next_member(kinds, at)?;
-            at = after;
-            match next {
-                None => return Ok((found, at)),
-                Some(item) => found.push(item)?,
-            }
-        }
-        Ok((found, at))
+        many(
+            self.alloc,
+            kinds,
+            start,
+            Items::new(self.alloc),
+            |kinds, at| self.next_member(kinds, at),
+        )
     }
 
     // block = "{" { decl | stmt } "}"

@@ -8,11 +8,12 @@ ghost use Rattle.snl_syntax.specs.Steps as read;
 ghost use Rattle.snl_syntax.specs.Steps.{ReadsFrom};
 ghost use Rattle.snl_syntax.specs.declared.stop.Step.TheVariants as steps;
 
-use crate::parts::{ended, one_boxed};
+use crate::lists::until;
+use crate::parts::one_boxed;
 use crate::statement::Statements;
 use crate::statement::loops::condition;
 use crate::stop::{Step, Stop};
-use crate::token_steps::{beside, expect, kind_at, past, turns};
+use crate::token_steps::{beside, expect, kind_at, past};
 use crate::tree::expression::Expr;
 use crate::tree::statement::Stmt;
 use snl_lex::Kind;
@@ -104,17 +105,13 @@ impl<F: Fn(Global, &[Kind], usize, usize) -> Result<(Stmt, usize), Stop>> Statem
         ensures { ReadsFrom kinds.now start result
             (read.until (spec.inside self.now.depth spec.arm_step) []) }
     {
-        let mut found = Items::new(self.alloc);
-        let mut at = start;
-        for _turn in 0..turns(kinds, start) {
-            let (step, after) = self.arm_step(kinds, at)?;
-            at = after;
-            match step {
-                Step::More(item) => found.push(item)?,
-                Step::Last(last, value) => return Ok(((ended(found, last)?, value), at)),
-            }
-        }
-        Err(Stop::Here(at))
+        until(
+            self.alloc,
+            kinds,
+            start,
+            Items::new(self.alloc),
+            |kinds, at| self.arm_step(kinds, at),
+        )
     }
 
     // "if" "(" expr ")" stmt [ "else" stmt ]

@@ -13,7 +13,8 @@ returns-in-Some-clause-state c =
     (λ h. updated_found c.args.uri.now
     (after_changes c.args.encoding c.args.version (map changed_of c.args.changes.now))
     c.args.documents.now c.find.result c.in-Some.at
-    c.index-documents-at.result c.change.new.self c.find.ensures c.in-Some.is h) c.change.ensures.state
+    c.index-documents-at.result c.change.new.self c.find.ensures c.in-Some.is h)
+    c.change.ensures.state
 
 pub returns-in-Some-clause-said : goal.returns-in-Some-clause-said
 returns-in-Some-clause-said c =

@@ -1,7 +1,7 @@
 use Rattle.std.proofs.Common.{refl, List, map}
+use Rattle.snl_facts.specs.Lists.{at_end}
 use Rattle.snl_walk.specs.declared.rules.Finding.{Finding}
 use Rattle.snl_item_check.specs.ItemFaults.{fault_of}
-use Rattle.snl_item_check.proofs.Loops.{at_end}
 use Rattle.snl_item_check.proofs.check.add_findings.Goals as goal
 
 pub returns : goal.returns

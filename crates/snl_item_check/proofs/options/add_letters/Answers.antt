@@ -1,7 +1,7 @@
 use Rattle.std.proofs.Common.{ℕ, List, ◌++◌, ◌∙◌, ap, refl}
 use Rattle.std.specs.List.{enumerate_from, flat_map}
+use Rattle.snl_facts.specs.Lists.{at_end}
 use Rattle.snl_item_check.specs.Options.{found_at_letter}
-use Rattle.snl_item_check.proofs.Loops.{at_end}
 use Rattle.snl_item_check.proofs.options.add_letters.Goals as goal
 
 pub returns : goal.returns

@@ -1,8 +1,8 @@
 use Rattle.std.proofs.Common.{refl}
 use Rattle.std.specs.List.{flat_map}
+use Rattle.snl_facts.specs.Lists.{at_end}
 use Rattle.snl_walk.specs.Tokens.{token_bytes}
 use Rattle.snl_item_check.specs.Options.{unknown_in_member}
-use Rattle.snl_item_check.proofs.Loops.{at_end}
 use Rattle.snl_item_check.proofs.options.add_state.Goals as goal
 
 pub returns : goal.returns

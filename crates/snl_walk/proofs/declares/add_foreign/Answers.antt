@@ -1,6 +1,6 @@
 use Rattle.std.proofs.Common.{refl, ℕ, List, map, true}
 use Rattle.snl_walk.specs.Declares.{declare}
-use Rattle.snl_walk.proofs.Loops.{at_end}
+use Rattle.snl_facts.specs.Lists.{at_end}
 use Rattle.snl_walk.proofs.declares.add_foreign.Goals as goal
 
 pub returns : goal.returns

@@ -4,7 +4,7 @@ use Rattle.std.proofs.Common.{List, ◌++◌, ◌∙◌, ap, map, refl}
 use Rattle.snl_syntax.specs.declared.tree.declaration.Declarator.{Declarator}
 use Rattle.snl_walk.specs.Declares.{declare, is_event_flag}
 use Rattle.snl_walk.specs.Tokens.{token_bytes}
-use Rattle.snl_walk.proofs.Loops.{at_end}
+use Rattle.snl_facts.specs.Lists.{at_end}
 use Rattle.snl_walk.proofs.declares.add_in_state.Goals as goal
 
 pub returns : goal.returns

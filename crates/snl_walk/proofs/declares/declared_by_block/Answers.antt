@@ -3,7 +3,8 @@ use Rattle.snl_syntax.specs.declared.tree.statement.Member.{Member}
 use Rattle.snl_walk.specs.Statements.{contents_of, declared_by_contents}
 use Rattle.snl_walk.specs.Tokens.{token_bytes}
 use Rattle.snl_walk.proofs.Branches.{declares, declares-Declaration, declares-Statement}
-use Rattle.snl_walk.proofs.Loops.{one_more, at_end}
+use Rattle.snl_facts.specs.Lists.{at_end}
+use Rattle.snl_walk.proofs.Loops.{one_more}
 use Rattle.snl_walk.proofs.declares.declared_by_block.Goals.{in-Declaration+in_ok-add_in_block-in-Declaration, in-Statement}
 use Rattle.snl_walk.proofs.declares.declared_by_block.Goals as goal
 

@@ -1,7 +1,7 @@
 use Rattle.std.specs.List.{flat_map}
 use Rattle.std.proofs.Common.{refl}
 use Rattle.snl_walk.specs.Declares.{declared_by_parameter}
-use Rattle.snl_walk.proofs.Loops.{at_end}
+use Rattle.snl_facts.specs.Lists.{at_end}
 use Rattle.snl_walk.proofs.declares.declared_by_parameters.Goals as goal
 
 pub returns : goal.returns

@@ -3,7 +3,8 @@ use Rattle.snl_syntax.specs.declared.tree.declaration.Init.{Init}
 use Rattle.snl_walk.specs.Expressions.{names_in_init, names_in_values}
 use Rattle.snl_walk.specs.Scopes.{seen}
 use Rattle.snl_walk.specs.Tokens.{token_bytes}
-use Rattle.snl_walk.proofs.Loops.{one_more_mapped, at_end}
+use Rattle.snl_facts.specs.Lists.{at_end}
+use Rattle.snl_walk.proofs.Loops.{one_more_mapped}
 use Rattle.snl_walk.proofs.expressions.+initialisers.Goals as goal
 
 pub add_inits-loop-value-preserved : goal.add_inits-loop-value-preserved

@@ -4,7 +4,8 @@ use Rattle.snl_syntax.specs.declared.tree.expression.Expr.{Expr}
 use Rattle.snl_walk.specs.Expressions.{names_if}
 use Rattle.snl_walk.specs.Scopes.{seen}
 use Rattle.snl_walk.specs.Tokens.{token_bytes}
-use Rattle.snl_walk.proofs.Loops.{one_more_mapped, at_end}
+use Rattle.snl_facts.specs.Lists.{at_end}
+use Rattle.snl_walk.proofs.Loops.{one_more_mapped}
 use Rattle.snl_walk.proofs.expressions.add_lengths.Goals as goal
 
 pub loop-length-preserved : goal.loop-length-preserved

@@ -1,7 +1,7 @@
 use Rattle.std.proofs.Common.{refl, ℕ, List, false, map}
 use Rattle.snl_walk.specs.Statements.{declaration_at}
 use Rattle.snl_walk.specs.Tokens.{token_bytes}
-use Rattle.snl_walk.proofs.Loops.{at_end}
+use Rattle.snl_facts.specs.Lists.{at_end}
 use Rattle.snl_walk.proofs.items.add_names.Goals as goal
 
 pub returns : goal.returns

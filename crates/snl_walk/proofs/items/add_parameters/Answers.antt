@@ -2,7 +2,8 @@ use Rattle.std.specs.List.{flat_map}
 use Rattle.std.proofs.Common.{refl}
 use Rattle.snl_walk.specs.Items.{found_in_named}
 use Rattle.snl_walk.specs.Tokens.{token_bytes}
-use Rattle.snl_walk.proofs.Loops.{one_more_of_each, at_end}
+use Rattle.snl_facts.specs.Lists.{at_end}
+use Rattle.snl_walk.proofs.Loops.{one_more_of_each}
 use Rattle.snl_walk.proofs.items.add_parameters.Goals as goal
 
 pub loop-parameter-preserved : goal.loop-parameter-preserved

@@ -1,7 +1,7 @@
 use Rattle.std.proofs.Common.{refl, ℕ, List, map}
 use Rattle.snl_walk.specs.Rules.{finding}
 use Rattle.snl_codes.specs.declared.code.Code.TheVariants.{W01}
-use Rattle.snl_walk.proofs.Loops.{at_end}
+use Rattle.snl_facts.specs.Lists.{at_end}
 use Rattle.snl_walk.proofs.rules.add_undeclared.Goals as goal
 
 pub returns : goal.returns

@@ -11,14 +11,8 @@ use Rattle.snl_walk.proofs.Loops.{one_more, two_more}
 use Rattle.snl_walk.proofs.Branches.{found-For, found-If, found-While, in_context}
 use Rattle.snl_walk.proofs.statements.+statements.Goals as goal
 
-pub add_statement-returns-in-Some-clause-found : goal.add_statement-returns-in-Some-clause-found
-add_statement-returns-in-Some-clause-found t c =
-    let bytes = token_bytes c.args.source.now.text.now c.args.source.now.tokens.now in
-    let same = ap (in_context bytes c.args.names.now c.args.context) c.in-If.is ∙ found-If bytes c.args.names.now c.args.context c.in-If.arms c.in-If.last in
-    rw same (grind (arith, common_steps))
-
-pub add_statement-returns-in-None-clause-found : goal.add_statement-returns-in-None-clause-found
-add_statement-returns-in-None-clause-found t c =
+pub add_statement-returns-after-loop-arm-clause-found : goal.add_statement-returns-after-loop-arm-clause-found
+add_statement-returns-after-loop-arm-clause-found t c =
     let bytes = token_bytes c.args.source.now.text.now c.args.source.now.tokens.now in
     let same = ap (in_context bytes c.args.names.now c.args.context) c.in-If.is ∙ found-If bytes c.args.names.now c.args.context c.in-If.arms c.in-If.last in
     rw same (grind (arith, common_steps))

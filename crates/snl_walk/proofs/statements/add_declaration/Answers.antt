@@ -3,7 +3,8 @@ use Rattle.std.proofs.Common.{◌++◌, ◌∙◌, ap, refl}
 use Rattle.snl_walk.specs.Declares.{is_event_flag}
 use Rattle.snl_walk.specs.Statements.{found_in_declarator}
 use Rattle.snl_walk.specs.Tokens.{token_bytes}
-use Rattle.snl_walk.proofs.Loops.{one_more_of_each, at_end}
+use Rattle.snl_facts.specs.Lists.{at_end}
+use Rattle.snl_walk.proofs.Loops.{one_more_of_each}
 use Rattle.snl_walk.proofs.statements.add_declaration.Goals as goal
 
 pub loop-declarator-preserved : goal.loop-declarator-preserved

@@ -3,7 +3,7 @@ use Rattle.snl_walk.specs.Uses.{tokens_where}
 use Rattle.snl_walk.specs.Undeclared.{firsts_after, is_undeclared}
 use Rattle.snl_walk.specs.declared.occurrence.Occurrence.{Occurrence}
 use Rattle.snl_walk.specs.Tokens.{token_bytes}
-use Rattle.snl_walk.proofs.Loops.{at_end}
+use Rattle.snl_facts.specs.Lists.{at_end}
 use Rattle.snl_walk.proofs.OccurrenceLoops.{declared_there, undeclared_there}
 use Rattle.snl_walk.proofs.undeclared.undeclared.Goals.{then-is_undeclared+in_ok-add_first, else-is_undeclared}
 use Rattle.snl_walk.proofs.undeclared.undeclared.Goals as goal

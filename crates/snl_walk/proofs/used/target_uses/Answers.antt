@@ -1,6 +1,6 @@
 use Rattle.std.proofs.Common.{◌∙◌, ap, sym, refl}
 use Rattle.snl_walk.specs.Uses.{target_uses_after}
-use Rattle.snl_walk.proofs.Loops.{at_end}
+use Rattle.snl_facts.specs.Lists.{at_end}
 use Rattle.snl_walk.proofs.OccurrenceLoops.{no_target_there, target_there}
 use Rattle.snl_walk.proofs.used.target_uses.Goals.{then-is_target+in_ok-push, else-is_target}
 use Rattle.snl_walk.proofs.used.target_uses.Goals as goal

@@ -1,7 +1,8 @@
 use Rattle.std.proofs.Common.{◌∙◌, ap, sym, refl}
 use Rattle.snl_walk.specs.declared.occurrence.Occurrence.{Occurrence}
 use Rattle.snl_walk.specs.Uses.{is_use, uses}
-use Rattle.snl_walk.proofs.Loops.{one_kept, one_left_out, at_end}
+use Rattle.snl_facts.specs.Lists.{at_end}
+use Rattle.snl_walk.proofs.Loops.{one_kept, one_left_out}
 use Rattle.snl_walk.proofs.used.uses.Goals.{then-is_use+in_ok-push, else-is_use}
 use Rattle.snl_walk.proofs.used.uses.Goals as goal
 

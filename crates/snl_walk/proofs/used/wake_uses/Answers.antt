@@ -1,7 +1,7 @@
 use Rattle.std.proofs.Common.{refl}
 use Rattle.snl_walk.specs.Uses.{wake_uses}
 use Rattle.snl_walk.specs.Tokens.{token_bytes}
-use Rattle.snl_walk.proofs.Loops.{at_end}
+use Rattle.snl_facts.specs.Lists.{at_end}
 use Rattle.snl_walk.proofs.used.wake_uses.Goals as goal
 
 pub returns : goal.returns

@@ -1,7 +1,7 @@
 use Rattle.std.proofs.Common.{refl}
 use Rattle.std.specs.List.{filter_map}
+use Rattle.snl_facts.specs.Lists.{at_end}
 use Rattle.snl_check.specs.Members.{target_number}
-use Rattle.snl_check.proofs.Loops.{at_end}
 use Rattle.snl_check.proofs.reachability.marks.target_numbers.Goals as goal
 
 pub returns : goal.returns

@@ -1,5 +1,5 @@
 use Rattle.std.proofs.Common.{Err, Ok, sym}
-use Rattle.snl_check.proofs.Positions.{position_searched}
+use Rattle.snl_facts.specs.Positions.{position_searched}
 use Rattle.snl_check.proofs.reachability.members.number_among.Goals as goal
 
 pub returns-in-Ok : goal.returns-in-Ok

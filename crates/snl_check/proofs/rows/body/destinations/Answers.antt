@@ -1,7 +1,7 @@
 use Rattle.std.proofs.Common.{refl}
 use Rattle.std.specs.List.{flat_map}
+use Rattle.snl_facts.specs.Lists.{at_end}
 use Rattle.snl_check.specs.States.{destinations_in_member}
-use Rattle.snl_check.proofs.Loops.{at_end}
 use Rattle.snl_check.proofs.rows.body.destinations.Goals as goal
 
 pub returns : goal.returns

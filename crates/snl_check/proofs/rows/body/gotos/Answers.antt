@@ -1,7 +1,7 @@
 use Rattle.std.proofs.Common.{refl, List, map}
+use Rattle.snl_facts.specs.Lists.{at_end}
 use Rattle.snl_walk.specs.declared.used.TargetUse.{TargetUse}
 use Rattle.snl_check.specs.States.{by_statements, named_state}
-use Rattle.snl_check.proofs.Loops.{at_end}
 use Rattle.snl_check.proofs.rows.body.gotos.Goals as goal
 
 pub returns : goal.returns

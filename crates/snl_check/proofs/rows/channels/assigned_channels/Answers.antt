@@ -1,9 +1,9 @@
 use Rattle.std.proofs.Common.{refl, List, map, ◌∙◌, ap}
 use Rattle.std.specs.List.{flat_map}
+use Rattle.snl_facts.specs.Lists.{at_end}
 use Rattle.snl_check.specs.declared.rows.item_clauses.ResolvedClause.{ResolvedClause}
 use Rattle.snl_check.specs.Channels.{channels_of_clause}
 use Rattle.snl_check.specs.Collected.{assigned, items_in, resolved}
-use Rattle.snl_check.proofs.Loops.{at_end}
 use Rattle.snl_check.proofs.rows.channels.assigned_channels.Goals as goal
 
 pub returns : goal.returns

@@ -1,9 +1,9 @@
 use Rattle.std.proofs.Common.{refl, map}
 use Rattle.std.specs.List.{flat_map}
+use Rattle.snl_facts.specs.Lists.{at_end}
 use Rattle.snl_walk.specs.Tokens.{token_bytes}
 use Rattle.snl_check.specs.Settings.{settings_in_member}
 use Rattle.snl_check.specs.SettingTrees.{as_setting}
-use Rattle.snl_check.proofs.Loops.{at_end}
 use Rattle.snl_check.proofs.rows.option_rows.add_settings.Goals as goal
 
 pub returns : goal.returns

@@ -1,10 +1,10 @@
 use Rattle.std.proofs.Common.{◌≡◌, ◌+◌, ◌++◌, drop, get_or, map, option_map, sym, ap, append_assoc, ◌∙◌, refl}
 use Rattle.std.specs.List.{cons_option, filter_map}
 use Rattle.std.proofs.lemmas.Option.{slice_get-get_or}
+use Rattle.snl_facts.specs.Lists.{at_end}
 use Rattle.snl_check.specs.SettingTrees.{as_setting}
 use Rattle.snl_check.specs.Settings.{option_row, option_row_of}
 use Rattle.snl_check.proofs.Beside.{kept_more}
-use Rattle.snl_check.proofs.Loops.{at_end}
 use Rattle.snl_check.proofs.rows.option_rows.option_rows.Goals as goal
 use Rattle.snl_check.proofs.rows.option_rows.option_rows.Goals.{in-Some+in_ok-push, in_default}
 

@@ -1,10 +1,11 @@
 use Rattle.std.proofs.Common.{◌&&◌, length, sym, subst, ap, ◌∙◌}
 use Rattle.std.specs.List.Sorted.{IsStrictlyIncreasing}
+use Rattle.snl_scope.specs.BelowLaws.{all_below_rises}
 use Rattle.snl_scope.specs.Order.{is_named_state}
 use Rattle.snl_scope.specs.Places.{stands_in}
 use Rattle.snl_check.specs.Collected.{items_in}
 use Rattle.snl_check.specs.Reach.{AreStates, target_lists}
-use Rattle.snl_check.proofs.Sets.{all_below_rises, targets_are_states}
+use Rattle.snl_check.proofs.Sets.{targets_are_states}
 use Rattle.snl_check.proofs.rows.state_rows.reached_among.Goals as goal
 
 pub targets_among-requires-clause-rising : goal.targets_among-requires-clause-rising

@@ -1,9 +1,9 @@
 use Rattle.std.proofs.Common.{◌≡◌, ◌+◌, ◌++◌, drop, sym, ap, append_assoc, ◌∙◌, refl}
 use Rattle.std.specs.List.{cons_option, filter_map}
 use Rattle.std.proofs.lemmas.Option.{slice_get-get_or}
+use Rattle.snl_facts.specs.Lists.{at_end}
 use Rattle.snl_check.specs.Numbered.{wake_by}
 use Rattle.snl_check.proofs.Beside.{kept_more}
-use Rattle.snl_check.proofs.Loops.{at_end}
 use Rattle.snl_check.proofs.rows.wake_ups.wakes_by.Goals as goal
 use Rattle.snl_check.proofs.rows.wake_ups.wakes_by.Goals.{in-Some+in_ok-push, in_default}
 

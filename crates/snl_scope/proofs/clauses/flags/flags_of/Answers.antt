@@ -4,11 +4,11 @@ use Rattle.std.proofs.lemmas.List.Elements.{filter_more}
 use Rattle.std.proofs.lemmas.Option.{slice_get-map}
 use Rattle.std.specs.List.{filter}
 use Rattle.std.specs.Option.{option_map_or}
+use Rattle.snl_scope.specs.BelowLaws.{all_below_same, filter_below}
 use Rattle.snl_scope.specs.Below.{all_below}
 use Rattle.snl_scope.specs.Flags.{declares_flag, is_first, is_first_at, is_flag}
 use Rattle.snl_scope.specs.Names.{Entry, entries}
 use Rattle.snl_scope.specs.NameTables.{flag_stands, symbol_of}
-use Rattle.snl_scope.proofs.Rising.{all_below-same, filter-all_below}
 use Rattle.snl_scope.proofs.clauses.flags.flags_of.Goals as goal
 use Rattle.snl_scope.proofs.clauses.flags.flags_of.Goals.{then-flag_stands+in_ok-push, else-flag_stands}
 
@@ -44,6 +44,6 @@ pub returns : goal.returns
 returns c = λ ss f.
     let es = entries ss in
     let symbols = c.args.tables.now.symbols.items in
-    c.loop-number.invariant ∙ ap (filter (flag_stands symbols)) (take_all c.loop-number.number-index c.as_slice-numbers.result.now (omega (arith, c.loop-number-test.false)) ∙ c.as_slice-numbers.ensures.value ∙ f.firsts) ∙ filter-all_below (flag_stands symbols) (is_first_at es) (length es)
+    c.loop-number.invariant ∙ ap (filter (flag_stands symbols)) (take_all c.loop-number.number-index c.as_slice-numbers.result.now (omega (arith, c.loop-number-test.false)) ∙ c.as_slice-numbers.ensures.value ∙ f.firsts) ∙ filter_below (flag_stands symbols) (is_first_at es) (length es)
     ∙ ap (λ l. all_below (λ k. flag_stands l k && is_first_at es k) (length es)) f.tabled.known
-    ∙ all_below-same (λ k. flag_stands (map symbol_of es) k && is_first_at es k) (is_flag es) (length es) (λ k l. flag_at es k)
+    ∙ all_below_same (λ k. flag_stands (map symbol_of es) k && is_first_at es k) (is_flag es) (length es) (λ k l. flag_at es k)

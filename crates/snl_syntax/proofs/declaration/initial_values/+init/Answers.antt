@@ -24,7 +24,7 @@ more_values-returns-in-Last t c =
 
 pub more_values-loop-turn-preserved : goal.more_values-loop-turn-preserved
 more_values-loop-turn-preserved t c =
-    rw c.in_ok-push-in-More.ensures.ok (until_more (value_step (init c.args.depth)) (until (value_step (init c.args.depth)) c.args.found (ahead c.args.kinds.now c.args.start)) c.turns-turn-end.result c.loop-turn._turn c.loop-turn.found (ahead c.args.kinds.now c.loop-turn.at) c.in-More.item (ahead c.args.kinds.now c.in_ok-step.after) c.loop-turn-test.true c.loop-turn.invariant (c.in_ok-step.ensures ∙ ap (λ o. Ok (o, ahead c.args.kinds.now c.in_ok-step.after)) c.in-More.is))
+    rw c.in_ok-found-in-More.ensures (until_more (value_step (init c.args.depth)) (until (value_step (init c.args.depth)) c.args.found (ahead c.args.kinds.now c.args.start)) c.turns-turn-end.result c.loop-turn._turn c.loop-turn.found (ahead c.args.kinds.now c.loop-turn.at) c.in-More.item (ahead c.args.kinds.now c.in_ok-step.after) c.loop-turn-test.true c.loop-turn.invariant (c.in_ok-step.ensures ∙ ap (λ o. Ok (o, ahead c.args.kinds.now c.in_ok-step.after)) c.in-More.is))
 
 pub init-returns-then-depth-eq0 : goal.init-returns-then-depth-eq0
 unfolding init

@@ -1,0 +1,6 @@
+mod Members
+mod Places
+mod Meant
+mod Locals
+mod Outer
+mod Like

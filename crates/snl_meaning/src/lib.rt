@@ -1,0 +1,13 @@
+//! What the name at a place of a text means: a session and an offset come in, the span of the name
+//! there goes out with that of the name that declares it. It changes nothing, keeps nothing, and
+//! knows nothing of editors.
+#![tactic(auto)]
+
+mod item_tokens;
+mod items;
+mod laws;
+mod meanings;
+mod names;
+
+pub use laws::names_mean_their_like;
+pub use meanings::{Meaning, meaning_at};

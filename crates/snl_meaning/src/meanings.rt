@@ -1,0 +1,122 @@
+//! What the name at an offset of a text means. In: what is kept of the text. Out: the spans of the
+//! name and of the one that declares it.
+
+ghost use Rattle.std.specs.Prelude.{◌≡◌, ℕ, IfOk, List, vec_len};
+ghost use Rattle.snl_kept.specs.Kept.{IsListed};
+ghost use Rattle.snl_kept.specs.Program.{item_tokens};
+ghost use Rattle.snl_lex.specs.PieceList.{piece_ends, piece_kinds};
+ghost use Rattle.snl_lex.specs.Pieces.{tokens_of};
+ghost use Rattle.snl_meaning.specs.Meanings.{meaning_between, meaning_of, meant_at};
+
+use crate::item_tokens::ItemTokens;
+use crate::items::TokenPlace;
+use crate::names::{LinkedItem, meant_in};
+use snl_cut::OutOfMemory;
+use snl_kept::Lists;
+use snl_lex::{Piece, PieceList, text_in_pieces};
+use snl_scope::{Source, same_spelling_same_summary};
+use snl_session::Session;
+use snl_syntax::{outcome_told, same_spelling_same_tree};
+use snl_tables::Span;
+use std::alloc::Global;
+
+/// What a name means: the span of the name, and that of the name that declares it.
+#[derive(Clone, Copy, Debug, PartialEq, Eq)]
+pub struct Meaning {
+    pub name: Span,
+    pub declared: Span,
+}
+
+// What a token of the text means.
+fn meant_at(
+    alloc: Global,
+    lists: &Lists,
+    items: &ItemTokens,
+    place: TokenPlace,
+) -> Result<Option<TokenPlace>, OutOfMemory>
+    requires { IsListed items.now.text.now lists.now }
+    ensures { IfOk result (λ m. m ≡ meant_at items.now.text.now place) }
+{
+    text_in_pieces();
+    outcome_told();
+    same_spelling_same_tree();
+    same_spelling_same_summary();
+    let Some(tokens) = items.tokens_of(place.item) else {
+        return Ok(None);
+    };
+    let Some(entry) = lists.entries.get(place.item) else {
+        return Ok(None);
+    };
+    let entry = entry.get();
+    let source = Source {
+        text: items.text,
+        tokens,
+        alloc,
+    };
+    let linked = LinkedItem {
+        links: &lists.links,
+        item: place.item,
+    };
+    let tree = entry.parsed.tree();
+    meant_in(&linked, &source, tree, &entry.summary.outline, place.token)
+}
+
+// The meaning of the name at a place, where it means the name at another one.
+fn meaning_between(items: &ItemTokens, name: TokenPlace, declared: TokenPlace) -> Option<Meaning>
+    ensures { result ≡ meaning_between (item_tokens items.now.text.now) name declared }
+{
+    Some(Meaning {
+        name: items.span_at(name)?,
+        declared: items.span_at(declared)?,
+    })
+}
+
+// All tokens of a text, by the list of its pieces.
+fn all_tokens(alloc: Global, pieces: &PieceList) -> Result<Vec<Piece>, OutOfMemory>
+    requires { vec_len pieces.now.ends ≡ vec_len pieces.now.kinds }
+    ensures { IfOk
+        result
+        (λ tokens. (text : List ℕ) → pieces.now.ends.items ≡ piece_ends text
+        → pieces.now.kinds.items ≡ piece_kinds text → tokens.items ≡ tokens_of text) }
+{
+    pieces.tokens_between(alloc, 0, pieces.ends.len())
+}
+
+// What the name at an offset means, by the lists of the text.
+#[tactic(auto, unfolding(crate::specs::Meanings::meaning_of))]
+fn meaning_in(
+    alloc: Global,
+    text: &[u8],
+    lists: &Lists,
+    offset: usize,
+) -> Result<Option<Meaning>, OutOfMemory>
+    requires { IsListed text.now lists.now }
+    ensures { IfOk result (λ m. m ≡ meaning_of text.now offset) }
+{
+    let tokens = all_tokens(alloc, &lists.pieces)?;
+    let items = ItemTokens {
+        text,
+        tokens: &tokens,
+        ends: &lists.items.ends,
+    };
+    let Some(name) = items.place_at(offset) else {
+        return Ok(None);
+    };
+    let Some(declared) = meant_at(alloc, lists, &items, name)? else {
+        return Ok(None);
+    };
+    Ok(meaning_between(&items, name, declared))
+}
+
+/// What the name means that has the byte at an offset of a session's text. None where no token has
+/// the byte, or it names nothing that the text declares. A name of an item that the grammar has no
+/// tree for means nothing, but for that of a state. The time is that of the text's tokens.
+pub fn meaning_at(
+    alloc: Global,
+    session: &Session,
+    offset: usize,
+) -> Result<Option<Meaning>, OutOfMemory>
+    ensures { IfOk result (λ m. m ≡ meaning_of session.now offset) }
+{
+    meaning_in(alloc, session.text(), &session.kept().lists, offset)
+}

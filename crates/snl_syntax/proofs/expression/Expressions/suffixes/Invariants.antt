@@ -1,8 +1,0 @@
-use Rattle.std.proofs.Common.{◌≡◌, [], ◌-◌}
-use Rattle.snl_syntax.specs.Tokens.{ahead}
-use Rattle.snl_syntax.specs.Steps.{many, many_within}
-use Rattle.snl_syntax.specs.Reading.Expressions.{assignx, type_within, next_suffix}
-use Rattle.snl_syntax.proofs.expression.Expressions.suffixes.Given as goal
-
-abbrev pub invariant-loop-turn : goal.invariant-loop-turn
-invariant-loop-turn g l = many_within (next_suffix (assignx l.self.depth) (type_within l.self.depth)) (l._turn-end - l._turn) l.found (ahead l.kinds l.at) ≡ many (next_suffix (assignx l.self.depth) (type_within l.self.depth)) [] (ahead l.kinds l.start)

@@ -1,8 +1,0 @@
-use Rattle.std.proofs.Common.{◌≡◌, [], ◌-◌}
-use Rattle.snl_syntax.specs.Tokens.{ahead}
-use Rattle.snl_syntax.specs.Steps.{many, many_within}
-use Rattle.snl_syntax.specs.Reading.Statements.{stmt, next_member}
-use Rattle.snl_syntax.proofs.statement.Statements.members.Given as goal
-
-abbrev pub invariant-loop-turn : goal.invariant-loop-turn
-invariant-loop-turn g l = many_within (next_member l.self.depth (stmt l.self.depth)) (l._turn-end - l._turn) l.found (ahead l.kinds l.at) ≡ many (next_member l.self.depth (stmt l.self.depth)) [] (ahead l.kinds l.start)
