@@ -80,9 +80,10 @@ symbol_sound s children h k = (
 
 outline_sound : (o : Outline) → AreSoundIn o → AreSound (outline_data o)
 outline_sound no_symbols h = tt
-outline_sound (symbol s children rest) h =
-    (symbol_sound s (outline_data children) h.0 (outline_sound children h.1),
-    outline_sound rest h.2)
+outline_sound (symbol s children rest) h = (
+  symbol_sound s (outline_data children) h.0 (outline_sound children h.1),
+  outline_sound rest h.2,
+)
 
 -- ---- levels
 

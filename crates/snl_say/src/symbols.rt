@@ -142,11 +142,7 @@ fn put_outline<'a>(out: &mut Vec<u8>, all: &'a [ShownSymbol<'a>]) -> Result<(), 
 /// The symbols of a document. The children of a symbol are those after it that are deeper, up to
 /// the first that is not. An `Err`, of memory, may leave a front of the bytes.
 #[tactic(auto, unfolding(crate::specs::Symbols::symbols_text))]
-pub fn put_symbols(
-    out: &mut Vec<u8>,
-    id: Id<'_>,
-    all: &[ShownSymbol<'_>],
-) -> Result<(), AllocError>
+pub fn put_symbols(out: &mut Vec<u8>, id: Id<'_>, all: &[ShownSymbol<'_>]) -> Result<(), AllocError>
     ensures { OnOk result (out.new.items ≡ out.old.items
         ++ symbols_text (id_data id.entry) (map (λ s. symbol_of s) all.now)) }
 {
