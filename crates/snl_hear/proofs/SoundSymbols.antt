@@ -1,5 +1,5 @@
 -- The answer with symbols is a value that a text can have, so that it reads back.
-use Rattle.std.proofs.Common.{◌≡◌, ℕ, suc, ◌+◌, ◌*◌, ◌≤◌, ◌<◌, List, [], ◌∷◌, Bool, true, false, cond, nat_lt, Some, codes, refl, arith}
+use Rattle.std.proofs.Common.{◌≡◌, ℕ, suc, ◌+◌, ◌*◌, ◌≤◌, ◌<◌, List, [], ◌∷◌, true, false, cond, nat_lt, Some, codes, refl, arith}
 use Rattle.serde_json.specs.Data.{Data, array, Items, items_depth}
 use Rattle.serde_json.specs.Written.{compact_text}
 use Rattle.snl_say.specs.Symbols.{IsNested, Outline, no_symbols, symbol, SymbolFound, after_deeper, deeper, kind_number, outline_data, outline_of, symbol_data, symbols_data}

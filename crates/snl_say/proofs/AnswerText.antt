@@ -12,7 +12,7 @@ use Rattle.snl_place.specs.declared.places.Encoding.{Encoding}
 use Rattle.snl_place.specs.declared.places.Encoding.TheVariants.{Utf8, Utf16}
 use Rattle.snl_place.specs.declared.places.Place.{Place}
 use Rattle.snl_say.specs.Answers.{error_data, error_text, hover_data, hover_head, hover_text, initialize_data, initialize_head, initialize_text, location_data, location_text, location_with, null_data, null_text, providers_text, server_text, sync_text}
-use Rattle.snl_say.specs.Places.{range_data, range_text}
+use Rattle.snl_say.specs.Places.{range_text}
 use Rattle.snl_say.proofs.PlaceText.{range_same}
 use Rattle.snl_say.proofs.PublishText.{closed}
 

@@ -1,5 +1,5 @@
 -- An outline has all symbols of its list, in their order, each in the last one that is less deep.
-use Rattle.std.proofs.Common.{◌≡◌, ◌∙◌, ℕ, suc, ◌≤◌, Bool, true, false, cond, List, [], ◌∷◌, ◌++◌, refl, ap, append_assoc, arith, nat_lt}
+use Rattle.std.proofs.Common.{◌≡◌, ◌∙◌, ℕ, suc, ◌≤◌, true, false, cond, List, [], ◌∷◌, ◌++◌, refl, ap, append_assoc, arith, nat_lt}
 use Rattle.std.proofs.lemmas.Bool.{ltb-false, ltb-true}
 use Rattle.snl_say.specs.Symbols.{BeginsWithin, IsNested, Outline, no_symbols, symbol, SymbolFound, after_deeper, deeper, in_order, outline_of}
 

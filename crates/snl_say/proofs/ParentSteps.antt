@@ -1,8 +1,8 @@
 -- How an outline is written in one pass over its symbols.
 use Rattle.std.specs.Prelude.{codes}
-use Rattle.std.proofs.Common.{◌≡◌, ◌∙◌, ℕ, ◌+◌, ◌-◌, ◌<◌, ◌≤◌, Bool, true, false, cond, nat_lt, List, [], ◌∷◌, ◌++◌, length, get_or, map, reverse, Option, Some, option_to_list, Bor, refl, sym, ap, append-nil, append_assoc, arith}
+use Rattle.std.proofs.Common.{◌≡◌, ◌∙◌, ℕ, ◌+◌, ◌<◌, ◌≤◌, Bool, true, false, cond, nat_lt, List, [], ◌∷◌, ◌++◌, length, drop, get_or, map, Bor, refl, sym, ap, append-nil, append_assoc, arith}
 use Rattle.std.proofs.lemmas.Bool.{le-ltb, lt-ltb}
-use Rattle.std.proofs.lemmas.List.{get_or_push, reverse-append}
+use Rattle.std.proofs.lemmas.List.{drop_all, drop_more, reverse-append}
 use Rattle.json.proofs.Printed.Room.{moved}
 use Rattle.serde_json.specs.Written.{comma_if}
 use Rattle.snl_say.specs.declared.symbols.ShownSymbol.{ShownSymbol}
@@ -88,19 +88,7 @@ ended_later depth start out before now later h none =
 
 -- ---- the list of parents
 
--- the last one is taken out
-pub last_taken : {X : Type 0} (items rest new : List X) (x : X) (n : ℕ) (taken : Option X) →
-    items ≡ rest ++ x ∷ [] → length rest + 1 ≡ length items → n ≡ length items →
-    (0 < n → taken ≡ Some (get_or items (n - 1) x)) → items ≡ new ++ option_to_list taken →
-    (taken ≡ Some x) × (items ≡ new ++ x ∷ [])
-last_taken {X} items rest new x n taken last long counts value is =
-    let at : length rest ≡ n - 1 = omega arith in
-    let read : get_or items (n - 1) x ≡ x =
-    ap (λ (l : List X). get_or l (n - 1) x) last ∙ get_or_push rest x x (n - 1) at in
-    let same : taken ≡ Some x = value (omega arith) ∙ ap Some read in
-    (same, is ∙ ap (λ (o : Option X). new ++ option_to_list o) same)
-
-pub one_inside : (parents : List (Bor ShownSymbol)) (s : Bor ShownSymbol) →
+one_inside : (parents : List (Bor ShownSymbol)) (s : Bor ShownSymbol) →
     innermost_first (parents ++ s ∷ []) ≡ symbol_of s.now ∷ innermost_first parents
 one_inside parents s =
     ap (map (λ (x : Bor ShownSymbol). symbol_of x.now)) (reverse-append parents (s ∷ []))
@@ -191,7 +179,7 @@ after_all later (p ∷ parents) =
 -- ---- the loop
 
 -- one symbol more is begun
-pub begun_more : (out mid new whole : List ℕ) (before now : List SymbolFound) (later : Bool)
+begun_more : (out mid new whole : List ℕ) (before now : List SymbolFound) (later : Bool)
     (s : SymbolFound) (ss : List SymbolFound) →
     out ++ left_text false before (outline_of (s ∷ ss)) ≡ whole →
     mid ≡ out ++ ends_before s.depth before → now ≡ parents_at s.depth before →
@@ -206,9 +194,39 @@ begun_more out mid new whole before now later s ss e wrote_ends left is_later wr
     moved mid new _ _ _ whole wrote_begin
     (sym (append_assoc (comma_if later) symbol_begin (left_text false (s ∷ now) o))) next
 
--- the last one is ended, and the list of symbols
-pub begun_all : (out mid new whole : List ℕ) (before : List SymbolFound) →
-    out ++ left_text false before no_symbols ≡ whole → mid ≡ out ++ ends_before 0 before →
-    new ≡ mid ++ codes "]" → new ≡ whole
-begun_all out mid new whole before e wrote_ends wrote_bracket =
-    wrote_bracket ∙ moved out mid _ _ _ whole wrote_ends (after_all false before) e
+-- the next one of the list is
+pub begun_next : (all : List ShownSymbol) (i : ℕ) (d : ShownSymbol) (s : Bor ShownSymbol)
+    (out mid new begin whole : List ℕ) (before now pushed : List (Bor ShownSymbol))
+    (later : Bool) → pushed ≡ now ++ s ∷ [] → i < length all → s.now ≡ get_or all i d →
+    out ++ left_text false (innermost_first before) (outline_of (map symbol_of (drop i all)))
+    ≡ whole →
+    mid ≡ out ++ ends_before s.now.depth (innermost_first before) →
+    innermost_first now ≡ parents_at s.now.depth (innermost_first before) →
+    later ≡ one_ends s.now.depth (innermost_first before) → new ≡ mid ++ begin →
+    begin ≡ comma_if later ++ symbol_begin →
+    new ++ left_text false (innermost_first pushed) (outline_of (map symbol_of (drop (i + 1) all)))
+    ≡ whole
+begun_next all i d s out mid new begin whole before now pushed later is_pushed within here e
+    wrote_ends left is_later wrote begin_is =
+    let rest = map symbol_of (drop (i + 1) all) in
+    let found : drop i all ≡ s.now ∷ drop (i + 1) all =
+    drop_more all i d within ∙ ap (λ (x : ShownSymbol). x ∷ drop (i + 1) all) (sym here) in
+    let inside : innermost_first pushed ≡ symbol_of s.now ∷ innermost_first now =
+    ap innermost_first is_pushed ∙ one_inside now s in
+    ap (λ (l : List SymbolFound). new ++ left_text false l (outline_of rest)) inside
+    ∙ begun_more out mid new whole (innermost_first before) (innermost_first now) later
+    (symbol_of s.now) rest
+    (ap (λ (l : List ShownSymbol). out
+    ++ left_text false (innermost_first before) (outline_of (map symbol_of l))) (sym found) ∙ e)
+    wrote_ends left is_later (wrote ∙ ap (λ (l : List ℕ). mid ++ l) begin_is)
+
+-- all are, the last ones are ended, and so is their list
+pub begun_all : (all : List ShownSymbol) (i : ℕ) (out mid new whole : List ℕ)
+    (before : List SymbolFound) → length all ≤ i →
+    out ++ left_text false before (outline_of (map symbol_of (drop i all))) ≡ whole →
+    mid ≡ out ++ ends_before 0 before → new ≡ mid ++ codes "]" → new ≡ whole
+begun_all all i out mid new whole before none e wrote_ends wrote_bracket =
+    wrote_bracket
+    ∙ moved out mid _ _ _ whole wrote_ends (after_all false before)
+    (ap (λ (l : List ShownSymbol). out ++ left_text false before (outline_of (map symbol_of l)))
+    (sym (drop_all i all none)) ∙ e)

@@ -7,7 +7,7 @@ use Rattle.snl_say.specs.declared.symbols.ShownSymbol.{ShownSymbol}
 
 -- The code has the innermost last.
 abbrev pub innermost_first : List (Bor ShownSymbol) → List SymbolFound
-innermost_first parents = map (λ s. symbol_of s.now) (reverse parents)
+innermost_first parents = map (λ (s : Bor ShownSymbol). symbol_of s.now) (reverse parents)
 
 -- What ends those that a symbol of this depth isn't in.
 abbrev pub ends_before : (depth : ℕ) → (parents : List SymbolFound) → List ℕ

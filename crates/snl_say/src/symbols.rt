@@ -92,7 +92,7 @@ fn pop_ended<'a>(
     ensures ended { IfSome result (λ s. InnermostEnds depth (symbol_of s.now)
         (innermost_first parents.old.items) (innermost_first parents.new.items)) }
     ensures stays { IfNone result (parents.new.items ≡ parents.old.items) }
-    ensures none { IfNone result (NoneEnds depth (innermost_first parents.new.items)) }
+    ensures none { IfNone result (NoneEnds depth (innermost_first parents.old.items)) }
 {
     let (innermost, _) = parents.split_last()?;
     if innermost.depth < depth {

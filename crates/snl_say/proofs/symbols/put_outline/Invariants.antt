@@ -7,5 +7,5 @@ use Rattle.snl_say.proofs.symbols.put_outline.Given as goal
 abbrev pub invariant-loop-symbol : goal.invariant-loop-symbol
 invariant-loop-symbol l =
     l.out.items ++ left_text false (innermost_first l.parents.items)
-    (outline_of (map (λ s. symbol_of s) (drop l.symbol-index l.all)))
-    ≡ l.initial.out.items ++ outline_text false (outline_of (map (λ s. symbol_of s) l.all))
+    (outline_of (map symbol_of (drop l.symbol-index l.all)))
+    ≡ l.initial.out.items ++ outline_text false (outline_of (map symbol_of l.all))
