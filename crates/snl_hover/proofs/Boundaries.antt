@@ -1,5 +1,5 @@
 -- The last place up to another one at which a character begins.
-use Rattle.std.proofs.Common.{◌≡◌, ◌-◌, ◌<◌, ◌∙◌, ℕ, zero, suc, true, false, cond, List, ap, sym, refl, arith}
+use Rattle.std.proofs.Common.{◌≡◌, ◌-◌, ◌<◌, ◌≤◌, ◌∙◌, ℕ, zero, suc, true, false, cond, List, ap, refl, arith}
 use Rattle.std.specs.Prelude.{slice_index}
 use Rattle.std.specs.Fmt.{is_char_start}
 use Rattle.std.specs.Fmt.Cut.{floor_char_boundary}
@@ -23,7 +23,8 @@ boundary_before bytes (suc n) some begins =
     ap (λ b. cond b (suc n) (floor_char_boundary bytes n)) begins
     ∙ ap (floor_char_boundary bytes) one
 
--- the text begins there
-pub boundary_zero : (bytes : List ℕ) → floor_char_boundary bytes 0 ≡ 0
+-- where the text begins
+pub boundary_zero : (bytes : List ℕ) (n : ℕ) → n ≤ 0 → floor_char_boundary bytes n ≡ n
 unfolding floor_char_boundary
-boundary_zero bytes = refl
+boundary_zero bytes zero first = refl
+boundary_zero bytes (suc n) first = absurd (omega (arith, first))

@@ -1,9 +1,12 @@
 -- Lines after others, and what is said of the first of many.
-use Rattle.std.proofs.Common.{◌≡◌, ◌++◌, ◌∷◌, ◌∙◌, ℕ, List, [], map, take, append-nil, ap, sym}
+use Rattle.std.proofs.Common.{◌≡◌, ◌+◌, ◌++◌, ◌∷◌, ◌∙◌, ℕ, List, [], Option, Some, codes, decimal, map, position, take, append-nil, ap, sym}
 use Rattle.std.specs.List.{flat_map, join_with_byte}
+use Rattle.std.specs.Option.{option_map_or}
 use Rattle.std.proofs.lemmas.Grind.{flat_map-append}
 use Rattle.std.proofs.lemmas.List.Folds.{flat_map-map}
-use Rattle.snl_hover.specs.Hover.{first_said, further, more, most}
+use Rattle.snl_tables.specs.declared.rows.FlagRow.{FlagRow}
+use Rattle.snl_tables.specs.declared.rows.Span.{Span}
+use Rattle.snl_hover.specs.Hover.{first_said, flag_line, flag_lines, further, is_flag, more, most}
 
 -- lines that are joined: the first one, and the others after it
 pub joined : (line : List ℕ) (lines : List (List ℕ)) →
@@ -21,3 +24,12 @@ each_first {X} says xs =
     further_append (map says (take most xs)) (more xs)
     ∙ ap (λ (l : List ℕ). l ++ further (more xs))
     (flat_map-map (λ (line : List ℕ). 10 ∷ line) says (take most xs))
+
+-- the line of an event flag
+pub flag_said : (flags : List FlagRow) (declared : Span) (place : ℕ) →
+    position (is_flag declared) flags ≡ Some place →
+    further (flag_lines flags declared) ≡ codes "\nevent flag " ++ decimal (place + 1)
+unfolding flag_lines
+flag_said flags declared place at =
+    ap (λ (o : Option ℕ). further (option_map_or (λ p. flag_line p ∷ []) o [])) at
+    ∙ append-nil (10 ∷ flag_line place)

@@ -40,7 +40,7 @@ without_blanks line = without_blanks_at_end (without_indent line)
 abbrev pub longest : ℕ
 longest = 200
 
--- A line that is longer ends before them, at the last place where a character of UTF-8 begins.
+-- A longer line ends at the last place up to there at which a character of UTF-8 begins.
 abbrev pub cut : List ℕ → List ℕ
 cut line =
     if nat_le (length line) longest then line else take (floor_char_boundary line longest) line

@@ -22,6 +22,7 @@ fn is_char_start(byte: u8) -> bool
 }
 
 // The last place up to an index where a character begins.
+#[tactic(auto, using(crate::proofs::Boundaries::boundary_before, crate::proofs::Boundaries::boundary_here, crate::proofs::Boundaries::boundary_zero))]
 fn floor_char_boundary(bytes: &[u8], index: usize) -> usize
     requires { index < length bytes.now }
     ensures place { result ≡ floor_char_boundary bytes.now index }

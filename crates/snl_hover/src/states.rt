@@ -6,8 +6,9 @@ ghost use Rattle.std.specs.Prelude.{◌≡◌, ◌++◌, ◌∷◌, [], IfOk, On
 ghost use Rattle.std.specs.Prelude.{option_copied, take};
 ghost use Rattle.snl_listing.specs.Listing.{mark_text};
 ghost use Rattle.snl_hover.specs.declared.states.Waker.TheVariants.{Channel, Flag};
-ghost use Rattle.snl_hover.specs.Hover.{after_comma, channel_name, further, is_state, row_lines};
-ghost use Rattle.snl_hover.specs.Hover.{state_declared, state_lines, wake_lines, waker_name, wakers};
+ghost use Rattle.snl_hover.specs.Hover.{after_comma, channel_name, further, is_state, more};
+ghost use Rattle.snl_hover.specs.Hover.{row_lines, state_declared, state_lines, wake_lines};
+ghost use Rattle.snl_hover.specs.Hover.{waker_name, wakers};
 
 use crate::channels::put_index;
 use crate::first::{are_more, first_of};
@@ -40,13 +41,13 @@ fn state_among(states: &[StateRow], declared: Span) -> Option<&StateRow>
 }
 
 // The same among the states of all sets.
+#[tactic(auto, using(crate::proofs::DeclaredStates::found_here, crate::proofs::DeclaredStates::found_later))]
 fn state_declared(sets: &[SetRow], declared: Span) -> Option<&StateRow>
     ensures { option_copied result ≡ state_declared declared sets.now }
 {
     for set in sets {
-        let found = state_among(set.states.as_slice(), declared);
-        if found.is_some() {
-            return found;
+        if let Some(state) = state_among(set.states.as_slice(), declared) {
+            return Some(state);
         }
     }
     None
@@ -136,6 +137,16 @@ fn put_others(
     Ok(())
 }
 
+// `..` after the names, where there are more.
+fn put_more_names(out: &mut Vec<u8>, all: &[Waker]) -> Result<(), AllocError>
+    ensures { OnOk result (out.new.items ≡ out.old.items ++ flat_map after_comma (more all.now)) }
+{
+    if are_more(all) {
+        out.extend_from_slice(b", ..")?;
+    }
+    Ok(())
+}
+
 // The line of what a state wakes on.
 fn put_wakers(
     out: &mut Vec<u8>,
@@ -152,10 +163,7 @@ fn put_wakers(
     out.extend_from_slice(b"\nwakes on ")?;
     put_waker(out, text, tables, *first)?;
     put_others(out, text, tables, others)?;
-    if are_more(all) {
-        out.extend_from_slice(b", ..")?;
-    }
-    Ok(())
+    put_more_names(out, all)
 }
 
 // The lines of a state.
