@@ -1,18 +1,16 @@
 -- Line ends, which rise, and how many of them are before an offset.
-use Rattle.std.proofs.Common.{◌≡◌, ◌==◌, ℕ, zero, suc, ◌+◌, ◌-◌, ◌<◌, ◌≤◌, inl, inr, ◌⊎◌}
+use Rattle.std.proofs.Common.{◌≡◌, ◌==◌, ℕ, zero, suc, ◌+◌, ◌-◌, ◌<◌, ◌≤◌, inl, inr}
 use Rattle.std.proofs.Common.{Bool, true, false, cond, nat_lt, refl, sym, ap, subst, ◌∙◌, arith}
 use Rattle.std.proofs.Common.{List, [], ◌∷◌, ◌++◌, length, take, drop, get_or, count_by}
-use Rattle.std.specs.List.Sorted.{IsNonDecreasing, IsPartitionPoint}
 use Rattle.std.proofs.Math.Seq.{take-add, take-nil}
 use Rattle.std.proofs.lemmas.Bool.Decides.{nat_tests}
-use Rattle.std.proofs.lemmas.List.{get_or_past, take_all}
-use Rattle.std.proofs.lemmas.List.Sums.{count_by-le-length, sum_by-append}
+use Rattle.std.proofs.lemmas.List.{get_or_past}
+use Rattle.std.proofs.lemmas.List.Sums.{count_by-le-length}
 use Rattle.snl_lex.specs.LineList.{line_begin, line_ends, line_ends_from}
-use Rattle.std.proofs.lemmas.Bool.{cases_lt, lt-ltb, le-ltb}
-use Rattle.snl_facts.specs.Counts.{count_append, count_cons, count_yes, count_no}
-use Rattle.snl_facts.specs.Numbers.{bit_more}
+use Rattle.std.proofs.lemmas.Bool.{cases_lt, lt-ltb}
+use Rattle.snl_facts.specs.Counts.{count_append, count_cons, count_yes}
 use Rattle.snl_place.specs.Lines.{line_stop}
-use Rattle.snl_lex.specs.LineLaws.{Climbs, below, climbs_less, ends_climb, climbs_get, climbs_order, under_one, ends_under, below_none, below_at, below_after, below_more}
+use Rattle.snl_lex.specs.LineLaws.{Climbs, below, ends_climb, climbs_get, ends_under, below_none, below_at, below_after, below_more}
 
 -- ---- counts
 
