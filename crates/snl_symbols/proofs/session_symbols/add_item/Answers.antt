@@ -10,8 +10,8 @@ use Rattle.snl_symbols.specs.Symbols.{item_symbols, symbols_at}
 use Rattle.snl_symbols.proofs.Kept.{kept_outline, linked_count, outline_kept}
 use Rattle.snl_symbols.proofs.session_symbols.add_item.Goals as goal
 
-pub returns-in_default-get : goal.returns-in_default-get
-returns-in_default-get c =
+pub returns-in_default : goal.returns-in_default
+returns-in_default c =
     let text = c.args.items.now.text.now in
     let i = c.args.item in
     let old = c.args.symbols.now.items in
@@ -22,7 +22,7 @@ returns-in_default-get c =
     sym kept
     ∙ ap (λ (es : List Entry). option_map outline_kept (slice_get es i))
     (sym c.requires.listed.entries)
-    ∙ ap (option_map outline_kept) (sym c.in_default-get.ensures) in
+    ∙ ap (option_map outline_kept) (sym c.in_default.ensures) in
     let nothing : symbols_at (item_tokens text) (outlines_in text) i ≡ [] =
     ap (λ (o : Option Outline).
     option_map_or (item_symbols (item_tokens text) (outlines_in text) i) o []) none in
@@ -47,7 +47,7 @@ returns c =
     sym kept
     ∙ ap (λ (es : List Entry). option_map outline_kept (slice_get es i))
     (sym c.requires.listed.entries)
-    ∙ ap (option_map outline_kept) (sym c.in-Some-get.ensures)
+    ∙ ap (option_map outline_kept) (sym c.in-Some.ensures)
     ∙ ap (λ (e : Entry). Some (outline_kept e)) (sym c.get-entry.ensures) in
     let linked : c.args.lists.now.links.outlines ≡ outlines_in text =
     ap (λ (l : LinkedItems). l.outlines) c.requires.listed.links in
