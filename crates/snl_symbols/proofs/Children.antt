@@ -1,5 +1,5 @@
 -- What belongs to a symbol lies within its extent.
-use Rattle.std.proofs.Common.{◌≡◌, ◌||◌, ℕ, zero, suc, ◌+◌, ◌-◌, ◌<◌, ◌≤◌, Bool, true, false, cond, nat_eq, nat_lt, List, [], ◌∷◌, ◌++◌, length, slice_get, Option, None, Some, inl, inr, is_some, refl, ap, ap₂, sym, subst, ◌∙◌, add-one, arith, append-nil, append_assoc}
+use Rattle.std.proofs.Common.{◌≡◌, ◌||◌, ℕ, zero, suc, ◌+◌, ◌<◌, ◌≤◌, Bool, true, false, cond, nat_eq, nat_lt, List, [], ◌∷◌, ◌++◌, length, slice_get, Option, None, Some, inl, inr, is_some, refl, ap, ap₂, sym, subst, ◌∙◌, add-one, arith, append-nil, append_assoc}
 use Rattle.std.specs.Prelude.{if◌then◌else◌, not}
 use Rattle.std.specs.List.{AllByRecursion as Each, filter_map, take_while}
 use Rattle.std.specs.Option.{option_and_then, option_map, option_map_or, option_to_list}
@@ -15,7 +15,7 @@ use Rattle.snl_syntax.specs.Parsing.{kinds_in}
 use Rattle.snl_syntax.specs.Reading.Items.{item_of}
 use Rattle.snl_scope.specs.declared.summaries.summary.Declared.{Declared}
 use Rattle.snl_scope.specs.declared.summaries.summary.Outline.{Outline}
-use Rattle.snl_scope.specs.NamedTokens.{NamesItsTokens, own_name}
+use Rattle.snl_scope.specs.NamedTokens.{NamesItsTokens}
 use Rattle.snl_scope.specs.Places.{begins_set, enclosing_set, ends_set, item_is, open_before, stands_in}
 use Rattle.snl_scope.specs.Summaries.{kind_of, role_of}
 use Rattle.snl_scope.specs.Summaries.Clauses.{clauses_in}
@@ -25,13 +25,12 @@ use Rattle.snl_kept.specs.Checks.{outlines_in}
 use Rattle.snl_kept.specs.Program.{item_tokens, tree_in}
 use Rattle.snl_kept.specs.TokenLaws.{read_tree}
 use Rattle.snl_symbols.specs.declared.document_symbol.DocumentSymbol.{DocumentSymbol}
-use Rattle.snl_symbols.specs.declared.document_symbol.DocumentSymbolKind.{DocumentSymbolKind}
 use Rattle.snl_symbols.specs.declared.document_symbol.DocumentSymbolKind.TheVariants as kinds
 use Rattle.snl_symbols.specs.Extents.{ChildrenLieWithin, LiesWithin, is_deeper}
 use Rattle.snl_symbols.specs.Symbols.{declared_symbol, depth_in, depth_of, extent_of, item_symbols, kind_by_opening, last_within, own_kind, own_symbol, span_at, span_of, symbol_with, symbols_at, symbols_before, symbols_of}
 use Rattle.snl_symbols.proofs.Kept.{outline_at, outline_by, outline_count}
 use Rattle.snl_symbols.proofs.Order.{AreInARow, get_here, span_there, span_within, spans_told, token_told, token_within}
-use Rattle.snl_symbols.proofs.Parts.{IsWith, each_declared, each_symbol, inner_is, outer_is, own_is, shallow}
+use Rattle.snl_symbols.proofs.Parts.{each_declared, each_symbol, inner_is, outer_is, own_is, shallow}
 use Rattle.snl_symbols.proofs.Within.{alone, last_inside, reaches}
 
 -- ---- symbols that are deeper, up to the first that isn't

@@ -1,6 +1,5 @@
 mod Members
 mod Kept
-mod Loops
 mod Within
 mod Order
 mod Parts

@@ -1,5 +1,5 @@
 -- The items of a text: the one with a number, by where it begins and ends.
-use Rattle.std.proofs.Common.{◌≡◌, ℕ, zero, suc, ◌-◌, ◌<◌, ◌≤◌, List, [], ◌∷◌, length, get_or, take, drop, slice_get, Some, None, refl, ap, ap₂, sym, ◌∙◌, arith}
+use Rattle.std.proofs.Common.{◌≡◌, ℕ, zero, suc, ◌-◌, ◌<◌, ◌≤◌, List, [], ◌∷◌, length, get_or, take, drop, slice_get, Some, None, refl, ap₂, sym, ◌∙◌, arith}
 use Rattle.snl_cut.specs.Cut.{Rises, last_end, members}
 use Rattle.snl_cut.specs.CutLaws.{length_members}
 use Rattle.snl_lex.specs.declared.piece.Piece.{Piece}

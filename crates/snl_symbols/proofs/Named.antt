@@ -1,5 +1,5 @@
 -- The name of each symbol lies within its extent.
-use Rattle.std.proofs.Common.{◌≡◌, ℕ, zero, suc, ◌+◌, ◌<◌, ◌≤◌, Bool, true, false, All, List, [], ◌∷◌, ◌++◌, length, slice_get, Option, Some, subst, ap, sym, ◌∙◌, arith}
+use Rattle.std.proofs.Common.{◌≡◌, ℕ, zero, suc, ◌≤◌, Bool, true, false, All, List, [], ◌∷◌, length, Some, subst, sym, ◌∙◌, arith}
 use Rattle.std.specs.List.{AllByRecursion as Each}
 use Rattle.std.proofs.lemmas.List.{length-map}
 use Rattle.std.proofs.lemmas.List.Elements.{All-from_recursion, recursion_from_All}
@@ -19,7 +19,7 @@ use Rattle.snl_kept.specs.Program.{item_tokens}
 use Rattle.snl_kept.specs.TokenLaws.{members_apart, tokens_apart}
 use Rattle.snl_symbols.specs.declared.document_symbol.DocumentSymbol.{DocumentSymbol}
 use Rattle.snl_symbols.specs.Extents.{LiesWithin, NameLiesWithin}
-use Rattle.snl_symbols.specs.Symbols.{declared_symbol, extent_of, last_within, own_symbol, span_at, symbols_before, symbols_of}
+use Rattle.snl_symbols.specs.Symbols.{declared_symbol, extent_of, last_within, span_at, symbols_before, symbols_of}
 use Rattle.snl_symbols.proofs.Order.{AreInARow, IsToken, row_of, spans_told, token_told, token_within}
 use Rattle.snl_symbols.proofs.Parts.{IsWith, each_at, each_symbol, inner_is, outer_is, own_is}
 

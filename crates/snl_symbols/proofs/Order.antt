@@ -7,7 +7,7 @@ use Rattle.std.proofs.lemmas.Bool.{cases_lt}
 use Rattle.std.proofs.lemmas.Option.{same_Some, slice_get_within}
 use Rattle.snl_facts.specs.Each.{EachTwo, each_got}
 use Rattle.snl_lex.specs.declared.piece.Piece.{Piece}
-use Rattle.snl_lex.specs.Pieces.{LiesIn, piece_end}
+use Rattle.snl_lex.specs.Pieces.{piece_end}
 use Rattle.snl_tables.specs.declared.rows.Span.{Span}
 use Rattle.snl_kept.specs.Program.{item_tokens}
 use Rattle.snl_kept.specs.TokenLaws.{AllBefore, Before, InARow}

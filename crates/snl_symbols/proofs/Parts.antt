@@ -1,5 +1,5 @@
 -- The symbols of an item: where the name of each is, its extent and its depth.
-use Rattle.std.proofs.Common.{◌≡◌, ℕ, ◌+◌, ◌≤◌, Bool, true, false, List, [], ◌∷◌, ◌++◌, slice_get, Option, None, Some, is_some, refl, ap, sym, ◌∙◌, arith}
+use Rattle.std.proofs.Common.{◌≡◌, ℕ, ◌+◌, ◌≤◌, Bool, true, false, List, [], ◌∷◌, slice_get, Option, None, Some, is_some, refl, ap, sym, arith}
 use Rattle.std.specs.List.{AllByRecursion as Each, cons_option, filter_map}
 use Rattle.std.specs.Option.{option_and_then, option_map_or, option_to_list}
 use Rattle.std.proofs.lemmas.Option.{same_Some}

@@ -1,5 +1,5 @@
 -- How symbols lie in one another.
-use Rattle.std.specs.Prelude.{ℕ, ◌+◌, ◌≤◌, Bool, nat_lt, List, [], ◌∷◌, All, take_while}
+use Rattle.std.specs.Prelude.{◌+◌, ◌≤◌, Bool, nat_lt, List, [], ◌∷◌, All, take_while}
 use Rattle.snl_tables.specs.declared.rows.Span.{Span}
 use Rattle.snl_symbols.specs.declared.document_symbol.DocumentSymbol.{DocumentSymbol}
 

@@ -1,7 +1,4 @@
-use Rattle.std.proofs.Common.{◌^◌, ◌<◌, ◌≤◌, length, arith, subst, sym}
-use Rattle.std.proofs.lemmas.List.Elements.{All-drop, All-take}
-use Rattle.snl_lex.specs.declared.piece.Piece.{Piece}
-use Rattle.snl_lex.specs.Pieces.{piece_end}
+use Rattle.std.proofs.Common.{◌≤◌, length, arith, subst, sym}
 use Rattle.snl_symbols.proofs.Members.{item_at, no_item}
 use Rattle.snl_symbols.proofs.item_tokens.ItemTokens.tokens_of.Goals as goal
 
@@ -18,10 +15,3 @@ returns-clause-tokens c =
     item_at cut.text.now cut.tokens.now cut.ends.now c.args.item range.result.0 range.result.1
     cut.tokens_are cut.ends_are
     (omega arith) range.ensures.start range.ensures.stop
-
-pub returns-clause-near : goal.returns-clause-near
-returns-clause-near c =
-    let cut = c.args.self.now in
-    let start = c.range_of-start.result.0 in
-    All-take (λ (p : Piece). piece_end p < 2 ^ 64) _ _
-    (All-drop (λ (p : Piece). piece_end p < 2 ^ 64) start cut.tokens.now cut.near)
