@@ -1,9 +1,12 @@
-# Installs the checker: make install PREFIX=/usr/local, with DESTDIR=FOLDER for a package.
-# SNL_CLI names another program to install than the one that is built here.
+# Installs the checker, and the language server where that is built: make install PREFIX=/usr/local,
+# with DESTDIR=FOLDER for a package. SNL_CLI and SNL_LSP name other programs to install than those
+# that are built here.
 PREFIX ?= /usr/local
 DESTDIR ?=
 SNL_CLI ?=
+SNL_LSP ?=
 program = $(or $(SNL_CLI),crates/snl_cli/out/snl_cli)
+server = $(or $(SNL_LSP),crates/snl_lsp/out/snl_lsp)
 top = $(DESTDIR)$(PREFIX)
 library = $(top)/lib/snl-check
 shared = $(top)/share/snl-check
@@ -29,7 +32,9 @@ install: all
 	cp -R editors '$(shared)/'
 	rm '$(shared)/editors/vim/make_syntax'
 	ln -sf ../lib/snl-check/check '$(top)/bin/snl-check'
+	[ ! -x '$(server)' ] || install -m 755 '$(server)' '$(top)/bin/snl-lsp'
 
 uninstall:
 	rm -rf '$(library)' '$(shared)'
-	rm -f '$(top)/bin/snl-check' '$(manual)/snl-check.1' '$(completions)/snl-check'
+	rm -f '$(top)/bin/snl-check' '$(top)/bin/snl-lsp'
+	rm -f '$(manual)/snl-check.1' '$(completions)/snl-check'

@@ -1,6 +1,7 @@
 """Random edits: texts that a seed defines are changed, with places in either encoding, several in a
 message, past the ends of lines and texts and within characters. After each message the publish has
-to be what `snl_cli` finds in the text that the protocol's rules make here.
+to be what `snl_cli` finds in the text that the protocol's rules make here. After some, an outline
+has to have the names of the listing that `snl_cli` gives, and a definition the bytes of its name.
 
 Usage: edits.py SERVER CLI NUMBER SEED    as many messages, of that seed
 """
@@ -8,10 +9,11 @@ import json
 import random
 import sys
 
+from asked import STATE, STATE_SET, WORD, all_symbols, line_of, offsets_of
 from protocol import (
-    Checker, Model, Server, did_change, did_open, frame, initialize, note, offset_of, request,
-    wrong_in,
+    Checker, Model, Server, ask, did_change, did_open, frame, initialize, note, request, wrong_in,
 )
+from texts import offset_of, place_of
 
 URI = "file:///a.stt"
 # Bytes that make texts: of the language, of lines, of one to four bytes a character.
@@ -64,6 +66,58 @@ def some_changes(chance, text, is_utf8):
     return changes, text
 
 
+class Asking:
+    """Questions on a document of a server that runs, whose answers have to be those of a model."""
+
+    def __init__(self, server, model, seed):
+        self.server, self.model, self.wrong = server, model, ""
+        self.chance = random.Random(seed)
+
+    def result(self, method, *place):
+        """What is answered, once it is judged by the model."""
+        asked = ask(7, method, URI, *place)
+        self.server.send(frame(asked))
+        body = self.server.body()
+        for wanted in self.model.heard(json.dumps(asked)):
+            wrong = wrong_in(body, wanted, self.model.is_utf8)
+            self.wrong = self.wrong or (wrong and f"{method} at {place}: {wrong}")
+        return json.loads(body).get("result")
+
+    def ask_some(self, text):
+        """The outline, what one of its names means, and what some words of the text do: what is
+        wrong with these."""
+        symbols = [it for _, it in all_symbols(self.result("documentSymbol") or [])]
+        if symbols:
+            self.ask_own_name(self.chance.choice(symbols))
+        words = list(WORD.finditer(text))
+        for it in self.chance.sample(words, min(3, len(words))):
+            offset = self.chance.randint(it.start(), it.end())
+            self.ask_at(text, *place_of(text, offset, self.model.is_utf8))
+        self.ask_at(text, *some_place(self.chance, text))
+        return self.wrong
+
+    def ask_own_name(self, it):
+        """What a name of an outline means; a state and a state set mean themselves."""
+        between = it["selectionRange"]
+        found = self.result("definition", between["start"]["line"], between["start"]["character"])
+        if it["kind"] in (STATE, STATE_SET) and (found or {}).get("range") != between:
+            self.wrong = self.wrong or f"{it['name']} at {between} means {found}"
+
+    def ask_at(self, text, line, character):
+        """A definition and a hover at one place: both are there or none, and the hover begins with
+        the line of the declaration."""
+        found = self.result("definition", line, character)
+        hover = self.result("hover", line, character)
+        if self.wrong or (found, hover) == (None, None):
+            return
+        if not found or not hover:
+            self.wrong = f"at {line}:{character} {found} is declared, and {hover} told"
+            return
+        wanted = line_of(text, offsets_of(text, found["range"], self.model.is_utf8)[0])
+        if hover["contents"]["value"].split("\n")[0] != wanted:
+            self.wrong = f"at {line}:{character} {hover} is told in place of {wanted!r}"
+
+
 def talk(server, cli, number, seed):
     """For each message of a talk what is wrong with what is published after it."""
     chance = random.Random(seed)
@@ -72,6 +126,7 @@ def talk(server, cli, number, seed):
     checker = Checker(cli)
     model = Model(checker)
     it = Server(server)
+    asking = Asking(it, model, seed)
     it.send(frame(initialize(encodings)) + frame(note("initialized")))
     text = some_text(chance, 90).encode()
     bodies = [initialize(encodings), note("initialized"), did_open(URI, text.decode())]
@@ -88,6 +143,9 @@ def talk(server, cli, number, seed):
             "params": {"uri": URI, "version": version},
         }
         wrong = wrong_in(it.body(), wanted, is_utf8)
+        model.documents[URI] = "checked", version, text
+        if not wrong and version % 5 == 0:
+            wrong = asking.ask_some(text)
         yield wrong and f"message {version}, {json.dumps(changes)}: {wrong}"
         if wrong:
             break

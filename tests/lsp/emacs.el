@@ -1,5 +1,5 @@
-;; Opens p.stt in emacs with eglot and the server, changes it, and writes what it shows to the file
-;; told.
+;; Opens p.stt in emacs with eglot and the server, changes it, asks of it, and writes what is shown to
+;; the file told.
 (setq create-lockfiles nil make-backup-files nil)
 (require 'eglot)
 (require 'flymake)
@@ -33,6 +33,22 @@
     (eglot--signal-textDocument/didChange)
     (tell-shown tag count)))
 
+;; Tells what eglot gives imenu: names by their kinds, with the line of each, and what they are in.
+(defun tell-index (entry tag)
+  (if (consp (cdr entry))
+      (dolist (it (cdr entry)) (tell-index it (concat tag (car entry) " ")))
+    (tell "%s%s:%d" tag (car entry) (line-number-at-pos (cdr entry)))))
+
+;; Tells the symbols, where the name at point is declared, and what is told of it.
+(defun tell-asked ()
+  (dolist (entry (funcall imenu-create-index-function)) (tell-index entry ""))
+  (dolist (it (xref-backend-definitions 'eglot (xref-backend-identifier-at-point 'eglot)))
+    (let ((place (xref-item-location it)))
+      (tell "declared in line %d" (xref-location-line place))))
+  (let ((hover (jsonrpc-request (eglot-current-server) :textDocument/hover
+                                (eglot--TextDocumentPositionParams))))
+    (tell "%s" (plist-get (plist-get hover :contents) :value))))
+
 (find-file "p.stt")
 (snl-mode)
 (eglot--connect '(snl-mode) (cons 'transient default-directory) 'eglot-lsp-server
@@ -55,6 +71,10 @@
   (change "nothing left")
   (insert text)
   (change "undone"))
+(tell "asked")
+(goto-char (point-min))
+(search-forward "when (x")
+(tell-asked)
 (set-buffer-modified-p nil)
 (let ((server (eglot-current-server)))
   (ignore-errors (eglot-shutdown server))

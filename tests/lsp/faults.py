@@ -5,7 +5,9 @@ import os
 import subprocess
 import tempfile
 
-from protocol import did_change, did_close, did_open, frame, initialize, note, part, request, run
+from protocol import (
+    ask, did_change, did_close, did_open, frame, initialize, note, part, request, run,
+)
 
 HERE = os.path.dirname(os.path.realpath(__file__))
 URI = "file:///a.stt"
@@ -23,6 +25,9 @@ def talks():
         *begin,
         did_change(URI, [part((2, 73), (2, 74), "j")], 1),
         did_change(URI, [part((0, 8), (0, 9), "/*ä*/q"), part((1, 0), (1, 4), "long")], 2),
+        ask(3, "documentSymbol", URI),
+        ask(4, "definition", URI, 2, 30),
+        ask(5, "hover", URI, 2, 36),
         did_change(URI, [{"text": "ss"}], 3),
         *end,
     ]

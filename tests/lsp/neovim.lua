@@ -1,4 +1,5 @@
--- Opens p.stt in neovim with the server, changes it, and writes what it shows to the file told.
+-- Opens p.stt in neovim with the server, changes it, asks of it, and writes what is shown to the file
+-- told.
 local lines, version = {}, nil
 local name = 'textDocument/publishDiagnostics'
 local handler = vim.lsp.handlers[name]
@@ -16,6 +17,29 @@ local function tell(tag)
   for _, it in ipairs(vim.diagnostic.get(0)) do
     table.insert(lines, ('%d:%d-%d:%d %d %s %s'):format(
       it.lnum, it.col, it.end_lnum, it.end_col, it.severity, it.code, it.message))
+  end
+end
+
+-- What the server answers to a question on the text, at a place where it is one on a place.
+local function ask(method, line, column)
+  local params = vim.lsp.util.make_text_document_params()
+  params = { textDocument = params, position = { line = line, character = column } }
+  local answers = vim.lsp.buf_request_sync(0, 'textDocument/' .. method, params, 9000) or {}
+  local _, answer = next(answers)
+  return answer and answer.result
+end
+
+-- Tells the symbols, where the name at a place is declared, and what is told of it.
+local function tell_asked(line, column)
+  for _, it in ipairs(vim.lsp.util.symbols_to_items(ask('documentSymbol') or {}, 0)) do
+    table.insert(lines, ('%d:%d %s'):format(it.lnum - 1, it.col - 1, it.text))
+  end
+  vim.lsp.util.jump_to_location(ask('definition', line, column), 'utf-16')
+  local place = vim.api.nvim_win_get_cursor(0)
+  table.insert(lines, ('declared at %d:%d'):format(place[1] - 1, place[2]))
+  local hover = ask('hover', line, column)
+  for _, it in ipairs(vim.lsp.util.convert_input_to_markdown_lines(hover.contents)) do
+    table.insert(lines, it)
   end
 end
 
@@ -41,6 +65,8 @@ keys('ggVGd')
 tell('nothing left')
 keys('u')
 tell('undone')
+table.insert(lines, 'asked')
+tell_asked(3, 20)
 vim.lsp.stop_client(id)
 local ended = vim.wait(9000, function() return vim.lsp.client_is_stopped(id) end, 10)
 table.insert(lines, ended and 'stopped' or 'not stopped')

@@ -1,14 +1,19 @@
-"""What the tests of the language server share: frames, a server that runs, texts and places by the
-rules of the protocol, what `snl_cli` finds in a text, and a model of what the server has to say."""
+"""What the tests of the language server share: frames, a server that runs, what `snl_cli` finds in a
+text, and a model of what the server has to say."""
 import json
 import os
 import subprocess
+
+from asked import wrong_in_answer
+from texts import changed, offset_of
 
 LIMIT = 1048576
 LONGEST = 67108864
 MOST_SHOWN = 1000
 LARGE = ": more than 1048576 bytes: not checked"
 LOST = ": a change could not be followed: open the file again"
+# What is asked of a document.
+ASKED = ("textDocument/documentSymbol", "textDocument/definition", "textDocument/hover")
 ERRORS = {
     -32700: "parse error",
     -32600: "invalid request",
@@ -68,6 +73,14 @@ def did_change(uri, changes, version=1):
 
 def did_close(uri):
     return note("textDocument/didClose", {"textDocument": {"uri": uri}})
+
+
+def ask(number, method, uri, line=None, character=None):
+    """A question on a document, or on a place of it."""
+    params = {"textDocument": {"uri": uri}}
+    if line is not None:
+        params["position"] = {"line": line, "character": character}
+    return request(number, f"textDocument/{method}", params)
 
 
 def initialize(encodings=None):
@@ -132,66 +145,32 @@ class Checker:
         self.process = subprocess.Popen([program], stdin=pipe, stdout=pipe)
         self.length = 0
 
-    def found(self, text):
-        """The findings of a text: for each its line from 0 on, its code and its message."""
-        script = b"edit 0 %d %d\n%s\ncheck\n" % (self.length, len(text), text)
+    def ask(self, text, command, last):
+        """The lines of the answer to a command over a text, up to the last one."""
+        script = b"edit 0 %d %d\n%s\n%s\n" % (self.length, len(text), text, command)
         self.process.stdin.write(script)
         self.process.stdin.flush()
         assert self.process.stdout.readline() == b"ok\n"
         self.length = len(text)
+        while not (line := self.process.stdout.readline()).startswith(last):
+            yield line.rstrip(b"\n")
+
+    def found(self, text):
+        """The findings of a text: for each its line from 0 on, its code and its message."""
         findings = []
-        while True:
-            line = self.process.stdout.readline()
-            if line.startswith(b"errors "):
-                return findings
-            place, _, told = line.rstrip(b"\n").partition(b": ")
+        for line in self.ask(text, b"check", b"errors "):
+            place, _, told = line.partition(b": ")
             code, _, message = told.partition(b" ")
             findings.append((int(place.rpartition(b":")[2]) - 1, code.decode(), message.decode()))
+        return findings
+
+    def listed(self, text):
+        """The lines of a text's listing."""
+        return [line.decode() for line in self.ask(text, b"list", b"end")]
 
     def end(self):
         self.process.stdin.close()
         self.process.wait()
-
-
-# ---- texts and places
-
-
-def offset_of(text, line, character, is_utf8):
-    """The offset of a place: a line ends at its LF or CRLF, and a place in a character is where
-    that begins."""
-    start = 0
-    for _ in range(line):
-        end = text.find(b"\n", start)
-        if end < 0:
-            return len(text)
-        start = end + 1
-    end = text.find(b"\n", start)
-    if end < 0:
-        end = len(text)
-    elif end > start and text[end - 1] == 13:
-        end -= 1
-    units = 0
-    for letter in text[start:end].decode():
-        size = len(letter.encode())
-        units += size if is_utf8 else 1 + (ord(letter) > 0xFFFF)
-        if units > character:
-            return start
-        start += size
-    return end
-
-
-def changed(text, change, is_utf8):
-    """The text after a change; none where it can't be followed."""
-    new = change["text"].encode()
-    if "range" not in change:
-        return new
-    if text is None:
-        return None
-    start, stop = (
-        offset_of(text, place["line"], place["character"], is_utf8)
-        for place in (change["range"]["start"], change["range"]["end"])
-    )
-    return text[:start] + new + text[stop:] if start <= stop else None
 
 
 # ---- the model
@@ -237,7 +216,29 @@ class Model:
         if method == "shutdown":
             self.phase = "shut"
             return {"jsonrpc": "2.0", "id": number, "result": None}
+        if method in ASKED:
+            return self.asked_of_document(number, method, params)
         return error(number, -32601)
+
+    def asked_of_document(self, number, method, params):
+        """What is to be answered to a question on a document; by its text, where that is checked."""
+        try:
+            uri = params["textDocument"]["uri"]
+            place = None if method == ASKED[0] else params["position"]
+            numbers = [] if place is None else [place["line"], place["character"]]
+        except (KeyError, TypeError):
+            return error(number, -32602)
+        if not isinstance(uri, str) or any(not is_number(it) for it in numbers):
+            return error(number, -32602)
+        if uri not in self.documents:
+            return error(number, -32602)
+        now, _, text = self.documents[uri]
+        plain = {"jsonrpc": "2.0", "id": number}
+        if now != "checked":
+            return {**plain, "result": None}
+        rows = self.checker.listed(text) if place is None else None
+        asked = {"method": method, "uri": uri, "place": numbers, "text": text, "rows": rows}
+        return {"asked": asked, "plain": plain}
 
     def begin(self, number, params):
         self.phase = "ready"
@@ -245,12 +246,7 @@ class Model:
             self.is_utf8 = "utf-8" in params["capabilities"]["general"]["positionEncodings"]
         except (KeyError, TypeError):
             self.is_utf8 = False
-        capabilities = {
-            "positionEncoding": "utf-8" if self.is_utf8 else "utf-16",
-            "textDocumentSync": {"change": 2, "openClose": True},
-        }
-        result = {"capabilities": capabilities, "serverInfo": {"name": "snl_lsp"}}
-        return {"jsonrpc": "2.0", "id": number, "result": result}
+        return initialized(number, "utf-8" if self.is_utf8 else "utf-16")
 
     def told(self, method, params):
         if method == "exit":
@@ -302,6 +298,24 @@ class Model:
         ]
 
 
+def is_number(value):
+    """Whether it is an integer of 64 bits, from 0 on."""
+    return isinstance(value, int) and not isinstance(value, bool) and 0 <= value < 2**64
+
+
+def initialized(number, encoding):
+    """The answer to `initialize`."""
+    capabilities = {
+        "definitionProvider": True,
+        "documentSymbolProvider": True,
+        "hoverProvider": True,
+        "positionEncoding": encoding,
+        "textDocumentSync": {"change": 2, "openClose": True},
+    }
+    result = {"capabilities": capabilities, "serverInfo": {"name": "snl_lsp"}}
+    return {"jsonrpc": "2.0", "id": number, "result": result}
+
+
 def error(number, code):
     return {"jsonrpc": "2.0", "id": number, "error": {"code": code, "message": ERRORS[code]}}
 
@@ -316,6 +330,11 @@ def wrong_in(body, wanted, is_utf8):
     value = json.loads(body)
     if compact(value) != body:
         return f"not in its plain form: {body!r}"
+    if "asked" in wanted:
+        result = value.pop("result", "none")
+        if value != wanted["plain"]:
+            return f"{value} in place of {wanted['plain']}"
+        return wrong_in_answer(result, wanted["asked"], is_utf8)
     if "findings" not in wanted:
         return "" if value == wanted else f"{value} in place of {wanted}"
     items = value.get("params", {}).pop("diagnostics", None)

@@ -19,6 +19,9 @@ STARTED = {
     "jsonrpc": "2.0",
     "result": {
         "capabilities": {
+            "definitionProvider": True,
+            "documentSymbolProvider": True,
+            "hoverProvider": True,
             "positionEncoding": "utf-16",
             "textDocumentSync": {"change": 2, "openClose": True},
         },

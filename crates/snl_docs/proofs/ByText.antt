@@ -11,15 +11,17 @@ use Rattle.snl_hear.specs.Requests.{Asked, Initialize, Shutdown, DocumentSymbol,
 use Rattle.snl_hear.specs.Requests as asked
 use Rattle.snl_docs.specs.declared.phase.Phase.{Phase}
 use Rattle.snl_docs.specs.declared.phase.Phase.TheVariants.{New, Ready, Shut, Gone}
+use Rattle.snl_docs.specs.declared.question.Question.TheVariants as question
 use Rattle.snl_docs.specs.declared.standing.Standing.{Standing}
 use Rattle.snl_docs.specs.declared.standing.Standing.TheVariants.{Checked, Large, Lost}
-use Rattle.snl_docs.specs.Documents.{Doc, after_changes, is_named, lost, opened, put, updated, without}
-use Rattle.snl_docs.specs.Known.{IsByText, document_of, text_of}
+use Rattle.snl_docs.specs.Documents.{Doc, after_changes, document_of, is_named, lost, opened, put, updated, without}
+use Rattle.snl_docs.specs.Known.{IsByText, text_of}
 use Rattle.snl_docs.specs.Replies.{Reply, Publish}
 use Rattle.snl_docs.specs.Served.{Served, after, after_heard, after_note, answer_in, is_ready, replied, replies_to, told_note, told_of, told_of_all, told_of_named, with_docs}
 use Rattle.snl_docs.specs.Texts.{standing}
 use Rattle.snl_docs.specs.Told.{found_of_text, notices, stays, told, told_after}
 use Rattle.snl_docs.specs.Turns.{Turn, heard_at}
+use Rattle.snl_docs.proofs.Asked.{on_by_text}
 use Rattle.snl_docs.proofs.Known.{lost_there, named_so, not_there, put_there, updated_there}
 
 notices_by_text : (s : Served) (uri : List ℕ) (now : Standing) →
@@ -115,24 +117,27 @@ note_by_text s Other =
     ready_or_not s s.docs [] (All-nil (IsByText (with_docs s s.docs))) (is_ready s.phase)
 
 -- An answer to a request publishes nothing.
-answer_by_text : (s : Served) (phase : Phase) (id : Data) (asked : Asked) →
-    IsByText s (answer_in phase id asked)
-answer_by_text s New id (Initialize encoding) = tt
-answer_by_text s New id Shutdown = tt
-answer_by_text s New id (DocumentSymbol uri) = tt
-answer_by_text s New id (Definition at) = tt
-answer_by_text s New id (Hover at) = tt
-answer_by_text s New id asked.InvalidParams = tt
-answer_by_text s New id MethodNotFound = tt
-answer_by_text s Ready id (Initialize encoding) = tt
-answer_by_text s Ready id Shutdown = tt
-answer_by_text s Ready id (DocumentSymbol uri) = tt
-answer_by_text s Ready id (Definition at) = tt
-answer_by_text s Ready id (Hover at) = tt
-answer_by_text s Ready id asked.InvalidParams = tt
-answer_by_text s Ready id MethodNotFound = tt
-answer_by_text s Shut id asked = tt
-answer_by_text s (Gone clean) id asked = tt
+answer_by_text : (s : Served) (phase : Phase) (encoding : Encoding) (docs : List Doc)
+    (id : Data) (asked : Asked) → IsByText s (answer_in phase encoding docs id asked)
+answer_by_text s New encoding docs id (Initialize other) = tt
+answer_by_text s New encoding docs id Shutdown = tt
+answer_by_text s New encoding docs id (DocumentSymbol uri) = tt
+answer_by_text s New encoding docs id (Definition at) = tt
+answer_by_text s New encoding docs id (Hover at) = tt
+answer_by_text s New encoding docs id asked.InvalidParams = tt
+answer_by_text s New encoding docs id MethodNotFound = tt
+answer_by_text s Ready encoding docs id (Initialize other) = tt
+answer_by_text s Ready encoding docs id Shutdown = tt
+answer_by_text s Ready encoding docs id (DocumentSymbol uri) =
+    on_by_text s encoding docs id uri question.Symbols
+answer_by_text s Ready encoding docs id (Definition at) =
+    on_by_text s encoding docs id at.uri (question.Definition at.place)
+answer_by_text s Ready encoding docs id (Hover at) =
+    on_by_text s encoding docs id at.uri (question.Hover at.place)
+answer_by_text s Ready encoding docs id asked.InvalidParams = tt
+answer_by_text s Ready encoding docs id MethodNotFound = tt
+answer_by_text s Shut encoding docs id asked = tt
+answer_by_text s (Gone clean) encoding docs id asked = tt
 
 heard_by_text : (s : Served) (heard : Heard) →
     All (IsByText (after_heard s heard)) (replies_to s heard)
@@ -143,8 +148,8 @@ heard_by_text s NoMessage = All-cons (IsByText s) _ [] tt (All-nil (IsByText s))
 heard_by_text s Response = All-nil (IsByText s)
 heard_by_text s (Request id asked) =
     let now : Served = after_heard s (Request id asked) in
-    All-cons (IsByText now) (answer_in s.phase id asked) [] (answer_by_text now s.phase id asked)
-    (All-nil (IsByText now))
+    All-cons (IsByText now) (answer_in s.phase s.encoding s.docs id asked) []
+    (answer_by_text now s.phase s.encoding s.docs id asked) (All-nil (IsByText now))
 heard_by_text s (Notification noted) = note_by_text s noted
 
 pub replied_by_text : (s : Served) (turn : Turn) → All (IsByText (after s turn)) (replied s turn)

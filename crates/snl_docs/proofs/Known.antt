@@ -4,8 +4,8 @@ use Rattle.std.specs.List.{find}
 use Rattle.std.specs.Option.{option_and_then}
 use Rattle.std.specs.Str.{bytes_eq}
 use Rattle.snl_facts.specs.Bytes.{same_bytes}
-use Rattle.snl_docs.specs.Documents.{Doc, is_named, lost, put, updated, without}
-use Rattle.snl_docs.specs.Known.{document_of, text_of}
+use Rattle.snl_docs.specs.Documents.{Doc, document_of, is_named, lost, put, updated, without}
+use Rattle.snl_docs.specs.Known.{text_of}
 
 same_as_itself : (u : List ℕ) → bytes_eq u u ≡ true
 same_as_itself [] = refl

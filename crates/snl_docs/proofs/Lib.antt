@@ -1,3 +1,5 @@
+pub mod Answered
+pub mod Asked
 pub mod ByText
 pub mod Elsewhere
 pub mod Framed

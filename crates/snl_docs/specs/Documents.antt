@@ -1,5 +1,5 @@
 -- The documents that are open.
-use Rattle.std.specs.Prelude.{ℕ, List, [], ◌∷◌, Bool, not, Option, Some, None, filter, if◌then◌else◌}
+use Rattle.std.specs.Prelude.{ℕ, List, [], ◌∷◌, Bool, not, Option, Some, None, filter, find, if◌then◌else◌}
 use Rattle.std.specs.Str.{bytes_eq}
 use Rattle.snl_place.specs.declared.places.Encoding.{Encoding}
 use Rattle.snl_hear.specs.Changes.{Changed}
@@ -34,6 +34,10 @@ abbrev pub lost : Doc → Doc
 lost doc = record { uri = doc.uri; version = None; text = None }
 
 -- ---- among the documents
+
+-- The document of a URI, if it is open.
+abbrev pub document_of : (uri : List ℕ) → List Doc → Option Doc
+document_of uri docs = find (is_named uri) docs
 
 -- In the place of that of its URI, or after all others.
 abbrev pub put : Doc → List Doc → List Doc

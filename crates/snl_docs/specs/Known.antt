@@ -1,19 +1,26 @@
 -- What is kept of a document, and which document a message is about.
-use Rattle.std.specs.Prelude.{⊤, ◌≡◌, ◌≢◌, ℕ, List, Option, Some, None, find, option_and_then}
+use Rattle.std.specs.Prelude.{⊤, ◌≡◌, ◌≢◌, ℕ, List, Option, Some, None, option_and_then, option_map}
 use Rattle.snl_hear.specs.Heard.{Heard, NoJson, NoMessage, Response, Request, Notification}
 use Rattle.snl_hear.specs.Notifications.{Noted, Initialized, Exit, DidOpen, DidChange, DidClose, InvalidParams, Other}
-use Rattle.snl_docs.specs.Documents.{Doc, is_named}
-use Rattle.snl_docs.specs.Replies.{Reply, Publish, Notice, AnswerNull, AnswerInitialize, AnswerError}
+use Rattle.snl_hear.specs.Requests.{Asked, Initialize, Shutdown, DocumentSymbol, Definition, Hover, MethodNotFound}
+use Rattle.snl_hear.specs.Requests as asked
+use Rattle.snl_docs.specs.Documents.{Doc, document_of}
+use Rattle.snl_docs.specs.Replies.{Reply, Publish, Notice, AnswerNull, AnswerInitialize, AnswerSymbols, AnswerLocation, AnswerHover, AnswerError}
 use Rattle.snl_docs.specs.Served.{Served}
+use Rattle.snl_docs.specs.Texts.{checked}
 use Rattle.snl_docs.specs.Told.{found_of_text}
 
--- The document of a URI, if it is open.
-abbrev pub document_of : (uri : List ℕ) → List Doc → Option Doc
-document_of uri docs = find (is_named uri) docs
-
--- Its text, if it is known.
+-- The text of the document of a URI, if it is open and its text is known.
 abbrev pub text_of : (uri : List ℕ) → List Doc → Option (List ℕ)
 text_of uri docs = option_and_then (λ d. d.text) (document_of uri docs)
+
+-- The same, if that text is checked too.
+abbrev pub checked_text : (uri : List ℕ) → List Doc → Option (List ℕ)
+checked_text uri docs = checked (text_of uri docs)
+
+-- What is kept for a URI: a text or that none is known, where the document is open.
+abbrev pub kept_for : (uri : List ℕ) → List Doc → Option (Option (List ℕ))
+kept_for uri docs = option_map (λ d. d.text) (document_of uri docs)
 
 -- What is published is what is found in the text that is kept.
 abbrev pub IsByText : Served → Reply → Type 0
@@ -21,7 +28,20 @@ IsByText s (Publish found uri version) = found ≡ found_of_text s.encoding (tex
 IsByText s (Notice severity message) = ⊤
 IsByText s (AnswerNull id) = ⊤
 IsByText s (AnswerInitialize id encoding) = ⊤
+IsByText s (AnswerSymbols id symbols) = ⊤
+IsByText s (AnswerLocation id uri start stop) = ⊤
+IsByText s (AnswerHover id contents start stop) = ⊤
 IsByText s (AnswerError id code) = ⊤
+
+-- It is asked of the document of this URI.
+abbrev pub IsAskedOf : (uri : List ℕ) → Asked → Type 0
+IsAskedOf uri (Initialize encoding) = ⊥
+IsAskedOf uri Shutdown = ⊥
+IsAskedOf uri (DocumentSymbol other) = other ≡ uri
+IsAskedOf uri (Definition at) = at.uri ≡ uri
+IsAskedOf uri (Hover at) = at.uri ≡ uri
+IsAskedOf uri asked.InvalidParams = ⊥
+IsAskedOf uri MethodNotFound = ⊥
 
 -- It is about another document than that of this URI, or about none.
 abbrev pub IsNotedElsewhere : (uri : List ℕ) → Noted → Type 0

@@ -1,3 +1,4 @@
+pub mod Asked
 pub mod Documents
 pub mod Found
 pub mod Held

@@ -1,5 +1,5 @@
 -- What the server keeps from one message to the next, and what it answers.
-use Rattle.std.specs.Prelude.{ℕ, List, [], ◌∷◌, ◌++◌, Bool, true, false, Option, Some, None, find, flat_map, map, if◌then◌else◌}
+use Rattle.std.specs.Prelude.{ℕ, List, [], ◌∷◌, ◌++◌, Bool, true, false, Option, Some, None, flat_map, map, if◌then◌else◌}
 use Rattle.std.specs.Option.{option_map_or}
 use Rattle.serde_json.specs.Data.{Data, null}
 use Rattle.snl_place.specs.declared.places.Encoding.{Encoding}
@@ -11,7 +11,9 @@ use Rattle.snl_hear.specs.Requests as asked
 use Rattle.snl_say.specs.declared.answers.ErrorCode.TheVariants as error
 use Rattle.snl_docs.specs.declared.phase.Phase.{Phase}
 use Rattle.snl_docs.specs.declared.phase.Phase.TheVariants.{New, Ready, Shut, Gone}
-use Rattle.snl_docs.specs.Documents.{Doc, after_changes, is_named, lost, opened, put, updated, without}
+use Rattle.snl_docs.specs.declared.question.Question.TheVariants as question
+use Rattle.snl_docs.specs.Asked.{answer_on}
+use Rattle.snl_docs.specs.Documents.{Doc, after_changes, document_of, lost, opened, put, updated, without}
 use Rattle.snl_docs.specs.Replies.{Reply, Publish, AnswerError, AnswerInitialize, AnswerNull, body_of}
 use Rattle.snl_docs.specs.Texts.{standing}
 use Rattle.snl_docs.specs.Told.{told, told_after}
@@ -76,18 +78,25 @@ abbrev pub answer_first : (id : Data) → Asked → Reply
 answer_first id (Initialize encoding) = AnswerInitialize id encoding
 answer_first id _ = AnswerError id error.ServerNotInitialized
 
-abbrev pub answer_ready : (id : Data) → Asked → Reply
-answer_ready id (Initialize encoding) = AnswerError id error.InvalidRequest
-answer_ready id Shutdown = AnswerNull id
-answer_ready id asked.InvalidParams = AnswerError id error.InvalidParams
-answer_ready id _ = AnswerError id error.MethodNotFound
+-- Between `initialize` and `shutdown`.
+abbrev pub answer_ready : Encoding → List Doc → (id : Data) → Asked → Reply
+answer_ready encoding docs id (Initialize other) = AnswerError id error.InvalidRequest
+answer_ready encoding docs id Shutdown = AnswerNull id
+answer_ready encoding docs id (DocumentSymbol uri) =
+    answer_on encoding docs id uri question.Symbols
+answer_ready encoding docs id (Definition at) =
+    answer_on encoding docs id at.uri (question.Definition at.place)
+answer_ready encoding docs id (Hover at) =
+    answer_on encoding docs id at.uri (question.Hover at.place)
+answer_ready encoding docs id asked.InvalidParams = AnswerError id error.InvalidParams
+answer_ready encoding docs id MethodNotFound = AnswerError id error.MethodNotFound
 
 -- One answer for each request.
-abbrev pub answer_in : Phase → (id : Data) → Asked → Reply
-answer_in New id asked = answer_first id asked
-answer_in Ready id asked = answer_ready id asked
-answer_in Shut id asked = AnswerError id error.InvalidRequest
-answer_in (Gone clean) id asked = AnswerError id error.InvalidRequest
+abbrev pub answer_in : Phase → Encoding → List Doc → (id : Data) → Asked → Reply
+answer_in New encoding docs id asked = answer_first id asked
+answer_in Ready encoding docs id asked = answer_ready encoding docs id asked
+answer_in Shut encoding docs id asked = AnswerError id error.InvalidRequest
+answer_in (Gone clean) encoding docs id asked = AnswerError id error.InvalidRequest
 
 -- ---- what is told of documents
 
@@ -97,7 +106,7 @@ told_of encoding change doc = told_after encoding (standing doc.text) (change do
 
 abbrev pub told_of_named : Encoding → (uri : List ℕ) → (change : Doc → Doc) → List Doc → List Reply
 told_of_named encoding uri change docs =
-    option_map_or (told_of encoding change) (find (is_named uri) docs) []
+    option_map_or (told_of encoding change) (document_of uri docs) []
 
 abbrev pub told_of_all : Encoding → List Doc → List Reply
 told_of_all encoding docs = flat_map (told_of encoding lost) docs
@@ -155,7 +164,7 @@ abbrev pub replies_to : Served → Heard → List Reply
 replies_to s NoJson = AnswerError null error.ParseError ∷ told_of_all s.encoding s.docs
 replies_to s NoMessage = AnswerError null error.InvalidRequest ∷ []
 replies_to s Response = []
-replies_to s (Request id asked) = answer_in s.phase id asked ∷ []
+replies_to s (Request id asked) = answer_in s.phase s.encoding s.docs id asked ∷ []
 replies_to s (Notification noted) = told_note s noted
 
 -- What is kept after a message.

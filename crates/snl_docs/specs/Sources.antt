@@ -6,6 +6,7 @@ use Rattle.snl_place.specs.Places.{place_in}
 use Rattle.snl_session.specs.Edit.{limit}
 use Rattle.snl_docs.specs.declared.source.Mark.{Mark}
 use Rattle.snl_docs.specs.declared.source.Source.{Source}
+use Rattle.snl_docs.specs.declared.source.SymbolMarks.{SymbolMarks}
 
 pub record IsSource (s : Source) : Type 0 where
   pub small : length s.text.now ≤ limit
@@ -17,3 +18,10 @@ pub record IsSource (s : Source) : Type 0 where
 pub record IsMark (s : Source) (mark : Mark) : Type 0 where
   pub inside : mark.offset ≤ length s.text.now
   pub place : mark.place ≡ place_in s.encoding (take mark.offset s.text.now)
+
+-- Each of them is one.
+pub record AreMarks (s : Source) (marks : SymbolMarks) : Type 0 where
+  pub start : IsMark s marks.start
+  pub stop : IsMark s marks.stop
+  pub name_start : IsMark s marks.name_start
+  pub name_stop : IsMark s marks.name_stop

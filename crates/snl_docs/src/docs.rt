@@ -9,12 +9,12 @@ ghost use Rattle.snl_hear.specs.Notifications.{noted_of};
 ghost use Rattle.snl_hear.specs.Requests.{asked_of};
 ghost use Rattle.snl_say.specs.Answers.{id_data};
 ghost use Rattle.snl_docs.specs.Replies.{framed_reply, said_of};
-ghost use Rattle.snl_docs.specs.Served.{answer_ready};
 
 use crate::document::Document;
 use crate::documents::{change, close, lose, lose_all, open};
 use crate::phase::Phase;
-use crate::replies::{say_error, say_initialize, say_null};
+use crate::replies::{say_error, say_initialize};
+use crate::requests::answer_ready;
 use crate::turn::Turn;
 use snl_cut::OutOfMemory;
 use snl_hear::{Body, Message, Notification, Request};
@@ -114,22 +114,23 @@ impl Docs {
         id: Id<'_>,
         request: Request<'_>,
         said: &mut Vec<u8>,
-    ) -> Result<(), AllocError>
+    ) -> Result<(), OutOfMemory>
         ensures state { self.new ≡ after_request self.old.phase self.old (asked_of request.entry) }
         ensures said { OnOk result (said.new.items ≡ said.old.items
-            ++ framed_reply (answer_in self.old.phase (id_data id.entry)
-            (asked_of request.entry))) }
+            ++ framed_reply (answer_in self.old.phase self.old.encoding self.old.docs
+            (id_data id.entry) (asked_of request.entry))) }
     {
         match self.phase {
-            Phase::New => self.request_first(id, request, said),
+            Phase::New => self.request_first(id, request, said)?,
             Phase::Ready => {
                 if let Request::Shutdown = request {
                     self.phase = Phase::Shut;
                 }
-                answer_ready(said, id, request)
+                answer_ready(&self.documents, self.encoding, id, request, said)?;
             }
-            Phase::Shut | Phase::Gone(_) => say_error(said, Some(id), ErrorCode::InvalidRequest),
+            Phase::Shut | Phase::Gone(_) => say_error(said, Some(id), ErrorCode::InvalidRequest)?,
         }
+        Ok(())
     }
 
     /// A request before `initialize`, or that one.
@@ -199,21 +200,5 @@ impl Docs {
             Notification::InvalidParams { uri: None } => lose_all(documents, encoding, said),
             Notification::Initialized | Notification::Exit | Notification::Other => Ok(()),
         }
-    }
-}
-
-/// The answer to a request between `initialize` and `shutdown`.
-fn answer_ready(said: &mut Vec<u8>, id: Id<'_>, request: Request<'_>) -> Result<(), AllocError>
-    ensures { OnOk result (said.new.items ≡ said.old.items
-        ++ framed_reply (answer_ready (id_data id.entry) (asked_of request.entry))) }
-{
-    match request {
-        Request::Shutdown => say_null(said, id),
-        Request::Initialize(_) => say_error(said, Some(id), ErrorCode::InvalidRequest),
-        Request::InvalidParams => say_error(said, Some(id), ErrorCode::InvalidParams),
-        Request::DocumentSymbol { .. }
-        | Request::Definition(_)
-        | Request::Hover(_)
-        | Request::MethodNotFound => say_error(said, Some(id), ErrorCode::MethodNotFound),
     }
 }

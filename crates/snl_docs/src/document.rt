@@ -1,21 +1,25 @@
 //! A document that is open.
-//! In: its URI, its text, and the changes of each message. Out: what the client is told of it.
+//! In: its URI, its text, the changes of each message, and what is asked of it. Out: what the client
+//! is told of it.
 //! Knows nothing of other documents, and of what may be asked when.
 
 ghost use Rattle.std.specs.Prelude.{◌≡◌, ◌++◌, IfOk, OnOk, map};
 ghost use Rattle.json.specs.Print.{quoted};
 ghost use Rattle.snl_hear.specs.Changes.{changed_of};
+ghost use Rattle.snl_say.specs.Answers.{id_data};
 ghost use Rattle.snl_docs.specs.Notices.{large_notice, lost_notice};
 ghost use Rattle.snl_docs.specs.Replies.{framed_reply, said_of};
 
+use crate::answers::answer_by;
 use crate::found::found_in;
-use crate::replies::{say_found, say_notice};
+use crate::question::Question;
+use crate::replies::{say_found, say_notice, say_null};
 use crate::standing::Standing;
 use crate::text::DocumentText;
 use snl_cut::OutOfMemory;
 use snl_hear::Change;
 use snl_place::Encoding;
-use snl_say::{Severity, put_quoted};
+use snl_say::{Id, Severity, put_quoted};
 use std::alloc::{AllocError, Global};
 use std::marker::Model;
 
@@ -68,6 +72,7 @@ fn lost_notice() -> &'static [u8]
 }
 
 impl Document {
+    ghost use Rattle.snl_docs.specs.Asked.{answer_of};
     ghost use Rattle.snl_docs.specs.Documents.{after_changes, is_named, lost, opened};
     ghost use Rattle.snl_docs.specs.Served.{told_of};
     ghost use Rattle.snl_docs.specs.Texts.{standing};
@@ -154,6 +159,24 @@ impl Document {
             return Ok(());
         }
         self.tell(encoding, said)
+    }
+
+    /// Answers a question by its text: `null`, where that isn't checked.
+    pub fn answer(
+        &self,
+        encoding: Encoding,
+        question: Question,
+        id: Id<'_>,
+        said: &mut Vec<u8>,
+    ) -> Result<(), OutOfMemory>
+        ensures { OnOk result (said.new.items ≡ said.old.items
+            ++ framed_reply (answer_of encoding (id_data id.entry) question self.now)) }
+    {
+        match self.text.session() {
+            Some(session) => answer_by(encoding, session, &self.quoted_uri, question, id, said)?,
+            None => say_null(said, id)?,
+        }
+        Ok(())
     }
 
     /// Makes the changes of one message, and tells the client how it is then. After an `Err`, which

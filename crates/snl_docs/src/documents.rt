@@ -1,19 +1,23 @@
 //! The documents that are open.
-//! In: what a client tells of a document, by its URI. Out: what the client is told.
+//! In: what a client tells or asks of a document, by its URI. Out: what the client is told.
 //! Knows nothing of messages, and of what may be asked when.
 
 ghost use Rattle.std.specs.Prelude.{◌≡◌, ◌++◌, ◌∷◌, [], None, OnOk, map, position};
 ghost use Rattle.snl_hear.specs.Changes.{changed_of};
+ghost use Rattle.snl_say.specs.Answers.{id_data};
+ghost use Rattle.snl_docs.specs.Asked.{answer_on};
 ghost use Rattle.snl_docs.specs.Documents.{after_changes, is_named, lost, opened, put, updated, without};
 ghost use Rattle.snl_docs.specs.Replies.{Publish, framed_reply, said_of};
 ghost use Rattle.snl_docs.specs.Served.{told_of_all, told_of_named};
 ghost use Rattle.snl_docs.specs.Told.{told};
 
 use crate::document::{Document, quoted_uri};
-use crate::replies::say_found;
+use crate::question::Question;
+use crate::replies::{say_error, say_found};
 use snl_cut::OutOfMemory;
 use snl_hear::Change;
 use snl_place::Encoding;
+use snl_say::{ErrorCode, Id};
 use std::alloc::AllocError;
 
 /// The number of the document with this URI.
@@ -106,6 +110,25 @@ pub fn close(
 {
     remove(documents, uri);
     say_closed(said, uri)?;
+    Ok(())
+}
+
+/// Answers a question on the document of this URI, or that it isn't open.
+pub fn answer(
+    documents: &[Document],
+    encoding: Encoding,
+    uri: &str,
+    question: Question,
+    id: Id<'_>,
+    said: &mut Vec<u8>,
+) -> Result<(), OutOfMemory>
+    ensures { OnOk result (said.new.items ≡ said.old.items
+        ++ framed_reply (answer_on encoding documents.now (id_data id.entry) uri.now question)) }
+{
+    match find(documents, uri) {
+        Some(at) => documents[at].answer(encoding, question, id, said)?,
+        None => say_error(said, Some(id), ErrorCode::InvalidParams)?,
+    }
     Ok(())
 }
 

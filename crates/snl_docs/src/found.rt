@@ -2,18 +2,18 @@
 //! In: a session. Out: its diagnostics, each with its places and its message.
 //! Knows nothing of documents. A diagnostic costs its own line of the text, or less.
 
-ghost use Rattle.std.specs.Prelude.{◌≡◌, ◌+◌, ◌≤◌, IfOk, length, map, take};
+ghost use Rattle.std.specs.Prelude.{◌≡◌, ◌+◌, IfOk, map, take};
 ghost use Rattle.snl_place.specs.Places.{place_in};
 ghost use Rattle.snl_say.specs.Publish.{found_of};
-ghost use Rattle.snl_script.specs.Parts.{slice_of};
 ghost use Rattle.snl_docs.specs.Found.{extent, found_at, found_between, found_in, severity_of};
 ghost use Rattle.snl_docs.specs.Sources.{IsMark, IsSource};
 
+use crate::places::{begin_of, mark_after, slice_of, source_of};
 use crate::source::{Mark, Source};
 use snl_asked::token_at;
 use snl_cut::OutOfMemory;
 use snl_kept::Diagnostic;
-use snl_place::{Encoding, Place, place_from};
+use snl_place::{Encoding, Place};
 use snl_say::{Severity, Shown};
 use snl_session::Session;
 use std::alloc::Global;
@@ -31,14 +31,6 @@ fn severity_of(is_error: bool) -> Severity
     }
 }
 
-/// So many bytes of a text from an offset on, or those that there are.
-fn slice_of(text: &[u8], start: usize, len: usize) -> &[u8]
-    ensures { result.now ≡ slice_of text.now start len }
-{
-    let after = &text[start.min(text.len())..];
-    &after[..len.min(after.len())]
-}
-
 /// How many bytes a diagnostic is about.
 fn extent(source: &Source<'_>, diagnostic: &Diagnostic) -> usize
     requires { IsSource source.now }
@@ -53,34 +45,6 @@ fn extent(source: &Source<'_>, diagnostic: &Diagnostic) -> usize
     }
 }
 
-/// So many bytes after an offset of a text, or the text's end.
-fn offset_after(text: &[u8], offset: usize, len: usize) -> usize
-    ensures inside { result ≤ length text.now }
-    ensures same { take result text.now ≡ take (offset + len) text.now }
-{
-    let start = offset.min(text.len());
-    start + len.min(text.len() - start)
-}
-
-/// The place of an offset, counted on from another one.
-fn mark_from(source: &Source<'_>, from: Mark, offset: usize) -> Mark
-    requires source { IsSource source.now }
-    requires mark { IsMark source.now from }
-    requires inside { offset ≤ length source.now.text.now }
-    ensures mark { IsMark source.now result }
-    ensures offset { result.offset ≡ offset }
-{
-    let place = place_from(
-        source.encoding,
-        source.text,
-        source.ends,
-        from.offset,
-        from.place,
-        offset,
-    );
-    Mark { offset, place }
-}
-
 /// Where a diagnostic begins and where it stops.
 fn range_of(source: &Source<'_>, from: Mark, diagnostic: &Diagnostic) -> (Mark, Mark)
     requires source { IsSource source.now }
@@ -92,11 +56,9 @@ fn range_of(source: &Source<'_>, from: Mark, diagnostic: &Diagnostic) -> (Mark, 
         (take (diagnostic.now.offset + extent source.now.text.now diagnostic.now)
         source.now.text.now) }
 {
-    let start = offset_after(source.text, diagnostic.offset, 0);
     let len = extent(source, diagnostic);
-    let stop = offset_after(source.text, diagnostic.offset, len);
-    let start = mark_from(source, from, start);
-    let stop = mark_from(source, start, stop);
+    let start = mark_after(source, from, diagnostic.offset, 0);
+    let stop = mark_after(source, start, diagnostic.offset, len);
     (start, stop)
 }
 
@@ -143,34 +105,13 @@ fn shown_all<'a>(
         ≡ map (found_at source.now.encoding source.now.text.now) diagnostics.now) }
 {
     let mut shown = Vec::with_capacity(alloc, diagnostics.len())?;
-    let mut mark = Mark {
-        offset: 0,
-        place: Place {
-            line: 0,
-            character: 0,
-        },
-    };
+    let mut mark = begin_of(source);
     for diagnostic in diagnostics {
         let (start, next) = shown_after(source, mark, diagnostic);
         shown.push(next)?;
         mark = start;
     }
     Ok(shown)
-}
-
-/// What is told of a text from what is kept of it.
-fn source_of(encoding: Encoding, session: &Session) -> Source<'_>
-    ensures source { IsSource result }
-    ensures text { result.text.now ≡ session.now }
-    ensures encoding { result.encoding ≡ encoding }
-{
-    let lists = &session.kept().lists;
-    Source {
-        encoding,
-        text: session.text(),
-        ends: lists.lines.ends.as_slice(),
-        pieces: &lists.pieces,
-    }
 }
 
 /// What is found in the text of a session, as it is published: the first of it, where it is much.

@@ -1,7 +1,17 @@
 //! The laws of what is answered. A function here does nothing: its contract is the law.
 
-ghost use Rattle.std.specs.Prelude.{◌≡◌, ℕ, List, All};
-ghost use Rattle.snl_docs.specs.Known.{IsByText, IsElsewhere, document_of};
+ghost use Rattle.std.specs.Prelude.{◌≡◌, ◌∷◌, [], ℕ, List, Some, All};
+ghost use Rattle.serde_json.specs.Data.{Data};
+ghost use Rattle.snl_hear.specs.Documents.{Located};
+ghost use Rattle.snl_hear.specs.Heard.{Request};
+ghost use Rattle.snl_hear.specs.Requests.{Asked, Definition, DocumentSymbol, Hover};
+ghost use Rattle.snl_hover.specs.Hover.{hover_of};
+ghost use Rattle.snl_meaning.specs.Meanings.{meaning_near};
+ghost use Rattle.snl_docs.specs.declared.phase.Phase.TheVariants.{Ready};
+ghost use Rattle.snl_docs.specs.Asked.{hover_answer, location_answer, offset_at, symbols_in};
+ghost use Rattle.snl_docs.specs.Documents.{document_of};
+ghost use Rattle.snl_docs.specs.Known.{IsAskedOf, IsByText, IsElsewhere, checked_text, kept_for};
+ghost use Rattle.snl_docs.specs.Replies.{AnswerSymbols};
 ghost use Rattle.snl_docs.specs.Served.{Served, after, replied};
 ghost use Rattle.snl_docs.specs.Turns.{Turn, heard_at};
 
@@ -15,4 +25,29 @@ pub fn published_by_text()
 pub fn others_stay()
     ensures { (s : Served) (turn : Turn) (uri : List ℕ) → IsElsewhere uri (heard_at turn)
         → document_of uri (after s turn).docs ≡ document_of uri s.docs }
+{}
+
+/// What is asked of a document is answered by the text that is kept for its URI, where that is
+/// checked. Nothing else of what is kept is looked at, but how far the talk is and how places are
+/// counted.
+pub fn answered_by_text()
+    ensures symbols { (s : Served) (turn : Turn) (id : Data) (uri text : List ℕ)
+        → s.phase ≡ Ready → heard_at turn ≡ Request id (DocumentSymbol uri)
+        → checked_text uri s.docs ≡ Some text
+        → replied s turn ≡ AnswerSymbols id (symbols_in s.encoding text) ∷ [] }
+    ensures definition { (s : Served) (turn : Turn) (id : Data) (at : Located) (text : List ℕ)
+        → s.phase ≡ Ready → heard_at turn ≡ Request id (Definition at)
+        → checked_text at.uri s.docs ≡ Some text
+        → replied s turn ≡ location_answer s.encoding id at.uri text
+        (meaning_near text (offset_at s.encoding text at.place)) ∷ [] }
+    ensures hover { (s : Served) (turn : Turn) (id : Data) (at : Located) (text : List ℕ)
+        → s.phase ≡ Ready → heard_at turn ≡ Request id (Hover at)
+        → checked_text at.uri s.docs ≡ Some text
+        → replied s turn ≡ hover_answer s.encoding id text
+        (hover_of text (offset_at s.encoding text at.place)) ∷ [] }
+    ensures alone { (s other : Served) (turn : Turn) (id : Data) (asked : Asked) (uri : List ℕ)
+        → heard_at turn ≡ Request id asked → IsAskedOf uri asked
+        → s.phase ≡ other.phase → s.encoding ≡ other.encoding
+        → kept_for uri s.docs ≡ kept_for uri other.docs
+        → replied s turn ≡ replied other turn }
 {}

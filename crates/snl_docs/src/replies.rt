@@ -4,12 +4,13 @@
 ghost use Rattle.std.specs.Prelude.{◌≡◌, ◌++◌, OnOk, map};
 ghost use Rattle.snl_say.specs.Answers.{id_data, some_id_data};
 ghost use Rattle.snl_say.specs.Publish.{found_of};
-ghost use Rattle.snl_docs.specs.Replies.{AnswerError, AnswerInitialize, AnswerNull, Notice, framed_publish, framed_reply};
+ghost use Rattle.snl_say.specs.Symbols.{symbol_of};
+ghost use Rattle.snl_docs.specs.Replies.{AnswerError, AnswerHover, AnswerInitialize, AnswerNull, AnswerSymbols, Notice, framed_location, framed_publish, framed_reply};
 
-use snl_place::Encoding;
+use snl_place::{Encoding, Place};
 use snl_say::{
-    ErrorCode, Id, Severity, Shown, put_error, put_framed, put_initialize, put_message, put_null,
-    put_publish,
+    ErrorCode, Id, Severity, Shown, ShownSymbol, put_error, put_framed, put_hover, put_initialize,
+    put_location, put_message, put_null, put_publish, put_symbols,
 };
 use std::alloc::AllocError;
 
@@ -77,5 +78,54 @@ pub fn say_null(said: &mut Vec<u8>, id: Id<'_>) -> Result<(), AllocError>
 {
     let mut body = Vec::new(*said.allocator());
     put_null(&mut body, id)?;
+    put_framed(said, &body)
+}
+
+/// Answers with symbols.
+#[tactic(auto, unfolding(crate::specs::Replies::framed_reply))]
+pub fn say_symbols(
+    said: &mut Vec<u8>,
+    id: Id<'_>,
+    symbols: &[ShownSymbol<'_>],
+) -> Result<(), AllocError>
+    ensures { OnOk result (said.new.items ≡ said.old.items
+        ++ framed_reply (AnswerSymbols (id_data id.entry) (map (λ s. symbol_of s) symbols.now))) }
+{
+    let mut body = Vec::new(*said.allocator());
+    put_symbols(&mut body, id, symbols)?;
+    put_framed(said, &body)
+}
+
+/// Answers with a part of a document.
+#[tactic(auto, unfolding(crate::specs::Replies::framed_location))]
+pub fn say_location(
+    said: &mut Vec<u8>,
+    id: Id<'_>,
+    quoted_uri: &[u8],
+    start: Place,
+    stop: Place,
+) -> Result<(), AllocError>
+    ensures { OnOk result (said.new.items ≡ said.old.items
+        ++ framed_location (id_data id.entry) quoted_uri.now start stop) }
+{
+    let mut body = Vec::new(*said.allocator());
+    put_location(&mut body, id, quoted_uri, start, stop)?;
+    put_framed(said, &body)
+}
+
+/// Answers with what is told of a name, which is between two places.
+#[tactic(auto, unfolding(crate::specs::Replies::framed_reply))]
+pub fn say_hover(
+    said: &mut Vec<u8>,
+    id: Id<'_>,
+    contents: &[u8],
+    start: Place,
+    stop: Place,
+) -> Result<(), AllocError>
+    ensures { OnOk result (said.new.items ≡ said.old.items
+        ++ framed_reply (AnswerHover (id_data id.entry) contents.now start stop)) }
+{
+    let mut body = Vec::new(*said.allocator());
+    put_hover(&mut body, id, contents, start, stop)?;
     put_framed(said, &body)
 }

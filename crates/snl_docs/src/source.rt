@@ -1,4 +1,4 @@
-//! A text with what is kept of it, and a place in it.
+//! A text with what is kept of it, and places in it.
 
 use snl_lex::PieceList;
 use snl_place::{Encoding, Place};
@@ -17,4 +17,13 @@ pub struct Source<'a> {
 pub struct Mark {
     pub offset: usize,
     pub place: Place,
+}
+
+/// Where a symbol begins and stops, and where its name does.
+#[derive(Clone, Copy)]
+pub struct SymbolMarks {
+    pub start: Mark,
+    pub stop: Mark,
+    pub name_start: Mark,
+    pub name_stop: Mark,
 }

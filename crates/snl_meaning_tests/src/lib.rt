@@ -1,5 +1,10 @@
-//! A test of what names of a text mean. There is no code of the product here.
+//! Tests of what names of a text mean, of what a hover says of them, and of the symbols of a text.
+//! There is no code of the product here.
 #![tactic(auto)]
 
+#[cfg(test)]
+mod document_symbols;
+#[cfg(test)]
+mod hovers;
 #[cfg(test)]
 mod meanings;

@@ -9,6 +9,8 @@ mod asked;
 #[cfg(test)]
 mod heard;
 #[cfg(test)]
+mod questions;
+#[cfg(test)]
 mod served;
 #[cfg(test)]
 mod words;

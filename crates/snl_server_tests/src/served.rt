@@ -16,7 +16,7 @@ static TALK: [(&[u8], &str); 13] = [
     ),
     (
         b"{\"id\":1,\"method\":\"initialize\",\"params\":{}}",
-        "{\"id\":1,\"jsonrpc\":\"2.0\",\"result\":{\"capabilities\":{\"positionEncoding\":\"utf-16\",\"textDocumentSync\":{\"change\":2,\"openClose\":true}},\"serverInfo\":{\"name\":\"snl_lsp\"}}}\n",
+        "{\"id\":1,\"jsonrpc\":\"2.0\",\"result\":{\"capabilities\":{\"definitionProvider\":true,\"documentSymbolProvider\":true,\"hoverProvider\":true,\"positionEncoding\":\"utf-16\",\"textDocumentSync\":{\"change\":2,\"openClose\":true}},\"serverInfo\":{\"name\":\"snl_lsp\"}}}\n",
     ),
     (b"{\"method\":\"initialized\"}", ""),
     (
@@ -70,8 +70,13 @@ fn framed(alloc: Global, bodies: &str) -> Result<Vec<u8>, Fail> {
     Ok(all)
 }
 
-fn expect_all(rt: &(impl Abort + AllocGlobal), docs: &mut Docs) -> Result<(), Fail> {
-    for (row, (body, wanted)) in TALK.iter().enumerate() {
+/// Expects what is answered to each message, a body a line.
+pub fn expect_all(
+    rt: &(impl Abort + AllocGlobal),
+    docs: &mut Docs,
+    rows: &[(&[u8], &str)],
+) -> Result<(), Fail> {
+    for (row, (body, wanted)) in rows.iter().enumerate() {
         let mut said = Vec::new(rt.alloc());
         docs.answer(Turn::Body(body), &mut said)?;
         let wanted = framed(rt.alloc(), wanted)?;
@@ -84,7 +89,7 @@ fn expect_all(rt: &(impl Abort + AllocGlobal), docs: &mut Docs) -> Result<(), Fa
 #[test]
 fn answers_each_message(rt: HostRuntime) -> Result<(), Fail> {
     let mut docs = Docs::new(rt.alloc());
-    expect_all(&rt, &mut docs)?;
+    expect_all(&rt, &mut docs, &TALK)?;
     let mut said = Vec::new(rt.alloc());
     docs.answer(Turn::HeaderAlone, &mut said)?;
     docs.answer(Turn::Body(b"{\"method\":\"exit\"}"), &mut said)?;

@@ -1,0 +1,165 @@
+-- The answers to what is asked of a document.
+use Rattle.std.proofs.Common.{◌≡◌, ℕ, List, ◌++◌, get_or, Option, None, Some, refl, sym, subst, ap, ◌∙◌}
+use Rattle.std.specs.List.{position}
+use Rattle.std.specs.Option.{option_map, option_map_or}
+use Rattle.json.specs.Print.{quoted}
+use Rattle.serde_json.specs.Data.{Data}
+use Rattle.snl_place.specs.declared.places.Encoding.{Encoding}
+use Rattle.snl_place.specs.declared.places.Place.{Place}
+use Rattle.snl_meaning.specs.declared.meanings.Meaning.{Meaning}
+use Rattle.snl_meaning.specs.Meanings.{meaning_near}
+use Rattle.snl_hover.specs.Hover.{Told, hover_of}
+use Rattle.snl_say.specs.declared.answers.ErrorCode.TheVariants.{InvalidParams}
+use Rattle.snl_docs.specs.declared.question.Question.{Question}
+use Rattle.snl_docs.specs.declared.question.Question.TheVariants.{Symbols, Definition, Hover}
+use Rattle.snl_docs.specs.Asked.{answer_by, answer_of, answer_on, framed_answer, framed_meaning, hover_answer, location_answer, offset_at, start_of, stop_of}
+use Rattle.snl_docs.specs.Documents.{Doc, document_of, is_named}
+use Rattle.snl_docs.specs.Known.{IsByText, kept_for}
+use Rattle.snl_docs.specs.Replies.{Reply, AnswerError, AnswerLocation, AnswerNull, framed_location, framed_reply}
+use Rattle.snl_docs.specs.Served.{Served}
+use Rattle.snl_docs.specs.Texts.{checked}
+use Rattle.snl_docs.proofs.Known.{named_so}
+use Rattle.snl_docs.proofs.Named.{found_at_number, found_nowhere}
+
+-- ---- in frames
+
+pub location_framed : (id : Data) (uri quoted_uri : List ℕ) (start stop : Place) →
+    quoted_uri ≡ quoted uri →
+    framed_location id quoted_uri start stop ≡ framed_reply (AnswerLocation id uri start stop)
+unfolding framed_location framed_reply
+location_framed id uri quoted_uri start stop is = rw is refl
+
+meaning_framed : (encoding : Encoding) (id : Data) (uri quoted_uri text : List ℕ)
+    (meaning : Option Meaning) → quoted_uri ≡ quoted uri →
+    framed_meaning encoding id quoted_uri text meaning
+    ≡ framed_reply (location_answer encoding id uri text meaning)
+meaning_framed encoding id uri quoted_uri text None is = refl
+meaning_framed encoding id uri quoted_uri text (Some m) is =
+    location_framed id uri quoted_uri (start_of encoding text m.declared)
+    (stop_of encoding text m.declared) is
+
+answer_framed : (encoding : Encoding) (id : Data) (uri quoted_uri text : List ℕ)
+    (question : Question) → quoted_uri ≡ quoted uri →
+    framed_answer encoding id quoted_uri question text
+    ≡ framed_reply (answer_by encoding id uri question text)
+unfolding answer_by
+answer_framed encoding id uri quoted_uri text Symbols is = refl
+answer_framed encoding id uri quoted_uri text (Definition place) is =
+    meaning_framed encoding id uri quoted_uri text
+    (meaning_near text (offset_at encoding text place)) is
+answer_framed encoding id uri quoted_uri text (Hover place) is = refl
+
+-- ---- by a document
+
+-- What is answered by the text of a document was written.
+pub answer_is : (encoding : Encoding) (id : Data) (question : Question) (doc : Doc)
+    (text quoted_uri old new : List ℕ) →
+    new ≡ old ++ framed_answer encoding id quoted_uri question text →
+    quoted_uri ≡ quoted doc.uri → Some text ≡ checked doc.text →
+    new ≡ old ++ framed_reply (answer_of encoding id question doc)
+unfolding answer_of
+answer_is encoding id question doc text quoted_uri old new written is known =
+    written ∙ ap (λ (l : List ℕ). old ++ l)
+    (answer_framed encoding id doc.uri quoted_uri text question is
+    ∙ ap (λ (o : Option (List ℕ)). framed_reply
+    (option_map_or (answer_by encoding id doc.uri question) o (AnswerNull id))) known)
+
+-- It isn't checked, and `null` was written.
+pub null_is : (encoding : Encoding) (id : Data) (question : Question) (doc : Doc)
+    (old new : List ℕ) → new ≡ old ++ framed_reply (AnswerNull id) → None ≡ checked doc.text →
+    new ≡ old ++ framed_reply (answer_of encoding id question doc)
+unfolding answer_of
+null_is encoding id question doc old new written unknown =
+    written ∙ ap (λ (o : Option (List ℕ)). old ++ framed_reply
+    (option_map_or (answer_by encoding id doc.uri question) o (AnswerNull id))) unknown
+
+-- ---- by documents
+
+abbrev by_document : Encoding → (id : Data) → Question → Option Doc → Reply
+by_document encoding id question doc =
+    option_map_or (answer_of encoding id question) doc (AnswerError id InvalidParams)
+
+-- By the number of the document among them.
+pub answered_found : (encoding : Encoding) (docs : List Doc) (id : Data) (uri : List ℕ)
+    (question : Question) (found : Option ℕ) (i : ℕ) (d : Doc) →
+    found ≡ position (is_named uri) docs → found ≡ Some i → d ≡ get_or docs i d →
+    answer_of encoding id question d ≡ answer_on encoding docs id uri question
+unfolding answer_on
+answered_found encoding docs id uri question found i d is told there =
+    ap (by_document encoding id question)
+    (ap (λ (doc : Doc). Some doc) there ∙ sym (found_at_number uri docs i d (sym is ∙ told)))
+
+pub answered_missed : (encoding : Encoding) (docs : List Doc) (id : Data) (uri : List ℕ)
+    (question : Question) (found : Option ℕ) → found ≡ position (is_named uri) docs →
+    found ≡ None → AnswerError id InvalidParams ≡ answer_on encoding docs id uri question
+unfolding answer_on
+answered_missed encoding docs id uri question found is told =
+    ap (by_document encoding id question) (sym (found_nowhere uri docs (sym is ∙ told)))
+
+-- ---- by what is kept for a URI
+
+-- The answer, by that alone.
+abbrev pub answer_kept : Encoding → (id : Data) → (uri : List ℕ) → Question →
+    Option (Option (List ℕ)) → Reply
+answer_kept encoding id uri question None = AnswerError id InvalidParams
+answer_kept encoding id uri question (Some text) =
+    option_map_or (answer_by encoding id uri question) (checked text) (AnswerNull id)
+
+by_kept : (encoding : Encoding) (docs : List Doc) (id : Data) (uri : List ℕ)
+    (question : Question) (doc : Option Doc) → document_of uri docs ≡ doc →
+    by_document encoding id question doc
+    ≡ answer_kept encoding id uri question (option_map (λ (d : Doc). d.text) doc)
+unfolding answer_of
+by_kept encoding docs id uri question None is = refl
+by_kept encoding docs id uri question (Some d) is =
+    ap (λ (u : List ℕ).
+    option_map_or (answer_by encoding id u question) (checked d.text) (AnswerNull id))
+    (named_so uri docs d is)
+
+pub on_by_kept : (encoding : Encoding) (docs : List Doc) (id : Data) (uri : List ℕ)
+    (question : Question) →
+    answer_on encoding docs id uri question
+    ≡ answer_kept encoding id uri question (kept_for uri docs)
+unfolding answer_on
+on_by_kept encoding docs id uri question =
+    by_kept encoding docs id uri question (document_of uri docs) refl
+
+-- ---- nothing is published by an answer
+
+location_by_text : (s : Served) (encoding : Encoding) (id : Data) (uri text : List ℕ)
+    (meaning : Option Meaning) → IsByText s (location_answer encoding id uri text meaning)
+location_by_text s encoding id uri text None = tt
+location_by_text s encoding id uri text (Some m) = tt
+
+hover_by_text : (s : Served) (encoding : Encoding) (id : Data) (text : List ℕ)
+    (told : Option Told) → IsByText s (hover_answer encoding id text told)
+hover_by_text s encoding id text None = tt
+hover_by_text s encoding id text (Some h) = tt
+
+question_by_text : (s : Served) (encoding : Encoding) (id : Data) (uri : List ℕ)
+    (question : Question) (text : List ℕ) →
+    IsByText s (answer_by encoding id uri question text)
+unfolding answer_by
+question_by_text s encoding id uri Symbols text = tt
+question_by_text s encoding id uri (Definition place) text =
+    location_by_text s encoding id uri text (meaning_near text (offset_at encoding text place))
+question_by_text s encoding id uri (Hover place) text =
+    hover_by_text s encoding id text (hover_of text (offset_at encoding text place))
+
+kept_by_text : (s : Served) (encoding : Encoding) (id : Data) (uri : List ℕ)
+    (question : Question) (kept : Option (Option (List ℕ))) →
+    IsByText s (answer_kept encoding id uri question kept)
+kept_by_text s encoding id uri question None = tt
+kept_by_text s encoding id uri question (Some text) = by (checked text)
+  where
+    by : (o : Option (List ℕ)) →
+        IsByText s (option_map_or (answer_by encoding id uri question) o (AnswerNull id))
+    by None = tt
+    by (Some known) = question_by_text s encoding id uri question known
+
+pub on_by_text : (s : Served) (encoding : Encoding) (docs : List Doc) (id : Data)
+    (uri : List ℕ) (question : Question) →
+    IsByText s (answer_on encoding docs id uri question)
+on_by_text s encoding docs id uri question =
+    subst (IsByText s) (sym (on_by_kept encoding docs id uri question))
+    (kept_by_text s encoding id uri question (kept_for uri docs))

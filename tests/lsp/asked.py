@@ -1,0 +1,136 @@
+"""What is asked of a document: what is wrong with an outline, a definition or a hover, by the text of
+the document, its words and its listing."""
+import re
+
+from texts import offset_of
+
+# The kinds of the protocol: a package, a namespace, a class, a variable, an event, a function.
+PROGRAM, STATE_SET, STATE, VARIABLE, EVENT_FLAG, FUNCTION = 4, 3, 5, 13, 24, 12
+WORD = re.compile(rb"[A-Za-z_][A-Za-z0-9_]*")
+
+
+def wrong_in_answer(result, asked, is_utf8):
+    """What is wrong with the answer to a question; nothing, where it fits the text."""
+    method = asked["method"].rpartition("/")[2]
+    if method == "documentSymbol":
+        return wrong_in_outline(result, asked["text"], asked["rows"], is_utf8)
+    if result is None:
+        return ""
+    text = asked["text"]
+    if method == "definition":
+        if sorted(result) != ["range", "uri"] or result["uri"] != asked["uri"]:
+            return f"no place of {asked['uri']}: {result}"
+    elif wrong := wrong_in_contents(result):
+        return wrong
+    there = bytes_of(text, result["range"], is_utf8)
+    words = words_near(text, offset_of(text, *asked["place"], is_utf8))
+    return "" if there in words else f"{there!r} in place of one of {words}"
+
+
+def offsets_of(text, between, is_utf8):
+    """The offsets of a range."""
+    ends = (between["start"], between["end"])
+    return [offset_of(text, it["line"], it["character"], is_utf8) for it in ends]
+
+
+def bytes_of(text, between, is_utf8):
+    start, stop = offsets_of(text, between, is_utf8)
+    return text[start:stop]
+
+
+def words_near(text, offset):
+    """The words that a cursor is on: the one at the offset, and the one that ends there."""
+    return {it.group() for it in WORD.finditer(text) if it.start() <= offset <= it.end()}
+
+
+# ---- hovers
+
+
+def wrong_in_contents(result):
+    contents = result.get("contents", {})
+    if sorted(result) != ["contents", "range"] or sorted(contents) != ["kind", "value"]:
+        return f"no hover: {result}"
+    is_right = contents["kind"] == "plaintext" and contents["value"] and "\r" not in contents["value"]
+    return "" if is_right else f"no plain text: {contents}"
+
+
+def line_of(text, offset):
+    """The line of a declaration, as a hover has it: without blanks at its ends, and at most 200 bytes
+    of it, which end with a character."""
+    start = text.rfind(b"\n", 0, offset) + 1
+    line = text[start:].partition(b"\n")[0].strip(BLANKS)
+    return line[:200].decode(errors="ignore")
+
+
+BLANKS = b" \t\r\f"
+
+
+# ---- outlines
+
+
+def all_symbols(result, depth=0):
+    """The symbols of an outline, in order, each after its depth."""
+    for it in result:
+        yield depth, it
+        yield from all_symbols(it["children"], depth + 1)
+
+
+def wrong_in_outline(result, text, rows, is_utf8):
+    if not isinstance(result, list):
+        return f"no outline: {result}"
+    for _, it in all_symbols(result):
+        if wrong := wrong_in_symbol(it, text, is_utf8):
+            return wrong
+    names = [offsets_of(text, it["selectionRange"], is_utf8) for _, it in all_symbols(result)]
+    if names != sorted(names):
+        return f"not in the order of the text: {names}"
+    return wrong_by_listing(result, rows)
+
+
+def wrong_in_symbol(it, text, is_utf8):
+    """What is wrong with a symbol: with its name and its ranges."""
+    if sorted(it) != ["children", "kind", "name", "range", "selectionRange"]:
+        return f"no symbol: {it}"
+    if not it["name"] or bytes_of(text, it["selectionRange"], is_utf8) != it["name"].encode():
+        return f"another name: {it}"
+    start, stop = offsets_of(text, it["range"], is_utf8)
+    inner = [it["selectionRange"], *(child["range"] for child in it["children"])]
+    for between in inner:
+        offsets = offsets_of(text, between, is_utf8)
+        if not start <= offsets[0] <= offsets[1] <= stop:
+            return f"{between} is not in {it['range']} of {it['name']}"
+    return ""
+
+
+def wrong_by_listing(result, rows):
+    """What an outline has otherwise than a listing: its program, event flags, state sets, states."""
+    program, flags, sets = names_listed(rows)
+    all_of = list(all_symbols(result))
+    programs = [it["name"] for _, it in all_of if it["kind"] == PROGRAM]
+    if program != "-" and program not in programs:
+        return f"the programs {programs} in place of {program}"
+    found = [it["name"] for _, it in all_of if it["kind"] == EVENT_FLAG]
+    if sorted(found) != sorted(flags):
+        return f"the event flags {found} in place of {flags}"
+    found = [
+        (it["name"], [child["name"] for child in it["children"] if child["kind"] == STATE])
+        for _, it in all_of
+        if it["kind"] == STATE_SET
+    ]
+    return "" if found == sets else f"the state sets {found} in place of {sets}"
+
+
+def names_listed(rows):
+    """The names of a listing: the program, the event flags, and each state set with its states."""
+    program, flags, sets = "-", [], []
+    for row in rows:
+        words = row.split(" ")
+        if words[0] == "program":
+            program = words[1]
+        elif words[0] == "flag":
+            flags.append(words[2])
+        elif words[0] == "ss":
+            sets.append((words[1], []))
+        elif words[0] == "state":
+            sets[-1][1].append(words[1])
+    return program, flags, sets
