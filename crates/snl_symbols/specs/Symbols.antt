@@ -67,8 +67,8 @@ span_between None stop = None
 span_between (Some start) None = None
 span_between (Some start) (Some stop) = Some (record { start = start; len = stop - start })
 
--- How many items are in the state set that item i begins: they follow it, and the `}` that closes
--- the set is one of them. Where the item begins none, they are none.
+-- How many items after item i are, one after another, in the state set that it begins; the `}` that
+-- closes the set is one of them. Where the item begins none, there is none.
 abbrev pub count_within : List Outline → ℕ → ℕ
 count_within ss i = prefix_len (stands_in ss i) (range_with_len (i + 1) (length ss - (i + 1)))
 

@@ -1,25 +1,22 @@
-//! The tokens of a text, cut into items. In: the number of an item. Out: its tokens, the span of
-//! one, where the item begins and where it ends.
+//! The tokens of a text, cut into items. In: the number of an item. Out: the span of one of its
+//! tokens, where the item begins and where it ends.
 
-ghost use Rattle.std.specs.Prelude.{◌≡◌, ◌^◌, ◌<◌, ◌≤◌, All, IfSome, length, option_copied, slice_get};
-ghost use Rattle.std.specs.Prelude.{slice_index, take};
+ghost use Rattle.std.specs.Prelude.{◌≡◌, ◌^◌, ◌<◌, ◌≤◌, All, EachIndex, IfSome, length};
+ghost use Rattle.std.specs.Prelude.{option_copied, slice_get, slice_index, take};
 ghost use Rattle.snl_cut.specs.Cut.{last_end};
-ghost use Rattle.snl_items.specs.Items.{item_ends};
-ghost use Rattle.snl_lex.specs.Pieces.{piece_end, tokens_of};
+ghost use Rattle.snl_lex.specs.Pieces.{piece_end};
 
-use snl_cut::ends_in_order;
 use snl_lex::Piece;
-use snl_syntax::Tokens;
 use snl_tables::Span;
 
-/// A text, its tokens, and where its items end among them. No token is too far off.
+/// The tokens of a text, and where its items end among them. No token is too far off.
 #[derive(Clone, Copy)]
 pub struct ItemTokens<'a> {
-    pub text: &'a [u8],
     pub tokens: &'a [Piece],
     pub ends: &'a [u32],
-    ghost tokens_are: { tokens.now ≡ tokens_of text.now },
-    ghost ends_are: { ends.now ≡ item_ends text.now },
+    ghost order: { EachIndex ends.now
+        (λ i. last_end 0 (take i ends.now) ≤ slice_index ends.now i) },
+    ghost inside: { EachIndex ends.now (λ i. slice_index ends.now i ≤ length tokens.now) },
     ghost near: { All (λ p. piece_end p < 2 ^ 64) tokens.now },
 }
 
@@ -36,7 +33,7 @@ fn begin_of(ends: &[u32], number: usize) -> usize
 }
 
 impl<'a> ItemTokens<'a> {
-    ghost use Rattle.snl_kept.specs.Program.{item_tokens};
+    ghost use Rattle.snl_symbols.specs.Items.{tokens_by_item};
     ghost use Rattle.snl_symbols.specs.Symbols.{span_at, start_of, stop_of};
 
     // Which of the tokens are those of the item with a number: from the first number up to the
@@ -48,14 +45,12 @@ impl<'a> ItemTokens<'a> {
         ensures order { result.0 ≤ result.1 }
         ensures inside { result.1 ≤ length self.now.tokens.now }
     {
-        ends_in_order::<Tokens>();
         (begin_of(self.ends, item), self.ends[item] as usize)
     }
 
     // The tokens of the item with a number.
     fn tokens_of(&self, item: usize) -> Option<&'a [Piece]>
-        ensures tokens { option_copied result
-            ≡ slice_get (item_tokens self.now.text.now) item }
+        ensures tokens { option_copied result ≡ slice_get (tokens_by_item self.now) item }
         ensures near { IfSome result (λ own. All (λ p. piece_end p < 2 ^ 64) own.now) }
     {
         if item >= self.ends.len() {
@@ -67,7 +62,7 @@ impl<'a> ItemTokens<'a> {
 
     /// The span of a token of an item.
     pub fn span_at(&self, item: usize, token: usize) -> Option<Span>
-        ensures { result ≡ span_at (item_tokens self.now.text.now) item token }
+        ensures { result ≡ span_at (tokens_by_item self.now) item token }
     {
         let tokens = self.tokens_of(item)?;
         let token = tokens.get(token)?;
@@ -79,7 +74,7 @@ impl<'a> ItemTokens<'a> {
 
     /// Where an item begins.
     pub fn start_of(&self, item: usize) -> Option<usize>
-        ensures { result ≡ start_of (item_tokens self.now.text.now) item }
+        ensures { result ≡ start_of (tokens_by_item self.now) item }
     {
         let tokens = self.tokens_of(item)?;
         let first = tokens.first()?;
@@ -88,7 +83,7 @@ impl<'a> ItemTokens<'a> {
 
     /// Where an item ends: after its last byte.
     pub fn stop_of(&self, item: usize) -> Option<usize>
-        ensures { result ≡ stop_of (item_tokens self.now.text.now) item }
+        ensures { result ≡ stop_of (tokens_by_item self.now) item }
     {
         let tokens = self.tokens_of(item)?;
         let last = tokens.last()?;

@@ -69,12 +69,12 @@ fn add_symbol(
 impl LinkedItem<'_> {
     ghost use Rattle.std.specs.Prelude.{◌≤◌};
     ghost use Rattle.std.specs.List.{filter_map};
-    ghost use Rattle.snl_kept.specs.Program.{item_tokens};
     ghost use Rattle.snl_scope.specs.Places.{stands_in};
+    ghost use Rattle.snl_symbols.specs.Items.{tokens_by_item};
     ghost use Rattle.snl_symbols.specs.Symbols.{declared_symbol, depth_of, extent_of, item_symbols, last_within, own_symbol};
 
     // Whether another item is in the state set that this one begins.
-    fn has_within(&self, item: usize) -> bool
+    fn encloses(&self, item: usize) -> bool
         ensures { result ≡ stands_in self.now.links.now.outlines self.now.item item }
     {
         match self.links.enclosing_set(item) {
@@ -89,7 +89,7 @@ impl LinkedItem<'_> {
     {
         let count = self.items.ends.len();
         for next in self.item + 1..count {
-            if !self.has_within(next) {
+            if !self.encloses(next) {
                 return next - 1;
             }
         }
@@ -98,7 +98,7 @@ impl LinkedItem<'_> {
 
     fn extent(&self) -> Option<Span>
         ensures { result
-            ≡ extent_of (item_tokens self.now.items.text.now) self.now.links.now.outlines
+            ≡ extent_of (tokens_by_item self.now.items) self.now.links.now.outlines
             self.now.item }
     {
         let start = self.items.start_of(self.item);
@@ -119,7 +119,7 @@ impl LinkedItem<'_> {
     // The symbol that the item itself is. Its name is its second token.
     fn own_symbol(&self) -> Option<DocumentSymbol>
         ensures { result
-            ≡ own_symbol (item_tokens self.now.items.text.now) self.now.links.now.outlines
+            ≡ own_symbol (tokens_by_item self.now.items) self.now.links.now.outlines
             self.now.item self.now.outline.now }
     {
         let kind = own_kind(self.outline)?;
@@ -130,7 +130,7 @@ impl LinkedItem<'_> {
     // A name that the item declares. It is said whether the item is a symbol itself.
     fn declared_symbol(&self, is_symbol: bool, declared: &Declared) -> Option<DocumentSymbol>
         ensures { result
-            ≡ declared_symbol (item_tokens self.now.items.text.now) self.now.links.now.outlines
+            ≡ declared_symbol (tokens_by_item self.now.items) self.now.links.now.outlines
             self.now.item is_symbol declared.now }
     {
         let kind = declared_kind(declared.variable.symbol_kind);
@@ -149,7 +149,7 @@ impl LinkedItem<'_> {
         symbols: &mut Vec<DocumentSymbol>,
     ) -> Result<(), OutOfMemory>
         ensures { OnOk result (symbols.new.items ≡ symbols.old.items
-            ++ filter_map (declared_symbol (item_tokens self.now.items.text.now)
+            ++ filter_map (declared_symbol (tokens_by_item self.now.items)
             self.now.links.now.outlines self.now.item is_symbol) self.now.outline.now.declares) }
     {
         let declares = self.outline.declares.as_slice();
@@ -162,7 +162,7 @@ impl LinkedItem<'_> {
     /// Adds the symbols of the item.
     pub fn add_symbols(&self, symbols: &mut Vec<DocumentSymbol>) -> Result<(), OutOfMemory>
         ensures { OnOk result (symbols.new.items ≡ symbols.old.items
-            ++ item_symbols (item_tokens self.now.items.text.now) self.now.links.now.outlines
+            ++ item_symbols (tokens_by_item self.now.items) self.now.links.now.outlines
             self.now.item self.now.outline.now) }
     {
         let own = self.own_symbol();

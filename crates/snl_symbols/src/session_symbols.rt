@@ -1,22 +1,20 @@
 //! The symbols of a session's text. In: what is kept of the text. Out: its symbols, item by item.
 
-ghost use Rattle.std.specs.Prelude.{◌≡◌, ◌<◌, ◌++◌, ℕ, IfOk, List, OnOk, length, vec_len};
-ghost use Rattle.snl_kept.specs.Checks.{outlines_in};
-ghost use Rattle.snl_kept.specs.Kept.{IsListed};
-ghost use Rattle.snl_kept.specs.Program.{item_tokens};
+ghost use Rattle.std.specs.Prelude.{◌≡◌, ◌^◌, ◌<◌, ◌++◌, ℕ, IfOk, List, OnOk, length, map, vec_len};
 ghost use Rattle.snl_lex.specs.PieceList.{piece_ends, piece_kinds};
 ghost use Rattle.snl_lex.specs.Pieces.{tokens_of};
+ghost use Rattle.snl_symbols.specs.Items.{tokens_by_item};
 ghost use Rattle.snl_symbols.specs.Symbols.{symbols_at, symbols_of};
 
 use crate::document_symbol::DocumentSymbol;
 use crate::item_tokens::ItemTokens;
 use crate::linked_item::LinkedItem;
-use snl_cut::OutOfMemory;
+use snl_cut::{OutOfMemory, ends_in_order};
 use snl_kept::Lists;
 use snl_lex::{Piece, PieceList, text_in_pieces};
 use snl_scope::same_spelling_same_summary;
 use snl_session::Session;
-use snl_syntax::{outcome_told, same_spelling_same_tree};
+use snl_syntax::{Tokens, outcome_told, same_spelling_same_tree};
 use std::alloc::Global;
 
 // Adds the symbols of the item with a number.
@@ -26,14 +24,13 @@ fn add_item(
     item: usize,
     symbols: &mut Vec<DocumentSymbol>,
 ) -> Result<(), OutOfMemory>
-    requires listed { IsListed items.now.text.now lists.now }
+    requires outlines { map (λ e. e.summary.outline) lists.now.entries.values
+        ≡ lists.now.links.outlines }
+    requires as_many { length items.now.ends.now ≡ length lists.now.links.outlines }
     requires inside { item < length items.now.ends.now }
     ensures { OnOk result (symbols.new.items ≡ symbols.old.items
-        ++ symbols_at (item_tokens items.now.text.now) (outlines_in items.now.text.now) item) }
+        ++ symbols_at (tokens_by_item items.now) lists.now.links.outlines item) }
 {
-    outcome_told();
-    same_spelling_same_tree();
-    same_spelling_same_summary();
     let Some(entry) = lists.entries.get(item) else {
         return Ok(());
     };
@@ -58,16 +55,30 @@ fn all_tokens(alloc: Global, pieces: &PieceList) -> Result<Vec<Piece>, OutOfMemo
     pieces.tokens_between(alloc, 0, pieces.ends.len())
 }
 
-// The symbols of a text, by its lists.
-#[tactic(auto, unfolding(crate::specs::Symbols::symbols_of))]
-fn symbols_in(alloc: Global, text: &[u8], lists: &Lists) -> Result<Vec<DocumentSymbol>, OutOfMemory>
-    requires { IsListed text.now lists.now }
-    ensures { IfOk result (λ v. v.items ≡ symbols_of text.now) }
+// A session's text is in memory: so no offset in it is too great.
+fn text_is_short(session: &Session)
+    ensures { length session.now < 2 ^ 64 }
 {
+    let _text = session.text();
+}
+
+/// The symbols of a session's text, in its order: the program, state sets, states, and what items
+/// declare outside blocks. What belongs to a symbol follows it and is deeper. Parameters,
+/// prototypes, structs and options are none. A faulty item declares nothing, but it may be the
+/// program or a state. The time is that of the text's tokens.
+#[tactic(auto, unfolding(crate::specs::Symbols::symbols_of))]
+pub fn symbols(alloc: Global, session: &Session) -> Result<Vec<DocumentSymbol>, OutOfMemory>
+    ensures { IfOk result (λ v. v.items ≡ symbols_of session.now) }
+{
+    text_is_short(session);
     text_in_pieces();
+    ends_in_order::<Tokens>();
+    outcome_told();
+    same_spelling_same_tree();
+    same_spelling_same_summary();
+    let lists = &session.kept().lists;
     let tokens = all_tokens(alloc, &lists.pieces)?;
     let items = ItemTokens {
-        text,
         tokens: &tokens,
         ends: &lists.items.ends,
     };
@@ -76,14 +87,4 @@ fn symbols_in(alloc: Global, text: &[u8], lists: &Lists) -> Result<Vec<DocumentS
         add_item(lists, &items, item, &mut symbols)?;
     }
     Ok(symbols)
-}
-
-/// The symbols of a session's text, in its order: the program, state sets, states, and what items
-/// declare outside blocks. What belongs to a symbol follows it and is deeper. Parameters,
-/// prototypes, structs and options are none. A faulty item declares nothing, but it may be the
-/// program or a state. The time is that of the text's tokens.
-pub fn symbols(alloc: Global, session: &Session) -> Result<Vec<DocumentSymbol>, OutOfMemory>
-    ensures { IfOk result (λ v. v.items ≡ symbols_of session.now) }
-{
-    symbols_in(alloc, session.text(), &session.kept().lists)
 }

@@ -2,14 +2,14 @@ use Rattle.std.proofs.Common.{length, sym, ◌∙◌, arith}
 use Rattle.snl_symbols.proofs.Within.{last_before}
 use Rattle.snl_symbols.proofs.linked_item.LinkedItem.last_within.Goals as goal
 
-pub returns-then-not-has_within : goal.returns-then-not-has_within
-returns-then-not-has_within c =
+pub returns-then-not-encloses : goal.returns-then-not-encloses
+returns-then-not-encloses c =
     let linked = c.args.self.now in
     last_before linked.links.now.outlines linked.item c.loop-next.next
     (omega (arith, c.loop-next.auto.next))
     (omega (arith, c.loop-next-test.true, linked.as_many))
     c.loop-next.invariant
-    (λ inside. sym c.has_within.ensures ∙ c.if-not-has_within.true)
+    (λ inside. sym c.encloses.ensures ∙ c.if-not-encloses.true)
 
 pub returns : goal.returns
 returns c =
