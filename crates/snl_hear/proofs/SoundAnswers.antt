@@ -38,6 +38,7 @@ answer_sound id result h k = (
   ),
 )
 
+-- an answer nests one level deeper than what is answered
 pub answer_back : (id result : Data) → IsSoundId id → IsSound result → depth result ≤ 126 →
     json_in (compact_text (answer_data id result)) ≡ Some (answer_data id result)
 answer_back id result h k shallow =

@@ -54,7 +54,7 @@ IsSoundVersion version = IfSome version (λ n. n < 2 ^ 64)
 
 -- ---- what is answered
 
--- Each symbol that is in another one nests two levels deeper than that. So where no depth is greater
+-- A symbol that is in another one nests two levels deeper than that. So where no depth is greater
 -- than this, the answer nests 127 levels at most.
 abbrev pub greatest_depth : ℕ
 greatest_depth = 61

@@ -22,7 +22,8 @@ null_same id = refl
 
 pub initialize_same : (id : Data) (encoding : Encoding) →
     compact_text (initialize_data id encoding) ≡ initialize_text id encoding
-unfolding json_on_literals digits initialize_head providers_text sync_text server_text initialize_text
+unfolding json_on_literals digits initialize_head providers_text sync_text server_text
+    initialize_text
 initialize_same id Utf8 = refl
 initialize_same id Utf16 = refl
 
@@ -62,7 +63,7 @@ unfolding json_on_literals hover_head hover_text
 hover_same id contents start stop =
     let head : List ℕ → List ℕ =
     λ l. codes "{\"id\":" ++ (compact_text id ++ (hover_head ++ l)) in
-    ap (λ (r : List ℕ). head (((quoted contents ++ 125 ∷ []) ++ (codes ",\"range\":" ++ (r ++ 125 ∷ [])))
-    ++ 125 ∷ []))
+    ap (λ (r : List ℕ). head (((quoted contents ++ 125 ∷ [])
+    ++ (codes ",\"range\":" ++ (r ++ 125 ∷ []))) ++ 125 ∷ []))
     (range_same start stop)
     ∙ ap head (hover_closed (quoted contents) (range_text start stop))

@@ -1,11 +1,11 @@
--- An outline has all symbols of its list, in their order, each in the last one that is less deep.
+-- A forest has all symbols of its list, in their order, each in the last one that is less deep.
 use Rattle.std.proofs.Common.{◌≡◌, ◌∙◌, ℕ, suc, ◌≤◌, true, false, cond, List, [], ◌∷◌, ◌++◌, refl, ap, append_assoc, arith, nat_lt}
 use Rattle.std.proofs.lemmas.Bool.{ltb-false, ltb-true}
-use Rattle.snl_say.specs.Symbols.{BeginsWithin, IsNested, Outline, no_symbols, symbol, SymbolFound, after_deeper, deeper, in_order, outline_of}
+use Rattle.snl_say.specs.Symbols.{BeginsWithin, IsNested, Forest, no_symbols, symbol, SymbolFound, after_deeper, deeper, in_order, forest_of}
 
 -- ---- none is lost
 
-in_both : (depth : ℕ) (o : Outline) →
+in_both : (depth : ℕ) (o : Forest) →
     in_order (deeper depth o) ++ in_order (after_deeper depth o) ≡ in_order o
 in_both depth no_symbols = refl
 in_both depth (symbol s children rest) =
@@ -21,14 +21,14 @@ in_both depth (symbol s children rest) =
       | false ↦ refl
     ]
 
-pub all_kept : (symbols : List SymbolFound) → in_order (outline_of symbols) ≡ symbols
+pub all_kept : (symbols : List SymbolFound) → in_order (forest_of symbols) ≡ symbols
 all_kept [] = refl
 all_kept (s ∷ ss) =
-    ap (λ (l : List SymbolFound). s ∷ l) (in_both s.depth (outline_of ss) ∙ all_kept ss)
+    ap (λ (l : List SymbolFound). s ∷ l) (in_both s.depth (forest_of ss) ∙ all_kept ss)
 
 -- ---- each is in the last one that is less deep
 
-begins_deeper : (most depth : ℕ) (o : Outline) → BeginsWithin most o →
+begins_deeper : (most depth : ℕ) (o : Forest) → BeginsWithin most o →
     BeginsWithin most (deeper depth o)
 begins_deeper most depth no_symbols h = tt
 begins_deeper most depth (symbol s children rest) h =
@@ -36,14 +36,14 @@ begins_deeper most depth (symbol s children rest) h =
     BeginsWithin most (cond b (symbol s children (deeper depth rest)) no_symbols))
     [ true ↦ h | false ↦ tt ]
 
-begins_after : (depth : ℕ) (o : Outline) → BeginsWithin depth (after_deeper depth o)
+begins_after : (depth : ℕ) (o : Forest) → BeginsWithin depth (after_deeper depth o)
 begins_after depth no_symbols = tt
 begins_after depth (symbol s children rest) =
     elim (nat_lt depth s.depth) as (λ b. nat_lt depth s.depth ≡ b →
     BeginsWithin depth (cond b (after_deeper depth rest) (symbol s children rest)))
     [ true ↦ λ e. begins_after depth rest | false ↦ λ e. ltb-false depth s.depth e ] refl
 
-nested_deeper : (least depth : ℕ) (o : Outline) → IsNested least o →
+nested_deeper : (least depth : ℕ) (o : Forest) → IsNested least o →
     IsNested (suc depth) (deeper depth o)
 nested_deeper least depth no_symbols h = tt
 nested_deeper least depth (symbol s children rest) h =
@@ -55,7 +55,7 @@ nested_deeper least depth (symbol s children rest) h =
       | false ↦ λ e. tt
     ] refl
 
-nested_after : (least depth : ℕ) (o : Outline) → IsNested least o →
+nested_after : (least depth : ℕ) (o : Forest) → IsNested least o →
     IsNested least (after_deeper depth o)
 nested_after least depth no_symbols h = tt
 nested_after least depth (symbol s children rest) h =
@@ -63,11 +63,11 @@ nested_after least depth (symbol s children rest) h =
     IsNested least (cond b (after_deeper depth rest) (symbol s children rest)))
     [ true ↦ nested_after least depth rest h.3 | false ↦ h ]
 
-pub all_nested : (symbols : List SymbolFound) → IsNested 0 (outline_of symbols)
+pub all_nested : (symbols : List SymbolFound) → IsNested 0 (forest_of symbols)
 all_nested [] = tt
 all_nested (s ∷ ss) = (
   omega arith,
-  nested_deeper 0 s.depth (outline_of ss) (all_nested ss),
-  begins_after s.depth (outline_of ss),
-  nested_after 0 s.depth (outline_of ss) (all_nested ss),
+  nested_deeper 0 s.depth (forest_of ss) (all_nested ss),
+  begins_after s.depth (forest_of ss),
+  nested_after 0 s.depth (forest_of ss) (all_nested ss),
 )

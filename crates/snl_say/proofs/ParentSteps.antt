@@ -1,4 +1,4 @@
--- How an outline is written in one pass over its symbols.
+-- How a forest is written in one pass over its symbols.
 use Rattle.std.specs.Prelude.{codes}
 use Rattle.std.proofs.Common.{◌≡◌, ◌∙◌, ℕ, ◌+◌, ◌<◌, ◌≤◌, Bool, true, false, cond, nat_lt, List, [], ◌∷◌, ◌++◌, length, drop, get_or, map, Bor, refl, sym, ap, append-nil, append_assoc, arith}
 use Rattle.std.proofs.lemmas.Bool.{le-ltb, lt-ltb}
@@ -7,7 +7,7 @@ use Rattle.json.proofs.Printed.Room.{moved}
 use Rattle.serde_json.specs.Written.{comma_if}
 use Rattle.snl_say.specs.declared.symbols.ShownSymbol.{ShownSymbol}
 use Rattle.snl_say.specs.Parents.{InnermostEnds, NoneEnds, ends_before, innermost_first, one_ends, parents_at}
-use Rattle.snl_say.specs.Symbols.{Outline, no_symbols, symbol, SymbolFound, after_deeper, deeper, outline_of, outline_text, symbol_begin, symbol_end, symbol_of, with_first}
+use Rattle.snl_say.specs.Symbols.{Forest, no_symbols, symbol, SymbolFound, after_deeper, deeper, forest_of, forest_text, symbol_begin, symbol_end, symbol_of, with_first}
 
 -- ---- parents that end
 
@@ -95,15 +95,15 @@ one_inside parents s =
 
 -- ---- what is left to write
 
--- of an outline with its closing bracket, and of the parents that it is in
-abbrev pub left_text : (later : Bool) (parents : List SymbolFound) → Outline → List ℕ
-left_text later [] o = outline_text later o
+-- of a forest with its closing bracket, and of the parents that it is in
+abbrev pub left_text : (later : Bool) (parents : List SymbolFound) → Forest → List ℕ
+left_text later [] o = forest_text later o
 left_text later (s ∷ parents) o =
-    outline_text later (deeper s.depth o)
+    forest_text later (deeper s.depth o)
     ++ (symbol_end s ++ left_text true parents (after_deeper s.depth o))
 
 -- from a symbol on, after the ends before it
-abbrev next_text : (later : Bool) (now : List SymbolFound) (s : SymbolFound) → Outline → List ℕ
+abbrev next_text : (later : Bool) (now : List SymbolFound) (s : SymbolFound) → Forest → List ℕ
 next_text later now s o = comma_if later ++ (symbol_begin ++ left_text false (s ∷ now) o)
 
 regrouped : (comma within end after rest : List ℕ) →
@@ -116,19 +116,19 @@ regrouped comma within end after rest =
     ∙ ap (λ (l : List ℕ). within ++ l) (append_assoc end after rest))
 
 -- by whether the symbol is in the innermost parent, given how it goes on with the others
-by_test : (b later : Bool) (p s : SymbolFound) (parents : List SymbolFound) (o : Outline) →
+by_test : (b later : Bool) (p s : SymbolFound) (parents : List SymbolFound) (o : Forest) →
     left_text true parents (with_first s o)
     ≡ ends_before s.depth parents ++ next_text true (parents_at s.depth parents) s o →
-    outline_text later (cond b
+    forest_text later (cond b
     (symbol s (deeper s.depth o) (deeper p.depth (after_deeper s.depth o))) no_symbols)
     ++ (symbol_end p ++ left_text true parents
     (cond b (after_deeper p.depth (after_deeper s.depth o)) (with_first s o)))
     ≡ cond b [] (codes "]" ++ (symbol_end p ++ ends_before s.depth parents))
     ++ next_text (cond b later true) (cond b (p ∷ parents) (parents_at s.depth parents)) s o
-unfolding outline_text
+unfolding forest_text
 by_test true later p s parents o others =
-    regrouped (comma_if later) (outline_text false (deeper s.depth o)) (symbol_end s)
-    (outline_text true (deeper p.depth (after_deeper s.depth o)))
+    regrouped (comma_if later) (forest_text false (deeper s.depth o)) (symbol_end s)
+    (forest_text true (deeper p.depth (after_deeper s.depth o)))
     (symbol_end p ++ left_text true parents (after_deeper p.depth (after_deeper s.depth o)))
 by_test false later p s parents o others =
     ap (λ (l : List ℕ). codes "]" ++ (symbol_end p ++ l)) others
@@ -141,10 +141,10 @@ both_true true = refl
 both_true false = refl
 
 -- where another symbol has just ended
-after_one : (parents : List SymbolFound) (s : SymbolFound) (o : Outline) →
+after_one : (parents : List SymbolFound) (s : SymbolFound) (o : Forest) →
     left_text true parents (with_first s o)
     ≡ ends_before s.depth parents ++ next_text true (parents_at s.depth parents) s o
-unfolding outline_text
+unfolding forest_text
 after_one [] s o = refl
 after_one (p ∷ parents) s o =
     by_test (nat_lt p.depth s.depth) true p s parents o (after_one parents s o)
@@ -153,11 +153,11 @@ after_one (p ∷ parents) s o =
     (both_true (nat_lt p.depth s.depth))
 
 -- where the innermost parent has no child yet
-after_none : (parents : List SymbolFound) (s : SymbolFound) (o : Outline) →
+after_none : (parents : List SymbolFound) (s : SymbolFound) (o : Forest) →
     left_text false parents (with_first s o)
     ≡ ends_before s.depth parents
     ++ next_text (one_ends s.depth parents) (parents_at s.depth parents) s o
-unfolding outline_text
+unfolding forest_text
 after_none [] s o = refl
 after_none (p ∷ parents) s o =
     by_test (nat_lt p.depth s.depth) false p s parents o (after_one parents s o)
@@ -165,7 +165,7 @@ after_none (p ∷ parents) s o =
 -- where no symbol comes
 after_all : (later : Bool) (parents : List SymbolFound) →
     left_text later parents no_symbols ≡ ends_before 0 parents ++ codes "]"
-unfolding outline_text
+unfolding forest_text
 after_all later [] = refl
 after_all later (p ∷ parents) =
     let test : nat_lt p.depth 0 ≡ false = le-ltb p.depth 0 (omega arith) in
@@ -181,12 +181,12 @@ after_all later (p ∷ parents) =
 -- one symbol more is begun
 begun_more : (out mid new whole : List ℕ) (before now : List SymbolFound) (later : Bool)
     (s : SymbolFound) (ss : List SymbolFound) →
-    out ++ left_text false before (outline_of (s ∷ ss)) ≡ whole →
+    out ++ left_text false before (forest_of (s ∷ ss)) ≡ whole →
     mid ≡ out ++ ends_before s.depth before → now ≡ parents_at s.depth before →
     later ≡ one_ends s.depth before → new ≡ mid ++ (comma_if later ++ symbol_begin) →
-    new ++ left_text false (s ∷ now) (outline_of ss) ≡ whole
+    new ++ left_text false (s ∷ now) (forest_of ss) ≡ whole
 begun_more out mid new whole before now later s ss e wrote_ends left is_later wrote_begin =
-    let o = outline_of ss in
+    let o = forest_of ss in
     let next : mid ++ next_text later now s o ≡ whole =
     ap (λ (b : Bool). mid ++ next_text b now s o) is_later
     ∙ ap (λ (l : List SymbolFound). mid ++ next_text (one_ends s.depth before) l s o) left
@@ -198,13 +198,13 @@ begun_more out mid new whole before now later s ss e wrote_ends left is_later wr
 pub begun_next : (all : List ShownSymbol) (i : ℕ) (d : ShownSymbol) (s : Bor ShownSymbol)
     (out mid new begin whole : List ℕ) (before now pushed : List (Bor ShownSymbol))
     (later : Bool) → pushed ≡ now ++ s ∷ [] → i < length all → s.now ≡ get_or all i d →
-    out ++ left_text false (innermost_first before) (outline_of (map symbol_of (drop i all)))
+    out ++ left_text false (innermost_first before) (forest_of (map symbol_of (drop i all)))
     ≡ whole →
     mid ≡ out ++ ends_before s.now.depth (innermost_first before) →
     innermost_first now ≡ parents_at s.now.depth (innermost_first before) →
     later ≡ one_ends s.now.depth (innermost_first before) → new ≡ mid ++ begin →
     begin ≡ comma_if later ++ symbol_begin →
-    new ++ left_text false (innermost_first pushed) (outline_of (map symbol_of (drop (i + 1) all)))
+    new ++ left_text false (innermost_first pushed) (forest_of (map symbol_of (drop (i + 1) all)))
     ≡ whole
 begun_next all i d s out mid new begin whole before now pushed later is_pushed within here e
     wrote_ends left is_later wrote begin_is =
@@ -213,20 +213,20 @@ begun_next all i d s out mid new begin whole before now pushed later is_pushed w
     drop_more all i d within ∙ ap (λ (x : ShownSymbol). x ∷ drop (i + 1) all) (sym here) in
     let inside : innermost_first pushed ≡ symbol_of s.now ∷ innermost_first now =
     ap innermost_first is_pushed ∙ one_inside now s in
-    ap (λ (l : List SymbolFound). new ++ left_text false l (outline_of rest)) inside
+    ap (λ (l : List SymbolFound). new ++ left_text false l (forest_of rest)) inside
     ∙ begun_more out mid new whole (innermost_first before) (innermost_first now) later
     (symbol_of s.now) rest
     (ap (λ (l : List ShownSymbol). out
-    ++ left_text false (innermost_first before) (outline_of (map symbol_of l))) (sym found) ∙ e)
+    ++ left_text false (innermost_first before) (forest_of (map symbol_of l))) (sym found) ∙ e)
     wrote_ends left is_later (wrote ∙ ap (λ (l : List ℕ). mid ++ l) begin_is)
 
 -- all are, the last ones are ended, and so is their list
 pub begun_all : (all : List ShownSymbol) (i : ℕ) (out mid new whole : List ℕ)
     (before : List SymbolFound) → length all ≤ i →
-    out ++ left_text false before (outline_of (map symbol_of (drop i all))) ≡ whole →
+    out ++ left_text false before (forest_of (map symbol_of (drop i all))) ≡ whole →
     mid ≡ out ++ ends_before 0 before → new ≡ mid ++ codes "]" → new ≡ whole
 begun_all all i out mid new whole before none e wrote_ends wrote_bracket =
     wrote_bracket
     ∙ moved out mid _ _ _ whole wrote_ends (after_all false before)
-    (ap (λ (l : List ShownSymbol). out ++ left_text false before (outline_of (map symbol_of l)))
+    (ap (λ (l : List ShownSymbol). out ++ left_text false before (forest_of (map symbol_of l)))
     (sym (drop_all i all none)) ∙ e)

@@ -7,7 +7,7 @@ use Rattle.serde_json.specs.Data.{Data, Items}
 use Rattle.serde_json.specs.Written.{comma_if, compact_text, items_text as items_written}
 use Rattle.snl_place.specs.declared.places.Place.{Place}
 use Rattle.snl_say.specs.Places.{place_text, range_text}
-use Rattle.snl_say.specs.Symbols.{Outline, no_symbols, symbol, SymbolFound, outline_data, outline_of, outline_text, symbol_begin, symbol_data, symbol_end, symbols_data, symbols_text}
+use Rattle.snl_say.specs.Symbols.{Forest, no_symbols, symbol, SymbolFound, forest_data, forest_of, forest_text, symbol_begin, symbol_data, symbol_end, symbols_data, symbols_text}
 use Rattle.snl_say.specs.declared.symbols.SymbolKind.{SymbolKind}
 use Rattle.snl_say.specs.declared.symbols.SymbolKind.TheVariants.{Program, StateSet, State, Variable, EventFlag, Function}
 
@@ -43,18 +43,18 @@ symbol_same : (s : SymbolFound) (children : Items) →
 symbol_same s children =
     symbol_parts s.kind s.name s.start s.stop s.name_start s.name_stop s.depth children
 
-outline_same : (later : Bool) (o : Outline) →
-    items_written later (outline_data o) ≡ outline_text later o
-unfolding outline_text
-outline_same later no_symbols = refl
-outline_same later (symbol s children rest) =
-    let within = items_written false (outline_data children) in
-    let after = items_written true (outline_data rest) in
-    ap (λ (l : List ℕ). comma_if later ++ (l ++ after)) (symbol_same s (outline_data children))
+forest_same : (later : Bool) (o : Forest) →
+    items_written later (forest_data o) ≡ forest_text later o
+unfolding forest_text
+forest_same later no_symbols = refl
+forest_same later (symbol s children rest) =
+    let within = items_written false (forest_data children) in
+    let after = items_written true (forest_data rest) in
+    ap (λ (l : List ℕ). comma_if later ++ (l ++ after)) (symbol_same s (forest_data children))
     ∙ ap (λ (l : List ℕ). comma_if later ++ (symbol_begin ++ l))
     (append_assoc within (symbol_end s) after)
     ∙ ap₂ (λ (x y : List ℕ). comma_if later ++ (symbol_begin ++ (x ++ (symbol_end s ++ y))))
-    (outline_same false children) (outline_same true rest)
+    (forest_same false children) (forest_same true rest)
 
 pub symbols_same : (id : Data) (symbols : List SymbolFound) →
     compact_text (symbols_data id symbols) ≡ symbols_text id symbols
@@ -62,4 +62,4 @@ unfolding json_on_literals symbols_text
 symbols_same id symbols =
     ap (λ (l : List ℕ). codes "{\"id\":" ++ (compact_text id
     ++ (codes ",\"jsonrpc\":\"2.0\",\"result\":[" ++ (l ++ codes "}"))))
-    (outline_same false (outline_of symbols))
+    (forest_same false (forest_of symbols))

@@ -1,4 +1,4 @@
--- The symbols whose children are being written, the innermost first: the parents of what comes next.
+-- Symbols whose children are being written, the innermost first: the parents of what comes next.
 -- Only private clauses cite this.
 use Rattle.std.specs.Prelude.{◌≡◌, ◌<◌, ◌≤◌, ℕ, List, [], ◌∷◌, ◌++◌, map, reverse, Bool, true, false, nat_lt, if◌then◌else◌, codes, ⊤}
 use denote.Ref.{Bor}
@@ -26,12 +26,13 @@ abbrev pub one_ends : (depth : ℕ) → (parents : List SymbolFound) → Bool
 one_ends depth [] = false
 one_ends depth (s ∷ parents) = if nat_lt s.depth depth then false else true
 
--- It is in all of them.
+-- It is in all of them, by the innermost one.
 abbrev pub NoneEnds : (depth : ℕ) → (parents : List SymbolFound) → Type 0
 NoneEnds depth [] = ⊤
 NoneEnds depth (s ∷ parents) = s.depth < depth
 
 -- It isn't in the innermost one, without which the others are left.
-pub record InnermostEnds (depth : ℕ) (s : SymbolFound) (before after : List SymbolFound) : Type 0 where
+pub record InnermostEnds (depth : ℕ) (s : SymbolFound) (before after : List SymbolFound) :
+    Type 0 where
   pub as_deep : depth ≤ s.depth
   pub others : before ≡ s ∷ after

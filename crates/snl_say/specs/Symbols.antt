@@ -35,44 +35,44 @@ symbol_of s = record {
 -- ---- which symbols are in which
 
 -- Symbols, each with those that are in it, its children.
-pub data Outline : Type 0 where
-  no_symbols : Outline
-  symbol : SymbolFound → (children : Outline) → (rest : Outline) → Outline
+pub data Forest : Type 0 where
+  no_symbols : Forest
+  symbol : SymbolFound → (children : Forest) → (rest : Forest) → Forest
 
 -- The first ones that are deeper than this.
-abbrev pub deeper : (depth : ℕ) → Outline → Outline
+abbrev pub deeper : (depth : ℕ) → Forest → Forest
 deeper depth no_symbols = no_symbols
 deeper depth (symbol s children rest) =
     if nat_lt depth s.depth then symbol s children (deeper depth rest) else no_symbols
 
 -- All others.
-abbrev pub after_deeper : (depth : ℕ) → Outline → Outline
+abbrev pub after_deeper : (depth : ℕ) → Forest → Forest
 after_deeper depth no_symbols = no_symbols
 after_deeper depth (symbol s children rest) =
     if nat_lt depth s.depth then after_deeper depth rest else symbol s children rest
 
 -- A symbol before others: the first ones that are deeper are its children.
-abbrev pub with_first : SymbolFound → Outline → Outline
+abbrev pub with_first : SymbolFound → Forest → Forest
 with_first s others = symbol s (deeper s.depth others) (after_deeper s.depth others)
 
 -- Of a list of symbols, whatever their depths are.
-abbrev pub outline_of : List SymbolFound → Outline
-outline_of [] = no_symbols
-outline_of (s ∷ ss) = with_first s (outline_of ss)
+abbrev pub forest_of : List SymbolFound → Forest
+forest_of [] = no_symbols
+forest_of (s ∷ ss) = with_first s (forest_of ss)
 
 -- The symbols, each before its children.
-abbrev pub in_order : Outline → List SymbolFound
+abbrev pub in_order : Forest → List SymbolFound
 in_order no_symbols = []
 in_order (symbol s children rest) = s ∷ (in_order children ++ in_order rest)
 
 -- The first one is no deeper than this.
-abbrev pub BeginsWithin : (depth : ℕ) → Outline → Type 0
+abbrev pub BeginsWithin : (depth : ℕ) → Forest → Type 0
 BeginsWithin depth no_symbols = ⊤
 BeginsWithin depth (symbol s children rest) = s.depth ≤ depth
 
 -- The symbols are this deep at least. The children of a symbol are deeper than it, and the symbol
 -- after it that is not among them isn't.
-abbrev pub IsNested : (least : ℕ) → Outline → Type 0
+abbrev pub IsNested : (least : ℕ) → Forest → Type 0
 IsNested least no_symbols = ⊤
 IsNested least (symbol s children rest) =
     (least ≤ s.depth) × IsNested (suc s.depth) children × BeginsWithin s.depth rest
@@ -97,13 +97,13 @@ symbol_data s children =
     (member (codes "range") (range_data s.start s.stop)
     (member (codes "selectionRange") (range_data s.name_start s.name_stop) no_members)))))
 
-abbrev pub outline_data : Outline → Items
-outline_data no_symbols = no_items
-outline_data (symbol s children rest) =
-    item (symbol_data s (outline_data children)) (outline_data rest)
+abbrev pub forest_data : Forest → Items
+forest_data no_symbols = no_items
+forest_data (symbol s children rest) =
+    item (symbol_data s (forest_data children)) (forest_data rest)
 
 abbrev pub symbols_data : (id : Data) → List SymbolFound → Data
-symbols_data id symbols = answer_data id (array (outline_data (outline_of symbols)))
+symbols_data id symbols = answer_data id (array (forest_data (forest_of symbols)))
 
 -- ---- as bytes
 
@@ -127,13 +127,13 @@ symbol_end s =
     ∷ codes ",\"selectionRange\":" ∷ range_text s.name_start s.name_stop ∷ codes "}" ∷ [])
 
 -- The symbols, and the closing bracket. `later`: another symbol is before them.
-unfoldable pub outline_text : (later : Bool) → Outline → List ℕ
-outline_text later no_symbols = codes "]"
-outline_text later (symbol s children rest) =
-    comma_if later ++ (symbol_begin ++ (outline_text false children
-    ++ (symbol_end s ++ outline_text true rest)))
+unfoldable pub forest_text : (later : Bool) → Forest → List ℕ
+forest_text later no_symbols = codes "]"
+forest_text later (symbol s children rest) =
+    comma_if later ++ (symbol_begin ++ (forest_text false children
+    ++ (symbol_end s ++ forest_text true rest)))
 
 unfoldable pub symbols_text : (id : Data) → List SymbolFound → List ℕ
 symbols_text id symbols =
     concat (codes "{\"id\":" ∷ compact_text id ∷ codes ",\"jsonrpc\":\"2.0\",\"result\":["
-    ∷ outline_text false (outline_of symbols) ∷ codes "}" ∷ [])
+    ∷ forest_text false (forest_of symbols) ∷ codes "}" ∷ [])

@@ -1,5 +1,5 @@
-//! The laws of what is said. A function here does nothing: its contract is the law. Each but the last
-//! says that the bytes are the text, with no space, of a value of JSON.
+//! The laws of what is said. A function here does nothing: its contract is the law. Each but the
+//! last says that the bytes are the text, with no space, of a value of JSON.
 
 ghost use Rattle.std.specs.Prelude.{◌≡◌, ℕ, List, Option};
 ghost use Rattle.serde_json.specs.Data.{Data};
@@ -11,7 +11,7 @@ ghost use Rattle.snl_say.specs.declared.severity.Severity.{Severity};
 ghost use Rattle.snl_say.specs.Answers.{error_data, error_text, hover_data, hover_text, initialize_data, initialize_text, location_data, location_text, null_data, null_text};
 ghost use Rattle.snl_say.specs.Notices.{message_data, message_text};
 ghost use Rattle.snl_say.specs.Publish.{Found, publish_data, publish_text};
-ghost use Rattle.snl_say.specs.Symbols.{IsNested, SymbolFound, in_order, outline_of, symbols_data, symbols_text};
+ghost use Rattle.snl_say.specs.Symbols.{IsNested, SymbolFound, in_order, forest_of, symbols_data, symbols_text};
 
 /// What is published: the diagnostics, the URI, and the version where there is one.
 pub fn publish_is_json()
@@ -60,9 +60,9 @@ pub fn hover_is_json()
         → compact_text (hover_data id contents start stop) ≡ hover_text id contents start stop }
 {}
 
-/// Whatever the depths of symbols are, each of them is shown, in their order, and is in the last one
-/// before it that is less deep.
+/// Whatever the depths of symbols are, each of them is there, in their order, and is in the last
+/// one before it that is less deep.
 pub fn symbols_are_nested()
-    ensures kept { (symbols : List SymbolFound) → in_order (outline_of symbols) ≡ symbols }
-    ensures nested { (symbols : List SymbolFound) → IsNested 0 (outline_of symbols) }
+    ensures kept { (symbols : List SymbolFound) → in_order (forest_of symbols) ≡ symbols }
+    ensures nested { (symbols : List SymbolFound) → IsNested 0 (forest_of symbols) }
 {}

@@ -7,7 +7,7 @@ ghost use Rattle.std.specs.Prelude.{◌≡◌, ◌++◌, false, codes, map, IfNo
 ghost use Rattle.serde_json.specs.Written.{comma_if};
 ghost use Rattle.snl_say.specs.Answers.{id_data};
 ghost use Rattle.snl_say.specs.Parents.{InnermostEnds, NoneEnds, ends_before, innermost_first, one_ends, parents_at};
-ghost use Rattle.snl_say.specs.Symbols.{kind_text, outline_of, outline_text, symbol_begin, symbol_end, symbol_of, symbols_text};
+ghost use Rattle.snl_say.specs.Symbols.{kind_text, forest_of, forest_text, symbol_begin, symbol_end, symbol_of, symbols_text};
 
 use crate::answers::{Id, put_id};
 use crate::bytes::put_quoted;
@@ -54,7 +54,7 @@ fn begin_text(later: bool) -> &'static [u8]
     }
 }
 
-/// What is between the children of a symbol and its name.
+/// The bracket that closes the children of a symbol, its kind, and what is before its name.
 fn kind_text(kind: SymbolKind) -> &'static [u8]
     ensures { result.now ≡ codes "]" ++ kind_text kind }
 {
@@ -84,7 +84,7 @@ fn put_end(out: &mut Vec<u8>, symbol: &ShownSymbol<'_>) -> Result<(), AllocError
     Ok(())
 }
 
-/// Takes out the innermost of the parents, if a symbol of this depth isn't in it.
+/// Takes out the innermost parent, which is the last, if a symbol of this depth isn't in it.
 fn pop_ended<'a>(
     parents: &mut Vec<&'a ShownSymbol<'a>>,
     depth: usize,
@@ -122,11 +122,12 @@ fn put_ended<'a>(
     Ok(later)
 }
 
-/// The symbols, each with its children, and the bracket that closes them. Those whose children are
-/// being written are kept in a list, not on the stack: depths may rise from each symbol to the next.
-fn put_outline<'a>(out: &mut Vec<u8>, all: &'a [ShownSymbol<'a>]) -> Result<(), AllocError>
+/// The symbols, each with its children, and the bracket that closes them. The parents are those
+/// whose children are being written. They are in a list, not on the stack: each depth may be
+/// greater than the one before.
+fn put_forest<'a>(out: &mut Vec<u8>, all: &'a [ShownSymbol<'a>]) -> Result<(), AllocError>
     ensures { OnOk result (out.new.items ≡ out.old.items
-        ++ outline_text false (outline_of (map (λ s. symbol_of s) all.now))) }
+        ++ forest_text false (forest_of (map (λ s. symbol_of s) all.now))) }
 {
     let mut parents = Vec::new(*out.allocator());
     for symbol in all {
@@ -134,6 +135,7 @@ fn put_outline<'a>(out: &mut Vec<u8>, all: &'a [ShownSymbol<'a>]) -> Result<(), 
         out.extend_from_slice(begin_text(later))?;
         parents.push(symbol)?;
     }
+    // No depth is below 0, so that all of them end.
     put_ended(out, &mut parents, 0)?;
     out.extend_from_slice(b"]")?;
     Ok(())
@@ -149,7 +151,7 @@ pub fn put_symbols(out: &mut Vec<u8>, id: Id<'_>, all: &[ShownSymbol<'_>]) -> Re
     out.extend_from_slice(b"{\"id\":")?;
     put_id(out, id)?;
     out.extend_from_slice(b",\"jsonrpc\":\"2.0\",\"result\":[")?;
-    put_outline(out, all)?;
+    put_forest(out, all)?;
     out.extend_from_slice(b"}")?;
     Ok(())
 }

@@ -23,7 +23,8 @@ returns c = record {
       (c.location_is_json.ensures id uri start stop) (location_answer id uri start stop h u a b);
   hover = λ id contents start stop h u a b.
       subst (λ text. json_in text ≡ Some (hover_data id contents start stop))
-      (c.hover_is_json.ensures id contents start stop) (hover_answer id contents start stop h u a b);
+      (c.hover_is_json.ensures id contents start stop)
+      (hover_answer id contents start stop h u a b);
   error = λ id code h.
       subst (λ text. json_in text ≡ Some (error_data id code)) (c.error_is_json.ensures id code)
       (error_answer id code h);

@@ -1,6 +1,6 @@
 use Rattle.std.proofs.Common.{refl}
 use Rattle.snl_say.proofs.ParentSteps.{begun_all, begun_next}
-use Rattle.snl_say.proofs.symbols.put_outline.Goals as goal
+use Rattle.snl_say.proofs.symbols.put_forest.Goals as goal
 
 pub loop-symbol-preserved : goal.loop-symbol-preserved
 loop-symbol-preserved c =
