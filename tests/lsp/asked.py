@@ -1,5 +1,5 @@
-"""What is asked of a document: what is wrong with an outline, a definition or a hover, by the text of
-the document, its words and its listing."""
+"""What is asked of a document: what is wrong with an outline, a definition or a hover, by the text
+of the document, its words and its listing."""
 import re
 
 from texts import offset_of
@@ -50,19 +50,16 @@ def wrong_in_contents(result):
     contents = result.get("contents", {})
     if sorted(result) != ["contents", "range"] or sorted(contents) != ["kind", "value"]:
         return f"no hover: {result}"
-    is_right = contents["kind"] == "plaintext" and contents["value"] and "\r" not in contents["value"]
+    is_right = contents["kind"] == "plaintext" and contents["value"]
     return "" if is_right else f"no plain text: {contents}"
 
 
 def line_of(text, offset):
-    """The line of a declaration, as a hover has it: without blanks at its ends, and at most 200 bytes
-    of it, which end with a character."""
+    """The line of a declaration, as a hover has it: without white space at its ends, and at most
+    200 bytes of it, which end with a character."""
     start = text.rfind(b"\n", 0, offset) + 1
-    line = text[start:].partition(b"\n")[0].strip(BLANKS)
+    line = text[start:].partition(b"\n")[0].strip(b" \t\r\f")
     return line[:200].decode(errors="ignore")
-
-
-BLANKS = b" \t\r\f"
 
 
 # ---- outlines
@@ -103,7 +100,7 @@ def wrong_in_symbol(it, text, is_utf8):
 
 
 def wrong_by_listing(result, rows):
-    """What an outline has otherwise than a listing: its program, event flags, state sets, states."""
+    """What an outline has otherwise than a listing: its program, event flags, sets and states."""
     program, flags, sets = names_listed(rows)
     all_of = list(all_symbols(result))
     programs = [it["name"] for _, it in all_of if it["kind"] == PROGRAM]
