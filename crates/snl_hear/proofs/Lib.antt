@@ -5,4 +5,6 @@ mod Members
 mod ReadBack
 mod SoundAnswers
 mod SoundNotices
+mod SoundPlaces
+mod SoundSymbols
 mod Spelling

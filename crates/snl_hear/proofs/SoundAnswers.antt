@@ -1,23 +1,32 @@
 -- Answers are values that a text can have, so that they read back.
-use Rattle.std.proofs.Common.{◌≡◌, ℕ, List, true, Some, codes, IsUtf8, refl, arith}
-use Rattle.json.proofs.Printed.Utf8.{IsUtf8-are_ascii, are_ascii}
+use Rattle.std.proofs.Common.{◌≡◌, ◌≤◌, ℕ, List, true, Some, codes, IsUtf8, refl, arith}
 use Rattle.serde_json.specs.Data.{negative, Data, null, boolean, number, string, array, object, depth}
 use Rattle.serde_json.specs.Written.{compact_text}
 use Rattle.snl_place.specs.declared.places.Encoding.{Encoding}
 use Rattle.snl_place.specs.declared.places.Encoding.TheVariants.{Utf8, Utf16}
-use Rattle.snl_say.specs.Answers.{capabilities_data, encoding_name, error_data, error_message, error_number, initialize_data, initialized_data, null_data, sync_data}
+use Rattle.snl_place.specs.declared.places.Place.{Place}
+use Rattle.snl_say.specs.Answers.{answer_data, capabilities_data, encoding_name, error_data, error_message, error_number, hover_data, hovered_data, initialize_data, initialized_data, located_data, location_data, null_data, sync_data}
 use Rattle.snl_say.specs.declared.answers.ErrorCode.{ErrorCode}
 use Rattle.snl_say.specs.declared.answers.ErrorCode.TheVariants.{ParseError, InvalidRequest, MethodNotFound, InvalidParams, ServerNotInitialized}
 use Rattle.snl_hear.specs.Ids.{IsSoundId, is_id}
 use Rattle.snl_hear.specs.Json.{json_in}
-use Rattle.snl_hear.specs.Sound.{IsSound, IsSoundNumber}
+use Rattle.snl_hear.specs.Sound.{IsSound, IsSoundNumber, IsSoundPlace}
 use Rattle.snl_hear.proofs.ReadBack.{reads_back}
+use Rattle.snl_hear.proofs.SoundPlaces.{ascii, range_sound}
 
-pub ascii : (s : List ℕ) → are_ascii s ≡ true → IsUtf8 s
-ascii s h = IsUtf8-are_ascii s h
+-- an id is no array and no object
+id_shallow : (id : Data) → is_id id ≡ true → depth id ≡ 0
+id_shallow null h = refl
+id_shallow (boolean b) h = refl
+id_shallow (number n) h = refl
+id_shallow (string s) h = refl
+id_shallow (array ds) h = absurd (grind arith)
+id_shallow (object ms) h = absurd (grind arith)
 
-null_sound : (id : Data) → IsSound id → IsSound (null_data id)
-null_sound id h = (
+-- ---- an answer, by what is answered
+
+answer_sound : (id result : Data) → IsSound id → IsSound result → IsSound (answer_data id result)
+answer_sound id result h k = (
   ascii (codes "id") refl,
   h,
   (refl, (refl, tt)),
@@ -25,9 +34,22 @@ null_sound id h = (
     ascii (codes "jsonrpc") refl,
     ascii (codes "2.0") refl,
     (refl, tt),
-    (ascii (codes "result") refl, tt, tt, tt),
+    (ascii (codes "result") refl, k, tt, tt),
   ),
 )
+
+-- an answer nests one level deeper than what is answered
+pub answer_back : (id result : Data) → IsSoundId id → IsSound result → depth result ≤ 126 →
+    json_in (compact_text (answer_data id result)) ≡ Some (answer_data id result)
+answer_back id result h k shallow =
+    reads_back (answer_data id result) (answer_sound id result h.1 k)
+    (omega (arith, id_shallow id h.0, shallow))
+
+pub null_answer : (id : Data) → IsSoundId id →
+    json_in (compact_text (null_data id)) ≡ Some (null_data id)
+null_answer id h = answer_back id null h tt (omega arith)
+
+-- ---- the answer to `initialize`
 
 encoding_sound : (encoding : Encoding) → IsUtf8 (encoding_name encoding)
 encoding_sound Utf8 = ascii (codes "utf-8") refl
@@ -43,10 +65,25 @@ sync_sound = (
 
 capabilities_sound : (encoding : Encoding) → IsSound (capabilities_data encoding)
 capabilities_sound encoding = (
-  ascii (codes "positionEncoding") refl,
-  encoding_sound encoding,
-  (refl, tt),
-  (ascii (codes "textDocumentSync") refl, sync_sound, tt, tt),
+  ascii (codes "definitionProvider") refl,
+  tt,
+  (refl, (refl, (refl, (refl, tt)))),
+  (
+    ascii (codes "documentSymbolProvider") refl,
+    tt,
+    (refl, (refl, (refl, tt))),
+    (
+      ascii (codes "hoverProvider") refl,
+      tt,
+      (refl, (refl, tt)),
+      (
+        ascii (codes "positionEncoding") refl,
+        encoding_sound encoding,
+        (refl, tt),
+        (ascii (codes "textDocumentSync") refl, sync_sound, tt, tt),
+      ),
+    ),
+  ),
 )
 
 initialized_sound : (encoding : Encoding) → IsSound (initialized_data encoding)
@@ -62,19 +99,57 @@ initialized_sound encoding = (
   ),
 )
 
-initialize_sound : (id : Data) (encoding : Encoding) → IsSound id →
-    IsSound (initialize_data id encoding)
-initialize_sound id encoding h = (
-  ascii (codes "id") refl,
-  h,
-  (refl, (refl, tt)),
-  (
-    ascii (codes "jsonrpc") refl,
-    ascii (codes "2.0") refl,
-    (refl, tt),
-    (ascii (codes "result") refl, initialized_sound encoding, tt, tt),
-  ),
+initialized_shallow : (encoding : Encoding) → depth (initialized_data encoding) ≤ 126
+initialized_shallow encoding = omega arith
+
+pub initialize_answer : (id : Data) (encoding : Encoding) → IsSoundId id →
+    json_in (compact_text (initialize_data id encoding)) ≡ Some (initialize_data id encoding)
+initialize_answer id encoding h =
+    answer_back id (initialized_data encoding) h (initialized_sound encoding)
+    (initialized_shallow encoding)
+
+-- ---- a part of a document, and what is told of it
+
+located_sound : (uri : List ℕ) (start stop : Place) → IsUtf8 uri → IsSoundPlace start →
+    IsSoundPlace stop → IsSound (located_data uri start stop)
+located_sound uri start stop u h k = (
+  ascii (codes "range") refl,
+  range_sound start stop h k,
+  (refl, tt),
+  (ascii (codes "uri") refl, u, tt, tt),
 )
+
+pub location_answer : (id : Data) (uri : List ℕ) (start stop : Place) → IsSoundId id →
+    IsUtf8 uri → IsSoundPlace start → IsSoundPlace stop →
+    json_in (compact_text (location_data id uri start stop))
+    ≡ Some (location_data id uri start stop)
+location_answer id uri start stop h u a b =
+    answer_back id (located_data uri start stop) h (located_sound uri start stop u a b)
+    (omega arith)
+
+hovered_sound : (contents : List ℕ) (start stop : Place) → IsUtf8 contents → IsSoundPlace start →
+    IsSoundPlace stop → IsSound (hovered_data contents start stop)
+hovered_sound contents start stop u h k = (
+  ascii (codes "contents") refl,
+  (
+    ascii (codes "kind") refl,
+    ascii (codes "plaintext") refl,
+    (refl, tt),
+    (ascii (codes "value") refl, u, tt, tt),
+  ),
+  (refl, tt),
+  (ascii (codes "range") refl, range_sound start stop h k, tt, tt),
+)
+
+pub hover_answer : (id : Data) (contents : List ℕ) (start stop : Place) → IsSoundId id →
+    IsUtf8 contents → IsSoundPlace start → IsSoundPlace stop →
+    json_in (compact_text (hover_data id contents start stop))
+    ≡ Some (hover_data id contents start stop)
+hover_answer id contents start stop h u a b =
+    answer_back id (hovered_data contents start stop) h (hovered_sound contents start stop u a b)
+    (omega arith)
+
+-- ---- an error
 
 number_sound : (code : ErrorCode) → IsSoundNumber (negative (error_number code))
 number_sound ParseError = (32699, omega arith, refl)
@@ -107,25 +182,6 @@ error_sound id code h = (
     (ascii (codes "jsonrpc") refl, ascii (codes "2.0") refl, tt, tt),
   ),
 )
-
--- an id is no array and no object
-id_shallow : (id : Data) → is_id id ≡ true → depth id ≡ 0
-id_shallow null h = refl
-id_shallow (boolean b) h = refl
-id_shallow (number n) h = refl
-id_shallow (string s) h = refl
-id_shallow (array ds) h = absurd (grind arith)
-id_shallow (object ms) h = absurd (grind arith)
-
-pub null_answer : (id : Data) → IsSoundId id →
-    json_in (compact_text (null_data id)) ≡ Some (null_data id)
-null_answer id h = reads_back (null_data id) (null_sound id h.1) (omega (arith, id_shallow id h.0))
-
-pub initialize_answer : (id : Data) (encoding : Encoding) → IsSoundId id →
-    json_in (compact_text (initialize_data id encoding)) ≡ Some (initialize_data id encoding)
-initialize_answer id encoding h =
-    reads_back (initialize_data id encoding) (initialize_sound id encoding h.1)
-    (omega (arith, id_shallow id h.0))
 
 pub error_answer : (id : Data) (code : ErrorCode) → IsSoundId id →
     json_in (compact_text (error_data id code)) ≡ Some (error_data id code)

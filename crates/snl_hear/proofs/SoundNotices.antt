@@ -3,32 +3,14 @@ use Rattle.std.proofs.Common.{◌≡◌, ℕ, ◌<◌, ◌≤◌, List, [], ◌�
 use Rattle.serde_json.specs.Data.{string, member, depth, items_depth}
 use Rattle.serde_json.specs.Read.{max_depth}
 use Rattle.serde_json.specs.Written.{compact_text}
-use Rattle.snl_place.specs.declared.places.Place.{Place}
 use Rattle.snl_say.specs.Notices.{message_data}
-use Rattle.snl_say.specs.Publish.{Found, item_data, items_data, params_data, place_data, publish_data, range_data, severity_number, version_data}
+use Rattle.snl_say.specs.Publish.{Found, item_data, items_data, params_data, publish_data, severity_number, version_data}
 use Rattle.snl_say.specs.declared.severity.Severity.{Severity}
 use Rattle.snl_say.specs.declared.severity.Severity.TheVariants.{Error, Warning}
 use Rattle.snl_hear.specs.Json.{json_in}
-use Rattle.snl_hear.specs.Sound.{AreSound, AreSoundFound, AreSoundMembers, IsBefore, IsSound, IsSoundFound, IsSoundPlace, IsSoundVersion}
+use Rattle.snl_hear.specs.Sound.{AreSound, AreSoundFound, AreSoundMembers, IsBefore, IsSound, IsSoundFound, IsSoundVersion}
 use Rattle.snl_hear.proofs.ReadBack.{reads_back}
-use Rattle.snl_hear.proofs.SoundAnswers.{ascii}
-
-place_sound : (p : Place) → IsSoundPlace p → IsSound (place_data p)
-place_sound p h = (
-  ascii (codes "character") refl,
-  h.1,
-  (refl, tt),
-  (ascii (codes "line") refl, h.0, tt, tt),
-)
-
-range_sound : (start stop : Place) → IsSoundPlace start → IsSoundPlace stop →
-    IsSound (range_data start stop)
-range_sound start stop h k = (
-  ascii (codes "end") refl,
-  place_sound stop k,
-  (refl, tt),
-  (ascii (codes "start") refl, place_sound start h, tt, tt),
-)
+use Rattle.snl_hear.proofs.SoundPlaces.{ascii, range_sound}
 
 severity_sound : (severity : Severity) → severity_number severity < 18446744073709551616
 severity_sound Error = omega arith

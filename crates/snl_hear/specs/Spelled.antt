@@ -4,7 +4,8 @@ use Rattle.std.specs.Prelude.{ℕ, List, [], ◌∷◌, Option, codes}
 use Rattle.serde_json.specs.Data.{Data, null, object, string, array, Items, no_items, item, no_members, member}
 use Rattle.snl_place.specs.declared.places.Encoding.{Encoding}
 use Rattle.snl_place.specs.declared.places.Encoding.TheVariants.{Utf8, Utf16}
-use Rattle.snl_say.specs.Publish.{place_data, range_data, version_data}
+use Rattle.snl_say.specs.Places.{place_data, range_data}
+use Rattle.snl_say.specs.Publish.{version_data}
 use Rattle.snl_hear.specs.Changes.{Changed, Whole, Part}
 use Rattle.snl_hear.specs.Documents.{Located}
 use Rattle.snl_hear.specs.Notifications.{Noted, Initialized, Exit, DidOpen, DidChange, DidClose}

@@ -1,2 +1,7 @@
 pub mod AnswerText
+pub mod EscapeRuns
+pub mod Nesting
+pub mod ParentSteps
+pub mod PlaceText
 pub mod PublishText
+pub mod SymbolText

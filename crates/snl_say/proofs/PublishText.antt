@@ -10,15 +10,8 @@ use Rattle.snl_place.specs.declared.places.Place.{Place}
 use Rattle.snl_say.specs.declared.severity.Severity.{Severity}
 use Rattle.snl_say.specs.declared.severity.Severity.TheVariants.{Error, Warning}
 use Rattle.snl_say.specs.Notices.{message_data, message_head, message_text}
-use Rattle.snl_say.specs.Publish.{Found, after_comma, item_data, item_text, items_after, items_data, items_text, place_data, place_text, publish_data, publish_head, publish_text, range_data, range_text, version_data, version_text}
-
-place_same : (p : Place) → compact_text (place_data p) ≡ place_text p
-unfolding json_on_literals place_text
-place_same p = refl
-
-range_same : (start stop : Place) → compact_text (range_data start stop) ≡ range_text start stop
-unfolding json_on_literals place_text range_text
-range_same start stop = refl
+use Rattle.snl_say.specs.Places.{place_text, range_text}
+use Rattle.snl_say.specs.Publish.{Found, after_comma, item_data, item_text, items_after, items_data, items_text, publish_data, publish_head, publish_text, version_data, version_text}
 
 -- an item by its parts, so that its severity is a case
 abbrev item_of : (start stop : Place) (code message : List ℕ) (severity : Severity) → Found
@@ -60,7 +53,7 @@ version_same (Some n) =
     ap (λ (l : List ℕ). codes ",\"version\":" ++ l) (append_assoc (decimal n) (125 ∷ []) (125 ∷ []))
 
 -- what is after the items: the bracket that closes the outer object joins it
-closed : (items uri version : List ℕ) →
+pub closed : (items uri version : List ℕ) →
     (items ++ (codes ",\"uri\":" ++ (quoted uri ++ version))) ++ 125 ∷ []
     ≡ items ++ (codes ",\"uri\":" ++ (quoted uri ++ (version ++ 125 ∷ [])))
 closed items uri version =

@@ -1,6 +1,7 @@
 -- The answers to requests, as JSON and as bytes.
 use Rattle.std.specs.Prelude.{ℕ, ℤ, negsuc, List, [], ◌∷◌, Option, Some, None, true, codes}
 use Rattle.std.specs.List.{concat}
+use Rattle.json.specs.Print.{quoted}
 use Rattle.serde_json.specs.Data.{Data, boolean, null, object, string, number, unsigned, negative, member, no_members}
 use Rattle.serde_json.specs.Written.{compact_text}
 use Rattle.snl_say.specs.declared.answers.ErrorCode.{ErrorCode}
@@ -9,6 +10,8 @@ use Rattle.snl_say.specs.declared.answers.Id.{Id}
 use Rattle.snl_say.specs.declared.answers.Id.TheVariants.{Unsigned, Negative, Text}
 use Rattle.snl_place.specs.declared.places.Encoding.{Encoding}
 use Rattle.snl_place.specs.declared.places.Encoding.TheVariants.{Utf8, Utf16}
+use Rattle.snl_place.specs.declared.places.Place.{Place}
+use Rattle.snl_say.specs.Places.{range_data, range_text}
 
 -- The id of a request, as JSON.
 abbrev pub id_data : Id → Data
@@ -23,11 +26,14 @@ some_id_data (Some id) = id_data id
 
 -- ---- as JSON: the members of an object are in the order of their names
 
-abbrev pub null_data : (id : Data) → Data
-null_data id =
+abbrev pub answer_data : (id result : Data) → Data
+answer_data id result =
     object (member (codes "id") id
     (member (codes "jsonrpc") (string (codes "2.0"))
-    (member (codes "result") null no_members)))
+    (member (codes "result") result no_members)))
+
+abbrev pub null_data : (id : Data) → Data
+null_data id = answer_data id null
 
 -- The names of the protocol.
 abbrev pub encoding_name : Encoding → List ℕ
@@ -42,8 +48,11 @@ sync_data =
 
 abbrev pub capabilities_data : Encoding → Data
 capabilities_data encoding =
-    object (member (codes "positionEncoding") (string (encoding_name encoding))
-    (member (codes "textDocumentSync") sync_data no_members))
+    object (member (codes "definitionProvider") (boolean true)
+    (member (codes "documentSymbolProvider") (boolean true)
+    (member (codes "hoverProvider") (boolean true)
+    (member (codes "positionEncoding") (string (encoding_name encoding))
+    (member (codes "textDocumentSync") sync_data no_members)))))
 
 abbrev pub server_data : Data
 server_data = object (member (codes "name") (string (codes "snl_lsp")) no_members)
@@ -54,10 +63,29 @@ initialized_data encoding =
     (member (codes "serverInfo") server_data no_members))
 
 abbrev pub initialize_data : (id : Data) → Encoding → Data
-initialize_data id encoding =
-    object (member (codes "id") id
-    (member (codes "jsonrpc") (string (codes "2.0"))
-    (member (codes "result") (initialized_data encoding) no_members)))
+initialize_data id encoding = answer_data id (initialized_data encoding)
+
+-- A part of a document.
+abbrev pub located_data : (uri : List ℕ) → (start stop : Place) → Data
+located_data uri start stop =
+    object (member (codes "range") (range_data start stop)
+    (member (codes "uri") (string uri) no_members))
+
+abbrev pub location_data : (id : Data) → (uri : List ℕ) → (start stop : Place) → Data
+location_data id uri start stop = answer_data id (located_data uri start stop)
+
+abbrev pub contents_data : (contents : List ℕ) → Data
+contents_data contents =
+    object (member (codes "kind") (string (codes "plaintext"))
+    (member (codes "value") (string contents) no_members))
+
+abbrev pub hovered_data : (contents : List ℕ) → (start stop : Place) → Data
+hovered_data contents start stop =
+    object (member (codes "contents") (contents_data contents)
+    (member (codes "range") (range_data start stop) no_members))
+
+abbrev pub hover_data : (id : Data) → (contents : List ℕ) → (start stop : Place) → Data
+hover_data id contents start stop = answer_data id (hovered_data contents start stop)
 
 -- The numbers of the protocol: `negsuc n` is one below -n.
 abbrev pub error_number : ErrorCode → ℤ
@@ -92,13 +120,18 @@ null_text id =
     concat (codes "{\"id\":" ∷ compact_text id
     ∷ codes ",\"jsonrpc\":\"2.0\",\"result\":null}" ∷ [])
 
--- What is between the id and the encoding.
+-- What is between the id and the capabilities.
 unfoldable pub initialize_head : List ℕ
-initialize_head = codes ",\"jsonrpc\":\"2.0\",\"result\":{\"capabilities\":{\"positionEncoding\":"
+initialize_head = codes ",\"jsonrpc\":\"2.0\",\"result\":{\"capabilities\":{"
+
+-- The requests on a document that are answered.
+unfoldable pub providers_text : List ℕ
+providers_text =
+    codes "\"definitionProvider\":true,\"documentSymbolProvider\":true,\"hoverProvider\":true"
 
 abbrev pub encoding_text : Encoding → List ℕ
-encoding_text Utf8 = codes "\"utf-8\""
-encoding_text Utf16 = codes "\"utf-16\""
+encoding_text Utf8 = codes ",\"positionEncoding\":\"utf-8\""
+encoding_text Utf16 = codes ",\"positionEncoding\":\"utf-16\""
 
 unfoldable pub sync_text : List ℕ
 sync_text = codes ",\"textDocumentSync\":{\"change\":2,\"openClose\":true}}"
@@ -108,8 +141,28 @@ server_text = codes ",\"serverInfo\":{\"name\":\"snl_lsp\"}}}"
 
 unfoldable pub initialize_text : (id : Data) → Encoding → List ℕ
 initialize_text id encoding =
-    concat (codes "{\"id\":" ∷ compact_text id ∷ initialize_head ∷ encoding_text encoding
-    ∷ sync_text ∷ server_text ∷ [])
+    concat (codes "{\"id\":" ∷ compact_text id ∷ initialize_head ∷ providers_text
+    ∷ encoding_text encoding ∷ sync_text ∷ server_text ∷ [])
+
+-- By the URI as a string of JSON, quotes included.
+unfoldable pub location_with : (id : Data) → (quoted_uri : List ℕ) → (start stop : Place) → List ℕ
+location_with id quoted_uri start stop =
+    concat (codes "{\"id\":" ∷ compact_text id
+    ∷ codes ",\"jsonrpc\":\"2.0\",\"result\":{\"range\":" ∷ range_text start stop
+    ∷ codes ",\"uri\":" ∷ quoted_uri ∷ codes "}}" ∷ [])
+
+abbrev pub location_text : (id : Data) → (uri : List ℕ) → (start stop : Place) → List ℕ
+location_text id uri start stop = location_with id (quoted uri) start stop
+
+-- What is between the id and what is told.
+unfoldable pub hover_head : List ℕ
+hover_head =
+    codes ",\"jsonrpc\":\"2.0\",\"result\":{\"contents\":{\"kind\":\"plaintext\",\"value\":"
+
+unfoldable pub hover_text : (id : Data) → (contents : List ℕ) → (start stop : Place) → List ℕ
+hover_text id contents start stop =
+    concat (codes "{\"id\":" ∷ compact_text id ∷ hover_head ∷ quoted contents
+    ∷ codes "},\"range\":" ∷ range_text start stop ∷ codes "}}" ∷ [])
 
 -- The number of an error and its message.
 abbrev pub failure_text : ErrorCode → List ℕ

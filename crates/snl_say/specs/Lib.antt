@@ -1,3 +1,6 @@
 pub mod Answers
 pub mod Notices
+pub mod Parents
+pub mod Places
 pub mod Publish
+pub mod Symbols

@@ -5,6 +5,7 @@ use Rattle.json.specs.Print.{quoted}
 use Rattle.serde_json.specs.Data.{Data, array, object, string, number, unsigned, member, Members, no_members, Items, no_items, item}
 use Rattle.snl_place.specs.declared.places.Place.{Place}
 use Rattle.snl_script.specs.Parts.{quoted as in_quotes}
+use Rattle.snl_say.specs.Places.{range_data, range_text}
 use Rattle.snl_say.specs.declared.diagnostics.Shown.{Shown}
 use Rattle.snl_say.specs.declared.severity.Severity.{Severity}
 use Rattle.snl_say.specs.declared.severity.Severity.TheVariants.{Error, Warning}
@@ -27,16 +28,6 @@ found_of s = record {
 }
 
 -- ---- as JSON: the members of an object are in the order of their names
-
-abbrev pub place_data : Place → Data
-place_data p =
-    object (member (codes "character") (number (unsigned p.character))
-    (member (codes "line") (number (unsigned p.line)) no_members))
-
-abbrev pub range_data : (start stop : Place) → Data
-range_data start stop =
-    object (member (codes "end") (place_data stop)
-    (member (codes "start") (place_data start) no_members))
 
 -- The numbers of the protocol.
 abbrev pub severity_number : Severity → ℕ
@@ -72,16 +63,6 @@ publish_data found uri version =
     (member (codes "params") (params_data found uri version) no_members)))
 
 -- ---- as bytes
-
-unfoldable pub place_text : Place → List ℕ
-place_text p =
-    concat (codes "{\"character\":" ∷ decimal p.character ∷ codes ",\"line\":" ∷ decimal p.line
-    ∷ codes "}" ∷ [])
-
-unfoldable pub range_text : (start stop : Place) → List ℕ
-range_text start stop =
-    concat (codes "{\"end\":" ∷ place_text stop ∷ codes ",\"start\":" ∷ place_text start ∷ codes "}"
-    ∷ [])
 
 -- The severity, and all that is after it in an item.
 abbrev pub severity_text : Severity → List ℕ

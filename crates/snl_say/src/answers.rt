@@ -8,7 +8,7 @@ ghost use Rattle.std.specs.Fmt.{signed_decimal};
 ghost use Rattle.json.specs.Print.{quoted};
 ghost use Rattle.serde_json.specs.Data.{Data};
 ghost use Rattle.serde_json.specs.Written.{compact_text};
-ghost use Rattle.snl_say.specs.Answers.{encoding_text, error_text, failure_text, id_data, initialize_head, initialize_text, null_text, server_text, some_id_data, sync_text};
+ghost use Rattle.snl_say.specs.Answers.{encoding_text, error_text, failure_text, id_data, initialize_head, initialize_text, null_text, providers_text, server_text, some_id_data, sync_text};
 
 use crate::bytes::put_quoted;
 use itoa::Buffer;
@@ -41,7 +41,8 @@ pub enum ErrorCode {
     ServerNotInitialized,
 }
 
-fn put_id(out: &mut Vec<u8>, id: Id<'_>) -> Result<(), AllocError>
+/// An id, as it was given.
+pub fn put_id(out: &mut Vec<u8>, id: Id<'_>) -> Result<(), AllocError>
     ensures { OnOk result (out.new.items ≡ out.old.items ++ compact_text (id_data id.entry)) }
 {
     match id {
@@ -80,20 +81,28 @@ pub fn put_null(out: &mut Vec<u8>, id: Id<'_>) -> Result<(), AllocError>
     Ok(())
 }
 
-/// What is between the id and the encoding.
+/// What is between the id and the capabilities.
 #[tactic(auto, unfolding(crate::specs::Answers::initialize_head))]
 fn initialize_head() -> &'static [u8]
     ensures { result.now ≡ initialize_head }
 {
-    b",\"jsonrpc\":\"2.0\",\"result\":{\"capabilities\":{\"positionEncoding\":"
+    b",\"jsonrpc\":\"2.0\",\"result\":{\"capabilities\":{"
+}
+
+/// The requests on a document that are answered.
+#[tactic(auto, unfolding(crate::specs::Answers::providers_text))]
+fn providers_text() -> &'static [u8]
+    ensures { result.now ≡ providers_text }
+{
+    b"\"definitionProvider\":true,\"documentSymbolProvider\":true,\"hoverProvider\":true"
 }
 
 fn encoding_text(encoding: Encoding) -> &'static [u8]
     ensures { result.now ≡ encoding_text encoding }
 {
     match encoding {
-        Encoding::Utf8 => b"\"utf-8\"",
-        Encoding::Utf16 => b"\"utf-16\"",
+        Encoding::Utf8 => b",\"positionEncoding\":\"utf-8\"",
+        Encoding::Utf16 => b",\"positionEncoding\":\"utf-16\"",
     }
 }
 
@@ -112,9 +121,9 @@ fn server_text() -> &'static [u8]
     b",\"serverInfo\":{\"name\":\"snl_lsp\"}}}"
 }
 
-/// The answer to `initialize`: documents are opened, changed by ranges and closed, and the
-/// characters of a line are counted so. No request on a document is offered. An `Err`, of memory,
-/// may leave a front of the bytes.
+/// The answer to `initialize`: documents are opened, changed by ranges and closed, the characters
+/// of a line are counted so, and symbols, definitions and hovers may be asked for. An `Err`, of
+/// memory, may leave a front of the bytes.
 #[tactic(auto, unfolding(crate::specs::Answers::initialize_text))]
 pub fn put_initialize(out: &mut Vec<u8>, id: Id<'_>, encoding: Encoding) -> Result<(), AllocError>
     ensures { OnOk result (out.new.items ≡ out.old.items
@@ -123,6 +132,7 @@ pub fn put_initialize(out: &mut Vec<u8>, id: Id<'_>, encoding: Encoding) -> Resu
     out.extend_from_slice(b"{\"id\":")?;
     put_id(out, id)?;
     out.extend_from_slice(initialize_head())?;
+    out.extend_from_slice(providers_text())?;
     out.extend_from_slice(encoding_text(encoding))?;
     out.extend_from_slice(sync_text())?;
     out.extend_from_slice(server_text())?;

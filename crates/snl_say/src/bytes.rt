@@ -2,9 +2,11 @@
 //! In: pieces, and the bytes of a string. Out: the same after the bytes that are there, a string
 //! in quotes and escaped. Knows nothing of what they say.
 
-ghost use Rattle.std.specs.Prelude.{◌≡◌, ◌++◌, ◌∷◌, [], ◌<◌, ℕ, List, OnOk, flat_map, take};
+ghost use Rattle.std.specs.Prelude.{◌≡◌, ◌+◌, ◌++◌, ◌∷◌, [], ◌<◌, ◌≤◌, ℕ, List, OnOk, drop, flat_map, length, take};
 ghost use Rattle.std.specs.Char.{digit_char};
+ghost use Rattle.std.specs.List.{prefix_len};
 ghost use Rattle.json.specs.Print.{escape, escape_byte, escape_letter, quoted};
+ghost use Rattle.json.specs.Run.{is_plain};
 
 use std::alloc::AllocError;
 
@@ -46,7 +48,7 @@ fn hex_digit(digit: u8) -> u8
     }
 }
 
-/// A byte of a string. From 32 on all but `"` and `\` are themselves, so UTF-8 stays as it is.
+/// A byte of a string.
 #[tactic(auto, unfolding(json::specs::Print::escape_byte))]
 fn put_byte(out: &mut Vec<u8>, byte: u8) -> Result<(), AllocError>
     ensures { OnOk result (out.new.items ≡ out.old.items ++ escape_byte byte) }
@@ -62,14 +64,34 @@ fn put_byte(out: &mut Vec<u8>, byte: u8) -> Result<(), AllocError>
     out.extend_from_slice(&[byte])
 }
 
-/// The bytes of a string. Each byte of a message goes through this loop; nearly none has an escape.
+/// Where the bytes from `start` on that are themselves in a string end: all but `"`, `\` and those
+/// below 32, so UTF-8 stays as it is.
+fn plain_end(bytes: &[u8], start: usize) -> usize
+    requires { start ≤ length bytes.now }
+    ensures end { result ≡ start + prefix_len is_plain (drop start bytes.now) }
+    ensures inside { result ≤ length bytes.now }
+{
+    let mut end = start;
+    while end < bytes.len() && bytes[end] != b'"' && bytes[end] != b'\\' && bytes[end] >= 32 {
+        end += 1;
+    }
+    end
+}
+
+/// The bytes of a string. Nearly none has an escape, so those between two are put at once.
 pub fn put_escaped(out: &mut Vec<u8>, bytes: &[u8]) -> Result<(), AllocError>
     ensures { OnOk result (out.new.items ≡ out.old.items ++ escape bytes.now) }
 {
-    for byte in bytes {
-        put_byte(out, *byte)?;
+    let mut start = 0;
+    loop {
+        let end = plain_end(bytes, start);
+        out.extend_from_slice(&bytes[start..end])?;
+        if end == bytes.len() {
+            return Ok(());
+        }
+        put_byte(out, bytes[end])?;
+        start = end + 1;
     }
-    Ok(())
 }
 
 /// A string of JSON. An `Err`, of memory, may leave a front of the bytes.

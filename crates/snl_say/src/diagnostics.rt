@@ -6,9 +6,10 @@
 ghost use Rattle.std.specs.Prelude.{◌≡◌, ◌++◌, ◌∷◌, [], ℕ, List, Option, None, Some, OnOk, codes, flat_map, map};
 ghost use Rattle.json.specs.Print.{escape, quoted};
 ghost use Rattle.snl_script.specs.Parts.{quoted as in_quotes};
-ghost use Rattle.snl_say.specs.Publish.{Found, after_comma, found_of, item_text, items_text, place_text, publish_head, publish_with, range_text, severity_text, version_text};
+ghost use Rattle.snl_say.specs.Publish.{Found, after_comma, found_of, item_text, items_text, publish_head, publish_with, severity_text, version_text};
 
 use crate::bytes::{put_all, put_escaped, put_quoted};
+use crate::places::put_range;
 use crate::severity::Severity;
 use itoa::Buffer;
 use snl_place::Place;
@@ -24,32 +25,6 @@ pub struct Shown<'a> {
     pub code: &'a [u8],
     pub message: &'a [u8],
     pub quoted: &'a [u8],
-}
-
-/// A place, as `{"character":CHARACTER,"line":LINE}`.
-#[tactic(auto, unfolding(crate::specs::Publish::place_text))]
-fn put_place(out: &mut Vec<u8>, place: Place) -> Result<(), AllocError>
-    ensures { OnOk result (out.new.items ≡ out.old.items ++ place_text place) }
-{
-    let (mut first, mut second) = (Buffer::new(), Buffer::new());
-    let character = first.format(place.character).as_bytes();
-    let line = second.format(place.line).as_bytes();
-    put_all(
-        out,
-        &[b"{\"character\":", character, b",\"line\":", line, b"}"],
-    )
-}
-
-#[tactic(auto, unfolding(crate::specs::Publish::range_text))]
-fn put_range(out: &mut Vec<u8>, start: Place, stop: Place) -> Result<(), AllocError>
-    ensures { OnOk result (out.new.items ≡ out.old.items ++ range_text start stop) }
-{
-    out.extend_from_slice(b"{\"end\":")?;
-    put_place(out, stop)?;
-    out.extend_from_slice(b",\"start\":")?;
-    put_place(out, start)?;
-    out.extend_from_slice(b"}")?;
-    Ok(())
 }
 
 /// The severity, and all that is after it in an item.

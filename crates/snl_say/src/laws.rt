@@ -1,15 +1,17 @@
-//! The laws of what is said. A function here does nothing: its contract is the law. Each says that
-//! the bytes are the text, with no space, of a value of JSON.
+//! The laws of what is said. A function here does nothing: its contract is the law. Each but the
+//! last says that the bytes are the text, with no space, of a value of JSON.
 
 ghost use Rattle.std.specs.Prelude.{◌≡◌, ℕ, List, Option};
 ghost use Rattle.serde_json.specs.Data.{Data};
 ghost use Rattle.serde_json.specs.Written.{compact_text};
 ghost use Rattle.snl_say.specs.declared.answers.ErrorCode.{ErrorCode};
 ghost use Rattle.snl_place.specs.declared.places.Encoding.{Encoding};
+ghost use Rattle.snl_place.specs.declared.places.Place.{Place};
 ghost use Rattle.snl_say.specs.declared.severity.Severity.{Severity};
-ghost use Rattle.snl_say.specs.Answers.{error_data, error_text, initialize_data, initialize_text, null_data, null_text};
+ghost use Rattle.snl_say.specs.Answers.{error_data, error_text, hover_data, hover_text, initialize_data, initialize_text, location_data, location_text, null_data, null_text};
 ghost use Rattle.snl_say.specs.Notices.{message_data, message_text};
 ghost use Rattle.snl_say.specs.Publish.{Found, publish_data, publish_text};
+ghost use Rattle.snl_say.specs.Symbols.{IsNested, SymbolFound, in_order, forest_of, symbols_data, symbols_text};
 
 /// What is published: the diagnostics, the URI, and the version where there is one.
 pub fn publish_is_json()
@@ -38,4 +40,29 @@ pub fn initialize_is_json()
 pub fn error_is_json()
     ensures { (id : Data) (code : ErrorCode)
         → compact_text (error_data id code) ≡ error_text id code }
+{}
+
+/// Symbols, whatever their depths are.
+pub fn symbols_are_json()
+    ensures { (id : Data) (symbols : List SymbolFound)
+        → compact_text (symbols_data id symbols) ≡ symbols_text id symbols }
+{}
+
+/// A part of a document.
+pub fn location_is_json()
+    ensures { (id : Data) (uri : List ℕ) (start stop : Place)
+        → compact_text (location_data id uri start stop) ≡ location_text id uri start stop }
+{}
+
+/// What is told of a part of a document.
+pub fn hover_is_json()
+    ensures { (id : Data) (contents : List ℕ) (start stop : Place)
+        → compact_text (hover_data id contents start stop) ≡ hover_text id contents start stop }
+{}
+
+/// Whatever the depths of symbols are, each of them is there, in their order, and is in the last
+/// one before it that is less deep.
+pub fn symbols_are_nested()
+    ensures kept { (symbols : List SymbolFound) → in_order (forest_of symbols) ≡ symbols }
+    ensures nested { (symbols : List SymbolFound) → IsNested 0 (forest_of symbols) }
 {}

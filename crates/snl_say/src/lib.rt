@@ -6,21 +6,32 @@
 //! is answered to which request.
 //!
 //! `diagnostics` publishes what is found in a document, `notices` shows a message to the user,
-//! `answers` has the answers to requests, `frames` puts the header before a body.
+//! `answers` has the answers to requests but for those on documents, which are in `symbols`,
+//! `location` and `hover`. `frames` puts the header before a body.
 #![tactic(auto)]
 
 mod answers;
 mod bytes;
 mod diagnostics;
 mod frames;
+mod hover;
 mod laws;
+mod location;
 mod notices;
+mod places;
 mod severity;
+mod symbols;
 
 pub use answers::{ErrorCode, Id, put_error, put_initialize, put_null};
 pub use bytes::put_quoted;
 pub use diagnostics::{Shown, put_publish};
 pub use frames::put_framed;
-pub use laws::{error_is_json, initialize_is_json, message_is_json, null_is_json, publish_is_json};
+pub use hover::put_hover;
+pub use laws::{
+    error_is_json, hover_is_json, initialize_is_json, location_is_json, message_is_json,
+    null_is_json, publish_is_json, symbols_are_json, symbols_are_nested,
+};
+pub use location::put_location;
 pub use notices::put_message;
 pub use severity::Severity;
+pub use symbols::{ShownSymbol, SymbolKind, put_symbols};

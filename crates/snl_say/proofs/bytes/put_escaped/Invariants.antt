@@ -1,6 +1,11 @@
-use Rattle.std.proofs.Common.{◌≡◌, ◌++◌, take}
+use Rattle.std.proofs.Common.{◌≡◌, ◌++◌, ◌-◌, ◌≤◌, drop, length}
 use Rattle.json.specs.Print.{escape}
 use Rattle.snl_say.proofs.bytes.put_escaped.Given as goal
 
-abbrev pub invariant-loop-byte : goal.invariant-loop-byte
-invariant-loop-byte l = l.out.items ≡ l.initial.out.items ++ escape (take l.byte-index l.bytes)
+abbrev pub invariant-loop-out : goal.invariant-loop-out
+invariant-loop-out l =
+    (l.start ≤ length l.bytes)
+    × (l.out.items ++ escape (drop l.start l.bytes) ≡ l.initial.out.items ++ escape l.bytes)
+
+abbrev pub decreases-loop-out : goal.decreases-loop-out
+decreases-loop-out l = length l.bytes - l.start
