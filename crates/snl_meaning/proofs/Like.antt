@@ -1,5 +1,5 @@
 -- What a name means is spelled like it.
-use Rattle.std.proofs.Common.{◌≡◌, ℕ, Bool, true, false, cond, ◌==◌, List, [], ◌∷◌, find, slice_get, Option, None, Some, IfSome, option_and_then, option_map, refl, sym, ap, subst, ◌∙◌, arith}
+use Rattle.std.proofs.Common.{◌≡◌, ℕ, ◌-◌, Bool, true, false, cond, ◌==◌, List, [], ◌∷◌, find, slice_get, Option, None, Some, IfSome, option_and_then, option_map, refl, sym, ap, subst, ◌∙◌, arith}
 use Rattle.std.proofs.lemmas.Bool.Decides.{nat_tests}
 use Rattle.std.specs.List.{AllByRecursion as Each}
 use Rattle.std.specs.Option.{option_map_or, option_or}
@@ -17,7 +17,7 @@ use Rattle.snl_kept.specs.Checks.{outlines_in}
 use Rattle.snl_kept.specs.Program.{item_tokens, tree_in}
 use Rattle.snl_meaning.specs.declared.items.TokenPlace.{TokenPlace}
 use Rattle.snl_meaning.specs.declared.meanings.Meaning.{Meaning}
-use Rattle.snl_meaning.specs.Meanings.{declaration_named, is_name_of, meaning_between, meaning_by, meaning_from, meaning_of, meant_as_own_name, meant_at, meant_by_local, meant_by_occurrence, meant_by_outline, meant_by_tokens, meant_inside, occurrence_at, outline_names, place_from, span_at, span_bytes, span_of}
+use Rattle.snl_meaning.specs.Meanings.{declaration_named, is_name_of, meaning_before, meaning_between, meaning_by, meaning_from, meaning_near, meaning_of, meant_as_own_name, meant_at, meant_by_local, meant_by_occurrence, meant_by_outline, meant_by_tokens, meant_inside, occurrence_at, outline_names, place_from, span_at, span_bytes, span_of}
 use Rattle.snl_meaning.proofs.Locals.{IsLike, IsLikeAt, like_occurrences}
 use Rattle.snl_meaning.proofs.Outer.{declaration_like, says, state_like, token_is, token_says}
 
@@ -146,12 +146,12 @@ module _ (text : List ℕ) where
   IsLikeMeaning m = span_bytes text m.declared ≡ span_bytes text m.name
 
   like_between : (p q : TokenPlace) → meant_at text p ≡ Some q →
-      IfSome (meaning_between (item_tokens text) p q) IsLikeMeaning
+      IfSome (meaning_between text p q) IsLikeMeaning
   like_between p q meant = by (span_at (item_tokens text) p)
       (span_at (item_tokens text) q) refl refl
     where
       by : (a b : Option Span) → span_at (item_tokens text) p ≡ a →
-          span_at (item_tokens text) q ≡ b → IfSome (meaning_by a b) IsLikeMeaning
+          span_at (item_tokens text) q ≡ b → IfSome (meaning_by text q a b) IsLikeMeaning
       by None b name declared = tt
       by (Some s) None name declared = tt
       by (Some s) (Some t) name declared = span_says q t declared ∙ like_at p q meant
@@ -161,7 +161,7 @@ module _ (text : List ℕ) where
   like_from p = by (meant_at text p) refl
     where
       by : (o : Option TokenPlace) → meant_at text p ≡ o →
-          IfSome (option_and_then (meaning_between (item_tokens text) p) o) IsLikeMeaning
+          IfSome (option_and_then (meaning_between text p) o) IsLikeMeaning
       by None meant = tt
       by (Some q) meant = like_between p q meant
 
@@ -173,3 +173,21 @@ module _ (text : List ℕ) where
   pub like_meaning : (offset : ℕ) → IfSome (meaning_of text offset) IsLikeMeaning
   unfolding meaning_of
   like_meaning offset = like_by_place (place_from offset 0 (item_tokens text))
+
+  -- ---- near an offset
+
+  like_either : (a b : Option Meaning) → IfSome a IsLikeMeaning → IfSome b IsLikeMeaning →
+      IfSome (option_or a b) IsLikeMeaning
+  like_either None b first second = second
+  like_either (Some m) b first second = first
+
+  like_unless : (b : Bool) (offset : ℕ) → IfSome (cond b None (meaning_of text offset))
+      IsLikeMeaning
+  like_unless true offset = tt
+  like_unless false offset = like_meaning offset
+
+  pub like_near : (offset : ℕ) → IfSome (meaning_near text offset) IsLikeMeaning
+  unfolding meaning_near
+  like_near offset =
+      like_either (meaning_of text offset) (meaning_before text offset) (like_meaning offset)
+      (like_unless (offset == 0) (offset - 1))

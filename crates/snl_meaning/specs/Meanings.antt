@@ -1,5 +1,5 @@
 -- What the name at a place of a text means: the token that it names.
-use Rattle.std.specs.Prelude.{ℕ, ◌+◌, ◌==◌, ◌||◌, Bool, false, List, [], ◌∷◌, take, drop, Option, Some, None, find, position, slice_get, option_and_then, option_map, if◌then◌else◌}
+use Rattle.std.specs.Prelude.{ℕ, ◌+◌, ◌-◌, ◌==◌, ◌&&◌, ◌||◌, Bool, false, List, [], ◌∷◌, take, drop, Option, Some, None, find, position, slice_get, option_and_then, option_map, if◌then◌else◌}
 use Rattle.std.specs.List.{list_any}
 use Rattle.std.specs.Option.{option_or}
 use Rattle.snl_lex.specs.declared.piece.Piece.{Piece}
@@ -133,16 +133,39 @@ abbrev pub meant_at : List ℕ → TokenPlace → Option TokenPlace
 meant_at text p = option_and_then (meant_by_tokens text p.item p.token)
     (slice_get (item_tokens text) p.item)
 
--- A name and the one that it means, both by their spans.
-abbrev pub meaning_by : Option Span → Option Span → Option Meaning
-meaning_by (Some name) (Some declared) = Some (record { name = name; declared = declared })
-meaning_by _ _ = None
+-- The bytes of a span.
+abbrev pub span_bytes : List ℕ → Span → List ℕ
+span_bytes text s = take s.len (drop s.start text)
 
-abbrev pub meaning_between : List (List Piece) → TokenPlace → TokenPlace → Option Meaning
-meaning_between xs name declared = meaning_by (span_at xs name) (span_at xs declared)
+-- The number of the declaration whose name is token n of item i and has these bytes. What a block
+-- declares has none, nor has the name of a state set or of a state.
+abbrev pub is_declared_at : ℕ → ℕ → Declaration → Bool
+is_declared_at i n d = d.item == i && d.token == n
+
+abbrev pub number_if_at : ℕ → ℕ → (number : ℕ) → Declaration → Option ℕ
+number_if_at i n number d = if is_declared_at i n d then Some number else None
+
+abbrev pub number_at : List Outline → ℕ → ℕ → List ℕ → Option ℕ
+number_at ss i n name = option_and_then
+    (λ number. option_and_then (number_if_at i n number) (declaration_at ss number))
+    (resolve_in ss i name)
+
+-- A name and the one that it means, which is at place q, both by their spans; and the number of the
+-- declaration there.
+abbrev pub meaning_by : List ℕ → (q : TokenPlace) → Option Span → Option Span → Option Meaning
+meaning_by text q (Some name) (Some declared) = Some (record {
+  name = name;
+  declared = declared;
+  number = number_at (outlines_in text) q.item q.token (span_bytes text declared);
+})
+meaning_by text q _ _ = None
+
+abbrev pub meaning_between : List ℕ → TokenPlace → TokenPlace → Option Meaning
+meaning_between text p q = meaning_by text q (span_at (item_tokens text) p)
+    (span_at (item_tokens text) q)
 
 abbrev pub meaning_from : List ℕ → TokenPlace → Option Meaning
-meaning_from text p = option_and_then (meaning_between (item_tokens text) p) (meant_at text p)
+meaning_from text p = option_and_then (meaning_between text p) (meant_at text p)
 
 -- What the name means that has the byte at an offset of a text, if there is one and it means
 -- something.
@@ -150,6 +173,11 @@ unfoldable pub meaning_of : List ℕ → ℕ → Option Meaning
 meaning_of text offset = option_and_then (meaning_from text)
     (place_from offset 0 (item_tokens text))
 
--- The bytes of a span.
-abbrev pub span_bytes : List ℕ → Span → List ℕ
-span_bytes text s = take s.len (drop s.start text)
+-- The same of the byte before an offset.
+abbrev pub meaning_before : List ℕ → ℕ → Option Meaning
+meaning_before text offset = if offset == 0 then None else meaning_of text (offset - 1)
+
+-- The cursor's rule: a cursor right after the last letter of a word is on that word, unless what is
+-- at the cursor means something.
+unfoldable pub meaning_near : List ℕ → ℕ → Option Meaning
+meaning_near text offset = option_or (meaning_of text offset) (meaning_before text offset)

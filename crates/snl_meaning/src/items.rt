@@ -1,12 +1,12 @@
 //! The tokens of a text, cut into items. In: an offset, or the place of a token. Out: the place of
-//! the token that has the byte there, or the token's span.
+//! the token that has the byte there, or the token's span and its bytes.
 
 ghost use Rattle.std.specs.Prelude.{◌≡◌, ◌<◌, ◌≤◌, length, option_copied, position, slice_get};
 ghost use Rattle.std.specs.Prelude.{slice_index, take};
 ghost use Rattle.snl_cut.specs.Cut.{last_end};
 ghost use Rattle.snl_kept.specs.Program.{item_tokens};
 ghost use Rattle.snl_asked.specs.Tokens.{has_byte};
-ghost use Rattle.snl_meaning.specs.Meanings.{place_from, span_at, span_of};
+ghost use Rattle.snl_meaning.specs.Meanings.{place_from, span_at, span_bytes, span_of};
 
 use crate::item_tokens::ItemTokens;
 use snl_cut::ends_in_order;
@@ -53,6 +53,14 @@ fn span_of(token: Piece) -> Span
         start: token.start,
         len: token.len,
     }
+}
+
+/// The bytes of a span of a text, or those of them that there are.
+pub fn span_bytes(text: &[u8], span: Span) -> &[u8]
+    ensures { result.now ≡ span_bytes text.now span }
+{
+    let after = &text[span.start.min(text.len())..];
+    &after[..span.len.min(after.len())]
 }
 
 impl<'a> ItemTokens<'a> {

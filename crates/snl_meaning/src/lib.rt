@@ -1,6 +1,7 @@
 //! What the name at a place of a text means: a session and an offset come in, the span of the name
-//! there goes out with that of the name that declares it. It changes nothing, keeps nothing, and
-//! knows nothing of editors.
+//! there goes out with that of the name that declares it, and the number of the declaration. It
+//! changes nothing, keeps nothing, and knows nothing of editors, but for where their cursors are: a
+//! cursor right after a word is on it.
 #![tactic(auto)]
 
 mod item_tokens;
@@ -9,5 +10,6 @@ mod laws;
 mod meanings;
 mod names;
 
+pub use items::span_bytes;
 pub use laws::names_mean_their_like;
-pub use meanings::{Meaning, meaning_at};
+pub use meanings::{Meaning, meaning_at, meaning_near};

@@ -1,30 +1,33 @@
-//! What the name at an offset of a text means. In: what is kept of the text. Out: the spans of the
-//! name and of the one that declares it.
+//! What the name at an offset of a text means, and what the one near it. In: what is kept of the
+//! text. Out: the spans of the name and of the one that declares it, and the declaration's number.
 
 ghost use Rattle.std.specs.Prelude.{◌≡◌, ℕ, IfOk, List, vec_len};
+ghost use Rattle.snl_kept.specs.Checks.{outlines_in};
 ghost use Rattle.snl_kept.specs.Kept.{IsListed};
-ghost use Rattle.snl_kept.specs.Program.{item_tokens};
 ghost use Rattle.snl_lex.specs.PieceList.{piece_ends, piece_kinds};
 ghost use Rattle.snl_lex.specs.Pieces.{tokens_of};
-ghost use Rattle.snl_meaning.specs.Meanings.{meaning_between, meaning_of, meant_at};
+ghost use Rattle.snl_meaning.specs.Meanings.{meaning_between, meaning_near, meaning_of, meant_at};
 
 use crate::item_tokens::ItemTokens;
-use crate::items::TokenPlace;
+use crate::items::{TokenPlace, span_bytes};
 use crate::names::{LinkedItem, meant_in};
 use snl_cut::OutOfMemory;
 use snl_kept::Lists;
 use snl_lex::{Piece, PieceList, text_in_pieces};
-use snl_scope::{Source, same_spelling_same_summary};
+use snl_scope::{Links, Source, same_spelling_same_summary};
 use snl_session::Session;
 use snl_syntax::{outcome_told, same_spelling_same_tree};
 use snl_tables::Span;
 use std::alloc::Global;
 
-/// What a name means: the span of the name, and that of the name that declares it.
+/// What a name means: the span of the name, that of the name that declares it, and the number of
+/// the declaration, by which `Tables::variables` lists the channels of a variable. What a block
+/// declares has no number, nor has a state set or a state.
 #[derive(Clone, Copy, Debug, PartialEq, Eq)]
 pub struct Meaning {
     pub name: Span,
     pub declared: Span,
+    pub number: Option<usize>,
 }
 
 // What a token of the text means.
@@ -62,12 +65,25 @@ fn meant_at(
 }
 
 // The meaning of the name at a place, where it means the name at another one.
-fn meaning_between(items: &ItemTokens, name: TokenPlace, declared: TokenPlace) -> Option<Meaning>
-    ensures { result ≡ meaning_between (item_tokens items.now.text.now) name declared }
+fn meaning_between(
+    links: &Links,
+    items: &ItemTokens,
+    name: TokenPlace,
+    declared: TokenPlace,
+) -> Option<Meaning>
+    requires { links.now.outlines ≡ outlines_in items.now.text.now }
+    ensures { result ≡ meaning_between items.now.text.now name declared }
 {
+    let linked = LinkedItem {
+        links,
+        item: declared.item,
+    };
+    let name = items.span_at(name)?;
+    let span = items.span_at(declared)?;
     Some(Meaning {
-        name: items.span_at(name)?,
-        declared: items.span_at(declared)?,
+        name,
+        declared: span,
+        number: linked.number_at(declared.token, span_bytes(items.text, span)),
     })
 }
 
@@ -82,8 +98,47 @@ fn all_tokens(alloc: Global, pieces: &PieceList) -> Result<Vec<Piece>, OutOfMemo
     pieces.tokens_between(alloc, 0, pieces.ends.len())
 }
 
-// What the name at an offset means, by the lists of the text.
+// What the name at an offset means, by the tokens of the text.
 #[tactic(auto, unfolding(crate::specs::Meanings::meaning_of))]
+fn meaning_among(
+    alloc: Global,
+    lists: &Lists,
+    items: &ItemTokens,
+    offset: usize,
+) -> Result<Option<Meaning>, OutOfMemory>
+    requires { IsListed items.now.text.now lists.now }
+    ensures { IfOk result (λ m. m ≡ meaning_of items.now.text.now offset) }
+{
+    let Some(name) = items.place_at(offset) else {
+        return Ok(None);
+    };
+    let Some(declared) = meant_at(alloc, lists, items, name)? else {
+        return Ok(None);
+    };
+    Ok(meaning_between(&lists.links, items, name, declared))
+}
+
+// The same of the name near an offset.
+#[tactic(auto, unfolding(crate::specs::Meanings::meaning_near))]
+fn meaning_near_among(
+    alloc: Global,
+    lists: &Lists,
+    items: &ItemTokens,
+    offset: usize,
+) -> Result<Option<Meaning>, OutOfMemory>
+    requires { IsListed items.now.text.now lists.now }
+    ensures { IfOk result (λ m. m ≡ meaning_near items.now.text.now offset) }
+{
+    if let Some(meaning) = meaning_among(alloc, lists, items, offset)? {
+        return Ok(Some(meaning));
+    }
+    if offset == 0 {
+        return Ok(None);
+    }
+    meaning_among(alloc, lists, items, offset - 1)
+}
+
+// What the name at an offset means, by the lists of the text.
 fn meaning_in(
     alloc: Global,
     text: &[u8],
@@ -99,13 +154,26 @@ fn meaning_in(
         tokens: &tokens,
         ends: &lists.items.ends,
     };
-    let Some(name) = items.place_at(offset) else {
-        return Ok(None);
+    meaning_among(alloc, lists, &items, offset)
+}
+
+// The same of the name near an offset: the tokens are listed once for both offsets.
+fn meaning_near_in(
+    alloc: Global,
+    text: &[u8],
+    lists: &Lists,
+    offset: usize,
+) -> Result<Option<Meaning>, OutOfMemory>
+    requires { IsListed text.now lists.now }
+    ensures { IfOk result (λ m. m ≡ meaning_near text.now offset) }
+{
+    let tokens = all_tokens(alloc, &lists.pieces)?;
+    let items = ItemTokens {
+        text,
+        tokens: &tokens,
+        ends: &lists.items.ends,
     };
-    let Some(declared) = meant_at(alloc, lists, &items, name)? else {
-        return Ok(None);
-    };
-    Ok(meaning_between(&items, name, declared))
+    meaning_near_among(alloc, lists, &items, offset)
 }
 
 /// What the name means that has the byte at an offset of a session's text. None where no token has
@@ -119,4 +187,17 @@ pub fn meaning_at(
     ensures { IfOk result (λ m. m ≡ meaning_of session.now offset) }
 {
     meaning_in(alloc, session.text(), &session.kept().lists, offset)
+}
+
+/// What the name means that a cursor at an offset is on: that which has the byte there, and where
+/// it means nothing that which has the byte before. So a cursor right after a word's last letter is
+/// on that word. The time is that of `meaning_at`.
+pub fn meaning_near(
+    alloc: Global,
+    session: &Session,
+    offset: usize,
+) -> Result<Option<Meaning>, OutOfMemory>
+    ensures { IfOk result (λ m. m ≡ meaning_near session.now offset) }
+{
+    meaning_near_in(alloc, session.text(), &session.kept().lists, offset)
 }

@@ -1,5 +1,6 @@
 //! What the name at a token of an item means. In: what names mean among the items, what is kept of
-//! the item, and the token's number in it. Out: the place of the name that declares it.
+//! the item, and the token's number in it. Out: the place of the name that declares it, and the
+//! number of the declaration at a place.
 
 ghost use Rattle.std.specs.Prelude.{◌≡◌, IfOk, option_copied};
 ghost use Rattle.snl_scope.specs.Summaries.{occurrences_in};
@@ -8,7 +9,8 @@ ghost use Rattle.snl_meaning.specs.Meanings.{clause_names, clauses_name, declara
 ghost use Rattle.snl_meaning.specs.Meanings.{declares_at, is_flag_at, is_name_of, meant_as_own_name};
 ghost use Rattle.snl_meaning.specs.Meanings.{meant_by_local, meant_by_occurrence, meant_by_outline};
 ghost use Rattle.snl_meaning.specs.Meanings.{meant_in, meant_inside, meant_outside, name_of_item};
-ghost use Rattle.snl_meaning.specs.Meanings.{occurrence_at, outline_names, place_of, state_named};
+ghost use Rattle.snl_meaning.specs.Meanings.{number_at, number_if_at, occurrence_at, outline_names};
+ghost use Rattle.snl_meaning.specs.Meanings.{place_of, state_named};
 
 use crate::items::TokenPlace;
 use snl_cut::OutOfMemory;
@@ -38,6 +40,17 @@ fn place_of(declaration: Declaration) -> TokenPlace
     }
 }
 
+// The number of a declaration, if its name is a token of an item.
+fn number_if_at(item: usize, token: usize, number: usize, found: Declaration) -> Option<usize>
+    ensures { result ≡ number_if_at item token number found }
+{
+    if found.item == item && found.token == token {
+        Some(number)
+    } else {
+        None
+    }
+}
+
 impl LinkedItem<'_> {
     // The first state of the name in the item's state set.
     fn state_named(&self, name: &[u8]) -> Option<TokenPlace>
@@ -54,6 +67,15 @@ impl LinkedItem<'_> {
         let number = self.links.declaration(self.item, name)?;
         let declaration = self.links.declared(number)?;
         Some(place_of(declaration))
+    }
+
+    /// The number of the declaration whose name is a token of the item and has these bytes. What a
+    /// block declares has none.
+    pub fn number_at(&self, token: usize, name: &[u8]) -> Option<usize>
+        ensures { result ≡ number_at self.now.links.now.outlines self.now.item token name.now }
+    {
+        let visible = self.links.declaration(self.item, name)?;
+        number_if_at(self.item, token, visible, self.links.declared(visible)?)
     }
 
     // Whether the token is the name of a state set or of a state, which the item is.

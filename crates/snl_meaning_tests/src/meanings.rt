@@ -1,6 +1,6 @@
 //! What names of a text mean.
 
-use snl_meaning::meaning_at;
+use snl_meaning::{meaning_at, meaning_near, span_bytes};
 use snl_session::Session;
 use std::process::Abort;
 use std::test::Fail;
@@ -67,5 +67,41 @@ fn names_mean_declarations(rt: HostRuntime) -> Result<(), Fail> {
         };
         assert!(rt; found == *wanted, "at {offset}");
     }
+    Ok(())
+}
+
+// Where a cursor is, and where the name begins that it is on: right before a name, in it and right
+// after it.
+static NEAR: [(usize, Option<usize>); 8] = [
+    (0, None),
+    (13, None),
+    (14, Some(14)),
+    (15, Some(14)),
+    (16, None),
+    (18, Some(17)),
+    (324, Some(324)),
+    (327, Some(324)),
+];
+
+#[test]
+fn cursors_are_on_names(rt: HostRuntime) -> Result<(), Fail> {
+    let mut session = Session::new(rt.alloc())?;
+    session.edit(0, 0, TEXT)?;
+    for (cursor, wanted) in &NEAR {
+        let found = match meaning_near(rt.alloc(), &session, *cursor)? {
+            Some(meaning) => Some(meaning.name.start),
+            None => None,
+        };
+        assert!(rt; found == *wanted, "at {cursor}");
+    }
+    Ok(())
+}
+
+#[test]
+fn names_are_spelled_alike(rt: HostRuntime) -> Result<(), Fail> {
+    let mut session = Session::new(rt.alloc())?;
+    session.edit(0, 0, TEXT)?;
+    let meaning = meaning_at(rt.alloc(), &session, 308)?.ok_or("no meaning")?;
+    assert!(rt; span_bytes(TEXT, meaning.name) == span_bytes(TEXT, meaning.declared));
     Ok(())
 }

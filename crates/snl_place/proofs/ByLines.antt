@@ -4,7 +4,6 @@ use Rattle.std.proofs.Common.{Bool, true, false, cond, nat_lt, sum_by}
 use Rattle.std.proofs.Common.{List, [], ◌∷◌, length, take, drop, get_or}
 use Rattle.std.proofs.Common.{refl, sym, ap, ap₂, ◌∙◌, arith}
 use Rattle.std.proofs.lemmas.Bool.Decides.{nat_tests}
-use Rattle.std.proofs.lemmas.List.{take_all}
 use Rattle.snl_lex.specs.LineList.{line_begin, line_ends, line_ends_from}
 use Rattle.snl_place.specs.declared.places.Encoding.{Encoding}
 use Rattle.snl_place.specs.declared.places.Encoding.TheVariants.{Utf8}

@@ -1,17 +1,14 @@
 -- The line ends of a text that has other bytes in the place of some, and where LFs are among bytes.
-use Rattle.std.proofs.Common.{◌≡◌, ◌==◌, ℕ, zero, suc, ◌+◌, ◌-◌, ◌<◌, ◌≤◌, Bool, true, false, cond}
-use Rattle.std.proofs.Common.{List, [], ◌∷◌, ◌++◌, length, take, drop, map, nat_lt}
-use Rattle.std.proofs.Common.{refl, sym, ap, ap₂, ◌∙◌, arith}
-use Rattle.std.specs.Prelude.{slice_index}
+use Rattle.std.proofs.Common.{◌≡◌, ℕ, ◌+◌, ◌≤◌}
+use Rattle.std.proofs.Common.{List, ◌++◌, length, take, drop, nat_lt}
+use Rattle.std.proofs.Common.{sym, ap, ap₂, ◌∙◌, arith}
 use Rattle.std.proofs.Math.Seq.{take-append_seam, drop-append_seam}
-use Rattle.std.proofs.lemmas.List.{drop_at, length-take-le, take-append-drop, take-append-le}
-use Rattle.std.proofs.lemmas.List.{take-take, take_all}
-use Rattle.memchr.specs.Find.{is_byte, places, places_from}
+use Rattle.std.proofs.lemmas.List.{drop_at, length-take-le, take-append-le}
+use Rattle.std.proofs.lemmas.List.{take-take}
 use Rattle.snl_lex.specs.LineList.{line_ends, line_ends_from}
 use Rattle.snl_lists.specs.Moves.{moved, replaced, replaced_and_moved}
-use Rattle.std.proofs.lemmas.Bool.{lt-ltb}
-use Rattle.snl_facts.specs.Counts.{count_yes, count_parts}
-use Rattle.snl_lex.specs.LineLaws.{below, ends_climb, below_none, ends_append, all_below, ends_moved, two_parts, places_are}
+use Rattle.snl_facts.specs.Counts.{count_parts}
+use Rattle.snl_lex.specs.LineLaws.{below, ends_climb, below_none, ends_append, all_below, ends_moved, two_parts}
 
 -- ---- line ends of parts
 

@@ -1,17 +1,16 @@
 -- Line ends, which rise, and how many of them are before an offset.
-use Rattle.std.proofs.Common.{◌≡◌, ◌==◌, ℕ, zero, suc, ◌+◌, ◌-◌, ◌<◌, ◌≤◌, inl, inr, ◌⊎◌}
-use Rattle.std.proofs.Common.{Bool, true, false, cond, nat_lt, refl, sym, ap, ◌∙◌, arith}
+use Rattle.std.proofs.Common.{◌≡◌, ◌==◌, ℕ, zero, suc, ◌+◌, ◌-◌, ◌<◌, ◌≤◌, inl, inr}
+use Rattle.std.proofs.Common.{Bool, true, false, cond, nat_lt, refl, sym, ap, subst, ◌∙◌, arith}
 use Rattle.std.proofs.Common.{List, [], ◌∷◌, ◌++◌, length, take, drop, get_or, count_by}
-use Rattle.std.specs.List.Sorted.{IsNonDecreasing, IsPartitionPoint}
 use Rattle.std.proofs.Math.Seq.{take-add, take-nil}
 use Rattle.std.proofs.lemmas.Bool.Decides.{nat_tests}
-use Rattle.std.proofs.lemmas.List.{take_all}
-use Rattle.std.proofs.lemmas.List.Sums.{count_by-le-length, sum_by-append}
+use Rattle.std.proofs.lemmas.List.{get_or_past}
+use Rattle.std.proofs.lemmas.List.Sums.{count_by-le-length}
 use Rattle.snl_lex.specs.LineList.{line_begin, line_ends, line_ends_from}
-use Rattle.std.proofs.lemmas.Bool.{cases_lt, lt-ltb, le-ltb}
-use Rattle.snl_facts.specs.Counts.{count_append, count_cons, count_yes, count_no}
-use Rattle.snl_facts.specs.Numbers.{bit_more}
-use Rattle.snl_lex.specs.LineLaws.{Climbs, below, climbs_less, ends_climb, climbs_get, climbs_order, under_one, ends_under, below_none, below_at, below_after, below_more}
+use Rattle.std.proofs.lemmas.Bool.{cases_lt, lt-ltb}
+use Rattle.snl_facts.specs.Counts.{count_append, count_cons, count_yes}
+use Rattle.snl_place.specs.Lines.{line_stop}
+use Rattle.snl_lex.specs.LineLaws.{Climbs, below, ends_climb, climbs_get, ends_under, below_none, below_at, below_after, below_more}
 
 -- ---- counts
 
@@ -127,6 +126,37 @@ begin_below text offset =
     let es : List ℕ = line_ends text in
     begin_counts es (below offset es) (ends_climb 0 text)
     (count_by-le-length (λ e. nat_lt e offset) es)
+
+-- ---- where lines stop
+
+-- A line begins after the end of the one before it, and ends there or later.
+climbs_next : (at : ℕ) (es : List ℕ) (k d e : ℕ) → Climbs at es → suc k < length es
+    → suc (get_or es k d) ≤ get_or es (suc k) e
+climbs_next at [] k d e h lt = absurd (omega (arith, lt))
+climbs_next at (x ∷ es) zero d e h lt = climbs_get (suc x) es 0 e h.1 (omega (arith, lt))
+climbs_next at (x ∷ es) (suc k) d e h lt = climbs_next (suc x) es k d e h.1 (omega (arith, lt))
+
+pub begin_before_stop : (text : List ℕ) (line : ℕ) → line ≤ length (line_ends text)
+    → line_begin (line_ends text) line ≤ line_stop text (line_ends text) line
+begin_before_stop text zero le = omega arith
+begin_before_stop text (suc k) le =
+    let es : List ℕ = line_ends text in
+    let stop : ℕ = line_stop text es (suc k) in
+    let after : suc (get_or es k 0) ≤ stop = elim (cases_lt (suc k) (length es)) [
+      | inl less ↦ climbs_next 0 es k 0 (length text) (ends_climb 0 text) less
+      | inr past ↦
+          let at_end : stop ≡ length text = get_or_past es (suc k) (length text) past in
+          omega (arith, at_end, ends_under 0 text k 0 (omega (arith, le)))
+    ] in
+    subst (λ (n : ℕ). n ≤ stop) (sym (begin_is es (suc k))) after
+
+pub stop_inside : (text : List ℕ) (line : ℕ) → line_stop text (line_ends text) line ≤ length text
+stop_inside text line =
+    let es : List ℕ = line_ends text in
+    elim (cases_lt line (length es)) [
+      | inl less ↦ omega (arith, ends_under 0 text line (length text) less)
+      | inr past ↦ omega (arith, get_or_past es line (length text) past)
+    ]
 
 -- ---- a line that has not ended
 

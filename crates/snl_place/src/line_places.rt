@@ -1,10 +1,11 @@
-//! Places and offsets by where the lines of a text end: no other line than the one in question is
-//! looked at.
-//! In: a text, its line ends, and an offset or a place. Out: the place, or the offset.
+//! Places, offsets and lines by where the lines of a text end: no other line than the one in
+//! question is looked at.
+//! In: a text, its line ends, and an offset or a place. Out: the place, the offset, or the line.
 //! A line ends with LF, and a CR directly before that belongs to the end. A lone CR ends no line,
 //! though the protocol says that it does: nor does it in the lines of diagnostics.
 
 ghost use Rattle.snl_lex.specs.LineList.{ends_before, line_begin, line_ends};
+ghost use Rattle.snl_place.specs.Lines.{line_around, line_stop};
 ghost use Rattle.snl_place.specs.Places.{offset_in, place_in};
 ghost use Rattle.std.specs.List.Sorted.{IsNonDecreasing};
 ghost use Rattle.std.specs.Prelude.{◌≡◌, ℕ, List, ◌+◌, ◌^◌, ◌≤◌, ◌<◌, ◌↔◌, IsTrue};
@@ -29,6 +30,17 @@ fn line_begin(ends: &[usize], count: usize) -> usize
     ensures { result ≡ line_begin ends.now count }
 {
     if count == 0 { 0 } else { ends[count - 1] + 1 }
+}
+
+// Where the line ends before which so many lines end: at its LF, or where the text ends.
+fn line_stop(text: &[u8], ends: &[usize], count: usize) -> usize
+    ensures { result ≡ line_stop text.now ends.now count }
+{
+    if count < ends.len() {
+        ends[count]
+    } else {
+        text.len()
+    }
 }
 
 // A line ends before an offset.
@@ -110,4 +122,19 @@ pub fn offset_by(encoding: Encoding, text: &[u8], ends: &[usize], place: Place) 
     }
     let begin = line_begin(ends, place.line);
     begin + offset_in_line(encoding, &text[begin..], place.character)
+}
+
+/// The line that has the byte at an offset, without its LF. The LF of a line is in that line, and
+/// all offsets after the last LF are in the last one.
+#[tactic(auto, unfolding(crate::specs::Lines::line_around))]
+pub fn line_around<'a>(text: &'a [u8], ends: &[usize], offset: usize) -> &'a [u8]
+    requires { ends.now ≡ line_ends text.now }
+    ensures { result.now ≡ line_around text.now offset }
+{
+    ends_rise();
+    lines_begin();
+    let line = count_before(ends, offset);
+    let begin = line_begin(ends, line);
+    let stop = line_stop(text, ends, line);
+    &text[begin..stop]
 }

@@ -1,5 +1,5 @@
-use Rattle.snl_meaning.proofs.Like.{like_meaning}
+use Rattle.snl_meaning.proofs.Like.{like_meaning, like_near}
 use Rattle.snl_meaning.proofs.laws.names_mean_their_like.Goals as goal
 
 pub returns : goal.returns
-returns c = like_meaning
+returns c = record { exact = like_meaning; near = like_near }

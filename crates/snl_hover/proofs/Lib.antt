@@ -1,0 +1,4 @@
+mod Boundaries
+mod DeclaredStates
+mod Lines
+mod Wakes
