@@ -1,7 +1,9 @@
-//! Tests of what names of a text mean, and of what a hover says of them. There is no code of the
-//! product here.
+//! Tests of what names of a text mean, of what a hover says of them, and of the symbols of a text.
+//! There is no code of the product here.
 #![tactic(auto)]
 
+#[cfg(test)]
+mod document_symbols;
 #[cfg(test)]
 mod hovers;
 #[cfg(test)]

@@ -1,0 +1,7 @@
+mod Members
+mod Kept
+mod Within
+mod Order
+mod Parts
+mod Named
+mod Children
