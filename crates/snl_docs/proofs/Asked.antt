@@ -82,11 +82,12 @@ by_document encoding id question doc =
 -- By the number of the document among them.
 pub answered_found : (encoding : Encoding) (docs : List Doc) (id : Data) (uri : List ℕ)
     (question : Question) (found : Option ℕ) (i : ℕ) (d : Doc) →
-    found ≡ position (is_named uri) docs → found ≡ Some i →
-    answer_of encoding id question (get_or docs i d) ≡ answer_on encoding docs id uri question
+    found ≡ position (is_named uri) docs → found ≡ Some i → d ≡ get_or docs i d →
+    answer_of encoding id question d ≡ answer_on encoding docs id uri question
 unfolding answer_on
-answered_found encoding docs id uri question found i d is told =
-    ap (by_document encoding id question) (sym (found_at_number uri docs i d (sym is ∙ told)))
+answered_found encoding docs id uri question found i d is told there =
+    ap (by_document encoding id question)
+    (ap (λ (doc : Doc). Some doc) there ∙ sym (found_at_number uri docs i d (sym is ∙ told)))
 
 pub answered_missed : (encoding : Encoding) (docs : List Doc) (id : Data) (uri : List ℕ)
     (question : Question) (found : Option ℕ) → found ≡ position (is_named uri) docs →

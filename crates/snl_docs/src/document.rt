@@ -1,6 +1,6 @@
 //! A document that is open.
-//! In: its URI, its text, the changes of each message, and what is asked of it. Out: what the client
-//! is told of it.
+//! In: its URI, its text, the changes of each message, and what is asked of it. Out: what the
+//! client is told of it.
 //! Knows nothing of other documents, and of what may be asked when.
 
 ghost use Rattle.std.specs.Prelude.{◌≡◌, ◌++◌, IfOk, OnOk, map};

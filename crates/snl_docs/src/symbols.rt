@@ -30,7 +30,7 @@ fn kind_of(kind: DocumentSymbolKind) -> SymbolKind
     }
 }
 
-/// Where the extent of a symbol stops, counted on from the stop before it, or from its name's, where
+/// Where the extent of a symbol stops, counted on from the stop before it, or from its name's where
 /// that is nearer: many variables have one extent, and a state set has many states in it.
 fn stop_after(source: &Source<'_>, last: Mark, name: Mark, extent: Span) -> Mark
     requires source { IsSource source.now }

@@ -4,9 +4,9 @@ use crate::served::expect_all;
 use snl_docs::Docs;
 use std::test::Fail;
 
-// A message and the bodies that are answered to it, a line each. First a document is opened; then its
-// symbols are asked for, and at `x` in the condition, right after it, where that is declared and what
-// it is. White space and the name of the program mean nothing. The last document isn't open.
+// A message and the bodies that are answered to it, a line each. A document is opened, and its
+// symbols are asked for. Then, right after `x` in the condition: where that is declared, and what
+// it is. White space means nothing, and nor does the program's name. The last document isn't open.
 static QUESTIONS: [(&[u8], &str); 8] = [
     (
         b"{\"id\":0,\"method\":\"initialize\",\"params\":{\"capabilities\":{\"general\":{\"positionEncodings\":[\"utf-8\"]}}}}",

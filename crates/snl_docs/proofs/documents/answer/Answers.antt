@@ -8,7 +8,8 @@ pub returns-in_ok-answer-in-Some : goal.returns-in_ok-answer-in-Some
 returns-in_ok-answer-in-Some c =
     c.in_ok-answer-in-Some.ensures ∙ ap (λ (r : Reply). c.args.said.now.items ++ framed_reply r)
     (answered_found c.args.encoding c.args.documents.now _ c.args.uri.now c.args.question
-    c.find.result c.in-Some.at c.index-documents-at.result c.find.ensures c.in-Some.is)
+    c.find.result c.in-Some.at c.index-documents-at.result c.find.ensures c.in-Some.is
+    c.index-documents-at.is)
 
 pub returns-in_ok-say_error-in-None : goal.returns-in_ok-say_error-in-None
 returns-in_ok-say_error-in-None c =
