@@ -1,5 +1,5 @@
-"""What is asked of a document: what is wrong with an outline, a definition or a hover, by the text of
-the document, its words and its listing."""
+"""What is asked of a document: what is wrong with an outline, a definition or a hover, by the text
+of the document, its words and its listing."""
 import re
 
 from texts import offset_of
@@ -50,19 +50,16 @@ def wrong_in_contents(result):
     contents = result.get("contents", {})
     if sorted(result) != ["contents", "range"] or sorted(contents) != ["kind", "value"]:
         return f"no hover: {result}"
-    is_right = contents["kind"] == "plaintext" and contents["value"] and "\r" not in contents["value"]
+    is_right = contents["kind"] == "plaintext" and contents["value"]
     return "" if is_right else f"no plain text: {contents}"
 
 
 def line_of(text, offset):
-    """The line of a declaration, as a hover has it: without blanks at its ends, and at most 200 bytes
-    of it, which end with a character."""
+    """The line of a declaration, as a hover has it: without white space at its ends, and at most
+    200 bytes of it, which end with a character."""
     start = text.rfind(b"\n", 0, offset) + 1
-    line = text[start:].partition(b"\n")[0].strip(BLANKS)
+    line = text[start:].partition(b"\n")[0].strip(b" \t\r\f")
     return line[:200].decode(errors="ignore")
-
-
-BLANKS = b" \t\r\f"
 
 
 # ---- outlines
@@ -103,14 +100,14 @@ def wrong_in_symbol(it, text, is_utf8):
 
 
 def wrong_by_listing(result, rows):
-    """What an outline has otherwise than a listing: its program, event flags, state sets, states."""
+    """What an outline has otherwise than a listing: its program, event flags, sets and states."""
     program, flags, sets = names_listed(rows)
     all_of = list(all_symbols(result))
     programs = [it["name"] for _, it in all_of if it["kind"] == PROGRAM]
     if program != "-" and program not in programs:
         return f"the programs {programs} in place of {program}"
-    found = [it["name"] for _, it in all_of if it["kind"] == EVENT_FLAG]
-    if sorted(found) != sorted(flags):
+    found = sorted(flags_in(result, "program"))
+    if found != sorted(flags):
         return f"the event flags {found} in place of {flags}"
     found = [
         (it["name"], [child["name"] for child in it["children"] if child["kind"] == STATE])
@@ -120,15 +117,32 @@ def wrong_by_listing(result, rows):
     return "" if found == sets else f"the state sets {found} in place of {sets}"
 
 
+def flags_in(symbols, scope):
+    """The event flags among symbols and in them, each with its scope. The first name of a scope counts:
+    one that is declared again is no flag of the listing."""
+    names = set()
+    for it in symbols:
+        if it["kind"] == STATE_SET:
+            yield from flags_in(it["children"], it["name"])
+        elif it["kind"] == STATE:
+            state_set = "-" if scope == "program" else scope
+            yield from flags_in(it["children"], f"{state_set}.{it['name']}")
+        elif it["kind"] != PROGRAM and it["name"] not in names:
+            names.add(it["name"])
+            if it["kind"] == EVENT_FLAG:
+                yield it["name"], scope
+
+
 def names_listed(rows):
-    """The names of a listing: the program, the event flags, and each state set with its states."""
+    """The names of a listing: the program, the event flags with their scopes, and each state set with
+    its states."""
     program, flags, sets = "-", [], []
     for row in rows:
         words = row.split(" ")
         if words[0] == "program":
             program = words[1]
         elif words[0] == "flag":
-            flags.append(words[2])
+            flags.append((words[2], words[3]))
         elif words[0] == "ss":
             sets.append((words[1], []))
         elif words[0] == "state":

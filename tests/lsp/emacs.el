@@ -1,5 +1,5 @@
-;; Opens p.stt in emacs with eglot and the server, changes it, asks of it, and writes what is shown to
-;; the file told.
+;; Opens p.stt in emacs with eglot and the server, changes it, asks of it, and writes what is shown
+;; to the file told.
 (setq create-lockfiles nil make-backup-files nil)
 (require 'eglot)
 (require 'flymake)

@@ -1,5 +1,5 @@
--- Opens p.stt in neovim with the server, changes it, asks of it, and writes what is shown to the file
--- told.
+-- Opens p.stt in neovim with the server, changes it, asks of it, and writes what is shown to the
+-- file told.
 local lines, version = {}, nil
 local name = 'textDocument/publishDiagnostics'
 local handler = vim.lsp.handlers[name]

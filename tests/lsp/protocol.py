@@ -1,5 +1,5 @@
-"""What the tests of the language server share: frames, a server that runs, what `snl_cli` finds in a
-text, and a model of what the server has to say."""
+"""What the tests of the language server share: frames, a server that runs, what `snl_cli` finds in
+a text, and a model of what the server has to say."""
 import json
 import os
 import subprocess
@@ -221,7 +221,7 @@ class Model:
         return error(number, -32601)
 
     def asked_of_document(self, number, method, params):
-        """What is to be answered to a question on a document; by its text, where that is checked."""
+        """What is to be answered to a question on a document, by its text if that is checked."""
         try:
             uri = params["textDocument"]["uri"]
             place = None if method == ASKED[0] else params["position"]

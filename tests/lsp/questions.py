@@ -1,8 +1,10 @@
-"""What is asked of a document, worked by hand: outlines, definitions and hovers, where there is nothing
-to tell, and where no such thing may be asked."""
+"""What is asked of a document, worked by hand: outlines, definitions and hovers, where there is
+nothing to tell, and where no such thing may be asked."""
 import json
 
-from protocol import ask, bodies, did_change, did_close, did_open, frame, initialize, note, part, request, run
+from protocol import (
+    ask, bodies, did_change, did_close, did_open, frame, initialize, note, part, request, run,
+)
 
 URI, OTHER = "file:///a.stt", "file:///b.stt"
 TEXT = """program pump

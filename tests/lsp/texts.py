@@ -40,7 +40,7 @@ def changed(text, change, is_utf8):
 
 
 def place_of(text, offset, is_utf8):
-    """The place of an offset, which is where a character begins: its line, and the units before it."""
+    """The line of an offset, where a character begins, and how many units are before it there."""
     start = text.rfind(b"\n", 0, offset) + 1
     before = text[start:offset]
     units = len(before) if is_utf8 else len(before.decode().encode("utf-16-le")) // 2
