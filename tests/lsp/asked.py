@@ -106,8 +106,8 @@ def wrong_by_listing(result, rows):
     programs = [it["name"] for _, it in all_of if it["kind"] == PROGRAM]
     if program != "-" and program not in programs:
         return f"the programs {programs} in place of {program}"
-    found = [it["name"] for _, it in all_of if it["kind"] == EVENT_FLAG]
-    if sorted(found) != sorted(flags):
+    found = sorted(flags_in(result, "program"))
+    if found != sorted(flags):
         return f"the event flags {found} in place of {flags}"
     found = [
         (it["name"], [child["name"] for child in it["children"] if child["kind"] == STATE])
@@ -117,15 +117,32 @@ def wrong_by_listing(result, rows):
     return "" if found == sets else f"the state sets {found} in place of {sets}"
 
 
+def flags_in(symbols, scope):
+    """The event flags among symbols and in them, each with its scope. The first name of a scope counts:
+    one that is declared again is no flag of the listing."""
+    names = set()
+    for it in symbols:
+        if it["kind"] == STATE_SET:
+            yield from flags_in(it["children"], it["name"])
+        elif it["kind"] == STATE:
+            state_set = "-" if scope == "program" else scope
+            yield from flags_in(it["children"], f"{state_set}.{it['name']}")
+        elif it["kind"] != PROGRAM and it["name"] not in names:
+            names.add(it["name"])
+            if it["kind"] == EVENT_FLAG:
+                yield it["name"], scope
+
+
 def names_listed(rows):
-    """The names of a listing: the program, the event flags, and each state set with its states."""
+    """The names of a listing: the program, the event flags with their scopes, and each state set with
+    its states."""
     program, flags, sets = "-", [], []
     for row in rows:
         words = row.split(" ")
         if words[0] == "program":
             program = words[1]
         elif words[0] == "flag":
-            flags.append(words[2])
+            flags.append((words[2], words[3]))
         elif words[0] == "ss":
             sets.append((words[1], []))
         elif words[0] == "state":

@@ -117,19 +117,25 @@ class Server:
         while data:
             data = data[os.write(self.into, data) :]
 
+    def read(self):
+        got = os.read(self.out, 1 << 16)
+        if not got:
+            raise EOFError("the server has ended")
+        return got
+
     def body(self):
         """The next body. It is there once all that was sent before is answered."""
-        while True:
-            head, mark, rest = self.rest.partition(b"\r\n\r\n")
-            if mark:
-                length = int(head.rpartition(b":")[2])
-                if len(rest) >= length:
-                    self.rest = rest[length:]
-                    return rest[:length]
-            got = os.read(self.out, 1 << 16)
-            if not got:
-                raise EOFError("the server has ended")
-            self.rest += got
+        while b"\r\n\r\n" not in self.rest:
+            self.rest += self.read()
+        head, _, rest = self.rest.partition(b"\r\n\r\n")
+        length = int(head.rpartition(b":")[2])
+        parts, size = [rest], len(rest)
+        while size < length:
+            parts.append(self.read())
+            size += len(parts[-1])
+        rest = b"".join(parts)
+        self.rest = rest[length:]
+        return rest[:length]
 
     def end(self):
         """What is left of the output, standard error and the status, once the input is closed."""
