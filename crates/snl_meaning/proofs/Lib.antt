@@ -1,4 +1,3 @@
-mod Members
 mod Places
 mod Meant
 mod Locals

@@ -15,9 +15,10 @@ use Rattle.snl_scope.specs.Summaries.{occurrences_in, outline_in}
 use Rattle.snl_tables.specs.declared.rows.Span.{Span}
 use Rattle.snl_kept.specs.Checks.{outlines_in}
 use Rattle.snl_kept.specs.Program.{item_tokens, tree_in}
+use Rattle.snl_item_tokens.specs.Items.{span_at, span_of}
 use Rattle.snl_meaning.specs.declared.items.TokenPlace.{TokenPlace}
 use Rattle.snl_meaning.specs.declared.meanings.Meaning.{Meaning}
-use Rattle.snl_meaning.specs.Meanings.{declaration_named, is_name_of, meaning_before, meaning_between, meaning_by, meaning_from, meaning_near, meaning_of, meant_as_own_name, meant_at, meant_by_local, meant_by_occurrence, meant_by_outline, meant_by_tokens, meant_inside, occurrence_at, outline_names, place_from, span_at, span_bytes, span_of}
+use Rattle.snl_meaning.specs.Meanings.{declaration_named, is_name_of, meaning_before, meaning_between, meaning_by, meaning_from, meaning_near, meaning_of, meant_as_own_name, meant_at, meant_by_local, meant_by_occurrence, meant_by_outline, meant_by_tokens, meant_inside, occurrence_at, outline_names, place_from, span_bytes}
 use Rattle.snl_meaning.proofs.Locals.{IsLike, IsLikeAt, like_occurrences}
 use Rattle.snl_meaning.proofs.Outer.{declaration_like, says, state_like, token_is, token_says}
 
@@ -127,7 +128,7 @@ module _ (text : List ℕ) where
 
   -- ---- spans
 
-  span_says : (p : TokenPlace) (s : Span) → span_at (item_tokens text) p ≡ Some s →
+  span_says : (p : TokenPlace) (s : Span) → span_at (item_tokens text) p.item p.token ≡ Some s →
       span_bytes text s ≡ token_says text p.item p.token
   span_says p s = by (slice_get (item_tokens text) p.item)
     where
@@ -147,11 +148,11 @@ module _ (text : List ℕ) where
 
   like_between : (p q : TokenPlace) → meant_at text p ≡ Some q →
       IfSome (meaning_between text p q) IsLikeMeaning
-  like_between p q meant = by (span_at (item_tokens text) p)
-      (span_at (item_tokens text) q) refl refl
+  like_between p q meant = by (span_at (item_tokens text) p.item p.token)
+      (span_at (item_tokens text) q.item q.token) refl refl
     where
-      by : (a b : Option Span) → span_at (item_tokens text) p ≡ a →
-          span_at (item_tokens text) q ≡ b → IfSome (meaning_by text q a b) IsLikeMeaning
+      by : (a b : Option Span) → span_at (item_tokens text) p.item p.token ≡ a →
+          span_at (item_tokens text) q.item q.token ≡ b → IfSome (meaning_by text q a b) IsLikeMeaning
       by None b name declared = tt
       by (Some s) None name declared = tt
       by (Some s) (Some t) name declared = span_says q t declared ∙ like_at p q meant

@@ -1,8 +1,9 @@
 -- What is kept of an item says what its tokens say.
-use Rattle.std.proofs.Common.{◌≡◌, ℕ, ◌-◌, ◌<◌, ◌≤◌, inl, inr, List, length, take, drop, get_or, refl, All, slice_get, Option, Some, None, option_and_then, option_map, ap, sym, subst, ◌∙◌}
-use Rattle.std.proofs.lemmas.Bool.{cases_lt}
+use Rattle.std.proofs.Common.{◌≡◌, ℕ, zero, suc, ◌-◌, List, [], ◌∷◌, take, drop, refl, All, slice_get, Option, Some, None, option_and_then, option_map, ap, sym, subst, ◌∙◌}
 use Rattle.std.proofs.lemmas.List.Elements.{All-drop, All-filter, All-take}
-use Rattle.snl_cut.specs.Cut.{last_end}
+use Rattle.std.proofs.lemmas.Option.{slice_get-map}
+use Rattle.snl_cut.specs.Cut.{members}
+use Rattle.snl_lex.specs.declared.piece.Class.{Class}
 use Rattle.snl_lex.specs.declared.piece.Piece.{Piece}
 use Rattle.snl_lex.specs.PieceList.{spelled}
 use Rattle.snl_lex.specs.Pieces.{LiesIn, is_token, pieces_of, tokens_of}
@@ -13,43 +14,47 @@ use Rattle.snl_scope.specs.declared.summaries.summary.Summary.{Summary}
 use Rattle.snl_scope.specs.SpelledTokens.{summary_by}
 use Rattle.snl_scope.specs.Summaries.{outline_in, summary_in}
 use Rattle.snl_walk.specs.Tokens.{token_bytes}
-use Rattle.snl_items.specs.Items.{item_ends}
+use Rattle.snl_items.specs.Items.{item_ends, spelled_items}
 use Rattle.snl_kept.specs.declared.entries.Entry.{Entry}
 use Rattle.snl_kept.specs.Checks.{outlines_in}
 use Rattle.snl_kept.specs.Entries.{entries_of, entry_by}
 use Rattle.snl_kept.specs.Program.{item_tokens, tree_in}
+use Rattle.snl_item_tokens.specs.ItemTokensLaws.{spelled_are}
 use Rattle.snl_meaning.specs.declared.items.TokenPlace.{TokenPlace}
 use Rattle.snl_meaning.specs.Meanings.{meant_at, meant_by_tokens, meant_in}
-use Rattle.snl_meaning.proofs.Members.{entry_at, item_at, no_item}
+
+-- what holds of all units holds of those of a member
+all_of_member : {X : Type 0} (P : X → Type 0) (units : List X) (from : ℕ) (ends : List ℕ) (i : ℕ)
+    (own : List X) → All P units → slice_get (members units from ends) i ≡ Some own → All P own
+all_of_member P units from [] i own all at = absurd cc
+all_of_member P units from (e ∷ es) zero own all at =
+    let same : take (e - from) (drop from units) ≡ own = cc in
+    subst (All P) same
+    (All-take P (e - from) (drop from units) (All-drop P from units all))
+all_of_member P units from (e ∷ es) (suc i) own all at = all_of_member P units e es i own all at
 
 -- the tokens of an item lie in the text
 pub items_lie : (text : List ℕ) (i : ℕ) (own : List Piece) → All (LiesIn text) (pieces_of text) →
     slice_get (item_tokens text) i ≡ Some own → All (LiesIn text) own
+unfolding item_tokens
 items_lie text i own inside at =
-    elim (cases_lt i (length (item_ends text))) [
-      | inl within ↦ lie within
-      | inr past ↦ absurd (no_own (at_none past))
-    ]
+    all_of_member (LiesIn text) (tokens_of text) 0 (item_ends text) i own
+    (All-filter is_token (LiesIn text) (pieces_of text) inside) at
+
+-- what is kept of the item with a number
+pub entry_at : (text : List ℕ) (i : ℕ) → slice_get (entries_of text) i ≡
+    option_map (λ (own : List Piece). entry_by (spelled text own)) (slice_get (item_tokens text) i)
+entry_at text i =
+    slice_get-map entry_by (spelled_items text) i
+    ∙ ap (λ (l : List (List (Class × List ℕ))). option_map entry_by (slice_get l i))
+    (spelled_are text)
+    ∙ ap (option_map entry_by) (slice_get-map (spelled text) (item_tokens text) i)
+    ∙ twice (slice_get (item_tokens text) i)
   where
-    no_own : Some own ≡ None → ⊥
-    no_own e = cc
-
-    at_none : length (item_ends text) ≤ i → Some own ≡ None
-    at_none past = sym at ∙ no_item text i past
-
-    lie : i < length (item_ends text) → All (LiesIn text) own
-    lie within =
-        let ends = item_ends text in
-        let tokens = tokens_of text in
-        let start = last_end 0 (take i ends) in
-        let stop = get_or ends i 0 in
-        let is : Some (take (stop - start) (drop start tokens)) ≡ Some own =
-        item_at text tokens ends i start stop refl refl within refl refl ∙ at in
-        let same : take (stop - start) (drop start tokens) ≡ own = cc in
-        subst (All (LiesIn text)) same
-        (All-take (LiesIn text) (stop - start) (drop start tokens)
-        (All-drop (LiesIn text) start tokens (All-filter is_token (LiesIn text)
-        (pieces_of text) inside)))
+    twice : (o : Option (List Piece)) → option_map entry_by (option_map (spelled text) o) ≡
+        option_map (λ (own : List Piece). entry_by (spelled text own)) o
+    twice None = refl
+    twice (Some own) = refl
 
 -- what is kept of it
 pub entry_is : (text : List ℕ) (i : ℕ) (own : List Piece) (entries : List Entry) (e : Entry) →

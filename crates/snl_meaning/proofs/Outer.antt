@@ -2,7 +2,7 @@
 -- the token that is meant has the bytes of the name.
 use Rattle.std.proofs.Common.{◌≡◌, ℕ, zero, suc, Bool, true, false, if◌then◌else◌, List, [], ◌∷◌, ◌++◌, length, map, slice_get, Option, None, Some, option_and_then, option_map, option_to_list, refl, sym, ap, subst, ◌∙◌}
 use Rattle.std.proofs.lemmas.List.Quantifiers.{position-Some}
-use Rattle.std.proofs.lemmas.Option.{get_or_from_slice_get, slice_get-map}
+use Rattle.std.proofs.lemmas.Option.{get_or_from_slice_get}
 use Rattle.std.proofs.lemmas.Slice.Eq.{bytes_eq-Decides}
 use Rattle.std.specs.List.{AllByRecursion as Each, flat_map}
 use Rattle.std.specs.Option.{option_map_or, option_or}
@@ -32,11 +32,11 @@ use Rattle.snl_scope.specs.Linked.{declaration_at, entry_declaration, scope_in, 
 use Rattle.snl_scope.specs.Names.{Entry, declared_entry, entries, entries_before, entries_of, has_name, has_own_scope, named_entry, number_in, resolve, same_namespace, scope_at, scope_of, set_entries, set_name, state_entries}
 use Rattle.snl_scope.specs.Order.{is_state_word, state_name}
 use Rattle.snl_scope.specs.Places.{begins_set, enclosing_set}
-use Rattle.snl_scope.specs.Summaries.{name_by, name_if, outline_in, second_in}
+use Rattle.snl_scope.specs.Summaries.{name_by, name_if, second_in}
 use Rattle.snl_scope.specs.Summaries.Declares.{declared_at, declared_by_declaration, declared_by_declarator, declared_by_member, declared_if_body, declared_in, declared_in_tree, foreign_name, function_name, symbol_kind_of}
-use Rattle.snl_item_check.specs.Items.{outline_of_item}
 use Rattle.snl_kept.specs.Checks.{outlines_in}
-use Rattle.snl_kept.specs.Program.{item_tokens, items_of, program_item, tree_in}
+use Rattle.snl_kept.specs.Program.{item_tokens, tree_in}
+use Rattle.snl_item_tokens.specs.ItemTokensLaws.{outline_at, outline_by}
 use Rattle.snl_meaning.specs.declared.items.TokenPlace.{TokenPlace}
 use Rattle.snl_meaning.specs.Meanings.{declaration_named, name_of_item, place_of, state_named}
 
@@ -54,9 +54,6 @@ either : (P : Type 0) (a b : Option ℕ) (k : ℕ) → (a ≡ Some k → P) → 
     option_or a b ≡ Some k → P
 either P None b k first second e = second e
 either P (Some x) b k first second e = first e
-
-abbrev outline_by : List ℕ → List Piece → Outline
-outline_by text own = outline_in text own (tree_in text own)
 
 -- a state's name in its set is at the second token of its item
 abbrev TokenFits : Namespace → ℕ → Type 0
@@ -80,19 +77,6 @@ name_is_token text (Some piece) name e = name_is_bytes piece.kind (bytes_of text
 module _ (text : List ℕ) where
   abbrev ss : List Outline
   ss = outlines_in text
-
-  outline_at : (i : ℕ) → slice_get ss i ≡ option_map (outline_by text)
-      (slice_get (item_tokens text) i)
-  outline_at i =
-      slice_get-map (outline_of_item text) (items_of text) i
-      ∙ ap (option_map (outline_of_item text))
-      (slice_get-map (program_item text) (item_tokens text) i)
-      ∙ twice (slice_get (item_tokens text) i)
-    where
-      twice : (o : Option (List Piece)) → option_map (outline_of_item text)
-          (option_map (program_item text) o) ≡ option_map (outline_by text) o
-      twice None = refl
-      twice (Some own) = refl
 
   abbrev IsNamed : Entry → Type 0
   IsNamed e = (e.name ≡ token_says text e.item e.token) × TokenFits e.namespace e.token
@@ -199,7 +183,7 @@ module _ (text : List ℕ) where
   named_at : (n : ℕ) → Each IsNamed (option_map_or (entries_of ss n) (slice_get ss n) [])
   named_at n =
       subst (λ (o : Option Outline). Each IsNamed (option_map_or (entries_of ss n) o []))
-      (sym (outline_at n))
+      (sym (outline_at text n))
       (by (slice_get (item_tokens text) n) refl)
     where
       by : (o : Option (List Piece)) → slice_get (item_tokens text) n ≡ o →

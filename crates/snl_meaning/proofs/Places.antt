@@ -1,5 +1,5 @@
 -- The first token that has a byte, item by item.
-use Rattle.std.proofs.Common.{◌≡◌, ℕ, suc, ◌+◌, List, [], drop, position, slice_get, Option, Some, None, ap, ◌∙◌, arith}
+use Rattle.std.proofs.Common.{◌≡◌, ℕ, zero, suc, ◌+◌, List, [], ◌∷◌, drop, position, slice_get, Option, Some, None, refl, ap, ◌∙◌, arith}
 use Rattle.snl_facts.specs.Lists.{drop_got}
 use Rattle.snl_lex.specs.declared.piece.Piece.{Piece}
 use Rattle.snl_asked.specs.Tokens.{has_byte}
@@ -33,3 +33,10 @@ found_later offset i xs x at missed =
 pub found_nowhere : (offset i : ℕ) (xs : List (List Piece)) → drop i xs ≡ [] →
     place_from offset i (drop i xs) ≡ None
 found_nowhere offset i xs none = ap (place_from offset i) none
+
+-- no item is left
+pub none_left : {X : Type 0} (xs : List X) (i : ℕ) → slice_get xs i ≡ None → drop i xs ≡ []
+none_left [] zero none = refl
+none_left [] (suc i) none = refl
+none_left (x ∷ xs) zero none = absurd cc
+none_left (x ∷ xs) (suc i) none = none_left xs i none

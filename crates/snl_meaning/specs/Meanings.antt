@@ -22,6 +22,7 @@ use Rattle.snl_tables.specs.declared.rows.Span.{Span}
 use Rattle.snl_kept.specs.Checks.{outlines_in}
 use Rattle.snl_kept.specs.Program.{item_tokens, tree_in}
 use Rattle.snl_asked.specs.Tokens.{has_byte}
+use Rattle.snl_item_tokens.specs.Items.{span_at}
 use Rattle.snl_meaning.specs.declared.items.TokenPlace.{TokenPlace}
 use Rattle.snl_meaning.specs.declared.meanings.Meaning.{Meaning}
 
@@ -36,13 +37,6 @@ abbrev pub place_from : ℕ → ℕ → List (List Piece) → Option TokenPlace
 place_from offset i [] = None
 place_from offset i (x ∷ xs) = place_by i (position (has_byte offset) x)
     (place_from offset (i + 1) xs)
-
--- The span of a token.
-abbrev pub span_of : Piece → Span
-span_of token = record { start = token.start; len = token.len }
-
-abbrev pub span_at : List (List Piece) → TokenPlace → Option Span
-span_at xs p = option_and_then (λ x. option_map span_of (slice_get x p.token)) (slice_get xs p.item)
 
 -- The name of a state set and of a state is the second token of its item.
 abbrev pub name_of_item : ℕ → TokenPlace
@@ -161,8 +155,8 @@ meaning_by text q (Some name) (Some declared) = Some (record {
 meaning_by text q _ _ = None
 
 abbrev pub meaning_between : List ℕ → TokenPlace → TokenPlace → Option Meaning
-meaning_between text p q = meaning_by text q (span_at (item_tokens text) p)
-    (span_at (item_tokens text) q)
+meaning_between text p q = meaning_by text q (span_at (item_tokens text) p.item p.token)
+    (span_at (item_tokens text) q.item q.token)
 
 abbrev pub meaning_from : List ℕ → TokenPlace → Option Meaning
 meaning_from text p = option_and_then (meaning_between text p) (meant_at text p)

@@ -4,11 +4,11 @@
 //! cursor right after a word is on it.
 #![tactic(auto)]
 
-mod item_tokens;
 mod items;
 mod laws;
 mod meanings;
 mod names;
+mod text_items;
 
 pub use items::span_bytes;
 pub use laws::names_mean_their_like;

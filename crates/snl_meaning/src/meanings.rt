@@ -1,19 +1,18 @@
 //! What the name at an offset of a text means, and what the one near it. In: what is kept of the
 //! text. Out: the spans of the name and of the one that declares it, and the declaration's number.
 
-ghost use Rattle.std.specs.Prelude.{◌≡◌, ℕ, IfOk, List, vec_len};
+ghost use Rattle.std.specs.Prelude.{◌≡◌, IfOk};
 ghost use Rattle.snl_kept.specs.Checks.{outlines_in};
 ghost use Rattle.snl_kept.specs.Kept.{IsListed};
-ghost use Rattle.snl_lex.specs.PieceList.{piece_ends, piece_kinds};
-ghost use Rattle.snl_lex.specs.Pieces.{tokens_of};
 ghost use Rattle.snl_meaning.specs.Meanings.{meaning_between, meaning_near, meaning_of, meant_at};
 
-use crate::item_tokens::ItemTokens;
 use crate::items::{TokenPlace, span_bytes};
 use crate::names::{LinkedItem, meant_in};
+use crate::text_items::TextItems;
 use snl_cut::OutOfMemory;
+use snl_item_tokens::{ItemTokens, all_tokens};
 use snl_kept::Lists;
-use snl_lex::{Piece, PieceList, text_in_pieces};
+use snl_lex::text_in_pieces;
 use snl_scope::{Links, Source, same_spelling_same_summary};
 use snl_session::Session;
 use snl_syntax::{outcome_told, same_spelling_same_tree};
@@ -34,7 +33,7 @@ pub struct Meaning {
 fn meant_at(
     alloc: Global,
     lists: &Lists,
-    items: &ItemTokens,
+    items: &TextItems,
     place: TokenPlace,
 ) -> Result<Option<TokenPlace>, OutOfMemory>
     requires { IsListed items.now.text.now lists.now }
@@ -67,7 +66,7 @@ fn meant_at(
 // The meaning of the name at a place, where it means the name at another one.
 fn meaning_between(
     links: &Links,
-    items: &ItemTokens,
+    items: &TextItems,
     name: TokenPlace,
     declared: TokenPlace,
 ) -> Option<Meaning>
@@ -87,23 +86,12 @@ fn meaning_between(
     })
 }
 
-// All tokens of a text, by the list of its pieces.
-fn all_tokens(alloc: Global, pieces: &PieceList) -> Result<Vec<Piece>, OutOfMemory>
-    requires { vec_len pieces.now.ends ≡ vec_len pieces.now.kinds }
-    ensures { IfOk
-        result
-        (λ tokens. (text : List ℕ) → pieces.now.ends.items ≡ piece_ends text
-        → pieces.now.kinds.items ≡ piece_kinds text → tokens.items ≡ tokens_of text) }
-{
-    pieces.tokens_between(alloc, 0, pieces.ends.len())
-}
-
 // What the name at an offset means, by the tokens of the text.
 #[tactic(auto, unfolding(crate::specs::Meanings::meaning_of))]
 fn meaning_among(
     alloc: Global,
     lists: &Lists,
-    items: &ItemTokens,
+    items: &TextItems,
     offset: usize,
 ) -> Result<Option<Meaning>, OutOfMemory>
     requires { IsListed items.now.text.now lists.now }
@@ -123,7 +111,7 @@ fn meaning_among(
 fn meaning_near_among(
     alloc: Global,
     lists: &Lists,
-    items: &ItemTokens,
+    items: &TextItems,
     offset: usize,
 ) -> Result<Option<Meaning>, OutOfMemory>
     requires { IsListed items.now.text.now lists.now }
@@ -139,39 +127,37 @@ fn meaning_near_among(
 }
 
 // What the name at an offset means, by the lists of the text.
-fn meaning_in(
+fn meaning_in<'a>(
     alloc: Global,
-    text: &[u8],
-    lists: &Lists,
+    text: &'a [u8],
+    lists: &'a Lists,
     offset: usize,
 ) -> Result<Option<Meaning>, OutOfMemory>
     requires { IsListed text.now lists.now }
     ensures { IfOk result (λ m. m ≡ meaning_of text.now offset) }
 {
     let tokens = all_tokens(alloc, &lists.pieces)?;
-    let items = ItemTokens {
+    let items = TextItems {
         text,
-        tokens: &tokens,
-        ends: &lists.items.ends,
+        items: ItemTokens::of_text(text, &tokens, &lists.items.ends),
     };
     meaning_among(alloc, lists, &items, offset)
 }
 
 // The same of the name near an offset: the tokens are listed once for both offsets.
-fn meaning_near_in(
+fn meaning_near_in<'a>(
     alloc: Global,
-    text: &[u8],
-    lists: &Lists,
+    text: &'a [u8],
+    lists: &'a Lists,
     offset: usize,
 ) -> Result<Option<Meaning>, OutOfMemory>
     requires { IsListed text.now lists.now }
     ensures { IfOk result (λ m. m ≡ meaning_near text.now offset) }
 {
     let tokens = all_tokens(alloc, &lists.pieces)?;
-    let items = ItemTokens {
+    let items = TextItems {
         text,
-        tokens: &tokens,
-        ends: &lists.items.ends,
+        items: ItemTokens::of_text(text, &tokens, &lists.items.ends),
     };
     meaning_near_among(alloc, lists, &items, offset)
 }

@@ -24,11 +24,13 @@ use Rattle.snl_tables.specs.declared.rows.Span.{Span}
 use Rattle.snl_kept.specs.Checks.{outlines_in}
 use Rattle.snl_kept.specs.Program.{item_tokens, tree_in}
 use Rattle.snl_kept.specs.TokenLaws.{read_tree}
+use Rattle.snl_item_tokens.specs.Items.{span_at, span_of}
+use Rattle.snl_item_tokens.specs.ItemTokensLaws.{outline_at, outline_by}
 use Rattle.snl_symbols.specs.declared.document_symbol.DocumentSymbol.{DocumentSymbol}
 use Rattle.snl_symbols.specs.declared.document_symbol.DocumentSymbolKind.TheVariants as kinds
 use Rattle.snl_symbols.specs.Extents.{ChildrenLieWithin, LiesWithin, is_deeper}
-use Rattle.snl_symbols.specs.Symbols.{declared_symbol, depth_in, depth_of, extent_of, item_symbols, kind_by_opening, last_within, own_kind, own_symbol, span_at, span_of, symbol_with, symbols_at, symbols_before, symbols_of}
-use Rattle.snl_symbols.proofs.Kept.{outline_at, outline_by, outline_count}
+use Rattle.snl_symbols.specs.Symbols.{declared_symbol, depth_in, depth_of, extent_of, item_symbols, kind_by_opening, last_within, own_kind, own_symbol, symbol_with, symbols_at, symbols_before, symbols_of}
+use Rattle.snl_symbols.proofs.Kept.{outline_count}
 use Rattle.snl_symbols.proofs.Order.{AreInARow, get_here, span_there, span_within, spans_told, token_told, token_within}
 use Rattle.snl_symbols.proofs.Parts.{each_declared, each_symbol, inner_is, outer_is, own_is, shallow}
 use Rattle.snl_symbols.proofs.Within.{alone, last_inside, reaches}

@@ -22,26 +22,9 @@ use Rattle.snl_kept.specs.declared.entries.Entry.{Entry}
 use Rattle.snl_kept.specs.Checks.{outlines_in}
 use Rattle.snl_kept.specs.Entries.{entries_of, entry_by}
 use Rattle.snl_kept.specs.Program.{item_tokens, items_of, program_item, tree_in}
-use Rattle.snl_symbols.proofs.Members.{begins_below}
+use Rattle.snl_item_tokens.specs.ItemTokensLaws.{item_count, outline_by, spelled_are}
 
--- ---- the outlines
-
--- what an item with these tokens says
-abbrev pub outline_by : List ℕ → List Piece → Outline
-outline_by text own = outline_in text own (tree_in text own)
-
-pub outline_at : (text : List ℕ) (i : ℕ) → slice_get (outlines_in text) i ≡
-    option_map (outline_by text) (slice_get (item_tokens text) i)
-outline_at text i =
-    slice_get-map (outline_of_item text) (items_of text) i
-    ∙ ap (option_map (outline_of_item text))
-    (slice_get-map (program_item text) (item_tokens text) i)
-    ∙ twice (slice_get (item_tokens text) i)
-  where
-    twice : (o : Option (List Piece)) → option_map (outline_of_item text)
-        (option_map (program_item text) o) ≡ option_map (outline_by text) o
-    twice None = refl
-    twice (Some own) = refl
+-- ---- how many outlines there are
 
 -- there are as many as items
 pub outline_count : (text : List ℕ) → length (outlines_in text) ≡ length (item_tokens text)
@@ -50,27 +33,10 @@ outline_count text =
     ∙ length-map (item_tokens text) (program_item text)
 
 -- and as many as places where items end
-pub item_count : (text : List ℕ) → length (item_tokens text) ≡ length (item_ends text)
-unfolding item_tokens
-item_count text = length_members (tokens_of text) 0 (item_ends text)
-
 pub linked_count : (text : List ℕ) → length (outlines_in text) ≡ length (item_ends text)
 linked_count text = outline_count text ∙ item_count text
 
 -- ---- the entries
-
-spelled_members : (text : List ℕ) (tokens : List Piece) (from : ℕ) (ends : List ℕ) →
-    members (spelled text tokens) from ends ≡ map (spelled text) (members tokens from ends)
-spelled_members text tokens from [] = refl
-spelled_members text tokens from (e ∷ es) =
-    ap₂ (λ (m : List (Class × List ℕ)) (ms : List (List (Class × List ℕ))). m ∷ ms)
-    (ap (take (e - from)) (drop-map (spelling text) from tokens)
-    ∙ take-map (spelling text) (e - from) (drop from tokens))
-    (spelled_members text tokens e es)
-
-spelled_are : (text : List ℕ) → spelled_items text ≡ map (spelled text) (item_tokens text)
-unfolding item_tokens
-spelled_are text = spelled_members text (tokens_of text) 0 (item_ends text)
 
 abbrev pub outline_kept : Entry → Outline
 outline_kept e = e.summary.outline
@@ -102,37 +68,3 @@ pub made_at : {X Y : Type 0} (f : X → Y) (xs : List X) (ys : List Y) (i : ℕ)
     map f xs ≡ ys → slice_get xs i ≡ o → slice_get ys i ≡ option_map f o
 made_at {Y = Y} f xs ys i o all at =
     sym (ap (λ (l : List Y). slice_get l i) all) ∙ slice_get-map f xs i ∙ ap (option_map f) at
-
--- ---- where items end
-
--- they are in a row, and among the tokens
-pub ends_ordered : (text : List ℕ) → Rises 0 (item_ends text) →
-    EachIndex (item_ends text)
-    (λ i. last_end 0 (take i (item_ends text)) ≤ slice_index (item_ends text) i)
-ends_ordered text rise i within =
-    let below = begins_below 0 (item_ends text) i rise within in omega (arith, below)
-
-pub ends_inside : (text : List ℕ) → ((i : ℕ) → i < length (item_ends text) →
-    slice_index (item_ends text) i ≤ length (marks_of text)) →
-    EachIndex (item_ends text) (λ i. slice_index (item_ends text) i ≤ length (tokens_of text))
-ends_inside text within i there =
-    let count : length (marks_of text) ≡ length (tokens_of text) =
-    length-map (tokens_of text) (mark_in text) in
-    omega (arith, within i there, count)
-
--- ---- the tokens
-
--- item by item they are those of the text
-pub members_are : (text : List ℕ) (tokens : List Piece) (ends : List ℕ) →
-    tokens ≡ tokens_of text → ends ≡ item_ends text → members tokens 0 ends ≡ item_tokens text
-unfolding item_tokens
-members_are text tokens ends all cut =
-    ap₂ (λ (ts : List Piece) (es : List ℕ). members ts 0 es) all cut
-
--- no token of a text is too far off
-pub tokens_near : (text : List ℕ) → length text < 2 ^ 64 → All (LiesIn text) (pieces_of text) →
-    All (λ (p : Piece). piece_end p < 2 ^ 64) (tokens_of text)
-tokens_near text small inside =
-    All-filter is_token (λ (p : Piece). piece_end p < 2 ^ 64) (pieces_of text)
-    (All-weaker (LiesIn text) (λ (p : Piece). piece_end p < 2 ^ 64)
-    (λ p lies. omega (arith, lies.1, small)) (pieces_of text) inside)

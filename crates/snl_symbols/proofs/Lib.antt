@@ -1,4 +1,3 @@
-mod Members
 mod Kept
 mod Within
 mod Order

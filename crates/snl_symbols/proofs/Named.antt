@@ -17,9 +17,10 @@ use Rattle.snl_kept.specs.Checks.{outlines_in}
 use Rattle.snl_kept.specs.Parts.{EndsWithin}
 use Rattle.snl_kept.specs.Program.{item_tokens}
 use Rattle.snl_kept.specs.TokenLaws.{members_apart, tokens_apart}
+use Rattle.snl_item_tokens.specs.Items.{span_at}
 use Rattle.snl_symbols.specs.declared.document_symbol.DocumentSymbol.{DocumentSymbol}
 use Rattle.snl_symbols.specs.Extents.{LiesWithin, NameLiesWithin}
-use Rattle.snl_symbols.specs.Symbols.{declared_symbol, extent_of, last_within, span_at, symbols_before, symbols_of}
+use Rattle.snl_symbols.specs.Symbols.{declared_symbol, extent_of, last_within, symbols_before, symbols_of}
 use Rattle.snl_symbols.proofs.Order.{AreInARow, IsToken, row_of, spans_told, token_told, token_within}
 use Rattle.snl_symbols.proofs.Parts.{IsWith, each_at, each_symbol, inner_is, outer_is, own_is}
 

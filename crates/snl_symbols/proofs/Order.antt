@@ -11,8 +11,9 @@ use Rattle.snl_lex.specs.Pieces.{piece_end}
 use Rattle.snl_tables.specs.declared.rows.Span.{Span}
 use Rattle.snl_kept.specs.Program.{item_tokens}
 use Rattle.snl_kept.specs.TokenLaws.{AllBefore, Before, InARow}
+use Rattle.snl_item_tokens.specs.Items.{span_at, span_of, start_of, stop_of}
 use Rattle.snl_symbols.specs.Extents.{LiesWithin}
-use Rattle.snl_symbols.specs.Symbols.{span_at, span_between, span_of, start_of, stop_of}
+use Rattle.snl_symbols.specs.Symbols.{span_between}
 
 -- ---- lists
 

@@ -9,9 +9,10 @@ use Rattle.snl_scope.specs.declared.summaries.summary.Declared.{Declared}
 use Rattle.snl_scope.specs.declared.summaries.summary.Outline.{Outline}
 use Rattle.snl_scope.specs.Places.{enclosing_set}
 use Rattle.snl_tables.specs.declared.rows.Span.{Span}
+use Rattle.snl_item_tokens.specs.Items.{span_at}
 use Rattle.snl_symbols.specs.declared.document_symbol.DocumentSymbol.{DocumentSymbol}
 use Rattle.snl_symbols.specs.declared.document_symbol.DocumentSymbolKind.{DocumentSymbolKind}
-use Rattle.snl_symbols.specs.Symbols.{declared_kind, declared_symbol, depth_in, depth_of, extent_of, item_symbols, own_kind, own_symbol, span_at, symbol_with, symbols_at}
+use Rattle.snl_symbols.specs.Symbols.{declared_kind, declared_symbol, depth_in, depth_of, extent_of, item_symbols, own_kind, own_symbol, symbol_with, symbols_at}
 
 -- ---- lists of what there is
 

@@ -5,7 +5,6 @@ use Rattle.std.specs.Prelude.{ℕ, zero, suc, ◌+◌, ◌-◌, Bool, true, fals
 use Rattle.std.specs.List.{filter_map, prefix_len, range_with_len}
 use Rattle.std.specs.Option.{option_map_or}
 use Rattle.snl_lex.specs.declared.piece.Piece.{Piece}
-use Rattle.snl_lex.specs.Pieces.{piece_end}
 use Rattle.snl_scope.specs.declared.summaries.summary.Declared.{Declared}
 use Rattle.snl_scope.specs.declared.summaries.summary.Opening.{Opening}
 use Rattle.snl_scope.specs.declared.summaries.summary.Opening.TheVariants as opening
@@ -16,6 +15,7 @@ use Rattle.snl_scope.specs.Places.{begins_set, enclosing_set, stands_in}
 use Rattle.snl_tables.specs.declared.rows.Span.{Span}
 use Rattle.snl_kept.specs.Checks.{outlines_in}
 use Rattle.snl_kept.specs.Program.{item_tokens}
+use Rattle.snl_item_tokens.specs.Items.{span_at, start_of, stop_of}
 use Rattle.snl_symbols.specs.declared.document_symbol.DocumentSymbol.{DocumentSymbol}
 use Rattle.snl_symbols.specs.declared.document_symbol.DocumentSymbolKind.{DocumentSymbolKind}
 use Rattle.snl_symbols.specs.declared.document_symbol.DocumentSymbolKind.TheVariants as kinds
@@ -44,22 +44,6 @@ declared_kind symbol_kind.Assignable = kinds.Variable
 declared_kind symbol_kind.Unassignable = kinds.Variable
 
 -- ---- where it is
-
-abbrev pub span_of : Piece → Span
-span_of token = record { start = token.start; len = token.len }
-
--- The span of token n of item i.
-abbrev pub span_at : List (List Piece) → ℕ → ℕ → Option Span
-span_at xs i n = option_and_then (λ own. option_map span_of (slice_get own n)) (slice_get xs i)
-
--- Where item i begins, and where it ends.
-abbrev pub start_of : List (List Piece) → ℕ → Option ℕ
-start_of xs i = option_and_then (λ own. option_map (λ token. token.start) (slice_get own 0))
-    (slice_get xs i)
-
-abbrev pub stop_of : List (List Piece) → ℕ → Option ℕ
-stop_of xs i = option_and_then (λ own. option_map piece_end (slice_get own (length own - 1)))
-    (slice_get xs i)
 
 -- The bytes from one offset up to another.
 abbrev pub span_between : Option ℕ → Option ℕ → Option Span

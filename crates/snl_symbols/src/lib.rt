@@ -4,7 +4,6 @@
 #![tactic(auto)]
 
 mod document_symbol;
-mod item_tokens;
 mod kinds;
 mod laws;
 mod linked_item;

@@ -5,9 +5,9 @@ ghost use Rattle.std.specs.Prelude.{◌≡◌, ◌<◌, ◌++◌, OnOk, length, 
 ghost use Rattle.snl_symbols.specs.Symbols.{span_between, symbol_with};
 
 use crate::document_symbol::{DocumentSymbol, DocumentSymbolKind};
-use crate::item_tokens::ItemTokens;
 use crate::kinds::{declared_kind, own_kind};
 use snl_cut::OutOfMemory;
+use snl_item_tokens::ItemTokens;
 use snl_scope::{Declared, Links, Outline};
 use snl_tables::Span;
 
@@ -70,7 +70,7 @@ impl LinkedItem<'_> {
     ghost use Rattle.std.specs.Prelude.{◌≤◌};
     ghost use Rattle.std.specs.List.{filter_map};
     ghost use Rattle.snl_scope.specs.Places.{stands_in};
-    ghost use Rattle.snl_symbols.specs.Items.{tokens_by_item};
+    ghost use Rattle.snl_item_tokens.specs.Items.{tokens_by_item};
     ghost use Rattle.snl_symbols.specs.Symbols.{declared_symbol, depth_of, extent_of, item_symbols, last_within, own_symbol};
 
     // Whether another item is in the state set that this one begins.

@@ -1,20 +1,17 @@
 //! The symbols of a session's text. In: what is kept of the text. Out: its symbols, item by item.
 
-ghost use Rattle.std.specs.Prelude.{◌≡◌, ◌^◌, ◌<◌, ◌++◌, ℕ, IfOk, List, OnOk, length, map, vec_len};
-ghost use Rattle.snl_lex.specs.PieceList.{piece_ends, piece_kinds};
-ghost use Rattle.snl_lex.specs.Pieces.{tokens_of};
-ghost use Rattle.snl_symbols.specs.Items.{tokens_by_item};
+ghost use Rattle.std.specs.Prelude.{◌≡◌, ◌<◌, ◌++◌, IfOk, OnOk, length, map};
+ghost use Rattle.snl_item_tokens.specs.Items.{tokens_by_item};
 ghost use Rattle.snl_symbols.specs.Symbols.{symbols_at, symbols_of};
 
 use crate::document_symbol::DocumentSymbol;
-use crate::item_tokens::ItemTokens;
 use crate::linked_item::LinkedItem;
-use snl_cut::{OutOfMemory, ends_in_order};
+use snl_cut::OutOfMemory;
+use snl_item_tokens::{ItemTokens, all_tokens};
 use snl_kept::Lists;
-use snl_lex::{Piece, PieceList, text_in_pieces};
 use snl_scope::same_spelling_same_summary;
 use snl_session::Session;
-use snl_syntax::{Tokens, outcome_told, same_spelling_same_tree};
+use snl_syntax::{outcome_told, same_spelling_same_tree};
 use std::alloc::Global;
 
 // Adds the symbols of the item with a number.
@@ -44,24 +41,6 @@ fn add_item(
     linked.add_symbols(symbols)
 }
 
-// All tokens of a text, by the list of its pieces.
-fn all_tokens(alloc: Global, pieces: &PieceList) -> Result<Vec<Piece>, OutOfMemory>
-    requires { vec_len pieces.now.ends ≡ vec_len pieces.now.kinds }
-    ensures { IfOk
-        result
-        (λ tokens. (text : List ℕ) → pieces.now.ends.items ≡ piece_ends text
-        → pieces.now.kinds.items ≡ piece_kinds text → tokens.items ≡ tokens_of text) }
-{
-    pieces.tokens_between(alloc, 0, pieces.ends.len())
-}
-
-// A session's text is in memory: so no offset in it is too great.
-fn text_is_short(session: &Session)
-    ensures { length session.now < 2 ^ 64 }
-{
-    let _text = session.text();
-}
-
 /// The symbols of a session's text, in its order: the program, state sets, states, and what items
 /// declare outside blocks. What belongs to a symbol follows it and is deeper. Parameters,
 /// prototypes, structs and options are none. A faulty item declares nothing, but it may be the
@@ -70,18 +49,12 @@ fn text_is_short(session: &Session)
 pub fn symbols(alloc: Global, session: &Session) -> Result<Vec<DocumentSymbol>, OutOfMemory>
     ensures { IfOk result (λ v. v.items ≡ symbols_of session.now) }
 {
-    text_is_short(session);
-    text_in_pieces();
-    ends_in_order::<Tokens>();
     outcome_told();
     same_spelling_same_tree();
     same_spelling_same_summary();
     let lists = &session.kept().lists;
     let tokens = all_tokens(alloc, &lists.pieces)?;
-    let items = ItemTokens {
-        tokens: &tokens,
-        ends: &lists.items.ends,
-    };
+    let items = ItemTokens::of_text(session.text(), &tokens, &lists.items.ends);
     let mut symbols = Vec::new(alloc);
     for item in 0..items.ends.len() {
         add_item(lists, &items, item, &mut symbols)?;

@@ -6,8 +6,7 @@ use Rattle.snl_kept.specs.declared.entries.Entry.{Entry}
 use Rattle.snl_kept.specs.Entries.{entry_by}
 use Rattle.snl_kept.specs.Program.{item_tokens}
 use Rattle.snl_meaning.specs.declared.items.TokenPlace.{TokenPlace}
-use Rattle.snl_meaning.proofs.Members.{entry_at}
-use Rattle.snl_meaning.proofs.Meant.{entry_is, items_lie, meant_told}
+use Rattle.snl_meaning.proofs.Meant.{entry_at, entry_is, items_lie, meant_told}
 use Rattle.snl_meaning.proofs.meanings.meant_at.Goals as goal
 
 pub returns-in_default-get : goal.returns-in_default-get

@@ -4,7 +4,7 @@ use Rattle.std.specs.Option.{option_map_or}
 use Rattle.snl_scope.specs.declared.summaries.summary.Outline.{Outline}
 use Rattle.snl_kept.specs.declared.entries.Entry.{Entry}
 use Rattle.snl_symbols.specs.declared.document_symbol.DocumentSymbol.{DocumentSymbol}
-use Rattle.snl_symbols.specs.Items.{tokens_by_item}
+use Rattle.snl_item_tokens.specs.Items.{tokens_by_item}
 use Rattle.snl_symbols.specs.Symbols.{item_symbols, symbols_at}
 use Rattle.snl_symbols.proofs.Kept.{made_at, outline_kept}
 use Rattle.snl_symbols.proofs.session_symbols.add_item.Goals as goal

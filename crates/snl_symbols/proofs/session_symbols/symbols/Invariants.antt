@@ -1,5 +1,5 @@
 use Rattle.std.proofs.Common.{◌≡◌}
-use Rattle.snl_symbols.specs.Items.{tokens_by_item}
+use Rattle.snl_item_tokens.specs.Items.{tokens_by_item}
 use Rattle.snl_symbols.specs.Symbols.{symbols_before}
 use Rattle.snl_symbols.proofs.session_symbols.symbols.Given as goal
 

@@ -1,6 +1,6 @@
 use Rattle.std.proofs.Common.{◌≡◌, ◌++◌, drop}
 use Rattle.std.specs.List.{filter_map}
-use Rattle.snl_symbols.specs.Items.{tokens_by_item}
+use Rattle.snl_item_tokens.specs.Items.{tokens_by_item}
 use Rattle.snl_symbols.specs.Symbols.{declared_symbol}
 use Rattle.snl_symbols.proofs.linked_item.LinkedItem.add_declared.Given as goal
 

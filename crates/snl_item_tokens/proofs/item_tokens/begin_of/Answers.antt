@@ -1,7 +1,7 @@
 use Rattle.std.proofs.Common.{◌≡◌, suc, ◌-◌, take, ap, sym, ◌∙◌, arith}
 use Rattle.snl_cut.specs.Cut.{last_end}
 use Rattle.snl_cut.specs.CutLaws.{last_taken}
-use Rattle.snl_symbols.proofs.item_tokens.begin_of.Goals as goal
+use Rattle.snl_item_tokens.proofs.item_tokens.begin_of.Goals as goal
 
 pub returns-else-number-eq0 : goal.returns-else-number-eq0
 returns-else-number-eq0 c =

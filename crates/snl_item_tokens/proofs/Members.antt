@@ -1,4 +1,4 @@
--- The items of a text: the one with a number, by where it begins and ends.
+-- The members of a cut: the one with a number, by where it begins and ends.
 use Rattle.std.proofs.Common.{◌≡◌, ℕ, zero, suc, ◌-◌, ◌<◌, ◌≤◌, List, [], ◌∷◌, length, get_or, take, drop, slice_get, Some, None, refl, ap₂, sym, ◌∙◌, arith}
 use Rattle.snl_cut.specs.Cut.{Rises, last_end, members}
 

@@ -1,12 +1,11 @@
-use Rattle.std.proofs.Common.{◌≡◌, ℕ, List, [], drop, slice_get, length, option_copied, Some, None, arith, ap, sym, ◌∙◌}
+use Rattle.std.proofs.Common.{◌≡◌, List, [], drop, slice_get, length, option_copied, Some, None, arith, ap, sym, ◌∙◌}
 use Rattle.std.proofs.lemmas.List.{drop_all}
+use Rattle.snl_cut.specs.CutLaws.{length_members}
 use Rattle.snl_lex.specs.declared.piece.Piece.{Piece}
-use Rattle.snl_items.specs.Items.{item_ends}
 use Rattle.snl_kept.specs.Program.{item_tokens}
 use Rattle.snl_meaning.specs.Meanings.{place_from}
-use Rattle.snl_meaning.proofs.Members.{item_count, none_left}
-use Rattle.snl_meaning.proofs.Places.{found_here, found_later, found_nowhere}
-use Rattle.snl_meaning.proofs.item_tokens.ItemTokens.place_at.Goals as goal
+use Rattle.snl_meaning.proofs.Places.{found_here, found_later, found_nowhere, none_left}
+use Rattle.snl_meaning.proofs.text_items.TextItems.place_at.Goals as goal
 
 pub returns-in_err-tokens : goal.returns-in_err-tokens
 returns-in_err-tokens c =
@@ -43,7 +42,8 @@ returns c =
     let cut = c.args.self.now in
     let xs = item_tokens cut.text.now in
     let i = c.loop-item.item in
-    let ends : length cut.ends.now ≡ length (item_ends cut.text.now) =
-    ap (λ (es : List ℕ). length es) cut.ends_are in
-    let none : drop i xs ≡ [] = drop_all i xs (omega (arith, item_count cut.text.now, ends)) in
+    let count : length xs ≡ length cut.items.ends.now =
+    ap (λ (l : List (List Piece)). length l) (sym cut.items_are)
+    ∙ length_members cut.items.tokens.now 0 cut.items.ends.now in
+    let none : drop i xs ≡ [] = drop_all i xs (omega (arith, count)) in
     sym (found_nowhere c.args.offset i xs none) ∙ c.loop-item.invariant

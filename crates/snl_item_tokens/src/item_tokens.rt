@@ -6,7 +6,9 @@ ghost use Rattle.std.specs.Prelude.{option_copied, slice_get, slice_index, take}
 ghost use Rattle.snl_cut.specs.Cut.{last_end};
 ghost use Rattle.snl_lex.specs.Pieces.{piece_end};
 
-use snl_lex::Piece;
+use snl_cut::ends_in_order;
+use snl_lex::{Piece, text_in_pieces};
+use snl_syntax::Tokens;
 use snl_tables::Span;
 
 /// The tokens of a text, and where its items end among them. No token is too far off.
@@ -33,8 +35,23 @@ fn begin_of(ends: &[u32], number: usize) -> usize
 }
 
 impl<'a> ItemTokens<'a> {
-    ghost use Rattle.snl_symbols.specs.Items.{tokens_by_item};
-    ghost use Rattle.snl_symbols.specs.Symbols.{span_at, start_of, stop_of};
+    ghost use Rattle.snl_lex.specs.Pieces.{tokens_of};
+    ghost use Rattle.snl_items.specs.Items.{item_ends};
+    ghost use Rattle.snl_kept.specs.Program.{item_tokens};
+    ghost use Rattle.snl_item_tokens.specs.Items.{span_at, start_of, stop_of, tokens_by_item};
+
+    /// The tokens of a text, cut where its items end. The text itself is not read: that it is in
+    /// memory says that no token is too far off.
+    pub fn of_text(_text: &[u8], tokens: &'a [Piece], ends: &'a [u32]) -> ItemTokens<'a>
+        requires tokens { tokens.now ≡ tokens_of _text.now }
+        requires ends { ends.now ≡ item_ends _text.now }
+        ensures items { tokens_by_item result ≡ item_tokens _text.now }
+        ensures ends { result.ends.now ≡ item_ends _text.now }
+    {
+        text_in_pieces();
+        ends_in_order::<Tokens>();
+        ItemTokens { tokens, ends }
+    }
 
     // Which of the tokens are those of the item with a number: from the first number up to the
     // second one.
@@ -48,8 +65,8 @@ impl<'a> ItemTokens<'a> {
         (begin_of(self.ends, item), self.ends[item] as usize)
     }
 
-    // The tokens of the item with a number.
-    fn tokens_of(&self, item: usize) -> Option<&'a [Piece]>
+    /// The tokens of the item with a number.
+    pub fn tokens_of(&self, item: usize) -> Option<&'a [Piece]>
         ensures tokens { option_copied result ≡ slice_get (tokens_by_item self.now) item }
         ensures near { IfSome result (λ own. All (λ p. piece_end p < 2 ^ 64) own.now) }
     {

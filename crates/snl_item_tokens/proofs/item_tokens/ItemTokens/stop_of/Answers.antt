@@ -3,7 +3,7 @@ use Rattle.std.proofs.lemmas.List.Elements.{recursion_from_All}
 use Rattle.snl_facts.specs.Each.{each_got}
 use Rattle.snl_lex.specs.declared.piece.Piece.{Piece}
 use Rattle.snl_lex.specs.Pieces.{piece_end}
-use Rattle.snl_symbols.proofs.item_tokens.ItemTokens.stop_of.Goals as goal
+use Rattle.snl_item_tokens.proofs.item_tokens.ItemTokens.stop_of.Goals as goal
 
 pub overflow_add-result : goal.overflow_add-result
 overflow_add-result c =

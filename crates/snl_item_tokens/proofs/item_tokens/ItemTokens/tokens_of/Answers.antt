@@ -1,6 +1,6 @@
 use Rattle.std.proofs.Common.{arith, sym}
-use Rattle.snl_symbols.proofs.Members.{member_is, no_member}
-use Rattle.snl_symbols.proofs.item_tokens.ItemTokens.tokens_of.Goals as goal
+use Rattle.snl_item_tokens.proofs.Members.{member_is, no_member}
+use Rattle.snl_item_tokens.proofs.item_tokens.ItemTokens.tokens_of.Goals as goal
 
 pub returns-then-item-self-clause-tokens : goal.returns-then-item-self-clause-tokens
 returns-then-item-self-clause-tokens c =

@@ -1,7 +1,7 @@
 use Rattle.std.proofs.Common.{◌≡◌, drop}
 use Rattle.snl_kept.specs.Program.{item_tokens}
 use Rattle.snl_meaning.specs.Meanings.{place_from}
-use Rattle.snl_meaning.proofs.item_tokens.ItemTokens.place_at.Given as goal
+use Rattle.snl_meaning.proofs.text_items.TextItems.place_at.Given as goal
 
 -- what is found in the items from here on is what is found in all
 abbrev pub invariant-loop-item : goal.invariant-loop-item
