@@ -3,9 +3,8 @@ use Rattle.std.proofs.Common.{◌≡◌, ℕ, List, [], ◌∷◌, Option, None,
 use Rattle.std.specs.Option.{option_and_then, option_map, option_map_or}
 use Rattle.serde_json.specs.Data.{Data}
 use Rattle.snl_place.specs.declared.places.Encoding.{Encoding}
-use Rattle.snl_place.specs.declared.places.Place.{Place}
 use Rattle.snl_hear.specs.Documents.{Located}
-use Rattle.snl_hear.specs.Heard.{Heard, Request}
+use Rattle.snl_hear.specs.Heard.{Request}
 use Rattle.snl_hear.specs.Requests.{Asked, Initialize, Shutdown, DocumentSymbol, Definition, Hover, MethodNotFound}
 use Rattle.snl_hear.specs.Requests as asked
 use Rattle.snl_hover.specs.Hover.{hover_of}

@@ -1,6 +1,5 @@
 -- What is published is found in the text that is kept.
-use Rattle.std.proofs.Common.{◌≡◌, ℕ, Bool, true, false, cond, List, [], ◌∷◌, ◌++◌, map, Option, None, Some, refl, sym, ap, ap₂, ◌∙◌, All}
-use Rattle.std.specs.List.{find, flat_map}
+use Rattle.std.proofs.Common.{◌≡◌, ℕ, Bool, true, false, cond, List, [], ◌∷◌, map, Option, None, Some, refl, sym, ap, ◌∙◌, All}
 use Rattle.std.specs.Option.{option_and_then, option_map_or}
 use Rattle.std.proofs.lemmas.List.Elements.{All-append, All-cons, All-nil}
 use Rattle.serde_json.specs.Data.{Data}
@@ -14,7 +13,7 @@ use Rattle.snl_docs.specs.declared.phase.Phase.TheVariants.{New, Ready, Shut, Go
 use Rattle.snl_docs.specs.declared.question.Question.TheVariants as question
 use Rattle.snl_docs.specs.declared.standing.Standing.{Standing}
 use Rattle.snl_docs.specs.declared.standing.Standing.TheVariants.{Checked, Large, Lost}
-use Rattle.snl_docs.specs.Documents.{Doc, after_changes, document_of, is_named, lost, opened, put, updated, without}
+use Rattle.snl_docs.specs.Documents.{Doc, after_changes, document_of, lost, opened, put, updated, without}
 use Rattle.snl_docs.specs.Known.{IsByText, text_of}
 use Rattle.snl_docs.specs.Replies.{Reply, Publish}
 use Rattle.snl_docs.specs.Served.{Served, after, after_heard, after_note, answer_in, is_ready, replied, replies_to, told_note, told_of, told_of_all, told_of_named, with_docs}

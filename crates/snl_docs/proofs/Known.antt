@@ -1,10 +1,8 @@
 -- Documents by their URIs: that of a changed one, and the others.
-use Rattle.std.proofs.Common.{◌≡◌, ℕ, Bool, true, false, not, cond, List, [], ◌∷◌, map, filter, Option, None, Some, refl, sym, ap, ◌∙◌, arith}
-use Rattle.std.specs.List.{find}
-use Rattle.std.specs.Option.{option_and_then}
+use Rattle.std.proofs.Common.{◌≡◌, ℕ, Bool, true, false, List, [], ◌∷◌, map, None, Some, refl, sym, ◌∙◌, arith}
 use Rattle.std.specs.Str.{bytes_eq}
 use Rattle.snl_facts.specs.Bytes.{same_bytes}
-use Rattle.snl_docs.specs.Documents.{Doc, document_of, is_named, lost, put, updated, without}
+use Rattle.snl_docs.specs.Documents.{Doc, document_of, lost, put, updated, without}
 use Rattle.snl_docs.specs.Known.{text_of}
 
 same_as_itself : (u : List ℕ) → bytes_eq u u ≡ true

@@ -1,12 +1,10 @@
 -- The document of a URI, by its number among the documents.
-use Rattle.std.proofs.Common.{◌≡◌, ℕ, zero, suc, Bool, true, false, cond, List, [], ◌∷◌, ◌++◌, length, get_or, slice_set, Option, None, Some, refl, sym, subst, ap, ◌∙◌, arith}
+use Rattle.std.proofs.Common.{◌≡◌, ℕ, List, [], ◌∷◌, ◌++◌, get_or, slice_set, Option, None, Some, refl, sym, subst, ap, ◌∙◌, arith}
 use Rattle.std.specs.List.{find, position}
-use Rattle.std.specs.Option.{option_map}
 use Rattle.snl_facts.specs.Positions.{position_cons}
 use Rattle.std.specs.Option.{option_map_or}
 use Rattle.snl_place.specs.declared.places.Encoding.{Encoding}
 use Rattle.snl_docs.specs.Documents.{Doc, is_named, put, updated}
-use Rattle.snl_docs.specs.Replies.{Reply}
 use Rattle.snl_docs.specs.Served.{told_of, told_of_named}
 
 pub updated_at : (uri : List ℕ) (change : Doc → Doc) (docs : List Doc) (i : ℕ) (d : Doc) →

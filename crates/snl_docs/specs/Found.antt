@@ -1,5 +1,5 @@
 -- What is found in a text, as it is published.
-use Rattle.std.specs.Prelude.{ℕ, ◌+◌, ◌==◌, List, ◌++◌, length, map, take, Bool, if◌then◌else◌}
+use Rattle.std.specs.Prelude.{ℕ, ◌+◌, ◌==◌, List, ◌++◌, map, take, Bool, if◌then◌else◌}
 use Rattle.std.specs.Option.{option_map_or}
 use Rattle.snl_asked.specs.Tokens.{token_at}
 use Rattle.snl_kept.specs.declared.found.findings.Diagnostic.{Diagnostic}

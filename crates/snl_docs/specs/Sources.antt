@@ -1,5 +1,5 @@
 -- A text with what is kept of it, from which places and tokens are told.
-use Rattle.std.specs.Prelude.{◌≡◌, ℕ, ◌≤◌, length, take}
+use Rattle.std.specs.Prelude.{◌≡◌, ◌≤◌, length, take}
 use Rattle.snl_lex.specs.LineList.{line_ends}
 use Rattle.snl_lex.specs.PieceList.{piece_ends, piece_kinds}
 use Rattle.snl_place.specs.Places.{place_in}

@@ -1,5 +1,5 @@
 -- What a client is told of an open document.
-use Rattle.std.specs.Prelude.{ℕ, List, [], ◌∷◌, ◌++◌, Bool, true, false, Option, Some, None, if◌then◌else◌}
+use Rattle.std.specs.Prelude.{ℕ, List, [], ◌∷◌, ◌++◌, Bool, true, false, Option, if◌then◌else◌}
 use Rattle.std.specs.Option.{option_map_or}
 use Rattle.snl_place.specs.declared.places.Encoding.{Encoding}
 use Rattle.snl_say.specs.declared.severity.Severity.TheVariants.{Error, Warning}

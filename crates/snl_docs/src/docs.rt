@@ -101,10 +101,7 @@ impl Docs {
                 Ok(())
             }
             Message::Response => Ok(()),
-            Message::Request { id, request } => {
-                self.request(id, request, said)?;
-                Ok(())
-            }
+            Message::Request { id, request } => self.request(id, request, said),
             Message::Notification(told) => self.note(told, said),
         }
     }

@@ -1,5 +1,4 @@
 use Rattle.std.proofs.Common.{◌++◌, ◌∙◌, ap}
-use Rattle.snl_say.specs.Answers.{id_data}
 use Rattle.snl_docs.specs.Replies.{Reply, framed_reply}
 use Rattle.snl_docs.proofs.Asked.{answered_found, answered_missed}
 use Rattle.snl_docs.proofs.documents.answer.Goals as goal

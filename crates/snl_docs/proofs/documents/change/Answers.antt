@@ -1,4 +1,4 @@
-use Rattle.std.proofs.Common.{ℕ, List, ◌≡◌, ◌++◌, ◌∙◌, ap, map}
+use Rattle.std.proofs.Common.{List, ◌++◌, ◌∙◌, ap, map}
 use Rattle.std.proofs.lemmas.Result.{on_ok_weaker}
 use Rattle.snl_hear.specs.Changes.{changed_of}
 use Rattle.snl_docs.specs.Documents.{after_changes}

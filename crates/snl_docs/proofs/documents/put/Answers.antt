@@ -1,4 +1,4 @@
-use Rattle.std.proofs.Common.{◌≡◌, sym, arith}
+use Rattle.std.proofs.Common.{sym, arith}
 use Rattle.std.proofs.lemmas.Grind.{common_steps}
 use Rattle.snl_docs.proofs.Named.{put_found, put_missed}
 use Rattle.snl_docs.proofs.documents.put.Goals as goal
