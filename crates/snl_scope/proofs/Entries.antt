@@ -43,36 +43,6 @@ under_same first first' same s None = refl
 under_same first first' same s (Some n) = same.under s n
 
 module _ (names : List (List ℕ)) (first : FirstNumbers) (symbols : List Symbol) (faults : List LinkFault) (es : List Entry) (f : Follows names first symbols faults es) where
-  -- a new name that nothing is declared by yet
-  same_numbers : (name : List ℕ) (s : Namespace) (other : List ℕ) → number_by (with_name names name) first s other ≡ number_by names first s other
-  same_numbers name s other = by (position (bytes_eq name) names)
-    where
-      later : (o : Option ℕ) (b : Bool)
-          → option_and_then (number_under first s) (option_or o (cond b (Some (length names)) None))
-          ≡ option_and_then (number_under first s) o
-      later None true = f.fresh s (length names) (omega arith)
-      later None false = refl
-      later (Some n) b = refl
-
-      by : (o : Option ℕ) → number_by (if is_some o then names else names ++ name ∷ []) first s other ≡ number_by names first s other
-      by None = ap (option_and_then (number_under first s)) (position_push (bytes_eq other) names name) ∙ later (position (bytes_eq other) names) (bytes_eq other name)
-      by (Some n) = refl
-
-  longer : (name : List ℕ) → length names ≤ length (with_name names name)
-  longer name = by (position (bytes_eq name) names)
-    where
-      by : (o : Option ℕ) → length names ≤ length (if is_some o then names else names ++ name ∷ [])
-      by None = omega (arith, length-append names (name ∷ []))
-      by (Some n) = omega arith
-
-  pub follows_name : (name : List ℕ) → Follows (with_name names name) first symbols faults es
-  follows_name name = record {
-    tabled = record { found = λ s other. same_numbers name s other ∙ f.tabled.found s other; inner = f.tabled.inner; known = f.tabled.known };
-    fresh = λ s n h. f.fresh s n (omega (arith, h, longer name));
-    again = f.again;
-    firsts = f.firsts;
-  }
-
   module _ (e : Entry) (k : ℕ) (numbered : position (bytes_eq e.name) names ≡ Some k) where
     -- what the tables have for the entry's name
     here : number_by names first e.namespace e.name ≡ number_under first e.namespace k
@@ -105,7 +75,6 @@ module _ (names : List (List ℕ)) (first : FirstNumbers) (symbols : List Symbol
           inner = λ s n t p. same.under s n ∙ f.tabled.inner s n t (sym (same.inner n) ∙ p);
           known = known_here symbols' h;
         };
-        fresh = λ s n l. same.under s n ∙ f.fresh s n l;
         again = g ∙ ap (λ l. l ++ repetition_at e) f.again
             ∙ sym (repetitions-push [] es e ∙ ap (λ b. repetitions [] es ++ (if b then repetition_at e else [])) seen);
         firsts = numbers ∙ f.firsts ∙ sym (firsts-seen es e seen);
@@ -165,17 +134,9 @@ module _ (names : List (List ℕ)) (first : FirstNumbers) (symbols : List Symbol
                       absurd (true≢false (sym (key_same (key s j)) ∙ ap (λ n. same_key (key s n) (key s j)) m ∙ ap (λ t. same_key (key t k) (key s j)) p.0 ∙ g))
                   differs false t = other t
 
-      none_there : (s : Namespace) (n : ℕ) → length names ≤ n → cond (same_key (key e.namespace k) (key s n)) (Some number) (number_under first s n) ≡ None
-      none_there s n l = by (same_key (key e.namespace k) (key s n)) refl
-        where
-          by : (b : Bool) → same_key (key e.namespace k) (key s n) ≡ b → cond (same_key (key e.namespace k) (key s n)) (Some number) (number_under first s n) ≡ None
-          by true h = let p = (key_true (key e.namespace k) (key s n) h).1 in let w = (position-Some (bytes_eq e.name) names k [] numbered).0 in absurd (omega (arith, l, p, w))
-          by false h = ap (λ b. cond b (Some number) (number_under first s n)) h ∙ f.fresh s n l
-
       pub follows_new : (symbols' : List Symbol) → symbols' ≡ symbols ++ symbol_of e ∷ [] → Follows names first' symbols' faults (es ++ e ∷ [])
       follows_new symbols' h = record {
         tabled = record { found = found; inner = is.inner f.tabled.inner; known = known_here symbols' h };
-        fresh = λ s n l. is.under s n ∙ none_there s n l;
         again = f.again ∙ sym (repetitions-push [] es e ∙ ap (λ b. repetitions [] es ++ (if b then repetition_at e else [])) unseen ∙ append-nil (repetitions [] es));
         firsts = listed ∙ ap (λ l. l ++ number ∷ []) f.firsts ∙ ap (λ n. all_below (is_first_at es) (length es) ++ n ∷ []) counted ∙ sym (firsts-new es e unseen);
       }

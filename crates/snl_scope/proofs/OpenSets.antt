@@ -1,5 +1,5 @@
 -- Lemmas on places: what one more item is to the state set that is open.
-use Rattle.std.proofs.Common.{◌≡◌, ℕ, suc, ◌+◌, ◌<◌, Bool, true, false, not, ◌&&◌, ◌||◌, List, [], ◌∷◌, ◌++◌, Option, None, Some, slice_get, nat_lt, refl, sym, ap, ◌∙◌, arith, length-append, if◌then◌else◌}
+use Rattle.std.proofs.Common.{◌≡◌, ℕ, zero, suc, map, ◌+◌, ◌<◌, Bool, true, false, not, ◌&&◌, ◌||◌, List, [], ◌∷◌, ◌++◌, Option, None, Some, slice_get, nat_lt, refl, sym, ap, ◌∙◌, arith, length-append, if◌then◌else◌}
 use Rattle.std.specs.Option.{option_map_or}
 use borrow.Author.Count.{below_more}
 use Rattle.std.proofs.lemmas.Bool.{lt-ltb}
@@ -7,7 +7,8 @@ use Rattle.snl_scope.specs.BelowLaws.{any_below_none}
 use Rattle.snl_scope.specs.declared.summaries.summary.Outline.{Outline}
 use Rattle.snl_scope.specs.Below.{last_below}
 use Rattle.snl_scope.specs.Places.{begins_set, ends_between, ends_set, is_set_begin, is_set_end, open_before, enclosing_set}
-use Rattle.snl_scope.specs.NameTables.{Placed}
+use Rattle.snl_scope.specs.declared.items.heads.Head.{Head}
+use Rattle.snl_scope.specs.NameTables.{Placed, head_of}
 use Rattle.snl_scope.proofs.Searches.{get-front, get-last, last_below-none, last_below-same, last_below-within, nat_lt-false}
 
 module _ (ss : List Outline) (i : ℕ) where
@@ -75,3 +76,9 @@ placed-push places ss n p h e = record {
       (λ k l. get-front places p k (omega (arith, l, h.len)) ∙ h.each k l)
       (ap (λ m. slice_get (places ++ p ∷ []) m) (sym h.len) ∙ get-last places p ∙ ap Some e);
 }
+
+-- the outline of which a head is told
+pub headed : (ss : List Outline) (i : ℕ) (h : Head) → slice_get (map head_of ss) i ≡ Some h → (s : Outline) × (slice_get ss i ≡ Some s) × (head_of s ≡ h)
+headed [] i h e = absurd cc
+headed (s ∷ ss) zero h e = (s, refl, cc)
+headed (s ∷ ss) (suc i) h e = headed ss i h e

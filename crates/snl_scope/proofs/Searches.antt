@@ -45,3 +45,13 @@ get-front (y ∷ ys) x (suc i) h = get-front ys x i (omega (arith, h))
 pub get-last : {A : Type 0} (xs : List A) (x : A) → slice_get (xs ++ x ∷ []) (length xs) ≡ Some x
 get-last [] x = refl
 get-last (y ∷ ys) x = get-last ys x
+
+pub read-at : {A : Type 0} (xs : List A) (i : ℕ) (x : A) → i < length xs → x ≡ get_or xs i x → slice_get xs i ≡ Some x
+read-at [] i x h e = absurd (not-suc-le-zero h)
+read-at (y ∷ ys) zero x h e = ap Some (sym e)
+read-at (y ∷ ys) (suc i) x h e = read-at ys i x (omega (arith, h)) e
+
+pub index-at : {A : Type 0} (xs : List A) (i : ℕ) (d : A) → i < length xs → slice_get xs i ≡ Some (get_or xs i d)
+index-at [] i d h = absurd (not-suc-le-zero h)
+index-at (y ∷ ys) zero d h = refl
+index-at (y ∷ ys) (suc i) d h = index-at ys i d (omega (arith, h))

@@ -15,6 +15,7 @@ pub mod Hashed
 pub mod Linked
 pub mod View
 pub mod Spoken
+pub mod OutlineList
 pub mod NameTables
 pub mod Resolved
 pub mod Summaries

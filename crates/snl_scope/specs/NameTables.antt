@@ -22,6 +22,7 @@ use Rattle.snl_scope.specs.Below.{all_below, any_below}
 use Rattle.snl_scope.specs.Flags.{declares_flag, is_first_at}
 use Rattle.snl_scope.specs.LinkedItems.{LinkedItems}
 use Rattle.snl_scope.specs.Names.{Entry, number_in, repetitions, same_namespace}
+use Rattle.snl_scope.specs.OutlineList.{name_at}
 use Rattle.snl_scope.specs.Order.{has_begun, is_barred_in_sets, is_main, is_program_item, is_program_word, is_state, is_state_word, phase, phase_of, state_name}
 use Rattle.snl_scope.specs.Places.{ends_set, item_is, enclosing_set, stands_in}
 
@@ -169,13 +170,16 @@ pub record Tabled (names : List (List ℕ)) (first : FirstNumbers) (symbols : Li
 -- them in the order in which they came.
 pub record Follows (names : List (List ℕ)) (first : FirstNumbers) (symbols : List Symbol) (faults : List LinkFault) (es : List Entry) : Type 0 where
   pub tabled : Tabled names first symbols es
-  pub fresh : (s : Namespace) (n : ℕ) → length names ≤ n → number_under first s n ≡ None
   pub again : faults ≡ repetitions [] es
   pub firsts : first.numbers.items ≡ all_below (is_first_at es) (length es)
 
-abbrev pub TablesFollow : NameTables → List Entry → Type 0
-TablesFollow t es = Follows t.names t.first t.symbols.items t.faults.items es
+abbrev pub TablesFollow : List (List ℕ) → NameTables → List Entry → Type 0
+TablesFollow names t es = Follows names t.first t.symbols.items t.faults.items es
 
 -- A name that is handed in, as an entry.
-abbrev pub entry_of : NameEntry → Entry
-entry_of d = record { namespace = d.namespace; name = d.name.now; item = d.item; token = d.token; code = d.code; variable = d.variable }
+abbrev pub entry_of : List (List ℕ) → NameEntry → Entry
+entry_of names d = record { namespace = d.namespace; name = name_at names d.name; item = d.item; token = d.token; code = d.code; variable = d.variable }
+
+-- Where it is, and what it declares.
+abbrev pub symbol_named : NameEntry → Symbol
+symbol_named d = record { namespace = d.namespace; item = d.item; token = d.token; variable = d.variable }

@@ -4,11 +4,12 @@ use Rattle.std.specs.Prelude.{◌≡◌, ℕ, if◌then◌else◌, List, [], ◌
 use Rattle.snl_scope.specs.declared.facts.Assigned.{Assigned}
 use Rattle.snl_scope.specs.declared.clauses.resolved.Resolved.{Resolved}
 use Rattle.snl_scope.specs.ByNumber.{at_number}
+use Rattle.snl_scope.specs.OutlineList.{clause_by}
 use Rattle.snl_scope.specs.Clauses.{LinkedClause, assigned_as, assigns}
 
 -- A clause that is resolved.
 abbrev pub linked : Resolved → LinkedClause
-linked r = record { item = r.item; clause = r.clause.now; variable = r.variable; flag = r.flag }
+linked r = record { item = r.item; clause = clause_by r.outlines.now.names r.clause; variable = r.variable; flag = r.flag }
 
 -- What the first clause that assigns a declaration says of it.
 abbrev pub first_assign : List LinkedClause → ℕ → Option Assigned

@@ -13,6 +13,7 @@ mod laws;
 mod linking;
 mod links;
 mod names;
+mod outlines;
 mod summaries;
 mod view;
 
@@ -25,7 +26,7 @@ pub use laws::place_laws::sets_open_in_turn;
 pub use laws::spelling_laws::same_spelling_same_summary;
 pub use laws::summary_laws::{names_kept_once, plain_state_outline};
 pub use laws::token_laws::{names_are_tokens, targets_rise};
-pub use links::{Links, link};
+pub use links::{Links, link, link_after};
 pub use snl_walk::Source;
 pub use summaries::name::Name;
 pub use summaries::same_outline::same_outline;

@@ -1,6 +1,6 @@
 //! What links are made of that goes by the outlines alone: names first, then clauses.
 
-ghost use Rattle.std.specs.Prelude.{◌≡◌, [], IfOk, map};
+ghost use Rattle.std.specs.Prelude.{◌≡◌, [], IfOk};
 ghost use Rattle.std.specs.List.{zip};
 ghost use Rattle.snl_scope.specs.Claims.{Claimed};
 ghost use Rattle.snl_scope.specs.Clauses.{clause_faults, clause_links, clauses_of, soundness};
@@ -14,12 +14,10 @@ use crate::clauses::flags::flags_of;
 use crate::clauses::resolved::resolved_clauses;
 use crate::clauses::soundness::{JudgedClauses, judged_clauses};
 use crate::facts::{Assigned, ClauseLink, LinkFault};
-use crate::items::heads::heads_of;
 use crate::items::places::places_of;
-use crate::names::ghost_outlines::GhostOutlines;
 use crate::names::name_tables::{NameTables, tables_of};
 use crate::names::scopes::Scopes;
-use crate::summaries::summary::Outline;
+use crate::outlines::outline_list::OutlineList;
 use snl_cut::OutOfMemory;
 use std::alloc::Global;
 
@@ -40,41 +38,26 @@ pub(crate) struct LinkedClauses {
     pub faults: Vec<LinkFault>,
 }
 
-fn ghost_of(outlines: &[&Outline]) -> GhostOutlines
-    ensures { result.outlines ≡ map (λ s. s.now) outlines.now }
-{
-    let mut made_of = GhostOutlines::new();
-    for outline in outlines {
-        made_of = made_of.then(outline);
-    }
-    made_of
-}
-
 /// What the names of all items mean.
-pub(crate) fn linked_names(alloc: Global, outlines: &[&Outline]) -> Result<LinkedNames, OutOfMemory>
-    ensures scopes { IfOk result (λ names. names.scopes ≡ map (λ s. s.now) outlines.now) }
-    ensures flags { IfOk result
-        (λ names. names.flags.items ≡ flags_of (map (λ s. s.now) outlines.now)) }
-    ensures repeated { IfOk result (λ names. names.repeated.items
-        ≡ repetitions [] (entries (map (λ s. s.now) outlines.now))) }
+pub(crate) fn linked_names(alloc: Global, outlines: OutlineList) -> Result<LinkedNames, OutOfMemory>
+    ensures scopes { IfOk result (λ names. names.scopes ≡ outlines.outlines) }
+    ensures flags { IfOk result (λ names. names.flags.items ≡ flags_of outlines.outlines) }
+    ensures repeated { IfOk result
+        (λ names. names.repeated.items ≡ repetitions [] (entries outlines.outlines)) }
 {
-    let places = places_of(alloc, outlines)?;
-    let heads = heads_of(alloc, outlines)?;
-    let tables = tables_of(alloc, outlines, &places)?;
+    let places = places_of(alloc, &outlines)?;
+    let tables = tables_of(alloc, &outlines, &places)?;
     let flags = flags_of(alloc, &tables)?;
     let NameTables {
-        names,
         first,
         symbols,
         faults: repeated,
     } = tables;
     let scopes = Scopes {
         places,
-        heads,
-        names,
+        outlines,
         first,
         symbols,
-        made_of: ghost_of(outlines),
     };
     Ok(LinkedNames {
         scopes,
@@ -87,16 +70,14 @@ pub(crate) fn linked_names(alloc: Global, outlines: &[&Outline]) -> Result<Linke
 pub(crate) fn linked_clauses(
     alloc: Global,
     scopes: &Scopes,
-    outlines: &[&Outline],
 ) -> Result<LinkedClauses, OutOfMemory>
-    requires { scopes.now ≡ map (λ s. s.now) outlines.now }
     ensures clauses { IfOk result (λ made. made.clauses.items ≡ clause_links scopes.now) }
     ensures claims { IfOk result
         (λ made. Claimed made.claims (zip (clauses_of scopes.now) (soundness scopes.now))) }
     ensures assigned { IfOk result (λ made. Assigns made.assigned.items (clauses_of scopes.now)) }
     ensures found { IfOk result (λ made. made.faults.items ≡ clause_faults scopes.now) }
 {
-    let resolved = resolved_clauses(alloc, scopes, outlines)?;
+    let resolved = resolved_clauses(alloc, scopes)?;
     let assigned = assigned_in(alloc, &resolved)?;
     let mut faults = Vec::new(alloc);
     let JudgedClauses { links, claims } = judged_clauses(

@@ -2,7 +2,7 @@
 //! All but the findings goes by the outlines alone, so links stay where no outline changes; other
 //! kinds can be put in place.
 
-ghost use Rattle.std.specs.Prelude.{◌≡◌, [], length, map, IfOk, option_and_then, option_map};
+ghost use Rattle.std.specs.Prelude.{◌≡◌, ◌≤◌, ◌++◌, [], drop, length, map, take, IfOk, option_and_then, option_map};
 ghost use Rattle.std.specs.List.{zip};
 ghost use Rattle.snl_scope.specs.Claims.{Claimed};
 ghost use Rattle.snl_scope.specs.Clauses.{clause_faults, clause_links, clauses_of, soundness};
@@ -17,12 +17,14 @@ use crate::clauses::clause_index::{ClauseIndex, Purpose};
 use crate::clauses::flags::flag_number;
 use crate::facts::{Assigned, ClauseLink, Declaration, Fact, Level, LinkFault, NameKind, Scope};
 use crate::findings::all_faults;
-use crate::items::linked_items::{kinds_of, outlines_of};
+use crate::items::linked_items::kinds_of;
 use crate::linking::{LinkedClauses, LinkedNames, linked_clauses, linked_names};
 use crate::names::name_tables::Symbol;
 use crate::names::namespaces::Namespace;
 use crate::names::scopes::Scopes;
-use crate::summaries::summary::{ItemKind, Outline, Summary, SymbolKind};
+use crate::outlines::making::spliced;
+use crate::outlines::outline_list::OutlineList;
+use crate::summaries::summary::{ItemKind, Summary, SymbolKind};
 use snl_cut::OutOfMemory;
 use std::alloc::Global;
 use std::marker::Model;
@@ -373,9 +375,7 @@ fn clauses_and_faults(
     alloc: Global,
     kinds: &[ItemKind],
     names: &LinkedNames,
-    outlines: &[&Outline],
 ) -> Result<(LinkedClauses, Vec<LinkFault>), OutOfMemory>
-    requires scopes { names.now.scopes ≡ map (λ s. s.now) outlines.now }
     requires repeated { names.now.repeated.items ≡ repetitions [] (entries names.now.scopes) }
     requires kinds { length kinds.now ≡ length names.now.scopes }
     ensures clauses { IfOk result (λ made. made.0.clauses.items ≡ clause_links names.now.scopes) }
@@ -388,7 +388,7 @@ fn clauses_and_faults(
     ensures faults { IfOk result (λ made. made.1.items
         ≡ faults_of (record { outlines = names.now.scopes; kinds = kinds.now })) }
 {
-    let made = linked_clauses(alloc, &names.scopes, outlines)?;
+    let made = linked_clauses(alloc, &names.scopes)?;
     let faults = all_faults(alloc, &names.scopes, kinds, &names.repeated, &made.faults)?;
     Ok((made, faults))
 }
@@ -396,14 +396,14 @@ fn clauses_and_faults(
 fn link_outlines(
     alloc: Global,
     kinds: Vec<ItemKind>,
-    outlines: &[&Outline],
+    outlines: OutlineList,
 ) -> Result<Links, OutOfMemory>
-    requires { length kinds.items ≡ length outlines.now }
+    requires { length kinds.items ≡ length outlines.outlines }
     ensures { IfOk result
-        (λ l. l ≡ record { outlines = map (λ s. s.now) outlines.now; kinds = kinds.items }) }
+        (λ l. l ≡ record { outlines = outlines.outlines; kinds = kinds.items }) }
 {
     let names = linked_names(alloc, outlines)?;
-    let (made, faults) = clauses_and_faults(alloc, &kinds, &names, outlines)?;
+    let (made, faults) = clauses_and_faults(alloc, &kinds, &names)?;
     Ok(links_of(kinds, names, made, faults))
 }
 
@@ -412,6 +412,32 @@ pub fn link(alloc: Global, summaries: &[&Summary]) -> Result<Links, OutOfMemory>
     ensures { IfOk result (λ l. l ≡ linked_items (map (λ s. s.now) summaries.now)) }
 {
     let kinds = kinds_of(alloc, summaries)?;
-    let outlines = outlines_of(alloc, summaries)?;
-    link_outlines(alloc, kinds, &outlines)
+    let outlines = OutlineList::of(alloc, summaries)?;
+    link_outlines(alloc, kinds, outlines)
+}
+
+/// The same after an edit: the items from `front` up to `back` are replaced by those that these
+/// summaries tell of. The names that are in both keep their numbers, so that no other item is
+/// looked at for its names.
+pub fn link_after(
+    alloc: Global,
+    before: &Links,
+    front: usize,
+    back: usize,
+    made: &[&Summary],
+) -> Result<Links, OutOfMemory>
+    requires order { front ≤ back }
+    requires inside { back ≤ length before.now.outlines }
+    requires kinds { length before.now.kinds ≡ length before.now.outlines }
+    ensures { IfOk result (λ l. l ≡ record {
+        outlines = take front before.now.outlines
+            ++ (map (λ s. s.now.outline) made.now ++ drop back before.now.outlines);
+        kinds = take front before.now.kinds
+            ++ (map (λ s. s.now.kind) made.now ++ drop back before.now.kinds)
+    }) }
+{
+    let made_kinds = kinds_of(alloc, made)?;
+    let kinds = spliced(alloc, &before.kinds, front, back, &made_kinds)?;
+    let outlines = before.scopes.outlines.after(alloc, front, back, made)?;
+    link_outlines(alloc, kinds, outlines)
 }

@@ -1,7 +1,7 @@
 //! The event flags: the tables of names come in, and the numbers of the entries that are event
 //! flags go out, in the order of the text. It doesn't know how names are found.
 
-ghost use Rattle.std.specs.Prelude.{◌≡◌, suc, IfOk, List, nat_eq, option_map, position};
+ghost use Rattle.std.specs.Prelude.{◌≡◌, ℕ, suc, IfOk, List, nat_eq, option_map, position};
 ghost use Rattle.std.specs.List.Sorted.{IsStrictlyIncreasing};
 ghost use Rattle.snl_scope.specs.declared.summaries.summary.Outline.{Outline};
 ghost use Rattle.snl_scope.specs.Flags.{declares_flag, flags_of};
@@ -36,8 +36,8 @@ fn flag_stands(symbols: &[Symbol], number: usize) -> bool
 /// The numbers of the entries that are event flags. The tables list the first of each name in its
 /// namespace, in the order of the text.
 pub(crate) fn flags_of(alloc: Global, tables: &NameTables) -> Result<Vec<usize>, OutOfMemory>
-    ensures { IfOk result (λ flags. (ss : List Outline)
-        → TablesFollow tables.now (entries ss)
+    ensures { IfOk result (λ flags. (names : List (List ℕ)) (ss : List Outline)
+        → TablesFollow names tables.now (entries ss)
         → flags.items ≡ flags_of ss) }
 {
     let mut flags = Vec::new(alloc);

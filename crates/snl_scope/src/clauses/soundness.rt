@@ -17,7 +17,8 @@ use crate::clauses::clause_index::{ClauseIndex, purpose_of};
 use crate::clauses::resolved::Resolved;
 use crate::facts::{Assigned, ClauseLink, LinkFault};
 use crate::names::scopes::Scopes;
-use crate::summaries::summary::{ClauseKind, Coverage, Dims, SymbolKind, Variable, VariableClause};
+use crate::outlines::flat::FlatClause;
+use crate::summaries::summary::{ClauseKind, Coverage, Dims, SymbolKind, Variable};
 use snl_codes::Code;
 use snl_cut::OutOfMemory;
 use std::alloc::Global;
@@ -61,16 +62,16 @@ fn repetition_code(kind: ClauseKind) -> Code
 
 // What a clause gives at a variable that is declared: the first rule that holds.
 fn code_on(
-    clause: &VariableClause,
+    clause: FlatClause,
     variable: Variable,
     is_assigned: bool,
     is_repeated: bool,
 ) -> Option<Code>
-    ensures { result ≡ (if is_assign clause.now.kind && not (is_assignable variable.symbol_kind)
+    ensures { result ≡ (if is_assign clause.kind && not (is_assignable variable.symbol_kind)
         then Some Code.E15
-        else if misfits variable.dims clause.now.coverage then Some Code.E16
-        else if not (is_assign clause.now.kind) && not is_assigned then Some Code.E13
-        else if is_repeated then Some (repetition_code clause.now.kind)
+        else if misfits variable.dims clause.coverage then Some Code.E16
+        else if not (is_assign clause.kind) && not is_assigned then Some Code.E13
+        else if is_repeated then Some (repetition_code clause.kind)
         else None) }
 {
     let assigns = is_assign(clause.kind);
@@ -133,7 +134,7 @@ fn add_at_variable(
     faults: &mut Vec<LinkFault>,
 ) -> Result<(), OutOfMemory>
     ensures { OnOk result (faults.new.items ≡ faults.old.items
-        ++ map (at_name_ref clause.entry.item clause.entry.clause.now.variable)
+        ++ map (at_name_ref clause.entry.item (linked clause.entry).clause.variable)
         (option_to_list code)) }
 {
     if let Some(code) = code {
@@ -155,10 +156,10 @@ fn add_at_flag(
     ensures { OnOk result (faults.new.items ≡ faults.old.items
         ++ (if is_wrong
         then map (λ m. at_name_ref clause.entry.item m Code.E14)
-        (option_to_list clause.entry.clause.now.flag)
+        (option_to_list (linked clause.entry).clause.flag)
         else [])) }
 {
-    match &clause.clause.flag {
+    match clause.clause.flag {
         Some(flag) if is_wrong => {
             faults.push(LinkFault {
                 item: clause.item,

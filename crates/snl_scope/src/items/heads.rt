@@ -1,11 +1,9 @@
-//! What the order of items asks of their outlines, in flat lists.
+//! What the order of items asks of their outlines.
 
-ghost use Rattle.std.specs.Prelude.{◌≡◌, IfOk, map};
-ghost use Rattle.snl_scope.specs.NameTables.{head_of, is_sought_head};
+ghost use Rattle.std.specs.Prelude.{◌≡◌};
+ghost use Rattle.snl_scope.specs.NameTables.{is_sought_head};
 
-use crate::summaries::summary::{Opening, Outline, Role};
-use snl_cut::OutOfMemory;
-use std::alloc::Global;
+use crate::summaries::summary::{Opening, Role};
 
 /// What an outline says of the order of items.
 #[derive(Clone, Copy)]
@@ -14,27 +12,6 @@ pub(crate) struct Head {
     pub opening: Opening,
     /// Whether its second token is a name.
     pub is_named: bool,
-}
-
-fn head_of(outline: &Outline) -> Head
-    ensures { result ≡ head_of outline.now }
-{
-    Head {
-        role: outline.role,
-        opening: outline.opening,
-        is_named: outline.second.is_some(),
-    }
-}
-
-/// The heads of all items.
-pub(crate) fn heads_of(alloc: Global, outlines: &[&Outline]) -> Result<Vec<Head>, OutOfMemory>
-    ensures { IfOk result (λ heads. heads.items ≡ map (λ s. head_of s.now) outlines.now) }
-{
-    let mut heads = Vec::with_capacity(alloc, outlines.len())?;
-    for outline in outlines {
-        heads.push(head_of(outline))?;
-    }
-    Ok(heads)
 }
 
 /// What is sought in state sets.

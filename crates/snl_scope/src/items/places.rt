@@ -1,10 +1,11 @@
 //! The state set that each item is in.
 
-ghost use Rattle.std.specs.Prelude.{◌≡◌, ◌<◌, IfOk, Some, None, if◌then◌else◌, length, map};
+ghost use Rattle.std.specs.Prelude.{◌≡◌, IfOk, Some, None, if◌then◌else◌, length};
 ghost use Rattle.snl_scope.specs.Places.{begins_set, ends_set};
 ghost use Rattle.snl_scope.specs.NameTables.{Placed};
 
-use crate::summaries::summary::{Outline, Role};
+use crate::outlines::outline_list::OutlineList;
+use crate::summaries::summary::Role;
 use snl_cut::OutOfMemory;
 use std::alloc::Global;
 
@@ -33,17 +34,18 @@ fn open_after(role: Role, item: usize, outer: Option<usize>) -> Option<usize>
 /// The places of all items.
 pub(crate) fn places_of(
     alloc: Global,
-    outlines: &[&Outline],
+    outlines: &OutlineList,
 ) -> Result<Vec<Option<usize>>, OutOfMemory>
-    ensures { IfOk result
-        (λ places. Placed places.items (map (λ s. s.now) outlines.now) (length outlines.now)) }
+    ensures { IfOk result (λ places.
+        Placed places.items outlines.now.outlines (length outlines.now.outlines)) }
 {
-    let mut places = Vec::with_capacity(alloc, outlines.len())?;
+    let count = outlines.count();
+    let mut places = Vec::with_capacity(alloc, count)?;
     let mut outer = None;
-    for item in 0..outlines.len() {
-        let outline = outlines[item];
-        places.push(place_in(outline.role, outer))?;
-        outer = open_after(outline.role, item, outer);
+    for item in 0..count {
+        let role = outlines.head(item).role;
+        places.push(place_in(role, outer))?;
+        outer = open_after(role, item, outer);
     }
     Ok(places)
 }

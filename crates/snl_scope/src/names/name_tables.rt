@@ -1,29 +1,33 @@
 //! The names of all namespaces, with where each comes first.
 
-ghost use Rattle.std.specs.Prelude.{◌≡◌, ◌++◌, ◌∷◌, [], List, OnOk, IfOk, if◌then◌else◌, length, map, option_copied};
+ghost use Rattle.std.specs.Prelude.{◌≡◌, ◌++◌, ◌∷◌, [], ◌<◌, ℕ, List, OnOk, IfOk, IfSome, Some, if◌then◌else◌, length, map, option_map};
+ghost use Rattle.std.specs.List.{AllByRecursion as Each};
+ghost use Rattle.snl_scope.specs.OutlineList.{Differ, IsNumbered, declared_by, name_at, outline_by, outline_of};
 ghost use Rattle.snl_scope.specs.Names.{Entry, declared_entry, entries, entries_of, has_own_scope, repetition_at, scope_at, scope_code, scope_of, set_entries, set_name, state_entries};
 ghost use Rattle.snl_scope.specs.Order.{state_name};
 ghost use Rattle.snl_scope.specs.Places as Places;
 ghost use Rattle.snl_scope.specs.declared.summaries.summary.Outline.{Outline};
 ghost use Rattle.snl_codes.specs.declared.code.Code.{Code};
 ghost use Rattle.snl_scope.specs.declared.names.namespaces.Namespace.{Namespace};
-ghost use Rattle.snl_scope.specs.NameTables.{Placed, TablesFollow, entry_of, number_by, symbol_of};
+ghost use Rattle.snl_scope.specs.NameTables.{Placed, TablesFollow, entry_of, symbol_named};
 
 use crate::facts::LinkFault;
 use crate::names::first_numbers::FirstNumbers;
 use crate::names::namespaces::{Namespace, QualifiedName};
-use crate::names::numbered_names::NumberedNames;
-use crate::summaries::summary::{Declared, Opening, Outline, Role, Variable};
+use crate::outlines::cursor::{Cursor, ToldOutline};
+use crate::outlines::flat::{FlatDeclared, FlatOutline};
+use crate::outlines::outline_list::OutlineList;
+use crate::summaries::summary::{Opening, Role, Variable};
 use snl_codes::Code;
 use snl_cut::OutOfMemory;
 use std::alloc::Global;
 
-/// A name that an item brings into a namespace: `code` is what it gives where an earlier one has
+/// A name that an item brings into a namespace, by its number: `code` is what it gives where an earlier one has
 /// the name, and `variable` is what a declaration says of it.
 #[derive(Clone, Copy)]
-pub(crate) struct NameEntry<'a> {
+pub(crate) struct NameEntry {
     pub namespace: Namespace,
-    pub name: &'a [u8],
+    pub name: usize,
     pub item: usize,
     pub token: usize,
     pub code: Option<Code>,
@@ -43,14 +47,13 @@ pub(crate) struct Symbol {
 /// for each number where it is, and the findings at those that came again.
 #[derive(Drop)]
 pub(crate) struct NameTables {
-    pub names: NumberedNames,
     pub first: FirstNumbers,
     pub symbols: Vec<Symbol>,
     pub faults: Vec<LinkFault>,
 }
 
 fn symbol_of(named: NameEntry) -> Symbol
-    ensures { result ≡ symbol_of (entry_of named.entry) }
+    ensures { result ≡ symbol_named named }
 {
     Symbol {
         namespace: named.namespace,
@@ -60,22 +63,10 @@ fn symbol_of(named: NameEntry) -> Symbol
     }
 }
 
-/// The number of the first that came with a name in a namespace.
-pub(crate) fn number_in(
-    names: &NumberedNames,
-    first: &FirstNumbers,
-    namespace: Namespace,
-    name: &[u8],
-) -> Option<usize>
-    ensures { result ≡ number_by names.now first.now namespace name.now }
-{
-    first.number_under(namespace, names.number(name)?)
-}
-
 // Adds what a name gives that came again.
 fn add_repetition(named: NameEntry, faults: &mut Vec<LinkFault>) -> Result<(), OutOfMemory>
-    ensures { OnOk result (faults.new.items ≡ faults.old.items
-        ++ repetition_at (entry_of named.entry)) }
+    ensures { OnOk result ((names : List (List ℕ))
+        → faults.new.items ≡ faults.old.items ++ repetition_at (entry_of names named)) }
 {
     if let Some(code) = named.code {
         faults.push(LinkFault {
@@ -118,21 +109,26 @@ fn scope_code(scope: Namespace) -> Option<Code>
     }
 }
 
-fn set_name(outline: &Outline) -> Option<&[u8]>
-    ensures { option_copied result ≡ set_name outline.now }
+// The name of the state set that an item begins.
+fn set_name(head: FlatOutline) -> Option<usize>
+    ensures name { (names : List (List ℕ))
+        → option_map (name_at names) result ≡ set_name (outline_by names head [] []) }
+    ensures second { IfSome result (λ n. head.second ≡ Some n) }
 {
-    match outline.role {
-        Role::SetBegin => outline.second.as_ref().map(|name| name.get().bytes()),
+    match head.role {
+        Role::SetBegin => head.second,
         _ => None,
     }
 }
 
 // The name of the state that an item is, faulty or not.
-fn state_name(outline: &Outline) -> Option<&[u8]>
-    ensures { option_copied result ≡ state_name outline.now }
+fn state_name(head: FlatOutline) -> Option<usize>
+    ensures name { (names : List (List ℕ))
+        → option_map (name_at names) result ≡ state_name (outline_by names head [] []) }
+    ensures second { IfSome result (λ n. head.second ≡ Some n) }
 {
-    match outline.opening {
-        Opening::State => outline.second.as_ref().map(|name| name.get().bytes()),
+    match head.opening {
+        Opening::State => head.second,
         _ => None,
     }
 }
@@ -143,28 +139,26 @@ const FEW_NAMES: usize = 1024;
 impl NameTables {
     /// With room for so many symbols. How many different names there are among them isn't known.
     pub(crate) fn new(alloc: Global, room: usize) -> Result<NameTables, OutOfMemory>
-        ensures { IfOk result (λ t. TablesFollow t []) }
+        ensures { IfOk result (λ t. (names : List (List ℕ)) → TablesFollow names t []) }
     {
         let few = room.min(FEW_NAMES);
         let symbols = Vec::with_capacity(alloc, room)?;
         Ok(NameTables {
-            names: NumberedNames::with_room(alloc, few)?,
             first: FirstNumbers::with_room(alloc, few)?,
             symbols,
             faults: Vec::new(alloc),
         })
     }
 
-    fn add(&mut self, alloc: Global, named: NameEntry) -> Result<(), OutOfMemory>
-        ensures { OnOk result ((es : List Entry)
-            → TablesFollow self.old es
-            → TablesFollow self.new (es ++ entry_of named.entry ∷ [])) }
+    fn add(&mut self, named: NameEntry) -> Result<(), OutOfMemory>
+        ensures { OnOk result ((names : List (List ℕ)) (es : List Entry)
+            → Differ names → named.name < length names → TablesFollow names self.old es
+            → TablesFollow names self.new (es ++ entry_of names named ∷ [])) }
     {
         let number = self.symbols.len();
-        let name = self.names.add(alloc, named.name)?;
         let key = QualifiedName {
             namespace: named.namespace,
-            name,
+            name: named.name,
         };
         let came_before = self.first.add(key, number)?;
         if came_before {
@@ -175,51 +169,48 @@ impl NameTables {
     }
 
     // Adds the name of the state set that an item begins.
-    fn add_set(&mut self, alloc: Global, item: usize, outline: &Outline) -> Result<(), OutOfMemory>
-        ensures { OnOk result ((es : List Entry)
-            → TablesFollow self.old es
-            → TablesFollow self.new (es ++ set_entries item outline.now)) }
+    fn add_set(&mut self, item: usize, head: FlatOutline) -> Result<(), OutOfMemory>
+        ensures { OnOk result ((names : List (List ℕ)) (es : List Entry)
+            → Differ names → IfSome head.second (λ n. n < length names)
+            → TablesFollow names self.old es
+            → TablesFollow names self.new
+            (es ++ set_entries item (outline_by names head [] []))) }
     {
-        match set_name(outline) {
+        match set_name(head) {
             None => Ok(()),
-            Some(name) => self.add(
-                alloc,
-                NameEntry {
-                    namespace: Namespace::Sets,
-                    name,
-                    item,
-                    token: 1,
-                    code: Some(Code::E08),
-                    variable: None,
-                },
-            ),
+            Some(name) => self.add(NameEntry {
+                namespace: Namespace::Sets,
+                name,
+                item,
+                token: 1,
+                code: Some(Code::E08),
+                variable: None,
+            }),
         }
     }
 
     // Adds the name of the state that an item is, if it is in a state set.
     fn add_state(
         &mut self,
-        alloc: Global,
         enclosing_set: Option<usize>,
         item: usize,
-        outline: &Outline,
+        head: FlatOutline,
     ) -> Result<(), OutOfMemory>
-        ensures { OnOk result ((es : List Entry)
-            → TablesFollow self.old es
-            → TablesFollow self.new (es ++ state_entries enclosing_set item outline.now)) }
+        ensures { OnOk result ((names : List (List ℕ)) (es : List Entry)
+            → Differ names → IfSome head.second (λ n. n < length names)
+            → TablesFollow names self.old es
+            → TablesFollow names self.new
+            (es ++ state_entries enclosing_set item (outline_by names head [] []))) }
     {
-        match (enclosing_set, state_name(outline)) {
-            (Some(set), Some(name)) => self.add(
-                alloc,
-                NameEntry {
-                    namespace: Namespace::States(set),
-                    name,
-                    item,
-                    token: 1,
-                    code: Some(Code::E09),
-                    variable: None,
-                },
-            ),
+        match (enclosing_set, state_name(head)) {
+            (Some(set), Some(name)) => self.add(NameEntry {
+                namespace: Namespace::States(set),
+                name,
+                item,
+                token: 1,
+                code: Some(Code::E09),
+                variable: None,
+            }),
             _ => Ok(()),
         }
     }
@@ -227,64 +218,63 @@ impl NameTables {
     // Adds the names that an item declares in a scope.
     fn add_declared(
         &mut self,
-        alloc: Global,
         scope: Namespace,
         item: usize,
-        declares: &[Declared],
+        declares: &[FlatDeclared],
     ) -> Result<(), OutOfMemory>
-        ensures { OnOk result ((es : List Entry)
-            → TablesFollow self.old es
-            → TablesFollow self.new (es ++ map (declared_entry scope item) declares.now)) }
+        ensures { OnOk result ((names : List (List ℕ)) (es : List Entry)
+            → Differ names → Each (λ d. d.name < length names) declares.now
+            → TablesFollow names self.old es
+            → TablesFollow names self.new
+            (es ++ map (declared_entry scope item) (map (declared_by names) declares.now))) }
     {
         for declared in declares {
-            self.add(
-                alloc,
-                NameEntry {
-                    namespace: scope,
-                    name: declared.name.bytes(),
-                    item,
-                    token: declared.token,
-                    code: scope_code(scope),
-                    variable: Some(declared.variable),
-                },
-            )?;
+            self.add(NameEntry {
+                namespace: scope,
+                name: declared.name,
+                item,
+                token: declared.token,
+                code: scope_code(scope),
+                variable: Some(declared.variable),
+            })?;
         }
         Ok(())
     }
 
     fn add_item(
         &mut self,
-        alloc: Global,
         enclosing_set: Option<usize>,
         item: usize,
-        outline: &Outline,
+        told: ToldOutline<'_>,
     ) -> Result<(), OutOfMemory>
-        ensures { OnOk result ((ss : List Outline)
-            → enclosing_set ≡ Places.enclosing_set ss item → (es : List Entry)
-            → TablesFollow self.old es
-            → TablesFollow self.new (es ++ entries_of ss item outline.now)) }
+        ensures { OnOk result ((names : List (List ℕ)) (ss : List Outline) (es : List Entry)
+            → Differ names → IsNumbered names told.entry
+            → enclosing_set ≡ Places.enclosing_set ss item
+            → TablesFollow names self.old es
+            → TablesFollow names self.new
+            (es ++ entries_of ss item (outline_of names told.entry))) }
     {
-        self.add_set(alloc, item, outline)?;
-        self.add_state(alloc, enclosing_set, item, outline)?;
-        let scope = scope_of(outline.role, item, enclosing_set);
-        self.add_declared(alloc, scope, item, outline.declares.as_slice())?;
+        self.add_set(item, told.head)?;
+        self.add_state(enclosing_set, item, told.head)?;
+        let scope = scope_of(told.head.role, item, enclosing_set);
+        self.add_declared(scope, item, told.declares)?;
         Ok(())
     }
 }
 
 // How many symbols an item brings: the name of a state set or of a state, and what is declared.
-fn symbol_count(enclosing_set: Option<usize>, outline: &Outline) -> usize {
-    let is_named = set_name(outline).is_some()
-        || enclosing_set.is_some() && state_name(outline).is_some();
+fn symbol_count(enclosing_set: Option<usize>, head: FlatOutline) -> usize {
+    let is_named = set_name(head).is_some()
+        || enclosing_set.is_some() && state_name(head).is_some();
     let names = if is_named { 1 } else { 0 };
-    outline.declares.len().saturating_add(names)
+    head.declares.saturating_add(names)
 }
 
 // How many all items bring, for which room is made.
-fn symbol_counts(outlines: &[&Outline], places: &[Option<usize>]) -> usize {
+fn symbol_counts(outlines: &OutlineList, places: &[Option<usize>]) -> usize {
     let mut count = 0usize;
-    for (outline, place) in outlines.iter().zip(places) {
-        count = count.saturating_add(symbol_count(*place, outline));
+    for (head, place) in outlines.heads.iter().zip(places) {
+        count = count.saturating_add(symbol_count(*place, *head));
     }
     count
 }
@@ -292,16 +282,19 @@ fn symbol_counts(outlines: &[&Outline], places: &[Option<usize>]) -> usize {
 /// The tables of all items.
 pub(crate) fn tables_of(
     alloc: Global,
-    outlines: &[&Outline],
+    outlines: &OutlineList,
     places: &[Option<usize>],
 ) -> Result<NameTables, OutOfMemory>
-    requires { Placed places.now (map (λ s. s.now) outlines.now) (length outlines.now) }
-    ensures { IfOk result (λ t. TablesFollow t (entries (map (λ s. s.now) outlines.now))) }
+    requires { Placed places.now outlines.now.outlines (length outlines.now.outlines) }
+    ensures { IfOk result
+        (λ t. TablesFollow outlines.now.names t (entries outlines.now.outlines)) }
 {
+    outlines.differ();
     let mut tables = NameTables::new(alloc, symbol_counts(outlines, places))?;
-    for item in 0..outlines.len() {
-        let outline = outlines[item];
-        tables.add_item(alloc, places[item], item, outline)?;
+    let mut at = Cursor::first();
+    for item in 0..outlines.count() {
+        tables.add_item(places[item], item, outlines.told(at))?;
+        at = outlines.next(at);
     }
     Ok(tables)
 }

@@ -1,6 +1,6 @@
 //! Names with numbers, in the order in which they came first.
 
-ghost use Rattle.std.specs.Prelude.{◌≡◌, [], ◌∷◌, ◌++◌, OnErr, OnOk, IfOk, None, Some, bytes_eq, length, position};
+ghost use Rattle.std.specs.Prelude.{◌≡◌, [], ◌∷◌, ◌++◌, ◌<◌, ℕ, OnErr, OnOk, IfOk, None, Some, bytes_eq, get_or, length, position, slice_get};
 ghost use Rattle.snl_scope.specs.NameTables.{with_name};
 ghost use Rattle.snl_scope.specs.Prints.{last_with};
 ghost use Rattle.snl_walk.specs.Prints.{print_of};
@@ -107,10 +107,11 @@ impl NumberedNames {
     }
 
     /// The number of a name, which is taken in if it is new.
-    pub(crate) fn add(&mut self, alloc: Global, name: &[u8]) -> Result<usize, OutOfMemory>
+    pub(crate) fn add(&mut self, name: &[u8]) -> Result<usize, OutOfMemory>
         ensures names { OnOk result (self.new ≡ with_name self.old name.now) }
         ensures number { IfOk result (λ n. position (bytes_eq name.now) self.new ≡ Some n) }
     {
+        let alloc = *self.names.allocator();
         let print = print_of(name);
         let earlier = self.last.get(&print).copied();
         match self.number_among(name, earlier) {
@@ -121,4 +122,34 @@ impl NumberedNames {
             }
         }
     }
+
+    pub(crate) fn new(alloc: Global) -> NumberedNames
+        ensures { result ≡ [] }
+    {
+        NumberedNames { names: Vec::new(alloc), earlier: Vec::new(alloc), last: IndexMap::new(alloc) }
+    }
+
+    pub(crate) fn copied(&self, alloc: Global) -> Result<NumberedNames, OutOfMemory>
+        ensures { IfOk result (λ b. b ≡ self.now) }
+    {
+        NumberedNames::with_room(alloc, 1)
+    }
+
+    pub(crate) fn count(&self) -> usize
+        ensures { result ≡ length self.now }
+    {
+        self.names.len()
+    }
+
+    pub(crate) fn name(&self, number: usize) -> &[u8]
+        requires { number < length self.now }
+        ensures { slice_get self.now number ≡ Some result.now }
+    {
+        self.names[number].bytes()
+    }
+
+    pub(crate) fn differ(&self)
+        ensures { (n : ℕ) → n < length self.now
+            → position (bytes_eq (get_or self.now n [])) self.now ≡ Some n }
+    {}
 }

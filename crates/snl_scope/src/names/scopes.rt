@@ -4,21 +4,18 @@ ghost use Rattle.std.specs.Prelude.{◌≡◌};
 
 use crate::items::heads::{Head, Sought, is_sought};
 use crate::names::first_numbers::FirstNumbers;
-use crate::names::ghost_outlines::GhostOutlines;
-use crate::names::name_tables::{Symbol, number_in};
+use crate::names::name_tables::Symbol;
 use crate::names::namespaces::Namespace;
-use crate::names::numbered_names::NumberedNames;
+use crate::outlines::outline_list::OutlineList;
 use crate::summaries::summary::{Role, Variable};
 use std::marker::Model;
 
 /// The finished tables of all items, which contracts see as the list of their outlines.
 pub(crate) struct Scopes {
     pub places: Vec<Option<usize>>,
-    pub heads: Vec<Head>,
-    pub names: NumberedNames,
+    pub outlines: OutlineList,
     pub first: FirstNumbers,
     pub symbols: Vec<Symbol>,
-    pub made_of: GhostOutlines,
 }
 
 // By hand, so that whoever holds tables need not know what is in them to let them go.
@@ -26,28 +23,25 @@ impl Drop for Scopes {
     fn drop(self) {
         let Scopes {
             places: _,
-            heads: _,
-            names: _,
+            outlines: _,
             first: _,
             symbols: _,
-            made_of: _,
         } = self;
     }
 }
 
 impl Model for Scopes {
-    ghost use Rattle.std.specs.Prelude.{List, length, map, ◌≡◌};
+    ghost use Rattle.std.specs.Prelude.{List, length};
     ghost use Rattle.snl_scope.specs.declared.summaries.summary.Outline.{Outline};
     ghost use Rattle.snl_scope.specs.Names.{entries};
-    ghost use Rattle.snl_scope.specs.NameTables.{Placed, Tabled, head_of};
+    ghost use Rattle.snl_scope.specs.NameTables.{Placed, Tabled};
 
     ghost Value = { List Outline };
 
-    ghost view = { λ a. a.made_of.outlines };
+    ghost view = { λ a. a.outlines.outlines };
 
-    ghost invariant = { λ a. Placed a.places.items a.made_of.outlines (length a.made_of.outlines)
-        × (a.heads.items ≡ map head_of a.made_of.outlines)
-        × Tabled a.names a.first a.symbols.items (entries a.made_of.outlines) };
+    ghost invariant = { λ a. Placed a.places.items a.outlines.outlines (length a.outlines.outlines)
+        × Tabled a.outlines.names a.first a.symbols.items (entries a.outlines.outlines) };
 }
 
 impl Scopes {
@@ -80,7 +74,7 @@ impl Scopes {
     pub(crate) fn item_count(&self) -> usize
         ensures { result ≡ length self.now }
     {
-        self.heads.len()
+        self.outlines.count()
     }
 
     /// What the outline of an item says of the order of items.
@@ -88,14 +82,14 @@ impl Scopes {
         requires { item < length self.now }
         ensures { slice_get (map head_of self.now) item ≡ Some result }
     {
-        self.heads[item]
+        self.outlines.head(item)
     }
 
     /// Whether an item begins a state set.
     pub(crate) fn begins_set(&self, item: usize) -> bool
         ensures { result ≡ is_set_begin self.now item }
     {
-        match self.heads.get(item) {
+        match self.outlines.head_at(item) {
             Some(head) => matches!(head.role, Role::SetBegin),
             None => false,
         }
@@ -105,8 +99,8 @@ impl Scopes {
     pub(crate) fn is_named_state(&self, item: usize) -> bool
         ensures { result ≡ is_named_state self.now item }
     {
-        match self.heads.get(item) {
-            Some(head) => is_sought(Sought::State, *head),
+        match self.outlines.head_at(item) {
+            Some(head) => is_sought(Sought::State, head),
             None => false,
         }
     }
@@ -115,7 +109,7 @@ impl Scopes {
     pub(crate) fn number_in(&self, namespace: Namespace, name: &[u8]) -> Option<usize>
         ensures { result ≡ number_in (entries self.now) namespace name.now }
     {
-        number_in(&self.names, &self.first, namespace, name)
+        self.first.number_under(namespace, self.outlines.number(name)?)
     }
 
     /// What is there with a number.
@@ -130,14 +124,14 @@ impl Scopes {
         ensures { result ≡ resolve (entries self.now) enclosing_set name.now }
     {
         self.first
-            .nearest_under(enclosing_set, self.names.number(name)?)
+            .nearest_under(enclosing_set, self.outlines.number(name)?)
     }
 
     /// The number of what a name resolves to that is in an item outside its blocks.
     pub(crate) fn resolve_in(&self, item: usize, name: &[u8]) -> Option<usize>
         ensures { result ≡ resolve_in self.now item name.now }
     {
-        let name = self.names.number(name)?;
+        let name = self.outlines.number(name)?;
         self.first.nearest_to(item, self.enclosing_set(item), name)
     }
 

@@ -41,7 +41,7 @@ loop-number-preserved c =
     ]
 
 pub returns : goal.returns
-returns c = λ ss f.
+returns c = λ names ss f.
     let es = entries ss in
     let symbols = c.args.tables.now.symbols.items in
     c.loop-number.invariant ∙ ap (filter (flag_stands symbols)) (take_all c.loop-number.number-index c.as_slice-numbers.result.now (omega (arith, c.loop-number-test.false)) ∙ c.as_slice-numbers.ensures.value ∙ f.firsts) ∙ filter_below (flag_stands symbols) (is_first_at es) (length es)

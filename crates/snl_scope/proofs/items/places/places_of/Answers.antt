@@ -1,22 +1,26 @@
-use Rattle.std.proofs.Common.{◌≡◌, ◌+◌, Some, None, map, slice_get, sym, ap, subst, ◌∙◌, arith, add-one, if◌then◌else◌}
+use Rattle.std.proofs.Common.{◌≡◌, ◌+◌, Some, None, sym, ap, subst, ◌∙◌, arith, add-one, if◌then◌else◌}
 use Rattle.snl_scope.specs.Places.{begins_set, ends_set, enclosing_set, open_before}
 use Rattle.snl_scope.specs.NameTables.{Placed}
-use Rattle.snl_scope.proofs.Searches.{get-map}
-use Rattle.snl_scope.proofs.OpenSets.{open_step, place_here, placed-push}
+use Rattle.snl_scope.proofs.OpenSets.{headed, open_step, place_here, placed-push}
 use Rattle.snl_scope.proofs.items.places.places_of.Goals as goal
 
 pub loop-item-preserved : goal.loop-item-preserved
 loop-item-preserved c =
-    let ss = map (λ s. s.now) c.args.outlines.now in
+    let ss = c.args.outlines.now.outlines in
     let i = c.loop-item.item in
-    let s = c.index-outlines-item.result.now in
+    let h = c.head-role.result in
     let known = c.loop-item.invariant in
-    let at : slice_get ss i ≡ Some s = get-map (λ s. s.now) c.args.outlines.now i c.index-outlines-item.result (omega (arith, c.loop-item-test.true)) c.index-outlines-item.is in
-    let here : c.place_in.result ≡ enclosing_set ss i = c.place_in.ensures ∙ ap (λ o. if begins_set s.role then None else o) known.opened ∙ sym (place_here ss i s at) in
+    let there = headed ss i h c.head-role.ensures in
+    let s = there.0 in
+    let at = there.1 in
+    let role : h.role ≡ s.role = sym (ap (λ g. g.role) there.2) in
+    let here : c.place_in.result ≡ enclosing_set ss i =
+    c.place_in.ensures ∙ ap (λ o. if begins_set h.role then None else o) known.opened ∙ ap (λ r. if begins_set r then None else open_before ss i) role ∙ sym (place_here ss i s at) in
     record {
       placed = subst (λ ps. Placed ps ss (i + 1)) (sym c.in_ok-push.ensures.items) (placed-push c.loop-item.places.items ss i c.place_in.result known.placed here);
       opened =
-          c.open_after-outer.ensures ∙ ap (λ o. if begins_set s.role then Some i else (if ends_set s.role then None else o)) known.opened
+          c.open_after-outer.ensures ∙ ap (λ o. if begins_set h.role then Some i else (if ends_set h.role then None else o)) known.opened
+          ∙ ap (λ r. if begins_set r then Some i else (if ends_set r then None else open_before ss i)) role
           ∙ sym (open_step ss i s at) ∙ sym (ap (open_before ss) (add-one i));
-      within = omega (arith, c.loop-item-test.true);
+      within = omega (arith, c.loop-item-test.true, c.count-count.ensures);
     }

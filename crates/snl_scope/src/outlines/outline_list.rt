@@ -1,0 +1,138 @@
+//! The outlines of all items, in flat lists.
+
+ghost use Rattle.std.specs.Prelude.{◌≡◌, ◌+◌, ◌<◌, ◌≤◌, IfOk, Some, bytes_eq, drop, length, map, option_map, position, slice_get, take};
+ghost use Rattle.snl_scope.specs.OutlineList.{AreFlat, Differ, IsAt, IsNumbered, outline_of, outlines_by};
+ghost use Rattle.snl_scope.specs.NameTables.{head_of};
+
+use crate::items::heads::Head;
+use crate::names::numbered_names::NumberedNames as NameBook;
+use crate::outlines::cursor::{Cursor, ToldOutline};
+use crate::outlines::flat::{FlatClause, FlatDeclared, FlatOutline};
+use snl_cut::OutOfMemory;
+use std::alloc::Global;
+use std::marker::Model;
+
+/// The outlines of items, with the book of their names, which may have others too. Contracts see
+/// both lists.
+pub(crate) struct OutlineList {
+    pub names: NameBook,
+    pub heads: Vec<FlatOutline>,
+    pub declares: Vec<FlatDeclared>,
+    pub clauses: Vec<FlatClause>,
+}
+
+// By hand, so that whoever holds outlines need not know how they are held to let them go.
+impl Drop for OutlineList {
+    fn drop(self) {
+        let OutlineList {
+            names: _,
+            heads: _,
+            declares: _,
+            clauses: _,
+        } = self;
+    }
+}
+
+impl Model for OutlineList {
+    ghost use Rattle.snl_scope.specs.OutlineList.{AreFlat, NamedOutlines, outlines_by};
+
+    ghost Value = { NamedOutlines };
+
+    ghost view = { λ a. record {
+        names = a.names;
+        outlines = outlines_by a.names a.heads.items a.declares.items a.clauses.items;
+    } };
+
+    ghost invariant = { λ a. AreFlat a.names a.heads.items a.declares.items a.clauses.items };
+}
+
+// So many elements from a place on.
+fn part<T: Copy>(list: &[T], start: usize, count: usize) -> &[T]
+    requires { start + count ≤ length list.now }
+    ensures { result.now ≡ take count (drop start list.now) }
+{
+    &list[start..start + count]
+}
+
+impl OutlineList {
+    /// How many items there are.
+    pub(crate) fn count(&self) -> usize
+        ensures { result ≡ length self.now.outlines }
+    {
+        self.heads.len()
+    }
+
+    /// What the outline of an item says of the order of items.
+    pub(crate) fn head(&self, item: usize) -> Head
+        requires { item < length self.now.outlines }
+        ensures { slice_get (map head_of self.now.outlines) item ≡ Some result }
+    {
+        let FlatOutline {
+            role,
+            opening,
+            second,
+            ..
+        } = self.heads[item];
+        Head {
+            role,
+            opening,
+            is_named: second.is_some(),
+        }
+    }
+
+    /// The same, if there is an item with the number.
+    pub(crate) fn head_at(&self, item: usize) -> Option<Head>
+        ensures { result ≡ option_map head_of (slice_get self.now.outlines item) }
+    {
+        if item < self.count() {
+            Some(self.head(item))
+        } else {
+            None
+        }
+    }
+
+    /// The number of a name in the book.
+    pub(crate) fn number(&self, name: &[u8]) -> Option<usize>
+        ensures { result ≡ position (bytes_eq name.now) self.now.names }
+    {
+        self.names.number(name)
+    }
+
+    /// The outline that a walk is at.
+    pub(crate) fn told(&self, at: Cursor) -> ToldOutline<'_>
+        requires inside { at.item < length self.now.outlines }
+        requires at { IsAt self.now.outlines at }
+        ensures outline { slice_get self.now.outlines at.item
+            ≡ Some (outline_of self.now.names result) }
+        ensures numbered { IsNumbered self.now.names result }
+    {
+        let head = self.heads[at.item];
+        ToldOutline {
+            head,
+            declares: part(&self.declares, at.declares, head.declares),
+            clauses: part(&self.clauses, at.clauses, head.clauses),
+        }
+    }
+
+    /// The walk after that outline.
+    pub(crate) fn next(&self, at: Cursor) -> Cursor
+        requires inside { at.item < length self.now.outlines }
+        requires at { IsAt self.now.outlines at }
+        ensures at { IsAt self.now.outlines result }
+        ensures item { result.item ≡ at.item + 1 }
+    {
+        let head = self.heads[at.item];
+        Cursor {
+            item: at.item + 1,
+            declares: at.declares + head.declares,
+            clauses: at.clauses + head.clauses,
+        }
+    }
+
+    /// All names are different.
+    pub(crate) fn differ(&self)
+        ensures { Differ self.now.names }
+    {
+        self.names.differ();
+    }
+}
