@@ -1,6 +1,7 @@
 //! The names themselves, one after another.
 
-ghost use Rattle.std.specs.Prelude.{◌≡◌, ◌<◌, [], ◌∷◌, ◌++◌, IfOk, OnErr, OnOk, Some, length, slice_get, sum_by};
+ghost use Rattle.std.specs.Prelude.{◌≡◌, ◌<◌, ◌≤◌, [], ◌∷◌, ◌++◌, IfOk, OnErr, OnOk, Some, length, slice_get, sum_by, take};
+ghost use Rattle.snl_cut.specs.Cut.{last_end};
 
 use snl_cut::OutOfMemory;
 use std::alloc::Global;
@@ -29,6 +30,15 @@ impl Model for Spellings {
     ghost view = { λ a. members a.bytes.items 0 a.ends.items };
 
     ghost invariant = { λ a. AreEnds a.bytes.items a.ends.items };
+}
+
+// Where the name with a number begins: at the end of the one before it.
+#[inline]
+fn start_of(ends: &[usize], number: usize) -> usize
+    requires { number ≤ length ends.now }
+    ensures { result ≡ last_end 0 (take number ends.now) }
+{
+    if number == 0 { 0 } else { ends[number - 1] }
 }
 
 impl Spellings {
@@ -67,7 +77,7 @@ impl Spellings {
         requires { number < length self.now }
         ensures { slice_get self.now number ≡ Some result.now }
     {
-        let start = if number == 0 { 0 } else { self.ends[number - 1] };
+        let start = start_of(&self.ends, number);
         &self.bytes[start..self.ends[number]]
     }
 
