@@ -1,2 +1,4 @@
 pub mod Ends
 pub mod Order
+pub mod Places
+pub mod Merges
