@@ -1,10 +1,11 @@
 -- The place of a name among keys, and what keys lead to.
 use Rattle.std.proofs.Common.{◌≡◌, ◌≢◌, ℕ, ◌+◌, ◌<◌, ◌≤◌, Bool, true, false, List, [], length, map, get_or, sym, ap, ap₂, ◌∙◌, arith, inl, inr, true≢false}
-use Rattle.std.specs.Prelude.{All}
+use Rattle.std.specs.Prelude.{All, bytes_eq}
 use Rattle.std.specs.List.{AllWithin}
 use Rattle.std.specs.List.Sorted.{IsNonDecreasingBy}
 use Rattle.std.proofs.lemmas.Bool.{cases_lt}
 use Rattle.std.proofs.lemmas.List.{get_or-map, get_or_default, length-map}
+use Rattle.std.proofs.lemmas.Slice.Eq.{bytes_eq-Decides}
 use Rattle.snl_names.specs.Keys.{AreKeys, InOrder, IsKey, comes_before, print_in, spelled}
 use Rattle.snl_names.specs.Prints.{print_of}
 use Rattle.snl_names.specs.declared.keys.Key.{Key}
@@ -76,3 +77,6 @@ not_there names keys name print from at are is_print less before rest other k d 
                 other (omega (arith, high, there)) (same_name (get_or all at []) name first last)
           ]
     ]
+
+pub other_bytes : (a b : List ℕ) → bytes_eq a b ≡ false → a ≢ b
+other_bytes a b h same = true≢false (sym ((bytes_eq-Decides a b).1 same) ∙ h)
