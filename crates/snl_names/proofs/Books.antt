@@ -1,10 +1,10 @@
 -- A book of names: what its keys find, and one more name.
-use Rattle.std.proofs.Common.{◌≡◌, ◌≢◌, ℕ, suc, zero, ◌+◌, ◌<◌, ◌≤◌, ◌⊎◌, Bool, true, false, ◌||◌, cond, nat_eq, nat_lt, List, [], ◌∷◌, ◌++◌, length, take, drop, get_or, slice_get, Option, None, Some, refl, sym, ap, ap₂, subst, ◌∙◌, arith, inl, inr, true≢false, append_assoc, length-append}
-use Rattle.std.specs.Prelude.{All, MatchOption, bytes_eq, insert}
+use Rattle.std.proofs.Common.{◌≡◌, ◌≢◌, ℕ, suc, zero, ◌+◌, ◌<◌, ◌≤◌, ◌⊎◌, Bool, true, false, ◌||◌, cond, nat_eq, nat_lt, List, [], ◌∷◌, ◌++◌, length, take, drop, get_or, slice_get, Option, None, Some, Result, Ok, Err, refl, sym, ap, ap₂, subst, ◌∙◌, arith, inl, inr, true≢false, append_assoc, length-append}
+use Rattle.std.specs.Prelude.{All, IfOk, MatchOption, OnOk, bytes_eq, insert}
 use Rattle.std.specs.List.{AllWithin, list_any, position, position_or_len}
 use Rattle.std.specs.Option.{option_or}
 use Rattle.std.proofs.lemmas.Bool.{cases_Bool, cases_lt, eq-eqb, eqb-true, le-ltb}
-use Rattle.std.proofs.lemmas.List.{get_or_append_left, same_lists, take-append-drop}
+use Rattle.std.proofs.lemmas.List.{get_or-take, get_or_append_left, length-take-le, same_lists, take-append-drop}
 use Rattle.std.proofs.Math.Seq.{get_or-append_seam}
 use Rattle.std.proofs.lemmas.List.Folds.{list_any-append}
 use Rattle.std.proofs.lemmas.List.Sums.{position_or_len_is}
@@ -18,7 +18,7 @@ use Rattle.snl_names.specs.Prints.{print_of}
 use Rattle.snl_names.specs.declared.keys.Key.{Key}
 use Rattle.snl_names.proofs.Order.{one_way}
 use Rattle.snl_names.proofs.Places.{length_spelled, other_bytes, spelled_at}
-use Rattle.snl_names.proofs.Merges.{keys_append, keys_drop, keys_none, keys_one, keys_take}
+use Rattle.snl_names.proofs.Merges.{Precede, keys_append, keys_drop, keys_one, keys_take, no_later, precede_append, precede_one, precede_rest, precede_this, spelled-append, spelled-drop, spelled-take}
 
 -- ---- what is found
 
@@ -136,3 +136,87 @@ keys_stay names more keys are = record {
   each = λ k d lt. key_stays names more (get_or keys k d) (are.each k d lt);
   order = subst InOrder (sym (spelled_longer names more keys are)) are.order;
 }
+
+-- ---- a key that is put in its place
+
+pub inserted_keys : (names : List (List ℕ)) (keys : List Key) (key : Key) (name : List ℕ) (at : ℕ)
+    → AreKeys names keys → IsKey names key → name ≡ get_or names key.number [] → at ≤ length keys
+    → AllWithin (λ n. comes_before n name ≡ true) (spelled names keys) 0 at
+    → AllWithin (λ n. comes_before n name ≡ false) (spelled names keys) at (length keys)
+    → AreKeys names (insert keys at key)
+inserted_keys names keys key name at are is named within before rest =
+    let S : List (List ℕ) = spelled names keys in
+    let size : length S ≡ length keys = length_spelled names keys in
+    let front : List Key = take at keys in
+    let front_spelled : spelled names front ≡ take at S = spelled-take names at keys in
+    let front_size : length (take at S) ≡ at = length-take-le at S (omega (arith, within, size)) in
+    let front_then_key : Precede (spelled names front) (spelled names (key ∷ [])) 0 =
+    subst (λ (ns : List (List ℕ)). Precede ns (spelled names (key ∷ [])) 0) (sym front_spelled)
+    (precede_this (take at S) (get_or names key.number []) (λ i lt.
+    no_later (get_or names key.number []) (get_or (take at S) i []) name (get_or S i []) (sym named) (get_or-take at S i [] (omega (arith, lt, front_size)))
+    (one_way (get_or S i []) name (before i [] (omega arith) (omega (arith, lt, front_size)))))) in
+    let both : AreKeys names (front ++ key ∷ []) = keys_append names front (key ∷ []) (keys_take names at keys within are) (keys_one names key is) front_then_key in
+    let both_spelled : spelled names (front ++ key ∷ []) ≡ take at S ++ name ∷ [] =
+    spelled-append names front (key ∷ []) ∙ ap₂ (λ (ns : List (List ℕ)) (n : List ℕ). ns ++ n ∷ []) front_spelled (sym named) in
+    let front_then_rest : Precede (take at S) S at =
+    λ i j lt low high. no_later (get_or S j []) (get_or (take at S) i []) (get_or S j []) (get_or S i []) refl (get_or-take at S i [] (omega (arith, lt, front_size)))
+    (are.order i j (omega (arith, lt, front_size, low)) high) in
+    let key_then_rest : Precede (name ∷ []) S at = precede_one name S at (λ j low high. rest j [] low (omega (arith, high, size))) in
+    let whole : Precede (spelled names (front ++ key ∷ [])) (spelled names (drop at keys)) 0 =
+    subst (λ (ns : List (List ℕ)). Precede ns (spelled names (drop at keys)) 0) (sym both_spelled)
+    (subst (λ (ns : List (List ℕ)). Precede (take at S ++ name ∷ []) ns 0) (sym (spelled-drop names at keys))
+    (precede_rest (take at S ++ name ∷ []) S at (precede_append (take at S) (name ∷ []) S at front_then_rest key_then_rest))) in
+    subst (AreKeys names) (append_assoc front (key ∷ []) (drop at keys))
+    (keys_append names (front ++ key ∷ []) (drop at keys) both (keys_drop names at keys are) whole)
+
+aside : (t e d : Bool) → (t || (e || d)) ≡ (e || (t || d))
+aside true true d = refl
+aside true false d = refl
+aside false true d = refl
+aside false false d = refl
+
+has_inserted : (n at : ℕ) (keys : List Key) (key : Key) → has_number n (insert keys at key) ≡ (nat_eq key.number n || has_number n keys)
+has_inserted n at keys key =
+    let has : Key → Bool = λ (k : Key). nat_eq k.number n in
+    list_any-append has (take at keys) (key ∷ drop at keys)
+    ∙ aside (has_number n (take at keys)) (nat_eq key.number n) (has_number n (drop at keys))
+    ∙ ap (λ (b : Bool). nat_eq key.number n || b) (sym (list_any-append has (take at keys) (drop at keys)) ∙ ap (has_number n) (take-append-drop at keys))
+
+still : (s e r : Bool) → (s || r) ≡ true → (s || (e || r)) ≡ true
+still true e r h = refl
+still false true r h = refl
+still false false r h = h
+
+now_there : (s e r : Bool) → e ≡ true → (s || (e || r)) ≡ true
+now_there true e r h = refl
+now_there false true r h = refl
+now_there false false r h = absurd (true≢false (sym h))
+
+pub book_more : (names : List (List ℕ)) (sorted recent : List Key) (name : List ℕ) (at : ℕ) (key : Key)
+    → IsBook names sorted recent → position (bytes_eq name) names ≡ None
+    → key.print ≡ print_of name → key.number ≡ length names → at ≤ length recent
+    → AllWithin (λ n. comes_before n name ≡ true) (spelled names recent) 0 at
+    → AllWithin (λ n. comes_before n name ≡ false) (spelled names recent) at (length recent)
+    → IsBook (names ++ name ∷ []) sorted (insert recent at key)
+book_more names sorted recent name at key book new print number within before rest =
+    let all : List (List ℕ) = names ++ name ∷ [] in
+    let named : get_or all key.number [] ≡ name = ap (λ (n : ℕ). get_or all n []) number ∙ get_or-append_seam names name [] [] in
+    let is : IsKey all key = record { inside = omega (arith, number, length_more names name); print = print ∙ ap print_of (sym named) } in
+    let same : spelled all recent ≡ spelled names recent = spelled_longer names (name ∷ []) recent book.recent_keys in
+    record {
+      different = differ_more names name book.different new;
+      sorted_keys = keys_stay names (name ∷ []) sorted book.sorted_keys;
+      recent_keys = inserted_keys all recent key name at (keys_stay names (name ∷ []) recent book.recent_keys) is (sym named) within
+      (subst (λ (ns : List (List ℕ)). AllWithin (λ n. comes_before n name ≡ true) ns 0 at) (sym same) before)
+      (subst (λ (ns : List (List ℕ)). AllWithin (λ n. comes_before n name ≡ false) ns at (length recent)) (sym same) rest);
+      keyed = λ n lt.
+          ap (λ (b : Bool). has_number n sorted || b) (has_inserted n at recent key)
+          ∙ elim (below_or_last n (length names) (omega (arith, lt, length_more names name))) [
+            | inl less ↦ still (has_number n sorted) (nat_eq key.number n) (has_number n recent) (book.keyed n less)
+            | inr last ↦ now_there (has_number n sorted) (nat_eq key.number n) (has_number n recent) (eq-eqb key.number n (number ∙ sym last))
+          ];
+    }
+
+pub added : {E : Type 0} (r : Result ℕ E) (old new : List (List ℕ)) (name : List ℕ) → position (bytes_eq name) old ≡ None → OnOk r (new ≡ old ++ name ∷ []) → IfOk r (λ n. n ≡ length old) → IfOk r (λ n. position (bytes_eq name) new ≡ Some n)
+added (Ok n) old new name none more number = ap (position (bytes_eq name)) more ∙ new_is_last old name none ∙ ap Some (sym number)
+added (Err e) old new name none more number = tt

@@ -24,7 +24,7 @@ pub record IsMerging (names : List (List ℕ)) (sorted recent all : List Key) (f
 
 -- ---- names in order
 
-no_later : (a b c d : List ℕ) → a ≡ c → b ≡ d → comes_before c d ≡ false → comes_before a b ≡ false
+pub no_later : (a b c d : List ℕ) → a ≡ c → b ≡ d → comes_before c d ≡ false → comes_before a b ≡ false
 no_later a b c d e f h = ap₂ comes_before e f ∙ h
 
 in_order_append : (xs ys : List (List ℕ)) → InOrder xs → InOrder ys → Precede xs ys 0 → InOrder (xs ++ ys)
@@ -64,7 +64,7 @@ in_order_take n xs inside order i j le lt =
 
 -- ---- names that precede others
 
-precede_append : (xs zs ys : List (List ℕ)) (from : ℕ) → Precede xs ys from → Precede zs ys from → Precede (xs ++ zs) ys from
+pub precede_append : (xs zs ys : List (List ℕ)) (from : ℕ) → Precede xs ys from → Precede zs ys from → Precede (xs ++ zs) ys from
 precede_append xs zs ys from first second i j lt low high =
     elim (cases_lt i (length xs)) [
       | inl left ↦
@@ -110,13 +110,13 @@ part_precedes xs ys from to place le within h i j lt low high =
 
 -- ---- keys
 
-spelled-append : (names : List (List ℕ)) (xs ys : List Key) → spelled names (xs ++ ys) ≡ spelled names xs ++ spelled names ys
+pub spelled-append : (names : List (List ℕ)) (xs ys : List Key) → spelled names (xs ++ ys) ≡ spelled names xs ++ spelled names ys
 spelled-append names xs ys = map-append (λ (k : Key). get_or names k.number []) xs ys
 
-spelled-drop : (names : List (List ℕ)) (n : ℕ) (xs : List Key) → spelled names (drop n xs) ≡ drop n (spelled names xs)
+pub spelled-drop : (names : List (List ℕ)) (n : ℕ) (xs : List Key) → spelled names (drop n xs) ≡ drop n (spelled names xs)
 spelled-drop names n xs = sym (drop-map (λ (k : Key). get_or names k.number []) n xs)
 
-spelled-take : (names : List (List ℕ)) (n : ℕ) (xs : List Key) → spelled names (take n xs) ≡ take n (spelled names xs)
+pub spelled-take : (names : List (List ℕ)) (n : ℕ) (xs : List Key) → spelled names (take n xs) ≡ take n (spelled names xs)
 spelled-take names n xs = sym (take-map (λ (k : Key). get_or names k.number []) n xs)
 
 pub keys_append : (names : List (List ℕ)) (xs ys : List Key) → AreKeys names xs → AreKeys names ys → Precede (spelled names xs) (spelled names ys) 0 → AreKeys names (xs ++ ys)

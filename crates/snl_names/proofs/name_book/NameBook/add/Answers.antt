@@ -1,8 +1,7 @@
-use Rattle.std.proofs.Common.{Some, ap, sym, ◌∙◌}
-use Rattle.std.specs.List.{position}
-use Rattle.std.specs.Str.{bytes_eq}
-use Rattle.snl_names.proofs.Books.{new_is_last}
+use Rattle.std.proofs.Common.{sym}
+use Rattle.snl_names.proofs.Books.{added}
 use Rattle.snl_names.proofs.name_book.NameBook.add.Goals as goal
 
 pub returns-in-None-clause-number : goal.returns-in-None-clause-number
-returns-in-None-clause-number c = ?
+returns-in-None-clause-number c =
+    added c.add_new.result c.args.self.now c.add_new.new.self c.args.name.now (sym c.in-None.ensures) c.add_new.ensures.names c.add_new.ensures.number
