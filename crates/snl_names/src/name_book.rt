@@ -5,12 +5,13 @@ ghost use Rattle.snl_names.specs.NameBook.{AllDiffer, with_name};
 ghost use Rattle.snl_names.specs.Prints.{print_of};
 
 use crate::keys::{Key, number_among, place};
-use crate::merging::merged;
+use crate::merging::merge;
 use crate::prints::print_of;
 use crate::spellings::Spellings;
 use snl_cut::OutOfMemory;
 use std::alloc::Global;
 use std::marker::Model;
+use std::mem;
 
 // So many keys are in the list of the last ones before they are merged into the others.
 const RECENT: usize = 512;
@@ -22,6 +23,8 @@ pub struct NameBook {
     sorted: Vec<Key>,
     // the keys of the last ones, in order
     recent: Vec<Key>,
+    // room for the next merge
+    spare: Vec<Key>,
 }
 
 // By hand, so that whoever holds names need not know how they are held to let them go.
@@ -31,6 +34,7 @@ impl Drop for NameBook {
             names: _,
             sorted: _,
             recent: _,
+            spare: _,
         } = self;
     }
 }
@@ -55,6 +59,7 @@ impl NameBook {
             names: Spellings::new(alloc),
             sorted: Vec::new(alloc),
             recent: Vec::new(alloc),
+            spare: Vec::new(alloc),
         }
     }
 
@@ -66,6 +71,7 @@ impl NameBook {
             names: self.names.copied(alloc)?,
             sorted: Vec::from_slice(alloc, &self.sorted)?,
             recent: Vec::from_slice(alloc, &self.recent)?,
+            spare: Vec::new(alloc),
         })
     }
 
@@ -128,9 +134,8 @@ impl NameBook {
         if self.recent.len() < RECENT {
             return Ok(());
         }
-        let alloc = *self.sorted.allocator();
-        let all = merged(alloc, &self.sorted, &self.recent, &self.names)?;
-        self.sorted = all;
+        merge(&self.sorted, &self.recent, &self.names, &mut self.spare)?;
+        mem::swap(&mut self.sorted, &mut self.spare);
         self.recent.clear();
         Ok(())
     }

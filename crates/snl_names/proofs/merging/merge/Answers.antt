@@ -4,7 +4,7 @@ use Rattle.std.proofs.lemmas.Option.{get_or_from_slice_get}
 use Rattle.snl_names.specs.Keys.{AreKeys, has_number}
 use Rattle.snl_names.specs.declared.keys.Key.{Key}
 use Rattle.snl_names.proofs.Merges.{IsMerging, merged_keys, merged_numbers, merging_more}
-use Rattle.snl_names.proofs.merging.merged.Goals as goal
+use Rattle.snl_names.proofs.merging.merge.Goals as goal
 
 pub loop-key-preserved : goal.loop-key-preserved
 loop-key-preserved c =
