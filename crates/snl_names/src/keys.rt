@@ -28,9 +28,58 @@ fn is_before(key: Key, names: &Spellings, print: u64, name: &[u8]) -> bool
     }
 }
 
-/// The place from `from` on that a name has among keys: names before it come before the name, and
-/// names from it on do not.
+/// The place that a name has among keys: names before it come before the name, and names from it on
+/// do not. It is known to be one from `from` up to `to`.
 pub(crate) fn place(
+    keys: &[Key],
+    names: &Spellings,
+    from: usize,
+    to: usize,
+    print: u64,
+    name: &[u8],
+) -> usize
+    requires keys { AreKeys names.now keys.now }
+    requires print { print ≡ print_of name.now }
+    requires range { from ≤ to }
+    requires within { to ≤ length keys.now }
+    requires rest { AllWithin (λ n. comes_before n name.now ≡ false) (spelled names.now keys.now) to (length keys.now) }
+    ensures from { from ≤ result }
+    ensures within { result ≤ length keys.now }
+    ensures before { AllWithin (λ n. comes_before n name.now ≡ true) (spelled names.now keys.now) from result }
+    ensures rest { AllWithin (λ n. comes_before n name.now ≡ false) (spelled names.now keys.now) result (length keys.now) }
+{
+    let mut low = from;
+    let mut high = to;
+    while low < high {
+        let middle = low + (high - low) / 2;
+        if is_before(keys[middle], names, print, name) {
+            low = middle + 1;
+        } else {
+            high = middle;
+        }
+    }
+    low
+}
+
+// A place that no name from it on comes before this one, sought in steps that double: it is at most
+// about twice as far from `from` as the name's place.
+fn reach(keys: &[Key], names: &Spellings, from: usize, print: u64, name: &[u8]) -> usize
+    requires keys { AreKeys names.now keys.now }
+    requires print { print ≡ print_of name.now }
+    requires from { from ≤ length keys.now }
+    ensures from { from ≤ result }
+    ensures within { result ≤ length keys.now }
+    ensures rest { AllWithin (λ n. comes_before n name.now ≡ false) (spelled names.now keys.now) result (length keys.now) }
+{
+    let mut to = from;
+    while to < keys.len() && is_before(keys[to], names, print, name) {
+        to += (to - from + 1).min(keys.len() - to);
+    }
+    to
+}
+
+/// The place that a name has among keys from `from` on. It takes few steps if it is near.
+pub(crate) fn place_from(
     keys: &[Key],
     names: &Spellings,
     from: usize,
@@ -45,17 +94,8 @@ pub(crate) fn place(
     ensures before { AllWithin (λ n. comes_before n name.now ≡ true) (spelled names.now keys.now) from result }
     ensures rest { AllWithin (λ n. comes_before n name.now ≡ false) (spelled names.now keys.now) result (length keys.now) }
 {
-    let mut low = from;
-    let mut high = keys.len();
-    while low < high {
-        let middle = low + (high - low) / 2;
-        if is_before(keys[middle], names, print, name) {
-            low = middle + 1;
-        } else {
-            high = middle;
-        }
-    }
-    low
+    let to = reach(keys, names, from, print, name);
+    place(keys, names, from, to, print, name)
 }
 
 // The place of the first key that has this print or a greater one.
@@ -88,7 +128,7 @@ fn number_of_shared_print(
         (All (λ n. n ≢ name.now) (spelled names.now keys.now))
         (λ n. slice_get names.now n ≡ Some name.now) }
 {
-    let at = place(keys, names, from, print, name);
+    let at = place(keys, names, from, keys.len(), print, name);
     if at == keys.len() {
         return None;
     }

@@ -3,7 +3,7 @@
 ghost use Rattle.std.specs.Prelude.{◌≡◌, ◌||◌, ℕ, OnOk};
 ghost use Rattle.snl_names.specs.Keys.{AreKeys, has_number};
 
-use crate::keys::{Key, place};
+use crate::keys::{Key, place_from};
 use crate::spellings::Spellings;
 use snl_cut::OutOfMemory;
 
@@ -24,7 +24,7 @@ pub(crate) fn merge(
     all.reserve(sorted.len() + recent.len())?;
     let mut from = 0;
     for key in recent {
-        let to = place(sorted, names, from, key.print, names.get(key.number));
+        let to = place_from(sorted, names, from, key.print, names.get(key.number));
         all.extend_from_slice(&sorted[from..to])?;
         all.push(*key)?;
         from = to;

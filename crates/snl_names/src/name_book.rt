@@ -150,7 +150,7 @@ impl NameBook {
     {
         self.settle()?;
         self.recent.reserve(1)?;
-        let at = place(&self.recent, &self.names, 0, print, name);
+        let at = place(&self.recent, &self.names, 0, self.recent.len(), print, name);
         let number = self.names.count();
         self.names.push(name)?;
         self.recent.insert(at, Key { print, number }).unwrap();

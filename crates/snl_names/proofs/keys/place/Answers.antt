@@ -7,10 +7,10 @@ use Rattle.snl_names.proofs.keys.place.Goals as goal
 pub loop-low-init : goal.loop-low-init
 loop-low-init c = record {
   from = omega arith;
-  within = c.requires.from;
-  all = omega arith;
+  within = c.requires.range;
+  all = c.requires.within;
   before = λ k d low high. absurd (omega (arith, low, high));
-  rest = λ k d low high. absurd (omega (arith, low, high));
+  rest = c.requires.rest;
 }
 
 pub is_before-requires-clause-key : goal.is_before-requires-clause-key

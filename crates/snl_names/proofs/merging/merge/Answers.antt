@@ -11,15 +11,15 @@ loop-key-preserved c =
     let recent : List Key = c.args.recent.now in
     let at : ℕ = c.loop-key.key-index in
     let key : Key = get_or recent at (record { print = 0; number = 0 }) in
-    let run : List Key = take (c.place-to.result - c.loop-key.from) (drop c.loop-key.from c.args.sorted.now) in
+    let run : List Key = take (c.place_from-to.result - c.loop-key.from) (drop c.loop-key.from c.args.sorted.now) in
     let there : at < length recent = omega arith in
     let pushed : c.push.new.self.items ≡ (c.loop-key.all.items ++ run) ++ key ∷ [] =
     c.in_ok-push.ensures.items ∙ ap (λ (ks : List Key). ks ++ key ∷ []) c.in_ok-extend_from_slice.ensures.items in
-    subst (λ (ks : List Key). IsMerging c.args.names.now c.args.sorted.now recent ks c.place-to.result (at + 1)) (sym pushed)
-    (merging_more c.args.names.now c.args.sorted.now recent c.loop-key.all.items c.loop-key.from at c.place-to.result key c.get.result.now
+    subst (λ (ks : List Key). IsMerging c.args.names.now c.args.sorted.now recent ks c.place_from-to.result (at + 1)) (sym pushed)
+    (merging_more c.args.names.now c.args.sorted.now recent c.loop-key.all.items c.loop-key.from at c.place_from-to.result key c.get.result.now
     c.requires.sorted c.requires.recent c.loop-key.invariant there (get_or_default recent at (record { print = 0; number = 0 }) key there)
     (sym (get_or_from_slice_get c.args.names.now key.number c.get.result.now [] c.get.ensures))
-    c.place-to.ensures.from c.place-to.ensures.within c.place-to.ensures.before c.place-to.ensures.rest)
+    c.place_from-to.ensures.from c.place_from-to.ensures.within c.place_from-to.ensures.before c.place_from-to.ensures.rest)
 
 pub returns-clause-keys : goal.returns-clause-keys
 returns-clause-keys c =
