@@ -1,0 +1,4 @@
+pub mod Keys
+pub mod NameBook
+pub mod Prints
+pub mod Spellings
