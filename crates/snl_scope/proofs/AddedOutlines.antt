@@ -12,7 +12,7 @@ use Rattle.snl_scope.specs.declared.outlines.flat.FlatOutline.{FlatOutline}
 use Rattle.snl_scope.specs.declared.summaries.summary.Declared.{Declared}
 use Rattle.snl_scope.specs.declared.summaries.summary.Outline.{Outline}
 use Rattle.snl_scope.specs.declared.summaries.summary.VariableClause.{VariableClause}
-use Rattle.snl_scope.specs.NameTables.{with_name}
+use Rattle.snl_names.specs.NameBook.{with_name}
 use Rattle.snl_scope.specs.Names.{state_entries}
 use Rattle.snl_scope.specs.OutlineList.{Adds, AddsClauses, AddsDeclared, AreFlat, AreNumbered, Extends, IsClauseNumbered, clause_by, clauses_in, declared_by, declares_in, name_at, outline_by, outlines_by}
 use Rattle.snl_scope.proofs.OutlineLists.{clauses_same, clauses_stay, declares_same, declares_stay, numbered_stays, outlines_append, outlines_same, total_joined}

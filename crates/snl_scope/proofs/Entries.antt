@@ -19,7 +19,7 @@ use Rattle.snl_scope.specs.contracts.names.namespaces.QualifiedNamePartialEq.The
 use Rattle.snl_scope.specs.Below.{all_below}
 use Rattle.snl_scope.specs.Flags.{is_first_at}
 use Rattle.snl_scope.specs.Names.{Entry, has_name, number_in, repetition, repetition_at, repetitions}
-use Rattle.snl_scope.specs.NameTables.{AreSame, Follows, IsPut, number_by, number_under, same_key, symbol_of, with_name}
+use Rattle.snl_scope.specs.NameTables.{AreSame, Follows, IsPut, number_by, number_under, same_key, symbol_of}
 use Rattle.snl_scope.proofs.Equality.{key_is, key_true, key_same, name_same, name_true}
 use Rattle.snl_scope.proofs.FirstEntries.{firsts-new, firsts-seen}
 

@@ -7,7 +7,6 @@ pub mod Marks
 pub mod Elements
 pub mod Numbering
 pub mod Numbered
-pub mod Prints
 pub mod Equality
 pub mod FirstEntries
 pub mod OutlineLists

@@ -10,7 +10,6 @@ pub mod Claims
 pub mod Channels
 pub mod Flags
 pub mod HeldNames
-pub mod Prints
 pub mod Hashed
 pub mod Linked
 pub mod View

@@ -99,10 +99,6 @@ set_of is_sought p = if is_sought then p else None
 abbrev pub with_mark : List Bool → Option ℕ → List Bool
 with_mark marks p = option_map_or (λ k. set marks k true) p marks
 
--- A list of different names, with one more.
-abbrev pub with_name : List (List ℕ) → List ℕ → List (List ℕ)
-with_name names name = if is_some (position (bytes_eq name) names) then names else names ++ name ∷ []
-
 -- One name in one namespace.
 abbrev pub same_key : QualifiedName → QualifiedName → Bool
 same_key a b = same_namespace a.namespace b.namespace && nat_eq a.name b.name

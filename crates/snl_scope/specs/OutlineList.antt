@@ -75,10 +75,6 @@ pub record NamedOutlines : Type 0 where
   pub names : List (List ℕ)
   pub outlines : List Outline
 
--- All names are different.
-abbrev pub Differ : List (List ℕ) → Type 0
-Differ names = (n : ℕ) → n < length names → position (bytes_eq (get_or names n [])) names ≡ Some n
-
 -- Each name that was there has the number that it had.
 pub record Extends (old new : List (List ℕ)) : Type 0 where
   pub longer : length old ≤ length new

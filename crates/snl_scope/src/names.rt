@@ -3,5 +3,4 @@
 pub(crate) mod first_numbers;
 pub(crate) mod name_tables;
 pub(crate) mod namespaces;
-pub(crate) mod numbered_names;
 pub(crate) mod scopes;

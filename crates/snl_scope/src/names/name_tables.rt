@@ -2,7 +2,8 @@
 
 ghost use Rattle.std.specs.Prelude.{◌≡◌, ◌++◌, ◌∷◌, [], ◌<◌, ℕ, List, OnOk, IfOk, IfSome, Some, if◌then◌else◌, length, map, option_map};
 ghost use Rattle.std.specs.List.{AllByRecursion as Each};
-ghost use Rattle.snl_scope.specs.OutlineList.{Differ, IsNumbered, declared_by, name_at, outline_by, outline_of};
+ghost use Rattle.snl_scope.specs.OutlineList.{IsNumbered, declared_by, name_at, outline_by, outline_of};
+ghost use Rattle.snl_names.specs.NameBook.{AllDiffer};
 ghost use Rattle.snl_scope.specs.Names.{Entry, declared_entry, entries, entries_of, has_own_scope, repetition_at, scope_at, scope_code, scope_of, set_entries, set_name, state_entries};
 ghost use Rattle.snl_scope.specs.Order.{state_name};
 ghost use Rattle.snl_scope.specs.Places as Places;
@@ -152,7 +153,7 @@ impl NameTables {
 
     fn add(&mut self, named: NameEntry) -> Result<(), OutOfMemory>
         ensures { OnOk result ((names : List (List ℕ)) (es : List Entry)
-            → Differ names → named.name < length names → TablesFollow names self.old es
+            → AllDiffer names → named.name < length names → TablesFollow names self.old es
             → TablesFollow names self.new (es ++ entry_of names named ∷ [])) }
     {
         let number = self.symbols.len();
@@ -171,7 +172,7 @@ impl NameTables {
     // Adds the name of the state set that an item begins.
     fn add_set(&mut self, item: usize, head: FlatOutline) -> Result<(), OutOfMemory>
         ensures { OnOk result ((names : List (List ℕ)) (es : List Entry)
-            → Differ names → IfSome head.second (λ n. n < length names)
+            → AllDiffer names → IfSome head.second (λ n. n < length names)
             → TablesFollow names self.old es
             → TablesFollow names self.new
             (es ++ set_entries item (outline_by names head [] []))) }
@@ -197,7 +198,7 @@ impl NameTables {
         head: FlatOutline,
     ) -> Result<(), OutOfMemory>
         ensures { OnOk result ((names : List (List ℕ)) (es : List Entry)
-            → Differ names → IfSome head.second (λ n. n < length names)
+            → AllDiffer names → IfSome head.second (λ n. n < length names)
             → TablesFollow names self.old es
             → TablesFollow names self.new
             (es ++ state_entries enclosing_set item (outline_by names head [] []))) }
@@ -223,7 +224,7 @@ impl NameTables {
         declares: &[FlatDeclared],
     ) -> Result<(), OutOfMemory>
         ensures { OnOk result ((names : List (List ℕ)) (es : List Entry)
-            → Differ names → Each (λ d. d.name < length names) declares.now
+            → AllDiffer names → Each (λ d. d.name < length names) declares.now
             → TablesFollow names self.old es
             → TablesFollow names self.new
             (es ++ map (declared_entry scope item) (map (declared_by names) declares.now))) }
@@ -248,7 +249,7 @@ impl NameTables {
         told: ToldOutline<'_>,
     ) -> Result<(), OutOfMemory>
         ensures { OnOk result ((names : List (List ℕ)) (ss : List Outline) (es : List Entry)
-            → Differ names → IsNumbered names told.entry
+            → AllDiffer names → IsNumbered names told.entry
             → enclosing_set ≡ Places.enclosing_set ss item
             → TablesFollow names self.old es
             → TablesFollow names self.new

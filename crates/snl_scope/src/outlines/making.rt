@@ -5,12 +5,12 @@ ghost use Rattle.std.specs.Prelude.{◌≡◌, ◌++◌, ◌∷◌, [], ◌^◌,
 ghost use Rattle.snl_scope.specs.declared.summaries.summary.Outline.{Outline};
 ghost use Rattle.snl_scope.specs.OutlineList.{AddsClauses, AddsDeclared, AreFlat, Extends, IsClauseNumbered, Tells, clause_by, clauses_in, declares_in, name_at, outlines_by, ref_by};
 
-use crate::names::numbered_names::NumberedNames as NameBook;
 use crate::outlines::flat::{FlatClause, FlatDeclared, FlatOutline, FlatRef};
 use crate::outlines::outline_list::OutlineList;
 use crate::summaries::name::Name;
 use crate::summaries::summary::{Declared, NameRef, Outline, Summary, VariableClause};
 use snl_cut::OutOfMemory;
+use snl_names::NameBook;
 use sqlite_items::Boxed;
 use std::alloc::Global;
 

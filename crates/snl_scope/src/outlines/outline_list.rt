@@ -1,14 +1,15 @@
 //! The outlines of all items, in flat lists.
 
 ghost use Rattle.std.specs.Prelude.{◌≡◌, ◌+◌, ◌<◌, ◌≤◌, IfOk, Some, bytes_eq, drop, length, map, option_map, position, slice_get, take};
-ghost use Rattle.snl_scope.specs.OutlineList.{AreFlat, Differ, IsAt, IsNumbered, outline_of, outlines_by};
+ghost use Rattle.snl_names.specs.NameBook.{AllDiffer};
+ghost use Rattle.snl_scope.specs.OutlineList.{AreFlat, IsAt, IsNumbered, outline_of, outlines_by};
 ghost use Rattle.snl_scope.specs.NameTables.{head_of};
 
 use crate::items::heads::Head;
-use crate::names::numbered_names::NumberedNames as NameBook;
 use crate::outlines::cursor::{Cursor, ToldOutline};
 use crate::outlines::flat::{FlatClause, FlatDeclared, FlatOutline};
 use snl_cut::OutOfMemory;
+use snl_names::NameBook;
 use std::alloc::Global;
 use std::marker::Model;
 
@@ -131,7 +132,7 @@ impl OutlineList {
 
     /// All names are different.
     pub(crate) fn differ(&self)
-        ensures { Differ self.now.names }
+        ensures { AllDiffer self.now.names }
     {
         self.names.differ();
     }

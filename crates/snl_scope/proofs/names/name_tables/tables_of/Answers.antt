@@ -7,6 +7,14 @@ use Rattle.snl_scope.specs.OutlineList.{outline_of}
 use Rattle.snl_scope.proofs.Searches.{get-or}
 use Rattle.snl_scope.proofs.names.name_tables.tables_of.Goals as goal
 
+pub loop-item-init : goal.loop-item-init
+loop-item-init c = record {
+  follows = c.in_ok-tables.ensures c.args.outlines.now.names;
+  at = c.first-at.ensures.at c.args.outlines.now.outlines;
+  here = c.first-at.ensures.item;
+  within = omega arith;
+}
+
 pub loop-item-preserved : goal.loop-item-preserved
 loop-item-preserved c =
     let ss = c.args.outlines.now.outlines in
