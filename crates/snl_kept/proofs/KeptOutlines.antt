@@ -33,3 +33,10 @@ module _ {X Y : Type 0} (f : X → Y) where
       ∙ ap₂ (λ (a b : List Y). take front ys ++ (a ++ b)) same (sym (drop-map f back values) ∙ ap (λ (n : ℕ). drop n ys) (sym stop) ∙ sym (drop-drop (back - front) front ys))
       ∙ ap (λ (l : List Y). take front ys ++ l) (take-append-drop (back - front) (drop front ys))
       ∙ take-append-drop front ys
+
+  -- what is told of a list with others in the place of some
+  pub mapped_parts : (front back : ℕ) (made values : List X)
+      → map f (take front values ++ (made ++ drop back values)) ≡ take front (map f values) ++ (map f made ++ drop back (map f values))
+  mapped_parts front back made values =
+      map-append f (take front values) (made ++ drop back values)
+      ∙ ap₂ (λ (a b : List Y). a ++ b) (sym (take-map f front values)) (map-append f made (drop back values) ∙ ap (λ (l : List Y). map f made ++ l) (sym (drop-map f back values)))

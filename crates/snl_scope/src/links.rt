@@ -228,6 +228,12 @@ impl Links {
         self.claims.first_clause(Purpose::Sync, variable, element)
     }
 
+    /// Whether many of the names in the book are of no item any more, since items came and went.
+    /// Then links are best made anew of all items, so that names take memory as the text does.
+    pub fn has_many_dead_names(&self) -> bool {
+        self.scopes.outlines.has_many_dead_names()
+    }
+
     /// What is found of the order of items, names that are declared twice, and what is found at
     /// clauses; each finding once.
     pub fn faults(&self) -> &[LinkFault]

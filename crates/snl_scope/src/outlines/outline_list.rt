@@ -136,4 +136,73 @@ impl OutlineList {
     {
         self.names.differ();
     }
+
+    /// Whether the book has many more names, or bytes of them, than the outlines speak of: names
+    /// stay in it when their items go. A name is counted at each place.
+    pub(crate) fn has_many_dead_names(&self) -> bool {
+        let spoken = self.seconds().and(self.declared()).and(self.claimed());
+        let (count, bytes) = (self.names.count(), self.names.byte_count());
+        count / 2 > spoken.count.saturating_add(FEW_NAMES)
+            || bytes / 2 > spoken.bytes.saturating_add(FEW_BYTES)
+    }
+
+    // The names that are second tokens.
+    fn seconds(&self) -> Spoken {
+        let mut spoken = Spoken::none();
+        for head in &self.heads {
+            if let Some(name) = head.second {
+                spoken = spoken.with(self.names.name(name));
+            }
+        }
+        spoken
+    }
+
+    // The names of declarations.
+    fn declared(&self) -> Spoken {
+        let mut spoken = Spoken::none();
+        for declared in &self.declares {
+            spoken = spoken.with(self.names.name(declared.name));
+        }
+        spoken
+    }
+
+    // The names of variables that clauses are on.
+    fn claimed(&self) -> Spoken {
+        let mut spoken = Spoken::none();
+        for clause in &self.clauses {
+            spoken = spoken.with(self.names.name(clause.variable.name));
+        }
+        spoken
+    }
+}
+
+// So many dead names, and bytes of them, don't matter.
+const FEW_NAMES: usize = 64;
+const FEW_BYTES: usize = 4096;
+
+// How many names are spoken of, and how many bytes they have.
+#[derive(Clone, Copy)]
+struct Spoken {
+    count: usize,
+    bytes: usize,
+}
+
+impl Spoken {
+    fn none() -> Spoken {
+        Spoken { count: 0, bytes: 0 }
+    }
+
+    fn with(self, name: &[u8]) -> Spoken {
+        self.and(Spoken {
+            count: 1,
+            bytes: name.len(),
+        })
+    }
+
+    fn and(self, more: Spoken) -> Spoken {
+        Spoken {
+            count: self.count.saturating_add(more.count),
+            bytes: self.bytes.saturating_add(more.bytes),
+        }
+    }
 }

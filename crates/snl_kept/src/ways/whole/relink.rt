@@ -22,7 +22,7 @@ use crate::shared::Shared;
 use snl_cut::OutOfMemory;
 use snl_lex::Piece;
 use snl_lists::Ordered;
-use snl_scope::{Links, same_outline, same_spelling_same_summary};
+use snl_scope::{Links, Summary, link_after, same_outline, same_spelling_same_summary};
 use snl_syntax::{outcome_told, same_spelling_same_tree};
 use std::alloc::Global;
 
@@ -92,6 +92,61 @@ fn with_kinds(
     Ok(NewKinds { kinds, faults })
 }
 
+// The summaries of items that are made.
+fn summaries_of<'a>(
+    alloc: Global,
+    made: &'a [Shared<Entry>],
+) -> Result<Vec<&'a Summary>, OutOfMemory>
+    ensures { IfOk result (λ v. map (λ s. s.now) v.items ≡ map (λ e. e.summary) made.now) }
+{
+    let mut summaries = Vec::with_capacity(alloc, made.len())?;
+    for entry in made {
+        summaries.push(&entry.get().summary)?;
+    }
+    Ok(summaries)
+}
+
+// The links of the new text, made of those of the old one.
+fn relinked(
+    alloc: Global,
+    editing: &Editing,
+    made: &[Shared<Entry>],
+) -> Result<Links, OutOfMemory>
+    requires editing { IsUnderWay editing.now }
+    requires made { AreEntriesIn editing.now made.now }
+    ensures { IfOk result (λ l. l ≡ links_in (text_in editing.now)) }
+{
+    outcome_told();
+    same_spelling_same_tree();
+    same_spelling_same_summary();
+    let lists = editing.lists;
+    let items = &editing.changes.items;
+    let back = lists.entries.len() - items.kept_back;
+    let summaries = summaries_of(alloc, made)?;
+    link_after(alloc, &lists.links, items.kept_front, back, &summaries)
+}
+
+// The links of the new text: where too many of the names of the old links are of no item any more,
+// they are made anew of all items.
+fn new_links(
+    alloc: Global,
+    editing: &Editing,
+    tokens: &[Piece],
+    parts: &[Part],
+    made: &[Shared<Entry>],
+) -> Result<Links, OutOfMemory>
+    requires editing { IsUnderWay editing.now }
+    requires items { map (item_of_part tokens.now) parts.now ≡ items_of (text_in editing.now) }
+    requires parts { All (IsPart (text_in editing.now) tokens.now) parts.now }
+    requires made { AreEntriesIn editing.now made.now }
+    ensures { IfOk result (λ l. l ≡ links_in (text_in editing.now)) }
+{
+    if editing.lists.links.has_many_dead_names() {
+        return links_of(alloc, editing.edit.text, tokens, parts);
+    }
+    relinked(alloc, editing, made)
+}
+
 /// What an edit makes of the links, by what is kept of the items that are made and all items of the
 /// new text.
 pub fn relink(
@@ -112,6 +167,6 @@ pub fn relink(
         let new = with_kinds(alloc, &editing.lists.links, text, tokens, parts)?;
         return Ok(NewLinks::Kinds(new));
     }
-    let links = links_of(alloc, text, tokens, parts)?;
+    let links = new_links(alloc, editing, tokens, parts, made)?;
     Ok(NewLinks::Other(links))
 }
