@@ -1,7 +1,7 @@
 -- A book of names: what its keys find, and one more name.
-use Rattle.std.proofs.Common.{◌≡◌, ◌≢◌, ℕ, suc, zero, ◌+◌, ◌<◌, ◌≤◌, ◌⊎◌, Bool, true, false, ◌||◌, cond, nat_eq, nat_lt, List, [], ◌∷◌, ◌++◌, length, take, drop, get_or, slice_get, Option, None, Some, Result, Ok, Err, refl, sym, ap, ap₂, subst, ◌∙◌, arith, inl, inr, true≢false, append_assoc, length-append}
+use Rattle.std.proofs.Common.{◌≡◌, ◌≢◌, ℕ, suc, ◌<◌, ◌≤◌, ◌⊎◌, Bool, true, false, ◌||◌, cond, nat_eq, nat_lt, List, [], ◌∷◌, ◌++◌, length, take, drop, get_or, slice_get, Option, None, Some, Result, Ok, Err, refl, sym, ap, ap₂, subst, ◌∙◌, arith, inl, inr, true≢false, append_assoc, length-append}
 use Rattle.std.specs.Prelude.{All, IfOk, MatchOption, OnOk, bytes_eq, insert}
-use Rattle.std.specs.List.{AllWithin, list_any, position, position_or_len}
+use Rattle.std.specs.List.{AllWithin, position, position_or_len}
 use Rattle.std.specs.Option.{option_or}
 use Rattle.std.proofs.lemmas.Bool.{cases_Bool, cases_lt, eq-eqb, eqb-true, le-ltb}
 use Rattle.std.proofs.lemmas.List.{get_or-take, get_or_append_left, length-take-le, same_lists, take-append-drop}
@@ -17,7 +17,7 @@ use Rattle.snl_names.specs.NameBook.{AllDiffer, IsBook}
 use Rattle.snl_names.specs.Prints.{print_of}
 use Rattle.snl_names.specs.declared.keys.Key.{Key}
 use Rattle.snl_names.proofs.Order.{one_way}
-use Rattle.snl_names.proofs.Places.{length_spelled, other_bytes, spelled_at}
+use Rattle.snl_names.proofs.Places.{length_spelled, spelled_at}
 use Rattle.snl_names.proofs.Merges.{Precede, keys_append, keys_drop, keys_one, keys_take, no_later, precede_append, precede_one, precede_rest, precede_this, spelled-append, spelled-drop, spelled-take}
 
 -- ---- what is found
@@ -207,8 +207,8 @@ book_more names sorted recent name at key book new print number within before re
       different = differ_more names name book.different new;
       sorted_keys = keys_stay names (name ∷ []) sorted book.sorted_keys;
       recent_keys = inserted_keys all recent key name at (keys_stay names (name ∷ []) recent book.recent_keys) is (sym named) within
-      (subst (λ (ns : List (List ℕ)). AllWithin (λ n. comes_before n name ≡ true) ns 0 at) (sym same) before)
-      (subst (λ (ns : List (List ℕ)). AllWithin (λ n. comes_before n name ≡ false) ns at (length recent)) (sym same) rest);
+          (subst (λ (ns : List (List ℕ)). AllWithin (λ n. comes_before n name ≡ true) ns 0 at) (sym same) before)
+          (subst (λ (ns : List (List ℕ)). AllWithin (λ n. comes_before n name ≡ false) ns at (length recent)) (sym same) rest);
       keyed = λ n lt.
           ap (λ (b : Bool). has_number n sorted || b) (has_inserted n at recent key)
           ∙ elim (below_or_last n (length names) (omega (arith, lt, length_more names name))) [

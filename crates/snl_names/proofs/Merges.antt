@@ -1,6 +1,5 @@
 -- Two lists of keys, of which the front parts are merged.
 use Rattle.std.proofs.Common.{◌≡◌, ℕ, ◌+◌, ◌-◌, ◌≤◌, ◌<◌, Bool, true, false, ◌||◌, List, [], ◌∷◌, ◌++◌, length, take, drop, get_or, nat_eq, refl, sym, ap, ap₂, subst, ◌∙◌, arith, inl, inr, length-append, length-drop}
-use Rattle.std.specs.Prelude.{All}
 use Rattle.std.specs.List.{AllWithin}
 use Rattle.std.proofs.lemmas.Bool.{cases_lt}
 use Rattle.std.proofs.lemmas.List.{drop-map, drop-take, get_or-append_right, get_or-drop, get_or-take, get_or_append_left, length-take-le, map-append, take-append-drop, take-map, take-take, take_all, take_more}
@@ -220,14 +219,14 @@ merging_more names sorted recent all from count to key name are others so lt is 
       within = within;
       keys = keys_append names (all ++ run) (key ∷ []) front_keys (keys_one names key key_is) front_then_key;
       sorted_follow = subst (λ (ns : List (List ℕ)). Precede ns S to) (sym whole_spelled)
-      (precede_append (A ++ run_names) (name ∷ []) S to
-      (precede_append A run_names S to (λ i j a b d. so.sorted_follow i j a (omega (arith, le, b)) d)
-      (part_precedes S S from to to le (omega (arith, within, S_size)) (λ i j low high after inside. are.order i j (omega (arith, high, after)) inside)))
-      (precede_one name S to (λ j low high. rest j [] low (omega (arith, high, S_size)))));
+          (precede_append (A ++ run_names) (name ∷ []) S to
+          (precede_append A run_names S to (λ i j a b d. so.sorted_follow i j a (omega (arith, le, b)) d)
+          (part_precedes S S from to to le (omega (arith, within, S_size)) (λ i j low high after inside. are.order i j (omega (arith, high, after)) inside)))
+          (precede_one name S to (λ j low high. rest j [] low (omega (arith, high, S_size)))));
       recent_follow = subst (λ (ns : List (List ℕ)). Precede ns R (count + 1)) (sym whole_spelled)
-      (precede_append (A ++ run_names) (name ∷ []) R (count + 1)
-      (front_then_recent (count + 1) (omega arith))
-      (precede_one name R (count + 1) (λ j low high. ap (comes_before (get_or R j [])) in_recent ∙ others.order count j (omega (arith, low)) high)));
+          (precede_append (A ++ run_names) (name ∷ []) R (count + 1)
+          (front_then_recent (count + 1) (omega arith))
+          (precede_one name R (count + 1) (λ j low high. ap (comes_before (get_or R j [])) in_recent ∙ others.order count j (omega (arith, low)) high)));
       numbers = λ n. more_numbers n from to count sorted recent all key le lt is (so.numbers n);
     }
 

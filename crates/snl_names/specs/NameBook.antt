@@ -1,5 +1,5 @@
 -- Different names, and the keys by which they are found.
-use Rattle.std.specs.Prelude.{◌≡◌, ℕ, ◌<◌, Bool, true, ◌||◌, if◌then◌else◌, List, [], ◌∷◌, ◌++◌, bytes_eq, get_or, is_some, length, position, Some}
+use Rattle.std.specs.Prelude.{◌≡◌, ℕ, ◌<◌, true, ◌||◌, if◌then◌else◌, List, [], ◌∷◌, ◌++◌, bytes_eq, get_or, is_some, length, position, Some}
 use Rattle.snl_names.specs.Keys.{AreKeys, has_number}
 use Rattle.snl_names.specs.declared.keys.Key.{Key}
 

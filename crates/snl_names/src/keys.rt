@@ -1,9 +1,8 @@
 //! Keys by which names are found, by halving.
 
-ghost use Rattle.std.specs.Prelude.{◌≡◌, ◌≢◌, ◌≤◌, ◌<◌, [], All, MatchOption, Some, false, get_or, length, slice_get, true};
-ghost use Rattle.std.specs.List.{AllWithin};
+ghost use Rattle.std.specs.Prelude.{◌≡◌, ◌≤◌, [], get_or, length};
 ghost use Rattle.std.specs.List.Sorted.{IsNonDecreasingBy};
-ghost use Rattle.snl_names.specs.Keys.{AreKeys, IsKey, comes_before, print_in, spelled};
+ghost use Rattle.snl_names.specs.Keys.{AllBefore, AllLess, AreKeys, IsFound, IsKey, NoneBefore, NoneLess, comes_before, print_in};
 ghost use Rattle.snl_names.specs.Prints.{print_of};
 
 use crate::spellings::Spellings;
@@ -42,11 +41,11 @@ pub(crate) fn place(
     requires print { print ≡ print_of name.now }
     requires range { from ≤ to }
     requires within { to ≤ length keys.now }
-    requires rest { AllWithin (λ n. comes_before n name.now ≡ false) (spelled names.now keys.now) to (length keys.now) }
+    requires rest { NoneBefore names.now keys.now name.now to (length keys.now) }
     ensures from { from ≤ result }
     ensures within { result ≤ length keys.now }
-    ensures before { AllWithin (λ n. comes_before n name.now ≡ true) (spelled names.now keys.now) from result }
-    ensures rest { AllWithin (λ n. comes_before n name.now ≡ false) (spelled names.now keys.now) result (length keys.now) }
+    ensures before { AllBefore names.now keys.now name.now from result }
+    ensures rest { NoneBefore names.now keys.now name.now result (length keys.now) }
 {
     let mut low = from;
     let mut high = to;
@@ -69,7 +68,7 @@ fn reach(keys: &[Key], names: &Spellings, from: usize, print: u64, name: &[u8]) 
     requires from { from ≤ length keys.now }
     ensures from { from ≤ result }
     ensures within { result ≤ length keys.now }
-    ensures rest { AllWithin (λ n. comes_before n name.now ≡ false) (spelled names.now keys.now) result (length keys.now) }
+    ensures rest { NoneBefore names.now keys.now name.now result (length keys.now) }
 {
     let mut to = from;
     while to < keys.len() && is_before(keys[to], names, print, name) {
@@ -91,8 +90,8 @@ pub(crate) fn place_from(
     requires from { from ≤ length keys.now }
     ensures from { from ≤ result }
     ensures within { result ≤ length keys.now }
-    ensures before { AllWithin (λ n. comes_before n name.now ≡ true) (spelled names.now keys.now) from result }
-    ensures rest { AllWithin (λ n. comes_before n name.now ≡ false) (spelled names.now keys.now) result (length keys.now) }
+    ensures before { AllBefore names.now keys.now name.now from result }
+    ensures rest { NoneBefore names.now keys.now name.now result (length keys.now) }
 {
     let to = reach(keys, names, from, print, name);
     place(keys, names, from, to, print, name)
@@ -103,8 +102,8 @@ pub(crate) fn place_from(
 fn first_of_print(keys: &[Key], print: u64) -> usize
     requires { IsNonDecreasingBy print_in keys.now }
     ensures within { result ≤ length keys.now }
-    ensures before { AllWithin (λ k. k.print < print) keys.now 0 result }
-    ensures rest { AllWithin (λ k. print ≤ k.print) keys.now result (length keys.now) }
+    ensures before { AllLess keys.now print 0 result }
+    ensures rest { NoneLess keys.now print result (length keys.now) }
 {
     keys.partition_point(|key| key.print < print)
 }
@@ -122,11 +121,8 @@ fn number_of_shared_print(
     requires keys { AreKeys names.now keys.now }
     requires print { print ≡ print_of name.now }
     requires from { from ≤ length keys.now }
-    requires before { AllWithin (λ k. k.print < print) keys.now 0 from }
-    ensures { MatchOption
-        result
-        (All (λ n. n ≢ name.now) (spelled names.now keys.now))
-        (λ n. slice_get names.now n ≡ Some name.now) }
+    requires before { AllLess keys.now print 0 from }
+    ensures { IsFound names.now keys.now name.now result }
 {
     let at = place(keys, names, from, keys.len(), print, name);
     if at == keys.len() {
@@ -149,10 +145,7 @@ pub(crate) fn number_among(
 ) -> Option<usize>
     requires keys { AreKeys names.now keys.now }
     requires print { print ≡ print_of name.now }
-    ensures { MatchOption
-        result
-        (All (λ n. n ≢ name.now) (spelled names.now keys.now))
-        (λ n. slice_get names.now n ≡ Some name.now) }
+    ensures { IsFound names.now keys.now name.now result }
 {
     let first = first_of_print(keys, print);
     if first == keys.len() {

@@ -1,5 +1,5 @@
-//! A book of different names with lasting numbers. It is held in flat lists, so that a copy is a few
-//! moves of memory, and names are found by halving, so that no choice of names makes it slow.
+//! A book of different names with lasting numbers. It is held in flat lists, so that a copy is a
+//! few moves of memory, and names are found by halving, so that no choice of names makes it slow.
 #![tactic(auto)]
 
 mod keys;

@@ -7,8 +7,8 @@ use crate::keys::{Key, place_from};
 use crate::spellings::Spellings;
 use snl_cut::OutOfMemory;
 
-/// Puts the keys of two lists into one list, in place of what was there. Those of the first list are
-/// copied in runs, between the places of the others, so that names are compared only to find these.
+/// Puts the keys of two lists into one list, in place of what was there. Those of the first list
+/// are copied in runs, between the places of the others. Names are compared only to find these.
 pub(crate) fn merge(
     sorted: &[Key],
     recent: &[Key],
@@ -18,7 +18,10 @@ pub(crate) fn merge(
     requires sorted { AreKeys names.now sorted.now }
     requires recent { AreKeys names.now recent.now }
     ensures keys { OnOk result (AreKeys names.now all.new.items) }
-    ensures numbers { OnOk result ((n : ℕ) → has_number n all.new.items ≡ (has_number n sorted.now || has_number n recent.now)) }
+    ensures numbers { OnOk
+        result
+        ((n : ℕ) → has_number n all.new.items
+        ≡ (has_number n sorted.now || has_number n recent.now)) }
 {
     all.clear();
     all.reserve(sorted.len() + recent.len())?;

@@ -23,6 +23,8 @@ mod lists;
 #[cfg(test)]
 mod marks;
 #[cfg(test)]
+mod names;
+#[cfg(test)]
 mod nesting;
 #[cfg(test)]
 mod pieces;

@@ -1,4 +1,4 @@
-use Rattle.std.proofs.Common.{◌≡◌, ℕ, ◌∙◌, ap, arith, cond, get_or, length, nat_eq, nat_lt, sym, List, [], false}
+use Rattle.std.proofs.Common.{◌≡◌, ℕ, ◌∙◌, ap, get_or, nat_eq, nat_lt, sym, List, [], false}
 use Rattle.std.proofs.lemmas.Bool.{ne_eqb}
 use Rattle.std.proofs.lemmas.Option.{get_or_from_slice_get}
 use Rattle.std.specs.Cmp.Lexicographic.{slice_cmp}

@@ -1,4 +1,4 @@
-use Rattle.std.proofs.Common.{◌≡◌, ℕ, ◌<◌, ◌≤◌, arith, get_or, inl, inr, length}
+use Rattle.std.proofs.Common.{ℕ, ◌<◌, ◌≤◌, arith, get_or, inl, inr, length}
 use Rattle.std.proofs.lemmas.Bool.{cases_lt}
 use Rattle.snl_names.specs.declared.keys.Key.{Key}
 use Rattle.snl_names.proofs.Places.{other_prints, prints_rise}

@@ -1,4 +1,4 @@
-use Rattle.std.proofs.Common.{◌≡◌, ◌≢◌, ℕ, ◌<◌, ◌∙◌, [], List, arith, get_or, length, sym}
+use Rattle.std.proofs.Common.{◌≡◌, ◌≢◌, ℕ, ◌∙◌, [], arith, get_or, sym}
 use Rattle.std.proofs.lemmas.Option.{get_or_from_slice_get}
 use Rattle.snl_names.specs.declared.keys.Key.{Key}
 use Rattle.snl_names.proofs.Places.{not_there, other_bytes, spelled_at}

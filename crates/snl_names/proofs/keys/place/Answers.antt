@@ -1,6 +1,5 @@
-use Rattle.std.proofs.Common.{◌≡◌, ℕ, ◌+◌, ◌-◌, ◌/◌, ◌≤◌, ◌<◌, ◌∙◌, [], List, Bool, true, false, ap, arith, get_or, length, sym}
+use Rattle.std.proofs.Common.{◌≡◌, ℕ, ◌+◌, ◌-◌, ◌/◌, ◌<◌, ◌∙◌, [], List, true, false, ap, arith, get_or, length, sym}
 use Rattle.snl_names.specs.Keys.{comes_before, spelled}
-use Rattle.snl_names.specs.declared.keys.Key.{Key}
 use Rattle.snl_names.proofs.Places.{before_to, length_spelled, rest_from, spelled_at}
 use Rattle.snl_names.proofs.keys.place.Goals as goal
 

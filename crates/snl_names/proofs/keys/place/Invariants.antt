@@ -1,4 +1,4 @@
-use Rattle.std.proofs.Common.{◌≡◌, ℕ, ◌-◌, ◌≤◌, false, length, true}
+use Rattle.std.proofs.Common.{◌≡◌, ◌-◌, ◌≤◌, false, length, true}
 use Rattle.std.specs.List.{AllWithin}
 use Rattle.snl_names.specs.Keys.{comes_before, spelled}
 use Rattle.snl_names.proofs.keys.place.Given as goal

@@ -1,5 +1,3 @@
-use Rattle.std.proofs.Common.{◌≡◌, ◌≤◌, length, take, drop}
-use Rattle.snl_names.specs.Keys.{AreKeys, has_number, spelled}
 use Rattle.snl_names.proofs.Merges.{IsMerging}
 use Rattle.snl_names.proofs.merging.merge.Given as goal
 

@@ -1,4 +1,4 @@
-use Rattle.std.proofs.Common.{◌≡◌, ◌-◌, ◌∙◌, arith, get_or}
+use Rattle.std.proofs.Common.{arith}
 use Rattle.snl_names.proofs.Ends.{start_at}
 use Rattle.snl_names.proofs.spellings.start_of.Goals as goal
 

@@ -1,4 +1,4 @@
-use Rattle.std.proofs.Common.{◌≡◌, ℕ, ◌≤◌, ◌++◌, ◌∷◌, [], Bool, List, None, true, false, ap, arith, is_ok, length, subst, sym, ◌∙◌}
+use Rattle.std.proofs.Common.{◌≡◌, ℕ, ◌++◌, ◌∷◌, [], Bool, List, None, true, false, ap, arith, is_ok, length, subst, sym, ◌∙◌}
 use Rattle.std.specs.Prelude.{if◌then◌else◌, insert}
 use Rattle.std.specs.List.{AllWithin, position}
 use Rattle.std.specs.Str.{bytes_eq}

@@ -1,4 +1,4 @@
-use Rattle.std.proofs.Common.{List, ℕ, subst}
+use Rattle.std.proofs.Common.{subst}
 use Rattle.snl_names.specs.NameBook.{AllDiffer}
 use Rattle.snl_names.proofs.name_book.NameBook.differ.Goals as goal
 
