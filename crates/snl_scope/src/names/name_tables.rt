@@ -122,7 +122,7 @@ fn set_name(outline: &Outline) -> Option<&[u8]>
     ensures { option_copied result ≡ set_name outline.now }
 {
     match outline.role {
-        Role::SetBegin => outline.second.as_ref().map(|name| name.get().bytes()),
+        Role::SetBegin => outline.second.as_ref().map(|name| name.bytes()),
         _ => None,
     }
 }
@@ -132,7 +132,7 @@ fn state_name(outline: &Outline) -> Option<&[u8]>
     ensures { option_copied result ≡ state_name outline.now }
 {
     match outline.opening {
-        Opening::State => outline.second.as_ref().map(|name| name.get().bytes()),
+        Opening::State => outline.second.as_ref().map(|name| name.bytes()),
         _ => None,
     }
 }
