@@ -13,10 +13,10 @@ use crate::options::add_unknown_options;
 use crate::view::View;
 use snl_cut::{Count, OutOfMemory};
 use snl_lex::Piece;
-use snl_lists::Few;
 use snl_scope::Links;
 use snl_syntax::tree::item::Item;
 use snl_walk::{Finding, Occurrence, Source, findings, occurrences, target_uses, wake_uses};
+use sqlite_items::Items;
 use std::alloc::Global;
 
 fn add_findings(findings: &[Finding], faults: &mut Vec<ItemFault>) -> Result<(), OutOfMemory>
@@ -71,9 +71,9 @@ fn checked_by(source: &Source, tree: &Item, view: &View) -> Result<Checked, OutO
 {
     let alloc = source.alloc;
     let found = occurrences(source, tree)?;
-    let faults = Few::from_vec(alloc, faults_of(source, tree, view, &found)?)?;
-    let wake_uses = Few::from_vec(alloc, wake_uses(source, &found)?)?;
-    let target_uses = Few::from_vec(alloc, target_uses(alloc, &found)?)?;
+    let faults = Items::from_vec(faults_of(source, tree, view, &found)?);
+    let wake_uses = Items::from_vec(wake_uses(source, &found)?);
+    let target_uses = Items::from_vec(target_uses(alloc, &found)?);
     Ok(Checked {
         faults,
         wake_uses,
@@ -111,7 +111,7 @@ pub fn check_item(
         alloc,
     };
     match tree {
-        Item::Empty | Item::SsEnd => Ok(Checked::clean()),
+        Item::Empty | Item::SsEnd => Ok(Checked::clean(alloc)),
         _ => checked_by(&source, tree, &View { links, item }),
     }
 }

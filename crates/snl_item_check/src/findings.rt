@@ -3,8 +3,9 @@
 ghost use Rattle.std.specs.Prelude.{◌≡◌, []};
 
 use snl_codes::Code;
-use snl_lists::Few;
 use snl_walk::{TargetUse, WakeUse};
+use sqlite_items::Items;
+use std::alloc::Global;
 
 /// A finding at a token of an item: the token is its number in the item.
 #[derive(Clone, Copy, Debug, PartialEq, Eq)]
@@ -17,22 +18,22 @@ pub struct ItemFault {
 
 /// What a check of an item gives.
 pub struct Checked {
-    pub faults: Few<ItemFault>,
+    pub faults: Items<ItemFault>,
     /// The uses of names in its conditions, in the order of the text.
-    pub wake_uses: Few<WakeUse>,
+    pub wake_uses: Items<WakeUse>,
     /// The names of the states that it leads to, in the order of the text.
-    pub target_uses: Few<TargetUse>,
+    pub target_uses: Items<TargetUse>,
 }
 
 impl Checked {
     /// What the check gives of an item in which nothing is found, and nothing used.
-    pub fn clean() -> Checked
+    pub fn clean(alloc: Global) -> Checked
         ensures { result ≡ record { faults = []; wake_uses = []; target_uses = [] } }
     {
         Checked {
-            faults: Few::new(),
-            wake_uses: Few::new(),
-            target_uses: Few::new(),
+            faults: Items::new(alloc),
+            wake_uses: Items::new(alloc),
+            target_uses: Items::new(alloc),
         }
     }
 }

@@ -17,7 +17,7 @@ use std::alloc::Global;
 pub fn clean_check(alloc: Global) -> Result<Shared<Option<Checked>>, OutOfMemory>
     ensures { IfOk result (λ clean. clean ≡ Some clean_check) }
 {
-    Ok(Shared::new(alloc, Some(Checked::clean()))?)
+    Ok(Shared::new(alloc, Some(Checked::clean(alloc)))?)
 }
 
 // Whether nothing is found in an item.

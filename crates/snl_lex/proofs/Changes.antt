@@ -62,14 +62,6 @@ pub front_ends : (text : List ℕ) (k : ℕ) → last_end 0 (take k (piece_ends 
 front_ends text k = walk_le text (last_end 0 (take k (piece_ends text))) (drop k (piece_ends text)) (length text) (rest_walk text k)
 
 module _ (old text : List ℕ) (start b c front : ℕ) (ends : List ℕ) (kinds : List Class) (back : ℕ) (is : IsRelexed old text start b c front ends kinds back) where
-  pub ends_inside : (k d : ℕ) → k < length ends → get_or ends k d ≤ length text
-  ends_inside k d lt =
-      let ps : List Piece = relexed_pieces old front ends kinds in
-      let few : k < length ps = omega (arith, lt, ap length is.ends, length-map ps piece_end) in
-      let p : Piece = record { kind = Bad; start = 0; len = 0 } in
-      let there : get_or ends k d ≡ piece_end (get_or ps k p) = ap (λ (l : List ℕ). get_or l k d) is.ends ∙ get_or-map piece_end ps k p d few in
-      omega (arith, there, (part_lies text (take front (pieces_of old)) ps (map (moved_piece b c) (last_pieces old back)) is.pieces k p few).1)
-
   pub as_many_kinds : length ends ≡ length kinds
   as_many_kinds =
       let ps : List Piece = relexed_pieces old front ends kinds in

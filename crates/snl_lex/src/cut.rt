@@ -11,7 +11,9 @@ ghost use Rattle.std.specs.Prelude.{◌≡◌, ◌+◌, ◌-◌, ◌^◌, ◌<�
 
 use crate::piece::{Class, Piece};
 use crate::scan::first_piece;
-use snl_cut::{Count, Ends, Front, NotedRecut, Noting, OutOfMemory, recut_noted};
+use snl_cut::{
+    Count, Ends, Front, NarrowRecut, NotedRecut, Noting, OutOfMemory, recut_narrow, recut_noted,
+};
 use std::alloc::Global;
 
 /// The front that cuts a text into pieces: its units are bytes.
@@ -136,6 +138,32 @@ pub fn relex_by<E: Ends>(
     ensures counted { Counted work.old work.new }
 {
     let relexed = recut_noted(
+        alloc, &Bytes, old_text, old, text, start, old_stop, new_stop, work,
+    )?;
+    Ok(relexed)
+}
+
+/// The same with four bytes for each end that is made: the new text is shorter than 4 GiB.
+pub fn relex_narrow<E: Ends>(
+    alloc: Global,
+    old_text: &[u8],
+    old: &E,
+    text: &[u8],
+    start: usize,
+    old_stop: usize,
+    new_stop: usize,
+    work: &mut Count,
+) -> Result<NarrowRecut<Class>, OutOfMemory>
+    requires old_ends { E.listed old.now ≡ map piece_end (pieces_of old_text.now) }
+    requires edit { IsEdit old_text.now text.now start old_stop new_stop }
+    requires short { length text.now < 2 ^ 32 }
+    ensures relexed { IfOk
+        result
+        (λ r. IsRelexed old_text.now text.now start old_stop new_stop r.kept_front r.made.items r.notes.items r.kept_back) }
+    ensures ticks { IfOk result (λ r. work.new ≡ after_ticks work.old (length r.made.items)) }
+    ensures counted { Counted work.old work.new }
+{
+    let relexed = recut_narrow(
         alloc, &Bytes, old_text, old, text, start, old_stop, new_stop, work,
     )?;
     Ok(relexed)

@@ -23,7 +23,7 @@ mod shift;
 mod token_kind;
 mod word;
 
-pub use cut::{Bytes, Relexed, lex, relex, relex_by};
+pub use cut::{Bytes, Relexed, lex, relex, relex_by, relex_narrow};
 pub use edit::TextEdit;
 pub use kind::Kind;
 pub use laws::{

@@ -12,7 +12,7 @@ ghost use Rattle.snl_lex.specs.Shift.{marker_count};
 ghost use Rattle.snl_lists.specs.Moves.{replaced};
 ghost use Rattle.std.specs.Prelude.{◌≡◌, ◌+◌, ◌^◌, ◌<◌, ◌≤◌, All, IfOk, OnOk, count_by, length, map, vec_capacity, vec_len};
 
-use crate::cut::{end_by, relex_by};
+use crate::cut::{end_by, relex_narrow};
 use crate::edit::TextEdit;
 use crate::piece::{Class, Piece};
 use snl_cut::{Count, Narrow, OutOfMemory};
@@ -38,19 +38,6 @@ pub struct PieceChange {
     pub list: PieceList,
     pub kept_back: usize,
     pub kept_from: usize,
-}
-
-// The places in four bytes each. There is room for all before the loop, so that no place looks for
-// it.
-fn narrow(alloc: Global, places: &[usize]) -> Result<Vec<u32>, OutOfMemory>
-    requires { All (λ p. p < 2 ^ 32) places.now }
-    ensures { IfOk result (λ narrow. narrow.items ≡ places.now) }
-{
-    let mut narrow = Vec::with_capacity(alloc, places.len())?;
-    for place in places {
-        narrow.push_reserved(*place as u32);
-    }
-    Ok(narrow)
 }
 
 // How many of these classes are line markers.
@@ -119,7 +106,7 @@ impl PieceList {
         ensures counted { Counted work.old work.new }
     {
         let old = Narrow { ends: &self.ends };
-        let relexed = relex_by(
+        let relexed = relex_narrow(
             alloc,
             edit.old,
             &old,
@@ -131,7 +118,7 @@ impl PieceList {
         )?;
         let made_from = end_by(&old, relexed.kept_front) as u32;
         let kept_from = end_by(&old, self.ends.len() - relexed.kept_back);
-        let ends = narrow(alloc, &relexed.made)?;
+        let ends = relexed.made;
         let kinds = relexed.notes;
         let markers = count_markers(&kinds);
         Ok(PieceChange {

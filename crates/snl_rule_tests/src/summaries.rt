@@ -227,7 +227,7 @@ static BEGINNINGS: [(&[u8], &[u8], ItemKind, Opening); 19] = [
 
 fn second_of(summary: &Summary) -> &[u8] {
     match &summary.outline.second {
-        Some(name) => name.get().bytes(),
+        Some(name) => name.bytes(),
         None => &[],
     }
 }

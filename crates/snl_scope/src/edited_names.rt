@@ -89,7 +89,7 @@ fn add_spoken<'a>(outline: &'a Outline, names: &mut Vec<&'a [u8]>) -> Result<(),
     add_declared(outline.declares.as_slice(), names)?;
     add_clauses(outline.clauses.as_slice(), names)?;
     if let Some(second) = &outline.second {
-        names.push(second.get().bytes())?;
+        names.push(second.bytes())?;
     }
     Ok(())
 }

@@ -1,5 +1,6 @@
 pub mod Kept
 pub mod Tables
+pub mod Few
 pub mod Loops
 pub mod OccurrenceLoops
 pub mod Operands

@@ -9,7 +9,7 @@ use Rattle.std.proofs.lemmas.Option.{slice_get-get_or, slice_get_within}
 use Rattle.indexmap.specs.IndexMap.{insert_entry}
 use Rattle.snl_walk.specs.declared.name_key.NameKey.{NameKey}
 use Rattle.snl_walk.specs.declared.occurrence.Local.{Local}
-use Rattle.snl_walk.specs.declared.visible.VisibleName.{VisibleName}
+use Rattle.snl_walk.specs.declared.stack.VisibleName.{VisibleName}
 use Rattle.snl_walk.specs.Scopes.{look_up}
 use Rattle.snl_walk.specs.Stack.{IsStacked, KeepsEarlier, newest_first, shown, told_by}
 

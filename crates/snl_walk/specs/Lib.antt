@@ -3,6 +3,7 @@ pub mod Once
 pub mod Calls
 pub mod Scopes
 pub mod Stack
+pub mod Few
 pub mod Expressions
 pub mod Declares
 pub mod Statements

@@ -3,7 +3,7 @@ use Rattle.std.specs.Prelude.{◌≡◌, ℕ, List, [], ◌∷◌, map, reverse,
 use Rattle.std.specs.Str.{bytes_eq}
 use Rattle.snl_walk.specs.declared.name_key.NameKey.{NameKey}
 use Rattle.snl_walk.specs.declared.occurrence.Local.{Local}
-use Rattle.snl_walk.specs.declared.visible.VisibleName.{VisibleName}
+use Rattle.snl_walk.specs.declared.stack.VisibleName.{VisibleName}
 use Rattle.snl_walk.specs.Scopes.{look_up}
 
 abbrev pub shown : VisibleName → List ℕ × Local

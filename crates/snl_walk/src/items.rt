@@ -355,7 +355,9 @@ pub fn occurrences(source: &Source, tree: &Item) -> Result<Vec<Occurrence>, OutO
     requires { IsSource source.now.text.now source.now.tokens.now }
     ensures { IfOk result (λ v. v.items ≡ occurrences (bytes_in source.now) tree.now) }
 {
-    let mut found = Vec::new(source.alloc);
+    // An item with a few tokens has one at most, and the others are seldom more than these.
+    let room = source.tokens.len() / 4;
+    let mut found = Vec::with_capacity(source.alloc, room)?;
     add_item(source, tree, &mut found)?;
     Ok(found)
 }

@@ -14,6 +14,7 @@ mod occurrence;
 mod other_items;
 mod rules;
 mod source;
+mod stack;
 mod statements;
 mod undeclared;
 mod used;

@@ -10,24 +10,36 @@ use snl_cut::OutOfMemory;
 use std::alloc::Global;
 use std::marker::Model;
 
-/// Different names, which contracts see as their list, in the order in which they came.
+/// So many names are looked through one by one, which takes less than to hash one.
+const FEW: usize = 8;
+
+/// Different names, which contracts see as their list, in the order in which they came. The first
+/// few are in a list, and those after them in a table.
 pub struct NameSet<'a> {
-    held: IndexSet<NameKey<'a>>,
+    few: Vec<NameKey<'a>>,
+    more: IndexSet<NameKey<'a>>,
 }
 
 // By hand, so that whoever holds names need not know how they are held to let them go.
 impl Drop for NameSet<'_> {
     fn drop(self) {
-        let NameSet { held: _ } = self;
+        let NameSet { few: _, more: _ } = self;
     }
 }
 
 impl<'a> Model for NameSet<'a> {
-    ghost use Rattle.std.specs.Prelude.{ℕ, List, map};
+    ghost use Rattle.std.specs.Prelude.{ℕ, List, ◌++◌, map};
 
     ghost Value = { List (List ℕ) };
 
-    ghost view = { λ a. map (λ k. k.bytes.now) a.held.keys };
+    ghost view = { λ a. map (λ k. k.bytes.now) (a.few.items ++ a.more.keys) };
+}
+
+// Whether a name is one of these.
+fn is_among(keys: &[NameKey], name: &[u8]) -> bool
+    ensures { result ≡ list_any (λ k. bytes_eq name.now k.bytes.now) keys.now }
+{
+    keys.iter().any(|key| name == key.bytes)
 }
 
 impl<'a> NameSet<'a> {
@@ -35,7 +47,8 @@ impl<'a> NameSet<'a> {
         ensures { result ≡ [] }
     {
         NameSet {
-            held: IndexSet::new(alloc),
+            few: Vec::new(alloc),
+            more: IndexSet::new(alloc),
         }
     }
 
@@ -44,13 +57,20 @@ impl<'a> NameSet<'a> {
         ensures names { OnOk result (self.new ≡ with_new self.old name.now) }
         ensures added { IfOk result (λ added. added ≡ not (list_any (bytes_eq name.now) self.old)) }
     {
-        Ok(self.held.insert(NameKey { bytes: name })?)
+        if is_among(&self.few, name) {
+            return Ok(false);
+        }
+        if self.few.len() < FEW && self.more.is_empty() {
+            self.few.push(NameKey { bytes: name })?;
+            return Ok(true);
+        }
+        Ok(self.more.insert(NameKey { bytes: name })?)
     }
 
     /// Whether a name is among them.
     pub fn contains(&self, name: &[u8]) -> bool
         ensures { result ≡ list_any (bytes_eq name.now) self.now }
     {
-        self.held.contains(&NameKey { bytes: name })
+        is_among(&self.few, name) || self.more.contains(&NameKey { bytes: name })
     }
 }

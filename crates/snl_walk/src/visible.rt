@@ -1,50 +1,63 @@
 //! The names that are visible where a walk is, the nearest first.
 
 ghost use Rattle.std.specs.Prelude.{◌≡◌, [], ◌∷◌, drop, OnOk};
+ghost use Rattle.snl_walk.specs.Few.{nearest};
 ghost use Rattle.snl_walk.specs.Scopes.{look_up};
 
-use crate::name_key::NameKey;
 use crate::occurrence::Local;
-use indexmap::IndexMap;
+use crate::stack::Stack;
 use snl_cut::OutOfMemory;
 use std::alloc::Global;
 use std::marker::Model;
 
-// A declaration, and what its name meant before it was taken in.
-#[derive(Drop)]
-struct VisibleName<'a> {
+/// So many declarations are looked through one by one, which takes less than to hash a name.
+const FEW: usize = 8;
+
+// A declaration and its name.
+#[derive(Clone, Copy)]
+struct FewName<'a> {
     name: &'a [u8],
     declared: Local,
-    earlier: Option<Local>,
 }
 
 /// Names with their declarations, the last one taken in first, which contracts see as that list.
-/// The last declaration of a name that was taken in counts; a table finds it at once.
+/// The last declaration of a name that was taken in counts. The first few that were taken in are in
+/// a list, and those after them in a stack with a table.
 pub(crate) struct Visible<'a> {
-    entries: Vec<VisibleName<'a>>,
-    held: IndexMap<NameKey<'a>, Option<Local>>,
+    few: Vec<FewName<'a>>,
+    more: Stack<'a>,
 }
 
 // By hand, so that whoever holds names need not know how they are held to let them go.
 impl Drop for Visible<'_> {
     fn drop(self) {
-        let Visible {
-            entries: _,
-            held: _,
-        } = self;
+        let Visible { few: _, more: _ } = self;
     }
 }
 
 impl<'a> Model for Visible<'a> {
-    ghost use Rattle.std.specs.Prelude.{ℕ, List};
+    ghost use Rattle.std.specs.Prelude.{ℕ, List, ◌++◌};
     ghost use Rattle.snl_walk.specs.declared.occurrence.Local.{Local};
-    ghost use Rattle.snl_walk.specs.Stack.{IsStacked, newest_first};
+    ghost use Rattle.snl_walk.specs.Few.{nearest};
 
     ghost Value = { List (List ℕ × Local) };
 
-    ghost view = { λ v. newest_first v.entries.items };
+    ghost view = { λ v. v.more ++ nearest v.few.items };
+}
 
-    ghost invariant = { λ v. IsStacked v.entries.items v.held.entries };
+// What a name means by these declarations, of which the last one counts.
+fn meant_by(few: &[FewName], name: &[u8]) -> Option<Local>
+    ensures { result ≡ look_up name.now (nearest few.now) }
+{
+    let mut left = few.len();
+    while left > 0 {
+        left -= 1;
+        let last = few[left];
+        if name == last.name {
+            return Some(last.declared);
+        }
+    }
+    None
 }
 
 impl<'a> Visible<'a> {
@@ -52,8 +65,8 @@ impl<'a> Visible<'a> {
         ensures { result ≡ [] }
     {
         Visible {
-            entries: Vec::new(alloc),
-            held: IndexMap::new(alloc),
+            few: Vec::new(alloc),
+            more: Stack::new(alloc),
         }
     }
 
@@ -61,13 +74,9 @@ impl<'a> Visible<'a> {
     pub(crate) fn get(&self, name: &[u8]) -> Option<Local>
         ensures { result ≡ look_up name.now self.now }
     {
-        // Most items declare nothing, and then no name needs to be hashed.
-        if self.entries.is_empty() {
-            return None;
-        }
-        match self.held.get(&NameKey { bytes: name }) {
-            Some(declared) => *declared,
-            None => None,
+        match self.more.get(name) {
+            Some(declared) => Some(declared),
+            None => meant_by(&self.few, name),
         }
     }
 
@@ -75,27 +84,24 @@ impl<'a> Visible<'a> {
     pub(crate) fn push(&mut self, name: &'a [u8], declared: Local) -> Result<(), OutOfMemory>
         ensures { OnOk result (self.new ≡ (name.now, declared) ∷ self.old) }
     {
-        self.entries.reserve(1)?;
-        let held = self.held.insert(NameKey { bytes: name }, Some(declared))?;
-        self.entries.push_reserved(VisibleName {
-            name,
-            declared,
-            earlier: held.flatten(),
-        });
-        Ok(())
+        if self.few.len() < FEW && self.more.is_empty() {
+            self.few.push(FewName { name, declared })?;
+            Ok(())
+        } else {
+            self.more.push(name, declared)
+        }
     }
 
     // Lets go of the declaration that was taken in last.
     fn pop(&mut self) -> Result<(), OutOfMemory>
         ensures { OnOk result (self.new ≡ drop 1 self.old) }
     {
-        if let Some(last) = self.entries.last() {
-            let name = last.name;
-            let earlier = last.earlier;
-            self.held.insert(NameKey { bytes: name }, earlier)?;
-            self.entries.pop();
+        if self.more.is_empty() {
+            let _last = self.few.pop();
+            Ok(())
+        } else {
+            self.more.pop()
         }
-        Ok(())
     }
 
     /// Lets go of so many declarations, those that were taken in last.

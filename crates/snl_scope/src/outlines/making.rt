@@ -11,7 +11,6 @@ use crate::summaries::name::Name;
 use crate::summaries::summary::{Declared, NameRef, Outline, Summary, VariableClause};
 use snl_cut::OutOfMemory;
 use snl_names::NameBook;
-use sqlite_items::Boxed;
 use std::alloc::Global;
 
 // Takes the names of declarations in.
@@ -95,7 +94,7 @@ fn add_clauses(
 
 fn flat_second(
     names: &mut NameBook,
-    second: &Option<Boxed<Name>>,
+    second: &Option<Name>,
 ) -> Result<Option<usize>, OutOfMemory>
     ensures names { OnOk result (Extends names.old names.new) }
     ensures told { IfOk result (λ o. option_map (name_at names.new) o ≡ second.now) }
@@ -103,7 +102,7 @@ fn flat_second(
 {
     match second {
         Some(name) => {
-            let number = names.add(name.get().bytes())?;
+            let number = names.add(name.bytes())?;
             Ok(Some(number))
         }
         None => Ok(None),

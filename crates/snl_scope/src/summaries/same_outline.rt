@@ -5,7 +5,6 @@ ghost use Rattle.std.specs.Prelude.{◌≡◌, ◌↔◌, IsTrue};
 
 use crate::summaries::name::Name;
 use crate::summaries::summary::{Declared, NameRef, Outline, VariableClause};
-use sqlite_items::Boxed;
 
 /// Values that can be compared.
 pub(crate) trait SameValue {
@@ -41,12 +40,6 @@ fn is_same_if<T: SameValue>(one: &Option<T>, other: &Option<T>) -> bool
 impl SameValue for Name {
     fn is_same(&self, other: &Name) -> bool {
         self.bytes() == other.bytes()
-    }
-}
-
-impl SameValue for Boxed<Name> {
-    fn is_same(&self, other: &Boxed<Name>) -> bool {
-        self.get().is_same(other.get())
     }
 }
 

@@ -19,10 +19,9 @@ use crate::summaries::summary::{
 use crate::summaries::token_names::{name_refs, names_once};
 use snl_cut::OutOfMemory;
 use snl_lex::{Class, Piece, token_text};
-use snl_lists::Few;
 use snl_syntax::tree::item::Item;
 use snl_walk::{Occurrence, Source, occurrences, targets, uses};
-use sqlite_items::Boxed;
+use sqlite_items::Items;
 use std::alloc::Global;
 
 fn kind_of_tree(tree: &Item) -> ItemKind
@@ -106,16 +105,13 @@ fn opening_of(source: &Source) -> Opening
 }
 
 // The second token, if that is a name.
-fn second_of(source: &Source) -> Result<Option<Boxed<Name>>, OutOfMemory>
+fn second_of(source: &Source) -> Result<Option<Name>, OutOfMemory>
     requires { IsSource source.now.text.now source.now.tokens.now }
     ensures { IfOk result (λ name. name ≡ second_in source.now.text.now source.now.tokens.now) }
 {
     match source.tokens.get(1) {
         Some(second) => match second.kind {
-            Class::Name => {
-                let name = Name::new(source.alloc, token_text(source.text, *second))?;
-                Ok(Some(Boxed::new(source.alloc, name)?))
-            }
+            Class::Name => Ok(Some(Name::new(source.alloc, token_text(source.text, *second))?)),
             _ => Ok(None),
         },
         None => Ok(None),
@@ -135,7 +131,7 @@ fn occurrences_in(source: &Source, tree: Option<&Item>) -> Result<Vec<Occurrence
 }
 
 // The names that the item uses, each once.
-fn used_names(source: &Source, found: &[Occurrence]) -> Result<Few<Name>, OutOfMemory>
+fn used_names(source: &Source, found: &[Occurrence]) -> Result<Items<Name>, OutOfMemory>
     requires { IsSource source.now.text.now source.now.tokens.now }
     ensures { IfOk result (λ names. names ≡ once (map (bytes_in source.now) (uses found.now))) }
 {
@@ -143,7 +139,7 @@ fn used_names(source: &Source, found: &[Occurrence]) -> Result<Few<Name>, OutOfM
 }
 
 // The states that the item leads to.
-fn target_names(source: &Source, found: &[Occurrence]) -> Result<Few<NameRef>, OutOfMemory>
+fn target_names(source: &Source, found: &[Occurrence]) -> Result<Items<NameRef>, OutOfMemory>
     requires { IsSource source.now.text.now source.now.tokens.now }
     ensures { IfOk result (λ m. m
         ≡ map (name_ref_at source.now.text.now source.now.tokens.now) (targets found.now)) }
@@ -155,7 +151,7 @@ fn target_names(source: &Source, found: &[Occurrence]) -> Result<Few<NameRef>, O
 fn asked_names(
     source: &Source,
     tree: Option<&Item>,
-) -> Result<(Few<Name>, Few<NameRef>), OutOfMemory>
+) -> Result<(Items<Name>, Items<NameRef>), OutOfMemory>
     requires { IsSource source.now.text.now source.now.tokens.now }
     ensures uses { IfOk result (λ asked. asked.0 ≡ once (map (bytes_in source.now)
         (uses (occurrences_in (bytes_in source.now) (option_copied tree.entry))))) }
@@ -169,20 +165,23 @@ fn asked_names(
     Ok((uses, targets))
 }
 
-fn few_declared(source: &Source, tree: Option<&Item>) -> Result<Few<Declared>, OutOfMemory>
+fn listed_names(source: &Source, tree: Option<&Item>) -> Result<Items<Declared>, OutOfMemory>
     requires { IsSource source.now.text.now source.now.tokens.now }
-    ensures { IfOk result (λ few. few
+    ensures { IfOk result (λ all. all
         ≡ declared_in source.now.text.now source.now.tokens.now (option_copied tree.entry)) }
 {
-    Ok(Few::from_vec(source.alloc, declared_in(source, tree)?)?)
+    Ok(Items::from_vec(declared_in(source, tree)?))
 }
 
-fn few_clauses(source: &Source, tree: Option<&Item>) -> Result<Few<VariableClause>, OutOfMemory>
+fn listed_clauses(
+    source: &Source,
+    tree: Option<&Item>,
+) -> Result<Items<VariableClause>, OutOfMemory>
     requires { IsSource source.now.text.now source.now.tokens.now }
-    ensures { IfOk result (λ few. few
+    ensures { IfOk result (λ all. all
         ≡ clauses_in source.now.text.now source.now.tokens.now (option_copied tree.entry)) }
 {
-    Ok(Few::from_vec(source.alloc, clauses_in(source, tree)?)?)
+    Ok(Items::from_vec(clauses_in(source, tree)?))
 }
 
 // What the item says to the others.
@@ -192,8 +191,8 @@ fn outline_of(source: &Source, tree: Option<&Item>) -> Result<Outline, OutOfMemo
         ≡ outline_in source.now.text.now source.now.tokens.now (option_copied tree.entry)) }
 {
     let second = second_of(source)?;
-    let declares = few_declared(source, tree)?;
-    let clauses = few_clauses(source, tree)?;
+    let declares = listed_names(source, tree)?;
+    let clauses = listed_clauses(source, tree)?;
     let has_some = 0 < declares.len() || 0 < clauses.len();
     Ok(Outline {
         declares,

@@ -2,8 +2,7 @@
 //! Names are copied, so that a summary stands alone; a token is told by its number in the item.
 
 use crate::summaries::name::Name;
-use snl_lists::Few;
-use sqlite_items::Boxed;
+use sqlite_items::Items;
 
 /// What an item is.
 #[derive(Clone, Copy, Debug, PartialEq, Eq)]
@@ -127,10 +126,10 @@ pub struct VariableClause {
 pub struct Outline {
     /// The names that it declares outside its blocks. Those of a state are in the state's own
     /// scope.
-    pub declares: Few<Declared>,
-    pub clauses: Few<VariableClause>,
+    pub declares: Items<Declared>,
+    pub clauses: Items<VariableClause>,
     /// The second token, if that is a name; it has the number 1.
-    pub second: Option<Boxed<Name>>,
+    pub second: Option<Name>,
     pub role: Role,
     pub opening: Opening,
 }
@@ -140,9 +139,9 @@ pub struct Summary {
     pub kind: ItemKind,
     pub outline: Outline,
     /// Each name that it uses as an expression, once, in the order of first use.
-    pub uses: Few<Name>,
+    pub uses: Items<Name>,
     /// The states that its transitions name.
-    pub targets: Few<NameRef>,
+    pub targets: Items<NameRef>,
 }
 
 // By hand, so that whoever holds a summary need not know what is in its lists to let it go.

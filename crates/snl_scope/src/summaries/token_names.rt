@@ -8,8 +8,8 @@ ghost use Rattle.std.specs.Prelude.{◌≡◌, IfOk, map};
 use crate::summaries::name::Name;
 use crate::summaries::summary::NameRef;
 use snl_cut::OutOfMemory;
-use snl_lists::Few;
 use snl_walk::{NameSet, Source};
+use sqlite_items::Items;
 
 /// A copy of the bytes of a token.
 pub(crate) fn name_at(source: &Source, number: usize) -> Result<Name, OutOfMemory>
@@ -31,7 +31,7 @@ pub(crate) fn name_ref_at(source: &Source, number: usize) -> Result<NameRef, Out
 }
 
 /// The names at tokens, each with its token.
-pub(crate) fn name_refs(source: &Source, numbers: &[usize]) -> Result<Few<NameRef>, OutOfMemory>
+pub(crate) fn name_refs(source: &Source, numbers: &[usize]) -> Result<Items<NameRef>, OutOfMemory>
     requires { IsSource source.now.text.now source.now.tokens.now }
     ensures { IfOk result
         (λ m. m ≡ map (name_ref_at source.now.text.now source.now.tokens.now) numbers.now) }
@@ -40,11 +40,11 @@ pub(crate) fn name_refs(source: &Source, numbers: &[usize]) -> Result<Few<NameRe
     for number in numbers {
         name_refs.push(name_ref_at(source, *number)?)?;
     }
-    Ok(Few::from_vec(source.alloc, name_refs)?)
+    Ok(Items::from_vec(name_refs))
 }
 
 /// The names at tokens, each once, in the order in which they come first.
-pub(crate) fn names_once(source: &Source, numbers: &[usize]) -> Result<Few<Name>, OutOfMemory>
+pub(crate) fn names_once(source: &Source, numbers: &[usize]) -> Result<Items<Name>, OutOfMemory>
     requires { IsSource source.now.text.now source.now.tokens.now }
     ensures { IfOk result (λ names. names ≡ once (map (bytes_in source.now) numbers.now)) }
 {
@@ -56,5 +56,5 @@ pub(crate) fn names_once(source: &Source, numbers: &[usize]) -> Result<Few<Name>
             names.push(Name::new(source.alloc, name)?)?;
         }
     }
-    Ok(Few::from_vec(source.alloc, names)?)
+    Ok(Items::from_vec(names))
 }

@@ -14,5 +14,5 @@ returns-clause-within c =
     let in_set = is_in_set view.links.now.outlines view.item in
     let fact = known_of view.links.now.outlines view.item in
     let target = leads_to view.links.now.outlines view.item in
-    let same : c.in_ok-faults.faults ≡ faults_in bytes c.args.tree.now in_set fact target = grind (arith, common_steps) in
+    let same : c.from_vec-faults.result ≡ faults_in bytes c.args.tree.now in_set fact target = grind (arith, common_steps) in
     subst (All (StandsIn bytes)) (sym same) (faults_within bytes c.args.tree.now in_set fact target)

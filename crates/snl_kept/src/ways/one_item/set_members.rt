@@ -47,7 +47,7 @@ fn name_of(outline: &Outline) -> Option<&[u8]>
         return None;
     }
     match &outline.second {
-        Some(name) => Some(name.get().bytes()),
+        Some(name) => Some(name.bytes()),
         None => None,
     }
 }

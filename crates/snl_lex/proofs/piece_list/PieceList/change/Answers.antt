@@ -2,7 +2,7 @@ use Rattle.std.proofs.Common.{◌≡◌, ℕ, ◌-◌, List, length, take, ap, a
 use Rattle.snl_cut.specs.Cut.{last_end}
 use Rattle.snl_lex.specs.Edit.{edit_of}
 use Rattle.snl_lex.specs.PieceList.{piece_ends}
-use Rattle.snl_lex.proofs.Changes.{ends_inside, front_ends, relexed_change}
+use Rattle.snl_lex.proofs.Changes.{front_ends, relexed_change}
 use Rattle.snl_lex.proofs.piece_list.PieceList.change.Goals as goal
 
 pub overflow_cast-made_from : goal.overflow_cast-made_from
@@ -12,12 +12,6 @@ overflow_cast-made_from c =
     let is : c.end_by-made_from.result ≡ last_end 0 (take front (piece_ends e.old.now)) =
     c.end_by-made_from.ensures ∙ ap (λ (l : List ℕ). last_end 0 (take front l)) (c.deref.ensures.value ∙ c.requires) in
     omega (arith, is, front_ends e.old.now front, e.short.0)
-
-pub narrow-requires : goal.narrow-requires
-narrow-requires c = λ k d lt.
-    let e = c.args.edit.now in
-    let made = rw c.deref-2.ensures.value at lt in
-    rw c.deref-2.ensures.value (omega (arith, ends_inside _ _ _ _ _ _ _ _ _ c.in_ok-relexed.ensures.relexed k d made, e.short.1))
 
 pub returns-clause-change : goal.returns-clause-change
 returns-clause-change c =
@@ -30,5 +24,4 @@ returns-clause-change c =
     let from : c.end_by-made_from.result ≡ last_end 0 (take front (piece_ends old)) = c.end_by-made_from.ensures ∙ ap (λ (l : List ℕ). last_end 0 (take front l)) listed in
     let kept_from : c.end_by-kept_from.result ≡ last_end 0 (take (length (piece_ends old) - back) (piece_ends old)) =
     c.end_by-kept_from.ensures ∙ ap₂ (λ (n : ℕ) (l : List ℕ). last_end 0 (take (n - back) l)) many listed in
-    relexed_change (edit_of e) _
-    (rw (c.in_ok-ends.ensures, c.deref-2.ensures.value) c.in_ok-relexed.ensures.relexed) from kept_from
+    relexed_change (edit_of e) _ c.in_ok-relexed.ensures.relexed from kept_from

@@ -1,15 +1,20 @@
-use Rattle.std.proofs.Common.{ap, ◌∙◌}
-use Rattle.std.specs.Option.{option_flatten}
+use Rattle.std.proofs.Common.{sym, ap, ◌∙◌, List}
+use Rattle.snl_walk.specs.Few.{nearest}
 use Rattle.snl_walk.specs.Scopes.{look_up}
-use Rattle.snl_walk.proofs.Tables.{told-lookup}
+use Rattle.snl_walk.specs.declared.visible.FewName.{FewName}
+use Rattle.snl_walk.proofs.Few.{look_up-above, look_up-below}
 use Rattle.snl_walk.proofs.visible.Visible.get.Goals as goal
 
 pub returns-in-Some : goal.returns-in-Some
 returns-in-Some c =
-    ap option_flatten c.in-Some.ensures.value ∙ told-lookup c.args.name.now c.self.inside.held.entries ∙ c.self.invariant.told c.args.name.now
-    ∙ ap (λ v. look_up c.args.name.now v) c.self.view_is
+    let name = c.args.name.now in
+    sym (look_up-above name c.self.inside.more (nearest c.self.inside.few.items) c.in-Some.declared (sym c.in-Some.ensures))
+    ∙ ap (λ v. look_up name v) c.self.view_is
 
 pub returns-in-None : goal.returns-in-None
 returns-in-None c =
-    ap option_flatten c.in-None.ensures.value ∙ told-lookup c.args.name.now c.self.inside.held.entries ∙ c.self.invariant.told c.args.name.now
-    ∙ ap (λ v. look_up c.args.name.now v) c.self.view_is
+    let name = c.args.name.now in
+    c.meant_by.ensures
+    ∙ ap (λ (l : List FewName). look_up name (nearest l)) c.deref.ensures.value
+    ∙ sym (look_up-below name c.self.inside.more (nearest c.self.inside.few.items) (sym c.in-None.ensures))
+    ∙ ap (λ v. look_up name v) c.self.view_is

@@ -3,7 +3,7 @@ use Rattle.std.specs.Option.{option_flatten}
 use Rattle.snl_walk.specs.Scopes.{look_up}
 use Rattle.snl_walk.specs.Stack.{newest_first}
 use Rattle.snl_walk.proofs.Tables.{stack-push, told-lookup}
-use Rattle.snl_walk.proofs.visible.Visible.push.Goals as goal
+use Rattle.snl_walk.proofs.stack.Stack.push.Goals as goal
 
 pub invariant_of-self-2 : goal.invariant_of-self-2
 invariant_of-self-2 c =
