@@ -67,10 +67,7 @@ pub(crate) fn linked_names(alloc: Global, outlines: OutlineList) -> Result<Linke
 }
 
 /// What the clauses of all items say.
-pub(crate) fn linked_clauses(
-    alloc: Global,
-    scopes: &Scopes,
-) -> Result<LinkedClauses, OutOfMemory>
+pub(crate) fn linked_clauses(alloc: Global, scopes: &Scopes) -> Result<LinkedClauses, OutOfMemory>
     ensures clauses { IfOk result (λ made. made.clauses.items ≡ clause_links scopes.now) }
     ensures claims { IfOk result
         (λ made. Claimed made.claims (zip (clauses_of scopes.now) (soundness scopes.now))) }

@@ -436,10 +436,10 @@ pub fn link_after(
     requires inside { back ≤ length before.now.outlines }
     requires kinds { length before.now.kinds ≡ length before.now.outlines }
     ensures { IfOk result (λ l. l ≡ record {
-        outlines = take front before.now.outlines
-            ++ (map (λ s. s.now.outline) made.now ++ drop back before.now.outlines);
-        kinds = take front before.now.kinds
-            ++ (map (λ s. s.now.kind) made.now ++ drop back before.now.kinds)
+      outlines = take front before.now.outlines
+          ++ (map (λ s. s.now.outline) made.now ++ drop back before.now.outlines);
+      kinds = take front before.now.kinds
+          ++ (map (λ s. s.now.kind) made.now ++ drop back before.now.kinds);
     }) }
 {
     let made_kinds = kinds_of(alloc, made)?;

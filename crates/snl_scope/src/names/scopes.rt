@@ -109,7 +109,8 @@ impl Scopes {
     pub(crate) fn number_in(&self, namespace: Namespace, name: &[u8]) -> Option<usize>
         ensures { result ≡ number_in (entries self.now) namespace name.now }
     {
-        self.first.number_under(namespace, self.outlines.number(name)?)
+        self.first
+            .number_under(namespace, self.outlines.number(name)?)
     }
 
     /// What is there with a number.

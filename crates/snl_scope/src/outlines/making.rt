@@ -44,10 +44,7 @@ fn flat_ref(names: &mut NameBook, name_ref: &NameRef) -> Result<FlatRef, OutOfMe
     })
 }
 
-fn flat_flag(
-    names: &mut NameBook,
-    flag: &Option<NameRef>,
-) -> Result<Option<FlatRef>, OutOfMemory>
+fn flat_flag(names: &mut NameBook, flag: &Option<NameRef>) -> Result<Option<FlatRef>, OutOfMemory>
     ensures names { OnOk result (Extends names.old names.new) }
     ensures told { IfOk result (λ o. option_map (ref_by names.new) o ≡ flag.now) }
     ensures numbered { IfOk result (λ o. IfSome o (λ m. m.name < length names.new)) }
@@ -92,10 +89,7 @@ fn add_clauses(
     Ok(())
 }
 
-fn flat_second(
-    names: &mut NameBook,
-    second: &Option<Name>,
-) -> Result<Option<usize>, OutOfMemory>
+fn flat_second(names: &mut NameBook, second: &Option<Name>) -> Result<Option<usize>, OutOfMemory>
     ensures names { OnOk result (Extends names.old names.new) }
     ensures told { IfOk result (λ o. option_map (name_at names.new) o ≡ second.now) }
     ensures numbered { IfOk result (λ o. IfSome o (λ n. n < length names.new)) }
@@ -241,13 +235,23 @@ impl OutlineList {
         requires flat { AreFlat made.names made.heads.items made.declares.items made.clauses.items }
         ensures { IfOk result (λ l. l.outlines ≡ take front self.now.outlines ++ (outlines_by made.names made.heads.items made.declares.items made.clauses.items ++ drop back self.now.outlines)) }
     {
-        let Making { names, heads, declares, clauses } = made;
+        let Making {
+            names,
+            heads,
+            declares,
+            clauses,
+        } = made;
         let start = starts(&self.heads, front);
         let stop = starts(&self.heads, back);
         let heads = spliced(alloc, &self.heads, front, back, &heads)?;
         let declares = spliced(alloc, &self.declares, start.0, stop.0, &declares)?;
         let clauses = spliced(alloc, &self.clauses, start.1, stop.1, &clauses)?;
-        Ok(OutlineList { names, heads, declares, clauses })
+        Ok(OutlineList {
+            names,
+            heads,
+            declares,
+            clauses,
+        })
     }
 
     /// The outlines with those of other items in the place of the items from `front` up to `back`.

@@ -40,8 +40,8 @@ impl Model for OutlineList {
     ghost Value = { NamedOutlines };
 
     ghost view = { λ a. record {
-        names = a.names;
-        outlines = outlines_by a.names a.heads.items a.declares.items a.clauses.items;
+      names = a.names;
+      outlines = outlines_by a.names a.heads.items a.declares.items a.clauses.items;
     } };
 
     ghost invariant = { λ a. AreFlat a.names a.heads.items a.declares.items a.clauses.items };
@@ -178,6 +178,7 @@ impl OutlineList {
 
 // So many dead names, and bytes of them, don't matter.
 const FEW_NAMES: usize = 64;
+
 const FEW_BYTES: usize = 4096;
 
 // How many names are spoken of, and how many bytes they have.

@@ -16,4 +16,4 @@ invariant-loop-clause l =
     → Tabled l.self.outlines.now.names l.self.first.now symbols (entries ss)
     → l.self.enclosing_set ≡ enclosing_set ss l.self.item
     → map linked l.found.items ≡ map linked l.initial.found.items
-        ++ map (linked_clause ss l.self.item) (map (clause_by l.self.outlines.now.names) (take l.clause-index l.clauses))
+    ++ map (linked_clause ss l.self.item) (map (clause_by l.self.outlines.now.names) (take l.clause-index l.clauses))

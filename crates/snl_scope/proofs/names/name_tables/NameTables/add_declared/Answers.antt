@@ -37,4 +37,3 @@ loop-declared-preserved c = λ names es differ each f.
     subst (λ (l : List Entry). Follows names new.first new.symbols.items new.faults.items l)
     (append_assoc es here (made c.scope_code.result ∷ []) ∙ ap (λ x. es ++ (here ++ x ∷ [])) same ∙ ap (λ l. es ++ l) (sym more ∙ sym (apart (i + 1))))
     (c.in_ok-add.ensures names (es ++ here) differ there before)
-
