@@ -69,3 +69,4 @@ pub mod OneItem
 pub mod Faults
 pub mod ParserAnswers
 pub mod Outcomes
+pub mod Bare

@@ -14,3 +14,4 @@ pub mod Marks
 pub mod NestsStatement
 pub mod Spelling
 pub mod Outcome
+pub mod Operands

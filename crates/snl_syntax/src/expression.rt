@@ -11,6 +11,7 @@ mod assignment;
 mod commas;
 mod conditional;
 mod leaves;
+mod operands;
 mod prefixes;
 mod suffixes;
 mod tiers;

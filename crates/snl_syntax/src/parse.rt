@@ -39,7 +39,7 @@ fn kinds_of(alloc: Global, text: &[u8], tokens: &[Piece]) -> Result<Vec<Kind>, A
 {
     let mut kinds = Vec::with_capacity(alloc, tokens.len())?;
     for piece in tokens {
-        kinds.push(kind_of(text, *piece))?;
+        kinds.push_reserved(kind_of(text, *piece));
     }
     Ok(kinds)
 }

@@ -9,6 +9,7 @@ ghost use Rattle.snl_syntax.specs.Steps.{ReadsFrom};
 
 use crate::expression::Expressions;
 use crate::expression::leaves::atom;
+use crate::expression::operands::is_before;
 use crate::expression::suffixes::suffixed;
 use crate::lists::until;
 use crate::operator::{Sign, sign_kind};
@@ -179,7 +180,7 @@ impl<F: Fn(Global, &[Kind], usize, usize) -> Result<(Expr, usize), Stop>> Expres
     // prefix = { pre } postfix
     // postfix = primary { suffix }
     // -(int) x[i]
-    pub(super) fn prefix(&self, kinds: &[Kind], at: usize) -> Result<(Expr, usize), Stop>
+    fn operated(&self, kinds: &[Kind], at: usize) -> Result<(Expr, usize), Stop>
         requires { Nests self.now.depth (F.pre self.now.single) (F.post self.now.single) }
         ensures { ReadsFrom kinds.now at result (spec.inside self.now.depth spec.prefix) }
     {
@@ -187,5 +188,17 @@ impl<F: Fn(Global, &[Kind], usize, usize) -> Result<(Expr, usize), Stop>> Expres
         let (suffixes, at) = self.suffixes(kinds, at)?;
         let operand = suffixed(self.alloc, operand, suffixes)?;
         Ok((prefixed(self.alloc, ops, operand)?, at))
+    }
+
+    // The same. Most operands have nothing before them, and those go a shorter way.
+    pub(super) fn prefix(&self, kinds: &[Kind], at: usize) -> Result<(Expr, usize), Stop>
+        requires { Nests self.now.depth (F.pre self.now.single) (F.post self.now.single) }
+        ensures { ReadsFrom kinds.now at result (spec.inside self.now.depth spec.prefix) }
+    {
+        if is_before(kind_at(kinds, at)) {
+            self.operated(kinds, at)
+        } else {
+            self.postfix(kinds, at)
+        }
     }
 }
