@@ -17,12 +17,11 @@ use crate::clauses::clause_index::{ClauseIndex, Purpose};
 use crate::clauses::flags::flag_number;
 use crate::facts::{Assigned, ClauseLink, Declaration, Fact, Level, LinkFault, NameKind, Scope};
 use crate::findings::all_faults;
-use crate::items::linked_items::kinds_of;
+use crate::items::linked_items::{kinds_after, kinds_of};
 use crate::linking::{LinkedClauses, LinkedNames, linked_clauses, linked_names};
 use crate::names::name_tables::Symbol;
 use crate::names::namespaces::Namespace;
 use crate::names::scopes::Scopes;
-use crate::outlines::making::spliced;
 use crate::outlines::outline_list::OutlineList;
 use crate::summaries::summary::{ItemKind, Summary, SymbolKind};
 use snl_cut::OutOfMemory;
@@ -442,8 +441,7 @@ pub fn link_after(
           ++ (map (λ s. s.now.kind) made.now ++ drop back before.now.kinds);
     }) }
 {
-    let made_kinds = kinds_of(alloc, made)?;
-    let kinds = spliced(alloc, &before.kinds, front, back, &made_kinds)?;
+    let kinds = kinds_after(alloc, &before.kinds, front, back, made)?;
     let outlines = before.scopes.outlines.after(alloc, front, back, made)?;
     link_outlines(alloc, kinds, outlines)
 }

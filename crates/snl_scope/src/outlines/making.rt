@@ -134,9 +134,9 @@ fn add_outline(making: &mut Making, outline: &Outline) -> Result<(), OutOfMemory
 }
 
 fn add_outlines(making: &mut Making, summaries: &[&Summary]) -> Result<(), OutOfMemory>
-    requires { Tells making.old [] }
     ensures names { OnOk result (Extends making.old.names making.new.names) }
-    ensures told { OnOk result (Tells making.new (map (λ s. s.now.outline) summaries.now)) }
+    ensures told { OnOk result ((ss : List Outline) → Tells making.old ss
+        → Tells making.new (ss ++ map (λ s. s.now.outline) summaries.now)) }
 {
     for summary in summaries {
         add_outline(making, &summary.outline)?;
@@ -144,24 +144,30 @@ fn add_outlines(making: &mut Making, summaries: &[&Summary]) -> Result<(), OutOf
     Ok(())
 }
 
-/// A list with others in the place of those from one number up to another.
-pub(crate) fn spliced<T: Copy + Drop>(
-    alloc: Global,
-    list: &[T],
-    start: usize,
-    stop: usize,
-    made: &[T],
-) -> Result<Vec<T>, OutOfMemory>
-    requires start { start ≤ length list.now }
-    requires stop { stop ≤ length list.now }
-    ensures { IfOk result (λ r. r.items ≡ take start list.now ++ (made.now ++ drop stop list.now)) }
-{
-    let room = list.len().saturating_add(made.len());
-    let mut all = Vec::with_capacity(alloc, room)?;
-    all.extend_from_slice(&list[..start])?;
-    all.extend_from_slice(made)?;
-    all.extend_from_slice(&list[stop..])?;
-    Ok(all)
+/// How many outlines there is room for, with how many declarations and clauses.
+#[derive(Clone, Copy)]
+struct Room {
+    outlines: usize,
+    declares: usize,
+    clauses: usize,
+}
+
+impl Room {
+    // Room for what these items say, too.
+    fn with(self, summaries: &[&Summary]) -> Room {
+        let mut room = self;
+        for summary in summaries {
+            let Outline {
+                declares,
+                clauses,
+                ..
+            } = &summary.outline;
+            room.outlines = room.outlines.saturating_add(1);
+            room.declares = room.declares.saturating_add(declares.as_slice().len());
+            room.clauses = room.clauses.saturating_add(clauses.as_slice().len());
+        }
+        room
+    }
 }
 
 // How many declarations and clauses outlines have before an item.
@@ -180,34 +186,62 @@ fn starts(heads: &[FlatOutline], item: usize) -> (usize, usize)
     (declares, clauses)
 }
 
-fn making_with(alloc: Global, names: NameBook) -> Making
-    ensures told { Tells result [] }
-    ensures names { result.names ≡ names }
+// Puts the first elements of a list after those of another.
+fn put_front<T: Copy + Drop>(from: &[T], count: usize, to: &mut Vec<T>) -> Result<(), OutOfMemory>
+    requires { count ≤ length from.now }
+    ensures { OnOk result (to.new.items ≡ to.old.items ++ take count from.now) }
 {
-    Making {
-        names,
-        heads: Vec::new(alloc),
-        declares: Vec::new(alloc),
-        clauses: Vec::new(alloc),
-    }
+    to.extend_from_slice(&from[..count])?;
+    Ok(())
 }
 
-// Outlines that are made.
-fn finished(making: Making) -> OutlineList
-    requires { AreFlat making.names making.heads.items making.declares.items making.clauses.items }
-    ensures { result ≡ record { names = making.names; outlines = outlines_by making.names making.heads.items making.declares.items making.clauses.items } }
+// Puts the elements of a list from one on after those of another.
+fn put_back<T: Copy + Drop>(from: &[T], start: usize, to: &mut Vec<T>) -> Result<(), OutOfMemory>
+    requires { start ≤ length from.now }
+    ensures { OnOk result (to.new.items ≡ to.old.items ++ drop start from.now) }
 {
-    let Making {
-        names,
-        heads,
-        declares,
-        clauses,
-    } = making;
-    OutlineList {
-        names,
-        heads,
-        declares,
-        clauses,
+    to.extend_from_slice(&from[start..])?;
+    Ok(())
+}
+
+impl Making {
+    fn with_room(alloc: Global, names: NameBook, room: Room) -> Result<Making, OutOfMemory>
+        ensures told { IfOk result (λ m. Tells m []) }
+        ensures names { IfOk result (λ m. m.names ≡ names) }
+        ensures lists { IfOk result (λ m. (m.heads.items ≡ []) × (m.declares.items ≡ [])
+            × (m.clauses.items ≡ [])) }
+    {
+        let heads = Vec::with_capacity(alloc, room.outlines)?;
+        let declares = Vec::with_capacity(alloc, room.declares)?;
+        let clauses = Vec::with_capacity(alloc, room.clauses)?;
+        Ok(Making {
+            names,
+            heads,
+            declares,
+            clauses,
+        })
+    }
+
+    fn finished(self) -> OutlineList
+        requires { AreFlat self.names self.heads.items self.declares.items self.clauses.items }
+        ensures { result ≡ record {
+          names = self.names;
+          outlines = outlines_by self.names self.heads.items self.declares.items
+              self.clauses.items;
+        } }
+    {
+        let Making {
+            names,
+            heads,
+            declares,
+            clauses,
+        } = self;
+        OutlineList {
+            names,
+            heads,
+            declares,
+            clauses,
+        }
     }
 }
 
@@ -216,42 +250,54 @@ impl OutlineList {
     pub(crate) fn of(alloc: Global, summaries: &[&Summary]) -> Result<OutlineList, OutOfMemory>
         ensures { IfOk result (λ l. l.outlines ≡ map (λ s. s.now.outline) summaries.now) }
     {
-        let mut making = making_with(alloc, NameBook::new(alloc));
+        let none = Room {
+            outlines: 0,
+            declares: 0,
+            clauses: 0,
+        };
+        let mut making = Making::with_room(alloc, NameBook::new(alloc), none.with(summaries))?;
         add_outlines(&mut making, summaries)?;
-        Ok(finished(making))
+        Ok(making.finished())
     }
 
-    // The lists with others in the place of those of the items from `front` up to `back`.
-    fn joined(
-        &self,
-        alloc: Global,
-        front: usize,
-        back: usize,
-        made: Making,
-    ) -> Result<OutlineList, OutOfMemory>
-        requires order { front ≤ back }
-        requires inside { back ≤ length self.now.outlines }
-        requires names { Extends self.now.names made.names }
-        requires flat { AreFlat made.names made.heads.items made.declares.items made.clauses.items }
-        ensures { IfOk result (λ l. l.outlines ≡ take front self.now.outlines ++ (outlines_by made.names made.heads.items made.declares.items made.clauses.items ++ drop back self.now.outlines)) }
+    // Room for all outlines.
+    fn room(&self) -> Room {
+        Room {
+            outlines: self.heads.len(),
+            declares: self.declares.len(),
+            clauses: self.clauses.len(),
+        }
+    }
+
+    // Adds the first outlines to none.
+    fn add_front(&self, front: usize, making: &mut Making) -> Result<(), OutOfMemory>
+        requires inside { front ≤ length self.now.outlines }
+        requires names { making.old.names ≡ self.now.names }
+        requires heads { making.old.heads.items ≡ [] }
+        requires declares { making.old.declares.items ≡ [] }
+        requires clauses { making.old.clauses.items ≡ [] }
+        ensures names { OnOk result (making.new.names ≡ making.old.names) }
+        ensures told { OnOk result (Tells making.new (take front self.now.outlines)) }
     {
-        let Making {
-            names,
-            heads,
-            declares,
-            clauses,
-        } = made;
-        let start = starts(&self.heads, front);
-        let stop = starts(&self.heads, back);
-        let heads = spliced(alloc, &self.heads, front, back, &heads)?;
-        let declares = spliced(alloc, &self.declares, start.0, stop.0, &declares)?;
-        let clauses = spliced(alloc, &self.clauses, start.1, stop.1, &clauses)?;
-        Ok(OutlineList {
-            names,
-            heads,
-            declares,
-            clauses,
-        })
+        let (declares, clauses) = starts(&self.heads, front);
+        put_front(&self.heads, front, &mut making.heads)?;
+        put_front(&self.declares, declares, &mut making.declares)?;
+        put_front(&self.clauses, clauses, &mut making.clauses)?;
+        Ok(())
+    }
+
+    // Adds the outlines from an item on.
+    fn add_back(&self, back: usize, making: &mut Making) -> Result<(), OutOfMemory>
+        requires inside { back ≤ length self.now.outlines }
+        requires names { Extends self.now.names making.old.names }
+        ensures { OnOk result ((ss : List Outline) → Tells making.old ss
+            → Tells making.new (ss ++ drop back self.now.outlines)) }
+    {
+        let (declares, clauses) = starts(&self.heads, back);
+        put_back(&self.heads, back, &mut making.heads)?;
+        put_back(&self.declares, declares, &mut making.declares)?;
+        put_back(&self.clauses, clauses, &mut making.clauses)?;
+        Ok(())
     }
 
     /// The outlines with those of other items in the place of the items from `front` up to `back`.
@@ -268,8 +314,10 @@ impl OutlineList {
             ++ (map (λ s. s.now.outline) summaries.now ++ drop back self.now.outlines)) }
     {
         let names = self.names.copied(alloc)?;
-        let mut making = making_with(alloc, names);
+        let mut making = Making::with_room(alloc, names, self.room().with(summaries))?;
+        self.add_front(front, &mut making)?;
         add_outlines(&mut making, summaries)?;
-        self.joined(alloc, front, back, making)
+        self.add_back(back, &mut making)?;
+        Ok(making.finished())
     }
 }

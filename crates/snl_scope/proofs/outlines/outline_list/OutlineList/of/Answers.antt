@@ -1,0 +1,10 @@
+use Rattle.std.proofs.Common.{[], List, ap, map, ◌∙◌}
+use Rattle.snl_scope.specs.declared.summaries.summary.Outline.{Outline}
+use Rattle.snl_scope.specs.OutlineList.{Tells}
+use Rattle.snl_scope.proofs.outlines.outline_list.OutlineList.of.Goals as goal
+
+pub finished-requires : goal.finished-requires
+finished-requires c = (c.in_ok-add_outlines.ensures.told [] c.in_ok-making.ensures.told).flat
+
+pub returns : goal.returns
+returns c = ap (λ v. v.outlines) c.finished.ensures ∙ (c.in_ok-add_outlines.ensures.told [] c.in_ok-making.ensures.told).outlines
