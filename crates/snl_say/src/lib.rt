@@ -11,6 +11,7 @@
 #![tactic(auto)]
 
 mod answers;
+mod before;
 mod bytes;
 mod diagnostics;
 mod frames;
@@ -19,6 +20,7 @@ mod laws;
 mod location;
 mod notices;
 mod places;
+mod plain;
 mod severity;
 mod symbols;
 

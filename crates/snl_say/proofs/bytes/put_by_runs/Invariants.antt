@@ -1,6 +1,6 @@
 use Rattle.std.proofs.Common.{◌≡◌, ◌++◌, ◌-◌, ◌≤◌, drop, length}
 use Rattle.json.specs.Print.{escape}
-use Rattle.snl_say.proofs.bytes.put_escaped.Given as goal
+use Rattle.snl_say.proofs.bytes.put_by_runs.Given as goal
 
 abbrev pub invariant-loop-out : goal.invariant-loop-out
 invariant-loop-out l =

@@ -1,6 +1,6 @@
 use Rattle.std.proofs.Common.{arith}
 use Rattle.snl_say.proofs.EscapeRuns.{run_last, run_more}
-use Rattle.snl_say.proofs.bytes.put_escaped.Goals as goal
+use Rattle.snl_say.proofs.bytes.put_by_runs.Goals as goal
 
 pub returns-then-end-bytes : goal.returns-then-end-bytes
 returns-then-end-bytes c =
