@@ -9,7 +9,7 @@ ghost use Rattle.snl_replies.specs.Replies.{AnswerError, AnswerHover, AnswerInit
 
 use snl_place::{Encoding, Place};
 use snl_say::{
-    ErrorCode, Id, Severity, Shown, ShownSymbol, put_error, put_framed, put_hover, put_initialize,
+    ErrorCode, Id, Severity, Shown, ShownSymbol, frame_from, put_error, put_hover, put_initialize,
     put_location, put_message, put_null, put_publish, put_symbols,
 };
 use std::alloc::AllocError;
@@ -25,9 +25,9 @@ pub fn say_found(
     ensures { OnOk result (said.new.items ≡ said.old.items
         ++ framed_publish (map (λ s. found_of s) found.now) quoted_uri.now version) }
 {
-    let mut body = Vec::new(*said.allocator());
-    put_publish(&mut body, quoted_uri, version, found)?;
-    put_framed(said, &body)
+    let begin = said.len();
+    put_publish(said, quoted_uri, version, found)?;
+    frame_from(said, begin)
 }
 
 /// Shows the user a notice of a document.
@@ -43,9 +43,9 @@ pub fn say_notice(
 {
     let mut message = Vec::from_slice(*said.allocator(), uri)?;
     message.extend_from_slice(notice)?;
-    let mut body = Vec::new(*said.allocator());
-    put_message(&mut body, severity, &message)?;
-    put_framed(said, &body)
+    let begin = said.len();
+    put_message(said, severity, &message)?;
+    frame_from(said, begin)
 }
 
 /// Answers that there is an error.
@@ -54,9 +54,9 @@ pub fn say_error(said: &mut Vec<u8>, id: Option<Id<'_>>, code: ErrorCode) -> Res
     ensures { OnOk result (said.new.items ≡ said.old.items
         ++ framed_reply (AnswerError (some_id_data id.entry) code)) }
 {
-    let mut body = Vec::new(*said.allocator());
-    put_error(&mut body, id, code)?;
-    put_framed(said, &body)
+    let begin = said.len();
+    put_error(said, id, code)?;
+    frame_from(said, begin)
 }
 
 /// Answers `initialize`.
@@ -65,9 +65,9 @@ pub fn say_initialize(said: &mut Vec<u8>, id: Id<'_>, encoding: Encoding) -> Res
     ensures { OnOk result (said.new.items ≡ said.old.items
         ++ framed_reply (AnswerInitialize (id_data id.entry) encoding)) }
 {
-    let mut body = Vec::new(*said.allocator());
-    put_initialize(&mut body, id, encoding)?;
-    put_framed(said, &body)
+    let begin = said.len();
+    put_initialize(said, id, encoding)?;
+    frame_from(said, begin)
 }
 
 /// Answers that there is nothing to tell.
@@ -76,9 +76,9 @@ pub fn say_null(said: &mut Vec<u8>, id: Id<'_>) -> Result<(), AllocError>
     ensures { OnOk result (said.new.items ≡ said.old.items
         ++ framed_reply (AnswerNull (id_data id.entry))) }
 {
-    let mut body = Vec::new(*said.allocator());
-    put_null(&mut body, id)?;
-    put_framed(said, &body)
+    let begin = said.len();
+    put_null(said, id)?;
+    frame_from(said, begin)
 }
 
 /// Answers with symbols.
@@ -91,9 +91,9 @@ pub fn say_symbols(
     ensures { OnOk result (said.new.items ≡ said.old.items
         ++ framed_reply (AnswerSymbols (id_data id.entry) (map (λ s. symbol_of s) symbols.now))) }
 {
-    let mut body = Vec::new(*said.allocator());
-    put_symbols(&mut body, id, symbols)?;
-    put_framed(said, &body)
+    let begin = said.len();
+    put_symbols(said, id, symbols)?;
+    frame_from(said, begin)
 }
 
 /// Answers with a part of a document.
@@ -108,9 +108,9 @@ pub fn say_location(
     ensures { OnOk result (said.new.items ≡ said.old.items
         ++ framed_location (id_data id.entry) quoted_uri.now start stop) }
 {
-    let mut body = Vec::new(*said.allocator());
-    put_location(&mut body, id, quoted_uri, start, stop)?;
-    put_framed(said, &body)
+    let begin = said.len();
+    put_location(said, id, quoted_uri, start, stop)?;
+    frame_from(said, begin)
 }
 
 /// Answers with what is told of a name, which is between two places.
@@ -125,7 +125,7 @@ pub fn say_hover(
     ensures { OnOk result (said.new.items ≡ said.old.items
         ++ framed_reply (AnswerHover (id_data id.entry) contents.now start stop)) }
 {
-    let mut body = Vec::new(*said.allocator());
-    put_hover(&mut body, id, contents, start, stop)?;
-    put_framed(said, &body)
+    let begin = said.len();
+    put_hover(said, id, contents, start, stop)?;
+    frame_from(said, begin)
 }
