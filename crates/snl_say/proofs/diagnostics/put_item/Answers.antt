@@ -1,8 +1,3 @@
-use Rattle.std.proofs.Common.{◌∙◌, ap, sym, append_assoc}
-use Rattle.json.specs.Print.{escape}
-use Rattle.serde_json.specs.Written.{comma_if}
-use Rattle.snl_script.specs.Parts.{quoted as in_quotes}
-use Rattle.snl_say.specs.Publish.{found_of}
 use Rattle.snl_say.proofs.ItemText.{item_put}
 use Rattle.snl_say.proofs.diagnostics.put_item.Goals as goal
 
