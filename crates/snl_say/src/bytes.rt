@@ -80,6 +80,8 @@ fn plain_end(bytes: &[u8], start: usize) -> usize
 }
 
 /// The bytes of a string of which one has an escape: those between two such are put at once.
+#[cold]
+#[inline(never)]
 fn put_by_runs(out: &mut Vec<u8>, bytes: &[u8]) -> Result<(), AllocError>
     ensures { OnOk result (out.new.items ≡ out.old.items ++ escape bytes.now) }
 {
