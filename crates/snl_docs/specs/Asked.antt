@@ -3,7 +3,6 @@ use Rattle.std.specs.Prelude.{ℕ, List, map, Option, Some, None}
 use Rattle.std.specs.Option.{option_map_or}
 use Rattle.serde_json.specs.Data.{Data}
 use Rattle.snl_place.specs.declared.places.Encoding.{Encoding}
-use Rattle.snl_place.specs.declared.places.Place.{Place}
 use Rattle.snl_script.specs.Parts.{slice_of}
 use Rattle.snl_meaning.specs.declared.meanings.Meaning.{Meaning}
 use Rattle.snl_meaning.specs.Meanings.{meaning_near}
