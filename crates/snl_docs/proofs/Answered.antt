@@ -13,13 +13,14 @@ use Rattle.snl_docs.specs.declared.phase.Phase.{Phase}
 use Rattle.snl_docs.specs.declared.phase.Phase.TheVariants.{New, Ready, Shut, Gone}
 use Rattle.snl_docs.specs.declared.question.Question.{Question}
 use Rattle.snl_docs.specs.declared.question.Question.TheVariants as question
-use Rattle.snl_docs.specs.Asked.{answer_by, answer_on, hover_answer, location_answer, offset_at, symbols_in}
-use Rattle.snl_docs.specs.Documents.{Doc, document_of}
+use Rattle.snl_docs.specs.Asked.{answer_by, answer_on, hover_answer, location_answer, symbols_in}
+use Rattle.snl_document.specs.Spans.{offset_at}
+use Rattle.snl_document.specs.Documents.{Doc, document_of}
 use Rattle.snl_docs.specs.Known.{IsAskedOf, checked_text, kept_for}
-use Rattle.snl_docs.specs.Replies.{Reply, AnswerNull, AnswerSymbols}
+use Rattle.snl_replies.specs.Replies.{Reply, AnswerNull, AnswerSymbols}
 use Rattle.snl_docs.specs.Served.{Served, answer_in, replied, replies_to}
-use Rattle.snl_docs.specs.Texts.{checked}
-use Rattle.snl_docs.specs.Turns.{Turn, heard_at}
+use Rattle.snl_document.specs.Texts.{checked}
+use Rattle.snl_turns.specs.Turns.{Turn, heard_at}
 use Rattle.snl_docs.proofs.Asked.{answer_kept, on_by_kept}
 
 -- ---- a text that is checked

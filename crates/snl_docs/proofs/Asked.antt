@@ -1,6 +1,5 @@
 -- The answers to what is asked of a document.
-use Rattle.std.proofs.Common.{◌≡◌, ℕ, List, ◌++◌, get_or, Option, None, Some, refl, sym, subst, ap, ◌∙◌}
-use Rattle.std.specs.List.{position}
+use Rattle.std.proofs.Common.{◌≡◌, ℕ, List, ◌++◌, Option, None, Some, refl, sym, subst, ap, ◌∙◌}
 use Rattle.std.specs.Option.{option_map, option_map_or}
 use Rattle.json.specs.Print.{quoted}
 use Rattle.serde_json.specs.Data.{Data}
@@ -12,14 +11,14 @@ use Rattle.snl_hover.specs.Hover.{Told, hover_of}
 use Rattle.snl_say.specs.declared.answers.ErrorCode.TheVariants.{InvalidParams}
 use Rattle.snl_docs.specs.declared.question.Question.{Question}
 use Rattle.snl_docs.specs.declared.question.Question.TheVariants.{Symbols, Definition, Hover}
-use Rattle.snl_docs.specs.Asked.{answer_by, answer_of, answer_on, framed_answer, framed_meaning, hover_answer, location_answer, offset_at, start_of, stop_of}
-use Rattle.snl_docs.specs.Documents.{Doc, document_of, is_named}
+use Rattle.snl_docs.specs.Asked.{answer_by, answer_of, answer_on, framed_answer, framed_meaning, hover_answer, location_answer}
+use Rattle.snl_document.specs.Spans.{offset_at, start_of, stop_of}
+use Rattle.snl_document.specs.Documents.{Doc, document_of}
 use Rattle.snl_docs.specs.Known.{IsByText, kept_for}
-use Rattle.snl_docs.specs.Replies.{Reply, AnswerError, AnswerLocation, AnswerNull, framed_location, framed_reply}
+use Rattle.snl_replies.specs.Replies.{Reply, AnswerError, AnswerLocation, AnswerNull, framed_location, framed_reply}
 use Rattle.snl_docs.specs.Served.{Served}
-use Rattle.snl_docs.specs.Texts.{checked}
+use Rattle.snl_document.specs.Texts.{checked}
 use Rattle.snl_docs.proofs.Known.{named_so}
-use Rattle.snl_docs.proofs.Named.{found_at_number, found_nowhere}
 
 -- ---- in frames
 
@@ -79,22 +78,19 @@ abbrev by_document : Encoding → (id : Data) → Question → Option Doc → Re
 by_document encoding id question doc =
     option_map_or (answer_of encoding id question) doc (AnswerError id InvalidParams)
 
--- By the number of the document among them.
+-- By the document that was found.
 pub answered_found : (encoding : Encoding) (docs : List Doc) (id : Data) (uri : List ℕ)
-    (question : Question) (found : Option ℕ) (i : ℕ) (d : Doc) →
-    found ≡ position (is_named uri) docs → found ≡ Some i → d ≡ get_or docs i d →
+    (question : Question) (d : Doc) → Some d ≡ document_of uri docs →
     answer_of encoding id question d ≡ answer_on encoding docs id uri question
 unfolding answer_on
-answered_found encoding docs id uri question found i d is told there =
-    ap (by_document encoding id question)
-    (ap (λ (doc : Doc). Some doc) there ∙ sym (found_at_number uri docs i d (sym is ∙ told)))
+answered_found encoding docs id uri question d found = ap (by_document encoding id question) found
 
 pub answered_missed : (encoding : Encoding) (docs : List Doc) (id : Data) (uri : List ℕ)
-    (question : Question) (found : Option ℕ) → found ≡ position (is_named uri) docs →
-    found ≡ None → AnswerError id InvalidParams ≡ answer_on encoding docs id uri question
+    (question : Question) → None ≡ document_of uri docs →
+    AnswerError id InvalidParams ≡ answer_on encoding docs id uri question
 unfolding answer_on
-answered_missed encoding docs id uri question found is told =
-    ap (by_document encoding id question) (sym (found_nowhere uri docs (sym is ∙ told)))
+answered_missed encoding docs id uri question missed =
+    ap (by_document encoding id question) missed
 
 -- ---- by what is kept for a URI
 

@@ -11,15 +11,16 @@ use Rattle.snl_hear.specs.Requests as asked
 use Rattle.snl_docs.specs.declared.phase.Phase.{Phase}
 use Rattle.snl_docs.specs.declared.phase.Phase.TheVariants.{New, Ready, Shut, Gone}
 use Rattle.snl_docs.specs.declared.question.Question.TheVariants as question
-use Rattle.snl_docs.specs.declared.standing.Standing.{Standing}
-use Rattle.snl_docs.specs.declared.standing.Standing.TheVariants.{Checked, Large, Lost}
-use Rattle.snl_docs.specs.Documents.{Doc, after_changes, document_of, lost, opened, put, updated, without}
+use Rattle.snl_document.specs.declared.standing.Standing.{Standing}
+use Rattle.snl_document.specs.declared.standing.Standing.TheVariants.{Checked, Large, Lost}
+use Rattle.snl_document.specs.Documents.{Doc, after_changes, document_of, lost, opened, put, updated, without}
 use Rattle.snl_docs.specs.Known.{IsByText, text_of}
-use Rattle.snl_docs.specs.Replies.{Reply, Publish}
-use Rattle.snl_docs.specs.Served.{Served, after, after_heard, after_note, answer_in, is_ready, replied, replies_to, told_note, told_of, told_of_all, told_of_named, with_docs}
-use Rattle.snl_docs.specs.Texts.{standing}
-use Rattle.snl_docs.specs.Told.{found_of_text, notices, stays, told, told_after}
-use Rattle.snl_docs.specs.Turns.{Turn, heard_at}
+use Rattle.snl_replies.specs.Replies.{Reply, Publish}
+use Rattle.snl_docs.specs.Served.{Served, after, after_heard, after_note, answer_in, is_ready, replied, replies_to, told_note, with_docs}
+use Rattle.snl_document.specs.Told.{told_of, told_of_all, told_of_named}
+use Rattle.snl_document.specs.Texts.{standing}
+use Rattle.snl_document.specs.Told.{found_of_text, notices, stays, told, told_after}
+use Rattle.snl_turns.specs.Turns.{Turn, heard_at}
 use Rattle.snl_docs.proofs.Asked.{on_by_text}
 use Rattle.snl_docs.proofs.Known.{lost_there, named_so, not_there, put_there, updated_there}
 

@@ -6,10 +6,10 @@ use Rattle.snl_hear.specs.Requests.{Asked, Initialize, Shutdown, DocumentSymbol,
 use Rattle.snl_hear.specs.Requests as asked
 use Rattle.snl_docs.specs.declared.phase.Phase.{Phase}
 use Rattle.snl_docs.specs.declared.phase.Phase.TheVariants.{New, Ready, Shut, Gone}
-use Rattle.snl_docs.specs.Documents.{Doc, after_changes, document_of, lost, opened}
+use Rattle.snl_document.specs.Documents.{Doc, after_changes, document_of, lost, opened}
 use Rattle.snl_docs.specs.Known.{IsElsewhere, IsNotedElsewhere}
 use Rattle.snl_docs.specs.Served.{Served, after, after_heard, after_note, after_request, docs_after, is_ready, with_docs}
-use Rattle.snl_docs.specs.Turns.{Turn, heard_at}
+use Rattle.snl_turns.specs.Turns.{Turn, heard_at}
 use Rattle.snl_docs.proofs.Known.{gone_elsewhere, put_elsewhere, updated_elsewhere}
 
 -- No request changes a document.

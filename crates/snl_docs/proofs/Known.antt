@@ -2,7 +2,7 @@
 use Rattle.std.proofs.Common.{◌≡◌, ℕ, Bool, true, false, List, [], ◌∷◌, map, None, Some, refl, sym, ◌∙◌, arith}
 use Rattle.std.specs.Str.{bytes_eq}
 use Rattle.snl_facts.specs.Bytes.{same_bytes}
-use Rattle.snl_docs.specs.Documents.{Doc, document_of, lost, put, updated, without}
+use Rattle.snl_document.specs.Documents.{Doc, document_of, lost, put, updated, without}
 use Rattle.snl_docs.specs.Known.{text_of}
 
 same_as_itself : (u : List ℕ) → bytes_eq u u ≡ true

@@ -1,12 +1,9 @@
 -- What is asked of a document, and the answer by its text.
-use Rattle.std.specs.Prelude.{ℕ, ◌+◌, List, map, take, Option, Some, None}
+use Rattle.std.specs.Prelude.{ℕ, List, map, Option, Some, None}
 use Rattle.std.specs.Option.{option_map_or}
 use Rattle.serde_json.specs.Data.{Data}
 use Rattle.snl_place.specs.declared.places.Encoding.{Encoding}
-use Rattle.snl_place.specs.declared.places.Place.{Place}
-use Rattle.snl_place.specs.Places.{offset_in, place_in}
 use Rattle.snl_script.specs.Parts.{slice_of}
-use Rattle.snl_tables.specs.declared.rows.Span.{Span}
 use Rattle.snl_meaning.specs.declared.meanings.Meaning.{Meaning}
 use Rattle.snl_meaning.specs.Meanings.{meaning_near}
 use Rattle.snl_symbols.specs.declared.document_symbol.DocumentSymbol.{DocumentSymbol}
@@ -18,27 +15,12 @@ use Rattle.snl_say.specs.declared.answers.ErrorCode.TheVariants as error
 use Rattle.snl_say.specs.declared.symbols.SymbolKind.{SymbolKind}
 use Rattle.snl_say.specs.declared.symbols.SymbolKind.TheVariants as shown
 use Rattle.snl_say.specs.Symbols.{SymbolFound}
+use Rattle.snl_document.specs.Spans.{offset_at, start_of, stop_of}
 use Rattle.snl_docs.specs.declared.question.Question.{Question}
 use Rattle.snl_docs.specs.declared.question.Question.TheVariants.{Symbols, Definition, Hover}
-use Rattle.snl_docs.specs.Documents.{Doc, document_of}
-use Rattle.snl_docs.specs.Replies.{Reply, AnswerError, AnswerHover, AnswerLocation, AnswerNull, AnswerSymbols, framed_location, framed_reply}
-use Rattle.snl_docs.specs.Texts.{checked}
-
--- ---- places
-
--- The offset of a place in a text, and the place of an offset.
-abbrev pub offset_at : Encoding → (text : List ℕ) → Place → ℕ
-offset_at encoding text place = offset_in encoding place.line place.character text
-
-abbrev pub place_at : Encoding → (text : List ℕ) → (offset : ℕ) → Place
-place_at encoding text offset = place_in encoding (take offset text)
-
--- Where a span of a text begins, and where it stops.
-abbrev pub start_of : Encoding → (text : List ℕ) → Span → Place
-start_of encoding text span = place_at encoding text span.start
-
-abbrev pub stop_of : Encoding → (text : List ℕ) → Span → Place
-stop_of encoding text span = place_at encoding text (span.start + span.len)
+use Rattle.snl_document.specs.Documents.{Doc, document_of}
+use Rattle.snl_replies.specs.Replies.{Reply, AnswerError, AnswerHover, AnswerLocation, AnswerNull, AnswerSymbols, framed_location, framed_reply}
+use Rattle.snl_document.specs.Texts.{checked}
 
 -- ---- symbols
 

@@ -4,11 +4,11 @@ use Rattle.snl_hear.specs.Heard.{Heard, NoJson, NoMessage, Response, Request, No
 use Rattle.snl_hear.specs.Notifications.{Noted, Initialized, Exit, DidOpen, DidChange, DidClose, InvalidParams, Other}
 use Rattle.snl_hear.specs.Requests.{Asked, Initialize, Shutdown, DocumentSymbol, Definition, Hover, MethodNotFound}
 use Rattle.snl_hear.specs.Requests as asked
-use Rattle.snl_docs.specs.Documents.{Doc, document_of}
-use Rattle.snl_docs.specs.Replies.{Reply, Publish, Notice, AnswerNull, AnswerInitialize, AnswerSymbols, AnswerLocation, AnswerHover, AnswerError}
+use Rattle.snl_document.specs.Documents.{Doc, document_of}
+use Rattle.snl_replies.specs.Replies.{Reply, Publish, Notice, AnswerNull, AnswerInitialize, AnswerSymbols, AnswerLocation, AnswerHover, AnswerError}
 use Rattle.snl_docs.specs.Served.{Served}
-use Rattle.snl_docs.specs.Texts.{checked}
-use Rattle.snl_docs.specs.Told.{found_of_text}
+use Rattle.snl_document.specs.Texts.{checked}
+use Rattle.snl_document.specs.Told.{found_of_text}
 
 -- The text of the document of a URI, if it is open and its text is known.
 abbrev pub text_of : (uri : List ℕ) → List Doc → Option (List ℕ)

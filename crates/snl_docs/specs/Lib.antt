@@ -1,13 +1,4 @@
 pub mod Asked
-pub mod Documents
-pub mod Found
-pub mod Held
 pub mod Known
-pub mod Notices
-pub mod Replies
+pub mod Marks
 pub mod Served
-pub mod Sources
-pub mod Splices
-pub mod Texts
-pub mod Told
-pub mod Turns

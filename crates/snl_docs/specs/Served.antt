@@ -1,6 +1,5 @@
 -- What the server keeps from one message to the next, and what it answers.
-use Rattle.std.specs.Prelude.{ℕ, List, [], ◌∷◌, Bool, true, false, Option, Some, None, flat_map, map, if◌then◌else◌}
-use Rattle.std.specs.Option.{option_map_or}
+use Rattle.std.specs.Prelude.{ℕ, List, [], ◌∷◌, Bool, true, false, Option, Some, None, map, if◌then◌else◌}
 use Rattle.serde_json.specs.Data.{Data, null}
 use Rattle.snl_place.specs.declared.places.Encoding.{Encoding}
 use Rattle.snl_place.specs.declared.places.Encoding.TheVariants.{Utf16}
@@ -13,11 +12,10 @@ use Rattle.snl_docs.specs.declared.phase.Phase.{Phase}
 use Rattle.snl_docs.specs.declared.phase.Phase.TheVariants.{New, Ready, Shut, Gone}
 use Rattle.snl_docs.specs.declared.question.Question.TheVariants as question
 use Rattle.snl_docs.specs.Asked.{answer_on}
-use Rattle.snl_docs.specs.Documents.{Doc, after_changes, document_of, lost, opened, put, updated, without}
-use Rattle.snl_docs.specs.Replies.{Reply, Publish, AnswerError, AnswerInitialize, AnswerNull, body_of}
-use Rattle.snl_docs.specs.Texts.{standing}
-use Rattle.snl_docs.specs.Told.{told, told_after}
-use Rattle.snl_docs.specs.Turns.{Turn, heard_at}
+use Rattle.snl_document.specs.Documents.{Doc, after_changes, lost, opened, put, updated, without}
+use Rattle.snl_replies.specs.Replies.{Reply, Publish, AnswerError, AnswerInitialize, AnswerNull, body_of}
+use Rattle.snl_document.specs.Told.{told, told_of_all, told_of_named}
+use Rattle.snl_turns.specs.Turns.{Turn, heard_at}
 
 -- The documents that are open, how places are counted, and how far the talk is.
 pub record Served : Type 0 where
@@ -99,17 +97,6 @@ answer_in Shut encoding docs id asked = AnswerError id error.InvalidRequest
 answer_in (Gone clean) encoding docs id asked = AnswerError id error.InvalidRequest
 
 -- ---- what is told of documents
-
--- What is told of the document of this URI after a change, if it is open.
-abbrev pub told_of : Encoding → (change : Doc → Doc) → Doc → List Reply
-told_of encoding change doc = told_after encoding (standing doc.text) (change doc)
-
-abbrev pub told_of_named : Encoding → (uri : List ℕ) → (change : Doc → Doc) → List Doc → List Reply
-told_of_named encoding uri change docs =
-    option_map_or (told_of encoding change) (document_of uri docs) []
-
-abbrev pub told_of_all : Encoding → List Doc → List Reply
-told_of_all encoding docs = flat_map (told_of encoding lost) docs
 
 abbrev pub lost_by : (uri : Option (List ℕ)) → List Doc → List Doc
 lost_by None docs = map lost docs

@@ -1,24 +1,24 @@
 //! The answers to what is asked of a document, by its text.
-//! In: a session over the text, how its places are counted, and the question. Out: the answer,
-//! after the bytes that are there.
-//! Knows nothing of other documents, and of texts that aren't checked.
+//! In: the documents, how places are counted, and the question. Out: the answer, after the bytes
+//! that are there. Knows nothing of requests, and of what may be asked when.
 
 ghost use Rattle.std.specs.Prelude.{◌≡◌, ◌++◌, OnOk};
 ghost use Rattle.snl_meaning.specs.Meanings.{meaning_near};
 ghost use Rattle.snl_hover.specs.Hover.{hover_of};
 ghost use Rattle.snl_say.specs.Answers.{id_data};
-ghost use Rattle.snl_docs.specs.Asked.{framed_answer, framed_meaning, hover_answer, offset_at, symbols_in};
-ghost use Rattle.snl_docs.specs.Replies.{AnswerSymbols, framed_reply};
+ghost use Rattle.snl_docs.specs.Asked.{answer_of, answer_on, framed_answer, framed_meaning, hover_answer, symbols_in};
+ghost use Rattle.snl_document.specs.Spans.{offset_at};
+ghost use Rattle.snl_replies.specs.Replies.{AnswerSymbols, framed_reply};
 
-use crate::places::{offset_at, places_of, source_of};
 use crate::question::Question;
-use crate::replies::{say_hover, say_location, say_null, say_symbols};
 use crate::symbols::symbols_in;
 use snl_cut::OutOfMemory;
+use snl_document::{Document, document_of, offset_at, places_of, source_of};
 use snl_hover::hover_at;
 use snl_meaning::meaning_near;
 use snl_place::{Encoding, Place};
-use snl_say::Id;
+use snl_replies::{say_error, say_hover, say_location, say_null, say_symbols};
+use snl_say::{ErrorCode, Id};
 use snl_session::Session;
 
 /// Answers with the symbols.
@@ -87,7 +87,7 @@ fn answer_hover(
 
 /// Answers a question by the text of a session, that of the document whose URI this is, as a string
 /// of JSON.
-pub fn answer_by(
+fn answer_by(
     encoding: Encoding,
     session: &Session,
     quoted_uri: &[u8],
@@ -105,4 +105,41 @@ pub fn answer_by(
         }
         Question::Hover(place) => answer_hover(encoding, session, place, id, said),
     }
+}
+
+/// Answers a question by the text of a document: `null`, where that isn't checked.
+fn answer_of(
+    document: &Document,
+    encoding: Encoding,
+    question: Question,
+    id: Id<'_>,
+    said: &mut Vec<u8>,
+) -> Result<(), OutOfMemory>
+    ensures { OnOk result (said.new.items ≡ said.old.items
+        ++ framed_reply (answer_of encoding (id_data id.entry) question document.now)) }
+{
+    let Some(session) = document.session() else {
+        say_null(said, id)?;
+        return Ok(());
+    };
+    answer_by(encoding, session, document.quoted_uri(), question, id, said)
+}
+
+/// Answers a question on the document of this URI, or that it isn't open.
+pub fn answer(
+    documents: &[Document],
+    encoding: Encoding,
+    uri: &str,
+    question: Question,
+    id: Id<'_>,
+    said: &mut Vec<u8>,
+) -> Result<(), OutOfMemory>
+    ensures { OnOk result (said.new.items ≡ said.old.items
+        ++ framed_reply (answer_on encoding documents.now (id_data id.entry) uri.now question)) }
+{
+    match document_of(documents, uri) {
+        Some(document) => answer_of(document, encoding, question, id, said)?,
+        None => say_error(said, Some(id), ErrorCode::InvalidParams)?,
+    }
+    Ok(())
 }

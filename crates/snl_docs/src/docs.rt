@@ -8,18 +8,17 @@ ghost use Rattle.snl_hear.specs.Heard.{heard_of};
 ghost use Rattle.snl_hear.specs.Notifications.{noted_of};
 ghost use Rattle.snl_hear.specs.Requests.{asked_of};
 ghost use Rattle.snl_say.specs.Answers.{id_data};
-ghost use Rattle.snl_docs.specs.Replies.{framed_reply, said_of};
+ghost use Rattle.snl_replies.specs.Replies.{framed_reply, said_of};
 
-use crate::document::Document;
-use crate::documents::{change, close, lose, lose_all, open};
 use crate::phase::Phase;
-use crate::replies::{say_error, say_initialize};
 use crate::requests::answer_ready;
-use crate::turn::Turn;
 use snl_cut::OutOfMemory;
+use snl_document::{Document, change, close, lose, lose_all, open};
 use snl_hear::{Body, Message, Notification, Request};
 use snl_place::Encoding;
+use snl_replies::{say_error, say_initialize};
 use snl_say::{ErrorCode, Id};
+use snl_turns::Turn;
 use std::alloc::{AllocError, Global};
 use std::marker::Model;
 
@@ -46,7 +45,7 @@ impl Model for Docs {
 
 impl Docs {
     ghost use Rattle.snl_docs.specs.Served.{after, after_heard, after_note, after_request, answer_in, answer_first, asked_first, docs_after, ended_of, replies, replies_to, start, told_by, told_note, with_docs};
-    ghost use Rattle.snl_docs.specs.Turns.{turn_of};
+    ghost use Rattle.snl_turns.specs.Turns.{turn_of};
 
     /// Nothing is open, and `initialize` is to come.
     #[tactic(auto, unfolding(crate::specs::Served::start))]
@@ -62,7 +61,7 @@ impl Docs {
 
     /// Answers a message. After an `Err`, which is want of memory, nothing is known of what is
     /// kept, and what is said may be cut short: whoever asks is to end the talk.
-    #[tactic(auto, using(crate::proofs::Framed::said_framed), unfolding(crate::specs::Served::after, crate::specs::Served::replies))]
+    #[tactic(auto, using(snl_replies::specs::ReplyLaws::said_framed), unfolding(crate::specs::Served::after, crate::specs::Served::replies))]
     pub fn answer(&mut self, turn: Turn<'_>, said: &mut Vec<u8>) -> Result<(), OutOfMemory>
         ensures state { OnOk result (self.new ≡ after self.old (turn_of turn.entry)) }
         ensures said { OnOk result (said.new.items ≡ said.old.items
@@ -85,7 +84,7 @@ impl Docs {
         self.phase.ended()
     }
 
-    #[tactic(auto, unfolding(crate::specs::Replies::said_of))]
+    #[tactic(auto, unfolding(snl_replies::specs::Replies::said_of))]
     fn hear(&mut self, message: Message<'_>, said: &mut Vec<u8>) -> Result<(), OutOfMemory>
         ensures state { OnOk result (self.new ≡ after_heard self.old (heard_of message.entry)) }
         ensures said { OnOk result (said.new.items ≡ said.old.items
@@ -158,7 +157,7 @@ impl Docs {
         }
     }
 
-    #[tactic(auto, unfolding(crate::specs::Replies::said_of))]
+    #[tactic(auto, unfolding(snl_replies::specs::Replies::said_of))]
     fn note(&mut self, told: Notification<'_>, said: &mut Vec<u8>) -> Result<(), OutOfMemory>
         ensures state { OnOk result (self.new ≡ after_note self.old (noted_of told.entry)) }
         ensures said { OnOk result (said.new.items ≡ said.old.items

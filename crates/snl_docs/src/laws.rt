@@ -8,12 +8,13 @@ ghost use Rattle.snl_hear.specs.Requests.{Asked, Definition, DocumentSymbol, Hov
 ghost use Rattle.snl_hover.specs.Hover.{hover_of};
 ghost use Rattle.snl_meaning.specs.Meanings.{meaning_near};
 ghost use Rattle.snl_docs.specs.declared.phase.Phase.TheVariants.{Ready};
-ghost use Rattle.snl_docs.specs.Asked.{hover_answer, location_answer, offset_at, symbols_in};
-ghost use Rattle.snl_docs.specs.Documents.{document_of};
+ghost use Rattle.snl_docs.specs.Asked.{hover_answer, location_answer, symbols_in};
+ghost use Rattle.snl_document.specs.Spans.{offset_at};
+ghost use Rattle.snl_document.specs.Documents.{document_of};
 ghost use Rattle.snl_docs.specs.Known.{IsAskedOf, IsByText, IsElsewhere, checked_text, kept_for};
-ghost use Rattle.snl_docs.specs.Replies.{AnswerSymbols};
+ghost use Rattle.snl_replies.specs.Replies.{AnswerSymbols};
 ghost use Rattle.snl_docs.specs.Served.{Served, after, replied};
-ghost use Rattle.snl_docs.specs.Turns.{Turn, heard_at};
+ghost use Rattle.snl_turns.specs.Turns.{Turn, heard_at};
 
 /// Whatever is published is what is found in the text that is kept for its URI after the message:
 /// nothing, where none is known or it isn't checked.

@@ -5,16 +5,16 @@
 ghost use Rattle.std.specs.Prelude.{◌≡◌, ◌++◌, OnOk};
 ghost use Rattle.snl_hear.specs.Requests.{asked_of};
 ghost use Rattle.snl_say.specs.Answers.{id_data};
-ghost use Rattle.snl_docs.specs.Replies.{framed_reply};
+ghost use Rattle.snl_replies.specs.Replies.{framed_reply};
 ghost use Rattle.snl_docs.specs.Served.{answer_ready};
 
-use crate::document::Document;
-use crate::documents::answer;
+use crate::answers::answer;
 use crate::question::Question;
-use crate::replies::{say_error, say_null};
 use snl_cut::OutOfMemory;
+use snl_document::Document;
 use snl_hear::Request;
 use snl_place::Encoding;
+use snl_replies::{say_error, say_null};
 use snl_say::{ErrorCode, Id};
 
 /// Answers a request between `initialize` and `shutdown`. None of them changes a document.

@@ -4,18 +4,30 @@
 
 ghost use Rattle.std.specs.Prelude.{◌≡◌, ◌≤◌, IfOk, length, map};
 ghost use Rattle.snl_say.specs.Symbols.{symbol_of};
-ghost use Rattle.snl_docs.specs.Asked.{kind_of, start_of, stop_of, symbol_at, symbols_in};
-ghost use Rattle.snl_docs.specs.Sources.{AreMarks, IsMark, IsSource};
+ghost use Rattle.snl_docs.specs.Asked.{kind_of, symbol_at, symbols_in};
+ghost use Rattle.snl_docs.specs.Marks.{AreMarks};
+ghost use Rattle.snl_document.specs.Spans.{start_of, stop_of};
+ghost use Rattle.snl_document.specs.Sources.{IsMark, IsSource};
 
-use crate::places::{begin_of, mark_after, mark_from, offset_after, slice_of, source_of};
-use crate::source::{Mark, Source, SymbolMarks};
 use snl_cut::OutOfMemory;
+use snl_document::{
+    Mark, Source, begin_of, mark_after, mark_from, offset_after, slice_of, source_of,
+};
 use snl_place::Encoding;
 use snl_say::{ShownSymbol, SymbolKind};
 use snl_session::Session;
 use snl_symbols::{DocumentSymbol, DocumentSymbolKind, symbols};
 use snl_tables::Span;
 use std::alloc::Global;
+
+/// Where a symbol begins and stops, and where its name does.
+#[derive(Clone, Copy)]
+struct SymbolMarks {
+    start: Mark,
+    stop: Mark,
+    name_start: Mark,
+    name_stop: Mark,
+}
 
 fn kind_of(kind: DocumentSymbolKind) -> SymbolKind
     ensures { result ≡ kind_of kind }

@@ -4,7 +4,7 @@ use Rattle.std.specs.Io.KnownBytes.{Appends, IsAtEnd, Keeps}
 use Rattle.std.proofs.KnownBytes.{Appends-nil, Appends-trans, Consumes-nil, Consumes-trans}
 use Rattle.std.proofs.lemmas.List.{append-nil}
 use Rattle.snl_docs.specs.Served.{Served, after, ended_of}
-use Rattle.snl_docs.specs.Turns.{Turn, HeaderAlone, Body}
+use Rattle.snl_turns.specs.Turns.{Turn, HeaderAlone, Body}
 use Rattle.snl_frame.specs.Frame.{AtFront, NoMessage, Unfinished, at_front}
 use Rattle.snl_frame.specs.Front.{grown}
 use Rattle.snl_script.specs.declared.ahead.ReadFault.{ReadFault}
@@ -12,14 +12,15 @@ use Rattle.snl_script.specs.declared.ahead.ReadFault.TheVariants as reading
 use Rattle.snl_script.specs.Ahead.{Gains}
 use Rattle.snl_script.specs.Said.{AppendsPart}
 use Rattle.snl_script.specs.SaidLaws.{Appends-same, AppendsPart-after, AppendsPart-same}
-use Rattle.snl_lsp.specs.declared.faults.Ending.{Ending}
-use Rattle.snl_lsp.specs.declared.faults.Ending.TheVariants.{Abrupt}
-use Rattle.snl_lsp.specs.declared.faults.Fault.{Fault}
-use Rattle.snl_lsp.specs.declared.faults.Fault.TheVariants.{Read, Write, Header, Cut, Memory, TooManyReads}
-use Rattle.snl_lsp.specs.Faults.{fault_of_read}
-use Rattle.snl_lsp.specs.Front.{IsWhole}
+use Rattle.snl_turns.specs.declared.faults.Ending.{Ending}
+use Rattle.snl_turns.specs.declared.faults.Ending.TheVariants.{Abrupt}
+use Rattle.snl_turns.specs.declared.faults.Fault.{Fault}
+use Rattle.snl_turns.specs.declared.faults.Fault.TheVariants.{Read, Write, Header, Cut, Memory, TooManyReads}
+use Rattle.snl_turns.specs.Faults.{fault_of_read}
+use Rattle.snl_turns.specs.Front.{IsWhole}
 use Rattle.snl_lsp.specs.Run.{IsMalformed, Ran, Told, ToldPart, Unanswered, ending_of, most_kept}
-use Rattle.snl_lsp.specs.Transcript.{AreHeard, Begins, GoesOn, HoldsNone, front_with, reply, served_after, transcript}
+use Rattle.snl_turns.specs.Begins.{Begins, HoldsNone, front_with}
+use Rattle.snl_lsp.specs.Transcript.{AreHeard, GoesOn, reply, served_after, transcript}
 
 -- ---- messages, one after another
 

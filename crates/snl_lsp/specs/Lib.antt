@@ -1,4 +1,2 @@
-pub mod Faults
-pub mod Front
 pub mod Run
 pub mod Transcript

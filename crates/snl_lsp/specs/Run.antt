@@ -2,14 +2,15 @@
 use Rattle.std.specs.Prelude.{◌≡◌, ◌≢◌, ℕ, ◌+◌, ◌*◌, ◌^◌, ◌≤◌, ◌⊎◌, List, [], length, Bool, true, false, Option, Some, Result, Ok, Err, IfSome}
 use Rattle.std.specs.Io.KnownBytes.{Appends, Consumes, IsAtEnd, Keeps, prepend_known}
 use Rattle.snl_docs.specs.Served.{Served, after, ended_of}
-use Rattle.snl_docs.specs.Turns.{Turn}
+use Rattle.snl_turns.specs.Turns.{Turn}
 use Rattle.snl_frame.specs.Frame.{NoMessage, at_front, longest_body, longest_line, most_lines}
 use Rattle.snl_script.specs.Said.{AppendsPart}
-use Rattle.snl_lsp.specs.declared.faults.Ending.{Ending}
-use Rattle.snl_lsp.specs.declared.faults.Ending.TheVariants.{Clean, Abrupt}
-use Rattle.snl_lsp.specs.declared.faults.Fault.{Fault}
-use Rattle.snl_lsp.specs.declared.faults.Fault.TheVariants.{Read, Write, Header, Cut, Memory, TooManyReads}
-use Rattle.snl_lsp.specs.Transcript.{AreHeard, Begins, GoesOn, HoldsNone, reply, served_after, transcript}
+use Rattle.snl_turns.specs.declared.faults.Ending.{Ending}
+use Rattle.snl_turns.specs.declared.faults.Ending.TheVariants.{Clean, Abrupt}
+use Rattle.snl_turns.specs.declared.faults.Fault.{Fault}
+use Rattle.snl_turns.specs.declared.faults.Fault.TheVariants.{Read, Write, Header, Cut, Memory, TooManyReads}
+use Rattle.snl_turns.specs.Begins.{Begins, HoldsNone}
+use Rattle.snl_lsp.specs.Transcript.{AreHeard, GoesOn, reply, served_after, transcript}
 
 -- What was read and not answered is at most a message that is begun and the bytes of one read.
 abbrev pub most_kept : ℕ

@@ -3,14 +3,11 @@
 //! ended, and 2 at a fault, which the program names on standard error.
 #![tactic(auto)]
 
-mod faults;
-mod front;
-mod laws;
 mod server;
 
-use faults::status_code;
 use server::serve;
 use snl_script::Watched;
+use snl_turns::status_code;
 use std::process::ExitCode;
 
 fn main(rt: HostRuntime) -> ExitCode {

@@ -5,15 +5,14 @@
 
 ghost use Rattle.std.specs.Prelude.{◌≡◌, ◌≢◌, ◌^◌, ◌≤◌, ◌||◌, [], Err, false, is_err, IsErrOf, None, Ok};
 ghost use Rattle.snl_docs.specs.Served.{ended_of, start};
-ghost use Rattle.snl_docs.specs.Turns.{turn_of};
+ghost use Rattle.snl_turns.specs.Turns.{turn_of};
 ghost use Rattle.snl_lsp.specs.Run.{Answered, Ran, ending_of, is_read_fault, is_write_fault};
 ghost use Rattle.snl_script.specs.Watched.{calls_of, failed_of, inner_of};
 
-use crate::faults::{Ending, Fault};
-use crate::front::{Next, next_in};
-use snl_docs::{Docs, Turn};
+use snl_docs::Docs;
 use snl_frame::{messages_stay, unfinished_are_bounded};
 use snl_script::{Ahead, Watched, write_out};
+use snl_turns::{Ending, Fault, Next, Turn, next_in};
 use std::alloc::Global;
 use std::io::{Read, Write};
 use std::mem::forget;

@@ -1,5 +1,6 @@
 pub mod AnswerText
 pub mod EscapeRuns
+pub mod ItemText
 pub mod Nesting
 pub mod ParentSteps
 pub mod PlaceText

@@ -1,4 +1,5 @@
 pub mod Answers
+pub mod Items
 pub mod Notices
 pub mod Parents
 pub mod Places

@@ -8,6 +8,7 @@ ghost use Rattle.std.specs.List.{prefix_len};
 ghost use Rattle.json.specs.Print.{escape, escape_byte, escape_letter, quoted};
 ghost use Rattle.json.specs.Run.{is_plain};
 
+use crate::plain::is_plain;
 use std::alloc::AllocError;
 
 /// Pieces, one after another.
@@ -78,8 +79,10 @@ fn plain_end(bytes: &[u8], start: usize) -> usize
     end
 }
 
-/// The bytes of a string. Nearly none has an escape, so those between two are put at once.
-pub fn put_escaped(out: &mut Vec<u8>, bytes: &[u8]) -> Result<(), AllocError>
+/// The bytes of a string of which one has an escape: those between two such are put at once.
+#[cold]
+#[inline(never)]
+fn put_by_runs(out: &mut Vec<u8>, bytes: &[u8]) -> Result<(), AllocError>
     ensures { OnOk result (out.new.items ≡ out.old.items ++ escape bytes.now) }
 {
     let mut start = 0;
@@ -91,6 +94,17 @@ pub fn put_escaped(out: &mut Vec<u8>, bytes: &[u8]) -> Result<(), AllocError>
         }
         put_byte(out, bytes[end])?;
         start = end + 1;
+    }
+}
+
+/// The bytes of a string. Nearly none has an escape.
+pub fn put_escaped(out: &mut Vec<u8>, bytes: &[u8]) -> Result<(), AllocError>
+    ensures { OnOk result (out.new.items ≡ out.old.items ++ escape bytes.now) }
+{
+    if is_plain(bytes) {
+        out.extend_from_slice(bytes)
+    } else {
+        put_by_runs(out, bytes)
     }
 }
 

@@ -5,11 +5,14 @@
 
 ghost use Rattle.std.specs.Prelude.{◌≡◌, ◌++◌, ◌∷◌, [], ℕ, List, Option, None, Some, OnOk, codes, flat_map, map};
 ghost use Rattle.json.specs.Print.{escape, quoted};
+ghost use Rattle.serde_json.specs.Written.{comma_if};
 ghost use Rattle.snl_script.specs.Parts.{quoted as in_quotes};
+ghost use Rattle.snl_say.specs.Items.{item_end};
 ghost use Rattle.snl_say.specs.Publish.{Found, after_comma, found_of, item_text, items_text, publish_head, publish_with, severity_text, version_text};
 
-use crate::bytes::{put_all, put_escaped, put_quoted};
-use crate::places::put_range;
+use crate::before::bytes_before;
+use crate::bytes::{put_all, put_escaped};
+use crate::places::range_before;
 use crate::severity::Severity;
 use itoa::Buffer;
 use snl_place::Place;
@@ -51,29 +54,39 @@ fn put_in_quotes(out: &mut Vec<u8>, bytes: &[u8]) -> Result<(), AllocError>
     Ok(())
 }
 
-/// A message with what it quotes, as a string of JSON.
-fn put_message(out: &mut Vec<u8>, message: &[u8], bytes: &[u8]) -> Result<(), AllocError>
-    ensures { OnOk result (out.new.items ≡ out.old.items
-        ++ quoted (message.now ++ in_quotes bytes.now)) }
+/// What is before the code of an item: a comma first, where another item is before it.
+fn begin_text(later: bool) -> &'static [u8]
+    ensures { result.now ≡ comma_if later ++ codes "{\"code\":\"" }
 {
-    out.extend_from_slice(b"\"")?;
-    put_escaped(out, message)?;
-    put_in_quotes(out, bytes)?;
-    out.extend_from_slice(b"\"")?;
-    Ok(())
+    if later {
+        b",{\"code\":\""
+    } else {
+        b"{\"code\":\""
+    }
 }
 
-#[tactic(auto, unfolding(crate::specs::Publish::item_text))]
-fn put_item(out: &mut Vec<u8>, shown: &Shown<'_>) -> Result<(), AllocError>
-    ensures { OnOk result (out.new.items ≡ out.old.items ++ item_text (found_of shown.now)) }
+/// The quote after the message of an item, and all that is after it.
+fn put_end(out: &mut Vec<u8>, shown: &Shown<'_>) -> Result<(), AllocError>
+    ensures { OnOk result (out.new.items ≡ out.old.items ++ item_end (found_of shown.now)) }
 {
-    out.extend_from_slice(b"{\"code\":")?;
-    put_quoted(out, shown.code)?;
-    out.extend_from_slice(b",\"message\":")?;
-    put_message(out, shown.message, shown.quoted)?;
-    out.extend_from_slice(b",\"range\":")?;
-    put_range(out, shown.start, shown.stop)?;
-    out.extend_from_slice(severity_text(shown.severity))?;
+    let mut buffer = [0; 192];
+    let severity = bytes_before(&mut buffer, 192, severity_text(shown.severity));
+    let range = range_before(&mut buffer, severity, shown.start, shown.stop);
+    let name = bytes_before(&mut buffer, range, b"\",\"range\":");
+    out.extend_from_slice(&buffer[name..])
+}
+
+/// An item, with a comma before it, where another item is before it.
+fn put_item(out: &mut Vec<u8>, later: bool, shown: &Shown<'_>) -> Result<(), AllocError>
+    ensures { OnOk result (out.new.items ≡ out.old.items
+        ++ (comma_if later ++ item_text (found_of shown.now))) }
+{
+    out.extend_from_slice(begin_text(later))?;
+    put_escaped(out, shown.code)?;
+    out.extend_from_slice(b"\",\"message\":\"")?;
+    put_escaped(out, shown.message)?;
+    put_in_quotes(out, shown.quoted)?;
+    put_end(out, shown)?;
     Ok(())
 }
 
@@ -83,8 +96,7 @@ fn put_rest(out: &mut Vec<u8>, rest: &[Shown<'_>]) -> Result<(), AllocError>
         ++ (flat_map (λ s. after_comma (found_of s)) rest.now ++ codes "]")) }
 {
     for shown in rest {
-        out.extend_from_slice(b",")?;
-        put_item(out, shown)?;
+        put_item(out, true, shown)?;
     }
     out.extend_from_slice(b"]")?;
     Ok(())
@@ -96,7 +108,7 @@ fn put_items(out: &mut Vec<u8>, all: &[Shown<'_>]) -> Result<(), AllocError>
 {
     match all.split_first() {
         Some((first, rest)) => {
-            put_item(out, first)?;
+            put_item(out, false, first)?;
             put_rest(out, rest)?;
         }
         None => out.extend_from_slice(b"]")?,

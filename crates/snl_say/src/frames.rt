@@ -1,8 +1,8 @@
 //! A body with its header.
-//! In: the body of a message. Out: the message, after the bytes that are there.
+//! In: the body of a message, or where it begins. Out: the message, after the bytes before it.
 //! Knows nothing of what a body says.
 
-ghost use Rattle.std.specs.Prelude.{◌≡◌, ◌++◌, ◌∷◌, [], OnOk, codes, decimal, flat_map, length};
+ghost use Rattle.std.specs.Prelude.{◌≡◌, ◌++◌, ◌∷◌, [], ◌≤◌, OnOk, codes, decimal, drop, flat_map, length, take, vec_len};
 ghost use Rattle.std.specs.List.{concat};
 ghost use Rattle.snl_frame.specs.Framed.{framed};
 
@@ -10,12 +10,28 @@ use crate::bytes::put_all;
 use itoa::Buffer;
 use std::alloc::AllocError;
 
+/// Puts the header before the body that all bytes from `start` on are. So the body needs no buffer
+/// of its own. An `Err`, of memory, may leave a front of the header after it.
+pub fn frame_from(out: &mut Vec<u8>, start: usize) -> Result<(), AllocError>
+    requires { start ≤ vec_len out.old }
+    ensures { OnOk result (out.new.items
+        ≡ take start out.old.items ++ framed (drop start out.old.items)) }
+{
+    let end = out.len();
+    let mut buffer = Buffer::new();
+    let length = buffer.format(end - start).as_bytes();
+    put_all(out, &[b"Content-Length: ", length, b"\r\n\r\n"])?;
+    let header = out.len() - end;
+    out[start..].rotate_right(header);
+    Ok(())
+}
+
 /// A body in its frame: the header says how many bytes it has. An `Err`, of memory, may leave a
 /// front of the message.
 pub fn put_framed(out: &mut Vec<u8>, body: &[u8]) -> Result<(), AllocError>
     ensures { OnOk result (out.new.items ≡ out.old.items ++ framed body.now) }
 {
-    let mut buffer = Buffer::new();
-    let length = buffer.format(body.len()).as_bytes();
-    put_all(out, &[b"Content-Length: ", length, b"\r\n\r\n", body])
+    let start = out.len();
+    out.extend_from_slice(body)?;
+    frame_from(out, start)
 }

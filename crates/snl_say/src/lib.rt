@@ -11,6 +11,7 @@
 #![tactic(auto)]
 
 mod answers;
+mod before;
 mod bytes;
 mod diagnostics;
 mod frames;
@@ -19,13 +20,14 @@ mod laws;
 mod location;
 mod notices;
 mod places;
+mod plain;
 mod severity;
 mod symbols;
 
 pub use answers::{ErrorCode, Id, put_error, put_initialize, put_null};
 pub use bytes::put_quoted;
 pub use diagnostics::{Shown, put_publish};
-pub use frames::put_framed;
+pub use frames::{frame_from, put_framed};
 pub use hover::put_hover;
 pub use laws::{
     error_is_json, hover_is_json, initialize_is_json, location_is_json, message_is_json,

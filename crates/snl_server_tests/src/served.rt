@@ -1,7 +1,8 @@
 //! What a server answers to a client's messages, one after another.
 
-use snl_docs::{Docs, Turn};
+use snl_docs::Docs;
 use snl_say::put_framed;
+use snl_turns::Turn;
 use std::alloc::Global;
 use std::process::Abort;
 use std::test::Fail;

@@ -1,7 +1,7 @@
 use Rattle.std.proofs.Common.{◌≡◌, map, take}
 use Rattle.snl_say.specs.Symbols.{symbol_of}
 use Rattle.snl_docs.specs.Asked.{symbol_at}
-use Rattle.snl_docs.specs.Sources.{AreMarks}
+use Rattle.snl_docs.specs.Marks.{AreMarks}
 use Rattle.snl_docs.proofs.symbols.shown_all.Given as goal
 
 abbrev pub invariant-loop-symbol : goal.invariant-loop-symbol

@@ -2,7 +2,7 @@ use Rattle.std.proofs.Common.{arith}
 use Rattle.std.proofs.lemmas.Grind.{common_steps}
 use Rattle.snl_hear.specs.Notifications.{noted_of}
 use Rattle.snl_docs.specs.Served.{told_by}
-use Rattle.snl_docs.proofs.Framed.{said_none}
+use Rattle.snl_replies.specs.ReplyLaws.{said_none}
 use Rattle.snl_docs.proofs.docs.Docs.note_ready.Goals as goal
 
 -- Where nothing is told, nothing is added.

@@ -1,0 +1,37 @@
+use Rattle.std.proofs.Common.{◌≡◌, ◌++◌, ◌∙◌, None, Some, ap, map, subst}
+use Rattle.std.specs.Prelude.{string_bytes}
+use Rattle.snl_say.specs.Publish.{found_of}
+use Rattle.snl_document.specs.Documents.{Doc}
+use Rattle.snl_replies.specs.Replies.{framed_reply}
+use Rattle.snl_document.specs.Told.{published}
+use Rattle.snl_document.proofs.Framed.{found_by, publish_is}
+use Rattle.snl_document.proofs.document.Document.publish.Goals as goal
+
+pub returns-in_ok-say_found-in-Some : goal.returns-in_ok-say_found-in-Some
+returns-in_ok-say_found-in-Some c =
+    let doc : Doc = record {
+      uri = string_bytes c.self.inside.uri;
+      version = c.self.inside.version;
+      text = c.self.inside.text;
+    } in
+    let text = Some c.in-Some.session.now in
+    let found =
+    ap (map (λ s. found_of s)) c.deref-in-Some.ensures.value ∙ c.in_ok-found-in-Some.ensures
+    ∙ found_by c.args.encoding doc.text text c.in-Some.ensures in
+    subst (λ (d : Doc). c.say_found.new.said.items
+    ≡ c.args.said.now.items ++ framed_reply (published c.args.encoding d)) c.self.view_is
+    (publish_is c.args.encoding doc _ _ _ _ c.in_ok-say_found-in-Some.ensures
+    (c.deref.ensures.value ∙ c.self.invariant) found)
+
+pub returns-in_ok-say_found-in-None : goal.returns-in_ok-say_found-in-None
+returns-in_ok-say_found-in-None c =
+    let doc : Doc = record {
+      uri = string_bytes c.self.inside.uri;
+      version = c.self.inside.version;
+      text = c.self.inside.text;
+    } in
+    let found = found_by c.args.encoding doc.text None c.in-None.ensures in
+    subst (λ (d : Doc). c.say_found-in-None.new.said.items
+    ≡ c.args.said.now.items ++ framed_reply (published c.args.encoding d)) c.self.view_is
+    (publish_is c.args.encoding doc _ _ _ _ c.in_ok-say_found-in-None.ensures
+    (c.deref-in-None.ensures.value ∙ c.self.invariant) found)

@@ -1,0 +1,32 @@
+use Rattle.std.proofs.Common.{List, ◌++◌, ◌∙◌, ap}
+use Rattle.std.proofs.lemmas.Result.{on_ok_weaker}
+use Rattle.snl_document.specs.Documents.{lost}
+use Rattle.snl_replies.specs.Replies.{Reply, said_of}
+use Rattle.snl_replies.specs.ReplyLaws.{said_none}
+use Rattle.snl_document.proofs.Named.{told_found, told_missed, updated_found, updated_missed}
+use Rattle.snl_document.proofs.documents.lose.Goals as goal
+
+pub returns-in-Some-clause-state : goal.returns-in-Some-clause-state
+returns-in-Some-clause-state c =
+    updated_found c.args.uri.now lost c.args.documents.now c.find.result c.in-Some.at
+    c.index-documents-at.result c.lose.new.self c.find.ensures c.in-Some.is
+    c.lose.ensures.state
+
+pub returns-in-Some-clause-said : goal.returns-in-Some-clause-said
+returns-in-Some-clause-said c =
+    let told = told_found c.args.encoding c.args.uri.now lost c.args.documents.now c.find.result
+    c.in-Some.at c.index-documents-at.result c.find.ensures c.in-Some.is in
+    on_ok_weaker c.lose.result
+    (λ h. h ∙ ap (λ (rs : List Reply). c.args.said.now.items ++ said_of rs) told)
+    c.lose.ensures.said
+
+pub returns-in-None-clause-state : goal.returns-in-None-clause-state
+returns-in-None-clause-state c =
+    updated_missed c.args.uri.now lost c.args.documents.now c.find.result c.find.ensures
+    c.in-None.is
+
+pub returns-in-None-clause-said : goal.returns-in-None-clause-said
+returns-in-None-clause-said c =
+    said_none c.args.said.now.items _
+    (told_missed c.args.encoding c.args.uri.now lost c.args.documents.now c.find.result
+    c.find.ensures c.in-None.is)

@@ -1,0 +1,9 @@
+pub mod Documents
+pub mod Found
+pub mod Held
+pub mod Notices
+pub mod Sources
+pub mod Spans
+pub mod Splices
+pub mod Texts
+pub mod Told

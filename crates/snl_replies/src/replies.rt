@@ -1,0 +1,131 @@
+//! What is said to a client: bodies in their frames, after the bytes that are there.
+//! Knows nothing of documents, and of what is answered to which message.
+
+ghost use Rattle.std.specs.Prelude.{◌≡◌, ◌++◌, OnOk, map};
+ghost use Rattle.snl_say.specs.Answers.{id_data, some_id_data};
+ghost use Rattle.snl_say.specs.Publish.{found_of};
+ghost use Rattle.snl_say.specs.Symbols.{symbol_of};
+ghost use Rattle.snl_replies.specs.Replies.{AnswerError, AnswerHover, AnswerInitialize, AnswerNull, AnswerSymbols, Notice, framed_location, framed_publish, framed_reply};
+
+use snl_place::{Encoding, Place};
+use snl_say::{
+    ErrorCode, Id, Severity, Shown, ShownSymbol, frame_from, put_error, put_hover, put_initialize,
+    put_location, put_message, put_null, put_publish, put_symbols,
+};
+use std::alloc::AllocError;
+
+/// Publishes what is found in a document.
+#[tactic(auto, unfolding(crate::specs::Replies::framed_publish))]
+pub fn say_found(
+    said: &mut Vec<u8>,
+    quoted_uri: &[u8],
+    version: Option<u64>,
+    found: &[Shown<'_>],
+) -> Result<(), AllocError>
+    ensures { OnOk result (said.new.items ≡ said.old.items
+        ++ framed_publish (map (λ s. found_of s) found.now) quoted_uri.now version) }
+{
+    let begin = said.len();
+    put_publish(said, quoted_uri, version, found)?;
+    frame_from(said, begin)
+}
+
+/// Shows the user a notice of a document.
+#[tactic(auto, unfolding(crate::specs::Replies::framed_reply))]
+pub fn say_notice(
+    said: &mut Vec<u8>,
+    severity: Severity,
+    uri: &[u8],
+    notice: &[u8],
+) -> Result<(), AllocError>
+    ensures { OnOk result (said.new.items ≡ said.old.items
+        ++ framed_reply (Notice severity (uri.now ++ notice.now))) }
+{
+    let mut message = Vec::from_slice(*said.allocator(), uri)?;
+    message.extend_from_slice(notice)?;
+    let begin = said.len();
+    put_message(said, severity, &message)?;
+    frame_from(said, begin)
+}
+
+/// Answers that there is an error.
+#[tactic(auto, unfolding(crate::specs::Replies::framed_reply))]
+pub fn say_error(said: &mut Vec<u8>, id: Option<Id<'_>>, code: ErrorCode) -> Result<(), AllocError>
+    ensures { OnOk result (said.new.items ≡ said.old.items
+        ++ framed_reply (AnswerError (some_id_data id.entry) code)) }
+{
+    let begin = said.len();
+    put_error(said, id, code)?;
+    frame_from(said, begin)
+}
+
+/// Answers `initialize`.
+#[tactic(auto, unfolding(crate::specs::Replies::framed_reply))]
+pub fn say_initialize(said: &mut Vec<u8>, id: Id<'_>, encoding: Encoding) -> Result<(), AllocError>
+    ensures { OnOk result (said.new.items ≡ said.old.items
+        ++ framed_reply (AnswerInitialize (id_data id.entry) encoding)) }
+{
+    let begin = said.len();
+    put_initialize(said, id, encoding)?;
+    frame_from(said, begin)
+}
+
+/// Answers that there is nothing to tell.
+#[tactic(auto, unfolding(crate::specs::Replies::framed_reply))]
+pub fn say_null(said: &mut Vec<u8>, id: Id<'_>) -> Result<(), AllocError>
+    ensures { OnOk result (said.new.items ≡ said.old.items
+        ++ framed_reply (AnswerNull (id_data id.entry))) }
+{
+    let begin = said.len();
+    put_null(said, id)?;
+    frame_from(said, begin)
+}
+
+/// Answers with symbols.
+#[tactic(auto, unfolding(crate::specs::Replies::framed_reply))]
+pub fn say_symbols(
+    said: &mut Vec<u8>,
+    id: Id<'_>,
+    symbols: &[ShownSymbol<'_>],
+) -> Result<(), AllocError>
+    ensures { OnOk result (said.new.items ≡ said.old.items
+        ++ framed_reply (AnswerSymbols (id_data id.entry) (map (λ s. symbol_of s) symbols.now))) }
+{
+    let begin = said.len();
+    put_symbols(said, id, symbols)?;
+    frame_from(said, begin)
+}
+
+/// Answers with a part of a document.
+#[tactic(auto, unfolding(crate::specs::Replies::framed_location))]
+pub fn say_location(
+    said: &mut Vec<u8>,
+    id: Id<'_>,
+    quoted_uri: &[u8],
+    start: Place,
+    stop: Place,
+) -> Result<(), AllocError>
+    ensures { OnOk result (said.new.items ≡ said.old.items
+        ++ framed_location (id_data id.entry) quoted_uri.now start stop) }
+{
+    let begin = said.len();
+    put_location(said, id, quoted_uri, start, stop)?;
+    frame_from(said, begin)
+}
+
+/// Answers with what is told of a name, which is between two places.
+#[tactic(auto, unfolding(crate::specs::Replies::framed_reply))]
+pub fn say_hover(
+    said: &mut Vec<u8>,
+    id: Id<'_>,
+    contents: &[u8],
+    start: Place,
+    stop: Place,
+) -> Result<(), AllocError>
+    ensures { OnOk result (said.new.items ≡ said.old.items
+        ++ framed_reply (AnswerHover (id_data id.entry) contents.now start stop)) }
+{
+    let begin = said.len();
+    put_hover(said, id, contents, start, stop)?;
+    frame_from(said, begin)
+}

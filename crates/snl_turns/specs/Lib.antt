@@ -1,0 +1,4 @@
+pub mod Begins
+pub mod Faults
+pub mod Front
+pub mod Turns
