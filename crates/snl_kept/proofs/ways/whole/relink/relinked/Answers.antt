@@ -18,6 +18,21 @@ overflow_sub-back c =
     let old = c.args.editing.now.edit.now.old.now in
     omega (arith, c.len.ensures, ap length c.requires.editing.lists.entries, entries_count old, c.requires.editing.changes.items.order)
 
+pub link_after-requires-clause-order : goal.link_after-requires-clause-order
+link_after-requires-clause-order c =
+    let old = c.args.editing.now.edit.now.old.now in
+    omega (arith, c.len.ensures, ap length c.requires.editing.lists.entries, entries_count old, c.requires.editing.changes.items.order)
+
+pub link_after-requires-clause-inside : goal.link_after-requires-clause-inside
+link_after-requires-clause-inside c =
+    let old = c.args.editing.now.edit.now.old.now in
+    let outlines : (t : List ℕ) → outlines_kept (entries_of t) ≡ outlines_in t =
+    kept_outlines c.outcome_told.ensures.tree c.same_spelling_same_tree.ensures.by_spelling c.same_spelling_same_summary.ensures.summary_by_spelling c.same_spelling_same_summary.ensures.bytes_by_spelling in
+    let many = length-map (entries_of old) (λ e. e.summary.outline) in
+    let told = ap length (outlines old) in
+    let linked = ap (λ l. length l.outlines) c.requires.editing.lists.links in
+    omega (arith, c.len.ensures, ap length c.requires.editing.lists.entries, many, told, linked)
+
 pub returns : goal.returns
 returns c =
     let old = c.args.editing.now.edit.now.old.now in
