@@ -66,7 +66,7 @@ returns c =
     ∙ sym (mapped_parts (λ e. e.summary.kind) front back made (entries_of old)) ∙ sym (ap kinds_kept all) ∙ kinds text in
     let new : LinkedItems = record {
       outlines = take front links.outlines ++ (map (λ (s : Bor Summary). s.now.outline) c.deref.result.now ++ drop back links.outlines);
-      kinds = take front links.kinds ++ (map (λ (s : Bor Summary). s.now.kind) c.deref.result.now ++ drop back links.kinds)
+      kinds = take front links.kinds ++ (map (λ (s : Bor Summary). s.now.kind) c.deref.result.now ++ drop back links.kinds);
     } in
     let same : new ≡ links_in text = λ j. record { outlines = told j; kinds = told-2 j } in
     IfOk-weaker c.link_after.result (λ l. l ≡ new) (λ l. l ≡ links_in text) (λ l e. e ∙ same) c.link_after.ensures
