@@ -80,3 +80,16 @@ not_there names keys name print from at are is_print less before rest other k d 
 
 pub other_bytes : (a b : List ℕ) → bytes_eq a b ≡ false → a ≢ b
 other_bytes a b h same = true≢false (sym ((bytes_eq-Decides a b).1 same) ∙ h)
+
+-- what is known of one print is known of those on one side of it
+pub less_to : (keys : List Key) (print middle : ℕ) (none : Key) → IsNonDecreasingBy print_in keys → middle < length keys → (get_or keys middle none).print < print → AllWithin (λ k. k.print < print) keys 0 (middle + 1)
+less_to keys print middle none rises lt less k d low high =
+    let up = rises k middle d (omega (arith, high)) lt in
+    let same = ap print_in (get_or_default keys middle d none lt) in
+    omega (arith, up, same, less)
+
+pub none_from : (keys : List Key) (print middle : ℕ) (none : Key) → IsNonDecreasingBy print_in keys → middle < length keys → print ≤ (get_or keys middle none).print → AllWithin (λ k. print ≤ k.print) keys middle (length keys)
+none_from keys print middle none rises lt least k d low high =
+    let up = rises middle k d low high in
+    let same = ap print_in (get_or_default keys middle d none lt) in
+    omega (arith, up, same, least)

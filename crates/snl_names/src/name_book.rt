@@ -4,6 +4,7 @@ ghost use Rattle.std.specs.Prelude.{◌≡◌, ◌<◌, ℕ, [], ◌∷◌, ◌+
 ghost use Rattle.snl_names.specs.NameBook.{AllDiffer, with_name};
 ghost use Rattle.snl_names.specs.Prints.{print_of};
 
+use crate::hints::Hints;
 use crate::keys::{Key, number_among, place};
 use crate::merging::merge;
 use crate::prints::print_of;
@@ -21,6 +22,8 @@ pub struct NameBook {
     names: Spellings,
     // the keys of the names, in order, but for those of the last ones
     sorted: Vec<Key>,
+    // where they are by their prints
+    hints: Hints,
     // the keys of the last ones, in order
     recent: Vec<Key>,
     // room for the next merge
@@ -33,6 +36,7 @@ impl Drop for NameBook {
         let NameBook {
             names: _,
             sorted: _,
+            hints: _,
             recent: _,
             spare: _,
         } = self;
@@ -58,6 +62,7 @@ impl NameBook {
         NameBook {
             names: Spellings::new(alloc),
             sorted: Vec::new(alloc),
+            hints: Hints::none(alloc),
             recent: Vec::new(alloc),
             spare: Vec::new(alloc),
         }
@@ -67,10 +72,15 @@ impl NameBook {
     pub fn copied(&self, alloc: Global) -> Result<NameBook, OutOfMemory>
         ensures { IfOk result (λ b. b ≡ self.now) }
     {
+        let names = self.names.copied(alloc)?;
+        let mut sorted = Vec::new(alloc);
+        merge(&self.sorted, &self.recent, &self.names, &mut sorted)?;
+        let hints = Hints::of(alloc, &sorted)?;
         Ok(NameBook {
-            names: self.names.copied(alloc)?,
-            sorted: Vec::from_slice(alloc, &self.sorted)?,
-            recent: Vec::from_slice(alloc, &self.recent)?,
+            names,
+            sorted,
+            hints,
+            recent: Vec::new(alloc),
             spare: Vec::new(alloc),
         })
     }
@@ -108,9 +118,10 @@ impl NameBook {
         requires { print ≡ print_of name.now }
         ensures { result ≡ position (bytes_eq name.now) self.now }
     {
-        match number_among(&self.sorted, &self.names, print, name) {
+        match number_among(&self.sorted, &self.hints, &self.names, print, name) {
             Some(number) => Some(number),
-            None => number_among(&self.recent, &self.names, print, name),
+            // No hints are right for these: they are few, and all of them are sought among.
+            None => number_among(&self.recent, &self.hints, &self.names, print, name),
         }
     }
 
@@ -134,7 +145,9 @@ impl NameBook {
         if self.recent.len() < RECENT {
             return Ok(());
         }
+        let alloc = *self.spare.allocator();
         merge(&self.sorted, &self.recent, &self.names, &mut self.spare)?;
+        self.hints = Hints::of(alloc, &self.spare)?;
         mem::swap(&mut self.sorted, &mut self.spare);
         self.recent.clear();
         Ok(())
