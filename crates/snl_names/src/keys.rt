@@ -5,7 +5,6 @@ ghost use Rattle.std.specs.List.Sorted.{IsNonDecreasingBy};
 ghost use Rattle.snl_names.specs.Keys.{AllBefore, AllLess, AreKeys, IsFound, IsKey, NoneBefore, NoneLess, comes_before, print_in};
 ghost use Rattle.snl_names.specs.Prints.{print_of};
 
-use crate::hints::Hints;
 use crate::spellings::Spellings;
 
 /// The print of a name, and its number.
@@ -98,19 +97,15 @@ pub(crate) fn place_from(
     place(keys, names, from, to, print, name)
 }
 
-// The place of the first key that has this print or a greater one. It is known to be one from `from`
-// up to `to`.
-fn first_between(keys: &[Key], from: usize, to: usize, print: u64) -> usize
-    requires order { IsNonDecreasingBy print_in keys.now }
-    requires range { from ≤ to }
-    requires within { to ≤ length keys.now }
-    requires before { AllLess keys.now print 0 from }
-    requires rest { NoneLess keys.now print to (length keys.now) }
+// The place of the first key that has this print or a greater one.
+fn first_of_print(keys: &[Key], print: u64) -> usize
+    requires { IsNonDecreasingBy print_in keys.now }
     ensures within { result ≤ length keys.now }
     ensures before { AllLess keys.now print 0 result }
     ensures rest { NoneLess keys.now print result (length keys.now) }
 {
-    let (mut low, mut high) = (from, to);
+    let mut low = 0;
+    let mut high = keys.len();
     while low < high {
         let middle = low + (high - low) / 2;
         if keys[middle].print < print {
@@ -120,45 +115,6 @@ fn first_between(keys: &[Key], from: usize, to: usize, print: u64) -> usize
         }
     }
     low
-}
-
-// Whether keys before a place are seen to have lesser prints.
-fn comes_after_lesser(keys: &[Key], from: usize, print: u64) -> bool
-    requires order { IsNonDecreasingBy print_in keys.now }
-    requires within { from ≤ length keys.now }
-    ensures { IsTrue result → AllLess keys.now print 0 from }
-{
-    if from == 0 {
-        return true;
-    }
-    keys[from - 1].print < print
-}
-
-// Whether keys from a place on are seen to have no lesser prints.
-fn comes_before_others(keys: &[Key], to: usize, print: u64) -> bool
-    requires order { IsNonDecreasingBy print_in keys.now }
-    requires within { to ≤ length keys.now }
-    ensures { IsTrue result → NoneLess keys.now print to (length keys.now) }
-{
-    if to == keys.len() {
-        return true;
-    }
-    keys[to].print >= print
-}
-
-// The place of the first key that has this print or a greater one, sought first where hints say.
-fn first_of_print(keys: &[Key], hints: &Hints, print: u64) -> usize
-    requires { IsNonDecreasingBy print_in keys.now }
-    ensures within { result ≤ length keys.now }
-    ensures before { AllLess keys.now print 0 result }
-    ensures rest { NoneLess keys.now print result (length keys.now) }
-{
-    let (from, to) = hints.range(print);
-    let is_range = from <= to && to <= keys.len();
-    if is_range && comes_after_lesser(keys, from, print) && comes_before_others(keys, to, print) {
-        return first_between(keys, from, to, print);
-    }
-    first_between(keys, 0, keys.len(), print)
 }
 
 // The number of a name among keys, where the first key with its print has another name.
@@ -192,7 +148,6 @@ fn number_of_shared_print(
 /// The number of a name that has this print, if keys lead to it.
 pub(crate) fn number_among(
     keys: &[Key],
-    hints: &Hints,
     names: &Spellings,
     print: u64,
     name: &[u8],
@@ -201,7 +156,7 @@ pub(crate) fn number_among(
     requires print { print ≡ print_of name.now }
     ensures { IsFound names.now keys.now name.now result }
 {
-    let first = first_of_print(keys, hints, print);
+    let first = first_of_print(keys, print);
     if first == keys.len() {
         return None;
     }

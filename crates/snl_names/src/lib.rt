@@ -2,11 +2,11 @@
 //! few moves of memory, and names are found by halving, so that no choice of names makes it slow.
 #![tactic(auto)]
 
-mod hints;
 mod keys;
 mod merging;
 mod name_book;
 mod prints;
+mod slots;
 mod spellings;
 
 pub use name_book::NameBook;

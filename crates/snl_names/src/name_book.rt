@@ -4,30 +4,33 @@ ghost use Rattle.std.specs.Prelude.{◌≡◌, ◌<◌, ℕ, [], ◌∷◌, ◌+
 ghost use Rattle.snl_names.specs.NameBook.{AllDiffer, with_name};
 ghost use Rattle.snl_names.specs.Prints.{print_of};
 
-use crate::hints::Hints;
 use crate::keys::{Key, number_among, place};
 use crate::merging::merge;
 use crate::prints::print_of;
+use crate::slots::Slots;
 use crate::spellings::Spellings;
 use snl_cut::OutOfMemory;
 use std::alloc::Global;
 use std::marker::Model;
 use std::mem;
 
-// So many keys are in the list of the last ones before they are merged into the others.
-const RECENT: usize = 512;
+// So many keys are in the list of the last ones before they are merged into so many others: few
+// where a key that is put among them moves many, and more where a merge moves many.
+fn recent_limit(sorted: usize) -> usize {
+    sorted / 256 + 64
+}
 
 /// Different names, which contracts see as their list. The number of a name is its place in it.
 pub struct NameBook {
     names: Spellings,
     // the keys of the names, in order, but for those of the last ones
     sorted: Vec<Key>,
-    // where they are by their prints
-    hints: Hints,
     // the keys of the last ones, in order
     recent: Vec<Key>,
     // room for the next merge
     spare: Vec<Key>,
+    // the numbers of most names, by their prints
+    slots: Slots,
 }
 
 // By hand, so that whoever holds names need not know how they are held to let them go.
@@ -36,9 +39,9 @@ impl Drop for NameBook {
         let NameBook {
             names: _,
             sorted: _,
-            hints: _,
             recent: _,
             spare: _,
+            slots: _,
         } = self;
     }
 }
@@ -62,9 +65,9 @@ impl NameBook {
         NameBook {
             names: Spellings::new(alloc),
             sorted: Vec::new(alloc),
-            hints: Hints::none(alloc),
             recent: Vec::new(alloc),
             spare: Vec::new(alloc),
+            slots: Slots::none(alloc),
         }
     }
 
@@ -75,13 +78,13 @@ impl NameBook {
         let names = self.names.copied(alloc)?;
         let mut sorted = Vec::new(alloc);
         merge(&self.sorted, &self.recent, &self.names, &mut sorted)?;
-        let hints = Hints::of(alloc, &sorted)?;
+        let slots = self.slots.copied(alloc)?;
         Ok(NameBook {
             names,
             sorted,
-            hints,
             recent: Vec::new(alloc),
             spare: Vec::new(alloc),
+            slots,
         })
     }
 
@@ -118,10 +121,19 @@ impl NameBook {
         requires { print ≡ print_of name.now }
         ensures { result ≡ position (bytes_eq name.now) self.now }
     {
-        match number_among(&self.sorted, &self.hints, &self.names, print, name) {
+        match self.slots.number(&self.names, print, name) {
             Some(number) => Some(number),
-            // No hints are right for these: they are few, and all of them are sought among.
-            None => number_among(&self.recent, &self.hints, &self.names, print, name),
+            None => self.number_by_keys(print, name),
+        }
+    }
+
+    fn number_by_keys(&self, print: u64, name: &[u8]) -> Option<usize>
+        requires { print ≡ print_of name.now }
+        ensures { result ≡ position (bytes_eq name.now) self.now }
+    {
+        match number_among(&self.sorted, &self.names, print, name) {
+            Some(number) => Some(number),
+            None => number_among(&self.recent, &self.names, print, name),
         }
     }
 
@@ -142,14 +154,23 @@ impl NameBook {
     fn settle(&mut self) -> Result<(), OutOfMemory>
         ensures { self.new ≡ self.old }
     {
-        if self.recent.len() < RECENT {
+        if self.recent.len() < recent_limit(self.sorted.len()) {
             return Ok(());
         }
-        let alloc = *self.spare.allocator();
         merge(&self.sorted, &self.recent, &self.names, &mut self.spare)?;
-        self.hints = Hints::of(alloc, &self.spare)?;
         mem::swap(&mut self.sorted, &mut self.spare);
         self.recent.clear();
+        Ok(())
+    }
+
+    // Makes more slots where there are few for one more name.
+    fn make_slots(&mut self) -> Result<(), OutOfMemory>
+        ensures { self.new ≡ self.old }
+    {
+        if self.slots.are_few_for(self.names.count()) {
+            let alloc = *self.spare.allocator();
+            self.slots = Slots::of(alloc, &self.sorted, &self.recent)?;
+        }
         Ok(())
     }
 
@@ -162,11 +183,14 @@ impl NameBook {
         ensures err { OnErr result (self.new ≡ self.old) }
     {
         self.settle()?;
+        self.make_slots()?;
         self.recent.reserve(1)?;
         let at = place(&self.recent, &self.names, 0, self.recent.len(), print, name);
         let number = self.names.count();
         self.names.push(name)?;
-        self.recent.insert(at, Key { print, number }).unwrap();
+        let key = Key { print, number };
+        self.recent.insert(at, key).unwrap();
+        self.slots.put(key);
         Ok(number)
     }
 

@@ -15,7 +15,7 @@ invariant_of-self-2 c =
     let name : List ℕ = c.args.name.now in
     let at : ℕ = c.place-at.result in
     let key : Key = record { print = c.args.print; number = c.count-number.result } in
-    let new : position (bytes_eq name) names ≡ None = ap (position (bytes_eq name)) (c.self.view_is ∙ c.in_ok-settle.ensures) ∙ c.requires.new in
+    let new : position (bytes_eq name) names ≡ None = ap (position (bytes_eq name)) (c.self.view_is ∙ c.in_ok-make_slots.ensures ∙ c.in_ok-settle.ensures) ∙ c.requires.new in
     let seen : c.deref.result.now ≡ recent = c.deref.ensures.value ∙ c.in_ok-reserve.ensures.items in
     let stored : c.insert.new.self.items ≡ insert c.reserve.new.self.items at key =
     c.insert.ensures.items ∙ ap (λ (b : Bool). if b then insert c.reserve.new.self.items at key else c.reserve.new.self.items) (ap is_ok c.unwrap.ensures) in

@@ -1,6 +1,6 @@
 use Rattle.std.proofs.Common.{◌-◌, ◌≤◌, length}
 use Rattle.snl_names.specs.Keys.{AllLess, NoneLess}
-use Rattle.snl_names.proofs.keys.first_between.Given as goal
+use Rattle.snl_names.proofs.keys.first_of_print.Given as goal
 
 -- the place is from `low` up to `high`
 abbrev pub invariant-loop-low : goal.invariant-loop-low

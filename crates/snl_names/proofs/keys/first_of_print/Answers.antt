@@ -1,7 +1,7 @@
 use Rattle.std.proofs.Common.{ℕ, ◌+◌, ◌-◌, ◌/◌, ◌<◌, arith, length}
 use Rattle.snl_names.specs.declared.keys.Key.{Key}
 use Rattle.snl_names.proofs.Places.{less_to, none_from}
-use Rattle.snl_names.proofs.keys.first_between.Goals as goal
+use Rattle.snl_names.proofs.keys.first_of_print.Goals as goal
 
 pub loop-low-preserved-then-keys-middle : goal.loop-low-preserved-then-keys-middle
 loop-low-preserved-then-keys-middle c =
@@ -10,7 +10,7 @@ loop-low-preserved-then-keys-middle c =
     record {
       range = omega (arith, c.loop-low-test.true);
       within = c.loop-low.invariant.within;
-      before = less_to c.args.keys.now c.args.print middle (record { print = 0; number = 0 }) c.requires.order there c.if-keys-middle.true;
+      before = less_to c.args.keys.now c.args.print middle (record { print = 0; number = 0 }) c.requires there c.if-keys-middle.true;
       rest = c.loop-low.invariant.rest;
     }
 
@@ -22,5 +22,5 @@ loop-low-preserved c =
       range = omega arith;
       within = omega (arith, there);
       before = c.loop-low.invariant.before;
-      rest = none_from c.args.keys.now c.args.print middle (record { print = 0; number = 0 }) c.requires.order there (omega (arith, c.if-keys-middle.false));
+      rest = none_from c.args.keys.now c.args.print middle (record { print = 0; number = 0 }) c.requires there (omega (arith, c.if-keys-middle.false));
     }
