@@ -1,8 +1,8 @@
 -- Elements that are added to flat lists, and outlines that are told by them.
-use Rattle.std.proofs.Common.{◌≡◌, ℕ, ◌+◌, ◌≤◌, ◌<◌, Bool, true, false, List, [], ◌∷◌, ◌++◌, length, length-append, get_or, map, option_map, take, drop, Option, Some, None, IfSome, is_some, if◌then◌else◌, refl, subst, sym, ap, ap₂, ◌∙◌, arith}
+use Rattle.std.proofs.Common.{◌≡◌, ℕ, ◌<◌, Bool, true, false, List, [], ◌∷◌, ◌++◌, length, length-append, get_or, map, option_map, take, Option, Some, None, IfSome, is_some, if◌then◌else◌, refl, sym, ap, ap₂, ◌∙◌, arith}
 use Rattle.std.specs.List.{AllByRecursion as Each, position}
 use Rattle.std.specs.Str.{bytes_eq}
-use Rattle.std.proofs.lemmas.List.{append-nil, append_assoc, get_or_append_left, length-map, map-append, take_all}
+use Rattle.std.proofs.lemmas.List.{append_assoc, get_or_append_left, length-map, map-append, take_all}
 use Rattle.std.proofs.lemmas.List.Quantifiers.{position-Some}
 use Rattle.std.proofs.lemmas.Slice.Eq.{bytes_eq-Decides}
 use Rattle.snl_facts.specs.Each.{each_append}
@@ -14,8 +14,9 @@ use Rattle.snl_scope.specs.declared.summaries.summary.Outline.{Outline}
 use Rattle.snl_scope.specs.declared.summaries.summary.VariableClause.{VariableClause}
 use Rattle.snl_names.specs.NameBook.{with_name}
 use Rattle.snl_scope.specs.Names.{state_entries}
-use Rattle.snl_scope.specs.OutlineList.{Adds, AddsClauses, AddsDeclared, AreFlat, AreNumbered, Extends, IsClauseNumbered, clause_by, clauses_in, declared_by, declares_in, name_at, outline_by, outlines_by}
-use Rattle.snl_scope.proofs.OutlineLists.{clauses_same, clauses_stay, declares_same, declares_stay, numbered_stays, outlines_append, outlines_same, total_joined}
+use Rattle.snl_scope.specs.OutlineList.{Adds, AddsClauses, AddsDeclared, Extends, IsClauseNumbered, clause_by, declared_by, name_at, outline_by}
+use Rattle.snl_scope.proofs.JoinedOutlines.{AreTold}
+use Rattle.snl_scope.proofs.OutlineLists.{clauses_same, clauses_stay, declares_same, declares_stay}
 
 -- a name that is found has its number
 pub name_is : (names : List (List ℕ)) (name : List ℕ) (n : ℕ) → position (bytes_eq name) names ≡ Some n → get_or names n [] ≡ name
@@ -61,63 +62,32 @@ clauses_more names more x old list told c e a is here =
 pub declared_extended : (names more : List (List ℕ)) (x : Extends names more) (old list : List FlatDeclared) (told : List Declared) → AddsDeclared names old list told → AddsDeclared more old list told
 declared_extended names more x old list told a = record { more = a.more; list = a.list; as_told = declares_same names more x a.more a.each ∙ a.as_told; each = declares_stay names more x a.more a.each }
 
--- one outline more
-module _ (names more : List (List ℕ)) (x : Extends names more) (hs : List FlatOutline) (ds ds' : List FlatDeclared) (cs cs' : List FlatClause) (ss : List Outline)
-    (flat : AreFlat names hs ds cs) (told : outlines_by names hs ds cs ≡ ss) (h : FlatOutline) (s : Outline)
-    (declares : AddsDeclared more ds ds' s.declares) (clauses : AddsClauses more cs cs' s.clauses)
-    (second : option_map (name_at more) h.second ≡ s.second) (numbered : IfSome h.second (λ n. n < length more))
-    (declared_many : h.declares ≡ length s.declares) (clauses_many : h.clauses ≡ length s.clauses) (role : h.role ≡ s.role) (opening : h.opening ≡ s.opening) where
-  abbrev own_declares : List FlatDeclared
-  own_declares = declares.more
+-- as many elements are added as are told
+adds_many : {X Y : Type 0} {tell : X → Y} {P : X → Type 0} {old new : List X} {told : List Y} (a : Adds tell P old new told) → length a.more ≡ length told
+adds_many {X} {Y} {tell} a = sym (length-map a.more tell) ∙ ap length a.as_told
 
-  abbrev own_clauses : List FlatClause
-  own_clauses = clauses.more
+adds_told : {X Y : Type 0} {tell : X → Y} {P : X → Type 0} {old new : List X} {told : List Y} {n : ℕ} (a : Adds tell P old new told) → n ≡ length told → map tell (take n a.more) ≡ told
+adds_told {X} {Y} {tell} {P} {old} {new} {told} {n} a many = ap (map tell) (take_all n a.more (omega (arith, many, adds_many a))) ∙ a.as_told
 
-  as_many : h.declares ≡ length own_declares
-  as_many = declared_many ∙ ap length (sym declares.as_told) ∙ length-map own_declares (declared_by more)
-
-  as_many-2 : h.clauses ≡ length own_clauses
-  as_many-2 = clauses_many ∙ ap length (sym clauses.as_told) ∙ length-map own_clauses (clause_by more)
-
-  before : AreNumbered more hs ds cs
-  before = numbered_stays names more x hs ds cs flat.numbered
-
-  numbered_all : AreNumbered more (hs ++ h ∷ []) ds' cs'
-  numbered_all = record {
-    seconds = each_append (λ h. IfSome h.second (λ n. n < length more)) hs (h ∷ []) before.seconds (numbered, tt);
-    declared = subst (λ (l : List FlatDeclared). Each (λ d. d.name < length more) l) (sym declares.list) (each_append (λ d. d.name < length more) ds own_declares before.declared declares.each);
-    clauses = subst (λ (l : List FlatClause). Each (IsClauseNumbered more) l) (sym clauses.list) (each_append (IsClauseNumbered more) cs own_clauses before.clauses clauses.each);
-  }
-
-  pub one_more : AreFlat more (hs ++ h ∷ []) ds' cs'
-  one_more =
-      let joined = total_joined (λ h. h.declares) hs (h ∷ []) in
-      let joined-2 = total_joined (λ h. h.clauses) hs (h ∷ []) in
-      let long = ap length declares.list in
-      let long-2 = ap length clauses.list in
-      let parts = length-append ds own_declares in
-      let parts-2 = length-append cs own_clauses in
-      let own = as_many in
-      let own-2 = as_many-2 in
-      record {
-        numbered = numbered_all;
-        declares = omega (arith, joined, long, parts, own, flat.declares);
-        clauses = omega (arith, joined-2, long-2, parts-2, own-2, flat.clauses);
-      }
-
-  own : outline_by more h (take h.declares own_declares) (take h.clauses own_clauses) ≡ s
-  own =
-      let all = take_all h.declares own_declares (let many = as_many in omega (arith, many)) in
-      let all-2 = take_all h.clauses own_clauses (let many = as_many-2 in omega (arith, many)) in
-      let d = ap (map (declared_by more)) all ∙ declares.as_told in
-      let c = ap (map (clause_by more)) all-2 ∙ clauses.as_told in
-      λ j. record { declares = d j; clauses = c j; second = second j; role = role j; opening = opening j }
-
-  pub one_more_told : outlines_by more (hs ++ h ∷ []) ds' cs' ≡ ss ++ s ∷ []
-  one_more_told =
-      ap₂ (outlines_by more (hs ++ h ∷ [])) declares.list clauses.list
-      ∙ outlines_append more hs (h ∷ []) ds own_declares cs own_clauses flat.declares flat.clauses
-      ∙ ap₂ (λ (a b : List Outline). a ++ b) (outlines_same names more x hs ds cs flat.numbered ∙ told) (ap (λ (o : Outline). o ∷ []) own)
+-- one outline is told by the declarations and clauses that are added for it
+pub one_told : {names : List (List ℕ)} {ds ds' : List FlatDeclared} {cs cs' : List FlatClause} (h : FlatOutline) (s : Outline)
+    (declares : AddsDeclared names ds ds' s.declares) (clauses : AddsClauses names cs cs' s.clauses)
+    → option_map (name_at names) h.second ≡ s.second → IfSome h.second (λ n. n < length names)
+    → h.declares ≡ length s.declares → h.clauses ≡ length s.clauses → h.role ≡ s.role → h.opening ≡ s.opening
+    → AreTold names (h ∷ []) declares.more clauses.more (s ∷ [])
+one_told {names} h s declares clauses second numbered many many-2 role opening =
+    let d = adds_told declares many in
+    let c = adds_told clauses many-2 in
+    let own : outline_by names h (take h.declares declares.more) (take h.clauses clauses.more) ≡ s =
+    λ j. record { declares = d j; clauses = c j; second = second j; role = role j; opening = opening j } in
+    record {
+      flat = record {
+        numbered = record { seconds = (numbered, tt); declared = declares.each; clauses = clauses.each };
+        declares = omega (arith, many, adds_many declares);
+        clauses = omega (arith, many-2, adds_many clauses);
+      };
+      outlines = ap (λ (o : Outline). o ∷ []) own;
+    }
 
 -- what the name of a state brings goes by the head of its outline alone
 pub state_same : (names : List (List ℕ)) (h : FlatOutline) (ds : List FlatDeclared) (cs : List FlatClause) (p : Option ℕ) (i : ℕ)

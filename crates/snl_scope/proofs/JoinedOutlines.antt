@@ -1,66 +1,102 @@
--- The first outlines of flat lists alone, and the others after those of other lists.
-use Rattle.std.proofs.Common.{◌≡◌, ℕ, ◌+◌, ◌≤◌, ◌<◌, List, ◌++◌, length, length-append, take, drop, IfSome, sym, ap, ap₂, ◌∙◌, arith}
+-- Flat lists that tell outlines: by more names, one after another, and parts of them.
+use Rattle.std.proofs.Common.{◌≡◌, ℕ, ◌≤◌, ◌<◌, List, ◌++◌, length, map, take, drop, IfSome, sym, ap, ap₂, ◌∙◌}
+use Rattle.std.specs.List.{AllByRecursion as Each}
+use Rattle.std.proofs.Math.Seq.{drop-append_seam, take-append_seam}
+use Rattle.std.proofs.lemmas.List.{length-take-le, take-append-drop}
 use Rattle.snl_facts.specs.Each.{each_append, each_drop, each_take}
 use Rattle.snl_scope.specs.declared.outlines.flat.FlatClause.{FlatClause}
 use Rattle.snl_scope.specs.declared.outlines.flat.FlatDeclared.{FlatDeclared}
 use Rattle.snl_scope.specs.declared.outlines.flat.FlatOutline.{FlatOutline}
+use Rattle.snl_scope.specs.declared.outlines.making.Making.{Making}
 use Rattle.snl_scope.specs.declared.summaries.summary.Outline.{Outline}
-use Rattle.snl_scope.specs.OutlineList.{AreFlat, AreNumbered, Extends, IsClauseNumbered, clauses_in, declares_in, outlines_by}
-use Rattle.snl_scope.proofs.OutlineLists.{back_clauses, back_declares, back_is, front_clauses, front_declares, front_is, numbered_stays, outlines_append, outlines_same, total_joined}
+use Rattle.snl_scope.specs.OutlineList.{AreFlat, Extends, IsClauseNumbered, Tells, clauses_in, declares_in, outlines_by, total}
+use Rattle.snl_scope.proofs.OutlineLists.{back_counts, front_counts, joined_counts, numbered_stays, outlines_append, outlines_length, outlines_same}
 
-module _ (names : List (List ℕ)) (n : ℕ) (hs : List FlatOutline) (ds : List FlatDeclared) (cs : List FlatClause) (within : n ≤ length hs) (flat : AreFlat names hs ds cs) where
-  pub front_flat : AreFlat names (take n hs) (take (declares_in (take n hs)) ds) (take (clauses_in (take n hs)) cs)
-  front_flat = record {
-    numbered = record {
-      seconds = each_take (λ h. IfSome h.second (λ k. k < length names)) n hs flat.numbered.seconds;
-      declared = each_take (λ d. d.name < length names) (declares_in (take n hs)) ds flat.numbered.declared;
-      clauses = each_take (IsClauseNumbered names) (clauses_in (take n hs)) cs flat.numbered.clauses;
-    };
-    declares = front_declares names n hs ds cs within flat.declares flat.clauses;
-    clauses = front_clauses names n hs ds cs within flat.declares flat.clauses;
+-- Flat lists tell outlines.
+pub record AreTold (names : List (List ℕ)) (hs : List FlatOutline) (ds : List FlatDeclared) (cs : List FlatClause) (ss : List Outline) : Type 0 where
+  pub flat : AreFlat names hs ds cs
+  pub outlines : outlines_by names hs ds cs ≡ ss
+
+pub lists_told : {m : Making} {ss : List Outline} → Tells m ss → AreTold m.names m.heads.items m.declares.items m.clauses.items ss
+lists_told t = record { flat = t.flat; outlines = t.outlines }
+
+-- lists that are being made tell what the same lists tell
+pub tells_same : {names : List (List ℕ)} {hs : List FlatOutline} {ds : List FlatDeclared} {cs : List FlatClause} {ss : List Outline} {m : Making}
+    → m.names ≡ names → m.heads.items ≡ hs → m.declares.items ≡ ds → m.clauses.items ≡ cs → AreTold names hs ds cs ss → Tells m ss
+tells_same named heads declares clauses told = record {
+  flat = coe 1 0 (j. AreFlat (named j) (heads j) (declares j) (clauses j)) told.flat;
+  outlines = (λ j. outlines_by (named j) (heads j) (declares j) (clauses j)) ∙ told.outlines;
+}
+
+module _ {names : List (List ℕ)} {hs : List FlatOutline} {ds : List FlatDeclared} {cs : List FlatClause} {ss : List Outline} (told : AreTold names hs ds cs ss) where
+  pub told_stays : {more : List (List ℕ)} → Extends names more → AreTold more hs ds cs ss
+  told_stays {more} x = record {
+    flat = record { numbered = numbered_stays names more x hs ds cs told.flat.numbered; declares = told.flat.declares; clauses = told.flat.clauses };
+    outlines = outlines_same names more x hs ds cs told.flat.numbered ∙ told.outlines;
   }
 
-  pub front_told : outlines_by names (take n hs) (take (declares_in (take n hs)) ds) (take (clauses_in (take n hs)) cs) ≡ take n (outlines_by names hs ds cs)
-  front_told = front_is names n hs ds cs within flat.declares flat.clauses
+  pub told_joined : {gs : List FlatOutline} {es : List FlatDeclared} {fs : List FlatClause} {others : List Outline}
+      → AreTold names gs es fs others → AreTold names (hs ++ gs) (ds ++ es) (cs ++ fs) (ss ++ others)
+  told_joined {gs} {es} {fs} next = record {
+    flat = record {
+      numbered = record {
+        seconds = each_append (λ h. IfSome h.second (λ n. n < length names)) hs gs told.flat.numbered.seconds next.flat.numbered.seconds;
+        declared = each_append (λ d. d.name < length names) ds es told.flat.numbered.declared next.flat.numbered.declared;
+        clauses = each_append (IsClauseNumbered names) cs fs told.flat.numbered.clauses next.flat.numbered.clauses;
+      };
+      declares = joined_counts (λ h. h.declares) hs gs ds es told.flat.declares next.flat.declares;
+      clauses = joined_counts (λ h. h.clauses) hs gs cs fs told.flat.clauses next.flat.clauses;
+    };
+    outlines = outlines_append names hs gs ds es cs fs told.flat.declares told.flat.clauses ∙ ap₂ (λ (a b : List Outline). a ++ b) told.outlines next.outlines;
+  }
 
-module _ (names more : List (List ℕ)) (x : Extends names more) (n : ℕ) (hs gs : List FlatOutline) (ds es : List FlatDeclared) (cs fs : List FlatClause)
-    (within : n ≤ length hs) (flat : AreFlat names hs ds cs) (before : AreFlat more gs es fs) where
-  abbrev stop : ℕ
-  stop = declares_in (take n hs)
+  -- the first outlines, and the others
+  module _ (n : ℕ) (within : n ≤ length hs) where
+    abbrev front : List Outline
+    front = outlines_by names (take n hs) (take (declares_in (take n hs)) ds) (take (clauses_in (take n hs)) cs)
 
-  abbrev stop-2 : ℕ
-  stop-2 = clauses_in (take n hs)
+    abbrev back : List Outline
+    back = outlines_by names (drop n hs) (drop (declares_in (take n hs)) ds) (drop (clauses_in (take n hs)) cs)
 
-  kept : AreNumbered more hs ds cs
-  kept = numbered_stays names more x hs ds cs flat.numbered
+    -- a part of each list, as `take` or `drop` give it
+    part_flat : (part : (A : Type 0) → ℕ → List A → List A)
+        → ((A : Type 0) (P : A → Type 0) (k : ℕ) (xs : List A) → Each P xs → Each P (part A k xs))
+        → ((A B : Type 0) (f : A → ℕ) (k : ℕ) (xs : List A) (ys : List B) → total (map f xs) ≡ length ys → total (map f (part A k xs)) ≡ length (part B (total (map f (take k xs))) ys))
+        → AreFlat names (part FlatOutline n hs) (part FlatDeclared (declares_in (take n hs)) ds) (part FlatClause (clauses_in (take n hs)) cs)
+    part_flat part each counts = record {
+      numbered = record {
+        seconds = each FlatOutline (λ h. IfSome h.second (λ k. k < length names)) n hs told.flat.numbered.seconds;
+        declared = each FlatDeclared (λ d. d.name < length names) (declares_in (take n hs)) ds told.flat.numbered.declared;
+        clauses = each FlatClause (IsClauseNumbered names) (clauses_in (take n hs)) cs told.flat.numbered.clauses;
+      };
+      declares = counts FlatOutline FlatDeclared (λ h. h.declares) n hs ds told.flat.declares;
+      clauses = counts FlatOutline FlatClause (λ h. h.clauses) n hs cs told.flat.clauses;
+    }
 
-  all_numbered : AreNumbered more (gs ++ drop n hs) (es ++ drop stop ds) (fs ++ drop stop-2 cs)
-  all_numbered =
-      let P : FlatOutline → Type 0 = λ h. IfSome h.second (λ k. k < length more) in
-      let Q : FlatDeclared → Type 0 = λ d. d.name < length more in
-      let R : FlatClause → Type 0 = IsClauseNumbered more in
-      record {
-        seconds = each_append P gs (drop n hs) before.numbered.seconds (each_drop P n hs kept.seconds);
-        declared = each_append Q es (drop stop ds) before.numbered.declared (each_drop Q stop ds kept.declared);
-        clauses = each_append R fs (drop stop-2 cs) before.numbered.clauses (each_drop R stop-2 cs kept.clauses);
-      }
+    front_flat : AreFlat names (take n hs) (take (declares_in (take n hs)) ds) (take (clauses_in (take n hs)) cs)
+    front_flat = part_flat (λ A. take) (λ A. each_take) (λ A B. front_counts)
 
-  pub back_flat : AreFlat more (gs ++ drop n hs) (es ++ drop stop ds) (fs ++ drop stop-2 cs)
-  back_flat =
-      let joined = total_joined (λ h. h.declares) gs (drop n hs) in
-      let joined-2 = total_joined (λ h. h.clauses) gs (drop n hs) in
-      let long = length-append es (drop stop ds) in
-      let long-2 = length-append fs (drop stop-2 cs) in
-      let tail = back_declares names n hs ds cs within flat.declares flat.clauses in
-      let tail-2 = back_clauses names n hs ds cs within flat.declares flat.clauses in
-      record {
-        numbered = all_numbered;
-        declares = omega (arith, joined, long, tail, before.declares);
-        clauses = omega (arith, joined-2, long-2, tail-2, before.clauses);
-      }
+    back_flat : AreFlat names (drop n hs) (drop (declares_in (take n hs)) ds) (drop (clauses_in (take n hs)) cs)
+    back_flat = part_flat (λ A. drop) (λ A. each_drop) (λ A B. back_counts)
 
-  pub back_told : outlines_by more (gs ++ drop n hs) (es ++ drop stop ds) (fs ++ drop stop-2 cs) ≡ outlines_by more gs es fs ++ drop n (outlines_by names hs ds cs)
-  back_told =
-      let all : outlines_by more hs ds cs ≡ outlines_by names hs ds cs = outlines_same names more x hs ds cs flat.numbered in
-      outlines_append more gs (drop n hs) es (drop stop ds) fs (drop stop-2 cs) before.declares before.clauses
-      ∙ ap (λ (b : List Outline). outlines_by more gs es fs ++ b) (back_is more n hs ds cs within flat.declares flat.clauses ∙ ap (drop n) all)
+    both : ss ≡ front ++ back
+    both =
+        sym told.outlines
+        ∙ sym (λ j. outlines_by names (take-append-drop n hs j) (take-append-drop (declares_in (take n hs)) ds j) (take-append-drop (clauses_in (take n hs)) cs j))
+        ∙ outlines_append names (take n hs) (drop n hs) (take (declares_in (take n hs)) ds) (drop (declares_in (take n hs)) ds)
+        (take (clauses_in (take n hs)) cs) (drop (clauses_in (take n hs)) cs) front_flat.declares front_flat.clauses
+
+    so_many : length front ≡ n
+    so_many = outlines_length names (take n hs) (take (declares_in (take n hs)) ds) (take (clauses_in (take n hs)) cs) ∙ length-take-le n hs within
+
+    pub told_front : AreTold names (take n hs) (take (declares_in (take n hs)) ds) (take (clauses_in (take n hs)) cs) (take n ss)
+    told_front = record {
+      flat = front_flat;
+      outlines = sym (ap (take n) both ∙ ap (λ (k : ℕ). take k (front ++ back)) (sym so_many) ∙ take-append_seam front back);
+    }
+
+    pub told_back : AreTold names (drop n hs) (drop (declares_in (take n hs)) ds) (drop (clauses_in (take n hs)) cs) (drop n ss)
+    told_back = record {
+      flat = back_flat;
+      outlines = sym (ap (drop n) both ∙ ap (λ (k : ℕ). drop k (front ++ back)) (sym so_many) ∙ drop-append_seam front back);
+    }

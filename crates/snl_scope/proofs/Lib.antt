@@ -10,8 +10,9 @@ pub mod Numbered
 pub mod Equality
 pub mod FirstEntries
 pub mod OutlineLists
-pub mod AddedOutlines
 pub mod JoinedOutlines
+pub mod ReadOutlines
+pub mod AddedOutlines
 pub mod Entries
 pub mod Pairs
 pub mod Resolving

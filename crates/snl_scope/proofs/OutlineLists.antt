@@ -1,15 +1,14 @@
 -- Outlines in flat lists: parts of them, one of them, and the same by more names.
-use Rattle.std.proofs.Common.{◌≡◌, ℕ, zero, suc, ◌+◌, ◌-◌, ◌≤◌, ◌<◌, List, [], ◌∷◌, ◌++◌, length, length-append, get_or, map, option_map, take, drop, Option, Some, None, IfSome, is_some, slice_get, refl, sym, ap, ap₂, ◌∙◌, arith}
+use Rattle.std.proofs.Common.{◌≡◌, ℕ, zero, suc, ◌+◌, ◌≤◌, ◌<◌, List, [], ◌∷◌, ◌++◌, length, length-append, map, option_map, take, drop, Option, Some, None, IfSome, is_some, slice_get, refl, sym, ap, ap₂, ◌∙◌, arith}
 use Rattle.std.specs.List.{AllByRecursion as Each}
-use Rattle.std.proofs.Math.Seq.{drop-append_seam, take-append_seam}
-use Rattle.std.proofs.lemmas.List.{append_assoc, drop-append-le, drop-drop, length-drop, length-map, length-take-le, map-append, take-append-drop, take-append-le}
-use Rattle.snl_facts.specs.Each.{each_append, each_drop, each_got, each_take, each_weaker}
+use Rattle.std.proofs.lemmas.List.{drop-append-le, drop-drop, length-drop, length-map, length-take-le, take-append-le}
+use Rattle.snl_facts.specs.Each.{each_drop, each_take, each_weaker}
 use Rattle.snl_scope.specs.declared.outlines.flat.FlatClause.{FlatClause}
 use Rattle.snl_scope.specs.declared.outlines.flat.FlatDeclared.{FlatDeclared}
 use Rattle.snl_scope.specs.declared.outlines.flat.FlatOutline.{FlatOutline}
 use Rattle.snl_scope.specs.declared.outlines.flat.FlatRef.{FlatRef}
 use Rattle.snl_scope.specs.declared.summaries.summary.Outline.{Outline}
-use Rattle.snl_scope.specs.OutlineList.{Adds, AreFlat, AreNumbered, Extends, IsClauseNumbered, clause_by, clauses_in, declared_by, declares_before, clauses_before, declares_in, name_at, outline_by, outlines_by, ref_by, total}
+use Rattle.snl_scope.specs.OutlineList.{AreNumbered, Extends, IsClauseNumbered, clause_by, clauses_in, declared_by, declares_before, clauses_before, declares_in, name_at, outline_by, outlines_by, ref_by, total}
 
 pub total_append : (cs ds : List ℕ) → total (cs ++ ds) ≡ total cs + total ds
 total_append [] ds = omega arith
@@ -34,6 +33,18 @@ pub total_joined : {A : Type 0} (f : A → ℕ) (xs ys : List A) → total (map 
 total_joined f [] ys = omega arith
 total_joined f (x ∷ xs) ys = let rest = total_joined f xs ys in omega (arith, rest)
 
+-- a list has as many elements as others count: so do its parts
+module _ {A B : Type 0} (f : A → ℕ) (k : ℕ) (xs : List A) (ys : List B) (many : total (map f xs) ≡ length ys) where
+  pub front_counts : total (map f (take k xs)) ≡ length (take (total (map f (take k xs))) ys)
+  front_counts = let few = total_within f k xs in sym (length-take-le (total (map f (take k xs))) ys (omega (arith, few, many)))
+
+  pub back_counts : total (map f (drop k xs)) ≡ length (drop (total (map f (take k xs))) ys)
+  back_counts = omega (arith, total_parts f k xs, length-drop (total (map f (take k xs))) ys, many)
+
+pub joined_counts : {A B : Type 0} (f : A → ℕ) (xs xs' : List A) (ys ys' : List B)
+    → total (map f xs) ≡ length ys → total (map f xs') ≡ length ys' → total (map f (xs ++ xs')) ≡ length (ys ++ ys')
+joined_counts f xs xs' ys ys' one two = omega (arith, total_joined f xs xs', length-append ys ys', one, two)
+
 pub outlines_length : (names : List (List ℕ)) (hs : List FlatOutline) (ds : List FlatDeclared) (cs : List FlatClause) → length (outlines_by names hs ds cs) ≡ length hs
 outlines_length names [] ds cs = refl
 outlines_length names (h ∷ hs) ds cs = ap suc (outlines_length names hs (drop h.declares ds) (drop h.clauses cs))
@@ -52,41 +63,6 @@ outlines_append names (h ∷ hs) gs ds es cs fs p q =
     (ap₂ (outlines_by names (hs ++ gs)) (drop-append-le h.declares ds es (omega (arith, p))) (drop-append-le h.clauses cs fs (omega (arith, q)))
     ∙ outlines_append names hs gs (drop h.declares ds) es (drop h.clauses cs) fs
     (omega (arith, p, length-drop h.declares ds)) (omega (arith, q, length-drop h.clauses cs)))
-
--- the first outlines, and the others
-module _ (names : List (List ℕ)) (k : ℕ) (hs : List FlatOutline) (ds : List FlatDeclared) (cs : List FlatClause)
-    (within : k ≤ length hs) (declares : declares_in hs ≡ length ds) (clauses : clauses_in hs ≡ length cs) where
-  abbrev front : List Outline
-  front = outlines_by names (take k hs) (take (declares_in (take k hs)) ds) (take (clauses_in (take k hs)) cs)
-
-  abbrev back : List Outline
-  back = outlines_by names (drop k hs) (drop (declares_in (take k hs)) ds) (drop (clauses_in (take k hs)) cs)
-
-  pub front_declares : declares_in (take k hs) ≡ length (take (declares_in (take k hs)) ds)
-  front_declares = let few = total_within (λ h. h.declares) k hs in sym (length-take-le (declares_in (take k hs)) ds (omega (arith, few, declares)))
-
-  pub front_clauses : clauses_in (take k hs) ≡ length (take (clauses_in (take k hs)) cs)
-  front_clauses = let few = total_within (λ h. h.clauses) k hs in sym (length-take-le (clauses_in (take k hs)) cs (omega (arith, few, clauses)))
-
-  pub back_declares : declares_in (drop k hs) ≡ length (drop (declares_in (take k hs)) ds)
-  back_declares = let parts = total_parts (λ h. h.declares) k hs in let rest = length-drop (declares_in (take k hs)) ds in omega (arith, parts, rest, declares)
-
-  pub back_clauses : clauses_in (drop k hs) ≡ length (drop (clauses_in (take k hs)) cs)
-  back_clauses = let parts = total_parts (λ h. h.clauses) k hs in let rest = length-drop (clauses_in (take k hs)) cs in omega (arith, parts, rest, clauses)
-
-  both : outlines_by names hs ds cs ≡ front ++ back
-  both =
-      sym (λ j. outlines_by names (take-append-drop k hs j) (take-append-drop (declares_in (take k hs)) ds j) (take-append-drop (clauses_in (take k hs)) cs j))
-      ∙ outlines_append names (take k hs) (drop k hs) (take (declares_in (take k hs)) ds) (drop (declares_in (take k hs)) ds) (take (clauses_in (take k hs)) cs) (drop (clauses_in (take k hs)) cs) front_declares front_clauses
-
-  so_many : length front ≡ k
-  so_many = outlines_length names (take k hs) (take (declares_in (take k hs)) ds) (take (clauses_in (take k hs)) cs) ∙ length-take-le k hs within
-
-  pub front_is : front ≡ take k (outlines_by names hs ds cs)
-  front_is = sym (ap (take k) both ∙ ap (λ (n : ℕ). take n (front ++ back)) (sym so_many) ∙ take-append_seam front back)
-
-  pub back_is : back ≡ drop k (outlines_by names hs ds cs)
-  back_is = sym (ap (drop k) both ∙ ap (λ (n : ℕ). drop n (front ++ back)) (sym so_many) ∙ drop-append_seam front back)
 
 -- one of them
 pub outline_at : (names : List (List ℕ)) (hs : List FlatOutline) (i : ℕ) (ds : List FlatDeclared) (cs : List FlatClause) (h : FlatOutline) → slice_get hs i ≡ Some h

@@ -1,8 +1,6 @@
-use Rattle.std.proofs.Common.{◌≡◌, ◌∷◌, ◌++◌, [], ◌+◌, List, ap, arith, get_or, subst, sym, take, ◌∙◌}
+use Rattle.std.proofs.Common.{◌≡◌, ◌∷◌, ◌++◌, [], ◌+◌, List, ap, arith, subst, sym, take, ◌∙◌}
 use Rattle.std.proofs.lemmas.List.{take_more}
 use Rattle.snl_scope.specs.declared.outlines.flat.FlatDeclared.{FlatDeclared}
-use Rattle.snl_scope.specs.declared.summaries.summary.Declared.{Declared}
-use Rattle.snl_names.specs.NameBook.{with_name}
 use Rattle.snl_scope.specs.OutlineList.{AddsDeclared, Extends}
 use Rattle.snl_scope.proofs.AddedOutlines.{declared_more, extends_more, extends_name, name_is, name_within}
 use Rattle.snl_scope.proofs.outlines.making.add_declared.Goals as goal

@@ -1,9 +1,8 @@
-use Rattle.std.proofs.Common.{◌≡◌, ◌<◌, ◌∷◌, ◌++◌, [], IfSome, List, ap, length, option_map, refl, subst, sym, ◌∙◌}
-use Rattle.snl_scope.specs.declared.outlines.flat.FlatClause.{FlatClause}
-use Rattle.snl_scope.specs.declared.outlines.flat.FlatDeclared.{FlatDeclared}
+use Rattle.std.proofs.Common.{◌≡◌, ap, length, option_map, refl, subst, ◌∙◌}
 use Rattle.snl_scope.specs.declared.outlines.flat.FlatOutline.{FlatOutline}
-use Rattle.snl_scope.specs.OutlineList.{AddsClauses, AddsDeclared, AreFlat, Extends, name_at, outlines_by}
-use Rattle.snl_scope.proofs.AddedOutlines.{declared_extended, extends_more, one_more, one_more_told}
+use Rattle.snl_scope.specs.OutlineList.{AddsClauses, AddsDeclared, Extends, name_at}
+use Rattle.snl_scope.proofs.AddedOutlines.{declared_extended, extends_more, one_told}
+use Rattle.snl_scope.proofs.JoinedOutlines.{lists_told, tells_same, told_joined, told_stays}
 use Rattle.snl_scope.proofs.OutlineLists.{second_same, second_stays}
 use Rattle.snl_scope.proofs.outlines.making.add_outline.Goals as goal
 
@@ -27,10 +26,5 @@ returns-clause-told c = λ ss t.
     let numbered = second_stays one three x h.second c.in_ok-second.ensures.numbered in
     let many : h.declares ≡ length s.declares = ap length c.as_slice-declares.ensures in
     let many-2 : h.clauses ≡ length s.clauses = ap length c.as_slice-clauses.ensures in
-    let pushed : c.push.new.self.items ≡ old.heads.items ++ h ∷ [] = c.in_ok-push.ensures.items in
-    record {
-      flat = subst (λ (l : List FlatOutline). AreFlat three l ds' cs') (sym pushed)
-          (one_more old.names three all old.heads.items old.declares.items ds' old.clauses.items cs' ss t.flat t.outlines h s declares clauses second numbered many many-2 refl refl);
-      outlines = ap (λ (l : List FlatOutline). outlines_by three l ds' cs') pushed
-          ∙ one_more_told old.names three all old.heads.items old.declares.items ds' old.clauses.items cs' ss t.flat t.outlines h s declares clauses second numbered many many-2 refl refl;
-    }
+    tells_same refl c.in_ok-push.ensures.items declares.list clauses.list
+    (told_joined (told_stays (lists_told t) all) (one_told h s declares clauses second numbered many many-2 refl refl))

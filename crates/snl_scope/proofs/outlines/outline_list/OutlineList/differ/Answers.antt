@@ -1,4 +1,4 @@
-use Rattle.std.proofs.Common.{ap, subst, sym}
+use Rattle.std.proofs.Common.{subst}
 use Rattle.snl_names.specs.NameBook.{AllDiffer}
 use Rattle.snl_scope.proofs.outlines.outline_list.OutlineList.differ.Goals as goal
 

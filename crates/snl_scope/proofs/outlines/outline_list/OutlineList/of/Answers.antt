@@ -1,6 +1,4 @@
-use Rattle.std.proofs.Common.{[], List, ap, map, ◌∙◌}
-use Rattle.snl_scope.specs.declared.summaries.summary.Outline.{Outline}
-use Rattle.snl_scope.specs.OutlineList.{Tells}
+use Rattle.std.proofs.Common.{[], ap, ◌∙◌}
 use Rattle.snl_scope.proofs.outlines.outline_list.OutlineList.of.Goals as goal
 
 pub finished-requires : goal.finished-requires
