@@ -1,7 +1,8 @@
 -- Names that are one after another, and where they end.
 use Rattle.std.proofs.Common.{◌≡◌, ℕ, zero, suc, ◌+◌, ◌-◌, ◌<◌, ◌≤◌, List, [], ◌∷◌, ◌++◌, length, take, drop, get_or, slice_get, Some, refl, sym, ap, ap₂, ◌∙◌, arith, length-append, length-drop}
 use Rattle.std.specs.Prelude.{sum_by}
-use Rattle.std.proofs.lemmas.List.{drop_at, drop-append-le, take-append-le, take_all, length-take-le}
+use Rattle.std.proofs.lemmas.List.{drop_at, drop-append-le, take-append-drop, take-append-le, take_all, length-take-le}
+use Rattle.std.proofs.Math.Seq.{take-append_seam}
 use Rattle.std.proofs.lemmas.List.Sums.{sum_by-cons}
 use Rattle.snl_cut.specs.Cut.{last_end, members}
 use Rattle.snl_cut.specs.CutLaws.{last_taken, length_members, members_joined}
@@ -100,3 +101,18 @@ member_at bytes ends k start end is lt s e =
 
 pub same_count : (bytes ends : List ℕ) (names : List (List ℕ)) → members bytes 0 ends ≡ names → length ends ≡ length names
 same_count bytes ends names h = sym (length_members bytes 0 ends) ∙ ap length h
+
+-- ---- the first of them
+
+-- Names whose ends and bytes begin with those of others begin with these.
+pub first_members : (bytes ends b es : List ℕ) → AreEnds b es → take (length es) ends ≡ es → take (length b) bytes ≡ b → take (length es) (members bytes 0 ends) ≡ members b 0 es
+first_members bytes ends b es is first_ends first_bytes =
+    let whole_bytes : bytes ≡ b ++ drop (length b) bytes = sym (take-append-drop (length b) bytes) ∙ ap (λ (x : List ℕ). x ++ drop (length b) bytes) first_bytes in
+    let whole_ends : ends ≡ es ++ drop (length es) ends = sym (take-append-drop (length es) ends) ∙ ap (λ (x : List ℕ). x ++ drop (length es) ends) first_ends in
+    let count : length (members bytes 0 es) ≡ length es = length_members bytes 0 es in
+    ap (λ (x : List ℕ). take (length es) (members bytes 0 x)) whole_ends
+    ∙ ap (take (length es)) (members_joined bytes 0 es (drop (length es) ends))
+    ∙ ap (λ (n : ℕ). take n (members bytes 0 es ++ members bytes (last_end 0 es) (drop (length es) ends))) (sym count)
+    ∙ take-append_seam (members bytes 0 es) (members bytes (last_end 0 es) (drop (length es) ends))
+    ∙ ap (λ (x : List ℕ). members x 0 es) whole_bytes
+    ∙ members_longer b (drop (length b) bytes) 0 es is.follow (omega (arith, is.last))

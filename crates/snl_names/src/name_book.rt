@@ -1,6 +1,6 @@
 //! The book of names.
 
-ghost use Rattle.std.specs.Prelude.{◌≡◌, ◌<◌, ℕ, [], ◌∷◌, ◌++◌, IfOk, None, OnErr, OnOk, Some, bytes_eq, get_or, length, position, slice_get, sum_by};
+ghost use Rattle.std.specs.Prelude.{◌≡◌, ◌<◌, ℕ, [], ◌∷◌, ◌++◌, IfOk, IsTrue, None, OnErr, OnOk, Some, bytes_eq, get_or, length, position, slice_get, sum_by, take};
 ghost use Rattle.snl_names.specs.NameBook.{AllDiffer, with_name};
 ghost use Rattle.snl_names.specs.Prints.{print_of};
 
@@ -192,6 +192,13 @@ impl NameBook {
         self.recent.insert(at, key).unwrap();
         self.slots.put(key);
         Ok(number)
+    }
+
+    /// Whether each name of another book is in this one, with the number that it has there.
+    pub fn begins_with(&self, other: &NameBook) -> bool
+        ensures { IsTrue result → take (length other.now) self.now ≡ other.now }
+    {
+        self.names.begin_with(&other.names)
     }
 
     /// All names are different.

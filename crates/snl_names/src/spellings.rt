@@ -1,6 +1,6 @@
 //! The names themselves, one after another.
 
-ghost use Rattle.std.specs.Prelude.{◌≡◌, ◌<◌, ◌≤◌, [], ◌∷◌, ◌++◌, IfOk, OnErr, OnOk, Some, length, slice_get, sum_by, take};
+ghost use Rattle.std.specs.Prelude.{◌≡◌, ◌<◌, ◌≤◌, [], ◌∷◌, ◌++◌, IfOk, IsTrue, OnErr, OnOk, Some, length, slice_get, sum_by, take};
 ghost use Rattle.snl_cut.specs.Cut.{last_end};
 
 use snl_cut::OutOfMemory;
@@ -39,6 +39,20 @@ fn start_of(ends: &[usize], number: usize) -> usize
     ensures { result ≡ last_end 0 (take number ends.now) }
 {
     if number == 0 { 0 } else { ends[number - 1] }
+}
+
+// Whether bytes begin with these.
+fn bytes_begin_with(bytes: &[u8], first: &[u8]) -> bool
+    ensures { IsTrue result → take (length first.now) bytes.now ≡ first.now }
+{
+    first.len() <= bytes.len() && &bytes[..first.len()] == first
+}
+
+// Whether ends begin with these.
+fn ends_begin_with(ends: &[usize], first: &[usize]) -> bool
+    ensures { IsTrue result → take (length first.now) ends.now ≡ first.now }
+{
+    first.len() <= ends.len() && &ends[..first.len()] == first
 }
 
 impl Spellings {
@@ -90,5 +104,12 @@ impl Spellings {
         let end = self.bytes.len();
         self.ends.push_reserved(end);
         Ok(())
+    }
+
+    /// Whether they begin with these names.
+    pub(crate) fn begin_with(&self, first: &Spellings) -> bool
+        ensures { IsTrue result → take (length first.now) self.now ≡ first.now }
+    {
+        ends_begin_with(&self.ends, &first.ends) && bytes_begin_with(&self.bytes, &first.bytes)
     }
 }

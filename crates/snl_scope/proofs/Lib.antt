@@ -40,3 +40,4 @@ pub mod SpelledAlike
 pub mod FaultPlaces
 pub mod SsWords
 pub mod SpokenTokens
+pub mod SameMeanings

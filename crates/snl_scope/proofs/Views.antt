@@ -93,7 +93,7 @@ facts_same a =
     ∙ ap (λ b. b && same_name_kind a.kind a.kind && same_assigned a.assigned a.assigned) (level_same a.level)
     ∙ ap (λ b. b && same_assigned a.assigned a.assigned) (name_kind_same a.kind) ∙ assigned_same a.assigned
 
-known_equal : (a b : Option Fact) → same_known a b ≡ true → a ≡ b
+pub known_equal : (a b : Option Fact) → same_known a b ≡ true → a ≡ b
 known_equal None None h = refl
 known_equal (Some a) (Some b) h = ap Some (facts_equal a b h)
 known_equal None (Some b) h = absurd (true≢false (sym h))

@@ -22,3 +22,4 @@ pub mod Once
 pub mod FaultPlaces
 pub mod NamedTokens
 pub mod SpelledTokens
+pub mod SameMeanings

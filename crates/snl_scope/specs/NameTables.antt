@@ -1,5 +1,5 @@
 -- How the tables that links are made of follow the list of summaries.
-use Rattle.std.specs.Prelude.{◌≡◌, ℕ, zero, suc, ◌<◌, ◌≤◌, Bool, true, false, not, ◌&&◌, ◌||◌, if◌then◌else◌, List, [], ◌∷◌, ◌++◌, map, length, get_or, set, slice_get, nat_eq, nat_lt, bytes_eq, position, Option, None, Some, is_some, is_none, option_and_then}
+use Rattle.std.specs.Prelude.{◌≡◌, ℕ, zero, suc, ◌<◌, Bool, true, false, not, ◌&&◌, ◌||◌, if◌then◌else◌, List, [], map, length, get_or, set, slice_get, nat_eq, nat_lt, bytes_eq, position, Option, None, Some, is_some, is_none, option_and_then}
 use Rattle.std.specs.Map.{lookup}
 use Rattle.std.specs.Option.{option_map_or, option_or}
 use Rattle.snl_scope.specs.declared.facts.LinkFault.{LinkFault}

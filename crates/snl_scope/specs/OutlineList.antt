@@ -1,5 +1,5 @@
 -- Outlines in flat lists: what each says, with its names as numbers of a book of names.
-use Rattle.std.specs.Prelude.{◌≡◌, ◌≤◌, ◌<◌, ◌+◌, ◌++◌, ℕ, List, [], ◌∷◌, IfSome, drop, get_or, length, map, option_map, take, Option, position, bytes_eq, Some, slice_get}
+use Rattle.std.specs.Prelude.{◌≡◌, ◌≤◌, ◌<◌, ◌+◌, ◌++◌, ℕ, List, [], ◌∷◌, IfSome, drop, get_or, length, map, option_map, take}
 use Rattle.std.specs.List.{AllByRecursion as Each}
 use Rattle.snl_scope.specs.declared.outlines.cursor.Cursor.{Cursor}
 use Rattle.snl_scope.specs.declared.outlines.cursor.ToldOutline.{ToldOutline}

@@ -14,6 +14,7 @@ mod linking;
 mod links;
 mod names;
 mod outlines;
+mod same_views;
 mod summaries;
 mod view;
 
@@ -27,6 +28,7 @@ pub use laws::spelling_laws::same_spelling_same_summary;
 pub use laws::summary_laws::{names_kept_once, plain_state_outline};
 pub use laws::token_laws::{names_are_tokens, targets_rise};
 pub use links::{Links, link, link_after};
+pub use same_views::{Moved, SameViews};
 pub use snl_walk::Source;
 pub use summaries::name::Name;
 pub use summaries::same_outline::same_outline;

@@ -31,7 +31,7 @@ use std::marker::Model;
 /// What names mean among the items of a text, which contracts see as their outlines and kinds.
 /// Links of the same outlines and kinds are the same value, and give the same answers.
 pub struct Links {
-    scopes: Scopes,
+    pub(crate) scopes: Scopes,
     kinds: Vec<ItemKind>,
     clauses: Vec<ClauseLink>,
     claims: ClauseIndex,
@@ -94,6 +94,13 @@ impl Links {
     ghost use Rattle.snl_scope.specs.Places.{enclosing_set, is_set_begin};
     ghost use Rattle.std.specs.Prelude.{length};
 
+    /// How many items there are.
+    pub(crate) fn item_count(&self) -> usize
+        ensures { result ≡ length self.now.outlines }
+    {
+        self.scopes.item_count()
+    }
+
     /// The state set in which an item is, by the number of its `ss NAME {` item, or None at program
     /// level.
     pub fn enclosing_set(&self, item: usize) -> Option<usize>
@@ -124,7 +131,7 @@ impl Links {
     }
 
     // What is known of the declaration with a number.
-    fn known_at(&self, number: usize) -> Option<Fact>
+    pub(crate) fn known_at(&self, number: usize) -> Option<Fact>
         ensures { result ≡ fact_at self.now.outlines number }
     {
         let symbol = self.scopes.symbol(number)?;

@@ -68,7 +68,7 @@ fn is_same_fact(one: Fact, other: Fact) -> bool
         && is_same_assigned(one.assigned, other.assigned)
 }
 
-fn is_same_known(one: Option<Fact>, other: Option<Fact>) -> bool
+pub(crate) fn is_same_known(one: Option<Fact>, other: Option<Fact>) -> bool
     ensures { result ≡ same_known one other }
 {
     match (one, other) {

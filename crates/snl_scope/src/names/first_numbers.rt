@@ -1,7 +1,7 @@
 //! For each name in a namespace, the number of the first that came with it. The names are told by
 //! their numbers.
 
-ghost use Rattle.std.specs.Prelude.{◌≡◌, ◌++◌, ◌∷◌, [], ◌<◌, ℕ, IfOk, OnOk, Some, false, true, if◌then◌else◌, is_some, vec_len};
+ghost use Rattle.std.specs.Prelude.{◌≡◌, ◌++◌, ◌∷◌, [], ◌<◌, ℕ, IfOk, OnOk, Some, false, true, if◌then◌else◌, is_some, map, vec_len};
 ghost use Rattle.std.specs.Map.{lookup};
 ghost use Rattle.std.specs.Option.{option_or};
 ghost use Rattle.snl_scope.specs.declared.names.namespaces.QualifiedName.{QualifiedName};
@@ -122,6 +122,13 @@ impl FirstNumbers {
                 .get(&QualifiedName { namespace, name })
                 .copied(),
         }
+    }
+
+    /// The keys of what came in other namespaces than that of the program.
+    pub(crate) fn keys_elsewhere(&self) -> &[QualifiedName]
+        ensures { result.now ≡ map (λ e. e.0) self.now.elsewhere.entries }
+    {
+        self.elsewhere.keys().as_slice()
     }
 
     /// The number of the first that came in the state set, or else in the program.

@@ -1,6 +1,6 @@
 //! The outlines of all items, in flat lists.
 
-ghost use Rattle.std.specs.Prelude.{◌≡◌, ◌+◌, ◌<◌, ◌≤◌, IfOk, Some, bytes_eq, drop, length, map, option_map, position, slice_get, take};
+ghost use Rattle.std.specs.Prelude.{◌≡◌, ◌+◌, ◌<◌, ◌≤◌, IfOk, IsTrue, Some, bytes_eq, drop, length, map, option_map, position, slice_get, take};
 ghost use Rattle.snl_names.specs.NameBook.{AllDiffer};
 ghost use Rattle.snl_scope.specs.OutlineList.{AreFlat, IsAt, IsNumbered, outline_of, outlines_by};
 ghost use Rattle.snl_scope.specs.NameTables.{head_of};
@@ -97,6 +97,20 @@ impl OutlineList {
         ensures { result ≡ position (bytes_eq name.now) self.now.names }
     {
         self.names.number(name)
+    }
+
+    /// How many names the book has.
+    pub(crate) fn name_count(&self) -> usize
+        ensures { result ≡ length self.now.names }
+    {
+        self.names.count()
+    }
+
+    /// Whether each name of other outlines is in the book, with the number that it has there.
+    pub(crate) fn numbers_as(&self, other: &OutlineList) -> bool
+        ensures { IsTrue result → take (length other.now.names) self.now.names ≡ other.now.names }
+    {
+        self.names.begins_with(&other.names)
     }
 
     /// The outline that a walk is at.

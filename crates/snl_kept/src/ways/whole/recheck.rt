@@ -3,12 +3,14 @@
 //! rules.
 #![tactic(auto)]
 
-ghost use Rattle.std.specs.Prelude.{◌≡◌, ◌+◌, ◌-◌, ◌^◌, ◌<◌, ℕ, All, IfOk, IfSome, IsTrue, length, map};
+ghost use Rattle.std.specs.Prelude.{◌≡◌, ◌+◌, ◌-◌, ◌^◌, ◌<◌, ℕ, All, IfOk, IfSome, IsTrue, length, map, true};
 ghost use Rattle.snl_cut.specs.Cut.{after_ticks};
 ghost use Rattle.snl_lex.specs.PieceList.{spelled};
 ghost use Rattle.snl_lex.specs.Pieces.{LiesIn};
+ghost use Rattle.snl_scope.specs.SameMeanings.{AreBoth};
 ghost use Rattle.snl_scope.specs.Spoken.{KeepsViews};
 ghost use Rattle.snl_scope.specs.View.{view};
+ghost use Rattle.snl_scope.specs.declared.summaries.summary.Summary.{Summary};
 ghost use Rattle.snl_kept.specs.Entries.{entry_by};
 ghost use Rattle.snl_kept.specs.Parts.{IsPart, spelled_part};
 ghost use Rattle.snl_kept.specs.NewChecks.{made_at, made_checks, made_for, number_before, sees_as_before};
@@ -21,7 +23,7 @@ use snl_cut::{Count, OutOfMemory};
 use snl_item_check::{Checked, check_item};
 use snl_lex::Piece;
 use snl_scope::{
-    EditedNames, Links, Summary, same_spelling_same_summary, same_view, views_told_apart,
+    EditedNames, Links, SameViews, Summary, same_spelling_same_summary, same_view, views_told_apart,
 };
 use std::alloc::Global;
 
@@ -35,13 +37,15 @@ pub struct KeptItems {
 }
 
 /// What names mean before an edit and after it, whether that is known to be the same, the names
-/// that its items speak of, if these are few, and which items are kept.
+/// that its items speak of, if these are few, what else is known to mean the same, and which items
+/// are kept.
 #[derive(Clone, Copy)]
 pub struct BothLinks<'a, 'e> {
     pub before: &'a Links,
     pub after: &'a Links,
     pub keeps_names: bool,
     pub edited: &'a Option<EditedNames<'e>>,
+    pub same: &'a Option<SameViews<'e>>,
     pub kept: KeptItems,
 }
 
@@ -62,6 +66,18 @@ impl KeptItems {
 }
 
 impl BothLinks<'_, '_> {
+    // Whether an item is known to see what it saw, whatever it uses. `before` is its number before
+    // the edit.
+    fn is_known(self, before: usize, item: usize) -> bool
+        requires { IfSome self.same.now (AreBoth self.before.now.outlines self.after.now.outlines) }
+        ensures { IsTrue result → (s : Summary) → view self.entry.before.now.outlines before s ≡ view self.entry.after.now.outlines item s }
+    {
+        match self.same {
+            Some(same) => same.is_known(before, item),
+            None => false,
+        }
+    }
+
     // Whether an item that keeps its number is known to see what it saw: it uses no name of the
     // items of the edit.
     fn is_known_to_keep(self, summary: &Summary) -> bool
@@ -79,11 +95,25 @@ impl BothLinks<'_, '_> {
     }
 }
 
+// Whether an item is known to see of the others what it saw before the edit, whatever it uses.
+fn is_known_as_before(both: BothLinks, item: usize) -> bool
+    requires few { (item - both.kept.stop) + both.kept.back < 2 ^ 64 }
+    requires same { IfSome both.same.now (AreBoth both.before.now.outlines both.after.now.outlines) }
+    ensures { IsTrue result → (s : Summary) → sees_as_before both.entry.before.now.outlines (number_before both.entry.kept item) both.entry.after.now.outlines item s ≡ true }
+{
+    views_told_apart();
+    match both.kept.number_before(item) {
+        Some(number) => both.is_known(number, item),
+        None => false,
+    }
+}
+
 // Whether an item sees of the others what it saw before the edit. A fresh one saw nothing.
 fn sees_as_before(both: BothLinks, item: usize, summary: &Summary) -> bool
     requires few { (item - both.kept.stop) + both.kept.back < 2 ^ 64 }
     requires names { IsTrue both.keeps_names → both.before.now.outlines ≡ both.after.now.outlines }
     requires edited { IfSome both.edited.now (KeepsViews both.before.now.outlines both.after.now.outlines) }
+    requires same { IfSome both.same.now (AreBoth both.before.now.outlines both.after.now.outlines) }
     ensures { result ≡ sees_as_before both.entry.before.now.outlines (number_before both.entry.kept item) both.entry.after.now.outlines item summary.now }
 {
     views_told_apart();
@@ -111,10 +141,15 @@ fn check_anew(
     requires few { (item - both.kept.stop) + both.kept.back < 2 ^ 64 }
     requires names { IsTrue both.keeps_names → both.before.now.outlines ≡ both.after.now.outlines }
     requires edited { IfSome both.edited.now (KeepsViews both.before.now.outlines both.after.now.outlines) }
+    requires same { IfSome both.same.now (AreBoth both.before.now.outlines both.after.now.outlines) }
     ensures made { IfOk result (λ c. made_at item c ≡ made_for both.entry.before.now.outlines both.entry.after.now.outlines both.entry.kept (item, spelled text.now own.now)) }
     ensures ticks { IfOk result (λ c. work.new ≡ after_ticks work.old (length (made_at item c))) }
 {
     same_spelling_same_summary();
+    // the entry is read only where that is wanted
+    if is_known_as_before(both, item) {
+        return Ok(None);
+    }
     let Some(tree) = entry.parsed.tree() else {
         return Ok(None);
     };
@@ -139,6 +174,7 @@ pub fn recheck(
     requires few { (length parts.now - both.kept.stop) + both.kept.back < 2 ^ 64 }
     requires names { IsTrue both.keeps_names → both.before.now.outlines ≡ both.after.now.outlines }
     requires edited { IfSome both.edited.now (KeepsViews both.before.now.outlines both.after.now.outlines) }
+    requires same { IfSome both.same.now (AreBoth both.before.now.outlines both.after.now.outlines) }
     ensures made { IfOk result (λ made. made.items ≡ made_checks both.entry.before.now.outlines both.entry.after.now.outlines both.entry.kept (map (spelled_part text.now tokens.now) parts.now)) }
     ensures ticks { IfOk result (λ made. work.new ≡ after_ticks work.old (length made.items)) }
 {

@@ -2,13 +2,14 @@
 //! links, the checks that are made, the diagnostics and the tables go out. It changes nothing.
 #![tactic(auto)]
 
-ghost use Rattle.std.specs.Prelude.{◌≡◌, ◌+◌, ◌-◌, ◌≤◌, All, IfOk, length, map};
+ghost use Rattle.std.specs.Prelude.{◌≡◌, ◌+◌, ◌-◌, ◌≤◌, All, IfOk, IfSome, length, map};
 ghost use Rattle.snl_cut.specs.Cut.{after_ticks, members};
 ghost use Rattle.snl_lex.specs.Pieces.{tokens_of};
+ghost use Rattle.snl_scope.specs.SameMeanings.{AreBoth};
 ghost use Rattle.snl_kept.specs.Diagnostics.{shown};
 ghost use Rattle.snl_kept.specs.Editing.{AreEntriesIn, IsUnderWay, edit_in, items_in, old_in, text_in};
 ghost use Rattle.snl_kept.specs.NewChecks.{AreChecksMade, kept_of, nones};
-ghost use Rattle.snl_kept.specs.NewLinks.{AreLinks};
+ghost use Rattle.snl_kept.specs.NewLinks.{AreLinks, links_now};
 ghost use Rattle.snl_kept.specs.Order.{in_order};
 ghost use Rattle.snl_kept.specs.Parts.{IsPart, item_of_part};
 ghost use Rattle.snl_kept.specs.Planned.{AreLinksAndChecks};
@@ -33,7 +34,9 @@ use snl_cut::{Count, OutOfMemory, ends_in_order};
 use snl_item_check::equal_views;
 use snl_items::ItemChange;
 use snl_lex::{Piece, text_in_pieces};
-use snl_scope::{same_spelling_same_summary, views_told_apart};
+use snl_scope::{
+    EditedNames, Links, Moved, SameViews, same_spelling_same_summary, views_told_apart,
+};
 use snl_syntax::Tokens;
 use std::alloc::Global;
 
@@ -56,6 +59,29 @@ fn kept_items(old_count: usize, items: &ItemChange, count: usize) -> KeptItems
         stop: count - items.kept_back,
         back: old_count - items.kept_back,
     }
+}
+
+// What is known to mean what it meant, where names mean other things and those that are edited are
+// many.
+fn same_views<'a>(
+    alloc: Global,
+    before: &'a Links,
+    links: &'a NewLinks,
+    edited: &Option<EditedNames<'_>>,
+    kept: KeptItems,
+) -> Result<Option<SameViews<'a>>, OutOfMemory>
+    ensures { IfOk result (λ same. IfSome same (AreBoth before.now.outlines (links_now before.now links.now).outlines)) }
+{
+    if links.keeps_names() || edited.is_some() {
+        return Ok(None);
+    }
+    let moved = Moved {
+        front: kept.front,
+        back: kept.back,
+        stop: kept.stop,
+    };
+    let same = SameViews::of(alloc, before, links.after(before), moved)?;
+    Ok(Some(same))
 }
 
 // The checks of the items that are to be checked anew, by what an edit makes of the links. Each is
@@ -87,11 +113,13 @@ fn checks_after(
     let lists = editing.lists;
     let kept = kept_items(lists.checks.len(), &editing.changes.items, parts.len());
     let edited = edited_names(alloc, editing, &lists.entries, made)?;
+    let same = same_views(alloc, &lists.links, links, &edited, kept)?;
     let both = BothLinks {
         before: &lists.links,
         after: links.after(&lists.links),
         keeps_names: links.keeps_names(),
         edited: &edited,
+        same: &same,
         kept,
     };
     let made = recheck(alloc, editing.edit.text, tokens, parts, both, work)?;

@@ -1,4 +1,4 @@
-use Rattle.std.proofs.Common.{◌≡◌, ap, map, sym, ◌∙◌}
+use Rattle.std.proofs.Common.{◌≡◌, map, sym, ◌∙◌}
 use Rattle.std.proofs.lemmas.Result.{IfOk-weaker}
 use Rattle.snl_scope.specs.LinkedItems.{LinkedItems, linked_items}
 use Rattle.std.proofs.lemmas.Simd.{map-map}

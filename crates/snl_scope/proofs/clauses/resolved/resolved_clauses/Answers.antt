@@ -1,7 +1,7 @@
-use Rattle.std.proofs.Common.{◌≡◌, ◌+◌, ◌++◌, [], Some, add-one, ap, arith, length, map, slice_get, sym, ◌∙◌}
+use Rattle.std.proofs.Common.{◌≡◌, ◌+◌, ◌++◌, [], Some, add-one, ap, arith, map, slice_get, sym, ◌∙◌}
 use Rattle.std.specs.Option.{option_map_or}
-use Rattle.snl_scope.specs.Clauses.{clauses_before, clauses_of, linked_clause}
-use Rattle.snl_scope.specs.OutlineList.{clause_by, outline_of}
+use Rattle.snl_scope.specs.Clauses.{clauses_before, linked_clause}
+use Rattle.snl_scope.specs.OutlineList.{outline_of}
 use Rattle.snl_scope.specs.Places.{enclosing_set}
 use Rattle.snl_scope.specs.Resolved.{linked}
 use Rattle.snl_scope.proofs.clauses.resolved.resolved_clauses.Goals as goal

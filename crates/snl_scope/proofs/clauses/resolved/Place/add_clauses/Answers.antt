@@ -1,4 +1,4 @@
-use Rattle.std.proofs.Common.{◌≡◌, ℕ, ◌+◌, ◌++◌, ◌∷◌, [], List, None, Some, ap, ap₂, append_assoc, arith, get_or, map, slice_get, sym, take, ◌∙◌}
+use Rattle.std.proofs.Common.{◌≡◌, ℕ, ◌+◌, ◌++◌, ◌∷◌, [], List, None, ap, ap₂, append_assoc, arith, get_or, map, sym, take, ◌∙◌}
 use Rattle.std.proofs.lemmas.List.{map_more, map_push, take_all}
 use Rattle.std.proofs.lemmas.Simd.{map-map}
 use Rattle.snl_facts.specs.Each.{each_got}

@@ -1,7 +1,5 @@
-use Rattle.std.proofs.Common.{◌≡◌, ◌∙◌, ap, sym}
-use Rattle.std.specs.Prelude.{option_and_then, option_map}
-use Rattle.snl_scope.specs.Clauses.{LinkedClause, resolve_in}
-use Rattle.snl_scope.specs.OutlineList.{clause_by, name_at, ref_by}
+use Rattle.std.proofs.Common.{◌∙◌}
+use Rattle.snl_scope.specs.OutlineList.{clause_by}
 use Rattle.snl_scope.proofs.Resolving.{flag_resolved}
 use Rattle.snl_scope.proofs.clauses.resolved.Place.resolve_clause.Goals as goal
 
