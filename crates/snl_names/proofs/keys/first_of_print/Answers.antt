@@ -1,5 +1,4 @@
 use Rattle.std.proofs.Common.{ℕ, ◌+◌, ◌-◌, ◌/◌, ◌<◌, arith, length}
-use Rattle.snl_names.specs.declared.keys.Key.{Key}
 use Rattle.snl_names.proofs.Places.{less_to, none_from}
 use Rattle.snl_names.proofs.keys.first_of_print.Goals as goal
 
