@@ -12,6 +12,8 @@ mod findings;
 #[cfg(test)]
 mod inside;
 #[cfg(test)]
+mod known_views;
+#[cfg(test)]
 mod names;
 #[cfg(test)]
 mod order;

@@ -79,3 +79,19 @@ fn copies_go_on_apart(rt: HostRuntime) -> Result<(), Fail> {
     assert!(rt; copy.number(b"") == Some(0));
     Ok(())
 }
+
+// A book begins with another one where its first names are those of that one, in their order.
+#[test]
+fn copies_begin_with_the_book(rt: HostRuntime) -> Result<(), Fail> {
+    let mut book = NameBook::new(rt.alloc());
+    let _ = book.add(b"one")?;
+    let _ = book.add(b"two")?;
+    let mut longer = book.copied(rt.alloc())?;
+    let _ = longer.add(b"three")?;
+    let mut turned = NameBook::new(rt.alloc());
+    let _ = turned.add(b"two")?;
+    let _ = turned.add(b"one")?;
+    assert!(rt; book.begins_with(&book) && longer.begins_with(&book));
+    assert!(rt; !book.begins_with(&longer) && !turned.begins_with(&book));
+    Ok(())
+}
