@@ -41,3 +41,5 @@ pub mod FaultPlaces
 pub mod SsWords
 pub mod SpokenTokens
 pub mod SameMeanings
+pub mod NewNames
+pub mod AlikeClauses

@@ -81,7 +81,7 @@ module _ (name : List ℕ) (after : List Outline) where
   paired (s ∷ ss) old new h was now (suc i) = paired ss old new h was now i
 
 -- entries by the place of their item
-abbrev entries_at : Option ℕ → ℕ → Outline → List Entry
+abbrev pub entries_at : Option ℕ → ℕ → Outline → List Entry
 entries_at p i s = set_entries i s ++ state_entries p i s ++ map (declared_entry (if has_own_scope s.role then namespace.State i else scope_at p) i) s.declares
 
 module _ (name : List ℕ) where
@@ -99,7 +99,7 @@ module _ (name : List ℕ) where
   none_second make true None has h = refl
   none_second make true (Some n) has h = none_named make (λ m. m) (n ∷ []) has h
 
-  silent_parts : (s : Outline) → is_among (spoken s) name ≡ false
+  pub silent_parts : (s : Outline) → is_among (spoken s) name ≡ false
       → (is_among (map (λ d. d.name) s.declares) name ≡ false) × (is_among (map (λ c. c.variable.name) s.clauses) name ≡ false) × (is_among (option_to_list s.second) name ≡ false)
   silent_parts s h =
       let declared = map (λ d. d.name) s.declares in

@@ -23,3 +23,4 @@ pub mod FaultPlaces
 pub mod NamedTokens
 pub mod SpelledTokens
 pub mod SameMeanings
+pub mod Renamed

@@ -12,8 +12,8 @@ pub(crate) trait SameValue {
         ensures { IsTrue result ↔ (self.now ≡ other.now) };
 }
 
-// Lists of as many values, which are the same one by one.
-fn are_same<T: SameValue>(ones: &[T], others: &[T]) -> bool
+/// Lists of as many values, which are the same one by one.
+pub(crate) fn are_same<T: SameValue>(ones: &[T], others: &[T]) -> bool
     ensures { IsTrue result ↔ (ones.now ≡ others.now) }
 {
     if ones.len() != others.len() {
