@@ -20,6 +20,7 @@ pub mod ShiftedTables
 pub mod ShiftedWhole
 pub mod ShiftedRows
 pub mod ShiftedAround
+pub mod ToldAlike
 pub mod SetMembers
 pub mod WakesByTable
 pub mod WakesAfter

@@ -1,6 +1,6 @@
 -- Lists that are made alike, or of elements that are shifted.
 use Rattle.std.proofs.Common.{◌≡◌, ℕ, zero, suc, ◌+◌, ◌<◌, List, [], ◌∷◌, ◌++◌, map, Option, refl, ap₂, arith}
-use Rattle.std.specs.List.{AllByRecursion, enumerate_from, flat_map}
+use Rattle.std.specs.List.{AllByRecursion, cons_option, enumerate_from, filter_map, flat_map}
 use Rattle.std.specs.Option.{option_to_list}
 use Rattle.snl_check.specs.Settings.{gathered}
 
@@ -13,6 +13,10 @@ map_same {Y = Y} f g (x ∷ xs) h = ap₂ (λ (y : Y) (ys : List Y). y ∷ ys) h
 pub flat_same : {X Y : Type 0} (f g : X → List Y) (xs : List X) → AllByRecursion (λ x. f x ≡ g x) xs → flat_map f xs ≡ flat_map g xs
 flat_same f g [] h = refl
 flat_same {Y = Y} f g (x ∷ xs) h = ap₂ (λ (y : List Y) (ys : List Y). y ++ ys) h.0 (flat_same f g xs h.1)
+
+pub kept_same : {X Y : Type 0} (f g : X → Option Y) (xs : List X) → AllByRecursion (λ x. f x ≡ g x) xs → filter_map f xs ≡ filter_map g xs
+kept_same f g [] h = refl
+kept_same {Y = Y} f g (x ∷ xs) h = ap₂ (λ (y : Option Y) (ys : List Y). cons_option y ys) h.0 (kept_same f g xs h.1)
 
 pub gathered_same : {X : Type 0} (f g : ℕ → Option X) (n : ℕ) → ((i : ℕ) → i < n → f i ≡ g i) → gathered f n ≡ gathered g n
 gathered_same f g zero h = refl

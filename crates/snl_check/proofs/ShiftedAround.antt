@@ -2,10 +2,9 @@
 -- says what becomes of the line of an offset.
 use Rattle.std.proofs.Common.{◌≡◌, ◌≢◌, ℕ, zero, suc, ◌+◌, ◌<◌, ◌&&◌, ◌||◌, Bool, true, false, List, [], ◌∷◌, ◌++◌, length, map, slice_get, nat_eq, Option, Some, None, inl, inr, if◌then◌else◌, refl, sym, subst, ap, ap₂, ◌∙◌, arith, nat_lt, IfSome}
 use Rattle.std.specs.List.{AllByRecursion, enumerate_from, filter_map, flat_map}
-use Rattle.std.specs.Option.{is_none, option_and_then, option_map, option_map_or, option_to_list}
+use Rattle.std.specs.Option.{is_none, is_some, option_and_then, option_map, option_map_or, option_to_list}
 use Rattle.std.proofs.lemmas.Bool.{and_from, cases_eq, eq-eqb, eqb-true, false_from_ne_true, false≢true}
-use Rattle.std.proofs.lemmas.List.{length-append, length-map}
-use Rattle.std.proofs.lemmas.Option.{slice_get-map}
+use Rattle.std.proofs.lemmas.List.{length-map}
 use Rattle.snl_tables.specs.ShiftedLaws.{changed_twice}
 use Rattle.snl_scope.specs.BelowLaws.{each_below, each_passing}
 use Rattle.snl_facts.specs.Booleans.{and_first, and_second}
@@ -32,17 +31,19 @@ use Rattle.snl_scope.specs.declared.summaries.summary.ItemKind.{ItemKind}
 use Rattle.snl_scope.specs.declared.summaries.summary.ItemKind.TheVariants as kinds
 use Rattle.snl_scope.specs.declared.summaries.summary.NameRef.{NameRef}
 use Rattle.snl_scope.specs.declared.summaries.summary.Outline.{Outline}
+use Rattle.snl_scope.specs.declared.summaries.summary.Variable.{Variable}
 use Rattle.snl_scope.specs.Below.{all_below}
-use Rattle.snl_scope.specs.Clauses.{clause_links, resolve_in}
-use Rattle.snl_scope.specs.Flags.{flags_of}
+use Rattle.snl_scope.specs.Clauses.{clause_links, is_event_flag, resolve_in}
+use Rattle.snl_scope.specs.Flags.{declares_flag, is_first, is_flag}
 use Rattle.snl_scope.specs.Linked.{declaration_at, entry_declaration, scope_in, state_of, variable_declaration}
-use Rattle.snl_scope.specs.Names.{Entry, declared_entry, named_entry, entries, entries_before, entries_of, scope_of, set_entries, set_name, state_entries}
+use Rattle.snl_scope.specs.Names.{Entry, declared_entry, named_entry, entries, entries_before, entries_of, has_own_scope, scope_at, scope_of, set_entries, set_name, state_entries}
 use Rattle.snl_scope.specs.Order.{is_named_state, state_name}
 use Rattle.snl_scope.specs.Places.{begins_set, is_set_begin, enclosing_set, stands_in}
 use Rattle.snl_scope.specs.Summaries.{kind_of, role_of}
 use Rattle.snl_scope.specs.Summaries.Clauses as summary
 use Rattle.snl_scope.specs.Summaries.Declares.{declared_in}
 use Rattle.snl_walk.specs.Tokens.{token_bytes}
+use Rattle.snl_tables.specs.declared.rows.ScopeName.TheVariants as scope_names
 use Rattle.snl_tables.specs.declared.rows.SetRow.{SetRow}
 use Rattle.snl_tables.specs.declared.rows.StateBody.{StateBody}
 use Rattle.snl_tables.specs.declared.rows.StateMark.{StateMark}
@@ -56,23 +57,23 @@ use Rattle.snl_check.specs.Conditions.{on_declaration, uses_in, wake_ups}
 use Rattle.snl_item_check.specs.Items.{ProgramItem, outline_of_item, outlines_of, summary_of_item, tokens_in, tree_in}
 use Rattle.snl_check.specs.ItemSpans.{header_name, named_by, span_of, item_name}
 use Rattle.snl_check.specs.Members.{is_faulty_item, number_among, states_in, target_number, target_numbers}
-use Rattle.snl_check.specs.Moved.{KeepsItem, KeepsItems, ReplacesItem, ReplacesOne}
+use Rattle.snl_check.specs.Moved.{ReplacesItem, ReplacesOne}
 use Rattle.snl_item_check.specs.View.{is_in_set}
 use Rattle.snl_check.specs.Settings.{LetterSetting, setting_at, setting_in_tree}
-use Rattle.snl_check.specs.Shifted.{shifted_item, start_at}
+use Rattle.snl_check.specs.Shifted.{has_own_row, start_at}
 use Rattle.snl_item_check.specs.Told.{nothing, told_in_item, used_by, wakes_of}
-use Rattle.snl_check.specs.ShiftedAround.{IsPlacedAt, IsSoundAsItWas, SaysAlike, SaysAlikeAt, is_plain, set_number, state_number}
+use Rattle.snl_check.specs.ShiftedAround.{IsFlagPlaced, IsPlacedAt, IsSoundAsItWas, SaysAlike, SaysAlikeAt, is_plain, set_number, state_number}
 use Rattle.snl_check.specs.Spans.{AreRead}
 use Rattle.snl_check.specs.States.{item_at, line_of_item, mark_of, marks_of, numbered_row, set_row, set_rows, state_body, state_row, state_rows, wake_of}
-use Rattle.snl_check.specs.Tables.{flag_row_at, tables_by, tables_of}
+use Rattle.snl_check.specs.Tables.{flag_row_at, tables_of}
 use Rattle.snl_check.proofs.Linked.{outline_at}
 use Rattle.snl_check.proofs.ShiftLists.{map_shift, numbered_shift}
 use Rattle.snl_check.proofs.Sets.{get_here, is_within}
 use Rattle.snl_check.proofs.ShiftedItems.{IsKept, faulty_stays, header_at, header_at_shifts, span_at_shifts, tree_stays}
-use Rattle.snl_check.proofs.ShiftedClauses.{HasBytes, flag_shifts, setting_stays}
+use Rattle.snl_check.proofs.ShiftedClauses.{HasBytes, IsScopeShifted, flag_shifts, setting_stays}
 use Rattle.snl_check.proofs.ShiftedStates.{has_faulty_stays, state_row_shifts, targets_stay}
-use Rattle.snl_check.proofs.ShiftedRows.{Parts, and_none, kept_map, map_twice, marked_rows, numbered_changed, parts_at, row_changed, same_by_gets, same_either}
-use Rattle.snl_check.proofs.ShiftedTables.{IsLineKept, IsRowKept, MarksStay, RestStays, SpellingLaws, item_kept, outline_stays, same_channels, same_mark, set_line, set_named, set_shifts, state_line, state_shifts, tables_but_sets}
+use Rattle.snl_check.proofs.ShiftedRows.{Parts, and_none, kept_map, map_twice, marked_rows, numbered_changed, parts_at, row_changed, same_either}
+use Rattle.snl_check.proofs.ShiftedTables.{IsLineKept, IsRowKept, MarksStay, RestStays, SpellingLaws, item_kept, same_channels, same_mark, set_line, set_named, set_shifts, state_line, state_shifts, tables_but_sets}
 use Rattle.snl_check.proofs.SpanLaws.{each_all, place_begins, each_beside, each_flat, each_got, tested, tokens_are}
 
 -- ---- what a plain item is not
@@ -105,6 +106,25 @@ module _ (text : List ℕ) (tokens : List Piece) where
   no_clauses i (Some (items.Clause c)) h e = absurd (false≢true h)
   no_clauses i o h e = refl
 
+-- ---- tests
+
+second_holds : (a b : Bool) → b ≡ true → (a || b) ≡ true
+second_holds true b h = refl
+second_holds false b h = h
+
+-- the entry of an event flag declares one
+flag_declared : (ss : List Outline) (number : ℕ) (d : Declaration) → is_flag (entries ss) number ≡ true → declaration_at ss number ≡ Some d → is_event_flag d.variable.symbol_kind ≡ true
+flag_declared ss number d = by (slice_get (entries ss) number)
+  where
+    declares : (e : Entry) (v : Option Variable) (c : Option Scope) → declares_flag v ≡ true → option_and_then (λ v. option_map (λ c. variable_declaration e.item e.token c v) c) v ≡ Some d → is_event_flag d.variable.symbol_kind ≡ true
+    declares e None c h at = absurd (false≢true h)
+    declares e (Some v) None h at = absurd cc
+    declares e (Some v) (Some c) h at = let same : variable_declaration e.item e.token c v ≡ d = cc in subst (λ (d : Declaration). is_event_flag d.variable.symbol_kind ≡ true) same h
+
+    by : (o : Option Entry) → option_map_or (λ e. declares_flag e.variable && is_first (entries ss) number e) o false ≡ true → option_and_then entry_declaration o ≡ Some d → is_event_flag d.variable.symbol_kind ≡ true
+    by None h at = absurd (false≢true h)
+    by (Some e) h at = declares e e.variable (scope_in e.namespace) (and_first (declares_flag e.variable) (is_first (entries ss) number e) h) at
+
 -- ---- the items but one are kept
 
 module _ (laws : SpellingLaws) (old text : List ℕ) (s : Shift) (line : ℕ → Line → Line) (xs ys : List ProgramItem) (j : ℕ) (before : 0 < s.start) (read : AreRead old xs) (rep : ReplacesOne old text s line xs ys j) where
@@ -136,13 +156,6 @@ module _ (laws : SpellingLaws) (old text : List ℕ) (s : Shift) (line : ℕ →
       ∙ sym (ap (option_map (shifted_span s)) (ap (option_and_then header_name) was.1 ∙ no_header was.0 replaced.was_plain)))
       (λ i apart. header_at_shifts old text s xs ys i before (kept i apart))
 
-  names : (i : ℕ) → item_name ys i ≡ shifted_span s (item_name xs i)
-  names =
-      everywhere (λ i. item_name ys i ≡ shifted_span s (item_name xs i))
-      (ap (λ (ts : List Piece). span_of (slice_get ts 1)) (tokens_are ys j is.0 is.1) ∙ replaced.name
-      ∙ sym (ap (λ (ts : List Piece). shifted_span s (span_of (slice_get ts 1))) (tokens_are xs j was.0 was.1)))
-      (λ i apart. span_at_shifts old text s xs ys i (kept i apart) before 1)
-
   sets_nothing : (bytes : List ℕ) (zs : List ProgramItem) (z : ProgramItem) → slice_get zs j ≡ Some z → is_plain (kind_of z.tree) ≡ true → setting_at bytes zs ss j ≡ None
   sets_nothing bytes zs z at state =
       ap (λ (o : Option LetterSetting). if is_in_set ss j then None else o)
@@ -161,9 +174,7 @@ module _ (laws : SpellingLaws) (old text : List ℕ) (s : Shift) (line : ℕ →
   no_old_clause = ap (item_clauses_if j) (tree_at xs was.0 was.1) ∙ no_clauses old was.0.tokens j was.0.tree replaced.was_plain replaced.no_clause
 
   no_new_clause : item_clauses_if j (tree_in ys j) ≡ []
-  no_new_clause =
-      ap (item_clauses_if j) (tree_at ys is.0 is.1)
-      ∙ no_clauses text is.0.tokens j is.0.tree replaced.is_plain_now (ap (λ (o : Outline). o.clauses) replaced.outline ∙ replaced.no_clause)
+  no_new_clause = ap (item_clauses_if j) (tree_at ys is.0 is.1) ∙ no_clauses text is.0.tokens j is.0.tree replaced.is_plain_now replaced.no_clause_now
 
   same_clauses : (i : ℕ) → item_clauses_if i (tree_in ys i) ≡ item_clauses_if i (tree_in xs i)
   same_clauses =
@@ -200,14 +211,11 @@ module _ (laws : SpellingLaws) (old text : List ℕ) (s : Shift) (line : ℕ →
       by true = on p.1.variable p.0.clause
       by false = tt
 
-  -- ---- declarations
+  -- ---- where names are
 
-  -- the name that an item declares is where it was, shifted
+  -- a token of an item is where it was, shifted
   abbrev IsPlaced : ℕ → ℕ → Type 0
   IsPlaced item token = span_of (slice_get (tokens_in ys item) token) ≡ shifted_span s (span_of (slice_get (tokens_in xs item) token))
-
-  abbrev IsKeptName : Entry → Type 0
-  IsKeptName e = IfSome (entry_declaration e) (λ (d : Declaration). IsPlaced d.item d.token)
 
   placed_apart : (item : ℕ) → item ≢ j → (token : ℕ) → IsPlaced item token
   placed_apart item apart token = span_at_shifts old text s xs ys item (kept item apart) before token
@@ -217,88 +225,8 @@ module _ (laws : SpellingLaws) (old text : List ℕ) (s : Shift) (line : ℕ →
       ap (λ (ts : List Piece). span_of (slice_get ts token)) (tokens_are ys j is.0 is.1) ∙ placed
       ∙ sym (ap (λ (ts : List Piece). shifted_span s (span_of (slice_get ts token))) (tokens_are xs j was.0 was.1))
 
-  declares_placed : (n : ℕ) (o : Outline) → AllByRecursion (λ d. IsPlaced n d.token) o.declares → AllByRecursion IsKeptName (map (declared_entry (scope_of ss n o) n) o.declares)
-  declares_placed n o placed =
-      each_map IsKeptName (declared_entry (scope_of ss n o) n) o.declares
-      (each_weaker (λ d. IsPlaced n d.token) (λ d. IsKeptName (declared_entry (scope_of ss n o) n d)) (λ d there. by d there (scope_in (scope_of ss n o))) o.declares placed)
-    where
-      by : (d : Declared) → IsPlaced n d.token → (c : Option Scope) → IfSome (option_map (λ c. variable_declaration n d.token c d.variable) c) (λ (d : Declaration). IsPlaced d.item d.token)
-      by d there None = tt
-      by d there (Some c) = there
-
-  declares_at : (n : ℕ) (o : Outline) → slice_get ss n ≡ Some o → AllByRecursion (λ d. IsPlaced n d.token) o.declares
-  declares_at =
-      everywhere (λ n. (o : Outline) → slice_get ss n ≡ Some o → AllByRecursion (λ d. IsPlaced n d.token) o.declares)
-      (λ o at.
-      let there : slice_get ss j ≡ Some (outline_of_item old was.0) = outline_at old xs j ∙ ap (option_map (outline_of_item old)) was.1 in
-      let same : outline_of_item old was.0 ≡ o = cc in
-      each_weaker (λ d. IsPlacedAt s was.0 is.0 d.token) (λ d. IsPlaced j d.token) (λ d. placed_here d.token) o.declares
-      (subst (λ (o : Outline). AllByRecursion (λ d. IsPlacedAt s was.0 is.0 d.token) o.declares) same replaced.declared))
-      (λ n apart o at. each_all (λ d. IsPlaced n d.token) o.declares (λ d. placed_apart n apart d.token))
-
-  entries_placed : (n : ℕ) → AllByRecursion IsKeptName (entries_before ss n)
-  entries_placed zero = tt
-  entries_placed (suc n) = each_append IsKeptName (entries_before ss n) (option_map_or (entries_of ss n) (slice_get ss n) []) (entries_placed n) (by (slice_get ss n) refl)
-    where
-      named : (namespace : Namespace) (code : Option Code) (words : List (List ℕ)) → AllByRecursion IsKeptName (map (named_entry namespace n code) words)
-      named namespace code words = each_map IsKeptName (named_entry namespace n code) words (each_all (λ name. IsKeptName (named_entry namespace n code name)) words (λ name. tt))
-
-      states : (p : Option ℕ) (o : Outline) → AllByRecursion IsKeptName (state_entries p n o)
-      states None o = tt
-      states (Some k) o = named (namespace.States k) (Some E09) (option_to_list (state_name o))
-
-      by : (o : Option Outline) → slice_get ss n ≡ o → AllByRecursion IsKeptName (option_map_or (entries_of ss n) o [])
-      by None e = tt
-      by (Some o) e =
-          each_append IsKeptName (set_entries n o ++ state_entries (enclosing_set ss n) n o) (map (declared_entry (scope_of ss n o) n) o.declares)
-          (each_append IsKeptName (set_entries n o) (state_entries (enclosing_set ss n) n o) (named namespace.Sets (Some E08) (option_to_list (set_name o))) (states (enclosing_set ss n) o))
-          (declares_placed n o (declares_at n o e))
-
-  declared_placed : (number : ℕ) (d : Declaration) → declaration_at ss number ≡ Some d → IsPlaced d.item d.token
-  declared_placed number d h = by (slice_get (entries ss) number) (each_got IsKeptName (entries ss) number (entries_placed (length ss))) h
-    where
-      by : (o : Option Entry) → IfSome o IsKeptName → option_and_then entry_declaration o ≡ Some d → IsPlaced d.item d.token
-      by None q e = absurd cc
-      by (Some entry) q e = subst (λ o. IfSome o (λ (d : Declaration). IsPlaced d.item d.token)) e q
-
-  rest_stays : RestStays old text s xs ys ss
-  rest_stays = record {
-    count = rep.count;
-    headers = headers;
-    names = names;
-    settings = λ i l. settings i;
-    flags = each_all (λ number. flag_row_at ys ss number ≡ option_map (shifted_flag s) (flag_row_at xs ss number)) (flags_of ss)
-        (λ number. flag_shifts s xs ys ss names number (declared_placed number));
-    clauses = same_clauses;
-    bytes = each_weaker (λ (p : ItemClause × ClauseLink). p.0.item ≢ j) (HasBytes old text xs ys) (λ p apart. (kept p.0.item apart).bytes) (resolved_clauses xs ss) resolved_apart;
-    channels = each_flat (λ (p : ItemClause × ClauseLink). p.0.item ≢ j) IsOfKept (channels_of_clause old xs) (resolved_clauses xs ss) channels_kept resolved_apart;
-  }
-
-  -- ---- outlines and marks
-
-  outlines_stay : outlines_of text ys ≡ ss
-  outlines_stay = same_by_gets (outlines_of text ys) ss (everywhere (λ i. slice_get (outlines_of text ys) i ≡ slice_get ss i) here other)
-    where
-      here : slice_get (outlines_of text ys) j ≡ slice_get ss j
-      here =
-          outline_at text ys j ∙ ap (option_map (outline_of_item text)) is.1 ∙ ap Some replaced.outline
-          ∙ sym (outline_at old xs j ∙ ap (option_map (outline_of_item old)) was.1)
-
-      by : (i : ℕ) → i ≢ j → (o : Option ProgramItem) → slice_get xs i ≡ o → option_map (outline_of_item text) (option_map (shifted_item s) o) ≡ option_map (outline_of_item old) o
-      by i apart None at = refl
-      by i apart (Some x) at = ap Some (outline_stays laws old text s line x (rep.kept i x apart at))
-
-      other : (i : ℕ) → i ≢ j → slice_get (outlines_of text ys) i ≡ slice_get ss i
-      other i apart =
-          outline_at text ys i ∙ ap (option_map (outline_of_item text)) (rep.others i apart) ∙ by i apart (slice_get xs i) refl ∙ sym (outline_at old xs i)
-
-  -- ---- rows
-
-  pub same : assigned_channels text ys ss ≡ assigned_channels old xs ss
-  same = same_channels old text s xs ys ss before rest_stays
-
-  row_kept : (i : ℕ) → i ≢ j → is_named_state ss i ≡ true → IsRowKept old text s line xs ys i
-  row_kept i apart is = record { item = kept i apart; lined = state_line old text s line xs ys i (rep.others i apart) (λ x at. rep.kept i x apart at) is }
+  outline_here : slice_get ss j ≡ Some (outline_of_item old was.0)
+  outline_here = outline_at old xs j ∙ ap (option_map (outline_of_item old)) was.1
 
   set_apart : (k : ℕ) → is_set_begin ss k ≡ true → k ≢ j
   set_apart k is same =
@@ -307,6 +235,128 @@ module _ (laws : SpellingLaws) (old text : List ℕ) (s : Shift) (line : ℕ →
       let item : found.0 ≡ was.0 = cc in
       let state : is_plain (kind_of found.0.tree) ≡ true = ap (λ (x : ProgramItem). is_plain (kind_of x.tree)) item ∙ replaced.was_plain in
       no_set (kind_of found.0.tree) (nat_lt 0 (length (declared_in old found.0.tokens found.0.tree)) || nat_lt 0 (length (summary.clauses_in old found.0.tokens found.0.tree))) state found.2
+
+  set_placed : (k : ℕ) → is_set_begin ss k ≡ true → IsPlaced k 1
+  set_placed k is = placed_apart k (set_apart k is) 1
+
+  -- an item with a scope of its own
+  scope_placed : (i : ℕ) (o : Outline) → slice_get ss i ≡ Some o → has_own_scope o.role ≡ true → IsPlaced i 1
+  scope_placed =
+      everywhere (λ i. (o : Outline) → slice_get ss i ≡ Some o → has_own_scope o.role ≡ true → IsPlaced i 1)
+      (λ o at own.
+      let there : slice_get ss j ≡ Some (outline_of_item old was.0) = outline_here in
+      let same : o ≡ outline_of_item old was.0 = cc in
+      let here : has_own_scope (outline_of_item old was.0).role ≡ true = subst (λ (o : Outline). has_own_scope o.role ≡ true) same own in
+      placed_here 1 (replaced.name (second_holds (is_some (state_name (outline_of_item old was.0))) (has_own_scope (outline_of_item old was.0).role) here)))
+      (λ i apart o at own. placed_apart i apart 1)
+
+  -- a state with a name
+  named_row : is_named_state ss j ≡ true → has_own_row (outline_of_item old was.0) ≡ true
+  named_row named =
+      ap (λ b. b || has_own_scope (outline_of_item old was.0).role)
+      (sym (ap (λ (o : Option Outline). option_map_or (λ o. is_some (state_name o)) o false) outline_here) ∙ named)
+
+  -- ---- declarations
+
+  abbrev IsScopeKept : Scope → Type 0
+  IsScopeKept c = IsScopeShifted s xs ys ss c
+
+  abbrev IsFlagKept : ℕ → Declared → Type 0
+  IsFlagKept item d = is_event_flag d.variable.symbol_kind ≡ true → IsPlaced item d.token
+
+  -- the names of its scope are where they were, shifted, and so is its own, if it is an event flag
+  abbrev IsDeclarationKept : Declaration → Type 0
+  IsDeclarationKept d = (is_event_flag d.variable.symbol_kind ≡ true → IsPlaced d.item d.token) × IsScopeKept d.scope
+
+  abbrev IsEntryKept : Entry → Type 0
+  IsEntryKept e = IfSome (entry_declaration e) IsDeclarationKept
+
+  -- the name of the set that an item is in
+  around_kept : (i : ℕ) → option_map (item_name ys) (enclosing_set ss i) ≡ option_map (shifted_span s) (option_map (item_name xs) (enclosing_set ss i))
+  around_kept i = by (enclosing_set ss i) refl
+    where
+      by : (o : Option ℕ) → enclosing_set ss i ≡ o → option_map (item_name ys) o ≡ option_map (shifted_span s) (option_map (item_name xs) o)
+      by None e = refl
+      by (Some k) e = ap Some (set_placed k (place_begins ss i k e))
+
+  scope_kept : (i : ℕ) (o : Outline) → slice_get ss i ≡ Some o → IfSome (scope_in (scope_of ss i o)) IsScopeKept
+  scope_kept i o at = by (has_own_scope o.role) refl
+    where
+      around : (p : Option ℕ) → enclosing_set ss i ≡ p → IfSome (scope_in (scope_at p)) IsScopeKept
+      around None e = refl
+      around (Some k) e = ap scope_names.StateSet (set_placed k (place_begins ss i k e))
+
+      by : (b : Bool) → has_own_scope o.role ≡ b → IfSome (scope_in (if b then namespace.State i else scope_at (enclosing_set ss i))) IsScopeKept
+      by true own = ap₂ scope_names.State (around_kept i) (scope_placed i o at own)
+      by false own = around (enclosing_set ss i) refl
+
+  flags_kept : (n : ℕ) (o : Outline) → slice_get ss n ≡ Some o → AllByRecursion (IsFlagKept n) o.declares
+  flags_kept =
+      everywhere (λ n. (o : Outline) → slice_get ss n ≡ Some o → AllByRecursion (IsFlagKept n) o.declares)
+      (λ o at.
+      let there : slice_get ss j ≡ Some (outline_of_item old was.0) = outline_here in
+      let same : outline_of_item old was.0 ≡ o = cc in
+      each_weaker (IsFlagPlaced s was.0 is.0) (IsFlagKept j) (λ d placed flag. placed_here d.token (placed flag)) o.declares
+      (subst (λ (o : Outline). AllByRecursion (IsFlagPlaced s was.0 is.0) o.declares) same replaced.flags))
+      (λ n apart o at. each_all (IsFlagKept n) o.declares (λ d flag. placed_apart n apart d.token))
+
+  declares_kept : (n : ℕ) (o : Outline) → slice_get ss n ≡ Some o → AllByRecursion IsEntryKept (map (declared_entry (scope_of ss n o) n) o.declares)
+  declares_kept n o at =
+      each_map IsEntryKept (declared_entry (scope_of ss n o) n) o.declares
+      (each_weaker (IsFlagKept n) (λ (d : Declared). IsEntryKept (declared_entry (scope_of ss n o) n d)) (λ d placed. by d placed (scope_in (scope_of ss n o)) (scope_kept n o at)) o.declares (flags_kept n o at))
+    where
+      by : (d : Declared) → IsFlagKept n d → (c : Option Scope) → IfSome c IsScopeKept → IfSome (option_map (λ c. variable_declaration n d.token c d.variable) c) IsDeclarationKept
+      by d placed None scope = tt
+      by d placed (Some c) scope = (placed, scope)
+
+  entries_kept : (n : ℕ) → AllByRecursion IsEntryKept (entries_before ss n)
+  entries_kept zero = tt
+  entries_kept (suc n) = each_append IsEntryKept (entries_before ss n) (option_map_or (entries_of ss n) (slice_get ss n) []) (entries_kept n) (by (slice_get ss n) refl)
+    where
+      named : (namespace : Namespace) (code : Option Code) (words : List (List ℕ)) → AllByRecursion IsEntryKept (map (named_entry namespace n code) words)
+      named namespace code words = each_map IsEntryKept (named_entry namespace n code) words (each_all (λ name. IsEntryKept (named_entry namespace n code name)) words (λ name. tt))
+
+      states : (p : Option ℕ) (o : Outline) → AllByRecursion IsEntryKept (state_entries p n o)
+      states None o = tt
+      states (Some k) o = named (namespace.States k) (Some E09) (option_to_list (state_name o))
+
+      by : (o : Option Outline) → slice_get ss n ≡ o → AllByRecursion IsEntryKept (option_map_or (entries_of ss n) o [])
+      by None e = tt
+      by (Some o) e =
+          each_append IsEntryKept (set_entries n o ++ state_entries (enclosing_set ss n) n o) (map (declared_entry (scope_of ss n o) n) o.declares)
+          (each_append IsEntryKept (set_entries n o) (state_entries (enclosing_set ss n) n o) (named namespace.Sets (Some E08) (option_to_list (set_name o))) (states (enclosing_set ss n) o))
+          (declares_kept n o e)
+
+  declaration_kept : (number : ℕ) (d : Declaration) → declaration_at ss number ≡ Some d → IsDeclarationKept d
+  declaration_kept number d h = by (slice_get (entries ss) number) (each_got IsEntryKept (entries ss) number (entries_kept (length ss))) h
+    where
+      by : (o : Option Entry) → IfSome o IsEntryKept → option_and_then entry_declaration o ≡ Some d → IsDeclarationKept d
+      by None q e = absurd cc
+      by (Some entry) q e = subst (λ o. IfSome o IsDeclarationKept) e q
+
+  scopes : (number : ℕ) (d : Declaration) → declaration_at ss number ≡ Some d → IsScopeKept d.scope
+  scopes number d h = (declaration_kept number d h).1
+
+  rest_stays : RestStays old text s xs ys ss
+  rest_stays = record {
+    count = rep.count;
+    headers = headers;
+    scopes = scopes;
+    settings = λ i l. settings i;
+    flags = each_passing (λ number. flag_row_at ys ss number ≡ option_map (shifted_flag s) (flag_row_at xs ss number)) (is_flag (entries ss)) (length (entries ss))
+        (λ number is. flag_shifts s xs ys ss scopes number (λ d at. (declaration_kept number d at).0 (flag_declared ss number d is at)));
+    clauses = same_clauses;
+    bytes = each_weaker (λ (p : ItemClause × ClauseLink). p.0.item ≢ j) (HasBytes old text xs ys) (λ p apart. (kept p.0.item apart).bytes) (resolved_clauses xs ss) resolved_apart;
+    channels = each_flat (λ (p : ItemClause × ClauseLink). p.0.item ≢ j) IsOfKept (channels_of_clause old xs) (resolved_clauses xs ss) channels_kept resolved_apart;
+  }
+
+  -- ---- rows
+
+  pub same : assigned_channels text ys ss ≡ assigned_channels old xs ss
+  same = same_channels old text s xs ys ss before rest_stays
+
+  row_kept : (i : ℕ) → i ≢ j → is_named_state ss i ≡ true → IsRowKept old text s line xs ys i
+  row_kept i apart is = record { item = kept i apart; lined = state_line old text s line xs ys i (rep.others i apart) (λ x at. rep.kept i x apart at) is }
 
   line_of_set : (k : ℕ) → is_set_begin ss k ≡ true → IsLineKept old text line xs ys k
   line_of_set k is =
@@ -346,12 +396,12 @@ module _ (laws : SpellingLaws) (old text : List ℕ) (s : Shift) (line : ℕ →
 
   set_shift : (k : ℕ) → is_set_begin ss k ≡ true → (stands_in ss k j ≡ true → ⊥) → set_row text ys ss k ≡ moved_set s line (set_row old xs ss k)
   set_shift k is out =
-      set_shifts old text s xs ys ss before same k (marks_outside k out) line (names k) (line_of_set k is)
+      set_shifts old text s xs ys ss before same k (marks_outside k out) line (set_placed k is) (line_of_set k is)
       (each_passing (IsRowKept old text s line xs ys) (is_state_in k) (length ss)
       (λ i in_set. row_kept i (λ here. out (subst (λ m. stands_in ss k m ≡ true) here (and_second (is_named_state ss i) (stands_in ss k i) in_set))) (and_first (is_named_state ss i) (stands_in ss k i) in_set)))
 
   tables_if : (sets : List SetRow) → set_rows text ys ss ≡ sets → tables_of text ys ≡ record (moved_tables s line (tables_of old xs)) { sets = sets }
-  tables_if sets is = ap (tables_by text ys) outlines_stay ∙ tables_but_sets old text s xs ys ss before rest_stays line sets is
+  tables_if sets is = rep.tables ∙ tables_but_sets old text s xs ys ss before rest_stays line sets is
 
   tables_of_sets : ((k : ℕ) → is_set_begin ss k ≡ true → set_row text ys ss k ≡ moved_set s line (set_row old xs ss k)) → tables_of text ys ≡ moved_tables s line (tables_of old xs)
   tables_of_sets each =
@@ -379,7 +429,7 @@ module _ (laws : SpellingLaws) (old text : List ℕ) (s : Shift) (line : ℕ →
     set_around : (states : List StateRow) → state_rows text ys ss set ≡ states → set_row text ys ss set ≡ record (moved_set s line (set_row old xs ss set)) { states = states }
     unfolding IsLineKept
     set_around states is =
-        let name = names set in
+        let name = set_placed set set_begins in
         let lined = line_of_set set set_begins in
         cc
 
@@ -458,7 +508,7 @@ module _ (laws : SpellingLaws) (old text : List ℕ) (s : Shift) (line : ℕ →
 
       line_here : line_of_item text ys j ≡ line (item_name xs j).start (line_of_item old xs j)
       line_here =
-          ap (λ (ts : List Piece). line_at text (start_at ts 0)) (tokens_are ys j is.0 is.1) ∙ replaced.lined
+          ap (λ (ts : List Piece). line_at text (start_at ts 0)) (tokens_are ys j is.0 is.1) ∙ replaced.lined (named_row named_here)
           ∙ sym (ap (λ (ts : List Piece). line (start_at ts 1) (line_at old (start_at ts 0))) (tokens_are xs j was.0 was.1))
 
       item_here : item_at ys j ≡ y
@@ -468,7 +518,7 @@ module _ (laws : SpellingLaws) (old text : List ℕ) (s : Shift) (line : ℕ →
 
       row_here : (m : StateMark) → state_row text ys ss m j ≡ with_own_wake (wake_of text ys ss j) (with_own_body body (moved_state s line (state_row old xs ss m j)))
       row_here m =
-          let name = names j in
+          let name = placed_here 1 (replaced.name (named_row named_here)) in
           let lined = line_here in
           let options = ap (λ (x : ProgramItem). (state_body text ss j x).options) item_here in
           let transitions = ap (λ (x : ProgramItem). (state_body text ss j x).transitions) item_here in
@@ -585,46 +635,9 @@ module _ (laws : SpellingLaws) (old text : List ℕ) (s : Shift) (line : ℕ →
 
     set_stays : (k : ℕ) → is_set_begin ss k ≡ true → set_row text ys ss k ≡ moved_set s line (set_row old xs ss k)
     set_stays k begins =
-        set_shifts old text s xs ys ss before same k (marks_all k) line (names k) (line_of_set k begins)
+        set_shifts old text s xs ys ss before same k (marks_all k) line (set_placed k begins) (line_of_set k begins)
         (each_passing (IsRowKept old text s line xs ys) (is_state_in k) (length ss)
         (λ i in_set. let named : is_named_state ss i ≡ true = and_first (is_named_state ss i) (stands_in ss k i) in_set in row_kept i (elsewhere unnamed i named) named))
 
     pub tables_around : tables_of text ys ≡ moved_tables s line (tables_of old xs)
     tables_around = tables_of_sets set_stays
-
--- ---- one item between others
-
-module _ (old text : List ℕ) (s : Shift) (line : ℕ → Line → Line) (x y : ProgramItem) where
-  at_seam : (z : ProgramItem) (front back : List ProgramItem) → slice_get (front ++ (z ∷ back)) (length front) ≡ Some z
-  at_seam z [] back = refl
-  at_seam z (a ∷ front) back = at_seam z front back
-
-  others : (front back : List ProgramItem) (i : ℕ) → i ≢ length front →
-      slice_get (map (shifted_item s) front ++ (y ∷ map (shifted_item s) back)) i ≡ option_map (shifted_item s) (slice_get (front ++ (x ∷ back)) i)
-  others [] back zero apart = absurd (apart refl)
-  others [] back (suc i) apart = slice_get-map (shifted_item s) back i
-  others (a ∷ front) back zero apart = refl
-  others (a ∷ front) back (suc i) apart = others front back i (λ e. apart (ap suc e))
-
-  keeps_others : (front back : List ProgramItem) → KeepsItems old text s line front → KeepsItems old text s line back → (i : ℕ) (z : ProgramItem) → i ≢ length front →
-      slice_get (front ++ (x ∷ back)) i ≡ Some z → KeepsItem old text s line z
-  keeps_others [] back f b zero z apart at = absurd (apart refl)
-  keeps_others [] back f b (suc i) z apart at = b i z at
-  keeps_others (a ∷ front) back f b zero z apart at = f 0 z at
-  keeps_others (a ∷ front) back f b (suc i) z apart at = keeps_others front back (λ n. f (suc n)) b i z (λ e. apart (ap suc e)) at
-
-  pub one_between : (front back : List ProgramItem) → KeepsItems old text s line front → KeepsItems old text s line back → ReplacesItem old text s line x y →
-      ReplacesOne old text s line (front ++ (x ∷ back)) (map (shifted_item s) front ++ (y ∷ map (shifted_item s) back)) (length front)
-  one_between front back f b replaces = record {
-    count = simp (length-append, length-map);
-    there = omega (arith, length-append front (x ∷ back));
-    others = others front back;
-    kept = λ i z apart at. keeps_others front back f b i z apart at;
-    replaced = λ a c at_a at_c.
-        let was : Some x ≡ Some a = sym (at_seam x front back) ∙ at_a in
-        let place : length (map (shifted_item s) front) ≡ length front = length-map front (shifted_item s) in
-        let is : Some y ≡ Some c = sym (at_seam y (map (shifted_item s) front) (map (shifted_item s) back)) ∙ ap (slice_get (map (shifted_item s) front ++ (y ∷ map (shifted_item s) back))) place ∙ at_c in
-        let old_item : x ≡ a = cc in
-        let new_item : y ≡ c = cc in
-        subst (λ z. ReplacesItem old text s line z c) old_item (subst (λ z. ReplacesItem old text s line x z) new_item replaces);
-  }

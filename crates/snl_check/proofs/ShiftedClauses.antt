@@ -61,22 +61,27 @@ module _ (old text : List ℕ) (s : Shift) (xs ys : List ProgramItem) (ss : List
 
 -- ---- scopes and event flags
 
-module _ (s : Shift) (xs ys : List ProgramItem) (ss : List Outline) (names : (i : ℕ) → item_name ys i ≡ shifted_span s (item_name xs i)) where
-  pub scope_shifts : (c : Scope) → scope_name ys ss c ≡ shifted_scope s (scope_name xs ss c)
-  scope_shifts scope.Program = refl
-  scope_shifts (scope.StateSet set) = ap named.StateSet (names set)
-  scope_shifts (scope.State state) = ap₂ named.State (by (enclosing_set ss state)) (names state)
-    where
-      by : (o : Option ℕ) → option_map (item_name ys) o ≡ option_map (shifted_span s) (option_map (item_name xs) o)
-      by None = refl
-      by (Some k) = ap Some (names k)
+-- The names of a scope are where they were, shifted.
+abbrev pub IsScopeShifted : Shift → (xs ys : List ProgramItem) → List Outline → Scope → Type 0
+IsScopeShifted s xs ys ss c = scope_name ys ss c ≡ shifted_scope s (scope_name xs ss c)
 
+pub scope_shifts : (s : Shift) (xs ys : List ProgramItem) (ss : List Outline) → ((i : ℕ) → item_name ys i ≡ shifted_span s (item_name xs i)) → (c : Scope) → IsScopeShifted s xs ys ss c
+scope_shifts s xs ys ss names scope.Program = refl
+scope_shifts s xs ys ss names (scope.StateSet set) = ap named.StateSet (names set)
+scope_shifts s xs ys ss names (scope.State state) = ap₂ named.State (by (enclosing_set ss state)) (names state)
+  where
+    by : (o : Option ℕ) → option_map (item_name ys) o ≡ option_map (shifted_span s) (option_map (item_name xs) o)
+    by None = refl
+    by (Some k) = ap Some (names k)
+
+module _ (s : Shift) (xs ys : List ProgramItem) (ss : List Outline) (scopes : (number : ℕ) (d : Declaration) → declaration_at ss number ≡ Some d → IsScopeShifted s xs ys ss d.scope) where
   pub variable_scope_shifts : (number : ℕ) → scope_of_variable ys ss number ≡ shifted_scope s (scope_of_variable xs ss number)
-  variable_scope_shifts number = by (declaration_at ss number)
+  variable_scope_shifts number = by (declaration_at ss number) (scopes number)
     where
-      by : (o : Option Declaration) → option_map_or (λ d. scope_name ys ss d.scope) o named.Program ≡ shifted_scope s (option_map_or (λ d. scope_name xs ss d.scope) o named.Program)
-      by None = refl
-      by (Some d) = scope_shifts d.scope
+      by : (o : Option Declaration) → ((d : Declaration) → o ≡ Some d → IsScopeShifted s xs ys ss d.scope) →
+          option_map_or (λ d. scope_name ys ss d.scope) o named.Program ≡ shifted_scope s (option_map_or (λ d. scope_name xs ss d.scope) o named.Program)
+      by None shifted = refl
+      by (Some d) shifted = shifted d refl
 
   flag : Span → ScopeName → Option FlagRow
   flag name scope = Some (record { name = name; scope = scope })
@@ -84,12 +89,13 @@ module _ (s : Shift) (xs ys : List ProgramItem) (ss : List Outline) (names : (i 
   pub flag_shifts : (number : ℕ) → ((d : Declaration) → declaration_at ss number ≡ Some d → span_at ys d.item d.token ≡ shifted_span s (span_at xs d.item d.token)) →
       flag_row_at ys ss number ≡ option_map (shifted_flag s) (flag_row_at xs ss number)
   unfolding flag
-  flag_shifts number h = by (declaration_at ss number) h
+  flag_shifts number h = by (declaration_at ss number) h (scopes number)
     where
       by : (o : Option Declaration) → ((d : Declaration) → o ≡ Some d → span_at ys d.item d.token ≡ shifted_span s (span_at xs d.item d.token)) →
+          ((d : Declaration) → o ≡ Some d → IsScopeShifted s xs ys ss d.scope) →
           option_map (flag_row ys ss) o ≡ option_map (shifted_flag s) (option_map (flag_row xs ss) o)
-      by None spans = refl
-      by (Some d) spans = ap₂ flag (spans d refl) (scope_shifts d.scope)
+      by None spans shifted = refl
+      by (Some d) spans shifted = ap₂ flag (spans d refl) (shifted d refl)
 
   pub flags_shift : AllByRecursion (λ number. flag_row_at ys ss number ≡ option_map (shifted_flag s) (flag_row_at xs ss number)) (flags_of ss) →
       flag_rows ys ss ≡ map (shifted_flag s) (flag_rows xs ss)

@@ -1,5 +1,5 @@
 -- Lists of rows of which one is changed, and the numbers before and after one.
-use Rattle.std.proofs.Common.{◌≡◌, ℕ, zero, suc, ◌+◌, ◌<◌, ◌&&◌, Bool, true, false, List, [], ◌∷◌, ◌++◌, length, map, slice_get, Option, inl, inr, if◌then◌else◌, refl, sym, subst, ap, ap₂, ◌∙◌, arith, append_assoc}
+use Rattle.std.proofs.Common.{◌≡◌, ℕ, zero, suc, ◌+◌, ◌<◌, ◌&&◌, Bool, true, false, List, [], ◌∷◌, ◌++◌, length, map, Option, inl, inr, if◌then◌else◌, refl, sym, subst, ap, ap₂, ◌∙◌, arith, append_assoc}
 use Rattle.std.specs.List.{AllByRecursion, cons_option, enumerate_from, filter_map}
 use Rattle.std.proofs.lemmas.Bool.{cases_eq, false≢true}
 use Rattle.snl_facts.specs.Each.{each_append}
@@ -69,15 +69,6 @@ marked_rows mark f g each n (j ∷ js) = ap₂ (λ (row : StateRow) (rows : List
 pub map_twice : {X Y Z : Type 0} (g : Y → Z) (f : X → Y) (xs : List X) → map (λ x. g (f x)) xs ≡ map g (map f xs)
 map_twice g f [] = refl
 map_twice {Z = Z} g f (x ∷ xs) = ap (λ (zs : List Z). g (f x) ∷ zs) (map_twice g f xs)
-
-pub same_by_gets : {X : Type 0} (xs ys : List X) → ((i : ℕ) → slice_get xs i ≡ slice_get ys i) → xs ≡ ys
-same_by_gets [] [] h = refl
-same_by_gets [] (y ∷ ys) h = let none = h 0 in absurd cc
-same_by_gets (x ∷ xs) [] h = let none = h 0 in absurd cc
-same_by_gets {X = X} (x ∷ xs) (y ∷ ys) h =
-    let some = h 0 in
-    let first : x ≡ y = cc in
-    ap₂ (λ (z : X) (zs : List X). z ∷ zs) first (same_by_gets xs ys (λ i. h (suc i)))
 
 pub kept_map : {X Y Z : Type 0} (f : X → Y) (h : Y → Option Z) (xs : List X) → filter_map (λ x. h (f x)) xs ≡ filter_map h (map f xs)
 kept_map f h [] = refl

@@ -1,6 +1,6 @@
 -- The tables of a text after an edit that keeps all tokens. `line` says what becomes of the line of
 -- an offset.
-use Rattle.std.proofs.Common.{◌≡◌, ℕ, suc, ◌<◌, ◌&&◌, true, List, [], ◌∷◌, length, map, slice_get, ap, ap₂, ◌∙◌, refl}
+use Rattle.std.proofs.Common.{◌≡◌, ℕ, suc, ◌<◌, ◌&&◌, true, List, [], ◌∷◌, length, map, slice_get, Some, ap, ap₂, ◌∙◌, refl}
 use Rattle.std.proofs.lemmas.List.{length-map}
 use Rattle.std.proofs.lemmas.Option.{slice_get-map}
 use Rattle.std.specs.Option.{option_map}
@@ -8,17 +8,18 @@ use Rattle.snl_scope.specs.BelowLaws.{each_passing}
 use Rattle.snl_facts.specs.Booleans.{and_first}
 use Rattle.snl_lex.specs.declared.lines.Line.{Line}
 use Rattle.snl_lex.specs.declared.shift.Shift.{Shift}
+use Rattle.snl_scope.specs.declared.facts.Declaration.{Declaration}
 use Rattle.snl_scope.specs.declared.summaries.summary.Outline.{Outline}
 use Rattle.snl_scope.specs.Below.{all_below}
 use Rattle.snl_scope.specs.Flags.{flags_of}
+use Rattle.snl_scope.specs.Linked.{declaration_at}
 use Rattle.snl_scope.specs.Order.{is_named_state}
 use Rattle.snl_scope.specs.Places.{is_set_begin, stands_in}
 use Rattle.snl_tables.specs.Moved.{moved_set, moved_tables}
-use Rattle.snl_tables.specs.Shifted.{shifted_flag, shifted_span}
+use Rattle.snl_tables.specs.Shifted.{shifted_flag}
 use Rattle.snl_check.specs.Channels.{assigned_channels}
 use Rattle.snl_check.specs.Clauses.{item_clauses_if, resolved_clauses}
 use Rattle.snl_item_check.specs.Items.{ProgramItem, outlines_of}
-use Rattle.snl_check.specs.ItemSpans.{item_name}
 use Rattle.snl_check.specs.Members.{states_in, target_numbers}
 use Rattle.snl_check.specs.Moved.{KeepsItems}
 use Rattle.snl_check.specs.Shifted.{shifted_item}
@@ -27,7 +28,7 @@ use Rattle.snl_check.specs.States.{set_row, set_rows}
 use Rattle.snl_check.specs.Tables.{flag_row_at, tables_by, tables_of}
 use Rattle.snl_check.proofs.ShiftLists.{map_shift}
 use Rattle.snl_check.proofs.ShiftedItems.{IsKept, faulty_stays, header_at_shifts, span_at_shifts, tree_stays}
-use Rattle.snl_check.proofs.ShiftedClauses.{HasBytes, flag_shifts, setting_stays}
+use Rattle.snl_check.proofs.ShiftedClauses.{HasBytes, IsScopeShifted, flag_shifts, scope_shifts, setting_stays}
 use Rattle.snl_check.proofs.ShiftedStates.{has_faulty_stays, targets_stay}
 use Rattle.snl_check.proofs.ShiftedTables.{IsRowKept, MarksStay, RestStays, SpellingLaws, item_kept, outline_stays, same_channels, set_line, set_named, set_shifts, state_line, tables_but_sets}
 use Rattle.snl_check.proofs.SpanLaws.{each_all}
@@ -47,17 +48,17 @@ module _ (old text : List ℕ) (s : Shift) (line : ℕ → Line → Line) (xs : 
     rest_stays = record {
       count = length-map xs (shifted_item s);
       headers = λ i. header_at_shifts old text s xs ys i before (kept i);
-      names = names;
+      scopes = scopes;
       settings = λ i l. setting_stays old text s xs ys ss i (kept i);
       flags = each_all (λ number. flag_row_at ys ss number ≡ option_map (shifted_flag s) (flag_row_at xs ss number)) (flags_of ss)
-          (λ number. flag_shifts s xs ys ss names number (λ d e. span_at_shifts old text s xs ys d.item (kept d.item) before d.token));
+          (λ number. flag_shifts s xs ys ss scopes number (λ d e. span_at_shifts old text s xs ys d.item (kept d.item) before d.token));
       clauses = λ i. ap (item_clauses_if i) (tree_stays old text s xs ys i (kept i));
       bytes = each_all (HasBytes old text xs ys) (resolved_clauses xs ss) (λ p. (kept p.0.item).bytes);
       channels = each_all (λ c. IsKept old text s xs ys c.item) (assigned_channels old xs ss) (λ c. kept c.item);
     }
       where
-        names : (i : ℕ) → item_name ys i ≡ shifted_span s (item_name xs i)
-        names i = span_at_shifts old text s xs ys i (kept i) before 1
+        scopes : (number : ℕ) (d : Declaration) → declaration_at ss number ≡ Some d → IsScopeShifted s xs ys ss d.scope
+        scopes number d e = scope_shifts s xs ys ss (λ i. span_at_shifts old text s xs ys i (kept i) before 1) d.scope
 
     marks_stay : (k : ℕ) → MarksStay old text xs ys ss k
     marks_stay k = record {

@@ -1,11 +1,13 @@
--- The items of a text after an edit inside one of them, which says what it said; and where the row
--- of a state is in the tables.
+-- The items of a text after an edit inside one of them; and where the row of a state is in the
+-- tables.
 use Rattle.std.specs.Prelude.{◌≡◌, ℕ, ◌&&◌, Bool, true, false, is_none, List, map, length, slice_get, Some}
 use Rattle.snl_lex.specs.declared.shift.Shift.{Shift}
+use Rattle.snl_scope.specs.declared.summaries.summary.Declared.{Declared}
 use Rattle.snl_scope.specs.declared.summaries.summary.ItemKind.{ItemKind}
 use Rattle.snl_scope.specs.declared.summaries.summary.ItemKind.TheVariants as kinds
 use Rattle.snl_scope.specs.declared.summaries.summary.Outline.{Outline}
 use Rattle.snl_scope.specs.Below.{all_below}
+use Rattle.snl_scope.specs.Clauses.{is_event_flag}
 use Rattle.snl_scope.specs.Order.{is_named_state}
 use Rattle.snl_scope.specs.Places.{is_set_begin, stands_in}
 use Rattle.snl_tables.specs.Shifted.{shifted_span}
@@ -32,6 +34,10 @@ is_plain _ = true
 -- A token of an item is where it was, shifted.
 abbrev pub IsPlacedAt : Shift → (x y : ProgramItem) → ℕ → Type 0
 IsPlacedAt s x y n = span_of (slice_get y.tokens n) ≡ shifted_span s (span_of (slice_get x.tokens n))
+
+-- The name of what an item declares is where it was, shifted, if that is an event flag.
+abbrev pub IsFlagPlaced : Shift → (x y : ProgramItem) → Declared → Type 0
+IsFlagPlaced s x y d = is_event_flag d.variable.symbol_kind ≡ true → IsPlacedAt s x y d.token
 
 -- Item j is sound where it was.
 abbrev pub IsSoundAsItWas : (xs ys : List ProgramItem) → ℕ → Type 0

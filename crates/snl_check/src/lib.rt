@@ -3,17 +3,19 @@
 //! are found.
 #![tactic(auto)]
 
+mod alike_laws;
 mod laws;
 mod moved_laws;
 mod reachability;
 mod rows;
 
+pub use alike_laws::tables_told_alike;
 pub use laws::{
     same_clauses, spans_lie_in_text, unreached_without_a_walk, wake_up_sets, walks_of_few_steps,
 };
 pub use moved_laws::{
-    one_item_between, tables_move, tables_move_around_a_state, tables_move_around_an_item,
-    tables_move_in_a_set, tables_move_inside_a_state, tables_move_outside_the_sets,
+    tables_move, tables_move_around_a_state, tables_move_around_an_item, tables_move_in_a_set,
+    tables_move_inside_a_state, tables_move_outside_the_sets,
 };
 pub use reachability::marks::{SetMember, state_marks};
 pub use reachability::reaching::reach;

@@ -1,7 +1,11 @@
 //! Laws of tables whose rows an edit moves, whatever becomes of lines: `line` says it of the line
 //! of an offset. A function here does nothing: its contract is the law.
+//!
+//! Where an edit is inside one item, a state keeps its name there, and the item the event flags
+//! that it declares. What else it declares it may declare by other names, where the rows are told
+//! by what the items said to each other as by what they say.
 
-ghost use Rattle.std.specs.Prelude.{◌≡◌, ◌<◌, ◌∷◌, ◌++◌, ℕ, false, true, List, None, Some, length, map, slice_get};
+ghost use Rattle.std.specs.Prelude.{◌≡◌, ◌<◌, ℕ, false, true, List, None, Some, map, slice_get};
 ghost use Rattle.snl_lex.specs.declared.lines.Line.{Line};
 ghost use Rattle.snl_lex.specs.declared.shift.Shift.{Shift};
 ghost use Rattle.snl_scope.specs.Order.{is_named_state};
@@ -9,7 +13,7 @@ ghost use Rattle.snl_scope.specs.Places.{enclosing_set};
 ghost use Rattle.snl_check.specs.States.{marks_of, state_body, wake_of};
 ghost use Rattle.snl_tables.specs.Moved.{moved_tables};
 ghost use Rattle.snl_tables.specs.Shifted.{with_body, with_marks, with_wake};
-ghost use Rattle.snl_check.specs.Moved.{KeepsItems, ReplacesItem, ReplacesOne};
+ghost use Rattle.snl_check.specs.Moved.{KeepsItems, ReplacesOne};
 ghost use Rattle.snl_check.specs.Shifted.{shifted_item};
 ghost use Rattle.snl_check.specs.ShiftedAround.{IsSoundAsItWas, SaysAlikeAt, set_number, state_number};
 ghost use Rattle.snl_check.specs.Spans.{AreRead};
@@ -29,9 +33,8 @@ pub fn tables_move()
     same_spelling_same_summary();
 }
 
-/// Where an edit changes no more than the inside of a state after the names that it declares, it
-/// has no clauses, and it says to the others and in its conditions what it said, the rows are
-/// moved, but for the body of its own.
+/// Where an edit changes no more than the inside of a state, and it has no clauses, leads where it
+/// led and says in its conditions what it said, the rows are moved, but for the body of its own.
 pub fn tables_move_inside_a_state()
     ensures { (old text : List ℕ) (s : Shift) (line : ℕ → Line → Line) (xs ys : List ProgramItem)
         (j set : ℕ) (y : ProgramItem) → 0 < s.start → AreRead old xs
@@ -47,9 +50,8 @@ pub fn tables_move_inside_a_state()
     same_spelling_same_summary();
 }
 
-/// Where an edit changes no more than the inside of a state in a set, after the names that it
-/// declares, and it has no clauses, the rows are moved, but for its body, what wakes it, and the
-/// marks of the states of its set.
+/// Where an edit changes no more than the inside of a state in a set, and it has no clauses, the
+/// rows are moved, but for its body, what wakes it, and the marks of the states of its set.
 pub fn tables_move_around_a_state()
     ensures { (old text : List ℕ) (s : Shift) (line : ℕ → Line → Line) (xs ys : List ProgramItem)
         (j set : ℕ) (y : ProgramItem) → 0 < s.start → AreRead old xs
@@ -69,8 +71,8 @@ pub fn tables_move_around_a_state()
 }
 
 /// Where an edit changes no more than the inside of an item in a set that is no state with a name,
-/// after the names that it declares, and it is plain and has no clauses, the rows are moved, but
-/// for the marks of the states of its set.
+/// and it is plain and has no clauses, the rows are moved, but for the marks of the states of its
+/// set.
 pub fn tables_move_in_a_set()
     ensures { (old text : List ℕ) (s : Shift) (line : ℕ → Line → Line) (xs ys : List ProgramItem)
         (j set : ℕ) → 0 < s.start → AreRead old xs → ReplacesOne old text s line xs ys j
@@ -83,8 +85,8 @@ pub fn tables_move_in_a_set()
     same_spelling_same_summary();
 }
 
-/// Where an edit changes no more than the inside of an item that is in no set, after the names that
-/// it declares, and it is plain and has no clauses, the rows are moved.
+/// Where an edit changes no more than the inside of an item that is in no set, and it is plain and
+/// has no clauses, the rows are moved.
 pub fn tables_move_outside_the_sets()
     ensures { (old text : List ℕ) (s : Shift) (line : ℕ → Line → Line) (xs ys : List ProgramItem)
         (j : ℕ) → 0 < s.start → AreRead old xs → ReplacesOne old text s line xs ys j
@@ -95,9 +97,8 @@ pub fn tables_move_outside_the_sets()
     same_spelling_same_summary();
 }
 
-/// Where an edit changes no more than the inside of an item that is no state with a name, after the
-/// names that it declares, and the item is plain, has no clauses, says to the others what it said
-/// and is sound or faulty as it was, the rows are moved.
+/// Where an edit changes no more than the inside of an item that is no state with a name, and the
+/// item is plain, has no clauses and is sound or faulty as it was, the rows are moved.
 pub fn tables_move_around_an_item()
     ensures { (old text : List ℕ) (s : Shift) (line : ℕ → Line → Line) (xs ys : List ProgramItem)
         (j : ℕ) → 0 < s.start → AreRead old xs → ReplacesOne old text s line xs ys j
@@ -107,12 +108,3 @@ pub fn tables_move_around_an_item()
     names_are_tokens();
     same_spelling_same_summary();
 }
-
-/// One item between others that are kept is the one that is replaced.
-pub fn one_item_between()
-    ensures { (old text : List ℕ) (s : Shift) (line : ℕ → Line → Line) (x y : ProgramItem)
-        (front back : List ProgramItem) → KeepsItems old text s line front
-        → KeepsItems old text s line back → ReplacesItem old text s line x y
-        → ReplacesOne old text s line (front ++ (x ∷ back))
-        (map (shifted_item s) front ++ (y ∷ map (shifted_item s) back)) (length front) }
-{}
