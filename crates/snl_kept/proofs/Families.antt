@@ -1,5 +1,5 @@
 -- The families of findings, by who finds them. Those of two families have different codes.
-use Rattle.std.proofs.Common.{◌≡◌, Bool, true, false, refl, sym, ap, ◌∙◌}
+use Rattle.std.proofs.Common.{◌≡◌, true, refl, sym, ap, ◌∙◌}
 use Rattle.std.proofs.lemmas.Bool.{false≢true}
 use Rattle.snl_codes.specs.Codes.{Finder, finder_of, finds_by_links, finds_in_items, is_item_code, is_link_code, links, links_or_rules, options, parser, reachability, rules, undeclared_names}
 use Rattle.snl_kept.specs.declared.found.findings.Finding.{Finding}

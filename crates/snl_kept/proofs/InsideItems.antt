@@ -1,7 +1,7 @@
--- What a text says after an edit inside one item that says to the others what it said.
-use Rattle.std.proofs.Common.{◌≡◌, ◌↔◌, ℕ, zero, suc, false, ◌+◌, ◌<◌, ◌≤◌, inl, inr, All, true, IsTrue, List, [], ◌∷◌, ◌++◌, length, map, take, drop, get_or, slice_get, Option, None, Some, option_map, refl, sym, ap, ap₂, ◌∙◌, subst, append_assoc, arith, length-append}
+-- What a text says after an edit inside one item, after which the others see what they saw.
+use Rattle.std.proofs.Common.{◌≡◌, ◌≢◌, ◌↔◌, ℕ, zero, suc, false, ◌+◌, ◌<◌, ◌≤◌, inl, inr, All, true, IsTrue, List, [], ◌∷◌, ◌++◌, length, map, take, drop, get_or, slice_get, Option, None, Some, option_map, refl, sym, ap, ap₂, ◌∙◌, subst, append_assoc, arith, length-append}
 use Rattle.std.specs.Prelude.{nat_le}
-use Rattle.std.specs.List.{AllByRecursion}
+use Rattle.std.specs.List.{AllByRecursion, slice_set}
 use Rattle.std.proofs.lemmas.List.{drop_at, length-map, map-append, take_at}
 use Rattle.std.proofs.lemmas.List.Elements.{All-drop, All-filter, All-take, recursion_from_All}
 use Rattle.snl_cut.specs.Cut.{Rises, ends_below, last_end}
@@ -19,7 +19,7 @@ use Rattle.snl_syntax.specs.Outcome.{parsed_by, parsed_in, sound_tree}
 use Rattle.snl_syntax.specs.declared.tree.item.Item.{Item}
 use Rattle.snl_items.specs.Changes.{LeavesAround}
 use Rattle.snl_items.specs.Items.{item_ends, spelled_items}
-use Rattle.snl_scope.specs.SpelledTokens.{summary_by}
+use Rattle.snl_scope.specs.SpelledTokens.{bytes_by, summary_by}
 use Rattle.snl_scope.specs.Summaries.{kind_of, summary_in}
 use Rattle.snl_scope.specs.Summaries.Tokens.{token_bytes}
 use Rattle.snl_scope.specs.View.{same_view, view}
@@ -28,18 +28,18 @@ use Rattle.snl_scope.specs.declared.summaries.summary.Outline.{Outline}
 use Rattle.snl_scope.specs.declared.summaries.summary.Summary.{Summary}
 use Rattle.snl_tables.specs.declared.rows.Span.{Span}
 use Rattle.snl_tables.specs.Shifted.{shifted_span}
-use Rattle.snl_item_check.specs.Items.{outline_of_item}
 use Rattle.snl_check.specs.ItemSpans.{span_of}
 use Rattle.snl_check.specs.Moved.{KeepsItem, ReplacesItem, ReplacesOne}
-use Rattle.snl_check.specs.Shifted.{shifted_item, shifted_tokens, start_at}
-use Rattle.snl_check.specs.ShiftedAround.{IsPlacedAt, is_plain}
+use Rattle.snl_check.specs.Shifted.{has_own_row, shifted_item, shifted_tokens, start_at}
+use Rattle.snl_check.specs.ShiftedAround.{IsFlagPlaced, IsPlacedAt, is_plain}
+use Rattle.snl_check.specs.Tables.{tables_by, tables_of}
 use Rattle.snl_kept.specs.declared.entries.Entry.{Entry}
 use Rattle.snl_kept.specs.declared.plan.Changes.{Changes}
 use Rattle.snl_kept.specs.declared.plan.NewCheck.{NewCheck}
-use Rattle.snl_kept.specs.Checks.{check_by, links_in, outlines_in}
-use Rattle.snl_kept.specs.Entries.{entry_by}
+use Rattle.snl_kept.specs.Checks.{check_by, check_of_item, links_in, outlines_in}
+use Rattle.snl_kept.specs.Entries.{entries_of, entry_by}
 use Rattle.snl_kept.specs.Linked.{outlines_of}
-use Rattle.snl_kept.specs.ReplacedItem.{DeclaresInHead, IsInside, IsLeft, IsOneReplaced, ReplacesInside, StaysItem, own_check, own_head, own_tokens}
+use Rattle.snl_kept.specs.ReplacedItem.{FlagsInHead, IsInside, IsLeft, IsOneReplaced, ReplacesInside, StaysItem, own_check, own_head, own_tokens}
 use Rattle.snl_kept.specs.Program.{ProgramItem, item_tokens, items_of, program_item, tree_in}
 use Rattle.snl_kept.specs.NewChecks.{AreChecksMade, kept_of, made_at, made_checks, nones}
 use Rattle.snl_kept.specs.Shifted.{IsOnOneSide}
@@ -47,12 +47,17 @@ use Rattle.snl_kept.specs.Stirred.{stirred_of}
 use Rattle.snl_kept.proofs.MadeChecks.{checks_made, made_are_stirred, stirred_told}
 use Rattle.snl_kept.proofs.MemberParts.{element_at, got, got_other, others_mapped, taken_to_last}
 use Rattle.snl_kept.proofs.Rechecks.{Spelled}
-use Rattle.snl_kept.proofs.ShiftedItems.{all_items, all_kinds, all_outlines}
+use Rattle.snl_kept.proofs.ShiftedItems.{all_items, all_kinds}
 use Rattle.snl_kept.proofs.ShiftedLines.{IsAfter, IsInFront, KeepsLine, all_after, all_in_front, in_front}
 use Rattle.snl_kept.proofs.ShiftedText.{along}
 use Rattle.snl_kept.proofs.InsideChecks.{one_check}
+use Rattle.snl_kept.proofs.InsideTold.{check_is}
+use Rattle.snl_kept.proofs.Members.{one_entry_made}
+use Rattle.snl_kept.proofs.Replaced.{replaced_other}
+use Rattle.snl_kept.proofs.SpelledItems.{spelled_text}
 use Rattle.snl_kept.proofs.InsideParts.{IsPastHead, are_parts, back_alike, back_each, entry_is, entry_was, front_alike, front_each, front_olds_count, fronts_count, head_before, head_shifts, own_now, spelled_parts, stops_after, were_parts}
 use Rattle.std.proofs.lemmas.Bool.{lt-leb}
+use Rattle.std.proofs.lemmas.Option.{slice_get-map, same_Some}
 use Rattle.snl_lex.specs.ShiftLaws.{early_offset}
 
 -- two facts of each
@@ -87,6 +92,7 @@ module _ (edit : Edit) (c : Changes) (t : LineShift) (x e : Entry) (is : IsInsid
     (views : (ss : List Outline) (i : ℕ) (ts : List Outline) (j : ℕ) (s : Summary) → IsTrue (same_view ss i ts j s) ↔ (view ss i s ≡ view ts j s))
     (lines : (old text : List ℕ) (t : LineShift) (o : ℕ) → IsLineShift old text t → IsOutside old t.by o → line_at text (shifted_offset t.by o) ≡ moved_line t o (line_at old o))
     (checks_stay : (ss ts : List Outline) (j i : ℕ) (x : Spelled) → same_view ss j ts i (entry_by x).summary ≡ true → check_by ss j x ≡ check_by ts i x)
+    (bytes_told : (text : List ℕ) (tokens : List Piece) → token_bytes text tokens ≡ bytes_by (spelled text tokens))
     (rises : (text : List ℕ) → Rises 0 (item_ends text))
     (lasts : (text : List ℕ) → last_end 0 (item_ends text) ≡ length (tokens_of text))
     (around : LeavesAround t.by (tokens_of edit.old) (tokens_of edit.text) c.tokens.made.items c.tokens.edit) where
@@ -179,25 +185,16 @@ module _ (edit : Edit) (c : Changes) (t : LineShift) (x e : Entry) (is : IsInsid
   summary_is : summary_in text is_own (tree_in text is_own) ≡ e.summary
   summary_is = own_summary text is_own ∙ ap (λ (y : Entry). y.summary) (sym spelled_so)
 
-  outline_same : (summary_in text is_own (tree_in text is_own)).outline ≡ (summary_in old was_own (tree_in old was_own)).outline
-  outline_same = ap (λ (y : Summary). y.outline) summary_is ∙ is.outline ∙ ap (λ (y : Summary). y.outline) (sym summary_was)
-
   outline_was : (summary_in old was_own (tree_in old was_own)).outline ≡ x.summary.outline
   outline_was = ap (λ (y : Summary). y.outline) summary_was
+
+  outline_is : (summary_in text is_own (tree_in text is_own)).outline ≡ e.summary.outline
+  outline_is = ap (λ (y : Summary). y.outline) summary_is
 
   kind_is : kind_of (tree_in text is_own) ≡ e.summary.kind
   kind_is = ap (λ (y : Summary). y.kind) summary_is
 
-  -- ---- what they say to each other
-
-  outlines_same : outlines_in text ≡ outlines_in old
-  outlines_same =
-      ap (outlines_of text) items_are
-      ∙ map-append (outline_of_item text) (map (shifted_item s) front) (program_item text is_own ∷ map (shifted_item s) back)
-      ∙ ap₂ (λ (a b : List Outline). a ++ b) (all_outlines old text s tree_told by_spelling summary_told front_tokens alike_in_front)
-      (ap₂ (λ (o : Outline) (l : List Outline). o ∷ l) outline_same (all_outlines old text s tree_told by_spelling summary_told back_tokens alike_at_back))
-      ∙ sym (map-append (outline_of_item old) front (program_item old was_own ∷ back))
-      ∙ ap (outlines_of old) (sym items_were)
+  -- ---- of which kinds they are
 
   abbrev kinds_of : List ProgramItem → List ItemKind
   kinds_of xs = map (λ (y : ProgramItem). kind_of y.tree) xs
@@ -292,9 +289,6 @@ module _ (edit : Edit) (c : Changes) (t : LineShift) (x e : Entry) (is : IsInsid
   abbrev many : ℕ
   many = own_head old c
 
-  two : (n : ℕ) → n < 2 → n < many
-  two n lt = omega (arith, is.head)
-
   head : (n : ℕ) → n < many → slice_get is_own n ≡ option_map (shifted_piece s) (slice_get was_own n)
   head = head_shifts edit c s past
 
@@ -306,43 +300,81 @@ module _ (edit : Edit) (c : Changes) (t : LineShift) (x e : Entry) (is : IsInsid
   name_at None = let at : ℕ → Span = λ n. record { start = n; len = 0 } in ap at (sym (early_offset s 0 is.lines.lines.some_before))
   name_at (Some p) = refl
 
-  head_begins : (n : ℕ) → n < 2 → start_at was_own n < s.start
-  head_begins n lt = by (slice_get was_own n) refl
-    where
-      by : (o : Option Piece) → slice_get was_own n ≡ o → (span_of o).start < s.start
-      by None there = is.lines.lines.some_before
-      by (Some p) there = of_head (IsInFront old text t order line_of) starts_before n p (two n lt) there
+  -- a state begins where it did, shifted
+  module _ (two : 2 ≤ many) where
+    head_begins : (n : ℕ) → n < 2 → start_at was_own n < s.start
+    head_begins n lt = by (slice_get was_own n) refl
+      where
+        by : (o : Option Piece) → slice_get was_own n ≡ o → (span_of o).start < s.start
+        by None there = is.lines.lines.some_before
+        by (Some p) there = of_head (IsInFront old text t order line_of) starts_before n p (omega (arith, two, lt)) there
 
-  -- the line that the next marker numbers is after the edit
-  early : (n : ℕ) → n < 2 → nat_le t.until (start_at was_own n) ≡ false
-  early n lt = lt-leb t.until (start_at was_own n) (omega (arith, head_begins n lt, is.lines.lines.until_after, order))
+    -- the line that the next marker numbers is after the edit
+    early : (n : ℕ) → n < 2 → nat_le t.until (start_at was_own n) ≡ false
+    early n lt = lt-leb t.until (start_at was_own n) (omega (arith, head_begins n lt, is.lines.lines.until_after, order))
 
-  line_is : line_at text (start_at is_own 0) ≡ moved_line t (start_at was_own 1) (line_at old (start_at was_own 0))
-  line_is =
-      let line : Line = line_at old (start_at was_own 0) in
-      ap (λ (o : Span). line_at text o.start) (ap span_of (head 0 (two 0 (omega arith))) ∙ name_at (slice_get was_own 0))
-      ∙ line_of (start_at was_own 0) (inl (head_begins 0 (omega arith)))
-      ∙ in_front old text t order line_of line (start_at was_own 0) (start_at was_own 1) (head_begins 0 (omega arith)) (head_begins 1 (omega arith))
-      (early 0 (omega arith) ∙ sym (early 1 (omega arith)))
+    line_is : line_at text (start_at is_own 0) ≡ moved_line t (start_at was_own 1) (line_at old (start_at was_own 0))
+    line_is =
+        let line : Line = line_at old (start_at was_own 0) in
+        ap (λ (o : Span). line_at text o.start) (ap span_of (head 0 (omega (arith, two))) ∙ name_at (slice_get was_own 0))
+        ∙ line_of (start_at was_own 0) (inl (head_begins 0 (omega arith)))
+        ∙ in_front old text t order line_of line (start_at was_own 0) (start_at was_own 1) (head_begins 0 (omega arith)) (head_begins 1 (omega arith))
+        (early 0 (omega arith) ∙ sym (early 1 (omega arith)))
 
   placed : (n : ℕ) → n < many → IsPlacedAt s (program_item old was_own) (program_item text is_own) n
   placed n lt = ap span_of (head n lt) ∙ name_at (slice_get was_own n)
 
-  declared_placed : AllByRecursion (λ d. IsPlacedAt s (program_item old was_own) (program_item text is_own) d.token) (summary_in old was_own (tree_in old was_own)).outline.declares
-  declared_placed =
-      recursion_from_All (λ d. IsPlacedAt s (program_item old was_own) (program_item text is_own) d.token) (summary_in old was_own (tree_in old was_own)).outline.declares
-      (λ n d lt. placed (get_or (summary_in old was_own (tree_in old was_own)).outline.declares n d).token (subst (DeclaresInHead many) (sym outline_was) is.declared n d lt))
+  flags_placed : AllByRecursion (IsFlagPlaced s (program_item old was_own) (program_item text is_own)) (summary_in old was_own (tree_in old was_own)).outline.declares
+  flags_placed =
+      recursion_from_All (IsFlagPlaced s (program_item old was_own) (program_item text is_own)) (summary_in old was_own (tree_in old was_own)).outline.declares
+      (λ n d lt flag. placed (get_or (summary_in old was_own (tree_in old was_own)).outline.declares n d).token (subst (FlagsInHead many) (sym outline_was) is.place.flags n d lt flag))
+
+  two : has_own_row (summary_in old was_own (tree_in old was_own)).outline ≡ true → 2 ≤ many
+  two h = is.place.named (sym (ap has_own_row outline_was) ∙ h)
 
   replaces : ReplacesItem old text s (moved_line t) (program_item old was_own) (program_item text is_own)
   replaces = record {
-    was_plain = ap is_plain (ap (λ (y : Summary). y.kind) summary_was) ∙ is.plain;
-    is_plain_now = ap is_plain kind_is ∙ is.plain_now;
-    outline = outline_same;
-    declared = declared_placed;
-    no_clause = ap (λ (o : Outline). o.clauses) outline_was ∙ is.no_clause;
-    name = placed 1 (two 1 (omega arith));
-    lined = line_is;
+    was_plain = ap is_plain (ap (λ (y : Summary). y.kind) summary_was) ∙ is.place.plain;
+    is_plain_now = ap is_plain kind_is ∙ is.place.plain_now;
+    flags = flags_placed;
+    no_clause = ap (λ (o : Outline). o.clauses) outline_was ∙ is.place.no_clause;
+    no_clause_now = ap (λ (o : Outline). o.clauses) outline_is ∙ is.place.no_clause_now;
+    name = λ h. let many_tokens : 2 ≤ many = two h in placed 1 (omega (arith, many_tokens));
+    lined = λ h. line_is (two h);
   }
+
+  -- ---- what the others see
+
+  entries_are : entries_of text ≡ slice_set (entries_of old) k e
+  entries_are = one_entry_made old text k c.items.kept_back e is.one_gone is.made
+
+  -- another item is spelled as it was, and sees what it saw
+  view_stays : (i : ℕ) (y : Spelled) → i ≢ k → slice_get (spelled_items text) i ≡ Some y → view (outlines_in old) i (entry_by y).summary ≡ view (outlines_in text) i (entry_by y).summary
+  view_stays i y apart got =
+      is.seen.views i (entry_by y) apart
+      (sym (replaced_other (entries_of old) k e i apart)
+      ∙ ap (λ (l : List Entry). slice_get l i) (sym entries_are)
+      ∙ slice_get-map entry_by (spelled_items text) i
+      ∙ ap (option_map entry_by) got)
+
+  check_stays : (i : ℕ) (y : Spelled) → i ≢ k → slice_get (spelled_items text) i ≡ Some y → check_by (outlines_in old) i y ≡ check_by (outlines_in text) i y
+  check_stays i y apart got =
+      checks_stay (outlines_in old) (outlines_in text) i i y ((views (outlines_in old) i (outlines_in text) i (entry_by y).summary).1 (view_stays i y apart got))
+
+  checked : (i : ℕ) (z : ProgramItem) → i ≢ length front → slice_get (items_of text) i ≡ Some z → check_of_item text (outlines_in text) (i, z) ≡ check_of_item text (outlines_in old) (i, z)
+  checked i z apart got = by (slice_get (item_tokens text) i) refl (sym (slice_get-map (program_item text) (item_tokens text) i) ∙ got)
+    where
+      as_spelled : (ss : List Outline) (m : List Piece) → check_by ss i (spelled text m) ≡ check_of_item text ss (i, program_item text m)
+      as_spelled ss m = check_is tree_told by_spelling summary_told bytes_told ss i text m
+
+      by : (o : Option (List Piece)) → slice_get (item_tokens text) i ≡ o → option_map (program_item text) o ≡ Some z → check_of_item text (outlines_in text) (i, z) ≡ check_of_item text (outlines_in old) (i, z)
+      by None there is_z = absurd cc
+      by (Some m) there is_z =
+          let spelled_so : slice_get (spelled_items text) i ≡ Some (spelled text m) =
+          ap (λ (l : List Spelled). slice_get l i) (sym (spelled_text text)) ∙ slice_get-map (spelled text) (item_tokens text) i ∙ ap (option_map (spelled text)) there in
+          let same : check_by (outlines_in old) i (spelled text m) ≡ check_by (outlines_in text) i (spelled text m) = check_stays i (spelled text m) (λ e. apart (e ∙ sym number)) spelled_so in
+          subst (λ (z : ProgramItem). check_of_item text (outlines_in text) (i, z) ≡ check_of_item text (outlines_in old) (i, z)) (same_Some (program_item text m) z is_z)
+          (sym (as_spelled (outlines_in text) m) ∙ sym same ∙ as_spelled (outlines_in old) m)
 
   replaces_inside : ReplacesInside old text s many front (program_item old was_own) (program_item text is_own) back
   replaces_inside = record {
@@ -350,7 +382,8 @@ module _ (edit : Edit) (c : Changes) (t : LineShift) (x e : Entry) (is : IsInsid
     shift = is.lines.lines;
     items_were = items_were;
     items_are = items_are;
-    outlines = outlines_same;
+    checked = checked;
+    places = is.seen.places;
     front_stays = front_stays;
     back_stays = back_stays;
     stays = head;
@@ -367,6 +400,12 @@ module _ (edit : Edit) (c : Changes) (t : LineShift) (x e : Entry) (is : IsInsid
 
   this : {X : Type 0} (P : X → Type 0) (a b : X) (o : Option X) → o ≡ Some a → o ≡ Some b → P a → P b
   this P a b o h g there = let same : a ≡ b = cc in subst P same there
+
+  tables_told : tables_of text (map (shifted_item s) front ++ (py ∷ map (shifted_item s) back)) ≡ tables_by text (map (shifted_item s) front ++ (py ∷ map (shifted_item s) back)) (outlines_of old (front ++ (px ∷ back)))
+  tables_told =
+      let ys : List ProgramItem = map (shifted_item s) front ++ (py ∷ map (shifted_item s) back) in
+      subst (λ (xs : List ProgramItem). tables_of text ys ≡ tables_by text ys (outlines_of old xs)) items_were
+      (subst (λ (zs : List ProgramItem). tables_of text zs ≡ tables_by text zs (outlines_in old)) items_are is.seen.tables)
 
   one_in_parts : ReplacesOne old text s (moved_line t) (front ++ (px ∷ back)) (map (shifted_item s) front ++ (py ∷ map (shifted_item s) back)) k
   one_in_parts =
@@ -386,6 +425,7 @@ module _ (edit : Edit) (c : Changes) (t : LineShift) (x e : Entry) (is : IsInsid
             this (λ (z : ProgramItem). ReplacesItem old text s (moved_line t) z b) px a (slice_get (front ++ (px ∷ back)) k) (element_at front px back k number) was_a
             (this (λ (z : ProgramItem). ReplacesItem old text s (moved_line t) px z) py b (slice_get (map (shifted_item s) front ++ (py ∷ map (shifted_item s) back)) k)
             (element_at (map (shifted_item s) front) py (map (shifted_item s) back) k many) is_b replaces);
+        tables = tables_told;
       }
 
   replaces_one : ReplacesOne old text s (moved_line t) (items_of old) (items_of text) k
@@ -401,21 +441,22 @@ module _ (edit : Edit) (c : Changes) (t : LineShift) (x e : Entry) (is : IsInsid
   abbrev count : ℕ
   count = length (item_ends old)
 
-  made_is : made_checks (outlines_in old) (outlines_in text) (kept_of count k made c.items.kept_back) (spelled_items text) ≡ made_at k (own_check old text k)
+  made_is : made_checks (outlines_in old) (outlines_in text) (kept_of count k made c.items.kept_back) (spelled_items text) ≡ made_at k (own_check text k)
   made_is =
+      let all : List Spelled = take k (spelled_items old) ++ (spelled text is_own ∷ drop (suc k) (spelled_items old)) in
       let kept = kept_of count k made c.items.kept_back in
-      ap (λ (ts : List Outline). made_checks (outlines_in old) ts kept (spelled_items text)) outlines_same
-      ∙ ap (made_checks (outlines_in old) (outlines_in old) kept) (spelled_parts edit c s past)
-      ∙ one_check views (outlines_in old) count k made c.items.kept_back is.one_made is.one_gone (take k (spelled_items old)) (spelled text is_own) (drop (suc k) (spelled_items old))
+      ap (made_checks (outlines_in old) (outlines_in text) kept) (spelled_parts edit c s past)
+      ∙ one_check views (outlines_in old) (outlines_in text) count k made c.items.kept_back is.one_made is.one_gone (take k (spelled_items old)) (spelled text is_own) (drop (suc k) (spelled_items old))
+      (subst (λ (l : List Spelled). (i : ℕ) (y : Spelled) → i ≢ k → slice_get l i ≡ Some y → view (outlines_in old) i (entry_by y).summary ≡ view (outlines_in text) i (entry_by y).summary) (spelled_parts edit c s past) view_stays)
       (front_olds_count edit c s past)
 
-  checks_are : AreChecksMade old text k (nones made) c.items.kept_back (made_at k (own_check old text k))
+  checks_are : AreChecksMade old text k (nones made) c.items.kept_back (made_at k (own_check text k))
   checks_are =
       subst (λ (m : List NewCheck). AreChecksMade old text k (nones made) c.items.kept_back m) made_is
       (checks_made old text c.tokens.edit.old_stop c.tokens.edit.new_stop k (last_end 0 (take k (item_ends old))) made c.items.kept_back (ends_below c.tokens.edit.start (item_ends old))
       is.changed.items.order is.changed.items.ends (rises text) is.changed.items.before is.changed.items.items (checks_stay (outlines_in old) (outlines_in text)))
 
-  stirred_are : stirred_of edit ≡ length (made_at k (own_check old text k))
+  stirred_are : stirred_of edit ≡ length (made_at k (own_check text k))
   stirred_are =
       sym (made_are_stirred old text c.tokens.edit.old_stop c.tokens.edit.new_stop k (last_end 0 (take k (item_ends old))) made c.items.kept_back (ends_below c.tokens.edit.start (item_ends old))
       is.changed.items.order is.changed.items.ends (rises text) is.changed.items.before is.changed.items.items (checks_stay (outlines_in old) (outlines_in text))

@@ -108,7 +108,6 @@ module _ (edit : Edit) (c : Changes) (t : LineShift) (x e : Entry) (one : IsOneR
         subst (λ (t : Tables). WalksAround s gone come (walked_in (tables_in old)) (walked_in t)) (sym tables) (walks_around s (moved_line t) (tables_in old) change) in
         let spared : SparesInside head (length one.front) (faults_of (links_in old)) = subst (λ (n : ℕ). SparesInside head n (faults_of (links_in old))) (sym one.number) spares in
         record {
-          outlines = one.inside.outlines;
           faults = faults;
           warns = warnings old text s head one.front one.back was is one.inside replaced.was_plain replaced.is_plain_now;
           found = ap (found_around s (own_shown old (items_of old) j was ++ shown_if (warns_in old) gone) (own_shown text (items_of text) j is ++ shown_if (warns_in text) come)) (told old)

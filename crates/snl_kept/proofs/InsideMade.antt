@@ -14,7 +14,9 @@ use Rattle.snl_items.specs.Changes.{IsShiftOf}
 use Rattle.snl_items.specs.Items.{item_ends, spelled_items}
 use Rattle.snl_syntax.specs.Outcome.{parsed_by, parsed_in, sound_tree}
 use Rattle.snl_syntax.specs.declared.tree.item.Item.{Item}
+use Rattle.snl_scope.specs.Places.{enclosing_set}
 use Rattle.snl_scope.specs.SpelledTokens.{bytes_by, summary_by}
+use Rattle.snl_scope.specs.View.{view}
 use Rattle.snl_scope.specs.Summaries.{kind_of, summary_in}
 use Rattle.snl_scope.specs.Summaries.Tokens.{token_bytes}
 use Rattle.snl_scope.specs.declared.summaries.summary.ItemKind.{ItemKind}
@@ -25,6 +27,7 @@ use Rattle.snl_item_check.specs.declared.findings.Checked.{Checked}
 use Rattle.snl_item_check.specs.Items.{outlines_of, summary_of_item}
 use Rattle.snl_item_check.specs.Told.{wakes_of}
 use Rattle.snl_check.specs.ShiftedAround.{SaysAlike}
+use Rattle.snl_check.specs.Tables.{tables_by}
 use Rattle.snl_kept.specs.declared.entries.Entry.{Entry}
 use Rattle.snl_kept.specs.declared.found.findings.Diagnostic.{Diagnostic}
 use Rattle.snl_kept.specs.declared.found.findings.Finding.{Finding}
@@ -35,8 +38,8 @@ use Rattle.snl_kept.specs.declared.plan.RowChange.{RowChange}
 use Rattle.snl_kept.specs.Checks.{check_by, checks_from, checks_of, links_in, outlines_in}
 use Rattle.snl_kept.specs.Diagnostics.{diagnostic, diagnostics_of, shown_if}
 use Rattle.snl_kept.specs.Entries.{entries_of, entry_by}
-use Rattle.snl_kept.specs.ItemPlan.{AreOwnTokens, IsAfterInside, IsOneItem, IsStateAlike, IsWas, SaysWhatItSaid, come_by, diagnostics_by, gone_by, kinds_kept, outlines_kept, own_item, wakes_told}
-use Rattle.snl_kept.specs.ReplacedItem.{IsInside, own_findings, own_head, own_shown, own_tokens}
+use Rattle.snl_kept.specs.ItemPlan.{AreOwnTokens, IsAfterInside, IsOneItem, IsStateAlike, IsWas, come_by, diagnostics_by, gone_by, kinds_kept, outlines_kept, own_item, wakes_told}
+use Rattle.snl_kept.specs.ReplacedItem.{IsInside, SeesAlike, TakesPlace, own_findings, own_head, own_shown, own_tokens}
 use Rattle.snl_kept.specs.OwnFindings.{found_around}
 use Rattle.snl_kept.specs.OwnRows.{come_of, gone_of}
 use Rattle.snl_kept.specs.Planned.{AreEntriesMade, IsChanged}
@@ -46,6 +49,8 @@ use Rattle.snl_kept.specs.Tables.{tables_in}
 use Rattle.snl_kept.specs.Warnings.{warns_in}
 use Rattle.snl_kept.proofs.InsideTold.{same_sound, summary_is, tree_is, wakes_are}
 use Rattle.snl_kept.proofs.MemberParts.{element_at, members_parts}
+use Rattle.snl_kept.proofs.Members.{one_entry_made}
+use Rattle.snl_kept.proofs.Replaced.{replaced_alike}
 use Rattle.snl_kept.proofs.SpelledItems.{spelled_text}
 use Rattle.snl_cut.specs.CutLaws.{length_members}
 
@@ -89,8 +94,8 @@ check_got text k c lt got =
 pub is_inside : (edit : Edit) (c : Changes) (t : LineShift) (w : OldItem) (e : Entry)
     → IsChanged edit c → IsEdit edit.old edit.text edit.start edit.old_stop edit.new_stop → IsShiftOf edit t.by
     → ShiftsLines edit.old edit.text t → IsOneItem edit.old c → IsWas edit.old c.items.kept_front w → AreEntriesMade edit.old edit.text c.items.kept_front (e ∷ []) c.items.kept_back
-    → SaysWhatItSaid edit.old (own_head edit.old c) c.items.kept_front w e → IsInside edit c t w.entry.now e
-is_inside edit c t w e changed edit_is by lines one was made says = record {
+    → TakesPlace (own_head edit.old c) w.entry.now e → SeesAlike edit.old edit.text c.items.kept_front → IsInside edit c t w.entry.now e
+is_inside edit c t w e changed edit_is by lines one was made place seen = record {
   changed = changed;
   edit_is = edit_is;
   by = by;
@@ -100,11 +105,16 @@ is_inside edit c t w e changed edit_is by lines one was made says = record {
   head = one.head;
   was = was.entry;
   made = made;
-  outline = says.same.outline;
-  plain = says.same.plain;
-  plain_now = says.same.plain_now;
-  declared = says.same.declared;
-  no_clause = says.same.no_clause;
+  place = place;
+  seen = seen;
+}
+
+-- where all say to each other what they said, they see what they saw
+pub sees_the_same : (old text : List ℕ) (k : ℕ) → outlines_in text ≡ outlines_in old → SeesAlike old text k
+sees_the_same old text k same = record {
+  places = λ i. ap (λ (ss : List Outline). enclosing_set ss i) same;
+  views = λ i e apart got. ap (λ (ss : List Outline). view ss i e.summary) (sym same);
+  tables = ap (tables_by text (items_of text)) same;
 }
 
 pub is_there : (old : List ℕ) (c : Changes) → IsOneItem old c → c.items.kept_front < length (item_ends old)
@@ -122,6 +132,15 @@ module _ (tree_told : (text : List ℕ) (tokens : List Piece) → sound_tree (pa
 
   pub kept_outlines : (text : List ℕ) → outlines_kept (entries_of text) ≡ outlines_in text
   kept_outlines text = ap (λ (l : List (List (Class × List ℕ))). outlines_kept (map entry_by l)) (sym (spelled_text text)) ∙ kept_along text (item_tokens text)
+
+  -- one of them is in the place of another, and says what that one said
+  pub outlines_stay : (old text : List ℕ) (c : Changes) (w : OldItem) (e : Entry) → IsOneItem old c → IsWas old c.items.kept_front w → AreEntriesMade old text c.items.kept_front (e ∷ []) c.items.kept_back
+      → e.summary.outline ≡ w.entry.now.summary.outline → outlines_in text ≡ outlines_in old
+  outlines_stay old text c w e one was made same =
+      sym (kept_outlines text)
+      ∙ ap outlines_kept (one_entry_made old text c.items.kept_front c.items.kept_back e one.one_gone made)
+      ∙ replaced_alike (λ (y : Entry). y.summary.outline) (entries_of old) c.items.kept_front w.entry.now e was.entry same
+      ∙ kept_outlines old
 
   kept_kinds_along : (text : List ℕ) (ms : List (List Piece)) → kinds_kept (map entry_by (map (spelled text) ms)) ≡ map (λ x. kind_of x.tree) (map (program_item text) ms)
   kept_kinds_along text [] = refl
@@ -168,18 +187,18 @@ module _ (tree_told : (text : List ℕ) (tokens : List Piece) → sound_tree (pa
 pub diagnostics_after : (old text : List ℕ) (t : LineShift) (k : ℕ) (change : RowChange) (own : OwnTokens) (ss : List Outline) (warns : Bool) (tables : Tables) (found : List Diagnostic)
     → IsAfterInside old text t k change → AreOwnTokens old text k own
     → ss ≡ outlines_in old → warns ≡ warns_in old → tables ≡ tables_in old → found ≡ diagnostics_of old
-    → diagnostics_by old text ss warns t.by k own tables change (map finding_of found) ≡ diagnostics_of text
+    → diagnostics_by old text ss (outlines_in text) warns t.by k own tables change (map finding_of found) ≡ diagnostics_of text
 unfolding diagnostics_of
 diagnostics_after old text t k change own ss warns tables found after own_are ss_is warns_is tables_is found_is =
-    let own_come : shown_if warns (own_findings text ss k (program_item text own.is.items)) ≡ own_shown text (items_of text) k (own_item text k) =
-    ap₂ (λ (w : Bool) (ts : List Piece). shown_if w (own_findings text ss k (program_item text ts))) (warns_is ∙ sym after.warns) own_are.is
-    ∙ ap (λ (os : List Outline). shown_if (warns_in text) (own_findings text os k (own_item text k))) (ss_is ∙ sym after.outlines) in
+    let ts : List Outline = outlines_in text in
+    let own_come : shown_if warns (own_findings text ts k (program_item text own.is.items)) ≡ own_shown text (items_of text) k (own_item text k) =
+    ap₂ (λ (w : Bool) (m : List Piece). shown_if w (own_findings text ts k (program_item text m))) (warns_is ∙ sym after.warns) own_are.is in
     let own_gone : shown_if warns (own_findings old ss k (program_item old own.was.items)) ≡ own_shown old (items_of old) k (own_item old k) =
     ap₂ (λ (w : Bool) (ts : List Piece). shown_if w (own_findings old ss k (program_item old ts))) warns_is own_are.was
     ∙ ap (λ (os : List Outline). shown_if (warns_in old) (own_findings old os k (own_item old k))) ss_is in
     let gone : gone_by old ss warns k own.was.items tables change ≡ own_shown old (items_of old) k (own_item old k) ++ shown_if (warns_in old) (gone_of (tables_in old) change) =
     ap₂ (λ (a b : List Finding). a ++ b) own_gone (ap₂ (λ (w : Bool) (t : Tables). shown_if w (gone_of t change)) warns_is tables_is) in
-    let come : come_by text ss warns t.by k own.is.items tables change ≡ own_shown text (items_of text) k (own_item text k) ++ shown_if (warns_in text) (come_of t.by (tables_in old) change) =
+    let come : come_by text ts warns t.by k own.is.items tables change ≡ own_shown text (items_of text) k (own_item text k) ++ shown_if (warns_in text) (come_of t.by (tables_in old) change) =
     ap₂ (λ (a b : List Finding). a ++ b) own_come (ap₂ (λ (w : Bool) (l : Tables). shown_if w (come_of t.by l change)) (warns_is ∙ sym after.warns) tables_is) in
     ap (map (diagnostic text))
     (ap₂ (λ (g c : List Finding). found_around t.by g c (map finding_of found)) gone come

@@ -37,7 +37,7 @@ pub record IsPastHead (e : Edit) (c : Changes) (s : Shift) : Type 0 where
   pub one_made : length c.items.made.items ≡ 1
   pub one_gone : c.items.kept_front + 1 + c.items.kept_back ≡ length (item_ends e.old)
   pub around : LeavesAround s (tokens_of e.old) (tokens_of e.text) c.tokens.made.items c.tokens.edit
-  pub head : last_end 0 (take c.items.kept_front (item_ends e.old)) + 2 ≤ c.tokens.edit.start
+  pub head : last_end 0 (take c.items.kept_front (item_ends e.old)) ≤ c.tokens.edit.start
   pub rises : Rises 0 (item_ends e.old)
 
 module _ (e : Edit) (c : Changes) (s : Shift) (is : IsPastHead e c s) where

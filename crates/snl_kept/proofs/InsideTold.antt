@@ -62,7 +62,7 @@ module _ (tree_told : (text : List ℕ) (tokens : List Piece) → sound_tree (pa
   summary_is text own e is =
       ap (λ (x : Entry). x.summary) is ∙ sym (summary_told text own (sound_tree (parsed_by (spelled text own)))) ∙ ap (summary_in text own) (tree_is text own)
 
-  check_is : (ss : List Outline) (i : ℕ) (text : List ℕ) (own : List Piece) → check_by ss i (spelled text own) ≡ check_of_item text ss (i, program_item text own)
+  pub check_is : (ss : List Outline) (i : ℕ) (text : List ℕ) (own : List Piece) → check_by ss i (spelled text own) ≡ check_of_item text ss (i, program_item text own)
   check_is ss i text own = ap₂ (λ (b : ℕ → List ℕ) (t : Option Item). option_map (checked_by ss i b) t) (sym (bytes_told text own)) (tree_is text own)
 
   pub told_is : (ss : List Outline) (i : ℕ) (text : List ℕ) (own : List Piece) → told_kept (check_by ss i (spelled text own)) ≡ told_in_item text (program_item text own)

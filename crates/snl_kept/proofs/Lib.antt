@@ -31,6 +31,7 @@ pub mod Parts
 pub mod Ranks
 pub mod Rechecks
 pub mod Replaced
+pub mod RenamedItem
 pub mod Rising
 pub mod SetMembers
 pub mod ShiftPlans

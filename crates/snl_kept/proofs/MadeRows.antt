@@ -1,6 +1,6 @@
 -- What an edit inside one item makes of the links and the rows, from what is kept of the text and
 -- what is known by tests.
-use Rattle.std.proofs.Common.{◌≡◌, ℕ, ◌+◌, ◌-◌, ◌<◌, ◌++◌, List, [], ◌∷◌, length, take, drop, slice_get, Option, Some, None, false, true, is_none, is_some, inl, inr, sym, ap, ap₂, subst, ◌∙◌, arith}
+use Rattle.std.proofs.Common.{◌≡◌, ℕ, ◌<◌, List, [], ◌∷◌, length, slice_get, Option, Some, None, false, true, is_none, is_some, inl, inr, sym, ap, ap₂, subst, ◌∙◌, arith}
 use Rattle.std.specs.List.{slice_set}
 use Rattle.std.specs.Option.{option_map_or}
 use Rattle.snl_lex.specs.declared.piece.Piece.{Piece}
@@ -46,20 +46,19 @@ use Rattle.snl_kept.specs.NewLinks.{AreLinks, links_now}
 use Rattle.snl_kept.specs.ReplacedItem.{IsOneReplaced, own_tokens}
 use Rattle.snl_kept.proofs.InsideLaws.{got_is}
 use Rattle.snl_kept.proofs.InsideTold.{told_is}
-use Rattle.snl_kept.proofs.Members.{entries_count}
-use Rattle.snl_kept.proofs.Replaced.{replaced_parts}
+use Rattle.snl_kept.proofs.Members.{entries_count, one_entry_made}
 
 -- ---- the links
 
 module _ (edit : Edit) (c : Changes) (t : LineShift) (x e : Entry) (one : IsOneReplaced edit c t x e) (before : LinkedItems) (is : before ≡ links_in edit.old) (links : NewLinks)
-    (own : AreOwnLinks before c.items.kept_front e.summary.kind links) where
+    (own : AreOwnLinks before c.items.kept_front e.summary.kind links) (same : outlines_in edit.text ≡ outlines_in edit.old) where
   own_links_are : AreOwnLinks (links_in edit.old) c.items.kept_front e.summary.kind links
   own_links_are = subst (λ (l : LinkedItems). AreOwnLinks l c.items.kept_front e.summary.kind links) is own
 
   links_are : links_now (links_in edit.old) links ≡ links_in edit.text
   links_are =
       ap₂ (λ (os : List Outline) (ks : List ItemKind). let l : LinkedItems = record { outlines = os; kinds = ks } in l)
-      (own_links_are.outlines ∙ sym one.inside.outlines)
+      (own_links_are.outlines ∙ sym same)
       (own_links_are.kinds ∙ sym one.kinds)
 
   pub links_after : AreLinks edit.old edit.text links
@@ -74,17 +73,11 @@ pub items_after : (old text : List ℕ) (c : Changes) (l : Lists) (e : Entry) �
     → AreItemsAfter old text l c.items.kept_front e
 items_after old text c l e listed one made same =
     let k : ℕ = c.items.kept_front in
-    let olds : List Entry = entries_of old in
-    let many = entries_count old in
-    let there : k < length olds = omega (arith, one.one_gone, many) in
-    let after : length olds - c.items.kept_back ≡ k + 1 = omega (arith, one.one_gone, many) in
+    let there : k < length (entries_of old) = omega (arith, one.one_gone, entries_count old) in
     let were : l.links.outlines ≡ outlines_in old = ap (λ (z : LinkedItems). z.outlines) listed.links in
     record {
       there = subst (λ (xs : List Entry). k < length xs) (sym listed.entries) there;
-      entries = made
-          ∙ ap (λ (n : ℕ). take k olds ++ (e ∷ drop n olds)) after
-          ∙ sym (replaced_parts olds k e there)
-          ∙ ap (λ (xs : List Entry). slice_set xs k e) (sym listed.entries);
+      entries = one_entry_made old text k c.items.kept_back e one.one_gone made ∙ ap (λ (xs : List Entry). slice_set xs k e) (sym listed.entries);
       outlines_were = were;
       outlines_are = were ∙ sym same;
     }

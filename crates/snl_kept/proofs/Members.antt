@@ -1,5 +1,6 @@
 -- What is kept of items, along the ends of their tokens.
-use Rattle.std.proofs.Common.{◌≡◌, ℕ, suc, ◌-◌, List, [], ◌∷◌, ◌++◌, length, take, drop, map, Option, refl, ap, ap₂, sym, ◌∙◌}
+use Rattle.std.proofs.Common.{◌≡◌, ℕ, ◌+◌, ◌-◌, ◌<◌, List, [], ◌∷◌, ◌++◌, length, take, drop, map, Option, ap, ap₂, sym, ◌∙◌, arith}
+use Rattle.std.specs.List.{slice_set}
 use Rattle.std.proofs.lemmas.List.{drop-map, length-map, map-append, take-map}
 use Rattle.snl_cut.specs.Cut.{last_end, members}
 use Rattle.snl_lex.specs.declared.piece.Class.{Class}
@@ -15,6 +16,7 @@ use Rattle.snl_kept.specs.Entries.{entries_of, entry_by}
 use Rattle.snl_kept.specs.Parts.{EndsWithin, tokens_between}
 use Rattle.snl_kept.specs.Planned.{AreEntriesMade}
 use Rattle.snl_cut.specs.CutLaws.{length_members}
+use Rattle.snl_kept.proofs.Replaced.{replaced_parts}
 
 -- tokens from one number up to another, as they are spelled
 pub spelled_between : (text : List ℕ) (tokens : List Piece) (start stop : ℕ) → take (stop - start) (drop start (spelled text tokens)) ≡ spelled text (tokens_between tokens start stop)
@@ -55,3 +57,11 @@ entries_made old text front from made back is =
     ∙ ap (λ (l : List Entry). map entry_by (take front olds) ++ l) (map-append entry_by news (drop after olds))
     ∙ ap₂ (λ (x y : List Entry). x ++ (map entry_by news ++ y)) (sym (take-map entry_by front olds))
     (sym (drop-map entry_by after olds) ∙ ap (λ (n : ℕ). drop (n - back) (entries_of old)) (sym (entries_count old)))
+
+-- one item is made in the place of one
+pub one_entry_made : (old text : List ℕ) (k back : ℕ) (e : Entry) → k + 1 + back ≡ length (item_ends old) → AreEntriesMade old text k (e ∷ []) back → entries_of text ≡ slice_set (entries_of old) k e
+one_entry_made old text k back e one made =
+    let olds : List Entry = entries_of old in
+    let there : k < length olds = omega (arith, one, entries_count old) in
+    let after : length olds - back ≡ k + 1 = omega (arith, one, entries_count old) in
+    made ∙ ap (λ (n : ℕ). take k olds ++ (e ∷ drop n olds)) after ∙ sym (replaced_parts olds k e there)

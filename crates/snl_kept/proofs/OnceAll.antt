@@ -13,7 +13,7 @@ use Rattle.snl_kept.specs.Linked.{linked_faults, linked_of}
 use Rattle.snl_kept.specs.OnceFound.{DifferInPlace}
 use Rattle.snl_kept.specs.Program.{ProgramItem}
 use Rattle.snl_kept.specs.Tables.{walked_faults}
-use Rattle.snl_kept.proofs.Families.{Family, IsOf, differ, item_family, link_family, of_items, of_parser, of_walks, walk_family}
+use Rattle.snl_kept.proofs.Families.{IsOf, differ, item_family, link_family, of_items, of_parser, of_walks, walk_family}
 use Rattle.snl_kept.proofs.OnceItems.{CheckLaws, IsMade, checked_made, checked_once, faults_coded, faults_once}
 use Rattle.snl_kept.proofs.OnceLinks.{IsOfLinks, LinkLaws, linked_found, linked_once}
 use Rattle.snl_kept.proofs.OnceTokens.{AreApart}

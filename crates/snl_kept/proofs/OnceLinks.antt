@@ -1,6 +1,6 @@
 -- What is found by the links of a text's items: no offset and code occur twice in it, nor in it and
 -- in what is found in items.
-use Rattle.std.proofs.Common.{◌≡◌, ◌≢◌, ◌⊎◌, ℕ, zero, suc, ◌<◌, true, All, List, [], ◌∷◌, length, map, slice_get, Option, None, Some, IfSome, option_map, inl, inr, refl, sym, ap, ap₂, subst, ◌∙◌, arith}
+use Rattle.std.proofs.Common.{◌≡◌, ◌≢◌, ◌⊎◌, ℕ, ◌<◌, true, All, List, [], length, slice_get, Option, None, Some, IfSome, option_map, inl, inr, refl, sym, ap, ap₂, subst, ◌∙◌, arith}
 use Rattle.std.specs.Prelude.{◌&&◌, option_and_then}
 use Rattle.std.specs.Option.{option_map_or}
 use Rattle.std.specs.List.{AllByRecursion as Each, Contains}

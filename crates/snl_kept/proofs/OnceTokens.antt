@@ -1,11 +1,9 @@
 -- The tokens of a text's items are one after another: of two at one offset each is the other.
-use Rattle.std.proofs.Common.{◌≡◌, ℕ, ◌+◌, ◌-◌, ◌<◌, ◌≤◌, All, List, [], ◌∷◌, length, take, drop, slice_get, Some, inl, inr, sym, ap, subst, ◌∙◌, arith}
+use Rattle.std.proofs.Common.{◌≡◌, ℕ, ◌+◌, ◌<◌, ◌≤◌, All, List, length, slice_get, Some, inl, inr, sym, ap, ◌∙◌, arith}
 use Rattle.std.specs.List.{AllByRecursion as Each}
 use Rattle.std.proofs.lemmas.Bool.{cases_lt}
-use Rattle.std.proofs.lemmas.List.{drop-drop, length-drop, length-take-le}
 use Rattle.std.proofs.lemmas.List.Elements.{recursion_from_All}
 use Rattle.snl_cut.specs.Cut.{members}
-use Rattle.snl_lex.specs.declared.piece.Class.{Class}
 use Rattle.snl_lex.specs.declared.piece.Piece.{Piece}
 use Rattle.snl_lex.specs.PieceList.{listed_pieces, piece_ends, piece_kinds}
 use Rattle.snl_lex.specs.Pieces.{LiesIn, is_token, pieces_of, tokens_of}
@@ -16,9 +14,8 @@ use Rattle.snl_items.specs.Items.{item_ends}
 use Rattle.snl_kept.specs.Parts.{EndsWithin}
 use Rattle.snl_kept.specs.Program.{ProgramItem, item_tokens, items_of, program_item}
 use Rattle.snl_kept.proofs.OnceTwo.{two_got}
-use Rattle.snl_facts.specs.Each.{each_by, each_weaker, each_got, each_map, each_take, each_drop, each_filter, two_map, two_take, two_drop, two_split, two_filter, EachTwo}
-use Rattle.snl_facts.specs.Lists.{drop_further}
-use Rattle.snl_kept.specs.TokenLaws.{Before, AllBefore, tiled, tokens_apart, members_later, members_apart, InARow, read_tree}
+use Rattle.snl_facts.specs.Each.{each_by, each_got, each_map, each_filter, two_map, EachTwo}
+use Rattle.snl_kept.specs.TokenLaws.{Before, AllBefore, tokens_apart, members_apart, InARow, read_tree}
 
 -- Items whose tokens are so, with the trees that are read of them.
 pub record AreApart (text : List ℕ) (xs : List ProgramItem) : Type 0 where

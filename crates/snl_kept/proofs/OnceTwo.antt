@@ -1,9 +1,7 @@
 -- What holds of each element of a list and each later one.
-use Rattle.std.proofs.Common.{◌≡◌, ℕ, zero, suc, ◌+◌, ◌<◌, Bool, true, false, cond, List, [], ◌∷◌, ◌++◌, map, filter, take, drop, slice_get, Some, subst, sym, ap, ◌∙◌, arith}
-use Rattle.std.proofs.lemmas.List.Elements.{All-from_recursion, recursion_from_All}
-use Rattle.std.proofs.lemmas.List.Kept.{AllPairs-cons}
-use Rattle.std.specs.List.{AllByRecursion as Each, AllPairs, enumerate_from, flat_map}
-use Rattle.snl_facts.specs.Each.{each_append, each_by, each_weaker, each_both, each_got, each_map, each_take, each_drop, each_filter, two_append, each_flat, each_numbered, EachTwo}
+use Rattle.std.proofs.Common.{◌≡◌, ℕ, zero, suc, ◌+◌, ◌<◌, List, [], ◌∷◌, slice_get, Some, subst, arith}
+use Rattle.std.specs.List.{AllByRecursion as Each, enumerate_from, flat_map}
+use Rattle.snl_facts.specs.Each.{each_weaker, each_both, each_got, two_append, each_flat, each_numbered, EachTwo}
 
 module _ {A : Type 0} (R : A → A → Type 0) where
   -- where something holds of each besides

@@ -111,6 +111,16 @@ module _ (e : Edit) (edit : TokenEdit) (items : ItemChange) (is : IsItemChange e
       (ap (take (k + 1)) ends_are ∙ take_at (take k (item_ends old) ++ (get_or made 0 0 ∷ [])) later_ends (k + 1) (omega (arith, length-append (take k (item_ends old)) (get_or made 0 0 ∷ []), count_before)))
       ∙ last_of_more 0 (take k (item_ends old)) (get_or made 0 0)
 
+  pub made_there : k < length (item_ends text)
+  made_there =
+      omega (
+        arith,
+        ap (λ (l : List ℕ). length l) ends_are,
+        length-append (take k (item_ends old) ++ (get_or made 0 0 ∷ [])) later_ends,
+        length-append (take k (item_ends old)) (get_or made 0 0 ∷ []),
+        count_before,
+      )
+
   -- what is kept of it is what its tokens say
   pub one_member : map entry_by (members (spellings text) (last_end 0 (take k (item_ends old))) made) ≡ entry_by (spelled text (own_tokens text k)) ∷ []
   one_member =

@@ -1,5 +1,5 @@
 -- What is found after an edit inside one item.
-use Rattle.std.proofs.Common.{◌≡◌, ℕ, zero, suc, ◌+◌, ◌<◌, ◌≤◌, Bool, true, All, List, [], ◌∷◌, ◌++◌, length, map, Option, Some, None, option_map, refl, sym, ap, ap₂, ◌∙◌, arith}
+use Rattle.std.proofs.Common.{◌≡◌, ℕ, zero, suc, ◌+◌, ◌<◌, ◌≤◌, Bool, true, All, List, [], ◌∷◌, ◌++◌, length, map, slice_get, is_some, Option, Some, None, option_map, refl, sym, ap, ap₂, ◌∙◌, arith}
 use Rattle.std.specs.List.{AllByRecursion, cons_option, enumerate_from, filter_map, flat_map}
 use Rattle.std.proofs.lemmas.List.{length-map}
 use Rattle.std.proofs.lemmas.List.Elements.{recursion_from_All}
@@ -19,8 +19,11 @@ use Rattle.snl_scope.specs.Summaries.Tokens.{token_bytes}
 use Rattle.snl_check.specs.Shifted.{shifted_item, shifted_tokens}
 use Rattle.snl_check.specs.ShiftedAround.{is_plain}
 use Rattle.snl_kept.specs.declared.found.findings.Finding.{Finding}
-use Rattle.snl_kept.specs.Checked.{checked_faults, found_in_item}
-use Rattle.snl_kept.specs.Checks.{checked_by, links_in, outlines_in}
+use Rattle.snl_item_check.specs.declared.findings.Checked.{Checked}
+use Rattle.snl_item_check.specs.Options.{warning_setting}
+use Rattle.snl_item_check.specs.View.{is_in_set}
+use Rattle.snl_kept.specs.Checked.{at_own_token, checked_faults, faults_kept, found_in_item}
+use Rattle.snl_kept.specs.Checks.{check_of_item, checked_by, links_in, outlines_in}
 use Rattle.snl_kept.specs.Diagnostics.{found, shown, shown_if}
 use Rattle.snl_kept.specs.Faults.{fault_at, fault_in, faults_of}
 use Rattle.snl_kept.specs.Linked.{finding_at, linked_faults, linked_finding, token_of}
@@ -53,6 +56,18 @@ says_nothing text ss i x h = by x.tree h
     by (Some (items.OptionLine line)) h = absurd cc
     by (Some tree) h = refl
 
+-- an element of the first of two lists, and one after the element between two lists
+got_in_front : {X : Type 0} (xs ys : List X) (i : ℕ) (z : X) → slice_get xs i ≡ Some z → (i < length xs) × (slice_get (xs ++ ys) i ≡ Some z)
+got_in_front [] ys i z got = absurd cc
+got_in_front (x ∷ xs) ys zero z got = (omega arith, got)
+got_in_front (x ∷ xs) ys (suc i) z got = let there = got_in_front xs ys i z got in (omega (arith, there.0), there.1)
+
+got_at_back : {X : Type 0} (xs : List X) (y : X) (ys : List X) (i n : ℕ) → n ≡ length xs + 1 + i → slice_get (xs ++ (y ∷ ys)) n ≡ slice_get ys i
+got_at_back [] y ys i zero at = absurd (omega (arith, at))
+got_at_back [] y ys i (suc n) at = ap (slice_get ys) (omega (arith, at))
+got_at_back (x ∷ xs) y ys i zero at = absurd (omega (arith, at))
+got_at_back (x ∷ xs) y ys i (suc n) at = got_at_back xs y ys i n (omega (arith, at))
+
 module _ (old text : List ℕ) (s : Shift) (head : ℕ) (front back : List ProgramItem) (x y : ProgramItem) (is : ReplacesInside old text s head front x y back)
     -- what the laws of the layers below say
     (by_spelling : (text : List ℕ) (tokens : List Piece) → parsed_in text tokens ≡ parsed_by (spelled text tokens))
@@ -76,8 +91,39 @@ module _ (old text : List ℕ) (s : Shift) (head : ℕ) (front back : List Progr
   fits : length old + s.new_stop ≤ most
   fits = omega (arith, is.shift.edit.new_inside, is.shift.old_short, is.shift.short)
 
-  outlines_are : outlines_in text ≡ ss
-  outlines_are = is.outlines
+  -- each of the others is checked as it was, and is in the state set in which it was
+  in_set : (i : ℕ) → is_in_set (outlines_in text) i ≡ is_in_set ss i
+  unfolding is_in_set
+  in_set i = ap is_some (is.places i)
+
+  found_same : (from : ℕ) (zs : List ProgramItem)
+      → ((i m : ℕ) (z : ProgramItem) → i ≡ from + m → slice_get zs m ≡ Some z → check_of_item text (outlines_in text) (i, z) ≡ check_of_item text ss (i, z))
+      → flat_map (found_in_item text (outlines_in text)) (enumerate_from from zs) ≡ flat_map (found_in_item text ss) (enumerate_from from zs)
+  found_same from [] same = refl
+  found_same from (z ∷ zs) same =
+      ap₂ (λ (a b : List Finding). a ++ b)
+      (ap (λ (c : Option Checked). map (at_own_token z.tokens) (faults_kept c)) (same from 0 z (omega arith) refl))
+      (found_same (from + 1) zs (λ i m w at got. same i (suc m) w (omega (arith, at)) got))
+
+  front_count : length (map si front) ≡ n
+  front_count = length-map front si
+
+  found_in_front : flat_map (found_in_item text (outlines_in text)) (enumerate_from 0 (map si front)) ≡ flat_map (found_in_item text ss) (enumerate_from 0 (map si front))
+  found_in_front =
+      found_same 0 (map si front)
+      (λ i m z at got.
+      let there = got_in_front (map si front) (y ∷ map si back) m z got in
+      let here : i ≡ m = omega (arith, at) in
+      is.checked i z (λ e. omega (arith, e, here, there.0, front_count))
+      (ap (slice_get (items_of text)) here ∙ ap (λ (zs : List ProgramItem). slice_get zs m) is.items_are ∙ there.1))
+
+  found_at_back : flat_map (found_in_item text (outlines_in text)) (enumerate_from (n + 1) (map si back)) ≡ flat_map (found_in_item text ss) (enumerate_from (n + 1) (map si back))
+  found_at_back =
+      found_same (n + 1) (map si back)
+      (λ i m z at got.
+      let here : i ≡ length (map si front) + 1 + m = omega (arith, at, front_count) in
+      is.checked i z (λ e. omega (arith, e, at))
+      (ap (λ (zs : List ProgramItem). slice_get zs i) is.items_are ∙ got_at_back (map si front) y (map si back) m i here ∙ got))
 
   abbrev Stays : ProgramItem → Type 0
   Stays z = StaysItem s is.shift.some_before old order fits text each_inside z
@@ -167,12 +213,11 @@ module _ (old text : List ℕ) (s : Shift) (head : ℕ) (front back : List Progr
       ≡ total (λ z. f (sh z)) checks_before + (total f (found_in_item text (outlines_in text) (n, y)) + total (λ z. f (sh z)) checks_after)
   checks_are f =
       let all =
-      ap₂ (λ (ts : List Outline) (zs : List ProgramItem). total f (flat_map (found_in_item text ts) (enumerate_from 0 zs))) outlines_are is.items_are
-      ∙ total_flat_map f (found_in_item text ss) 0 (map si front) y (map si back) n (here ∙ ap (λ (k : ℕ). 0 + k) (sym (length-map front si))) in
-      let before = shifts f (flat_map (found_in_item text ss) (enumerate_from 0 (map si front))) checks_before (checked_shift s is.shift.some_before old order fits text each_inside ss 0 front (stay front is.front_stays)) in
-      let after = shifts f (flat_map (found_in_item text ss) (enumerate_from (n + 1) (map si back))) checks_after (checked_shift s is.shift.some_before old order fits text each_inside ss (n + 1) back (stay back is.back_stays)) in
-      let own = ap (λ (ts : List Outline). total f (found_in_item text ts (n, y))) outlines_are in
-      omega (arith, all, before, after, own)
+      ap (λ (zs : List ProgramItem). total f (flat_map (found_in_item text (outlines_in text)) (enumerate_from 0 zs))) is.items_are
+      ∙ total_flat_map f (found_in_item text (outlines_in text)) 0 (map si front) y (map si back) n (here ∙ ap (λ (k : ℕ). 0 + k) (sym (length-map front si))) in
+      let before = shifts f (flat_map (found_in_item text (outlines_in text)) (enumerate_from 0 (map si front))) checks_before (found_in_front ∙ checked_shift s is.shift.some_before old order fits text each_inside ss 0 front (stay front is.front_stays)) in
+      let after = shifts f (flat_map (found_in_item text (outlines_in text)) (enumerate_from (n + 1) (map si back))) checks_after (found_at_back ∙ checked_shift s is.shift.some_before old order fits text each_inside ss (n + 1) back (stay back is.back_stays)) in
+      omega (arith, all, before, after)
 
   -- what has gone and what has come by the walks, in one state set
   module _ (spares : SparesInside head n (links.faults_of (links_in old))) (same : links.faults_of (links_in text) ≡ links.faults_of (links_in old))
@@ -221,10 +266,19 @@ module _ (old text : List ℕ) (s : Shift) (head : ℕ) (front back : List Progr
     settings_around k (p ∷ ps) h =
         ap₂ (λ (o : Option Bool) (l : List Bool). cons_option o l) (setting_stays s is.shift.some_before old order fits text each_inside ss k p.tokens p.tree h.0.0) (settings_around (k + 1) ps h.1)
 
+    settings_same : (k : ℕ) (zs : List ProgramItem) → filter_map (setting_of_item text (outlines_in text)) (enumerate_from k zs) ≡ filter_map (setting_of_item text ss) (enumerate_from k zs)
+    settings_same k [] = refl
+    settings_same k (z ∷ zs) = ap₂ (λ (o : Option Bool) (l : List Bool). cons_option o l) (by z.tree) (settings_same (k + 1) zs)
+      where
+        by : (o : Option Item) → setting_in text (outlines_in text) k z.tokens o ≡ setting_in text ss k z.tokens o
+        by None = refl
+        by (Some tree) = ap (λ (b : Bool). warning_setting (token_bytes text z.tokens) b tree) (in_set k)
+
     pub warnings_stay : shows_warnings text (items_of text) ≡ shows_warnings old (items_of old)
     warnings_stay =
         ap (last_or true)
-        (ap₂ (λ (ts : List Outline) (zs : List ProgramItem). filter_map (setting_of_item text ts) (enumerate_from 0 zs)) outlines_are is.items_are
+        (settings_same 0 (items_of text)
+        ∙ ap (λ (zs : List ProgramItem). filter_map (setting_of_item text ss) (enumerate_from 0 zs)) is.items_are
         ∙ settings_around 0 front (stay front is.front_stays)
         ∙ ap (λ (zs : List ProgramItem). filter_map (setting_of_item old ss) (enumerate_from 0 zs)) (sym is.items_were))
 

@@ -1,5 +1,5 @@
 -- A list of which one element is replaced.
-use Rattle.std.proofs.Common.{◌≡◌, ◌≢◌, ℕ, zero, suc, ◌+◌, ◌<◌, ◌≤◌, List, [], ◌∷◌, ◌++◌, length, map, take, drop, Some, None, refl, sym, ap, ap₂, ◌∙◌, arith}
+use Rattle.std.proofs.Common.{◌≡◌, ◌≢◌, ℕ, zero, suc, ◌+◌, ◌<◌, List, [], ◌∷◌, ◌++◌, length, map, take, drop, Some, None, refl, sym, ap, ap₂, ◌∙◌, arith}
 use Rattle.std.specs.List.{slice_get, slice_set}
 use Rattle.std.proofs.lemmas.Option.{slice_get_within, same_Some}
 use Rattle.std.proofs.lemmas.List.{drop-set, take-append-drop, take-set}
@@ -33,3 +33,9 @@ replaced_other (y ∷ ys) (suc k) x (suc i) apart = replaced_other ys k x i (λ 
 
 pub put_back : {X : Type 0} (xs : List X) (k : ℕ) (x : X) → slice_get xs k ≡ Some x → xs ≡ take k xs ++ (x ∷ drop (k + 1) xs)
 put_back xs k x at = sym (replaced_same xs k x at) ∙ replaced_parts xs k x (slice_get_within xs k x at)
+
+-- something of each element that is the same of both
+pub replaced_alike : {X Y : Type 0} (f : X → Y) (xs : List X) (k : ℕ) (x y : X) → slice_get xs k ≡ Some x → f y ≡ f x → map f (slice_set xs k y) ≡ map f xs
+replaced_alike f [] k x y at same = refl
+replaced_alike {Y = Y} f (z ∷ zs) zero x y at same = ap (λ (a : Y). a ∷ map f zs) (same ∙ ap f (sym (same_Some z x at)))
+replaced_alike {Y = Y} f (z ∷ zs) (suc k) x y at same = ap (λ (l : List Y). f z ∷ l) (replaced_alike f zs k x y at same)

@@ -1,9 +1,7 @@
 -- One more element of a list: what is done, and what is left.
-use Rattle.std.proofs.Common.{◌≡◌, ℕ, ◌+◌, ◌<◌, Bool, List, [], ◌∷◌, ◌++◌, length, take, drop, get_or, map, Option, Some, None, option_to_list, refl, ap, sym, ◌∙◌, append_assoc, add-one, drop-cons}
-use Rattle.std.specs.List.{filter, filter_map, enumerate_from, cons_option}
+use Rattle.std.proofs.Common.{◌≡◌, ℕ, ◌+◌, ◌<◌, List, [], ◌∷◌, ◌++◌, length, take, drop, get_or, map, ap, sym, ◌∙◌, append_assoc}
 use Rattle.std.proofs.Math.Seq.{take-add}
-use Rattle.std.proofs.lemmas.List.{append-nil, drop-map, map-append}
-use Rattle.std.proofs.lemmas.List.Elements.{filter-append, filter_map-append}
+use Rattle.std.proofs.lemmas.List.{drop-map}
 use Rattle.snl_facts.specs.Lists.{drop_here}
 
 -- the same for the images of the elements

@@ -1,19 +1,18 @@
 -- The items of a text as they are read: their tokens lie in it, each has a byte, and the trees are
 -- those of their tokens.
-use Rattle.std.proofs.Common.{◌≡◌, ℕ, zero, suc, ◌-◌, Bool, true, false, if◌then◌else◌, List, [], ◌∷◌, All, drop, map, None, Some}
-use Rattle.std.specs.List.{list_any}
+use Rattle.std.proofs.Common.{◌≡◌, ℕ, zero, suc, ◌-◌, List, [], ◌∷◌, All, drop, map, Some}
 use Rattle.std.proofs.lemmas.List.Elements.{All-drop, All-filter, All-nil, All-take}
 use Rattle.snl_cut.specs.Cut.{members}
 use Rattle.snl_lex.specs.declared.piece.Piece.{Piece}
 use Rattle.snl_lex.specs.Pieces.{LiesIn, is_token, pieces_of, tokens_of}
 use Rattle.snl_syntax.specs.declared.tree.item.Item.{Item}
-use Rattle.snl_syntax.specs.Parsing.{is_bad, kinds_in}
+use Rattle.snl_syntax.specs.Parsing.{kinds_in}
 use Rattle.snl_syntax.specs.Reading.Items.{item_of}
 use Rattle.snl_scope.specs.Summaries.Tokens.{IsSource}
 use Rattle.snl_item_check.specs.Items as items
 use Rattle.snl_check.specs.Spans.{AreRead}
 use Rattle.snl_items.specs.Items.{item_ends}
-use Rattle.snl_kept.specs.Program.{item_tokens, items_of, program_item, tree_in}
+use Rattle.snl_kept.specs.Program.{item_tokens, items_of, program_item}
 use Rattle.snl_kept.specs.TokenLaws.{read_tree}
 
 -- what holds of each token holds of each of an item

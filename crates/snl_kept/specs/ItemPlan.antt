@@ -1,4 +1,4 @@
--- What is made of an edit inside one item that says to the others what it said.
+-- What is made of an edit inside one item, after which the others see what they saw.
 use Rattle.std.specs.Prelude.{◌≡◌, ℕ, ◌+◌, ◌≤◌, ◌⊎◌, Bool, true, false, List, [], ◌++◌, length, map, take, slice_get, Option, Some, None, is_some}
 use Rattle.snl_cut.specs.Cut.{last_end}
 use Rattle.snl_lex.specs.declared.piece.Piece.{Piece}
@@ -17,11 +17,10 @@ use Rattle.snl_tables.specs.declared.rows.Tables.{Tables}
 use Rattle.snl_tables.specs.Moved.{moved_tables}
 use Rattle.snl_item_check.specs.declared.findings.Checked.{Checked}
 use Rattle.snl_item_check.specs.Told.{used_by, wakes_of}
-use Rattle.snl_check.specs.ShiftedAround.{is_plain}
 use Rattle.snl_kept.specs.declared.entries.Entry.{Entry}
 use Rattle.snl_kept.specs.declared.found.findings.Diagnostic.{Diagnostic}
 use Rattle.snl_kept.specs.declared.found.findings.Finding.{Finding}
-use Rattle.snl_kept.specs.declared.ways.one_item.item_plan.OwnParts.{OwnParts}
+use Rattle.snl_kept.specs.declared.ways.one_item.own_parts.OwnParts.{OwnParts}
 use Rattle.snl_kept.specs.declared.ways.one_item.replaced.OldItem.{OldItem}
 use Rattle.snl_kept.specs.declared.ways.one_item.replaced.OwnTokens.{OwnTokens}
 use Rattle.snl_kept.specs.declared.plan.Changes.{Changes}
@@ -33,7 +32,7 @@ use Rattle.snl_kept.specs.Checks.{checks_of, links_in, outlines_in}
 use Rattle.snl_kept.specs.Diagnostics.{diagnostic, diagnostics_of, shown, shown_if}
 use Rattle.snl_lex.specs.Edit.{Edit}
 use Rattle.snl_kept.specs.Entries.{entries_of}
-use Rattle.snl_kept.specs.ReplacedItem.{DeclaresInHead, SparesInside, own_findings, own_shown, own_tokens}
+use Rattle.snl_kept.specs.ReplacedItem.{SparesInside, TakesPlace, own_findings, own_shown, own_tokens}
 use Rattle.snl_kept.specs.Order.{in_order}
 use Rattle.snl_kept.specs.OwnFindings.{found_around}
 use Rattle.snl_kept.specs.OwnRows.{come_of, gone_of, with_row}
@@ -49,20 +48,11 @@ use Rattle.snl_kept.specs.Warnings.{warns_in}
 abbrev pub outlines_kept : List Entry → List Outline
 outlines_kept entries = map (λ e. e.summary.outline) entries
 
--- An edit makes one item in the place of one, whose first two tokens are before the edit.
+-- An edit makes one item in the place of one, which begins where that one did.
 pub record IsOneItem (old : List ℕ) (c : Changes) : Type 0 where
   pub one_made : length c.items.made.items ≡ 1
   pub one_gone : c.items.kept_front + 1 + c.items.kept_back ≡ length (item_ends old)
-  pub head : last_end 0 (take c.items.kept_front (item_ends old)) + 2 ≤ c.tokens.edit.start
-
--- A plain item in the place of another: it says to the other items what that one said, what it
--- declares is among its first `head` tokens, and it has no clauses.
-pub record SaysTheSame (head : ℕ) (x e : Entry) : Type 0 where
-  pub outline : e.summary.outline ≡ x.summary.outline
-  pub plain : is_plain x.summary.kind ≡ true
-  pub plain_now : is_plain e.summary.kind ≡ true
-  pub declared : DeclaresInHead head x.summary.outline
-  pub no_clause : x.summary.outline.clauses ≡ []
+  pub head : last_end 0 (take c.items.kept_front (item_ends old)) ≤ c.tokens.edit.start
 
 -- What the conditions of an item say, use by use, as its check told it.
 abbrev pub wakes_told : (ℕ → List ℕ) → Option Checked → List (List ℕ × Option ℕ)
@@ -87,7 +77,6 @@ kinds_kept entries = map (λ e. e.summary.kind) entries
 -- What a text says after an edit inside item i: what it said, shifted, but for what is found at the
 -- item itself, this change of the rows, and what is found in the states by that.
 pub record IsAfterInside (old text : List ℕ) (t : LineShift) (i : ℕ) (change : RowChange) : Type 0 where
-  pub outlines : outlines_in text ≡ outlines_in old
   pub faults : faults_of (links_in text) ≡ faults_of (links_in old)
   pub warns : warns_in text ≡ warns_in old
   pub found : found_around t.by
@@ -97,25 +86,30 @@ pub record IsAfterInside (old text : List ℕ) (t : LineShift) (i : ℕ) (change
       ≡ in_order (shown text)
   pub tables : tables_in text ≡ with_row (moved_tables t.by (moved_line t) (tables_in old)) change
 
--- What is made of the item, besides what is kept of it: the links, its check, the diagnostics of
+-- What is made of the item, besides what is kept of it and the links: its check, the diagnostics of
 -- the new text, and the rows.
-pub record IsOwnPlan (edit : Edit) (c : Changes) (links : NewLinks) (p : OwnParts) : Type 0 where
-  pub are_links : AreLinks edit.old edit.text links
+pub record AreOwnParts (edit : Edit) (c : Changes) (p : OwnParts) : Type 0 where
   pub warns : warns_in edit.text ≡ warns_in edit.old
   pub checks : AreChecksMade edit.old edit.text c.items.kept_front p.checks.vacant.items c.items.kept_back p.checks.made.items
   pub stirred : stirred_of edit ≡ length p.checks.made.items
   pub diagnostics : p.diagnostics.items ≡ diagnostics_of edit.text
   pub tables : tables_in edit.text ≡ with_row (moved_tables p.shift.by (moved_line p.shift) (tables_in edit.old)) p.change
 
+-- The same with what becomes of the links.
+pub record IsOwnPlan (edit : Edit) (c : Changes) (links : NewLinks) (p : OwnParts) : Type 0 where
+  pub are_links : AreLinks edit.old edit.text links
+  pub parts : AreOwnParts edit c p
+
 -- The item that an edit replaces, by its number.
 pub record IsWas (old : List ℕ) (item : ℕ) (w : OldItem) : Type 0 where
   pub entry : slice_get (entries_of old) item ≡ Some w.entry.now
   pub check : slice_get (checks_of old) item ≡ Some w.check.now
 
--- The item in its place says to the others what that one said; what it declares, and what the links
--- find in it, is among its first `head` tokens.
+-- The item in its place says to the others what that one said; what rows tell of it, and what the
+-- links find in it, is among its first `head` tokens.
 pub record SaysWhatItSaid (old : List ℕ) (head item : ℕ) (w : OldItem) (e : Entry) : Type 0 where
-  pub same : SaysTheSame head w.entry.now e
+  pub outline : e.summary.outline ≡ w.entry.now.summary.outline
+  pub place : TakesPlace head w.entry.now e
   pub spared : SparesInside head item (faults_of (links_in old))
 
 -- A state with a name, in this set.
@@ -160,8 +154,8 @@ gone_by old ss warns item own tables change = shown_if warns (own_findings old s
 abbrev pub come_by : (text : List ℕ) → List Outline → Bool → Shift → ℕ → List Piece → Tables → RowChange → List Finding
 come_by text ss warns s item own tables change = shown_if warns (own_findings text ss item (program_item text own)) ++ shown_if warns (come_of s tables change)
 
--- The diagnostics of the new text: what is gone is taken out, what has come is put in, the others
--- are shifted.
-abbrev pub diagnostics_by : (old text : List ℕ) → List Outline → Bool → Shift → ℕ → OwnTokens → Tables → RowChange → List Finding → List Diagnostic
-diagnostics_by old text ss warns s item own tables change found =
-    map (diagnostic text) (found_around s (gone_by old ss warns item own.was.items tables change) (come_by text ss warns s item own.is.items tables change) found)
+-- The diagnostics of the new text, where the items said this to each other and say that: what is
+-- gone is taken out, what has come is put in, the others are shifted.
+abbrev pub diagnostics_by : (old text : List ℕ) → (ss ts : List Outline) → Bool → Shift → ℕ → OwnTokens → Tables → RowChange → List Finding → List Diagnostic
+diagnostics_by old text ss ts warns s item own tables change found =
+    map (diagnostic text) (found_around s (gone_by old ss warns item own.was.items tables change) (come_by text ts warns s item own.is.items tables change) found)

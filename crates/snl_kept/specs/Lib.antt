@@ -9,6 +9,7 @@ pub mod ItemPlan
 pub mod Kept
 pub mod Linked
 pub mod ReplacedItem
+pub mod RenamedItem
 pub mod MadeRows
 pub mod NewChecks
 pub mod NewLinks

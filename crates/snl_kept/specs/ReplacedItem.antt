@@ -1,5 +1,5 @@
--- What a text says after an edit inside one item that says to the others what it said.
-use Rattle.std.specs.Prelude.{◌≡◌, ℕ, ◌+◌, ◌-◌, ◌<◌, ◌≤◌, ◌⊎◌, All, true, List, [], ◌∷◌, ◌++◌, length, map, take, drop, slice_get, Option, Some, option_map}
+-- What a text says after an edit inside one item, after which the others see what they saw.
+use Rattle.std.specs.Prelude.{◌≡◌, ◌≢◌, ℕ, ◌+◌, ◌-◌, ◌<◌, ◌≤◌, ◌⊎◌, All, true, List, [], ◌∷◌, ◌++◌, length, map, take, drop, slice_get, Option, Some, option_map}
 use Rattle.std.specs.List.{AllByRecursion, cons_option}
 use Rattle.snl_cut.specs.Cut.{IsEdit, last_end}
 use Rattle.snl_lex.specs.declared.piece.Piece.{Piece}
@@ -14,16 +14,20 @@ use Rattle.snl_items.specs.Changes.{IsShiftOf}
 use Rattle.snl_items.specs.Items.{item_ends}
 use Rattle.snl_scope.specs.declared.facts.LinkFault.{LinkFault}
 use Rattle.snl_scope.specs.declared.summaries.summary.Outline.{Outline}
+use Rattle.snl_scope.specs.Clauses.{is_event_flag}
+use Rattle.snl_scope.specs.Places.{enclosing_set}
+use Rattle.snl_scope.specs.View.{view}
 use Rattle.snl_item_check.specs.declared.findings.Checked.{Checked}
 use Rattle.snl_item_check.specs.Items.{outline_of_item}
-use Rattle.snl_check.specs.Shifted.{shifted_item, shifted_tokens}
+use Rattle.snl_check.specs.Shifted.{has_own_row, shifted_item, shifted_tokens}
 use Rattle.snl_check.specs.Moved.{ReplacesOne}
 use Rattle.snl_check.specs.ShiftedAround.{is_plain}
+use Rattle.snl_check.specs.Tables.{tables_by, tables_of}
 use Rattle.snl_kept.specs.declared.entries.Entry.{Entry}
 use Rattle.snl_kept.specs.declared.found.findings.Finding.{Finding}
 use Rattle.snl_kept.specs.declared.plan.Changes.{Changes}
 use Rattle.snl_kept.specs.Checked.{found_in_item}
-use Rattle.snl_kept.specs.Checks.{check_by, links_in, outlines_in}
+use Rattle.snl_kept.specs.Checks.{check_by, check_of_item, links_in, outlines_in}
 use Rattle.snl_kept.specs.Diagnostics.{shown_of}
 use Rattle.snl_kept.specs.Entries.{entries_of, entry_by}
 use Rattle.snl_kept.specs.Faults.{fault_in}
@@ -50,7 +54,9 @@ pub record ReplacesInside (old text : List ℕ) (s : Shift) (head : ℕ) (front 
   pub shift : IsLineShift old text (record { by = s; until = until })
   pub items_were : items_of old ≡ front ++ (x ∷ back)
   pub items_are : items_of text ≡ map (shifted_item s) front ++ (y ∷ map (shifted_item s) back)
-  pub outlines : outlines_in text ≡ outlines_in old
+  -- each of the others is checked as it was, and is in the state set in which it was
+  pub checked : (i : ℕ) (z : ProgramItem) → i ≢ length front → slice_get (items_of text) i ≡ Some z → check_of_item text (outlines_in text) (i, z) ≡ check_of_item text (outlines_in old) (i, z)
+  pub places : (i : ℕ) → enclosing_set (outlines_in text) i ≡ enclosing_set (outlines_in old) i
   pub front_stays : AllByRecursion (StaysItem old text s) front
   pub back_stays : AllByRecursion (StaysItem old text s) back
   pub stays : (n : ℕ) → n < head → slice_get y.tokens n ≡ option_map (shifted_piece s) (slice_get x.tokens n)
@@ -78,9 +84,27 @@ own_start text i = last_end 0 (take i (item_ends text))
 abbrev pub own_head : List ℕ → Changes → ℕ
 own_head old c = c.tokens.edit.start - own_start old c.items.kept_front
 
--- All names that an item declares are among its first `head` tokens.
-abbrev pub DeclaresInHead : ℕ → Outline → Type 0
-DeclaresInHead head o = All (λ d. d.token < head) o.declares
+-- All event flags that an item declares are among its first `head` tokens.
+abbrev pub FlagsInHead : ℕ → Outline → Type 0
+FlagsInHead head o = All (λ d. is_event_flag d.variable.symbol_kind ≡ true → d.token < head) o.declares
+
+-- A plain item in the place of another, neither with clauses: what rows say of the names in it is
+-- among its first `head` tokens.
+pub record TakesPlace (head : ℕ) (x e : Entry) : Type 0 where
+  pub plain : is_plain x.summary.kind ≡ true
+  pub plain_now : is_plain e.summary.kind ≡ true
+  pub named : has_own_row x.summary.outline ≡ true → 2 ≤ head
+  pub flags : FlagsInHead head x.summary.outline
+  pub no_clause : x.summary.outline.clauses ≡ []
+  pub no_clause_now : e.summary.outline.clauses ≡ []
+
+-- After an edit each item but the one with a number sees of the others what it saw, all are in the
+-- state sets in which they were, and rows are told by what the items said to each other as by what
+-- they say.
+pub record SeesAlike (old text : List ℕ) (k : ℕ) : Type 0 where
+  pub places : (i : ℕ) → enclosing_set (outlines_in text) i ≡ enclosing_set (outlines_in old) i
+  pub views : (i : ℕ) (e : Entry) → i ≢ k → slice_get (entries_of old) i ≡ Some e → view (outlines_in old) i e.summary ≡ view (outlines_in text) i e.summary
+  pub tables : tables_of text (items_of text) ≡ tables_by text (items_of text) (outlines_in old)
 
 -- What is known, by tests, of an edit inside one item: `x` is what was kept of the item, `e` what
 -- is made of it.
@@ -92,25 +116,19 @@ pub record IsInside (edit : Edit) (c : Changes) (t : LineShift) (x e : Entry) : 
   -- one item is made in the place of one
   pub one_made : length c.items.made.items ≡ 1
   pub one_gone : c.items.kept_front + 1 + c.items.kept_back ≡ length (item_ends edit.old)
-  -- its first two tokens are before the edit
-  pub head : last_end 0 (take c.items.kept_front (item_ends edit.old)) + 2 ≤ c.tokens.edit.start
+  pub head : last_end 0 (take c.items.kept_front (item_ends edit.old)) ≤ c.tokens.edit.start
   pub was : slice_get (entries_of edit.old) c.items.kept_front ≡ Some x
   pub made : AreEntriesMade edit.old edit.text c.items.kept_front (e ∷ []) c.items.kept_back
-  -- a plain item in the place of another: it says to the other items what that one said; what it
-  -- declares is before the edit, and it has no clauses
-  pub outline : e.summary.outline ≡ x.summary.outline
-  pub plain : is_plain x.summary.kind ≡ true
-  pub plain_now : is_plain e.summary.kind ≡ true
-  pub declared : DeclaresInHead (own_head edit.old c) x.summary.outline
-  pub no_clause : x.summary.outline.clauses ≡ []
+  pub place : TakesPlace (own_head edit.old c) x e
+  pub seen : SeesAlike edit.old edit.text c.items.kept_front
 
 -- The tokens of the item with a number.
 abbrev pub own_tokens : List ℕ → ℕ → List Piece
 own_tokens text i = tokens_between (tokens_of text) (own_start text i) (own_start text (i + 1))
 
 -- The check of the item that is made, if it is sound.
-abbrev pub own_check : List ℕ → List ℕ → ℕ → Option Checked
-own_check old text i = check_by (outlines_in old) i (spelled text (own_tokens text i))
+abbrev pub own_check : List ℕ → ℕ → Option Checked
+own_check text i = check_by (outlines_in text) i (spelled text (own_tokens text i))
 
 -- What such an edit does: one item is replaced, and no other is to be checked.
 pub record IsOneReplaced (edit : Edit) (c : Changes) (t : LineShift) (x e : Entry) : Type 0 where
@@ -130,5 +148,5 @@ pub record IsOneReplaced (edit : Edit) (c : Changes) (t : LineShift) (x e : Entr
   pub kinds : (links_in edit.text).kinds ≡ take c.items.kept_front (links_in edit.old).kinds ++ (e.summary.kind ∷ drop (c.items.kept_front + 1) (links_in edit.old).kinds)
   pub was_spelled : x ≡ entry_by (spelled edit.old (own_tokens edit.old c.items.kept_front))
   pub spelled_so : e ≡ entry_by (spelled edit.text (own_tokens edit.text c.items.kept_front))
-  pub checks : AreChecksMade edit.old edit.text c.items.kept_front (nones c.items.made.items) c.items.kept_back (made_at c.items.kept_front (own_check edit.old edit.text c.items.kept_front))
-  pub stirred : stirred_of edit ≡ length (made_at c.items.kept_front (own_check edit.old edit.text c.items.kept_front))
+  pub checks : AreChecksMade edit.old edit.text c.items.kept_front (nones c.items.made.items) c.items.kept_back (made_at c.items.kept_front (own_check edit.text c.items.kept_front))
+  pub stirred : stirred_of edit ≡ length (made_at c.items.kept_front (own_check edit.text c.items.kept_front))

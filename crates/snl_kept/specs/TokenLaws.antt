@@ -1,9 +1,8 @@
 -- The tokens of a text and of its items are one after another, and what tree is read of them.
-use Rattle.std.proofs.Common.{◌≡◌, ℕ, ◌+◌, ◌-◌, ◌<◌, ◌≤◌, All, List, [], ◌∷◌, length, take, drop, slice_get, Some, inl, inr, sym, ap, subst, ◌∙◌, arith, zero, suc, Bool, true, false, if◌then◌else◌, map, None}
+use Rattle.std.proofs.Common.{◌≡◌, ℕ, ◌+◌, ◌-◌, ◌<◌, ◌≤◌, All, List, [], ◌∷◌, length, take, drop, Some, sym, subst, arith, Bool, true, false, if◌then◌else◌, None}
 use Rattle.std.specs.List.{AllByRecursion as Each, list_any}
-use Rattle.std.proofs.lemmas.Bool.{cases_lt}
-use Rattle.std.proofs.lemmas.List.{drop-drop, length-drop, length-take-le}
-use Rattle.std.proofs.lemmas.List.Elements.{recursion_from_All, All-drop, All-filter, All-nil, All-take}
+use Rattle.std.proofs.lemmas.List.{length-drop, length-take-le}
+use Rattle.std.proofs.lemmas.List.Elements.{recursion_from_All}
 use Rattle.snl_cut.specs.Cut.{members}
 use Rattle.snl_lex.specs.declared.piece.Class.{Class}
 use Rattle.snl_lex.specs.declared.piece.Piece.{Piece}
@@ -12,13 +11,10 @@ use Rattle.snl_lex.specs.Pieces.{LiesIn, is_token, pieces_of, tokens_of}
 use Rattle.snl_syntax.specs.declared.tree.item.Item.{Item}
 use Rattle.snl_syntax.specs.Parsing.{kinds_in, is_bad}
 use Rattle.snl_syntax.specs.Reading.Items.{item_of}
-use Rattle.snl_items.specs.Items.{item_ends}
 use Rattle.snl_kept.specs.Parts.{EndsWithin}
-use Rattle.snl_kept.specs.Program.{ProgramItem, item_tokens, items_of, program_item, tree_in}
-use Rattle.snl_facts.specs.Each.{each_by, each_weaker, each_got, each_map, each_take, each_drop, each_filter, two_map, two_take, two_drop, two_split, two_filter, EachTwo}
+use Rattle.snl_kept.specs.Program.{tree_in}
+use Rattle.snl_facts.specs.Each.{each_weaker, each_take, each_drop, two_take, two_drop, two_split, two_filter, EachTwo}
 use Rattle.snl_facts.specs.Lists.{drop_further}
-use Rattle.snl_scope.specs.Summaries.Tokens.{IsSource}
-use Rattle.snl_check.specs.Spans.{AreRead}
 
 -- One token ends before another begins.
 abbrev pub Before : Piece → Piece → Type 0

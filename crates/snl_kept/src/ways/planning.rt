@@ -41,7 +41,7 @@ fn made_and_planned(
     ensures checked { IfOk result (λ r. IfSome r.1 (λ p. checked.new ≡ after_ticks checked.old (length p.parts.checks.made.items))) }
 {
     let made = made_alone(alloc, one, parsed)?;
-    let plan = own_plan(alloc, one, made[0].get(), checked)?;
+    let plan = own_plan(alloc, one, &made, made[0].get(), checked)?;
     Ok((made, plan))
 }
 

@@ -2,19 +2,22 @@
 //! is a state, in its conditions. In: what is kept of the two, and their tokens. Out: yes or no.
 #![tactic(auto)]
 
-ghost use Rattle.std.specs.Prelude.{◌≡◌, ◌↔◌, All, IfOk, IsTrue, map};
+ghost use Rattle.std.specs.Prelude.{◌≡◌, ◌↔◌, ◌<◌, [], All, IfOk, IsTrue, false, map, true};
 ghost use Rattle.snl_lex.specs.Pieces.{LiesIn};
 ghost use Rattle.snl_scope.specs.Linked.{faults_of};
+ghost use Rattle.snl_scope.specs.Clauses.{is_event_flag};
+ghost use Rattle.snl_check.specs.Shifted.{has_own_row};
 ghost use Rattle.snl_check.specs.ShiftedAround.{is_plain};
-ghost use Rattle.snl_kept.specs.ItemPlan.{AreAlike, SaysTheSame};
-ghost use Rattle.snl_kept.specs.ReplacedItem.{DeclaresInHead, SparesInside};
+ghost use Rattle.snl_kept.specs.ItemPlan.{AreAlike};
+ghost use Rattle.snl_kept.specs.ReplacedItem.{FlagsInHead, SparesInside, TakesPlace};
 
 use crate::entries::Entry;
+use crate::ways::one_item::numbers::is_named_state;
 use crate::ways::one_item::replaced::OwnTokens;
 use snl_cut::OutOfMemory;
 use snl_item_check::{Checked, wakes_alike};
 use snl_lex::TextEdit;
-use snl_scope::{ItemKind, Links, NameRef, Outline, same_outline};
+use snl_scope::{Declared, ItemKind, Links, NameRef, Outline, Role, SymbolKind};
 use std::alloc::Global;
 
 fn is_plain(kind: ItemKind) -> bool
@@ -33,28 +36,50 @@ pub fn is_same_kind(one: ItemKind, other: ItemKind) -> bool
     one == other
 }
 
-// Whether all names that an item declares are among so many of its first tokens.
-fn declares_in_head(outline: &Outline, head: usize) -> bool
-    ensures { IsTrue result → DeclaresInHead head outline.now }
+// Whether an item is a state, or faulty where it begins as one.
+fn has_own_row(outline: &Outline) -> bool
+    ensures { result ≡ has_own_row outline.now }
+{
+    is_named_state(outline) || matches!(outline.role, Role::State)
+}
+
+// Whether a name that an item declares is no event flag, or among so many of its first tokens.
+fn is_placed(declared: &Declared, head: usize) -> bool
+    ensures { IsTrue result → is_event_flag declared.now.variable.symbol_kind ≡ true → declared.now.token < head }
+{
+    !matches!(declared.variable.symbol_kind, SymbolKind::EventFlag) || declared.token < head
+}
+
+// Whether all event flags that an item declares are among so many of its first tokens.
+fn flags_in_head(outline: &Outline, head: usize) -> bool
+    ensures { IsTrue result → FlagsInHead head outline.now }
 {
     outline
         .declares
         .as_slice()
         .iter()
-        .all(|declared| declared.token < head)
+        .all(|declared| is_placed(declared, head))
 }
 
-/// Whether an item is in the place of one that said the same to the others, and both are plain:
-/// what it declares is among so many of its first tokens, and it has no clauses.
-pub fn says_the_same(was: &Entry, is: &Entry, head: usize) -> bool
-    ensures { IsTrue result → SaysTheSame head was.now is.now }
+// Whether an item has clauses.
+fn has_clauses(outline: &Outline) -> bool
+    ensures { result ≡ false → outline.now.clauses ≡ [] }
+{
+    !outline.clauses.as_slice().is_empty()
+}
+
+/// Whether an item can take the place of one so that rows tell of it where they told of that one:
+/// both are plain and have no clauses, and what rows tell of is among so many of its first tokens.
+pub fn takes_place(was: &Entry, is: &Entry, head: usize) -> bool
+    ensures { IsTrue result → TakesPlace head was.now is.now }
 {
     let (was, is) = (&was.summary, &is.summary);
-    same_outline(&is.outline, &was.outline)
-        && is_plain(was.kind)
+    is_plain(was.kind)
         && is_plain(is.kind)
-        && declares_in_head(&was.outline, head)
-        && was.outline.clauses.as_slice().is_empty()
+        && (head >= 2 || !has_own_row(&was.outline))
+        && flags_in_head(&was.outline, head)
+        && !has_clauses(&was.outline)
+        && !has_clauses(&is.outline)
 }
 
 /// Whether the links find nothing in an item past so many of its first tokens.

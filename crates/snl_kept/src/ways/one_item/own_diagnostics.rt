@@ -9,7 +9,7 @@ ghost use Rattle.snl_lex.specs.PieceList.{spelled};
 ghost use Rattle.snl_lex.specs.Pieces.{LiesIn};
 ghost use Rattle.snl_scope.specs.declared.summaries.summary.Outline.{Outline};
 ghost use Rattle.snl_kept.specs.OneItem.{IsOneItemEdit, item_of, old_of, outlines_by, text_of};
-ghost use Rattle.snl_kept.specs.Checks.{check_by};
+ghost use Rattle.snl_kept.specs.Checks.{check_by, outlines_in};
 ghost use Rattle.snl_kept.specs.Diagnostics.{diagnostic, shown_if};
 ghost use Rattle.snl_kept.specs.Entries.{entry_by};
 ghost use Rattle.snl_kept.specs.ItemPlan.{diagnostics_by};
@@ -87,8 +87,8 @@ pub fn own_diagnostics(
     requires some { 0 < length one.now.own.now.is.items }
     requires within { All (LiesIn (text_of one.now)) one.now.own.now.is.items }
     requires spelled { made.now ≡ entry_by (spelled (text_of one.now) one.now.own.now.is.items) }
-    requires checked { check.now ≡ check_by (outlines_by one.now) (item_of one.now) (spelled (text_of one.now) one.now.own.now.is.items) }
-    ensures { IfOk result (λ v. v.items ≡ diagnostics_by (old_of one.now) (text_of one.now) (outlines_by one.now) one.now.editing.lists.now.warns one.now.shift.by (item_of one.now) one.now.own.now one.now.editing.tables.now change.now (map finding_of one.now.editing.found.now)) }
+    requires checked { check.now ≡ check_by (outlines_in (text_of one.now)) (item_of one.now) (spelled (text_of one.now) one.now.own.now.is.items) }
+    ensures { IfOk result (λ v. v.items ≡ diagnostics_by (old_of one.now) (text_of one.now) (outlines_by one.now) (outlines_in (text_of one.now)) one.now.editing.lists.now.warns one.now.shift.by (item_of one.now) one.now.own.now one.now.editing.tables.now change.now (map finding_of one.now.editing.found.now)) }
 {
     let Editing {
         lists,

@@ -36,9 +36,8 @@ impl Drop for OwnTokens {
     }
 }
 
-/// An edit that makes one item in the place of one, whose first two tokens are before the edit: how
-/// it shifts lines, and the tokens of the item before the edit and after it. What is known of these
-/// is `IsOneItemEdit`.
+/// An edit that makes one item in the place of one: how it shifts lines, and the tokens of the item
+/// before the edit and after it. What is known of these is `IsOneItemEdit`.
 #[derive(Clone, Copy)]
 pub struct OneItem<'a, 't, 'o> {
     pub editing: Editing<'a, 't>,
@@ -53,20 +52,11 @@ pub struct OldItem<'a> {
     pub check: &'a Option<Checked>,
 }
 
-// Whether the first two tokens of an item are before those that an edit replaces.
-fn head_is_before(lists: &Lists, changes: &Changes, item: usize) -> bool
-    requires lists { item ≤ length lists.now.items.ends.items }
-    ensures { IsTrue result → last_end 0 (take item lists.now.items.ends.items) + 2 ≤ changes.now.tokens.edit.start }
-{
-    let start = changes.tokens.edit.start;
-    start >= 2 && lists.items.start_of(item) <= start - 2
-}
-
-// Whether an edit makes one item in the place of one, whose first two tokens are before the edit.
+// Whether an edit makes one item in the place of one, which begins where that one did.
 fn makes_one(lists: &Lists, changes: &Changes) -> bool
     ensures made { IsTrue result → length changes.now.items.made.items ≡ 1 }
     ensures gone { IsTrue result → changes.now.items.kept_front + 1 + changes.now.items.kept_back ≡ length lists.now.items.ends.items }
-    ensures head { IsTrue result → last_end 0 (take changes.now.items.kept_front lists.now.items.ends.items) + 2 ≤ changes.now.tokens.edit.start }
+    ensures head { IsTrue result → last_end 0 (take changes.now.items.kept_front lists.now.items.ends.items) ≤ changes.now.tokens.edit.start }
 {
     let items = &changes.items;
     let item = items.kept_front;
@@ -74,11 +64,10 @@ fn makes_one(lists: &Lists, changes: &Changes) -> bool
     item < count
         && items.kept_back == count - item - 1
         && items.made.len() == 1
-        && head_is_before(lists, changes, item)
+        && lists.items.start_of(item) <= changes.tokens.edit.start
 }
 
-/// How an edit shifts lines that makes one item in the place of one, whose first two tokens are
-/// before the edit, if it leaves the line markers.
+/// How an edit shifts lines that makes one item in the place of one, if it leaves the line markers.
 pub fn replaces_one(editing: &Editing) -> Option<LineShift>
     requires editing { IsUnderWay editing.now }
     ensures by { IfSome result (λ t. IsShiftIn editing.now t.by) }

@@ -106,8 +106,12 @@ fn summaries_of<'a>(
     Ok(summaries)
 }
 
-// The links of the new text, made of those of the old one.
-fn relinked(alloc: Global, editing: &Editing, made: &[Shared<Entry>]) -> Result<Links, OutOfMemory>
+/// The links of the new text, made of those of the old one.
+pub fn relinked(
+    alloc: Global,
+    editing: &Editing,
+    made: &[Shared<Entry>],
+) -> Result<Links, OutOfMemory>
     requires editing { IsUnderWay editing.now }
     requires made { AreEntriesIn editing.now made.now }
     ensures { IfOk result (λ l. l ≡ links_in (text_in editing.now)) }

@@ -17,6 +17,7 @@ returns c = λ edit ch t x e is.
     c.views_told_apart.ensures
     c.lines_move.ensures
     (check_stays c.views_told_apart.ensures c.equal_views.ensures.faults c.same_spelling_same_summary.ensures.bytes_by_spelling c.same_spelling_same_summary.ensures.alone)
+    c.same_spelling_same_summary.ensures.bytes_by_spelling
     (λ l. c.ends_in_order.ensures.rise (marks_of l))
     (λ l. c.ends_in_order.ensures.last (marks_of l) ∙ length-map (tokens_of l) (mark_in l))
     (c.tokens_around_stay.ensures edit ch.pieces is.edit_is is.lines.lines.old_short is.lines.lines.short is.changed.pieces ch.tokens is.changed.tokens t.by is.by)

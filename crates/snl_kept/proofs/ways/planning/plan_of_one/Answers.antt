@@ -19,5 +19,5 @@ item_plan-requires-clause-cost c =
     record {
       lexed = c.requires.editing.lexed;
       parsed = c.ticks-parsed.ensures ∙ c.in_ok-made.ensures.parsed ∙ ap ticked c.new-parsed.ensures ∙ sym c.requires.one.one_made ∙ ap length c.requires.editing.changes.items.fresh;
-      checked = c.ticks.ensures ∙ ticks ∙ ap (λ n. after_ticks n (length made.items)) c.new-checked.ensures ∙ exact_ticks (length made.items) few ∙ sym inside.stirred;
+      checked = c.ticks.ensures ∙ ticks ∙ ap (λ n. after_ticks n (length made.items)) c.new-checked.ensures ∙ exact_ticks (length made.items) few ∙ sym inside.parts.stirred;
     }

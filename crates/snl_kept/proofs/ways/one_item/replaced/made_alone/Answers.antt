@@ -1,4 +1,4 @@
-use Rattle.std.proofs.Common.{◌≡◌, All, List, [], ◌∷◌, take, sym, ap, subst, ◌∙◌}
+use Rattle.std.proofs.Common.{◌≡◌, ◌<◌, All, List, [], ◌∷◌, length, take, sym, ap, subst, ◌∙◌}
 use Rattle.snl_cut.specs.Cut.{last_end}
 use Rattle.snl_lex.specs.declared.piece.Piece.{Piece}
 use Rattle.snl_lex.specs.Edit.{edit_of}
@@ -10,7 +10,7 @@ use Rattle.snl_kept.specs.Entries.{entry_by}
 use Rattle.snl_kept.specs.ReplacedItem.{own_tokens}
 use Rattle.snl_kept.specs.Planned.{AreEntriesMade}
 use Rattle.snl_kept.proofs.Members.{entries_made}
-use Rattle.snl_kept.proofs.OneItem.{one_member, own_lie}
+use Rattle.snl_kept.proofs.OneItem.{made_there, one_member, own_lie, own_some}
 use Rattle.snl_kept.proofs.ways.one_item.replaced.made_alone.Goals as goal
 
 pub entry_of-requires-clause-within : goal.entry_of-requires-clause-within
@@ -18,6 +18,15 @@ entry_of-requires-clause-within c =
     let text = c.args.one.now.editing.edit.now.text.now in
     let k = c.args.one.now.editing.changes.now.items.kept_front in
     subst (All (LiesIn text)) (sym (c.deref.ensures.value ∙ c.requires.one.own.is)) (own_lie text k (c.text_in_pieces.ensures.inside text))
+
+pub entry_of-requires-clause-some : goal.entry_of-requires-clause-some
+entry_of-requires-clause-some c =
+    let edit = c.args.one.now.editing.edit.now in
+    let text = edit.text.now in
+    let changes = c.args.one.now.editing.changes.now in
+    let k = changes.items.kept_front in
+    let there = made_there (edit_of edit) changes.tokens.edit changes.items c.requires.one.editing.changes.items c.requires.one.one.one_made c.requires.one.one.one_gone in
+    subst (λ (ts : List Piece). 0 < length ts) (sym (c.deref.ensures.value ∙ c.requires.one.own.is)) (own_some text k there (c.items_end_in_order.ensures text))
 
 pub returns-clause-made : goal.returns-clause-made
 returns-clause-made c =
