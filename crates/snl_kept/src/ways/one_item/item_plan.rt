@@ -36,7 +36,7 @@ use crate::ways::one_item::touched_rows::{TouchedRows, touched_by, touches_littl
 use crate::work::Work;
 use snl_cut::{Count, OutOfMemory};
 use snl_lex::text_in_pieces;
-use snl_scope::{Links, same_outline, same_spelling_same_summary};
+use snl_scope::{same_outline, same_spelling_same_summary};
 use snl_syntax::{outcome_told, same_spelling_same_tree};
 use std::alloc::Global;
 
