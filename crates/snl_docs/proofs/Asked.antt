@@ -5,15 +5,12 @@ use Rattle.json.specs.Print.{quoted}
 use Rattle.serde_json.specs.Data.{Data}
 use Rattle.snl_place.specs.declared.places.Encoding.{Encoding}
 use Rattle.snl_place.specs.declared.places.Place.{Place}
-use Rattle.snl_meaning.specs.declared.meanings.Meaning.{Meaning}
-use Rattle.snl_meaning.specs.Meanings.{meaning_near}
-use Rattle.snl_hover.specs.Hover.{Told, hover_of}
 use Rattle.snl_say.specs.declared.answers.ErrorCode.TheVariants.{InvalidParams}
 use Rattle.snl_docs.specs.declared.question.Question.{Question}
 use Rattle.snl_docs.specs.declared.question.Question.TheVariants.{Symbols, Definition, Hover}
 use Rattle.snl_docs.specs.Asked.{answer_by, answer_of, answer_on, framed_answer, framed_meaning, hover_answer, location_answer}
-use Rattle.snl_document.specs.Spans.{offset_at, start_of, stop_of}
 use Rattle.snl_document.specs.Documents.{Doc, document_of}
+use Rattle.snl_document.specs.Says.{NameTold, Says}
 use Rattle.snl_docs.specs.Known.{IsByText, kept_for}
 use Rattle.snl_replies.specs.Replies.{Reply, AnswerError, AnswerLocation, AnswerNull, framed_location, framed_reply}
 use Rattle.snl_docs.specs.Served.{Served}
@@ -28,134 +25,135 @@ pub location_framed : (id : Data) (uri quoted_uri : List ℕ) (start stop : Plac
 unfolding framed_location framed_reply
 location_framed id uri quoted_uri start stop is = rw is refl
 
-meaning_framed : (encoding : Encoding) (id : Data) (uri quoted_uri text : List ℕ)
-    (meaning : Option Meaning) → quoted_uri ≡ quoted uri →
-    framed_meaning encoding id quoted_uri text meaning
-    ≡ framed_reply (location_answer encoding id uri text meaning)
-meaning_framed encoding id uri quoted_uri text None is = refl
-meaning_framed encoding id uri quoted_uri text (Some m) is =
-    location_framed id uri quoted_uri (start_of encoding text m.declared)
-    (stop_of encoding text m.declared) is
+meaning_framed : (id : Data) (uri quoted_uri : List ℕ) (places : Option (Place × Place)) →
+    quoted_uri ≡ quoted uri →
+    framed_meaning id quoted_uri places ≡ framed_reply (location_answer id uri places)
+meaning_framed id uri quoted_uri None is = refl
+meaning_framed id uri quoted_uri (Some (start, stop)) is =
+    location_framed id uri quoted_uri start stop is
 
-answer_framed : (encoding : Encoding) (id : Data) (uri quoted_uri text : List ℕ)
+answer_framed : (says : Says) (encoding : Encoding) (id : Data) (uri quoted_uri text : List ℕ)
     (question : Question) → quoted_uri ≡ quoted uri →
-    framed_answer encoding id quoted_uri question text
-    ≡ framed_reply (answer_by encoding id uri question text)
+    framed_answer says encoding id quoted_uri question text
+    ≡ framed_reply (answer_by says encoding id uri question text)
 unfolding answer_by
-answer_framed encoding id uri quoted_uri text Symbols is = refl
-answer_framed encoding id uri quoted_uri text (Definition place) is =
-    meaning_framed encoding id uri quoted_uri text
-    (meaning_near text (offset_at encoding text place)) is
-answer_framed encoding id uri quoted_uri text (Hover place) is = refl
+answer_framed says encoding id uri quoted_uri text Symbols is = refl
+answer_framed says encoding id uri quoted_uri text (Definition place) is =
+    meaning_framed id uri quoted_uri (says.declared_at encoding text place) is
+answer_framed says encoding id uri quoted_uri text (Hover place) is = refl
 
 -- ---- by a document
 
 -- What is answered by the text of a document was written.
-pub answer_is : (encoding : Encoding) (id : Data) (question : Question) (doc : Doc)
+pub answer_is : (says : Says) (encoding : Encoding) (id : Data) (question : Question) (doc : Doc)
     (text quoted_uri old new : List ℕ) →
-    new ≡ old ++ framed_answer encoding id quoted_uri question text →
+    new ≡ old ++ framed_answer says encoding id quoted_uri question text →
     quoted_uri ≡ quoted doc.uri → Some text ≡ checked doc.text →
-    new ≡ old ++ framed_reply (answer_of encoding id question doc)
+    new ≡ old ++ framed_reply (answer_of says encoding id question doc)
 unfolding answer_of
-answer_is encoding id question doc text quoted_uri old new written is known =
+answer_is says encoding id question doc text quoted_uri old new written is known =
     written ∙ ap (λ (l : List ℕ). old ++ l)
-    (answer_framed encoding id doc.uri quoted_uri text question is
+    (answer_framed says encoding id doc.uri quoted_uri text question is
     ∙ ap (λ (o : Option (List ℕ)). framed_reply
-    (option_map_or (answer_by encoding id doc.uri question) o (AnswerNull id))) known)
+    (option_map_or (answer_by says encoding id doc.uri question) o (AnswerNull id))) known)
 
 -- It isn't checked, and `null` was written.
-pub null_is : (encoding : Encoding) (id : Data) (question : Question) (doc : Doc)
+pub null_is : (says : Says) (encoding : Encoding) (id : Data) (question : Question) (doc : Doc)
     (old new : List ℕ) → new ≡ old ++ framed_reply (AnswerNull id) → None ≡ checked doc.text →
-    new ≡ old ++ framed_reply (answer_of encoding id question doc)
+    new ≡ old ++ framed_reply (answer_of says encoding id question doc)
 unfolding answer_of
-null_is encoding id question doc old new written unknown =
+null_is says encoding id question doc old new written unknown =
     written ∙ ap (λ (o : Option (List ℕ)). old ++ framed_reply
-    (option_map_or (answer_by encoding id doc.uri question) o (AnswerNull id))) unknown
+    (option_map_or (answer_by says encoding id doc.uri question) o (AnswerNull id))) unknown
 
 -- ---- by documents
 
-abbrev by_document : Encoding → (id : Data) → Question → Option Doc → Reply
-by_document encoding id question doc =
-    option_map_or (answer_of encoding id question) doc (AnswerError id InvalidParams)
+abbrev by_document : Says → Encoding → (id : Data) → Question → Option Doc → Reply
+by_document says encoding id question doc =
+    option_map_or (answer_of says encoding id question) doc (AnswerError id InvalidParams)
 
 -- By the document that was found.
-pub answered_found : (encoding : Encoding) (docs : List Doc) (id : Data) (uri : List ℕ)
+pub answered_found : (says : Says) (encoding : Encoding) (docs : List Doc) (id : Data)
+    (uri : List ℕ)
     (question : Question) (d : Doc) → Some d ≡ document_of uri docs →
-    answer_of encoding id question d ≡ answer_on encoding docs id uri question
+    answer_of says encoding id question d ≡ answer_on says encoding docs id uri question
 unfolding answer_on
-answered_found encoding docs id uri question d found = ap (by_document encoding id question) found
+answered_found says encoding docs id uri question d found =
+    ap (by_document says encoding id question) found
 
-pub answered_missed : (encoding : Encoding) (docs : List Doc) (id : Data) (uri : List ℕ)
+pub answered_missed : (says : Says) (encoding : Encoding) (docs : List Doc) (id : Data)
+    (uri : List ℕ)
     (question : Question) → None ≡ document_of uri docs →
-    AnswerError id InvalidParams ≡ answer_on encoding docs id uri question
+    AnswerError id InvalidParams ≡ answer_on says encoding docs id uri question
 unfolding answer_on
-answered_missed encoding docs id uri question missed =
-    ap (by_document encoding id question) missed
+answered_missed says encoding docs id uri question missed =
+    ap (by_document says encoding id question) missed
 
 -- ---- by what is kept for a URI
 
 -- The answer, by that alone.
-abbrev pub answer_kept : Encoding → (id : Data) → (uri : List ℕ) → Question →
+abbrev pub answer_kept : Says → Encoding → (id : Data) → (uri : List ℕ) → Question →
     Option (Option (List ℕ)) → Reply
-answer_kept encoding id uri question None = AnswerError id InvalidParams
-answer_kept encoding id uri question (Some text) =
-    option_map_or (answer_by encoding id uri question) (checked text) (AnswerNull id)
+answer_kept says encoding id uri question None = AnswerError id InvalidParams
+answer_kept says encoding id uri question (Some text) =
+    option_map_or (answer_by says encoding id uri question) (checked text) (AnswerNull id)
 
-by_kept : (encoding : Encoding) (docs : List Doc) (id : Data) (uri : List ℕ)
+by_kept : (says : Says) (encoding : Encoding) (docs : List Doc) (id : Data) (uri : List ℕ)
     (question : Question) (doc : Option Doc) → document_of uri docs ≡ doc →
-    by_document encoding id question doc
-    ≡ answer_kept encoding id uri question (option_map (λ (d : Doc). d.text) doc)
+    by_document says encoding id question doc
+    ≡ answer_kept says encoding id uri question (option_map (λ (d : Doc). d.text) doc)
 unfolding answer_of
-by_kept encoding docs id uri question None is = refl
-by_kept encoding docs id uri question (Some d) is =
+by_kept says encoding docs id uri question None is = refl
+by_kept says encoding docs id uri question (Some d) is =
     ap (λ (u : List ℕ).
-    option_map_or (answer_by encoding id u question) (checked d.text) (AnswerNull id))
+    option_map_or (answer_by says encoding id u question) (checked d.text) (AnswerNull id))
     (named_so uri docs d is)
 
-pub on_by_kept : (encoding : Encoding) (docs : List Doc) (id : Data) (uri : List ℕ)
+pub on_by_kept : (says : Says) (encoding : Encoding) (docs : List Doc) (id : Data) (uri : List ℕ)
     (question : Question) →
-    answer_on encoding docs id uri question
-    ≡ answer_kept encoding id uri question (kept_for uri docs)
+    answer_on says encoding docs id uri question
+    ≡ answer_kept says encoding id uri question (kept_for uri docs)
 unfolding answer_on
-on_by_kept encoding docs id uri question =
-    by_kept encoding docs id uri question (document_of uri docs) refl
+on_by_kept says encoding docs id uri question =
+    by_kept says encoding docs id uri question (document_of uri docs) refl
 
 -- ---- nothing is published by an answer
 
-location_by_text : (s : Served) (encoding : Encoding) (id : Data) (uri text : List ℕ)
-    (meaning : Option Meaning) → IsByText s (location_answer encoding id uri text meaning)
-location_by_text s encoding id uri text None = tt
-location_by_text s encoding id uri text (Some m) = tt
+location_by_text : (says : Says) (s : Served) (id : Data) (uri : List ℕ)
+    (places : Option (Place × Place)) →
+    IsByText says s (location_answer id uri places)
+location_by_text says s id uri None = tt
+location_by_text says s id uri (Some (start, stop)) = tt
 
-hover_by_text : (s : Served) (encoding : Encoding) (id : Data) (text : List ℕ)
-    (told : Option Told) → IsByText s (hover_answer encoding id text told)
-hover_by_text s encoding id text None = tt
-hover_by_text s encoding id text (Some h) = tt
+hover_by_text : (says : Says) (s : Served) (id : Data) (told : Option NameTold) →
+    IsByText says s (hover_answer id told)
+hover_by_text says s id None = tt
+hover_by_text says s id (Some told) = tt
 
-question_by_text : (s : Served) (encoding : Encoding) (id : Data) (uri : List ℕ)
+question_by_text : (says : Says) (s : Served) (encoding : Encoding) (id : Data) (uri : List ℕ)
     (question : Question) (text : List ℕ) →
-    IsByText s (answer_by encoding id uri question text)
+    IsByText says s (answer_by says encoding id uri question text)
 unfolding answer_by
-question_by_text s encoding id uri Symbols text = tt
-question_by_text s encoding id uri (Definition place) text =
-    location_by_text s encoding id uri text (meaning_near text (offset_at encoding text place))
-question_by_text s encoding id uri (Hover place) text =
-    hover_by_text s encoding id text (hover_of text (offset_at encoding text place))
+question_by_text says s encoding id uri Symbols text = tt
+question_by_text says s encoding id uri (Definition place) text =
+    location_by_text says s id uri (says.declared_at encoding text place)
+question_by_text says s encoding id uri (Hover place) text =
+    hover_by_text says s id (says.told_at encoding text place)
 
-kept_by_text : (s : Served) (encoding : Encoding) (id : Data) (uri : List ℕ)
+kept_by_text : (says : Says) (s : Served) (encoding : Encoding) (id : Data) (uri : List ℕ)
     (question : Question) (kept : Option (Option (List ℕ))) →
-    IsByText s (answer_kept encoding id uri question kept)
-kept_by_text s encoding id uri question None = tt
-kept_by_text s encoding id uri question (Some text) = by (checked text)
+    IsByText says s (answer_kept says encoding id uri question kept)
+kept_by_text says s encoding id uri question None = tt
+kept_by_text says s encoding id uri question (Some text) = by (checked text)
   where
     by : (o : Option (List ℕ)) →
-        IsByText s (option_map_or (answer_by encoding id uri question) o (AnswerNull id))
+        IsByText says s (option_map_or (answer_by says encoding id uri question) o (AnswerNull id))
     by None = tt
-    by (Some known) = question_by_text s encoding id uri question known
+    by (Some known) = question_by_text says s encoding id uri question known
 
-pub on_by_text : (s : Served) (encoding : Encoding) (docs : List Doc) (id : Data)
+pub on_by_text : (says : Says) (s : Served) (encoding : Encoding) (docs : List Doc) (id : Data)
     (uri : List ℕ) (question : Question) →
-    IsByText s (answer_on encoding docs id uri question)
-on_by_text s encoding docs id uri question =
-    subst (IsByText s) (sym (on_by_kept encoding docs id uri question))
-    (kept_by_text s encoding id uri question (kept_for uri docs))
+    IsByText says s (answer_on says encoding docs id uri question)
+on_by_text says s encoding docs id uri question =
+    subst (IsByText says s) (sym (on_by_kept says encoding docs id uri question))
+    (kept_by_text says s encoding id uri question (kept_for uri docs))

@@ -5,6 +5,7 @@ use Rattle.snl_hear.specs.Notifications.{Noted, Initialized, Exit, DidOpen, DidC
 use Rattle.snl_hear.specs.Requests.{Asked, Initialize, Shutdown, DocumentSymbol, Definition, Hover, MethodNotFound}
 use Rattle.snl_hear.specs.Requests as asked
 use Rattle.snl_document.specs.Documents.{Doc, document_of}
+use Rattle.snl_document.specs.Says.{Says}
 use Rattle.snl_replies.specs.Replies.{Reply, Publish, Notice, AnswerNull, AnswerInitialize, AnswerSymbols, AnswerLocation, AnswerHover, AnswerError}
 use Rattle.snl_docs.specs.Served.{Served}
 use Rattle.snl_document.specs.Texts.{checked}
@@ -23,15 +24,16 @@ abbrev pub kept_for : (uri : List ℕ) → List Doc → Option (Option (List ℕ
 kept_for uri docs = option_map (λ d. d.text) (document_of uri docs)
 
 -- What is published is what is found in the text that is kept.
-abbrev pub IsByText : Served → Reply → Type 0
-IsByText s (Publish found uri version) = found ≡ found_of_text s.encoding (text_of uri s.docs)
-IsByText s (Notice severity message) = ⊤
-IsByText s (AnswerNull id) = ⊤
-IsByText s (AnswerInitialize id encoding) = ⊤
-IsByText s (AnswerSymbols id symbols) = ⊤
-IsByText s (AnswerLocation id uri start stop) = ⊤
-IsByText s (AnswerHover id contents start stop) = ⊤
-IsByText s (AnswerError id code) = ⊤
+abbrev pub IsByText : Says → Served → Reply → Type 0
+IsByText says s (Publish found uri version) =
+    found ≡ found_of_text says s.encoding (text_of uri s.docs)
+IsByText says s (Notice severity message) = ⊤
+IsByText says s (AnswerNull id) = ⊤
+IsByText says s (AnswerInitialize id encoding) = ⊤
+IsByText says s (AnswerSymbols id symbols) = ⊤
+IsByText says s (AnswerLocation id uri start stop) = ⊤
+IsByText says s (AnswerHover id contents start stop) = ⊤
+IsByText says s (AnswerError id code) = ⊤
 
 -- It is asked of the document of this URI.
 abbrev pub IsAskedOf : (uri : List ℕ) → Asked → Type 0

@@ -12,9 +12,11 @@ use Rattle.snl_docs.specs.declared.phase.Phase.{Phase}
 use Rattle.snl_docs.specs.declared.phase.Phase.TheVariants.{New, Ready, Shut, Gone}
 use Rattle.snl_docs.specs.declared.question.Question.TheVariants as question
 use Rattle.snl_docs.specs.Asked.{answer_on}
+use Rattle.snl_document.specs.Says.{Says}
 use Rattle.snl_document.specs.Documents.{Doc, after_changes, lost, opened, put, updated, without}
 use Rattle.snl_replies.specs.Replies.{Reply, Publish, AnswerError, AnswerInitialize, AnswerNull, body_of}
 use Rattle.snl_document.specs.Told.{told, told_of_all, told_of_named}
+use Rattle.snl_talk.specs.Talks.{Talk}
 use Rattle.snl_turns.specs.Turns.{Turn, heard_at}
 
 -- The documents that are open, how places are counted, and how far the talk is.
@@ -77,24 +79,24 @@ answer_first id (Initialize encoding) = AnswerInitialize id encoding
 answer_first id _ = AnswerError id error.ServerNotInitialized
 
 -- Between `initialize` and `shutdown`.
-abbrev pub answer_ready : Encoding → List Doc → (id : Data) → Asked → Reply
-answer_ready encoding docs id (Initialize other) = AnswerError id error.InvalidRequest
-answer_ready encoding docs id Shutdown = AnswerNull id
-answer_ready encoding docs id (DocumentSymbol uri) =
-    answer_on encoding docs id uri question.Symbols
-answer_ready encoding docs id (Definition at) =
-    answer_on encoding docs id at.uri (question.Definition at.place)
-answer_ready encoding docs id (Hover at) =
-    answer_on encoding docs id at.uri (question.Hover at.place)
-answer_ready encoding docs id asked.InvalidParams = AnswerError id error.InvalidParams
-answer_ready encoding docs id MethodNotFound = AnswerError id error.MethodNotFound
+abbrev pub answer_ready : Says → Encoding → List Doc → (id : Data) → Asked → Reply
+answer_ready says encoding docs id (Initialize other) = AnswerError id error.InvalidRequest
+answer_ready says encoding docs id Shutdown = AnswerNull id
+answer_ready says encoding docs id (DocumentSymbol uri) =
+    answer_on says encoding docs id uri question.Symbols
+answer_ready says encoding docs id (Definition at) =
+    answer_on says encoding docs id at.uri (question.Definition at.place)
+answer_ready says encoding docs id (Hover at) =
+    answer_on says encoding docs id at.uri (question.Hover at.place)
+answer_ready says encoding docs id asked.InvalidParams = AnswerError id error.InvalidParams
+answer_ready says encoding docs id MethodNotFound = AnswerError id error.MethodNotFound
 
 -- One answer for each request.
-abbrev pub answer_in : Phase → Encoding → List Doc → (id : Data) → Asked → Reply
-answer_in New encoding docs id asked = answer_first id asked
-answer_in Ready encoding docs id asked = answer_ready encoding docs id asked
-answer_in Shut encoding docs id asked = AnswerError id error.InvalidRequest
-answer_in (Gone clean) encoding docs id asked = AnswerError id error.InvalidRequest
+abbrev pub answer_in : Says → Phase → Encoding → List Doc → (id : Data) → Asked → Reply
+answer_in says New encoding docs id asked = answer_first id asked
+answer_in says Ready encoding docs id asked = answer_ready says encoding docs id asked
+answer_in says Shut encoding docs id asked = AnswerError id error.InvalidRequest
+answer_in says (Gone clean) encoding docs id asked = AnswerError id error.InvalidRequest
 
 -- ---- what is told of documents
 
@@ -102,9 +104,9 @@ abbrev pub lost_by : (uri : Option (List ℕ)) → List Doc → List Doc
 lost_by None docs = map lost docs
 lost_by (Some uri) docs = updated uri lost docs
 
-abbrev pub told_of_lost : Encoding → (uri : Option (List ℕ)) → List Doc → List Reply
-told_of_lost encoding None docs = told_of_all encoding docs
-told_of_lost encoding (Some uri) docs = told_of_named encoding uri lost docs
+abbrev pub told_of_lost : Says → Encoding → (uri : Option (List ℕ)) → List Doc → List Reply
+told_of_lost says encoding None docs = told_of_all says encoding docs
+told_of_lost says encoding (Some uri) docs = told_of_named says encoding uri lost docs
 
 -- ---- notifications between `initialize` and `shutdown`
 
@@ -118,15 +120,15 @@ docs_after encoding docs (DidClose uri) = without uri docs
 docs_after encoding docs (InvalidParams uri) = lost_by uri docs
 docs_after encoding docs Other = docs
 
-abbrev pub told_by : Encoding → List Doc → Noted → List Reply
-told_by encoding docs Initialized = []
-told_by encoding docs Exit = []
-told_by encoding docs (DidOpen uri version text) = told encoding (opened uri version text)
-told_by encoding docs (DidChange uri version changes) =
-    told_of_named encoding uri (after_changes encoding version changes) docs
-told_by encoding docs (DidClose uri) = Publish [] uri None ∷ []
-told_by encoding docs (InvalidParams uri) = told_of_lost encoding uri docs
-told_by encoding docs Other = []
+abbrev pub told_by : Says → Encoding → List Doc → Noted → List Reply
+told_by says encoding docs Initialized = []
+told_by says encoding docs Exit = []
+told_by says encoding docs (DidOpen uri version text) = told says encoding (opened uri version text)
+told_by says encoding docs (DidChange uri version changes) =
+    told_of_named says encoding uri (after_changes encoding version changes) docs
+told_by says encoding docs (DidClose uri) = Publish [] uri None ∷ []
+told_by says encoding docs (InvalidParams uri) = told_of_lost says encoding uri docs
+told_by says encoding docs Other = []
 
 -- At other times nothing is done for one but `exit`.
 abbrev pub after_note : Served → Noted → Served
@@ -134,8 +136,8 @@ after_note s Exit = in_phase s (Gone (is_shut s.phase))
 after_note s noted =
     if is_ready s.phase then with_docs s (docs_after s.encoding s.docs noted) else s
 
-abbrev pub told_note : Served → Noted → List Reply
-told_note s noted = if is_ready s.phase then told_by s.encoding s.docs noted else []
+abbrev pub told_note : Says → Served → Noted → List Reply
+told_note says s noted = if is_ready s.phase then told_by says s.encoding s.docs noted else []
 
 -- ---- messages
 
@@ -147,21 +149,25 @@ after_heard s Response = s
 after_heard s (Request id asked) = after_request s.phase s asked
 after_heard s (Notification noted) = after_note s noted
 
-abbrev pub replies_to : Served → Heard → List Reply
-replies_to s NoJson = AnswerError null error.ParseError ∷ told_of_all s.encoding s.docs
-replies_to s NoMessage = AnswerError null error.InvalidRequest ∷ []
-replies_to s Response = []
-replies_to s (Request id asked) = answer_in s.phase s.encoding s.docs id asked ∷ []
-replies_to s (Notification noted) = told_note s noted
+abbrev pub replies_to : Says → Served → Heard → List Reply
+replies_to says s NoJson = AnswerError null error.ParseError ∷ told_of_all says s.encoding s.docs
+replies_to says s NoMessage = AnswerError null error.InvalidRequest ∷ []
+replies_to says s Response = []
+replies_to says s (Request id asked) = answer_in says s.phase s.encoding s.docs id asked ∷ []
+replies_to says s (Notification noted) = told_note says s noted
 
 -- What is kept after a message.
 unfoldable pub after : Served → Turn → Served
 after s turn = after_heard s (heard_at turn)
 
 -- What is said to it, in order.
-abbrev pub replied : Served → Turn → List Reply
-replied s turn = replies_to s (heard_at turn)
+abbrev pub replied : Says → Served → Turn → List Reply
+replied says s turn = replies_to says s (heard_at turn)
 
 -- The bodies of these.
-unfoldable pub replies : Served → Turn → List (List ℕ)
-replies s turn = map body_of (replied s turn)
+unfoldable pub replies : Says → Served → Turn → List (List ℕ)
+replies says s turn = map body_of (replied says s turn)
+
+-- The talk with a client over texts that say so much.
+abbrev pub talk_by : Says → Talk Served
+talk_by says = record { after = after; ended = ended_of; replies = replies says }

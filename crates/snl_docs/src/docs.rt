@@ -2,8 +2,7 @@
 //! In: one message after another. Out: what is said to each, after the bytes that are there.
 //! Knows nothing of readers and writers.
 
-ghost use Rattle.std.specs.Prelude.{◌≡◌, ◌++◌, OnOk, flat_map};
-ghost use Rattle.snl_frame.specs.Framed.{framed};
+ghost use Rattle.std.specs.Prelude.{◌≡◌, ◌++◌, OnOk};
 ghost use Rattle.snl_hear.specs.Heard.{heard_of};
 ghost use Rattle.snl_hear.specs.Notifications.{noted_of};
 ghost use Rattle.snl_hear.specs.Requests.{asked_of};
@@ -13,11 +12,12 @@ ghost use Rattle.snl_replies.specs.Replies.{framed_reply, said_of};
 use crate::phase::Phase;
 use crate::requests::answer_ready;
 use snl_cut::OutOfMemory;
-use snl_document::{Document, change, close, lose, lose_all, open};
+use snl_document::{CheckedText, Document, change, close, lose, lose_all, open};
 use snl_hear::{Body, Message, Notification, Request};
 use snl_place::Encoding;
 use snl_replies::{say_error, say_initialize};
 use snl_say::{ErrorCode, Id};
+use snl_talk::Answers;
 use snl_turns::Turn;
 use std::alloc::{AllocError, Global};
 use std::marker::Model;
@@ -25,13 +25,13 @@ use std::marker::Model;
 /// What is kept from one message to the next: the documents that are open, how their places are
 /// counted, and how far the talk is.
 #[derive(Drop)]
-pub struct Docs {
-    documents: Vec<Document>,
+pub struct Docs<C: CheckedText> {
+    documents: Vec<Document<C>>,
     encoding: Encoding,
     phase: Phase,
 }
 
-impl Model for Docs {
+impl<C: CheckedText> Model for Docs<C> {
     ghost use Rattle.snl_docs.specs.Served.{Served};
 
     ghost Value = { Served };
@@ -43,13 +43,12 @@ impl Model for Docs {
     } };
 }
 
-impl Docs {
-    ghost use Rattle.snl_docs.specs.Served.{after, after_heard, after_note, after_request, answer_in, answer_first, asked_first, docs_after, ended_of, replies, replies_to, start, told_by, told_note, with_docs};
-    ghost use Rattle.snl_turns.specs.Turns.{turn_of};
+impl<C: CheckedText + Drop> Docs<C> {
+    ghost use Rattle.snl_docs.specs.Served.{after_heard, after_note, after_request, answer_in, answer_first, asked_first, docs_after, replies_to, start, told_by, told_note, with_docs};
 
     /// Nothing is open, and `initialize` is to come.
     #[tactic(auto, unfolding(crate::specs::Served::start))]
-    pub fn new(alloc: Global) -> Docs
+    pub fn new(alloc: Global) -> Docs<C>
         ensures { result ≡ start }
     {
         Docs {
@@ -59,36 +58,11 @@ impl Docs {
         }
     }
 
-    /// Answers a message. After an `Err`, which is want of memory, nothing is known of what is
-    /// kept, and what is said may be cut short: whoever asks is to end the talk.
-    #[tactic(auto, using(snl_replies::specs::ReplyLaws::said_framed), unfolding(crate::specs::Served::after, crate::specs::Served::replies))]
-    pub fn answer(&mut self, turn: Turn<'_>, said: &mut Vec<u8>) -> Result<(), OutOfMemory>
-        ensures state { OnOk result (self.new ≡ after self.old (turn_of turn.entry)) }
-        ensures said { OnOk result (said.new.items ≡ said.old.items
-            ++ flat_map framed (replies self.old (turn_of turn.entry))) }
-    {
-        let Turn::Body(bytes) = turn else {
-            return self.hear(Message::NoJson, said);
-        };
-        let alloc = *said.allocator();
-        let body = Body::read(alloc, bytes)?;
-        let message = body.message(alloc)?;
-        self.hear(message, said)
-    }
-
-    /// Whether the talk ended after `shutdown`, once `exit` came.
-    #[tactic(auto, unfolding(crate::specs::Served::ended_of))]
-    pub fn ended(&self) -> Option<bool>
-        ensures { result ≡ ended_of self.now }
-    {
-        self.phase.ended()
-    }
-
     #[tactic(auto, unfolding(snl_replies::specs::Replies::said_of))]
     fn hear(&mut self, message: Message<'_>, said: &mut Vec<u8>) -> Result<(), OutOfMemory>
         ensures state { OnOk result (self.new ≡ after_heard self.old (heard_of message.entry)) }
         ensures said { OnOk result (said.new.items ≡ said.old.items
-            ++ said_of (replies_to self.old (heard_of message.entry))) }
+            ++ said_of (replies_to C.says self.old (heard_of message.entry))) }
     {
         match message {
             Message::NoJson => {
@@ -113,7 +87,7 @@ impl Docs {
     ) -> Result<(), OutOfMemory>
         ensures state { self.new ≡ after_request self.old.phase self.old (asked_of request.entry) }
         ensures said { OnOk result (said.new.items ≡ said.old.items
-            ++ framed_reply (answer_in self.old.phase self.old.encoding self.old.docs
+            ++ framed_reply (answer_in C.says self.old.phase self.old.encoding self.old.docs
             (id_data id.entry) (asked_of request.entry))) }
     {
         match self.phase {
@@ -161,7 +135,7 @@ impl Docs {
     fn note(&mut self, told: Notification<'_>, said: &mut Vec<u8>) -> Result<(), OutOfMemory>
         ensures state { OnOk result (self.new ≡ after_note self.old (noted_of told.entry)) }
         ensures said { OnOk result (said.new.items ≡ said.old.items
-            ++ said_of (told_note self.old (noted_of told.entry))) }
+            ++ said_of (told_note C.says self.old (noted_of told.entry))) }
     {
         if let Notification::Exit = told {
             self.phase = Phase::Gone(self.phase.is_shut());
@@ -178,7 +152,7 @@ impl Docs {
         ensures state { OnOk result (self.new ≡ with_docs self.old
             (docs_after self.old.encoding self.old.docs (noted_of told.entry))) }
         ensures said { OnOk result (said.new.items ≡ said.old.items
-            ++ said_of (told_by self.old.encoding self.old.docs (noted_of told.entry))) }
+            ++ said_of (told_by C.says self.old.encoding self.old.docs (noted_of told.entry))) }
     {
         let encoding = self.encoding;
         let documents = &mut self.documents;
@@ -196,5 +170,27 @@ impl Docs {
             Notification::InvalidParams { uri: None } => lose_all(documents, encoding, said),
             Notification::Initialized | Notification::Exit | Notification::Other => Ok(()),
         }
+    }
+}
+
+impl<C: CheckedText + Drop> Answers for Docs<C> {
+    ghost use Rattle.snl_docs.specs.Served.{talk_by};
+
+    ghost talk = { talk_by C.says };
+
+    #[tactic(auto, using(snl_replies::specs::ReplyLaws::said_framed), unfolding(crate::specs::Served::after, crate::specs::Served::replies))]
+    fn answer(&mut self, turn: Turn<'_>, said: &mut Vec<u8>) -> Result<(), OutOfMemory> {
+        let Turn::Body(bytes) = turn else {
+            return self.hear(Message::NoJson, said);
+        };
+        let alloc = *said.allocator();
+        let body = Body::read(alloc, bytes)?;
+        let message = body.message(alloc)?;
+        self.hear(message, said)
+    }
+
+    #[tactic(auto, unfolding(crate::specs::Served::ended_of))]
+    fn ended(&self) -> Option<bool> {
+        self.phase.ended()
     }
 }

@@ -1,16 +1,15 @@
-//! The laws of what is answered. A function here does nothing: its contract is the law.
+//! The laws of what is answered, whatever texts say. A function here does nothing: its contract is
+//! the law.
 
 ghost use Rattle.std.specs.Prelude.{◌≡◌, ◌∷◌, [], ℕ, List, Some, All};
 ghost use Rattle.serde_json.specs.Data.{Data};
 ghost use Rattle.snl_hear.specs.Documents.{Located};
 ghost use Rattle.snl_hear.specs.Heard.{Request};
 ghost use Rattle.snl_hear.specs.Requests.{Asked, Definition, DocumentSymbol, Hover};
-ghost use Rattle.snl_hover.specs.Hover.{hover_of};
-ghost use Rattle.snl_meaning.specs.Meanings.{meaning_near};
 ghost use Rattle.snl_docs.specs.declared.phase.Phase.TheVariants.{Ready};
-ghost use Rattle.snl_docs.specs.Asked.{hover_answer, location_answer, symbols_in};
-ghost use Rattle.snl_document.specs.Spans.{offset_at};
+ghost use Rattle.snl_docs.specs.Asked.{hover_answer, location_answer};
 ghost use Rattle.snl_document.specs.Documents.{document_of};
+ghost use Rattle.snl_document.specs.Says.{Says};
 ghost use Rattle.snl_docs.specs.Known.{IsAskedOf, IsByText, IsElsewhere, checked_text, kept_for};
 ghost use Rattle.snl_replies.specs.Replies.{AnswerSymbols};
 ghost use Rattle.snl_docs.specs.Served.{Served, after, replied};
@@ -19,7 +18,8 @@ ghost use Rattle.snl_turns.specs.Turns.{Turn, heard_at};
 /// Whatever is published is what is found in the text that is kept for its URI after the message:
 /// nothing, where none is known or it isn't checked.
 pub fn published_by_text()
-    ensures { (s : Served) (turn : Turn) → All (IsByText (after s turn)) (replied s turn) }
+    ensures { (says : Says) (s : Served) (turn : Turn)
+        → All (IsByText says (after s turn)) (replied says s turn) }
 {}
 
 /// A message about one document leaves each other one as it was.
@@ -32,23 +32,26 @@ pub fn others_stay()
 /// checked. Nothing else of what is kept is looked at, but how far the talk is and how places are
 /// counted.
 pub fn answered_by_text()
-    ensures symbols { (s : Served) (turn : Turn) (id : Data) (uri text : List ℕ)
+    ensures symbols { (says : Says) (s : Served) (turn : Turn) (id : Data) (uri text : List ℕ)
         → s.phase ≡ Ready → heard_at turn ≡ Request id (DocumentSymbol uri)
         → checked_text uri s.docs ≡ Some text
-        → replied s turn ≡ AnswerSymbols id (symbols_in s.encoding text) ∷ [] }
-    ensures definition { (s : Served) (turn : Turn) (id : Data) (at : Located) (text : List ℕ)
+        → replied says s turn ≡ AnswerSymbols id (says.symbols_in s.encoding text) ∷ [] }
+    ensures definition { (says : Says) (s : Served) (turn : Turn) (id : Data) (at : Located)
+        (text : List ℕ)
         → s.phase ≡ Ready → heard_at turn ≡ Request id (Definition at)
         → checked_text at.uri s.docs ≡ Some text
-        → replied s turn ≡ location_answer s.encoding id at.uri text
-        (meaning_near text (offset_at s.encoding text at.place)) ∷ [] }
-    ensures hover { (s : Served) (turn : Turn) (id : Data) (at : Located) (text : List ℕ)
+        → replied says s turn
+        ≡ location_answer id at.uri (says.declared_at s.encoding text at.place) ∷ [] }
+    ensures hover { (says : Says) (s : Served) (turn : Turn) (id : Data) (at : Located)
+        (text : List ℕ)
         → s.phase ≡ Ready → heard_at turn ≡ Request id (Hover at)
         → checked_text at.uri s.docs ≡ Some text
-        → replied s turn ≡ hover_answer s.encoding id text
-        (hover_of text (offset_at s.encoding text at.place)) ∷ [] }
-    ensures alone { (s other : Served) (turn : Turn) (id : Data) (asked : Asked) (uri : List ℕ)
+        → replied says s turn
+        ≡ hover_answer id (says.told_at s.encoding text at.place) ∷ [] }
+    ensures alone { (says : Says) (s other : Served) (turn : Turn) (id : Data) (asked : Asked)
+        (uri : List ℕ)
         → heard_at turn ≡ Request id asked → IsAskedOf uri asked
         → s.phase ≡ other.phase → s.encoding ≡ other.encoding
         → kept_for uri s.docs ≡ kept_for uri other.docs
-        → replied s turn ≡ replied other turn }
+        → replied says s turn ≡ replied says other turn }
 {}

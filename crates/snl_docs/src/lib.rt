@@ -4,8 +4,7 @@
 //! its header, after the bytes that are there. The crate knows nothing of readers and writers, and
 //! of where one message ends and the next begins.
 //!
-//! `docs` answers messages, `requests` those that ask, `answers` what is asked of a document, and
-//! `symbols` has the symbols of its text.
+//! `docs` answers messages, `requests` those that ask, and `answers` what is asked of a document.
 #![tactic(auto)]
 
 mod answers;
@@ -14,7 +13,6 @@ mod laws;
 mod phase;
 mod question;
 mod requests;
-mod symbols;
 
 pub use docs::Docs;
 pub use laws::{answered_by_text, others_stay, published_by_text};

@@ -11,22 +11,22 @@ ghost use Rattle.snl_docs.specs.Served.{answer_ready};
 use crate::answers::answer;
 use crate::question::Question;
 use snl_cut::OutOfMemory;
-use snl_document::Document;
+use snl_document::{CheckedText, Document};
 use snl_hear::Request;
 use snl_place::Encoding;
 use snl_replies::{say_error, say_null};
 use snl_say::{ErrorCode, Id};
 
 /// Answers a request between `initialize` and `shutdown`. None of them changes a document.
-pub fn answer_ready(
-    documents: &[Document],
+pub fn answer_ready<C: CheckedText + Drop>(
+    documents: &[Document<C>],
     encoding: Encoding,
     id: Id<'_>,
     request: Request<'_>,
     said: &mut Vec<u8>,
 ) -> Result<(), OutOfMemory>
     ensures { OnOk result (said.new.items ≡ said.old.items
-        ++ framed_reply (answer_ready encoding documents.now (id_data id.entry)
+        ++ framed_reply (answer_ready C.says encoding documents.now (id_data id.entry)
         (asked_of request.entry))) }
 {
     match request {

@@ -7,6 +7,7 @@ use Rattle.std.proofs.lemmas.List.Edits.{map_over_more}
 use Rattle.snl_place.specs.declared.places.Encoding.{Encoding}
 use Rattle.snl_document.specs.Documents.{Doc, lost}
 use Rattle.snl_replies.specs.Replies.{Reply, said_of}
+use Rattle.snl_document.specs.Says.{Says}
 use Rattle.snl_document.specs.Told.{told_of, told_of_all}
 use Rattle.snl_replies.specs.ReplyLaws.{said_append}
 
@@ -23,11 +24,13 @@ pub left_as_it_was : (xs ys : List Doc) (i : ℕ) (x : Doc) → i < length xs �
 left_as_it_was [] ys i x within are = grind arith
 left_as_it_was (d ∷ docs) ys i x within are = grind (arith, common_steps)
 
-pub told_more : (encoding : Encoding) (xs : List Doc) (i : ℕ) (x : Doc) → i < length xs →
-    said_of (told_of_all encoding (take (i + 1) xs))
-    ≡ said_of (told_of_all encoding (take i xs)) ++ said_of (told_of encoding lost (get_or xs i x))
-told_more encoding xs i x within =
-    let step : Doc → List Reply = told_of encoding lost in
+pub told_more : (says : Says) (encoding : Encoding) (xs : List Doc) (i : ℕ) (x : Doc) →
+    i < length xs →
+    said_of (told_of_all says encoding (take (i + 1) xs))
+    ≡ said_of (told_of_all says encoding (take i xs))
+    ++ said_of (told_of says encoding lost (get_or xs i x))
+told_more says encoding xs i x within =
+    let step : Doc → List Reply = told_of says encoding lost in
     let front : List Doc = take i xs in
     ap (λ (docs : List Doc). said_of (flat_map step docs)) (take_more xs i x within)
     ∙ ap said_of (flat_map-append step front (get_or xs i x ∷ []))
@@ -35,16 +38,16 @@ told_more encoding xs i x within =
     ∙ ap (λ (rs : List Reply). said_of (flat_map step front) ++ said_of rs)
     (append-nil (step (get_or xs i x)))
 
-pub said_more : (encoding : Encoding) (xs ys : List Doc) (i : ℕ) (x : Doc)
+pub said_more : (says : Says) (encoding : Encoding) (xs ys : List Doc) (i : ℕ) (x : Doc)
     (first before now : List ℕ) → i < length xs → ys ≡ map lost (take i xs) ++ drop i xs →
-    before ≡ first ++ said_of (told_of_all encoding (take i xs)) →
-    now ≡ before ++ said_of (told_of encoding lost (get_or ys i x)) →
-    now ≡ first ++ said_of (told_of_all encoding (take (i + 1) xs))
-said_more encoding xs ys i x first before now within are was is =
-    let front : List ℕ = said_of (told_of_all encoding (take i xs)) in
+    before ≡ first ++ said_of (told_of_all says encoding (take i xs)) →
+    now ≡ before ++ said_of (told_of says encoding lost (get_or ys i x)) →
+    now ≡ first ++ said_of (told_of_all says encoding (take (i + 1) xs))
+said_more says encoding xs ys i x first before now within are was is =
+    let front : List ℕ = said_of (told_of_all says encoding (take i xs)) in
     is
-    ∙ ap (λ (d : Doc). before ++ said_of (told_of encoding lost d))
+    ∙ ap (λ (d : Doc). before ++ said_of (told_of says encoding lost d))
     (left_as_it_was xs ys i x within are)
-    ∙ ap (λ (l : List ℕ). l ++ said_of (told_of encoding lost (get_or xs i x))) was
-    ∙ append_assoc first front (said_of (told_of encoding lost (get_or xs i x)))
-    ∙ ap (λ (l : List ℕ). first ++ l) (sym (told_more encoding xs i x within))
+    ∙ ap (λ (l : List ℕ). l ++ said_of (told_of says encoding lost (get_or xs i x))) was
+    ∙ append_assoc first front (said_of (told_of says encoding lost (get_or xs i x)))
+    ∙ ap (λ (l : List ℕ). first ++ l) (sym (told_more says encoding xs i x within))

@@ -5,6 +5,7 @@ use Rattle.snl_facts.specs.Positions.{position_cons}
 use Rattle.std.specs.Option.{option_map_or}
 use Rattle.snl_place.specs.declared.places.Encoding.{Encoding}
 use Rattle.snl_document.specs.Documents.{Doc, is_named, put, updated}
+use Rattle.snl_document.specs.Says.{Says}
 use Rattle.snl_document.specs.Told.{told_of, told_of_named}
 
 pub updated_at : (uri : List ℕ) (change : Doc → Doc) (docs : List Doc) (i : ℕ) (d : Doc) →
@@ -76,17 +77,19 @@ pub updated_missed : (uri : List ℕ) (change : Doc → Doc) (docs : List Doc) (
 updated_missed uri change docs found is told =
     sym (updated_nowhere uri change docs (sym is ∙ told))
 
-pub told_found : (encoding : Encoding) (uri : List ℕ) (change : Doc → Doc) (docs : List Doc)
+pub told_found : (says : Says) (encoding : Encoding) (uri : List ℕ)
+    (change : Doc → Doc) (docs : List Doc)
     (found : Option ℕ) (i : ℕ) (d : Doc) → found ≡ position (is_named uri) docs →
     found ≡ Some i →
-    told_of encoding change (get_or docs i d) ≡ told_of_named encoding uri change docs
-told_found encoding uri change docs found i d is told =
-    ap (λ (o : Option Doc). option_map_or (told_of encoding change) o [])
+    told_of says encoding change (get_or docs i d) ≡ told_of_named says encoding uri change docs
+told_found says encoding uri change docs found i d is told =
+    ap (λ (o : Option Doc). option_map_or (told_of says encoding change) o [])
     (sym (found_at_number uri docs i d (sym is ∙ told)))
 
-pub told_missed : (encoding : Encoding) (uri : List ℕ) (change : Doc → Doc) (docs : List Doc)
+pub told_missed : (says : Says) (encoding : Encoding) (uri : List ℕ)
+    (change : Doc → Doc) (docs : List Doc)
     (found : Option ℕ) → found ≡ position (is_named uri) docs → found ≡ None →
-    told_of_named encoding uri change docs ≡ []
-told_missed encoding uri change docs found is told =
-    ap (λ (o : Option Doc). option_map_or (told_of encoding change) o [])
+    told_of_named says encoding uri change docs ≡ []
+told_missed says encoding uri change docs found is told =
+    ap (λ (o : Option Doc). option_map_or (told_of says encoding change) o [])
     (found_nowhere uri docs (sym is ∙ told))

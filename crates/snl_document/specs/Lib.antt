@@ -1,9 +1,7 @@
 pub mod Documents
-pub mod Found
 pub mod Held
 pub mod Notices
-pub mod Sources
-pub mod Spans
+pub mod Says
 pub mod Splices
 pub mod Texts
 pub mod Told

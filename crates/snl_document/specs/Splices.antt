@@ -3,8 +3,8 @@ use Rattle.std.specs.Prelude.{◌≡◌, ℕ, ◌≤◌, List, Some, length}
 use Rattle.snl_place.specs.declared.places.Encoding.{Encoding}
 use Rattle.snl_place.specs.declared.trim.Splice.{Splice}
 use Rattle.snl_hear.specs.Changes.{Changed}
-use Rattle.snl_session.specs.Edit.{limit, spliced}
-use Rattle.snl_document.specs.Texts.{changed_part}
+use Rattle.snl_lex.specs.Edit.{spliced}
+use Rattle.snl_document.specs.Texts.{changed_part, limit}
 
 -- Its range is one of the text, and it gives the text after the change.
 pub record IsSpliceOf (encoding : Encoding) (text : List ℕ) (change : Changed) (s : Splice) :
@@ -13,8 +13,8 @@ pub record IsSpliceOf (encoding : Encoding) (text : List ℕ) (change : Changed)
   pub inside : s.stop ≤ length text
   pub same : changed_part encoding change text ≡ Some (spliced text s.start s.stop s.new.now)
 
--- The same, and a session takes the text after it.
-pub record FitsSession (encoding : Encoding) (text : List ℕ) (change : Changed) (s : Splice) :
+-- The same, and the text after it is one to check.
+pub record Fits (encoding : Encoding) (text : List ℕ) (change : Changed) (s : Splice) :
     Type 0 where
   pub splice : IsSpliceOf encoding text change s
   pub fits : length (spliced text s.start s.stop s.new.now) ≤ limit

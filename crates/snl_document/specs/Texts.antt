@@ -4,9 +4,13 @@ use Rattle.std.specs.Prelude.{ℕ, List, [], ◌∷◌, length, Option, Some, No
 use Rattle.snl_place.specs.declared.places.Encoding.{Encoding}
 use Rattle.snl_place.specs.Places.{offset_in}
 use Rattle.snl_hear.specs.Changes.{Changed, Whole, Part}
-use Rattle.snl_session.specs.Edit.{limit, spliced}
+use Rattle.snl_lex.specs.Edit.{spliced}
 use Rattle.snl_document.specs.declared.standing.Standing.{Standing}
 use Rattle.snl_document.specs.declared.standing.Standing.TheVariants.{Checked, Large, Lost}
+
+-- A text of at most so many bytes is checked.
+abbrev pub limit : ℕ
+limit = 1048576
 
 -- A text has at most so many bytes, or it is not followed.
 abbrev pub longest : ℕ
@@ -40,7 +44,7 @@ changed_by_all encoding text [] = text
 changed_by_all encoding text (change ∷ changes) =
     changed_by_all encoding (changed encoding text change) changes
 
--- How a text is served. One of more bytes than a session takes is followed, but not checked.
+-- How a text is served. One of more bytes is followed, but not checked.
 abbrev pub standing : Option (List ℕ) → Standing
 standing None = Lost
 standing (Some text) = if nat_le (length text) limit then Checked else Large

@@ -7,17 +7,17 @@ use Rattle.snl_say.specs.Publish.{Found}
 use Rattle.snl_document.specs.declared.standing.Standing.{Standing}
 use Rattle.snl_document.specs.declared.standing.Standing.TheVariants.{Checked, Large, Lost}
 use Rattle.snl_document.specs.Documents.{Doc, document_of, lost}
-use Rattle.snl_document.specs.Found.{found_in}
+use Rattle.snl_document.specs.Says.{Says}
 use Rattle.snl_document.specs.Notices.{large_notice, lost_notice}
 use Rattle.snl_replies.specs.Replies.{Reply, Publish, Notice}
 use Rattle.snl_document.specs.Texts.{checked, standing}
 
 -- What is found in its text: nothing, where that isn't checked.
-abbrev pub found_of_text : Encoding → Option (List ℕ) → List Found
-found_of_text encoding text = option_map_or (found_in encoding) (checked text) []
+abbrev pub found_of_text : Says → Encoding → Option (List ℕ) → List Found
+found_of_text says encoding text = option_map_or (says.found_in encoding) (checked text) []
 
-abbrev pub published : Encoding → Doc → Reply
-published encoding doc = Publish (found_of_text encoding doc.text) doc.uri doc.version
+abbrev pub published : Says → Encoding → Doc → Reply
+published says encoding doc = Publish (found_of_text says encoding doc.text) doc.uri doc.version
 
 -- Why nothing is found, where the text isn't checked.
 abbrev pub notices : (uri : List ℕ) → Standing → List Reply
@@ -26,8 +26,8 @@ notices uri Large = Notice Warning (uri ++ large_notice) ∷ []
 notices uri Lost = Notice Error (uri ++ lost_notice) ∷ []
 
 -- What is told of a document that came to be so.
-abbrev pub told : Encoding → Doc → List Reply
-told encoding doc = published encoding doc ∷ notices doc.uri (standing doc.text)
+abbrev pub told : Says → Encoding → Doc → List Reply
+told says encoding doc = published says encoding doc ∷ notices doc.uri (standing doc.text)
 
 -- It wasn't checked before, and isn't now, for one reason.
 abbrev pub stays : (before now : Standing) → Bool
@@ -40,19 +40,20 @@ stays Lost Large = false
 stays Lost Lost = true
 
 -- What is told of a document after a change: why it isn't checked is told once.
-abbrev pub told_after : Encoding → (before : Standing) → Doc → List Reply
-told_after encoding before doc =
-    if stays before (standing doc.text) then [] else told encoding doc
+abbrev pub told_after : Says → Encoding → (before : Standing) → Doc → List Reply
+told_after says encoding before doc =
+    if stays before (standing doc.text) then [] else told says encoding doc
 
 -- ---- after a change
 
 -- What is told of the document of this URI after a change, if it is open.
-abbrev pub told_of : Encoding → (change : Doc → Doc) → Doc → List Reply
-told_of encoding change doc = told_after encoding (standing doc.text) (change doc)
+abbrev pub told_of : Says → Encoding → (change : Doc → Doc) → Doc → List Reply
+told_of says encoding change doc = told_after says encoding (standing doc.text) (change doc)
 
-abbrev pub told_of_named : Encoding → (uri : List ℕ) → (change : Doc → Doc) → List Doc → List Reply
-told_of_named encoding uri change docs =
-    option_map_or (told_of encoding change) (document_of uri docs) []
+abbrev pub told_of_named : Says → Encoding → (uri : List ℕ) → (change : Doc → Doc) → List Doc →
+    List Reply
+told_of_named says encoding uri change docs =
+    option_map_or (told_of says encoding change) (document_of uri docs) []
 
-abbrev pub told_of_all : Encoding → List Doc → List Reply
-told_of_all encoding docs = flat_map (told_of encoding lost) docs
+abbrev pub told_of_all : Says → Encoding → List Doc → List Reply
+told_of_all says encoding docs = flat_map (told_of says encoding lost) docs

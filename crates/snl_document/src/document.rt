@@ -8,7 +8,7 @@ ghost use Rattle.snl_hear.specs.Changes.{changed_of};
 ghost use Rattle.snl_document.specs.Notices.{large_notice, lost_notice};
 ghost use Rattle.snl_replies.specs.Replies.{framed_reply, said_of};
 
-use crate::found::found_in;
+use crate::checked::CheckedText;
 use crate::standing::Standing;
 use crate::text::DocumentText;
 use snl_cut::OutOfMemory;
@@ -16,20 +16,19 @@ use snl_hear::Change;
 use snl_place::Encoding;
 use snl_replies::{say_found, say_notice};
 use snl_say::{Severity, put_quoted};
-use snl_session::Session;
 use std::alloc::{AllocError, Global};
 use std::marker::Model;
 
 /// A document that is open. `quoted_uri` is its URI as a string of JSON.
 #[derive(Drop)]
-pub struct Document {
+pub struct Document<C: CheckedText> {
     uri: String,
     quoted_uri: Vec<u8>,
     version: Option<u64>,
-    text: DocumentText,
+    text: DocumentText<C>,
 }
 
-impl Model for Document {
+impl<C: CheckedText> Model for Document<C> {
     ghost use Rattle.std.specs.Prelude.{◌≡◌, string_bytes};
     ghost use Rattle.json.specs.Print.{quoted};
     ghost use Rattle.snl_document.specs.Documents.{Doc};
@@ -68,7 +67,7 @@ fn lost_notice() -> &'static [u8]
     b": a change could not be followed: open the file again"
 }
 
-impl Document {
+impl<C: CheckedText + Drop> Document<C> {
     ghost use Rattle.snl_document.specs.Documents.{after_changes, is_named, lost, opened};
     ghost use Rattle.snl_document.specs.Texts.{checked, standing};
     ghost use Rattle.snl_document.specs.Told.{notices, published, told, told_after, told_of};
@@ -78,7 +77,7 @@ impl Document {
         uri: &str,
         version: Option<u64>,
         text: &str,
-    ) -> Result<Document, OutOfMemory>
+    ) -> Result<Document<C>, OutOfMemory>
         ensures { IfOk result (λ document. document ≡ opened uri.now version text.now) }
     {
         let quoted_uri = quoted_uri(alloc, uri)?;
@@ -105,22 +104,22 @@ impl Document {
         &self.quoted_uri
     }
 
-    /// The session over its text, where that is checked.
-    pub fn session(&self) -> Option<&Session>
-        ensures { option_map (λ session. session.now) result ≡ checked self.now.text }
+    /// Its text, where that is checked.
+    pub fn checked(&self) -> Option<&C>
+        ensures { option_map (λ c. C.text_of c.now) result ≡ checked self.now.text }
     {
-        self.text.session()
+        self.text.checked()
     }
 
     /// Publishes what is found in its text, or nothing, where that isn't checked.
     #[tactic(auto, using(snl_replies::specs::ReplyLaws::publish_framed))]
     fn publish(&self, encoding: Encoding, said: &mut Vec<u8>) -> Result<(), OutOfMemory>
         ensures { OnOk result (said.new.items ≡ said.old.items
-            ++ framed_reply (published encoding self.now)) }
+            ++ framed_reply (published C.says encoding self.now)) }
     {
-        match self.text.session() {
-            Some(session) => {
-                let found = found_in(*said.allocator(), encoding, session)?;
+        match self.text.checked() {
+            Some(checked) => {
+                let found = checked.found(*said.allocator(), encoding)?;
                 say_found(said, &self.quoted_uri, self.version, &found)?;
             }
             None => say_found(said, &self.quoted_uri, self.version, &[])?,
@@ -147,7 +146,7 @@ impl Document {
     #[tactic(auto, unfolding(snl_replies::specs::Replies::said_of))]
     pub fn tell(&self, encoding: Encoding, said: &mut Vec<u8>) -> Result<(), OutOfMemory>
         ensures { OnOk result (said.new.items ≡ said.old.items
-            ++ said_of (told encoding self.now)) }
+            ++ said_of (told C.says encoding self.now)) }
     {
         self.publish(encoding, said)?;
         self.notify(said)
@@ -162,7 +161,7 @@ impl Document {
         said: &mut Vec<u8>,
     ) -> Result<(), OutOfMemory>
         ensures { OnOk result (said.new.items ≡ said.old.items
-            ++ said_of (told_after encoding before self.now)) }
+            ++ said_of (told_after C.says encoding before self.now)) }
     {
         if before.stays(self.text.standing()) {
             return Ok(());
@@ -182,7 +181,7 @@ impl Document {
         ensures state { OnOk result (self.new ≡ after_changes encoding version
             (map (λ change. changed_of change) changes.now) self.old) }
         ensures said { OnOk result (said.new.items ≡ said.old.items ++ said_of
-            (told_of encoding (after_changes encoding version
+            (told_of C.says encoding (after_changes encoding version
             (map (λ change. changed_of change) changes.now)) self.old)) }
     {
         let before = self.text.standing();
@@ -196,7 +195,7 @@ impl Document {
     pub fn lose(&mut self, encoding: Encoding, said: &mut Vec<u8>) -> Result<(), OutOfMemory>
         ensures state { self.new ≡ lost self.old }
         ensures said { OnOk result (said.new.items ≡ said.old.items
-            ++ said_of (told_of encoding lost self.old)) }
+            ++ said_of (told_of C.says encoding lost self.old)) }
     {
         let before = self.text.standing();
         self.version = None;

@@ -8,6 +8,7 @@ ghost use Rattle.snl_document.specs.Documents.{after_changes, document_of, is_na
 ghost use Rattle.snl_replies.specs.Replies.{Publish, framed_reply, said_of};
 ghost use Rattle.snl_document.specs.Told.{told, told_of_all, told_of_named};
 
+use crate::checked::CheckedText;
 use crate::document::{Document, quoted_uri};
 use snl_cut::OutOfMemory;
 use snl_hear::Change;
@@ -16,14 +17,17 @@ use snl_replies::say_found;
 use std::alloc::AllocError;
 
 /// The number of the document with this URI.
-fn find(documents: &[Document], uri: &str) -> Option<usize>
+fn find<C: CheckedText + Drop>(documents: &[Document<C>], uri: &str) -> Option<usize>
     ensures { result ≡ position (is_named uri.now) documents.now }
 {
     documents.iter().position(|document| document.is_named(uri))
 }
 
 /// The document of this URI, if it is open.
-pub fn document_of<'a>(documents: &'a [Document], uri: &str) -> Option<&'a Document>
+pub fn document_of<'a, C: CheckedText + Drop>(
+    documents: &'a [Document<C>],
+    uri: &str,
+) -> Option<&'a Document<C>>
     ensures { option_map (λ document. document.now) result ≡ document_of uri.now documents.now }
 {
     match find(documents, uri) {
@@ -33,7 +37,11 @@ pub fn document_of<'a>(documents: &'a [Document], uri: &str) -> Option<&'a Docum
 }
 
 /// Puts a document in the place of that of its URI, or after all others.
-fn put(documents: &mut Vec<Document>, uri: &str, document: Document) -> Result<(), OutOfMemory>
+fn put<C: CheckedText + Drop>(
+    documents: &mut Vec<Document<C>>,
+    uri: &str,
+    document: Document<C>,
+) -> Result<(), OutOfMemory>
     requires { document.uri ≡ uri.now }
     ensures { OnOk result (documents.new.items ≡ put document documents.old.items) }
 {
@@ -45,8 +53,8 @@ fn put(documents: &mut Vec<Document>, uri: &str, document: Document) -> Result<(
 }
 
 /// Opens a document, and tells the client how it is.
-pub fn open(
-    documents: &mut Vec<Document>,
+pub fn open<C: CheckedText + Drop>(
+    documents: &mut Vec<Document<C>>,
     encoding: Encoding,
     uri: &str,
     version: Option<u64>,
@@ -56,7 +64,7 @@ pub fn open(
     ensures state { OnOk result (documents.new.items
         ≡ put (opened uri.now version text.now) documents.old.items) }
     ensures said { OnOk result (said.new.items ≡ said.old.items
-        ++ said_of (told encoding (opened uri.now version text.now))) }
+        ++ said_of (told C.says encoding (opened uri.now version text.now))) }
 {
     let document = Document::open(*said.allocator(), uri, version, text)?;
     document.tell(encoding, said)?;
@@ -64,8 +72,8 @@ pub fn open(
 }
 
 /// Makes the changes of one message in the document of this URI, if it is open.
-pub fn change(
-    documents: &mut [Document],
+pub fn change<C: CheckedText + Drop>(
+    documents: &mut [Document<C>],
     encoding: Encoding,
     uri: &str,
     version: Option<u64>,
@@ -76,7 +84,7 @@ pub fn change(
         (after_changes encoding version (map (λ change. changed_of change) changes.now))
         documents.old) }
     ensures said { OnOk result (said.new.items ≡ said.old.items
-        ++ said_of (told_of_named encoding uri.now
+        ++ said_of (told_of_named C.says encoding uri.now
         (after_changes encoding version (map (λ change. changed_of change) changes.now))
         documents.old)) }
 {
@@ -86,7 +94,7 @@ pub fn change(
     }
 }
 
-fn remove(documents: &mut Vec<Document>, uri: &str)
+fn remove<C: CheckedText + Drop>(documents: &mut Vec<Document<C>>, uri: &str)
     ensures { documents.new.items ≡ without uri.now documents.old.items }
 {
     documents.retain(|document| !document.is_named(uri));
@@ -104,8 +112,8 @@ fn say_closed(said: &mut Vec<u8>, uri: &str) -> Result<(), AllocError>
 
 /// Closes the document of this URI, if it is open. The client is told so in any case.
 #[tactic(auto, unfolding(snl_replies::specs::Replies::said_of))]
-pub fn close(
-    documents: &mut Vec<Document>,
+pub fn close<C: CheckedText + Drop>(
+    documents: &mut Vec<Document<C>>,
     uri: &str,
     said: &mut Vec<u8>,
 ) -> Result<(), OutOfMemory>
@@ -119,15 +127,15 @@ pub fn close(
 }
 
 /// Lets go the text of the document of this URI, if it is open.
-pub fn lose(
-    documents: &mut [Document],
+pub fn lose<C: CheckedText + Drop>(
+    documents: &mut [Document<C>],
     encoding: Encoding,
     uri: &str,
     said: &mut Vec<u8>,
 ) -> Result<(), OutOfMemory>
     ensures state { documents.new ≡ updated uri.now lost documents.old }
     ensures said { OnOk result (said.new.items ≡ said.old.items
-        ++ said_of (told_of_named encoding uri.now lost documents.old)) }
+        ++ said_of (told_of_named C.says encoding uri.now lost documents.old)) }
 {
     match find(documents, uri) {
         Some(at) => documents[at].lose(encoding, said),
@@ -136,14 +144,14 @@ pub fn lose(
 }
 
 /// Lets go the texts of all.
-pub fn lose_all(
-    documents: &mut [Document],
+pub fn lose_all<C: CheckedText + Drop>(
+    documents: &mut [Document<C>],
     encoding: Encoding,
     said: &mut Vec<u8>,
 ) -> Result<(), OutOfMemory>
     ensures state { OnOk result (documents.new ≡ map lost documents.old) }
     ensures said { OnOk result (said.new.items ≡ said.old.items
-        ++ said_of (told_of_all encoding documents.old)) }
+        ++ said_of (told_of_all C.says encoding documents.old)) }
 {
     for document in documents {
         document.lose(encoding, said)?;

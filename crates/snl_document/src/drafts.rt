@@ -1,12 +1,12 @@
 //! The changes of one message, made in the text of a document.
 //! In: a text with its line ends, or a draft, and changes of it. Out: the splice that one change
 //! is, or the draft after them.
-//! Knows nothing of sessions and documents.
+//! Knows nothing of documents.
 
 ghost use Rattle.std.specs.Prelude.{◌≡◌, ◌≤◌, IfOk, MatchOption, None, Some, length, map, option_map};
 ghost use Rattle.snl_lex.specs.LineList.{line_ends};
 ghost use Rattle.snl_hear.specs.Changes.{changed_of};
-ghost use Rattle.snl_session.specs.Edit.{spliced};
+ghost use Rattle.snl_lex.specs.Edit.{spliced};
 ghost use Rattle.snl_document.specs.Splices.{IsSpliceOf};
 ghost use Rattle.snl_document.specs.Texts.{changed, changed_by_all, changed_part};
 

@@ -4,22 +4,17 @@
 //! in frames, after the bytes that are there. The crate knows nothing of messages, and of what is
 //! asked of a document.
 //!
-//! `documents` are all of them, `document` is one, `text` its text with the session over it.
-//! `drafts` makes changes, `found` tells what is found, `places` where it is.
+//! `documents` are all of them, `document` is one, `text` its text, where that is known. `checked`
+//! is a text that is checked, whoever does that; `drafts` makes changes.
 #![tactic(auto)]
 
+mod checked;
 mod document;
 mod documents;
 mod drafts;
-mod found;
-mod places;
-mod source;
 mod standing;
 mod text;
 
+pub use checked::{CheckedText, ToldName};
 pub use document::Document;
 pub use documents::{change, close, document_of, lose, lose_all, open};
-pub use places::{
-    begin_of, mark_after, mark_from, offset_after, offset_at, places_of, slice_of, source_of,
-};
-pub use source::{Mark, Source};

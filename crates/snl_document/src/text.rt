@@ -1,24 +1,24 @@
 //! The text of an open document.
-//! In: a text, and the changes of each message. Out: the session over it, where it is checked.
+//! In: a text, and the changes of each message. Out: the text, where it is checked.
 //! Knows nothing of names and versions, and of what is published.
 
 ghost use Rattle.std.specs.Prelude.{◌≡◌, ◌≤◌, IfOk, IfSome, None, OnErr, OnOk, Some, length, map, option_map};
 ghost use Rattle.snl_hear.specs.Changes.{changed_of};
-ghost use Rattle.snl_session.specs.Edit.{limit, spliced};
-ghost use Rattle.snl_document.specs.Splices.{FitsSession};
-ghost use Rattle.snl_document.specs.Texts.{changed_by_all, checked, followed, standing};
+ghost use Rattle.snl_lex.specs.Edit.{spliced};
+ghost use Rattle.snl_document.specs.Splices.{Fits};
+ghost use Rattle.snl_document.specs.Texts.{changed_by_all, checked, followed, limit, standing};
 
+use crate::checked::CheckedText;
 use crate::drafts::{change_draft_by_all, splice_of};
 use crate::standing::Standing;
 use snl_cut::OutOfMemory;
 use snl_hear::Change;
 use snl_place::{Draft, Encoding, Splice, trimmed};
-use snl_session::{Refused, Session};
 use std::alloc::Global;
 use std::marker::Model;
 use std::mem::replace;
 
-/// A session takes a text of at most so many bytes.
+/// A text of at most so many bytes is checked.
 const LIMIT: usize = 1_048_576;
 
 /// A text of more bytes is not followed.
@@ -26,72 +26,68 @@ const LONGEST: usize = 67_108_864;
 
 /// What is held of a text.
 #[derive(Drop)]
-enum Held {
-    Checked(Session),
+enum Held<C> {
+    Checked(C),
     Large(Draft),
     Lost,
 }
 
 /// The text of a document, if it is known. Contracts see that alone.
 #[derive(Drop)]
-pub struct DocumentText {
-    held: Held,
+pub struct DocumentText<C: CheckedText> {
+    held: Held<C>,
 }
 
-impl Model for DocumentText {
+impl<C: CheckedText> Model for DocumentText<C> {
     ghost use Rattle.std.specs.Prelude.{ℕ, List, Option};
 
     ghost Value = { Option (List ℕ) };
 
     ghost use Rattle.snl_document.specs.Held.{IsHeld, text_of};
 
-    ghost view = { λ t. text_of t.held };
+    ghost view = { λ t. text_of C.text_of t.held };
 
-    ghost invariant = { λ t. IsHeld t.held };
+    ghost invariant = { λ t. IsHeld C.text_of t.held };
 }
 
-/// Makes an edit that the session takes: only want of memory can refuse it. What of the bytes stays
-/// as it is, is left out.
-fn edit(session: &mut Session, start: usize, stop: usize, new: &[u8]) -> Result<(), OutOfMemory>
+/// Makes an edit. What of the bytes stays as it is, is left out.
+fn edit<C: CheckedText>(
+    checked: &mut C,
+    start: usize,
+    stop: usize,
+    new: &[u8],
+) -> Result<(), OutOfMemory>
     requires order { start ≤ stop }
-    requires inside { stop ≤ length session.old }
-    requires fits { length (spliced session.old start stop new.now) ≤ limit }
-    ensures ok { OnOk result (session.new ≡ spliced session.old start stop new.now) }
-    ensures err { OnErr result (session.new ≡ session.old) }
+    requires inside { stop ≤ length (C.text_of checked.old) }
+    requires fits { length (spliced (C.text_of checked.old) start stop new.now) ≤ limit }
+    ensures ok { OnOk result (C.text_of checked.new
+        ≡ spliced (C.text_of checked.old) start stop new.now) }
+    ensures err { OnErr result (C.text_of checked.new ≡ C.text_of checked.old) }
 {
-    let cut = trimmed(session.text(), start, stop, new);
-    match session.edit(cut.start, cut.stop, cut.new) {
-        Ok(_) => Ok(()),
-        Err(refused) => {
-            prove!(matches!(refused, Refused::Memory));
-            Err(OutOfMemory)
-        }
-    }
+    let cut = trimmed(checked.text(), start, stop, new);
+    checked.edit(cut.start, cut.stop, cut.new)
 }
 
-/// A session over a text. Only want of memory can refuse it.
-fn session_over(alloc: Global, text: &[u8]) -> Result<Session, OutOfMemory>
+/// A text, to be checked from now on.
+fn checked_from<C: CheckedText + Drop>(alloc: Global, text: &[u8]) -> Result<C, OutOfMemory>
     requires { length text.now ≤ limit }
-    ensures { IfOk result (λ session. session ≡ text.now) }
+    ensures { IfOk result (λ checked. C.text_of checked ≡ text.now) }
 {
-    let Ok(mut session) = Session::new(alloc) else {
-        return Err(OutOfMemory);
-    };
-    edit(&mut session, 0, 0, text)?;
-    Ok(session)
+    let mut checked = C::empty(alloc)?;
+    edit(&mut checked, 0, 0, text)?;
+    Ok(checked)
 }
 
-/// The splice that a change is, if the session takes the text after it.
-fn fitting_splice<'a>(
-    session: &Session,
+/// The splice that a change is, if the text after it is one to check.
+fn fitting_splice<'a, C: CheckedText>(
+    checked: &C,
     encoding: Encoding,
     change: &Change<'a>,
 ) -> Option<Splice<'a>>
-    ensures { IfSome result (FitsSession encoding session.now (changed_of change.now)) }
+    ensures { IfSome result (Fits encoding (C.text_of checked.now) (changed_of change.now)) }
 {
-    let text = session.text();
-    let ends = session.kept().lists.lines.ends.as_slice();
-    let splice = splice_of(encoding, text, ends, change)?;
+    let text = checked.text();
+    let splice = splice_of(encoding, text, checked.line_ends(), change)?;
     let kept = text.len() - (splice.stop - splice.start);
     if splice.new.len() <= LIMIT - kept {
         Some(splice)
@@ -100,13 +96,13 @@ fn fitting_splice<'a>(
     }
 }
 
-impl DocumentText {
+impl<C: CheckedText + Drop> DocumentText<C> {
     /// The text of a document that is opened.
-    pub fn of(alloc: Global, text: &[u8]) -> Result<DocumentText, OutOfMemory>
+    pub fn of(alloc: Global, text: &[u8]) -> Result<DocumentText<C>, OutOfMemory>
         ensures { IfOk result (λ t. t ≡ followed (Some text.now)) }
     {
         let held = if text.len() <= LIMIT {
-            Held::Checked(session_over(alloc, text)?)
+            Held::Checked(checked_from(alloc, text)?)
         } else if text.len() <= LONGEST {
             Held::Large(Draft::of(alloc, text)?)
         } else {
@@ -126,12 +122,12 @@ impl DocumentText {
         }
     }
 
-    /// The session over it, where it is checked.
-    pub fn session(&self) -> Option<&Session>
-        ensures { option_map (λ session. session.now) result ≡ checked self.now }
+    /// The text, where it is checked.
+    pub fn checked(&self) -> Option<&C>
+        ensures { option_map (λ c. C.text_of c.now) result ≡ checked self.now }
     {
         match &self.held {
-            Held::Checked(session) => Some(session),
+            Held::Checked(checked) => Some(checked),
             Held::Large(_) | Held::Lost => None,
         }
     }
@@ -143,8 +139,8 @@ impl DocumentText {
         self.held = Held::Lost;
     }
 
-    /// Makes the changes of one message, as one edit of the session. After an `Err`, which is want
-    /// of memory, nothing is known of the text.
+    /// Makes the changes of one message, as one edit of what is checked. After an `Err`, which is
+    /// want of memory, nothing is known of the text.
     pub fn change(
         &mut self,
         alloc: Global,
@@ -154,9 +150,9 @@ impl DocumentText {
         ensures { OnOk result (self.new ≡ followed (changed_by_all encoding self.old
             (map (λ change. changed_of change) changes.now))) }
     {
-        if let (Held::Checked(session), [change]) = (&mut self.held, changes) {
-            if let Some(splice) = fitting_splice(session, encoding, change) {
-                return edit(session, splice.start, splice.stop, splice.new);
+        if let (Held::Checked(checked), [change]) = (&mut self.held, changes) {
+            if let Some(splice) = fitting_splice(checked, encoding, change) {
+                return edit(checked, splice.start, splice.stop, splice.new);
             }
         }
         let draft = self.draft(alloc)?;
@@ -164,12 +160,12 @@ impl DocumentText {
         self.settle(alloc, draft)
     }
 
-    /// A draft of the text. A session stays, so that it can be edited afterwards.
+    /// A draft of the text. What is checked stays, so that it can be edited afterwards.
     fn draft(&mut self, alloc: Global) -> Result<Option<Draft>, OutOfMemory>
         ensures { IfOk result (λ draft. draft ≡ self.old) }
     {
-        if let Held::Checked(session) = &self.held {
-            return Ok(Some(Draft::of(alloc, session.text())?));
+        if let Held::Checked(checked) = &self.held {
+            return Ok(Some(Draft::of(alloc, checked.text())?));
         }
         match replace(&mut self.held, Held::Lost) {
             Held::Large(draft) => Ok(Some(draft)),
@@ -197,16 +193,16 @@ impl DocumentText {
         Ok(())
     }
 
-    /// Has the session of this text, by an edit of the one that is there.
+    /// Has this text checked, by an edit of the one that is there.
     fn check(&mut self, alloc: Global, text: &[u8]) -> Result<(), OutOfMemory>
         requires { length text.now ≤ limit }
         ensures { OnOk result (self.new ≡ Some text.now) }
     {
-        if let Held::Checked(session) = &mut self.held {
-            let stop = session.text().len();
-            return edit(session, 0, stop, text);
+        if let Held::Checked(checked) = &mut self.held {
+            let stop = checked.text().len();
+            return edit(checked, 0, stop, text);
         }
-        self.held = Held::Checked(session_over(alloc, text)?);
+        self.held = Held::Checked(checked_from(alloc, text)?);
         Ok(())
     }
 }

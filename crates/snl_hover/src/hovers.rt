@@ -1,6 +1,8 @@
-//! What a hover says. In: a session and an offset. Out: the name near it, and the lines.
+//! What a hover says. In: what is kept of a text, and an offset. Out: the name near it, and the
+//! lines.
 
 ghost use Rattle.std.specs.Prelude.{◌≡◌, ◌++◌, IfOk, OnOk, option_map};
+ghost use Rattle.snl_kept.specs.Kept.{IsKept};
 ghost use Rattle.snl_hover.specs.Hover.{further, hover_of, hover_over, table_lines, told_of};
 
 use crate::channels::put_channels;
@@ -8,8 +10,8 @@ use crate::declarations::declaration_line;
 use crate::flags::put_flag;
 use crate::states::put_state;
 use snl_cut::OutOfMemory;
+use snl_kept::Kept;
 use snl_meaning::{Meaning, meaning_near};
-use snl_session::Session;
 use snl_tables::{Span, Tables};
 use std::alloc::Global;
 
@@ -39,14 +41,19 @@ fn put_table_lines(
 
 // What a hover says of a name, by what it means.
 #[tactic(auto, using(crate::proofs::Lines::joined))]
-fn hover_over(alloc: Global, session: &Session, meaning: Meaning) -> Result<Hover, OutOfMemory>
-    ensures { IfOk result (λ hover. told_of hover ≡ hover_over session.now meaning) }
+fn hover_over(
+    alloc: Global,
+    text: &[u8],
+    kept: &Kept,
+    meaning: Meaning,
+) -> Result<Hover, OutOfMemory>
+    requires { IsKept text.now kept.now }
+    ensures { IfOk result (λ hover. told_of hover ≡ hover_over text.now meaning) }
 {
-    let text = session.text();
-    let ends = session.kept().lists.lines.ends.as_slice();
+    let ends = kept.lists.lines.ends.as_slice();
     let mut lines = Vec::new(alloc);
     lines.extend_from_slice(declaration_line(text, ends, meaning.declared))?;
-    put_table_lines(alloc, &mut lines, text, session.tables(), meaning)?;
+    put_table_lines(alloc, &mut lines, text, &kept.tables, meaning)?;
     Ok(Hover {
         name: meaning.name,
         lines,
@@ -59,15 +66,17 @@ fn hover_over(alloc: Global, session: &Session, meaning: Meaning) -> Result<Hove
 #[tactic(auto, unfolding(crate::specs::Hover::hover_of))]
 pub fn hover_at(
     alloc: Global,
-    session: &Session,
+    text: &[u8],
+    kept: &Kept,
     offset: usize,
 ) -> Result<Option<Hover>, OutOfMemory>
+    requires { IsKept text.now kept.now }
     ensures { IfOk result (λ hover. option_map (λ x. told_of x) hover
-        ≡ hover_of session.now offset) }
+        ≡ hover_of text.now offset) }
 {
-    let Some(meaning) = meaning_near(alloc, session, offset)? else {
+    let Some(meaning) = meaning_near(alloc, text, &kept.lists, offset)? else {
         return Ok(None);
     };
-    let hover = hover_over(alloc, session, meaning)?;
+    let hover = hover_over(alloc, text, kept, meaning)?;
     Ok(Some(hover))
 }

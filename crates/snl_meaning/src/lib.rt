@@ -1,7 +1,7 @@
-//! What the name at a place of a text means: a session and an offset come in, the span of the name
-//! there goes out with that of the name that declares it, and the number of the declaration. It
-//! changes nothing, keeps nothing, and knows nothing of editors, but for where their cursors are: a
-//! cursor right after a word is on it.
+//! What the name at a place of a text means: what is kept of the text and an offset come in, the
+//! span of the name there goes out with that of the name that declares it, and the number of the
+//! declaration. It changes nothing, keeps nothing, and knows nothing of editors, but for where
+//! their cursors are: a cursor right after a word is on it.
 #![tactic(auto)]
 
 mod items;

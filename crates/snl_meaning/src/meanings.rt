@@ -14,7 +14,6 @@ use snl_item_tokens::{ItemTokens, all_tokens};
 use snl_kept::Lists;
 use snl_lex::text_in_pieces;
 use snl_scope::{Links, Source, same_spelling_same_summary};
-use snl_session::Session;
 use snl_syntax::{outcome_told, same_spelling_same_tree};
 use snl_tables::Span;
 use std::alloc::Global;
@@ -126,8 +125,10 @@ fn meaning_near_among(
     meaning_among(alloc, lists, items, offset - 1)
 }
 
-// What the name at an offset means, by the lists of the text.
-fn meaning_in<'a>(
+/// What the name means that has the byte at an offset of a text, by its lists. None where no token
+/// has the byte, or it names nothing that the text declares. A name of an item that the grammar has
+/// no tree for means nothing, but for that of a state. The time is that of the text's tokens.
+pub fn meaning_at<'a>(
     alloc: Global,
     text: &'a [u8],
     lists: &'a Lists,
@@ -144,8 +145,10 @@ fn meaning_in<'a>(
     meaning_among(alloc, lists, &items, offset)
 }
 
-// The same of the name near an offset: the tokens are listed once for both offsets.
-fn meaning_near_in<'a>(
+/// What the name means that a cursor at an offset is on: that which has the byte there, and where
+/// it means nothing that which has the byte before. So a cursor right after a word's last letter is
+/// on that word. The time is that of `meaning_at`: the tokens are listed once for both offsets.
+pub fn meaning_near<'a>(
     alloc: Global,
     text: &'a [u8],
     lists: &'a Lists,
@@ -160,30 +163,4 @@ fn meaning_near_in<'a>(
         items: ItemTokens::of_text(text, &tokens, &lists.items.ends),
     };
     meaning_near_among(alloc, lists, &items, offset)
-}
-
-/// What the name means that has the byte at an offset of a session's text. None where no token has
-/// the byte, or it names nothing that the text declares. A name of an item that the grammar has no
-/// tree for means nothing, but for that of a state. The time is that of the text's tokens.
-pub fn meaning_at(
-    alloc: Global,
-    session: &Session,
-    offset: usize,
-) -> Result<Option<Meaning>, OutOfMemory>
-    ensures { IfOk result (λ m. m ≡ meaning_of session.now offset) }
-{
-    meaning_in(alloc, session.text(), &session.kept().lists, offset)
-}
-
-/// What the name means that a cursor at an offset is on: that which has the byte there, and where
-/// it means nothing that which has the byte before. So a cursor right after a word's last letter is
-/// on that word. The time is that of `meaning_at`.
-pub fn meaning_near(
-    alloc: Global,
-    session: &Session,
-    offset: usize,
-) -> Result<Option<Meaning>, OutOfMemory>
-    ensures { IfOk result (λ m. m ≡ meaning_near session.now offset) }
-{
-    meaning_near_in(alloc, session.text(), &session.kept().lists, offset)
 }

@@ -53,7 +53,7 @@ fn symbol_of((kind, depth, name, extent): Row) -> DocumentSymbol {
 fn symbols_are_told(rt: HostRuntime) -> Result<(), Fail> {
     let mut session = Session::new(rt.alloc())?;
     session.edit(0, 0, TEXT)?;
-    let found = symbols(rt.alloc(), &session)?;
+    let found = symbols(rt.alloc(), session.text(), &session.kept().lists)?;
     assert!(rt; found.len() == SYMBOLS.len());
     for (number, wanted) in SYMBOLS.iter().enumerate() {
         let is_told = found.get(number).copied() == Some(symbol_of(*wanted));

@@ -85,7 +85,7 @@ fn is_said(hover: &Option<Hover>, name: usize, lines: &[u8]) -> bool {
 fn hovers_say_lines(rt: HostRuntime) -> Result<(), Fail> {
     let session = session_over(rt.alloc(), TEXT.as_bytes())?;
     for (cursor, name, lines) in &SAID {
-        let hover = hover_at(rt.alloc(), &session, *cursor)?;
+        let hover = hover_at(rt.alloc(), session.text(), session.kept(), *cursor)?;
         assert!(rt; is_said(&hover, *name, lines.as_bytes()), "at {cursor}");
     }
     Ok(())
@@ -95,7 +95,7 @@ fn hovers_say_lines(rt: HostRuntime) -> Result<(), Fail> {
 fn nothing_is_said_of_other_bytes(rt: HostRuntime) -> Result<(), Fail> {
     let session = session_over(rt.alloc(), TEXT.as_bytes())?;
     for cursor in &SILENT {
-        let hover = hover_at(rt.alloc(), &session, *cursor)?;
+        let hover = hover_at(rt.alloc(), session.text(), session.kept(), *cursor)?;
         assert!(rt; hover.is_none(), "at {cursor}");
     }
     Ok(())
@@ -115,7 +115,7 @@ fn long_lines_are_cut_at_characters(rt: HostRuntime) -> Result<(), Fail> {
     for (count, shown) in &CUT {
         let line = long_line(rt.alloc(), *count)?;
         let session = session_over(rt.alloc(), &line)?;
-        let hover = hover_at(rt.alloc(), &session, 4)?;
+        let hover = hover_at(rt.alloc(), session.text(), session.kept(), 4)?;
         let wanted = &line[..(*shown).min(line.len())];
         assert!(rt; is_said(&hover, 4, wanted), "after {count}");
     }

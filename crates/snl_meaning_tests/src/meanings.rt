@@ -61,7 +61,7 @@ fn names_mean_declarations(rt: HostRuntime) -> Result<(), Fail> {
     let mut session = Session::new(rt.alloc())?;
     session.edit(0, 0, TEXT)?;
     for (offset, wanted) in &NAMES {
-        let found = match meaning_at(rt.alloc(), &session, *offset)? {
+        let found = match meaning_at(rt.alloc(), session.text(), &session.kept().lists, *offset)? {
             Some(meaning) => Some(meaning.declared.start),
             None => None,
         };
@@ -88,7 +88,12 @@ fn cursors_are_on_names(rt: HostRuntime) -> Result<(), Fail> {
     let mut session = Session::new(rt.alloc())?;
     session.edit(0, 0, TEXT)?;
     for (cursor, wanted) in &NEAR {
-        let found = match meaning_near(rt.alloc(), &session, *cursor)? {
+        let found = match meaning_near(
+            rt.alloc(),
+            session.text(),
+            &session.kept().lists,
+            *cursor,
+        )? {
             Some(meaning) => Some(meaning.name.start),
             None => None,
         };
@@ -101,7 +106,8 @@ fn cursors_are_on_names(rt: HostRuntime) -> Result<(), Fail> {
 fn names_are_spelled_alike(rt: HostRuntime) -> Result<(), Fail> {
     let mut session = Session::new(rt.alloc())?;
     session.edit(0, 0, TEXT)?;
-    let meaning = meaning_at(rt.alloc(), &session, 308)?.ok_or("no meaning")?;
-    assert!(rt; span_bytes(TEXT, meaning.name) == span_bytes(TEXT, meaning.declared));
+    let text = session.text();
+    let meaning = meaning_at(rt.alloc(), text, &session.kept().lists, 308)?.ok_or("no meaning")?;
+    assert!(rt; span_bytes(text, meaning.name) == span_bytes(text, meaning.declared));
     Ok(())
 }

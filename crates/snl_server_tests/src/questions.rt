@@ -2,6 +2,7 @@
 
 use crate::served::expect_all;
 use snl_docs::Docs;
+use snl_shown::SessionText;
 use std::test::Fail;
 
 // A message and the bodies that are answered to it, a line each. A document is opened, and its
@@ -44,6 +45,6 @@ static QUESTIONS: [(&[u8], &str); 8] = [
 
 #[test]
 fn answers_questions(rt: HostRuntime) -> Result<(), Fail> {
-    let mut docs = Docs::new(rt.alloc());
+    let mut docs: Docs<SessionText> = Docs::new(rt.alloc());
     expect_all(&rt, &mut docs, &QUESTIONS)
 }

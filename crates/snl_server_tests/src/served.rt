@@ -2,6 +2,8 @@
 
 use snl_docs::Docs;
 use snl_say::put_framed;
+use snl_shown::SessionText;
+use snl_talk::Answers;
 use snl_turns::Turn;
 use std::alloc::Global;
 use std::process::Abort;
@@ -74,7 +76,7 @@ fn framed(alloc: Global, bodies: &str) -> Result<Vec<u8>, Fail> {
 /// Expects what is answered to each message, a body a line.
 pub fn expect_all(
     rt: &(impl Abort + AllocGlobal),
-    docs: &mut Docs,
+    docs: &mut Docs<SessionText>,
     rows: &[(&[u8], &str)],
 ) -> Result<(), Fail> {
     for (row, (body, wanted)) in rows.iter().enumerate() {
@@ -89,7 +91,7 @@ pub fn expect_all(
 
 #[test]
 fn answers_each_message(rt: HostRuntime) -> Result<(), Fail> {
-    let mut docs = Docs::new(rt.alloc());
+    let mut docs: Docs<SessionText> = Docs::new(rt.alloc());
     expect_all(&rt, &mut docs, &TALK)?;
     let mut said = Vec::new(rt.alloc());
     docs.answer(Turn::HeaderAlone, &mut said)?;

@@ -8,7 +8,7 @@ use Rattle.snl_document.proofs.Named.{told_found, told_missed, updated_found, up
 use Rattle.snl_document.proofs.documents.change.Goals as goal
 
 pub returns-in-Some-clause-state : goal.returns-in-Some-clause-state
-returns-in-Some-clause-state c =
+returns-in-Some-clause-state g c =
     on_ok_weaker c.change.result
     (λ h. updated_found c.args.uri.now
     (after_changes c.args.encoding c.args.version (map changed_of c.args.changes.now))
@@ -17,8 +17,8 @@ returns-in-Some-clause-state c =
     c.change.ensures.state
 
 pub returns-in-Some-clause-said : goal.returns-in-Some-clause-said
-returns-in-Some-clause-said c =
-    let told = told_found c.args.encoding c.args.uri.now
+returns-in-Some-clause-said g c =
+    let told = told_found g.C.CheckedText.says c.args.encoding c.args.uri.now
     (after_changes c.args.encoding c.args.version (map changed_of c.args.changes.now))
     c.args.documents.now c.find.result
     c.in-Some.at c.index-documents-at.result c.find.ensures c.in-Some.is in
@@ -27,14 +27,14 @@ returns-in-Some-clause-said c =
     c.change.ensures.said
 
 pub returns-in-None-clause-state : goal.returns-in-None-clause-state
-returns-in-None-clause-state c =
+returns-in-None-clause-state g c =
     updated_missed c.args.uri.now
     (after_changes c.args.encoding c.args.version (map changed_of c.args.changes.now))
     c.args.documents.now c.find.result c.find.ensures c.in-None.is
 
 pub returns-in-None-clause-said : goal.returns-in-None-clause-said
-returns-in-None-clause-said c =
+returns-in-None-clause-said g c =
     said_none c.args.said.now.items _
-    (told_missed c.args.encoding c.args.uri.now
+    (told_missed g.C.CheckedText.says c.args.encoding c.args.uri.now
     (after_changes c.args.encoding c.args.version (map changed_of c.args.changes.now))
     c.args.documents.now c.find.result c.find.ensures c.in-None.is)

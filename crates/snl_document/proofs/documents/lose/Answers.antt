@@ -7,26 +7,28 @@ use Rattle.snl_document.proofs.Named.{told_found, told_missed, updated_found, up
 use Rattle.snl_document.proofs.documents.lose.Goals as goal
 
 pub returns-in-Some-clause-state : goal.returns-in-Some-clause-state
-returns-in-Some-clause-state c =
+returns-in-Some-clause-state g c =
     updated_found c.args.uri.now lost c.args.documents.now c.find.result c.in-Some.at
     c.index-documents-at.result c.lose.new.self c.find.ensures c.in-Some.is
     c.lose.ensures.state
 
 pub returns-in-Some-clause-said : goal.returns-in-Some-clause-said
-returns-in-Some-clause-said c =
-    let told = told_found c.args.encoding c.args.uri.now lost c.args.documents.now c.find.result
+returns-in-Some-clause-said g c =
+    let told = told_found g.C.CheckedText.says c.args.encoding c.args.uri.now lost
+    c.args.documents.now c.find.result
     c.in-Some.at c.index-documents-at.result c.find.ensures c.in-Some.is in
     on_ok_weaker c.lose.result
     (λ h. h ∙ ap (λ (rs : List Reply). c.args.said.now.items ++ said_of rs) told)
     c.lose.ensures.said
 
 pub returns-in-None-clause-state : goal.returns-in-None-clause-state
-returns-in-None-clause-state c =
+returns-in-None-clause-state g c =
     updated_missed c.args.uri.now lost c.args.documents.now c.find.result c.find.ensures
     c.in-None.is
 
 pub returns-in-None-clause-said : goal.returns-in-None-clause-said
-returns-in-None-clause-said c =
+returns-in-None-clause-said g c =
     said_none c.args.said.now.items _
-    (told_missed c.args.encoding c.args.uri.now lost c.args.documents.now c.find.result
+    (told_missed g.C.CheckedText.says c.args.encoding c.args.uri.now lost c.args.documents.now
+    c.find.result
     c.find.ensures c.in-None.is)

@@ -7,7 +7,8 @@ use Rattle.snl_docs.proofs.docs.Docs.note_ready.Goals as goal
 
 -- Where nothing is told, nothing is added.
 pub returns-clause-said : goal.returns-clause-said
-returns-clause-said c =
+returns-clause-said g c =
     let none = said_none c.args.said.now.items
-    (told_by c.args.self.now.encoding c.args.self.now.docs (noted_of c.args.told)) in
+    (told_by g.C.CheckedText.says c.args.self.now.encoding c.args.self.now.docs
+    (noted_of c.args.told)) in
     grind (arith, common_steps, none)

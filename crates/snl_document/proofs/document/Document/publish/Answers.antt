@@ -8,30 +8,32 @@ use Rattle.snl_document.proofs.Framed.{found_by, publish_is}
 use Rattle.snl_document.proofs.document.Document.publish.Goals as goal
 
 pub returns-in_ok-say_found-in-Some : goal.returns-in_ok-say_found-in-Some
-returns-in_ok-say_found-in-Some c =
+returns-in_ok-say_found-in-Some g c =
     let doc : Doc = record {
       uri = string_bytes c.self.inside.uri;
       version = c.self.inside.version;
       text = c.self.inside.text;
     } in
-    let text = Some c.in-Some.session.now in
+    let text = Some (g.C.CheckedText.text_of c.in-Some.checked.now) in
     let found =
     ap (map (λ s. found_of s)) c.deref-in-Some.ensures.value ∙ c.in_ok-found-in-Some.ensures
-    ∙ found_by c.args.encoding doc.text text c.in-Some.ensures in
+    ∙ found_by g.C.CheckedText.says c.args.encoding doc.text text c.in-Some.ensures in
     subst (λ (d : Doc). c.say_found.new.said.items
-    ≡ c.args.said.now.items ++ framed_reply (published c.args.encoding d)) c.self.view_is
-    (publish_is c.args.encoding doc _ _ _ _ c.in_ok-say_found-in-Some.ensures
+    ≡ c.args.said.now.items ++ framed_reply (published g.C.CheckedText.says c.args.encoding d))
+    c.self.view_is
+    (publish_is g.C.CheckedText.says c.args.encoding doc _ _ _ _ c.in_ok-say_found-in-Some.ensures
     (c.deref.ensures.value ∙ c.self.invariant) found)
 
 pub returns-in_ok-say_found-in-None : goal.returns-in_ok-say_found-in-None
-returns-in_ok-say_found-in-None c =
+returns-in_ok-say_found-in-None g c =
     let doc : Doc = record {
       uri = string_bytes c.self.inside.uri;
       version = c.self.inside.version;
       text = c.self.inside.text;
     } in
-    let found = found_by c.args.encoding doc.text None c.in-None.ensures in
+    let found = found_by g.C.CheckedText.says c.args.encoding doc.text None c.in-None.ensures in
     subst (λ (d : Doc). c.say_found-in-None.new.said.items
-    ≡ c.args.said.now.items ++ framed_reply (published c.args.encoding d)) c.self.view_is
-    (publish_is c.args.encoding doc _ _ _ _ c.in_ok-say_found-in-None.ensures
+    ≡ c.args.said.now.items ++ framed_reply (published g.C.CheckedText.says c.args.encoding d))
+    c.self.view_is
+    (publish_is g.C.CheckedText.says c.args.encoding doc _ _ _ _ c.in_ok-say_found-in-None.ensures
     (c.deref-in-None.ensures.value ∙ c.self.invariant) found)

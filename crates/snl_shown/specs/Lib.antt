@@ -1,0 +1,6 @@
+pub mod Found
+pub mod Marks
+pub mod Shown
+pub mod Sources
+pub mod Spans
+pub mod Symbols

@@ -1,0 +1,41 @@
+-- What the text of a session says, as a client is told it.
+use Rattle.std.specs.Prelude.{ℕ, List, Option, option_map}
+use Rattle.snl_place.specs.declared.places.Encoding.{Encoding}
+use Rattle.snl_place.specs.declared.places.Place.{Place}
+use Rattle.snl_tables.specs.declared.rows.Span.{Span}
+use Rattle.snl_meaning.specs.Meanings.{meaning_near}
+use Rattle.snl_hover.specs.Hover.{Told, hover_of}
+use Rattle.snl_document.specs.Says.{NameTold, Says}
+use Rattle.snl_shown.specs.Found.{found_in}
+use Rattle.snl_shown.specs.Spans.{offset_at, start_of, stop_of}
+use Rattle.snl_shown.specs.Symbols.{symbols_in}
+
+-- Between which places a span of a text is.
+abbrev pub places_of : Encoding → (text : List ℕ) → Span → Place × Place
+places_of encoding text span = (start_of encoding text span, stop_of encoding text span)
+
+-- Where the name is declared that the name near a place means.
+abbrev pub declared_at : Encoding → (text : List ℕ) → Place → Option (Place × Place)
+declared_at encoding text place = option_map (λ m. places_of encoding text m.declared)
+    (meaning_near text (offset_at encoding text place))
+
+-- What is told of the name near a place, and where that name is.
+abbrev pub name_told : Encoding → (text : List ℕ) → Told → NameTold
+name_told encoding text h = record {
+  bytes = h.bytes;
+  start = start_of encoding text h.name;
+  stop = stop_of encoding text h.name;
+}
+
+abbrev pub told_at : Encoding → (text : List ℕ) → Place → Option NameTold
+told_at encoding text place = option_map (name_told encoding text)
+    (hover_of text (offset_at encoding text place))
+
+-- All that the server tells of a text that a session checks.
+abbrev pub says_of_text : Says
+says_of_text = record {
+  found_in = found_in;
+  symbols_in = symbols_in;
+  declared_at = declared_at;
+  told_at = told_at;
+}

@@ -1,0 +1,49 @@
+//! The laws of what is answered over texts that sessions check. A function here calls laws alone:
+//! its contract is the law.
+
+ghost use Rattle.std.specs.Prelude.{◌≡◌, ◌∷◌, [], ℕ, List, Some, All};
+ghost use Rattle.serde_json.specs.Data.{Data};
+ghost use Rattle.snl_hear.specs.Documents.{Located};
+ghost use Rattle.snl_hear.specs.Heard.{Request};
+ghost use Rattle.snl_hear.specs.Requests.{Definition, DocumentSymbol, Hover};
+ghost use Rattle.snl_docs.specs.declared.phase.Phase.TheVariants.{Ready};
+ghost use Rattle.snl_docs.specs.Asked.{hover_answer, location_answer};
+ghost use Rattle.snl_docs.specs.Known.{IsByText, checked_text};
+ghost use Rattle.snl_docs.specs.Served.{Served, after, replied};
+ghost use Rattle.snl_replies.specs.Replies.{AnswerSymbols};
+ghost use Rattle.snl_shown.specs.Shown.{declared_at, says_of_text, told_at};
+ghost use Rattle.snl_shown.specs.Symbols.{symbols_in};
+ghost use Rattle.snl_turns.specs.Turns.{Turn, heard_at};
+
+use snl_docs::{answered_by_text, published_by_text};
+
+/// Whatever is published is what is found in the text that is kept for its URI after the message:
+/// nothing, where none is known or it isn't checked.
+pub fn diagnostics_by_text()
+    ensures { (s : Served) (turn : Turn)
+        → All (IsByText says_of_text (after s turn)) (replied says_of_text s turn) }
+{
+    published_by_text();
+}
+
+/// What is asked of a document is answered by the text that is kept for its URI, where that is
+/// checked: by its symbols, by where the name that a cursor is on is declared, and by what a hover
+/// says of that name.
+pub fn questions_by_text()
+    ensures symbols { (s : Served) (turn : Turn) (id : Data) (uri text : List ℕ)
+        → s.phase ≡ Ready → heard_at turn ≡ Request id (DocumentSymbol uri)
+        → checked_text uri s.docs ≡ Some text
+        → replied says_of_text s turn ≡ AnswerSymbols id (symbols_in s.encoding text) ∷ [] }
+    ensures definition { (s : Served) (turn : Turn) (id : Data) (at : Located) (text : List ℕ)
+        → s.phase ≡ Ready → heard_at turn ≡ Request id (Definition at)
+        → checked_text at.uri s.docs ≡ Some text
+        → replied says_of_text s turn
+        ≡ location_answer id at.uri (declared_at s.encoding text at.place) ∷ [] }
+    ensures hover { (s : Served) (turn : Turn) (id : Data) (at : Located) (text : List ℕ)
+        → s.phase ≡ Ready → heard_at turn ≡ Request id (Hover at)
+        → checked_text at.uri s.docs ≡ Some text
+        → replied says_of_text s turn
+        ≡ hover_answer id (told_at s.encoding text at.place) ∷ [] }
+{
+    answered_by_text();
+}
