@@ -12,6 +12,7 @@ pub mod Numbers
 pub mod Marks
 pub mod WakeLaws
 pub mod SpanLaws
+pub mod ClauseScopes
 pub mod ShiftLists
 pub mod ShiftedItems
 pub mod ShiftedClauses

@@ -1,18 +1,17 @@
 -- The tables of a text after an edit inside one item: all other items keep their tokens. `line`
 -- says what becomes of the line of an offset.
-use Rattle.std.proofs.Common.{◌≡◌, ◌≢◌, ℕ, zero, suc, ◌+◌, ◌<◌, ◌&&◌, ◌||◌, Bool, true, false, List, [], ◌∷◌, ◌++◌, length, map, slice_get, nat_eq, Option, Some, None, inl, inr, if◌then◌else◌, refl, sym, subst, ap, ap₂, ◌∙◌, arith, nat_lt, IfSome}
+use Rattle.std.proofs.Common.{◌≡◌, ◌≢◌, ◌⊎◌, ℕ, zero, suc, ◌+◌, ◌<◌, ◌&&◌, ◌||◌, Bool, true, false, List, [], ◌∷◌, ◌++◌, length, map, slice_get, nat_eq, Option, Some, None, inl, inr, if◌then◌else◌, refl, sym, subst, ap, ap₂, ◌∙◌, arith, nat_lt, IfSome}
 use Rattle.std.specs.List.{AllByRecursion, enumerate_from, filter_map, flat_map}
-use Rattle.std.specs.Option.{is_none, is_some, option_and_then, option_map, option_map_or, option_to_list}
+use Rattle.std.specs.Option.{is_none, option_and_then, option_map, option_map_or, option_to_list}
 use Rattle.std.proofs.lemmas.Bool.{and_from, cases_eq, eq-eqb, eqb-true, false_from_ne_true, false≢true}
 use Rattle.std.proofs.lemmas.List.{length-map}
 use Rattle.snl_tables.specs.ShiftedLaws.{changed_twice}
 use Rattle.snl_scope.specs.BelowLaws.{each_below, each_passing}
 use Rattle.snl_facts.specs.Booleans.{and_first, and_second}
-use Rattle.snl_facts.specs.Each.{each_append, each_map, each_weaker}
+use Rattle.snl_facts.specs.Each.{each_append, each_both, each_map, each_weaker}
 use Rattle.snl_lex.specs.declared.lines.Line.{Line}
 use Rattle.snl_lex.specs.declared.piece.Piece.{Piece}
 use Rattle.snl_lex.specs.declared.shift.Shift.{Shift}
-use Rattle.snl_lex.specs.Lines.{line_at}
 use Rattle.snl_syntax.specs.declared.tree.clause.Clause.{Clause}
 use Rattle.snl_syntax.specs.declared.tree.clause.Clause.TheVariants as clauses
 use Rattle.snl_syntax.specs.declared.tree.item.Item.{Item}
@@ -22,6 +21,7 @@ use Rattle.snl_syntax.specs.declared.tree.state.StateMember.TheVariants as membe
 use Rattle.snl_scope.specs.declared.facts.ClauseLink.{ClauseLink}
 use Rattle.snl_scope.specs.declared.facts.Declaration.{Declaration}
 use Rattle.snl_scope.specs.declared.facts.Scope.{Scope}
+use Rattle.snl_scope.specs.declared.facts.Scope.TheVariants as scopes
 use Rattle.snl_codes.specs.declared.code.Code.{Code}
 use Rattle.snl_codes.specs.declared.code.Code.TheVariants.{E08, E09}
 use Rattle.snl_scope.specs.declared.names.namespaces.Namespace.{Namespace}
@@ -60,17 +60,17 @@ use Rattle.snl_check.specs.Members.{is_faulty_item, number_among, states_in, tar
 use Rattle.snl_check.specs.Moved.{ReplacesItem, ReplacesOne}
 use Rattle.snl_item_check.specs.View.{is_in_set}
 use Rattle.snl_check.specs.Settings.{LetterSetting, setting_at, setting_in_tree}
-use Rattle.snl_check.specs.Shifted.{has_own_row, start_at}
 use Rattle.snl_item_check.specs.Told.{nothing, told_in_item, used_by, wakes_of}
 use Rattle.snl_check.specs.ShiftedAround.{IsFlagPlaced, IsPlacedAt, IsSoundAsItWas, SaysAlike, SaysAlikeAt, is_plain, set_number, state_number}
 use Rattle.snl_check.specs.Spans.{AreRead}
-use Rattle.snl_check.specs.States.{item_at, line_of_item, mark_of, marks_of, numbered_row, set_row, set_rows, state_body, state_row, state_rows, wake_of}
+use Rattle.snl_check.specs.States.{item_at, mark_of, marks_of, numbered_row, set_row, set_rows, state_body, state_row, state_rows, wake_of}
 use Rattle.snl_check.specs.Tables.{flag_row_at, tables_of}
+use Rattle.snl_check.proofs.ClauseScopes.{IsMeant, resolved_meant}
 use Rattle.snl_check.proofs.Linked.{outline_at}
 use Rattle.snl_check.proofs.ShiftLists.{map_shift, numbered_shift}
 use Rattle.snl_check.proofs.Sets.{get_here, is_within}
 use Rattle.snl_check.proofs.ShiftedItems.{IsKept, faulty_stays, header_at, header_at_shifts, span_at_shifts, tree_stays}
-use Rattle.snl_check.proofs.ShiftedClauses.{HasBytes, IsScopeShifted, flag_shifts, setting_stays}
+use Rattle.snl_check.proofs.ShiftedClauses.{HasBytes, IsChannelKept, IsScopeShifted, flag_shifts, setting_stays, variable_scope_shifts}
 use Rattle.snl_check.proofs.ShiftedStates.{has_faulty_stays, state_row_shifts, targets_stay}
 use Rattle.snl_check.proofs.ShiftedRows.{Parts, and_none, kept_map, map_twice, marked_rows, numbered_changed, parts_at, row_changed, same_either}
 use Rattle.snl_check.proofs.ShiftedTables.{IsLineKept, IsRowKept, MarksStay, RestStays, SpellingLaws, item_kept, same_channels, same_mark, set_line, set_named, set_shifts, state_line, state_shifts, tables_but_sets}
@@ -108,10 +108,6 @@ module _ (text : List ℕ) (tokens : List Piece) where
 
 -- ---- tests
 
-second_holds : (a b : Bool) → b ≡ true → (a || b) ≡ true
-second_holds true b h = refl
-second_holds false b h = h
-
 -- the entry of an event flag declares one
 flag_declared : (ss : List Outline) (number : ℕ) (d : Declaration) → is_flag (entries ss) number ≡ true → declaration_at ss number ≡ Some d → is_event_flag d.variable.symbol_kind ≡ true
 flag_declared ss number d = by (slice_get (entries ss) number)
@@ -137,7 +133,7 @@ module _ (laws : SpellingLaws) (old text : List ℕ) (s : Shift) (line : ℕ →
   is : (y : ProgramItem) × (slice_get ys j ≡ Some y)
   is = get_here ys j (omega (arith, rep.there, rep.count))
 
-  replaced : ReplacesItem old text s line was.0 is.0
+  replaced : ReplacesItem old text s was.0 is.0
   replaced = rep.replaced was.0 is.0 was.1 is.1
 
   everywhere : (P : ℕ → Type 0) → P j → ((i : ℕ) → i ≢ j → P i) → (i : ℕ) → P i
@@ -195,22 +191,6 @@ module _ (laws : SpellingLaws) (old text : List ℕ) (s : Shift) (line : ℕ →
   resolved_apart : AllByRecursion (λ (p : ItemClause × ClauseLink). p.0.item ≢ j) (resolved_clauses xs ss)
   resolved_apart = each_beside (λ (c : ItemClause). c.item ≢ j) (item_clauses xs) (clause_links ss) (clauses_apart (length xs))
 
-  abbrev IsOfKept : AssignedChannel → Type 0
-  IsOfKept c = IsKept old text s xs ys c.item
-
-  channels_kept : (p : ItemClause × ClauseLink) → p.0.item ≢ j → AllByRecursion IsOfKept (channels_of_clause old xs p)
-  channels_kept p apart = by p.1.is_sound
-    where
-      on : (o : Option ℕ) (c : Clause) → AllByRecursion IsOfKept (channels_on old xs p.0.item o c)
-      on (Some v) (clauses.Assign name channel) =
-          let named = channels_in old (tokens_in xs p.0.item) channel in
-          each_map IsOfKept (assigned_channel p.0.item name v) named (each_all (λ n. IsKept old text s xs ys p.0.item) named (λ n. kept p.0.item apart))
-      on _ _ = tt
-
-      by : (b : Bool) → AllByRecursion IsOfKept (if b then channels_on old xs p.0.item p.1.variable p.0.clause else [])
-      by true = on p.1.variable p.0.clause
-      by false = tt
-
   -- ---- where names are
 
   -- a token of an item is where it was, shifted
@@ -239,34 +219,19 @@ module _ (laws : SpellingLaws) (old text : List ℕ) (s : Shift) (line : ℕ →
   set_placed : (k : ℕ) → is_set_begin ss k ≡ true → IsPlaced k 1
   set_placed k is = placed_apart k (set_apart k is) 1
 
-  -- an item with a scope of its own
-  scope_placed : (i : ℕ) (o : Outline) → slice_get ss i ≡ Some o → has_own_scope o.role ≡ true → IsPlaced i 1
-  scope_placed =
-      everywhere (λ i. (o : Outline) → slice_get ss i ≡ Some o → has_own_scope o.role ≡ true → IsPlaced i 1)
-      (λ o at own.
-      let there : slice_get ss j ≡ Some (outline_of_item old was.0) = outline_here in
-      let same : o ≡ outline_of_item old was.0 = cc in
-      let here : has_own_scope (outline_of_item old was.0).role ≡ true = subst (λ (o : Outline). has_own_scope o.role ≡ true) same own in
-      placed_here 1 (replaced.name (second_holds (is_some (state_name (outline_of_item old was.0))) (has_own_scope (outline_of_item old was.0).role) here)))
-      (λ i apart o at own. placed_apart i apart 1)
-
-  -- a state with a name
-  named_row : is_named_state ss j ≡ true → has_own_row (outline_of_item old was.0) ≡ true
-  named_row named =
-      ap (λ b. b || has_own_scope (outline_of_item old was.0).role)
-      (sym (ap (λ (o : Option Outline). option_map_or (λ o. is_some (state_name o)) o false) outline_here) ∙ named)
-
   -- ---- declarations
 
   abbrev IsScopeKept : Scope → Type 0
   IsScopeKept c = IsScopeShifted s xs ys ss c
 
-  abbrev IsFlagKept : ℕ → Declared → Type 0
-  IsFlagKept item d = is_event_flag d.variable.symbol_kind ≡ true → IsPlaced item d.token
+  -- an event flag that an item declares is where it was, shifted, and so is the item's name, if it
+  -- has a scope of its own
+  abbrev IsFlagKept : ℕ → (own_scope : Bool) → Declared → Type 0
+  IsFlagKept item own_scope d = is_event_flag d.variable.symbol_kind ≡ true → IsPlaced item d.token × (own_scope ≡ true → IsPlaced item 1)
 
-  -- the names of its scope are where they were, shifted, and so is its own, if it is an event flag
+  -- an event flag is where it was, shifted, and so are the names of its scope
   abbrev IsDeclarationKept : Declaration → Type 0
-  IsDeclarationKept d = (is_event_flag d.variable.symbol_kind ≡ true → IsPlaced d.item d.token) × IsScopeKept d.scope
+  IsDeclarationKept d = is_event_flag d.variable.symbol_kind ≡ true → IsPlaced d.item d.token × IsScopeKept d.scope
 
   abbrev IsEntryKept : Entry → Type 0
   IsEntryKept e = IfSome (entry_declaration e) IsDeclarationKept
@@ -279,35 +244,35 @@ module _ (laws : SpellingLaws) (old text : List ℕ) (s : Shift) (line : ℕ →
       by None e = refl
       by (Some k) e = ap Some (set_placed k (place_begins ss i k e))
 
-  scope_kept : (i : ℕ) (o : Outline) → slice_get ss i ≡ Some o → IfSome (scope_in (scope_of ss i o)) IsScopeKept
-  scope_kept i o at = by (has_own_scope o.role) refl
+  scope_kept : (i : ℕ) (o : Outline) → (has_own_scope o.role ≡ true → IsPlaced i 1) → IfSome (scope_in (scope_of ss i o)) IsScopeKept
+  scope_kept i o placed = by (has_own_scope o.role) placed
     where
       around : (p : Option ℕ) → enclosing_set ss i ≡ p → IfSome (scope_in (scope_at p)) IsScopeKept
       around None e = refl
       around (Some k) e = ap scope_names.StateSet (set_placed k (place_begins ss i k e))
 
-      by : (b : Bool) → has_own_scope o.role ≡ b → IfSome (scope_in (if b then namespace.State i else scope_at (enclosing_set ss i))) IsScopeKept
-      by true own = ap₂ scope_names.State (around_kept i) (scope_placed i o at own)
-      by false own = around (enclosing_set ss i) refl
+      by : (b : Bool) → (b ≡ true → IsPlaced i 1) → IfSome (scope_in (if b then namespace.State i else scope_at (enclosing_set ss i))) IsScopeKept
+      by true placed = ap₂ scope_names.State (around_kept i) (placed refl)
+      by false placed = around (enclosing_set ss i) refl
 
-  flags_kept : (n : ℕ) (o : Outline) → slice_get ss n ≡ Some o → AllByRecursion (IsFlagKept n) o.declares
+  flags_kept : (n : ℕ) (o : Outline) → slice_get ss n ≡ Some o → AllByRecursion (IsFlagKept n (has_own_scope o.role)) o.declares
   flags_kept =
-      everywhere (λ n. (o : Outline) → slice_get ss n ≡ Some o → AllByRecursion (IsFlagKept n) o.declares)
+      everywhere (λ n. (o : Outline) → slice_get ss n ≡ Some o → AllByRecursion (IsFlagKept n (has_own_scope o.role)) o.declares)
       (λ o at.
       let there : slice_get ss j ≡ Some (outline_of_item old was.0) = outline_here in
       let same : outline_of_item old was.0 ≡ o = cc in
-      each_weaker (IsFlagPlaced s was.0 is.0) (IsFlagKept j) (λ d placed flag. placed_here d.token (placed flag)) o.declares
-      (subst (λ (o : Outline). AllByRecursion (IsFlagPlaced s was.0 is.0) o.declares) same replaced.flags))
-      (λ n apart o at. each_all (IsFlagKept n) o.declares (λ d flag. placed_apart n apart d.token))
+      each_weaker (IsFlagPlaced s was.0 is.0 (has_own_scope o.role)) (IsFlagKept j (has_own_scope o.role)) (λ d placed flag. (placed_here d.token (placed flag).0, λ own. placed_here 1 ((placed flag).1 own))) o.declares
+      (subst (λ (o : Outline). AllByRecursion (IsFlagPlaced s was.0 is.0 (has_own_scope o.role)) o.declares) same replaced.flags))
+      (λ n apart o at. each_all (IsFlagKept n (has_own_scope o.role)) o.declares (λ d flag. (placed_apart n apart d.token, λ own. placed_apart n apart 1)))
 
   declares_kept : (n : ℕ) (o : Outline) → slice_get ss n ≡ Some o → AllByRecursion IsEntryKept (map (declared_entry (scope_of ss n o) n) o.declares)
   declares_kept n o at =
       each_map IsEntryKept (declared_entry (scope_of ss n o) n) o.declares
-      (each_weaker (IsFlagKept n) (λ (d : Declared). IsEntryKept (declared_entry (scope_of ss n o) n d)) (λ d placed. by d placed (scope_in (scope_of ss n o)) (scope_kept n o at)) o.declares (flags_kept n o at))
+      (each_weaker (IsFlagKept n (has_own_scope o.role)) (λ (d : Declared). IsEntryKept (declared_entry (scope_of ss n o) n d)) (λ d placed. by d placed (scope_in (scope_of ss n o)) (scope_kept n o)) o.declares (flags_kept n o at))
     where
-      by : (d : Declared) → IsFlagKept n d → (c : Option Scope) → IfSome c IsScopeKept → IfSome (option_map (λ c. variable_declaration n d.token c d.variable) c) IsDeclarationKept
+      by : (d : Declared) → IsFlagKept n (has_own_scope o.role) d → (c : Option Scope) → ((has_own_scope o.role ≡ true → IsPlaced n 1) → IfSome c IsScopeKept) → IfSome (option_map (λ c. variable_declaration n d.token c d.variable) c) IsDeclarationKept
       by d placed None scope = tt
-      by d placed (Some c) scope = (placed, scope)
+      by d placed (Some c) scope = λ flag. ((placed flag).0, scope (placed flag).1)
 
   entries_kept : (n : ℕ) → AllByRecursion IsEntryKept (entries_before ss n)
   entries_kept zero = tt
@@ -334,20 +299,55 @@ module _ (laws : SpellingLaws) (old text : List ℕ) (s : Shift) (line : ℕ →
       by None q e = absurd cc
       by (Some entry) q e = subst (λ o. IfSome o IsDeclarationKept) e q
 
-  scopes : (number : ℕ) (d : Declaration) → declaration_at ss number ≡ Some d → IsScopeKept d.scope
-  scopes number d h = (declaration_kept number d h).1
+  flag_kept : (number : ℕ) → is_flag (entries ss) number ≡ true → (d : Declaration) → declaration_at ss number ≡ Some d → IsPlaced d.item d.token × IsScopeKept d.scope
+  flag_kept number is d at = declaration_kept number d at (flag_declared ss number d is at)
+
+  -- the scopes that the clauses see
+  set_scope : (k : ℕ) → is_set_begin ss k ≡ true → IsScopeKept (scopes.StateSet k)
+  set_scope k is = ap scope_names.StateSet (set_placed k is)
+
+  own_scope : (i : ℕ) (o : Outline) → slice_get ss i ≡ Some o → (o.clauses ≡ []) ⊎ IsScopeKept (scopes.State i)
+  own_scope =
+      everywhere (λ i. (o : Outline) → slice_get ss i ≡ Some o → (o.clauses ≡ []) ⊎ IsScopeKept (scopes.State i))
+      (λ o at.
+      let there : slice_get ss j ≡ Some (outline_of_item old was.0) = outline_here in
+      let same : outline_of_item old was.0 ≡ o = cc in
+      inl (subst (λ (o : Outline). o.clauses ≡ []) same replaced.no_clause))
+      (λ i apart o at. inr (ap₂ scope_names.State (around_kept i) (placed_apart i apart 1)))
+
+  -- a clause is of a kept item, and its variable in such a scope
+  abbrev IsClauseKept : ItemClause × ClauseLink → Type 0
+  IsClauseKept p = (p.0.item ≢ j) × IsMeant ss IsScopeKept refl set_scope p.1.variable
+
+  clauses_kept : AllByRecursion IsClauseKept (resolved_clauses xs ss)
+  clauses_kept =
+      each_both (λ (p : ItemClause × ClauseLink). p.0.item ≢ j) (λ (p : ItemClause × ClauseLink). IsMeant ss IsScopeKept refl set_scope p.1.variable) (resolved_clauses xs ss) resolved_apart
+      (resolved_meant ss IsScopeKept refl set_scope own_scope xs)
+
+  channels_kept : (p : ItemClause × ClauseLink) → IsClauseKept p → AllByRecursion (IsChannelKept old text s xs ys ss) (channels_of_clause old xs p)
+  channels_kept p clause = by p.1.is_sound
+    where
+      on : (o : Option ℕ) → IsMeant ss IsScopeKept refl set_scope o → (c : Clause) → AllByRecursion (IsChannelKept old text s xs ys ss) (channels_on old xs p.0.item o c)
+      on (Some v) meant (clauses.Assign name channel) =
+          let named = channels_in old (tokens_in xs p.0.item) channel in
+          each_map (IsChannelKept old text s xs ys ss) (assigned_channel p.0.item name v) named
+          (each_all (λ n. IsChannelKept old text s xs ys ss (assigned_channel p.0.item name v n)) named (λ n. record { item = kept p.0.item clause.0; scope = variable_scope_shifts s xs ys ss v meant }))
+      on _ meant _ = tt
+
+      by : (b : Bool) → AllByRecursion (IsChannelKept old text s xs ys ss) (if b then channels_on old xs p.0.item p.1.variable p.0.clause else [])
+      by true = on p.1.variable clause.1 p.0.clause
+      by false = tt
 
   rest_stays : RestStays old text s xs ys ss
   rest_stays = record {
     count = rep.count;
     headers = headers;
-    scopes = scopes;
     settings = λ i l. settings i;
     flags = each_passing (λ number. flag_row_at ys ss number ≡ option_map (shifted_flag s) (flag_row_at xs ss number)) (is_flag (entries ss)) (length (entries ss))
-        (λ number is. flag_shifts s xs ys ss scopes number (λ d at. (declaration_kept number d at).0 (flag_declared ss number d is at)));
+        (λ number is. flag_shifts s xs ys ss number (λ d at. (flag_kept number is d at).1) (λ d at. (flag_kept number is d at).0));
     clauses = same_clauses;
     bytes = each_weaker (λ (p : ItemClause × ClauseLink). p.0.item ≢ j) (HasBytes old text xs ys) (λ p apart. (kept p.0.item apart).bytes) (resolved_clauses xs ss) resolved_apart;
-    channels = each_flat (λ (p : ItemClause × ClauseLink). p.0.item ≢ j) IsOfKept (channels_of_clause old xs) (resolved_clauses xs ss) channels_kept resolved_apart;
+    channels = each_flat IsClauseKept (IsChannelKept old text s xs ys ss) (channels_of_clause old xs) (resolved_clauses xs ss) channels_kept clauses_kept;
   }
 
   -- ---- rows
@@ -506,11 +506,6 @@ module _ (laws : SpellingLaws) (old text : List ℕ) (s : Shift) (line : ℕ →
           parts_at (λ i. IsRowKept old text s line xs ys i) (is_state_in set) (length ss) j inside (and_from (is_named_state ss j) (stands_in ss set j) named_here stands_here)
           (λ i l m is. row_kept i (λ same. omega (arith, same, l)) (and_first (is_named_state ss i) (stands_in ss set i) is))
 
-      line_here : line_of_item text ys j ≡ line (item_name xs j).start (line_of_item old xs j)
-      line_here =
-          ap (λ (ts : List Piece). line_at text (start_at ts 0)) (tokens_are ys j is.0 is.1) ∙ replaced.lined (named_row named_here)
-          ∙ sym (ap (λ (ts : List Piece). line (start_at ts 1) (line_at old (start_at ts 0))) (tokens_are xs j was.0 was.1))
-
       item_here : item_at ys j ≡ y
       item_here =
           let item : Option ProgramItem → ProgramItem = λ o. record { tokens = option_map_or (λ (x : ProgramItem). x.tokens) o []; tree = option_and_then (λ (x : ProgramItem). x.tree) o } in
@@ -518,8 +513,8 @@ module _ (laws : SpellingLaws) (old text : List ℕ) (s : Shift) (line : ℕ →
 
       row_here : (m : StateMark) → state_row text ys ss m j ≡ with_own_wake (wake_of text ys ss j) (with_own_body body (moved_state s line (state_row old xs ss m j)))
       row_here m =
-          let name = placed_here 1 (replaced.name (named_row named_here)) in
-          let lined = line_here in
+          let name = ap (λ (x : ProgramItem). (state_body text ss j x).name) item_here in
+          let lined = ap (λ (x : ProgramItem). (state_body text ss j x).line) item_here in
           let options = ap (λ (x : ProgramItem). (state_body text ss j x).options) item_here in
           let transitions = ap (λ (x : ProgramItem). (state_body text ss j x).transitions) item_here in
           let gotos = ap (λ (x : ProgramItem). (state_body text ss j x).gotos) item_here in

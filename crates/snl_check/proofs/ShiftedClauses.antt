@@ -74,9 +74,9 @@ scope_shifts s xs ys ss names (scope.State state) = ap₂ named.State (by (enclo
     by None = refl
     by (Some k) = ap Some (names k)
 
-module _ (s : Shift) (xs ys : List ProgramItem) (ss : List Outline) (scopes : (number : ℕ) (d : Declaration) → declaration_at ss number ≡ Some d → IsScopeShifted s xs ys ss d.scope) where
-  pub variable_scope_shifts : (number : ℕ) → scope_of_variable ys ss number ≡ shifted_scope s (scope_of_variable xs ss number)
-  variable_scope_shifts number = by (declaration_at ss number) (scopes number)
+module _ (s : Shift) (xs ys : List ProgramItem) (ss : List Outline) (number : ℕ) (scopes : (d : Declaration) → declaration_at ss number ≡ Some d → IsScopeShifted s xs ys ss d.scope) where
+  pub variable_scope_shifts : scope_of_variable ys ss number ≡ shifted_scope s (scope_of_variable xs ss number)
+  variable_scope_shifts = by (declaration_at ss number) scopes
     where
       by : (o : Option Declaration) → ((d : Declaration) → o ≡ Some d → IsScopeShifted s xs ys ss d.scope) →
           option_map_or (λ d. scope_name ys ss d.scope) o named.Program ≡ shifted_scope s (option_map_or (λ d. scope_name xs ss d.scope) o named.Program)
@@ -86,10 +86,10 @@ module _ (s : Shift) (xs ys : List ProgramItem) (ss : List Outline) (scopes : (n
   flag : Span → ScopeName → Option FlagRow
   flag name scope = Some (record { name = name; scope = scope })
 
-  pub flag_shifts : (number : ℕ) → ((d : Declaration) → declaration_at ss number ≡ Some d → span_at ys d.item d.token ≡ shifted_span s (span_at xs d.item d.token)) →
+  pub flag_shifts : ((d : Declaration) → declaration_at ss number ≡ Some d → span_at ys d.item d.token ≡ shifted_span s (span_at xs d.item d.token)) →
       flag_row_at ys ss number ≡ option_map (shifted_flag s) (flag_row_at xs ss number)
   unfolding flag
-  flag_shifts number h = by (declaration_at ss number) h (scopes number)
+  flag_shifts h = by (declaration_at ss number) h scopes
     where
       by : (o : Option Declaration) → ((d : Declaration) → o ≡ Some d → span_at ys d.item d.token ≡ shifted_span s (span_at xs d.item d.token)) →
           ((d : Declaration) → o ≡ Some d → IsScopeShifted s xs ys ss d.scope) →
@@ -97,9 +97,9 @@ module _ (s : Shift) (xs ys : List ProgramItem) (ss : List Outline) (scopes : (n
       by None spans shifted = refl
       by (Some d) spans shifted = ap₂ flag (spans d refl) (shifted d refl)
 
-  pub flags_shift : AllByRecursion (λ number. flag_row_at ys ss number ≡ option_map (shifted_flag s) (flag_row_at xs ss number)) (flags_of ss) →
-      flag_rows ys ss ≡ map (shifted_flag s) (flag_rows xs ss)
-  flags_shift each = filter_map_changed (shifted_flag s) (flag_row_at xs ss) (flag_row_at ys ss) (flags_of ss) each
+pub flags_shift : (s : Shift) (xs ys : List ProgramItem) (ss : List Outline) → AllByRecursion (λ number. flag_row_at ys ss number ≡ option_map (shifted_flag s) (flag_row_at xs ss number)) (flags_of ss) →
+    flag_rows ys ss ≡ map (shifted_flag s) (flag_rows xs ss)
+flags_shift s xs ys ss each = filter_map_changed (shifted_flag s) (flag_row_at xs ss) (flag_row_at ys ss) (flags_of ss) each
 
 -- ---- clauses
 
@@ -190,24 +190,29 @@ channel element is_monitored variable scope pv sync =
 -- What goes by all items, as the row of a channel has it.
 pub record ChannelsStay (old text : List ℕ) (s : Shift) (xs ys : List ProgramItem) (ss : List Outline) : Type 0 where
   pub assigned : assigned_channels text ys ss ≡ assigned_channels old xs ss
-  pub scopes : (number : ℕ) → scope_of_variable ys ss number ≡ shifted_scope s (scope_of_variable xs ss number)
   pub syncs : (variable : ℕ) (element : Option ℕ) → sync_of text ys ss variable element ≡ sync_of old xs ss variable element
 
+-- The item of a channel's clause is kept, and the names of its variable's scope are where they were,
+-- shifted.
+pub record IsChannelKept (old text : List ℕ) (s : Shift) (xs ys : List ProgramItem) (ss : List Outline) (c : AssignedChannel) : Type 0 where
+  pub item : IsKept old text s xs ys c.item
+  pub scope : scope_of_variable ys ss c.variable ≡ shifted_scope s (scope_of_variable xs ss c.variable)
+
 module _ (old text : List ℕ) (s : Shift) (xs ys : List ProgramItem) (ss : List Outline) (stay : ChannelsStay old text s xs ys ss) (before : 0 < s.start) where
-  pub channel_shifts : (c : AssignedChannel) → IsKept old text s xs ys c.item → channel_row text ys ss c ≡ shifted_channel s (channel_row old xs ss c)
+  pub channel_shifts : (c : AssignedChannel) → IsChannelKept old text s xs ys ss c → channel_row text ys ss c ≡ shifted_channel s (channel_row old xs ss c)
   unfolding channel
   channel_shifts c kept =
       let monitored : Bool = is_monitored ss c.variable c.element in
-      let span = span_at_shifts old text s xs ys c.item kept before c.token in
-      let pv = joined_stays old text (tokens_in xs c.item) (tokens_in ys c.item) kept.bytes c.strings in
-      ap₂ (λ (variable : Span) (scope : ScopeName). channel c.element monitored variable scope (joined text (tokens_in ys c.item) c.strings) (sync_of text ys ss c.variable c.element)) span (stay.scopes c.variable)
+      let span = span_at_shifts old text s xs ys c.item kept.item before c.token in
+      let pv = joined_stays old text (tokens_in xs c.item) (tokens_in ys c.item) kept.item.bytes c.strings in
+      ap₂ (λ (variable : Span) (scope : ScopeName). channel c.element monitored variable scope (joined text (tokens_in ys c.item) c.strings) (sync_of text ys ss c.variable c.element)) span kept.scope
       ∙ ap₂ (channel c.element monitored (shifted_span s (span_at xs c.item c.token)) (shifted_scope s (scope_of_variable xs ss c.variable))) pv (stay.syncs c.variable c.element)
 
-  pub channels_shift : AllByRecursion (λ c. IsKept old text s xs ys c.item) (assigned_channels old xs ss) → channel_rows text ys ss ≡ map (shifted_channel s) (channel_rows old xs ss)
+  pub channels_shift : AllByRecursion (IsChannelKept old text s xs ys ss) (assigned_channels old xs ss) → channel_rows text ys ss ≡ map (shifted_channel s) (channel_rows old xs ss)
   channels_shift each =
       ap (map (channel_row text ys ss)) stay.assigned
       ∙ map_shift (shifted_channel s) (channel_row old xs ss) (channel_row text ys ss) (assigned_channels old xs ss) (rows (assigned_channels old xs ss) each)
     where
-      rows : (cs : List AssignedChannel) → AllByRecursion (λ c. IsKept old text s xs ys c.item) cs → AllByRecursion (λ c. channel_row text ys ss c ≡ shifted_channel s (channel_row old xs ss c)) cs
+      rows : (cs : List AssignedChannel) → AllByRecursion (IsChannelKept old text s xs ys ss) cs → AllByRecursion (λ c. channel_row text ys ss c ≡ shifted_channel s (channel_row old xs ss c)) cs
       rows [] h = tt
       rows (c ∷ cs) h = (channel_shifts c h.0, rows cs h.1)

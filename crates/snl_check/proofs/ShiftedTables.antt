@@ -20,7 +20,6 @@ use Rattle.snl_scope.specs.declared.facts.Declaration.{Declaration}
 use Rattle.snl_scope.specs.declared.summaries.summary.Outline.{Outline}
 use Rattle.snl_scope.specs.declared.summaries.summary.Summary.{Summary}
 use Rattle.snl_scope.specs.Flags.{flags_of}
-use Rattle.snl_scope.specs.Linked.{declaration_at}
 use Rattle.snl_scope.specs.NamedTokens.{NamesItsTokens, own_name}
 use Rattle.snl_scope.specs.Order.{is_named_state, is_state_word, state_name}
 use Rattle.snl_scope.specs.Places.{begins_set, is_set_begin}
@@ -43,7 +42,7 @@ use Rattle.snl_check.specs.Spans.{AreRead}
 use Rattle.snl_check.specs.States.{line_of_item, mark_of, numbered_row, set_row, set_rows, state_row}
 use Rattle.snl_check.specs.Tables.{flag_row_at, tables_by}
 use Rattle.snl_check.proofs.ShiftedItems.{IsKept, faulty_stays, header_at, program_shifts, tokens_shift}
-use Rattle.snl_check.proofs.ShiftedClauses.{ChannelsStay, HasBytes, IsScopeShifted, assigned_stay, channels_shift, clauses_stay, flags_shift, options_stay, sync_stays, variable_scope_shifts, variables_stay}
+use Rattle.snl_check.proofs.ShiftedClauses.{ChannelsStay, HasBytes, IsChannelKept, assigned_stay, channels_shift, clauses_stay, flags_shift, options_stay, sync_stays, variables_stay}
 use Rattle.snl_check.proofs.ShiftedStates.{mark_stays, set_row_shifts, state_row_shifts, state_rows_shift}
 use Rattle.snl_check.proofs.SpanLaws.{second_there, some_if, tested, tokens_are}
 
@@ -53,12 +52,11 @@ use Rattle.snl_check.proofs.SpanLaws.{second_there, some_if, tested, tokens_are}
 pub record RestStays (old text : List ℕ) (s : Shift) (xs ys : List ProgramItem) (ss : List Outline) : Type 0 where
   pub count : length ys ≡ length xs
   pub headers : (i : ℕ) → header_at ys i ≡ option_map (shifted_span s) (header_at xs i)
-  pub scopes : (number : ℕ) (d : Declaration) → declaration_at ss number ≡ Some d → IsScopeShifted s xs ys ss d.scope
   pub settings : (i : ℕ) → i < length xs → setting_at text ys ss i ≡ setting_at old xs ss i
   pub flags : AllByRecursion (λ number. flag_row_at ys ss number ≡ option_map (shifted_flag s) (flag_row_at xs ss number)) (flags_of ss)
   pub clauses : (i : ℕ) → item_clauses_if i (tree_in ys i) ≡ item_clauses_if i (tree_in xs i)
   pub bytes : AllByRecursion (HasBytes old text xs ys) (resolved_clauses xs ss)
-  pub channels : AllByRecursion (λ c. IsKept old text s xs ys c.item) (assigned_channels old xs ss)
+  pub channels : AllByRecursion (IsChannelKept old text s xs ys ss) (assigned_channels old xs ss)
 
 module _ (old text : List ℕ) (s : Shift) (xs ys : List ProgramItem) (ss : List Outline) (before : 0 < s.start) (stays : RestStays old text s xs ys ss) where
   pub same_clauses : resolved_clauses ys ss ≡ resolved_clauses xs ss
@@ -70,7 +68,6 @@ module _ (old text : List ℕ) (s : Shift) (xs ys : List ProgramItem) (ss : List
   rows_of_channels : ChannelsStay old text s xs ys ss
   rows_of_channels = record {
     assigned = same_channels;
-    scopes = variable_scope_shifts s xs ys ss stays.scopes;
     syncs = sync_stays old text xs ys ss same_clauses stays.bytes;
   }
 
@@ -78,7 +75,7 @@ module _ (old text : List ℕ) (s : Shift) (xs ys : List ProgramItem) (ss : List
   tables_but_sets line sets is =
       let program = program_shifts s xs ys stays.headers in
       let options = options_stay old text s xs ys ss stays.count stays.settings in
-      let flags = flags_shift s xs ys ss stays.scopes stays.flags in
+      let flags = flags_shift s xs ys ss stays.flags in
       let channels = channels_shift old text s xs ys ss rows_of_channels before stays.channels in
       let variables = variables_stay old text xs ys ss same_clauses stays.bytes in
       cc

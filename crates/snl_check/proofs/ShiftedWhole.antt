@@ -28,7 +28,7 @@ use Rattle.snl_check.specs.States.{set_row, set_rows}
 use Rattle.snl_check.specs.Tables.{flag_row_at, tables_by, tables_of}
 use Rattle.snl_check.proofs.ShiftLists.{map_shift}
 use Rattle.snl_check.proofs.ShiftedItems.{IsKept, faulty_stays, header_at_shifts, span_at_shifts, tree_stays}
-use Rattle.snl_check.proofs.ShiftedClauses.{HasBytes, IsScopeShifted, flag_shifts, scope_shifts, setting_stays}
+use Rattle.snl_check.proofs.ShiftedClauses.{HasBytes, IsChannelKept, IsScopeShifted, flag_shifts, scope_shifts, setting_stays, variable_scope_shifts}
 use Rattle.snl_check.proofs.ShiftedStates.{has_faulty_stays, targets_stay}
 use Rattle.snl_check.proofs.ShiftedTables.{IsRowKept, MarksStay, RestStays, SpellingLaws, item_kept, outline_stays, same_channels, set_line, set_named, set_shifts, state_line, tables_but_sets}
 use Rattle.snl_check.proofs.SpanLaws.{each_all}
@@ -48,13 +48,12 @@ module _ (old text : List ℕ) (s : Shift) (line : ℕ → Line → Line) (xs : 
     rest_stays = record {
       count = length-map xs (shifted_item s);
       headers = λ i. header_at_shifts old text s xs ys i before (kept i);
-      scopes = scopes;
       settings = λ i l. setting_stays old text s xs ys ss i (kept i);
       flags = each_all (λ number. flag_row_at ys ss number ≡ option_map (shifted_flag s) (flag_row_at xs ss number)) (flags_of ss)
-          (λ number. flag_shifts s xs ys ss scopes number (λ d e. span_at_shifts old text s xs ys d.item (kept d.item) before d.token));
+          (λ number. flag_shifts s xs ys ss number (scopes number) (λ d e. span_at_shifts old text s xs ys d.item (kept d.item) before d.token));
       clauses = λ i. ap (item_clauses_if i) (tree_stays old text s xs ys i (kept i));
       bytes = each_all (HasBytes old text xs ys) (resolved_clauses xs ss) (λ p. (kept p.0.item).bytes);
-      channels = each_all (λ c. IsKept old text s xs ys c.item) (assigned_channels old xs ss) (λ c. kept c.item);
+      channels = each_all (IsChannelKept old text s xs ys ss) (assigned_channels old xs ss) (λ c. record { item = kept c.item; scope = variable_scope_shifts s xs ys ss c.variable (scopes c.variable) });
     }
       where
         scopes : (number : ℕ) (d : Declaration) → declaration_at ss number ≡ Some d → IsScopeShifted s xs ys ss d.scope

@@ -1,15 +1,17 @@
--- Where all means to the items of a text what it meant, but for names that none of them uses, the
--- rows are told by what the items said to each other as by what they say: `ss` are the outlines
--- that were, `ts` those that are.
-use Rattle.std.proofs.Common.{◌≡◌, ℕ, suc, ◌&&◌, ◌||◌, Bool, true, false, not, cond, List, [], ◌∷◌, ◌++◌, filter, length, map, slice_get, nat_eq, position, Option, Some, None, inl, inr, if◌then◌else◌, refl, sym, subst, ap, ap₂, ◌∙◌}
+-- Where all means to the items of a text what it meant, but for names that none of them uses, and
+-- names of states that none leads to, the rows are told by what the items said to each other as by
+-- what they say: `ss` are the outlines that were, `ts` those that are.
+use Rattle.std.proofs.Common.{◌≡◌, ℕ, suc, ◌&&◌, Bool, true, false, not, cond, List, [], ◌∷◌, ◌++◌, filter, length, map, slice_get, nat_eq, position, Option, Some, None, inl, inr, if◌then◌else◌, refl, sym, subst, ap, ap₂, ◌∙◌}
 use Rattle.std.specs.List.{AllByRecursion, cons_option, enumerate_from, filter_map, flat_map, list_any, zip}
 use Rattle.std.specs.Option.{is_some, option_and_then, option_map, option_map_or}
 use Rattle.std.specs.Str.{bytes_eq}
-use Rattle.std.proofs.lemmas.Bool.{false≢true, or_cases}
+use Rattle.std.proofs.lemmas.Bool.{false≢true, or_cases, or_parts}
 use Rattle.std.proofs.lemmas.Slice.Eq.{bytes_eq-Decides}
 use Rattle.snl_facts.specs.Each.{each_front, each_rear, each_unmap, each_weaker}
 use Rattle.snl_lex.specs.declared.piece.Piece.{Piece}
+use Rattle.snl_lex.specs.Lines.{line_at}
 use Rattle.snl_syntax.specs.declared.tree.item.Item.{Item}
+use Rattle.snl_syntax.specs.declared.tree.item.Item.TheVariants as items
 use Rattle.snl_syntax.specs.declared.tree.state.StateMember.{StateMember}
 use Rattle.snl_syntax.specs.declared.tree.state.StateMember.TheVariants as members
 use Rattle.snl_syntax.specs.declared.tree.state.Target.{Target}
@@ -19,27 +21,33 @@ use Rattle.snl_walk.specs.declared.occurrence.Occurrence.{Occurrence}
 use Rattle.snl_walk.specs.declared.occurrence.What.{What}
 use Rattle.snl_walk.specs.declared.occurrence.What.TheVariants as what
 use Rattle.snl_walk.specs.declared.used.WakeUse.{WakeUse}
-use Rattle.snl_walk.specs.Items.{occurrences}
-use Rattle.snl_walk.specs.Once.{once, once_after, with_new}
+use Rattle.snl_walk.specs.Declares.{declared_by_state}
+use Rattle.snl_walk.specs.Expressions.{names_if}
+use Rattle.snl_walk.specs.Items.{found_in_member, found_in_target, in_transition, occurrences}
+use Rattle.snl_walk.specs.Once.{once_after, with_new}
+use Rattle.snl_walk.specs.Scopes.{Names, seen, under_names}
+use Rattle.snl_walk.specs.Statements.{found_in_block}
 use Rattle.snl_walk.specs.Tokens.{token_bytes}
-use Rattle.snl_walk.specs.Uses.{is_call, is_use, uses, wake_use, wake_uses, waking}
+use Rattle.snl_walk.specs.Uses.{is_call, is_use, target_uses_after, targets, uses, wake_use, wake_uses, waking}
 use Rattle.snl_scope.specs.declared.facts.ClauseLink.{ClauseLink}
 use Rattle.snl_scope.specs.declared.facts.Declaration.{Declaration}
 use Rattle.snl_scope.specs.declared.facts.Scope.{Scope}
 use Rattle.snl_scope.specs.declared.facts.Scope.TheVariants as scope
 use Rattle.snl_scope.specs.declared.summaries.summary.NameRef.{NameRef}
 use Rattle.snl_scope.specs.declared.summaries.summary.Outline.{Outline}
+use Rattle.snl_scope.specs.declared.summaries.summary.Summary.{Summary}
 use Rattle.snl_scope.specs.Below.{all_below, any_below}
 use Rattle.snl_scope.specs.BelowLaws.{all_below_same, any_below_same}
 use Rattle.snl_scope.specs.Channels.{is_monitored, sync_number}
 use Rattle.snl_scope.specs.Clauses.{resolve_in}
 use Rattle.snl_scope.specs.Flags.{flag_number, flags_of}
-use Rattle.snl_scope.specs.Linked.{declaration_at, state_of}
+use Rattle.snl_scope.specs.Linked.{declaration_at}
 use Rattle.snl_scope.specs.Order.{is_named_state}
 use Rattle.snl_scope.specs.Places.{is_set_begin, stands_in}
 use Rattle.snl_scope.specs.Renamed.{ClausesAlike, MeanAlike}
-use Rattle.snl_scope.specs.Spoken.{is_among}
+use Rattle.snl_scope.specs.Spoken.{is_among, meets}
 use Rattle.snl_scope.specs.Summaries.{occurrences_in}
+use Rattle.snl_scope.specs.Summaries.Tokens.{name_ref_at}
 use Rattle.snl_tables.specs.declared.rows.ChannelRow.{ChannelRow}
 use Rattle.snl_tables.specs.declared.rows.Destination.{Destination}
 use Rattle.snl_tables.specs.declared.rows.Destination.TheVariants as destinations
@@ -59,16 +67,17 @@ use Rattle.snl_check.specs.Channels.{AssignedChannel, assigned_channels, channel
 use Rattle.snl_check.specs.Clauses.{ItemClause, item_clauses, resolved_clauses}
 use Rattle.snl_check.specs.Conditions.{by_flag, on_declaration, on_variable, uses_in, wake_up, wake_ups}
 use Rattle.snl_check.specs.ItemSpans.{item_name, program_name, span_at, span_of}
-use Rattle.snl_check.specs.Members.{has_faulty, is_faulty_item, is_first_state, name_of_state, number_among, states_in, target_number, target_numbers, targets_among}
+use Rattle.snl_check.specs.Members.{has_faulty, is_faulty_item, number_among, states_in, target_number, target_numbers, targets_among}
 use Rattle.snl_check.specs.Reach.{is_reached}
 use Rattle.snl_check.specs.Settings.{LetterSetting, letters_of_program, option_rows, program_options, setting_at, setting_in_tree, state_options}
-use Rattle.snl_check.specs.States.{destination, destinations_in_member, first_mark, gotos_in, is_reached_in, is_repeated, item_at, line_of_item, mark_of, members_in, named_state, numbered_row, set_row, set_rows, state_body, state_rows, wake_of}
+use Rattle.snl_check.specs.States.{by_statements, destination, destinations_in_member, first_mark, gotos_in, is_reached_in, is_repeated, item_at, line_of_item, mark_of, members_in, named_state, numbered_row, set_row, set_rows, state_body, state_rows, wake_of}
 use Rattle.snl_check.specs.Tables.{channel_row, channel_rows, flag_row, flag_row_at, flag_rows, scope_name, scope_of_variable, sync_of, synced, synced_by, tables_by, variables_of}
 use Rattle.snl_item_check.specs.Items.{ProgramItem, summary_of_item, tokens_in, tree_in}
 use Rattle.snl_item_check.specs.Told.{nothing, told_by, told_in_item}
 use Rattle.snl_item_check.specs.View.{is_in_set}
-use Rattle.snl_check.proofs.ShiftLists.{flat_same, gathered_same, kept_same, map_same}
+use Rattle.snl_check.proofs.ShiftLists.{gathered_same, kept_same, map_same}
 use Rattle.snl_check.proofs.SpanLaws.{each_all}
+use Rattle.snl_check.proofs.Targets.{each_by_statements, targets_in_back, targets_in_front, uses_at_targets}
 
 -- ---- what holds of each different name holds of each name
 
@@ -89,15 +98,21 @@ module _ (P : List ℕ → Type 0) where
       let here = taken n found (list_any (bytes_eq n) found) refl rest.0 in
       (here.0, (here.1, rest.1))
 
--- ---- what the conditions of an item use is among what the item uses
+-- ---- what an item uses or leads to is none of the names that it doesn't meet
 
-none_passes : (test : List ℕ → Bool) (names : List (List ℕ)) → list_any test names ≡ false → AllByRecursion (λ name. test name ≡ false) names
+none_passes : {X : Type 0} (test : X → Bool) (xs : List X) → list_any test xs ≡ false → AllByRecursion (λ x. test x ≡ false) xs
 none_passes test [] h = tt
-none_passes test (name ∷ names) h = by (test name) refl (none_passes test names) h
-  where
-    by : (b : Bool) → test name ≡ b → (list_any test names ≡ false → AllByRecursion (λ name. test name ≡ false) names) → (b || list_any test names) ≡ false → AllByRecursion (λ name. test name ≡ false) (name ∷ names)
-    by true e rest h = absurd (false≢true (sym h))
-    by false e rest h = (e, rest h)
+none_passes test (x ∷ xs) h =
+    let parts = or_parts (test x) (list_any test xs) h in
+    (parts.0, none_passes test xs parts.1)
+
+unmet : (used led_to : List (List ℕ)) (s : Summary) → meets used led_to s ≡ false → AllByRecursion (λ name. is_among used name ≡ false) s.uses × AllByRecursion (λ (t : NameRef). is_among led_to t.name ≡ false) s.targets
+unmet used led_to s h =
+    let leads : NameRef → Bool = λ t. is_among led_to t.name in
+    let parts = or_parts (list_any (is_among used) s.uses) (list_any leads s.targets) h in
+    (none_passes (is_among used) s.uses parts.0, none_passes leads s.targets parts.1)
+
+-- ---- what the conditions of an item use is among what the item uses
 
 module _ (P : ℕ → Type 0) (bytes : ℕ → List ℕ) where
   abbrev EachWaking : List WakeUse → Type 0
@@ -121,8 +136,38 @@ module _ (P : ℕ → Type 0) (bytes : ℕ → List ℕ) where
       by (what.Name m) rest h = used m m.in_condition (is_call m.follows) rest h
       by w rest h = rest h
 
-module _ (text : List ℕ) (ys : List ProgramItem) (ss ts : List Outline) (names : List (List ℕ)) (means : MeanAlike ss ts names) (says : ClausesAlike ss ts)
-    (silent : (i : ℕ) (y : ProgramItem) → slice_get ys i ≡ Some y → list_any (is_among names) (summary_of_item text y).uses ≡ false) where
+module _ (text : List ℕ) (ys : List ProgramItem) (ss ts : List Outline) (used led_to : List (List ℕ)) (means : MeanAlike ss ts used led_to) (says : ClausesAlike ss ts)
+    (silent : (i : ℕ) (y : ProgramItem) → slice_get ys i ≡ Some y → meets used led_to (summary_of_item text y) ≡ false) where
+  -- ---- what the items use and lead to
+
+  abbrev IsUnused : List ℕ → Type 0
+  IsUnused name = is_among used name ≡ false
+
+  abbrev IsOther : List ℕ → Type 0
+  IsOther name = is_among led_to name ≡ false
+
+  others : (i : ℕ) (y : ProgramItem) → slice_get ys i ≡ Some y → AllByRecursion IsUnused (summary_of_item text y).uses × AllByRecursion (λ (t : NameRef). IsOther t.name) (summary_of_item text y).targets
+  others i y at = unmet used led_to (summary_of_item text y) (silent i y at)
+
+  -- the bytes of item i's tokens
+  abbrev bytes_in : ℕ → ℕ → List ℕ
+  bytes_in i = token_bytes text (tokens_in ys i)
+
+  abbrev IsUnusedAt : ℕ → ℕ → Type 0
+  IsUnusedAt i n = IsUnused (bytes_in i n)
+
+  abbrev IsOtherAt : ℕ → ℕ → Type 0
+  IsOtherAt i n = IsOther (bytes_in i n)
+
+  targets_other : (i : ℕ) → AllByRecursion (IsOtherAt i) (targets (occurrences_in (bytes_in i) (tree_in ys i)))
+  targets_other i = by (slice_get ys i) refl
+    where
+      by : (o : Option ProgramItem) → slice_get ys i ≡ o →
+          AllByRecursion (λ n. IsOther (token_bytes text (option_map_or (λ (x : ProgramItem). x.tokens) o []) n))
+          (targets (occurrences_in (token_bytes text (option_map_or (λ (x : ProgramItem). x.tokens) o [])) (option_and_then (λ (x : ProgramItem). x.tree) o)))
+      by None at = tt
+      by (Some y) at = each_unmap (λ (t : NameRef). IsOther t.name) (name_ref_at text y.tokens) (targets (occurrences_in (token_bytes text y.tokens) y.tree)) (others i y at).1
+
   -- ---- options
 
   in_set : (i : ℕ) → is_in_set ts i ≡ is_in_set ss i
@@ -240,25 +285,16 @@ module _ (text : List ℕ) (ys : List ProgramItem) (ss ts : List Outline) (names
       any_below_same (λ i. is_faulty_item ys i && stands_in ts k i) (λ i. is_faulty_item ys i && stands_in ss k i) (length ts) (λ i l. ap (λ b. is_faulty_item ys i && b) (stands_alike k i))
       ∙ ap (any_below (λ i. is_faulty_item ys i && stands_in ss k i)) means.count
 
-  first_alike : (j : ℕ) → is_first_state ts j ≡ is_first_state ss j
-  first_alike j =
-      ap (λ (o : Option (List ℕ)). option_map_or (λ (name : List ℕ). option_map_or (nat_eq j) (state_of ts j name) false) o false) (means.state_names j)
-      ∙ by (name_of_state ss j)
-    where
-      by : (o : Option (List ℕ)) → option_map_or (λ (name : List ℕ). option_map_or (nat_eq j) (state_of ts j name) false) o false
-          ≡ option_map_or (λ (name : List ℕ). option_map_or (nat_eq j) (state_of ss j name) false) o false
-      by None = refl
-      by (Some name) = ap (λ (o : Option ℕ). option_map_or (nat_eq j) o false) (means.states j name)
-
   targets_alike : (states : List ℕ) (j : ℕ) → target_numbers text ys ts states j ≡ target_numbers text ys ss states j
-  targets_alike states j = by (slice_get ys j)
+  targets_alike states j = by (slice_get ys j) refl
     where
-      by : (o : Option ProgramItem) → option_map_or (λ (x : ProgramItem). filter_map (target_number ts states j) (summary_of_item text x).targets) o []
+      by : (o : Option ProgramItem) → slice_get ys j ≡ o → option_map_or (λ (x : ProgramItem). filter_map (target_number ts states j) (summary_of_item text x).targets) o []
           ≡ option_map_or (λ (x : ProgramItem). filter_map (target_number ss states j) (summary_of_item text x).targets) o []
-      by None = refl
-      by (Some x) =
-          kept_same (target_number ts states j) (target_number ss states j) (summary_of_item text x).targets
-          (each_all (λ (m : NameRef). target_number ts states j m ≡ target_number ss states j m) (summary_of_item text x).targets (λ m. ap (number_among states) (means.states j m.name)))
+      by None at = refl
+      by (Some x) at =
+          let leads = (summary_of_item text x).targets in
+          kept_same (target_number ts states j) (target_number ss states j) leads
+          (each_weaker (λ (t : NameRef). IsOther t.name) (λ t. target_number ts states j t ≡ target_number ss states j t) (λ t other. ap (number_among states) (means.states j t.name other)) leads (others j x at).1)
 
   reached_alike : (k number : ℕ) → is_reached_in text ys ts k number ≡ is_reached_in text ys ss k number
   reached_alike k number =
@@ -270,32 +306,31 @@ module _ (text : List ℕ) (ys : List ProgramItem) (ss ts : List Outline) (names
 
   mark_alike : (k number j : ℕ) → mark_of text ys ts k number j ≡ mark_of text ys ss k number j
   mark_alike k number j =
-      ap₂ (λ (first unknown : Bool). first_mark (is_faulty_item ys j) (not first) unknown (is_reached_in text ys ts k number)) (first_alike j) (some_faulty_alike k)
+      ap₂ (λ (first unknown : Bool). first_mark (is_faulty_item ys j) (not first) unknown (is_reached_in text ys ts k number)) (means.firsts j) (some_faulty_alike k)
       ∙ ap (first_mark (is_faulty_item ys j) (is_repeated ss j) (has_faulty ys ss k)) (reached_alike k number)
 
   -- ---- what wakes a state up
 
-  uses_silent : (item : ℕ) → AllByRecursion (λ (u : WakeUse). is_among names (token_bytes text (tokens_in ys item) u.token) ≡ false) (uses_in text ys item)
-  uses_silent item = by (slice_get ys item) refl
+  conditions_unused : (item : ℕ) → AllByRecursion (λ (u : WakeUse). IsUnusedAt item u.token) (uses_in text ys item)
+  conditions_unused item = by (slice_get ys item) refl
     where
-      by_tree : (tokens : List Piece) (tree : Option Item) → AllByRecursion (λ name. is_among names name ≡ false) (map (token_bytes text tokens) (uses (occurrences_in (token_bytes text tokens) tree))) →
-          AllByRecursion (λ (u : WakeUse). is_among names (token_bytes text tokens u.token) ≡ false) (option_map_or (told_by (token_bytes text tokens)) tree nothing).wake_uses
+      by_tree : (tokens : List Piece) (tree : Option Item) → AllByRecursion IsUnused (map (token_bytes text tokens) (uses (occurrences_in (token_bytes text tokens) tree))) →
+          AllByRecursion (λ (u : WakeUse). IsUnused (token_bytes text tokens u.token)) (option_map_or (told_by (token_bytes text tokens)) tree nothing).wake_uses
       by_tree tokens None h = tt
       by_tree tokens (Some tree) h =
           let found = occurrences (token_bytes text tokens) tree in
-          each_waking (λ n. is_among names (token_bytes text tokens n) ≡ false) (token_bytes text tokens) found
-          (each_unmap (λ name. is_among names name ≡ false) (token_bytes text tokens) (uses found) h)
+          each_waking (λ n. IsUnused (token_bytes text tokens n)) (token_bytes text tokens) found (each_unmap IsUnused (token_bytes text tokens) (uses found) h)
 
       by : (o : Option ProgramItem) → slice_get ys item ≡ o →
-          AllByRecursion (λ (u : WakeUse). is_among names (token_bytes text (option_map_or (λ (x : ProgramItem). x.tokens) o []) u.token) ≡ false) (option_map_or (told_in_item text) o nothing).wake_uses
+          AllByRecursion (λ (u : WakeUse). IsUnused (token_bytes text (option_map_or (λ (x : ProgramItem). x.tokens) o []) u.token)) (option_map_or (told_in_item text) o nothing).wake_uses
       by None at = tt
       by (Some y) at =
           let spelled = map (token_bytes text y.tokens) (uses (occurrences_in (token_bytes text y.tokens) y.tree)) in
-          by_tree y.tokens y.tree (each_once_after (λ name. is_among names name ≡ false) [] spelled (none_passes (is_among names) (once spelled) (silent item y at))).1
+          by_tree y.tokens y.tree (each_once_after IsUnused [] spelled (others item y at).0).1
 
-  meant_alike : (cs : List AssignedChannel) (item : ℕ) (u : WakeUse) → is_among names (token_bytes text (tokens_in ys item) u.token) ≡ false → wake_up text ys ts cs item u ≡ wake_up text ys ss cs item u
+  meant_alike : (cs : List AssignedChannel) (item : ℕ) (u : WakeUse) → IsUnusedAt item u.token → wake_up text ys ts cs item u ≡ wake_up text ys ss cs item u
   meant_alike cs item u other =
-      let name = token_bytes text (tokens_in ys item) u.token in
+      let name = bytes_in item u.token in
       ap (option_and_then (on_declaration ts cs u.subscript)) (means.resolved item name other) ∙ by (resolve_in ss item name)
     where
       by : (o : Option ℕ) → option_and_then (on_declaration ts cs u.subscript) o ≡ option_and_then (on_declaration ss cs u.subscript) o
@@ -305,39 +340,68 @@ module _ (text : List ℕ) (ys : List ProgramItem) (ss ts : List Outline) (names
   wake_alike : (item : ℕ) → wake_of text ys ts item ≡ wake_of text ys ss item
   wake_alike item =
       let cs = assigned_channels text ys ss in
-      let used = uses_in text ys item in
+      let waking_uses = uses_in text ys item in
       ap (λ (cs : List AssignedChannel). wake_ups text ys ts cs item (uses_in text ys item)) assigned_alike
-      ∙ kept_same (wake_up text ys ts cs item) (wake_up text ys ss cs item) used
-      (each_weaker (λ (u : WakeUse). is_among names (token_bytes text (tokens_in ys item) u.token) ≡ false) (λ u. wake_up text ys ts cs item u ≡ wake_up text ys ss cs item u)
-      (meant_alike cs item) used (uses_silent item))
+      ∙ kept_same (wake_up text ys ts cs item) (wake_up text ys ss cs item) waking_uses
+      (each_weaker (λ (u : WakeUse). IsUnusedAt item u.token) (λ u. wake_up text ys ts cs item u ≡ wake_up text ys ss cs item u) (meant_alike cs item) waking_uses (conditions_unused item))
 
   -- ---- the rows of state sets
 
-  named_alike : (tokens : List Piece) (item token : ℕ) → named_state text tokens ts item token ≡ named_state text tokens ss item token
-  named_alike tokens item token =
-      let state : Bool → NamedState = λ is_known. record { name = span_of (slice_get tokens token); is_known = is_known } in
-      ap state (means.targets item (token_bytes text tokens token))
+  module _ (item : ℕ) where
+    abbrev named_by : List Outline → ℕ → NamedState
+    named_by os = named_state text (tokens_in ys item) os item
 
-  destination_alike : (tokens : List Piece) (item : ℕ) (t : Target) → destination text tokens ts item t ≡ destination text tokens ss item t
-  destination_alike tokens item (target.State name) = ap destinations.State (named_alike tokens item name)
-  destination_alike tokens item target.Exit = refl
+    abbrev led_by : List Outline → StateMember → List Destination
+    led_by os = destinations_in_member text (tokens_in ys item) os item
 
-  member_alike : (tokens : List Piece) (item : ℕ) (m : StateMember) → destinations_in_member text tokens ts item m ≡ destinations_in_member text tokens ss item m
-  member_alike tokens item (members.When t) = ap (λ (d : Destination). d ∷ []) (destination_alike tokens item t.target)
-  member_alike tokens item _ = refl
+    named_alike : (n : ℕ) → IsOtherAt item n → named_by ts n ≡ named_by ss n
+    named_alike n other =
+        let state : Bool → NamedState = λ is_known. record { name = span_of (slice_get (tokens_in ys item) n); is_known = is_known } in
+        ap state (means.targets item (bytes_in item n) other)
 
-  body_alike : (item : ℕ) (x : ProgramItem) → state_body text ts item x ≡ state_body text ss item x
-  body_alike item x =
-      let body : List Destination → List NamedState → StateBody = λ transitions gotos. record {
-        options = state_options (token_bytes text x.tokens) (members_in x.tree);
-        transitions = transitions;
-        gotos = gotos;
-      } in
-      ap₂ body
-      (flat_same (destinations_in_member text x.tokens ts item) (destinations_in_member text x.tokens ss item) (members_in x.tree)
-      (each_all (λ m. destinations_in_member text x.tokens ts item m ≡ destinations_in_member text x.tokens ss item m) (members_in x.tree) (member_alike x.tokens item)))
-      (map_same (named_state text x.tokens ts item) (named_state text x.tokens ss item) (gotos_in text x)
-      (each_all (λ n. named_state text x.tokens ts item n ≡ named_state text x.tokens ss item n) (gotos_in text x) (named_alike x.tokens item)))
+    destination_alike : (t : Target) → AllByRecursion (IsOtherAt item) (targets (found_in_target t)) → destination text (tokens_in ys item) ts item t ≡ destination text (tokens_in ys item) ss item t
+    destination_alike (target.State name) h = ap destinations.State (named_alike name h.0)
+    destination_alike target.Exit h = refl
+
+    module _ (visible : Names) where
+      member_alike : (m : StateMember) → AllByRecursion (IsOtherAt item) (targets (found_in_member (bytes_in item) visible m)) → led_by ts m ≡ led_by ss m
+      member_alike (members.When t) h =
+          let before = map (seen (bytes_in item) visible true) (names_if t.condition) ++ found_in_block (bytes_in item) t.block visible in_transition in
+          ap (λ (d : Destination). d ∷ []) (destination_alike t.target (targets_in_back (IsOtherAt item) before (found_in_target t.target) h))
+      member_alike m h = refl
+
+      members_alike : (ms : List StateMember) → AllByRecursion (IsOtherAt item) (targets (flat_map (found_in_member (bytes_in item) visible) ms)) → flat_map (led_by ts) ms ≡ flat_map (led_by ss) ms
+      members_alike [] h = refl
+      members_alike (m ∷ ms) h =
+          let found = found_in_member (bytes_in item) visible m in
+          let rest = flat_map (found_in_member (bytes_in item) visible) ms in
+          ap₂ (λ (first further : List Destination). first ++ further) (member_alike m (targets_in_front (IsOtherAt item) found rest h)) (members_alike ms (targets_in_back (IsOtherAt item) found rest h))
+
+    transitions_alike : (tree : Option Item) → AllByRecursion (IsOtherAt item) (targets (occurrences_in (bytes_in item) tree)) → flat_map (led_by ts) (members_in tree) ≡ flat_map (led_by ss) (members_in tree)
+    unfolding occurrences
+    transitions_alike (Some (items.StateBlock name ms)) h = members_alike (under_names (bytes_in item) (declared_by_state (bytes_in item) ms)) ms h
+    transitions_alike tree h = refl
+
+    gotos_other : (tree : Option Item) → AllByRecursion (IsOtherAt item) (targets (occurrences_in (bytes_in item) tree)) →
+        AllByRecursion (IsOtherAt item) (by_statements (option_map_or (told_by (bytes_in item)) tree nothing).target_uses)
+    gotos_other None h = tt
+    gotos_other (Some tree) h =
+        let found = occurrences (bytes_in item) tree in
+        each_by_statements (IsOtherAt item) (target_uses_after false found) (subst (AllByRecursion (IsOtherAt item)) (sym (uses_at_targets false found)) h)
+
+    body_alike : state_body text ts item (item_at ys item) ≡ state_body text ss item (item_at ys item)
+    body_alike =
+        let tree = tree_in ys item in
+        let stated = gotos_in text (item_at ys item) in
+        let body : List Destination → List NamedState → StateBody = λ transitions gotos. record {
+          name = span_of (slice_get (tokens_in ys item) 1);
+          line = line_at text (span_of (slice_get (tokens_in ys item) 0)).start;
+          options = state_options (bytes_in item) (members_in tree);
+          transitions = transitions;
+          gotos = gotos;
+        } in
+        ap₂ body (transitions_alike tree (targets_other item))
+        (map_same (named_by ts) (named_by ss) stated (each_weaker (IsOtherAt item) (λ n. named_by ts n ≡ named_by ss n) named_alike stated (gotos_other tree (targets_other item))))
 
   row_alike : (k : ℕ) (p : ℕ × ℕ) → numbered_row text ys ts k p ≡ numbered_row text ys ss k p
   row_alike k p =
@@ -350,7 +414,7 @@ module _ (text : List ℕ) (ys : List ProgramItem) (ss ts : List Outline) (names
         gotos = body.gotos;
         wake = wake;
       } in
-      ap₂ (λ (mark : StateMark) (body : StateBody). row mark body (wake_of text ys ts p.1)) (mark_alike k p.0 p.1) (body_alike p.1 (item_at ys p.1))
+      ap₂ (λ (mark : StateMark) (body : StateBody). row mark body (wake_of text ys ts p.1)) (mark_alike k p.0 p.1) (body_alike p.1)
       ∙ ap (row (mark_of text ys ss k p.0 p.1) (state_body text ss p.1 (item_at ys p.1))) (wake_alike p.1)
 
   rows_alike : (k : ℕ) → state_rows text ys ts k ≡ state_rows text ys ss k

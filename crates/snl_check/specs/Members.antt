@@ -7,8 +7,8 @@ use Rattle.std.specs.Option.{option_map_or}
 use Rattle.snl_scope.specs.declared.summaries.summary.NameRef.{NameRef}
 use Rattle.snl_scope.specs.declared.summaries.summary.Outline.{Outline}
 use Rattle.snl_scope.specs.Below.{all_below, any_below}
-use Rattle.snl_scope.specs.Linked.{state_of}
-use Rattle.snl_scope.specs.Order.{is_named_state, state_name}
+use Rattle.snl_scope.specs.Linked.{name_of_state, state_of}
+use Rattle.snl_scope.specs.Order.{is_named_state}
 use Rattle.snl_scope.specs.Places.{stands_in}
 use Rattle.snl_check.specs.declared.reachability.marks.SetMember.{SetMember}
 use Rattle.snl_item_check.specs.Items.{ProgramItem, summary_of_item}
@@ -39,14 +39,6 @@ target_numbers text xs ss states j = option_map_or (λ x. filter_map (target_num
 -- The targets of each state.
 abbrev pub targets_among : List ℕ → List ProgramItem → List Outline → List ℕ → List (List ℕ)
 targets_among text xs ss states = map (target_numbers text xs ss states) states
-
--- The name of an item that is a state.
-abbrev pub name_of_state : List Outline → ℕ → Option (List ℕ)
-name_of_state ss j = option_and_then state_name (slice_get ss j)
-
--- State j is the first of its name in its set.
-abbrev pub is_first_state : List Outline → ℕ → Bool
-is_first_state ss j = option_map_or (λ name. option_map_or (nat_eq j) (state_of ss j name) false) (name_of_state ss j) false
 
 -- The targets of an item, as its summary has them.
 abbrev pub targets_of_item : List ℕ → List ProgramItem → ℕ → List NameRef

@@ -5,11 +5,12 @@ use Rattle.std.specs.List.{AllByRecursion}
 use Rattle.snl_lex.specs.declared.lines.Line.{Line}
 use Rattle.snl_lex.specs.declared.shift.Shift.{Shift}
 use Rattle.snl_lex.specs.Lines.{line_at}
+use Rattle.snl_scope.specs.Names.{has_own_scope}
 use Rattle.snl_scope.specs.Summaries.{kind_of}
 use Rattle.snl_walk.specs.Tokens.{token_bytes}
 use Rattle.snl_item_check.specs.Items.{ProgramItem, outline_of_item, outlines_of}
-use Rattle.snl_check.specs.Shifted.{has_line, has_own_row, shifted_item, shifted_tokens, start_at}
-use Rattle.snl_check.specs.ShiftedAround.{IsFlagPlaced, IsPlacedAt, is_plain}
+use Rattle.snl_check.specs.Shifted.{has_line, shifted_item, shifted_tokens, start_at}
+use Rattle.snl_check.specs.ShiftedAround.{IsFlagPlaced, is_plain}
 use Rattle.snl_check.specs.Tables.{tables_by, tables_of}
 
 -- The shifted tokens of an item have in the new text the bytes that the tokens had in the old one.
@@ -23,18 +24,15 @@ pub record KeepsItem (old text : List ℕ) (s : Shift) (line : ℕ → Line → 
 abbrev pub KeepsItems : (old text : List ℕ) → Shift → (ℕ → Line → Line) → List ProgramItem → Type 0
 KeepsItems old text s line xs = (i : ℕ) (x : ProgramItem) → slice_get xs i ≡ Some x → KeepsItem old text s line x
 
--- An item in the place of another, each of them plain and without clauses. Where the old one has a
--- row of its own, its second token is what it was, shifted, and its line moved as that of this
--- token. The event flags that it declares are what they were, shifted. What else it declares it may
--- declare by other names.
-pub record ReplacesItem (old text : List ℕ) (s : Shift) (line : ℕ → Line → Line) (x y : ProgramItem) : Type 0 where
+-- An item in the place of another, each of them plain and without clauses. Where it declares event
+-- flags, these are where they were, shifted, and so is the item's own name, if it has a scope of its
+-- own. What else it declares it may declare by other names, and a state may have another name.
+pub record ReplacesItem (old text : List ℕ) (s : Shift) (x y : ProgramItem) : Type 0 where
   pub was_plain : is_plain (kind_of x.tree) ≡ true
   pub is_plain_now : is_plain (kind_of y.tree) ≡ true
-  pub flags : AllByRecursion (IsFlagPlaced s x y) (outline_of_item old x).declares
+  pub flags : AllByRecursion (IsFlagPlaced s x y (has_own_scope (outline_of_item old x).role)) (outline_of_item old x).declares
   pub no_clause : (outline_of_item old x).clauses ≡ []
   pub no_clause_now : (outline_of_item text y).clauses ≡ []
-  pub name : has_own_row (outline_of_item old x) ≡ true → IsPlacedAt s x y 1
-  pub lined : has_own_row (outline_of_item old x) ≡ true → line_at text (start_at y.tokens 0) ≡ line (start_at x.tokens 1) (line_at old (start_at x.tokens 0))
 
 -- The items after an edit, `ys`, are those before it, shifted, but for item j, which is in the
 -- place of another. The rows of the new text are told by what the old items said to each other as
@@ -44,5 +42,5 @@ pub record ReplacesOne (old text : List ℕ) (s : Shift) (line : ℕ → Line �
   pub there : j < length xs
   pub others : (i : ℕ) → i ≢ j → slice_get ys i ≡ option_map (shifted_item s) (slice_get xs i)
   pub kept : (i : ℕ) (x : ProgramItem) → i ≢ j → slice_get xs i ≡ Some x → KeepsItem old text s line x
-  pub replaced : (x y : ProgramItem) → slice_get xs j ≡ Some x → slice_get ys j ≡ Some y → ReplacesItem old text s line x y
+  pub replaced : (x y : ProgramItem) → slice_get xs j ≡ Some x → slice_get ys j ≡ Some y → ReplacesItem old text s x y
   pub tables : tables_of text ys ≡ tables_by text ys (outlines_of old xs)

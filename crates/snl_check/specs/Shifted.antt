@@ -4,7 +4,6 @@ use Rattle.snl_lex.specs.declared.piece.Piece.{Piece}
 use Rattle.snl_lex.specs.declared.shift.Shift.{Shift}
 use Rattle.snl_lex.specs.Shift.{shifted_piece}
 use Rattle.snl_scope.specs.declared.summaries.summary.Outline.{Outline}
-use Rattle.snl_scope.specs.Names.{has_own_scope}
 use Rattle.snl_scope.specs.Order.{state_name}
 use Rattle.snl_scope.specs.Places.{begins_set}
 use Rattle.snl_item_check.specs.Items.{ProgramItem}
@@ -23,8 +22,3 @@ start_at tokens number = (span_of (slice_get tokens number)).start
 -- An item with a row that has its line: it begins a state set, or is a state with a name.
 abbrev pub has_line : Outline → Bool
 has_line o = begins_set o.role || is_some (state_name o)
-
--- An item that has a row of its own, or names the scope of what it declares: it is a state with a
--- name, or one that says something to the others.
-abbrev pub has_own_row : Outline → Bool
-has_own_row o = is_some (state_name o) || has_own_scope o.role

@@ -35,9 +35,10 @@ is_plain _ = true
 abbrev pub IsPlacedAt : Shift → (x y : ProgramItem) → ℕ → Type 0
 IsPlacedAt s x y n = span_of (slice_get y.tokens n) ≡ shifted_span s (span_of (slice_get x.tokens n))
 
--- The name of what an item declares is where it was, shifted, if that is an event flag.
-abbrev pub IsFlagPlaced : Shift → (x y : ProgramItem) → Declared → Type 0
-IsFlagPlaced s x y d = is_event_flag d.variable.symbol_kind ≡ true → IsPlacedAt s x y d.token
+-- The name of what an item declares is where it was, shifted, if that is an event flag, and so is
+-- the item's own name, if it has a scope of its own.
+abbrev pub IsFlagPlaced : Shift → (x y : ProgramItem) → (own_scope : Bool) → Declared → Type 0
+IsFlagPlaced s x y own_scope d = is_event_flag d.variable.symbol_kind ≡ true → IsPlacedAt s x y d.token × (own_scope ≡ true → IsPlacedAt s x y 1)
 
 -- Item j is sound where it was.
 abbrev pub IsSoundAsItWas : (xs ys : List ProgramItem) → ℕ → Type 0

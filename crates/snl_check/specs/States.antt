@@ -12,7 +12,7 @@ use Rattle.snl_syntax.specs.declared.tree.state.Target.{Target}
 use Rattle.snl_syntax.specs.declared.tree.state.Target.TheVariants as target
 use Rattle.snl_scope.specs.declared.summaries.summary.Outline.{Outline}
 use Rattle.snl_scope.specs.Below.{all_below}
-use Rattle.snl_scope.specs.Linked.{has_target}
+use Rattle.snl_scope.specs.Linked.{has_target, is_first_state}
 use Rattle.snl_scope.specs.Places.{is_set_begin}
 use Rattle.snl_walk.specs.declared.used.TargetUse.{TargetUse}
 use Rattle.snl_walk.specs.Tokens.{token_bytes}
@@ -30,7 +30,7 @@ use Rattle.snl_check.specs.Channels.{assigned_channels}
 use Rattle.snl_check.specs.Conditions.{uses_in, wake_ups}
 use Rattle.snl_item_check.specs.Items.{ProgramItem, tokens_in, tree_in}
 use Rattle.snl_check.specs.ItemSpans.{item_name, item_start, span_of}
-use Rattle.snl_check.specs.Members.{has_faulty, is_faulty_item, is_first_state, is_first_by_member, states_in, targets_among}
+use Rattle.snl_check.specs.Members.{has_faulty, is_faulty_item, is_first_by_member, states_in, targets_among}
 use Rattle.snl_check.specs.Reach.{is_reached}
 use Rattle.snl_check.specs.Settings.{state_options}
 use Rattle.snl_item_check.specs.Told.{told_in_item}
@@ -69,6 +69,8 @@ gotos_in text x = by_statements (told_in_item text x).target_uses
 -- tree, and by the states of its set.
 abbrev pub state_body : List ℕ → List Outline → ℕ → ProgramItem → StateBody
 state_body text ss item x = record {
+  name = span_of (slice_get x.tokens 1);
+  line = line_at text (span_of (slice_get x.tokens 0)).start;
   options = state_options (token_bytes text x.tokens) (members_in x.tree);
   transitions = flat_map (destinations_in_member text x.tokens ss item) (members_in x.tree);
   gotos = map (named_state text x.tokens ss item) (gotos_in text x);

@@ -2,7 +2,8 @@
 use Rattle.std.specs.Prelude.{◌≡◌, ℕ, true, false, List}
 use Rattle.snl_scope.specs.declared.summaries.summary.Outline.{Outline}
 use Rattle.snl_item_check.specs.Items.{ProgramItem}
-use Rattle.snl_check.specs.Members.{has_faulty, is_faulty_item, is_first_state, states_in, targets_among}
+use Rattle.snl_scope.specs.Linked.{is_first_state}
+use Rattle.snl_check.specs.Members.{has_faulty, is_faulty_item, states_in, targets_among}
 use Rattle.snl_check.specs.Reach.{IsReached}
 
 -- State j, which has this number in the set that item k begins, isn't reached: it is sound and the

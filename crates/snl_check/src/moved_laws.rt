@@ -1,9 +1,10 @@
 //! Laws of tables whose rows an edit moves, whatever becomes of lines: `line` says it of the line
 //! of an offset. A function here does nothing: its contract is the law.
 //!
-//! Where an edit is inside one item, a state keeps its name there, and the item the event flags
-//! that it declares. What else it declares it may declare by other names, where the rows are told
-//! by what the items said to each other as by what they say.
+//! Where an edit is inside one item, the item keeps the event flags that it declares, and where
+//! there are some, its name. What else it declares it may declare by other names, and a state may
+//! have another name, where the rows are told by what the items said to each other as by what they
+//! say.
 
 ghost use Rattle.std.specs.Prelude.{◌≡◌, ◌<◌, ℕ, false, true, List, None, Some, map, slice_get};
 ghost use Rattle.snl_lex.specs.declared.lines.Line.{Line};

@@ -1,12 +1,10 @@
 -- What a text says after an edit inside one item, after which the others see what they saw.
-use Rattle.std.proofs.Common.{◌≡◌, ◌≢◌, ◌↔◌, ℕ, zero, suc, false, ◌+◌, ◌<◌, ◌≤◌, inl, inr, All, true, IsTrue, List, [], ◌∷◌, ◌++◌, length, map, take, drop, get_or, slice_get, Option, None, Some, option_map, refl, sym, ap, ap₂, ◌∙◌, subst, append_assoc, arith, length-append}
-use Rattle.std.specs.Prelude.{nat_le}
+use Rattle.std.proofs.Common.{◌≡◌, ◌≢◌, ◌↔◌, ℕ, zero, suc, ◌+◌, ◌<◌, ◌≤◌, inl, inr, All, true, IsTrue, List, [], ◌∷◌, ◌++◌, length, map, take, drop, get_or, slice_get, Option, None, Some, option_map, refl, sym, ap, ap₂, ◌∙◌, subst, append_assoc, arith, length-append}
 use Rattle.std.specs.List.{AllByRecursion, slice_set}
 use Rattle.std.proofs.lemmas.List.{drop_at, length-map, map-append, take_at}
 use Rattle.std.proofs.lemmas.List.Elements.{All-drop, All-filter, All-take, recursion_from_All}
 use Rattle.snl_cut.specs.Cut.{Rises, ends_below, last_end}
 use Rattle.snl_lex.specs.declared.line_shift.LineShift.{LineShift}
-use Rattle.snl_lex.specs.declared.lines.Line.{Line}
 use Rattle.snl_lex.specs.declared.piece.Piece.{Piece}
 use Rattle.snl_lex.specs.declared.shift.Shift.{Shift}
 use Rattle.snl_lex.specs.Lines.{line_at}
@@ -19,6 +17,7 @@ use Rattle.snl_syntax.specs.Outcome.{parsed_by, parsed_in, sound_tree}
 use Rattle.snl_syntax.specs.declared.tree.item.Item.{Item}
 use Rattle.snl_items.specs.Changes.{LeavesAround}
 use Rattle.snl_items.specs.Items.{item_ends, spelled_items}
+use Rattle.snl_scope.specs.Names.{has_own_scope}
 use Rattle.snl_scope.specs.SpelledTokens.{bytes_by, summary_by}
 use Rattle.snl_scope.specs.Summaries.{kind_of, summary_in}
 use Rattle.snl_scope.specs.Summaries.Tokens.{token_bytes}
@@ -30,7 +29,7 @@ use Rattle.snl_tables.specs.declared.rows.Span.{Span}
 use Rattle.snl_tables.specs.Shifted.{shifted_span}
 use Rattle.snl_check.specs.ItemSpans.{span_of}
 use Rattle.snl_check.specs.Moved.{KeepsItem, ReplacesItem, ReplacesOne}
-use Rattle.snl_check.specs.Shifted.{has_own_row, shifted_item, shifted_tokens, start_at}
+use Rattle.snl_check.specs.Shifted.{shifted_item, shifted_tokens}
 use Rattle.snl_check.specs.ShiftedAround.{IsFlagPlaced, IsPlacedAt, is_plain}
 use Rattle.snl_check.specs.Tables.{tables_by, tables_of}
 use Rattle.snl_kept.specs.declared.entries.Entry.{Entry}
@@ -48,7 +47,7 @@ use Rattle.snl_kept.proofs.MadeChecks.{checks_made, made_are_stirred, stirred_to
 use Rattle.snl_kept.proofs.MemberParts.{element_at, got, got_other, others_mapped, taken_to_last}
 use Rattle.snl_kept.proofs.Rechecks.{Spelled}
 use Rattle.snl_kept.proofs.ShiftedItems.{all_items, all_kinds}
-use Rattle.snl_kept.proofs.ShiftedLines.{IsAfter, IsInFront, KeepsLine, all_after, all_in_front, in_front}
+use Rattle.snl_kept.proofs.ShiftedLines.{IsAfter, IsInFront, KeepsLine, all_after, all_in_front}
 use Rattle.snl_kept.proofs.ShiftedText.{along}
 use Rattle.snl_kept.proofs.InsideChecks.{one_check}
 use Rattle.snl_kept.proofs.InsideTold.{check_is}
@@ -56,7 +55,6 @@ use Rattle.snl_kept.proofs.Members.{one_entry_made}
 use Rattle.snl_kept.proofs.Replaced.{replaced_other}
 use Rattle.snl_kept.proofs.SpelledItems.{spelled_text}
 use Rattle.snl_kept.proofs.InsideParts.{IsPastHead, are_parts, back_alike, back_each, entry_is, entry_was, front_alike, front_each, front_olds_count, fronts_count, head_before, head_shifts, own_now, spelled_parts, stops_after, were_parts}
-use Rattle.std.proofs.lemmas.Bool.{lt-leb}
 use Rattle.std.proofs.lemmas.Option.{slice_get-map, same_Some}
 use Rattle.snl_lex.specs.ShiftLaws.{early_offset}
 
@@ -300,47 +298,23 @@ module _ (edit : Edit) (c : Changes) (t : LineShift) (x e : Entry) (is : IsInsid
   name_at None = let at : ℕ → Span = λ n. record { start = n; len = 0 } in ap at (sym (early_offset s 0 is.lines.lines.some_before))
   name_at (Some p) = refl
 
-  -- a state begins where it did, shifted
-  module _ (two : 2 ≤ many) where
-    head_begins : (n : ℕ) → n < 2 → start_at was_own n < s.start
-    head_begins n lt = by (slice_get was_own n) refl
-      where
-        by : (o : Option Piece) → slice_get was_own n ≡ o → (span_of o).start < s.start
-        by None there = is.lines.lines.some_before
-        by (Some p) there = of_head (IsInFront old text t order line_of) starts_before n p (omega (arith, two, lt)) there
-
-    -- the line that the next marker numbers is after the edit
-    early : (n : ℕ) → n < 2 → nat_le t.until (start_at was_own n) ≡ false
-    early n lt = lt-leb t.until (start_at was_own n) (omega (arith, head_begins n lt, is.lines.lines.until_after, order))
-
-    line_is : line_at text (start_at is_own 0) ≡ moved_line t (start_at was_own 1) (line_at old (start_at was_own 0))
-    line_is =
-        let line : Line = line_at old (start_at was_own 0) in
-        ap (λ (o : Span). line_at text o.start) (ap span_of (head 0 (omega (arith, two))) ∙ name_at (slice_get was_own 0))
-        ∙ line_of (start_at was_own 0) (inl (head_begins 0 (omega arith)))
-        ∙ in_front old text t order line_of line (start_at was_own 0) (start_at was_own 1) (head_begins 0 (omega arith)) (head_begins 1 (omega arith))
-        (early 0 (omega arith) ∙ sym (early 1 (omega arith)))
-
   placed : (n : ℕ) → n < many → IsPlacedAt s (program_item old was_own) (program_item text is_own) n
   placed n lt = ap span_of (head n lt) ∙ name_at (slice_get was_own n)
 
-  flags_placed : AllByRecursion (IsFlagPlaced s (program_item old was_own) (program_item text is_own)) (summary_in old was_own (tree_in old was_own)).outline.declares
+  flags_placed : AllByRecursion (IsFlagPlaced s (program_item old was_own) (program_item text is_own) (has_own_scope (summary_in old was_own (tree_in old was_own)).outline.role)) (summary_in old was_own (tree_in old was_own)).outline.declares
   flags_placed =
-      recursion_from_All (IsFlagPlaced s (program_item old was_own) (program_item text is_own)) (summary_in old was_own (tree_in old was_own)).outline.declares
-      (λ n d lt flag. placed (get_or (summary_in old was_own (tree_in old was_own)).outline.declares n d).token (subst (FlagsInHead many) (sym outline_was) is.place.flags n d lt flag))
+      recursion_from_All (IsFlagPlaced s (program_item old was_own) (program_item text is_own) (has_own_scope (summary_in old was_own (tree_in old was_own)).outline.role)) (summary_in old was_own (tree_in old was_own)).outline.declares
+      (λ n d lt flag.
+      let there = subst (FlagsInHead many) (sym outline_was) is.place.flags n d lt flag in
+      (placed (get_or (summary_in old was_own (tree_in old was_own)).outline.declares n d).token there.0, λ own. placed 1 (there.1 own)))
 
-  two : has_own_row (summary_in old was_own (tree_in old was_own)).outline ≡ true → 2 ≤ many
-  two h = is.place.named (sym (ap has_own_row outline_was) ∙ h)
-
-  replaces : ReplacesItem old text s (moved_line t) (program_item old was_own) (program_item text is_own)
+  replaces : ReplacesItem old text s (program_item old was_own) (program_item text is_own)
   replaces = record {
     was_plain = ap is_plain (ap (λ (y : Summary). y.kind) summary_was) ∙ is.place.plain;
     is_plain_now = ap is_plain kind_is ∙ is.place.plain_now;
     flags = flags_placed;
     no_clause = ap (λ (o : Outline). o.clauses) outline_was ∙ is.place.no_clause;
     no_clause_now = ap (λ (o : Outline). o.clauses) outline_is ∙ is.place.no_clause_now;
-    name = λ h. let many_tokens : 2 ≤ many = two h in placed 1 (omega (arith, many_tokens));
-    lined = λ h. line_is (two h);
   }
 
   -- ---- what the others see
@@ -422,8 +396,8 @@ module _ (edit : Edit) (c : Changes) (t : LineShift) (x e : Entry) (is : IsInsid
         others = λ i ne. others_mapped (shifted_item s) front px py back i (λ q. ne (q ∙ number));
         kept = λ i z ne there. got_other (KeepsItem old text s (moved_line t)) front px back i z front_keeps back_keeps (λ q. ne (q ∙ number)) there;
         replaced = λ a b was_a is_b.
-            this (λ (z : ProgramItem). ReplacesItem old text s (moved_line t) z b) px a (slice_get (front ++ (px ∷ back)) k) (element_at front px back k number) was_a
-            (this (λ (z : ProgramItem). ReplacesItem old text s (moved_line t) px z) py b (slice_get (map (shifted_item s) front ++ (py ∷ map (shifted_item s) back)) k)
+            this (λ (z : ProgramItem). ReplacesItem old text s z b) px a (slice_get (front ++ (px ∷ back)) k) (element_at front px back k number) was_a
+            (this (λ (z : ProgramItem). ReplacesItem old text s px z) py b (slice_get (map (shifted_item s) front ++ (py ∷ map (shifted_item s) back)) k)
             (element_at (map (shifted_item s) front) py (map (shifted_item s) back) k many) is_b replaces);
         tables = tables_told;
       }

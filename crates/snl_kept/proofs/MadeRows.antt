@@ -37,7 +37,9 @@ use Rattle.snl_kept.specs.Checks.{check_by, links_in, outlines_in}
 use Rattle.snl_kept.specs.Entries.{entries_of}
 use Rattle.snl_kept.specs.ItemPlan.{FitsRows, IsAfterInside, IsOneItem, IsStateAlike, own_item}
 use Rattle.snl_kept.specs.Kept.{IsListed}
-use Rattle.snl_kept.specs.MadeRows.{AreItemsAfter, IsInPlace}
+use Rattle.snl_kept.specs.MadeRows.{AreItemsAfter, IsInPlace, IsOwnMade, IsOwnState}
+use Rattle.snl_kept.specs.declared.ways.one_item.replaced.OneItem.{OneItem}
+use Rattle.snl_kept.specs.OneItem.{item_of, outlines_by}
 use Rattle.snl_kept.specs.OwnLinks.{AreOwnLinks}
 use Rattle.snl_kept.specs.OwnRows.{change_told}
 use Rattle.snl_kept.specs.Planned.{AreEntriesMade}
@@ -92,6 +94,14 @@ in_place edit c t x e one read own is =
       one = one.one;
       got = got_is edit c t x e one;
     })
+
+-- the state that is made
+pub own_state : (o : OneItem) (e : Entry) (c : Option Checked) → IsOwnMade o e c → IsOwnState o e c
+own_state o e c made = record {
+  within = made.within;
+  entry = made.entry;
+  check = record { outlines = outlines_by o; number = item_of o; is = made.check };
+}
 
 -- its tokens, and the uses in its conditions, among the items
 pub tokens_got : (text : List ℕ) (ys : List ProgramItem) (i : ℕ) (own : List Piece) → slice_get ys i ≡ Some (program_item text own) → own ≡ tokens_in ys i

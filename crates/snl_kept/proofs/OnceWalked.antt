@@ -21,7 +21,7 @@ use Rattle.snl_kept.specs.declared.found.findings.Finding.{Finding}
 use Rattle.snl_kept.specs.Linked.{outlines_of}
 use Rattle.snl_kept.specs.OnceFound.{DifferInPlace}
 use Rattle.snl_kept.specs.Program.{ProgramItem}
-use Rattle.snl_kept.specs.Tables.{at_state, found_at_state, found_in_set, is_unreached, walked_faults}
+use Rattle.snl_kept.specs.Tables.{at_name, found_at_state, found_in_set, is_unreached, walked_faults}
 use Rattle.snl_kept.proofs.OnceTokens.{AreApart, IsIn, one_item}
 use Rattle.snl_kept.proofs.OnceTwo.{two_flat, two_numbered, two_with}
 use Rattle.snl_facts.specs.Booleans.{and_second, and_first}
@@ -91,7 +91,7 @@ module _ (text : List ℕ) (xs : List ProgramItem) (apart : AreApart text xs) wh
   at_row : (k : ℕ) (p : ℕ × ℕ) → IsMember k p.1 → Each (λ f. (f.offset ≡ (item_name xs p.1).start) × (f.code ≡ W02)) (found_at_state (row_of k p)) × EachTwo DifferInPlace (found_at_state (row_of k p))
   at_row k p m = by (is_unreached (row_of k p).mark)
     where
-      by : (b : Bool) → Each (λ f. (f.offset ≡ (item_name xs p.1).start) × (f.code ≡ W02)) (if b then at_state (row_of k p) ∷ [] else []) × EachTwo DifferInPlace (if b then at_state (row_of k p) ∷ [] else [])
+      by : (b : Bool) → Each (λ f. (f.offset ≡ (item_name xs p.1).start) × (f.code ≡ W02)) (if b then at_name (row_of k p).name ∷ [] else []) × EachTwo DifferInPlace (if b then at_name (row_of k p).name ∷ [] else [])
       by true = (((refl, refl), tt), (tt, tt))
       by false = (tt, tt)
 

@@ -1,9 +1,9 @@
--- What the others see after an edit inside one item that declares other names than it did, where no
+-- What the others see after an edit inside one item that says by other names what it said, where no
 -- item uses one of these.
-use Rattle.std.proofs.Common.{◌≡◌, ℕ, zero, suc, ◌+◌, ◌<◌, ◌||◌, Bool, true, false, List, [], ◌∷◌, ◌++◌, length, map, take, drop, slice_get, Option, Some, None, option_map, inl, inr, refl, sym, ap, subst, ◌∙◌, arith}
+use Rattle.std.proofs.Common.{◌≡◌, ℕ, zero, suc, ◌+◌, ◌<◌, ◌||◌, Bool, false, List, [], ◌∷◌, ◌++◌, length, map, take, drop, slice_get, Option, Some, None, option_map, inl, inr, refl, sym, ap, ap₂, subst, ◌∙◌, arith}
 use Rattle.std.specs.List.{list_any, slice_set}
-use Rattle.std.proofs.lemmas.Bool.{cases_eq}
-use Rattle.std.proofs.lemmas.List.{length-map}
+use Rattle.std.proofs.lemmas.Bool.{cases_eq, or_parts}
+use Rattle.std.proofs.lemmas.List.{length-map, length-take-le}
 use Rattle.std.proofs.lemmas.Option.{slice_get-map, slice_get_within, same_Some}
 use Rattle.snl_lex.specs.declared.piece.Class.{Class}
 use Rattle.snl_lex.specs.declared.piece.Piece.{Piece}
@@ -11,34 +11,33 @@ use Rattle.snl_lex.specs.PieceList.{spelled}
 use Rattle.snl_syntax.specs.Outcome.{parsed_by, parsed_in, sound_tree}
 use Rattle.snl_syntax.specs.declared.tree.item.Item.{Item}
 use Rattle.snl_items.specs.Items.{spelled_items}
-use Rattle.snl_scope.specs.Renamed.{ClausesAlike, DeclaresAnew, MeanAlike}
+use Rattle.snl_scope.specs.Renamed.{ClausesAlike, DeclaresAnew, MeanAlike, NamesAnew, state_names}
 use Rattle.snl_scope.specs.SpelledTokens.{bytes_by, summary_by}
-use Rattle.snl_scope.specs.Spoken.{AreEditedNames, KeepsViews, is_among, spoken_by, touches}
+use Rattle.snl_scope.specs.Spoken.{AreEditedNames, KeepsViews, KeepsViewsBut, is_among, meets, spoken_by, touches}
 use Rattle.snl_scope.specs.Summaries.{summary_in}
 use Rattle.snl_scope.specs.Summaries.Tokens.{token_bytes}
+use Rattle.snl_scope.specs.declared.summaries.summary.NameRef.{NameRef}
 use Rattle.snl_scope.specs.declared.summaries.summary.Outline.{Outline}
 use Rattle.snl_scope.specs.declared.summaries.summary.Summary.{Summary}
 use Rattle.snl_item_check.specs.Items.{summary_of_item}
 use Rattle.snl_check.specs.Tables.{tables_by}
 use Rattle.snl_kept.specs.declared.entries.Entry.{Entry}
 use Rattle.snl_kept.specs.declared.plan.Changes.{Changes}
+use Rattle.snl_kept.specs.declared.ways.one_item.renamed_links.Renaming.{Renaming}
+use Rattle.snl_kept.specs.declared.ways.one_item.renamed_links.Renaming.TheVariants as renamings
 use Rattle.snl_kept.specs.declared.ways.one_item.replaced.OldItem.{OldItem}
 use Rattle.snl_kept.specs.Checks.{outlines_in}
 use Rattle.snl_kept.specs.Entries.{entries_of, entry_by}
 use Rattle.snl_kept.specs.ItemPlan.{IsOneItem, IsWas, outlines_kept}
 use Rattle.snl_kept.specs.Planned.{AreEntriesMade}
 use Rattle.snl_kept.specs.Program.{ProgramItem, item_tokens, items_of, program_item, tree_in}
-use Rattle.snl_kept.specs.RenamedItem.{AreUntouched}
+use Rattle.snl_kept.specs.RenamedItem.{AreNames, AreUntouched, IsRenamed}
 use Rattle.snl_kept.specs.ReplacedItem.{SeesAlike}
 use Rattle.snl_kept.proofs.InsideMade.{kept_outlines}
 use Rattle.snl_kept.proofs.InsideTold.{summary_is}
 use Rattle.snl_kept.proofs.Members.{one_entry_made}
 use Rattle.snl_kept.proofs.Replaced.{put_back, replaced_here, replaced_other, replaced_parts}
 use Rattle.snl_kept.proofs.SpelledItems.{spelled_text}
-
-neither : (a b : Bool) → (a || b) ≡ false → a ≡ false
-neither false b h = refl
-neither true b h = h
 
 map_set : {X Y : Type 0} (f : X → Y) (xs : List X) (k : ℕ) (x : X) → map f (slice_set xs k x) ≡ slice_set (map f xs) k (f x)
 map_set f [] k x = refl
@@ -51,12 +50,16 @@ module _ (tree_told : (text : List ℕ) (tokens : List Piece) → sound_tree (pa
     (bytes_told : (text : List ℕ) (tokens : List Piece) → token_bytes text tokens ≡ bytes_by (spelled text tokens))
     -- the laws of the layers below on an item that declares other names
     (views : (before old new after : List Outline) (names : List (List ℕ)) → AreEditedNames old new names → KeepsViews (before ++ (old ++ after)) (before ++ (new ++ after)) names)
-    (anew : (before : List Outline) (old new : Outline) (after : List Outline) → DeclaresAnew old new → MeanAlike (before ++ (old ∷ after)) (before ++ (new ∷ after)) (spoken_by (old ∷ []) ++ spoken_by (new ∷ [])))
-    (told : (text : List ℕ) (ys : List ProgramItem) (ss ts : List Outline) (names : List (List ℕ)) → MeanAlike ss ts names → ClausesAlike ss ts
-    → ((i : ℕ) (y : ProgramItem) → slice_get ys i ≡ Some y → list_any (is_among names) (summary_of_item text y).uses ≡ false) → tables_by text ys ts ≡ tables_by text ys ss)
-    (old text : List ℕ) (c : Changes) (w : OldItem) (e : Entry) (names : List (List ℕ)) (one : IsOneItem old c) (was : IsWas old c.items.kept_front w)
-    (made : AreEntriesMade old text c.items.kept_front (e ∷ []) c.items.kept_back) (declares : DeclaresAnew w.entry.now.summary.outline e.summary.outline)
-    (edited : AreEditedNames (w.entry.now.summary.outline ∷ []) (e.summary.outline ∷ []) names) (others : AreUntouched names c.items.kept_front (entries_of old))
+    (anew : (before : List Outline) (old new : Outline) (after : List Outline) → DeclaresAnew old new → MeanAlike (before ++ (old ∷ after)) (before ++ (new ∷ after)) (spoken_by (old ∷ []) ++ spoken_by (new ∷ [])) [])
+    (named : (before : List Outline) (old new : Outline) (after : List Outline) → NamesAnew (before ++ (old ∷ after)) (before ++ (new ∷ after)) (length before) old new
+    → MeanAlike (before ++ (old ∷ after)) (before ++ (new ∷ after)) [] (state_names old new))
+    (named_views : (before : List Outline) (old new : Outline) (after : List Outline) → NamesAnew (before ++ (old ∷ after)) (before ++ (new ∷ after)) (length before) old new
+    → KeepsViewsBut (before ++ (old ∷ after)) (before ++ (new ∷ after)) [] (state_names old new))
+    (told : (text : List ℕ) (ys : List ProgramItem) (ss ts : List Outline) (used led_to : List (List ℕ)) → MeanAlike ss ts used led_to → ClausesAlike ss ts
+    → ((i : ℕ) (y : ProgramItem) → slice_get ys i ≡ Some y → meets used led_to (summary_of_item text y) ≡ false) → tables_by text ys ts ≡ tables_by text ys ss)
+    (old text : List ℕ) (c : Changes) (w : OldItem) (e : Entry) (renaming : Renaming) (names : List (List ℕ)) (one : IsOneItem old c) (was : IsWas old c.items.kept_front w)
+    (made : AreEntriesMade old text c.items.kept_front (e ∷ []) c.items.kept_back) (renamed : IsRenamed (outlines_in old) (outlines_in text) c.items.kept_front w.entry.now.summary.outline e.summary.outline renaming)
+    (edited : AreNames w.entry.now.summary.outline e.summary.outline renaming names) (others : AreUntouched names c.items.kept_front (entries_of old))
     (own : touches names e.summary ≡ false) where
   abbrev k : ℕ
   k = c.items.kept_front
@@ -87,18 +90,64 @@ module _ (tree_told : (text : List ℕ) (tokens : List Piece) → sound_tree (pa
       ∙ map_set outline (entries_of old) k e
       ∙ replaced_parts kept k (outline e) (omega (arith, there, length-map (entries_of old) outline))
 
-  mean_alike : MeanAlike (outlines_in old) (outlines_in text) names
-  mean_alike =
-      subst (λ (ns : List (List ℕ)). MeanAlike (outlines_in old) (outlines_in text) ns) (sym edited.spoken)
-      (subst (λ (ts : List Outline). MeanAlike (outlines_in old) ts (spoken_by (outline w.entry.now ∷ []) ++ spoken_by (outline e ∷ []))) (sym are)
-      (subst (λ (ss : List Outline). MeanAlike ss (take k kept ++ (outline e ∷ drop (k + 1) kept)) (spoken_by (outline w.entry.now ∷ []) ++ spoken_by (outline e ∷ []))) (sym were)
-      (anew (take k kept) (outline w.entry.now) (outline e) (drop (k + 1) kept) declares)))
+  -- the place of the item among them
+  counted : length (take k kept) ≡ k
+  counted = length-take-le k kept (omega (arith, there, length-map (entries_of old) outline))
 
-  keeps_views : KeepsViews (outlines_in old) (outlines_in text) names
-  keeps_views =
-      subst (λ (ts : List Outline). KeepsViews (outlines_in old) ts names) (sym are)
-      (subst (λ (ss : List Outline). KeepsViews ss (take k kept ++ (outline e ∷ drop (k + 1) kept)) names) (sym were)
-      (views (take k kept) (outline w.entry.now ∷ []) (outline e ∷ []) (drop (k + 1) kept) names edited))
+  abbrev were_parts : List Outline
+  were_parts = take k kept ++ (outline w.entry.now ∷ drop (k + 1) kept)
+
+  abbrev are_parts : List Outline
+  are_parts = take k kept ++ (outline e ∷ drop (k + 1) kept)
+
+  named_in_parts : NamesAnew (outlines_in old) (outlines_in text) k (outline w.entry.now) (outline e) → NamesAnew were_parts are_parts (length (take k kept)) (outline w.entry.now) (outline e)
+  named_in_parts anew_state =
+      subst (λ (n : ℕ). NamesAnew were_parts are_parts n (outline w.entry.now) (outline e)) (sym counted)
+      (subst (λ (ts : List Outline). NamesAnew were_parts ts k (outline w.entry.now) (outline e)) are
+      (subst (λ (ss : List Outline). NamesAnew ss (outlines_in text) k (outline w.entry.now) (outline e)) were anew_state))
+
+  -- the names by which the uses of an item may differ, and those by which what it leads to may
+  abbrev used_names : Renaming → List (List ℕ)
+  used_names renamings.Declared = names
+  used_names renamings.State = []
+
+  abbrev led_names : Renaming → List (List ℕ)
+  led_names renamings.Declared = []
+  led_names renamings.State = names
+
+  -- an item that touches none of the names meets none of these
+  none_met : (r : Renaming) (s : Summary) → touches names s ≡ false → meets (used_names r) (led_names r) s ≡ false
+  none_met renamings.Declared s h = ap₂ (λ (x y : Bool). x || y) (or_parts (list_any (is_among names) s.uses) (list_any (λ t. is_among names t.name) s.targets) h).0 (none_passes s.targets)
+    where
+      none_passes : (ts : List NameRef) → list_any (λ (t : NameRef). is_among [] t.name) ts ≡ false
+      none_passes [] = refl
+      none_passes (t ∷ ts) = none_passes ts
+  none_met renamings.State s h = ap₂ (λ (x y : Bool). x || y) (none_used s.uses) (or_parts (list_any (is_among names) s.uses) (list_any (λ t. is_among names t.name) s.targets) h).1
+    where
+      none_used : (us : List (List ℕ)) → list_any (is_among []) us ≡ false
+      none_used [] = refl
+      none_used (u ∷ us) = none_used us
+
+  abbrev IsAlike : Renaming → (ss ts : List Outline) → Type 0
+  IsAlike r ss ts = MeanAlike ss ts (used_names r) (led_names r) × KeepsViews ss ts names
+
+  in_parts : (r : Renaming) → IsRenamed (outlines_in old) (outlines_in text) k (outline w.entry.now) (outline e) r → AreNames (outline w.entry.now) (outline e) r names → IsAlike r were_parts are_parts
+  in_parts renamings.Declared declares edited = (
+    subst (λ (ns : List (List ℕ)). MeanAlike were_parts are_parts ns []) (sym edited.spoken) (anew (take k kept) (outline w.entry.now) (outline e) (drop (k + 1) kept) declares),
+    views (take k kept) (outline w.entry.now ∷ []) (outline e ∷ []) (drop (k + 1) kept) names edited,
+  )
+  in_parts renamings.State anew_state is =
+      let here = named_in_parts anew_state in
+      let seen : KeepsViewsBut were_parts are_parts [] names =
+      subst (λ (ns : List (List ℕ)). KeepsViewsBut were_parts are_parts [] ns) (sym is) (named_views (take k kept) (outline w.entry.now) (outline e) (drop (k + 1) kept) here) in (
+        subst (λ (ns : List (List ℕ)). MeanAlike were_parts are_parts [] ns) (sym is) (named (take k kept) (outline w.entry.now) (outline e) (drop (k + 1) kept) here),
+        λ i s silent. seen i s (none_met renamings.State s silent),
+      )
+
+  alike : IsAlike renaming (outlines_in old) (outlines_in text)
+  alike =
+      subst (λ (ts : List Outline). IsAlike renaming (outlines_in old) ts) (sym are)
+      (subst (λ (ss : List Outline). IsAlike renaming ss are_parts) (sym were) (in_parts renaming renamed edited))
 
   -- ---- no item uses one of the names
 
@@ -110,10 +159,10 @@ module _ (tree_told : (text : List ℕ) (tokens : List Piece) → sound_tree (pa
     | inr apart ↦ others i x apart (sym (replaced_other (entries_of old) k e i apart) ∙ ap (λ (l : List Entry). slice_get l i) (sym entries_are) ∙ got)
   ]
 
-  unused : (i : ℕ) (y : ProgramItem) → slice_get (items_of text) i ≡ Some y → list_any (is_among names) (summary_of_item text y).uses ≡ false
+  unused : (i : ℕ) (y : ProgramItem) → slice_get (items_of text) i ≡ Some y → touches names (summary_of_item text y) ≡ false
   unused i y got = by (slice_get (item_tokens text) i) refl (sym (slice_get-map (program_item text) (item_tokens text) i) ∙ got)
     where
-      by : (o : Option (List Piece)) → slice_get (item_tokens text) i ≡ o → option_map (program_item text) o ≡ Some y → list_any (is_among names) (summary_of_item text y).uses ≡ false
+      by : (o : Option (List Piece)) → slice_get (item_tokens text) i ≡ o → option_map (program_item text) o ≡ Some y → touches names (summary_of_item text y) ≡ false
       by None at is = absurd cc
       by (Some m) at is =
           let spelled_so : slice_get (spelled_items text) i ≡ Some (spelled text m) =
@@ -121,13 +170,12 @@ module _ (tree_told : (text : List ℕ) (tokens : List Piece) → sound_tree (pa
           let entry : slice_get (entries_of text) i ≡ Some (entry_by (spelled text m)) = slice_get-map entry_by (spelled_items text) i ∙ ap (option_map entry_by) spelled_so in
           let none : touches names (entry_by (spelled text m)).summary ≡ false = untouched i (entry_by (spelled text m)) entry in
           let summary : (entry_by (spelled text m)).summary ≡ summary_of_item text (program_item text m) = summary_is tree_told by_spelling summary_told bytes_told text m (entry_by (spelled text m)) refl in
-          subst (λ (z : ProgramItem). list_any (is_among names) (summary_of_item text z).uses ≡ false) (same_Some (program_item text m) y is)
-          (subst (λ (s : Summary). list_any (is_among names) s.uses ≡ false) summary
-          (neither (list_any (is_among names) (entry_by (spelled text m)).summary.uses) (list_any (λ t. is_among names t.name) (entry_by (spelled text m)).summary.targets) none))
+          subst (λ (z : ProgramItem). touches names (summary_of_item text z) ≡ false) (same_Some (program_item text m) y is)
+          (subst (λ (s : Summary). touches names s ≡ false) summary none)
 
   pub sees_alike : ClausesAlike (outlines_in old) (outlines_in text) → SeesAlike old text k
   sees_alike clauses = record {
-    places = mean_alike.places;
-    views = λ i x apart got. keeps_views i x.summary (others i x apart got);
-    tables = told text (items_of text) (outlines_in old) (outlines_in text) names mean_alike clauses unused;
+    places = alike.0.places;
+    views = λ i x apart got. alike.1 i x.summary (others i x apart got);
+    tables = told text (items_of text) (outlines_in old) (outlines_in text) (used_names renaming) (led_names renaming) alike.0 clauses (λ i y got. none_met renaming (summary_of_item text y) (unused i y got));
   }

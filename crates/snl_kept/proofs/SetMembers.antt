@@ -18,7 +18,8 @@ use Rattle.snl_scope.specs.declared.summaries.summary.Outline.{Outline}
 use Rattle.snl_scope.specs.declared.summaries.summary.Summary.{Summary}
 use Rattle.snl_check.specs.declared.reachability.marks.SetMember.{SetMember}
 use Rattle.snl_item_check.specs.Items.{ProgramItem, summary_of_item}
-use Rattle.snl_check.specs.Members.{AreSetMembers, IsSetMember, is_faulty_item, name_of_state, targets_of_item}
+use Rattle.snl_scope.specs.Linked.{name_of_state}
+use Rattle.snl_check.specs.Members.{AreSetMembers, IsSetMember, is_faulty_item, targets_of_item}
 use Rattle.snl_kept.specs.declared.entries.Entry.{Entry}
 use Rattle.snl_kept.specs.Checks.{outlines_in}
 use Rattle.snl_kept.specs.Entries.{entries_of, entry_by}

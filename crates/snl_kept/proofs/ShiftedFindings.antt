@@ -32,7 +32,7 @@ use Rattle.snl_kept.specs.Faults.{at_number, at_token, fault_at}
 use Rattle.snl_kept.specs.Linked.{finding_at, linked_finding, token_of}
 use Rattle.snl_kept.specs.Program.{ProgramItem}
 use Rattle.snl_kept.specs.Shifted.{shifted_finding}
-use Rattle.snl_kept.specs.Tables.{at_state, found_at_state, found_in_set, is_unreached, walked_in}
+use Rattle.snl_kept.specs.Tables.{at_name, found_at_state, found_in_set, is_unreached, walked_in}
 use Rattle.snl_kept.specs.Warnings.{setting_in, setting_of_item}
 use Rattle.snl_lex.specs.ShiftLaws.{early_offset, late_offset}
 
@@ -52,10 +52,10 @@ module _ (s : Shift) where
 
   -- by the walks of state sets, whatever becomes of lines
   module _ (line : ℕ → Line → Line) where
-    state_shifts : (row : StateRow) → found_at_state (moved_state s line row) ≡ map (shifted_finding s) (found_at_state row)
+    pub state_shifts : (row : StateRow) → found_at_state (moved_state s line row) ≡ map (shifted_finding s) (found_at_state row)
     state_shifts row = by (is_unreached row.mark)
       where
-        by : (b : Bool) → (if b then at_state (moved_state s line row) ∷ [] else []) ≡ map (shifted_finding s) (if b then at_state row ∷ [] else [])
+        by : (b : Bool) → (if b then at_name (moved_state s line row).name ∷ [] else []) ≡ map (shifted_finding s) (if b then at_name row.name ∷ [] else [])
         by true = refl
         by false = refl
 

@@ -13,6 +13,7 @@ use Rattle.snl_kept.specs.declared.lists.Lists.{Lists}
 use Rattle.snl_kept.specs.declared.ways.one_item.replaced.OneItem.{OneItem}
 use Rattle.snl_kept.specs.Checks.{check_by, outlines_in}
 use Rattle.snl_kept.specs.Entries.{entries_of, entry_by}
+use Rattle.snl_kept.specs.OwnFindings.{IsOwnCheck}
 use Rattle.snl_kept.specs.OneItem.{item_of, old_of, outlines_by, text_of}
 use Rattle.snl_kept.specs.Program.{items_of, program_item}
 
@@ -32,7 +33,14 @@ pub record AreItemsAfter (old text : List ℕ) (l : Lists) (i : ℕ) (e : Entry)
   pub outlines_were : l.links.outlines ≡ outlines_in old
   pub outlines_are : l.links.outlines ≡ outlines_in text
 
--- The item that is made, its entry and its check are those of the new text.
+-- The item that is made and its entry are those of the new text, and this is a check of it.
+pub record IsOwnState (o : OneItem) (e : Entry) (c : Option Checked) : Type 0 where
+  pub within : All (LiesIn (text_of o)) o.own.now.is.items
+  pub entry : e ≡ entry_by (spelled (text_of o) o.own.now.is.items)
+  pub check : IsOwnCheck (text_of o) o.own.now.is.items c
+
+-- The item that is made, its entry and its check are those of the new text, and all say to each
+-- other what they said.
 pub record IsOwnMade (o : OneItem) (e : Entry) (c : Option Checked) : Type 0 where
   pub within : All (LiesIn (text_of o)) o.own.now.is.items
   pub items : AreItemsAfter (old_of o) (text_of o) o.editing.lists.now (item_of o) e

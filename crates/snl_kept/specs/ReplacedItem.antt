@@ -15,11 +15,12 @@ use Rattle.snl_items.specs.Items.{item_ends}
 use Rattle.snl_scope.specs.declared.facts.LinkFault.{LinkFault}
 use Rattle.snl_scope.specs.declared.summaries.summary.Outline.{Outline}
 use Rattle.snl_scope.specs.Clauses.{is_event_flag}
+use Rattle.snl_scope.specs.Names.{has_own_scope}
 use Rattle.snl_scope.specs.Places.{enclosing_set}
 use Rattle.snl_scope.specs.View.{view}
 use Rattle.snl_item_check.specs.declared.findings.Checked.{Checked}
 use Rattle.snl_item_check.specs.Items.{outline_of_item}
-use Rattle.snl_check.specs.Shifted.{has_own_row, shifted_item, shifted_tokens}
+use Rattle.snl_check.specs.Shifted.{shifted_item, shifted_tokens}
 use Rattle.snl_check.specs.Moved.{ReplacesOne}
 use Rattle.snl_check.specs.ShiftedAround.{is_plain}
 use Rattle.snl_check.specs.Tables.{tables_by, tables_of}
@@ -84,16 +85,16 @@ own_start text i = last_end 0 (take i (item_ends text))
 abbrev pub own_head : List ℕ → Changes → ℕ
 own_head old c = c.tokens.edit.start - own_start old c.items.kept_front
 
--- All event flags that an item declares are among its first `head` tokens.
+-- All event flags that an item declares are among its first `head` tokens, and so is its name, if it
+-- has a scope of its own.
 abbrev pub FlagsInHead : ℕ → Outline → Type 0
-FlagsInHead head o = All (λ d. is_event_flag d.variable.symbol_kind ≡ true → d.token < head) o.declares
+FlagsInHead head o = All (λ d. is_event_flag d.variable.symbol_kind ≡ true → (d.token < head) × (has_own_scope o.role ≡ true → 1 < head)) o.declares
 
--- A plain item in the place of another, neither with clauses: what rows say of the names in it is
+-- A plain item in the place of another, neither with clauses: the event flags that it declares are
 -- among its first `head` tokens.
 pub record TakesPlace (head : ℕ) (x e : Entry) : Type 0 where
   pub plain : is_plain x.summary.kind ≡ true
   pub plain_now : is_plain e.summary.kind ≡ true
-  pub named : has_own_row x.summary.outline ≡ true → 2 ≤ head
   pub flags : FlagsInHead head x.summary.outline
   pub no_clause : x.summary.outline.clauses ≡ []
   pub no_clause_now : e.summary.outline.clauses ≡ []

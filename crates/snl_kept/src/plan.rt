@@ -176,7 +176,8 @@ pub struct RowPlace {
 /// What an edit inside an item changes in the rows, besides their shift.
 pub enum RowChange {
     Nothing,
-    /// The body of a state that leads where it led and says the same in its conditions.
+    /// The body of a state that leads where it led and says the same in its conditions, if by
+    /// another name.
     Body {
         place: RowPlace,
         body: StateBody,

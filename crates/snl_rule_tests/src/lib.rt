@@ -24,6 +24,8 @@ mod questions;
 #[cfg(test)]
 mod reading;
 #[cfg(test)]
+mod renamed_items;
+#[cfg(test)]
 mod summaries;
 #[cfg(test)]
 mod tables;

@@ -41,5 +41,8 @@ pub mod FaultPlaces
 pub mod SsWords
 pub mod SpokenTokens
 pub mod SameMeanings
+pub mod OneReplaced
 pub mod NewNames
+pub mod NewStateNames
+pub mod NewStateViews
 pub mod AlikeClauses

@@ -1,5 +1,5 @@
 -- What the links of items answer: all but the findings by the outlines alone.
-use Rattle.std.specs.Prelude.{ℕ, Bool, false, if◌then◌else◌, List, ◌++◌, length, slice_get, nat_lt, Option, None, Some, is_some, option_map, option_and_then}
+use Rattle.std.specs.Prelude.{ℕ, Bool, false, if◌then◌else◌, List, ◌++◌, length, slice_get, nat_eq, nat_lt, Option, None, Some, is_some, option_map, option_and_then}
 use Rattle.std.specs.Option.{option_map_or}
 use Rattle.snl_scope.specs.declared.facts.Assigned.{Assigned}
 use Rattle.snl_scope.specs.declared.facts.NameKind.{NameKind}
@@ -20,7 +20,7 @@ use Rattle.snl_scope.specs.declared.summaries.summary.Variable.{Variable}
 use Rattle.snl_scope.specs.Clauses.{assigned_by, clause_faults, clauses_of}
 use Rattle.snl_scope.specs.LinkedItems.{LinkedItems}
 use Rattle.snl_scope.specs.Names.{Entry, entries, number_in, name_faults, resolve}
-use Rattle.snl_scope.specs.Order.{order_faults}
+use Rattle.snl_scope.specs.Order.{order_faults, state_name}
 use Rattle.snl_scope.specs.Places.{enclosing_set}
 
 -- The scope in which a declaration is, as the items see it that can name it.
@@ -82,6 +82,14 @@ state_of ss i name = option_and_then (λ k. state_in ss k name) (enclosing_set s
 -- The state set in which an item is has a state of the name.
 abbrev pub has_target : List Outline → ℕ → List ℕ → Bool
 has_target ss i name = option_map_or (λ k. is_some (number_in (entries ss) (namespace.States k) name)) (enclosing_set ss i) false
+
+-- The name of an item that begins as a state does.
+abbrev pub name_of_state : List Outline → ℕ → Option (List ℕ)
+name_of_state ss j = option_and_then state_name (slice_get ss j)
+
+-- State j is the first of its name in its set.
+abbrev pub is_first_state : List Outline → ℕ → Bool
+is_first_state ss j = option_map_or (λ name. option_map_or (nat_eq j) (state_of ss j name) false) (name_of_state ss j) false
 
 -- All findings of links.
 abbrev pub faults_of : LinkedItems → List LinkFault

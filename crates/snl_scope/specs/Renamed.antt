@@ -1,6 +1,7 @@
--- An item that declares other names in the place of those that another one declared, and says
--- nothing else to the others: all means to them what it meant, but for these names.
-use Rattle.std.specs.Prelude.{◌≡◌, ℕ, All, false, List, [], length, map, slice_get, Option, option_and_then}
+-- An item that declares other names in the place of those that another one declared, or a state
+-- with another name, which says nothing else to the others: all means to them what it meant, but
+-- for these names.
+use Rattle.std.specs.Prelude.{◌≡◌, ℕ, All, true, false, List, [], ◌++◌, length, map, Option, None, Some, option_and_then, option_to_list}
 use Rattle.snl_scope.specs.declared.summaries.summary.Declared.{Declared}
 use Rattle.snl_scope.specs.declared.summaries.summary.Outline.{Outline}
 use Rattle.snl_scope.specs.declared.summaries.summary.Role.TheVariants as role
@@ -8,11 +9,11 @@ use Rattle.snl_scope.specs.declared.summaries.summary.Variable.{Variable}
 use Rattle.snl_scope.specs.Channels.{is_monitored, sync_number}
 use Rattle.snl_scope.specs.Clauses.{clause_links, is_event_flag, resolve_in}
 use Rattle.snl_scope.specs.Flags.{flags_of}
-use Rattle.snl_scope.specs.Linked.{declaration_at, has_target, state_of}
+use Rattle.snl_scope.specs.Linked.{declaration_at, has_target, is_first_state, state_of}
 use Rattle.snl_scope.specs.Names.{entries}
-use Rattle.snl_scope.specs.Order.{is_named_state, is_state_word, state_name}
+use Rattle.snl_scope.specs.Order.{is_named_state, is_state_word}
 use Rattle.snl_scope.specs.Places.{enclosing_set, is_set_begin}
-use Rattle.snl_scope.specs.Spoken.{is_among}
+use Rattle.snl_scope.specs.Spoken.{bound, is_among}
 
 -- An item bounds no state set, is no state, and has no clauses.
 pub record IsPlain (o : Outline) : Type 0 where
@@ -35,19 +36,42 @@ pub record DeclaresAnew (old new : Outline) : Type 0 where
   pub declares : map unnamed new.declares ≡ map unnamed old.declares
   pub no_flag : All (λ d. is_event_flag d.variable.symbol_kind ≡ false) old.declares
 
--- All means among the items `ts` what it means among the items `ss`, but for these names.
-pub record MeanAlike (ss ts : List Outline) (names : List (List ℕ)) : Type 0 where
+-- A state in the place of another, if by another name. Both declare the same, and have no clauses.
+pub record RenamesState (old new : Outline) : Type 0 where
+  pub bounds : bound old.role ≡ role.Other
+  pub role : new.role ≡ old.role
+  pub was_word : is_state_word old.opening ≡ true
+  pub is_word : is_state_word new.opening ≡ true
+  pub declares : new.declares ≡ old.declares
+  pub was_clauses : old.clauses ≡ []
+  pub is_clauses : new.clauses ≡ []
+
+-- The names of a state before an edit and after it.
+abbrev pub state_names : (old new : Outline) → List (List ℕ)
+state_names old new = option_to_list old.second ++ option_to_list new.second
+
+-- State j goes from one name to another, and no other state of its set has either name.
+pub record NamesAnew (ss ts : List Outline) (j : ℕ) (old new : Outline) : Type 0 where
+  pub renames : RenamesState old new
+  pub was_own : option_and_then (state_of ss j) old.second ≡ Some j
+  pub is_free : option_and_then (state_of ss j) new.second ≡ None
+  pub is_own : option_and_then (state_of ts j) new.second ≡ Some j
+  pub was_free : option_and_then (state_of ts j) old.second ≡ None
+
+-- All means among the items `ts` what it means among the items `ss`, but for some names that items
+-- use, and some of states that they lead to.
+pub record MeanAlike (ss ts : List Outline) (used led_to : List (List ℕ)) : Type 0 where
   pub count : length ts ≡ length ss
   pub begins : (i : ℕ) → is_set_begin ts i ≡ is_set_begin ss i
   pub named : (i : ℕ) → is_named_state ts i ≡ is_named_state ss i
   pub places : (i : ℕ) → enclosing_set ts i ≡ enclosing_set ss i
   pub numbers : length (entries ts) ≡ length (entries ss)
   pub declared : (number : ℕ) → declaration_at ts number ≡ declaration_at ss number
-  pub resolved : (i : ℕ) (name : List ℕ) → is_among names name ≡ false → resolve_in ts i name ≡ resolve_in ss i name
-  -- names of states are none of these names
-  pub states : (i : ℕ) (name : List ℕ) → state_of ts i name ≡ state_of ss i name
-  pub targets : (i : ℕ) (name : List ℕ) → has_target ts i name ≡ has_target ss i name
-  pub state_names : (i : ℕ) → option_and_then state_name (slice_get ts i) ≡ option_and_then state_name (slice_get ss i)
+  pub resolved : (i : ℕ) (name : List ℕ) → is_among used name ≡ false → resolve_in ts i name ≡ resolve_in ss i name
+  pub states : (i : ℕ) (name : List ℕ) → is_among led_to name ≡ false → state_of ts i name ≡ state_of ss i name
+  pub targets : (i : ℕ) (name : List ℕ) → is_among led_to name ≡ false → has_target ts i name ≡ has_target ss i name
+  -- a state that is the first of its name is so by any name
+  pub firsts : (i : ℕ) → is_first_state ts i ≡ is_first_state ss i
 
 -- The clauses of the items `ts` say of the same declarations what those of the items `ss` say, and
 -- the same declarations are event flags.

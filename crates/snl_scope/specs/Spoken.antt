@@ -32,10 +32,19 @@ pub record AreEditedNames (old new : List Outline) (names : List (List ℕ)) : T
 abbrev pub is_among : List (List ℕ) → List ℕ → Bool
 is_among names name = list_any (bytes_eq name) names
 
+-- The item uses one of these names, or has one of those as a target.
+abbrev pub meets : (used led_to : List (List ℕ)) → Summary → Bool
+meets used led_to s = list_any (is_among used) s.uses || list_any (λ t. is_among led_to t.name) s.targets
+
 -- The item uses one of the names, or has it as a target.
 abbrev pub touches : List (List ℕ) → Summary → Bool
-touches names s = list_any (is_among names) s.uses || list_any (λ t. is_among names t.name) s.targets
+touches names s = meets names names s
+
+-- An item that uses none of these names and has none of those as a target sees the same among these
+-- items and among those.
+abbrev pub KeepsViewsBut : (ss ts : List Outline) → (used led_to : List (List ℕ)) → Type 0
+KeepsViewsBut ss ts used led_to = (i : ℕ) (s : Summary) → meets used led_to s ≡ false → view ss i s ≡ view ts i s
 
 -- An item that touches none of the names sees the same among these items and among those.
 abbrev pub KeepsViews : (ss ts : List Outline) → (names : List (List ℕ)) → Type 0
-KeepsViews ss ts names = (i : ℕ) (s : Summary) → touches names s ≡ false → view ss i s ≡ view ts i s
+KeepsViews ss ts names = KeepsViewsBut ss ts names names

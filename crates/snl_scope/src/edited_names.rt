@@ -2,10 +2,11 @@
 //! replaces and of those that it makes come in, and whether another item uses one of their names
 //! goes out. An item that uses none sees after the edit what it saw.
 
-ghost use Rattle.std.specs.Prelude.{◌≡◌, ◌++◌, false, IfOk, IfSome, IsTrue, List, ℕ, OnOk, bytes_eq, map};
+ghost use Rattle.std.specs.Prelude.{◌≡◌, ◌++◌, false, IfOk, IfSome, IsTrue, List, ℕ, OnOk, bytes_eq, map, option_to_list};
 ghost use Rattle.std.specs.List.{list_any};
 ghost use Rattle.snl_scope.specs.Linked.{fact_of, has_target};
 ghost use Rattle.snl_scope.specs.Places.{enclosing_set};
+ghost use Rattle.snl_scope.specs.Renamed.{state_names};
 ghost use Rattle.snl_scope.specs.Spoken.{AreEditedNames, KeepsViews, bound, bounds, is_among, spoken, spoken_by, touches};
 ghost use Rattle.snl_scope.specs.declared.summaries.summary.Outline.{Outline};
 
@@ -81,6 +82,17 @@ fn add_clauses<'a>(
     Ok(())
 }
 
+// Adds the name of an item, if it has one.
+fn add_second<'a>(outline: &'a Outline, names: &mut Vec<&'a [u8]>) -> Result<(), OutOfMemory>
+    ensures { OnOk result (map (λ n. n.now) names.new.items ≡ map (λ n. n.now) names.old.items
+        ++ option_to_list outline.now.second) }
+{
+    if let Some(second) = &outline.second {
+        names.push(second.bytes())?;
+    }
+    Ok(())
+}
+
 // Adds the names that an item speaks of.
 fn add_spoken<'a>(outline: &'a Outline, names: &mut Vec<&'a [u8]>) -> Result<(), OutOfMemory>
     ensures { OnOk result (map (λ n. n.now) names.new.items ≡ map (λ n. n.now) names.old.items
@@ -88,10 +100,7 @@ fn add_spoken<'a>(outline: &'a Outline, names: &mut Vec<&'a [u8]>) -> Result<(),
 {
     add_declared(outline.declares.as_slice(), names)?;
     add_clauses(outline.clauses.as_slice(), names)?;
-    if let Some(second) = &outline.second {
-        names.push(second.bytes())?;
-    }
-    Ok(())
+    add_second(outline, names)
 }
 
 fn add_spoken_by<'a>(outlines: &[&'a Outline], names: &mut Vec<&'a [u8]>) -> Result<(), OutOfMemory>
@@ -137,6 +146,20 @@ impl<'a> EditedNames<'a> {
             return Ok(None);
         }
         Ok(Some(EditedNames { names }))
+    }
+
+    /// The names of a state before an edit and after it.
+    pub fn of_state(
+        alloc: Global,
+        was: &'a Outline,
+        is: &'a Outline,
+    ) -> Result<EditedNames<'a>, OutOfMemory>
+        ensures { IfOk result (λ edited. edited ≡ state_names was.now is.now) }
+    {
+        let mut names = Vec::new(alloc);
+        add_second(was, &mut names)?;
+        add_second(is, &mut names)?;
+        Ok(EditedNames { names })
     }
 
     fn has_some_of(&self, uses: &[Name]) -> bool

@@ -29,7 +29,9 @@ pub use laws::spelling_laws::same_spelling_same_summary;
 pub use laws::summary_laws::{names_kept_once, plain_state_outline};
 pub use laws::token_laws::{names_are_tokens, targets_rise};
 pub use links::{Links, link, link_after};
-pub use renamed::{clauses_alike, declared_anew, declares_anew};
+pub use renamed::{
+    clauses_alike, declared_anew, declares_anew, named_anew, names_anew, renames_state,
+};
 pub use same_views::{Moved, SameViews};
 pub use snl_walk::Source;
 pub use summaries::name::Name;

@@ -226,6 +226,8 @@ fn compare_names(both: Compared, moved: Moved, marks: &mut Vec<bool>) -> bool
     true
 }
 
+// Tells what means the same after an edit. Where the old names don't keep their numbers, nothing is
+// known.
 fn compare(before: &Links, after: &Links, moved: Moved, marks: &mut Vec<bool>) -> bool
     ensures { AreSame before.now.outlines after.now.outlines moved marks.new.items result }
 {

@@ -71,10 +71,17 @@ changed_at f n [] = []
 changed_at f zero (x ∷ xs) = f x ∷ xs
 changed_at f (suc n) (x ∷ xs) = x ∷ changed_at f n xs
 
--- The row of a state that has another body. It keeps its name, its line, its mark and what wakes
--- it.
+-- The row of a state that has another body. It keeps its mark and what wakes it.
 abbrev pub with_own_body : StateBody → StateRow → StateRow
-with_own_body body row = record row { options = body.options; transitions = body.transitions; gotos = body.gotos }
+with_own_body body row = record {
+  name = body.name;
+  line = body.line;
+  mark = row.mark;
+  options = body.options;
+  transitions = body.transitions;
+  gotos = body.gotos;
+  wake = row.wake;
+}
 
 abbrev pub with_body_in : ℕ → StateBody → SetRow → SetRow
 with_body_in number body row = record row { states = changed_at (with_own_body body) number row.states }

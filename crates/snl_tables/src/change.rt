@@ -10,6 +10,8 @@ use crate::rows::{SetRow, StateBody, StateRow, Tables};
 fn fill(state: &mut StateRow, body: StateBody)
     ensures { state.new ≡ rows.with_own_body body state.old }
 {
+    state.name = body.name;
+    state.line = body.line;
     state.options = body.options;
     state.transitions = body.transitions;
     state.gotos = body.gotos;

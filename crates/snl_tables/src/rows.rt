@@ -123,10 +123,13 @@ pub struct StateRow {
     pub wake: Items<WakeUp>,
 }
 
-/// What the body of a state says: its options, where its transitions lead and which states
-/// statements name, as its row has them. That of a faulty state says nothing.
+/// What the tokens of a state say, as its row has it: its name, its line, its options, where its
+/// transitions lead and which states statements name. A faulty state says its name and its line.
 #[derive(Drop)]
 pub struct StateBody {
+    pub name: Span,
+    /// That of the item's first token.
+    pub line: Line,
     pub options: Items<OptionRow>,
     pub transitions: Rows<Destination>,
     pub gotos: Rows<NamedState>,

@@ -4,13 +4,13 @@
 ghost use Rattle.std.specs.Prelude.{◌≡◌, ◌<◌, ◌≤◌, ◌&&◌, ℕ, IfOk, false, length, nat_eq, nat_lt, option_copied, position, None};
 ghost use Rattle.std.specs.List.Sorted.{IsStrictlyIncreasing};
 ghost use Rattle.std.specs.Option.{option_map_or};
-ghost use Rattle.snl_scope.specs.Linked.{state_of};
+ghost use Rattle.snl_scope.specs.Linked.{is_first_state, name_of_state, state_of};
 ghost use Rattle.snl_scope.specs.Order.{is_state_word, state_name};
 ghost use Rattle.snl_scope.specs.Places.{stands_in};
 ghost use Rattle.snl_scope.specs.Summaries.{opening_by_word, outline_in};
 ghost use Rattle.snl_walk.specs.Tokens.{IsSource};
 ghost use Rattle.snl_check.specs.Collected.{IsLinked, IsStateSource, items_in, over};
-ghost use Rattle.snl_check.specs.Members.{has_faulty, is_faulty_item, is_first_state, name_of_state, number_among, states_in, target_numbers, targets_among};
+ghost use Rattle.snl_check.specs.Members.{has_faulty, is_faulty_item, number_among, states_in, target_numbers, targets_among};
 ghost use Rattle.snl_check.specs.Reach.{target_lists};
 
 use crate::rows::room::with_room;

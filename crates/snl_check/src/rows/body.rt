@@ -1,24 +1,25 @@
-//! The body of the row of a state: the tokens and the tree of the state and the links come in, its
-//! options, where its transitions lead and which states its statements name go out. It knows no
+//! The body of the row of a state: its tokens, its tree, its line and the links come in, its name,
+//! its options, where its transitions lead and which states its statements name go out. It knows no
 //! other items.
 
-ghost use Rattle.std.specs.Prelude.{◌≡◌, IfOk, map, option_copied};
+ghost use Rattle.std.specs.Prelude.{◌≡◌, IfOk, map, option_copied, slice_get};
 ghost use Rattle.std.specs.List.{flat_map};
+ghost use Rattle.snl_lex.specs.Lines.{line_at};
 ghost use Rattle.snl_walk.specs.Tokens.{IsSource};
+ghost use Rattle.snl_check.specs.ItemSpans as spans;
 ghost use Rattle.snl_check.specs.States as states;
 ghost use Rattle.snl_item_check.specs.Told.{told_in_item};
 
 use crate::rows::option_rows::state_options;
 use crate::rows::text_items::span_of;
 use snl_cut::OutOfMemory;
-use snl_lex::Piece;
+use snl_lex::Line;
 use snl_scope::Links;
 use snl_syntax::tree::item::Item;
 use snl_syntax::tree::state::{StateMember, Target};
 use snl_tables::{Destination, NamedState, Rows, StateBody};
 use snl_walk::{Source, TargetUse};
 use sqlite_items::Items;
-use std::alloc::Global;
 
 // A state that an item names at a token.
 fn named_state(source: &Source, links: &Links, item: usize, token: usize) -> NamedState
@@ -98,33 +99,31 @@ fn members_in<'a>(tree: Option<&'a Item>) -> &'a [StateMember]
 
 /// The body of the row of the state that consists of these tokens, of which each lies in the text,
 /// and has this number among the linked items. A faulty state has no tree. `targets` are the names
-/// of states that its check told.
+/// of states that its check told, and `line` is that of its first token.
 pub fn state_body(
-    alloc: Global,
-    text: &[u8],
-    tokens: &[Piece],
+    source: &Source,
     tree: Option<&Item>,
     links: &Links,
     item: usize,
     targets: &[TargetUse],
+    line: Line,
 ) -> Result<StateBody, OutOfMemory>
-    requires source { IsSource text.now tokens.now }
+    requires source { IsSource source.now.text.now source.now.tokens.now }
     requires targets { targets.now
-        ≡ (told_in_item text.now
-        (record { tokens = tokens.now; tree = option_copied tree })).target_uses }
+        ≡ (told_in_item source.now.text.now
+        (record { tokens = source.now.tokens.now; tree = option_copied tree })).target_uses }
+    requires line { line
+        ≡ line_at source.now.text.now (spans.span_of (slice_get source.now.tokens.now 0)).start }
     ensures body { IfOk result (λ body. body
-        ≡ states.state_body text.now links.now.outlines item
-        (record { tokens = tokens.now; tree = option_copied tree.entry })) }
+        ≡ states.state_body source.now.text.now links.now.outlines item
+        (record { tokens = source.now.tokens.now; tree = option_copied tree.entry })) }
 {
-    let source = Source {
-        text,
-        tokens,
-        alloc,
-    };
     let members = members_in(tree);
     Ok(StateBody {
-        options: Items::from_vec(state_options(&source, members)?),
-        transitions: Rows::from_vec(destinations(&source, links, item, members)?),
-        gotos: Rows::from_vec(gotos(&source, links, item, targets)?),
+        name: span_of(source.tokens.get(1)),
+        line,
+        options: Items::from_vec(state_options(source, members)?),
+        transitions: Rows::from_vec(destinations(source, links, item, members)?),
+        gotos: Rows::from_vec(gotos(source, links, item, targets)?),
     })
 }

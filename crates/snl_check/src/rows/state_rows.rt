@@ -69,13 +69,12 @@ fn body_at(state_source: &StateSource, item: usize) -> Result<StateBody, OutOfMe
 {
     let program = &state_source.row_source.program;
     state_body(
-        program.alloc,
-        program.text,
-        program.own(item),
+        &program.source(item),
         program.tree(item),
         state_source.row_source.links,
         item,
         state_source.target_uses(item),
+        state_source.line(item),
     )
 }
 
@@ -91,8 +90,8 @@ fn state_row(
 {
     let body = body_at(state_source, item)?;
     Ok(StateRow {
-        name: state_source.row_source.item_name(item),
-        line: state_source.line(item),
+        name: body.name,
+        line: body.line,
         mark,
         options: body.options,
         transitions: body.transitions,

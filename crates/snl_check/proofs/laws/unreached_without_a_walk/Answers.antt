@@ -2,7 +2,8 @@ use Rattle.std.proofs.Common.{◌≡◌, ◌<◌, ◌↔◌, ℕ, Bool, true, fa
 use Rattle.std.proofs.lemmas.List.{length-map}
 use Rattle.snl_scope.specs.declared.summaries.summary.Outline.{Outline}
 use Rattle.snl_item_check.specs.Items.{ProgramItem}
-use Rattle.snl_check.specs.Members.{has_faulty, is_faulty_item, is_first_state, states_in, target_numbers, targets_among}
+use Rattle.snl_scope.specs.Linked.{is_first_state}
+use Rattle.snl_check.specs.Members.{has_faulty, is_faulty_item, states_in, target_numbers, targets_among}
 use Rattle.snl_check.specs.Reach.{IsReached}
 use Rattle.snl_check.specs.States.{is_reached_in, is_repeated, mark_of}
 use Rattle.snl_check.specs.Unreached.{IsUnreached}

@@ -6,13 +6,12 @@ ghost use Rattle.std.specs.Prelude.{◌≡◌, ◌↔◌, ◌<◌, [], All, IfOk
 ghost use Rattle.snl_lex.specs.Pieces.{LiesIn};
 ghost use Rattle.snl_scope.specs.Linked.{faults_of};
 ghost use Rattle.snl_scope.specs.Clauses.{is_event_flag};
-ghost use Rattle.snl_check.specs.Shifted.{has_own_row};
+ghost use Rattle.snl_scope.specs.Names.{has_own_scope};
 ghost use Rattle.snl_check.specs.ShiftedAround.{is_plain};
 ghost use Rattle.snl_kept.specs.ItemPlan.{AreAlike};
 ghost use Rattle.snl_kept.specs.ReplacedItem.{FlagsInHead, SparesInside, TakesPlace};
 
 use crate::entries::Entry;
-use crate::ways::one_item::numbers::is_named_state;
 use crate::ways::one_item::replaced::OwnTokens;
 use snl_cut::OutOfMemory;
 use snl_item_check::{Checked, wakes_alike};
@@ -36,29 +35,34 @@ pub fn is_same_kind(one: ItemKind, other: ItemKind) -> bool
     one == other
 }
 
-// Whether an item is a state, or faulty where it begins as one.
-fn has_own_row(outline: &Outline) -> bool
-    ensures { result ≡ has_own_row outline.now }
+// Whether an item has a scope of its own.
+fn has_own_scope(role: Role) -> bool
+    ensures { result ≡ has_own_scope role }
 {
-    is_named_state(outline) || matches!(outline.role, Role::State)
+    matches!(role, Role::State)
 }
 
-// Whether a name that an item declares is no event flag, or among so many of its first tokens.
-fn is_placed(declared: &Declared, head: usize) -> bool
-    ensures { IsTrue result → is_event_flag declared.now.variable.symbol_kind ≡ true → declared.now.token < head }
+// Whether a name that an item declares is no event flag, or among so many of its first tokens, and
+// so is the item's own name, if it has a scope of its own.
+fn is_placed(declared: &Declared, own_scope: bool, head: usize) -> bool
+    ensures { IsTrue result → is_event_flag declared.now.variable.symbol_kind ≡ true
+        → (declared.now.token < head) × (own_scope ≡ true → 1 < head) }
 {
-    !matches!(declared.variable.symbol_kind, SymbolKind::EventFlag) || declared.token < head
+    !matches!(declared.variable.symbol_kind, SymbolKind::EventFlag)
+        || (declared.token < head && (head > 1 || !own_scope))
 }
 
-// Whether all event flags that an item declares are among so many of its first tokens.
+// Whether all event flags that an item declares are among so many of its first tokens, and so is
+// its name, if it has a scope of its own.
 fn flags_in_head(outline: &Outline, head: usize) -> bool
     ensures { IsTrue result → FlagsInHead head outline.now }
 {
+    let own_scope = has_own_scope(outline.role);
     outline
         .declares
         .as_slice()
         .iter()
-        .all(|declared| is_placed(declared, head))
+        .all(|declared| is_placed(declared, own_scope, head))
 }
 
 // Whether an item has clauses.
@@ -69,14 +73,13 @@ fn has_clauses(outline: &Outline) -> bool
 }
 
 /// Whether an item can take the place of one so that rows tell of it where they told of that one:
-/// both are plain and have no clauses, and what rows tell of is among so many of its first tokens.
+/// both are plain and have no clauses, and its event flags are among so many of its first tokens.
 pub fn takes_place(was: &Entry, is: &Entry, head: usize) -> bool
     ensures { IsTrue result → TakesPlace head was.now is.now }
 {
     let (was, is) = (&was.summary, &is.summary);
     is_plain(was.kind)
         && is_plain(is.kind)
-        && (head >= 2 || !has_own_row(&was.outline))
         && flags_in_head(&was.outline, head)
         && !has_clauses(&was.outline)
         && !has_clauses(&is.outline)

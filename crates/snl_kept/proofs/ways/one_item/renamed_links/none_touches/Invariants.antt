@@ -1,7 +1,7 @@
 use Rattle.std.proofs.Common.{◌≡◌, ◌≢◌, ◌<◌, ℕ, false, slice_get, Some}
 use Rattle.snl_scope.specs.Spoken.{touches}
 use Rattle.snl_kept.specs.declared.entries.Entry.{Entry}
-use Rattle.snl_kept.proofs.ways.one_item.renamed.none_touches.Given as goal
+use Rattle.snl_kept.proofs.ways.one_item.renamed_links.none_touches.Given as goal
 
 -- none of the entries so far
 abbrev pub invariant-loop-number : goal.invariant-loop-number
