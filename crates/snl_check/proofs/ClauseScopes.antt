@@ -1,7 +1,7 @@
 -- In which scopes the variables of clauses are: a clause means what the scopes around its item
 -- declare, and what that item declares in its own. So no clause of another item speaks of what a
 -- state declares.
-use Rattle.std.proofs.Common.{◌≡◌, ◌⊎◌, ℕ, zero, suc, Bool, true, false, cond, List, [], ◌∷◌, ◌++◌, map, length, slice_get, position, Option, Some, None, IfSome, inl, inr, refl, sym, subst, ap, ◌∙◌}
+use Rattle.std.proofs.Common.{◌≡◌, ◌⊎◌, ℕ, zero, suc, Bool, true, false, cond, List, [], ◌∷◌, map, length, slice_get, position, Option, Some, None, IfSome, inl, inr, refl, sym, subst, ap, ◌∙◌}
 use Rattle.std.specs.List.{AllByRecursion, zip}
 use Rattle.std.specs.Option.{option_and_then, option_map, option_map_or, option_or}
 use Rattle.std.proofs.lemmas.Bool.{eqb-true, false≢true}

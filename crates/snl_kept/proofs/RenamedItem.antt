@@ -11,7 +11,9 @@ use Rattle.snl_lex.specs.PieceList.{spelled}
 use Rattle.snl_syntax.specs.Outcome.{parsed_by, parsed_in, sound_tree}
 use Rattle.snl_syntax.specs.declared.tree.item.Item.{Item}
 use Rattle.snl_items.specs.Items.{spelled_items}
-use Rattle.snl_scope.specs.Renamed.{ClausesAlike, DeclaresAnew, MeanAlike, NamesAnew, state_names}
+use Rattle.snl_scope.specs.declared.renamed.Renaming.{Renaming}
+use Rattle.snl_scope.specs.declared.renamed.Renaming.TheVariants as renamings
+use Rattle.snl_scope.specs.Renamed.{AreNames, ClausesAlike, DeclaresAnew, IsRenamed, MeanAlike, NamesAnew, state_names}
 use Rattle.snl_scope.specs.SpelledTokens.{bytes_by, summary_by}
 use Rattle.snl_scope.specs.Spoken.{AreEditedNames, KeepsViews, KeepsViewsBut, is_among, meets, spoken_by, touches}
 use Rattle.snl_scope.specs.Summaries.{summary_in}
@@ -23,15 +25,13 @@ use Rattle.snl_item_check.specs.Items.{summary_of_item}
 use Rattle.snl_check.specs.Tables.{tables_by}
 use Rattle.snl_kept.specs.declared.entries.Entry.{Entry}
 use Rattle.snl_kept.specs.declared.plan.Changes.{Changes}
-use Rattle.snl_kept.specs.declared.ways.one_item.renamed_links.Renaming.{Renaming}
-use Rattle.snl_kept.specs.declared.ways.one_item.renamed_links.Renaming.TheVariants as renamings
 use Rattle.snl_kept.specs.declared.ways.one_item.replaced.OldItem.{OldItem}
 use Rattle.snl_kept.specs.Checks.{outlines_in}
 use Rattle.snl_kept.specs.Entries.{entries_of, entry_by}
 use Rattle.snl_kept.specs.ItemPlan.{IsOneItem, IsWas, outlines_kept}
 use Rattle.snl_kept.specs.Planned.{AreEntriesMade}
 use Rattle.snl_kept.specs.Program.{ProgramItem, item_tokens, items_of, program_item, tree_in}
-use Rattle.snl_kept.specs.RenamedItem.{AreNames, AreUntouched, IsRenamed}
+use Rattle.snl_kept.specs.RenamedItem.{AreUntouched}
 use Rattle.snl_kept.specs.ReplacedItem.{SeesAlike}
 use Rattle.snl_kept.proofs.InsideMade.{kept_outlines}
 use Rattle.snl_kept.proofs.InsideTold.{summary_is}
@@ -43,6 +43,10 @@ map_set : {X Y : Type 0} (f : X → Y) (xs : List X) (k : ℕ) (x : X) → map f
 map_set f [] k x = refl
 map_set f (y ∷ ys) zero x = refl
 map_set {Y = Y} f (y ∷ ys) (suc k) x = ap (λ (l : List Y). f y ∷ l) (map_set f ys k x)
+
+-- What is told of each item, where one is put in the place of one.
+pub put_in : {X Y : Type 0} (f : X → Y) (xs ys : List X) (k : ℕ) (x : X) → ys ≡ slice_set xs k x → k < length xs → map f ys ≡ take k (map f xs) ++ (f x ∷ drop (k + 1) (map f xs))
+put_in f xs ys k x is there = ap (map f) is ∙ map_set f xs k x ∙ replaced_parts (map f xs) k (f x) (omega (arith, there, length-map xs f))
 
 module _ (tree_told : (text : List ℕ) (tokens : List Piece) → sound_tree (parsed_in text tokens) ≡ tree_in text tokens)
     (by_spelling : (text : List ℕ) (tokens : List Piece) → parsed_in text tokens ≡ parsed_by (spelled text tokens))
@@ -86,9 +90,7 @@ module _ (tree_told : (text : List ℕ) (tokens : List Piece) → sound_tree (pa
   are : outlines_in text ≡ take k kept ++ (outline e ∷ drop (k + 1) kept)
   are =
       sym (kept_outlines tree_told by_spelling summary_told bytes_told text)
-      ∙ ap outlines_kept entries_are
-      ∙ map_set outline (entries_of old) k e
-      ∙ replaced_parts kept k (outline e) (omega (arith, there, length-map (entries_of old) outline))
+      ∙ put_in outline (entries_of old) (entries_of text) k e entries_are there
 
   -- the place of the item among them
   counted : length (take k kept) ≡ k

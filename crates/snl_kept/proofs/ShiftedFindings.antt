@@ -64,7 +64,7 @@ module _ (s : Shift) where
     states_shift (row ∷ rows) =
         ap₂ (λ (x y : List Finding). x ++ y) (state_shifts row) (states_shift rows) ∙ sym (map-append (shifted_finding s) (found_at_state row) (flat_map found_at_state rows))
 
-    pub sets_shift : (rows : List SetRow) → flat_map found_in_set (map (moved_set s line) rows) ≡ map (shifted_finding s) (flat_map found_in_set rows)
+    sets_shift : (rows : List SetRow) → flat_map found_in_set (map (moved_set s line) rows) ≡ map (shifted_finding s) (flat_map found_in_set rows)
     sets_shift [] = refl
     sets_shift (row ∷ rows) =
         ap₂ (λ (x y : List Finding). x ++ y) (states_shift row.states) (sets_shift rows) ∙ sym (map-append (shifted_finding s) (found_in_set row) (flat_map found_in_set rows))

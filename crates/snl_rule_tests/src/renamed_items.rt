@@ -4,7 +4,7 @@
 
 use crate::reading::summaries;
 use snl_reading::links_of;
-use snl_scope::{Summary, declares_anew, names_anew};
+use snl_scope::{EditedNames, Renaming, Summary, link_renamed, renaming_of};
 use std::alloc::Global;
 use std::process::Abort;
 use std::test::Fail;
@@ -18,13 +18,27 @@ struct Row {
     wanted: u8,
 }
 
-static ROWS: [Row; 8] = [
+static ROWS: [Row; 10] = [
     // A variable of the program gets another name.
     Row {
         old: b"program p int v; int u; ss s { state i { when (v) { } state i } }",
         new: b"program p int v; int us; ss s { state i { when (v) { } state i } }",
         item: 2,
         wanted: b'd',
+    },
+    // A clause is on it.
+    Row {
+        old: b"program p int v; assign v to \"x\"; ss s { state i { } }",
+        new: b"program p int vs; assign v to \"x\"; ss s { state i { } }",
+        item: 1,
+        wanted: b'-',
+    },
+    // A clause has it as its flag.
+    Row {
+        old: b"program p int v; int u; assign v to \"x\"; sync v u; ss s { state i { } }",
+        new: b"program p int v; int us; assign v to \"x\"; sync v u; ss s { state i { } }",
+        item: 2,
+        wanted: b'-',
     },
     // An event flag doesn't.
     Row {
@@ -82,16 +96,20 @@ fn told(alloc: Global, old: &[Summary], new: &[Summary], item: usize) -> Result<
     let (Some(was), Some(is)) = (old.get(item), new.get(item)) else {
         return Ok(b'?');
     };
-    if declares_anew(&was.outline, &is.outline) {
-        return Ok(b'd');
-    }
+    let Some(renaming) = renaming_of(&was.outline, &is.outline) else {
+        return Ok(b'-');
+    };
+    let names = EditedNames::of_renaming(alloc, &was.outline, &is.outline, renaming)?;
+    let Some(names) = names else {
+        return Ok(b'-');
+    };
     let before = links_of(alloc, old)?;
-    let after = links_of(alloc, new)?;
-    if names_anew(&before, &after, item, &was.outline, &is.outline) {
-        Ok(b's')
-    } else {
-        Ok(b'-')
-    }
+    let after = link_renamed(alloc, &before, item, &was.outline, is, renaming, &names)?;
+    Ok(match (after, renaming) {
+        (None, _) => b'-',
+        (Some(_), Renaming::Declared) => b'd',
+        (Some(_), Renaming::State) => b's',
+    })
 }
 
 fn expect_row(rt: &impl Abort, alloc: Global, row: &Row) -> Result<(), Fail> {

@@ -44,5 +44,9 @@ pub mod SameMeanings
 pub mod OneReplaced
 pub mod NewNames
 pub mod NewStateNames
+pub mod StayingClauses
+pub mod ClausesOn
+pub mod StayingOrder
 pub mod NewStateViews
 pub mod AlikeClauses
+pub mod FoundAlike

@@ -93,12 +93,13 @@ module _ (old new : Outline) (anew : DeclaresAnew old new) where
   others namespace.Sets name silent = undeclared namespace.Sets name silent
   others (namespace.States k) name silent = no_state_named k name
 
-  say_alike : SayAlike old new (both_spoken old new) []
+  pub say_alike : SayAlike old new (both_spoken old new) []
   say_alike = record {
     role = anew.is.role ∙ sym anew.was.role;
     named = ap is_some no_names;
     items = λ p i. by_unnamed (λ e. e.item) p i (λ u. i) (λ d. refl);
     declarations = λ p i. by_unnamed entry_declaration p i (λ u. option_map (λ s. variable_declaration i u.token s u.variable) (scope_in (scope_at p))) (λ d. refl);
+    variables = λ p i. by_unnamed (λ e. e.variable) p i (λ u. Some u.variable) (λ d. refl);
     others = others;
   }
 

@@ -191,6 +191,7 @@ module _ (old new : Outline) (renames : RenamesState old new) (a b : List ℕ) (
     named = ap is_some name_is ∙ sym (ap is_some name_was);
     items = λ p i. by_entry (λ e. e.item) p i (λ k h. refl);
     declarations = λ p i. by_entry entry_declaration p i (λ k h. refl);
+    variables = λ p i. by_entry (λ e. e.variable) p i (λ k h. refl);
     others = others;
   }
 

@@ -1,15 +1,14 @@
 -- What the others see of a state by another name: no name of a declaration means something else, so
 -- all clauses say what they said, and an item that leads to neither name sees what it saw.
-use Rattle.std.proofs.Common.{◌≡◌, ℕ, zero, suc, Bool, false, if◌then◌else◌, List, [], ◌∷◌, ◌++◌, length, map, nat_lt, Option, None, Some, is_some, slice_get, refl, sym, ap, ap₂, ◌∙◌}
+use Rattle.std.proofs.Common.{◌≡◌, ℕ, Bool, false, if◌then◌else◌, List, [], ◌∷◌, ◌++◌, length, map, nat_lt, Option, None, Some, is_some, slice_get, refl, sym, ap, ap₂, ◌∙◌}
 use Rattle.std.specs.List.{list_any}
-use Rattle.std.specs.Option.{option_and_then, option_map, option_map_or}
+use Rattle.std.specs.Option.{option_and_then, option_map}
 use Rattle.std.proofs.lemmas.Bool.{or_parts}
 use Rattle.std.proofs.lemmas.Option.{option_and_then_some}
 use Rattle.snl_scope.specs.declared.facts.Fact.{Fact}
 use Rattle.snl_scope.specs.declared.summaries.summary.NameRef.{NameRef}
 use Rattle.snl_scope.specs.declared.summaries.summary.Outline.{Outline}
-use Rattle.snl_scope.specs.declared.summaries.summary.VariableClause.{VariableClause}
-use Rattle.snl_scope.specs.Clauses.{LinkedClause, assigned_by, clauses_before, clauses_of, linked_clause, resolve_in}
+use Rattle.snl_scope.specs.Clauses.{LinkedClause, assigned_by, clauses_of}
 use Rattle.snl_scope.specs.Linked.{entry_fact, fact_at, fact_of, has_target, state_of}
 use Rattle.snl_scope.specs.Names.{Entry, entries, resolve}
 use Rattle.snl_scope.specs.Places.{enclosing_set}
@@ -17,7 +16,8 @@ use Rattle.snl_scope.specs.Renamed.{MeanAlike, NamesAnew, RenamesState, state_na
 use Rattle.snl_scope.specs.Spoken.{KeepsViewsBut, is_among}
 use Rattle.snl_scope.specs.View.{View}
 use Rattle.snl_scope.proofs.NewStateNames.{by_entry, renamed_alike, say_alike}
-use Rattle.snl_scope.proofs.OneReplaced.{SayAlike, around_alike, at_each, at_number}
+use Rattle.snl_scope.proofs.OneReplaced.{SayAlike, around_alike, at_number}
+use Rattle.snl_scope.proofs.StayingClauses.{clauses_stay, none_is_on}
 
 mapped : {X Y : Type 0} (f g : X → Y) → ((x : X) → f x ≡ g x) → (xs : List X) → map f xs ≡ map g xs
 mapped f g same [] = refl
@@ -45,29 +45,8 @@ module _ (before : List Outline) (old new : Outline) (after : List Outline) (ren
   alike = say_alike old new renames a b was is
 
   module _ (means : MeanAlike ss ts [] names) where
-    -- ---- clauses
-
-    linked_same : (n : ℕ) (c : VariableClause) → linked_clause ts n c ≡ linked_clause ss n c
-    linked_same n c =
-        let linked : Option ℕ → Option ℕ → LinkedClause = λ variable flag. record { item = n; clause = c; variable = variable; flag = flag } in
-        ap₂ linked (means.resolved n c.variable.name refl) (then_same (λ (m : NameRef). resolve_in ts n m.name) (λ (m : NameRef). resolve_in ss n m.name) (λ m. means.resolved n m.name refl) c.flag)
-
-    clauses_at : (n : ℕ) → option_map_or (λ s. map (linked_clause ts n) s.clauses) (slice_get ts n) [] ≡ option_map_or (λ s. map (linked_clause ss n) s.clauses) (slice_get ss n) []
-    clauses_at n =
-        relinked (slice_get ts n)
-        ∙ at_each before old new after [] names alike (λ (o : Option Outline). option_map_or (λ s. map (linked_clause ss n) s.clauses) o []) n
-        (λ here. ap (map (linked_clause ss n)) (renames.is_clauses ∙ sym renames.was_clauses))
-      where
-        relinked : (o : Option Outline) → option_map_or (λ s. map (linked_clause ts n) s.clauses) o [] ≡ option_map_or (λ s. map (linked_clause ss n) s.clauses) o []
-        relinked None = refl
-        relinked (Some s) = mapped (linked_clause ts n) (linked_clause ss n) (linked_same n) s.clauses
-
-    before_same : (n : ℕ) → clauses_before ts n ≡ clauses_before ss n
-    before_same zero = refl
-    before_same (suc n) = ap₂ (λ (x y : List LinkedClause). x ++ y) (before_same n) (clauses_at n)
-
     clauses_same : clauses_of ts ≡ clauses_of ss
-    clauses_same = before_same (length ts) ∙ ap (clauses_before ss) means.count
+    clauses_same = clauses_stay before old new after [] names alike renames.was_clauses renames.is_clauses means (none_is_on ss)
 
     -- ---- what is known of a name
 

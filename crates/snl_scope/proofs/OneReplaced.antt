@@ -85,6 +85,7 @@ pub record SayAlike (old new : Outline) (used led_to : List (List ℕ)) : Type 0
   pub named : is_some (state_name new) ≡ is_some (state_name old)
   pub items : (p : Option ℕ) (i : ℕ) → map (λ e. e.item) (entries_at p i new) ≡ map (λ e. e.item) (entries_at p i old)
   pub declarations : (p : Option ℕ) (i : ℕ) → map entry_declaration (entries_at p i new) ≡ map entry_declaration (entries_at p i old)
+  pub variables : (p : Option ℕ) (i : ℕ) → map (λ e. e.variable) (entries_at p i new) ≡ map (λ e. e.variable) (entries_at p i old)
   pub others : (s : Namespace) (name : List ℕ) → is_among (names_in used led_to s) name ≡ false → (p : Option ℕ) (i : ℕ) → map (has_name s name) (entries_at p i new) ≡ map (has_name s name) (entries_at p i old)
 
 module _ (before : List Outline) (old new : Outline) (after : List Outline) (used led_to : List (List ℕ)) (alike : SayAlike old new used led_to) where

@@ -17,6 +17,7 @@ pub mod Spoken
 pub mod OutlineList
 pub mod NameTables
 pub mod Resolved
+pub mod Said
 pub mod Summaries
 pub mod Once
 pub mod FaultPlaces

@@ -6,10 +6,11 @@ ghost use Rattle.std.specs.Prelude.{◌≡◌, ◌++◌, false, IfOk, IfSome, Is
 ghost use Rattle.std.specs.List.{list_any};
 ghost use Rattle.snl_scope.specs.Linked.{fact_of, has_target};
 ghost use Rattle.snl_scope.specs.Places.{enclosing_set};
-ghost use Rattle.snl_scope.specs.Renamed.{state_names};
+ghost use Rattle.snl_scope.specs.Renamed.{AreNames, state_names};
 ghost use Rattle.snl_scope.specs.Spoken.{AreEditedNames, KeepsViews, bound, bounds, is_among, spoken, spoken_by, touches};
 ghost use Rattle.snl_scope.specs.declared.summaries.summary.Outline.{Outline};
 
+use crate::renamed::Renaming;
 use crate::summaries::name::Name;
 use crate::summaries::summary::{Declared, NameRef, Outline, Role, Summary, VariableClause};
 use snl_cut::OutOfMemory;
@@ -148,8 +149,8 @@ impl<'a> EditedNames<'a> {
         Ok(Some(EditedNames { names }))
     }
 
-    /// The names of a state before an edit and after it.
-    pub fn of_state(
+    // The names of a state before an edit and after it.
+    fn of_state(
         alloc: Global,
         was: &'a Outline,
         is: &'a Outline,
@@ -160,6 +161,31 @@ impl<'a> EditedNames<'a> {
         add_second(was, &mut names)?;
         add_second(is, &mut names)?;
         Ok(EditedNames { names })
+    }
+
+    /// The names by which an item says what the one before it said by other names, if they are few.
+    pub fn of_renaming(
+        alloc: Global,
+        was: &'a Outline,
+        is: &'a Outline,
+        renaming: Renaming,
+    ) -> Result<Option<EditedNames<'a>>, OutOfMemory>
+        ensures { IfOk result (λ o. IfSome o (AreNames was.now is.now renaming)) }
+    {
+        match renaming {
+            Renaming::Declared => EditedNames::of(alloc, &[was], &[is]),
+            Renaming::State => {
+                let names = EditedNames::of_state(alloc, was, is)?;
+                Ok(Some(names))
+            }
+        }
+    }
+
+    /// Whether a name is among them.
+    pub(crate) fn have(&self, name: &[u8]) -> bool
+        ensures { result ≡ is_among self.now name.now }
+    {
+        is_among(&self.names, name)
     }
 
     fn has_some_of(&self, uses: &[Name]) -> bool

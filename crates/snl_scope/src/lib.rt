@@ -15,6 +15,7 @@ mod links;
 mod names;
 mod outlines;
 mod renamed;
+mod renamed_links;
 mod same_views;
 mod summaries;
 mod view;
@@ -29,9 +30,8 @@ pub use laws::spelling_laws::same_spelling_same_summary;
 pub use laws::summary_laws::{names_kept_once, plain_state_outline};
 pub use laws::token_laws::{names_are_tokens, targets_rise};
 pub use links::{Links, link, link_after};
-pub use renamed::{
-    clauses_alike, declared_anew, declares_anew, named_anew, names_anew, renames_state,
-};
+pub use renamed::{Renaming, declared_anew, named_anew, renaming_of};
+pub use renamed_links::link_renamed;
 pub use same_views::{Moved, SameViews};
 pub use snl_walk::Source;
 pub use summaries::name::Name;

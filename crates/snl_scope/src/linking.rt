@@ -1,12 +1,9 @@
 //! What links are made of that goes by the outlines alone: names first, then clauses.
 
 ghost use Rattle.std.specs.Prelude.{◌≡◌, [], IfOk};
-ghost use Rattle.std.specs.List.{zip};
-ghost use Rattle.snl_scope.specs.Claims.{Claimed};
-ghost use Rattle.snl_scope.specs.Clauses.{clause_faults, clause_links, clauses_of, soundness};
 ghost use Rattle.snl_scope.specs.Flags.{flags_of};
 ghost use Rattle.snl_scope.specs.Names.{entries, repetitions};
-ghost use Rattle.snl_scope.specs.Resolved.{Assigns};
+ghost use Rattle.snl_scope.specs.Said.{TellsClauses};
 
 use crate::clauses::assigned::assigned_in;
 use crate::clauses::clause_index::ClauseIndex;
@@ -68,11 +65,7 @@ pub(crate) fn linked_names(alloc: Global, outlines: OutlineList) -> Result<Linke
 
 /// What the clauses of all items say.
 pub(crate) fn linked_clauses(alloc: Global, scopes: &Scopes) -> Result<LinkedClauses, OutOfMemory>
-    ensures clauses { IfOk result (λ made. made.clauses.items ≡ clause_links scopes.now) }
-    ensures claims { IfOk result
-        (λ made. Claimed made.claims (zip (clauses_of scopes.now) (soundness scopes.now))) }
-    ensures assigned { IfOk result (λ made. Assigns made.assigned.items (clauses_of scopes.now)) }
-    ensures found { IfOk result (λ made. made.faults.items ≡ clause_faults scopes.now) }
+    ensures { IfOk result (λ made. TellsClauses made scopes.now) }
 {
     let resolved = resolved_clauses(alloc, scopes)?;
     let assigned = assigned_in(alloc, &resolved)?;

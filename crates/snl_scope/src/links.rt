@@ -2,18 +2,16 @@
 //! All but the findings goes by the outlines alone, so links stay where no outline changes; other
 //! kinds can be put in place.
 
+ghost use Rattle.std.specs.Arc.{arc_value};
 ghost use Rattle.std.specs.Prelude.{◌≡◌, ◌≤◌, ◌++◌, [], drop, length, map, take, IfOk, option_and_then, option_map};
-ghost use Rattle.std.specs.List.{zip};
-ghost use Rattle.snl_scope.specs.Claims.{Claimed};
-ghost use Rattle.snl_scope.specs.Clauses.{clause_faults, clause_links, clauses_of, soundness};
 ghost use Rattle.snl_scope.specs.Flags.{flags_of};
 ghost use Rattle.snl_scope.specs.Linked.{name_kind_of, entry_fact, faults_of, level_of, scope_in, variable_declaration, variable_fact};
 ghost use Rattle.snl_scope.specs.LinkedItems.{linked_items};
 ghost use Rattle.snl_scope.specs.Names.{entries, repetitions};
-ghost use Rattle.snl_scope.specs.Resolved.{Assigns};
+ghost use Rattle.snl_scope.specs.Said.{TellsClauses};
 
 use crate::by_number::at_number;
-use crate::clauses::clause_index::{ClauseIndex, Purpose};
+use crate::clauses::clause_index::Purpose;
 use crate::clauses::flags::flag_number;
 use crate::facts::{Assigned, ClauseLink, Declaration, Fact, Level, LinkFault, NameKind, Scope};
 use crate::findings::all_faults;
@@ -27,20 +25,19 @@ use crate::summaries::summary::{ItemKind, Summary, SymbolKind};
 use snl_cut::OutOfMemory;
 use std::alloc::Global;
 use std::marker::Model;
+use std::sync::Arc;
 
 /// What names mean among the items of a text, which contracts see as their outlines and kinds.
 /// Links of the same outlines and kinds are the same value, and give the same answers.
 pub struct Links {
     pub(crate) scopes: Scopes,
-    kinds: Vec<ItemKind>,
-    clauses: Vec<ClauseLink>,
-    claims: ClauseIndex,
-    assigned: Vec<Option<Assigned>>,
-    flags: Vec<usize>,
+    pub(crate) kinds: Vec<ItemKind>,
+    /// What clauses say, which links after an edit may share.
+    pub(crate) said: Arc<LinkedClauses, Global>,
+    pub(crate) flags: Vec<usize>,
     /// The names that came again, those of faulty states among them.
-    repeated: Vec<LinkFault>,
-    at_clauses: Vec<LinkFault>,
-    faults: Vec<LinkFault>,
+    pub(crate) repeated: Vec<LinkFault>,
+    pub(crate) faults: Vec<LinkFault>,
 }
 
 // By hand, so that whoever holds links need not know what is in them to let them go.
@@ -49,39 +46,31 @@ impl Drop for Links {
         let Links {
             scopes: _,
             kinds: _,
-            clauses: _,
-            claims: _,
-            assigned: _,
+            said: _,
             flags: _,
             repeated: _,
-            at_clauses: _,
             faults: _,
         } = self;
     }
 }
 
 impl Model for Links {
-    ghost use Rattle.std.specs.Prelude.{◌≡◌, [], length};
-    ghost use Rattle.std.specs.List.{zip};
+    ghost use Rattle.std.specs.Arc.{arc_value};
+    ghost use Rattle.std.specs.Prelude.{◌≡◌, []};
     ghost use Rattle.snl_scope.specs.LinkedItems.{LinkedItems};
-    ghost use Rattle.snl_scope.specs.Claims.{Claimed};
-    ghost use Rattle.snl_scope.specs.Clauses.{clause_faults, clause_links, clauses_of, soundness};
     ghost use Rattle.snl_scope.specs.Flags.{flags_of};
     ghost use Rattle.snl_scope.specs.Linked.{faults_of};
     ghost use Rattle.snl_scope.specs.Names.{entries, repetitions};
-    ghost use Rattle.snl_scope.specs.Resolved.{Assigns};
+    ghost use Rattle.snl_scope.specs.Said.{TellsClauses};
 
     ghost Value = { LinkedItems };
 
     ghost view = { λ a. record { outlines = a.scopes; kinds = a.kinds.items } };
 
-    ghost invariant = { λ a. (a.clauses.items ≡ clause_links a.scopes)
-        × Assigns a.assigned.items (clauses_of a.scopes)
+    ghost invariant = { λ a. TellsClauses (arc_value a.said) a.scopes
         × (a.flags.items ≡ flags_of a.scopes)
         × (a.faults.items ≡ faults_of (record { outlines = a.scopes; kinds = a.kinds.items }))
-        × Claimed a.claims (zip (clauses_of a.scopes) (soundness a.scopes))
-        × (a.repeated.items ≡ repetitions [] (entries a.scopes))
-        × (a.at_clauses.items ≡ clause_faults a.scopes) };
+        × (a.repeated.items ≡ repetitions [] (entries a.scopes)) };
 }
 
 impl Links {
@@ -123,11 +112,18 @@ impl Links {
         self.scopes.is_named_state(item)
     }
 
+    // What clauses say.
+    fn said(&self) -> &LinkedClauses
+        ensures { TellsClauses result.now self.now.outlines }
+    {
+        self.said.as_ref()
+    }
+
     // To what the declaration with a number is assigned.
     fn assigned_to(&self, number: usize) -> Assigned
         ensures { result ≡ assigned_by (clauses_of self.now.outlines) number }
     {
-        at_number(&self.assigned, number).unwrap_or(Assigned::Unassigned)
+        at_number(&self.said().assigned, number).unwrap_or(Assigned::Unassigned)
     }
 
     // What is known of the declaration with a number.
@@ -206,14 +202,14 @@ impl Links {
     pub fn state(&self, item: usize, name: &[u8]) -> Option<usize>
         ensures { result ≡ state_of self.now.outlines item name.now }
     {
-        self.scopes.state_in(self.enclosing_set(item)?, name)
+        self.scopes.state_of(item, name)
     }
 
     /// The clauses of all items, in the order of the text.
     pub fn clauses(&self) -> &[ClauseLink]
         ensures { result.now ≡ clause_links self.now.outlines }
     {
-        self.clauses.as_slice()
+        self.said().clauses.as_slice()
     }
 
     /// Whether a sound `monitor` speaks of a channel of the declaration with a number: that of an
@@ -221,7 +217,8 @@ impl Links {
     pub fn is_monitored(&self, variable: usize, element: Option<u64>) -> bool
         ensures { result ≡ is_monitored self.now.outlines variable element }
     {
-        self.claims
+        self.said()
+            .claims
             .first_clause(Purpose::Monitor, variable, element)
             .is_some()
     }
@@ -231,7 +228,9 @@ impl Links {
     pub fn sync_number(&self, variable: usize, element: Option<u64>) -> Option<usize>
         ensures { result ≡ sync_number self.now.outlines variable element }
     {
-        self.claims.first_clause(Purpose::Sync, variable, element)
+        self.said()
+            .claims
+            .first_clause(Purpose::Sync, variable, element)
     }
 
     /// Whether many of the names in the book are of no item any more, since items came and went.
@@ -264,7 +263,7 @@ impl Links {
             &self.scopes,
             kinds,
             self.repeated.as_slice(),
-            self.at_clauses.as_slice(),
+            self.said().faults.as_slice(),
         )
     }
 
@@ -341,19 +340,16 @@ fn declaration_of(symbol: Symbol) -> Option<Declaration>
     })
 }
 
-// Puts together what was found of the items.
-fn links_of(
+/// Puts together what was found of the items.
+pub(crate) fn links_of(
     kinds: Vec<ItemKind>,
     names: LinkedNames,
-    made: LinkedClauses,
+    said: Arc<LinkedClauses, Global>,
     faults: Vec<LinkFault>,
 ) -> Links
     requires flags { names.flags.items ≡ flags_of names.scopes }
     requires repeated { names.repeated.items ≡ repetitions [] (entries names.scopes) }
-    requires clauses { made.clauses.items ≡ clause_links names.scopes }
-    requires claims { Claimed made.claims (zip (clauses_of names.scopes) (soundness names.scopes)) }
-    requires assigned { Assigns made.assigned.items (clauses_of names.scopes) }
-    requires at_clauses { made.faults.items ≡ clause_faults names.scopes }
+    requires said { TellsClauses (arc_value said) names.scopes }
     requires faults { faults.items
         ≡ faults_of (record { outlines = names.scopes; kinds = kinds.items }) }
     ensures { result ≡ record { outlines = names.scopes; kinds = kinds.items } }
@@ -363,22 +359,26 @@ fn links_of(
         flags,
         repeated,
     } = names;
-    let LinkedClauses {
-        clauses,
-        claims,
-        assigned,
-        faults: at_clauses,
-    } = made;
     Links {
         scopes,
         kinds,
-        clauses,
-        claims,
-        assigned,
+        said,
         flags,
         repeated,
-        at_clauses,
         faults,
+    }
+}
+
+// What clauses say, in a place that links can share.
+fn in_shared_place(
+    alloc: Global,
+    said: LinkedClauses,
+) -> Result<Arc<LinkedClauses, Global>, OutOfMemory>
+    ensures { IfOk result (λ held. arc_value held ≡ said) }
+{
+    match Arc::new(alloc, said) {
+        Ok(held) => Ok(held),
+        Err(_) => Err(OutOfMemory),
     }
 }
 
@@ -387,22 +387,17 @@ fn clauses_and_faults(
     alloc: Global,
     kinds: &[ItemKind],
     names: &LinkedNames,
-) -> Result<(LinkedClauses, Vec<LinkFault>), OutOfMemory>
+) -> Result<(Arc<LinkedClauses, Global>, Vec<LinkFault>), OutOfMemory>
     requires repeated { names.now.repeated.items ≡ repetitions [] (entries names.now.scopes) }
     requires kinds { length kinds.now ≡ length names.now.scopes }
-    ensures clauses { IfOk result (λ made. made.0.clauses.items ≡ clause_links names.now.scopes) }
-    ensures claims { IfOk result (λ made. Claimed made.0.claims
-        (zip (clauses_of names.now.scopes) (soundness names.now.scopes))) }
-    ensures assigned { IfOk result
-        (λ made. Assigns made.0.assigned.items (clauses_of names.now.scopes)) }
-    ensures at_clauses { IfOk result
-        (λ made. made.0.faults.items ≡ clause_faults names.now.scopes) }
+    ensures said { IfOk result (λ made. TellsClauses (arc_value made.0) names.now.scopes) }
     ensures faults { IfOk result (λ made. made.1.items
         ≡ faults_of (record { outlines = names.now.scopes; kinds = kinds.now })) }
 {
-    let made = linked_clauses(alloc, &names.scopes)?;
-    let faults = all_faults(alloc, &names.scopes, kinds, &names.repeated, &made.faults)?;
-    Ok((made, faults))
+    let said = linked_clauses(alloc, &names.scopes)?;
+    let faults = all_faults(alloc, &names.scopes, kinds, &names.repeated, &said.faults)?;
+    let said = in_shared_place(alloc, said)?;
+    Ok((said, faults))
 }
 
 fn link_outlines(
@@ -415,8 +410,8 @@ fn link_outlines(
         (λ l. l ≡ record { outlines = outlines.outlines; kinds = kinds.items }) }
 {
     let names = linked_names(alloc, outlines)?;
-    let (made, faults) = clauses_and_faults(alloc, &kinds, &names)?;
-    Ok(links_of(kinds, names, made, faults))
+    let (said, faults) = clauses_and_faults(alloc, &kinds, &names)?;
+    Ok(links_of(kinds, names, said, faults))
 }
 
 /// What names mean among the items that these summaries tell of.

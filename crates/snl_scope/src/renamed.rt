@@ -1,20 +1,17 @@
 //! Whether an item declares by other names what the one before it declared, or is a state by
-//! another name, and whether the clauses of all say after an edit what they said: two outlines come
-//! in, or the links before and after. To an item that speaks of none of the names all means what it
-//! meant.
+//! another name: two outlines come in. To an item that speaks of none of the names all means what
+//! it meant.
 
-ghost use Rattle.std.specs.Prelude.{◌≡◌, ◌∷◌, ◌++◌, [], All, ℕ, IsTrue, List, false, length, map, true, option_and_then};
+ghost use Rattle.std.specs.Prelude.{◌≡◌, ◌∷◌, ◌++◌, [], All, ℕ, IfSome, IsTrue, List, false, length, map, true};
 ghost use Rattle.snl_scope.specs.Clauses.{is_event_flag};
-ghost use Rattle.snl_scope.specs.Linked.{name_of_state, state_of};
+ghost use Rattle.snl_scope.specs.Linked.{name_of_state};
 ghost use Rattle.snl_scope.specs.Order.{is_state_word};
-ghost use Rattle.snl_scope.specs.Renamed.{ClausesAlike, DeclaresAnew, IsPlain, MeanAlike, NamesAnew, RenamesState, state_names, unnamed};
+ghost use Rattle.snl_scope.specs.Renamed.{DeclaresAnew, IsPlain, MeanAlike, NamesAnew, Renames, RenamesState, state_names, unnamed};
 ghost use Rattle.snl_scope.specs.Spoken.{KeepsViewsBut, bound, spoken_by};
 ghost use Rattle.snl_scope.specs.declared.summaries.summary.Outline.{Outline};
 ghost use Rattle.snl_scope.specs.declared.summaries.summary.Role.TheVariants as roles;
 
-use crate::facts::ClauseLink;
-use crate::links::Links;
-use crate::summaries::same_outline::{SameValue, are_same};
+use crate::summaries::same_outline::are_same;
 use crate::summaries::summary::{Declared, Opening, Outline, Role, SymbolKind};
 
 // Whether an item bounds no state set, is no state, and has no clauses.
@@ -53,8 +50,8 @@ fn are_declared_anew(was: &[Declared], is: &[Declared]) -> bool
     true
 }
 
-/// Whether an item declares what the one before it declared, one by one, if by other names. Neither
-/// bounds a state set, is a state, or has clauses, and none of the names is that of an event flag.
+// Whether an item declares what the one before it declared, one by one, if by other names. Neither
+// bounds a state set, is a state, or has clauses, and none of the names is that of an event flag.
 pub fn declares_anew(was: &Outline, is: &Outline) -> bool
     ensures { IsTrue result → DeclaresAnew was.now is.now }
 {
@@ -78,9 +75,9 @@ fn bounds_no_set(role: Role) -> bool
     matches!(role, Role::State | Role::Other)
 }
 
-/// Whether an item is a state as the one before it was, if by another name. Both declare the same,
-/// and have no clauses.
-pub fn renames_state(was: &Outline, is: &Outline) -> bool
+// Whether an item is a state as the one before it was, if by another name. Both declare the same,
+// and have no clauses.
+fn renames_state(was: &Outline, is: &Outline) -> bool
     ensures { IsTrue result → RenamesState was.now is.now }
 {
     is_clauseless_state(was)
@@ -90,53 +87,26 @@ pub fn renames_state(was: &Outline, is: &Outline) -> bool
         && are_same(is.declares.as_slice(), was.declares.as_slice())
 }
 
-// Where the name of an item leads from its place, if it has one.
-fn led_to(links: &Links, item: usize, outline: &Outline) -> Option<usize>
-    ensures { result ≡ option_and_then (state_of links.now.outlines item) outline.now.second }
+/// How an item says by other names what the one before it said.
+#[derive(Clone, Copy, Debug, PartialEq, Eq)]
+pub enum Renaming {
+    /// It declares by other names what that one declared.
+    Declared,
+    /// It is a state with another name.
+    State,
+}
+
+/// How an item says by other names what the one before it said, if it does.
+pub fn renaming_of(was: &Outline, is: &Outline) -> Option<Renaming>
+    ensures { IfSome result (Renames was.now is.now) }
 {
-    match &outline.second {
-        Some(name) => links.state(item, name.bytes()),
-        None => None,
+    if declares_anew(was, is) {
+        Some(Renaming::Declared)
+    } else if renames_state(was, is) {
+        Some(Renaming::State)
+    } else {
+        None
     }
-}
-
-/// Whether a state goes by an edit from one name to another: each name leads to it on one side of
-/// the edit, and to no state of its set on the other.
-pub fn names_anew(before: &Links, after: &Links, item: usize, was: &Outline, is: &Outline) -> bool
-    ensures { IsTrue result
-        → NamesAnew before.now.outlines after.now.outlines item was.now is.now }
-{
-    renames_state(was, is)
-        && led_to(before, item, was) == Some(item)
-        && led_to(before, item, is).is_none()
-        && led_to(after, item, is) == Some(item)
-        && led_to(after, item, was).is_none()
-}
-
-impl SameValue for usize {
-    fn is_same(&self, other: &usize) -> bool {
-        *self == *other
-    }
-}
-
-impl SameValue for ClauseLink {
-    fn is_same(&self, other: &ClauseLink) -> bool {
-        self.item == other.item
-            && self.token == other.token
-            && self.kind == other.kind
-            && self.coverage == other.coverage
-            && self.variable == other.variable
-            && self.flag == other.flag
-            && self.is_sound == other.is_sound
-    }
-}
-
-/// Whether the clauses say after an edit what they said before it, of the same declarations, and
-/// the same declarations are event flags.
-pub fn clauses_alike(before: &Links, after: &Links) -> bool
-    ensures { IsTrue result → ClausesAlike before.now.outlines after.now.outlines }
-{
-    are_same(after.clauses(), before.clauses()) && are_same(after.flags(), before.flags())
 }
 
 /// Where an item declares by other names what the one before it declared, all means to an item that

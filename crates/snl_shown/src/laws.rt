@@ -6,11 +6,13 @@ ghost use Rattle.serde_json.specs.Data.{Data};
 ghost use Rattle.snl_hear.specs.Documents.{Located};
 ghost use Rattle.snl_hear.specs.Heard.{Request};
 ghost use Rattle.snl_hear.specs.Requests.{Definition, DocumentSymbol, Hover};
+ghost use Rattle.snl_document.specs.Texts as documents;
 ghost use Rattle.snl_docs.specs.declared.phase.Phase.TheVariants.{Ready};
 ghost use Rattle.snl_docs.specs.Asked.{hover_answer, location_answer};
 ghost use Rattle.snl_docs.specs.Known.{IsByText, checked_text};
 ghost use Rattle.snl_docs.specs.Served.{Served, after, replied};
 ghost use Rattle.snl_replies.specs.Replies.{AnswerSymbols};
+ghost use Rattle.snl_session.specs.Edit as sessions;
 ghost use Rattle.snl_shown.specs.Shown.{declared_at, says_of_text, told_at};
 ghost use Rattle.snl_shown.specs.Symbols.{symbols_in};
 ghost use Rattle.snl_turns.specs.Turns.{Turn, heard_at};
@@ -47,3 +49,8 @@ pub fn questions_by_text()
 {
     answered_by_text();
 }
+
+/// A document is checked if a session takes its text: both know one limit.
+pub fn limits_agree()
+    ensures { documents.limit ≡ sessions.limit }
+{}

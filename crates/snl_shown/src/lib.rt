@@ -16,5 +16,5 @@ mod shown;
 mod source;
 mod symbols;
 
-pub use laws::{diagnostics_by_text, questions_by_text};
+pub use laws::{diagnostics_by_text, limits_agree, questions_by_text};
 pub use shown::SessionText;

@@ -46,7 +46,7 @@ impl Model for Scopes {
 
 impl Scopes {
     ghost use Rattle.snl_scope.specs.Clauses.{resolve_in, variable_at};
-    ghost use Rattle.snl_scope.specs.Linked.{state_in};
+    ghost use Rattle.snl_scope.specs.Linked.{state_in, state_of};
     ghost use Rattle.snl_scope.specs.Names.{entries, number_in, resolve};
     ghost use Rattle.snl_scope.specs.Order.{is_named_state};
     ghost use Rattle.snl_scope.specs.Places.{enclosing_set, is_set_begin};
@@ -142,6 +142,13 @@ impl Scopes {
     {
         let number = self.number_in(Namespace::States(set), name)?;
         Some(self.symbol(number)?.item)
+    }
+
+    /// The first state with a name in the state set in which an item is, by the number of its item.
+    pub(crate) fn state_of(&self, item: usize, name: &[u8]) -> Option<usize>
+        ensures { result ≡ state_of self.now item name.now }
+    {
+        self.state_in(self.enclosing_set(item)?, name)
     }
 
     /// What the declaration with a number says.

@@ -56,8 +56,8 @@ fn is_same_fault(one: &LinkFault, other: &LinkFault) -> bool
     one.item == other.item && one.token == other.token && one.code == other.code
 }
 
-/// Whether the same is found, in the same order.
-pub fn same_faults(ones: &[LinkFault], others: &[LinkFault]) -> bool
+// Whether the same is found, in the same order.
+fn same_faults(ones: &[LinkFault], others: &[LinkFault]) -> bool
     ensures { IsTrue result → ones.now ≡ others.now }
 {
     if ones.len() != others.len() {

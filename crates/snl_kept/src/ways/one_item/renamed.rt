@@ -33,13 +33,13 @@ use crate::shared::Shared;
 use crate::ways::one_item::alike::{found_little, spares_inside, takes_place};
 use crate::ways::one_item::own_parts::{OwnParts, own_check, own_parts, replaces_inside};
 use crate::ways::one_item::own_rows::body_change;
-use crate::ways::one_item::renamed_links::{links_if_unused, renaming_of};
+use crate::ways::one_item::renamed_links::links_if_unused;
 use crate::ways::one_item::replaced::{OldItem, OneItem};
 use crate::ways::one_item::touched_rows::{TouchedRows, touched_by};
 use snl_cut::{Count, OutOfMemory};
 use snl_item_check::Checked;
 use snl_lex::text_in_pieces;
-use snl_scope::same_spelling_same_summary;
+use snl_scope::{renaming_of, same_spelling_same_summary};
 use snl_syntax::{outcome_told, same_spelling_same_tree};
 use std::alloc::Global;
 
@@ -181,7 +181,7 @@ pub fn renamed_parts(
     let Some(rows) = renamed_rows(touched) else {
         return Ok(None);
     };
-    let Some(links) = links_if_unused(alloc, one, was, made, entry, renaming)? else {
+    let Some(links) = links_if_unused(alloc, one, was, entry, renaming)? else {
         return Ok(None);
     };
     let links = NewLinks::Other(links);

@@ -6,52 +6,28 @@
 ghost use Rattle.std.specs.Prelude.{◌≡◌, [], ◌∷◌, IfOk, IfSome, IsTrue, false};
 ghost use Rattle.snl_lex.specs.PieceList.{spelled};
 ghost use Rattle.snl_scope.specs.Linked.{faults_of};
-ghost use Rattle.snl_scope.specs.Renamed.{ClausesAlike};
+ghost use Rattle.snl_scope.specs.Renamed.{AreNames, ClausesAlike, IsRenamed, Renames};
 ghost use Rattle.snl_scope.specs.Spoken.{touches};
 ghost use Rattle.snl_kept.specs.Checks.{links_in};
 ghost use Rattle.snl_kept.specs.Editing.{AreEntriesIn};
 ghost use Rattle.snl_kept.specs.Entries.{entry_by};
 ghost use Rattle.snl_kept.specs.ItemPlan.{IsWas};
 ghost use Rattle.snl_kept.specs.OneItem.{IsOneItemEdit, item_of, old_of, text_of};
-ghost use Rattle.snl_kept.specs.RenamedItem.{AreNames, AreUntouched, IsRenamed, Renames};
+ghost use Rattle.snl_kept.specs.RenamedItem.{AreUntouched};
 ghost use Rattle.snl_kept.specs.ReplacedItem.{SeesAlike};
 
 use crate::entries::Entry;
 use crate::shared::Shared;
-use crate::ways::one_item::own_links::same_faults;
 use crate::ways::one_item::replaced::{OldItem, OneItem};
-use crate::ways::whole::relink::relinked;
 use snl_check::tables_told_alike;
 use snl_cut::OutOfMemory;
 use snl_lists::Ordered;
 use snl_scope::{
-    EditedNames, Links, Outline, clauses_alike, declared_anew, declares_anew, named_anew,
-    names_anew, renames_state, same_spelling_same_summary, unspoken_names,
+    EditedNames, Links, Renaming, declared_anew, link_renamed, named_anew,
+    same_spelling_same_summary, unspoken_names,
 };
 use snl_syntax::{outcome_told, same_spelling_same_tree};
 use std::alloc::Global;
-
-/// What an item says by other names than the one before it.
-#[derive(Clone, Copy)]
-pub enum Renaming {
-    /// It declares by other names what that one declared.
-    Declared,
-    /// It is a state with another name.
-    State,
-}
-
-/// How an item says by other names what the one before it said, if it does.
-pub fn renaming_of(was: &Outline, is: &Outline) -> Option<Renaming>
-    ensures { IfSome result (Renames was.now is.now) }
-{
-    if declares_anew(was, is) {
-        Some(Renaming::Declared)
-    } else if renames_state(was, is) {
-        Some(Renaming::State)
-    } else {
-        None
-    }
-}
 
 // Whether no item but one uses one of these names, or has it as a target.
 fn none_touches(entries: &Ordered<Shared<Entry>>, item: usize, names: &EditedNames) -> bool
@@ -67,25 +43,8 @@ fn none_touches(entries: &Ordered<Shared<Entry>>, item: usize, names: &EditedNam
     true
 }
 
-// The names by which both items say what they say, if they are few.
-fn names_of<'a>(
-    alloc: Global,
-    was: &'a Outline,
-    is: &'a Outline,
-    renaming: Renaming,
-) -> Result<Option<EditedNames<'a>>, OutOfMemory>
-    ensures { IfOk result (λ o. IfSome o (AreNames was.now is.now renaming)) }
-{
-    match renaming {
-        Renaming::Declared => EditedNames::of(alloc, &[was], &[is]),
-        Renaming::State => {
-            let names = EditedNames::of_state(alloc, was, is)?;
-            Ok(Some(names))
-        }
-    }
-}
-
-// These names, if no item uses one of them or leads to it.
+// The names by which both items say what they say, if they are few and no item uses one of them or
+// leads to it.
 fn unused_names<'a>(
     alloc: Global,
     one: &OneItem,
@@ -98,7 +57,8 @@ fn unused_names<'a>(
     ensures own { IfOk result (λ o. IfSome o (λ n. touches n made.now.summary ≡ false)) }
 {
     let (was, is) = (&was.summary, &made.summary);
-    let Some(names) = names_of(alloc, &was.outline, &is.outline, renaming)? else {
+    let names = EditedNames::of_renaming(alloc, &was.outline, &is.outline, renaming)?;
+    let Some(names) = names else {
         return Ok(None);
     };
     let item = one.editing.changes.items.kept_front;
@@ -138,22 +98,33 @@ fn others_see_alike(
     same_spelling_same_summary();
 }
 
-// Whether the item's names are free, by the links before an edit and after it.
-fn are_free(
+// The links of the new text, if what clauses say and what is found stays.
+fn renamed_links(
+    alloc: Global,
+    one: &OneItem,
+    was: OldItem,
+    made: &Entry,
     renaming: Renaming,
-    before: &Links,
-    after: &Links,
-    item: usize,
-    was: &Outline,
-    is: &Outline,
-) -> bool
-    requires { Renames was.now is.now renaming }
-    ensures { IsTrue result → IsRenamed before.now.outlines after.now.outlines item was.now is.now renaming }
+    names: &EditedNames,
+) -> Result<Option<Links>, OutOfMemory>
+    requires one { IsOneItemEdit one.now }
+    requires was { IsWas (old_of one.now) (item_of one.now) was }
+    requires alone { AreEntriesIn one.now.editing (made.now ∷ []) }
+    requires renames { Renames was.entry.now.summary.outline made.now.summary.outline renaming }
+    requires names { AreNames was.entry.now.summary.outline made.now.summary.outline renaming names.now }
+    ensures links { IfOk result (λ o. IfSome o (λ l. l ≡ links_in (text_of one.now))) }
+    ensures faults { IfOk result (λ o. IfSome o (λ l. faults_of l ≡ faults_of (links_in (old_of one.now)))) }
+    ensures clauses { IfOk result (λ o. IfSome o (λ l. ClausesAlike one.now.editing.lists.now.links.outlines l.outlines)) }
+    ensures renamed { IfOk result (λ o. IfSome o (λ l. IsRenamed one.now.editing.lists.now.links.outlines l.outlines (item_of one.now) was.entry.entry.now.summary.outline made.now.summary.outline renaming)) }
 {
-    match renaming {
-        Renaming::Declared => true,
-        Renaming::State => names_anew(before, after, item, was, is),
-    }
+    outcome_told();
+    same_spelling_same_tree();
+    same_spelling_same_summary();
+    let before = &one.editing.lists.links;
+    let item = one.editing.changes.items.kept_front;
+    let (was, is) = (&was.entry.summary.outline, &made.summary);
+    let links = link_renamed(alloc, before, item, was, is, renaming, names)?;
+    Ok(links)
 }
 
 /// The links after the edit, if the others see what they saw, and the links find what they found.
@@ -161,16 +132,14 @@ pub fn links_if_unused(
     alloc: Global,
     one: &OneItem,
     was: OldItem,
-    made: &[Shared<Entry>],
-    entry: &Entry,
+    made: &Entry,
     renaming: Renaming,
 ) -> Result<Option<Links>, OutOfMemory>
     requires one { IsOneItemEdit one.now }
     requires was { IsWas (old_of one.now) (item_of one.now) was }
-    requires made { entry.now ≡ entry_by (spelled (text_of one.now) one.now.own.now.is.items) }
-    requires entry { made.now ≡ entry.now ∷ [] }
-    requires alone { AreEntriesIn one.now.editing made.now }
-    requires renames { Renames was.entry.now.summary.outline entry.now.summary.outline renaming }
+    requires made { made.now ≡ entry_by (spelled (text_of one.now) one.now.own.now.is.items) }
+    requires alone { AreEntriesIn one.now.editing (made.now ∷ []) }
+    requires renames { Renames was.entry.now.summary.outline made.now.summary.outline renaming }
     ensures links { IfOk result (λ o. IfSome o (λ l. l ≡ links_in (text_of one.now))) }
     ensures faults { IfOk result (λ o. IfSome o (λ l. faults_of l ≡ faults_of (links_in (old_of one.now)))) }
     ensures seen { IfOk result (λ o. IfSome o (λ l. SeesAlike (old_of one.now) (text_of one.now) (item_of one.now))) }
@@ -179,18 +148,12 @@ pub fn links_if_unused(
     if before.has_many_dead_names() {
         return Ok(None);
     }
-    let Some(names) = unused_names(alloc, one, was.entry, entry, renaming)? else {
+    let Some(names) = unused_names(alloc, one, was.entry, made, renaming)? else {
         return Ok(None);
     };
-    let links = relinked(alloc, &one.editing, made)?;
-    if !same_faults(links.faults(), before.faults()) || !clauses_alike(before, &links) {
+    let Some(links) = renamed_links(alloc, one, was, made, renaming, &names)? else {
         return Ok(None);
-    }
-    let item = one.editing.changes.items.kept_front;
-    let (old, new) = (&was.entry.summary.outline, &entry.summary.outline);
-    if !are_free(renaming, before, &links, item, old, new) {
-        return Ok(None);
-    }
-    others_see_alike(one, was, entry, renaming, &names, &links);
+    };
+    others_see_alike(one, was, made, renaming, &names, &links);
     Ok(Some(links))
 }

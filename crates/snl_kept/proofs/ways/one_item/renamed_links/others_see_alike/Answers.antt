@@ -1,9 +1,9 @@
 use Rattle.std.proofs.Common.{List, ap, subst}
-use Rattle.snl_scope.specs.Renamed.{ClausesAlike}
+use Rattle.snl_scope.specs.Renamed.{ClausesAlike, IsRenamed}
 use Rattle.snl_scope.specs.declared.summaries.summary.Outline.{Outline}
 use Rattle.snl_kept.specs.declared.entries.Entry.{Entry}
 use Rattle.snl_kept.specs.Checks.{outlines_in}
-use Rattle.snl_kept.specs.RenamedItem.{AreUntouched, IsRenamed}
+use Rattle.snl_kept.specs.RenamedItem.{AreUntouched}
 use Rattle.snl_kept.proofs.RenamedItem.{sees_alike}
 use Rattle.snl_kept.proofs.ways.one_item.renamed_links.others_see_alike.Goals as goal
 
