@@ -2,7 +2,7 @@
 -- all clauses say what they said, and an item that leads to neither name sees what it saw.
 use Rattle.std.proofs.Common.{◌≡◌, ℕ, Bool, false, if◌then◌else◌, List, [], ◌∷◌, ◌++◌, length, map, nat_lt, Option, None, Some, is_some, slice_get, refl, sym, ap, ap₂, ◌∙◌}
 use Rattle.std.specs.List.{list_any}
-use Rattle.std.specs.Option.{option_and_then, option_map}
+use Rattle.std.specs.Option.{option_and_then}
 use Rattle.std.proofs.lemmas.Bool.{or_parts}
 use Rattle.std.proofs.lemmas.Option.{option_and_then_some}
 use Rattle.snl_scope.specs.declared.facts.Fact.{Fact}
@@ -16,7 +16,7 @@ use Rattle.snl_scope.specs.Renamed.{MeanAlike, NamesAnew, RenamesState, state_na
 use Rattle.snl_scope.specs.Spoken.{KeepsViewsBut, is_among}
 use Rattle.snl_scope.specs.View.{View}
 use Rattle.snl_scope.proofs.NewStateNames.{by_entry, renamed_alike, say_alike}
-use Rattle.snl_scope.proofs.OneReplaced.{SayAlike, around_alike, at_number}
+use Rattle.snl_scope.proofs.OneReplaced.{SayAlike, around_alike, then_at_number}
 use Rattle.snl_scope.proofs.StayingClauses.{clauses_stay, none_is_on}
 
 mapped : {X Y : Type 0} (f g : X → Y) → ((x : X) → f x ≡ g x) → (xs : List X) → map f xs ≡ map g xs
@@ -26,10 +26,6 @@ mapped {Y = Y} f g same (x ∷ xs) = ap₂ (λ (y : Y) (ys : List Y). y ∷ ys) 
 then_same : {X Y : Type 0} (f g : X → Option Y) → ((x : X) → f x ≡ g x) → (o : Option X) → option_and_then f o ≡ option_and_then g o
 then_same f g same None = refl
 then_same f g same (Some x) = same x
-
-then_mapped : {X Y : Type 0} (f : X → Option Y) (o : Option X) → option_and_then f o ≡ option_and_then (λ (y : Option Y). y) (option_map f o)
-then_mapped f None = refl
-then_mapped f (Some x) = refl
 
 module _ (before : List Outline) (old new : Outline) (after : List Outline) (renames : RenamesState old new) (a b : List ℕ) (was : old.second ≡ Some a) (is : new.second ≡ Some b) where
   abbrev ss : List Outline
@@ -54,10 +50,7 @@ module _ (before : List Outline) (old new : Outline) (after : List Outline) (ren
     fact_at_same n =
         let told : Entry → Option Fact = entry_fact (assigned_by (clauses_of ss) n) in
         ap (λ (cs : List LinkedClause). option_and_then (entry_fact (assigned_by cs n)) (slice_get (entries ts) n)) clauses_same
-        ∙ then_mapped told (slice_get (entries ts) n)
-        ∙ ap (option_and_then (λ (o : Option Fact). o))
-        (at_number before old new after [] names alike told (λ i here. by_entry old new renames a b was is told (enclosing_set ss i) i (λ k h. refl)) n)
-        ∙ sym (then_mapped told (slice_get (entries ss) n))
+        ∙ then_at_number before old new after [] names alike told (λ i here. by_entry old new renames a b was is told (enclosing_set ss i) i (λ k h. refl)) n
 
     fact_same : (i : ℕ) (name : List ℕ) → fact_of ts i name ≡ fact_of ss i name
     fact_same i name =

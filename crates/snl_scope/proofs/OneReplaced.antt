@@ -10,7 +10,6 @@ use Rattle.std.proofs.lemmas.List.Folds.{list_any-append}
 use Rattle.std.proofs.lemmas.Option.{slice_get-map}
 use Rattle.snl_codes.specs.declared.code.Code.TheVariants.{E08}
 use Rattle.snl_facts.specs.Positions.{position_map}
-use Rattle.snl_scope.specs.declared.facts.Declaration.{Declaration}
 use Rattle.snl_scope.specs.declared.names.namespaces.Namespace.{Namespace}
 use Rattle.snl_scope.specs.declared.names.namespaces.Namespace.TheVariants as namespace
 use Rattle.snl_scope.specs.declared.summaries.summary.Outline.{Outline}
@@ -132,6 +131,17 @@ module _ (before : List Outline) (old new : Outline) (after : List Outline) (use
     pub at_number : (n : ℕ) → option_map f (slice_get (entries ts) n) ≡ option_map f (slice_get (entries ss) n)
     at_number n = sym (slice_get-map f (entries ts) n) ∙ ap (λ l. slice_get l n) all_alike ∙ slice_get-map f (entries ss) n
 
+  -- and what may be told of it
+  pub then_at_number : {A : Type 0} (f : Entry → Option A) → TellAlike f → (n : ℕ) → option_and_then f (slice_get (entries ts) n) ≡ option_and_then f (slice_get (entries ss) n)
+  then_at_number {A = A} f same n =
+      mapped_first (slice_get (entries ts) n)
+      ∙ ap (option_and_then (λ (x : Option A). x)) (at_number f same n)
+      ∙ sym (mapped_first (slice_get (entries ss) n))
+    where
+      mapped_first : (o : Option Entry) → option_and_then f o ≡ option_and_then (λ (x : Option A). x) (option_map f o)
+      mapped_first None = refl
+      mapped_first (Some e) = refl
+
   same_items : TellAlike (λ e. e.item)
   same_items i here = alike.items (enclosing_set ss i) i
 
@@ -140,15 +150,8 @@ module _ (before : List Outline) (old new : Outline) (after : List Outline) (use
       let item = λ (e : Entry). e.item in
       sym (length-map (entries ts) item) ∙ ap length (all_alike item same_items) ∙ length-map (entries ss) item
 
-  declared_then : (o : Option Entry) → option_and_then entry_declaration o ≡ option_and_then (λ (x : Option Declaration). x) (option_map entry_declaration o)
-  declared_then None = refl
-  declared_then (Some e) = refl
-
   same_declaration : (n : ℕ) → declaration_at ts n ≡ declaration_at ss n
-  same_declaration n =
-      declared_then (slice_get (entries ts) n)
-      ∙ ap (option_and_then (λ (x : Option Declaration). x)) (at_number entry_declaration (λ i here. alike.declarations (enclosing_set ss i) i) n)
-      ∙ sym (declared_then (slice_get (entries ss) n))
+  same_declaration n = then_at_number entry_declaration (λ i here. alike.declarations (enclosing_set ss i) i) n
 
   -- ---- names
 

@@ -2,7 +2,7 @@
 -- declarations what they said if none is on a name by which both differ, and as much is found.
 use Rattle.std.proofs.Common.{◌≡◌, ℕ, zero, suc, Bool, false, not, ◌&&◌, ◌||◌, if◌then◌else◌, List, [], ◌∷◌, ◌++◌, length, map, Option, None, Some, is_some, slice_get, refl, sym, ap, ap₂, ◌∙◌}
 use Rattle.std.specs.List.{list_any}
-use Rattle.std.specs.Option.{option_and_then, option_map, option_map_or, option_to_list}
+use Rattle.std.specs.Option.{option_and_then, option_map_or, option_to_list}
 use Rattle.std.proofs.lemmas.Bool.{or_parts}
 use Rattle.std.proofs.lemmas.Option.{same_Some}
 use Rattle.snl_codes.specs.declared.code.Code.{Code}
@@ -18,7 +18,7 @@ use Rattle.snl_scope.specs.Names.{Entry, entries}
 use Rattle.snl_scope.specs.Places.{enclosing_set}
 use Rattle.snl_scope.specs.Renamed.{MeanAlike, is_on, some_is_on}
 use Rattle.snl_scope.specs.Spoken.{is_among}
-use Rattle.snl_scope.proofs.OneReplaced.{SayAlike, at_each, at_number}
+use Rattle.snl_scope.proofs.OneReplaced.{SayAlike, at_each, then_at_number}
 
 -- ---- entries that declare the same, one by one
 
@@ -73,10 +73,6 @@ none_is_on (s ∷ ss) = ap₂ (λ (a b : Bool). a || b) (none_of s.clauses) (non
     none_of [] = refl
     none_of (c ∷ cs) = ap₂ (λ (a b : Bool). a || b) (no_flag c.flag) (none_of cs)
 
-variable_then : (o : Option Entry) → option_and_then (λ (e : Entry). e.variable) o ≡ option_and_then (λ (v : Option Variable). v) (option_map (λ (e : Entry). e.variable) o)
-variable_then None = refl
-variable_then (Some e) = refl
-
 module _ (before : List Outline) (old new : Outline) (after : List Outline) (used led_to : List (List ℕ)) (alike : SayAlike old new used led_to)
     (was_clauses : old.clauses ≡ []) (is_clauses : new.clauses ≡ []) where
   abbrev ss : List Outline
@@ -122,9 +118,7 @@ module _ (before : List Outline) (old new : Outline) (after : List Outline) (use
     variables_stay : (o : Option ℕ) → variable_at (entries ts) o ≡ variable_at (entries ss) o
     variables_stay None = refl
     variables_stay (Some n) =
-        variable_then (slice_get (entries ts) n)
-        ∙ ap (option_and_then (λ (v : Option Variable). v)) (at_number before old new after used led_to alike (λ (e : Entry). e.variable) (λ i here. alike.variables (enclosing_set ss i) i) n)
-        ∙ sym (variable_then (slice_get (entries ss) n))
+        then_at_number before old new after used led_to alike (λ (e : Entry). e.variable) (λ i here. alike.variables (enclosing_set ss i) i) n
 
     pub soundness_same : soundness ts ≡ soundness ss
     soundness_same =

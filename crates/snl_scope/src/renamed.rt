@@ -52,7 +52,7 @@ fn are_declared_anew(was: &[Declared], is: &[Declared]) -> bool
 
 // Whether an item declares what the one before it declared, one by one, if by other names. Neither
 // bounds a state set, is a state, or has clauses, and none of the names is that of an event flag.
-pub fn declares_anew(was: &Outline, is: &Outline) -> bool
+fn declares_anew(was: &Outline, is: &Outline) -> bool
     ensures { IsTrue result → DeclaresAnew was.now is.now }
 {
     is_plain(was)
