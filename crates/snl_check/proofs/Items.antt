@@ -5,7 +5,7 @@ use Rattle.std.specs.Option.{option_or}
 use Rattle.snl_facts.specs.Options.{none_or}
 use Rattle.snl_cut.specs.Cut.{members}
 use Rattle.snl_lex.specs.declared.piece.Piece.{Piece}
-use Rattle.snl_syntax.specs.declared.tree.item.Item.{Item}
+use Rattle.snl_grammar.specs.declared.tree.item.Item.{Item}
 use Rattle.std.specs.Option.{option_copied}
 use Rattle.std.proofs.lemmas.List.{drop_all, length-map}
 use Rattle.std.proofs.lemmas.Option.{slice_get-map, slice_get_past, slice_get_read}

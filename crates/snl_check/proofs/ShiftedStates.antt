@@ -7,11 +7,11 @@ use Rattle.snl_scope.specs.BelowLaws.{any_below_same}
 use Rattle.snl_facts.specs.Made.{flat_map_changed}
 use Rattle.snl_lex.specs.declared.lines.Line.{Line}
 use Rattle.snl_lex.specs.declared.shift.Shift.{Shift}
-use Rattle.snl_syntax.specs.declared.tree.item.Item.{Item}
-use Rattle.snl_syntax.specs.declared.tree.state.StateMember.{StateMember}
-use Rattle.snl_syntax.specs.declared.tree.state.StateMember.TheVariants as members
-use Rattle.snl_syntax.specs.declared.tree.state.Target.{Target}
-use Rattle.snl_syntax.specs.declared.tree.state.Target.TheVariants as target
+use Rattle.snl_grammar.specs.declared.tree.item.Item.{Item}
+use Rattle.snl_grammar.specs.declared.tree.state.StateMember.{StateMember}
+use Rattle.snl_grammar.specs.declared.tree.state.StateMember.TheVariants as members
+use Rattle.snl_grammar.specs.declared.tree.state.Target.{Target}
+use Rattle.snl_grammar.specs.declared.tree.state.Target.TheVariants as target
 use Rattle.snl_scope.specs.declared.summaries.summary.Outline.{Outline}
 use Rattle.snl_scope.specs.Clauses.{resolve_in}
 use Rattle.snl_scope.specs.Linked.{has_target}

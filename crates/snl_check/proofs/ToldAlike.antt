@@ -10,12 +10,12 @@ use Rattle.std.proofs.lemmas.Slice.Eq.{bytes_eq-Decides}
 use Rattle.snl_facts.specs.Each.{each_front, each_rear, each_unmap, each_weaker}
 use Rattle.snl_lex.specs.declared.piece.Piece.{Piece}
 use Rattle.snl_lex.specs.Lines.{line_at}
-use Rattle.snl_syntax.specs.declared.tree.item.Item.{Item}
-use Rattle.snl_syntax.specs.declared.tree.item.Item.TheVariants as items
-use Rattle.snl_syntax.specs.declared.tree.state.StateMember.{StateMember}
-use Rattle.snl_syntax.specs.declared.tree.state.StateMember.TheVariants as members
-use Rattle.snl_syntax.specs.declared.tree.state.Target.{Target}
-use Rattle.snl_syntax.specs.declared.tree.state.Target.TheVariants as target
+use Rattle.snl_grammar.specs.declared.tree.item.Item.{Item}
+use Rattle.snl_grammar.specs.declared.tree.item.Item.TheVariants as items
+use Rattle.snl_grammar.specs.declared.tree.state.StateMember.{StateMember}
+use Rattle.snl_grammar.specs.declared.tree.state.StateMember.TheVariants as members
+use Rattle.snl_grammar.specs.declared.tree.state.Target.{Target}
+use Rattle.snl_grammar.specs.declared.tree.state.Target.TheVariants as target
 use Rattle.snl_walk.specs.declared.occurrence.Manner.{Manner}
 use Rattle.snl_walk.specs.declared.occurrence.Occurrence.{Occurrence}
 use Rattle.snl_walk.specs.declared.occurrence.What.{What}

@@ -4,10 +4,10 @@ use Rattle.std.specs.Prelude.{ℕ, zero, suc, ◌+◌, ◌-◌, Bool, false, ◌
 use Rattle.std.specs.List.{flat_map, list_any}
 use Rattle.std.specs.Option.{option_map_or}
 use Rattle.snl_lex.specs.declared.piece.Piece.{Piece}
-use Rattle.snl_syntax.specs.declared.tree.clause.Channel.{Channel}
-use Rattle.snl_syntax.specs.declared.tree.clause.Channel.TheVariants as channels
-use Rattle.snl_syntax.specs.declared.tree.clause.Clause.{Clause}
-use Rattle.snl_syntax.specs.declared.tree.clause.Clause.TheVariants as clauses
+use Rattle.snl_grammar.specs.declared.tree.clause.Channel.{Channel}
+use Rattle.snl_grammar.specs.declared.tree.clause.Channel.TheVariants as channels
+use Rattle.snl_grammar.specs.declared.tree.clause.Clause.{Clause}
+use Rattle.snl_grammar.specs.declared.tree.clause.Clause.TheVariants as clauses
 use Rattle.snl_scope.specs.declared.facts.ClauseLink.{ClauseLink}
 use Rattle.snl_scope.specs.declared.summaries.summary.Outline.{Outline}
 use Rattle.snl_scope.specs.Below.{all_below}

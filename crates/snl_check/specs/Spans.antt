@@ -1,9 +1,9 @@
 -- The spans in the rows of tables: they lie in the text, and each has a byte.
 use Rattle.std.specs.Prelude.{◌≡◌, ℕ, ◌+◌, ◌≤◌, List, All, length, Some, IfSome}
 use Rattle.std.specs.List.{AllByRecursion}
-use Rattle.snl_syntax.specs.declared.tree.item.Item.{Item}
-use Rattle.snl_syntax.specs.Parsing.{kinds_in}
-use Rattle.snl_syntax.specs.Reading.Items.{item_of}
+use Rattle.snl_grammar.specs.declared.tree.item.Item.{Item}
+use Rattle.snl_grammar.specs.Parsing.{kinds_in}
+use Rattle.snl_grammar.specs.Reading.Items.{item_of}
 use Rattle.snl_tables.specs.declared.rows.ChannelRow.{ChannelRow}
 use Rattle.snl_tables.specs.declared.rows.Destination.{Destination}
 use Rattle.snl_tables.specs.declared.rows.Destination.TheVariants as destinations

@@ -14,6 +14,12 @@ drop_got [] i x h = absurd cc
 drop_got (y ∷ ys) zero x h = let same : y ≡ x = cc in ap (λ z. z ∷ ys) same
 drop_got (y ∷ ys) (suc i) x h = drop_got ys i x h
 
+-- the elements before a place, the one there, and those after it
+pub put_back : {A : Type 0} (xs : List A) (i : ℕ) (x : A) → slice_get xs i ≡ Some x → xs ≡ take i xs ++ (x ∷ drop (i + 1) xs)
+put_back {A = A} xs i x h =
+    let next : suc i ≡ i + 1 = omega arith in
+    sym (take-append-drop i xs) ∙ ap (λ (l : List A). take i xs ++ l) (drop_got xs i x h ∙ ap (λ (n : ℕ). x ∷ drop n xs) next)
+
 -- some elements are left
 pub some_left : {A : Type 0} (xs : List A) (from : ℕ) → from < length xs → 0 < length (drop from xs)
 some_left xs from h = simp length-drop (omega arith)

@@ -7,7 +7,7 @@ use Rattle.std.proofs.lemmas.Bool.{and_left, or_from, true≢false}
 use Rattle.std.proofs.lemmas.List.{length-map}
 use Rattle.std.proofs.lemmas.Option.{same_Some, slice_get_within, slice_get-map}
 use Rattle.snl_scope.specs.BelowLaws.{any_below_none, each_passing}
-use Rattle.snl_syntax.specs.declared.tree.item.Item.{Item}
+use Rattle.snl_grammar.specs.declared.tree.item.Item.{Item}
 use Rattle.snl_codes.specs.declared.code.Code.{Code}
 use Rattle.snl_codes.specs.declared.code.Code.TheVariants.{E03, E04, E05, E06, E14}
 use Rattle.snl_scope.specs.declared.facts.LinkFault.{LinkFault}

@@ -7,10 +7,10 @@ use Rattle.snl_cut.specs.Cut.{Rises, last_end}
 use Rattle.snl_lex.specs.declared.piece.Piece.{Piece}
 use Rattle.snl_lex.specs.PieceList.{listed_pieces, piece_ends, piece_kinds}
 use Rattle.snl_lex.specs.Pieces.{LiesIn, pieces_of}
-use Rattle.snl_syntax.specs.declared.tree.item.Item.{Item}
-use Rattle.snl_syntax.specs.Outcome.{BlamesWithin, parsed_in}
-use Rattle.snl_syntax.specs.Parsing.{is_bad, kinds_in}
-use Rattle.snl_syntax.specs.Reading.Items.{item_of}
+use Rattle.snl_grammar.specs.declared.tree.item.Item.{Item}
+use Rattle.snl_grammar.specs.Outcome.{BlamesWithin, parsed_in}
+use Rattle.snl_grammar.specs.Parsing.{is_bad, kinds_in}
+use Rattle.snl_grammar.specs.Reading.Items.{item_of}
 use Rattle.snl_codes.specs.declared.code.Code.{Code}
 use Rattle.snl_codes.specs.declared.code.Code.TheVariants.{E01, E02}
 use Rattle.snl_codes.specs.Codes.{is_error}

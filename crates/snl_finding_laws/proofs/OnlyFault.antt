@@ -8,10 +8,10 @@ use Rattle.std.proofs.lemmas.List.Elements.{All-from_recursion, recursion_from_A
 use Rattle.std.proofs.lemmas.Option.{same_Some, slice_get-map}
 use Rattle.snl_lex.specs.declared.piece.Piece.{Piece}
 use Rattle.snl_lex.specs.Pieces.{LiesIn, piece_end}
-use Rattle.snl_syntax.specs.declared.outcome.Parsed.{Parsed}
-use Rattle.snl_syntax.specs.declared.outcome.Parsed.TheVariants as parsed
-use Rattle.snl_syntax.specs.declared.tree.item.Item.{Item}
-use Rattle.snl_syntax.specs.Outcome.{parsed_in}
+use Rattle.snl_grammar.specs.declared.outcome.Parsed.{Parsed}
+use Rattle.snl_grammar.specs.declared.outcome.Parsed.TheVariants as parsed
+use Rattle.snl_grammar.specs.declared.tree.item.Item.{Item}
+use Rattle.snl_grammar.specs.Outcome.{parsed_in}
 use Rattle.snl_codes.specs.declared.code.Code.{Code}
 use Rattle.snl_codes.specs.declared.code.Code.TheVariants.{E01, E02, W02}
 use Rattle.snl_walk.specs.Tokens.{token_bytes}

@@ -5,9 +5,9 @@ use Rattle.std.specs.Option.{option_map_or}
 use Rattle.std.specs.List.{AllByRecursion as Each, enumerate_from}
 use Rattle.std.proofs.lemmas.List.Elements.{recursion_from_All}
 use Rattle.snl_lex.specs.declared.piece.Piece.{Piece}
-use Rattle.snl_syntax.specs.declared.tree.item.Item.{Item}
-use Rattle.snl_syntax.specs.Parsing.{kinds_in}
-use Rattle.snl_syntax.specs.Reading.Items.{item_of}
+use Rattle.snl_grammar.specs.declared.tree.item.Item.{Item}
+use Rattle.snl_grammar.specs.Parsing.{kinds_in}
+use Rattle.snl_grammar.specs.Reading.Items.{item_of}
 use Rattle.snl_codes.specs.declared.code.Code.{Code}
 use Rattle.snl_codes.specs.declared.code.Code.TheVariants.{W02}
 use Rattle.snl_codes.specs.Codes.{Finder, finder_of, finds_by_links, finds_in_items, is_item_code, is_link_code, parser}

@@ -6,12 +6,12 @@ use Rattle.std.proofs.lemmas.Bool.{and_from, and_left, and_right, le-leb, le-ltb
 use Rattle.std.proofs.lemmas.Bool.Decides.{nat_tests}
 use Rattle.snl_lex.specs.declared.piece.Piece.{Piece}
 use Rattle.snl_lex.specs.Pieces.{LiesIn, piece_end}
-use Rattle.snl_syntax.specs.declared.outcome.Parsed.{Parsed}
-use Rattle.snl_syntax.specs.declared.outcome.Parsed.TheVariants as parsed
-use Rattle.snl_syntax.specs.declared.tree.item.Item.{Item}
-use Rattle.snl_syntax.specs.Outcome.{BlamesWithin, outcome_by_tree, outcome_of, parsed_in}
-use Rattle.snl_syntax.specs.Parsing.{is_bad, kinds_in}
-use Rattle.snl_syntax.specs.Reading.Items.{fault_of, item_of}
+use Rattle.snl_grammar.specs.declared.outcome.Parsed.{Parsed}
+use Rattle.snl_grammar.specs.declared.outcome.Parsed.TheVariants as parsed
+use Rattle.snl_grammar.specs.declared.tree.item.Item.{Item}
+use Rattle.snl_grammar.specs.Outcome.{BlamesWithin, outcome_by_tree, outcome_of, parsed_in}
+use Rattle.snl_grammar.specs.Parsing.{is_bad, kinds_in}
+use Rattle.snl_grammar.specs.Reading.Items.{fault_of, item_of}
 use Rattle.snl_codes.specs.declared.code.Code.{Code}
 use Rattle.snl_codes.specs.declared.code.Code.TheVariants.{E01, E02}
 use Rattle.snl_kept.specs.declared.found.findings.Finding.{Finding}

@@ -7,16 +7,16 @@ use Rattle.std.proofs.lemmas.List.Elements.{All-from_recursion, recursion_from_A
 use Rattle.snl_cut.specs.Cut.{Rises, last_end}
 use Rattle.snl_lex.specs.declared.piece.Piece.{Piece}
 use Rattle.snl_lex.specs.Pieces.{LiesIn, pieces_of}
-use Rattle.snl_syntax.specs.declared.outcome.Parsed.{Parsed}
-use Rattle.snl_syntax.specs.declared.outcome.Parsed.TheVariants as parsed
-use Rattle.snl_syntax.specs.declared.tree.clause.OptionLine.{OptionLine}
-use Rattle.snl_syntax.specs.declared.tree.item.Item.{Item}
-use Rattle.snl_syntax.specs.declared.tree.item.Item.TheVariants as items
-use Rattle.snl_syntax.specs.declared.tree.state.StateMember.{StateMember}
-use Rattle.snl_syntax.specs.declared.tree.state.StateMember.TheVariants as members
-use Rattle.snl_syntax.specs.Outcome.{parsed_in}
-use Rattle.snl_syntax.specs.Parsing.{kinds_in}
-use Rattle.snl_syntax.specs.Reading.Items.{item_of}
+use Rattle.snl_grammar.specs.declared.outcome.Parsed.{Parsed}
+use Rattle.snl_grammar.specs.declared.outcome.Parsed.TheVariants as parsed
+use Rattle.snl_grammar.specs.declared.tree.clause.OptionLine.{OptionLine}
+use Rattle.snl_grammar.specs.declared.tree.item.Item.{Item}
+use Rattle.snl_grammar.specs.declared.tree.item.Item.TheVariants as items
+use Rattle.snl_grammar.specs.declared.tree.state.StateMember.{StateMember}
+use Rattle.snl_grammar.specs.declared.tree.state.StateMember.TheVariants as members
+use Rattle.snl_grammar.specs.Outcome.{parsed_in}
+use Rattle.snl_grammar.specs.Parsing.{kinds_in}
+use Rattle.snl_grammar.specs.Reading.Items.{item_of}
 use Rattle.snl_codes.specs.declared.code.Code.{Code}
 use Rattle.snl_codes.specs.declared.code.Code.TheVariants.{E01, E02, W02, W04}
 use Rattle.snl_codes.specs.Codes.{quoted_bytes}

@@ -9,9 +9,9 @@ use Rattle.snl_lex.specs.declared.piece.Class.{Class}
 use Rattle.snl_lex.specs.declared.piece.Piece.{Piece}
 use Rattle.snl_lex.specs.PieceList.{listed_pieces, piece_ends, piece_kinds}
 use Rattle.snl_lex.specs.Pieces.{LiesIn, is_token, piece_end, pieces_of, tokens_of}
-use Rattle.snl_syntax.specs.declared.tree.item.Item.{Item}
-use Rattle.snl_syntax.specs.Parsing.{is_bad, kinds_in}
-use Rattle.snl_syntax.specs.Reading.Items.{item_of}
+use Rattle.snl_grammar.specs.declared.tree.item.Item.{Item}
+use Rattle.snl_grammar.specs.Parsing.{is_bad, kinds_in}
+use Rattle.snl_grammar.specs.Reading.Items.{item_of}
 use Rattle.snl_items.specs.Items.{item_ends, mark_in, marks_of}
 use Rattle.snl_item_check.specs.Items.{EndsWithin}
 use Rattle.snl_kept.specs.Program.{ProgramItem, item_tokens, items_of, program_item, tree_in}

@@ -3,16 +3,16 @@
 ghost use Rattle.snl_finding_laws.specs.OwnFaults.{IsAtFaulty, is_at_item, is_bad_token, is_in_span, is_of_parser, is_syntax_error};
 ghost use Rattle.snl_kept.specs.Diagnostics.{diagnostics_of};
 ghost use Rattle.snl_kept.specs.Program.{ProgramItem, items_of};
-ghost use Rattle.snl_syntax.specs.Parsing.{is_bad};
+ghost use Rattle.snl_grammar.specs.Parsing.{is_bad};
 ghost use Rattle.std.specs.List.{list_any};
 ghost use Rattle.std.specs.Prelude.{◌≡◌, ◌&&◌, ℕ, All, List, None, Some, count_by, if◌then◌else◌, is_none, not, slice_get, true};
 
 use snl_cut::ends_in_order;
+use snl_grammar::{Tokens, outcome_told};
 use snl_item_check::{faults_have_item_codes, faults_stand_at_tokens, faults_stand_in_tokens};
 use snl_kept::rows_have_bytes;
 use snl_lex::{pieces_as_listed, text_in_pieces};
 use snl_scope::{faults_have_places, outlines_speak_of_tokens};
-use snl_syntax::{Tokens, outcome_told};
 
 /// In the span of a faulty item there is one diagnostic of the parser: E01 where one of its tokens
 /// is faulty, else E02. In that of a sound item there is none. Warnings that are turned off change

@@ -9,10 +9,10 @@ ghost use Rattle.snl_kept.specs.declared.found.findings.Finding.{Finding};
 ghost use Rattle.std.specs.Prelude.{◌≡◌, ◌&&◌, ℕ, All, Bool, List, count_by};
 
 use snl_cut::ends_in_order;
+use snl_grammar::Tokens;
 use snl_item_check::{faults_stand_at_tokens, faults_stand_in_tokens};
 use snl_kept::rows_have_bytes;
 use snl_lex::text_in_pieces;
-use snl_syntax::Tokens;
 
 /// The bytes that a diagnostic quotes are bytes of the text, and so is the name of its file.
 pub fn diagnostics_lie_in_text()

@@ -5,10 +5,10 @@ use Rattle.std.specs.List.{AllByRecursion as Each, AllPairs, enumerate_from, fla
 use Rattle.std.proofs.lemmas.Bool.{false≢true}
 use Rattle.std.proofs.lemmas.List.Elements.{All-from_recursion, recursion_from_All}
 use Rattle.snl_facts.specs.Each.{EachTwo, across, each_append, each_map, each_weaker, pairs_from_two, two_across, two_from_pairs, two_map, two_weaker}
-use Rattle.snl_syntax.specs.declared.tree.item.Item.{Item}
-use Rattle.snl_syntax.specs.declared.tree.item.Item.TheVariants as items
-use Rattle.snl_syntax.specs.declared.tree.state.StateMember.{StateMember}
-use Rattle.snl_syntax.specs.declared.tree.state.StateMember.TheVariants as members
+use Rattle.snl_grammar.specs.declared.tree.item.Item.{Item}
+use Rattle.snl_grammar.specs.declared.tree.item.Item.TheVariants as items
+use Rattle.snl_grammar.specs.declared.tree.state.StateMember.{StateMember}
+use Rattle.snl_grammar.specs.declared.tree.state.StateMember.TheVariants as members
 use Rattle.snl_walk.specs.declared.rules.Finding.{Finding}
 use Rattle.snl_codes.specs.Codes.{is_rule_code}
 use Rattle.snl_walk.specs.Options.{letters_in, letters_in_member}

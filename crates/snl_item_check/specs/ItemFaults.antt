@@ -1,6 +1,6 @@
 -- What is found in an item, from its tokens, its tree and what it sees of the others.
 use Rattle.std.specs.Prelude.{◌≡◌, ℕ, ◌<◌, ◌⊎◌, Bool, List, ◌++◌, map, length, Option}
-use Rattle.snl_syntax.specs.declared.tree.item.Item.{Item}
+use Rattle.snl_grammar.specs.declared.tree.item.Item.{Item}
 use Rattle.snl_walk.specs.declared.rules.Finding.{Finding}
 use Rattle.snl_walk.specs.Items.{occurrences}
 use Rattle.snl_walk.specs.Rules.{findings}

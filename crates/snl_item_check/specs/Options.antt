@@ -1,13 +1,13 @@
 -- Letters of options that are not known where the option is, and what an option says of warnings.
 use Rattle.std.specs.Prelude.{ℕ, Bool, true, false, List, [], ◌∷◌, codes, nat_eq, if◌then◌else◌, Option, None, Some}
 use Rattle.std.specs.List.{enumerate_from, flat_map, list_any}
-use Rattle.snl_syntax.specs.declared.tree.clause.OptionLine.{OptionLine}
-use Rattle.snl_syntax.specs.declared.tree.clause.OptionSign.{OptionSign}
-use Rattle.snl_syntax.specs.declared.tree.clause.OptionSign.TheVariants.{Plus, Minus}
-use Rattle.snl_syntax.specs.declared.tree.item.Item.{Item}
-use Rattle.snl_syntax.specs.declared.tree.item.Item.TheVariants as items
-use Rattle.snl_syntax.specs.declared.tree.state.StateMember.{StateMember}
-use Rattle.snl_syntax.specs.declared.tree.state.StateMember.TheVariants as members
+use Rattle.snl_grammar.specs.declared.tree.clause.OptionLine.{OptionLine}
+use Rattle.snl_grammar.specs.declared.tree.clause.OptionSign.{OptionSign}
+use Rattle.snl_grammar.specs.declared.tree.clause.OptionSign.TheVariants.{Plus, Minus}
+use Rattle.snl_grammar.specs.declared.tree.item.Item.{Item}
+use Rattle.snl_grammar.specs.declared.tree.item.Item.TheVariants as items
+use Rattle.snl_grammar.specs.declared.tree.state.StateMember.{StateMember}
+use Rattle.snl_grammar.specs.declared.tree.state.StateMember.TheVariants as members
 use Rattle.snl_codes.specs.declared.code.Code.TheVariants.{W04}
 use Rattle.snl_item_check.specs.declared.findings.ItemFault.{ItemFault}
 

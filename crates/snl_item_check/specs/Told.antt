@@ -3,7 +3,7 @@
 use Rattle.std.specs.Prelude.{ℕ, List, [], map, slice_get, Option, None, Some}
 use Rattle.std.specs.Option.{option_map_or}
 use denote.Ref.{Bor}
-use Rattle.snl_syntax.specs.declared.tree.item.Item.{Item}
+use Rattle.snl_grammar.specs.declared.tree.item.Item.{Item}
 use Rattle.snl_walk.specs.declared.used.TargetUse.{TargetUse}
 use Rattle.snl_walk.specs.declared.used.WakeUse.{WakeUse}
 use Rattle.snl_walk.specs.Items.{occurrences}

@@ -6,8 +6,8 @@ ghost use Rattle.snl_walk.specs.Tokens.{IsSource, token_bytes};
 ghost use Rattle.snl_item_check.specs.Told.{told_in_item, used_by, wakes_of};
 
 use snl_cut::OutOfMemory;
+use snl_grammar::tree::item::Item;
 use snl_lex::Piece;
-use snl_syntax::tree::item::Item;
 use snl_walk::{Source, WakeUse, occurrences, wake_uses};
 use std::alloc::Global;
 

@@ -3,9 +3,9 @@
 ghost use Rattle.std.specs.Prelude.{◌≡◌, ◌≢◌, ◌<◌, ℕ, All, Bool, true, List, Option, Some, length};
 ghost use Rattle.std.specs.List.{AllPairs};
 ghost use Rattle.snl_lex.specs.declared.piece.Piece.{Piece};
-ghost use Rattle.snl_syntax.specs.declared.tree.item.Item.{Item};
-ghost use Rattle.snl_syntax.specs.Parsing.{kinds_in};
-ghost use Rattle.snl_syntax.specs.Reading.Items.{item_of};
+ghost use Rattle.snl_grammar.specs.declared.tree.item.Item.{Item};
+ghost use Rattle.snl_grammar.specs.Parsing.{kinds_in};
+ghost use Rattle.snl_grammar.specs.Reading.Items.{item_of};
 ghost use Rattle.snl_codes.specs.Codes.{is_item_code};
 ghost use Rattle.snl_walk.specs.Tokens.{token_bytes};
 ghost use Rattle.snl_scope.specs.declared.facts.Fact.{Fact};

@@ -11,10 +11,10 @@ use crate::findings::ItemFault;
 use crate::view::View;
 use snl_codes::Code;
 use snl_cut::OutOfMemory;
+use snl_grammar::tree::clause::{OptionLine, OptionSign};
+use snl_grammar::tree::item::Item;
+use snl_grammar::tree::state::StateMember;
 use snl_scope::Links;
-use snl_syntax::tree::clause::{OptionLine, OptionSign};
-use snl_syntax::tree::item::Item;
-use snl_syntax::tree::state::StateMember;
 use snl_walk::Source;
 
 /// The options of a program.

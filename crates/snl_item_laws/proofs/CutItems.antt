@@ -4,18 +4,18 @@ use Rattle.std.proofs.lemmas.Bool.{cases_lt, false≢true, true≢false}
 use Rattle.std.proofs.Math.Seq.{take-append_seam}
 use Rattle.snl_lex.specs.declared.kind.Kind.{Kind}
 use Rattle.snl_lex.specs.declared.kind.Kind.TheVariants as kind
-use Rattle.snl_syntax.specs.declared.marks.Mark.{Mark}
-use Rattle.snl_syntax.specs.declared.marks.Mark.TheVariants as mark
-use Rattle.snl_syntax.specs.declared.tree.item.Item.{Item}
-use Rattle.snl_syntax.specs.declared.tree.item.Item.TheVariants as items
-use Rattle.snl_syntax.specs.ItemLaws.{IsLeast}
-use Rattle.snl_syntax.specs.Items.{begins_texts, ends_after, ends_before, ends_by, is_body, is_close_paren, is_plain, item}
-use Rattle.snl_syntax.specs.Marks.{mark_of_kind}
-use Rattle.snl_syntax.specs.Spelling.Base.{Matches}
-use Rattle.snl_syntax.specs.Spelling.Items.{spell_item}
-use Rattle.snl_syntax.specs.Tokens.{NumberedKind, ahead, numbered}
-use Rattle.snl_syntax.specs.Grammar.Base.{Each, First, Leaf}
-use Rattle.snl_syntax.specs.Grammar.Items.{IsItem}
+use Rattle.snl_grammar.specs.declared.marks.Mark.{Mark}
+use Rattle.snl_grammar.specs.declared.marks.Mark.TheVariants as mark
+use Rattle.snl_grammar.specs.declared.tree.item.Item.{Item}
+use Rattle.snl_grammar.specs.declared.tree.item.Item.TheVariants as items
+use Rattle.snl_grammar.specs.ItemLaws.{IsLeast}
+use Rattle.snl_grammar.specs.Items.{begins_texts, ends_after, ends_before, ends_by, is_body, is_close_paren, is_plain, item}
+use Rattle.snl_grammar.specs.Marks.{mark_of_kind}
+use Rattle.snl_grammar.specs.Spelling.Base.{Matches}
+use Rattle.snl_grammar.specs.Spelling.Items.{spell_item}
+use Rattle.snl_grammar.specs.Tokens.{NumberedKind, ahead, numbered}
+use Rattle.snl_grammar.specs.Grammar.Base.{Each, First, Leaf}
+use Rattle.snl_grammar.specs.Grammar.Items.{IsItem}
 use Rattle.snl_item_laws.specs.Cuts.{begins_bracket, could_go_on, marks_of}
 use Rattle.snl_item_laws.proofs.CutRuns.{GoesTo, Outside, after_body, all_end, begin, calm_mark, inside_down, inside_run, marks_ahead, outside_run, outside_same, outside_semicolon, outside_up}
 use Rattle.snl_item_laws.proofs.Lies.{Lies, group, nothing, parens, squares, token}

@@ -4,12 +4,12 @@ use Rattle.std.proofs.lemmas.Bool.{eq-eqb, false≢true, ne_eqb}
 use Rattle.std.specs.List.{count_by}
 use Rattle.snl_lex.specs.declared.kind.Kind.{Kind}
 use Rattle.snl_lex.specs.declared.kind.Kind.TheVariants as kind
-use Rattle.snl_syntax.specs.declared.marks.Mark.{Mark}
-use Rattle.snl_syntax.specs.declared.marks.Mark.TheVariants as mark
-use Rattle.snl_syntax.specs.Items.{ends_before, ends_by, has_body, is_after, is_body, is_close, is_close_paren, is_head, is_open, is_plain, is_semicolon, last_of, level, opened_by_paren, plain_ends, raises}
-use Rattle.snl_syntax.specs.Marks.{mark_of_kind}
-use Rattle.snl_syntax.specs.Tokens.{NumberedKind}
-use Rattle.snl_syntax.specs.Grammar.Base.{First}
+use Rattle.snl_grammar.specs.declared.marks.Mark.{Mark}
+use Rattle.snl_grammar.specs.declared.marks.Mark.TheVariants as mark
+use Rattle.snl_grammar.specs.Items.{ends_before, ends_by, has_body, is_after, is_body, is_close, is_close_paren, is_head, is_open, is_plain, is_semicolon, last_of, level, opened_by_paren, plain_ends, raises}
+use Rattle.snl_grammar.specs.Marks.{mark_of_kind}
+use Rattle.snl_grammar.specs.Tokens.{NumberedKind}
+use Rattle.snl_grammar.specs.Grammar.Base.{First}
 use Rattle.snl_item_laws.proofs.Lies.{Lies, braces, group, is_calm, is_loose, loose, nothing, parens, squares, token}
 use Rattle.snl_item_laws.proofs.Prefixes.{count_more, last_more, opened_before, opened_now}
 use Rattle.std.proofs.Math.Bool.{and-false}

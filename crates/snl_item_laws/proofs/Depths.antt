@@ -5,10 +5,10 @@ use Rattle.std.proofs.lemmas.List.Sums.{sum_by-cons}
 use Rattle.std.specs.List.{count_by}
 use Rattle.snl_lex.specs.declared.kind.Kind.{Kind}
 use Rattle.snl_lex.specs.declared.kind.Kind.TheVariants as kind
-use Rattle.snl_syntax.specs.declared.tree.item.Item.{Item}
-use Rattle.snl_syntax.specs.Tokens.{NumberedKind, ahead, numbered}
-use Rattle.snl_syntax.specs.Grammar.Base.{First, Leaf}
-use Rattle.snl_syntax.specs.Grammar.Items.{IsItem}
+use Rattle.snl_grammar.specs.declared.tree.item.Item.{Item}
+use Rattle.snl_grammar.specs.Tokens.{NumberedKind, ahead, numbered}
+use Rattle.snl_grammar.specs.Grammar.Base.{First, Leaf}
+use Rattle.snl_grammar.specs.Grammar.Items.{IsItem}
 use Rattle.snl_item_laws.specs.Brackets.{IsWithin, closes, opens}
 use Rattle.snl_item_laws.proofs.Lies.{Lies, braces, each_lie, group, is_calm, is_loose, leaf_lies, loose, nothing, parens, squares, token}
 use Rattle.snl_item_laws.proofs.LiesItems.{IsShaped, block, ended, function_body, header_alone, header_with, is_body_word, item_shape, named_block, set_begun, single}

@@ -2,9 +2,9 @@
 use Rattle.std.proofs.Common.{◌≡◌, ℕ, zero, suc, Bool, true, false, List, [], ◌∷◌, Option, Some, None, refl, ◌∙◌}
 use Rattle.snl_lex.specs.declared.kind.Kind.{Kind}
 use Rattle.snl_lex.specs.declared.kind.Kind.TheVariants as kind
-use Rattle.snl_syntax.specs.Tokens.{NumberedKind}
-use Rattle.snl_syntax.specs.Grammar.Base.{Each, First, Fixed, Leaf, Perhaps}
-use Rattle.snl_syntax.specs.Grammar.Types.{Written}
+use Rattle.snl_grammar.specs.Tokens.{NumberedKind}
+use Rattle.snl_grammar.specs.Grammar.Base.{Each, First, Fixed, Leaf, Perhaps}
+use Rattle.snl_grammar.specs.Grammar.Types.{Written}
 
 -- tokens that neither nest, begin nor end anything
 abbrev pub is_calm : Kind → Bool

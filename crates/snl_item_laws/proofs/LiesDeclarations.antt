@@ -1,16 +1,16 @@
 -- How brackets lie in declarations and parameters.
 use Rattle.std.proofs.Common.{ℕ, zero, suc, Bool, true, List, [], ◌∷◌, Option, refl}
 use Rattle.snl_lex.specs.declared.kind.Kind.TheVariants as kind
-use Rattle.snl_syntax.specs.declared.tree.declaration.Declaration.{Declaration}
-use Rattle.snl_syntax.specs.declared.tree.declaration.Declarator.{Declarator}
-use Rattle.snl_syntax.specs.declared.tree.declaration.Init.{Init}
-use Rattle.snl_syntax.specs.declared.tree.declaration.Parameter.{Parameter}
-use Rattle.snl_syntax.specs.declared.tree.expression.Expr.{Expr}
-use Rattle.snl_syntax.specs.Tokens.{NumberedKind}
-use Rattle.snl_syntax.specs.Grammar.Base.{First, Leaf}
-use Rattle.snl_syntax.specs.Grammar.Declarations.{AreBraced, IsAfterEqual, IsDeclaration, IsDeclarator, IsInit, IsInitOf, IsLength, list, value}
-use Rattle.snl_syntax.specs.Grammar.Expressions.{IsAssignx, IsSequence}
-use Rattle.snl_syntax.specs.Grammar.Functions.{IsParameter, IsParameterOf}
+use Rattle.snl_grammar.specs.declared.tree.declaration.Declaration.{Declaration}
+use Rattle.snl_grammar.specs.declared.tree.declaration.Declarator.{Declarator}
+use Rattle.snl_grammar.specs.declared.tree.declaration.Init.{Init}
+use Rattle.snl_grammar.specs.declared.tree.declaration.Parameter.{Parameter}
+use Rattle.snl_grammar.specs.declared.tree.expression.Expr.{Expr}
+use Rattle.snl_grammar.specs.Tokens.{NumberedKind}
+use Rattle.snl_grammar.specs.Grammar.Base.{First, Leaf}
+use Rattle.snl_grammar.specs.Grammar.Declarations.{AreBraced, IsAfterEqual, IsDeclaration, IsDeclarator, IsInit, IsInitOf, IsLength, list, value}
+use Rattle.snl_grammar.specs.Grammar.Expressions.{IsAssignx, IsSequence}
+use Rattle.snl_grammar.specs.Grammar.Functions.{IsParameter, IsParameterOf}
 use Rattle.snl_item_laws.proofs.Lies.{Holds, Lies, braces, each_lie, group, leaf_lies, lies_then, loose, nothing, perhaps_lies, squares, token, written_lies}
 use Rattle.snl_item_laws.proofs.LiesExpressions.{assignx_held, commas_lie, sequence_held}
 use Rattle.snl_item_laws.proofs.LiesTypes.{stars_lie, type_lies}

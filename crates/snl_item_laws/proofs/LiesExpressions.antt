@@ -1,16 +1,16 @@
 -- How brackets lie in expressions.
 use Rattle.std.proofs.Common.{ℕ, zero, suc, Bool, false, List, [], ◌∷◌, refl}
 use Rattle.snl_lex.specs.declared.kind.Kind.TheVariants as kind
-use Rattle.snl_syntax.specs.declared.operator.Assignment.{Assignment}
-use Rattle.snl_syntax.specs.declared.tree.expression.Expr.{Expr}
-use Rattle.snl_syntax.specs.declared.tree.expression.Prefix.{Prefix}
-use Rattle.snl_syntax.specs.declared.tree.expression.Suffix.{Suffix}
-use Rattle.snl_syntax.specs.declared.tree.types.TypeName.{TypeName}
-use Rattle.snl_syntax.specs.Operators.{assignment_kind, binary_kind, sign_kind}
-use Rattle.snl_syntax.specs.Tokens.{NumberedKind}
-use Rattle.snl_syntax.specs.Grammar.Base.{Each, Leaf, Within}
-use Rattle.snl_syntax.specs.Grammar.Expressions.{AreCommas, AreOperators, AreTexts, IsAfterComma, IsArm, IsAssignx, IsConditional, IsExpr, IsLink, IsOperator, IsPostfix, IsPrefix, IsPrimary, IsSequence, IsSingle, IsSuffix, IsTarget, IsTier, alone, arrow, assignment, bare, call, cast, chain, character, choice, decrement, floating, group, increment, integer, is_sizeof, member, name, one as one_alone, prefixed, several, sign, sizeof, sizeof_type, subscript, suffixed, texts, value}
-use Rattle.snl_syntax.specs.Grammar.Types.{IsTypeName}
+use Rattle.snl_grammar.specs.declared.operator.Assignment.{Assignment}
+use Rattle.snl_grammar.specs.declared.tree.expression.Expr.{Expr}
+use Rattle.snl_grammar.specs.declared.tree.expression.Prefix.{Prefix}
+use Rattle.snl_grammar.specs.declared.tree.expression.Suffix.{Suffix}
+use Rattle.snl_grammar.specs.declared.tree.types.TypeName.{TypeName}
+use Rattle.snl_grammar.specs.Operators.{assignment_kind, binary_kind, sign_kind}
+use Rattle.snl_grammar.specs.Tokens.{NumberedKind}
+use Rattle.snl_grammar.specs.Grammar.Base.{Each, Leaf, Within}
+use Rattle.snl_grammar.specs.Grammar.Expressions.{AreCommas, AreOperators, AreTexts, IsAfterComma, IsArm, IsAssignx, IsConditional, IsExpr, IsLink, IsOperator, IsPostfix, IsPrefix, IsPrimary, IsSequence, IsSingle, IsSuffix, IsTarget, IsTier, alone, arrow, assignment, bare, call, cast, chain, character, choice, decrement, floating, group, increment, integer, is_sizeof, member, name, one as one_alone, prefixed, several, sign, sizeof, sizeof_type, subscript, suffixed, texts, value}
+use Rattle.snl_grammar.specs.Grammar.Types.{IsTypeName}
 use Rattle.snl_item_laws.proofs.Lies.{Holds, Lies, each_lie, held, leaf_lies, lies_then, nothing, one, parens, raised, squares, token}
 use Rattle.snl_item_laws.proofs.LiesTypes.{assignment_calm, binary_calm, sign_calm, type_name_lies}
 

@@ -2,30 +2,30 @@
 use Rattle.std.proofs.Common.{◌≡◌, ℕ, suc, Bool, true, false, List, [], ◌∷◌, Option, Some, None, ap, refl, ◌∙◌}
 use Rattle.snl_lex.specs.declared.kind.Kind.{Kind}
 use Rattle.snl_lex.specs.declared.kind.Kind.TheVariants as kind
-use Rattle.snl_syntax.specs.declared.tree.clause.Channel.{Channel}
-use Rattle.snl_syntax.specs.declared.tree.clause.Clause.{Clause}
-use Rattle.snl_syntax.specs.declared.tree.clause.Flag.{Flag}
-use Rattle.snl_syntax.specs.declared.tree.clause.OptionLine.{OptionLine}
-use Rattle.snl_syntax.specs.declared.tree.clause.OptionSign.{OptionSign}
-use Rattle.snl_syntax.specs.declared.tree.clause.OptionSign.TheVariants as signs
-use Rattle.snl_syntax.specs.declared.tree.declaration.Parameter.{Parameter}
-use Rattle.snl_syntax.specs.declared.tree.item.Function.{Function}
-use Rattle.snl_syntax.specs.declared.tree.item.Item.{Item}
-use Rattle.snl_syntax.specs.declared.tree.item.Item.TheVariants as items
-use Rattle.snl_syntax.specs.declared.tree.item.StructMember.{StructMember}
-use Rattle.snl_syntax.specs.declared.tree.state.StateMember.{StateMember}
-use Rattle.snl_syntax.specs.declared.tree.state.Target.{Target}
-use Rattle.snl_syntax.specs.declared.tree.state.Transition.{Transition}
-use Rattle.snl_syntax.specs.declared.tree.statement.Member.{Member}
-use Rattle.snl_syntax.specs.Tokens.{NumberedKind}
-use Rattle.snl_syntax.specs.Grammar.Base.{Each, First, Leaf}
-use Rattle.snl_syntax.specs.Grammar.Clauses.{AreForeign, IsChannel, IsClause, IsFlag, IsOptionLine, IsSubscript, anonymous, assign, element, elements, monitor, option_kind, sync, syncq, syncq_word, whole}
-use Rattle.snl_syntax.specs.Grammar.Declarations.{IsDeclaration}
-use Rattle.snl_syntax.specs.Grammar.Expressions.{AreTexts, IsExpr}
-use Rattle.snl_syntax.specs.Grammar.Functions.{AreParameters, IsBody, IsFunction, IsParameter, IsStruct, IsStructMember, c_block as struct_c_block, declaration as struct_declaration, definition, function, struct_definition}
-use Rattle.snl_syntax.specs.Grammar.Items.{IsItemWithin, c_block, clause as clause_item, empty, entry, exit, foreign, header, option_line, set_begin, set_end, state, typed}
-use Rattle.snl_syntax.specs.Grammar.States.{IsBlockAfter, IsStateMember, IsTarget, IsTransition, c_block as state_c_block, clause as state_clause, declaration as state_declaration, empty as state_empty, entry as state_entry, exit as state_exit, foreign as state_foreign, leave, next, option_line as state_option_line, transition}
-use Rattle.snl_syntax.specs.Grammar.Statements.{IsBlockWithin}
+use Rattle.snl_grammar.specs.declared.tree.clause.Channel.{Channel}
+use Rattle.snl_grammar.specs.declared.tree.clause.Clause.{Clause}
+use Rattle.snl_grammar.specs.declared.tree.clause.Flag.{Flag}
+use Rattle.snl_grammar.specs.declared.tree.clause.OptionLine.{OptionLine}
+use Rattle.snl_grammar.specs.declared.tree.clause.OptionSign.{OptionSign}
+use Rattle.snl_grammar.specs.declared.tree.clause.OptionSign.TheVariants as signs
+use Rattle.snl_grammar.specs.declared.tree.declaration.Parameter.{Parameter}
+use Rattle.snl_grammar.specs.declared.tree.item.Function.{Function}
+use Rattle.snl_grammar.specs.declared.tree.item.Item.{Item}
+use Rattle.snl_grammar.specs.declared.tree.item.Item.TheVariants as items
+use Rattle.snl_grammar.specs.declared.tree.item.StructMember.{StructMember}
+use Rattle.snl_grammar.specs.declared.tree.state.StateMember.{StateMember}
+use Rattle.snl_grammar.specs.declared.tree.state.Target.{Target}
+use Rattle.snl_grammar.specs.declared.tree.state.Transition.{Transition}
+use Rattle.snl_grammar.specs.declared.tree.statement.Member.{Member}
+use Rattle.snl_grammar.specs.Tokens.{NumberedKind}
+use Rattle.snl_grammar.specs.Grammar.Base.{Each, First, Leaf}
+use Rattle.snl_grammar.specs.Grammar.Clauses.{AreForeign, IsChannel, IsClause, IsFlag, IsOptionLine, IsSubscript, anonymous, assign, element, elements, monitor, option_kind, sync, syncq, syncq_word, whole}
+use Rattle.snl_grammar.specs.Grammar.Declarations.{IsDeclaration}
+use Rattle.snl_grammar.specs.Grammar.Expressions.{AreTexts, IsExpr}
+use Rattle.snl_grammar.specs.Grammar.Functions.{AreParameters, IsBody, IsFunction, IsParameter, IsStruct, IsStructMember, c_block as struct_c_block, declaration as struct_declaration, definition, function, struct_definition}
+use Rattle.snl_grammar.specs.Grammar.Items.{IsItemWithin, c_block, clause as clause_item, empty, entry, exit, foreign, header, option_line, set_begin, set_end, state, typed}
+use Rattle.snl_grammar.specs.Grammar.States.{IsBlockAfter, IsStateMember, IsTarget, IsTransition, c_block as state_c_block, clause as state_clause, declaration as state_declaration, empty as state_empty, entry as state_entry, exit as state_exit, foreign as state_foreign, leave, next, option_line as state_option_line, transition}
+use Rattle.snl_grammar.specs.Grammar.Statements.{IsBlockWithin}
 use Rattle.snl_item_laws.proofs.Lies.{Lies, each_lie, group, held, is_loose, leaf_lies, lies_then, loose, nothing, one, parens, perhaps_lies, raised, squares, token, written_lies}
 use Rattle.snl_item_laws.proofs.LiesDeclarations.{braced_lie, declaration_front, declaration_held, parameter_held}
 use Rattle.snl_item_laws.proofs.LiesExpressions.{commas_held, commas_lie, texts_lie}

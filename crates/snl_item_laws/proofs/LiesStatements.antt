@@ -2,16 +2,16 @@
 use Rattle.std.proofs.Common.{ℕ, zero, suc, Bool, true, false, List, Option, Some, None, refl}
 use Rattle.snl_lex.specs.declared.kind.Kind.{Kind}
 use Rattle.snl_lex.specs.declared.kind.Kind.TheVariants as kind
-use Rattle.snl_syntax.specs.declared.tree.declaration.Declaration.{Declaration}
-use Rattle.snl_syntax.specs.declared.tree.expression.Expr.{Expr}
-use Rattle.snl_syntax.specs.declared.tree.statement.ForHead.{ForHead}
-use Rattle.snl_syntax.specs.declared.tree.statement.Member.{Member}
-use Rattle.snl_syntax.specs.declared.tree.statement.Stmt.{Stmt}
-use Rattle.snl_syntax.specs.Tokens.{NumberedKind}
-use Rattle.snl_syntax.specs.Grammar.Base.{First, Within}
-use Rattle.snl_syntax.specs.Grammar.Declarations.{IsDeclaration}
-use Rattle.snl_syntax.specs.Grammar.Expressions.{IsExpr}
-use Rattle.snl_syntax.specs.Grammar.Statements.{AreForParts, IsArm, IsBefore, IsBlock, IsBlockWithin, IsBody, IsCondition, IsForHeadWithin, IsLast, IsMember, IsPassed, IsStatement, IsStmt, Place, after_else, as_body, block, break_loop, c_code, change, choice, continue_loop, declaration, deeper, empty, evaluation, for_loop, return_value, statement, while_loop, within_block}
+use Rattle.snl_grammar.specs.declared.tree.declaration.Declaration.{Declaration}
+use Rattle.snl_grammar.specs.declared.tree.expression.Expr.{Expr}
+use Rattle.snl_grammar.specs.declared.tree.statement.ForHead.{ForHead}
+use Rattle.snl_grammar.specs.declared.tree.statement.Member.{Member}
+use Rattle.snl_grammar.specs.declared.tree.statement.Stmt.{Stmt}
+use Rattle.snl_grammar.specs.Tokens.{NumberedKind}
+use Rattle.snl_grammar.specs.Grammar.Base.{First, Within}
+use Rattle.snl_grammar.specs.Grammar.Declarations.{IsDeclaration}
+use Rattle.snl_grammar.specs.Grammar.Expressions.{IsExpr}
+use Rattle.snl_grammar.specs.Grammar.Statements.{AreForParts, IsArm, IsBefore, IsBlock, IsBlockWithin, IsBody, IsCondition, IsForHeadWithin, IsLast, IsMember, IsPassed, IsStatement, IsStmt, Place, after_else, as_body, block, break_loop, c_code, change, choice, continue_loop, declaration, deeper, empty, evaluation, for_loop, return_value, statement, while_loop, within_block}
 use Rattle.snl_item_laws.proofs.Lies.{Holds, Lies, braces, each_lie, held, lies_then, loose, nothing, one, parens, perhaps_lies, raised, token}
 use Rattle.snl_item_laws.proofs.LiesDeclarations.{declaration_held}
 use Rattle.snl_item_laws.proofs.LiesExpressions.{expr_held}

@@ -1,24 +1,24 @@
 -- How brackets lie in types and operators: there are none.
 use Rattle.std.proofs.Common.{◌≡◌, ℕ, suc, Bool, true, List, refl}
 use Rattle.snl_lex.specs.declared.kind.Kind.TheVariants as kind
-use Rattle.snl_syntax.specs.declared.operator.Assignment.{Assignment}
-use Rattle.snl_syntax.specs.declared.operator.Assignment.TheVariants as assignments
-use Rattle.snl_syntax.specs.declared.operator.Binary.{Binary}
-use Rattle.snl_syntax.specs.declared.operator.Binary.TheVariants as binaries
-use Rattle.snl_syntax.specs.declared.operator.Sign.{Sign}
-use Rattle.snl_syntax.specs.declared.operator.Sign.TheVariants as signs
-use Rattle.snl_syntax.specs.declared.tree.types.Base.{Base}
-use Rattle.snl_syntax.specs.declared.tree.types.Base.TheVariants as bases
-use Rattle.snl_syntax.specs.declared.tree.types.Integer.{Integer}
-use Rattle.snl_syntax.specs.declared.tree.types.Integer.TheVariants as integers
-use Rattle.snl_syntax.specs.declared.tree.types.Pointer.{Pointer}
-use Rattle.snl_syntax.specs.declared.tree.types.Pointer.TheVariants as pointers
-use Rattle.snl_syntax.specs.declared.tree.types.QualifiedType.{QualifiedType}
-use Rattle.snl_syntax.specs.declared.tree.types.TypeName.{TypeName}
-use Rattle.snl_syntax.specs.Operators.{assignment_kind, binary_kind, sign_kind}
-use Rattle.snl_syntax.specs.Tokens.{NumberedKind}
-use Rattle.snl_syntax.specs.Grammar.Base.{Each}
-use Rattle.snl_syntax.specs.Grammar.Types.{IsBase, IsInteger, IsPointer, IsType, IsTypeName, integer_words}
+use Rattle.snl_grammar.specs.declared.operator.Assignment.{Assignment}
+use Rattle.snl_grammar.specs.declared.operator.Assignment.TheVariants as assignments
+use Rattle.snl_grammar.specs.declared.operator.Binary.{Binary}
+use Rattle.snl_grammar.specs.declared.operator.Binary.TheVariants as binaries
+use Rattle.snl_grammar.specs.declared.operator.Sign.{Sign}
+use Rattle.snl_grammar.specs.declared.operator.Sign.TheVariants as signs
+use Rattle.snl_grammar.specs.declared.tree.types.Base.{Base}
+use Rattle.snl_grammar.specs.declared.tree.types.Base.TheVariants as bases
+use Rattle.snl_grammar.specs.declared.tree.types.Integer.{Integer}
+use Rattle.snl_grammar.specs.declared.tree.types.Integer.TheVariants as integers
+use Rattle.snl_grammar.specs.declared.tree.types.Pointer.{Pointer}
+use Rattle.snl_grammar.specs.declared.tree.types.Pointer.TheVariants as pointers
+use Rattle.snl_grammar.specs.declared.tree.types.QualifiedType.{QualifiedType}
+use Rattle.snl_grammar.specs.declared.tree.types.TypeName.{TypeName}
+use Rattle.snl_grammar.specs.Operators.{assignment_kind, binary_kind, sign_kind}
+use Rattle.snl_grammar.specs.Tokens.{NumberedKind}
+use Rattle.snl_grammar.specs.Grammar.Base.{Each}
+use Rattle.snl_grammar.specs.Grammar.Types.{IsBase, IsInteger, IsPointer, IsType, IsTypeName, integer_words}
 use Rattle.snl_item_laws.proofs.Lies.{AreCalm, Lies, each_lie, fixed_lie, is_calm, leaf_lies, lies_then, one, token, written_lies}
 
 pub binary_calm : (op : Binary) → is_calm (binary_kind op) ≡ true

@@ -4,8 +4,8 @@ use Rattle.std.proofs.lemmas.List.{take-append-le}
 use Rattle.std.proofs.lemmas.List.Sums.{sum_by_push}
 use Rattle.std.proofs.Math.Seq.{take-append_seam}
 use Rattle.std.specs.List.{count_by}
-use Rattle.snl_syntax.specs.declared.marks.Mark.{Mark}
-use Rattle.snl_syntax.specs.Items.{greatest_below, is_after, is_close_paren, is_open, last_of, level, opened_by_paren, raises, some_is}
+use Rattle.snl_grammar.specs.declared.marks.Mark.{Mark}
+use Rattle.snl_grammar.specs.Items.{greatest_below, is_after, is_close_paren, is_open, last_of, level, opened_by_paren, raises, some_is}
 
 pub get_seam : (k l : List Mark) → slice_get (k ++ l) (length k) ≡ slice_get l 0
 get_seam [] l = refl

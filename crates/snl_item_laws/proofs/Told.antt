@@ -3,7 +3,7 @@ use Rattle.std.proofs.Common.{◌≡◌, ℕ, Bool, true, false, not, ◌&&◌, 
 use Rattle.std.specs.List.{flat_map}
 use Rattle.snl_lex.specs.declared.kind.Kind.{Kind}
 use Rattle.snl_lex.specs.declared.kind.Kind.TheVariants as kind
-use Rattle.snl_syntax.specs.Spelling.Base.{Spelled, after, between, in_braces, in_brackets, in_parens, joined, word}
+use Rattle.snl_grammar.specs.Spelling.Base.{Spelled, after, between, in_braces, in_brackets, in_parens, joined, word}
 use Rattle.snl_item_laws.specs.Mentions.{hides, is_name, is_state, jumps}
 
 -- what is at a token

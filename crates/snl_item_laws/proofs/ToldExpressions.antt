@@ -2,21 +2,21 @@
 use Rattle.std.proofs.Common.{◌≡◌, ℕ, Bool, List, [], ◌∷◌, map, Option, None, Some, refl, sym, subst}
 use Rattle.std.specs.List.{flat_map}
 use Rattle.snl_lex.specs.declared.kind.Kind.TheVariants as kind
-use Rattle.snl_syntax.specs.declared.operator.Assignment.{Assignment}
-use Rattle.snl_syntax.specs.declared.operator.Binary.{Binary}
-use Rattle.snl_syntax.specs.declared.tree.declaration.Init.{Init}
-use Rattle.snl_syntax.specs.declared.tree.declaration.Init.TheOpen.{Init-F}
-use Rattle.snl_syntax.specs.declared.tree.declaration.Init.TheFolds.{fold-roll-Init, ind-Init, map-Init}
-use Rattle.snl_syntax.specs.declared.tree.declaration.Init.TheViews.{roll-Init}
-use Rattle.snl_syntax.specs.declared.tree.expression.Expr.{Expr}
-use Rattle.snl_syntax.specs.declared.tree.expression.Expr.TheOpen.{Expr-F, Suffix-F}
-use Rattle.snl_syntax.specs.declared.tree.expression.Expr.TheFolds.{fold-roll-Expr, fold-roll-Suffix, ind-Expr, map-Expr, map-Suffix}
-use Rattle.snl_syntax.specs.declared.tree.expression.Expr.TheViews.{roll-Expr, roll-Suffix}
-use Rattle.snl_syntax.specs.declared.tree.expression.Suffix.{Suffix}
-use Rattle.snl_syntax.specs.Operators.{assignment_kind, binary_kind}
-use Rattle.snl_syntax.specs.Spelling.Base.{Spelled, after, commas, joined, perhaps}
-use Rattle.snl_syntax.specs.Spelling.Declarations.{spell_init, spell_init_step, spell_length, spell_value}
-use Rattle.snl_syntax.specs.Spelling.Expressions.{spell_arm, spell_expr, spell_expr_step, spell_link, spell_suffix, spell_suffix_step, spell_target}
+use Rattle.snl_grammar.specs.declared.operator.Assignment.{Assignment}
+use Rattle.snl_grammar.specs.declared.operator.Binary.{Binary}
+use Rattle.snl_grammar.specs.declared.tree.declaration.Init.{Init}
+use Rattle.snl_grammar.specs.declared.tree.declaration.Init.TheOpen.{Init-F}
+use Rattle.snl_grammar.specs.declared.tree.declaration.Init.TheFolds.{fold-roll-Init, ind-Init, map-Init}
+use Rattle.snl_grammar.specs.declared.tree.declaration.Init.TheViews.{roll-Init}
+use Rattle.snl_grammar.specs.declared.tree.expression.Expr.{Expr}
+use Rattle.snl_grammar.specs.declared.tree.expression.Expr.TheOpen.{Expr-F, Suffix-F}
+use Rattle.snl_grammar.specs.declared.tree.expression.Expr.TheFolds.{fold-roll-Expr, fold-roll-Suffix, ind-Expr, map-Expr, map-Suffix}
+use Rattle.snl_grammar.specs.declared.tree.expression.Expr.TheViews.{roll-Expr, roll-Suffix}
+use Rattle.snl_grammar.specs.declared.tree.expression.Suffix.{Suffix}
+use Rattle.snl_grammar.specs.Operators.{assignment_kind, binary_kind}
+use Rattle.snl_grammar.specs.Spelling.Base.{Spelled, after, commas, joined, perhaps}
+use Rattle.snl_grammar.specs.Spelling.Declarations.{spell_init, spell_init_step, spell_length, spell_value}
+use Rattle.snl_grammar.specs.Spelling.Expressions.{spell_arm, spell_expr, spell_expr_step, spell_link, spell_suffix, spell_suffix_step, spell_target}
 use Rattle.snl_walk.specs.declared.occurrence.Follows.TheVariants as follows
 use Rattle.snl_walk.specs.declared.occurrence.Occurrence.{Occurrence}
 use Rattle.snl_walk.specs.declared.occurrence.What.{What}

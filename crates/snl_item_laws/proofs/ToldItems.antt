@@ -2,34 +2,34 @@
 use Rattle.std.proofs.Common.{ℕ, Bool, true, false, List, [], ◌∷◌, ◌++◌, map, Option, None, Some, refl}
 use Rattle.std.specs.List.{flat_map}
 use Rattle.snl_lex.specs.declared.kind.Kind.TheVariants as kind
-use Rattle.snl_syntax.specs.declared.tree.clause.Channel.{Channel}
-use Rattle.snl_syntax.specs.declared.tree.clause.Channel.TheVariants as channels
-use Rattle.snl_syntax.specs.declared.tree.clause.Clause.{Clause}
-use Rattle.snl_syntax.specs.declared.tree.clause.Clause.TheVariants as clauses
-use Rattle.snl_syntax.specs.declared.tree.clause.Flag.{Flag}
-use Rattle.snl_syntax.specs.declared.tree.clause.OptionLine.{OptionLine}
-use Rattle.snl_syntax.specs.declared.tree.clause.OptionSign.{OptionSign}
-use Rattle.snl_syntax.specs.declared.tree.clause.OptionSign.TheVariants as signs
-use Rattle.snl_syntax.specs.declared.tree.declaration.Parameter.{Parameter}
-use Rattle.snl_syntax.specs.declared.tree.item.Function.{Function}
-use Rattle.snl_syntax.specs.declared.tree.item.Item.{Item}
-use Rattle.snl_syntax.specs.declared.tree.item.Item.TheVariants as items
-use Rattle.snl_syntax.specs.declared.tree.item.StructMember.{StructMember}
-use Rattle.snl_syntax.specs.declared.tree.item.StructMember.TheVariants as struct_members
-use Rattle.snl_syntax.specs.declared.tree.state.StateMember.{StateMember}
-use Rattle.snl_syntax.specs.declared.tree.state.StateMember.TheVariants as members
-use Rattle.snl_syntax.specs.declared.tree.state.Target.{Target}
-use Rattle.snl_syntax.specs.declared.tree.state.Target.TheVariants as target
-use Rattle.snl_syntax.specs.declared.tree.state.Transition.{Transition}
-use Rattle.snl_syntax.specs.declared.tree.statement.Member.{Member}
-use Rattle.snl_syntax.specs.Spelling.Base.{Spelled, after, commas, in_parens, leaf, perhaps}
-use Rattle.snl_syntax.specs.Spelling.Clauses.{spell_channel, spell_clause, spell_flag, spell_foreign, spell_option_line, spell_sign, spell_subscript, spell_syncq}
-use Rattle.snl_syntax.specs.Spelling.Expressions.{spell_texts}
-use Rattle.snl_syntax.specs.Spelling.Functions.{spell_body, spell_function, spell_parameter, spell_struct_member}
-use Rattle.snl_syntax.specs.Spelling.Items.{spell_header_text, spell_item}
-use Rattle.snl_syntax.specs.Spelling.Statements.{spell_block}
-use Rattle.snl_syntax.specs.Spelling.States.{spell_state_member, spell_target, spell_transition}
-use Rattle.snl_syntax.specs.Spelling.Types.{spell_stars, spell_type}
+use Rattle.snl_grammar.specs.declared.tree.clause.Channel.{Channel}
+use Rattle.snl_grammar.specs.declared.tree.clause.Channel.TheVariants as channels
+use Rattle.snl_grammar.specs.declared.tree.clause.Clause.{Clause}
+use Rattle.snl_grammar.specs.declared.tree.clause.Clause.TheVariants as clauses
+use Rattle.snl_grammar.specs.declared.tree.clause.Flag.{Flag}
+use Rattle.snl_grammar.specs.declared.tree.clause.OptionLine.{OptionLine}
+use Rattle.snl_grammar.specs.declared.tree.clause.OptionSign.{OptionSign}
+use Rattle.snl_grammar.specs.declared.tree.clause.OptionSign.TheVariants as signs
+use Rattle.snl_grammar.specs.declared.tree.declaration.Parameter.{Parameter}
+use Rattle.snl_grammar.specs.declared.tree.item.Function.{Function}
+use Rattle.snl_grammar.specs.declared.tree.item.Item.{Item}
+use Rattle.snl_grammar.specs.declared.tree.item.Item.TheVariants as items
+use Rattle.snl_grammar.specs.declared.tree.item.StructMember.{StructMember}
+use Rattle.snl_grammar.specs.declared.tree.item.StructMember.TheVariants as struct_members
+use Rattle.snl_grammar.specs.declared.tree.state.StateMember.{StateMember}
+use Rattle.snl_grammar.specs.declared.tree.state.StateMember.TheVariants as members
+use Rattle.snl_grammar.specs.declared.tree.state.Target.{Target}
+use Rattle.snl_grammar.specs.declared.tree.state.Target.TheVariants as target
+use Rattle.snl_grammar.specs.declared.tree.state.Transition.{Transition}
+use Rattle.snl_grammar.specs.declared.tree.statement.Member.{Member}
+use Rattle.snl_grammar.specs.Spelling.Base.{Spelled, after, commas, in_parens, leaf, perhaps}
+use Rattle.snl_grammar.specs.Spelling.Clauses.{spell_channel, spell_clause, spell_flag, spell_foreign, spell_option_line, spell_sign, spell_subscript, spell_syncq}
+use Rattle.snl_grammar.specs.Spelling.Expressions.{spell_texts}
+use Rattle.snl_grammar.specs.Spelling.Functions.{spell_body, spell_function, spell_parameter, spell_struct_member}
+use Rattle.snl_grammar.specs.Spelling.Items.{spell_header_text, spell_item}
+use Rattle.snl_grammar.specs.Spelling.Statements.{spell_block}
+use Rattle.snl_grammar.specs.Spelling.States.{spell_state_member, spell_target, spell_transition}
+use Rattle.snl_grammar.specs.Spelling.Types.{spell_stars, spell_type}
 use Rattle.snl_walk.specs.declared.occurrence.Occurrence.{Occurrence}
 use Rattle.snl_walk.specs.declared.occurrence.What.TheVariants as what
 use Rattle.snl_walk.specs.Declares.{declared_by_parameter, declared_by_state}

@@ -1,18 +1,18 @@
 -- What is found in declarations and statements is told by what these spell.
 use Rattle.std.proofs.Common.{◌≡◌, ℕ, Bool, true, false, cond, List, [], ◌∷◌, ◌++◌, map, Option, None, Some, sym, subst, append_assoc, refl}
 use Rattle.snl_lex.specs.declared.kind.Kind.TheVariants as kind
-use Rattle.snl_syntax.specs.declared.tree.declaration.Declaration.{Declaration}
-use Rattle.snl_syntax.specs.declared.tree.declaration.Declarator.{Declarator}
-use Rattle.snl_syntax.specs.declared.tree.expression.Expr.{Expr}
-use Rattle.snl_syntax.specs.declared.tree.statement.ForHead.{ForHead}
-use Rattle.snl_syntax.specs.declared.tree.statement.Member.{Member}
-use Rattle.snl_syntax.specs.declared.tree.statement.Member.TheOpen.{Member-F, Stmt-F}
-use Rattle.snl_syntax.specs.declared.tree.statement.Member.TheFolds.{fold-roll-Member, fold-roll-Stmt, ind-Member, map-Member, map-Stmt}
-use Rattle.snl_syntax.specs.declared.tree.statement.Member.TheViews.{roll-Member, roll-Stmt}
-use Rattle.snl_syntax.specs.declared.tree.statement.Stmt.{Stmt}
-use Rattle.snl_syntax.specs.Spelling.Base.{Spelled, after, between, joined, leaf, word}
-use Rattle.snl_syntax.specs.Spelling.Declarations.{spell_declaration, spell_declarator}
-use Rattle.snl_syntax.specs.Spelling.Statements.{spell_block, spell_choice, spell_else, spell_for_head, spell_member, spell_member_step, spell_stmt, spell_stmt_step}
+use Rattle.snl_grammar.specs.declared.tree.declaration.Declaration.{Declaration}
+use Rattle.snl_grammar.specs.declared.tree.declaration.Declarator.{Declarator}
+use Rattle.snl_grammar.specs.declared.tree.expression.Expr.{Expr}
+use Rattle.snl_grammar.specs.declared.tree.statement.ForHead.{ForHead}
+use Rattle.snl_grammar.specs.declared.tree.statement.Member.{Member}
+use Rattle.snl_grammar.specs.declared.tree.statement.Member.TheOpen.{Member-F, Stmt-F}
+use Rattle.snl_grammar.specs.declared.tree.statement.Member.TheFolds.{fold-roll-Member, fold-roll-Stmt, ind-Member, map-Member, map-Stmt}
+use Rattle.snl_grammar.specs.declared.tree.statement.Member.TheViews.{roll-Member, roll-Stmt}
+use Rattle.snl_grammar.specs.declared.tree.statement.Stmt.{Stmt}
+use Rattle.snl_grammar.specs.Spelling.Base.{Spelled, after, between, joined, leaf, word}
+use Rattle.snl_grammar.specs.Spelling.Declarations.{spell_declaration, spell_declarator}
+use Rattle.snl_grammar.specs.Spelling.Statements.{spell_block, spell_choice, spell_else, spell_for_head, spell_member, spell_member_step, spell_stmt, spell_stmt_step}
 use Rattle.snl_walk.specs.declared.occurrence.Occurrence.{Occurrence}
 use Rattle.snl_walk.specs.declared.occurrence.What.TheVariants as what
 use Rattle.snl_walk.specs.Declares.{is_event_flag}

@@ -2,26 +2,26 @@
 use Rattle.std.proofs.Common.{◌≡◌, ℕ, Bool, true, false, List, [], map, Some, None, refl}
 use Rattle.snl_lex.specs.declared.kind.Kind.{Kind}
 use Rattle.snl_lex.specs.declared.kind.Kind.TheVariants as kind
-use Rattle.snl_syntax.specs.declared.operator.Assignment.{Assignment}
-use Rattle.snl_syntax.specs.declared.operator.Assignment.TheVariants as assignments
-use Rattle.snl_syntax.specs.declared.operator.Binary.{Binary}
-use Rattle.snl_syntax.specs.declared.operator.Binary.TheVariants as binaries
-use Rattle.snl_syntax.specs.declared.operator.Sign.{Sign}
-use Rattle.snl_syntax.specs.declared.operator.Sign.TheVariants as signs
-use Rattle.snl_syntax.specs.declared.tree.expression.Prefix.{Prefix}
-use Rattle.snl_syntax.specs.declared.tree.expression.Prefix.TheVariants as prefixes
-use Rattle.snl_syntax.specs.declared.tree.types.Base.{Base}
-use Rattle.snl_syntax.specs.declared.tree.types.Base.TheVariants as bases
-use Rattle.snl_syntax.specs.declared.tree.types.Integer.{Integer}
-use Rattle.snl_syntax.specs.declared.tree.types.Integer.TheVariants as integers
-use Rattle.snl_syntax.specs.declared.tree.types.Pointer.{Pointer}
-use Rattle.snl_syntax.specs.declared.tree.types.Pointer.TheVariants as pointers
-use Rattle.snl_syntax.specs.declared.tree.types.QualifiedType.{QualifiedType}
-use Rattle.snl_syntax.specs.declared.tree.types.TypeName.{TypeName}
-use Rattle.snl_syntax.specs.Operators.{assignment_kind, binary_kind, sign_kind}
-use Rattle.snl_syntax.specs.Spelling.Base.{joined, leaf, word, written}
-use Rattle.snl_syntax.specs.Spelling.Expressions.{spell_prefix, spell_texts}
-use Rattle.snl_syntax.specs.Spelling.Types.{spell_base, spell_integer, spell_pointer, spell_stars, spell_type, spell_type_name}
+use Rattle.snl_grammar.specs.declared.operator.Assignment.{Assignment}
+use Rattle.snl_grammar.specs.declared.operator.Assignment.TheVariants as assignments
+use Rattle.snl_grammar.specs.declared.operator.Binary.{Binary}
+use Rattle.snl_grammar.specs.declared.operator.Binary.TheVariants as binaries
+use Rattle.snl_grammar.specs.declared.operator.Sign.{Sign}
+use Rattle.snl_grammar.specs.declared.operator.Sign.TheVariants as signs
+use Rattle.snl_grammar.specs.declared.tree.expression.Prefix.{Prefix}
+use Rattle.snl_grammar.specs.declared.tree.expression.Prefix.TheVariants as prefixes
+use Rattle.snl_grammar.specs.declared.tree.types.Base.{Base}
+use Rattle.snl_grammar.specs.declared.tree.types.Base.TheVariants as bases
+use Rattle.snl_grammar.specs.declared.tree.types.Integer.{Integer}
+use Rattle.snl_grammar.specs.declared.tree.types.Integer.TheVariants as integers
+use Rattle.snl_grammar.specs.declared.tree.types.Pointer.{Pointer}
+use Rattle.snl_grammar.specs.declared.tree.types.Pointer.TheVariants as pointers
+use Rattle.snl_grammar.specs.declared.tree.types.QualifiedType.{QualifiedType}
+use Rattle.snl_grammar.specs.declared.tree.types.TypeName.{TypeName}
+use Rattle.snl_grammar.specs.Operators.{assignment_kind, binary_kind, sign_kind}
+use Rattle.snl_grammar.specs.Spelling.Base.{joined, leaf, word, written}
+use Rattle.snl_grammar.specs.Spelling.Expressions.{spell_prefix, spell_texts}
+use Rattle.snl_grammar.specs.Spelling.Types.{spell_base, spell_integer, spell_pointer, spell_stars, spell_type, spell_type_name}
 use Rattle.snl_item_laws.proofs.Told.{AreTold, Case, Sort, hidden, is_quiet, none, quiet, silent_joined, told_after, told_in_parens}
 
 pub binary_quiet : (op : Binary) → is_quiet (binary_kind op) ≡ true

@@ -1,11 +1,11 @@
 -- Where the cut takes more tokens than an item of the grammar has.
 use Rattle.std.specs.Prelude.{Bool, true, false, List, ◌∷◌, map, None}
 use Rattle.snl_lex.specs.declared.kind.Kind.{Kind}
-use Rattle.snl_syntax.specs.declared.marks.Mark.{Mark}
-use Rattle.snl_syntax.specs.declared.marks.Mark.TheVariants as mark
-use Rattle.snl_syntax.specs.declared.tree.item.Item.{Item}
-use Rattle.snl_syntax.specs.declared.tree.item.Item.TheVariants as items
-use Rattle.snl_syntax.specs.Marks.{mark_of_kind}
+use Rattle.snl_grammar.specs.declared.marks.Mark.{Mark}
+use Rattle.snl_grammar.specs.declared.marks.Mark.TheVariants as mark
+use Rattle.snl_grammar.specs.declared.tree.item.Item.{Item}
+use Rattle.snl_grammar.specs.declared.tree.item.Item.TheVariants as items
+use Rattle.snl_grammar.specs.Marks.{mark_of_kind}
 
 abbrev pub marks_of : List Kind → List Mark
 marks_of kinds = map mark_of_kind kinds

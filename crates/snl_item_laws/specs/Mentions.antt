@@ -4,17 +4,17 @@ use Rattle.std.specs.Prelude.{ℕ, suc, Bool, true, false, not, ◌&&◌, List, 
 use Rattle.std.specs.List.{flat_map}
 use Rattle.snl_lex.specs.declared.kind.Kind.{Kind}
 use Rattle.snl_lex.specs.declared.kind.Kind.TheVariants as kind
-use Rattle.snl_syntax.specs.declared.tree.declaration.Parameter.{Parameter}
-use Rattle.snl_syntax.specs.declared.tree.item.Item.{Item}
-use Rattle.snl_syntax.specs.declared.tree.item.Item.TheVariants as items
-use Rattle.snl_syntax.specs.declared.tree.state.StateMember.{StateMember}
-use Rattle.snl_syntax.specs.declared.tree.state.StateMember.TheVariants as members
-use Rattle.snl_syntax.specs.declared.tree.statement.Member.{Member}
-use Rattle.snl_syntax.specs.Spelling.Base.{Spelled, commas, joined}
-use Rattle.snl_syntax.specs.Spelling.Declarations.{spell_declaration, spell_length}
-use Rattle.snl_syntax.specs.Spelling.Functions.{spell_parameter, spell_struct_member}
-use Rattle.snl_syntax.specs.Spelling.Statements.{spell_block}
-use Rattle.snl_syntax.specs.Spelling.States.{spell_state_member, spell_transition}
+use Rattle.snl_grammar.specs.declared.tree.declaration.Parameter.{Parameter}
+use Rattle.snl_grammar.specs.declared.tree.item.Item.{Item}
+use Rattle.snl_grammar.specs.declared.tree.item.Item.TheVariants as items
+use Rattle.snl_grammar.specs.declared.tree.state.StateMember.{StateMember}
+use Rattle.snl_grammar.specs.declared.tree.state.StateMember.TheVariants as members
+use Rattle.snl_grammar.specs.declared.tree.statement.Member.{Member}
+use Rattle.snl_grammar.specs.Spelling.Base.{Spelled, commas, joined}
+use Rattle.snl_grammar.specs.Spelling.Declarations.{spell_declaration, spell_length}
+use Rattle.snl_grammar.specs.Spelling.Functions.{spell_parameter, spell_struct_member}
+use Rattle.snl_grammar.specs.Spelling.Statements.{spell_block}
+use Rattle.snl_grammar.specs.Spelling.States.{spell_state_member, spell_transition}
 use Rattle.snl_walk.specs.declared.occurrence.What.{What}
 use Rattle.snl_walk.specs.declared.occurrence.What.TheVariants as what
 

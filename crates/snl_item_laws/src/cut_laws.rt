@@ -2,13 +2,13 @@
 
 ghost use Rattle.std.specs.Prelude.{◌≡◌, ◌++◌, ◌<◌, List, false, length, true};
 ghost use Rattle.snl_lex.specs.declared.kind.Kind.{Kind};
-ghost use Rattle.snl_syntax.specs.Grammar.Items.{IsItem};
-ghost use Rattle.snl_syntax.specs.Items.{item};
-ghost use Rattle.snl_syntax.specs.declared.marks.Mark.{Mark};
-ghost use Rattle.snl_syntax.specs.declared.tree.item.Item.{Item};
+ghost use Rattle.snl_grammar.specs.Grammar.Items.{IsItem};
+ghost use Rattle.snl_grammar.specs.Items.{item};
+ghost use Rattle.snl_grammar.specs.declared.marks.Mark.{Mark};
+ghost use Rattle.snl_grammar.specs.declared.tree.item.Item.{Item};
 ghost use Rattle.snl_item_laws.specs.Cuts.{could_go_on, marks_of};
 
-use snl_syntax::{first_item, item_spelled};
+use snl_grammar::{first_item, item_spelled};
 
 /// The tokens of an item of the grammar are cut as one item, whatever follows them: but for a
 /// header without texts where a parenthesis follows, which could begin its texts. This one takes

@@ -2,8 +2,8 @@
 
 ghost use Rattle.std.specs.Prelude.{ℕ, ◌<◌, List, length};
 ghost use Rattle.snl_lex.specs.declared.kind.Kind.{Kind};
-ghost use Rattle.snl_syntax.specs.Grammar.Items.{IsItem};
-ghost use Rattle.snl_syntax.specs.declared.tree.item.Item.{Item};
+ghost use Rattle.snl_grammar.specs.Grammar.Items.{IsItem};
+ghost use Rattle.snl_grammar.specs.declared.tree.item.Item.{Item};
 ghost use Rattle.snl_item_laws.specs.Brackets.{IsWithin};
 
 /// Around no token of an item of the grammar are more than 100 brackets open, round, square and

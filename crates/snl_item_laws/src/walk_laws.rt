@@ -3,14 +3,14 @@
 
 ghost use Rattle.std.specs.Prelude.{◌≡◌, ℕ, List};
 ghost use Rattle.snl_lex.specs.declared.kind.Kind.{Kind};
-ghost use Rattle.snl_syntax.specs.Grammar.Items.{IsItem};
-ghost use Rattle.snl_syntax.specs.Spelling.Items.{spell_item};
-ghost use Rattle.snl_syntax.specs.declared.tree.item.Item.{Item};
+ghost use Rattle.snl_grammar.specs.Grammar.Items.{IsItem};
+ghost use Rattle.snl_grammar.specs.Spelling.Items.{spell_item};
+ghost use Rattle.snl_grammar.specs.declared.tree.item.Item.{Item};
 ghost use Rattle.snl_walk.specs.Items.{occurrences};
 ghost use Rattle.snl_walk.specs.Uses.{targets, tokens_where};
 ghost use Rattle.snl_item_laws.specs.Mentions.{is_change, is_jump, is_named, is_state, jumps, leaves_where, looked_up_in, names_in, places, states_in, transitions_in};
 
-use snl_syntax::item_spelled;
+use snl_grammar::item_spelled;
 
 /// Each token `break` or `continue` of an item is found as a jump, and nothing else is.
 pub fn jumps_are_found()

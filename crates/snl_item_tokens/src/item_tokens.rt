@@ -7,8 +7,8 @@ ghost use Rattle.snl_cut.specs.Cut.{last_end};
 ghost use Rattle.snl_lex.specs.Pieces.{piece_end};
 
 use snl_cut::ends_in_order;
+use snl_grammar::Tokens;
 use snl_lex::{Piece, text_in_pieces};
-use snl_syntax::Tokens;
 use snl_tables::Span;
 
 /// The tokens of a text, and where its items end among them. No token is too far off.

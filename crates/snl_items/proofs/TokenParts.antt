@@ -9,8 +9,8 @@ use Rattle.snl_lex.specs.PieceList.{last_pieces, pieces_between, spelled, spelli
 use Rattle.snl_lex.specs.declared.piece_list.PieceChange.{PieceChange}
 use Rattle.snl_lex.specs.Edit.{Edit, IsChange, made_pieces}
 use Rattle.snl_lex.specs.Pieces.{LiesIn, is_token, moved_piece, pieces_of, tokens_of}
-use Rattle.snl_syntax.specs.declared.marks.Mark.{Mark}
-use Rattle.snl_syntax.specs.Marks.{mark_of}
+use Rattle.snl_grammar.specs.declared.marks.Mark.{Mark}
+use Rattle.snl_grammar.specs.Marks.{mark_of}
 use Rattle.snl_items.specs.declared.tokens.TokenChange.{TokenChange}
 use Rattle.snl_items.specs.Items.{mark_in, marks_of, spellings}
 use Rattle.snl_items.specs.Fresh.{replaced_alike, spelled_alike, token_edit_of}

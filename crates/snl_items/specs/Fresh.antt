@@ -6,7 +6,7 @@ use Rattle.snl_lex.specs.declared.piece.Class.{Class}
 use Rattle.snl_lex.specs.contracts.piece.ClassPartialEq.TheImpl as class_eq
 use Rattle.snl_lex.specs.Edit.{Edit, splice}
 use Rattle.snl_lex.specs.Pieces.{piece_end, piece_length, tokens_of}
-use Rattle.snl_syntax.specs.Items.{item}
+use Rattle.snl_grammar.specs.Items.{item}
 use Rattle.snl_items.specs.declared.tokens.TokenEdit.{TokenEdit}
 use Rattle.snl_items.specs.Items.{marks_of, spellings}
 

@@ -6,9 +6,9 @@ use Rattle.snl_lex.specs.declared.piece.Class.{Class}
 use Rattle.snl_lex.specs.declared.piece.Piece.{Piece}
 use Rattle.snl_lex.specs.Pieces.{bytes_at, tokens_of}
 use Rattle.snl_lex.specs.PieceList.{spelling}
-use Rattle.snl_syntax.specs.declared.marks.Mark.{Mark}
-use Rattle.snl_syntax.specs.Items.{item}
-use Rattle.snl_syntax.specs.Marks.{mark_of}
+use Rattle.snl_grammar.specs.declared.marks.Mark.{Mark}
+use Rattle.snl_grammar.specs.Items.{item}
+use Rattle.snl_grammar.specs.Marks.{mark_of}
 
 -- What a token is to the cut into items.
 abbrev pub mark_in : List ℕ → Piece → Mark

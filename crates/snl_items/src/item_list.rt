@@ -16,9 +16,9 @@ use snl_cut::{
     Count, Narrow, OutOfMemory, cut_all, ends_in_order, made_are_fresh, members_stay, one_cut,
     recut_by, recut_is_cut,
 };
+use snl_grammar::{Mark, Tokens};
 use snl_lex::TextEdit;
 use snl_lists::{replace, replace_and_shift};
-use snl_syntax::{Mark, Tokens};
 use std::alloc::Global;
 
 /// What the tokens of a text are to the cut into items, and where the items end, as numbers of

@@ -12,11 +12,11 @@ ghost use Rattle.std.specs.Prelude.{◌≡◌, ◌≤◌, All, IfOk, IfSome, cou
 use crate::shifted::{Shifted, shifted_from};
 use crate::spelled::are_spelled_alike;
 use snl_cut::{OutOfMemory, ends_in_order, meets_where_sought, one_cut};
+use snl_grammar::{Mark, mark};
 use snl_lex::{
     Bytes, Class, Piece, PieceChange, PieceList, TextEdit, kept_as_spelled, pieces_as_listed,
     text_in_pieces,
 };
-use snl_syntax::{Mark, mark};
 use std::alloc::Global;
 
 /// An edit of a list of tokens: those from `start` up to `old_stop` became those from `start` up to

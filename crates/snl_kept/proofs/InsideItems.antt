@@ -13,8 +13,8 @@ use Rattle.snl_lex.specs.Edit.{Edit}
 use Rattle.snl_lex.specs.Pieces.{LiesIn, is_token, pieces_of, tokens_of}
 use Rattle.snl_lex.specs.LineShift.{IsLineShift, moved_line}
 use Rattle.snl_lex.specs.Shift.{IsOutside, shifted_offset, shifted_piece}
-use Rattle.snl_syntax.specs.Outcome.{parsed_by, parsed_in, sound_tree}
-use Rattle.snl_syntax.specs.declared.tree.item.Item.{Item}
+use Rattle.snl_grammar.specs.Outcome.{parsed_by, parsed_in, sound_tree}
+use Rattle.snl_grammar.specs.declared.tree.item.Item.{Item}
 use Rattle.snl_items.specs.Changes.{LeavesAround}
 use Rattle.snl_items.specs.Items.{item_ends, spelled_items}
 use Rattle.snl_scope.specs.Names.{has_own_scope}

@@ -12,8 +12,8 @@ use Rattle.snl_lex.specs.Edit.{Edit}
 use Rattle.snl_lex.specs.Pieces.{tokens_of}
 use Rattle.snl_items.specs.Changes.{IsShiftOf}
 use Rattle.snl_items.specs.Items.{item_ends, spelled_items}
-use Rattle.snl_syntax.specs.Outcome.{parsed_by, parsed_in, sound_tree}
-use Rattle.snl_syntax.specs.declared.tree.item.Item.{Item}
+use Rattle.snl_grammar.specs.Outcome.{parsed_by, parsed_in, sound_tree}
+use Rattle.snl_grammar.specs.declared.tree.item.Item.{Item}
 use Rattle.snl_scope.specs.Places.{enclosing_set}
 use Rattle.snl_scope.specs.SpelledTokens.{bytes_by, summary_by}
 use Rattle.snl_scope.specs.View.{view}

@@ -3,7 +3,7 @@ use Rattle.std.proofs.Common.{◌≡◌, ℕ, List, [], filter, map, refl, ap}
 use Rattle.snl_cut.specs.Cut.{ends_of, members}
 use Rattle.snl_lex.specs.declared.piece.Piece.{Piece}
 use Rattle.snl_lex.specs.Pieces.{is_token, pieces_of, tokens_of}
-use Rattle.snl_syntax.specs.Items.{item}
+use Rattle.snl_grammar.specs.Items.{item}
 use Rattle.snl_items.specs.Items.{item_ends, mark_in, spellings}
 use Rattle.snl_kept.specs.Checks.{checks_from, checks_of, outlines_in}
 use Rattle.snl_kept.specs.Entries.{entries_of, entry_by}

@@ -7,12 +7,12 @@ use Rattle.std.proofs.lemmas.Bool.{cases_lt}
 use Rattle.std.proofs.lemmas.List.Elements.{recursion_from_All}
 use Rattle.snl_lex.specs.declared.piece.Piece.{Piece}
 use Rattle.snl_lex.specs.Pieces.{LiesIn}
-use Rattle.snl_syntax.specs.declared.outcome.Parsed.{Parsed}
-use Rattle.snl_syntax.specs.declared.outcome.Parsed.TheVariants as parsed
-use Rattle.snl_syntax.specs.declared.tree.item.Item.{Item}
-use Rattle.snl_syntax.specs.Outcome.{parsed_in}
-use Rattle.snl_syntax.specs.Parsing.{kinds_in}
-use Rattle.snl_syntax.specs.Reading.Items.{item_of}
+use Rattle.snl_grammar.specs.declared.outcome.Parsed.{Parsed}
+use Rattle.snl_grammar.specs.declared.outcome.Parsed.TheVariants as parsed
+use Rattle.snl_grammar.specs.declared.tree.item.Item.{Item}
+use Rattle.snl_grammar.specs.Outcome.{parsed_in}
+use Rattle.snl_grammar.specs.Parsing.{kinds_in}
+use Rattle.snl_grammar.specs.Reading.Items.{item_of}
 use Rattle.snl_codes.specs.declared.code.Code.{Code}
 use Rattle.snl_codes.specs.declared.code.Code.TheVariants.{E01, E02, E07}
 use Rattle.snl_scope.specs.declared.facts.Fact.{Fact}

@@ -3,8 +3,8 @@ use Rattle.std.proofs.Common.{arith, ◌≡◌, ℕ, ◌<◌, ◌≤◌, List, �
 use Rattle.std.proofs.lemmas.List.{length-map}
 use Rattle.snl_lex.specs.declared.piece.Piece.{Piece}
 use Rattle.snl_lex.specs.PieceList.{spelled}
-use Rattle.snl_syntax.specs.Outcome.{parsed_by, parsed_in, sound_tree}
-use Rattle.snl_syntax.specs.declared.tree.item.Item.{Item}
+use Rattle.snl_grammar.specs.Outcome.{parsed_by, parsed_in, sound_tree}
+use Rattle.snl_grammar.specs.declared.tree.item.Item.{Item}
 use Rattle.snl_scope.specs.SpelledTokens.{summary_by}
 use Rattle.snl_scope.specs.Summaries.{summary_in}
 use Rattle.snl_kept.specs.declared.found.program.Part.{Part}

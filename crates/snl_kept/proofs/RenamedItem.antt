@@ -8,8 +8,8 @@ use Rattle.std.proofs.lemmas.Option.{slice_get-map, slice_get_within, same_Some}
 use Rattle.snl_lex.specs.declared.piece.Class.{Class}
 use Rattle.snl_lex.specs.declared.piece.Piece.{Piece}
 use Rattle.snl_lex.specs.PieceList.{spelled}
-use Rattle.snl_syntax.specs.Outcome.{parsed_by, parsed_in, sound_tree}
-use Rattle.snl_syntax.specs.declared.tree.item.Item.{Item}
+use Rattle.snl_grammar.specs.Outcome.{parsed_by, parsed_in, sound_tree}
+use Rattle.snl_grammar.specs.declared.tree.item.Item.{Item}
 use Rattle.snl_items.specs.Items.{spelled_items}
 use Rattle.snl_scope.specs.declared.renamed.Renaming.{Renaming}
 use Rattle.snl_scope.specs.declared.renamed.Renaming.TheVariants as renamings
@@ -36,7 +36,8 @@ use Rattle.snl_kept.specs.ReplacedItem.{SeesAlike}
 use Rattle.snl_kept.proofs.InsideMade.{kept_outlines}
 use Rattle.snl_kept.proofs.InsideTold.{summary_is}
 use Rattle.snl_kept.proofs.Members.{one_entry_made}
-use Rattle.snl_kept.proofs.Replaced.{put_back, replaced_here, replaced_other, replaced_parts}
+use Rattle.snl_facts.specs.Lists.{put_back}
+use Rattle.snl_kept.proofs.Replaced.{replaced_here, replaced_other, replaced_parts}
 use Rattle.snl_kept.proofs.SpelledItems.{spelled_text}
 
 map_set : {X Y : Type 0} (f : X → Y) (xs : List X) (k : ℕ) (x : X) → map f (slice_set xs k x) ≡ slice_set (map f xs) k (f x)

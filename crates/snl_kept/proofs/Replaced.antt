@@ -1,7 +1,7 @@
 -- A list of which one element is replaced.
 use Rattle.std.proofs.Common.{◌≡◌, ◌≢◌, ℕ, zero, suc, ◌+◌, ◌<◌, List, [], ◌∷◌, ◌++◌, length, map, take, drop, Some, None, refl, sym, ap, ap₂, ◌∙◌, arith}
 use Rattle.std.specs.List.{slice_get, slice_set}
-use Rattle.std.proofs.lemmas.Option.{slice_get_within, same_Some}
+use Rattle.std.proofs.lemmas.Option.{same_Some}
 use Rattle.std.proofs.lemmas.List.{drop-set, take-append-drop, take-set}
 
 pub replaced_parts : {X : Type 0} (xs : List X) (k : ℕ) (x : X) → k < length xs → slice_set xs k x ≡ take k xs ++ (x ∷ drop (k + 1) xs)
@@ -30,9 +30,6 @@ replaced_other (y ∷ ys) zero x zero apart = absurd (apart refl)
 replaced_other (y ∷ ys) zero x (suc i) apart = refl
 replaced_other (y ∷ ys) (suc k) x zero apart = refl
 replaced_other (y ∷ ys) (suc k) x (suc i) apart = replaced_other ys k x i (λ e. apart (ap suc e))
-
-pub put_back : {X : Type 0} (xs : List X) (k : ℕ) (x : X) → slice_get xs k ≡ Some x → xs ≡ take k xs ++ (x ∷ drop (k + 1) xs)
-put_back xs k x at = sym (replaced_same xs k x at) ∙ replaced_parts xs k x (slice_get_within xs k x at)
 
 -- something of each element that is the same of both
 pub replaced_alike : {X Y : Type 0} (f : X → Y) (xs : List X) (k : ℕ) (x y : X) → slice_get xs k ≡ Some x → f y ≡ f x → map f (slice_set xs k y) ≡ map f xs

@@ -10,9 +10,9 @@ use Rattle.snl_lex.specs.declared.piece.Piece.{Piece}
 use Rattle.snl_lex.specs.declared.shift.Shift.{Shift}
 use Rattle.snl_lex.specs.Pieces.{LiesIn, piece_end}
 use Rattle.snl_lex.specs.Shift.{most, shifted_offset, shifted_piece}
-use Rattle.snl_syntax.specs.declared.outcome.Parsed.{Parsed}
-use Rattle.snl_syntax.specs.declared.outcome.Parsed.TheVariants as parsed
-use Rattle.snl_syntax.specs.declared.tree.item.Item.{Item}
+use Rattle.snl_grammar.specs.declared.outcome.Parsed.{Parsed}
+use Rattle.snl_grammar.specs.declared.outcome.Parsed.TheVariants as parsed
+use Rattle.snl_grammar.specs.declared.tree.item.Item.{Item}
 use Rattle.snl_codes.specs.declared.code.Code.{Code}
 use Rattle.snl_scope.specs.declared.facts.LinkFault.{LinkFault}
 use Rattle.snl_scope.specs.Summaries.Tokens.{token_bytes, bytes_if}

@@ -11,8 +11,8 @@ use Rattle.snl_lex.specs.declared.shift.Shift.{Shift}
 use Rattle.snl_lex.specs.PieceList.{spelled}
 use Rattle.snl_lex.specs.Pieces.{piece_end, tokens_of}
 use Rattle.snl_lex.specs.Shift.{shifted_piece}
-use Rattle.snl_syntax.specs.Outcome.{parsed_by, parsed_in, sound_tree}
-use Rattle.snl_syntax.specs.declared.tree.item.Item.{Item}
+use Rattle.snl_grammar.specs.Outcome.{parsed_by, parsed_in, sound_tree}
+use Rattle.snl_grammar.specs.declared.tree.item.Item.{Item}
 use Rattle.snl_items.specs.Changes.{AreLeft}
 use Rattle.snl_items.specs.Items.{item_ends, spelled_items, spellings}
 use Rattle.snl_scope.specs.Summaries.{kind_of, summary_in}

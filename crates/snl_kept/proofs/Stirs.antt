@@ -4,7 +4,7 @@ use Rattle.std.specs.Prelude.{count_by}
 use Rattle.std.specs.List.{enumerate_from, flat_map}
 use Rattle.std.specs.Option.{IsSome}
 use Rattle.std.proofs.lemmas.List.Sums.{sum_by-cons}
-use Rattle.snl_syntax.specs.Outcome.{parsed_by, sound_tree}
+use Rattle.snl_grammar.specs.Outcome.{parsed_by, sound_tree}
 use Rattle.snl_scope.specs.View.{same_view}
 use Rattle.snl_scope.specs.declared.summaries.summary.Outline.{Outline}
 use Rattle.snl_item_check.specs.declared.findings.Checked.{Checked}

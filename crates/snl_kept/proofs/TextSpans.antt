@@ -5,9 +5,9 @@ use Rattle.std.proofs.lemmas.List.Elements.{All-drop, All-filter, All-nil, All-t
 use Rattle.snl_cut.specs.Cut.{members}
 use Rattle.snl_lex.specs.declared.piece.Piece.{Piece}
 use Rattle.snl_lex.specs.Pieces.{LiesIn, is_token, pieces_of, tokens_of}
-use Rattle.snl_syntax.specs.declared.tree.item.Item.{Item}
-use Rattle.snl_syntax.specs.Parsing.{kinds_in}
-use Rattle.snl_syntax.specs.Reading.Items.{item_of}
+use Rattle.snl_grammar.specs.declared.tree.item.Item.{Item}
+use Rattle.snl_grammar.specs.Parsing.{kinds_in}
+use Rattle.snl_grammar.specs.Reading.Items.{item_of}
 use Rattle.snl_scope.specs.Summaries.Tokens.{IsSource}
 use Rattle.snl_item_check.specs.Items as items
 use Rattle.snl_check.specs.Spans.{AreRead}

@@ -2,9 +2,9 @@
 use Rattle.std.specs.Prelude.{ℕ, List, option_map, Option, None}
 use Rattle.std.specs.List.{filter_map, slice_get}
 use Rattle.snl_lex.specs.declared.piece.Piece.{Piece}
-use Rattle.snl_syntax.specs.declared.outcome.Parsed.{Parsed}
-use Rattle.snl_syntax.specs.declared.outcome.Parsed.TheVariants as parsed
-use Rattle.snl_syntax.specs.Outcome.{parsed_in}
+use Rattle.snl_grammar.specs.declared.outcome.Parsed.{Parsed}
+use Rattle.snl_grammar.specs.declared.outcome.Parsed.TheVariants as parsed
+use Rattle.snl_grammar.specs.Outcome.{parsed_in}
 use Rattle.snl_codes.specs.declared.code.Code.{Code}
 use Rattle.snl_codes.specs.declared.code.Code.TheVariants.{E01, E02}
 use Rattle.snl_kept.specs.declared.found.findings.Finding.{Finding}

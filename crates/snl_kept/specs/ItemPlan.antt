@@ -6,7 +6,7 @@ use Rattle.snl_lex.specs.declared.line_shift.LineShift.{LineShift}
 use Rattle.snl_lex.specs.declared.shift.Shift.{Shift}
 use Rattle.snl_lex.specs.LineShift.{moved_line}
 use Rattle.snl_items.specs.Items.{item_ends}
-use Rattle.snl_syntax.specs.Outcome.{sound_tree}
+use Rattle.snl_grammar.specs.Outcome.{sound_tree}
 use Rattle.snl_scope.specs.Linked.{faults_of}
 use Rattle.snl_scope.specs.Order.{state_name}
 use Rattle.snl_scope.specs.Places.{enclosing_set}

@@ -2,7 +2,7 @@
 use Rattle.std.specs.Prelude.{◌≡◌, ℕ, ◌+◌, ◌-◌, ◌&&◌, Bool, false, not, nat_lt, if◌then◌else◌, List, [], ◌∷◌, ◌++◌, length, map, take, drop, Option, None, Some, is_some, slice_set}
 use Rattle.std.specs.List.{enumerate_from, flat_map}
 use Rattle.snl_lex.specs.declared.piece.Class.{Class}
-use Rattle.snl_syntax.specs.Outcome.{parsed_by, sound_tree}
+use Rattle.snl_grammar.specs.Outcome.{parsed_by, sound_tree}
 use Rattle.snl_scope.specs.View.{same_view}
 use Rattle.snl_scope.specs.declared.summaries.summary.Outline.{Outline}
 use Rattle.snl_scope.specs.declared.summaries.summary.Summary.{Summary}

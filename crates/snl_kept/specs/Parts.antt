@@ -4,8 +4,8 @@ use Rattle.std.specs.Prelude.{◌≡◌, ℕ, ◌-◌, ◌<◌, ◌≤◌, List,
 use Rattle.snl_lex.specs.declared.piece.Class.{Class}
 use Rattle.snl_lex.specs.declared.piece.Piece.{Piece}
 use Rattle.snl_lex.specs.PieceList.{spelled}
-use Rattle.snl_syntax.specs.Outcome.{parsed_in, sound_tree}
-use Rattle.snl_syntax.specs.declared.tree.item.Item.{Item}
+use Rattle.snl_grammar.specs.Outcome.{parsed_in, sound_tree}
+use Rattle.snl_grammar.specs.declared.tree.item.Item.{Item}
 use Rattle.snl_scope.specs.Summaries.{summary_in}
 pub use Rattle.snl_item_check.specs.Items.{EndsWithin}
 use Rattle.snl_kept.specs.declared.found.program.Part.{Part}

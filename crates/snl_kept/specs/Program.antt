@@ -4,9 +4,9 @@ use Rattle.std.specs.List.{list_any}
 use Rattle.snl_cut.specs.Cut.{members}
 use Rattle.snl_lex.specs.declared.piece.Piece.{Piece}
 use Rattle.snl_lex.specs.Pieces.{tokens_of}
-use Rattle.snl_syntax.specs.declared.tree.item.Item.{Item}
-use Rattle.snl_syntax.specs.Parsing.{is_bad, kinds_in}
-use Rattle.snl_syntax.specs.Reading.Items.{item_of}
+use Rattle.snl_grammar.specs.declared.tree.item.Item.{Item}
+use Rattle.snl_grammar.specs.Parsing.{is_bad, kinds_in}
+use Rattle.snl_grammar.specs.Reading.Items.{item_of}
 use Rattle.snl_items.specs.Items.{item_ends}
 pub use Rattle.snl_item_check.specs.Items.{ProgramItem}
 

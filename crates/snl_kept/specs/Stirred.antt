@@ -3,7 +3,7 @@
 use Rattle.std.specs.Prelude.{ℕ, ◌+◌, ◌-◌, ◌&&◌, ◌||◌, Bool, not, nat_eq, nat_lt, if◌then◌else◌, List, length, count_by, get_or, is_some}
 use Rattle.std.specs.List.{enumerate_from, list_any}
 use Rattle.snl_cut.specs.Cut.{ends_below}
-use Rattle.snl_syntax.specs.Outcome.{sound_tree}
+use Rattle.snl_grammar.specs.Outcome.{sound_tree}
 use Rattle.snl_items.specs.Fresh.{fresh_items_of, token_edit_of}
 use Rattle.snl_lex.specs.Edit.{Edit, splice}
 use Rattle.snl_items.specs.Items.{item_ends}

@@ -8,17 +8,18 @@ ghost use Rattle.std.specs.Prelude.{◌≡◌, ◌-◌, ◌<◌, ◌≤◌, All,
 ghost use Rattle.snl_cut.specs.Cut.{after_ticks, members, ticked};
 ghost use Rattle.snl_lex.specs.PieceList.{spelled};
 ghost use Rattle.snl_lex.specs.Pieces.{LiesIn};
-ghost use Rattle.snl_syntax.specs.Outcome.{parsed_by};
+ghost use Rattle.snl_grammar.specs.Outcome.{parsed_by};
 ghost use Rattle.snl_kept.specs.Entries.{entry_by};
 ghost use Rattle.snl_kept.specs.Parts.{EndsWithin};
 
 use crate::shared::Shared;
 use snl_cut::{Count, OutOfMemory};
+use snl_grammar::tree::item::Item;
+use snl_grammar::{Parsed, same_spelling_same_tree};
 use snl_items::are_spelled_alike;
 use snl_lex::Piece;
 use snl_scope::{Summary, same_spelling_same_summary, summary_of};
-use snl_syntax::tree::item::Item;
-use snl_syntax::{Parsed, parsed, same_spelling_same_tree};
+use snl_syntax::parsed;
 use std::alloc::Global;
 use std::marker::Model;
 

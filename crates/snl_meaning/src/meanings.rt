@@ -10,11 +10,11 @@ use crate::items::{TokenPlace, span_bytes};
 use crate::names::{LinkedItem, meant_in};
 use crate::text_items::TextItems;
 use snl_cut::OutOfMemory;
+use snl_grammar::{outcome_told, same_spelling_same_tree};
 use snl_item_tokens::{ItemTokens, all_tokens};
 use snl_kept::Lists;
 use snl_lex::text_in_pieces;
 use snl_scope::{Links, Source, same_spelling_same_summary};
-use snl_syntax::{outcome_told, same_spelling_same_tree};
 use snl_tables::Span;
 use std::alloc::Global;
 

@@ -14,8 +14,8 @@ ghost use Rattle.snl_meaning.specs.Meanings.{place_of, state_named};
 
 use crate::items::TokenPlace;
 use snl_cut::OutOfMemory;
+use snl_grammar::tree::item::Item;
 use snl_scope::{Declaration, Links, NameRef, Outline, VariableClause};
-use snl_syntax::tree::item::Item;
 use snl_walk::{Local, Occurrence, Source, What, occurrences};
 
 /// The item of a name, by its number among those that are linked.

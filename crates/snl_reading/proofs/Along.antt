@@ -6,7 +6,7 @@ use Rattle.std.proofs.lemmas.List.Elements.{All-filter}
 use Rattle.snl_cut.specs.Cut.{IsFront, Walks, members}
 use Rattle.snl_lex.specs.declared.piece.Piece.{Piece}
 use Rattle.snl_lex.specs.Pieces.{LiesIn, is_token, pieces_of, tokens_of}
-use Rattle.snl_syntax.specs.declared.tree.item.Item.{Item}
+use Rattle.snl_grammar.specs.declared.tree.item.Item.{Item}
 use Rattle.snl_item_check.specs.Items.{EndsWithin, ProgramItem, program_items}
 use Rattle.snl_reading.specs.declared.items.ReadItem.{ReadItem}
 use Rattle.snl_reading.specs.ItemsRead.{AreItems, item_read, items_read, trees_of_items}

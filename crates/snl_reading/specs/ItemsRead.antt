@@ -1,7 +1,7 @@
 -- What is read of a text, as what it is in the text.
 use Rattle.std.specs.Prelude.{◌≡◌, ℕ, List, All, length, map, Option, option_copied}
 use Rattle.snl_lex.specs.Pieces.{LiesIn, tokens_of}
-use Rattle.snl_syntax.specs.declared.tree.item.Item.{Item}
+use Rattle.snl_grammar.specs.declared.tree.item.Item.{Item}
 use Rattle.snl_item_check.specs.Items.{IsCutUp, ProgramItem, program_items}
 use Rattle.snl_reading.specs.declared.items.ReadItem.{ReadItem}
 

@@ -4,11 +4,11 @@ ghost use Rattle.std.specs.Prelude.{◌≡◌, All, IfOk, length};
 ghost use Rattle.snl_item_check.specs.Items.{EndsWithin};
 ghost use Rattle.snl_cut.specs.Cut.{IsCut};
 ghost use Rattle.snl_lex.specs.Pieces.{LiesIn, pieces_of, tokens_of};
-ghost use Rattle.snl_syntax.specs.Items.{item};
+ghost use Rattle.snl_grammar.specs.Items.{item};
 
 use snl_cut::{Count, OutOfMemory, cut_all};
+use snl_grammar::{Mark, Tokens, mark};
 use snl_lex::{Piece, lex, tokens_among};
-use snl_syntax::{Mark, Tokens, mark};
 use std::alloc::Global;
 
 /// The pieces of a text.

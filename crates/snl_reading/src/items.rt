@@ -7,8 +7,8 @@ ghost use Rattle.snl_lex.specs.Pieces.{LiesIn, tokens_of};
 ghost use Rattle.snl_reading.specs.ItemsRead.{AreItems, ReadFrom, items_read};
 
 use snl_cut::{Count, OutOfMemory};
+use snl_grammar::tree::item::Item;
 use snl_lex::{Piece, text_in_pieces};
-use snl_syntax::tree::item::Item;
 use snl_syntax::{ParseFault, parse_item};
 use std::alloc::Global;
 

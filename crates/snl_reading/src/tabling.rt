@@ -13,10 +13,10 @@ use crate::items::{ReadItem, items_of, trees_of};
 use crate::linking::links_among;
 use snl_check::{Tables, tables};
 use snl_cut::OutOfMemory;
+use snl_grammar::tree::item::Item;
 use snl_item_check::Checked;
 use snl_lex::Piece;
 use snl_scope::Links;
-use snl_syntax::tree::item::Item;
 use std::alloc::Global;
 
 /// The trees of items. A faulty one has none.

@@ -1,11 +1,11 @@
 -- Clauses are what they were, and as much is found, where an item says by other names what the one
 -- before it said, and no clause is on such a name.
-use Rattle.std.proofs.Common.{◌≡◌, ℕ, suc, ◌+◌, Bool, true, false, List, [], ◌∷◌, ◌++◌, length, map, take, drop, Option, Some, slice_get, refl, sym, ap, ap₂, subst, ◌∙◌, arith}
+use Rattle.std.proofs.Common.{◌≡◌, ℕ, ◌+◌, Bool, true, false, List, [], ◌∷◌, ◌++◌, length, map, take, drop, Option, Some, slice_get, refl, sym, ap, ap₂, subst, ◌∙◌, arith}
 use Rattle.std.specs.List.{zip}
 use Rattle.std.specs.Option.{option_map_or}
-use Rattle.std.proofs.lemmas.List.{length-take-le, take-append-drop}
+use Rattle.std.proofs.lemmas.List.{length-take-le}
 use Rattle.std.proofs.lemmas.Option.{option_and_then_some, slice_get_within}
-use Rattle.snl_facts.specs.Lists.{drop_got}
+use Rattle.snl_facts.specs.Lists.{put_back}
 use Rattle.snl_scope.specs.declared.renamed.Renaming.{Renaming}
 use Rattle.snl_scope.specs.declared.renamed.Renaming.TheVariants as renaming
 use Rattle.snl_scope.specs.declared.summaries.summary.ItemKind.{ItemKind}
@@ -83,11 +83,6 @@ clauses_alike ss ts found flags =
     are_alike ss ts (ap₂ (λ (cs : List LinkedClause) (bs : List Bool). map (λ (p : LinkedClause × Bool). clause_link p.0 p.1) (zip cs bs)) found.clauses found.sound) flags
 
 -- ---- at a place
-
-put_back : {X : Type 0} (xs : List X) (k : ℕ) (x : X) → slice_get xs k ≡ Some x → xs ≡ take k xs ++ (x ∷ drop (k + 1) xs)
-put_back {X = X} xs k x at =
-    let next : suc k ≡ k + 1 = omega arith in
-    sym (take-append-drop k xs) ∙ ap (λ (l : List X). take k xs ++ l) (drop_got xs k x at ∙ ap (λ (n : ℕ). x ∷ drop n xs) next)
 
 abbrev pub kinds_by : List ItemKind → ℕ → ItemKind → List ItemKind
 kinds_by ks k kind = take k ks ++ (kind ∷ drop (k + 1) ks)

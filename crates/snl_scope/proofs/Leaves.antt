@@ -3,8 +3,8 @@ use Rattle.std.proofs.Common.{◌≡◌, ℕ, suc, ◌<◌, ◌≤◌, List, [],
 use Rattle.std.specs.List.{AllByRecursion as Each, flat_map}
 use Rattle.snl_facts.specs.Each.{EachTwo, each_weaker}
 use Rattle.snl_lex.specs.declared.kind.Kind.{Kind}
-use Rattle.snl_syntax.specs.Spelling.Base.{Matches, Spelled, after, between, joined, leaf, word}
-use Rattle.snl_syntax.specs.Tokens.{ahead, numbered}
+use Rattle.snl_grammar.specs.Spelling.Base.{Matches, Spelled, after, between, joined, leaf, word}
+use Rattle.snl_grammar.specs.Tokens.{ahead, numbered}
 
 -- The numbers are some of the leaves, in their order.
 pub data AreLeaves : List ℕ → List Spelled → Type 0 where

@@ -10,25 +10,25 @@ use Rattle.snl_facts.specs.Each.{rising_from_two}
 use Rattle.snl_lex.specs.declared.piece.Piece.{Piece}
 use Rattle.snl_lex.specs.declared.kind.Kind.{Kind}
 use Rattle.snl_lex.specs.declared.kind.Kind.TheVariants as kind
-use Rattle.snl_syntax.specs.declared.tree.clause.Clause.{Clause}
-use Rattle.snl_syntax.specs.declared.tree.clause.Clause.TheVariants as clauses
-use Rattle.snl_syntax.specs.declared.tree.clause.Flag.{Flag}
-use Rattle.snl_syntax.specs.declared.tree.declaration.Declaration.{Declaration}
-use Rattle.snl_syntax.specs.declared.tree.declaration.Declarator.{Declarator}
-use Rattle.snl_syntax.specs.declared.tree.item.Function.{Function}
-use Rattle.snl_syntax.specs.declared.tree.item.Item.{Item}
-use Rattle.snl_syntax.specs.declared.tree.item.Item.TheVariants as items
-use Rattle.snl_syntax.specs.declared.tree.state.StateMember.{StateMember}
-use Rattle.snl_syntax.specs.declared.tree.state.StateMember.TheVariants as members
-use Rattle.snl_syntax.specs.declared.tree.statement.Member.{Member}
-use Rattle.snl_syntax.specs.Spelling.Base.{Matches, Spelled, commas, in_parens, joined, leaf, perhaps, word, written}
-use Rattle.snl_syntax.specs.Spelling.Clauses.{spell_channel, spell_clause, spell_flag, spell_foreign, spell_subscript, spell_syncq}
-use Rattle.snl_syntax.specs.Spelling.Declarations.{spell_declaration, spell_declarator, spell_length, spell_value}
-use Rattle.snl_syntax.specs.Spelling.Functions.{spell_body, spell_function, spell_parameter}
-use Rattle.snl_syntax.specs.Spelling.Items.{spell_item}
-use Rattle.snl_syntax.specs.Spelling.States.{spell_state, spell_state_member}
-use Rattle.snl_syntax.specs.Spelling.Types.{spell_stars, spell_type}
-use Rattle.snl_syntax.specs.Tokens.{ahead}
+use Rattle.snl_grammar.specs.declared.tree.clause.Clause.{Clause}
+use Rattle.snl_grammar.specs.declared.tree.clause.Clause.TheVariants as clauses
+use Rattle.snl_grammar.specs.declared.tree.clause.Flag.{Flag}
+use Rattle.snl_grammar.specs.declared.tree.declaration.Declaration.{Declaration}
+use Rattle.snl_grammar.specs.declared.tree.declaration.Declarator.{Declarator}
+use Rattle.snl_grammar.specs.declared.tree.item.Function.{Function}
+use Rattle.snl_grammar.specs.declared.tree.item.Item.{Item}
+use Rattle.snl_grammar.specs.declared.tree.item.Item.TheVariants as items
+use Rattle.snl_grammar.specs.declared.tree.state.StateMember.{StateMember}
+use Rattle.snl_grammar.specs.declared.tree.state.StateMember.TheVariants as members
+use Rattle.snl_grammar.specs.declared.tree.statement.Member.{Member}
+use Rattle.snl_grammar.specs.Spelling.Base.{Matches, Spelled, commas, in_parens, joined, leaf, perhaps, word, written}
+use Rattle.snl_grammar.specs.Spelling.Clauses.{spell_channel, spell_clause, spell_flag, spell_foreign, spell_subscript, spell_syncq}
+use Rattle.snl_grammar.specs.Spelling.Declarations.{spell_declaration, spell_declarator, spell_length, spell_value}
+use Rattle.snl_grammar.specs.Spelling.Functions.{spell_body, spell_function, spell_parameter}
+use Rattle.snl_grammar.specs.Spelling.Items.{spell_item}
+use Rattle.snl_grammar.specs.Spelling.States.{spell_state, spell_state_member}
+use Rattle.snl_grammar.specs.Spelling.Types.{spell_stars, spell_type}
+use Rattle.snl_grammar.specs.Tokens.{ahead}
 use Rattle.snl_scope.specs.declared.summaries.summary.Declared.{Declared}
 use Rattle.snl_scope.specs.declared.summaries.summary.VariableClause.{VariableClause}
 use Rattle.snl_scope.specs.Once.{TokensRise, declared_tokens, flag_tokens, tokens_of_flag, variable_tokens}

@@ -7,13 +7,13 @@ use Rattle.snl_facts.specs.Each.{each_unmap, each_weaker}
 use Rattle.snl_lex.specs.declared.piece.Piece.{Piece}
 use Rattle.snl_lex.specs.declared.kind.Kind.{Kind}
 use Rattle.snl_lex.specs.declared.kind.Kind.TheVariants as kind
-use Rattle.snl_syntax.specs.declared.tree.item.Item.{Item}
-use Rattle.snl_syntax.specs.declared.tree.item.Item.TheVariants as items
-use Rattle.snl_syntax.specs.Parsing.{kind_in, kinds_in}
-use Rattle.snl_syntax.specs.Spelling.Base.{Matches, Spelled, joined, perhaps, word}
-use Rattle.snl_syntax.specs.Spelling.Items.{spell_header_text, spell_item}
-use Rattle.snl_syntax.specs.Spelling.States.{spell_state_member}
-use Rattle.snl_syntax.specs.Tokens.{ahead, numbered}
+use Rattle.snl_grammar.specs.declared.tree.item.Item.{Item}
+use Rattle.snl_grammar.specs.declared.tree.item.Item.TheVariants as items
+use Rattle.snl_grammar.specs.Parsing.{kind_in, kinds_in}
+use Rattle.snl_grammar.specs.Spelling.Base.{Matches, Spelled, joined, perhaps, word}
+use Rattle.snl_grammar.specs.Spelling.Items.{spell_header_text, spell_item}
+use Rattle.snl_grammar.specs.Spelling.States.{spell_state_member}
+use Rattle.snl_grammar.specs.Tokens.{ahead, numbered}
 use Rattle.snl_walk.specs.Items.{occurrences, tokens_of}
 use Rattle.snl_walk.specs.Tokens.{token_bytes}
 use Rattle.snl_walk.specs.Uses.{is_target}

@@ -5,12 +5,12 @@ use Rattle.std.specs.List.{AllByRecursion as Each}
 use Rattle.std.proofs.lemmas.Bool.{false≢true}
 use Rattle.std.proofs.lemmas.List.{length-map}
 use Rattle.snl_lex.specs.declared.piece.Piece.{Piece}
-use Rattle.snl_syntax.specs.declared.tree.item.Item.{Item}
-use Rattle.snl_syntax.specs.declared.tree.item.Item.TheVariants as items
-use Rattle.snl_syntax.specs.Parsing.{kind_in, kinds_in}
-use Rattle.snl_syntax.specs.Spelling.Base.{Matches}
-use Rattle.snl_syntax.specs.Spelling.Items.{spell_item}
-use Rattle.snl_syntax.specs.Tokens.{ahead}
+use Rattle.snl_grammar.specs.declared.tree.item.Item.{Item}
+use Rattle.snl_grammar.specs.declared.tree.item.Item.TheVariants as items
+use Rattle.snl_grammar.specs.Parsing.{kind_in, kinds_in}
+use Rattle.snl_grammar.specs.Spelling.Base.{Matches}
+use Rattle.snl_grammar.specs.Spelling.Items.{spell_item}
+use Rattle.snl_grammar.specs.Tokens.{ahead}
 use Rattle.snl_scope.specs.FaultPlaces.{SpeaksOfTokens}
 use Rattle.snl_scope.specs.Once.{declared_tokens, flag_tokens, variable_tokens}
 use Rattle.snl_scope.specs.Order.{is_ss_word}

@@ -4,8 +4,8 @@ use Rattle.std.specs.Str.{bytes_eq}
 use Rattle.snl_lex.specs.declared.piece.Class.{Class}
 use Rattle.snl_lex.specs.declared.piece.Class.TheVariants as class
 use Rattle.snl_lex.specs.declared.piece.Piece.{Piece}
-use Rattle.snl_syntax.specs.declared.tree.item.Item.{Item}
-use Rattle.snl_syntax.specs.declared.tree.item.Item.TheVariants as items
+use Rattle.snl_grammar.specs.declared.tree.item.Item.{Item}
+use Rattle.snl_grammar.specs.declared.tree.item.Item.TheVariants as items
 use Rattle.snl_scope.specs.declared.summaries.summary.ItemKind.{ItemKind}
 use Rattle.snl_scope.specs.declared.summaries.summary.ItemKind.TheVariants as kinds
 use Rattle.snl_scope.specs.declared.summaries.summary.Opening.{Opening}

@@ -9,10 +9,10 @@ use Rattle.std.proofs.lemmas.List.Elements.{All-from_recursion}
 use Rattle.std.proofs.lemmas.List.Sums.{take_while-cons}
 use Rattle.snl_facts.specs.Each.{each_append, each_weaker}
 use Rattle.snl_lex.specs.declared.piece.Piece.{Piece}
-use Rattle.snl_syntax.specs.declared.tree.item.Item.{Item}
-use Rattle.snl_syntax.specs.declared.tree.item.Item.TheVariants as items
-use Rattle.snl_syntax.specs.Parsing.{kinds_in}
-use Rattle.snl_syntax.specs.Reading.Items.{item_of}
+use Rattle.snl_grammar.specs.declared.tree.item.Item.{Item}
+use Rattle.snl_grammar.specs.declared.tree.item.Item.TheVariants as items
+use Rattle.snl_grammar.specs.Parsing.{kinds_in}
+use Rattle.snl_grammar.specs.Reading.Items.{item_of}
 use Rattle.snl_scope.specs.declared.summaries.summary.Declared.{Declared}
 use Rattle.snl_scope.specs.declared.summaries.summary.Outline.{Outline}
 use Rattle.snl_scope.specs.NamedTokens.{NamesItsTokens}

@@ -6,9 +6,9 @@ ghost use Rattle.snl_symbols.specs.Extents.{ChildrenLieWithin, NameLiesWithin};
 ghost use Rattle.snl_symbols.specs.Symbols.{symbols_of};
 
 use snl_cut::ends_in_order;
+use snl_grammar::Tokens;
 use snl_lex::{pieces_as_listed, text_in_pieces};
 use snl_scope::{names_are_tokens, sets_open_in_turn};
-use snl_syntax::Tokens;
 
 /// The name of each symbol lies within its extent, and has a byte.
 pub fn names_lie_in_extents()

@@ -8,10 +8,10 @@ ghost use Rattle.snl_symbols.specs.Symbols.{symbols_at, symbols_of};
 use crate::document_symbol::DocumentSymbol;
 use crate::linked_item::LinkedItem;
 use snl_cut::OutOfMemory;
+use snl_grammar::{outcome_told, same_spelling_same_tree};
 use snl_item_tokens::{ItemTokens, all_tokens};
 use snl_kept::Lists;
 use snl_scope::same_spelling_same_summary;
-use snl_syntax::{outcome_told, same_spelling_same_tree};
 use std::alloc::Global;
 
 // Adds the symbols of the item with a number.

@@ -3,11 +3,11 @@ use Rattle.std.specs.Prelude.{ℕ, Result, List}
 use Rattle.std.specs.declared.alloc.Global.{Global}
 use denote.Bor.{Bor}
 use Rattle.snl_lex.specs.declared.kind.Kind.{Kind}
-use Rattle.snl_syntax.specs.declared.stop.Stop.{Stop}
-use Rattle.snl_syntax.specs.declared.tree.statement.Stmt.{Stmt}
-use Rattle.snl_syntax.specs.Tokens.{ahead}
-use Rattle.snl_syntax.specs.Steps.{Reads}
-use Rattle.snl_syntax.specs.Reading.Statements.{stmt}
+use Rattle.snl_expression.specs.declared.stop.Stop.{Stop}
+use Rattle.snl_grammar.specs.declared.tree.statement.Stmt.{Stmt}
+use Rattle.snl_grammar.specs.Tokens.{ahead}
+use Rattle.snl_expression.specs.Reads.{Reads}
+use Rattle.snl_grammar.specs.Reading.Statements.{stmt}
 
 pub record NestsStatement (depth : ℕ) (pre : Global → Bor (List Kind) → ℕ → ℕ → Type 0)
     (post : Global → Bor (List Kind) → ℕ → ℕ → Result (Stmt × ℕ) Stop → Type 0) : Type 0 where

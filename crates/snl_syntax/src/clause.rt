@@ -1,8 +1,8 @@
 //! Reads clauses on variables, options, and foreign names.
 #![tactic(auto, unfolding(crate::proofs::Opened::Clauses::clauses))]
 
-ghost use Rattle.snl_syntax.specs.Reading.Clauses as spec;
-ghost use Rattle.snl_syntax.specs.Steps.{ReadsFrom};
+ghost use Rattle.snl_grammar.specs.Reading.Clauses as spec;
+ghost use Rattle.snl_expression.specs.Reads.{ReadsFrom};
 
 mod channels;
 mod foreign_names;
@@ -11,11 +11,10 @@ mod options;
 
 use crate::clause::channels::channel;
 use crate::clause::operands::{flag, flag_part, queue_part, subscript_part};
-use crate::stop::Stop;
-use crate::token_steps::{expect, kind_at, past};
-use crate::tree::clause::Clause;
 pub use foreign_names::foreign;
 pub use options::option_line;
+use snl_expression::{Stop, expect, kind_at, past};
+use snl_grammar::tree::clause::Clause;
 use snl_lex::Kind;
 use std::alloc::Global;
 

@@ -2,23 +2,19 @@
 #![tactic(auto, unfolding(crate::proofs::Opened::Declarations::declarations))]
 
 ghost use Rattle.std.specs.Prelude.{◌<◌};
-ghost use Rattle.snl_syntax.specs.Reading.Declarations as spec;
-ghost use Rattle.snl_syntax.specs.Reading.Expressions as exprs;
-ghost use Rattle.snl_syntax.specs.Steps as read;
-ghost use Rattle.snl_syntax.specs.Steps.{ReadsFrom};
+ghost use Rattle.snl_grammar.specs.Reading.Declarations as spec;
+ghost use Rattle.snl_grammar.specs.Reading.Expressions as exprs;
+ghost use Rattle.snl_grammar.specs.Steps as read;
+ghost use Rattle.snl_expression.specs.Reads.{ReadsFrom};
 
 mod array_lengths;
 mod initial_values;
 
 use crate::declaration::initial_values::init_part;
-use crate::lists::many;
-use crate::parts::single;
-use crate::stop::Stop;
-use crate::token_steps::{expect, kind_at, past};
-use crate::tree::declaration::{Declaration, Declarator};
-use crate::tree::types::{Pointer, QualifiedType};
-use crate::types::{stars, type_of};
 pub use array_lengths::lengths;
+use snl_expression::{Stop, expect, kind_at, many, past, single, stars, type_of};
+use snl_grammar::tree::declaration::{Declaration, Declarator};
+use snl_grammar::tree::types::{Pointer, QualifiedType};
 use snl_lex::Kind;
 use sqlite_items::Items;
 use std::alloc::Global;

@@ -2,20 +2,20 @@
 #![tactic(auto, unfolding(crate::proofs::Opened::Functions::functions))]
 
 ghost use Rattle.std.specs.Prelude.{◌<◌, ◌-◌, ℕ, List};
-ghost use Rattle.snl_syntax.specs.Reading.Functions as spec;
-ghost use Rattle.snl_syntax.specs.Steps.{Reader, ReadsFrom};
-ghost use Rattle.snl_syntax.specs.declared.tree.statement.Member as trees;
+ghost use Rattle.snl_grammar.specs.Reading.Functions as spec;
+ghost use Rattle.snl_grammar.specs.Steps.{Reader};
+ghost use Rattle.snl_expression.specs.Reads.{ReadsFrom};
+ghost use Rattle.snl_grammar.specs.declared.tree.statement.Member as trees;
 
 mod parameters;
 mod structs;
 mod typed_items;
 
 use crate::function::parameters::parameters;
-use crate::stop::Stop;
-use crate::token_steps::{expect, kind_at};
-use crate::tree::item::Function;
-use crate::tree::statement::Member;
-use crate::tree::types::{Pointer, QualifiedType};
+use snl_expression::{Stop, expect, kind_at};
+use snl_grammar::tree::item::Function;
+use snl_grammar::tree::statement::Member;
+use snl_grammar::tree::types::{Pointer, QualifiedType};
 use snl_lex::Kind;
 use sqlite_items::Items;
 use std::alloc::Global;

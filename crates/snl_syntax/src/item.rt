@@ -2,23 +2,23 @@
 #![tactic(auto, unfolding(crate::proofs::Opened::Items::items))]
 
 ghost use Rattle.std.specs.Prelude.{◌<◌};
-ghost use Rattle.snl_syntax.specs.Reading.Items as spec;
-ghost use Rattle.snl_syntax.specs.Reading.Statements as statements;
-ghost use Rattle.snl_syntax.specs.Steps as read;
-ghost use Rattle.snl_syntax.specs.Steps.{ReadsFrom};
-ghost use Rattle.snl_syntax.specs.Tokens.{ahead};
+ghost use Rattle.snl_grammar.specs.Reading.Items as spec;
+ghost use Rattle.snl_syntax.specs.Answered.{ReadsAll};
+ghost use Rattle.snl_grammar.specs.Reading.Statements as statements;
+ghost use Rattle.snl_grammar.specs.Steps as read;
+ghost use Rattle.snl_expression.specs.Reads.{ReadsFrom};
+ghost use Rattle.snl_grammar.specs.Tokens.{ahead};
 ghost use Rattle.snl_lex.specs.declared.kind.Kind.TheVariants as kind;
-ghost use Rattle.snl_syntax.specs.declared.tree.item.Item.TheVariants as items;
+ghost use Rattle.snl_grammar.specs.declared.tree.item.Item.TheVariants as items;
 
 use crate::clause::{clause, foreign, option_line};
-use crate::expression::texts;
 use crate::function::{Blocks, typed_item};
 use crate::state::{entry_block, exit_block, state_members};
 use crate::statement::block;
-use crate::stop::Stop;
-use crate::token_steps::{expect, kind_at};
-use crate::tree::item::Item;
-use crate::tree::statement::Member;
+use snl_expression::{Stop, expect, kind_at, texts};
+use snl_grammar::tree::item::Item;
+use snl_grammar::tree::statement::Member;
+use snl_grammar::whole_items_end;
 use snl_lex::Kind;
 use sqlite_items::{Boxed, Items};
 use std::alloc::Global;
@@ -234,8 +234,9 @@ const LEVELS: usize = 101;
 
 /// The item that all tokens of these kinds make. A leaf is the number of its token.
 pub fn item_in(alloc: Global, kinds: &[Kind]) -> Result<Item, Stop>
-    ensures { spec.ReadsAll kinds.now result (spec.whole_item spec.levels (ahead kinds.now 0)) }
+    ensures { ReadsAll kinds.now result (spec.whole_item spec.levels (ahead kinds.now 0)) }
 {
+    whole_items_end();
     let (item, _end) = whole_item(alloc, kinds, 0, LEVELS)?;
     Ok(item)
 }

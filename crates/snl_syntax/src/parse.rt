@@ -2,21 +2,22 @@
 
 ghost use Rattle.std.specs.Prelude.{◌≡◌, ◌<◌, All, IfOk, None, Some, min, position, length};
 ghost use Rattle.snl_cut.specs.Cut.{ticked};
-ghost use Rattle.snl_syntax.specs.Grammar.Items.{IsItem, IsOnlyItem, MakeNoItem};
-ghost use Rattle.snl_syntax.specs.Outcome.{parsed_in};
-ghost use Rattle.snl_syntax.specs.Parsing.{IfNoItem, LiesIn, bad_in, is_bad, kinds_in};
-ghost use Rattle.snl_syntax.specs.Reading.Items.{fault_of, item_of};
-ghost use Rattle.snl_syntax.specs.Spelling.Base.{Matches};
-ghost use Rattle.snl_syntax.specs.Spelling.Items.{spell_item};
-ghost use Rattle.snl_syntax.specs.Tokens.{ahead};
-ghost use Rattle.snl_syntax.specs.Viability.{IsFaultAt};
+ghost use Rattle.snl_grammar.specs.Grammar.Items.{IsItem, IsOnlyItem, MakeNoItem};
+ghost use Rattle.snl_grammar.specs.Outcome.{parsed_in};
+ghost use Rattle.snl_grammar.specs.Parsing.{LiesIn, is_bad, kinds_in};
+ghost use Rattle.snl_syntax.specs.Answered.{IfNoItem, bad_in};
+ghost use Rattle.snl_grammar.specs.Reading.Items.{fault_of, item_of};
+ghost use Rattle.snl_grammar.specs.Spelling.Base.{Matches};
+ghost use Rattle.snl_grammar.specs.Spelling.Items.{spell_item};
+ghost use Rattle.snl_grammar.specs.Tokens.{ahead};
+ghost use Rattle.snl_grammar.specs.Viability.{IsFaultAt};
 
 use crate::fault::ParseFault;
 use crate::item::item_in;
-use crate::outcome::Parsed;
-use crate::stop::Stop;
-use crate::tree::item::Item;
 use snl_cut::{Count, OutOfMemory};
+use snl_expression::Stop;
+use snl_grammar::tree::item::Item;
+use snl_grammar::{Parsed, blamed_at_fault, item_read, item_spelled, one_item};
 use snl_lex::{Class, Kind, Piece, kind_of};
 use std::alloc::{AllocError, Global};
 
@@ -51,7 +52,7 @@ fn within(at: usize, last: usize) -> usize
     if at < last { at } else { last }
 }
 
-#[tactic(auto, unfolding(crate::specs::Reading::Items::item_of))]
+#[tactic(auto, unfolding(crate::proofs::Opened::Items::item_of))]
 fn read_item(alloc: Global, text: &[u8], tokens: &[Piece]) -> Result<Item, ParseFault>
     requires some { 0 < length tokens.now }
     requires within { All (LiesIn text.now) tokens.now }
@@ -98,6 +99,10 @@ pub fn parse_item(
     ensures blamed { IfNoItem result (λ n. n ≡ fault_of (kinds_in text.now tokens.now)) }
     ensures fault { IfNoItem result (λ n. IsFaultAt (kinds_in text.now tokens.now) n) }
 {
+    item_read();
+    item_spelled();
+    one_item();
+    blamed_at_fault();
     work.tick();
     match first_bad(tokens) {
         Some(at) => Err(ParseFault::BadPiece { at }),

@@ -2,20 +2,18 @@
 #![tactic(auto, unfolding(crate::proofs::Opened::States::states))]
 
 ghost use Rattle.std.specs.Prelude.{◌<◌, [], Some};
-ghost use Rattle.snl_syntax.specs.Reading.States as spec;
-ghost use Rattle.snl_syntax.specs.Reading.Statements as statements;
-ghost use Rattle.snl_syntax.specs.Steps as read;
-ghost use Rattle.snl_syntax.specs.Steps.{ReadsFrom};
+ghost use Rattle.snl_grammar.specs.Reading.States as spec;
+ghost use Rattle.snl_grammar.specs.Reading.Statements as statements;
+ghost use Rattle.snl_grammar.specs.Steps as read;
+ghost use Rattle.snl_expression.specs.Reads.{ReadsFrom};
 ghost use Rattle.snl_lex.specs.declared.kind.Kind.TheVariants as kind;
 
 use crate::clause::{clause, foreign, option_line};
 use crate::declaration::declaration;
-use crate::lists::many;
 use crate::statement::{before_paren, block};
-use crate::stop::Stop;
-use crate::token_steps::{beside, expect, kind_at};
-use crate::tree::state::{StateMember, Target, Transition};
-use crate::tree::statement::Member;
+use snl_expression::{Stop, beside, expect, kind_at, many};
+use snl_grammar::tree::state::{StateMember, Target, Transition};
+use snl_grammar::tree::statement::Member;
 use snl_lex::Kind;
 use sqlite_items::Items;
 use std::alloc::Global;

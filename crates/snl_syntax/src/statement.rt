@@ -5,8 +5,8 @@
 #![tactic(auto, unfolding(crate::proofs::Opened::Statements::levels))]
 
 ghost use Rattle.snl_syntax.specs.NestsStatement.{NestsStatement};
-ghost use Rattle.snl_syntax.specs.Reading.Statements as spec;
-ghost use Rattle.snl_syntax.specs.Steps.{ReadsFrom};
+ghost use Rattle.snl_grammar.specs.Reading.Statements as spec;
+ghost use Rattle.snl_expression.specs.Reads.{ReadsFrom};
 
 mod blocks;
 mod branches;
@@ -17,10 +17,9 @@ mod simple;
 use crate::statement::simple::{
     break_loop, c_code, change, continue_loop, empty, evaluation, return_value,
 };
-use crate::stop::Stop;
-use crate::token_steps::kind_at;
-use crate::tree::statement::{Member, Stmt};
 pub use optional::before_paren;
+use snl_expression::{Stop, kind_at};
+use snl_grammar::tree::statement::{Member, Stmt};
 use snl_lex::Kind;
 use sqlite_items::Items;
 use std::alloc::Global;

@@ -5,10 +5,10 @@ use Rattle.std.specs.List.{AllByRecursion as Each, AllPairs, Contains, flat_map,
 use Rattle.std.proofs.lemmas.List.Elements.{All-from_recursion, Contains-append_left, Contains-push}
 use Rattle.std.proofs.lemmas.List.Kept.{AllPairs-cons}
 use Rattle.snl_lex.specs.declared.piece.Piece.{Piece}
-use Rattle.snl_syntax.specs.declared.tree.clause.Channel.{Channel}
-use Rattle.snl_syntax.specs.declared.tree.clause.Channel.TheVariants as channels
-use Rattle.snl_syntax.specs.declared.tree.clause.Clause.{Clause}
-use Rattle.snl_syntax.specs.declared.tree.clause.Clause.TheVariants as clauses
+use Rattle.snl_grammar.specs.declared.tree.clause.Channel.{Channel}
+use Rattle.snl_grammar.specs.declared.tree.clause.Channel.TheVariants as channels
+use Rattle.snl_grammar.specs.declared.tree.clause.Clause.{Clause}
+use Rattle.snl_grammar.specs.declared.tree.clause.Clause.TheVariants as clauses
 use Rattle.snl_scope.specs.declared.facts.ClauseLink.{ClauseLink}
 use Rattle.snl_scope.specs.declared.summaries.summary.ClauseKind.TheVariants.{Assign}
 use Rattle.snl_scope.specs.declared.summaries.summary.Coverage.{Coverage}

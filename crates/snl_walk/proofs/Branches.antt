@@ -1,15 +1,15 @@
 -- What is found in a choice or a loop, and what a member of a block declares: the fold at a
 -- variant.
 use Rattle.std.proofs.Common.{◌≡◌, ℕ, List, [], ◌++◌, Option, Some, None, ap, sym, ◌∙◌}
-use Rattle.snl_syntax.specs.declared.tree.expression.Expr.{Expr}
-use Rattle.snl_syntax.specs.declared.tree.declaration.Declaration.{Declaration}
-use Rattle.snl_syntax.specs.declared.tree.statement.ForHead.{ForHead}
-use Rattle.snl_syntax.specs.declared.tree.statement.Member.{Member}
-use Rattle.snl_syntax.specs.declared.tree.statement.Member.TheVariants as members
-use Rattle.snl_syntax.specs.declared.tree.statement.Member.TheOpen.{Member-F, Stmt-F}
-use Rattle.snl_syntax.specs.declared.tree.statement.Member.TheFolds.{fold-roll-Member, fold-roll-Stmt}
-use Rattle.snl_syntax.specs.declared.tree.statement.Stmt.{Stmt}
-use Rattle.snl_syntax.specs.declared.tree.statement.Stmt.TheVariants as tree
+use Rattle.snl_grammar.specs.declared.tree.expression.Expr.{Expr}
+use Rattle.snl_grammar.specs.declared.tree.declaration.Declaration.{Declaration}
+use Rattle.snl_grammar.specs.declared.tree.statement.ForHead.{ForHead}
+use Rattle.snl_grammar.specs.declared.tree.statement.Member.{Member}
+use Rattle.snl_grammar.specs.declared.tree.statement.Member.TheVariants as members
+use Rattle.snl_grammar.specs.declared.tree.statement.Member.TheOpen.{Member-F, Stmt-F}
+use Rattle.snl_grammar.specs.declared.tree.statement.Member.TheFolds.{fold-roll-Member, fold-roll-Stmt}
+use Rattle.snl_grammar.specs.declared.tree.statement.Stmt.{Stmt}
+use Rattle.snl_grammar.specs.declared.tree.statement.Stmt.TheVariants as tree
 use Rattle.snl_walk.specs.Declares.{declared_in_block}
 use Rattle.snl_walk.specs.declared.occurrence.Local.{Local}
 use Rattle.snl_walk.specs.declared.occurrence.Occurrence.{Occurrence}

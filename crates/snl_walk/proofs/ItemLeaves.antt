@@ -7,26 +7,26 @@ use Rattle.std.specs.List.{AllByRecursion as Each, flat_map}
 use Rattle.std.specs.List.Sorted.{IsStrictlyIncreasing}
 use Rattle.snl_lex.specs.declared.piece.Piece.{Piece}
 use Rattle.snl_lex.specs.declared.kind.Kind.TheVariants as kind
-use Rattle.snl_syntax.specs.declared.tree.declaration.Parameter.{Parameter}
-use Rattle.snl_syntax.specs.declared.tree.item.Function.{Function}
-use Rattle.snl_syntax.specs.declared.tree.item.Item.{Item}
-use Rattle.snl_syntax.specs.declared.tree.item.Item.TheVariants as items
-use Rattle.snl_syntax.specs.declared.tree.item.StructMember.{StructMember}
-use Rattle.snl_syntax.specs.declared.tree.item.StructMember.TheVariants as struct_members
-use Rattle.snl_syntax.specs.declared.tree.state.StateMember.{StateMember}
-use Rattle.snl_syntax.specs.declared.tree.state.StateMember.TheVariants as members
-use Rattle.snl_syntax.specs.declared.tree.state.Target.{Target}
-use Rattle.snl_syntax.specs.declared.tree.state.Target.TheVariants as target
-use Rattle.snl_syntax.specs.declared.tree.state.Transition.{Transition}
-use Rattle.snl_syntax.specs.declared.tree.statement.Member.{Member}
-use Rattle.snl_syntax.specs.Parsing.{kind_in, kinds_in}
-use Rattle.snl_syntax.specs.Spelling.Base.{Matches, Spelled, after, commas, in_parens, leaf, perhaps, word}
-use Rattle.snl_syntax.specs.Spelling.Clauses.{spell_foreign}
-use Rattle.snl_syntax.specs.Spelling.Functions.{spell_body, spell_function, spell_parameter, spell_struct_member}
-use Rattle.snl_syntax.specs.Spelling.Items.{spell_item}
-use Rattle.snl_syntax.specs.Spelling.States.{spell_state_member, spell_target, spell_transition}
-use Rattle.snl_syntax.specs.Spelling.Types.{spell_stars, spell_type}
-use Rattle.snl_syntax.specs.Tokens.{ahead}
+use Rattle.snl_grammar.specs.declared.tree.declaration.Parameter.{Parameter}
+use Rattle.snl_grammar.specs.declared.tree.item.Function.{Function}
+use Rattle.snl_grammar.specs.declared.tree.item.Item.{Item}
+use Rattle.snl_grammar.specs.declared.tree.item.Item.TheVariants as items
+use Rattle.snl_grammar.specs.declared.tree.item.StructMember.{StructMember}
+use Rattle.snl_grammar.specs.declared.tree.item.StructMember.TheVariants as struct_members
+use Rattle.snl_grammar.specs.declared.tree.state.StateMember.{StateMember}
+use Rattle.snl_grammar.specs.declared.tree.state.StateMember.TheVariants as members
+use Rattle.snl_grammar.specs.declared.tree.state.Target.{Target}
+use Rattle.snl_grammar.specs.declared.tree.state.Target.TheVariants as target
+use Rattle.snl_grammar.specs.declared.tree.state.Transition.{Transition}
+use Rattle.snl_grammar.specs.declared.tree.statement.Member.{Member}
+use Rattle.snl_grammar.specs.Parsing.{kind_in, kinds_in}
+use Rattle.snl_grammar.specs.Spelling.Base.{Matches, Spelled, after, commas, in_parens, leaf, perhaps, word}
+use Rattle.snl_grammar.specs.Spelling.Clauses.{spell_foreign}
+use Rattle.snl_grammar.specs.Spelling.Functions.{spell_body, spell_function, spell_parameter, spell_struct_member}
+use Rattle.snl_grammar.specs.Spelling.Items.{spell_item}
+use Rattle.snl_grammar.specs.Spelling.States.{spell_state_member, spell_target, spell_transition}
+use Rattle.snl_grammar.specs.Spelling.Types.{spell_stars, spell_type}
+use Rattle.snl_grammar.specs.Tokens.{ahead}
 use Rattle.snl_walk.specs.declared.occurrence.Occurrence.{Occurrence}
 use Rattle.snl_walk.specs.declared.occurrence.What.TheVariants as what
 use Rattle.snl_walk.specs.Declares.{declared_by_parameter, declared_by_state}

@@ -3,8 +3,8 @@ use Rattle.std.proofs.Common.{◌≡◌, ℕ, suc, ◌+◌, ◌<◌, ◌≤◌, 
 use Rattle.std.specs.List.{AllByRecursion as Each, flat_map}
 use Rattle.snl_lex.specs.declared.kind.Kind.{Kind}
 use Rattle.snl_lex.specs.declared.kind.Kind.TheVariants as kind
-use Rattle.snl_syntax.specs.Spelling.Base.{Matches, Spelled, after, between, in_parens, joined, word}
-use Rattle.snl_syntax.specs.Tokens.{ahead, numbered}
+use Rattle.snl_grammar.specs.Spelling.Base.{Matches, Spelled, after, between, in_parens, joined, word}
+use Rattle.snl_grammar.specs.Tokens.{ahead, numbered}
 use Rattle.snl_facts.specs.Each.{EachTwo, each_weaker}
 
 -- a subscript that begins with an integer

@@ -1,10 +1,10 @@
 -- The names in an expression: the fold at a variant.
 use Rattle.std.proofs.Common.{◌≡◌, List, ◌++◌, map, ap, sym, ◌∙◌}
-use Rattle.snl_syntax.specs.declared.operator.Assignment.{Assignment}
-use Rattle.snl_syntax.specs.declared.tree.expression.Expr.{Expr}
-use Rattle.snl_syntax.specs.declared.tree.expression.Expr.TheOpen.{Expr-F}
-use Rattle.snl_syntax.specs.declared.tree.expression.Expr.TheFolds.{fold-roll-Expr}
-use Rattle.snl_syntax.specs.declared.tree.expression.Expr.TheVariants as tree
+use Rattle.snl_grammar.specs.declared.operator.Assignment.{Assignment}
+use Rattle.snl_grammar.specs.declared.tree.expression.Expr.{Expr}
+use Rattle.snl_grammar.specs.declared.tree.expression.Expr.TheOpen.{Expr-F}
+use Rattle.snl_grammar.specs.declared.tree.expression.Expr.TheFolds.{fold-roll-Expr}
+use Rattle.snl_grammar.specs.declared.tree.expression.Expr.TheVariants as tree
 use Rattle.snl_walk.specs.declared.occurrence.Setting.{Setting}
 use Rattle.snl_walk.specs.Expressions.{Operand, Tail, expr_step, names_in_all, names_in_expr, names_in_targets, operand, plain, suffix_step}
 

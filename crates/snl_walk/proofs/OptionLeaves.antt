@@ -5,17 +5,17 @@ use Rattle.std.proofs.lemmas.List.Elements.{All-from_recursion}
 use Rattle.std.specs.List.{AllByRecursion as Each, AllPairs}
 use Rattle.snl_lex.specs.declared.piece.Piece.{Piece}
 use Rattle.snl_lex.specs.declared.kind.Kind.TheVariants as kind
-use Rattle.snl_syntax.specs.declared.tree.clause.OptionLine.{OptionLine}
-use Rattle.snl_syntax.specs.declared.tree.item.Item.{Item}
-use Rattle.snl_syntax.specs.declared.tree.item.Item.TheVariants as items
-use Rattle.snl_syntax.specs.declared.tree.state.StateMember.{StateMember}
-use Rattle.snl_syntax.specs.declared.tree.state.StateMember.TheVariants as members
-use Rattle.snl_syntax.specs.Parsing.{kind_in, kinds_in}
-use Rattle.snl_syntax.specs.Spelling.Base.{Matches, Spelled, leaf, word}
-use Rattle.snl_syntax.specs.Spelling.Clauses.{spell_option_line, spell_sign}
-use Rattle.snl_syntax.specs.Spelling.Items.{spell_item}
-use Rattle.snl_syntax.specs.Spelling.States.{spell_state_member}
-use Rattle.snl_syntax.specs.Tokens.{ahead}
+use Rattle.snl_grammar.specs.declared.tree.clause.OptionLine.{OptionLine}
+use Rattle.snl_grammar.specs.declared.tree.item.Item.{Item}
+use Rattle.snl_grammar.specs.declared.tree.item.Item.TheVariants as items
+use Rattle.snl_grammar.specs.declared.tree.state.StateMember.{StateMember}
+use Rattle.snl_grammar.specs.declared.tree.state.StateMember.TheVariants as members
+use Rattle.snl_grammar.specs.Parsing.{kind_in, kinds_in}
+use Rattle.snl_grammar.specs.Spelling.Base.{Matches, Spelled, leaf, word}
+use Rattle.snl_grammar.specs.Spelling.Clauses.{spell_option_line, spell_sign}
+use Rattle.snl_grammar.specs.Spelling.Items.{spell_item}
+use Rattle.snl_grammar.specs.Spelling.States.{spell_state_member}
+use Rattle.snl_grammar.specs.Tokens.{ahead}
 use Rattle.snl_walk.specs.Options.{letters_in, letters_in_member}
 use Rattle.snl_walk.proofs.Leaves.{AreLeaves, leaves_after, leaves_before, leaves_below, leaves_joined, leaves_rise, no_leaves, one_leaf}
 use Rattle.snl_facts.specs.Each.{EachTwo, pairs_from_two}

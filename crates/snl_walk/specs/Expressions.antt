@@ -1,14 +1,14 @@
 -- The names in expressions and initialisers, in the order of the text, each with how it occurs.
 use Rattle.std.specs.Prelude.{ℕ, Bool, true, false, ◌&&◌, List, [], ◌∷◌, ◌++◌, Option, Some, None, if◌then◌else◌}
-use Rattle.snl_syntax.specs.declared.operator.Assignment.{Assignment}
-use Rattle.snl_syntax.specs.declared.operator.Binary.{Binary}
-use Rattle.snl_syntax.specs.declared.tree.declaration.Init.{Init}
-use Rattle.snl_syntax.specs.declared.tree.declaration.Init.TheOpen.{Init-F}
-use Rattle.snl_syntax.specs.declared.tree.declaration.Init.TheFolds.{fold-Init}
-use Rattle.snl_syntax.specs.declared.tree.expression.Expr.{Expr}
-use Rattle.snl_syntax.specs.declared.tree.expression.Expr.TheOpen.{Expr-F, Suffix-F}
-use Rattle.snl_syntax.specs.declared.tree.expression.Expr.TheFolds.{fold-Expr, fold-Suffix}
-use Rattle.snl_syntax.specs.declared.tree.expression.Suffix.{Suffix}
+use Rattle.snl_grammar.specs.declared.operator.Assignment.{Assignment}
+use Rattle.snl_grammar.specs.declared.operator.Binary.{Binary}
+use Rattle.snl_grammar.specs.declared.tree.declaration.Init.{Init}
+use Rattle.snl_grammar.specs.declared.tree.declaration.Init.TheOpen.{Init-F}
+use Rattle.snl_grammar.specs.declared.tree.declaration.Init.TheFolds.{fold-Init}
+use Rattle.snl_grammar.specs.declared.tree.expression.Expr.{Expr}
+use Rattle.snl_grammar.specs.declared.tree.expression.Expr.TheOpen.{Expr-F, Suffix-F}
+use Rattle.snl_grammar.specs.declared.tree.expression.Expr.TheFolds.{fold-Expr, fold-Suffix}
+use Rattle.snl_grammar.specs.declared.tree.expression.Suffix.{Suffix}
 use Rattle.snl_walk.specs.declared.occurrence.Follows.{Follows}
 use Rattle.snl_walk.specs.declared.occurrence.Follows.TheVariants as follows
 use Rattle.snl_walk.specs.declared.occurrence.ExpressionName.{ExpressionName}

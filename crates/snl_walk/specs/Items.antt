@@ -1,17 +1,17 @@
 -- What is found in an item, in the order of its text: its occurrences.
 use Rattle.std.specs.Prelude.{ℕ, true, false, List, [], ◌∷◌, ◌++◌, map, Option, Some, None}
 use Rattle.std.specs.List.{flat_map}
-use Rattle.snl_syntax.specs.declared.tree.declaration.Parameter.{Parameter}
-use Rattle.snl_syntax.specs.declared.tree.item.Item.{Item}
-use Rattle.snl_syntax.specs.declared.tree.item.Item.TheVariants as items
-use Rattle.snl_syntax.specs.declared.tree.item.StructMember.{StructMember}
-use Rattle.snl_syntax.specs.declared.tree.item.StructMember.TheVariants as struct_members
-use Rattle.snl_syntax.specs.declared.tree.state.StateMember.{StateMember}
-use Rattle.snl_syntax.specs.declared.tree.state.StateMember.TheVariants as members
-use Rattle.snl_syntax.specs.declared.tree.state.Target.{Target}
-use Rattle.snl_syntax.specs.declared.tree.state.Target.TheVariants as target
-use Rattle.snl_syntax.specs.declared.tree.state.Transition.{Transition}
-use Rattle.snl_syntax.specs.declared.tree.statement.Member.{Member}
+use Rattle.snl_grammar.specs.declared.tree.declaration.Parameter.{Parameter}
+use Rattle.snl_grammar.specs.declared.tree.item.Item.{Item}
+use Rattle.snl_grammar.specs.declared.tree.item.Item.TheVariants as items
+use Rattle.snl_grammar.specs.declared.tree.item.StructMember.{StructMember}
+use Rattle.snl_grammar.specs.declared.tree.item.StructMember.TheVariants as struct_members
+use Rattle.snl_grammar.specs.declared.tree.state.StateMember.{StateMember}
+use Rattle.snl_grammar.specs.declared.tree.state.StateMember.TheVariants as members
+use Rattle.snl_grammar.specs.declared.tree.state.Target.{Target}
+use Rattle.snl_grammar.specs.declared.tree.state.Target.TheVariants as target
+use Rattle.snl_grammar.specs.declared.tree.state.Transition.{Transition}
+use Rattle.snl_grammar.specs.declared.tree.statement.Member.{Member}
 use Rattle.snl_walk.specs.declared.occurrence.Occurrence.{Occurrence}
 use Rattle.snl_walk.specs.declared.occurrence.Context.{Context}
 use Rattle.snl_walk.specs.declared.occurrence.What.TheVariants as what

@@ -2,14 +2,14 @@
 -- token is, and `visible` which names are visible with what declarations.
 use Rattle.std.specs.Prelude.{ℕ, Bool, true, false, not, ◌&&◌, ◌||◌, ◌==◌, if◌then◌else◌, List, [], ◌∷◌, ◌++◌, length, map, option_map, Option, Some, None, is_some}
 use Rattle.std.specs.List.{flat_map}
-use Rattle.snl_syntax.specs.declared.tree.declaration.Declaration.{Declaration}
-use Rattle.snl_syntax.specs.declared.tree.declaration.Declarator.{Declarator}
-use Rattle.snl_syntax.specs.declared.tree.expression.Expr.{Expr}
-use Rattle.snl_syntax.specs.declared.tree.statement.ForHead.{ForHead}
-use Rattle.snl_syntax.specs.declared.tree.statement.Member.{Member}
-use Rattle.snl_syntax.specs.declared.tree.statement.Member.TheOpen.{Member-F, Stmt-F}
-use Rattle.snl_syntax.specs.declared.tree.statement.Member.TheFolds.{fold-Member, fold-Stmt}
-use Rattle.snl_syntax.specs.declared.tree.statement.Stmt.{Stmt}
+use Rattle.snl_grammar.specs.declared.tree.declaration.Declaration.{Declaration}
+use Rattle.snl_grammar.specs.declared.tree.declaration.Declarator.{Declarator}
+use Rattle.snl_grammar.specs.declared.tree.expression.Expr.{Expr}
+use Rattle.snl_grammar.specs.declared.tree.statement.ForHead.{ForHead}
+use Rattle.snl_grammar.specs.declared.tree.statement.Member.{Member}
+use Rattle.snl_grammar.specs.declared.tree.statement.Member.TheOpen.{Member-F, Stmt-F}
+use Rattle.snl_grammar.specs.declared.tree.statement.Member.TheFolds.{fold-Member, fold-Stmt}
+use Rattle.snl_grammar.specs.declared.tree.statement.Stmt.{Stmt}
 use Rattle.snl_walk.specs.declared.occurrence.Local.{Local}
 use Rattle.snl_walk.specs.declared.occurrence.Occurrence.{Occurrence}
 use Rattle.snl_walk.specs.declared.occurrence.Context.{Context}

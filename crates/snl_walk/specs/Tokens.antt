@@ -2,7 +2,7 @@
 use Rattle.std.specs.Prelude.{ℕ, List, [], take, drop, slice_get, All, Option, Some, None}
 use Rattle.snl_lex.specs.declared.piece.Piece.{Piece}
 use Rattle.snl_lex.specs.Numbers.{int_value_of}
-use Rattle.snl_syntax.specs.Parsing.{LiesIn}
+use Rattle.snl_grammar.specs.Parsing.{LiesIn}
 use Rattle.snl_walk.specs.declared.source.Source.{Source}
 
 -- Each token lies in the text.

@@ -11,11 +11,11 @@ use crate::name_set::NameSet;
 use crate::occurrence::Local;
 use crate::source::Source;
 use snl_cut::OutOfMemory;
-use snl_syntax::tree::clause::Clause;
-use snl_syntax::tree::declaration::{Declaration, Parameter};
-use snl_syntax::tree::state::StateMember;
-use snl_syntax::tree::statement::Member;
-use snl_syntax::tree::types::Base;
+use snl_grammar::tree::clause::Clause;
+use snl_grammar::tree::declaration::{Declaration, Parameter};
+use snl_grammar::tree::state::StateMember;
+use snl_grammar::tree::statement::Member;
+use snl_grammar::tree::types::Base;
 
 pub(crate) fn is_event_flag(base: Base) -> bool
     ensures { result ≡ is_event_flag base }

@@ -12,9 +12,9 @@ use crate::occurrence::{ExpressionName, Follows, Manner, Occurrence, Setting, Wh
 use crate::source::Source;
 use crate::visible::Visible;
 use snl_cut::OutOfMemory;
-use snl_syntax::tree::declaration::Init;
-use snl_syntax::tree::expression::{Expr, Suffix};
-use snl_syntax::{Assignment, Binary};
+use snl_grammar::tree::declaration::Init;
+use snl_grammar::tree::expression::{Expr, Suffix};
+use snl_grammar::{Assignment, Binary};
 use sqlite_items::Boxed;
 
 // The name that an expression is, if it is a name alone.

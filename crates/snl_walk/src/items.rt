@@ -15,10 +15,10 @@ use crate::source::Source;
 use crate::statements::{add_block, add_declaration, declaration_at, enter};
 use crate::visible::Visible;
 use snl_cut::OutOfMemory;
-use snl_syntax::tree::declaration::{Declaration, Parameter};
-use snl_syntax::tree::item::{Function, Item, StructMember};
-use snl_syntax::tree::state::{StateMember, Target, Transition};
-use snl_syntax::tree::statement::Member;
+use snl_grammar::tree::declaration::{Declaration, Parameter};
+use snl_grammar::tree::item::{Function, Item, StructMember};
+use snl_grammar::tree::state::{StateMember, Target, Transition};
+use snl_grammar::tree::statement::Member;
 
 // The context of a block at entry or exit, or of a function.
 fn outside() -> Context

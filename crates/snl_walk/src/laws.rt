@@ -4,11 +4,11 @@ ghost use Rattle.std.specs.Prelude.{◌≡◌, ◌≢◌, ◌+◌, ◌<◌, ℕ,
 ghost use Rattle.std.specs.List.{AllPairs};
 ghost use Rattle.std.specs.List.Sorted.{IsStrictlyIncreasing};
 ghost use Rattle.snl_lex.specs.declared.piece.Piece.{Piece};
-ghost use Rattle.snl_syntax.specs.Parsing.{kinds_in};
-ghost use Rattle.snl_syntax.specs.Reading.Items.{item_of};
-ghost use Rattle.snl_syntax.specs.declared.tree.item.Function.{Function};
-ghost use Rattle.snl_syntax.specs.declared.tree.item.Item.{Item};
-ghost use Rattle.snl_syntax.specs.declared.tree.item.Item.TheVariants as items;
+ghost use Rattle.snl_grammar.specs.Parsing.{kinds_in};
+ghost use Rattle.snl_grammar.specs.Reading.Items.{item_of};
+ghost use Rattle.snl_grammar.specs.declared.tree.item.Function.{Function};
+ghost use Rattle.snl_grammar.specs.declared.tree.item.Item.{Item};
+ghost use Rattle.snl_grammar.specs.declared.tree.item.Item.TheVariants as items;
 ghost use Rattle.snl_walk.specs.declared.occurrence.Occurrence.{Occurrence};
 ghost use Rattle.snl_walk.specs.declared.other_items.Outer.{Outer};
 ghost use Rattle.snl_codes.specs.Codes.{is_rule_code};
@@ -18,7 +18,7 @@ ghost use Rattle.snl_walk.specs.Repeated.{IsApartFrom, IsNoRepetitionAt};
 ghost use Rattle.snl_walk.specs.Rules.{findings};
 ghost use Rattle.snl_walk.specs.Uses.{is_indexed, targets, uses};
 
-use snl_syntax::{Kind, item_read, item_spelled};
+use snl_grammar::{Kind, item_read, item_spelled};
 
 /// In an item whose tokens are spelled alike the same is found, wherever it is.
 pub fn same_bytes_same_occurrences()

@@ -12,8 +12,8 @@ use crate::occurrence::{Context, Local, Occurrence, What};
 use crate::source::Source;
 use crate::visible::Visible;
 use snl_cut::OutOfMemory;
-use snl_syntax::tree::declaration::{Declaration, Declarator};
-use snl_syntax::tree::statement::{ForHead, Member, Stmt};
+use snl_grammar::tree::declaration::{Declaration, Declarator};
+use snl_grammar::tree::statement::{ForHead, Member, Stmt};
 use sqlite_items::Boxed;
 
 /// Takes in what a scope declares: its first declaration comes first.

@@ -10,7 +10,7 @@ use crate::rows::item_clauses::ResolvedClause;
 use crate::rows::room::with_room;
 use crate::rows::row_source::RowSource;
 use snl_cut::OutOfMemory;
-use snl_syntax::tree::clause::{Channel, Clause};
+use snl_grammar::tree::clause::{Channel, Clause};
 use sqlite_items::Items;
 
 /// A channel: the item of its clause, the token that names the variable there, the number of the

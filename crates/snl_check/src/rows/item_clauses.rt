@@ -9,10 +9,10 @@ ghost use Rattle.snl_check.specs.Collected.{AreTextItems, items_in, placed, reso
 use crate::rows::room::with_room;
 use crate::rows::text_items::TextItems;
 use snl_cut::OutOfMemory;
+use snl_grammar::tree::clause::Clause;
+use snl_grammar::tree::item::Item;
+use snl_grammar::tree::state::StateMember;
 use snl_scope::{ClauseLink, Links};
-use snl_syntax::tree::clause::Clause;
-use snl_syntax::tree::item::Item;
-use snl_syntax::tree::state::StateMember;
 
 // A clause, and the number of its item.
 #[derive(Clone, Copy)]

@@ -10,10 +10,10 @@ ghost use Rattle.snl_check.specs.Settings.{last_setting, option_rows, program_op
 
 use crate::rows::row_source::RowSource;
 use snl_cut::OutOfMemory;
+use snl_grammar::tree::clause::OptionLine;
+use snl_grammar::tree::item::Item;
+use snl_grammar::tree::state::StateMember;
 use snl_item_check::{View, is_on};
-use snl_syntax::tree::clause::OptionLine;
-use snl_syntax::tree::item::Item;
-use snl_syntax::tree::state::StateMember;
 use snl_tables::OptionRow;
 use snl_walk::Source;
 use std::alloc::Global;

@@ -8,8 +8,8 @@ ghost use Rattle.snl_check.specs.Tables as tables;
 
 use crate::rows::item_clauses::ResolvedClause;
 use crate::rows::row_source::RowSource;
+use snl_grammar::tree::clause::Clause;
 use snl_scope::Links;
-use snl_syntax::tree::clause::Clause;
 use snl_tables::{Queue, Synced};
 use snl_walk::Source;
 

@@ -4,8 +4,8 @@
 ghost use Rattle.std.specs.Prelude.{◌≡◌, option_copied};
 ghost use Rattle.snl_check.specs.ItemSpans as spans;
 
+use snl_grammar::tree::item::Item;
 use snl_lex::Piece;
-use snl_syntax::tree::item::Item;
 use snl_tables::Span;
 use snl_walk::Source;
 use std::alloc::Global;

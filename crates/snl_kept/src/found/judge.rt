@@ -27,10 +27,10 @@ use crate::found::warnings::shows_warnings;
 use crate::shared::Shared;
 use snl_check::Tables;
 use snl_cut::OutOfMemory;
+use snl_grammar::{outcome_told, same_spelling_same_tree};
 use snl_item_check::Checked;
 use snl_lex::text_in_pieces;
 use snl_scope::{LinkFault, Links, same_spelling_same_summary};
-use snl_syntax::{outcome_told, same_spelling_same_tree};
 use std::alloc::Global;
 
 /// What a text is judged to say: its diagnostics, its tables, and whether warnings are shown.

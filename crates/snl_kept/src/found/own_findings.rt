@@ -7,7 +7,7 @@ ghost use Rattle.std.specs.Prelude.{◌≡◌, ℕ, ◌<◌, ◌++◌, All, IfOk
 ghost use Rattle.std.specs.List.{position};
 ghost use Rattle.snl_lex.specs.PieceList.{spelled};
 ghost use Rattle.snl_lex.specs.Pieces.{LiesIn};
-ghost use Rattle.snl_syntax.specs.Outcome.{parsed_by};
+ghost use Rattle.snl_grammar.specs.Outcome.{parsed_by};
 ghost use Rattle.snl_scope.specs.declared.summaries.summary.Outline.{Outline};
 ghost use Rattle.snl_kept.specs.Checks.{check_by};
 ghost use Rattle.snl_kept.specs.ReplacedItem.{own_findings};
@@ -20,10 +20,10 @@ use crate::found::findings::{Diagnostic, Finding};
 use crate::found::order::{is_same, sort};
 use crate::found::program::fault_at;
 use snl_cut::OutOfMemory;
+use snl_grammar::{Parsed, outcome_told, same_spelling_same_tree};
 use snl_item_check::{Checked, faults_stand_in_tokens};
 use snl_lex::{Piece, Shift};
 use snl_scope::same_spelling_same_summary;
-use snl_syntax::{Parsed, outcome_told, same_spelling_same_tree};
 use std::alloc::Global;
 
 /// What is found at an item that consists of these tokens: where the parser left it faulty, and by

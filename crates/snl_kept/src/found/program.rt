@@ -10,7 +10,7 @@ ghost use Rattle.snl_items.specs.Items.{item_ends};
 ghost use Rattle.snl_lex.specs.LineList.{IsLineList};
 ghost use Rattle.snl_lex.specs.PieceList.{spelled};
 ghost use Rattle.snl_lex.specs.Pieces.{LiesIn, tokens_of};
-ghost use Rattle.snl_syntax.specs.Outcome.{BlamesWithin};
+ghost use Rattle.snl_grammar.specs.Outcome.{BlamesWithin};
 ghost use Rattle.snl_kept.specs.Entries.{entries_of, entry_by};
 ghost use Rattle.snl_kept.specs.Faults.{at_token, fault_at, faults_of};
 ghost use Rattle.snl_kept.specs.Parts.{EndsWithin, IsPart, item_of_part};
@@ -21,9 +21,9 @@ use crate::found::findings::Finding;
 use crate::shared::Shared;
 use snl_codes::Code;
 use snl_cut::{OutOfMemory, one_cut};
+use snl_grammar::{Parsed, Tokens, outcome_told, same_spelling_same_tree};
 use snl_lex::{LineList, Piece};
 use snl_scope::same_spelling_same_summary;
-use snl_syntax::{Parsed, Tokens, outcome_told, same_spelling_same_tree};
 use std::alloc::Global;
 
 /// A text as it is cut: its lines, its tokens, where its items end among these, and what is kept of

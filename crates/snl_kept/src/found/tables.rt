@@ -15,10 +15,10 @@ use crate::found::program::Part;
 use crate::shared::Shared;
 use snl_check::{Tables, tables_by_tokens};
 use snl_cut::OutOfMemory;
+use snl_grammar::tree::item::Item;
 use snl_item_check::Checked;
 use snl_lex::{LineList, Piece};
 use snl_scope::Links;
-use snl_syntax::tree::item::Item;
 use std::alloc::Global;
 
 // The trees of the items. A faulty one has none.

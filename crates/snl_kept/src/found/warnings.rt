@@ -10,10 +10,10 @@ ghost use Rattle.snl_kept.specs.Parts.{IsPart, item_of_part};
 ghost use Rattle.snl_kept.specs.Warnings.{setting_in, shows_warnings};
 
 use crate::found::program::Part;
+use snl_grammar::tree::item::Item;
 use snl_item_check::warning_setting;
 use snl_lex::Piece;
 use snl_scope::{Links, Source};
-use snl_syntax::tree::item::Item;
 use std::alloc::Global;
 
 // What an item says of warnings.

@@ -18,9 +18,9 @@ ghost use Rattle.snl_kept.specs.Shifted.{finding_of};
 ghost use Rattle.snl_kept.specs.Tables.{tables_in, walked_in};
 ghost use Rattle.snl_kept.specs.Warnings.{shows_warnings, warns_in};
 
+use snl_grammar::same_spelling_same_tree;
 use snl_item_check::faults_stand_in_tokens;
 use snl_scope::same_spelling_same_summary;
-use snl_syntax::same_spelling_same_tree;
 
 /// After an edit inside one plain item the findings of the other items are shifted, but for what
 /// the walks find in one state set, and warnings are shown if they were.

@@ -8,11 +8,11 @@ ghost use Rattle.snl_kept.specs.declared.entries.Entry.{Entry};
 ghost use Rattle.snl_kept.specs.declared.plan.Changes.{Changes};
 
 use snl_cut::ends_in_order;
+use snl_grammar::{Tokens, outcome_told, same_spelling_same_tree};
 use snl_item_check::equal_views;
 use snl_items::tokens_around_stay;
 use snl_lex::{lines_move, text_in_pieces};
 use snl_scope::{same_spelling_same_summary, views_told_apart};
-use snl_syntax::{Tokens, outcome_told, same_spelling_same_tree};
 
 /// Such an edit replaces one item. The others are shifted and say what they said, and none of these
 /// is to be checked.

@@ -14,9 +14,9 @@ use crate::editing::Editing;
 use crate::found::findings::Diagnostic;
 use crate::lists::Lists;
 use snl_cut::ends_in_order;
+use snl_grammar::Tokens;
 use snl_items::tokens_in_front;
 use snl_lex::{Line, LineShift, Shift, text_in_pieces};
-use snl_syntax::Tokens;
 
 // Whether no item has its first token alone among so many.
 fn parts_no_item(before: usize, ends: &[u32]) -> bool

@@ -2,15 +2,15 @@
 use Rattle.std.specs.Prelude.{ℕ, List, [], ◌∷◌, length, Option, Some, None, option_map, unwrap_or}
 use Rattle.std.specs.List.{flat_map}
 use Rattle.snl_lex.specs.declared.piece.Piece.{Piece}
-use Rattle.snl_syntax.specs.declared.tree.clause.Channel.{Channel}
-use Rattle.snl_syntax.specs.declared.tree.clause.Channel.TheVariants as channels
-use Rattle.snl_syntax.specs.declared.tree.clause.Clause.{Clause}
-use Rattle.snl_syntax.specs.declared.tree.clause.Clause.TheVariants as clauses
-use Rattle.snl_syntax.specs.declared.tree.clause.Flag.{Flag}
-use Rattle.snl_syntax.specs.declared.tree.item.Item.{Item}
-use Rattle.snl_syntax.specs.declared.tree.item.Item.TheVariants as items
-use Rattle.snl_syntax.specs.declared.tree.state.StateMember.{StateMember}
-use Rattle.snl_syntax.specs.declared.tree.state.StateMember.TheVariants as members
+use Rattle.snl_grammar.specs.declared.tree.clause.Channel.{Channel}
+use Rattle.snl_grammar.specs.declared.tree.clause.Channel.TheVariants as channels
+use Rattle.snl_grammar.specs.declared.tree.clause.Clause.{Clause}
+use Rattle.snl_grammar.specs.declared.tree.clause.Clause.TheVariants as clauses
+use Rattle.snl_grammar.specs.declared.tree.clause.Flag.{Flag}
+use Rattle.snl_grammar.specs.declared.tree.item.Item.{Item}
+use Rattle.snl_grammar.specs.declared.tree.item.Item.TheVariants as items
+use Rattle.snl_grammar.specs.declared.tree.state.StateMember.{StateMember}
+use Rattle.snl_grammar.specs.declared.tree.state.StateMember.TheVariants as members
 use Rattle.snl_scope.specs.declared.summaries.summary.ClauseKind.{ClauseKind}
 use Rattle.snl_scope.specs.declared.summaries.summary.ClauseKind.TheVariants as kinds
 use Rattle.snl_scope.specs.declared.summaries.summary.Coverage.{Coverage}

@@ -2,19 +2,19 @@
 use Rattle.std.specs.Prelude.{ℕ, Bool, true, false, ◌==◌, List, [], ◌∷◌, map, length, slice_get, Option, Some, None}
 use Rattle.std.specs.List.{flat_map}
 use Rattle.snl_lex.specs.declared.piece.Piece.{Piece}
-use Rattle.snl_syntax.specs.declared.tree.declaration.Declaration.{Declaration}
-use Rattle.snl_syntax.specs.declared.tree.declaration.Declarator.{Declarator}
-use Rattle.snl_syntax.specs.declared.tree.expression.Expr.{Expr}
-use Rattle.snl_syntax.specs.declared.tree.expression.Expr.TheOpen.{Expr-F, Suffix-F}
-use Rattle.snl_syntax.specs.declared.tree.expression.Expr.TheFolds.{fold-Expr}
-use Rattle.snl_syntax.specs.declared.tree.item.Function.{Function}
-use Rattle.snl_syntax.specs.declared.tree.item.Item.{Item}
-use Rattle.snl_syntax.specs.declared.tree.item.Item.TheVariants as items
-use Rattle.snl_syntax.specs.declared.tree.state.StateMember.{StateMember}
-use Rattle.snl_syntax.specs.declared.tree.state.StateMember.TheVariants as members
-use Rattle.snl_syntax.specs.declared.tree.statement.Member.{Member}
-use Rattle.snl_syntax.specs.declared.tree.types.Base.{Base}
-use Rattle.snl_syntax.specs.declared.tree.types.Base.TheVariants as bases
+use Rattle.snl_grammar.specs.declared.tree.declaration.Declaration.{Declaration}
+use Rattle.snl_grammar.specs.declared.tree.declaration.Declarator.{Declarator}
+use Rattle.snl_grammar.specs.declared.tree.expression.Expr.{Expr}
+use Rattle.snl_grammar.specs.declared.tree.expression.Expr.TheOpen.{Expr-F, Suffix-F}
+use Rattle.snl_grammar.specs.declared.tree.expression.Expr.TheFolds.{fold-Expr}
+use Rattle.snl_grammar.specs.declared.tree.item.Function.{Function}
+use Rattle.snl_grammar.specs.declared.tree.item.Item.{Item}
+use Rattle.snl_grammar.specs.declared.tree.item.Item.TheVariants as items
+use Rattle.snl_grammar.specs.declared.tree.state.StateMember.{StateMember}
+use Rattle.snl_grammar.specs.declared.tree.state.StateMember.TheVariants as members
+use Rattle.snl_grammar.specs.declared.tree.statement.Member.{Member}
+use Rattle.snl_grammar.specs.declared.tree.types.Base.{Base}
+use Rattle.snl_grammar.specs.declared.tree.types.Base.TheVariants as bases
 use Rattle.snl_scope.specs.declared.summaries.summary.Declared.{Declared}
 use Rattle.snl_scope.specs.declared.summaries.summary.Dims.{Dims}
 use Rattle.snl_scope.specs.declared.summaries.summary.Dims.TheVariants as dims

@@ -7,12 +7,12 @@ ghost use Rattle.snl_scope.specs.LinkedItems.{LinkedItems};
 ghost use Rattle.snl_scope.specs.Linked.{faults_of};
 ghost use Rattle.snl_scope.specs.Once.{AreFoundOnce, TokensRise};
 ghost use Rattle.snl_scope.specs.Summaries.{outline_in};
-ghost use Rattle.snl_syntax.specs.Reading.Items.{item_of};
-ghost use Rattle.snl_syntax.specs.Parsing.{kinds_in};
-ghost use Rattle.snl_syntax.specs.declared.tree.item.Item.{Item};
+ghost use Rattle.snl_grammar.specs.Reading.Items.{item_of};
+ghost use Rattle.snl_grammar.specs.Parsing.{kinds_in};
+ghost use Rattle.snl_grammar.specs.declared.tree.item.Item.{Item};
 ghost use Rattle.std.specs.Prelude.{◌≡◌, ◌<◌, ℕ, All, IfSome, List, None, Some, length, slice_get};
 
-use snl_syntax::{item_read, item_spelled};
+use snl_grammar::{item_read, item_spelled};
 
 /// In the outline of an item, no two declarations are at one token, nor are the variables of two
 /// clauses, nor the flags of two. A faulty item has none of them.

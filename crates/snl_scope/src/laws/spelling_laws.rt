@@ -6,7 +6,7 @@ ghost use Rattle.snl_lex.specs.declared.piece.Piece.{Piece};
 ghost use Rattle.snl_scope.specs.SpelledTokens.{bytes_by, pieces_from, summary_by, text_of};
 ghost use Rattle.snl_scope.specs.Summaries.{summary_in};
 ghost use Rattle.snl_walk.specs.Tokens.{token_bytes};
-ghost use Rattle.snl_syntax.specs.declared.tree.item.Item.{Item};
+ghost use Rattle.snl_grammar.specs.declared.tree.item.Item.{Item};
 ghost use Rattle.std.specs.Prelude.{◌≡◌, ℕ, List, Option};
 
 /// Tokens that are spelled alike have the same bytes and, with the same tree, the same summary,

@@ -5,7 +5,7 @@ ghost use Rattle.snl_scope.specs.declared.summaries.summary.ItemKind.TheVariants
 ghost use Rattle.snl_scope.specs.Summaries.{kind_of_tree, outline_in};
 ghost use Rattle.snl_scope.specs.Summaries.Clauses.{clauses_in};
 ghost use Rattle.snl_scope.specs.Summaries.Declares.{declared_in};
-ghost use Rattle.snl_syntax.specs.declared.tree.item.Item.{Item};
+ghost use Rattle.snl_grammar.specs.declared.tree.item.Item.{Item};
 ghost use Rattle.snl_walk.specs.Once.{once, with_new};
 ghost use Rattle.std.specs.Prelude.{◌≡◌, ◌≢◌, ◌↔◌, ◌++◌, ◌∷◌, [], ℕ, List, None, Some};
 ghost use Rattle.std.specs.List.{AllPairs, Contains};

@@ -4,13 +4,13 @@
 ghost use Rattle.snl_lex.specs.declared.piece.Piece.{Piece};
 ghost use Rattle.snl_scope.specs.NamedTokens.{NamesItsTokens, target_tokens};
 ghost use Rattle.snl_scope.specs.Summaries.{summary_in};
-ghost use Rattle.snl_syntax.specs.Reading.Items.{item_of};
-ghost use Rattle.snl_syntax.specs.Parsing.{kinds_in};
-ghost use Rattle.snl_syntax.specs.declared.tree.item.Item.{Item};
+ghost use Rattle.snl_grammar.specs.Reading.Items.{item_of};
+ghost use Rattle.snl_grammar.specs.Parsing.{kinds_in};
+ghost use Rattle.snl_grammar.specs.declared.tree.item.Item.{Item};
 ghost use Rattle.std.specs.Prelude.{◌≡◌, ◌<◌, ℕ, All, List, Some, length};
 ghost use Rattle.std.specs.List.Sorted.{IsStrictlyIncreasing};
 
-use snl_syntax::{item_read, item_spelled};
+use snl_grammar::{item_read, item_spelled};
 use snl_walk::tokens_rise;
 
 /// The tree that is read of tokens names none but these tokens.

@@ -9,9 +9,9 @@ ghost use Rattle.std.specs.List.{flat_map};
 use crate::summaries::summary::{ClauseKind, Coverage, NameRef, VariableClause};
 use crate::summaries::token_names::name_ref_at;
 use snl_cut::OutOfMemory;
-use snl_syntax::tree::clause::{Channel, Clause, Flag};
-use snl_syntax::tree::item::Item;
-use snl_syntax::tree::state::StateMember;
+use snl_grammar::tree::clause::{Channel, Clause, Flag};
+use snl_grammar::tree::item::Item;
+use snl_grammar::tree::state::StateMember;
 use snl_walk::Source;
 
 // The element that a subscript means.

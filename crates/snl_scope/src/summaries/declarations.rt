@@ -9,11 +9,11 @@ ghost use Rattle.std.specs.List.{flat_map};
 use crate::summaries::summary::{Declared, Dims, SymbolKind, Variable};
 use crate::summaries::token_names::name_at;
 use snl_cut::OutOfMemory;
-use snl_syntax::tree::declaration::{Declaration, Declarator};
-use snl_syntax::tree::expression::Expr;
-use snl_syntax::tree::item::{Function, Item};
-use snl_syntax::tree::state::StateMember;
-use snl_syntax::tree::types::Base;
+use snl_grammar::tree::declaration::{Declaration, Declarator};
+use snl_grammar::tree::expression::Expr;
+use snl_grammar::tree::item::{Function, Item};
+use snl_grammar::tree::state::StateMember;
+use snl_grammar::tree::types::Base;
 use snl_walk::Source;
 
 // What names of a declaration with this base stand for.

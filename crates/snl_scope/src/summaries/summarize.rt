@@ -18,8 +18,8 @@ use crate::summaries::summary::{
 };
 use crate::summaries::token_names::{name_refs, names_once};
 use snl_cut::OutOfMemory;
+use snl_grammar::tree::item::Item;
 use snl_lex::{Class, Piece, token_text};
-use snl_syntax::tree::item::Item;
 use snl_walk::{Occurrence, Source, occurrences, targets, uses};
 use sqlite_items::Items;
 use std::alloc::Global;

@@ -1,7 +1,7 @@
 -- What the proofs of the readers of clauses open, by the files of src/.
-use Rattle.snl_syntax.specs.Steps.{and_then}
-use Rattle.snl_syntax.specs.Reading.Expressions as exprs
-use Rattle.snl_syntax.specs.Reading.Clauses as spec
+use Rattle.snl_grammar.specs.Steps.{and_then}
+use Rattle.snl_grammar.specs.Reading.Expressions as exprs
+use Rattle.snl_grammar.specs.Reading.Clauses as spec
 
 unfoldable pub foreign_names : Unit {0}
 unfolding and_then exprs.next_comma exprs.commas spec.foreign

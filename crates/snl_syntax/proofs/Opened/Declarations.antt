@@ -1,7 +1,7 @@
 -- What the proofs of the readers of declarations open, by the files of src/.
-use Rattle.snl_syntax.specs.Steps.{and_then}
-use Rattle.snl_syntax.specs.Reading.Expressions as exprs
-use Rattle.snl_syntax.specs.Reading.Declarations as spec
+use Rattle.snl_grammar.specs.Steps.{and_then}
+use Rattle.snl_grammar.specs.Reading.Expressions as exprs
+use Rattle.snl_grammar.specs.Reading.Declarations as spec
 
 unfoldable pub array_lengths : Unit {0}
 unfolding and_then spec.some_length spec.bracketed_length spec.next_length

@@ -1,7 +1,7 @@
 -- What the proofs of the readers of functions open, by the files of src/.
-use Rattle.snl_syntax.specs.Steps.{and_then}
-use Rattle.snl_syntax.specs.Reading.Expressions as exprs
-use Rattle.snl_syntax.specs.Reading.Functions as spec
+use Rattle.snl_grammar.specs.Steps.{and_then}
+use Rattle.snl_grammar.specs.Reading.Expressions as exprs
+use Rattle.snl_grammar.specs.Reading.Functions as spec
 
 unfoldable pub parameters : Unit {0}
 unfolding and_then spec.name_part spec.some_name spec.parameter_in exprs.next_comma exprs.commas

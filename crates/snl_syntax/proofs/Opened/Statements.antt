@@ -1,6 +1,6 @@
 -- What the proofs of the readers of statements open, by the files of src/.
-use Rattle.snl_syntax.specs.Steps.{and_then}
-use Rattle.snl_syntax.specs.Reading.Statements as spec
+use Rattle.snl_grammar.specs.Steps.{and_then}
+use Rattle.snl_grammar.specs.Reading.Statements as spec
 
 unfoldable pub optional : Unit {0}
 unfolding and_then spec.some_before spec.before_semicolon spec.before_paren

@@ -1,6 +1,6 @@
 -- What the proofs of the readers of states open, by the files of src/.
-use Rattle.snl_syntax.specs.Steps.{and_then}
-use Rattle.snl_syntax.specs.Reading.States as spec
+use Rattle.snl_grammar.specs.Steps.{and_then}
+use Rattle.snl_grammar.specs.Reading.States as spec
 
 unfoldable pub states : Unit {0}
 unfolding and_then spec.entry_block spec.exit_block spec.next_state spec.target spec.transition

@@ -3,17 +3,14 @@
 
 ghost use Rattle.std.specs.Prelude.{Some};
 ghost use Rattle.snl_lex.specs.declared.kind.Kind.TheVariants as kind;
-ghost use Rattle.snl_syntax.specs.Reading.Clauses as spec;
-ghost use Rattle.snl_syntax.specs.Steps as read;
-ghost use Rattle.snl_syntax.specs.Steps.{ReadsFrom};
+ghost use Rattle.snl_grammar.specs.Reading.Clauses as spec;
+ghost use Rattle.snl_grammar.specs.Steps as read;
+ghost use Rattle.snl_expression.specs.Reads.{ReadsFrom};
 
 use crate::clause::operands::subscript;
-use crate::expression::texts;
-use crate::lists::until;
-use crate::parts::single;
-use crate::stop::{Step, Stop};
-use crate::token_steps::{accept, expect, kind_at, past};
-use crate::tree::clause::Channel;
+use snl_expression::{Stop, accept, expect, kind_at, past, single, texts, until};
+use snl_grammar::Step;
+use snl_grammar::tree::clause::Channel;
 use snl_lex::Kind;
 use sqlite_items::Items;
 use std::alloc::Global;

@@ -2,15 +2,12 @@
 #![tactic(auto, unfolding(crate::proofs::Opened::Clauses::foreign_names))]
 
 ghost use Rattle.snl_lex.specs.declared.kind.Kind.TheVariants as kind;
-ghost use Rattle.snl_syntax.specs.Reading.Clauses as spec;
-ghost use Rattle.snl_syntax.specs.Reading.Expressions as exprs;
-ghost use Rattle.snl_syntax.specs.Steps as read;
-ghost use Rattle.snl_syntax.specs.Steps.{ReadsFrom};
+ghost use Rattle.snl_grammar.specs.Reading.Clauses as spec;
+ghost use Rattle.snl_grammar.specs.Reading.Expressions as exprs;
+ghost use Rattle.snl_grammar.specs.Steps as read;
+ghost use Rattle.snl_expression.specs.Reads.{ReadsFrom};
 
-use crate::lists::many;
-use crate::parts::single;
-use crate::stop::Stop;
-use crate::token_steps::{expect, kind_at, past};
+use snl_expression::{Stop, expect, kind_at, many, past, single};
 use snl_lex::Kind;
 use sqlite_items::Items;
 use std::alloc::Global;

@@ -2,12 +2,11 @@
 //! queue.
 #![tactic(auto, unfolding(crate::proofs::Opened::Clauses::operands))]
 
-ghost use Rattle.snl_syntax.specs.Reading.Clauses as spec;
-ghost use Rattle.snl_syntax.specs.Steps.{ReadsFrom};
+ghost use Rattle.snl_grammar.specs.Reading.Clauses as spec;
+ghost use Rattle.snl_expression.specs.Reads.{ReadsFrom};
 
-use crate::stop::Stop;
-use crate::token_steps::{accept, expect, kind_at};
-use crate::tree::clause::Flag;
+use snl_expression::{Stop, accept, expect, kind_at};
+use snl_grammar::tree::clause::Flag;
 use snl_lex::Kind;
 
 // "[" INT "]"

@@ -1,12 +1,11 @@
 //! Reads options.
 #![tactic(auto, unfolding(crate::proofs::Opened::Clauses::options))]
 
-ghost use Rattle.snl_syntax.specs.Reading.Clauses as spec;
-ghost use Rattle.snl_syntax.specs.Steps.{ReadsFrom};
+ghost use Rattle.snl_grammar.specs.Reading.Clauses as spec;
+ghost use Rattle.snl_expression.specs.Reads.{ReadsFrom};
 
-use crate::stop::Stop;
-use crate::token_steps::{expect, kind_at};
-use crate::tree::clause::{OptionLine, OptionSign};
+use snl_expression::{Stop, expect, kind_at};
+use snl_grammar::tree::clause::{OptionLine, OptionSign};
 use snl_lex::Kind;
 
 // "+" | "-"

@@ -1,15 +1,12 @@
 //! Reads the lengths of arrays, in their brackets.
 #![tactic(auto, unfolding(crate::proofs::Opened::Declarations::array_lengths))]
 
-ghost use Rattle.snl_syntax.specs.Reading.Declarations as spec;
-ghost use Rattle.snl_syntax.specs.Reading.Expressions as exprs;
-ghost use Rattle.snl_syntax.specs.Steps.{ReadsFrom};
+ghost use Rattle.snl_grammar.specs.Reading.Declarations as spec;
+ghost use Rattle.snl_grammar.specs.Reading.Expressions as exprs;
+ghost use Rattle.snl_expression.specs.Reads.{ReadsFrom};
 
-use crate::expression::expr;
-use crate::lists::many;
-use crate::stop::Stop;
-use crate::token_steps::{expect, kind_at, past};
-use crate::tree::expression::Expr;
+use snl_expression::{Stop, expect, expr, kind_at, many, past};
+use snl_grammar::tree::expression::Expr;
 use snl_lex::Kind;
 use sqlite_items::Items;
 use std::alloc::Global;

@@ -3,16 +3,14 @@
 #![tactic(auto, unfolding(crate::proofs::Opened::Declarations::initial_values))]
 
 ghost use Rattle.std.specs.Prelude.{◌<◌, ◌-◌};
-ghost use Rattle.snl_syntax.specs.Reading.Declarations as spec;
-ghost use Rattle.snl_syntax.specs.Reading.Expressions as exprs;
-ghost use Rattle.snl_syntax.specs.Steps as read;
-ghost use Rattle.snl_syntax.specs.Steps.{ReadsFrom};
+ghost use Rattle.snl_grammar.specs.Reading.Declarations as spec;
+ghost use Rattle.snl_grammar.specs.Reading.Expressions as exprs;
+ghost use Rattle.snl_grammar.specs.Steps as read;
+ghost use Rattle.snl_expression.specs.Reads.{ReadsFrom};
 
-use crate::expression::assignx;
-use crate::parts::{ended, single, with};
-use crate::stop::{Step, Stop};
-use crate::token_steps::{expect, kind_at, past, turns};
-use crate::tree::declaration::Init;
+use snl_expression::{Stop, assignx, ended, expect, kind_at, past, single, turns, with};
+use snl_grammar::Step;
+use snl_grammar::tree::declaration::Init;
 use snl_lex::Kind;
 use sqlite_items::{Boxed, Items};
 use std::alloc::Global;

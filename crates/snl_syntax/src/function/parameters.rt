@@ -2,18 +2,14 @@
 #![tactic(auto, unfolding(crate::proofs::Opened::Functions::parameters))]
 
 ghost use Rattle.std.specs.Prelude.{◌<◌, ◌-◌};
-ghost use Rattle.snl_syntax.specs.Reading.Expressions as exprs;
-ghost use Rattle.snl_syntax.specs.Reading.Functions as spec;
-ghost use Rattle.snl_syntax.specs.Steps as read;
-ghost use Rattle.snl_syntax.specs.Steps.{ReadsFrom};
+ghost use Rattle.snl_grammar.specs.Reading.Expressions as exprs;
+ghost use Rattle.snl_grammar.specs.Reading.Functions as spec;
+ghost use Rattle.snl_grammar.specs.Steps as read;
+ghost use Rattle.snl_expression.specs.Reads.{ReadsFrom};
 
 use crate::declaration::lengths;
-use crate::lists::many;
-use crate::parts::single;
-use crate::stop::Stop;
-use crate::token_steps::{expect, kind_at};
-use crate::tree::declaration::Parameter;
-use crate::types::{stars, type_of};
+use snl_expression::{Stop, expect, kind_at, many, single, stars, type_of};
+use snl_grammar::tree::declaration::Parameter;
 use snl_lex::Kind;
 use sqlite_items::Items;
 use std::alloc::Global;

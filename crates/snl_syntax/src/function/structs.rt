@@ -2,16 +2,14 @@
 #![tactic(auto, unfolding(crate::proofs::Opened::Functions::structs))]
 
 ghost use Rattle.std.specs.Prelude.{[]};
-ghost use Rattle.snl_syntax.specs.Reading.Declarations as declarations;
-ghost use Rattle.snl_syntax.specs.Reading.Functions as spec;
-ghost use Rattle.snl_syntax.specs.Steps as read;
-ghost use Rattle.snl_syntax.specs.Steps.{ReadsFrom};
+ghost use Rattle.snl_grammar.specs.Reading.Declarations as declarations;
+ghost use Rattle.snl_grammar.specs.Reading.Functions as spec;
+ghost use Rattle.snl_grammar.specs.Steps as read;
+ghost use Rattle.snl_expression.specs.Reads.{ReadsFrom};
 
 use crate::declaration::declaration;
-use crate::lists::many;
-use crate::stop::Stop;
-use crate::token_steps::{expect, kind_at};
-use crate::tree::item::StructMember;
+use snl_expression::{Stop, expect, kind_at, many};
+use snl_grammar::tree::item::StructMember;
 use snl_lex::Kind;
 use sqlite_items::Items;
 use std::alloc::Global;

@@ -2,17 +2,15 @@
 #![tactic(auto, unfolding(crate::proofs::Opened::Functions::typed_items))]
 
 ghost use Rattle.std.specs.Prelude.{◌<◌};
-ghost use Rattle.snl_syntax.specs.Reading.Functions as spec;
-ghost use Rattle.snl_syntax.specs.Steps.{ReadsFrom};
+ghost use Rattle.snl_grammar.specs.Reading.Functions as spec;
+ghost use Rattle.snl_expression.specs.Reads.{ReadsFrom};
 
 use crate::declaration::declaration_from;
 use crate::function::structs::struct_members;
 use crate::function::{Blocks, function_from};
-use crate::stop::Stop;
-use crate::token_steps::{accept, expect, kind_at};
-use crate::tree::item::Item;
-use crate::tree::types::{Base, Pointer, QualifiedType};
-use crate::types::{stars, type_of};
+use snl_expression::{Stop, accept, expect, kind_at, stars, type_of};
+use snl_grammar::tree::item::Item;
+use snl_grammar::tree::types::{Base, Pointer, QualifiedType};
 use snl_lex::Kind;
 use sqlite_items::{Boxed, Items};
 use std::alloc::Global;

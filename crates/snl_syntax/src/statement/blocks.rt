@@ -3,17 +3,14 @@
 
 ghost use Rattle.std.specs.Prelude.{[]};
 ghost use Rattle.snl_syntax.specs.NestsStatement.{NestsStatement};
-ghost use Rattle.snl_syntax.specs.Reading.Statements as spec;
-ghost use Rattle.snl_syntax.specs.Steps as read;
-ghost use Rattle.snl_syntax.specs.Steps.{ReadsFrom};
+ghost use Rattle.snl_grammar.specs.Reading.Statements as spec;
+ghost use Rattle.snl_grammar.specs.Steps as read;
+ghost use Rattle.snl_expression.specs.Reads.{ReadsFrom};
 
 use crate::declaration::declaration;
-use crate::lists::many;
 use crate::statement::Statements;
-use crate::stop::Stop;
-use crate::token_steps::{expect, kind_at, past};
-use crate::tree::statement::{Member, Stmt};
-use crate::types::begins_type;
+use snl_expression::{Stop, begins_type, expect, kind_at, many, past};
+use snl_grammar::tree::statement::{Member, Stmt};
 use snl_lex::Kind;
 use sqlite_items::Items;
 use std::alloc::Global;

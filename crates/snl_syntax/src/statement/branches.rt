@@ -3,19 +3,17 @@
 
 ghost use Rattle.std.specs.Prelude.{◌≡◌, [], IfOk, Some};
 ghost use Rattle.snl_syntax.specs.NestsStatement.{NestsStatement};
-ghost use Rattle.snl_syntax.specs.Reading.Statements as spec;
-ghost use Rattle.snl_syntax.specs.Steps as read;
-ghost use Rattle.snl_syntax.specs.Steps.{ReadsFrom};
-ghost use Rattle.snl_syntax.specs.declared.stop.Step.TheVariants as steps;
+ghost use Rattle.snl_grammar.specs.Reading.Statements as spec;
+ghost use Rattle.snl_grammar.specs.Steps as read;
+ghost use Rattle.snl_expression.specs.Reads.{ReadsFrom};
+ghost use Rattle.snl_grammar.specs.declared.step.Step.TheVariants as steps;
 
-use crate::lists::until;
-use crate::parts::one_boxed;
 use crate::statement::Statements;
 use crate::statement::loops::condition;
-use crate::stop::{Step, Stop};
-use crate::token_steps::{beside, expect, kind_at, past};
-use crate::tree::expression::Expr;
-use crate::tree::statement::Stmt;
+use snl_expression::{Stop, beside, expect, kind_at, one_boxed, past, until};
+use snl_grammar::Step;
+use snl_grammar::tree::expression::Expr;
+use snl_grammar::tree::statement::Stmt;
 use snl_lex::Kind;
 use sqlite_items::{Boxed, Items};
 use std::alloc::{AllocError, Global};

@@ -3,18 +3,15 @@
 
 ghost use Rattle.std.specs.Prelude.{◌≡◌, IfOk};
 ghost use Rattle.snl_syntax.specs.NestsStatement.{NestsStatement};
-ghost use Rattle.snl_syntax.specs.Reading.Statements as spec;
-ghost use Rattle.snl_syntax.specs.Steps.{ReadsFrom};
-ghost use Rattle.snl_syntax.specs.declared.tree.statement.Stmt.TheVariants as tree;
+ghost use Rattle.snl_grammar.specs.Reading.Statements as spec;
+ghost use Rattle.snl_expression.specs.Reads.{ReadsFrom};
+ghost use Rattle.snl_grammar.specs.declared.tree.statement.Stmt.TheVariants as tree;
 
-use crate::expression::expr;
-use crate::parts::{both_boxed, one_boxed};
 use crate::statement::Statements;
 use crate::statement::optional::{before_paren, before_semicolon};
-use crate::stop::Stop;
-use crate::token_steps::{beside, expect, past};
-use crate::tree::expression::Expr;
-use crate::tree::statement::{ForHead, Stmt};
+use snl_expression::{Stop, beside, both_boxed, expect, expr, one_boxed, past};
+use snl_grammar::tree::expression::Expr;
+use snl_grammar::tree::statement::{ForHead, Stmt};
 use snl_lex::Kind;
 use std::alloc::{AllocError, Global};
 

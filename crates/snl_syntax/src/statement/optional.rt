@@ -2,14 +2,12 @@
 #![tactic(auto, unfolding(crate::proofs::Opened::Statements::optional))]
 
 ghost use Rattle.snl_lex.specs.declared.kind.Kind.TheVariants as kind;
-ghost use Rattle.snl_syntax.specs.Reading.Expressions as exprs;
-ghost use Rattle.snl_syntax.specs.Reading.Statements as spec;
-ghost use Rattle.snl_syntax.specs.Steps.{ReadsFrom};
+ghost use Rattle.snl_grammar.specs.Reading.Expressions as exprs;
+ghost use Rattle.snl_grammar.specs.Reading.Statements as spec;
+ghost use Rattle.snl_expression.specs.Reads.{ReadsFrom};
 
-use crate::expression::expr;
-use crate::stop::Stop;
-use crate::token_steps::{expect, kind_at, past};
-use crate::tree::expression::Expr;
+use snl_expression::{Stop, expect, expr, kind_at, past};
+use snl_grammar::tree::expression::Expr;
 use snl_lex::Kind;
 use std::alloc::Global;
 

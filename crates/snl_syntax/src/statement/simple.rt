@@ -2,16 +2,14 @@
 #![tactic(auto, unfolding(crate::proofs::Opened::Statements::simple))]
 
 ghost use Rattle.snl_lex.specs.declared.kind.Kind.TheVariants as kind;
-ghost use Rattle.snl_syntax.specs.Reading.Statements as spec;
-ghost use Rattle.snl_syntax.specs.Steps as read;
-ghost use Rattle.snl_syntax.specs.Steps.{ReadsFrom};
-ghost use Rattle.snl_syntax.specs.declared.tree.statement.Stmt.TheVariants as tree;
+ghost use Rattle.snl_grammar.specs.Reading.Statements as spec;
+ghost use Rattle.snl_grammar.specs.Steps as read;
+ghost use Rattle.snl_expression.specs.Reads.{ReadsFrom};
+ghost use Rattle.snl_grammar.specs.declared.tree.statement.Stmt.TheVariants as tree;
 
-use crate::expression::expr;
 use crate::statement::optional::before_semicolon;
-use crate::stop::Stop;
-use crate::token_steps::{expect, past};
-use crate::tree::statement::Stmt;
+use snl_expression::{Stop, expect, expr, past};
+use snl_grammar::tree::statement::Stmt;
 use snl_lex::Kind;
 use std::alloc::Global;
 

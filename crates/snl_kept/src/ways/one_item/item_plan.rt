@@ -35,9 +35,9 @@ use crate::ways::one_item::replaced::{OldItem, OneItem};
 use crate::ways::one_item::touched_rows::{TouchedRows, touched_by, touches_little};
 use crate::work::Work;
 use snl_cut::{Count, OutOfMemory};
+use snl_grammar::{outcome_told, same_spelling_same_tree};
 use snl_lex::text_in_pieces;
 use snl_scope::{same_outline, same_spelling_same_summary};
-use snl_syntax::{outcome_told, same_spelling_same_tree};
 use std::alloc::Global;
 
 /// What an edit makes of an item, and what becomes of the links.

@@ -16,9 +16,9 @@ use crate::shared::Shared;
 use crate::ways::one_item::alike::is_same_kind;
 use crate::ways::one_item::replaced::OldItem;
 use snl_cut::OutOfMemory;
+use snl_grammar::{outcome_told, same_spelling_same_tree};
 use snl_lists::Ordered;
 use snl_scope::{ItemKind, LinkFault, Links, same_spelling_same_summary};
-use snl_syntax::{outcome_told, same_spelling_same_tree};
 use std::alloc::Global;
 
 // What each item is, as it is kept.

@@ -32,10 +32,10 @@ use snl_check::{
     StateBody, StateMark, Tables, TargetUse, WakeUp, WakeUse, state_body, state_marks, wake_inside,
 };
 use snl_cut::OutOfMemory;
+use snl_grammar::{outcome_told, same_spelling_same_tree};
 use snl_item_check::Checked;
 use snl_lex::{Line, LineList, Piece, TextEdit};
 use snl_scope::{Links, Source, same_spelling_same_summary};
-use snl_syntax::{outcome_told, same_spelling_same_tree};
 use sqlite_items::Items;
 use std::alloc::Global;
 

@@ -37,10 +37,10 @@ use crate::ways::one_item::renamed_links::links_if_unused;
 use crate::ways::one_item::replaced::{OldItem, OneItem};
 use crate::ways::one_item::touched_rows::{TouchedRows, touched_by};
 use snl_cut::{Count, OutOfMemory};
+use snl_grammar::{outcome_told, same_spelling_same_tree};
 use snl_item_check::Checked;
 use snl_lex::text_in_pieces;
 use snl_scope::{renaming_of, same_spelling_same_summary};
-use snl_syntax::{outcome_told, same_spelling_same_tree};
 use std::alloc::Global;
 
 /// The rows that such an item changes.

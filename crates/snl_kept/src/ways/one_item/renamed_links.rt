@@ -21,12 +21,12 @@ use crate::shared::Shared;
 use crate::ways::one_item::replaced::{OldItem, OneItem};
 use snl_check::tables_told_alike;
 use snl_cut::OutOfMemory;
+use snl_grammar::{outcome_told, same_spelling_same_tree};
 use snl_lists::Ordered;
 use snl_scope::{
     EditedNames, Links, Renaming, declared_anew, link_renamed, named_anew,
     same_spelling_same_summary, unspoken_names,
 };
-use snl_syntax::{outcome_told, same_spelling_same_tree};
 use std::alloc::Global;
 
 // Whether no item but one uses one of these names, or has it as a target.

@@ -15,9 +15,9 @@ use crate::entries::Entry;
 use crate::shared::Shared;
 use snl_check::SetMember;
 use snl_cut::OutOfMemory;
+use snl_grammar::{outcome_told, same_spelling_same_tree};
 use snl_lists::Ordered;
 use snl_scope::{Links, Opening, Outline, same_spelling_same_summary};
-use snl_syntax::{outcome_told, same_spelling_same_tree};
 use std::alloc::Global;
 
 // What is kept of the item with a number after an edit that makes this one in the place of another.

@@ -14,9 +14,9 @@ use crate::entries::Entry;
 use crate::shared::Shared;
 use crate::values::{add_kept, add_made};
 use snl_cut::OutOfMemory;
+use snl_grammar::{outcome_told, same_spelling_same_tree};
 use snl_lists::Ordered;
 use snl_scope::{EditedNames, Outline, same_spelling_same_summary, unspoken_names};
-use snl_syntax::{outcome_told, same_spelling_same_tree};
 use std::alloc::Global;
 
 /// The names of more items than these are many.

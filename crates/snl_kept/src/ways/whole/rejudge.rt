@@ -31,13 +31,13 @@ use crate::ways::whole::edited::edited_names;
 use crate::ways::whole::recheck::{BothLinks, KeptItems, recheck};
 use crate::ways::whole::relink::relink;
 use snl_cut::{Count, OutOfMemory, ends_in_order};
+use snl_grammar::Tokens;
 use snl_item_check::equal_views;
 use snl_items::ItemChange;
 use snl_lex::{Piece, text_in_pieces};
 use snl_scope::{
     EditedNames, Links, Moved, SameViews, same_spelling_same_summary, views_told_apart,
 };
-use snl_syntax::Tokens;
 use std::alloc::Global;
 
 /// What is shown of what is found in the new text and its tables, and what is to be kept of its

@@ -20,10 +20,10 @@ use crate::found::summaries::{kinds_of, links_of};
 use crate::plan::{NewKinds, NewLinks};
 use crate::shared::Shared;
 use snl_cut::OutOfMemory;
+use snl_grammar::{outcome_told, same_spelling_same_tree};
 use snl_lex::Piece;
 use snl_lists::Ordered;
 use snl_scope::{Links, Summary, link_after, same_outline, same_spelling_same_summary};
-use snl_syntax::{outcome_told, same_spelling_same_tree};
 use std::alloc::Global;
 
 // Whether the item with a number said to the others what this one says.

@@ -1,6 +1,6 @@
 use Rattle.std.proofs.Common.{length}
-use Rattle.snl_syntax.specs.Items.{item}
-use Rattle.snl_syntax.specs.ItemLaws.{item_front}
+use Rattle.snl_grammar.specs.Items.{item}
+use Rattle.snl_grammar.specs.ItemLaws.{item_front}
 use Rattle.snl_reading.proofs.Along.{ends_within}
 use Rattle.snl_reading.proofs.cutting.ends_of.Goals as goal
 

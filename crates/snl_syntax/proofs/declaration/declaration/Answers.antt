@@ -1,6 +1,6 @@
 use Rattle.std.proofs.Common.{◌≡◌, ap, arith}
-use Rattle.snl_syntax.specs.Tokens.{ahead}
-use Rattle.snl_syntax.specs.Reading.Declarations.{declaration}
+use Rattle.snl_grammar.specs.Tokens.{ahead}
+use Rattle.snl_grammar.specs.Reading.Declarations.{declaration}
 use Rattle.snl_syntax.proofs.Levels.{declaration_step}
 use Rattle.snl_syntax.proofs.declaration.declaration.Goals as goal
 

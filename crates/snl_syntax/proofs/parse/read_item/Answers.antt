@@ -1,12 +1,12 @@
 use Rattle.std.proofs.Common.{◌≡◌, ℕ, ◌-◌, min, List, Err, sym, ap, ◌∙◌, subst}
 use Rattle.std.proofs.lemmas.List.{length-map}
 use Rattle.snl_lex.specs.declared.kind.Kind.{Kind}
-use Rattle.snl_syntax.specs.declared.stop.Stop.{Stop}
-use Rattle.snl_syntax.specs.declared.stop.Stop.TheVariants as stops
-use Rattle.snl_syntax.specs.Tokens.{ahead}
-use Rattle.snl_syntax.specs.Steps.{Fails}
-use Rattle.snl_syntax.specs.Parsing.{kind_in, kinds_in}
-use Rattle.snl_syntax.specs.Reading.Items.{levels, whole_item}
+use Rattle.snl_expression.specs.declared.stop.Stop.{Stop}
+use Rattle.snl_expression.specs.declared.stop.Stop.TheVariants as stops
+use Rattle.snl_grammar.specs.Tokens.{ahead}
+use Rattle.snl_expression.specs.Reads.{Fails}
+use Rattle.snl_grammar.specs.Parsing.{kind_in, kinds_in}
+use Rattle.snl_grammar.specs.Reading.Items.{levels, whole_item}
 use Rattle.snl_syntax.proofs.Blamed.{fault_at}
 use Rattle.snl_syntax.proofs.parse.read_item.Goals as goal
 

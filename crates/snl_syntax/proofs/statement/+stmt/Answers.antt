@@ -1,7 +1,7 @@
 use Rattle.std.proofs.Common.{◌≡◌, ap, arith}
-use Rattle.snl_syntax.specs.Tokens.{ahead}
-use Rattle.snl_syntax.specs.Reading.Statements.{stmt}
-use Rattle.snl_syntax.proofs.Depths.{stmt_deeper}
+use Rattle.snl_grammar.specs.Tokens.{ahead}
+use Rattle.snl_grammar.specs.Reading.Statements.{stmt}
+use Rattle.snl_syntax.proofs.Levels.{stmt_deeper}
 use Rattle.snl_syntax.proofs.statement.+stmt.Goals as goal
 
 pub returns-then-depth-eq0 : goal.returns-then-depth-eq0

@@ -1,8 +1,8 @@
 use Rattle.std.proofs.Common.{◌≡◌, ap, arith, subst, sym}
-use Rattle.snl_syntax.specs.Tokens.{ahead}
-use Rattle.snl_syntax.specs.Reading.Statements.{block}
-use Rattle.snl_syntax.specs.Steps.{Reads}
-use Rattle.snl_syntax.proofs.Depths.{block_deeper}
+use Rattle.snl_grammar.specs.Tokens.{ahead}
+use Rattle.snl_grammar.specs.Reading.Statements.{block}
+use Rattle.snl_expression.specs.Reads.{Reads}
+use Rattle.snl_syntax.proofs.Levels.{block_deeper}
 use Rattle.snl_syntax.proofs.statement.block.Goals as goal
 
 pub returns-then-depth-eq0 : goal.returns-then-depth-eq0

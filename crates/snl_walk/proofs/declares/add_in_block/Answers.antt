@@ -1,5 +1,5 @@
 use Rattle.std.proofs.Common.{List, [], ◌∷◌, ◌++◌, ◌∙◌, false, map, ap, refl}
-use Rattle.snl_syntax.specs.declared.tree.declaration.Declarator.{Declarator}
+use Rattle.snl_grammar.specs.declared.tree.declaration.Declarator.{Declarator}
 use Rattle.snl_walk.specs.Declares.{declare, is_event_flag}
 use Rattle.snl_facts.specs.Lists.{at_end}
 use Rattle.snl_walk.proofs.Loops.{one_more}

@@ -1,7 +1,7 @@
 use Rattle.std.specs.Str.{bytes_eq}
 use Rattle.std.specs.List.{list_any}
 use Rattle.std.proofs.Common.{List, ◌++◌, ◌∙◌, ap, map, refl}
-use Rattle.snl_syntax.specs.declared.tree.declaration.Declarator.{Declarator}
+use Rattle.snl_grammar.specs.declared.tree.declaration.Declarator.{Declarator}
 use Rattle.snl_walk.specs.Declares.{declare, is_event_flag}
 use Rattle.snl_walk.specs.Tokens.{token_bytes}
 use Rattle.snl_facts.specs.Lists.{at_end}

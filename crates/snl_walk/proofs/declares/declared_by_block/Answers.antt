@@ -1,5 +1,5 @@
 use Rattle.std.proofs.Common.{List, ◌++◌, ◌∙◌, ap, append-nil, refl, sym}
-use Rattle.snl_syntax.specs.declared.tree.statement.Member.{Member}
+use Rattle.snl_grammar.specs.declared.tree.statement.Member.{Member}
 use Rattle.snl_walk.specs.Statements.{contents_of, declared_by_contents}
 use Rattle.snl_walk.specs.Tokens.{token_bytes}
 use Rattle.snl_walk.proofs.Branches.{declares, declares-Declaration, declares-Statement}

@@ -1,5 +1,5 @@
 use Rattle.std.proofs.Common.{List, false, map, refl}
-use Rattle.snl_syntax.specs.declared.tree.declaration.Init.{Init}
+use Rattle.snl_grammar.specs.declared.tree.declaration.Init.{Init}
 use Rattle.snl_walk.specs.Expressions.{names_in_init, names_in_values}
 use Rattle.snl_walk.specs.Scopes.{seen}
 use Rattle.snl_walk.specs.Tokens.{token_bytes}

@@ -1,6 +1,6 @@
 use Rattle.std.proofs.Common.{List, Option, refl, false, map}
 use Rattle.std.specs.List.{flat_map}
-use Rattle.snl_syntax.specs.declared.tree.expression.Expr.{Expr}
+use Rattle.snl_grammar.specs.declared.tree.expression.Expr.{Expr}
 use Rattle.snl_walk.specs.Expressions.{names_if}
 use Rattle.snl_walk.specs.Scopes.{seen}
 use Rattle.snl_walk.specs.Tokens.{token_bytes}

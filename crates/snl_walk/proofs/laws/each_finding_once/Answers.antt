@@ -1,4 +1,4 @@
-use Rattle.snl_syntax.specs.Parsing.{kinds_in}
+use Rattle.snl_grammar.specs.Parsing.{kinds_in}
 use Rattle.snl_walk.specs.Items.{occurrences}
 use Rattle.snl_walk.proofs.FindingsOnce.{findings_apart}
 use Rattle.snl_walk.proofs.ItemLeaves.{two_in}

@@ -1,6 +1,6 @@
 use Rattle.std.proofs.Common.{◌<◌, length}
 use Rattle.std.proofs.lemmas.List.Elements.{All-from_recursion, recursion_from_All}
-use Rattle.snl_syntax.specs.Parsing.{kinds_in}
+use Rattle.snl_grammar.specs.Parsing.{kinds_in}
 use Rattle.snl_walk.specs.declared.rules.Finding.{Finding}
 use Rattle.snl_walk.specs.Items.{occurrences, tokens_of}
 use Rattle.snl_walk.specs.Rules.{findings}

@@ -1,5 +1,5 @@
-use Rattle.snl_syntax.specs.declared.tree.item.Item.TheVariants as items
-use Rattle.snl_syntax.specs.Parsing.{kinds_in}
+use Rattle.snl_grammar.specs.declared.tree.item.Item.TheVariants as items
+use Rattle.snl_grammar.specs.Parsing.{kinds_in}
 use Rattle.snl_walk.proofs.ItemLeaves.{after_name}
 use Rattle.snl_walk.proofs.laws.functions_are_named_first.Goals as goal
 

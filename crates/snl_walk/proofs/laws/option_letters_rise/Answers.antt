@@ -1,4 +1,4 @@
-use Rattle.snl_syntax.specs.Parsing.{kinds_in}
+use Rattle.snl_grammar.specs.Parsing.{kinds_in}
 use Rattle.snl_walk.proofs.OptionLeaves.{letters_rise, letters_stand}
 use Rattle.snl_walk.proofs.laws.option_letters_rise.Goals as goal
 

@@ -1,4 +1,4 @@
-use Rattle.snl_syntax.specs.Parsing.{kinds_in}
+use Rattle.snl_grammar.specs.Parsing.{kinds_in}
 use Rattle.snl_walk.proofs.ItemLeaves.{seconds_in}
 use Rattle.snl_walk.proofs.laws.subscripts_stand_second.Goals as goal
 

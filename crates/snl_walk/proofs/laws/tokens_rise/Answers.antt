@@ -1,4 +1,4 @@
-use Rattle.snl_syntax.specs.Parsing.{kinds_in}
+use Rattle.snl_grammar.specs.Parsing.{kinds_in}
 use Rattle.snl_walk.proofs.ItemLeaves.{rise_in, stand_in}
 use Rattle.snl_walk.proofs.laws.tokens_rise.Goals as goal
 

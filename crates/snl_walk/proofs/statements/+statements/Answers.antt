@@ -1,12 +1,12 @@
 use Rattle.std.proofs.Common.{List, ap, false, map, ◌++◌, ◌∙◌, arith, refl}
 use Rattle.std.proofs.lemmas.Grind.{common_steps}
 use Rattle.snl_walk.specs.Tokens.{token_bytes}
-use Rattle.snl_syntax.specs.declared.tree.statement.Member.{Member}
+use Rattle.snl_grammar.specs.declared.tree.statement.Member.{Member}
 use Rattle.snl_walk.specs.Statements.{arms_of, content_of, contents_of, found_in_branches, found_in_contents, found_in_expr, found_in_stmt, last_of}
 use Rattle.snl_walk.specs.Expressions.{names_in_expr}
 use Rattle.snl_walk.specs.Scopes.{seen}
-use Rattle.snl_syntax.specs.declared.tree.expression.Expr.{Expr}
-use Rattle.snl_syntax.specs.declared.tree.statement.Stmt.{Stmt}
+use Rattle.snl_grammar.specs.declared.tree.expression.Expr.{Expr}
+use Rattle.snl_grammar.specs.declared.tree.statement.Stmt.{Stmt}
 use Rattle.snl_walk.proofs.Loops.{one_more, two_more}
 use Rattle.snl_walk.proofs.Branches.{found-For, found-If, found-While, in_context}
 use Rattle.snl_walk.proofs.statements.+statements.Goals as goal

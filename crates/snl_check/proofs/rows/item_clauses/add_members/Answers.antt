@@ -1,7 +1,7 @@
 use Rattle.std.proofs.Common.{refl, List, map}
 use Rattle.std.specs.List.{flat_map}
 use Rattle.snl_facts.specs.Lists.{at_end}
-use Rattle.snl_syntax.specs.declared.tree.state.StateMember.{StateMember}
+use Rattle.snl_grammar.specs.declared.tree.state.StateMember.{StateMember}
 use Rattle.snl_check.specs.Clauses.{clause_in_member, item_clause}
 use Rattle.snl_check.specs.Collected.{placed}
 use Rattle.snl_check.proofs.rows.item_clauses.add_members.Goals as goal

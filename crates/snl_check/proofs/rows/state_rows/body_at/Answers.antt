@@ -1,6 +1,6 @@
 use Rattle.std.proofs.Common.{◌≡◌, IfOk, ℕ, List, Option, ap₂, subst}
 use Rattle.snl_lex.specs.declared.piece.Piece.{Piece}
-use Rattle.snl_syntax.specs.declared.tree.item.Item.{Item}
+use Rattle.snl_grammar.specs.declared.tree.item.Item.{Item}
 use Rattle.snl_item_check.specs.Items.{ProgramItem}
 use Rattle.snl_check.specs.Collected.{items_in}
 use Rattle.snl_check.specs.States as states

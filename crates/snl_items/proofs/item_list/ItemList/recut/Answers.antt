@@ -2,8 +2,8 @@ use Rattle.std.proofs.Common.{◌≡◌, ℕ, ◌-◌, ◌<◌, ◌^◌, List, �
 use Rattle.std.proofs.lemmas.List.Elements.{All-same}
 use Rattle.snl_cut.specs.Cut.{IsRecut, moved}
 use Rattle.snl_lex.specs.Edit.{edit_of}
-use Rattle.snl_syntax.specs.declared.marks.Mark.{Mark}
-use Rattle.snl_syntax.specs.Items.{item}
+use Rattle.snl_grammar.specs.declared.marks.Mark.{Mark}
+use Rattle.snl_grammar.specs.Items.{item}
 use Rattle.snl_items.specs.Items.{item_ends, marks_of, spellings}
 use Rattle.snl_items.proofs.EndPlaces.{made_within}
 use Rattle.snl_items.proofs.ItemParts.{cut_again, recut_of}

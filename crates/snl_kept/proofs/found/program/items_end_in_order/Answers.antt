@@ -1,8 +1,8 @@
 use Rattle.std.proofs.Common.{length, subst}
 use Rattle.std.proofs.lemmas.List.{length-map}
 use Rattle.snl_lex.specs.Pieces.{tokens_of}
-use Rattle.snl_syntax.specs.Items.{item}
-use Rattle.snl_syntax.specs.ItemLaws.{item_front}
+use Rattle.snl_grammar.specs.Items.{item}
+use Rattle.snl_grammar.specs.ItemLaws.{item_front}
 use Rattle.snl_items.specs.Items.{item_ends, mark_in, marks_of}
 use Rattle.snl_kept.specs.Parts.{EndsWithin}
 use Rattle.snl_kept.proofs.Ends.{ends_within}

@@ -1,7 +1,7 @@
 use Rattle.std.proofs.Common.{◌≡◌, ℕ, ◌+◌, List, [], ◌∷◌, map, Option, None, Some, Bor, option_copied, refl, ap, ap₂, sym, ◌∙◌}
 use Rattle.std.specs.List.{enumerate_from}
 use Rattle.snl_lex.specs.declared.piece.Piece.{Piece}
-use Rattle.snl_syntax.specs.declared.tree.item.Item.{Item}
+use Rattle.snl_grammar.specs.declared.tree.item.Item.{Item}
 use Rattle.snl_scope.specs.declared.summaries.summary.Outline.{Outline}
 use Rattle.snl_item_check.specs.Items.{program_items}
 use Rattle.snl_item_check.specs.Told.{Told, told_in_item, told_kept, told_seen}

@@ -1,4 +1,4 @@
-use Rattle.snl_syntax.specs.Parsing.{kinds_in}
+use Rattle.snl_grammar.specs.Parsing.{kinds_in}
 use Rattle.snl_scope.proofs.SpokenTokens.{faulty_speaks_of_tokens, speaks_of_tokens}
 use Rattle.snl_scope.proofs.laws.once_laws.outlines_speak_of_tokens.Goals as goal
 

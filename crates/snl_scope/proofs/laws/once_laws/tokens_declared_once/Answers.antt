@@ -1,4 +1,4 @@
-use Rattle.snl_syntax.specs.Parsing.{kinds_in}
+use Rattle.snl_grammar.specs.Parsing.{kinds_in}
 use Rattle.snl_scope.proofs.Mentioned.{rises_in}
 use Rattle.snl_scope.proofs.laws.once_laws.tokens_declared_once.Goals as goal
 

@@ -1,4 +1,4 @@
-use Rattle.snl_syntax.specs.Parsing.{kinds_in}
+use Rattle.snl_grammar.specs.Parsing.{kinds_in}
 use Rattle.snl_walk.specs.Tokens.{token_bytes}
 use Rattle.snl_scope.proofs.NamedTokens.{names_tokens}
 use Rattle.snl_scope.proofs.laws.token_laws.names_are_tokens.Goals as goal

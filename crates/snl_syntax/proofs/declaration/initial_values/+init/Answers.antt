@@ -1,9 +1,9 @@
 use Rattle.std.proofs.Common.{arith, ◌≡◌, refl, Ok, ap, ◌∙◌}
 use Rattle.std.proofs.lemmas.Result.{err_from_is_err_and}
-use Rattle.snl_syntax.specs.Tokens.{ahead}
-use Rattle.snl_syntax.specs.Steps.{until}
-use Rattle.snl_syntax.specs.Reading.Declarations.{init, value_step}
-use Rattle.snl_syntax.proofs.Turns.{until_begin, until_err, until_last, until_more, until_over}
+use Rattle.snl_grammar.specs.Tokens.{ahead}
+use Rattle.snl_grammar.specs.Steps.{until}
+use Rattle.snl_grammar.specs.Reading.Declarations.{init, value_step}
+use Rattle.snl_expression.specs.TurnLaws.{until_begin, until_err, until_last, until_more, until_over}
 use Rattle.snl_syntax.proofs.Levels.{init_step}
 use Rattle.snl_syntax.proofs.declaration.initial_values.+init.Goals as goal
 

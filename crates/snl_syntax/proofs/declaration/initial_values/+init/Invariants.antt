@@ -1,7 +1,7 @@
 use Rattle.std.proofs.Common.{◌≡◌, ◌-◌, ◌+◌, ◌*◌}
-use Rattle.snl_syntax.specs.Tokens.{ahead}
-use Rattle.snl_syntax.specs.Steps.{until, until_within}
-use Rattle.snl_syntax.specs.Reading.Declarations.{init, value_step}
+use Rattle.snl_grammar.specs.Tokens.{ahead}
+use Rattle.snl_grammar.specs.Steps.{until, until_within}
+use Rattle.snl_grammar.specs.Reading.Declarations.{init, value_step}
 use Rattle.snl_syntax.proofs.declaration.initial_values.+init.Given as goal
 
 abbrev pub invariant-more_values-loop-turn : goal.invariant-more_values-loop-turn

@@ -1,6 +1,6 @@
 use Rattle.std.proofs.Common.{◌≡◌, ap, arith}
-use Rattle.snl_syntax.specs.Tokens.{ahead}
-use Rattle.snl_syntax.specs.Reading.Functions.{parameter}
+use Rattle.snl_grammar.specs.Tokens.{ahead}
+use Rattle.snl_grammar.specs.Reading.Functions.{parameter}
 use Rattle.snl_syntax.proofs.Levels.{parameter_step}
 use Rattle.snl_syntax.proofs.function.parameters.parameter.Goals as goal
 

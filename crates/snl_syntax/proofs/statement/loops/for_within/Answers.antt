@@ -1,8 +1,8 @@
 use Rattle.std.proofs.Common.{◌≡◌, ap, arith}
-use Rattle.snl_syntax.specs.Tokens.{ahead}
-use Rattle.snl_syntax.specs.Steps.{within}
-use Rattle.snl_syntax.specs.Reading.Statements.{for_parts, for_within}
-use Rattle.snl_syntax.proofs.Turns.{deeper}
+use Rattle.snl_grammar.specs.Tokens.{ahead}
+use Rattle.snl_grammar.specs.Steps.{within}
+use Rattle.snl_grammar.specs.Reading.Statements.{for_parts, for_within}
+use Rattle.snl_expression.specs.TurnLaws.{deeper}
 use Rattle.snl_syntax.proofs.statement.loops.for_within.Goals as goal
 
 pub returns-then-depth-eq0 : goal.returns-then-depth-eq0

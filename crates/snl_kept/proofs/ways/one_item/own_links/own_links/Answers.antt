@@ -9,7 +9,8 @@ use Rattle.snl_kept.specs.declared.entries.Entry.{Entry}
 use Rattle.snl_kept.specs.Entries.{entries_of}
 use Rattle.snl_kept.specs.ItemPlan.{kinds_kept}
 use Rattle.snl_kept.proofs.InsideMade.{kept_kinds, kept_outlines}
-use Rattle.snl_kept.proofs.Replaced.{put_back, replaced_parts}
+use Rattle.snl_facts.specs.Lists.{put_back}
+use Rattle.snl_kept.proofs.Replaced.{replaced_parts}
 use Rattle.snl_kept.proofs.ways.one_item.own_links.own_links.Goals as goal
 
 pub returns-then-is_same_kind : goal.returns-then-is_same_kind

@@ -1,6 +1,6 @@
 use Rattle.std.proofs.Common.{◌≡◌, Bool, true, false, Option, Some, None, is_none, is_some, not, refl, ap, ◌∙◌, Bor}
 use Rattle.std.specs.Option.{option_copied}
-use Rattle.snl_syntax.specs.declared.tree.item.Item.{Item}
+use Rattle.snl_grammar.specs.declared.tree.item.Item.{Item}
 use Rattle.snl_kept.proofs.SetMembers.{member_told}
 use Rattle.snl_kept.proofs.ways.one_item.set_members.member_of.Goals as goal
 

@@ -1,0 +1,14 @@
+pub mod Tokens
+pub mod TokenLaws
+pub mod Operators
+pub mod Steps
+pub mod Reading
+pub mod Grammar
+pub mod Viability
+pub mod Items
+pub mod ItemLaws
+pub mod Parsing
+pub mod KindLaws
+pub mod Marks
+pub mod Spelling
+pub mod Outcome

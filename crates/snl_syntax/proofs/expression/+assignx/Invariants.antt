@@ -1,4 +1,0 @@
-use Rattle.snl_syntax.proofs.expression.+assignx.Given as goal
-
-abbrev pub decreases-assignx : goal.decreases-assignx
-decreases-assignx l = l.depth

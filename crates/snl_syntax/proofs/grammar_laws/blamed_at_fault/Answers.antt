@@ -1,5 +1,0 @@
-use Rattle.snl_syntax.proofs.Faults.{fault_at}
-use Rattle.snl_syntax.proofs.grammar_laws.blamed_at_fault.Goals as goal
-
-pub returns : goal.returns
-returns c = fault_at

@@ -1,5 +1,0 @@
-use Rattle.snl_syntax.proofs.Faults.{one_fault}
-use Rattle.snl_syntax.proofs.grammar_laws.one_fault.Goals as goal
-
-pub returns : goal.returns
-returns c = one_fault

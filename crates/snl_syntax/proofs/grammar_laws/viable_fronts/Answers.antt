@@ -1,8 +1,0 @@
-use Rattle.snl_syntax.proofs.Faults.{viable_item, viable_prefix}
-use Rattle.snl_syntax.proofs.grammar_laws.viable_fronts.Goals as goal
-
-pub returns-clause-whole : goal.returns-clause-whole
-returns-clause-whole c = viable_item
-
-pub returns-clause-shorter : goal.returns-clause-shorter
-returns-clause-shorter c = viable_prefix

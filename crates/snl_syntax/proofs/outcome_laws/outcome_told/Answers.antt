@@ -1,5 +1,0 @@
-use Rattle.snl_syntax.proofs.Outcomes.{tree_told, blames_within}
-use Rattle.snl_syntax.proofs.outcome_laws.outcome_told.Goals as goal
-
-pub returns : goal.returns
-returns c = record { tree = tree_told; within = blames_within }

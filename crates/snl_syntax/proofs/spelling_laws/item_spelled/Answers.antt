@@ -1,5 +1,0 @@
-use Rattle.snl_syntax.proofs.ItemSpells.{item_spells}
-use Rattle.snl_syntax.proofs.spelling_laws.item_spelled.Goals as goal
-
-pub returns : goal.returns
-returns c = record { spelled = item_spells }
