@@ -9,7 +9,7 @@ pub struct Typing {
 }
 
 /// What is measured. The bytes are those of the text that tests/bench_text writes.
-pub static TYPINGS: [Typing; 7] = [
+pub static TYPINGS: [Typing; 9] = [
     Typing {
         name: "a digit in an expression",
         after: b"retries < ",
@@ -45,6 +45,18 @@ pub static TYPINGS: [Typing; 7] = [
         name: "a declared name",
         after: b"double pressure",
         keys: b"_one",
+    },
+    // the state goes on up to the end of its set, and is faulty
+    Typing {
+        name: "a brace in a body",
+        after: b"retries++;",
+        keys: b"{",
+    },
+    // up to the next end of a comment, or of the text
+    Typing {
+        name: "a comment that begins in a body",
+        after: b"retries++;",
+        keys: b"/*",
     },
 ];
 
