@@ -1,2 +1,7 @@
-//! Facts on booleans, numbers and lists that the proofs of several crates cite. There is no code.
+//! Facts on booleans, numbers and lists that the proofs of several crates cite, and how names and
+//! words are compared, which is all the code that there is.
 #![tactic(auto)]
+
+mod bytes;
+
+pub use bytes::are_same_bytes;

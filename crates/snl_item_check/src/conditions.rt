@@ -6,6 +6,7 @@ ghost use Rattle.snl_walk.specs.Tokens.{IsSource, token_bytes};
 ghost use Rattle.snl_item_check.specs.Told.{told_in_item, used_by, wakes_of};
 
 use snl_cut::OutOfMemory;
+use snl_facts::are_same_bytes;
 use snl_grammar::tree::item::Item;
 use snl_lex::Piece;
 use snl_walk::{Source, WakeUse, occurrences, wake_uses};
@@ -32,7 +33,8 @@ fn same_use(other: &Source, use_there: WakeUse, own: &Source, used: WakeUse) -> 
         (used_by (token_bytes own.now.text.now own.now.tokens.now) used
         ≡ used_by (token_bytes other.now.text.now other.now.tokens.now) use_there) }
 {
-    own.bytes(used.token) == other.bytes(use_there.token) && used.subscript == use_there.subscript
+    are_same_bytes(own.bytes(used.token), other.bytes(use_there.token))
+        && used.subscript == use_there.subscript
 }
 
 fn same_uses(other: &Source, uses_there: &[WakeUse], own: &Source, uses: &[WakeUse]) -> bool

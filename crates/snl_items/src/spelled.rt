@@ -5,6 +5,7 @@ ghost use Rattle.snl_lex.specs.Pieces.{LiesIn};
 ghost use Rattle.snl_lex.specs.declared.piece.Class.{Class};
 ghost use Rattle.std.specs.Prelude.{◌≡◌, ◌↔◌, All, IsTrue, List, ℕ};
 
+use snl_facts::are_same_bytes;
 use snl_lex::{Class, Piece, token_text};
 use std::marker::Model;
 
@@ -35,7 +36,7 @@ impl<'a> Spelling<'a> {
     fn is_like(&self, other: &Spelling) -> bool
         ensures { IsTrue result ↔ (self.now ≡ other.now) }
     {
-        self.kind == other.kind && self.bytes == other.bytes
+        self.kind == other.kind && are_same_bytes(self.bytes, other.bytes)
     }
 }
 

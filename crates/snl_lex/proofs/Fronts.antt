@@ -1,14 +1,8 @@
 -- A word is looked for among those that begin as it does.
-use Rattle.std.proofs.Common.{◌≡◌, ◌≤◌, ℕ, suc, Bool, true, false, cond, List, [], ◌∷◌, length, take, filter, slice_index, ap, sym, ◌∙◌, refl, arith}
+use Rattle.std.proofs.Common.{◌≡◌, ℕ, suc, Bool, true, false, cond, List, [], ◌∷◌, length, take, filter, slice_index, ap, sym, ◌∙◌, refl}
 use Rattle.std.specs.Str.{bytes_eq}
-use Rattle.std.proofs.lemmas.List.{take_all}
 use Rattle.std.proofs.lemmas.Slice.Eq.{bytes_eq-Decides}
 use Rattle.snl_lex.specs.Kinds.{Entry, look_up, words, words_on}
-
--- Lists of one length are the same, if as many elements are.
-pub equal : (xs ys : List ℕ) (n : ℕ) → length xs ≡ length ys → length ys ≤ n → take n xs ≡ take n ys → true ≡ bytes_eq xs ys
-equal xs ys n many whole same =
-    sym ((bytes_eq-Decides xs ys).1 (sym (take_all n xs (omega arith)) ∙ same ∙ take_all n ys (omega arith)))
 
 -- A list is not one that begins otherwise.
 begins_otherwise : (n : ℕ) (front xs ys : List ℕ) (b : Bool) → bytes_eq xs ys ≡ b → take n xs ≡ front → bytes_eq (take n ys) front ≡ false → b ≡ false

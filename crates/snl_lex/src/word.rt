@@ -4,33 +4,17 @@
 
 ghost use Rattle.snl_lex.specs.Kinds.{◌is◌, is_word, look_up, words, words_on};
 ghost use Rattle.std.specs.Prelude.{◌≡◌, [], ◌∷◌, codes, slice_index};
-ghost use Rattle.std.specs.Str.{bytes_eq};
 
 use crate::alphabet::byte_at;
 use crate::kind::Kind;
-
-// Inlined, so that the length of the spelling, a constant, unrolls the loop.
-#[inline(always)]
-fn is_spelled(word: &[u8], spelling: &[u8]) -> bool
-    ensures { result ≡ bytes_eq word.now spelling.now }
-{
-    if word.len() != spelling.len() {
-        return false;
-    }
-    for at in 0..spelling.len() {
-        if word[at] != spelling[at] {
-            return false;
-        }
-    }
-    true
-}
+use snl_facts::are_same_bytes;
 
 // The word that alone begins with its first byte.
 #[inline(always)]
 fn lone_word(word: &[u8], spelling: &[u8], kind: Kind) -> Kind
     ensures { result ≡ look_up ((spelling.now is kind) ∷ []) word.now }
 {
-    if is_spelled(word, spelling) {
+    if are_same_bytes(word, spelling) {
         kind
     } else {
         Kind::Bad
@@ -40,11 +24,11 @@ fn lone_word(word: &[u8], spelling: &[u8], kind: Kind) -> Kind
 fn word_on_c(word: &[u8]) -> Kind
     ensures { result ≡ look_up (words_on (codes "c")) word.now }
 {
-    if is_spelled(word, b"char") {
+    if are_same_bytes(word, b"char") {
         Kind::Char
-    } else if is_spelled(word, b"const") {
+    } else if are_same_bytes(word, b"const") {
         Kind::Const
-    } else if is_spelled(word, b"continue") {
+    } else if are_same_bytes(word, b"continue") {
         Kind::Continue
     } else {
         Kind::Bad
@@ -54,15 +38,15 @@ fn word_on_c(word: &[u8]) -> Kind
 fn word_on_e(word: &[u8]) -> Kind
     ensures { result ≡ look_up (words_on (codes "e")) word.now }
 {
-    if is_spelled(word, b"exit") {
+    if are_same_bytes(word, b"exit") {
         Kind::Exit
-    } else if is_spelled(word, b"else") {
+    } else if are_same_bytes(word, b"else") {
         Kind::Else
-    } else if is_spelled(word, b"enum") {
+    } else if are_same_bytes(word, b"enum") {
         Kind::Enum
-    } else if is_spelled(word, b"entry") {
+    } else if are_same_bytes(word, b"entry") {
         Kind::Entry
-    } else if is_spelled(word, b"evflag") {
+    } else if are_same_bytes(word, b"evflag") {
         Kind::Evflag
     } else {
         Kind::Bad
@@ -72,11 +56,11 @@ fn word_on_e(word: &[u8]) -> Kind
 fn word_on_f(word: &[u8]) -> Kind
     ensures { result ≡ look_up (words_on (codes "f")) word.now }
 {
-    if is_spelled(word, b"for") {
+    if are_same_bytes(word, b"for") {
         Kind::For
-    } else if is_spelled(word, b"float") {
+    } else if are_same_bytes(word, b"float") {
         Kind::Float
-    } else if is_spelled(word, b"foreign") {
+    } else if are_same_bytes(word, b"foreign") {
         Kind::Foreign
     } else {
         Kind::Bad
@@ -86,15 +70,15 @@ fn word_on_f(word: &[u8]) -> Kind
 fn word_on_i(word: &[u8]) -> Kind
     ensures { result ≡ look_up (words_on (codes "i")) word.now }
 {
-    if is_spelled(word, b"if") {
+    if are_same_bytes(word, b"if") {
         Kind::If
-    } else if is_spelled(word, b"int") {
+    } else if are_same_bytes(word, b"int") {
         Kind::Int
-    } else if is_spelled(word, b"int8_t") {
+    } else if are_same_bytes(word, b"int8_t") {
         Kind::Int8
-    } else if is_spelled(word, b"int16_t") {
+    } else if are_same_bytes(word, b"int16_t") {
         Kind::Int16
-    } else if is_spelled(word, b"int32_t") {
+    } else if are_same_bytes(word, b"int32_t") {
         Kind::Int32
     } else {
         Kind::Bad
@@ -104,11 +88,11 @@ fn word_on_i(word: &[u8]) -> Kind
 fn word_on_st(word: &[u8]) -> Kind
     ensures { result ≡ look_up (words_on (codes "st")) word.now }
 {
-    if is_spelled(word, b"state") {
+    if are_same_bytes(word, b"state") {
         Kind::State
-    } else if is_spelled(word, b"string") {
+    } else if are_same_bytes(word, b"string") {
         Kind::String
-    } else if is_spelled(word, b"struct") {
+    } else if are_same_bytes(word, b"struct") {
         Kind::Struct
     } else {
         Kind::Bad
@@ -118,11 +102,11 @@ fn word_on_st(word: &[u8]) -> Kind
 fn word_on_sy(word: &[u8]) -> Kind
     ensures { result ≡ look_up (words_on (codes "sy")) word.now }
 {
-    if is_spelled(word, b"sync") {
+    if are_same_bytes(word, b"sync") {
         Kind::Sync
-    } else if is_spelled(word, b"syncq") {
+    } else if are_same_bytes(word, b"syncq") {
         Kind::Syncq
-    } else if is_spelled(word, b"syncQ") {
+    } else if are_same_bytes(word, b"syncQ") {
         Kind::SyncqCapital
     } else {
         Kind::Bad
@@ -132,9 +116,9 @@ fn word_on_sy(word: &[u8]) -> Kind
 fn word_on_t(word: &[u8]) -> Kind
     ensures { result ≡ look_up (words_on (codes "t")) word.now }
 {
-    if is_spelled(word, b"to") {
+    if are_same_bytes(word, b"to") {
         Kind::To
-    } else if is_spelled(word, b"typename") {
+    } else if are_same_bytes(word, b"typename") {
         Kind::Typename
     } else {
         Kind::Bad
@@ -144,15 +128,15 @@ fn word_on_t(word: &[u8]) -> Kind
 fn word_on_u(word: &[u8]) -> Kind
     ensures { result ≡ look_up (words_on (codes "u")) word.now }
 {
-    if is_spelled(word, b"union") {
+    if are_same_bytes(word, b"union") {
         Kind::Union
-    } else if is_spelled(word, b"uint8_t") {
+    } else if are_same_bytes(word, b"uint8_t") {
         Kind::Uint8
-    } else if is_spelled(word, b"unsigned") {
+    } else if are_same_bytes(word, b"unsigned") {
         Kind::Unsigned
-    } else if is_spelled(word, b"uint16_t") {
+    } else if are_same_bytes(word, b"uint16_t") {
         Kind::Uint16
-    } else if is_spelled(word, b"uint32_t") {
+    } else if are_same_bytes(word, b"uint32_t") {
         Kind::Uint32
     } else {
         Kind::Bad
@@ -162,9 +146,9 @@ fn word_on_u(word: &[u8]) -> Kind
 fn word_on_w(word: &[u8]) -> Kind
     ensures { result ≡ look_up (words_on (codes "w")) word.now }
 {
-    if is_spelled(word, b"when") {
+    if are_same_bytes(word, b"when") {
         Kind::When
-    } else if is_spelled(word, b"while") {
+    } else if are_same_bytes(word, b"while") {
         Kind::While
     } else {
         Kind::Bad

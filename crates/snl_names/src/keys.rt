@@ -6,6 +6,7 @@ ghost use Rattle.snl_names.specs.Keys.{AllBefore, AllLess, AreKeys, IsFound, IsK
 ghost use Rattle.snl_names.specs.Prints.{print_of};
 
 use crate::spellings::Spellings;
+use snl_facts::are_same_bytes;
 
 /// The print of a name, and its number.
 #[derive(Clone, Copy)]
@@ -164,7 +165,7 @@ pub(crate) fn number_among(
     if key.print != print {
         return None;
     }
-    if names.get(key.number) == name {
+    if are_same_bytes(names.get(key.number), name) {
         return Some(key.number);
     }
     number_of_shared_print(keys, names, first, print, name)

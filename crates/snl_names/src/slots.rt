@@ -6,6 +6,7 @@ ghost use Rattle.std.specs.Prelude.{◌≡◌, IfSome, Some, slice_get};
 use crate::keys::Key;
 use crate::spellings::Spellings;
 use snl_cut::OutOfMemory;
+use snl_facts::are_same_bytes;
 use std::alloc::Global;
 
 // In so many slots a name of one print may be.
@@ -42,7 +43,8 @@ fn number_in(slot: Slot, names: &Spellings, print: u64, name: &[u8]) -> Option<u
     ensures { IfSome result (λ n. slice_get names.now n ≡ Some name.now) }
 {
     let number = slot.number as usize;
-    if slot.print == (print >> 32) as u32 && number < names.count() && names.get(number) == name {
+    let may_be = slot.print == (print >> 32) as u32 && number < names.count();
+    if may_be && are_same_bytes(names.get(number), name) {
         Some(number)
     } else {
         None

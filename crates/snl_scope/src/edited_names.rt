@@ -14,6 +14,7 @@ use crate::renamed::Renaming;
 use crate::summaries::name::Name;
 use crate::summaries::summary::{Declared, NameRef, Outline, Role, Summary, VariableClause};
 use snl_cut::OutOfMemory;
+use snl_facts::are_same_bytes;
 use std::alloc::Global;
 use std::marker::Model;
 
@@ -117,7 +118,7 @@ fn add_spoken_by<'a>(outlines: &[&'a Outline], names: &mut Vec<&'a [u8]>) -> Res
 fn has_equal(names: &[&[u8]], name: &[u8]) -> bool
     ensures { result ≡ list_any (λ n. bytes_eq name.now n.now) names.now }
 {
-    names.iter().any(|one| name == *one)
+    names.iter().any(|one| are_same_bytes(name, one))
 }
 
 fn is_among(names: &[&[u8]], name: &[u8]) -> bool

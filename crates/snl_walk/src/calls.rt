@@ -6,34 +6,35 @@ ghost use Rattle.snl_walk.specs.Tokens.{IsSource, bytes_in};
 
 use crate::occurrence::ArgumentRole;
 use crate::source::Source;
+use snl_facts::are_same_bytes;
 
 fn asks_for_flag(name: &[u8]) -> bool
     ensures { result ≡ asks_for_flag name.now }
 {
-    name == b"efSet".as_slice()
-        || name == b"efTest".as_slice()
-        || name == b"efClear".as_slice()
-        || name == b"efTestAndClear".as_slice()
+    are_same_bytes(name, b"efSet")
+        || are_same_bytes(name, b"efTest")
+        || are_same_bytes(name, b"efClear")
+        || are_same_bytes(name, b"efTestAndClear")
 }
 
 fn acts_on_channel(name: &[u8]) -> bool
     ensures { result ≡ acts_on_channel name.now }
 {
-    name == b"pvGet".as_slice()
-        || name == b"pvPut".as_slice()
-        || name == b"pvMonitor".as_slice()
-        || name == b"pvStopMonitor".as_slice()
-        || name == b"pvAssign".as_slice()
+    are_same_bytes(name, b"pvGet")
+        || are_same_bytes(name, b"pvPut")
+        || are_same_bytes(name, b"pvMonitor")
+        || are_same_bytes(name, b"pvStopMonitor")
+        || are_same_bytes(name, b"pvAssign")
 }
 
 fn tells_of_channel(name: &[u8]) -> bool
     ensures { result ≡ tells_of_channel name.now }
 {
-    name == b"pvConnected".as_slice()
-        || name == b"pvAssigned".as_slice()
-        || name == b"pvStatus".as_slice()
-        || name == b"pvSeverity".as_slice()
-        || name == b"pvTimeStamp".as_slice()
+    are_same_bytes(name, b"pvConnected")
+        || are_same_bytes(name, b"pvAssigned")
+        || are_same_bytes(name, b"pvStatus")
+        || are_same_bytes(name, b"pvSeverity")
+        || are_same_bytes(name, b"pvTimeStamp")
 }
 
 fn asks_for_channel(name: &[u8]) -> bool

@@ -8,6 +8,7 @@ ghost use Rattle.std.proofs.Common.{ap};
 ghost use Rattle.std.proofs.lemmas.Slice.Eq.{bytes_eq-Decides};
 ghost use Rattle.snl_walk.specs.Prints.{joined_hash, print_of};
 
+use snl_facts::are_same_bytes;
 use std::hash::{FoldHasher, Hash, Hasher};
 
 /// A name as a key of a table. It is hashed by its print, where the bytes of a slice take a write
@@ -56,7 +57,7 @@ impl PartialEq for NameKey<'_> {
     ghost laws = { on_per (λ a. a.bytes.now) (partial_equiv_from_equiv nat_list_eq_equiv) };
 
     fn eq(&self, other: &Self) -> bool {
-        self.bytes == other.bytes
+        are_same_bytes(self.bytes, other.bytes)
     }
 }
 

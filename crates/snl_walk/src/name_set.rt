@@ -7,6 +7,7 @@ ghost use Rattle.snl_walk.specs.Once.{with_new};
 use crate::name_key::NameKey;
 use indexmap::IndexSet;
 use snl_cut::OutOfMemory;
+use snl_facts::are_same_bytes;
 use std::alloc::Global;
 use std::marker::Model;
 
@@ -39,7 +40,7 @@ impl<'a> Model for NameSet<'a> {
 fn is_among(keys: &[NameKey], name: &[u8]) -> bool
     ensures { result ≡ list_any (λ k. bytes_eq name.now k.bytes.now) keys.now }
 {
-    keys.iter().any(|key| name == key.bytes)
+    keys.iter().any(|key| are_same_bytes(name, key.bytes))
 }
 
 impl<'a> NameSet<'a> {

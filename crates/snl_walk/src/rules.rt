@@ -15,6 +15,7 @@ use crate::undeclared::undeclared;
 use crate::used::is_call;
 use snl_codes::Code;
 use snl_cut::OutOfMemory;
+use snl_facts::are_same_bytes;
 
 /// What is found at a token of an item (docs/LANGUAGE.md).
 #[derive(Clone, Copy, Debug, PartialEq, Eq)]
@@ -107,7 +108,7 @@ fn add_at_call(
     ensures { OnOk result (findings.new.items ≡ findings.old.items
         ++ map (finding token) (rules_at_call name.now manner)) }
 {
-    let delays = !manner.in_condition && name == b"delay".as_slice();
+    let delays = !manner.in_condition && are_same_bytes(name, b"delay");
     add_when(delays, token, Code::W03, findings)
 }
 

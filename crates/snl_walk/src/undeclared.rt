@@ -13,15 +13,16 @@ use crate::rules::passes;
 use crate::source::Source;
 use crate::used::is_use;
 use snl_cut::OutOfMemory;
+use snl_facts::are_same_bytes;
 
 fn is_constant(name: &[u8]) -> bool
     ensures { result ≡ is_constant name.now }
 {
-    name == b"TRUE".as_slice()
-        || name == b"FALSE".as_slice()
-        || name == b"SYNC".as_slice()
-        || name == b"ASYNC".as_slice()
-        || name == b"NOEVFLAG".as_slice()
+    are_same_bytes(name, b"TRUE")
+        || are_same_bytes(name, b"FALSE")
+        || are_same_bytes(name, b"SYNC")
+        || are_same_bytes(name, b"ASYNC")
+        || are_same_bytes(name, b"NOEVFLAG")
 }
 
 fn is_channel_constant(name: &[u8]) -> bool

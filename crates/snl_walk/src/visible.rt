@@ -7,6 +7,7 @@ ghost use Rattle.snl_walk.specs.Scopes.{look_up};
 use crate::occurrence::Local;
 use crate::stack::Stack;
 use snl_cut::OutOfMemory;
+use snl_facts::are_same_bytes;
 use std::alloc::Global;
 use std::marker::Model;
 
@@ -53,7 +54,7 @@ fn meant_by(few: &[FewName], name: &[u8]) -> Option<Local>
     while left > 0 {
         left -= 1;
         let last = few[left];
-        if name == last.name {
+        if are_same_bytes(name, last.name) {
             return Some(last.declared);
         }
     }

@@ -5,6 +5,7 @@ ghost use Rattle.std.specs.Prelude.{◌≡◌, ◌↔◌, IsTrue};
 
 use crate::summaries::name::Name;
 use crate::summaries::summary::{Declared, NameRef, Outline, VariableClause};
+use snl_facts::are_same_bytes;
 
 /// Values that can be compared.
 pub(crate) trait SameValue {
@@ -39,7 +40,7 @@ fn is_same_if<T: SameValue>(one: &Option<T>, other: &Option<T>) -> bool
 
 impl SameValue for Name {
     fn is_same(&self, other: &Name) -> bool {
-        self.bytes() == other.bytes()
+        are_same_bytes(self.bytes(), other.bytes())
     }
 }
 

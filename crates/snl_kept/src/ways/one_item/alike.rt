@@ -14,6 +14,7 @@ ghost use Rattle.snl_kept.specs.ReplacedItem.{FlagsInHead, SparesInside, TakesPl
 use crate::entries::Entry;
 use crate::ways::one_item::replaced::OwnTokens;
 use snl_cut::OutOfMemory;
+use snl_facts::are_same_bytes;
 use snl_item_check::{Checked, wakes_alike};
 use snl_lex::TextEdit;
 use snl_scope::{Declared, ItemKind, Links, NameRef, Outline, Role, SymbolKind};
@@ -99,7 +100,7 @@ pub fn spares_inside(links: &Links, item: usize, head: usize) -> bool
 fn same_name(one: &NameRef, other: &NameRef) -> bool
     ensures { IsTrue result ↔ (one.now.name ≡ other.now.name) }
 {
-    one.name.bytes() == other.name.bytes()
+    are_same_bytes(one.name.bytes(), other.name.bytes())
 }
 
 // Whether as many names are the same, one by one.
