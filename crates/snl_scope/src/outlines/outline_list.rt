@@ -154,6 +154,19 @@ impl OutlineList {
     /// Whether the book has many more names, or bytes of them, than the outlines speak of: names
     /// stay in it when their items go. A name is counted at each place.
     pub(crate) fn has_many_dead_names(&self) -> bool {
+        self.may_have_many_dead_names() && self.speaks_of_few_names()
+    }
+
+    // Whether the book has many names for the places that speak of one, each of a byte at least:
+    // if not, no name has to be looked at.
+    fn may_have_many_dead_names(&self) -> bool {
+        let places = self.declares.len().saturating_add(self.clauses.len());
+        self.names.count() / 2 > places.saturating_add(FEW_NAMES)
+            || self.names.byte_count() / 2 > places.saturating_add(FEW_BYTES)
+    }
+
+    // Whether the book has many names, or bytes of them, for those that the outlines speak of.
+    fn speaks_of_few_names(&self) -> bool {
         let spoken = self.seconds().and(self.declared()).and(self.claimed());
         let (count, bytes) = (self.names.count(), self.names.byte_count());
         count / 2 > spoken.count.saturating_add(FEW_NAMES)
