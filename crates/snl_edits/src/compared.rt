@@ -1,6 +1,5 @@
-//! A session under edits, compared after each of them: with a new session that gets the same text
-//! at once, and its cost with the second count. Edits come in; what an edit came to goes out, or
-//! what is wrong.
+//! A session under edits, compared after each of them: with a new session over the same text, and
+//! its cost with the second count. Edits come in; what an edit came to goes out, or what is wrong.
 
 use crate::count::{Change, second_count};
 use crate::faults::Fault;
@@ -51,9 +50,8 @@ fn compare_listings(session: &Session, new: &Session) -> Result<(), Fault> {
     Ok(())
 }
 
-// Lets a new session get a text at once, and compares another with it.
-fn compare_with(session: &Session, text: &[u8], new: &mut Session) -> Result<(), Fault> {
-    new.edit(0, 0, text)?;
+// Compares a session with a new one over a text.
+fn compare_with(session: &Session, text: &[u8], new: &Session) -> Result<(), Fault> {
     compare(session, text, new)?;
     compare_listings(session, new)
 }
@@ -106,10 +104,11 @@ impl Compared {
         self.session.diagnostics().len()
     }
 
-    // Compares the session with a new one.
+    // Compares the session with a new one over the text.
     fn compare(&self) -> Result<(), Fault> {
-        let mut new = Session::new(*self.text.allocator())?;
-        compare_with(&self.session, &self.text, &mut new)
+        let alloc = *self.text.allocator();
+        let (new, _) = Session::over(alloc, Vec::from_slice(alloc, &self.text)?)?;
+        compare_with(&self.session, &self.text, &new)
     }
 
     // Makes an edit that has to be made.

@@ -8,3 +8,4 @@ pub mod ItemParts
 pub mod OwnParts
 mod ShiftedTokens
 mod InFront
+pub mod OpenedItems

@@ -6,8 +6,8 @@
 ghost use Rattle.snl_cut.specs.Cut.{last_end};
 ghost use Rattle.snl_items.specs.Changes.{IsItemChange, IsTokenChange};
 ghost use Rattle.snl_items.specs.Items.{item_ends, marks_of};
-ghost use Rattle.snl_lex.specs.Edit.{edit_of};
-ghost use Rattle.std.specs.Prelude.{◌≡◌, ◌+◌, ◌-◌, ◌^◌, ◌<◌, ◌≤◌, ◌++◌, All, IfOk, OnOk, drop, false, length, take, vec_capacity, vec_len};
+ghost use Rattle.snl_lex.specs.Edit.{Edit, edit_of};
+ghost use Rattle.std.specs.Prelude.{◌≡◌, ◌+◌, ◌-◌, ◌^◌, ◌<◌, ◌≤◌, ◌++◌, [], All, IfOk, OnOk, drop, false, length, take, vec_capacity, vec_len};
 
 use crate::laws::few_tokens;
 use crate::spelled::Spelling;
@@ -92,6 +92,29 @@ fn change_ends(ends: &mut Vec<u32>, edit: &TextEdit, tokens: &TokenChange, items
 }
 
 impl ItemList {
+    /// The items of a text that an edit puts into the empty one: all are made. The tokens are let
+    /// go.
+    pub fn of_made(tokens: TokenChange, items: ItemChange) -> ItemList
+        ensures marks { (e : Edit) → e.old ≡ [] → IsTokenChange e tokens
+            → result.marks.items ≡ marks_of e.text }
+        ensures ends { (e : Edit) (t : TokenEdit) → e.old ≡ [] → IsItemChange e t items
+            → result.ends.items ≡ item_ends e.text }
+    {
+        let TokenChange {
+            edit: _,
+            made: _,
+            marks,
+            same: _,
+            shifted: _,
+        } = tokens;
+        let ItemChange {
+            kept_front: _,
+            made: ends,
+            kept_back: _,
+        } = items;
+        ItemList { marks, ends }
+    }
+
     // What an edit makes of the items, where other tokens are spelled in the place of some.
     fn recut(
         &self,

@@ -42,6 +42,19 @@ pub record ArePlaces (text : List ℕ) (l : Lists) : Type 0 where
   pub marks : l.items.marks.items ≡ marks_of text
   pub items : l.items.ends.items ≡ item_ends text
 
+-- The lists of what is kept of each item.
+pub record AreItems (text : List ℕ) (l : Lists) : Type 0 where
+  pub entries : l.entries.values ≡ entries_of text
+  pub links : l.links ≡ links_in text
+  pub checks : l.checks.values ≡ checks_of text
+  pub warns : l.warns ≡ warns_in text
+
+-- The lists have the same places.
+pub record SamePlaces (l m : Lists) : Type 0 where
+  pub pieces : m.pieces ≡ l.pieces
+  pub lines : m.lines ≡ l.lines
+  pub items : m.items ≡ l.items
+
 -- The lists have the same of each item.
 pub record SameItems (l m : Lists) : Type 0 where
   pub entries : m.entries ≡ l.entries
@@ -75,8 +88,12 @@ pub record HasRoomForPlaces (l : Lists) (c : Changes) : Type 0 where
   pub marks : vec_len l.items.marks + vec_len c.tokens.marks ≤ vec_capacity l.items.marks
   pub items : vec_len l.items.ends + vec_len c.items.made ≤ vec_capacity l.items.ends
 
--- There is also room for what is kept of the items that it makes, and for their checks.
-pub record HasRoomFor (l : Lists) (c : Changes) (r : ItemsPlan) : Type 0 where
-  pub places : HasRoomForPlaces l c
+-- There is room for what is kept of the items that it makes, and for their checks.
+pub record HasRoomForItems (l : Lists) (r : ItemsPlan) : Type 0 where
   pub entries : vec_len r.made ≤ l.entries.room
   pub checks : vec_len r.kept.checks.vacant ≤ l.checks.room
+
+-- There is room for both.
+pub record HasRoomFor (l : Lists) (c : Changes) (r : ItemsPlan) : Type 0 where
+  pub places : HasRoomForPlaces l c
+  pub items : HasRoomForItems l r

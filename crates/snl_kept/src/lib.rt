@@ -18,6 +18,7 @@ mod kept;
 mod kept_checks;
 mod laws;
 mod lists;
+mod opening;
 mod plan;
 mod shared;
 mod values;

@@ -3,10 +3,11 @@
 //! after a change that can't fail.
 #![tactic(auto)]
 
-ghost use Rattle.std.specs.Prelude.{◌≡◌, OnOk};
+ghost use Rattle.std.specs.Prelude.{◌≡◌, ◌+◌, ◌≤◌, [], length, OnOk};
 ghost use Rattle.snl_lex.specs.LineList.{IsLineList};
-ghost use Rattle.snl_lex.specs.Edit.{edit_of};
-ghost use Rattle.snl_kept.specs.Kept.{ArePlaces, HasRoomFor, HasRoomForPlaces, IsListed, SameItems, SameLists};
+ghost use Rattle.snl_lex.specs.Edit.{Edit, edit_of};
+ghost use Rattle.snl_items.specs.Items.{item_ends};
+ghost use Rattle.snl_kept.specs.Kept.{AreItems, ArePlaces, HasRoomFor, HasRoomForItems, HasRoomForPlaces, IsListed, SameItems, SameLists, SamePlaces};
 ghost use Rattle.snl_kept.specs.Planned.{IsChanged, IsItemsPlan};
 
 use crate::entries::Entry;
@@ -15,7 +16,7 @@ use crate::plan::{Changes, ItemsPlan, NewChecks};
 use crate::shared::Shared;
 use snl_cut::OutOfMemory;
 use snl_item_check::Checked;
-use snl_items::ItemList;
+use snl_items::{ItemChange, ItemList};
 use snl_lex::{LineList, PieceList, TextEdit};
 use snl_lists::Ordered;
 use snl_scope::Links;
@@ -54,15 +55,25 @@ impl Lists {
         Ok(())
     }
 
+    /// Makes room for what is kept of the items that an edit makes. An error leaves the lists as
+    /// they were.
+    pub fn reserve_items(&mut self, plan: &ItemsPlan) -> Result<(), OutOfMemory>
+        ensures lists { SameLists self.old self.new }
+        ensures places { SamePlaces self.old self.new }
+        ensures room { OnOk result (HasRoomForItems self.new plan.now) }
+    {
+        self.entries.reserve(plan.made.len())?;
+        self.checks.reserve(plan.kept.checks.vacant.len())?;
+        Ok(())
+    }
+
     /// Makes room for what an edit makes. An error leaves the lists as they were.
     pub fn reserve(&mut self, changes: &Changes, plan: &ItemsPlan) -> Result<(), OutOfMemory>
         ensures lists { SameLists self.old self.new }
         ensures room { OnOk result (HasRoomFor self.new changes.now plan.now) }
     {
         self.reserve_places(changes)?;
-        self.entries.reserve(plan.made.len())?;
-        self.checks.reserve(plan.kept.checks.vacant.len())?;
-        Ok(())
+        self.reserve_items(plan)
     }
 
     /// Makes the places in the old text those in the new one. There is room for those that are
@@ -90,6 +101,20 @@ impl Lists {
         requires room { HasRoomFor self.old changes.now plan }
         ensures { IsListed edit.now.text.now self.new }
     {
+        self.put_items(edit, &changes.items, plan);
+        self.commit_places(edit, changes, lines);
+    }
+
+    // Puts what is made of the items in the place of what was kept of those that are gone. There
+    // is room for it, so it can't fail.
+    fn put_items(&mut self, edit: &TextEdit, items: &ItemChange, plan: ItemsPlan)
+        requires items { AreItems edit.now.old.now self.old }
+        requires order { items.now.kept_front + items.now.kept_back ≤ length (item_ends edit.now.old.now) }
+        requires plan { IsItemsPlan (edit_of edit.now) items.now plan }
+        requires room { HasRoomForItems self.old plan }
+        ensures items { AreItems edit.now.text.now self.new }
+        ensures places { SamePlaces self.old self.new }
+    {
         let ItemsPlan { made, kept, warns } = plan;
         let (
             links,
@@ -98,12 +123,37 @@ impl Lists {
                 made: checks,
             },
         ) = kept.parts();
-        let back = self.entries.len() - changes.items.kept_back;
-        self.commit_places(edit, changes, lines);
-        self.entries.replace(changes.items.kept_front, back, made);
+        let back = self.entries.len() - items.kept_back;
+        self.entries.replace(items.kept_front, back, made);
         links.put_in(&mut self.links);
-        self.checks.replace(changes.items.kept_front, back, vacant);
+        self.checks.replace(items.kept_front, back, vacant);
         put(&mut self.checks, checks);
         self.warns = warns;
+    }
+
+    // Takes over the places that an edit of the empty text makes: they are made once.
+    fn take_places(&mut self, changes: Changes, lines: LineList)
+        ensures places { (e : Edit) → e.old ≡ [] → IsChanged e changes → IsLineList e.text lines → ArePlaces e.text self.new }
+        ensures items { SameItems self.old self.new }
+    {
+        let (pieces, tokens, items) = changes.parts();
+        self.pieces = pieces.into_list();
+        renew_lines(&mut self.lines, lines);
+        self.items = ItemList::of_made(tokens, items);
+    }
+
+    /// Makes the lists of the empty text those of the new one. There is room for what is made of
+    /// the items, and the places are taken over, so it can't fail.
+    pub fn fill(&mut self, edit: &TextEdit, changes: Changes, lines: LineList, plan: ItemsPlan)
+        requires nothing { edit.now.old.now ≡ [] }
+        requires lists { IsListed edit.now.old.now self.old }
+        requires changes { IsChanged (edit_of edit.now) changes }
+        requires lines { IsLineList edit.now.text.now lines }
+        requires plan { IsItemsPlan (edit_of edit.now) changes.items plan }
+        requires room { HasRoomForItems self.old plan }
+        ensures { IsListed edit.now.text.now self.new }
+    {
+        self.put_items(edit, &changes.items, plan);
+        self.take_places(changes, lines);
     }
 }

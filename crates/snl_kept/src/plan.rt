@@ -40,6 +40,22 @@ impl Drop for Changes {
     }
 }
 
+impl Changes {
+    /// What the edit makes of the pieces, of the tokens and of the items, apart.
+    pub fn parts(self) -> (PieceChange, TokenChange, ItemChange)
+        ensures pieces { result.0 ≡ self.pieces }
+        ensures tokens { result.1 ≡ self.tokens }
+        ensures items { result.2 ≡ self.items }
+    {
+        let Changes {
+            pieces,
+            tokens,
+            items,
+        } = self;
+        (pieces, tokens, items)
+    }
+}
+
 /// Other kinds of the items, and what the links find where the items are of these kinds.
 #[derive(Drop)]
 pub struct NewKinds {

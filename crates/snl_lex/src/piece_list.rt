@@ -5,12 +5,12 @@
 
 ghost use Rattle.snl_cut.specs.Cut.{Counted, after_ticks};
 ghost use Rattle.snl_lex.specs.Lines.{is_marker};
-ghost use Rattle.snl_lex.specs.Edit.{IsChange, edit_of};
+ghost use Rattle.snl_lex.specs.Edit.{Edit, IsChange, edit_of};
 ghost use Rattle.snl_lex.specs.PieceList.{piece_ends, piece_kinds};
 ghost use Rattle.snl_lex.specs.Pieces.{piece_end};
 ghost use Rattle.snl_lex.specs.Shift.{marker_count};
 ghost use Rattle.snl_lists.specs.Moves.{replaced};
-ghost use Rattle.std.specs.Prelude.{◌≡◌, ◌+◌, ◌^◌, ◌<◌, ◌≤◌, All, IfOk, OnOk, count_by, length, map, vec_capacity, vec_len};
+ghost use Rattle.std.specs.Prelude.{◌≡◌, ◌+◌, ◌^◌, ◌<◌, ◌≤◌, [], All, IfOk, OnOk, count_by, length, map, vec_capacity, vec_len};
 
 use crate::cut::{end_by, relex_narrow};
 use crate::edit::TextEdit;
@@ -66,6 +66,36 @@ fn replace_kinds(
     let gone = count_markers(&kinds[start..stop]);
     replace(kinds, start, stop, made);
     markers - gone + count_markers(made)
+}
+
+impl PieceChange {
+    /// The pieces that are made, which are all of a text that an edit puts into the empty one.
+    pub fn into_list(self) -> PieceList
+        ensures ends { (e : Edit) → e.old ≡ [] → IsChange e self
+            → result.ends.items ≡ piece_ends e.text }
+        ensures kinds { (e : Edit) → e.old ≡ [] → IsChange e self
+            → result.kinds.items ≡ piece_kinds e.text }
+        ensures markers { (e : Edit) → e.old ≡ [] → IsChange e self
+            → result.markers ≡ marker_count e.text }
+    {
+        let PieceChange {
+            kept_front: _,
+            made_from: _,
+            list,
+            kept_back: _,
+            kept_from: _,
+        } = self;
+        let PieceList {
+            ends,
+            kinds,
+            markers: _,
+        } = list;
+        PieceList {
+            markers: count_markers(&kinds),
+            ends,
+            kinds,
+        }
+    }
 }
 
 impl PieceList {

@@ -1,11 +1,10 @@
 -- What an edit of a document makes, and why a run cannot begin.
-use Rattle.std.proofs.Common.{◌≡◌, ℕ, ◌+◌, ◌-◌, ◌<◌, ◌≤◌, Bool, true, false, List, [], length, Option, Some, None, Ok, Err, MatchOption, IsErrOf, refl, sym, ap, ◌∙◌, subst, arith, nat_lt}
-use Rattle.std.specs.Prelude.{if◌then◌else◌, ⊤}
+use Rattle.std.proofs.Common.{◌≡◌, ℕ, ◌<◌, ◌≤◌, Bool, true, false, List, [], length, Option, Some, None, Ok, Err, MatchOption, IsErrOf, refl, sym, ap, subst, arith, nat_lt}
+use Rattle.std.specs.Prelude.{⊤}
 use Rattle.std.proofs.lemmas.Bool.Decides.{nat_tests}
-use Rattle.std.proofs.lemmas.List.{append-nil}
 use Rattle.snl_items.specs.Fresh.{fresh_items, fresh_pieces}
 use Rattle.snl_session.specs.declared.edits.Refused.{Refused}
-use Rattle.snl_session.specs.declared.edits.Refused.TheVariants.{Memory, Size}
+use Rattle.snl_session.specs.declared.edits.Refused.TheVariants.{Memory, Range, Size}
 use Rattle.snl_kept.specs.declared.work.Work.{Work}
 use Rattle.snl_session.specs.Edit.{limit, refusal_of, spliced}
 use Rattle.snl_kept.specs.Stirred.{stirred}
@@ -55,37 +54,41 @@ refused old new start stop added work r same h = by_refusal (refusal_of old star
       version_is = rw same refl;
     }
 
--- ---- the first edit, which puts the source into the empty text
+-- ---- the source, which is the first text
 
 abbrev pub version_with : (text : List ℕ) (work : Work) → Version
 version_with text work = record { text = text; work = work }
 
-pub begun : (source old new : List ℕ) (work : Work) → old ≡ [] → new ≡ spliced old 0 0 source → work ≡ work_of old 0 0 source → version_with new work ≡ first_version source
-begun source old new work none text cost =
-    let same_text : new ≡ source = text ∙ ap (λ (l : List ℕ). spliced l 0 0 source) none ∙ append-nil source in
-    let same_cost : work ≡ work_of [] 0 0 source = cost ∙ ap (λ (l : List ℕ). work_of l 0 0 source) none in
-    rw (same_text, same_cost) refl
+pub begun : (source text : List ℕ) (work : Work) → text ≡ source → work ≡ work_of [] 0 0 source → version_with text work ≡ first_version source
+begun source text work same cost = rw (same, cost) refl
 
--- the test of the source's size, which alone can refuse it besides want of memory
-abbrev too_large : List ℕ → Bool
-too_large source = nat_lt limit (0 - (0 - 0) + length source)
+-- the size of the source, which alone can refuse it besides want of memory
+by_size : (source : List ℕ) (b : Bool) → nat_lt limit (length source) ≡ b → (limit < length source → ⊥) → length source ≤ limit
+by_size source true e never = absurd (never (grind (arith, nat_tests)))
+by_size source false e never = grind (arith, nat_tests)
 
-fits_by_size : (source : List ℕ) (b : Bool) (work : Work) → too_large source ≡ b → MatchOption (if b then Some Size else None) ⊤ (λ e. IsErrOf {T = Work} {E = Refused} (Ok work) e) → length source ≤ limit
-fits_by_size source true work e h = cc
-fits_by_size source false work e h = grind (arith, nat_tests)
+made_is_no_refusal : {T : Type 0} (made : T) → IsErrOf {T = T} {E = Refused} (Ok made) Size → ⊥
+made_is_no_refusal made e = cc
 
-pub fits_at_first : (source old : List ℕ) (work : Work) → old ≡ [] → MatchOption (refusal_of old 0 0 (length source)) ⊤ (λ e. IsErrOf {T = Work} {E = Refused} (Ok work) e) → length source ≤ limit
-fits_at_first source old work none h =
-    fits_by_size source (too_large source) work refl (subst (λ (l : List ℕ). MatchOption (refusal_of l 0 0 (length source)) ⊤ (λ e. IsErrOf {T = Work} {E = Refused} (Ok work) e)) none h)
+pub fits : {T : Type 0} (source : List ℕ) (made : T) → (limit < length source → IsErrOf {T = T} {E = Refused} (Ok made) Size) → length source ≤ limit
+fits source made large = by_size source (nat_lt limit (length source)) refl (λ lt. made_is_no_refusal made (large lt))
+
+above_by : (source : List ℕ) (b : Bool) → nat_lt limit (length source) ≡ b → (length source ≤ limit → ⊥) → limit < length source
+above_by source true e never = grind (arith, nat_tests)
+above_by source false e never = absurd (never (grind (arith, nat_tests)))
+
+above : (source : List ℕ) → (length source ≤ limit → ⊥) → limit < length source
+above source never = above_by source (nat_lt limit (length source)) refl never
 
 -- ---- why a run cannot begin
 
-by_size : (source : List ℕ) (b : Bool) → (b ≡ true → limit < length source) → (r : Refused) → MatchOption (if b then Some Size else None) (r ≡ Memory) (λ e. IsErrOf {T = Work} {E = Refused} (Err r) e) → NoStart source (start_fault r)
-by_size source true large r h =
-    let same : r ≡ Size = cc in
-    subst (λ (q : Refused). NoStart source (start_fault q)) (sym same) (large refl)
-by_size source false large r h = subst (λ (q : Refused). NoStart source (start_fault q)) (sym h) tt
+size_is_no_memory : Size ≡ Memory → ⊥
+size_is_no_memory e = cc
 
-pub cannot_start : (source old : List ℕ) (r : Refused) → old ≡ [] → MatchOption (refusal_of old 0 0 (length source)) (r ≡ Memory) (λ e. IsErrOf {T = Work} {E = Refused} (Err r) e) → NoStart source (start_fault r)
-cannot_start source old r none h =
-    by_size source (too_large source) (λ e. grind (arith, nat_tests)) r (subst (λ (l : List ℕ). MatchOption (refusal_of l 0 0 (length source)) (r ≡ Memory) (λ e. IsErrOf {T = Work} {E = Refused} (Err r) e)) none h)
+range_is_no_memory : Range ≡ Memory → ⊥
+range_is_no_memory e = cc
+
+pub cannot_open : (source : List ℕ) (r : Refused) → (length source ≤ limit → r ≡ Memory) → NoStart source (start_fault r)
+cannot_open source Memory h = tt
+cannot_open source Size h = above source (λ le. size_is_no_memory (h le))
+cannot_open source Range h = above source (λ le. range_is_no_memory (h le))

@@ -3,7 +3,7 @@
 //! cost. Knows nothing of scripts and answers.
 #![tactic(auto)]
 
-ghost use Rattle.std.specs.Prelude.{◌≡◌, ◌≤◌, [], length, IfErr, IfOk, OnOk};
+ghost use Rattle.std.specs.Prelude.{◌≡◌, ◌≤◌, length, IfErr, IfOk, OnOk};
 ghost use Rattle.snl_session.specs.Edit.{limit};
 ghost use Rattle.snl_run.specs.Run.{IsEdited, NoStart, start_fault};
 ghost use Rattle.snl_run.specs.Version.{first_version};
@@ -38,24 +38,15 @@ fn start_fault(refused: Refused) -> RunFault
     }
 }
 
-/// A session over the empty text.
-fn empty(alloc: Global) -> Result<Session, RunFault>
-    ensures ok { IfOk result (λ session. session ≡ []) }
-    ensures err { IfErr result (λ fault. fault ≡ RunFault.Memory) }
-{
-    Session::new(alloc).map_err(|_| RunFault::Memory)
-}
-
 impl Document {
-    /// A document with a source, which an edit puts into the empty text.
-    pub fn begin(alloc: Global, source: &[u8]) -> Result<Document, RunFault>
-        ensures ok { IfOk result (λ document. document ≡ first_version source.now) }
-        ensures fits { OnOk result (length source.now ≤ limit) }
-        ensures err { IfErr result (NoStart source.now) }
+    /// A document with a source, which its session keeps.
+    pub fn begin(alloc: Global, source: Vec<u8>) -> Result<Document, RunFault>
+        ensures ok { IfOk result (λ document. document ≡ first_version source.items) }
+        ensures fits { OnOk result (length source.items ≤ limit) }
+        ensures err { IfErr result (NoStart source.items) }
     {
-        let mut session = empty(alloc)?;
-        match session.edit(0, 0, source) {
-            Ok(work) => Ok(Document { session, work }),
+        match Session::over(alloc, source) {
+            Ok((session, work)) => Ok(Document { session, work }),
             Err(refused) => Err(start_fault(refused)),
         }
     }

@@ -5,10 +5,10 @@
 //! Knows nothing of files, terminals and the command line.
 #![tactic(auto)]
 
-ghost use Rattle.std.specs.Prelude.{◌≡◌, ◌≢◌, ℕ, ◌+◌, ◌==◌, ◌≤◌, ◌<◌, ◌||◌, ◌⊎◌, [], List, length, drop, false, Err, Ok, IsErrOf, is_err};
+ghost use Rattle.std.specs.Prelude.{◌≡◌, ◌≢◌, ℕ, ◌+◌, ◌==◌, ◌≤◌, ◌<◌, ◌||◌, ◌⊎◌, [], List, length, drop, false, Err, Ok, IfErr, IfOk, IsErrOf, is_err};
 ghost use Rattle.snl_session.specs.Edit.{limit};
 ghost use Rattle.snl_script.specs.Front.{request_of};
-ghost use Rattle.snl_run.specs.Run.{Answered, Ran, is_read_fault, is_write_fault};
+ghost use Rattle.snl_run.specs.Run.{Answered, NoStart, Ran, is_read_fault, is_write_fault};
 ghost use Rattle.snl_run.specs.Transcript.{status_of};
 ghost use Rattle.snl_run.specs.Version.{first_version};
 ghost use Rattle.snl_script.specs.Watched.{calls_of, failed_of, inner_of};
@@ -17,6 +17,7 @@ use crate::answers::{report, tell_edit, tell_work};
 use crate::document::Document;
 use crate::faults::{RunFault, Status};
 use crate::listing::list;
+use crate::source::LIMIT;
 use snl_script::{Ahead, Command, Front, Watched, WriteFault, front_of, whole_commands_stay};
 use snl_session::Session;
 use std::alloc::Global;
@@ -101,7 +102,53 @@ fn serve<R: Read, W: Write>(
     }
 }
 
-/// Runs a script over a source, which is a session's first text.
+/// Runs a script over a source, which becomes a session's first text.
+pub(crate) fn run_over_source<R: Read, W: Write>(
+    alloc: Global,
+    source: Vec<u8>,
+    script: &mut Watched<R>,
+    out: &mut Watched<W>,
+) -> Result<Status, RunFault>
+    requires unread { calls_of script.old ≡ 0 }
+    requires unwritten { calls_of out.old ≡ 0 }
+
+    // What was read and written, by the end of the run, from the version on that the source makes.
+    ensures ran { Ran result (R.remaining (inner_of script.old)) (R.remaining (inner_of script.new))
+        (W.contents (inner_of out.old)) (W.contents (inner_of out.new)) (first_version source.items) }
+    ensures reads { calls_of script.new ≤ 16777216 }
+
+    // A run ends with a fault of reading just where a read failed, and so of writing.
+    ensures read { failed_of script.new ≡ is_read_fault result }
+    ensures write { failed_of out.new ≡ is_write_fault result }
+    ensures turns { IsErrOf result RunFault.TooManyTurns → calls_of script.new ≡ 16777216 }
+
+    // A source that is too large is refused, unless memory was wanting before; then too nothing is
+    // read or written.
+    ensures large { limit < length source.items → IsErrOf result RunFault.Source ⊎ IsErrOf result RunFault.Memory }
+    ensures unheard { limit < length source.items → calls_of script.new ≡ 0 }
+    ensures silent { limit < length source.items → calls_of out.new ≡ 0 }
+{
+    let mut document = Document::begin(alloc, source)?;
+    let mut ahead = Ahead::new(alloc);
+    let ended = serve(&mut document, &mut ahead, script, out);
+    // The program ends here: the system takes back what the document holds at once, and much faster
+    // than piece by piece.
+    forget(document);
+    ended
+}
+
+// The bytes of a source once more. Of one that is too large nothing is copied.
+fn copied(alloc: Global, source: &[u8]) -> Result<Vec<u8>, RunFault>
+    ensures ok { IfOk result (λ copy. copy.items ≡ source.now) }
+    ensures err { IfErr result (NoStart source.now) }
+{
+    if source.len() > LIMIT {
+        return Err(RunFault::Source);
+    }
+    Vec::from_slice(alloc, source).map_err(|_| RunFault::Memory)
+}
+
+/// Runs a script over a source, a copy of which is a session's first text.
 /// An edit that is refused is answered, and the run goes on.
 /// `out` is not flushed, so it is to keep no bytes back.
 pub fn run<R: Read, W: Write>(
@@ -129,11 +176,6 @@ pub fn run<R: Read, W: Write>(
     ensures unheard { limit < length initial.now → calls_of script.new ≡ 0 }
     ensures silent { limit < length initial.now → calls_of out.new ≡ 0 }
 {
-    let mut document = Document::begin(alloc, initial)?;
-    let mut ahead = Ahead::new(alloc);
-    let ended = serve(&mut document, &mut ahead, script, out);
-    // The program ends here: the system takes back what the document holds at once, and much faster
-    // than piece by piece.
-    forget(document);
-    ended
+    let source = copied(alloc, initial)?;
+    run_over_source(alloc, source, script, out)
 }

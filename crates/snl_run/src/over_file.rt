@@ -11,7 +11,7 @@ ghost use Rattle.snl_run.specs.OverFile.{is_unread, is_unwritten};
 ghost use Rattle.snl_script.specs.declared.file.SourceFault.{SourceFault};
 ghost use Rattle.snl_script.specs.Watched.{calls_of, failed_of, inner_of};
 
-use crate::engine::run;
+use crate::engine::run_over_source;
 use crate::faults::{RunFault, Status};
 use crate::source::read_source;
 use snl_script::{SourceFault, Watched};
@@ -65,7 +65,7 @@ pub fn run_over<F: Read + Drop, R: Read, W: Write>(
         → calls_of out.new ≡ 0 }
 {
     let source = source_in(alloc, file).map_err(Fault::Source)?;
-    run(alloc, &source, script, out).map_err(Fault::Run)
+    run_over_source(alloc, source, script, out).map_err(Fault::Run)
 }
 
 /// The status that tells how it ended.

@@ -13,7 +13,7 @@ use std::alloc::Global;
 use std::io::Read;
 
 /// A text has so many bytes at most.
-const LIMIT: usize = 1_048_576;
+pub(crate) const LIMIT: usize = 1_048_576;
 
 /// Reads the source that a file holds. A read that answers an `Err` of any kind makes the file
 /// unreadable.

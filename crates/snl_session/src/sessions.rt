@@ -3,7 +3,7 @@
 //! which cannot fail.
 #![tactic(auto)]
 
-ghost use Rattle.std.specs.Prelude.{◌≡◌, ℕ, ◌+◌, ◌≤◌, [], List, length, IfOk, OnOk, OnErr, IsErrOf, IsOkUnless, MatchOption, None, string_bytes, true};
+ghost use Rattle.std.specs.Prelude.{◌≡◌, ℕ, ◌+◌, ◌<◌, ◌≤◌, [], List, length, IfOk, OnOk, OnErr, IsErrOf, IsOkUnless, MatchOption, None, string_bytes, true};
 ghost use Rattle.snl_session.specs.Edit.{spliced};
 
 use crate::edits::Refused;
@@ -61,6 +61,26 @@ impl Session {
         ensures refused { IsOkUnless result Refused.Memory }
     {
         Session::empty(alloc).map_err(|_| Refused::Memory)
+    }
+
+    /// A session over a text, which it keeps as it comes, and what that cost: as much as the edit
+    /// that puts the text into the empty one. A text of more than 1,048,576 bytes is refused; the
+    /// only other refusal is that of memory.
+    pub fn over(alloc: Global, text: Vec<u8>) -> Result<(Session, Work), Refused>
+        ensures ok { IfOk result (λ made. made.0 ≡ text.items) }
+        ensures lexed { IfOk result (λ made. made.1.lexed ≡ fresh_pieces [] 0 0 text.items) }
+        ensures parsed { IfOk result (λ made. made.1.parsed ≡ length (fresh_items [] 0 0 text.items)) }
+        ensures checked { IfOk result (λ made. made.1.checked ≡ stirred [] 0 0 text.items) }
+        ensures large { limit < length text.items → IsErrOf result Refused.Size }
+        ensures refused { length text.items ≤ limit → IsOkUnless result Refused.Memory }
+    {
+        if text.len() > LIMIT {
+            return Err(Refused::Size);
+        }
+        match Kept::over(alloc, &text) {
+            Ok((kept, work)) => Ok((Session { text, kept }, work)),
+            Err(_) => Err(Refused::Memory),
+        }
     }
 
     /// Puts other bytes in the place of those from `start` up to `stop`, and tells what that cost.

@@ -2,6 +2,7 @@
 
 use snl_session::{Refused, Session, Work};
 use std::alloc::Global;
+use std::process::Abort;
 use std::test::Fail;
 
 // An edit, how many pieces and items it makes anew and how many items it checks, and the lines and
@@ -179,6 +180,39 @@ fn makes_and_checks_what_changed_alone(rt: HostRuntime) -> Result<(), Fail> {
         assert_eq!(rt; work.parsed, *parsed, "from {start} to {stop}");
         assert_eq!(rt; work.checked, *checked, "from {start} to {stop}");
     }
+    Ok(())
+}
+
+// Texts with nothing, with no item, with no fault and with some.
+static OPENED: [&[u8]; 5] = [
+    b"",
+    b" // nothing\n",
+    STEPS[0].new,
+    b"# 3 \"f.st\"\nprogram p\nss a { state i { when (x) { } state j",
+    b"ss a { state i { int i; assign i to \"c\"; when (i) { } state i } } %{ @",
+];
+
+#[test]
+fn opens_a_text_as_an_edit_puts_it_in(rt: HostRuntime) -> Result<(), Fail> {
+    let alloc = rt.alloc();
+    for text in &OPENED {
+        let (mut opened, work) = Session::over(alloc, Vec::from_slice(alloc, text)?)?;
+        let mut edited = Session::new(alloc)?;
+        assert_eq!(rt; work, edited.edit(0, 0, text)?);
+        expect_alike(&rt, &opened, &edited)?;
+        assert_eq!(rt; opened.edit(0, 0, b"{ ;")?, edited.edit(0, 0, b"{ ;")?);
+        expect_alike(&rt, &opened, &edited)?;
+    }
+    let large = vec![in alloc; b' '; 1_048_577]?;
+    assert!(rt; matches!(Session::over(alloc, large), Err(Refused::Size)));
+    Ok(())
+}
+
+fn expect_alike(rt: &impl Abort, one: &Session, other: &Session) -> Result<(), Fail> {
+    assert_eq!(rt; one.text(), other.text());
+    assert_eq!(rt; one.diagnostics(), other.diagnostics());
+    let listing = other.listing()?;
+    assert_eq!(rt; one.listing()?.as_str(), listing.as_str());
     Ok(())
 }
 

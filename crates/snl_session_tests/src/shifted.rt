@@ -116,10 +116,9 @@ impl Edited {
         Ok(Edited { session, text })
     }
 
-    // Compares the session with one that gets the text in one edit.
+    // Compares the session with one that is opened over the text.
     fn expect_as_new(&self, rt: &impl Abort, alloc: Global) -> Result<(), Fail> {
-        let mut new = Session::new(alloc)?;
-        new.edit(0, 0, &self.text)?;
+        let (new, _) = Session::over(alloc, Vec::from_slice(alloc, &self.text)?)?;
         assert_eq!(rt; self.session.text(), self.text.as_slice());
         assert_eq!(rt;
             self.session.diagnostics(),
