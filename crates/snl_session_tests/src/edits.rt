@@ -183,28 +183,36 @@ fn makes_and_checks_what_changed_alone(rt: HostRuntime) -> Result<(), Fail> {
     Ok(())
 }
 
-// Texts with nothing, with no item, with no fault and with some.
-static OPENED: [&[u8]; 5] = [
+// Texts with nothing, with no item, and with faults.
+static OPENED: [&[u8]; 4] = [
     b"",
     b" // nothing\n",
-    STEPS[0].new,
     b"# 3 \"f.st\"\nprogram p\nss a { state i { when (x) { } state j",
     b"ss a { state i { int i; assign i to \"c\"; when (i) { } state i } } %{ @",
 ];
 
+// Opens a text, and compares with a session that gets it by an edit, then and after another edit.
+fn expect_opened(rt: &impl Abort, alloc: Global, text: &[u8]) -> Result<(), Fail> {
+    let (mut opened, work) = Session::over(alloc, Vec::from_slice(alloc, text)?)?;
+    let mut edited = Session::new(alloc)?;
+    assert_eq!(rt; work, edited.edit(0, 0, text)?);
+    expect_alike(rt, &opened, &edited)?;
+    assert_eq!(rt; opened.edit(0, 0, b"{ ;")?, edited.edit(0, 0, b"{ ;")?);
+    expect_alike(rt, &opened, &edited)
+}
+
 #[test]
 fn opens_a_text_as_an_edit_puts_it_in(rt: HostRuntime) -> Result<(), Fail> {
-    let alloc = rt.alloc();
     for text in &OPENED {
-        let (mut opened, work) = Session::over(alloc, Vec::from_slice(alloc, text)?)?;
-        let mut edited = Session::new(alloc)?;
-        assert_eq!(rt; work, edited.edit(0, 0, text)?);
-        expect_alike(&rt, &opened, &edited)?;
-        assert_eq!(rt; opened.edit(0, 0, b"{ ;")?, edited.edit(0, 0, b"{ ;")?);
-        expect_alike(&rt, &opened, &edited)?;
+        expect_opened(&rt, rt.alloc(), text)?;
     }
-    let large = vec![in alloc; b' '; 1_048_577]?;
-    assert!(rt; matches!(Session::over(alloc, large), Err(Refused::Size)));
+    expect_opened(&rt, rt.alloc(), STEPS[0].new)
+}
+
+#[test]
+fn opens_no_text_that_is_too_large(rt: HostRuntime) -> Result<(), Fail> {
+    let large = vec![in rt.alloc(); b' '; 1_048_577]?;
+    assert!(rt; matches!(Session::over(rt.alloc(), large), Err(Refused::Size)));
     Ok(())
 }
 
