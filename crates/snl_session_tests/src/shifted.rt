@@ -111,14 +111,14 @@ impl Edited {
     fn over(alloc: Global, front: &str) -> Result<Edited, Fail> {
         let mut text = Vec::from_slice(alloc, front.as_bytes())?;
         text.extend_from_slice(TEXT.as_bytes())?;
-        let mut session = Session::new(alloc)?;
-        session.edit(0, 0, &text)?;
+        let (session, _) = Session::over(alloc, Vec::from_slice(alloc, &text)?)?;
         Ok(Edited { session, text })
     }
 
-    // Compares the session with one that is opened over the text.
+    // Compares the session with one that gets the text in one edit.
     fn expect_as_new(&self, rt: &impl Abort, alloc: Global) -> Result<(), Fail> {
-        let (new, _) = Session::over(alloc, Vec::from_slice(alloc, &self.text)?)?;
+        let mut new = Session::new(alloc)?;
+        new.edit(0, 0, &self.text)?;
         assert_eq!(rt; self.session.text(), self.text.as_slice());
         assert_eq!(rt;
             self.session.diagnostics(),
