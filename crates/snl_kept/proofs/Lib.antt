@@ -7,6 +7,7 @@ pub mod InsideTables
 pub mod InsideTold
 pub mod KeptChecks
 pub mod KeptOutlines
+pub mod ListedTexts
 pub mod MadeChecks
 pub mod MemberParts
 pub mod MadeRows
