@@ -1,6 +1,7 @@
 pub mod Members
 pub mod Reach
 pub mod ItemSpans
+pub mod ItemTokens
 pub mod Clauses
 pub mod Channels
 pub mod Conditions

@@ -8,6 +8,7 @@ pub(crate) mod channel_rows;
 pub(crate) mod channels;
 pub(crate) mod flag_rows;
 pub(crate) mod item_clauses;
+pub(crate) mod item_source;
 pub(crate) mod option_rows;
 pub(crate) mod room;
 pub(crate) mod row_source;

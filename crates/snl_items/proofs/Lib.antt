@@ -9,3 +9,4 @@ pub mod OwnParts
 mod ShiftedTokens
 mod InFront
 pub mod OpenedItems
+pub mod Places

@@ -16,7 +16,7 @@ use Rattle.snl_lex.specs.Pieces.{LiesIn, is_token, moved_piece, piece_end, piece
 use Rattle.snl_lex.specs.Shift.{most, shifted_piece}
 use Rattle.snl_items.specs.declared.shifted.Shifted.{Shifted}
 use Rattle.snl_items.specs.declared.tokens.TokenChange.{TokenChange}
-use Rattle.snl_items.specs.Changes.{AreLeft, AreLeftFrom, AreShifted, IsShiftOf, IsTokenChange, LeavesAround}
+use Rattle.snl_items.specs.Changes.{AreLeft, AreLeftFrom, AreShifted, IsShiftOf, IsTokenChange, LeavesAround, made_in}
 use Rattle.snl_items.proofs.ItemParts.{none_fresh, same_ends, same_spellings}
 use Rattle.snl_items.proofs.Parts.{first_part, last_part}
 use Rattle.snl_items.proofs.TokenParts.{at_back, at_front, new_tokens, old_tokens, replaced}
@@ -156,7 +156,7 @@ module _ (e : Edit) (pieces : PieceChange) (is : IsChange e pieces) where
     -- doesn't replace.
     pub left_around : (s : Shift) → IsShiftOf e s → e.start ≤ e.old_stop → length e.old + e.new_stop ≤ most → (tokens : TokenChange)
         → IsTokenChange e tokens → tokens.edit.start ≡ length front_tokens → tokens.edit.old_stop ≡ length front_tokens + length middle_tokens
-        → LeavesAround s (tokens_of e.old) (tokens_of e.text) tokens.made.items tokens.edit
+        → LeavesAround s (tokens_of e.old) (tokens_of e.text) (made_in e tokens.edit) tokens.edit
     left_around s at order fits tokens change starts stops =
         let were = old_tokens e pieces is in
         let first : front_tokens ≡ take tokens.edit.start (tokens_of e.old) = sym (ap (take tokens.edit.start) were ∙ first_part front_tokens middle_tokens back_tokens tokens.edit.start (sym starts)) in
@@ -167,7 +167,7 @@ module _ (e : Edit) (pieces : PieceChange) (is : IsChange e pieces) where
           in_front = subst (All (λ p. piece_end p ≤ s.start)) first before;
           after = subst (All (λ p. s.old_stop ≤ p.start)) last after;
           tokens = change.tokens
-              ∙ ap₂ (λ (x y : List Piece). x ++ (tokens.made.items ++ y)) (sym first ∙ sym (front_stays s at) ∙ ap (map (shifted_piece s)) first)
+              ∙ ap₂ (λ (x y : List Piece). x ++ (made_in e tokens.edit ++ y)) (sym first ∙ sym (front_stays s at) ∙ ap (map (shifted_piece s)) first)
               (ap (map (moved_piece e.old_stop e.new_stop)) (sym last) ∙ back_moves s at order fits ∙ ap (map (shifted_piece s)) last);
         }
 

@@ -14,7 +14,7 @@ use Rattle.snl_grammar.specs.Marks.{mark_of}
 use Rattle.snl_items.specs.declared.tokens.TokenChange.{TokenChange}
 use Rattle.snl_items.specs.Items.{mark_in, marks_of, spellings}
 use Rattle.snl_items.specs.Fresh.{replaced_alike, spelled_alike, token_edit_of}
-use Rattle.snl_items.specs.Changes.{IsTokenChange}
+use Rattle.snl_items.specs.Changes.{IsTokenChange, made_in}
 use Rattle.snl_items.proofs.Parts.{all_middle, first_part, in_parts, last_part, middle_part, parts_edited, parts_replaced}
 use Rattle.snl_items.proofs.Alike.{told_alike}
 use Rattle.snl_lex.specs.PieceLaws.{tokens_moved}
@@ -127,6 +127,12 @@ module _ (e : Edit) (pieces : PieceChange) (is : IsChange e pieces) where
           ∙ parts_replaced (map mark_by (spelled e.old at_front)) (map mark_by (spelled e.old replaced)) (map mark_by (spelled e.old at_back)) (map (mark_in e.text) fresh) change.edit.start change.edit.old_stop marks_front marks_replaced
           ∙ ap (λ (l : List Mark). take change.edit.start l ++ (map (mark_in e.text) fresh ++ drop change.edit.old_stop l)) (sym old_marks)
 
+      -- the fresh tokens, by their numbers among all
+      pub made_are : made_in e change.edit ≡ fresh
+      made_are =
+          ap (λ (l : List Piece). take (change.edit.new_stop - change.edit.start) (drop change.edit.start l)) new_tokens
+          ∙ middle_part at_front fresh (map (moved_piece e.old_stop e.new_stop) at_back) change.edit.start (change.edit.new_stop - change.edit.start) (sym starts) (omega (arith, starts, new_stops))
+
       -- the replaced tokens and the fresh ones, as the definition takes them out of all
       pub replaced_spelled : take (change.edit.old_stop - change.edit.start) (drop change.edit.start (spellings e.old)) ≡ spelled e.old replaced
       replaced_spelled =
@@ -143,14 +149,14 @@ module _ (e : Edit) (pieces : PieceChange) (is : IsChange e pieces) where
           told_alike t (spelled e.old replaced) (spelled e.text fresh) h k
           ∙ sym (ap₂ (λ (x y : List (Class × List ℕ)). spelled_alike x y) replaced_spelled fresh_spelled)
 
-      pub token_change : change.edit ≡ token_edit_of e → change.made.items ≡ fresh → change.marks.items ≡ map (mark_in e.text) change.made.items
+      pub token_change : change.edit ≡ token_edit_of e → change.marks.items ≡ map (mark_in e.text) fresh
           → (IsTrue change.same → spelled e.old replaced ≡ spelled e.text fresh) → (spelled e.old replaced ≡ spelled e.text fresh → IsTrue change.same) → IsTokenChange e change
-      token_change is_edit tokens_is marks_is h k = record {
+      token_change is_edit marks_is h k = record {
         edit_is = is_edit;
-        count = omega (arith, ap length tokens_is);
-        tokens = tokens_are ∙ ap (λ (l : List Piece). take change.edit.start (tokens_of e.old) ++ (l ++ map (moved_piece e.old_stop e.new_stop) (drop change.edit.old_stop (tokens_of e.old)))) (sym tokens_is);
-        made_marks_are = marks_is;
-        marks = marks_are ∙ ap (λ (l : List Mark). take change.edit.start (marks_of e.old) ++ (l ++ drop change.edit.old_stop (marks_of e.old))) (ap (map (mark_in e.text)) (sym tokens_is) ∙ sym marks_is);
+        count = omega (arith, new_stops, starts, ap length made_are);
+        tokens = tokens_are ∙ ap (λ (l : List Piece). take change.edit.start (tokens_of e.old) ++ (l ++ map (moved_piece e.old_stop e.new_stop) (drop change.edit.old_stop (tokens_of e.old)))) (sym made_are);
+        made_marks_are = marks_is ∙ ap (map (mark_in e.text)) (sym made_are);
+        marks = marks_are ∙ ap (λ (l : List Mark). take change.edit.start (marks_of e.old) ++ (l ++ drop change.edit.old_stop (marks_of e.old))) (sym marks_is);
         of_marks = marks_edited;
         of_spellings = spellings_edited;
         same_is = same_told change.same h k;

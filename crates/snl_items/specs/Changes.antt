@@ -13,14 +13,19 @@ use Rattle.snl_items.specs.declared.tokens.TokenChange.{TokenChange}
 use Rattle.snl_items.specs.declared.tokens.TokenEdit.{TokenEdit}
 use Rattle.snl_items.specs.Items.{item_ends, mark_in, marks_of, spelled_items, spellings}
 use Rattle.snl_items.specs.Fresh.{fresh_items_of, replaced_alike, token_edit_of}
+use Rattle.snl_items.specs.OwnTokens.{tokens_between}
+
+-- The tokens that an edit of a text makes, where it makes this edit of the tokens.
+abbrev pub made_in : Edit → TokenEdit → List Piece
+made_in e tokens = tokens_between (tokens_of e.text) tokens.start tokens.new_stop
 
 -- An edit of a text makes this of its tokens: other tokens with these marks in the place of some.
 -- `same` says whether they are spelled as those that they replace.
 pub record IsTokenChange (e : Edit) (change : TokenChange) : Type 0 where
   pub edit_is : change.edit ≡ token_edit_of e
-  pub count : change.edit.new_stop ≡ change.edit.start + length change.made.items
-  pub tokens : tokens_of e.text ≡ take change.edit.start (tokens_of e.old) ++ (change.made.items ++ map (moved_piece e.old_stop e.new_stop) (drop change.edit.old_stop (tokens_of e.old)))
-  pub made_marks_are : change.marks.items ≡ map (mark_in e.text) change.made.items
+  pub count : change.edit.new_stop ≡ change.edit.start + length (made_in e change.edit)
+  pub tokens : tokens_of e.text ≡ take change.edit.start (tokens_of e.old) ++ (made_in e change.edit ++ map (moved_piece e.old_stop e.new_stop) (drop change.edit.old_stop (tokens_of e.old)))
+  pub made_marks_are : change.marks.items ≡ map (mark_in e.text) (made_in e change.edit)
   pub marks : marks_of e.text ≡ take change.edit.start (marks_of e.old) ++ (change.marks.items ++ drop change.edit.old_stop (marks_of e.old))
   pub of_marks : IsEdit (marks_of e.old) (marks_of e.text) change.edit.start change.edit.old_stop change.edit.new_stop
   pub of_spellings : IsEdit (spellings e.old) (spellings e.text) change.edit.start change.edit.old_stop change.edit.new_stop

@@ -2,3 +2,5 @@ pub mod Items
 pub mod Fresh
 pub mod Changes
 pub mod OwnTokens
+pub mod Places
+pub mod TokenForms

@@ -102,7 +102,6 @@ impl ItemList {
     {
         let TokenChange {
             edit: _,
-            made: _,
             marks,
             same: _,
             shifted: _,

@@ -10,7 +10,7 @@ ghost use Rattle.snl_lex.specs.PieceList.{is_token_class, piece_ends, piece_kind
 ghost use Rattle.snl_lex.specs.Pieces.{moved_piece, tokens_of};
 ghost use Rattle.std.specs.Prelude.{◌≡◌, ◌+◌, ◌-◌, ◌^◌, ◌<◌, ◌≤◌, ◌++◌, All, IfOk, OnOk, count_by, length, map};
 
-use crate::laws::tokens_counted;
+use crate::laws::{made_are_tokens, tokens_counted};
 use crate::tokens::TokenChange;
 use snl_cut::OutOfMemory;
 use snl_lex::{Class, Piece, PieceChange, PieceList, TextEdit, text_in_pieces};
@@ -106,11 +106,13 @@ pub fn own_tokens_before(
 pub fn own_tokens_after(
     alloc: Global,
     edit: &TextEdit,
+    change: &PieceChange,
     tokens: &TokenChange,
     own: &[Piece],
     first: usize,
     stop: usize,
 ) -> Result<Vec<Piece>, OutOfMemory>
+    requires change { IsChange (edit_of edit.now) change.now }
     requires tokens { IsTokenChange (edit_of edit.now) tokens.now }
     requires first { first ≤ tokens.now.edit.start }
     requires stop { tokens.now.edit.old_stop ≤ stop }
@@ -121,9 +123,11 @@ pub fn own_tokens_after(
         (λ now. now.items ≡ tokens_between (tokens_of edit.now.text.now) first ((stop - tokens.now.edit.old_stop) + tokens.now.edit.new_stop)) }
 {
     text_in_pieces();
+    made_are_tokens();
+    let made = change.made_tokens(alloc)?;
     let mut now = Vec::new(alloc);
     now.extend_from_slice(&own[..tokens.edit.start - first])?;
-    now.extend_from_slice(&tokens.made)?;
+    now.extend_from_slice(&made)?;
     let after = &own[tokens.edit.old_stop - first..stop - first];
     add_moved(after, edit.old_stop, edit.new_stop, &mut now)?;
     Ok(now)

@@ -2,15 +2,17 @@
 //! In: the list of the old pieces and what the edit makes of them. Out: which tokens are replaced,
 //! and by which.
 
-ghost use Rattle.snl_items.specs.Changes.{AreShifted, IsTokenChange};
+ghost use Rattle.snl_items.specs.Changes.{AreLeftFrom, AreShifted, IsTokenChange};
 ghost use Rattle.snl_items.specs.Items.{mark_in};
 ghost use Rattle.snl_lex.specs.Edit.{IsChange, edit_of};
-ghost use Rattle.snl_lex.specs.PieceList.{is_token_class, piece_ends, piece_kinds};
+ghost use Rattle.snl_lex.specs.PieceList.{is_token_class, piece_ends, piece_kinds, spelled};
 ghost use Rattle.snl_lex.specs.Pieces.{LiesIn};
-ghost use Rattle.std.specs.Prelude.{◌≡◌, ◌≤◌, All, IfOk, IfSome, count_by, length, map};
+ghost use Rattle.std.specs.Prelude.{◌≡◌, ◌+◌, ◌^◌, ◌<◌, ◌≤◌, ◌↔◌, All, IfOk, IfSome, IsTrue, count_by, length, map};
 
+use crate::laws::few_pieces;
 use crate::shifted::{Shifted, shifted_from};
 use crate::spelled::are_spelled_alike;
+use crate::token_list::TokenList;
 use snl_cut::{OutOfMemory, ends_in_order, meets_where_sought, one_cut};
 use snl_grammar::{Mark, mark};
 use snl_lex::{
@@ -28,13 +30,12 @@ pub struct TokenEdit {
     pub new_stop: usize,
 }
 
-/// What an edit of a text makes of its tokens: which are replaced, those that are made and their
-/// marks, and whether these are spelled as the replaced ones, so that nothing changes for the
-/// items; and whether moreover the edit leaves all tokens of the text at their places, or shifted.
+/// What an edit of a text makes of its tokens: which are replaced, the marks of those that are made,
+/// and whether these are spelled as the replaced ones, so that nothing changes for the items; and
+/// whether moreover the edit leaves all tokens of the text at their places, or shifted.
 #[derive(Drop)]
 pub struct TokenChange {
     pub edit: TokenEdit,
-    pub made: Vec<Piece>,
     pub marks: Vec<Mark>,
     pub same: bool,
     pub shifted: Option<Shifted>,
@@ -72,15 +73,51 @@ pub(crate) fn count_tokens(kinds: &[Class]) -> usize
 }
 
 /// What the tokens are to the cut into items.
-pub fn marks_of(alloc: Global, text: &[u8], tokens: &[Piece]) -> Result<Vec<Mark>, OutOfMemory>
+pub fn marks_of(alloc: Global, text: &[u8], tokens: &TokenList) -> Result<Vec<Mark>, OutOfMemory>
     requires { All (LiesIn text.now) tokens.now }
     ensures { IfOk result (λ marks. marks.items ≡ map (mark_in text.now) tokens.now) }
 {
-    let mut marks = Vec::with_capacity(alloc, tokens.len())?;
-    for piece in tokens {
-        marks.push(mark(text, *piece))?;
+    let count = tokens.len();
+    let mut marks = Vec::with_capacity(alloc, count)?;
+    for number in 0..count {
+        marks.push(mark(text, tokens.at(number)))?;
     }
     Ok(marks)
+}
+
+// Whether tokens that an edit makes are spelled as those that it replaces; if so, what is known of
+// it if it leaves these.
+struct Alike {
+    same: bool,
+    shifted: Option<Shifted>,
+}
+
+// Compares the tokens that an edit makes with those that it replaces, the first of which has the
+// number `from`. They are listed only where they are as many.
+fn compared(
+    alloc: Global,
+    edit: &TextEdit,
+    from: usize,
+    replaced: &[Piece],
+    made: &TokenList,
+) -> Result<Alike, OutOfMemory>
+    requires fits { from + length replaced.now < 2 ^ 64 }
+    requires old { All (LiesIn edit.now.old.now) replaced.now }
+    requires new { All (LiesIn edit.now.text.now) made.now }
+    ensures same { IfOk result (λ a. IsTrue a.same ↔ (spelled edit.now.old.now replaced.now ≡ spelled edit.now.text.now made.now)) }
+    ensures shifted { IfOk result (λ a. IfSome a.shifted (AreLeftFrom (edit_of edit.now) a.same from replaced.now made.now)) }
+{
+    if replaced.len() != made.len() {
+        return Ok(Alike {
+            same: false,
+            shifted: None,
+        });
+    }
+    let mut listed = Vec::new(alloc);
+    made.list(alloc, 0, replaced.len(), &mut listed)?;
+    let same = are_spelled_alike(edit.old, replaced, edit.text, &listed);
+    let shifted = shifted_from(edit, same, from, replaced, &listed);
+    Ok(Alike { same, shifted })
 }
 
 impl TokenChange {
@@ -108,23 +145,22 @@ impl TokenChange {
         ends_in_order::<Bytes>();
         text_in_pieces();
         pieces_as_listed();
+        few_pieces();
         let front = change.kept_front;
         let back = pieces.ends.len() - change.kept_back;
         let replaced = pieces.tokens_between(alloc, front, back)?;
-        let made = change.made_tokens(alloc)?;
+        let made = TokenList::among(alloc, change.made_from, &change.list)?;
         let marks = marks_of(alloc, edit.text, &made)?;
-        let alike = are_spelled_alike(edit.old, &replaced, edit.text, &made);
         let start = count_tokens(&pieces.kinds[..front]);
-        let shifted = shifted_from(edit, alike, start, &replaced, &made);
+        let Alike { same, shifted } = compared(alloc, edit, start, &replaced, &made)?;
         Ok(TokenChange {
             edit: TokenEdit {
                 start,
                 old_stop: start + replaced.len(),
                 new_stop: start + made.len(),
             },
-            made,
             marks,
-            same: alike,
+            same,
             shifted,
         })
     }

@@ -15,7 +15,7 @@ use Rattle.snl_lex.specs.LineShift.{IsLineShift, moved_line}
 use Rattle.snl_lex.specs.Shift.{IsOutside, shifted_offset, shifted_piece}
 use Rattle.snl_grammar.specs.Outcome.{parsed_by, parsed_in, sound_tree}
 use Rattle.snl_grammar.specs.declared.tree.item.Item.{Item}
-use Rattle.snl_items.specs.Changes.{LeavesAround}
+use Rattle.snl_items.specs.Changes.{LeavesAround, made_in}
 use Rattle.snl_items.specs.Items.{item_ends, spelled_items}
 use Rattle.snl_scope.specs.Names.{has_own_scope}
 use Rattle.snl_scope.specs.SpelledTokens.{bytes_by, summary_by}
@@ -93,7 +93,7 @@ module _ (edit : Edit) (c : Changes) (t : LineShift) (x e : Entry) (is : IsInsid
     (bytes_told : (text : List ℕ) (tokens : List Piece) → token_bytes text tokens ≡ bytes_by (spelled text tokens))
     (rises : (text : List ℕ) → Rises 0 (item_ends text))
     (lasts : (text : List ℕ) → last_end 0 (item_ends text) ≡ length (tokens_of text))
-    (around : LeavesAround t.by (tokens_of edit.old) (tokens_of edit.text) c.tokens.made.items c.tokens.edit) where
+    (around : LeavesAround t.by (tokens_of edit.old) (tokens_of edit.text) (made_in edit c.tokens.edit) c.tokens.edit) where
   abbrev old : List ℕ
   old = edit.old
 

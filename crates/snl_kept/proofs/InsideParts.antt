@@ -14,7 +14,7 @@ use Rattle.snl_lex.specs.PieceList.{spelled, spelling}
 use Rattle.snl_lex.specs.Pieces.{tokens_of}
 use Rattle.snl_lex.specs.Shift.{shifted_piece}
 use Rattle.snl_items.specs.declared.tokens.TokenEdit.{TokenEdit}
-use Rattle.snl_items.specs.Changes.{IsItemChange, IsTokenChange, LeavesAround}
+use Rattle.snl_items.specs.Changes.{IsItemChange, IsTokenChange, LeavesAround, made_in}
 use Rattle.snl_items.specs.Items.{item_ends, spelled_items, spellings}
 use Rattle.snl_check.specs.Shifted.{shifted_tokens}
 use Rattle.snl_kept.specs.declared.entries.Entry.{Entry}
@@ -36,7 +36,7 @@ pub record IsPastHead (e : Edit) (c : Changes) (s : Shift) : Type 0 where
   pub items : IsItemChange e c.tokens.edit c.items
   pub one_made : length c.items.made.items ≡ 1
   pub one_gone : c.items.kept_front + 1 + c.items.kept_back ≡ length (item_ends e.old)
-  pub around : LeavesAround s (tokens_of e.old) (tokens_of e.text) c.tokens.made.items c.tokens.edit
+  pub around : LeavesAround s (tokens_of e.old) (tokens_of e.text) (made_in e c.tokens.edit) c.tokens.edit
   pub head : last_end 0 (take c.items.kept_front (item_ends e.old)) ≤ c.tokens.edit.start
   pub rises : Rises 0 (item_ends e.old)
 
@@ -51,7 +51,7 @@ module _ (e : Edit) (c : Changes) (s : Shift) (is : IsPastHead e c s) where
   edit = c.tokens.edit
 
   abbrev made_tokens : List Piece
-  made_tokens = c.tokens.made.items
+  made_tokens = made_in e c.tokens.edit
 
   abbrev k : ℕ
   k = c.items.kept_front

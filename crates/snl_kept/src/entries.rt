@@ -4,7 +4,7 @@
 //! nothing in them that are spelled alike, as `}` and `;`, share their entries.
 #![tactic(auto)]
 
-ghost use Rattle.std.specs.Prelude.{◌≡◌, ◌-◌, ◌<◌, ◌≤◌, All, IfOk, IfSome, drop, length, map, take};
+ghost use Rattle.std.specs.Prelude.{◌≡◌, ◌<◌, All, IfOk, IfSome, length, map};
 ghost use Rattle.snl_cut.specs.Cut.{after_ticks, members, ticked};
 ghost use Rattle.snl_lex.specs.PieceList.{spelled};
 ghost use Rattle.snl_lex.specs.Pieces.{LiesIn};
@@ -16,7 +16,7 @@ use crate::shared::Shared;
 use snl_cut::{Count, OutOfMemory};
 use snl_grammar::tree::item::Item;
 use snl_grammar::{Parsed, same_spelling_same_tree};
-use snl_items::are_spelled_alike;
+use snl_items::{TokenList, are_spelled_alike};
 use snl_lex::Piece;
 use snl_scope::{Summary, same_spelling_same_summary, summary_of};
 use snl_syntax::parsed;
@@ -42,34 +42,29 @@ impl Drop for Entry {
 // The most entries that others share.
 const FEW: usize = 8;
 
-// Where an item is among the tokens of a text, and its entry, which others that are spelled alike
-// share.
+// The tokens of an item, and its entry, which others that are spelled alike share.
 #[derive(Drop)]
 struct CommonEntry {
-    start: usize,
-    stop: usize,
+    own: Vec<Piece>,
     entry: Shared<Entry>,
 }
 
-// The entries of items with nothing in them, each once, among the tokens of a text.
+// The entries of items of a text with nothing in them, each once.
 #[derive(Drop)]
 struct CommonEntries<'a> {
     text: &'a [u8],
-    tokens: &'a [Piece],
     entries: Vec<CommonEntry>,
 }
 
 impl<'a> Model for CommonEntries<'a> {
     ghost use Rattle.std.specs.Prelude.{All, List, ℕ};
-    ghost use Rattle.snl_lex.specs.Pieces.{LiesIn};
-    ghost use Rattle.snl_lex.specs.declared.piece.Piece.{Piece};
     ghost use Rattle.snl_kept.specs.Entries.{IsCommon};
 
-    ghost Value = { List ℕ × List Piece };
+    ghost Value = { List ℕ };
 
-    ghost view = { λ c. (c.text.now, c.tokens.now) };
+    ghost view = { λ c. c.text.now };
 
-    ghost invariant = { λ c. All (LiesIn c.text.now) c.tokens.now × All (IsCommon c.text.now c.tokens.now) c.entries.items };
+    ghost invariant = { λ c. All (IsCommon c.text.now) c.entries.items };
 }
 
 // Whether the tree of an item has nothing in it, or there is none.
@@ -81,25 +76,22 @@ fn is_leaf(parsed: &Parsed) -> bool {
 }
 
 impl<'a> CommonEntries<'a> {
-    fn new(alloc: Global, text: &'a [u8], tokens: &'a [Piece]) -> CommonEntries<'a>
-        requires { All (LiesIn text.now) tokens.now }
-        ensures { result ≡ (text.now, tokens.now) }
+    fn new(alloc: Global, text: &'a [u8]) -> CommonEntries<'a>
+        ensures { result ≡ text.now }
     {
         CommonEntries {
             text,
-            tokens,
             entries: Vec::new(alloc),
         }
     }
 
     // The entry of an item with these tokens, if one of these items is spelled alike.
     fn spelled_as(&self, own: &[Piece]) -> Option<&Shared<Entry>>
-        requires { All (LiesIn self.now.0) own.now }
-        ensures { IfSome result (λ same. same.now ≡ entry_by (spelled self.now.0 own.now)) }
+        requires { All (LiesIn self.now) own.now }
+        ensures { IfSome result (λ same. same.now ≡ entry_by (spelled self.now own.now)) }
     {
         for common in &self.entries {
-            let others = &self.tokens[common.start..common.stop];
-            if are_spelled_alike(self.text, others, self.text, own) {
+            if are_spelled_alike(self.text, &common.own, self.text, own) {
                 return Some(&common.entry);
             }
         }
@@ -115,15 +107,14 @@ impl<'a> CommonEntries<'a> {
         }
     }
 
-    // Takes in the entry of the item that has the tokens from `start` up to `stop`.
-    fn add(&mut self, start: usize, stop: usize, entry: &Shared<Entry>) -> Result<(), OutOfMemory>
-        requires range { start ≤ stop }
-        requires inside { stop ≤ length self.old.1 }
-        requires entry { entry.now ≡ entry_by (spelled self.old.0 (take (stop - start) (drop start self.old.1))) }
+    // Takes in the entry of the item that has these tokens.
+    fn add(&mut self, own: Vec<Piece>, entry: &Shared<Entry>) -> Result<(), OutOfMemory>
+        requires within { All (LiesIn self.old) own.items }
+        requires entry { entry.now ≡ entry_by (spelled self.old own.items) }
         ensures { self.new ≡ self.old }
     {
         let entry = entry.share()?;
-        self.entries.push(CommonEntry { start, stop, entry })?;
+        self.entries.push(CommonEntry { own, entry })?;
         Ok(())
     }
 }
@@ -176,53 +167,50 @@ fn kept_entry(
     Ok(Shared::new(alloc, entry)?)
 }
 
-// The entry of an item with nothing in it, that of one which is spelled alike if there is one.
+// The entry of an item with nothing in it, that of one which is spelled alike if there is one. With
+// it comes a list for the tokens of the next item: this one's, if they aren't kept.
 fn common_entry(
     alloc: Global,
     common: &mut CommonEntries,
-    start: usize,
-    stop: usize,
+    own: Vec<Piece>,
     parsed: Parsed,
-) -> Result<Shared<Entry>, OutOfMemory>
-    requires range { start ≤ stop }
-    requires inside { stop ≤ length common.old.1 }
-    requires parsed { parsed ≡ parsed_by (spelled common.old.0 (take (stop - start) (drop start common.old.1))) }
+) -> Result<(Shared<Entry>, Vec<Piece>), OutOfMemory>
+    requires within { All (LiesIn common.old) own.items }
+    requires parsed { parsed ≡ parsed_by (spelled common.old own.items) }
     ensures common { common.new ≡ common.old }
-    ensures entry { IfOk result (λ e. e ≡ entry_by (spelled common.old.0 (take (stop - start) (drop start common.old.1)))) }
+    ensures entry { IfOk result (λ r. r.0 ≡ entry_by (spelled common.old own.items)) }
 {
-    let (text, own) = (common.text, &common.tokens[start..stop]);
-    if let Some(same) = common.spelled_as(own) {
-        return Ok(same.share()?);
+    if let Some(same) = common.spelled_as(&own) {
+        let entry = same.share()?;
+        return Ok((entry, own));
     }
-    let entry = kept_entry(alloc, text, own, parsed)?;
+    let entry = kept_entry(alloc, common.text, &own, parsed)?;
     common.keep_few();
-    common.add(start, stop, &entry)?;
-    Ok(entry)
+    common.add(own, &entry)?;
+    Ok((entry, Vec::new(alloc)))
 }
 
-// The entry of the item that has the tokens from `start` up to `stop`, shared where nothing is in
-// it. It is parsed once.
+// The entry of the item that has these tokens, shared where nothing is in it. It is parsed once.
+// With it comes a list for the tokens of the next item.
 fn shared_entry(
     alloc: Global,
     common: &mut CommonEntries,
-    start: usize,
-    stop: usize,
+    own: Vec<Piece>,
     work: &mut Count,
-) -> Result<Shared<Entry>, OutOfMemory>
-    requires some { start < stop }
-    requires inside { stop ≤ length common.old.1 }
+) -> Result<(Shared<Entry>, Vec<Piece>), OutOfMemory>
+    requires some { 0 < length own.items }
+    requires within { All (LiesIn common.old) own.items }
     ensures common { common.new ≡ common.old }
-    ensures entry { IfOk result (λ e. e ≡ entry_by (spelled common.old.0 (take (stop - start) (drop start common.old.1)))) }
+    ensures entry { IfOk result (λ r. r.0 ≡ entry_by (spelled common.old own.items)) }
     ensures ticks { work.new ≡ ticked work.old }
 {
     same_spelling_same_tree();
-    let (text, own) = (common.text, &common.tokens[start..stop]);
-    let parsed = parsed(alloc, text, own, work)?;
+    let parsed = parsed(alloc, common.text, &own, work)?;
     if is_leaf(&parsed) {
-        common_entry(alloc, common, start, stop, parsed)
-    } else {
-        kept_entry(alloc, text, own, parsed)
+        return common_entry(alloc, common, own, parsed);
     }
+    let entry = kept_entry(alloc, common.text, &own, parsed)?;
+    Ok((entry, own))
 }
 
 /// The entries of the items that end at these tokens, the first of which begins at token `from`.
@@ -230,7 +218,7 @@ fn shared_entry(
 pub fn entries_along(
     alloc: Global,
     text: &[u8],
-    tokens: &[Piece],
+    tokens: &TokenList,
     from: usize,
     ends: &[u32],
     work: &mut Count,
@@ -241,11 +229,14 @@ pub fn entries_along(
     ensures ticks { IfOk result (λ es. work.new ≡ after_ticks work.old (length ends.now)) }
 {
     let mut entries = Vec::with_capacity(alloc, ends.len())?;
-    let mut common = CommonEntries::new(alloc, text, tokens);
+    let mut common = CommonEntries::new(alloc, text);
+    let mut own = Vec::new(alloc);
     let mut start = from;
     for end in ends {
         let stop = *end as usize;
-        let entry = shared_entry(alloc, &mut common, start, stop, work)?;
+        tokens.list(alloc, start, stop, &mut own)?;
+        let (entry, next) = shared_entry(alloc, &mut common, own, work)?;
+        own = next;
         entries.push(entry)?;
         start = stop;
     }

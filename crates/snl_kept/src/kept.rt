@@ -32,7 +32,7 @@ use crate::ways::shift::{shift_diagnostics, shift_of};
 use crate::work::Work;
 use snl_check::Tables;
 use snl_cut::{Count, OutOfMemory};
-use snl_items::{ItemList, pieces_are_fresh};
+use snl_items::{ItemList, TokenList, pieces_are_fresh};
 use snl_lex::{LineList, LineShift, PieceList, TextEdit};
 use snl_lists::Ordered;
 use snl_scope::{Links, link};
@@ -65,10 +65,11 @@ fn judge_nothing(alloc: Global, lines: &LineList) -> Result<(Links, Judgement), 
     ensures tables { IfOk result (λ r. r.1.tables ≡ tables_in []) }
     ensures warns { IfOk result (λ r. r.1.warns ≡ warns_in []) }
 {
+    let tokens = TokenList::listed(&[]);
     let cut = CutText {
         text: &[],
         lines,
-        tokens: &[],
+        tokens: &tokens,
         ends: &[],
         entries: &[],
     };

@@ -10,14 +10,16 @@ ghost use Rattle.snl_scope.specs.Places.{stands_in};
 ghost use Rattle.snl_scope.specs.Summaries.{opening_by_word, outline_in};
 ghost use Rattle.snl_walk.specs.Tokens.{IsSource};
 ghost use Rattle.snl_check.specs.Collected.{IsLinked, IsStateSource, items_in, over};
+ghost use Rattle.snl_check.specs.ItemTokens.{own_tokens};
 ghost use Rattle.snl_check.specs.Members.{has_faulty, is_faulty_item, number_among, states_in, target_numbers, targets_among};
 ghost use Rattle.snl_check.specs.Reach.{target_lists};
 
+use crate::rows::item_source::ItemSource;
 use crate::rows::room::with_room;
 use crate::rows::row_source::RowSource;
 use crate::rows::state_source::StateSource;
 use snl_cut::OutOfMemory;
-use snl_lex::{Class, Piece, token_text};
+use snl_lex::{Class, token_text};
 use snl_scope::{Links, sets_open_in_turn};
 
 /// What is in a state set: its states, by the numbers of their items, and whether an item is
@@ -35,19 +37,17 @@ fn is_state_word(word: &[u8]) -> bool
 }
 
 // The name of a state that has these tokens, faulty or not.
-fn name_in<'a>(text: &'a [u8], tokens: &'a [Piece]) -> Option<&'a [u8]>
-    requires { IsSource text.now tokens.now }
-    ensures { option_copied result ≡ state_name (outline_in text.now tokens.now None) }
+fn name_in<'a>(source: &ItemSource<'a>) -> Option<&'a [u8]>
+    requires { IsSource source.now.text.now (own_tokens source.now) }
+    ensures { option_copied result ≡ state_name (outline_in source.now.text.now (own_tokens source.now) None) }
 {
-    let first: Option<&Piece> = tokens.get(0);
-    let second: Option<&Piece> = tokens.get(1);
-    match (first, second) {
+    match (source.token(0), source.token(1)) {
         (Some(first), Some(second)) => {
             let is_state = first.kind == Class::Word
-                && is_state_word(token_text(text, *first))
+                && is_state_word(token_text(source.text, first))
                 && second.kind == Class::Name;
             if is_state {
-                Some(token_text(text, *second))
+                Some(token_text(source.text, second))
             } else {
                 None
             }
@@ -61,8 +61,7 @@ fn name_of_state<'a>(row_source: &RowSource<'a>, item: usize) -> Option<&'a [u8]
     requires { IsLinked row_source.now }
     ensures { option_copied result ≡ name_of_state row_source.now.links.now.outlines item }
 {
-    let source = row_source.program.source(item);
-    name_in(source.text, source.tokens)
+    name_in(&row_source.program.source(item))
 }
 
 /// Whether an item is faulty.

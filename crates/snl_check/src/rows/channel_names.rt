@@ -3,11 +3,12 @@
 
 ghost use Rattle.std.specs.Prelude.{◌≡◌, IfOk};
 ghost use Rattle.snl_walk.specs.Tokens.{IsSource};
+ghost use Rattle.snl_check.specs.ItemTokens.{own_tokens};
 ghost use Rattle.snl_check.specs.Channels.{between_quotes, joined};
 
+use crate::rows::item_source::ItemSource;
 use snl_cut::OutOfMemory;
 use snl_scope::Name;
-use snl_walk::Source;
 
 // The bytes between the quotes of a string.
 fn between_quotes(string: &[u8]) -> &[u8]
@@ -20,10 +21,10 @@ fn between_quotes(string: &[u8]) -> &[u8]
 }
 
 // What is between the quotes of strings, one after another.
-fn joined_all(source: &Source, strings: &[usize]) -> Result<Name, OutOfMemory>
-    requires { IsSource source.now.text.now source.now.tokens.now }
+fn joined_all(source: &ItemSource, strings: &[usize]) -> Result<Name, OutOfMemory>
+    requires { IsSource source.now.text.now (own_tokens source.now) }
     ensures { IfOk result (λ name. name
-        ≡ joined source.now.text.now source.now.tokens.now strings.now) }
+        ≡ joined source.now.text.now (own_tokens source.now) strings.now) }
 {
     let mut bytes = Vec::new(source.alloc);
     for string in strings {
@@ -39,10 +40,10 @@ fn joined_all(source: &Source, strings: &[usize]) -> Result<Name, OutOfMemory>
 
 /// What is between the quotes of strings, joined. Nearly all names are of one string, and are
 /// copied once.
-pub(crate) fn joined(source: &Source, strings: &[usize]) -> Result<Name, OutOfMemory>
-    requires { IsSource source.now.text.now source.now.tokens.now }
+pub(crate) fn joined(source: &ItemSource, strings: &[usize]) -> Result<Name, OutOfMemory>
+    requires { IsSource source.now.text.now (own_tokens source.now) }
     ensures { IfOk result (λ name. name
-        ≡ joined source.now.text.now source.now.tokens.now strings.now) }
+        ≡ joined source.now.text.now (own_tokens source.now) strings.now) }
 {
     match strings {
         [string] => Name::new(source.alloc, between_quotes(source.bytes(*string))),

@@ -4,10 +4,12 @@
 ghost use Rattle.std.specs.Prelude.{◌≡◌, ◌++◌, IfOk, OnOk, map, option_map};
 ghost use Rattle.std.specs.List.{flat_map};
 ghost use Rattle.snl_walk.specs.Tokens.{IsSource, token_bytes};
+ghost use Rattle.snl_check.specs.ItemTokens.{own_tokens};
 ghost use Rattle.snl_check.specs.Collected.{IsRowSource, over};
 ghost use Rattle.snl_check.specs.SettingTrees.{as_setting};
 ghost use Rattle.snl_check.specs.Settings.{last_setting, option_rows, program_options, program_settings, setting_at, setting_of, settings_in_member, state_options};
 
+use crate::rows::item_source::ItemSource;
 use crate::rows::row_source::RowSource;
 use snl_cut::OutOfMemory;
 use snl_grammar::tree::clause::OptionLine;
@@ -15,7 +17,6 @@ use snl_grammar::tree::item::Item;
 use snl_grammar::tree::state::StateMember;
 use snl_item_check::{View, is_on};
 use snl_tables::OptionRow;
-use snl_walk::Source;
 use std::alloc::Global;
 
 /// The letters of a program's options, by rising bytes.
@@ -31,10 +32,10 @@ struct LetterSetting<'a> {
     is_set: bool,
 }
 
-fn setting_of<'a>(source: &Source<'a>, line: OptionLine) -> LetterSetting<'a>
-    requires { IsSource source.now.text.now source.now.tokens.now }
+fn setting_of<'a>(source: &ItemSource<'a>, line: OptionLine) -> LetterSetting<'a>
+    requires { IsSource source.now.text.now (own_tokens source.now) }
     ensures { as_setting result
-        ≡ setting_of (token_bytes source.now.text.now source.now.tokens.now) line }
+        ≡ setting_of (token_bytes source.now.text.now (own_tokens source.now)) line }
 {
     LetterSetting {
         letters: source.bytes(line.letters),
@@ -119,15 +120,15 @@ pub(crate) fn program_options(row_source: &RowSource) -> Result<Vec<OptionRow>, 
 
 // Adds the settings among the members of a state.
 fn add_settings<'a>(
-    source: &Source<'a>,
+    source: &ItemSource<'a>,
     members: &[StateMember],
     settings: &mut Vec<LetterSetting<'a>>,
 ) -> Result<(), OutOfMemory>
-    requires { IsSource source.now.text.now source.now.tokens.now }
+    requires { IsSource source.now.text.now (own_tokens source.now) }
     ensures { OnOk result (map as_setting settings.new.items
         ≡ map as_setting settings.old.items
         ++ flat_map (settings_in_member
-        (token_bytes source.now.text.now source.now.tokens.now)) members.now) }
+        (token_bytes source.now.text.now (own_tokens source.now))) members.now) }
 {
     for member in members {
         if let StateMember::OptionLine(line) = member {
@@ -139,12 +140,12 @@ fn add_settings<'a>(
 
 /// The options of a state, by its members.
 pub(crate) fn state_options(
-    source: &Source,
+    source: &ItemSource,
     members: &[StateMember],
 ) -> Result<Vec<OptionRow>, OutOfMemory>
-    requires { IsSource source.now.text.now source.now.tokens.now }
+    requires { IsSource source.now.text.now (own_tokens source.now) }
     ensures { IfOk result (λ rows. rows.items
-        ≡ state_options (token_bytes source.now.text.now source.now.tokens.now) members.now) }
+        ≡ state_options (token_bytes source.now.text.now (own_tokens source.now)) members.now) }
 {
     let mut settings = Vec::new(source.alloc);
     add_settings(source, members, &mut settings)?;

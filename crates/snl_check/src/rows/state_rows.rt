@@ -8,7 +8,7 @@ ghost use Rattle.snl_check.specs.States as states;
 use crate::reachability::marks::first_mark;
 use crate::reachability::members::{Members, is_faulty, is_first_state, members_of, targets_among};
 use crate::reachability::reaching::reach;
-use crate::rows::body::state_body;
+use crate::rows::body::body_of;
 use crate::rows::room::with_room;
 use crate::rows::state_source::StateSource;
 use crate::rows::wake_ups::wake_ups;
@@ -68,7 +68,7 @@ fn body_at(state_source: &StateSource, item: usize) -> Result<StateBody, OutOfMe
         (states.item_at (items_in state_source.now.row_source.program) item)) }
 {
     let program = &state_source.row_source.program;
-    state_body(
+    body_of(
         &program.source(item),
         program.tree(item),
         state_source.row_source.links,

@@ -3,20 +3,21 @@
 ghost use Rattle.std.specs.Prelude.{◌≡◌, option_and_then};
 ghost use Rattle.snl_scope.specs.Flags.{flag_number};
 ghost use Rattle.snl_walk.specs.Tokens.{IsSource};
+ghost use Rattle.snl_check.specs.ItemTokens.{own_tokens};
 ghost use Rattle.snl_check.specs.Collected.{IsRowSource, over, resolved};
 ghost use Rattle.snl_check.specs.Tables as tables;
 
 use crate::rows::item_clauses::ResolvedClause;
+use crate::rows::item_source::ItemSource;
 use crate::rows::row_source::RowSource;
 use snl_grammar::tree::clause::Clause;
 use snl_scope::Links;
 use snl_tables::{Queue, Synced};
-use snl_walk::Source;
 
 // The queue of a `syncq`.
-fn queue_of(source: &Source, length: Option<usize>) -> Queue
-    requires { IsSource source.now.text.now source.now.tokens.now }
-    ensures { result ≡ tables.queue_of source.now.text.now source.now.tokens.now length }
+fn queue_of(source: &ItemSource, length: Option<usize>) -> Queue
+    requires { IsSource source.now.text.now (own_tokens source.now) }
+    ensures { result ≡ tables.queue_of source.now.text.now (own_tokens source.now) length }
 {
     match length {
         None => Queue::Default,

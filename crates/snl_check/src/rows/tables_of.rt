@@ -24,6 +24,7 @@ use crate::rows::text_items::TextItems;
 use snl_cut::OutOfMemory;
 use snl_grammar::tree::item::Item;
 use snl_item_check::Checked;
+use snl_items::TokenList;
 use snl_lex::{LineList, Piece, tokens_among};
 use snl_scope::Links;
 use snl_tables::{Rows, SetRow, Tables};
@@ -119,7 +120,7 @@ pub fn tables_by_tokens(
     alloc: Global,
     text: &[u8],
     lines: &LineList,
-    tokens: &[Piece],
+    tokens: &TokenList,
     ends: &[usize],
     items: &[Option<&Item>],
     links: &Links,
@@ -178,7 +179,8 @@ pub fn tables(
         (map option_copied items.now))) }
 {
     let lines = LineList::of(alloc, text, pieces)?;
-    let tokens = tokens_among(alloc, pieces)?;
+    let listed = tokens_among(alloc, pieces)?;
+    let tokens = TokenList::listed(&listed);
     let tables = tables_by_tokens(alloc, text, &lines, &tokens, ends, items, links, checked)?;
     Ok(tables)
 }

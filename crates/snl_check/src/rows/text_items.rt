@@ -4,10 +4,11 @@
 ghost use Rattle.std.specs.Prelude.{◌≡◌, option_copied};
 ghost use Rattle.snl_check.specs.ItemSpans as spans;
 
+use crate::rows::item_source::ItemSource;
 use snl_grammar::tree::item::Item;
+use snl_items::TokenList;
 use snl_lex::Piece;
 use snl_tables::Span;
-use snl_walk::Source;
 use std::alloc::Global;
 
 /// The tokens of a text, the number of the token after each item, and the trees of the items. A
@@ -15,15 +16,15 @@ use std::alloc::Global;
 #[derive(Clone, Copy)]
 pub(crate) struct TextItems<'a> {
     pub text: &'a [u8],
-    pub tokens: &'a [Piece],
+    pub tokens: &'a TokenList<'a>,
     pub ends: &'a [usize],
     pub trees: &'a [Option<&'a Item>],
     pub alloc: Global,
 }
 
 /// Where a token is.
-pub(crate) fn span_of(token: Option<&Piece>) -> Span
-    ensures { result ≡ spans.span_of (option_copied token.entry) }
+pub(crate) fn span_of(token: Option<Piece>) -> Span
+    ensures { result ≡ spans.span_of token }
 {
     match token {
         Some(token) => Span {
@@ -39,6 +40,8 @@ impl<'a> TextItems<'a> {
     ghost use Rattle.snl_walk.specs.Tokens.{IsSource};
     ghost use Rattle.snl_check.specs.Collected.{AreTextItems, items_in};
     ghost use Rattle.snl_item_check.specs.Items.{start_of, tokens_in, tree_in};
+    ghost use Rattle.snl_check.specs.ItemTokens.{own_tokens};
+    ghost use Rattle.snl_items.specs.OwnTokens.{tokens_between};
     ghost use Rattle.snl_check.specs.ItemSpans.{header_name, program_name, span_at};
 
     // The number of the first token of an item.
@@ -52,16 +55,15 @@ impl<'a> TextItems<'a> {
         if item == 0 { 0 } else { self.ends[item - 1] }
     }
 
-    /// The tokens of an item.
-    pub(crate) fn own(&self, item: usize) -> &'a [Piece]
+    // From which number on, and up to which, the tokens of an item are.
+    fn range(&self, item: usize) -> (usize, usize)
         requires { AreTextItems self.now }
-        ensures tokens { result.now ≡ tokens_in (items_in self.now) item }
-        ensures source { IsSource self.now.text.now result.now }
+        ensures { tokens_between self.now.tokens.now result.0 result.1 ≡ tokens_in (items_in self.now) item }
     {
         if item >= self.ends.len() {
-            return &[];
+            return (0, 0);
         }
-        &self.tokens[self.start(item)..self.ends[item]]
+        (self.start(item), self.ends[item])
     }
 
     /// The tree of an item.
@@ -77,15 +79,18 @@ impl<'a> TextItems<'a> {
     }
 
     /// The tokens of an item, and the memory for what is made of them.
-    pub(crate) fn source(&self, item: usize) -> Source<'a>
+    pub(crate) fn source(&self, item: usize) -> ItemSource<'a>
         requires { AreTextItems self.now }
-        ensures source { IsSource result.text.now result.tokens.now }
+        ensures source { IsSource result.text.now (own_tokens result) }
         ensures text { result.text.now ≡ self.now.text.now }
-        ensures tokens { result.tokens.now ≡ tokens_in (items_in self.now) item }
+        ensures tokens { own_tokens result ≡ tokens_in (items_in self.now) item }
     {
-        Source {
+        let (start, stop) = self.range(item);
+        ItemSource {
             text: self.text,
-            tokens: self.own(item),
+            tokens: self.tokens,
+            start,
+            stop,
             alloc: self.alloc,
         }
     }
@@ -95,7 +100,7 @@ impl<'a> TextItems<'a> {
         requires { AreTextItems self.now }
         ensures { result ≡ span_at (items_in self.now) item number }
     {
-        span_of(self.own(item).get(number))
+        span_of(self.source(item).token(number))
     }
 
     // Where the name of the program is, if the item is a header.

@@ -16,12 +16,14 @@ ghost use Rattle.snl_check.specs.States.{wake_of};
 ghost use Rattle.snl_check.specs.Tables.{tables_of};
 
 use crate::rows::channel_numbers::{ChannelNumbers, numbers_by_rows};
+use crate::rows::item_source::ItemSource;
 use crate::rows::wake_ups::wakes_by;
 use snl_cut::OutOfMemory;
+use snl_items::TokenList;
 use snl_lex::Piece;
 use snl_scope::{Links, names_are_tokens, same_spelling_same_summary};
 use snl_tables::{Tables, WakeUp};
-use snl_walk::{Source, WakeUse};
+use snl_walk::WakeUse;
 use std::alloc::Global;
 
 fn some_subscript(uses: &[WakeUse]) -> bool
@@ -71,11 +73,8 @@ pub fn wake_inside(
 {
     names_are_tokens();
     same_spelling_same_summary();
-    let source = Source {
-        text,
-        tokens: own,
-        alloc,
-    };
+    let tokens = TokenList::listed(own);
+    let source = ItemSource::of(text, &tokens, alloc);
     let numbers = numbers_for(alloc, uses, tables)?;
     let wake = wakes_by(&source, links, &numbers, item, uses)?;
     Ok(wake)

@@ -5,18 +5,20 @@ ghost use Rattle.std.specs.Prelude.{◌≡◌, IfOk, Some, is_some};
 ghost use Rattle.std.specs.List.{filter_map};
 ghost use Rattle.std.specs.Map.{lookup};
 ghost use Rattle.snl_walk.specs.Tokens.{IsSource};
+ghost use Rattle.snl_check.specs.ItemTokens.{own_tokens};
 ghost use Rattle.snl_check.specs.Channels.{assigned_channels};
 ghost use Rattle.snl_check.specs.Collected.{IsStateSource, items_in, over};
 ghost use Rattle.snl_check.specs.Conditions as conditions;
 ghost use Rattle.snl_check.specs.Numbered as numbered;
 
 use crate::rows::channel_numbers::{ChannelNumbers, ElementKey, Which};
+use crate::rows::item_source::ItemSource;
 use crate::rows::room::with_room;
 use crate::rows::state_source::StateSource;
 use snl_cut::OutOfMemory;
 use snl_scope::Links;
 use snl_tables::WakeUp;
-use snl_walk::{Source, WakeUse};
+use snl_walk::WakeUse;
 
 // Whether elements of a variable are assigned.
 fn covers_elements(numbers: &ChannelNumbers, variable: usize) -> bool
@@ -57,15 +59,15 @@ fn on_variable(numbers: &ChannelNumbers, subscript: Option<u64>, variable: usize
 
 // What a use of a name in an item means.
 fn wake_up(
-    source: &Source,
+    source: &ItemSource,
     links: &Links,
     numbers: &ChannelNumbers,
     item: usize,
     used: WakeUse,
 ) -> Option<WakeUp>
-    requires { IsSource source.now.text.now source.now.tokens.now }
+    requires { IsSource source.now.text.now (own_tokens source.now) }
     ensures { result
-        ≡ numbered.wake_by source.now.text.now source.now.tokens.now
+        ≡ numbered.wake_by source.now.text.now (own_tokens source.now)
         links.now.outlines numbers.now item used }
 {
     let declaration = links.declaration(item, source.bytes(used.token))?;
@@ -78,15 +80,15 @@ fn wake_up(
 /// What the uses of names in the conditions of an item mean, in the order of the text, by the
 /// numbers of channels.
 pub(crate) fn wakes_by(
-    source: &Source,
+    source: &ItemSource,
     links: &Links,
     numbers: &ChannelNumbers,
     item: usize,
     uses: &[WakeUse],
 ) -> Result<Vec<WakeUp>, OutOfMemory>
-    requires { IsSource source.now.text.now source.now.tokens.now }
+    requires { IsSource source.now.text.now (own_tokens source.now) }
     ensures { IfOk result (λ wake. wake.items
-        ≡ filter_map (numbered.wake_by source.now.text.now source.now.tokens.now
+        ≡ filter_map (numbered.wake_by source.now.text.now (own_tokens source.now)
         links.now.outlines numbers.now item) uses.now) }
 {
     let mut wake = with_room(source.alloc, uses.len())?;

@@ -6,7 +6,7 @@ ghost use Rattle.std.specs.Prelude.{◌≡◌, ◌++◌, All, OnOk, map};
 ghost use Rattle.snl_lex.specs.Pieces.{LiesIn};
 ghost use Rattle.snl_kept.specs.Checked.{HasOffset, at_own_token, checked_faults, faults_kept};
 ghost use Rattle.snl_kept.specs.Checks.{checks_over};
-ghost use Rattle.snl_kept.specs.Parts.{IsPart, item_of_part};
+ghost use Rattle.snl_kept.specs.Parts.{IsPart, item_of_part, tokens_of_part};
 
 use crate::found::findings::Finding;
 use crate::found::linked::finding_at;
@@ -14,7 +14,9 @@ use crate::found::program::Part;
 use crate::shared::Shared;
 use snl_cut::OutOfMemory;
 use snl_item_check::{Checked, ItemFault, faults_stand_in_tokens};
+use snl_items::TokenList;
 use snl_lex::Piece;
+use std::alloc::Global;
 
 // A finding of an item, at its byte in its token.
 fn at_own_token(own: &[Piece], fault: ItemFault) -> Finding
@@ -58,10 +60,36 @@ pub fn add_item(
     Ok(())
 }
 
+// Adds what the check of an item has found. Its tokens are listed where that is something.
+fn add_found(
+    alloc: Global,
+    text: &[u8],
+    tokens: &TokenList,
+    part: &Part,
+    check: &Option<Checked>,
+    own: &mut Vec<Piece>,
+    found: &mut Vec<Finding>,
+) -> Result<(), OutOfMemory>
+    requires part { IsPart text.now tokens.now part.now }
+    requires offsets { All (HasOffset (tokens_of_part tokens.now part.now)) (faults_kept check.now) }
+    ensures { OnOk result (found.new.items ≡ found.old.items ++ map (at_own_token (tokens_of_part tokens.now part.now)) (faults_kept check.now)) }
+{
+    let Some(checked) = check else {
+        return Ok(());
+    };
+    let faults = checked.faults.as_slice();
+    if faults.is_empty() {
+        return Ok(());
+    }
+    tokens.list(alloc, part.start as usize, part.stop as usize, own)?;
+    add_at_tokens(own, faults, found)
+}
+
 /// Adds what is found in each item by itself, as the check of each gave it.
 pub fn add_checked_faults(
+    alloc: Global,
     text: &[u8],
-    tokens: &[Piece],
+    tokens: &TokenList,
     parts: &[Part],
     checks: &[&Shared<Option<Checked>>],
     found: &mut Vec<Finding>,
@@ -72,9 +100,10 @@ pub fn add_checked_faults(
     ensures { OnOk result (found.new.items ≡ found.old.items ++ checked_faults text.now (map (item_of_part tokens.now) parts.now)) }
 {
     faults_stand_in_tokens();
+    let mut own = Vec::new(alloc);
     for (item, part) in parts.iter().enumerate() {
-        let own = &tokens[part.start as usize..part.stop as usize];
-        add_item(own, checks[item].get(), found)?;
+        let check = checks[item].get();
+        add_found(alloc, text, tokens, part, check, &mut own, found)?;
     }
     Ok(())
 }

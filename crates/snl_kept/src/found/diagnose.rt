@@ -13,7 +13,8 @@ use crate::found::findings::{Diagnostic, Finding};
 use crate::found::linked::add_placed;
 use crate::found::program::Part;
 use snl_cut::OutOfMemory;
-use snl_lex::{Line, LineList, Piece};
+use snl_items::TokenList;
+use snl_lex::{Line, LineList};
 use snl_scope::LinkFault;
 use std::alloc::Global;
 
@@ -29,7 +30,7 @@ pub fn keep_shown(warns: bool, found: &mut Vec<Finding>)
 /// Adds what is found by the links of items.
 pub fn add_linked_faults(
     text: &[u8],
-    tokens: &[Piece],
+    tokens: &TokenList,
     parts: &[Part],
     faults: &[LinkFault],
     found: &mut Vec<Finding>,

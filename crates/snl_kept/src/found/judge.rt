@@ -70,9 +70,9 @@ fn shown_by(
 {
     text_in_pieces();
     let mut shown = Vec::new(alloc);
-    add_faults(cut.text, cut.tokens, parts, &mut shown)?;
+    add_faults(alloc, cut.text, cut.tokens, parts, &mut shown)?;
     add_linked_faults(cut.text, cut.tokens, parts, faults, &mut shown)?;
-    add_checked_faults(cut.text, cut.tokens, parts, checks, &mut shown)?;
+    add_checked_faults(alloc, cut.text, cut.tokens, parts, checks, &mut shown)?;
     add_walked_faults(tables, &mut shown)?;
     keep_shown(warns, &mut shown);
     Ok(shown)
@@ -108,7 +108,7 @@ fn told_by(
         ..
     } = *cut;
     let tables = tables_of(alloc, text, lines, tokens, ends, parts, links, checks)?;
-    let warns = shows_warnings(alloc, text, tokens, parts, links);
+    let warns = shows_warnings(alloc, text, tokens, parts, links)?;
     let shown = shown_by(alloc, cut, parts, faults, checks, &tables, warns)?;
     Ok(Told {
         shown,

@@ -2,14 +2,15 @@
 //! go out. It knows nothing of what the findings mean.
 #![tactic(auto)]
 
-ghost use Rattle.std.specs.Prelude.{◌≡◌, ◌++◌, All, OnOk, map};
+ghost use Rattle.std.specs.Prelude.{◌≡◌, ◌++◌, All, OnOk, map, slice_get};
 ghost use Rattle.snl_kept.specs.Linked.{finding_at, linked_finding, token_of};
-ghost use Rattle.snl_kept.specs.Parts.{IsPart, item_of_part};
+ghost use Rattle.snl_kept.specs.Parts.{IsPart, item_of_part, tokens_of_part};
 
 use crate::found::findings::Finding;
 use crate::found::program::Part;
 use snl_codes::Code;
 use snl_cut::OutOfMemory;
+use snl_items::TokenList;
 use snl_lex::Piece;
 use snl_scope::LinkFault;
 
@@ -31,10 +32,22 @@ pub fn finding_at(code: Code, token: Option<Piece>) -> Finding
     }
 }
 
+// The token of an item by its number in it.
+fn own_token(tokens: &TokenList, part: &Part, number: usize) -> Option<Piece>
+    ensures { result ≡ slice_get (tokens_of_part tokens.now part.now) number }
+{
+    let start = part.start as usize;
+    if number < (part.stop as usize).saturating_sub(start) {
+        tokens.get(start + number)
+    } else {
+        None
+    }
+}
+
 // The token of an item by the number of the item and its own number in it.
 fn token_of(
     text: &[u8],
-    tokens: &[Piece],
+    tokens: &TokenList,
     parts: &[Part],
     item: usize,
     number: usize,
@@ -43,9 +56,7 @@ fn token_of(
     ensures { result ≡ token_of (map (item_of_part tokens.now) parts.now) item number }
 {
     match parts.get(item) {
-        Some(part) => tokens[part.start as usize..part.stop as usize]
-            .get(number)
-            .copied(),
+        Some(part) => own_token(tokens, part, number),
         None => None,
     }
 }
@@ -53,7 +64,7 @@ fn token_of(
 /// Adds findings of links, at their tokens.
 pub fn add_placed(
     text: &[u8],
-    tokens: &[Piece],
+    tokens: &TokenList,
     parts: &[Part],
     faults: &[LinkFault],
     found: &mut Vec<Finding>,

@@ -13,7 +13,7 @@ ghost use Rattle.snl_lex.specs.Pieces.{LiesIn, tokens_of};
 ghost use Rattle.snl_grammar.specs.Outcome.{BlamesWithin};
 ghost use Rattle.snl_kept.specs.Entries.{entries_of, entry_by};
 ghost use Rattle.snl_kept.specs.Faults.{at_token, fault_at, faults_of};
-ghost use Rattle.snl_kept.specs.Parts.{EndsWithin, IsPart, item_of_part};
+ghost use Rattle.snl_kept.specs.Parts.{EndsWithin, IsPart, item_of_part, tokens_of_part};
 ghost use Rattle.snl_kept.specs.Program.{program_item};
 
 use crate::entries::Entry;
@@ -22,6 +22,7 @@ use crate::shared::Shared;
 use snl_codes::Code;
 use snl_cut::{OutOfMemory, one_cut};
 use snl_grammar::{Parsed, Tokens, outcome_told, same_spelling_same_tree};
+use snl_items::TokenList;
 use snl_lex::{LineList, Piece};
 use snl_scope::same_spelling_same_summary;
 use std::alloc::Global;
@@ -29,10 +30,10 @@ use std::alloc::Global;
 /// A text as it is cut: its lines, its tokens, where its items end among these, and what is kept of
 /// each item.
 #[derive(Clone, Copy)]
-pub struct CutText<'a> {
+pub struct CutText<'a, 't> {
     pub text: &'a [u8],
     pub lines: &'a LineList,
-    pub tokens: &'a [Piece],
+    pub tokens: &'a TokenList<'t>,
     pub ends: &'a [u32],
     pub entries: &'a [&'a Shared<Entry>],
     ghost lines_are: { IsLineList text.now lines.now },
@@ -61,7 +62,7 @@ pub fn items_end_in_order()
 pub fn parts_along<'a>(
     alloc: Global,
     text: &[u8],
-    tokens: &[Piece],
+    tokens: &TokenList,
     ends: &[u32],
     entries: &[&'a Shared<Entry>],
 ) -> Result<Vec<Part<'a>>, OutOfMemory>
@@ -107,20 +108,39 @@ pub fn fault_at(tokens: &[Piece], parsed: &Parsed) -> Option<Finding>
     }
 }
 
+// What is found at an item, as the parser left it. The tokens of a faulty one are listed.
+fn fault_in(
+    alloc: Global,
+    text: &[u8],
+    tokens: &TokenList,
+    part: &Part,
+    own: &mut Vec<Piece>,
+) -> Result<Option<Finding>, OutOfMemory>
+    requires { IsPart text.now tokens.now part.now }
+    ensures { IfOk result (λ found. found ≡ fault_at (tokens_of_part tokens.now part.now) part.now.entry.now.parsed) }
+{
+    outcome_told();
+    if let Parsed::Sound(_) = part.entry.parsed {
+        return Ok(None);
+    }
+    tokens.list(alloc, part.start as usize, part.stop as usize, own)?;
+    Ok(fault_at(own, &part.entry.parsed))
+}
+
 /// Adds what is found at the faulty ones of these items.
 pub fn add_faults(
+    alloc: Global,
     text: &[u8],
-    tokens: &[Piece],
+    tokens: &TokenList,
     parts: &[Part],
     found: &mut Vec<Finding>,
 ) -> Result<(), OutOfMemory>
     requires parts { All (IsPart text.now tokens.now) parts.now }
     ensures { OnOk result (found.new.items ≡ found.old.items ++ faults_of text.now (map (item_of_part tokens.now) parts.now)) }
 {
-    outcome_told();
+    let mut own = Vec::new(alloc);
     for part in parts {
-        let own = &tokens[part.start as usize..part.stop as usize];
-        if let Some(fault) = fault_at(own, &part.entry.parsed) {
+        if let Some(fault) = fault_in(alloc, text, tokens, part, &mut own)? {
             found.push(fault)?;
         }
     }

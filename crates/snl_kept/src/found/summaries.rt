@@ -8,7 +8,7 @@ ghost use Rattle.snl_kept.specs.Parts.{IsPart, item_of_part};
 
 use crate::found::program::Part;
 use snl_cut::OutOfMemory;
-use snl_lex::Piece;
+use snl_items::TokenList;
 use snl_scope::{ItemKind, Links, Summary, link};
 use std::alloc::Global;
 
@@ -16,7 +16,7 @@ use std::alloc::Global;
 fn summaries_of<'a>(
     alloc: Global,
     text: &[u8],
-    tokens: &[Piece],
+    tokens: &TokenList,
     parts: &[Part<'a>],
 ) -> Result<Vec<&'a Summary>, OutOfMemory>
     requires parts { All (IsPart text.now tokens.now) parts.now }
@@ -33,7 +33,7 @@ fn summaries_of<'a>(
 pub fn links_of(
     alloc: Global,
     text: &[u8],
-    tokens: &[Piece],
+    tokens: &TokenList,
     parts: &[Part],
 ) -> Result<Links, OutOfMemory>
     requires parts { All (IsPart text.now tokens.now) parts.now }
@@ -49,7 +49,7 @@ pub fn links_of(
 pub fn kinds_of(
     alloc: Global,
     text: &[u8],
-    tokens: &[Piece],
+    tokens: &TokenList,
     parts: &[Part],
 ) -> Result<Vec<ItemKind>, OutOfMemory>
     requires parts { All (IsPart text.now tokens.now) parts.now }

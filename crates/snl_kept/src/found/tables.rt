@@ -17,7 +17,8 @@ use snl_check::{Tables, tables_by_tokens};
 use snl_cut::OutOfMemory;
 use snl_grammar::tree::item::Item;
 use snl_item_check::Checked;
-use snl_lex::{LineList, Piece};
+use snl_items::TokenList;
+use snl_lex::LineList;
 use snl_scope::Links;
 use std::alloc::Global;
 
@@ -72,7 +73,7 @@ pub fn tables_of(
     alloc: Global,
     text: &[u8],
     lines: &LineList,
-    tokens: &[Piece],
+    tokens: &TokenList,
     ends: &[u32],
     parts: &[Part],
     links: &Links,

@@ -2,6 +2,8 @@ use Rattle.std.proofs.Common.{ℕ, ◌-◌, ◌^◌, ◌<◌, All, List, ◌++�
 use Rattle.std.proofs.lemmas.List.Elements.{All-drop, All-filter, All-take, All-weaker}
 use Rattle.snl_lex.specs.declared.piece.Piece.{Piece}
 use Rattle.snl_lex.specs.Pieces.{LiesIn, is_token, moved_piece, pieces_of, tokens_of}
+use Rattle.snl_lex.specs.Edit.{edit_of}
+use Rattle.snl_items.specs.Changes.{made_in}
 use Rattle.snl_items.proofs.OwnParts.{own_edited}
 use Rattle.snl_items.proofs.own_tokens.own_tokens_after.Goals as goal
 
@@ -32,6 +34,6 @@ returns c =
     ∙ ap (λ (l : List Piece). l ++ after)
     (c.in_ok-extend_from_slice-2.ensures.items
     ∙ ap (λ (l : List Piece). l ++ c.deref.result.now) (c.in_ok-extend_from_slice.ensures.items ∙ ap (λ (l : List Piece). l ++ take (tokens.edit.start - first) own) c.new-now.ensures.items)
-    ∙ ap (λ (l : List Piece). take (tokens.edit.start - first) own ++ l) c.deref.ensures.value)
-    ∙ own_edited (tokens_of edit.old.now) (tokens_of edit.text.now) tokens.made.items own (moved_piece edit.old_stop edit.new_stop) tokens.edit.start tokens.edit.old_stop tokens.edit.new_stop first stop
+    ∙ ap (λ (l : List Piece). take (tokens.edit.start - first) own ++ l) (c.deref.ensures.value ∙ c.in_ok-made.ensures ∙ c.made_are_tokens.ensures (edit_of edit) c.args.change.now c.requires.change tokens is))
+    ∙ own_edited (tokens_of edit.old.now) (tokens_of edit.text.now) (made_in (edit_of edit) tokens.edit) own (moved_piece edit.old_stop edit.new_stop) tokens.edit.start tokens.edit.old_stop tokens.edit.new_stop first stop
     c.requires.first is.of_marks.old_order c.requires.stop c.requires.inside is.count is.tokens c.requires.own

@@ -1,4 +1,4 @@
-use Rattle.std.proofs.Common.{ℕ, List, take, ◌-◌, ◌+◌, ◌++◌, ◌∷◌, [], length, map, drop, get_or, ap, sym, subst, ◌∙◌, append_assoc, add-one}
+use Rattle.std.proofs.Common.{ℕ, List, ◌+◌, ◌++◌, ◌∷◌, [], length, map, drop, get_or, ap, ap₂, sym, subst, ◌∙◌, append_assoc, add-one}
 use Rattle.snl_cut.specs.Cut.{after_ticks, members, ticked}
 use Rattle.snl_lex.specs.PieceList.{spelled}
 use Rattle.snl_lex.specs.declared.piece.Piece.{Piece}
@@ -21,8 +21,7 @@ loop-end-preserved c =
     let here = drop_more ends i 0 c.loop-end-test.true in
     let left : EndsWithin start (stop ∷ drop (i + 1) ends) (length tokens) = subst (λ l. EndsWithin start l (length tokens)) here c.loop-end.invariant.ends in
     let same = c.loop-end.invariant.common in
-    let own = ap (λ (l : List ℕ × List Piece). entry_by (spelled l.0 (take (stop - start) (drop start l.1)))) same in
-    let first = c.in_ok-entry.ensures.entry ∙ own ∙ ap entry_by (sym (spelled_between text tokens start stop)) in
+    let first = c.in_ok-entry.ensures.entry ∙ ap₂ (λ (t : List ℕ) (ts : List Piece). entry_by (spelled t ts)) same c.in_ok-list.ensures ∙ ap entry_by (sym (spelled_between text tokens start stop)) in
     record {
       common = c.in_ok-entry.ensures.common ∙ same;
       ends = left.2;

@@ -105,7 +105,15 @@ pub fn own_tokens(alloc: Global, editing: &Editing) -> Result<OwnTokens, OutOfMe
         first,
         stop,
     )?;
-    let is = own_tokens_after(alloc, edit, &changes.tokens, &was, first, stop)?;
+    let is = own_tokens_after(
+        alloc,
+        edit,
+        &changes.pieces,
+        &changes.tokens,
+        &was,
+        first,
+        stop,
+    )?;
     Ok(OwnTokens { was, is })
 }
 

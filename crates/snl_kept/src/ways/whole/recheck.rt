@@ -5,22 +5,20 @@
 
 ghost use Rattle.std.specs.Prelude.{◌≡◌, ◌+◌, ◌-◌, ◌^◌, ◌<◌, ℕ, All, IfOk, IfSome, IsTrue, length, map, true};
 ghost use Rattle.snl_cut.specs.Cut.{after_ticks};
-ghost use Rattle.snl_lex.specs.PieceList.{spelled};
 ghost use Rattle.snl_lex.specs.Pieces.{LiesIn};
 ghost use Rattle.snl_scope.specs.SameMeanings.{AreBoth};
 ghost use Rattle.snl_scope.specs.Spoken.{KeepsViews};
 ghost use Rattle.snl_scope.specs.View.{view};
 ghost use Rattle.snl_scope.specs.declared.summaries.summary.Summary.{Summary};
-ghost use Rattle.snl_kept.specs.Entries.{entry_by};
 ghost use Rattle.snl_kept.specs.Parts.{IsPart, spelled_part};
 ghost use Rattle.snl_kept.specs.NewChecks.{made_at, made_checks, made_for, number_before, sees_as_before};
 
-use crate::entries::Entry;
 use crate::found::program::Part;
 use crate::kept_checks::{add_made, clean_check};
 use crate::plan::NewCheck;
 use snl_cut::{Count, OutOfMemory};
 use snl_item_check::{Checked, check_item};
+use snl_items::TokenList;
 use snl_lex::Piece;
 use snl_scope::{
     EditedNames, Links, SameViews, Summary, same_spelling_same_summary, same_view, views_told_apart,
@@ -126,23 +124,24 @@ fn sees_as_before(both: BothLinks, item: usize, summary: &Summary) -> bool
     }
 }
 
-// The check of an item that consists of these tokens, if it is to be made.
+// The check of an item, if it is to be made. Then its tokens are listed.
 fn check_anew(
     alloc: Global,
     text: &[u8],
-    own: &[Piece],
-    entry: &Entry,
+    tokens: &TokenList,
+    part: &Part,
     both: BothLinks,
     item: usize,
+    own: &mut Vec<Piece>,
     work: &mut Count,
 ) -> Result<Option<Checked>, OutOfMemory>
-    requires within { All (LiesIn text.now) own.now }
-    requires entry { entry.now ≡ entry_by (spelled text.now own.now) }
+    requires tokens { All (LiesIn text.now) tokens.now }
+    requires part { IsPart text.now tokens.now part.now }
     requires few { (item - both.kept.stop) + both.kept.back < 2 ^ 64 }
     requires names { IsTrue both.keeps_names → both.before.now.outlines ≡ both.after.now.outlines }
     requires edited { IfSome both.edited.now (KeepsViews both.before.now.outlines both.after.now.outlines) }
     requires same { IfSome both.same.now (AreBoth both.before.now.outlines both.after.now.outlines) }
-    ensures made { IfOk result (λ c. made_at item c ≡ made_for both.entry.before.now.outlines both.entry.after.now.outlines both.entry.kept (item, spelled text.now own.now)) }
+    ensures made { IfOk result (λ c. made_at item c ≡ made_for both.entry.before.now.outlines both.entry.after.now.outlines both.entry.kept (item, spelled_part text.now tokens.now part.now)) }
     ensures ticks { IfOk result (λ c. work.new ≡ after_ticks work.old (length (made_at item c))) }
 {
     same_spelling_same_summary();
@@ -150,12 +149,13 @@ fn check_anew(
     if is_known_as_before(both, item) {
         return Ok(None);
     }
-    let Some(tree) = entry.parsed.tree() else {
+    let Some(tree) = part.entry.parsed.tree() else {
         return Ok(None);
     };
-    if sees_as_before(both, item, &entry.summary) {
+    if sees_as_before(both, item, &part.entry.summary) {
         return Ok(None);
     }
+    tokens.list(alloc, part.start as usize, part.stop as usize, own)?;
     let checked = check_item(alloc, text, own, tree, both.after, item, work)?;
     Ok(Some(checked))
 }
@@ -164,7 +164,7 @@ fn check_anew(
 pub fn recheck(
     alloc: Global,
     text: &[u8],
-    tokens: &[Piece],
+    tokens: &TokenList,
     parts: &[Part],
     both: BothLinks,
     work: &mut Count,
@@ -180,9 +180,9 @@ pub fn recheck(
 {
     let clean = clean_check(alloc)?;
     let mut made = Vec::new(alloc);
+    let mut own = Vec::new(alloc);
     for (item, part) in parts.iter().enumerate() {
-        let own = &tokens[part.start as usize..part.stop as usize];
-        let check = check_anew(alloc, text, own, part.entry, both, item, work)?;
+        let check = check_anew(alloc, text, tokens, part, both, item, &mut own, work)?;
         add_made(alloc, item, check, &clean, &mut made)?;
     }
     Ok(made)

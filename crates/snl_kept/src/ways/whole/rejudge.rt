@@ -33,8 +33,8 @@ use crate::ways::whole::relink::relink;
 use snl_cut::{Count, OutOfMemory, ends_in_order};
 use snl_grammar::Tokens;
 use snl_item_check::equal_views;
-use snl_items::ItemChange;
-use snl_lex::{Piece, text_in_pieces};
+use snl_items::{ItemChange, TokenList};
+use snl_lex::text_in_pieces;
 use snl_scope::{
     EditedNames, Links, Moved, SameViews, same_spelling_same_summary, views_told_apart,
 };
@@ -89,7 +89,7 @@ fn same_views<'a>(
 fn checks_after(
     alloc: Global,
     editing: &Editing,
-    tokens: &[Piece],
+    tokens: &TokenList,
     parts: &[Part],
     made: &[Shared<Entry>],
     links: &NewLinks,
@@ -131,7 +131,7 @@ fn checks_after(
 fn recheck_after(
     alloc: Global,
     editing: &Editing,
-    tokens: &[Piece],
+    tokens: &TokenList,
     parts: &[Part],
     made: &[Shared<Entry>],
     work: &mut Count,
@@ -232,7 +232,7 @@ fn retell_cut(
 fn retell(
     alloc: Global,
     editing: &Editing,
-    tokens: &[Piece],
+    tokens: &TokenList,
     made: &[Shared<Entry>],
     work: &mut Count,
 ) -> Result<Retold, OutOfMemory>
@@ -264,7 +264,7 @@ fn retell(
 pub fn rejudge(
     alloc: Global,
     editing: &Editing,
-    tokens: &[Piece],
+    tokens: &TokenList,
     made: &[Shared<Entry>],
     work: &mut Count,
 ) -> Result<Retold, OutOfMemory>

@@ -21,7 +21,7 @@ use crate::plan::{NewKinds, NewLinks};
 use crate::shared::Shared;
 use snl_cut::OutOfMemory;
 use snl_grammar::{outcome_told, same_spelling_same_tree};
-use snl_lex::Piece;
+use snl_items::TokenList;
 use snl_lists::Ordered;
 use snl_scope::{Links, Summary, link_after, same_outline, same_spelling_same_summary};
 use std::alloc::Global;
@@ -78,7 +78,7 @@ fn with_kinds(
     alloc: Global,
     links: &Links,
     text: &[u8],
-    tokens: &[Piece],
+    tokens: &TokenList,
     parts: &[Part],
 ) -> Result<NewKinds, OutOfMemory>
     requires parts { All (IsPart text.now tokens.now) parts.now }
@@ -131,7 +131,7 @@ pub fn relinked(
 fn new_links(
     alloc: Global,
     editing: &Editing,
-    tokens: &[Piece],
+    tokens: &TokenList,
     parts: &[Part],
     made: &[Shared<Entry>],
 ) -> Result<Links, OutOfMemory>
@@ -152,7 +152,7 @@ fn new_links(
 pub fn relink(
     alloc: Global,
     editing: &Editing,
-    tokens: &[Piece],
+    tokens: &TokenList,
     parts: &[Part],
     made: &[Shared<Entry>],
 ) -> Result<NewLinks, OutOfMemory>

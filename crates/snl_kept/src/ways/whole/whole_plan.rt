@@ -4,7 +4,9 @@
 
 ghost use Rattle.std.specs.Prelude.{◌≡◌, IfOk, IsTrue, length};
 ghost use Rattle.snl_cut.specs.Cut.{after_ticks};
-ghost use Rattle.snl_lex.specs.Pieces.{tokens_of};
+ghost use Rattle.snl_lex.specs.Edit.{made_pieces};
+ghost use Rattle.snl_lex.specs.PieceList.{piece_ends, piece_kinds};
+ghost use Rattle.snl_lex.specs.Pieces.{pieces_of, tokens_of};
 ghost use Rattle.snl_kept.specs.Editing.{AreEntriesIn, IsUnderWay, edit_in, items_in, parsed_in, text_in};
 ghost use Rattle.snl_kept.specs.Planned.{IsWholePlan};
 
@@ -16,14 +18,15 @@ use crate::shared::Shared;
 use crate::ways::whole::rejudge::rejudge;
 use crate::work::Work;
 use snl_cut::{Count, OutOfMemory};
-use snl_lex::{Piece, text_in_pieces};
+use snl_items::{TokenList, few_pieces, pieces_after};
+use snl_lex::{PieceList, TextEdit, pieces_as_listed, text_in_pieces};
 use std::alloc::Global;
 
 // What is kept of the fresh items, among all tokens of the new text. Each is parsed once.
 fn made_entries(
     alloc: Global,
     editing: &Editing,
-    tokens: &[Piece],
+    tokens: &TokenList,
     work: &mut Count,
 ) -> Result<Vec<Shared<Entry>>, OutOfMemory>
     requires editing { IsUnderWay editing.now }
@@ -45,7 +48,7 @@ fn made_entries(
 fn whole_plan(
     alloc: Global,
     editing: &Editing,
-    tokens: &[Piece],
+    tokens: &TokenList,
     made: Vec<Shared<Entry>>,
     parsed: u64,
 ) -> Result<WholePlan, OutOfMemory>
@@ -73,21 +76,58 @@ fn whole_plan(
     })
 }
 
-// Whether an edit replaces all tokens, as the first one of a text does: then those that it makes
-// are all tokens of the new text.
-fn replaces_all(editing: &Editing) -> bool
+// Whether an edit makes all pieces of the new text, as the first one of a text does.
+fn makes_all(editing: &Editing) -> bool
     requires editing { IsUnderWay editing.now }
-    ensures { IsTrue result → editing.now.changes.now.tokens.made.items ≡ tokens_of (text_in editing.now) }
+    ensures { IsTrue result → made_pieces editing.now.changes.now.pieces ≡ pieces_of (text_in editing.now) }
 {
-    let tokens = &editing.changes.tokens.edit;
-    tokens.start == 0 && tokens.old_stop == editing.lists.items.marks.len()
+    let pieces = &editing.changes.pieces;
+    pieces.kept_front == 0 && pieces.kept_back == 0
+}
+
+// The pieces of the new text, as a list of its own.
+fn new_pieces(alloc: Global, editing: &Editing) -> Result<PieceList, OutOfMemory>
+    requires editing { IsUnderWay editing.now }
+    ensures ends { IfOk result (λ l. l.ends.items ≡ piece_ends (text_in editing.now)) }
+    ensures kinds { IfOk result (λ l. l.kinds.items ≡ piece_kinds (text_in editing.now)) }
+{
+    let changes = editing.changes;
+    pieces_after(alloc, &editing.lists.pieces, editing.edit, &changes.pieces)
+}
+
+// The tokens of the new text among its pieces.
+fn tokens_among<'a>(
+    alloc: Global,
+    edit: &TextEdit,
+    pieces: &'a PieceList,
+) -> Result<TokenList<'a>, OutOfMemory>
+    requires ends { pieces.now.ends.items ≡ piece_ends edit.now.text.now }
+    requires kinds { pieces.now.kinds.items ≡ piece_kinds edit.now.text.now }
+    ensures { IfOk result (λ tokens. tokens ≡ tokens_of edit.now.text.now) }
+{
+    few_pieces();
+    pieces_as_listed();
+    let tokens = TokenList::among(alloc, 0, pieces)?;
+    Ok(tokens)
+}
+
+// The tokens of the new text among the pieces that an edit makes, if these are all.
+fn tokens_made<'a>(alloc: Global, editing: &Editing<'a, '_>) -> Result<TokenList<'a>, OutOfMemory>
+    requires editing { IsUnderWay editing.now }
+    requires all { made_pieces editing.now.changes.now.pieces ≡ pieces_of (text_in editing.now) }
+    ensures { IfOk result (λ tokens. tokens ≡ tokens_of (text_in editing.now)) }
+{
+    few_pieces();
+    let pieces = &editing.changes.pieces;
+    let tokens = TokenList::among(alloc, pieces.made_from, &pieces.list)?;
+    Ok(tokens)
 }
 
 // The plan by the tokens of the new text, whatever items the edit makes.
 fn whole_of_many(
     alloc: Global,
     editing: &Editing,
-    tokens: &[Piece],
+    tokens: &TokenList,
 ) -> Result<WholePlan, OutOfMemory>
     requires editing { IsUnderWay editing.now }
     requires tokens { tokens.now ≡ tokens_of (text_in editing.now) }
@@ -99,22 +139,17 @@ fn whole_of_many(
     whole_plan(alloc, editing, tokens, made, parsed)
 }
 
-/// The plan, whatever items the edit makes. Where it makes all tokens, they are at hand.
+/// The plan, whatever items the edit makes. Where it makes all pieces, their list is at hand.
 pub fn whole_among_all(alloc: Global, editing: &Editing) -> Result<WholePlan, OutOfMemory>
     requires editing { IsUnderWay editing.now }
     ensures { IfOk result (IsWholePlan (edit_in editing.now) (items_in editing.now)) }
 {
-    let Editing {
-        lists,
-        edit,
-        changes,
-        ..
-    } = *editing;
-    if replaces_all(editing) {
-        let tokens = &changes.tokens.made;
-        return whole_of_many(alloc, editing, tokens);
+    if makes_all(editing) {
+        let tokens = tokens_made(alloc, editing)?;
+        return whole_of_many(alloc, editing, &tokens);
     }
-    let tokens = lists.pieces.tokens_after(alloc, edit, &changes.pieces)?;
+    let pieces = new_pieces(alloc, editing)?;
+    let tokens = tokens_among(alloc, editing.edit, &pieces)?;
     whole_of_many(alloc, editing, &tokens)
 }
 
@@ -130,12 +165,7 @@ pub fn whole_of_one(
     requires parsed { parsed ≡ parsed_in editing.now }
     ensures { IfOk result (IsWholePlan (edit_in editing.now) (items_in editing.now)) }
 {
-    let Editing {
-        lists,
-        edit,
-        changes,
-        ..
-    } = *editing;
-    let tokens = lists.pieces.tokens_after(alloc, edit, &changes.pieces)?;
+    let pieces = new_pieces(alloc, editing)?;
+    let tokens = tokens_among(alloc, editing.edit, &pieces)?;
     whole_plan(alloc, editing, &tokens, made, parsed)
 }

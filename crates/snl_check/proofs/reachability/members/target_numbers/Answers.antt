@@ -9,6 +9,7 @@ use Rattle.snl_item_check.specs.Items.{tokens_in}
 use Rattle.snl_check.specs.Members.{target_number}
 use Rattle.snl_item_check.specs.Told.{told_in}
 use Rattle.snl_check.proofs.Linked.{targets_at}
+use Rattle.snl_check.specs.ItemTokens.{own_tokens}
 use Rattle.snl_check.proofs.reachability.members.target_numbers.Goals as goal
 
 pub returns : goal.returns
@@ -22,10 +23,10 @@ returns c =
     let numbers = c.loop-target.numbers.items in
     let uses = (told_in program.text.now xs c.args.state).target_uses in
     sym (append-nil numbers)
-    ∙ sym (ap (λ l. numbers ++ kept (map (λ (u : TargetUse). name_ref_at source.text.now source.tokens.now u.token) l)) (drop_all c.loop-target.target-index targets c.loop-target-test.false))
+    ∙ sym (ap (λ l. numbers ++ kept (map (λ (u : TargetUse). name_ref_at source.text.now (own_tokens source) u.token) l)) (drop_all c.loop-target.target-index targets c.loop-target-test.false))
     ∙ c.loop-target.invariant
-    ∙ ap (λ l. kept (map (λ (u : TargetUse). name_ref_at source.text.now source.tokens.now u.token) l)) c.target_uses-targets.ensures
-    ∙ ap (λ t. kept (map (λ (u : TargetUse). name_ref_at t source.tokens.now u.token) uses)) c.source-source.ensures.text
+    ∙ ap (λ l. kept (map (λ (u : TargetUse). name_ref_at source.text.now (own_tokens source) u.token) l)) c.target_uses-targets.ensures
+    ∙ ap (λ t. kept (map (λ (u : TargetUse). name_ref_at t (own_tokens source) u.token) uses)) c.source-source.ensures.text
     ∙ ap (λ ts. kept (map (λ (u : TargetUse). name_ref_at program.text.now ts u.token) uses)) c.source-source.ensures.tokens
     ∙ ap kept (sym (map-map (name_ref_at program.text.now (tokens_in xs c.args.state)) (λ (u : TargetUse). u.token) uses))
     ∙ sym (targets_at program.text.now xs ss c.args.states.now c.args.state)

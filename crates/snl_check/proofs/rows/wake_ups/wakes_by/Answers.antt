@@ -4,13 +4,14 @@ use Rattle.std.proofs.lemmas.Option.{slice_get-get_or}
 use Rattle.snl_facts.specs.Lists.{at_end}
 use Rattle.snl_check.specs.Numbered.{wake_by}
 use Rattle.snl_check.proofs.Beside.{kept_more}
+use Rattle.snl_check.specs.ItemTokens.{own_tokens}
 use Rattle.snl_check.proofs.rows.wake_ups.wakes_by.Goals as goal
 use Rattle.snl_check.proofs.rows.wake_ups.wakes_by.Goals.{in-Some+in_ok-push, in_default}
 
 pub loop-used-preserved : goal.loop-used-preserved
 loop-used-preserved c =
     let source = c.args.source.now in
-    let meant = wake_by source.text.now source.tokens.now c.args.links.now.outlines c.args.numbers.now c.args.item in
+    let meant = wake_by source.text.now (own_tokens source) c.args.links.now.outlines c.args.numbers.now c.args.item in
     let uses = c.args.uses.now in
     let n = c.loop-used.used-index in
     let so_far = c.loop-used.wake.items in
@@ -26,4 +27,4 @@ loop-used-preserved c =
 
 pub returns : goal.returns
 returns c =
-    at_end (filter_map (wake_by c.args.source.now.text.now c.args.source.now.tokens.now c.args.links.now.outlines c.args.numbers.now c.args.item)) refl c.args.uses.now c.loop-used.used-index c.loop-used.wake.items _ c.loop-used-test.false c.loop-used.invariant
+    at_end (filter_map (wake_by c.args.source.now.text.now (own_tokens c.args.source.now) c.args.links.now.outlines c.args.numbers.now c.args.item)) refl c.args.uses.now c.loop-used.used-index c.loop-used.wake.items _ c.loop-used-test.false c.loop-used.invariant

@@ -14,13 +14,6 @@ use Rattle.snl_items.proofs.TokenParts.{between_lie, made_lie, token_change}
 use Rattle.snl_items.proofs.TokenPlaces.{edit_is}
 use Rattle.snl_items.proofs.tokens.TokenChange.of.Goals as goal
 
-pub made_tokens-requires : goal.made_tokens-requires
-made_tokens-requires c =
-    let change = c.args.change.now in
-    let is = c.requires.change in
-    let ps : List Piece = made_pieces change in
-    omega (arith, ap length is.ends, length-map ps piece_end, ap length is.kinds, length-map ps (λ p. p.kind), change.list.ends.ok, change.list.kinds.ok)
-
 pub marks_of-requires : goal.marks_of-requires
 marks_of-requires c =
     let edit = c.args.edit.now in
@@ -29,20 +22,20 @@ marks_of-requires c =
     let ps : List Piece = pieces_of edit.old.now in
     let lie : All (LiesIn edit.text.now) (filter is_token (made_pieces change)) =
     made_lie edit.text.now (take change.kept_front ps) (made_pieces change) (map (moved_piece edit.old_stop edit.new_stop) (last_pieces edit.old.now change.kept_back)) (pieces_of edit.text.now) is.pieces (c.text_in_pieces.ensures.inside edit.text.now) in
-    All-same (LiesIn edit.text.now) c.deref.result.now (filter is_token (made_pieces change)) (c.deref.ensures.value ∙ c.in_ok-made.ensures) lie
+    All-same (LiesIn edit.text.now) c.in_ok-made.made (filter is_token (made_pieces change)) c.in_ok-made.ensures lie
 
-pub are_spelled_alike-alike-requires-clause-new : goal.are_spelled_alike-alike-requires-clause-new
-are_spelled_alike-alike-requires-clause-new c =
+pub compared-requires-clause-new : goal.compared-requires-clause-new
+compared-requires-clause-new c =
     let edit = c.args.edit.now in
     let change = c.args.change.now in
     let is = c.requires.change in
     let ps : List Piece = pieces_of edit.old.now in
     let lie : All (LiesIn edit.text.now) (filter is_token (made_pieces change)) =
     made_lie edit.text.now (take change.kept_front ps) (made_pieces change) (map (moved_piece edit.old_stop edit.new_stop) (last_pieces edit.old.now change.kept_back)) (pieces_of edit.text.now) is.pieces (c.text_in_pieces.ensures.inside edit.text.now) in
-    All-same (LiesIn edit.text.now) c.deref-3.result.now (filter is_token (made_pieces change)) (c.deref-3.ensures.value ∙ c.in_ok-made.ensures) lie
+    All-same (LiesIn edit.text.now) c.in_ok-made.made (filter is_token (made_pieces change)) c.in_ok-made.ensures lie
 
-pub are_spelled_alike-alike-requires-clause-old : goal.are_spelled_alike-alike-requires-clause-old
-are_spelled_alike-alike-requires-clause-old c =
+pub compared-requires-clause-old : goal.compared-requires-clause-old
+compared-requires-clause-old c =
     let edit = c.args.edit.now in
     let l = c.args.pieces.now in
     let ps : List Piece = pieces_of edit.old.now in
@@ -75,33 +68,23 @@ returns-clause-change c =
     let recut : IsRecut piece_length old (ends_of piece_length old) text start b d front (map piece_end made) back =
     subst (λ (es : List ℕ). IsRecut piece_length old es text start b d front (map piece_end made) back) old_ends is.recut in
     let meets = c.meets_where_sought.ensures old text start b d front (map piece_end made) back recut in
-    let made_is : c.in_ok-made.made.items ≡ filter is_token made = c.in_ok-made.ensures in
+    let made_is : c.in_ok-made.made ≡ filter is_token made = c.in_ok-made.ensures in
     let replaced_is : c.in_ok-replaced.replaced.items ≡ filter is_token (pieces_between ps front (length ps - back)) =
     c.in_ok-replaced.ensures old c.requires.ends c.requires.kinds ∙ ap (λ (n : ℕ). filter is_token (pieces_between ps front (n - back))) many in
     let starts : c.count_tokens-start.result ≡ length (filter is_token (take front ps)) =
-    c.count_tokens-start.ensures ∙ ap (count_by is_token_class) (ap (take front) (c.deref-4.ensures.value ∙ c.requires.kinds) ∙ take-map (λ p. p.kind) front ps) ∙ by_class (take front ps) in
+    c.count_tokens-start.ensures ∙ ap (count_by is_token_class) (ap (take front) (c.deref.ensures.value ∙ c.requires.kinds) ∙ take-map (λ p. p.kind) front ps) ∙ by_class (take front ps) in
     let old_stops : c.count_tokens-start.result + c.len-2.result ≡ length (filter is_token (take front ps)) + length (filter is_token (pieces_between ps front (length ps - back))) =
     omega (arith, starts, c.len-2.ensures, c.in_ok-replaced.replaced.ok, ap length replaced_is) in
     let new_stops : c.count_tokens-start.result + c.len-3.result ≡ length (filter is_token (take front ps)) + length (filter is_token made) =
-    omega (arith, starts, c.len-3.ensures, c.in_ok-made.made.ok, ap length made_is) in
+    omega (arith, starts, c.len-3.ensures, ap length made_is) in
     let old_same = ap (spelled old) (c.deref-2.ensures.value ∙ replaced_is) in
-    let new_same = ap (spelled text) (c.deref-3.ensures.value ∙ made_is) in
+    let new_same = ap (spelled text) made_is in
     let e : TokenEdit = record { start = c.count_tokens-start.result; old_stop = c.count_tokens-start.result + c.len-2.result; new_stop = c.count_tokens-start.result + c.len-3.result } in
     token_change (edit_of edit) change is front_same back_same _ starts old_stops new_stops
     (edit_is (edit_of edit) change is old_ends old_rises new_rises (c.pieces_as_listed.ensures old) (c.pieces_as_listed.ensures text) recut meets e starts old_stops new_stops)
-    made_is
-    (c.in_ok-marks.ensures ∙ ap (map (mark_in text)) c.deref.ensures.value)
-    (λ h. sym old_same ∙ c.are_spelled_alike-alike.ensures.0 h ∙ new_same)
-    (λ h. c.are_spelled_alike-alike.ensures.1 (old_same ∙ h ∙ sym new_same))
-
-pub shifted_from-shifted-requires-clause-inside : goal.shifted_from-shifted-requires-clause-inside
-shifted_from-shifted-requires-clause-inside c =
-    let edit = c.args.edit.now in
-    let ps : List Piece = pieces_of edit.old.now in
-    let from : ℕ = c.args.change.now.kept_front in
-    let stop : ℕ = c.len.result - c.args.change.now.kept_back in
-    All-same (LiesIn edit.old.now) c.deref-5.result.now (filter is_token (pieces_between ps from stop)) (c.deref-5.ensures.value ∙ c.in_ok-replaced.ensures edit.old.now c.requires.ends c.requires.kinds)
-    (between_lie edit.old.now ps from stop (c.text_in_pieces.ensures.inside edit.old.now))
+    (c.in_ok-marks.ensures ∙ ap (map (mark_in text)) made_is)
+    (λ h. sym old_same ∙ c.in_ok-same.ensures.same.0 h ∙ new_same)
+    (λ h. c.in_ok-same.ensures.same.1 (old_same ∙ h ∙ sym new_same))
 
 pub returns-clause-shifted : goal.returns-clause-shifted
 returns-clause-shifted c =
@@ -117,11 +100,11 @@ returns-clause-shifted c =
     let old_ends : piece_ends old ≡ ends_of piece_length old = c.one_cut.ensures.only old (piece_ends old) (c.text_in_pieces.ensures.cut old) in
     let old_rises : Rises 0 (piece_ends old) = subst (Rises 0) (sym old_ends) (c.ends_in_order.ensures.rise old) in
     let starts : c.count_tokens-start.result ≡ length (filter is_token (take front ps)) =
-    c.count_tokens-start.ensures ∙ ap (count_by is_token_class) (ap (take front) (c.deref-4.ensures.value ∙ c.requires.kinds) ∙ take-map (λ p. p.kind) front ps) ∙ by_class (take front ps) in
+    c.count_tokens-start.ensures ∙ ap (count_by is_token_class) (ap (take front) (c.deref.ensures.value ∙ c.requires.kinds) ∙ take-map (λ p. p.kind) front ps) ∙ by_class (take front ps) in
     shifted_told (edit_of edit) change is
     old_rises (c.pieces_as_listed.ensures old) (c.text_in_pieces.ensures.inside old)
     (omega (arith, edit.edit.old_order)) (omega (arith, edit.edit.new_inside, edit.short))
-    _ (returns-clause-change c) c.count_tokens-start.result c.deref-5.result.now c.deref-6.result.now starts
-    (c.deref-5.ensures.value ∙ c.in_ok-replaced.ensures old c.requires.ends c.requires.kinds ∙ ap (λ (n : ℕ). filter is_token (pieces_between ps front (n - back))) many)
-    (c.deref-6.ensures.value ∙ c.in_ok-made.ensures)
-    c.shifted_from-shifted.result c.shifted_from-shifted.ensures
+    _ (returns-clause-change c) c.count_tokens-start.result c.deref-2.result.now c.in_ok-made.made starts
+    (c.deref-2.ensures.value ∙ c.in_ok-replaced.ensures old c.requires.ends c.requires.kinds ∙ ap (λ (n : ℕ). filter is_token (pieces_between ps front (n - back))) many)
+    c.in_ok-made.ensures
+    c.in_ok-same.field-0.shifted c.in_ok-same.ensures.shifted

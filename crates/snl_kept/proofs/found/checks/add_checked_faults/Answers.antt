@@ -58,8 +58,8 @@ bounds-checks-item c =
     let item = item_of_part c.args.tokens.now in
     omega (arith, c.loop-item-test.true, as_many c.args.text.now (map item parts) c.args.checks.now c.requires.checks, length-map parts item)
 
-pub add_item-requires : goal.add_item-requires
-add_item-requires c =
+pub add_found-requires-clause-offsets : goal.add_found-requires-clause-offsets
+add_found-requires-clause-offsets c =
     let text = c.args.text.now in
     let tokens = c.args.tokens.now in
     let parts = c.args.parts.now in
@@ -73,7 +73,7 @@ add_item-requires c =
     let lie : All (LiesIn text) own = All-take (LiesIn text) _ _ (All-drop (LiesIn text) first.start tokens c.requires.tokens) in
     let here = check_at text xs c.args.checks.now c.requires.checks i c.index-checks-item.result (item first) (omega (arith, c.loop-item-test.true, length-map parts item)) c.index-checks-item.is
     (ap item c.index-parts-item.is ∙ sym (get_or-map item parts i first (item first) c.loop-item-test.true)) in
-    subst (λ (o : Option Checked). All (HasOffset own) (faults_kept o)) (sym (c.get.ensures ∙ here))
+    subst (λ (o : Option Checked). All (HasOffset own) (faults_kept o)) (sym (c.get-check.ensures ∙ here))
     (offsets_by text ss i own (item first).tree small lie (λ bytes tree. c.faults_stand_in_tokens.ensures bytes tree (is_in_set ss i) (known_of ss i) (leads_to ss i)))
 
 pub loop-item-preserved : goal.loop-item-preserved
@@ -97,7 +97,7 @@ loop-item-preserved c =
     (enumerate_from (i + 1) (drop (i + 1) xs))
     _ _ _
     (ap (enumerate_from i) here)
-    (c.in_ok-add_item.ensures
-    ∙ ap (λ (o : Option Checked). c.loop-item.found.items ++ map (at_own_token own) (faults_kept o)) (c.get.ensures ∙ check)
+    (c.in_ok-add_found.ensures
+    ∙ ap (λ (o : Option Checked). c.loop-item.found.items ++ map (at_own_token own) (faults_kept o)) (c.get-check.ensures ∙ check)
     ∙ ap (λ (l : List Finding). c.loop-item.found.items ++ l) (sym (append-nil (found (i, item first)))))
     c.loop-item.invariant

@@ -9,8 +9,8 @@ use Rattle.snl_kept.specs.Warnings.{shows_warnings}
 use Rattle.snl_kept.proofs.Trees.{parts_count, same_items, tokens_lie, trees_give}
 use Rattle.snl_kept.proofs.found.judge.told_by.Goals as goal
 
-pub shows_warnings-warns-requires-clause-tokens : goal.shows_warnings-warns-requires-clause-tokens
-shows_warnings-warns-requires-clause-tokens c =
+pub shows_warnings-requires-clause-tokens : goal.shows_warnings-requires-clause-tokens
+shows_warnings-requires-clause-tokens c =
     let cut = c.args.cut.now in
     tokens_lie cut.text.now cut.tokens.now cut.tokens_are (c.text_in_pieces.ensures.inside cut.text.now)
 
@@ -44,4 +44,4 @@ pub returns-clause-warns : goal.returns-clause-warns
 returns-clause-warns c =
     let cut = c.args.cut.now in
     let xs = map (item_of_part cut.tokens.now) c.args.parts.now in
-    c.shows_warnings-warns.ensures ∙ ap (shows_warnings cut.text.now) (same_items cut.text.now cut.tokens.now cut.ends.now xs cut.tokens_are cut.ends_are c.requires.items)
+    c.in_ok-warns.ensures ∙ ap (shows_warnings cut.text.now) (same_items cut.text.now cut.tokens.now cut.ends.now xs cut.tokens_are cut.ends_are c.requires.items)

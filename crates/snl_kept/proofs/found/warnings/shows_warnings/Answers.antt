@@ -1,8 +1,8 @@
 use Rattle.std.proofs.Common.{◌≡◌, ◌+◌, Bool, List, Option, Some, None, drop, map, refl, ap, sym, ◌∙◌}
 use Rattle.std.specs.List.{cons_option, enumerate_from, filter_map}
 use Rattle.std.specs.Option.{unwrap_or}
-use Rattle.snl_kept.specs.Parts.{item_of_part, tokens_of_part}
-use Rattle.snl_kept.specs.Warnings.{last_or, setting_in, setting_of_item}
+use Rattle.snl_kept.specs.Parts.{item_of_part}
+use Rattle.snl_kept.specs.Warnings.{last_or, setting_of_item}
 use Rattle.snl_kept.proofs.Steps.{drop_image}
 use Rattle.snl_kept.proofs.found.warnings.shows_warnings.Goals as goal
 use Rattle.snl_kept.proofs.found.warnings.shows_warnings.Goals.{in-Some, in_default}
@@ -20,9 +20,9 @@ loop-item-preserved c =
     let first = c.index-parts-item.result in
     let setting = setting_of_item c.args.text.now c.args.links.now.outlines in
     let rest = filter_map setting (enumerate_from (i + 1) (drop (i + 1) xs)) in
-    let told = c.setting_in.ensures ∙ ap (setting_in c.args.text.now c.args.links.now.outlines i (tokens_of_part c.args.tokens.now first)) c.tree.ensures in
-    let shown : c.match-setting_in.shown ≡ unwrap_or (setting (i, item first)) c.loop-item.shown =
-    elim c.match-setting_in.branch [
+    let told = c.in_ok-setting.ensures in
+    let shown : c.match-branch-2.shown ≡ unwrap_or (setting (i, item first)) c.loop-item.shown =
+    elim c.match-branch-2.branch [
       | in-Some w ↦ w.shown-is ∙ ap (λ o. unwrap_or o c.loop-item.shown) (sym w.in-Some.is ∙ told)
       | in_default w ↦ w.shown-is ∙ ap (λ o. unwrap_or o c.loop-item.shown) (sym w.in_default.is ∙ told)
     ] in

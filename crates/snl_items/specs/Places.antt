@@ -1,0 +1,24 @@
+-- Where tokens are among pieces, and which tokens are at such places.
+use Rattle.std.specs.Prelude.{ℕ, suc, ◌-◌, ◌<◌, All, List, [], ◌∷◌, map, take, get_or, if◌then◌else◌}
+use Rattle.snl_cut.specs.Cut.{last_end}
+use Rattle.snl_lex.specs.declared.piece.Class.{Class}
+use Rattle.snl_lex.specs.declared.piece.Class.TheVariants.{White}
+use Rattle.snl_lex.specs.declared.piece.Piece.{Piece}
+use Rattle.snl_lex.specs.PieceList.{is_token_class}
+
+-- The numbers of those pieces of these classes that are tokens, where the first has this number.
+abbrev pub token_places : ℕ → List Class → List ℕ
+token_places from [] = []
+token_places from (k ∷ kinds) = if is_token_class k then from ∷ token_places (suc from) kinds else token_places (suc from) kinds
+
+-- The piece with a number, by where pieces end and their classes. The first one begins at a place.
+abbrev pub piece_with : ℕ → List ℕ → List Class → ℕ → Piece
+piece_with begin ends kinds n = record { kind = get_or kinds n White; start = last_end begin (take n ends); len = get_or ends n 0 - last_end begin (take n ends) }
+
+-- The pieces with these numbers.
+unfoldable pub pieces_at : ℕ → List ℕ → List Class → List ℕ → List Piece
+pieces_at begin ends kinds places = map (piece_with begin ends kinds) places
+
+-- These are numbers of so many pieces.
+abbrev pub AreAmong : ℕ → List ℕ → Type 0
+AreAmong count places = All (λ n. n < count) places
