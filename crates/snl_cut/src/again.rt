@@ -40,10 +40,11 @@ pub fn recut_noted<F: Noting, E: Ends>(
     let last = end_of(old_ends, count);
     let kept_front = count_below(old_ends, start);
     let mut at = end_of(old_ends, kept_front);
+    let mut near = kept_front;
     let mut made = Vec::new(alloc);
     let mut notes = Vec::new(alloc);
     loop {
-        if let Some(kept) = meeting(old_ends, old_stop, new_stop, at) {
+        if let Some(kept) = meeting(old_ends, old_stop, new_stop, at, &mut near) {
             return Ok(NotedRecut {
                 kept_front,
                 made,

@@ -1,7 +1,7 @@
 //! Where members end: look-ups in a list of ends, by halving.
 
 ghost use Rattle.snl_cut.specs.Cut.{Rises, ends_below, last_end};
-ghost use Rattle.std.specs.Prelude.{◌≡◌, ◌+◌, ◌-◌, ◌^◌, ◌<◌, ◌≤◌, MatchOption, length, take, ℕ};
+ghost use Rattle.std.specs.Prelude.{◌≡◌, ◌+◌, ◌-◌, ◌^◌, ◌<◌, ◌≤◌, ◌↔◌, IsTrue, MatchOption, length, take, ℕ};
 
 use crate::trait_ends::Ends;
 
@@ -25,8 +25,32 @@ pub fn count_below<E: Ends>(ends: &E, place: usize) -> usize
     low
 }
 
-// How many members, from the first on, end just at `place`.
-fn members_to<E: Ends>(ends: &E, place: usize) -> Option<usize>
+// Whether the end of this number, counted from 0, is there and below `place`.
+fn is_below<E: Ends>(ends: &E, number: usize, place: usize) -> bool
+    requires { Rises 0 (E.listed ends.now) }
+    ensures { IsTrue result ↔ number < ends_below place (E.listed ends.now) }
+{
+    number < ends.count() && ends.end(number) < place
+}
+
+// The same as `count_below`. It tries `near` first, which spares the halving where that is the answer.
+#[tactic(auto, using(crate::specs::CutLaws::below_inside))]
+fn count_near<E: Ends>(ends: &E, near: usize, place: usize) -> usize
+    requires { Rises 0 (E.listed ends.now) }
+    ensures count { result ≡ ends_below place (E.listed ends.now) }
+    ensures inside { result ≤ length (E.listed ends.now) }
+{
+    let enough = near == 0 || is_below(ends, near - 1, place);
+    if enough && !is_below(ends, near, place) {
+        near
+    } else {
+        count_below(ends, place)
+    }
+}
+
+// How many members, from the first on, end just at `place`. `near` is a guess at how many ends are
+// below it, and is mended.
+fn members_to<E: Ends>(ends: &E, near: &mut usize, place: usize) -> Option<usize>
     requires { Rises 0 (E.listed ends.now) }
     ensures { MatchOption
         result
@@ -36,7 +60,8 @@ fn members_to<E: Ends>(ends: &E, place: usize) -> Option<usize>
     if place == 0 {
         return Some(0);
     }
-    let below = count_below(ends, place);
+    let below = count_near(ends, *near, place);
+    *near = below;
     if below == ends.count() {
         return None;
     }
@@ -45,8 +70,14 @@ fn members_to<E: Ends>(ends: &E, place: usize) -> Option<usize>
 }
 
 // How many old members end where the new place `at` was, which has to be at the edit's end or after
-// it.
-pub fn meeting<E: Ends>(old_ends: &E, old_stop: usize, new_stop: usize, at: usize) -> Option<usize>
+// it. `near` is a guess at how many ends are below that place, and is mended.
+pub fn meeting<E: Ends>(
+    old_ends: &E,
+    old_stop: usize,
+    new_stop: usize,
+    at: usize,
+    near: &mut usize,
+) -> Option<usize>
     requires rising { Rises 0 (E.listed old_ends.now) }
     requires fits { (at - new_stop) + old_stop < 2 ^ 64 }
     ensures { MatchOption
@@ -57,7 +88,7 @@ pub fn meeting<E: Ends>(old_ends: &E, old_stop: usize, new_stop: usize, at: usiz
     if at < new_stop {
         None
     } else {
-        members_to(old_ends, at - new_stop + old_stop)
+        members_to(old_ends, near, at - new_stop + old_stop)
     }
 }
 
