@@ -33,7 +33,7 @@ fn is_below<E: Ends>(ends: &E, number: usize, place: usize) -> bool
     number < ends.count() && ends.end(number) < place
 }
 
-// The same as `count_below`. It tries `near` first, which spares the halving where that is the answer.
+// The same as `count_below`. It tries `near` first, which spares the halving where that is right.
 #[tactic(auto, using(crate::specs::CutLaws::below_inside))]
 fn count_near<E: Ends>(ends: &E, near: usize, place: usize) -> usize
     requires { Rises 0 (E.listed ends.now) }

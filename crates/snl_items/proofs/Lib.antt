@@ -1,5 +1,6 @@
 pub mod Parts
 pub mod Counts
+pub mod Listed
 pub mod Alike
 pub mod TokenParts
 pub mod TokenPlaces

@@ -1,11 +1,13 @@
 -- What an edit of a text makes of its tokens and of its items.
-use Rattle.std.specs.Prelude.{◌≡◌, ℕ, ◌+◌, ◌-◌, ◌≤◌, ◌⊎◌, All, Bool, true, List, [], ◌++◌, length, map, take, drop}
+use Rattle.std.specs.Prelude.{◌≡◌, ℕ, ◌+◌, ◌-◌, ◌≤◌, ◌⊎◌, All, Bool, true, List, [], ◌++◌, filter, length, map, take, drop}
 use Rattle.snl_cut.specs.Cut.{IsEdit, ends_below, joined, last_end, members}
 use Rattle.snl_lex.specs.declared.piece.Piece.{Piece}
 use Rattle.snl_lex.specs.declared.shift.Shift.{Shift}
-use Rattle.snl_lex.specs.Edit.{Edit}
+use Rattle.snl_lex.specs.declared.piece_list.PieceChange.{PieceChange}
+use Rattle.snl_lex.specs.Edit.{Edit, made_pieces}
 use Rattle.snl_lex.specs.Lines.{lines_between}
-use Rattle.snl_lex.specs.Pieces.{moved_piece, piece_end, tokens_of}
+use Rattle.snl_lex.specs.PieceList.{pieces_between}
+use Rattle.snl_lex.specs.Pieces.{is_token, moved_piece, piece_end, pieces_of, tokens_of}
 use Rattle.snl_lex.specs.Shift.{shifted_piece}
 use Rattle.snl_items.specs.declared.item_list.ItemChange.{ItemChange}
 use Rattle.snl_items.specs.declared.shifted.Shifted.{Shifted}
@@ -18,6 +20,14 @@ use Rattle.snl_items.specs.OwnTokens.{tokens_between}
 -- The tokens that an edit of a text makes, where it makes this edit of the tokens.
 abbrev pub made_in : Edit → TokenEdit → List Piece
 made_in e tokens = tokens_between (tokens_of e.text) tokens.start tokens.new_stop
+
+-- The tokens that an edit of a text replaces, and those that it makes, where it makes this of the
+-- pieces.
+abbrev pub replaced_tokens : List ℕ → PieceChange → List Piece
+replaced_tokens old change = filter is_token (pieces_between (pieces_of old) change.kept_front (length (pieces_of old) - change.kept_back))
+
+abbrev pub made_tokens : PieceChange → List Piece
+made_tokens change = filter is_token (made_pieces change)
 
 -- An edit of a text makes this of its tokens: other tokens with these marks in the place of some.
 -- `same` says whether they are spelled as those that they replace.

@@ -11,9 +11,13 @@ abbrev pub token_places : ℕ → List Class → List ℕ
 token_places from [] = []
 token_places from (k ∷ kinds) = if is_token_class k then from ∷ token_places (suc from) kinds else token_places (suc from) kinds
 
+-- The piece of a class from one place up to another.
+abbrev pub piece_to : Class → ℕ → ℕ → Piece
+piece_to kind start end = record { kind = kind; start = start; len = end - start }
+
 -- The piece with a number, by where pieces end and their classes. The first one begins at a place.
 abbrev pub piece_with : ℕ → List ℕ → List Class → ℕ → Piece
-piece_with begin ends kinds n = record { kind = get_or kinds n White; start = last_end begin (take n ends); len = get_or ends n 0 - last_end begin (take n ends) }
+piece_with begin ends kinds n = piece_to (get_or kinds n White) (last_end begin (take n ends)) (get_or ends n 0)
 
 -- The pieces with these numbers.
 unfoldable pub pieces_at : ℕ → List ℕ → List Class → List ℕ → List Piece

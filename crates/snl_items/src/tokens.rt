@@ -2,17 +2,17 @@
 //! In: the list of the old pieces and what the edit makes of them. Out: which tokens are replaced,
 //! and by which.
 
-ghost use Rattle.snl_items.specs.Changes.{AreLeftFrom, AreShifted, IsTokenChange};
+ghost use Rattle.snl_items.specs.Changes.{AreLeftFrom, AreShifted, IsTokenChange, made_tokens, replaced_tokens};
 ghost use Rattle.snl_items.specs.Items.{mark_in};
-ghost use Rattle.snl_lex.specs.Edit.{IsChange, edit_of};
-ghost use Rattle.snl_lex.specs.PieceList.{is_token_class, piece_ends, piece_kinds, spelled};
-ghost use Rattle.snl_lex.specs.Pieces.{LiesIn};
-ghost use Rattle.std.specs.Prelude.{◌≡◌, ◌+◌, ◌^◌, ◌<◌, ◌≤◌, ◌↔◌, All, IfOk, IfSome, IsTrue, count_by, length, map};
+ghost use Rattle.snl_items.specs.Places.{piece_to};
+ghost use Rattle.snl_lex.specs.Edit.{IsChange, edit_of, made_pieces};
+ghost use Rattle.snl_lex.specs.PieceList.{is_token_class, listed_pieces, piece_ends, piece_kinds, spelled};
+ghost use Rattle.snl_lex.specs.Pieces.{LiesIn, is_token};
+ghost use Rattle.std.specs.Prelude.{◌≡◌, ◌+◌, ◌^◌, ◌<◌, ◌≤◌, ◌↔◌, [], All, IfOk, IfSome, IsTrue, count_by, filter, length, map, vec_capacity, vec_len};
 
 use crate::laws::few_pieces;
 use crate::shifted::{Shifted, shifted_from};
 use crate::spelled::are_spelled_alike;
-use crate::token_list::TokenList;
 use snl_cut::{OutOfMemory, ends_in_order, meets_where_sought, one_cut};
 use snl_grammar::{Mark, mark};
 use snl_lex::{
@@ -72,17 +72,54 @@ pub(crate) fn count_tokens(kinds: &[Class]) -> usize
     count
 }
 
-/// What the tokens are to the cut into items.
-pub fn marks_of(alloc: Global, text: &[u8], tokens: &TokenList) -> Result<Vec<Mark>, OutOfMemory>
-    requires { All (LiesIn text.now) tokens.now }
-    ensures { IfOk result (λ marks. marks.items ≡ map (mark_in text.now) tokens.now) }
+// The piece of this class from one place up to another.
+fn piece_between(kind: Class, start: u32, end: u32) -> Piece
+    ensures { result ≡ piece_to kind start end }
 {
-    let count = tokens.len();
-    let mut marks = Vec::with_capacity(alloc, count)?;
-    for number in 0..count {
-        marks.push(mark(text, tokens.at(number)))?;
+    Piece {
+        kind,
+        start: start as usize,
+        len: end.saturating_sub(start) as usize,
     }
-    Ok(marks)
+}
+
+// Adds the marks of those pieces that are tokens, if the first piece begins at a place. They come by
+// value, and there is room for all: so their place and number stay in registers, and no room is
+// looked for at each.
+fn with_marks(
+    mut marks: Vec<Mark>,
+    text: &[u8],
+    begin: u32,
+    ends: &[u32],
+    kinds: &[Class],
+) -> Vec<Mark>
+    requires none { marks.items ≡ [] }
+    requires room { count_by is_token_class kinds.now ≤ vec_capacity marks }
+    requires same { length ends.now ≡ length kinds.now }
+    requires inside { All (LiesIn text.now) (listed_pieces begin ends.now kinds.now) }
+    ensures { result.items ≡ map (mark_in text.now) (filter is_token (listed_pieces begin ends.now kinds.now)) }
+{
+    let mut start = begin;
+    for (number, kind) in kinds.iter().enumerate() {
+        let end = ends[number];
+        if kind.is_token() {
+            marks.push_reserved(mark(text, piece_between(*kind, start, end)));
+        }
+        start = end;
+    }
+    marks
+}
+
+// What the tokens that an edit makes are to the cut into items.
+fn made_marks(alloc: Global, text: &[u8], change: &PieceChange) -> Result<Vec<Mark>, OutOfMemory>
+    requires same { vec_len change.now.list.ends ≡ vec_len change.now.list.kinds }
+    requires inside { All (LiesIn text.now) (made_pieces change.now) }
+    ensures { IfOk result (λ marks. marks.items ≡ map (mark_in text.now) (made_tokens change.now)) }
+{
+    let ends = change.list.ends.as_slice();
+    let kinds = change.list.kinds.as_slice();
+    let marks = Vec::with_capacity(alloc, count_tokens(kinds))?;
+    Ok(with_marks(marks, text, change.made_from, ends, kinds))
 }
 
 // Whether tokens that an edit makes are spelled as those that it replaces; if so, what is known of
@@ -92,32 +129,48 @@ struct Alike {
     shifted: Option<Shifted>,
 }
 
-// Compares the tokens that an edit makes with those that it replaces, the first of which has the
-// number `from`. They are listed only where they are as many.
-fn compared(
-    alloc: Global,
-    edit: &TextEdit,
-    from: usize,
-    replaced: &[Piece],
-    made: &TokenList,
-) -> Result<Alike, OutOfMemory>
+// Compares the tokens that an edit makes with those that it replaces, which are as many. The first
+// of these has the number `from`.
+fn compared(edit: &TextEdit, from: usize, replaced: &[Piece], made: &[Piece]) -> Alike
     requires fits { from + length replaced.now < 2 ^ 64 }
     requires old { All (LiesIn edit.now.old.now) replaced.now }
     requires new { All (LiesIn edit.now.text.now) made.now }
-    ensures same { IfOk result (λ a. IsTrue a.same ↔ (spelled edit.now.old.now replaced.now ≡ spelled edit.now.text.now made.now)) }
-    ensures shifted { IfOk result (λ a. IfSome a.shifted (AreLeftFrom (edit_of edit.now) a.same from replaced.now made.now)) }
+    ensures same { IsTrue result.same ↔ (spelled edit.now.old.now replaced.now ≡ spelled edit.now.text.now made.now) }
+    ensures shifted { IfSome result.shifted (AreLeftFrom (edit_of edit.now) result.same from replaced.now made.now) }
 {
-    if replaced.len() != made.len() {
+    let same = are_spelled_alike(edit.old, replaced, edit.text, made);
+    let shifted = shifted_from(edit, same, from, replaced, made);
+    Alike { same, shifted }
+}
+
+// Whether the tokens that an edit makes are spelled as those that it replaces. They are listed only
+// where they are as many.
+fn likeness_of(
+    alloc: Global,
+    pieces: &PieceList,
+    edit: &TextEdit,
+    change: &PieceChange,
+    tokens: TokenEdit,
+) -> Result<Alike, OutOfMemory>
+    requires ends { pieces.now.ends.items ≡ piece_ends edit.now.old.now }
+    requires kinds { pieces.now.kinds.items ≡ piece_kinds edit.now.old.now }
+    requires change { IsChange (edit_of edit.now) change.now }
+    requires replaced { tokens.old_stop ≡ tokens.start + length (replaced_tokens edit.now.old.now change.now) }
+    requires made { tokens.new_stop ≡ tokens.start + length (made_tokens change.now) }
+    ensures same { IfOk result (λ a. IsTrue a.same ↔ (spelled edit.now.old.now (replaced_tokens edit.now.old.now change.now) ≡ spelled edit.now.text.now (made_tokens change.now))) }
+    ensures shifted { IfOk result (λ a. IfSome a.shifted (AreLeftFrom (edit_of edit.now) a.same tokens.start (replaced_tokens edit.now.old.now change.now) (made_tokens change.now))) }
+{
+    text_in_pieces();
+    if tokens.old_stop != tokens.new_stop {
         return Ok(Alike {
             same: false,
             shifted: None,
         });
     }
-    let mut listed = Vec::new(alloc);
-    made.list(alloc, 0, replaced.len(), &mut listed)?;
-    let same = are_spelled_alike(edit.old, replaced, edit.text, &listed);
-    let shifted = shifted_from(edit, same, from, replaced, &listed);
-    Ok(Alike { same, shifted })
+    let back = pieces.ends.len() - change.kept_back;
+    let replaced = pieces.tokens_between(alloc, change.kept_front, back)?;
+    let made = change.made_tokens(alloc)?;
+    Ok(compared(edit, tokens.start, &replaced, &made))
 }
 
 impl TokenChange {
@@ -148,17 +201,16 @@ impl TokenChange {
         few_pieces();
         let front = change.kept_front;
         let back = pieces.ends.len() - change.kept_back;
-        let replaced = pieces.tokens_between(alloc, front, back)?;
-        let made = TokenList::among(alloc, change.made_from, &change.list)?;
-        let marks = marks_of(alloc, edit.text, &made)?;
+        let marks = made_marks(alloc, edit.text, change)?;
         let start = count_tokens(&pieces.kinds[..front]);
-        let Alike { same, shifted } = compared(alloc, edit, start, &replaced, &made)?;
+        let tokens = TokenEdit {
+            start,
+            old_stop: start + count_tokens(&pieces.kinds[front..back]),
+            new_stop: start + marks.len(),
+        };
+        let Alike { same, shifted } = likeness_of(alloc, pieces, edit, change, tokens)?;
         Ok(TokenChange {
-            edit: TokenEdit {
-                start,
-                old_stop: start + replaced.len(),
-                new_stop: start + made.len(),
-            },
+            edit: tokens,
             marks,
             same,
             shifted,

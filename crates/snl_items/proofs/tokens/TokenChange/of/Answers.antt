@@ -1,48 +1,48 @@
-use Rattle.std.proofs.Common.{◌≡◌, ℕ, ◌+◌, ◌-◌, All, List, filter, length, map, count_by, take, sym, subst, ap, ◌∙◌, arith}
-use Rattle.std.proofs.lemmas.List.{length-map, take-map}
-use Rattle.std.proofs.lemmas.List.Elements.{All-same}
+use Rattle.std.proofs.Common.{◌≡◌, ℕ, ◌+◌, ◌-◌, List, filter, length, map, count_by, drop, take, refl, sym, subst, ap, ◌∙◌, arith}
+use Rattle.std.proofs.lemmas.List.{drop-map, length-map, take-map}
 use Rattle.snl_cut.specs.Cut.{IsRecut, Rises, ends_of}
+use Rattle.snl_lex.specs.declared.piece.Class.{Class}
 use Rattle.snl_lex.specs.declared.piece.Piece.{Piece}
 use Rattle.snl_lex.specs.Edit.{edit_of, made_pieces}
-use Rattle.snl_lex.specs.PieceList.{is_token_class, last_pieces, piece_ends, pieces_between, spelled}
+use Rattle.snl_lex.specs.PieceList.{is_token_class, last_pieces, piece_ends, pieces_between}
 use Rattle.snl_lex.specs.Pieces.{LiesIn, is_token, moved_piece, piece_end, piece_length, pieces_of}
 use Rattle.snl_items.specs.declared.tokens.TokenEdit.{TokenEdit}
 use Rattle.snl_items.specs.Items.{mark_in}
 use Rattle.snl_items.proofs.Counts.{by_class}
 use Rattle.snl_items.proofs.ShiftedTokens.{shifted_told}
-use Rattle.snl_items.proofs.TokenParts.{between_lie, made_lie, token_change}
+use Rattle.snl_items.proofs.Parts.{all_middle}
+use Rattle.snl_items.proofs.TokenParts.{token_change}
 use Rattle.snl_items.proofs.TokenPlaces.{edit_is}
 use Rattle.snl_items.proofs.tokens.TokenChange.of.Goals as goal
 
-pub marks_of-requires : goal.marks_of-requires
-marks_of-requires c =
+-- How many tokens are among the pieces that are replaced, by their classes.
+replaced_count : (ps : List Piece) (kinds : List Class) (a b : ℕ) → kinds ≡ map (λ p. p.kind) ps → count_by is_token_class (take (b - a) (drop a kinds)) ≡ length (filter is_token (pieces_between ps a b))
+replaced_count ps kinds a b are =
+    ap (count_by is_token_class) (ap (λ (ks : List Class). take (b - a) (drop a ks)) are ∙ ap (take (b - a)) (drop-map (λ p. p.kind) a ps) ∙ take-map (λ p. p.kind) (b - a) (drop a ps))
+    ∙ by_class (pieces_between ps a b)
+
+pub made_marks-requires-clause-inside : goal.made_marks-requires-clause-inside
+made_marks-requires-clause-inside c =
     let edit = c.args.edit.now in
     let change = c.args.change.now in
-    let is = c.requires.change in
-    let ps : List Piece = pieces_of edit.old.now in
-    let lie : All (LiesIn edit.text.now) (filter is_token (made_pieces change)) =
-    made_lie edit.text.now (take change.kept_front ps) (made_pieces change) (map (moved_piece edit.old_stop edit.new_stop) (last_pieces edit.old.now change.kept_back)) (pieces_of edit.text.now) is.pieces (c.text_in_pieces.ensures.inside edit.text.now) in
-    All-same (LiesIn edit.text.now) c.in_ok-made.made (filter is_token (made_pieces change)) c.in_ok-made.ensures lie
+    all_middle (LiesIn edit.text.now) (take change.kept_front (pieces_of edit.old.now)) (made_pieces change) (map (moved_piece edit.old_stop edit.new_stop) (last_pieces edit.old.now change.kept_back)) (pieces_of edit.text.now) c.requires.change.pieces
+    (c.text_in_pieces.ensures.inside edit.text.now)
 
-pub compared-requires-clause-new : goal.compared-requires-clause-new
-compared-requires-clause-new c =
-    let edit = c.args.edit.now in
-    let change = c.args.change.now in
-    let is = c.requires.change in
-    let ps : List Piece = pieces_of edit.old.now in
-    let lie : All (LiesIn edit.text.now) (filter is_token (made_pieces change)) =
-    made_lie edit.text.now (take change.kept_front ps) (made_pieces change) (map (moved_piece edit.old_stop edit.new_stop) (last_pieces edit.old.now change.kept_back)) (pieces_of edit.text.now) is.pieces (c.text_in_pieces.ensures.inside edit.text.now) in
-    All-same (LiesIn edit.text.now) c.in_ok-made.made (filter is_token (made_pieces change)) c.in_ok-made.ensures lie
+pub likeness_of-requires-clause-replaced : goal.likeness_of-requires-clause-replaced
+likeness_of-requires-clause-replaced c =
+    let old : List ℕ = c.args.edit.now.old.now in
+    let front : ℕ = c.args.change.now.kept_front in
+    let back : ℕ = c.args.change.now.kept_back in
+    let ps : List Piece = pieces_of old in
+    let many : c.len.result ≡ length ps = omega (arith, c.len.ensures, c.args.pieces.now.ends.ok, ap length c.requires.ends, length-map ps piece_end) in
+    ap (λ (n : ℕ). c.count_tokens-start.result + n)
+    (c.count_tokens.ensures ∙ replaced_count ps c.deref-2.result.now front (c.len.result - back) (c.deref-2.ensures.value ∙ c.requires.kinds)
+    ∙ ap (λ (n : ℕ). length (filter is_token (pieces_between ps front (n - back)))) many)
 
-pub compared-requires-clause-old : goal.compared-requires-clause-old
-compared-requires-clause-old c =
-    let edit = c.args.edit.now in
-    let l = c.args.pieces.now in
-    let ps : List Piece = pieces_of edit.old.now in
-    let from : ℕ = c.args.change.now.kept_front in
-    let stop : ℕ = c.len.result - c.args.change.now.kept_back in
-    All-same (LiesIn edit.old.now) c.deref-2.result.now (filter is_token (pieces_between ps from stop)) (c.deref-2.ensures.value ∙ c.in_ok-replaced.ensures edit.old.now c.requires.ends c.requires.kinds)
-    (between_lie edit.old.now ps from stop (c.text_in_pieces.ensures.inside edit.old.now))
+pub likeness_of-requires-clause-made : goal.likeness_of-requires-clause-made
+likeness_of-requires-clause-made c =
+    let made : List Piece = filter is_token (made_pieces c.args.change.now) in
+    ap (λ (n : ℕ). c.count_tokens-start.result + n) (omega (arith, c.len-2.ensures, c.in_ok-marks.marks.ok, ap length c.in_ok-marks.ensures, length-map made (mark_in c.args.edit.now.text.now)))
 
 pub returns-clause-change : goal.returns-clause-change
 returns-clause-change c =
@@ -68,23 +68,19 @@ returns-clause-change c =
     let recut : IsRecut piece_length old (ends_of piece_length old) text start b d front (map piece_end made) back =
     subst (λ (es : List ℕ). IsRecut piece_length old es text start b d front (map piece_end made) back) old_ends is.recut in
     let meets = c.meets_where_sought.ensures old text start b d front (map piece_end made) back recut in
-    let made_is : c.in_ok-made.made ≡ filter is_token made = c.in_ok-made.ensures in
-    let replaced_is : c.in_ok-replaced.replaced.items ≡ filter is_token (pieces_between ps front (length ps - back)) =
-    c.in_ok-replaced.ensures old c.requires.ends c.requires.kinds ∙ ap (λ (n : ℕ). filter is_token (pieces_between ps front (n - back))) many in
     let starts : c.count_tokens-start.result ≡ length (filter is_token (take front ps)) =
     c.count_tokens-start.ensures ∙ ap (count_by is_token_class) (ap (take front) (c.deref.ensures.value ∙ c.requires.kinds) ∙ take-map (λ p. p.kind) front ps) ∙ by_class (take front ps) in
-    let old_stops : c.count_tokens-start.result + c.len-2.result ≡ length (filter is_token (take front ps)) + length (filter is_token (pieces_between ps front (length ps - back))) =
-    omega (arith, starts, c.len-2.ensures, c.in_ok-replaced.replaced.ok, ap length replaced_is) in
-    let new_stops : c.count_tokens-start.result + c.len-3.result ≡ length (filter is_token (take front ps)) + length (filter is_token made) =
-    omega (arith, starts, c.len-3.ensures, ap length made_is) in
-    let old_same = ap (spelled old) (c.deref-2.ensures.value ∙ replaced_is) in
-    let new_same = ap (spelled text) made_is in
-    let e : TokenEdit = record { start = c.count_tokens-start.result; old_stop = c.count_tokens-start.result + c.len-2.result; new_stop = c.count_tokens-start.result + c.len-3.result } in
+    let replaced : c.count_tokens.result ≡ length (filter is_token (pieces_between ps front (length ps - back))) =
+    c.count_tokens.ensures ∙ replaced_count ps c.deref-2.result.now front (c.len.result - back) (c.deref-2.ensures.value ∙ c.requires.kinds)
+    ∙ ap (λ (n : ℕ). length (filter is_token (pieces_between ps front (n - back)))) many in
+    let old_stops : c.count_tokens-start.result + c.count_tokens.result ≡ length (filter is_token (take front ps)) + length (filter is_token (pieces_between ps front (length ps - back))) =
+    omega (arith, starts, replaced) in
+    let new_stops : c.count_tokens-start.result + c.len-2.result ≡ length (filter is_token (take front ps)) + length (filter is_token made) =
+    omega (arith, starts, c.len-2.ensures, c.in_ok-marks.marks.ok, ap length c.in_ok-marks.ensures, length-map (filter is_token made) (mark_in text)) in
+    let e : TokenEdit = record { start = c.count_tokens-start.result; old_stop = c.count_tokens-start.result + c.count_tokens.result; new_stop = c.count_tokens-start.result + c.len-2.result } in
     token_change (edit_of edit) change is front_same back_same _ starts old_stops new_stops
     (edit_is (edit_of edit) change is old_ends old_rises new_rises (c.pieces_as_listed.ensures old) (c.pieces_as_listed.ensures text) recut meets e starts old_stops new_stops)
-    (c.in_ok-marks.ensures ∙ ap (map (mark_in text)) made_is)
-    (λ h. sym old_same ∙ c.in_ok-same.ensures.same.0 h ∙ new_same)
-    (λ h. c.in_ok-same.ensures.same.1 (old_same ∙ h ∙ sym new_same))
+    c.in_ok-marks.ensures c.in_ok-same.ensures.same.0 c.in_ok-same.ensures.same.1
 
 pub returns-clause-shifted : goal.returns-clause-shifted
 returns-clause-shifted c =
@@ -96,7 +92,6 @@ returns-clause-shifted c =
     let front : ℕ = change.kept_front in
     let back : ℕ = change.kept_back in
     let ps : List Piece = pieces_of old in
-    let many : c.len.result ≡ length ps = omega (arith, c.len.ensures, c.args.pieces.now.ends.ok, ap length c.requires.ends, length-map ps piece_end) in
     let old_ends : piece_ends old ≡ ends_of piece_length old = c.one_cut.ensures.only old (piece_ends old) (c.text_in_pieces.ensures.cut old) in
     let old_rises : Rises 0 (piece_ends old) = subst (Rises 0) (sym old_ends) (c.ends_in_order.ensures.rise old) in
     let starts : c.count_tokens-start.result ≡ length (filter is_token (take front ps)) =
@@ -104,7 +99,5 @@ returns-clause-shifted c =
     shifted_told (edit_of edit) change is
     old_rises (c.pieces_as_listed.ensures old) (c.text_in_pieces.ensures.inside old)
     (omega (arith, edit.edit.old_order)) (omega (arith, edit.edit.new_inside, edit.short))
-    _ (returns-clause-change c) c.count_tokens-start.result c.deref-2.result.now c.in_ok-made.made starts
-    (c.deref-2.ensures.value ∙ c.in_ok-replaced.ensures old c.requires.ends c.requires.kinds ∙ ap (λ (n : ℕ). filter is_token (pieces_between ps front (n - back))) many)
-    c.in_ok-made.ensures
+    _ (returns-clause-change c) c.count_tokens-start.result (filter is_token (pieces_between ps front (length ps - back))) (filter is_token (made_pieces change)) starts refl refl
     c.in_ok-same.field-0.shifted c.in_ok-same.ensures.shifted
