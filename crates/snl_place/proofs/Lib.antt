@@ -5,3 +5,4 @@ pub mod CommonEnds
 pub mod EditedEnds
 pub mod Rising
 pub mod Characters
+pub mod Ended

@@ -14,6 +14,9 @@ ghost use Rattle.std.specs.Str.{IsCharBoundary};
 
 use crate::places::{Encoding, Place, offset_in_line, units_in};
 
+// So many lines are tried from a guess on before all of them are halved.
+const LINES_TRIED: usize = 8;
+
 // How many offsets of a list that rises are before an offset.
 pub fn count_before(offsets: &[usize], offset: usize) -> usize
     requires { IsNonDecreasing offsets.now }
@@ -43,11 +46,30 @@ fn line_stop(text: &[u8], ends: &[usize], count: usize) -> usize
     }
 }
 
-// A line ends before an offset.
+// The line of this number, counted from 0, ends before an offset.
 fn is_ended(ends: &[usize], line: usize, offset: usize) -> bool
-    ensures { IsTrue result ↔ ((line < length ends.now) × (slice_index ends.now line < offset)) }
+    requires { IsNonDecreasing ends.now }
+    ensures { IsTrue result ↔ (line < ends_before ends.now offset) }
 {
     line < ends.len() && ends[line] < offset
+}
+
+// The same as `count_before`. It tries `near` and a few lines from there on first, which spares the
+// halving where the answer is one of them.
+fn count_near(ends: &[usize], near: usize, offset: usize) -> usize
+    requires { IsNonDecreasing ends.now }
+    ensures count { result ≡ ends_before ends.now offset }
+    ensures inside { result ≤ length ends.now }
+{
+    if near > 0 && !is_ended(ends, near - 1, offset) {
+        return count_before(ends, offset);
+    }
+    for line in near..near.saturating_add(LINES_TRIED) {
+        if !is_ended(ends, line, offset) {
+            return line;
+        }
+    }
+    count_before(ends, offset)
 }
 
 // What the proofs below need of line ends, and no code: they rise, and are in the text.
@@ -65,8 +87,8 @@ fn lines_begin()
         → line_begin (line_ends text) line ≤ length text }
 {}
 
-/// The place of an offset.
-pub fn place_by(encoding: Encoding, text: &[u8], ends: &[usize], offset: usize) -> Place
+// The place of an offset. `near` is a guess at its line.
+fn place_near(encoding: Encoding, text: &[u8], ends: &[usize], near: usize, offset: usize) -> Place
     requires lines { ends.now ≡ line_ends text.now }
     requires small { length text.now < 2 ^ 32 }
     requires inside { offset ≤ length text.now }
@@ -74,15 +96,25 @@ pub fn place_by(encoding: Encoding, text: &[u8], ends: &[usize], offset: usize) 
 {
     ends_rise();
     lines_begin();
-    let line = count_before(ends, offset);
+    let line = count_near(ends, near, offset);
     let begin = line_begin(ends, line);
     let character = units_in(encoding, &text[begin..offset]);
     Place { line, character }
 }
 
+/// The place of an offset.
+pub fn place_by(encoding: Encoding, text: &[u8], ends: &[usize], offset: usize) -> Place
+    requires lines { ends.now ≡ line_ends text.now }
+    requires small { length text.now < 2 ^ 32 }
+    requires inside { offset ≤ length text.now }
+    ensures { result ≡ place_in encoding (take offset text.now) }
+{
+    place_near(encoding, text, ends, 0, offset)
+}
+
 /// The place of an offset, from that of another one: it counts on from there where the offset is
-/// after that one on its line, and looks the line up where it isn't. So offsets that rise are
-/// counted once each, also in a text of one long line.
+/// after that one on its line, and looks the line up, from the next one on, where it isn't. So
+/// offsets that rise are counted once each, also in a text of one long line.
 pub fn place_from(
     encoding: Encoding,
     text: &[u8],
@@ -97,9 +129,10 @@ pub fn place_from(
     requires place { earlier_place ≡ place_in encoding (take earlier text.now) }
     ensures { result ≡ place_in encoding (take offset text.now) }
 {
+    ends_rise();
     let line = earlier_place.line;
     if offset < earlier || is_ended(ends, line, offset) {
-        return place_by(encoding, text, ends, offset);
+        return place_near(encoding, text, ends, line.saturating_add(1), offset);
     }
     let more = units_in(encoding, &text[earlier..offset]);
     Place {

@@ -1,10 +1,12 @@
-use Rattle.std.proofs.Common.{◌≡◌, ◌≤◌, ◌*◌, ◌-◌, ℕ, List, false, true, sym, subst, arith}
+use Rattle.std.proofs.Common.{◌≡◌, ◌<◌, ◌≤◌, ◌*◌, ◌-◌, ℕ, List, false, true, sym, subst, arith}
 use Rattle.std.proofs.Common.{length, take, drop, get_or, sum_by, length-take}
 use Rattle.std.proofs.lemmas.List.Sums.{sum_by-le}
 use Rattle.snl_lex.specs.LineList.{line_ends}
 use Rattle.snl_place.specs.declared.places.Place.{Place}
 use Rattle.snl_place.specs.Places.{units}
+use Rattle.snl_lex.specs.LineLaws.{below, ends_order}
 use Rattle.snl_place.proofs.ByLines.{went_on}
+use Rattle.snl_place.proofs.Ended.{ended_counts}
 use Rattle.snl_place.proofs.LineEnds.{IsEnded}
 use Rattle.snl_place.proofs.Walks.{few_characters, few_units}
 use Rattle.snl_place.proofs.line_places.place_from.Goals as goal
@@ -32,9 +34,12 @@ pub returns : goal.returns
 returns c =
     let text : List ℕ = c.args.text.now in
     let line : ℕ = c.args.earlier_place.line in
-    let P : List ℕ → Type 0 = λ (es : List ℕ). IsEnded es line c.args.offset in
-    let none : P (line_ends text) → ⊥ = λ h.
-    let no : false ≡ true = c.if-is_ended.ensures.1 (subst P (sym c.requires.lines) h) in
+    let offset : ℕ = c.args.offset in
+    let none : IsEnded (line_ends text) line offset → ⊥ = λ h.
+    let counted = ended_counts (line_ends text) line offset (ends_order text) h.0 h.1 in
+    let counted_here : line < below offset c.args.ends.now =
+    subst (λ (es : List ℕ). line < below offset es) (sym c.requires.lines) counted in
+    let no : false ≡ true = c.if-is_ended.ensures.1 counted_here in
     cc in
     went_on c.args.encoding text c.args.earlier c.args.offset c.args.earlier_place
     c.units_in-more.result c.if-offset-earlier.false c.requires.place none c.units_in-more.ensures
