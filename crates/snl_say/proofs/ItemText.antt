@@ -1,11 +1,12 @@
 -- An item is written by its pieces.
 use Rattle.std.specs.Prelude.{codes}
-use Rattle.std.proofs.Common.{◌≡◌, ◌∙◌, ℕ, Bool, List, [], ◌∷◌, ◌++◌, ap, sym, append-nil, append_assoc}
+use Rattle.std.proofs.Common.{◌≡◌, ◌∙◌, ◌<◌, ℕ, Bool, List, [], ◌∷◌, ◌++◌, length}
+use Rattle.std.proofs.Common.{ap, arith, sym, append-nil, append_assoc}
 use Rattle.std.proofs.lemmas.List.Concat.{flat_map-append}
 use Rattle.json.specs.Print.{escape, escape_byte}
 use Rattle.serde_json.specs.Written.{comma_if}
 use Rattle.snl_script.specs.Parts.{quoted as in_quotes}
-use Rattle.snl_say.specs.Items.{item_end}
+use Rattle.snl_say.specs.Items.{item_end, item_front}
 use Rattle.snl_say.specs.Places.{range_text}
 use Rattle.snl_say.specs.Publish.{found_of, item_text, severity_text}
 use Rattle.snl_say.specs.declared.diagnostics.Shown.{Shown}
@@ -48,11 +49,21 @@ item_pieces begin s =
     ∙ sym (append_assoc begin (codes "{\"code\":\"") (code ++ (codes "\",\"message\":\""
     ++ (escape s.message.now ++ (escape quotes ++ end)))))
 
-pub item_put : (later : Bool) (s : Shown) (begin out o1 o2 o3 o4 o5 new : List ℕ) →
-    begin ≡ comma_if later ++ codes "{\"code\":\"" → o1 ≡ out ++ begin →
-    o2 ≡ o1 ++ escape s.code.now → o3 ≡ o2 ++ codes "\",\"message\":\"" →
-    o4 ≡ o3 ++ escape s.message.now → o5 ≡ o4 ++ escape (in_quotes s.quoted.now) →
-    new ≡ o5 ++ item_end (found_of s) →
+-- what is quoted is written between its marks
+pub quotation_then : (bytes after : List ℕ) → 0 < length bytes →
+    escape (in_quotes bytes) ++ after ≡ codes " '" ++ (escape bytes ++ (codes "'" ++ after))
+unfolding escape_byte
+quotation_then [] after some = absurd (omega (arith, some))
+quotation_then (b ∷ bytes) after some =
+    let marked : List ℕ = escape ((b ∷ bytes) ++ (codes "'" ++ [])) in
+    let split : marked ≡ escape (b ∷ bytes) ++ codes "'" =
+    flat_map-append escape_byte (b ∷ bytes) (codes "'" ++ []) in
+    ap (λ (l : List ℕ). codes " '" ++ (l ++ after)) split
+    ∙ ap (λ (l : List ℕ). codes " '" ++ l) (append_assoc (escape (b ∷ bytes)) (codes "'") after)
+
+pub item_put : (later : Bool) (s : Shown) (out o1 o2 new : List ℕ) →
+    o1 ≡ out ++ item_front later s.code.now → o2 ≡ o1 ++ escape s.message.now →
+    new ≡ o2 ++ (escape (in_quotes s.quoted.now) ++ item_end (found_of s)) →
     new ≡ out ++ (comma_if later ++ item_text (found_of s))
-item_put later s begin out o1 o2 o3 o4 o5 new eb e1 e2 e3 e4 e5 en =
-    en ∙ rw (e5, e4, e3, e2, e1, eb, item_pieces (comma_if later) s) (simp append_assoc)
+item_put later s out o1 o2 new e1 e2 en =
+    en ∙ rw (e2, e1, item_pieces (comma_if later) s) (simp append_assoc)

@@ -3,16 +3,17 @@
 //! that are there.
 //! Knows nothing of texts, and of how places are counted in them.
 
-ghost use Rattle.std.specs.Prelude.{◌≡◌, ◌++◌, ◌∷◌, [], ℕ, List, Option, None, Some, OnOk, codes, flat_map, map};
+ghost use Rattle.std.specs.Prelude.{◌≡◌, ◌+◌, ◌≤◌, ◌++◌, ◌∷◌, [], ℕ, List, Option, None, Some, OnOk, codes, drop, flat_map, length, map};
 ghost use Rattle.json.specs.Print.{escape, quoted};
 ghost use Rattle.serde_json.specs.Written.{comma_if};
 ghost use Rattle.snl_script.specs.Parts.{quoted as in_quotes};
-ghost use Rattle.snl_say.specs.Items.{item_end};
+ghost use Rattle.snl_say.specs.Items.{item_end, item_front};
 ghost use Rattle.snl_say.specs.Publish.{Found, after_comma, found_of, item_text, items_text, publish_head, publish_with, severity_text, version_text};
 
 use crate::before::bytes_before;
 use crate::bytes::{put_all, put_escaped};
 use crate::places::range_before;
+use crate::plain::is_plain;
 use crate::severity::Severity;
 use itoa::Buffer;
 use snl_place::Place;
@@ -40,20 +41,6 @@ fn severity_text(severity: Severity) -> &'static [u8]
     }
 }
 
-/// What a message quotes, in a string of JSON: ` 'BYTES'`, where there are some.
-#[tactic(auto, unfolding(json::specs::Print::escape_byte))]
-fn put_in_quotes(out: &mut Vec<u8>, bytes: &[u8]) -> Result<(), AllocError>
-    ensures { OnOk result (out.new.items ≡ out.old.items ++ escape (in_quotes bytes.now)) }
-{
-    if bytes.is_empty() {
-        return Ok(());
-    }
-    out.extend_from_slice(b" '")?;
-    put_escaped(out, bytes)?;
-    out.extend_from_slice(b"'")?;
-    Ok(())
-}
-
 /// What is before the code of an item: a comma first, where another item is before it.
 fn begin_text(later: bool) -> &'static [u8]
     ensures { result.now ≡ comma_if later ++ codes "{\"code\":\"" }
@@ -65,15 +52,114 @@ fn begin_text(later: bool) -> &'static [u8]
     }
 }
 
-/// The quote after the message of an item, and all that is after it.
-fn put_end(out: &mut Vec<u8>, shown: &Shown<'_>) -> Result<(), AllocError>
-    ensures { OnOk result (out.new.items ≡ out.old.items ++ item_end (found_of shown.now)) }
+/// The same, before the bytes from `end` on.
+fn begin_before(buffer: &mut [u8], end: usize, later: bool) -> usize
+    requires { (10 ≤ end) × (end ≤ length buffer.old) }
+    ensures inside { result ≤ end }
+    ensures written { drop result buffer.new
+        ≡ (comma_if later ++ codes "{\"code\":\"") ++ drop end buffer.old }
 {
+    if later {
+        bytes_before(buffer, end, b",{\"code\":\"")
+    } else {
+        bytes_before(buffer, end, b"{\"code\":\"")
+    }
+}
+
+/// What is before the message of an item whose code may be long or have escapes.
+#[cold]
+#[inline(never)]
+fn put_odd_front(out: &mut Vec<u8>, later: bool, code: &[u8]) -> Result<(), AllocError>
+    ensures { OnOk result (out.new.items ≡ out.old.items ++ item_front later code.now) }
+{
+    out.extend_from_slice(begin_text(later))?;
+    put_escaped(out, code)?;
+    out.extend_from_slice(b"\",\"message\":\"")?;
+    Ok(())
+}
+
+/// What is before the message of an item. Nearly all codes are short and have no escape.
+fn put_front(out: &mut Vec<u8>, later: bool, code: &[u8]) -> Result<(), AllocError>
+    ensures { OnOk result (out.new.items ≡ out.old.items ++ item_front later code.now) }
+{
+    if code.len() > 16 || !is_plain(code) {
+        return put_odd_front(out, later, code);
+    }
+    let mut buffer = [0; 64];
+    let name = bytes_before(&mut buffer, 64, b"\",\"message\":\"");
+    let text = bytes_before(&mut buffer, name, code);
+    let begin = begin_before(&mut buffer, text, later);
+    out.extend_from_slice(&buffer[begin..])
+}
+
+/// The quote after the message of an item, and all that is after it, before the bytes from `end`
+/// on.
+fn end_before(buffer: &mut [u8], end: usize, shown: &Shown<'_>) -> usize
+    requires { (192 ≤ end) × (end ≤ length buffer.old) }
+    ensures begin { result ≤ end }
+    ensures few { end ≤ result + 192 }
+    ensures written { drop result buffer.new
+        ≡ item_end (found_of shown.now) ++ drop end buffer.old }
+{
+    let severity = bytes_before(buffer, end, severity_text(shown.severity));
+    let range = range_before(buffer, severity, shown.start, shown.stop);
+    bytes_before(buffer, range, b"\",\"range\":")
+}
+
+/// The mark after what an item quotes, and all that is after it.
+fn put_marked_end(out: &mut Vec<u8>, shown: &Shown<'_>) -> Result<(), AllocError>
+    ensures { OnOk result (out.new.items ≡ out.old.items
+        ++ (codes "'" ++ item_end (found_of shown.now))) }
+{
+    let mut buffer = [0; 193];
+    let end = end_before(&mut buffer, 193, shown);
+    let mark = bytes_before(&mut buffer, end, b"'");
+    out.extend_from_slice(&buffer[mark..])
+}
+
+/// What an item quotes, which may be long or have escapes, and all that is after it.
+#[cold]
+#[inline(never)]
+fn put_odd_quotation(out: &mut Vec<u8>, shown: &Shown<'_>) -> Result<(), AllocError>
+    ensures { OnOk result (out.new.items ≡ out.old.items
+        ++ (codes " '" ++ (escape shown.now.quoted.now ++ (codes "'"
+        ++ item_end (found_of shown.now))))) }
+{
+    out.extend_from_slice(b" '")?;
+    put_escaped(out, shown.quoted)?;
+    put_marked_end(out, shown)?;
+    Ok(())
+}
+
+/// What an item quotes, and all that is after it. Nearly all that is quoted is short and has no
+/// escape.
+fn put_quotation(out: &mut Vec<u8>, shown: &Shown<'_>) -> Result<(), AllocError>
+    ensures { OnOk result (out.new.items ≡ out.old.items
+        ++ (codes " '" ++ (escape shown.now.quoted.now ++ (codes "'"
+        ++ item_end (found_of shown.now))))) }
+{
+    if shown.quoted.len() > 61 || !is_plain(shown.quoted) {
+        return put_odd_quotation(out, shown);
+    }
+    let mut buffer = [0; 256];
+    let end = end_before(&mut buffer, 256, shown);
+    let mark = bytes_before(&mut buffer, end, b"'");
+    let text = bytes_before(&mut buffer, mark, shown.quoted);
+    let begin = bytes_before(&mut buffer, text, b" '");
+    out.extend_from_slice(&buffer[begin..])
+}
+
+/// All that is after the message of an item: what it quotes, where that is not empty, first.
+fn put_end(out: &mut Vec<u8>, shown: &Shown<'_>) -> Result<(), AllocError>
+    ensures { OnOk result (out.new.items ≡ out.old.items
+        ++ (escape (in_quotes shown.now.quoted.now) ++ item_end (found_of shown.now))) }
+{
+    if !shown.quoted.is_empty() {
+        return put_quotation(out, shown);
+    }
     let mut buffer = [0; 192];
-    let severity = bytes_before(&mut buffer, 192, severity_text(shown.severity));
-    let range = range_before(&mut buffer, severity, shown.start, shown.stop);
-    let name = bytes_before(&mut buffer, range, b"\",\"range\":");
-    out.extend_from_slice(&buffer[name..])
+    let end = end_before(&mut buffer, 192, shown);
+    out.extend_from_slice(&buffer[end..])
 }
 
 /// An item, with a comma before it, where another item is before it.
@@ -81,11 +167,8 @@ fn put_item(out: &mut Vec<u8>, later: bool, shown: &Shown<'_>) -> Result<(), All
     ensures { OnOk result (out.new.items ≡ out.old.items
         ++ (comma_if later ++ item_text (found_of shown.now))) }
 {
-    out.extend_from_slice(begin_text(later))?;
-    put_escaped(out, shown.code)?;
-    out.extend_from_slice(b"\",\"message\":\"")?;
+    put_front(out, later, shown.code)?;
     put_escaped(out, shown.message)?;
-    put_in_quotes(out, shown.quoted)?;
     put_end(out, shown)?;
     Ok(())
 }
