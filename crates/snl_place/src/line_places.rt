@@ -87,16 +87,23 @@ fn lines_begin()
         → line_begin (line_ends text) line ≤ length text }
 {}
 
-// The place of an offset. `near` is a guess at its line.
-fn place_near(encoding: Encoding, text: &[u8], ends: &[usize], near: usize, offset: usize) -> Place
+// The place of an offset, by its line.
+fn place_on_line(
+    encoding: Encoding,
+    text: &[u8],
+    ends: &[usize],
+    line: usize,
+    offset: usize,
+) -> Place
     requires lines { ends.now ≡ line_ends text.now }
     requires small { length text.now < 2 ^ 32 }
     requires inside { offset ≤ length text.now }
+    requires on_line { line ≡ ends_before ends.now offset }
+    requires is_line { line ≤ length ends.now }
     ensures { result ≡ place_in encoding (take offset text.now) }
 {
     ends_rise();
     lines_begin();
-    let line = count_near(ends, near, offset);
     let begin = line_begin(ends, line);
     let character = units_in(encoding, &text[begin..offset]);
     Place { line, character }
@@ -109,7 +116,9 @@ pub fn place_by(encoding: Encoding, text: &[u8], ends: &[usize], offset: usize) 
     requires inside { offset ≤ length text.now }
     ensures { result ≡ place_in encoding (take offset text.now) }
 {
-    place_near(encoding, text, ends, 0, offset)
+    ends_rise();
+    let line = count_before(ends, offset);
+    place_on_line(encoding, text, ends, line, offset)
 }
 
 /// The place of an offset, from that of another one: it counts on from there where the offset is
@@ -132,7 +141,8 @@ pub fn place_from(
     ends_rise();
     let line = earlier_place.line;
     if offset < earlier || is_ended(ends, line, offset) {
-        return place_near(encoding, text, ends, line.saturating_add(1), offset);
+        let line = count_near(ends, line.saturating_add(1), offset);
+        return place_on_line(encoding, text, ends, line, offset);
     }
     let more = units_in(encoding, &text[earlier..offset]);
     Place {
