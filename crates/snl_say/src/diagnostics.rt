@@ -43,26 +43,13 @@ fn severity_text(severity: Severity) -> &'static [u8]
 
 /// What is before the code of an item: a comma first, where another item is before it.
 fn begin_text(later: bool) -> &'static [u8]
-    ensures { result.now ≡ comma_if later ++ codes "{\"code\":\"" }
+    ensures text { result.now ≡ comma_if later ++ codes "{\"code\":\"" }
+    ensures few { length result.now ≤ 10 }
 {
     if later {
         b",{\"code\":\""
     } else {
         b"{\"code\":\""
-    }
-}
-
-/// The same, before the bytes from `end` on.
-fn begin_before(buffer: &mut [u8], end: usize, later: bool) -> usize
-    requires { (10 ≤ end) × (end ≤ length buffer.old) }
-    ensures inside { result ≤ end }
-    ensures written { drop result buffer.new
-        ≡ (comma_if later ++ codes "{\"code\":\"") ++ drop end buffer.old }
-{
-    if later {
-        bytes_before(buffer, end, b",{\"code\":\"")
-    } else {
-        bytes_before(buffer, end, b"{\"code\":\"")
     }
 }
 
@@ -88,7 +75,7 @@ fn put_front(out: &mut Vec<u8>, later: bool, code: &[u8]) -> Result<(), AllocErr
     let mut buffer = [0; 64];
     let name = bytes_before(&mut buffer, 64, b"\",\"message\":\"");
     let text = bytes_before(&mut buffer, name, code);
-    let begin = begin_before(&mut buffer, text, later);
+    let begin = bytes_before(&mut buffer, text, begin_text(later));
     out.extend_from_slice(&buffer[begin..])
 }
 
@@ -138,6 +125,7 @@ fn put_quotation(out: &mut Vec<u8>, shown: &Shown<'_>) -> Result<(), AllocError>
         ++ (codes " '" ++ (escape shown.now.quoted.now ++ (codes "'"
         ++ item_end (found_of shown.now))))) }
 {
+    // Up to 61 bytes and three for the marks are before an end of at most 192.
     if shown.quoted.len() > 61 || !is_plain(shown.quoted) {
         return put_odd_quotation(out, shown);
     }
