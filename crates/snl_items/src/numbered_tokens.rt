@@ -3,12 +3,11 @@
 
 ghost use Rattle.snl_items.specs.OwnTokens.{tokens_between};
 ghost use Rattle.snl_items.specs.Places.{AreAmong, piece_with, pieces_at, token_places};
-ghost use Rattle.snl_lex.specs.PieceList.{is_token_class, listed_pieces};
+ghost use Rattle.snl_lex.specs.PieceList.{listed_pieces};
 ghost use Rattle.snl_lex.specs.Pieces.{is_token};
 ghost use Rattle.snl_cut.specs.Cut.{last_end};
-ghost use Rattle.std.specs.Prelude.{◌≡◌, ◌-◌, ◌^◌, ◌<◌, ◌≤◌, [], IfOk, OnOk, Some, count_by, drop, filter, length, slice_get, take, vec_capacity, vec_len};
+ghost use Rattle.std.specs.Prelude.{◌≡◌, ◌-◌, ◌^◌, ◌<◌, ◌≤◌, [], IfOk, OnOk, Some, drop, filter, length, slice_get, take, vec_capacity, vec_len};
 
-use crate::tokens::count_tokens;
 use snl_cut::OutOfMemory;
 use snl_lex::{Class, Piece, PieceList};
 use std::alloc::Global;
@@ -41,7 +40,7 @@ impl<'a> Model for NumberedTokens<'a> {
 // each.
 fn with_places(mut places: Vec<u32>, kinds: &[Class]) -> Vec<u32>
     requires none { vec_len places ≡ 0 }
-    requires room { count_by is_token_class kinds.now ≤ vec_capacity places }
+    requires room { length kinds.now ≤ vec_capacity places }
     requires few { length kinds.now < 2 ^ 32 }
     ensures { result.items ≡ token_places 0 kinds.now }
 {
@@ -118,12 +117,14 @@ impl<'a> NumberedTokens<'a> {
         ensures { IfOk result (λ l. l ≡ filter is_token (listed_pieces begin pieces.now.ends.items pieces.now.kinds.items)) }
     {
         let kinds = pieces.kinds.as_slice();
-        let places = Vec::with_capacity(alloc, count_tokens(kinds))?;
+        let places = Vec::with_capacity(alloc, kinds.len())?;
+        let mut places = with_places(places, kinds);
+        places.shrink_to_fit();
         Ok(NumberedTokens {
             begin,
             ends: pieces.ends.as_slice(),
             kinds,
-            places: with_places(places, kinds),
+            places,
         })
     }
 

@@ -1,17 +1,12 @@
-use Rattle.std.proofs.Common.{◌≡◌, ℕ, ◌+◌, ◌++◌, Bool, true, false, cond, List, [], ◌∷◌, take, get_or, vec_len, rules, sym, ap, ◌∙◌, arith}
+use Rattle.std.proofs.Common.{◌≡◌, ℕ, ◌+◌, ◌++◌, Bool, true, false, cond, List, [], ◌∷◌, take, get_or, rules, sym, ap, ◌∙◌, arith}
 use Rattle.std.proofs.lemmas.List.{append-nil}
 use Rattle.snl_lex.specs.declared.piece.Class.{Class}
 use Rattle.snl_lex.specs.declared.piece.Class.TheVariants.{White}
 use Rattle.snl_lex.specs.PieceList.{is_token_class}
 use Rattle.snl_items.specs.Places.{token_places}
-use Rattle.snl_items.proofs.Listed.{counted_less, counted_other, counted_token}
 use Rattle.snl_items.proofs.Places.{place_more}
 use Rattle.snl_items.proofs.numbered_tokens.with_places.Goals as goal
 use Rattle.snl_items.proofs.numbered_tokens.with_places.Goals.{then-is_token, else-is_token}
-
-pub push_reserved-requires : goal.push_reserved-requires
-push_reserved-requires c =
-    omega (arith, c.loop-number.invariant.few, c.loop-number.invariant.capacity, c.requires.room, counted_less c.args.kinds.now c.loop-number.number White c.loop-number-test.true (sym c.is_token.ensures ∙ c.if-is_token.true))
 
 pub loop-number-preserved : goal.loop-number-preserved
 loop-number-preserved c =
@@ -30,10 +25,6 @@ loop-number-preserved c =
                 ap (λ v. v.items) w.places-is ∙ c.loop-number.invariant.places ∙ sym (append-nil so_far)
                 ∙ next false (sym w.if-is_token.false ∙ c.is_token.ensures)
           ];
-      few =
-          elim c.if-is_token.branch [
-            | then-is_token w ↦ omega (arith, ap vec_len w.places-is, w.push_reserved.ensures.len, c.loop-number.invariant.few, counted_token kinds n White c.loop-number-test.true (sym c.is_token.ensures ∙ w.if-is_token.true))
-            | else-is_token w ↦ omega (arith, ap vec_len w.places-is, c.loop-number.invariant.few, counted_other kinds n White c.loop-number-test.true (sym c.is_token.ensures ∙ w.if-is_token.false))
-          ];
+      few = search rules;
       capacity = search rules;
     }
