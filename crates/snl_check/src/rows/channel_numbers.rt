@@ -78,6 +78,15 @@ impl ChannelNumbers {
         }
     }
 
+    // The same, with room for so many keys.
+    fn with_room(alloc: Global, room: usize) -> Result<ChannelNumbers, OutOfMemory>
+        ensures { IfOk result (λ numbers. numbers ≡ []) }
+    {
+        Ok(ChannelNumbers {
+            held: IndexMap::with_capacity(alloc, room)?,
+        })
+    }
+
     /// The number of the first channel with the key.
     pub(crate) fn number(&self, key: ElementKey) -> Option<usize>
         ensures { result ≡ lookup (same_key key) self.now }
@@ -143,6 +152,14 @@ fn element_at(rows: &[ChannelRow], number: usize) -> Option<u64>
     rows.get(number)?.element
 }
 
+// How many of these channels are those of elements. Each adds two keys at most.
+fn element_count(channels: &[AssignedChannel]) -> usize {
+    channels
+        .iter()
+        .filter(|channel| channel.element.is_some())
+        .count()
+}
+
 /// The numbers of these channels.
 pub(crate) fn numbers_of(
     alloc: Global,
@@ -150,7 +167,8 @@ pub(crate) fn numbers_of(
 ) -> Result<ChannelNumbers, OutOfMemory>
     ensures { IfOk result (λ numbers. Numbered numbers (map assigned channels.now)) }
 {
-    let mut numbers = ChannelNumbers::new(alloc);
+    let room = element_count(channels).saturating_mul(2);
+    let mut numbers = ChannelNumbers::with_room(alloc, room)?;
     for (number, channel) in channels.iter().enumerate() {
         numbers.add_channel(channel.variable, channel.element, number)?;
     }

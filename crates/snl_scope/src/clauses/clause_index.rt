@@ -215,15 +215,19 @@ fn add_element(
 }
 
 impl ClauseIndex {
-    /// No claims.
-    pub(crate) fn new(alloc: Global) -> ClauseIndex
-        ensures { (m : Claim) → claim_in result m ≡ None }
+    /// No claims, with room for those on so many variables, whose numbers are below another one.
+    pub(crate) fn with_room(
+        alloc: Global,
+        claimed: usize,
+        below: usize,
+    ) -> Result<ClauseIndex, OutOfMemory>
+        ensures { IfOk result (λ index. (m : Claim) → claim_in index m ≡ None) }
     {
-        ClauseIndex {
-            places: Vec::new(alloc),
-            claimed: Vec::new(alloc),
+        Ok(ClauseIndex {
+            places: Vec::with_capacity(alloc, below)?,
+            claimed: Vec::with_capacity(alloc, claimed)?,
             elements: IndexMap::new(alloc),
-        }
+        })
     }
 
     // What is claimed of a variable for a purpose, but for its elements.

@@ -258,6 +258,11 @@ fn judge_all(
     Ok(())
 }
 
+// How many variables are assigned. A sound clause claims one of them.
+fn assigned_count(assigned: &[Option<Assigned>]) -> usize {
+    assigned.iter().flatten().count()
+}
+
 /// Judges all clauses; what is found at them is added.
 pub(crate) fn judged_clauses(
     alloc: Global,
@@ -274,9 +279,10 @@ pub(crate) fn judged_clauses(
     ensures found { OnOk result (faults.new.items ≡ faults.old.items
         ++ found_after (entries scopes.now) (map linked clauses.now) [] (map linked clauses.now)) }
 {
+    let claimed = assigned_count(assigned);
     let mut judged = JudgedClauses {
         links: Vec::with_capacity(alloc, clauses.len())?,
-        claims: ClauseIndex::new(alloc),
+        claims: ClauseIndex::with_room(alloc, claimed, assigned.len())?,
     };
     judge_all(
         scopes,

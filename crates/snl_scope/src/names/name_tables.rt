@@ -134,18 +134,14 @@ fn state_name(head: FlatOutline) -> Option<usize>
     }
 }
 
-// For so many names there is room at once. All symbols may have one name.
-const FEW_NAMES: usize = 1024;
-
 impl NameTables {
-    /// With room for so many symbols. How many different names there are among them isn't known.
+    /// With room for so many symbols.
     pub(crate) fn new(alloc: Global, room: usize) -> Result<NameTables, OutOfMemory>
         ensures { IfOk result (λ t. (names : List (List ℕ)) → TablesFollow names t []) }
     {
-        let few = room.min(FEW_NAMES);
         let symbols = Vec::with_capacity(alloc, room)?;
         Ok(NameTables {
-            first: FirstNumbers::with_room(alloc, few)?,
+            first: FirstNumbers::with_room(alloc, room)?,
             symbols,
             faults: Vec::new(alloc),
         })
