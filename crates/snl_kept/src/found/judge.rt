@@ -107,8 +107,9 @@ fn told_by(
         ends,
         ..
     } = *cut;
-    let tables = tables_of(alloc, text, lines, tokens, ends, parts, links, checks)?;
+    // Both look at each item: the second one finds them in the cache.
     let warns = shows_warnings(alloc, text, tokens, parts, links)?;
+    let tables = tables_of(alloc, text, lines, tokens, ends, parts, links, checks)?;
     let shown = shown_by(alloc, cut, parts, faults, checks, &tables, warns)?;
     Ok(Told {
         shown,

@@ -179,7 +179,8 @@ pub fn recheck(
     ensures ticks { IfOk result (λ made. work.new ≡ after_ticks work.old (length made.items)) }
 {
     let clean = clean_check(alloc)?;
-    let mut made = Vec::new(alloc);
+    let fresh = both.kept.stop.saturating_sub(both.kept.front);
+    let mut made = Vec::with_capacity(alloc, fresh)?;
     let mut own = Vec::new(alloc);
     for (item, part) in parts.iter().enumerate() {
         let check = check_anew(alloc, text, tokens, part, both, item, &mut own, work)?;
