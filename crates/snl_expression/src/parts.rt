@@ -15,17 +15,30 @@ pub fn single<T: Drop>(alloc: Global, item: T) -> Result<Items<T>, AllocError>
     Ok(Items::from_vec(items))
 }
 
-/// The elements of a list, and one more. Most lists have one element, so the first one gets room
-/// for itself alone.
+// A list of two elements, with room for no more.
+fn two<T: Drop>(alloc: Global, first: T, second: T) -> Result<Items<T>, AllocError>
+    ensures { IfOk result (λ all. all ≡ first ∷ second ∷ []) }
+{
+    let mut items = Vec::with_capacity(alloc, 2)?;
+    items.push(first)?;
+    items.push(second)?;
+    Ok(Items::from_vec(items))
+}
+
+/// The elements of a list, and one more. Most lists have one element or two, so these get room for
+/// themselves alone.
 pub fn with<T: Drop>(alloc: Global, found: Items<T>, item: T) -> Result<Items<T>, AllocError>
     ensures { IfOk result (λ all. all ≡ found ++ item ∷ []) }
 {
-    if found.is_empty() {
-        return single(alloc, item);
-    }
     let mut found = found;
-    found.push(item)?;
-    Ok(found)
+    if found.len() > 1 {
+        found.push(item)?;
+        return Ok(found);
+    }
+    match found.pop() {
+        Some(first) => two(alloc, first, item),
+        None => single(alloc, item),
+    }
 }
 
 /// The elements of a list, with a last one if there is one, and a value that comes after them.
