@@ -3,18 +3,20 @@
 //! in memory once.
 #![tactic(auto)]
 
-ghost use Rattle.std.specs.Prelude.{◌≡◌, ◌^◌, ◌<◌, ◌≤◌, [], IfOk, length, vec_capacity};
+ghost use Rattle.std.specs.Prelude.{◌≡◌, ◌^◌, ◌<◌, ◌≤◌, [], IfOk, length, vec_capacity, vec_len};
+ghost use Rattle.snl_cut.specs.Cut.{after_ticks};
 ghost use Rattle.snl_items.specs.Fresh.{fresh_pieces_of};
 ghost use Rattle.snl_lex.specs.Edit.{Edit, edit_of, splice};
 ghost use Rattle.snl_kept.specs.Cost.{IsCost};
 ghost use Rattle.snl_kept.specs.Diagnostics.{diagnostics_of};
-ghost use Rattle.snl_kept.specs.Kept.{HasRoomForItems, IsKept};
-ghost use Rattle.snl_kept.specs.Planned.{IsBegun, IsWholePlan};
+ghost use Rattle.snl_kept.specs.Kept.{HasRoomForItems, IsKept, IsListed};
+ghost use Rattle.snl_kept.specs.Planned.{IsBegun, IsChanged, IsWholePlan};
 ghost use Rattle.snl_lex.specs.LineList.{IsLineList};
 
 use crate::editing::Editing;
 use crate::found::diagnose::{make_room, put_on_lines};
 use crate::kept::Kept;
+use crate::lists::Lists;
 use crate::plan::{Changes, WholePlan};
 use crate::ways::changes::changes_of;
 use crate::ways::whole::whole_plan::whole_among_all;
@@ -23,6 +25,24 @@ use snl_cut::{Count, OutOfMemory};
 use snl_items::pieces_are_fresh;
 use snl_lex::{LineList, TextEdit};
 use std::alloc::Global;
+
+// What an edit makes of the parts of a text. The lists of a text that is opened are kept as they
+// were made: so the room that they have for more, which may be as much again, is given back.
+fn opened_changes(
+    alloc: Global,
+    lists: &Lists,
+    edit: &TextEdit,
+    work: &mut Count,
+) -> Result<Changes, OutOfMemory>
+    requires lists { IsListed edit.now.old.now lists.now }
+    ensures changes { IfOk result (IsChanged (edit_of edit.now)) }
+    ensures ticks { IfOk result (λ c. work.new ≡ after_ticks work.old (vec_len c.pieces.list.ends)) }
+{
+    let mut changes = changes_of(alloc, lists, edit, work)?;
+    changes.pieces.list.ends.shrink_to_fit();
+    changes.pieces.list.kinds.shrink_to_fit();
+    Ok(changes)
+}
 
 impl Kept {
     // What an edit of the empty text makes, with room for what is made of its items.
@@ -88,7 +108,7 @@ impl Kept {
         pieces_are_fresh();
         let alloc = *self.found.allocator();
         let mut lexed = Count::new();
-        let changes = changes_of(alloc, &self.lists, edit, &mut lexed)?;
+        let changes = opened_changes(alloc, &self.lists, edit, &mut lexed)?;
         let lines = self.lists.lines.after(alloc, edit, &changes.pieces)?;
         let lexed = lexed.ticks();
         let plan = self.planned_whole(edit, &changes, &lines, lexed)?;

@@ -79,6 +79,8 @@ pub fn read_whole<R: Read>(
     let mut bytes = Vec::new(alloc);
     'reads: while bytes.len() <= most {
         if !read_more(&mut bytes, most, file)? {
+            // The list grew by doubling: room for as much again may be left.
+            bytes.shrink_to_fit();
             return Ok(bytes);
         }
     }
