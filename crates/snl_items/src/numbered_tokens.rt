@@ -118,13 +118,11 @@ impl<'a> NumberedTokens<'a> {
     {
         let kinds = pieces.kinds.as_slice();
         let places = Vec::with_capacity(alloc, kinds.len())?;
-        let mut places = with_places(places, kinds);
-        places.shrink_to_fit();
         Ok(NumberedTokens {
             begin,
             ends: pieces.ends.as_slice(),
             kinds,
-            places,
+            places: with_places(places, kinds),
         })
     }
 
