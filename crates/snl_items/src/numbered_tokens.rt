@@ -126,6 +126,13 @@ impl<'a> NumberedTokens<'a> {
         })
     }
 
+    /// Gives back the room for more.
+    pub(crate) fn give_back_room(&mut self)
+        ensures { self.new ≡ self.old }
+    {
+        self.places.shrink_to_fit();
+    }
+
     pub(crate) fn len(&self) -> usize
         ensures { result ≡ length self.now }
     {

@@ -70,6 +70,15 @@ impl<'a> TokenList<'a> {
         })
     }
 
+    /// Gives back the room for more: tokens among pieces have room for as many as there are pieces.
+    pub fn give_back_room(&mut self)
+        ensures { self.new ≡ self.old }
+    {
+        if let Form::Numbered(tokens) = &mut self.form {
+            tokens.give_back_room();
+        }
+    }
+
     pub fn len(&self) -> usize
         ensures { result ≡ length self.now }
     {

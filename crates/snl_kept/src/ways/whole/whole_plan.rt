@@ -111,7 +111,8 @@ fn tokens_among<'a>(
     Ok(tokens)
 }
 
-// The tokens of the new text among the pieces that an edit makes, if these are all.
+// The tokens of the new text among the pieces that an edit makes, if these are all. The text is
+// nearly always one that is opened, of which much is to be made yet: so no room is kept.
 fn tokens_made<'a>(alloc: Global, editing: &Editing<'a, '_>) -> Result<TokenList<'a>, OutOfMemory>
     requires editing { IsUnderWay editing.now }
     requires all { made_pieces editing.now.changes.now.pieces ≡ pieces_of (text_in editing.now) }
@@ -119,7 +120,8 @@ fn tokens_made<'a>(alloc: Global, editing: &Editing<'a, '_>) -> Result<TokenList
 {
     few_pieces();
     let pieces = &editing.changes.pieces;
-    let tokens = TokenList::among(alloc, pieces.made_from, &pieces.list)?;
+    let mut tokens = TokenList::among(alloc, pieces.made_from, &pieces.list)?;
+    tokens.give_back_room();
     Ok(tokens)
 }
 

@@ -27,4 +27,4 @@ among-requires-clause-few c =
     )
 
 pub returns : goal.returns
-returns c = c.in_ok-tokens.ensures ∙ ap (filter is_token) c.requires.all
+returns c = c.give_back_room.ensures ∙ c.in_ok-tokens.ensures ∙ ap (filter is_token) c.requires.all
