@@ -29,7 +29,7 @@ abbrev pub placed : PlacedClause → ItemClause
 placed p = record { item = p.item; clause = p.clause.now }
 
 abbrev pub resolved : ResolvedClause → ItemClause × ClauseLink
-resolved t = (record { item = t.item; clause = t.clause.now }, t.link)
+resolved t = (record { item = t.item; clause = t.clause.now }, t.link.now)
 
 -- The clauses are those of the program's items, with what links say of each.
 pub record IsRowSource (l : RowSource) : Type 0 where

@@ -26,7 +26,7 @@ struct PlacedClause<'a> {
 pub(crate) struct ResolvedClause<'a> {
     pub item: usize,
     pub clause: &'a Clause,
-    pub link: ClauseLink,
+    pub link: &'a ClauseLink,
 }
 
 // Adds the clauses among the members of a state.
@@ -89,7 +89,7 @@ fn item_clauses<'a>(
 /// The clauses of all items, in the order of the text, each with what links say of it.
 pub(crate) fn resolved_clauses<'a>(
     program: &TextItems<'a>,
-    links: &Links,
+    links: &'a Links,
 ) -> Result<Vec<ResolvedClause<'a>>, OutOfMemory>
     requires { AreTextItems program.now }
     ensures { IfOk result (λ clauses. map resolved clauses.items
@@ -103,7 +103,7 @@ pub(crate) fn resolved_clauses<'a>(
             clauses.push(ResolvedClause {
                 item: placed.item,
                 clause: placed.clause,
-                link: links[number],
+                link: &links[number],
             })?;
         }
     }

@@ -44,7 +44,7 @@ fn rows_of(
     ensures { IfOk result (λ t. t ≡ over row_source.now tables_by) }
 {
     let channels = assigned_channels(row_source)?;
-    let tables = rows_by_channels(row_source, lines, checked, &channels)?;
+    let tables = rows_by_channels(row_source, lines, checked, channels)?;
     Ok(tables)
 }
 
@@ -53,16 +53,16 @@ fn rows_by_channels(
     row_source: &RowSource,
     lines: &LineList,
     checked: &[Option<&Checked>],
-    channels: &[AssignedChannel],
+    channels: Vec<AssignedChannel>,
 ) -> Result<Tables, OutOfMemory>
     requires linked { IsLinked row_source.now }
     requires lines { IsLineList row_source.now.program.text.now lines.now }
     requires checked { map told_seen checked.now
         ≡ map (told_in_item row_source.now.program.text.now) (items_in row_source.now.program) }
-    requires channels { map assigned channels.now ≡ over row_source.now assigned_channels }
+    requires channels { map assigned channels.items ≡ over row_source.now assigned_channels }
     ensures { IfOk result (λ t. t ≡ over row_source.now tables_by) }
 {
-    let numbers = numbers_of(row_source.program.alloc, channels)?;
+    let numbers = numbers_of(row_source.program.alloc, &channels)?;
     let state_source = StateSource {
         row_source: *row_source,
         lines,
@@ -84,30 +84,32 @@ fn then_sets<T: Drop>(state_source: &StateSource, held: T) -> Result<(T, Vec<Set
     Ok((held, sets))
 }
 
-// The rows of all tables, by what those of state sets are made from.
+// The rows of all tables, by what those of state sets are made from. The list of channels is let go
+// once their rows are made.
 fn rows_by_state_source(
     state_source: &StateSource,
-    channels: &[AssignedChannel],
+    channels: Vec<AssignedChannel>,
 ) -> Result<Tables, OutOfMemory>
     requires state_source { IsStateSource state_source.now }
-    requires channels { map assigned channels.now
+    requires channels { map assigned channels.items
         ≡ over state_source.now.row_source assigned_channels }
     ensures { IfOk result (λ t. t ≡ over state_source.now.row_source tables_by) }
 {
     let row_source = &state_source.row_source;
     let alloc = row_source.program.alloc;
-    let variables = variables(alloc, row_source.links.declarations(), channels)?;
+    let variables = variables(alloc, row_source.links.declarations(), &channels)?;
     let program = row_source.program.name();
     let options = program_options(row_source)?;
     let flags = flag_rows(row_source)?;
-    let channels = channel_rows(row_source, channels)?;
-    let held = (variables, options, flags, channels);
-    let ((variables, options, flags, channels), sets) = then_sets(state_source, held)?;
+    let rows = channel_rows(row_source, &channels)?;
+    drop(channels);
+    let held = (variables, options, flags, rows);
+    let ((variables, options, flags, rows), sets) = then_sets(state_source, held)?;
     Ok(Tables {
         program,
         options: Items::from_vec(options),
         flags: Rows::from_vec(flags),
-        channels: Rows::from_vec(channels),
+        channels: Rows::from_vec(rows),
         variables: Items::from_vec(variables),
         sets: Rows::from_vec(sets),
     })
