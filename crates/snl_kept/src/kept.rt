@@ -71,7 +71,6 @@ fn judge_nothing(alloc: Global, lines: &LineList) -> Result<(Links, Judgement), 
         lines,
         tokens: &tokens,
         ends: &[],
-        entries: &[],
     };
     let links = link(alloc, &[])?;
     let judgement = judge(alloc, &cut, &[], &links, links.faults(), &[])?;

@@ -11,7 +11,7 @@ ghost use Rattle.snl_lex.specs.LineList.{IsLineList};
 ghost use Rattle.snl_lex.specs.PieceList.{spelled};
 ghost use Rattle.snl_lex.specs.Pieces.{LiesIn, tokens_of};
 ghost use Rattle.snl_grammar.specs.Outcome.{BlamesWithin};
-ghost use Rattle.snl_kept.specs.Entries.{entries_of, entry_by};
+ghost use Rattle.snl_kept.specs.Entries.{entry_by};
 ghost use Rattle.snl_kept.specs.Faults.{at_token, fault_at, faults_of};
 ghost use Rattle.snl_kept.specs.Parts.{EndsWithin, IsPart, item_of_part, tokens_of_part};
 ghost use Rattle.snl_kept.specs.Program.{program_item};
@@ -27,19 +27,16 @@ use snl_lex::{LineList, Piece};
 use snl_scope::same_spelling_same_summary;
 use std::alloc::Global;
 
-/// A text as it is cut: its lines, its tokens, where its items end among these, and what is kept of
-/// each item.
+/// A text as it is cut: its lines, its tokens, and where its items end among these.
 #[derive(Clone, Copy)]
 pub struct CutText<'a, 't> {
     pub text: &'a [u8],
     pub lines: &'a LineList,
     pub tokens: &'a TokenList<'t>,
     pub ends: &'a [u32],
-    pub entries: &'a [&'a Shared<Entry>],
     ghost lines_are: { IsLineList text.now lines.now },
     ghost tokens_are: { tokens.now ≡ tokens_of text.now },
     ghost ends_are: { ends.now ≡ item_ends text.now },
-    ghost entries_are: { map (λ e. e.now) entries.now ≡ entries_of text.now },
 }
 
 /// An item of a text: which of the text's tokens are its own, by their numbers, and what is kept of

@@ -7,6 +7,7 @@ ghost use Rattle.snl_cut.specs.Cut.{after_ticks, members};
 ghost use Rattle.snl_lex.specs.Pieces.{tokens_of};
 ghost use Rattle.snl_scope.specs.SameMeanings.{AreBoth};
 ghost use Rattle.snl_kept.specs.Diagnostics.{shown};
+ghost use Rattle.snl_kept.specs.Entries.{entries_of};
 ghost use Rattle.snl_kept.specs.Editing.{AreEntriesIn, IsUnderWay, edit_in, items_in, old_in, text_in};
 ghost use Rattle.snl_kept.specs.NewChecks.{AreChecksMade, kept_of, nones};
 ghost use Rattle.snl_kept.specs.NewLinks.{AreLinks, links_now};
@@ -208,22 +209,26 @@ fn retell_parts(
     Ok(Retold { told, kept })
 }
 
-// The same of the new text as it is cut.
+// The same of the new text as it is cut, and what is kept of each item. That list is let go once the
+// items are listed with it.
 fn retell_cut(
     alloc: Global,
     editing: &Editing,
     cut: &CutText,
+    entries: Vec<&Shared<Entry>>,
     made: &[Shared<Entry>],
     work: &mut Count,
 ) -> Result<Retold, OutOfMemory>
     requires editing { IsUnderWay editing.now }
     requires text { cut.now.text.now ≡ text_in editing.now }
+    requires entries { map (λ e. e.now) entries.items ≡ entries_of cut.now.text.now }
     requires made { AreEntriesIn editing.now made.now }
     ensures told { IfOk result (IsRetold editing.now (shown (text_in editing.now))) }
     ensures ticks { IfOk result (λ r. work.new ≡ after_ticks work.old (length r.kept.checks.made.items)) }
 {
     items_end_in_order();
-    let parts = parts_along(alloc, cut.text, cut.tokens, cut.ends, cut.entries)?;
+    let parts = parts_along(alloc, cut.text, cut.tokens, cut.ends, entries.as_slice())?;
+    drop(entries);
     retell_parts(alloc, editing, cut, &parts, made, work)
 }
 
@@ -254,9 +259,8 @@ fn retell(
         lines: editing.lines,
         tokens,
         ends: &ends,
-        entries: &entries,
     };
-    retell_cut(alloc, editing, &cut, made, work)
+    retell_cut(alloc, editing, &cut, entries, made, work)
 }
 
 /// What the new text says, by its tokens and what is kept of the fresh items. What is shown is in
