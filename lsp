@@ -43,8 +43,9 @@ if [ "${1-}" = --build ]; then
     . "$parts/build.sh" && bring_up_to_date
     say "built: $(realpath "$here") is the command for an editor"
 elif [ -x "$program" ]; then
-    # In large pages memory is touched and read faster, where the system has them.
-    export GLIBC_TUNABLES=${GLIBC_TUNABLES-glibc.malloc.hugetlb=1}
+    # In large pages memory is touched and read faster, where the system has them. Without lists of
+    # small freed blocks they are joined when they are freed, not all at once while a key waits.
+    export GLIBC_TUNABLES=${GLIBC_TUNABLES-glibc.malloc.hugetlb=1:glibc.malloc.mxfast=0}
     exec "$program"
 else
     fail "the server is not built: ./lsp --build proves and builds it"

@@ -8,7 +8,10 @@ use Rattle.snl_lex.specs.declared.piece.Piece.{Piece}
 use Rattle.snl_grammar.specs.declared.tree.item.Item.{Item}
 use Rattle.std.specs.Option.{option_copied}
 use Rattle.std.proofs.lemmas.List.{drop_all, length-map}
-use Rattle.std.proofs.lemmas.Option.{slice_get-map, slice_get_past, slice_get_read}
+use Rattle.std.proofs.lemmas.Option.{slice_get-get_or, slice_get-map, slice_get_past, slice_get_read}
+use Rattle.snl_scope.specs.declared.summaries.summary.ItemKind.{ItemKind}
+use Rattle.snl_scope.specs.declared.summaries.summary.ItemKind.TheVariants as kinds
+use Rattle.snl_scope.specs.Summaries.{kind_of}
 use Rattle.snl_check.specs.declared.rows.text_items.TextItems.{TextItems}
 use denote.Bor.{Bor}
 use Rattle.snl_check.specs.Collected.{AreTextItems, items_in}
@@ -52,7 +55,7 @@ count_items tokens from (e ∷ ends) (t ∷ trees) same = ap suc (count_items to
 
 -- there are as many trees as ends
 trees_count : (p : TextItems) → AreTextItems p → length (map option_copied p.trees.now) ≡ length p.ends.now
-trees_count p h = simp length-map h.each
+trees_count p h = simp length-map h.cut.each
 
 -- the tokens of an item are those between its ends, and there are none after the last one
 pub own_at : (p : TextItems) (i : ℕ) → AreTextItems p → i < length p.ends.now →
@@ -71,6 +74,22 @@ pub tree_past : (p : TextItems) (i : ℕ) → AreTextItems p → length p.trees.
 tree_past p i h past =
     let trees = p.trees.now in
     sym (tree_at p.tokens.now 0 p.ends.now (map option_copied trees) i (trees_count p h) ∙ ap (option_and_then (λ t. t)) (slice_get-map option_copied trees i ∙ ap (option_map option_copied) (slice_get_past trees i past)))
+
+-- what an item is, by its number
+by_kind : (o : Option (Option Item)) (kind : ItemKind) → option_map kind_of o ≡ Some kind → kind ≡ kind_of (option_and_then (λ t. t) o)
+by_kind None kind h = absurd cc
+by_kind (Some tree) kind h = cc
+
+pub kind_here : (p : TextItems) (i : ℕ) → AreTextItems p → i < length p.kinds.now → get_or p.kinds.now i kinds.Faulty ≡ kind_of (tree_in (items_in p) i)
+kind_here p i h lt =
+    let trees = map option_copied p.trees.now in
+    by_kind (slice_get trees i) (get_or p.kinds.now i kinds.Faulty) (sym (slice_get-map kind_of trees i) ∙ ap (λ l. slice_get l i) (sym h.kinds) ∙ slice_get-get_or p.kinds.now i kinds.Faulty lt)
+    ∙ ap kind_of (sym (tree_at p.tokens.now 0 p.ends.now trees i (trees_count p h)))
+
+pub kind_past : (p : TextItems) (i : ℕ) → AreTextItems p → length p.kinds.now ≤ i → kinds.Faulty ≡ kind_of (tree_in (items_in p) i)
+kind_past p i h past =
+    let count : length p.kinds.now ≡ length p.trees.now = ap length h.kinds ∙ simp length-map refl in
+    ap kind_of (tree_past p i h (omega (arith, count, past)))
 
 pub count_in : (p : TextItems) → AreTextItems p → length (items_in p) ≡ length p.trees.now
 count_in p h = count_items p.tokens.now 0 p.ends.now (map option_copied p.trees.now) (trees_count p h) ∙ simp length-map refl
@@ -91,10 +110,10 @@ start_is ends (suc i) some =
     ap (λ n. get_or ends n 0) same
 
 pub end_before : (p : TextItems) (i : ℕ) → AreTextItems p → 0 < i → i < length p.ends.now → get_or p.ends.now (i - 1) 0 ≤ get_or p.ends.now i 0
-end_before p i h some lt = omega (arith, start_is p.ends.now i some, (ends_at 0 p.ends.now (length p.tokens.now) i h.within lt).0)
+end_before p i h some lt = omega (arith, start_is p.ends.now i some, (ends_at 0 p.ends.now (length p.tokens.now) i h.cut.within lt).0)
 
 pub end_within : (p : TextItems) (i : ℕ) → AreTextItems p → i < length p.ends.now → get_or p.ends.now i 0 ≤ length p.tokens.now
-end_within p i h lt = (ends_at 0 p.ends.now (length p.tokens.now) i h.within lt).1
+end_within p i h lt = (ends_at 0 p.ends.now (length p.tokens.now) i h.cut.within lt).1
 
 -- the first name among the rest of the items
 rest_of : (xs : List ProgramItem) (i : ℕ) → i < length xs → program_name (drop i xs) ≡ option_or (option_and_then header_name (slice_get xs i)) (program_name (drop (i + 1) xs))

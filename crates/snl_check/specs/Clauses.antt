@@ -1,5 +1,5 @@
 -- The clauses of the items of a text: their trees, and beside each what links say of it.
-use Rattle.std.specs.Prelude.{ℕ, zero, suc, List, [], ◌∷◌, ◌++◌, map, length, Option, None, Some}
+use Rattle.std.specs.Prelude.{ℕ, Bool, true, false, zero, suc, List, [], ◌∷◌, ◌++◌, map, length, Option, None, Some}
 use Rattle.std.specs.List.{flat_map, zip}
 use Rattle.snl_grammar.specs.declared.tree.clause.Clause.{Clause}
 use Rattle.snl_grammar.specs.declared.tree.item.Item.{Item}
@@ -7,6 +7,8 @@ use Rattle.snl_grammar.specs.declared.tree.item.Item.TheVariants as items
 use Rattle.snl_grammar.specs.declared.tree.state.StateMember.{StateMember}
 use Rattle.snl_grammar.specs.declared.tree.state.StateMember.TheVariants as members
 use Rattle.snl_scope.specs.declared.facts.ClauseLink.{ClauseLink}
+use Rattle.snl_scope.specs.declared.summaries.summary.ItemKind.{ItemKind}
+use Rattle.snl_scope.specs.declared.summaries.summary.ItemKind.TheVariants as kinds
 use Rattle.snl_scope.specs.declared.summaries.summary.Outline.{Outline}
 use Rattle.snl_scope.specs.declared.summaries.summary.VariableClause.{VariableClause}
 use Rattle.snl_scope.specs.Clauses.{clause_links}
@@ -22,6 +24,12 @@ abbrev pub clauses_in_tree : Item → List Clause
 clauses_in_tree (items.Clause clause) = clause ∷ []
 clauses_in_tree (items.StateBlock name ms) = flat_map clause_in_member ms
 clauses_in_tree _ = []
+
+-- Whether an item of a kind can have clauses.
+abbrev pub has_clauses : ItemKind → Bool
+has_clauses kinds.Clause = true
+has_clauses kinds.State = true
+has_clauses _ = false
 
 -- A clause of a text: the number of its item, and its tree.
 pub record ItemClause : Type 0 where

@@ -9,6 +9,7 @@ use Rattle.snl_check.specs.declared.rows.item_clauses.ResolvedClause.{ResolvedCl
 use Rattle.snl_check.specs.declared.rows.row_source.RowSource.{RowSource}
 use Rattle.snl_check.specs.declared.rows.state_source.StateSource.{StateSource}
 use Rattle.snl_check.specs.declared.rows.text_items.TextItems.{TextItems}
+use Rattle.snl_scope.specs.Summaries.{kind_of}
 use Rattle.snl_check.specs.Channels as channels
 use Rattle.snl_check.specs.Clauses.{ItemClause, resolved_clauses}
 use Rattle.snl_item_check.specs.Items.{IsCutUp, ProgramItem, program_items, outlines_of}
@@ -18,8 +19,10 @@ use Rattle.snl_item_check.specs.Told.{told_in_item, told_seen}
 abbrev pub items_in : TextItems → List ProgramItem
 items_in p = program_items p.tokens.now p.ends.now (map option_copied p.trees.now)
 
-abbrev pub AreTextItems : TextItems → Type 0
-AreTextItems p = IsCutUp p.text.now p.tokens.now p.ends.now (length p.trees.now)
+-- The items are the tokens between the ends, with the trees, and these are what they are.
+pub record AreTextItems (p : TextItems) : Type 0 where
+  pub cut : IsCutUp p.text.now p.tokens.now p.ends.now (length p.trees.now)
+  pub kinds : p.kinds.now ≡ map kind_of (map option_copied p.trees.now)
 
 -- What a definition gives over the text, its items and their outlines that rows are made from.
 abbrev pub over : {A : Type 0} → RowSource → (List ℕ → List ProgramItem → List Outline → A) → A

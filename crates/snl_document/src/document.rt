@@ -15,17 +15,19 @@ use snl_cut::OutOfMemory;
 use snl_hear::Change;
 use snl_place::Encoding;
 use snl_replies::{say_found, say_notice};
-use snl_say::{Severity, put_quoted};
+use snl_say::{Severity, WrittenItems, put_quoted};
 use std::alloc::{AllocError, Global};
 use std::marker::Model;
 
-/// A document that is open. `quoted_uri` is its URI as a string of JSON.
+/// A document that is open. `quoted_uri` is its URI as a string of JSON; `written` has the items
+/// of what was published of it last.
 #[derive(Drop)]
 pub struct Document<C: CheckedText> {
     uri: String,
     quoted_uri: Vec<u8>,
     version: Option<u64>,
     text: DocumentText<C>,
+    written: WrittenItems,
 }
 
 impl<C: CheckedText> Model for Document<C> {
@@ -88,6 +90,7 @@ impl<C: CheckedText + Drop> Document<C> {
             quoted_uri,
             version,
             text,
+            written: WrittenItems::new(alloc),
         })
     }
 
@@ -113,16 +116,18 @@ impl<C: CheckedText + Drop> Document<C> {
 
     /// Publishes what is found in its text, or nothing, where that isn't checked.
     #[tactic(auto, using(snl_replies::specs::ReplyLaws::publish_framed))]
-    fn publish(&self, encoding: Encoding, said: &mut Vec<u8>) -> Result<(), OutOfMemory>
-        ensures { OnOk result (said.new.items ≡ said.old.items
-            ++ framed_reply (published C.says encoding self.now)) }
+    fn publish(&mut self, encoding: Encoding, said: &mut Vec<u8>) -> Result<(), OutOfMemory>
+        ensures state { self.new ≡ self.old }
+        ensures said { OnOk result (said.new.items ≡ said.old.items
+            ++ framed_reply (published C.says encoding self.old)) }
     {
         match self.text.checked() {
             Some(checked) => {
                 let found = checked.found(*said.allocator(), encoding)?;
-                say_found(said, &self.quoted_uri, self.version, &found)?;
+                let written = &mut self.written;
+                say_found(said, &self.quoted_uri, self.version, &found, written)?;
             }
-            None => say_found(said, &self.quoted_uri, self.version, &[])?,
+            None => say_found(said, &self.quoted_uri, self.version, &[], &mut self.written)?,
         }
         Ok(())
     }
@@ -144,9 +149,10 @@ impl<C: CheckedText + Drop> Document<C> {
 
     /// Tells the client how it is now.
     #[tactic(auto, unfolding(snl_replies::specs::Replies::said_of))]
-    pub fn tell(&self, encoding: Encoding, said: &mut Vec<u8>) -> Result<(), OutOfMemory>
-        ensures { OnOk result (said.new.items ≡ said.old.items
-            ++ said_of (told C.says encoding self.now)) }
+    pub fn tell(&mut self, encoding: Encoding, said: &mut Vec<u8>) -> Result<(), OutOfMemory>
+        ensures state { self.new ≡ self.old }
+        ensures said { OnOk result (said.new.items ≡ said.old.items
+            ++ said_of (told C.says encoding self.old)) }
     {
         self.publish(encoding, said)?;
         self.notify(said)
@@ -155,13 +161,14 @@ impl<C: CheckedText + Drop> Document<C> {
     /// Tells the client how it is after a change, unless it stays unchecked.
     #[tactic(auto, unfolding(snl_replies::specs::Replies::said_of))]
     fn tell_after(
-        &self,
+        &mut self,
         encoding: Encoding,
         before: Standing,
         said: &mut Vec<u8>,
     ) -> Result<(), OutOfMemory>
-        ensures { OnOk result (said.new.items ≡ said.old.items
-            ++ said_of (told_after C.says encoding before self.now)) }
+        ensures state { self.new ≡ self.old }
+        ensures said { OnOk result (said.new.items ≡ said.old.items
+            ++ said_of (told_after C.says encoding before self.old)) }
     {
         if before.stays(self.text.standing()) {
             return Ok(());

@@ -14,6 +14,7 @@ use snl_cut::OutOfMemory;
 use snl_hear::Change;
 use snl_place::Encoding;
 use snl_replies::say_found;
+use snl_say::WrittenItems;
 use std::alloc::AllocError;
 
 /// The number of the document with this URI.
@@ -66,7 +67,7 @@ pub fn open<C: CheckedText + Drop>(
     ensures said { OnOk result (said.new.items ≡ said.old.items
         ++ said_of (told C.says encoding (opened uri.now version text.now))) }
 {
-    let document = Document::open(*said.allocator(), uri, version, text)?;
+    let mut document = Document::open(*said.allocator(), uri, version, text)?;
     document.tell(encoding, said)?;
     put(documents, uri, document)
 }
@@ -106,8 +107,9 @@ fn say_closed(said: &mut Vec<u8>, uri: &str) -> Result<(), AllocError>
     ensures { OnOk result (said.new.items ≡ said.old.items
         ++ framed_reply (Publish [] uri.now None)) }
 {
-    let quoted = quoted_uri(*said.allocator(), uri)?;
-    say_found(said, &quoted, None, &[])
+    let alloc = *said.allocator();
+    let quoted = quoted_uri(alloc, uri)?;
+    say_found(said, &quoted, None, &[], &mut WrittenItems::new(alloc))
 }
 
 /// Closes the document of this URI, if it is open. The client is told so in any case.

@@ -1,14 +1,16 @@
 -- The items of a text as the code looks at them: the number of an item's first token, that of the
 -- token after it, and what is kept of the item.
-use Rattle.std.specs.Prelude.{◌≡◌, ℕ, ◌-◌, ◌<◌, ◌≤◌, List, length, take, drop, Option}
+use Rattle.std.specs.Prelude.{◌≡◌, ℕ, ◌-◌, ◌<◌, ◌≤◌, List, length, take, drop, map, Option, option_copied}
 use Rattle.snl_lex.specs.declared.piece.Class.{Class}
 use Rattle.snl_lex.specs.declared.piece.Piece.{Piece}
 use Rattle.snl_lex.specs.PieceList.{spelled}
 use Rattle.snl_grammar.specs.Outcome.{parsed_in, sound_tree}
 use Rattle.snl_grammar.specs.declared.tree.item.Item.{Item}
-use Rattle.snl_scope.specs.Summaries.{summary_in}
+use Rattle.snl_scope.specs.declared.summaries.summary.ItemKind.{ItemKind}
+use Rattle.snl_scope.specs.Summaries.{kind_of, summary_in}
 pub use Rattle.snl_item_check.specs.Items.{EndsWithin}
 use Rattle.snl_kept.specs.declared.found.program.Part.{Part}
+use Rattle.snl_kept.specs.declared.found.seen.SeenItems.{SeenItems}
 use Rattle.snl_kept.specs.Entries.{entry_by}
 use Rattle.snl_kept.specs.Program.{ProgramItem}
 
@@ -25,6 +27,14 @@ spelled_part text tokens part = spelled text (tokens_of_part tokens part)
 
 abbrev pub tree_of_part : Part → Option Item
 tree_of_part part = sound_tree part.entry.now.parsed
+
+abbrev pub kind_of_part : Part → ItemKind
+kind_of_part part = kind_of (tree_of_part part)
+
+-- The lists have the tree and the kind of each of these parts.
+pub record AreSeen (parts : List Part) (seen : SeenItems) : Type 0 where
+  pub trees : map option_copied seen.trees.items ≡ map tree_of_part parts
+  pub kinds : seen.kinds.items ≡ map kind_of_part parts
 
 -- The part is some of these tokens, and what is kept of it is what these say.
 pub record IsPart (text : List ℕ) (tokens : List Piece) (part : Part) : Type 0 where

@@ -9,24 +9,26 @@ ghost use Rattle.snl_replies.specs.Replies.{AnswerError, AnswerHover, AnswerInit
 
 use snl_place::{Encoding, Place};
 use snl_say::{
-    ErrorCode, Id, Severity, Shown, ShownSymbol, frame_from, put_error, put_hover, put_initialize,
-    put_location, put_message, put_null, put_publish, put_symbols,
+    ErrorCode, Id, Severity, Shown, ShownSymbol, WrittenItems, frame_from, put_error, put_hover,
+    put_initialize, put_location, put_message, put_null, put_publish, put_symbols,
 };
 use std::alloc::AllocError;
 
-/// Publishes what is found in a document.
+/// Publishes what is found in a document. `written` has its items as they were written last.
 #[tactic(auto, unfolding(crate::specs::Replies::framed_publish))]
 pub fn say_found(
     said: &mut Vec<u8>,
     quoted_uri: &[u8],
     version: Option<u64>,
     found: &[Shown<'_>],
+    written: &mut WrittenItems,
 ) -> Result<(), AllocError>
     ensures { OnOk result (said.new.items ≡ said.old.items
         ++ framed_publish (map (λ s. found_of s) found.now) quoted_uri.now version) }
 {
+    written.update(*said.allocator(), found)?;
     let begin = said.len();
-    put_publish(said, quoted_uri, version, found)?;
+    put_publish(said, quoted_uri, version, written)?;
     frame_from(said, begin)
 }
 

@@ -73,20 +73,15 @@ publish_same fs uri version =
 
 -- ---- items as they are written
 
-mapped : {X : Type 0} (f : X → Found) (xs : List X) →
-    flat_map (λ x. after_comma (f x)) xs ≡ flat_map after_comma (map f xs)
-mapped f [] = refl
-mapped f (x ∷ xs) = ap (λ (l : List ℕ). after_comma (f x) ++ l) (mapped f xs)
-
-pub all_none : items_text [] ≡ codes "]"
+-- the items and the bracket that closes them
+pub items_none : items_text [] ≡ codes "]"
 unfolding items_text
-all_none = refl
+items_none = refl
 
-pub all_first : {X : Type 0} (f : X → Found) (x : X) (xs : List X) →
-    items_text (map f (x ∷ xs))
-    ≡ item_text (f x) ++ (flat_map (λ y. after_comma (f y)) xs ++ codes "]")
+pub items_first : (f : Found) (fs : List Found) →
+    items_text (f ∷ fs) ≡ item_text f ++ (flat_map after_comma fs ++ codes "]")
 unfolding items_text
-all_first f x xs = ap (λ (l : List ℕ). item_text (f x) ++ (l ++ codes "]")) (sym (mapped f xs))
+items_first f fs = refl
 
 -- ---- messages
 

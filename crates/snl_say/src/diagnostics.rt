@@ -3,18 +3,19 @@
 //! that are there.
 //! Knows nothing of texts, and of how places are counted in them.
 
-ghost use Rattle.std.specs.Prelude.{◌≡◌, ◌+◌, ◌≤◌, ◌++◌, ◌∷◌, [], ℕ, List, Option, None, Some, OnOk, codes, drop, flat_map, length, map};
+ghost use Rattle.std.specs.Prelude.{◌≡◌, ◌+◌, ◌≤◌, ◌++◌, ◌∷◌, [], ℕ, List, Option, None, Some, OnOk, codes, drop, length};
 ghost use Rattle.json.specs.Print.{escape, quoted};
 ghost use Rattle.serde_json.specs.Written.{comma_if};
 ghost use Rattle.snl_script.specs.Parts.{quoted as in_quotes};
 ghost use Rattle.snl_say.specs.Items.{item_end, item_front};
-ghost use Rattle.snl_say.specs.Publish.{Found, after_comma, found_of, item_text, items_text, publish_head, publish_with, severity_text, version_text};
+ghost use Rattle.snl_say.specs.Publish.{Found, found_of, item_text, publish_head, publish_with, severity_text, version_text};
 
 use crate::before::bytes_before;
 use crate::bytes::{put_all, put_escaped};
 use crate::places::range_before;
 use crate::plain::is_plain;
 use crate::severity::Severity;
+use crate::written::WrittenItems;
 use itoa::Buffer;
 use snl_place::Place;
 use std::alloc::AllocError;
@@ -26,8 +27,8 @@ pub struct Shown<'a> {
     pub start: Place,
     pub stop: Place,
     pub severity: Severity,
-    pub code: &'a [u8],
-    pub message: &'a [u8],
+    pub code: &'static [u8],
+    pub message: &'static [u8],
     pub quoted: &'a [u8],
 }
 
@@ -151,39 +152,13 @@ fn put_end(out: &mut Vec<u8>, shown: &Shown<'_>) -> Result<(), AllocError>
 }
 
 /// An item, with a comma before it, where another item is before it.
-fn put_item(out: &mut Vec<u8>, later: bool, shown: &Shown<'_>) -> Result<(), AllocError>
+pub fn put_item(out: &mut Vec<u8>, later: bool, shown: &Shown<'_>) -> Result<(), AllocError>
     ensures { OnOk result (out.new.items ≡ out.old.items
         ++ (comma_if later ++ item_text (found_of shown.now))) }
 {
     put_front(out, later, shown.code)?;
     put_escaped(out, shown.message)?;
     put_end(out, shown)?;
-    Ok(())
-}
-
-/// The items after the first, each with a comma before it, and the bracket that closes them.
-fn put_rest(out: &mut Vec<u8>, rest: &[Shown<'_>]) -> Result<(), AllocError>
-    ensures { OnOk result (out.new.items ≡ out.old.items
-        ++ (flat_map (λ s. after_comma (found_of s)) rest.now ++ codes "]")) }
-{
-    for shown in rest {
-        put_item(out, true, shown)?;
-    }
-    out.extend_from_slice(b"]")?;
-    Ok(())
-}
-
-fn put_items(out: &mut Vec<u8>, all: &[Shown<'_>]) -> Result<(), AllocError>
-    ensures { OnOk result (out.new.items ≡ out.old.items
-        ++ items_text (map (λ s. found_of s) all.now)) }
-{
-    match all.split_first() {
-        Some((first, rest)) => {
-            put_item(out, false, first)?;
-            put_rest(out, rest)?;
-        }
-        None => out.extend_from_slice(b"]")?,
-    }
     Ok(())
 }
 
@@ -224,13 +199,13 @@ pub fn put_publish(
     out: &mut Vec<u8>,
     quoted_uri: &[u8],
     version: Option<u64>,
-    all: &[Shown<'_>],
+    all: &WrittenItems,
 ) -> Result<(), AllocError>
     ensures { OnOk result (out.new.items ≡ out.old.items
-        ++ publish_with (map (λ s. found_of s) all.now) quoted_uri.now version) }
+        ++ publish_with all.now quoted_uri.now version) }
 {
     put_head(out)?;
-    put_items(out, all)?;
+    all.put(out)?;
     out.extend_from_slice(b",\"uri\":")?;
     out.extend_from_slice(quoted_uri)?;
     put_version(out, version)?;

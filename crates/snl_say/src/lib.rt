@@ -5,7 +5,8 @@
 //! laws say that the bytes are the text of one. The crate knows nothing of documents, and of what
 //! is answered to which request.
 //!
-//! `diagnostics` publishes what is found in a document, `notices` shows a message to the user,
+//! `diagnostics` publishes what is found in a document, of which `written` keeps what was written
+//! last, `notices` shows a message to the user,
 //! `answers` has the answers to requests but for those on documents, which are in `symbols`,
 //! `location` and `hover`. `frames` puts the header before a body.
 #![tactic(auto)]
@@ -23,6 +24,7 @@ mod places;
 mod plain;
 mod severity;
 mod symbols;
+mod written;
 
 pub use answers::{ErrorCode, Id, put_error, put_initialize, put_null};
 pub use bytes::put_quoted;
@@ -37,3 +39,4 @@ pub use location::put_location;
 pub use notices::put_message;
 pub use severity::Severity;
 pub use symbols::{ShownSymbol, SymbolKind, put_symbols};
+pub use written::WrittenItems;

@@ -1,5 +1,5 @@
 -- The summary of an item, from its tokens and its tree; a faulty item has none.
-use Rattle.std.specs.Prelude.{ℕ, Bool, true, ◌||◌, List, [], length, map, nat_lt, slice_get, Option, Some, None, codes, if◌then◌else◌}
+use Rattle.std.specs.Prelude.{ℕ, Bool, true, false, ◌||◌, List, [], length, map, nat_lt, slice_get, Option, Some, None, codes, if◌then◌else◌}
 use Rattle.std.specs.Str.{bytes_eq}
 use Rattle.snl_lex.specs.declared.piece.Class.{Class}
 use Rattle.snl_lex.specs.declared.piece.Class.TheVariants as class
@@ -46,6 +46,11 @@ kind_of_tree items.Empty = kinds.Empty
 abbrev pub kind_of : Option Item → ItemKind
 kind_of None = kinds.Faulty
 kind_of (Some tree) = kind_of_tree tree
+
+-- Whether an item of a kind is an option.
+abbrev pub is_option : ItemKind → Bool
+is_option kinds.OptionLine = true
+is_option _ = false
 
 abbrev pub opening_by_word : List ℕ → Opening
 opening_by_word word =

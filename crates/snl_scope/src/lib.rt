@@ -36,7 +36,7 @@ pub use same_views::{Moved, SameViews};
 pub use snl_walk::Source;
 pub use summaries::name::Name;
 pub use summaries::same_outline::same_outline;
-pub use summaries::summarize::summary_of;
+pub use summaries::summarize::{kind_of, summary_of};
 pub use summaries::summary::{
     ClauseKind, Coverage, Declared, Dims, ItemKind, NameRef, Opening, Outline, Role, Summary,
     SymbolKind, Variable, VariableClause,

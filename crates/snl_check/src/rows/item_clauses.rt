@@ -3,7 +3,8 @@
 
 ghost use Rattle.std.specs.Prelude.{◌≡◌, ◌++◌, IfOk, OnOk, map, option_copied};
 ghost use Rattle.std.specs.List.{flat_map};
-ghost use Rattle.snl_check.specs.Clauses.{clause_in_member, clauses_in_tree, item_clause, item_clauses, item_clauses_if, resolved_clauses};
+ghost use Rattle.snl_scope.specs.Summaries.{kind_of};
+ghost use Rattle.snl_check.specs.Clauses.{clause_in_member, clauses_in_tree, has_clauses, item_clause, item_clauses, item_clauses_if, resolved_clauses};
 ghost use Rattle.snl_check.specs.Collected.{AreTextItems, items_in, placed, resolved};
 
 use crate::rows::room::with_room;
@@ -12,7 +13,7 @@ use snl_cut::OutOfMemory;
 use snl_grammar::tree::clause::Clause;
 use snl_grammar::tree::item::Item;
 use snl_grammar::tree::state::StateMember;
-use snl_scope::{ClauseLink, Links};
+use snl_scope::{ClauseLink, ItemKind, Links};
 
 // A clause, and the number of its item.
 #[derive(Clone, Copy)]
@@ -46,8 +47,15 @@ fn add_members<'a>(
     Ok(())
 }
 
-// Adds the clauses of an item.
-fn add_item<'a>(
+// Whether an item of a kind can have clauses.
+fn has_clauses(kind: ItemKind) -> bool
+    ensures { result ≡ has_clauses kind }
+{
+    matches!(kind, ItemKind::Clause | ItemKind::State)
+}
+
+// Adds the clauses of an item of a kind that has some.
+fn add_tree<'a>(
     item: usize,
     tree: Option<&'a Item>,
     clauses: &mut Vec<PlacedClause<'a>>,
@@ -70,6 +78,24 @@ fn add_item<'a>(
     }
 }
 
+// Adds the clauses of an item. Its tree is looked at only where that can have some.
+fn add_item<'a>(
+    item: usize,
+    kind: ItemKind,
+    tree: Option<&'a Item>,
+    clauses: &mut Vec<PlacedClause<'a>>,
+) -> Result<(), OutOfMemory>
+    requires { kind ≡ kind_of (option_copied tree) }
+    ensures { OnOk result (map placed clauses.new.items ≡ map placed clauses.old.items
+        ++ item_clauses_if item (option_copied tree.entry)) }
+{
+    if has_clauses(kind) {
+        add_tree(item, tree, clauses)
+    } else {
+        Ok(())
+    }
+}
+
 // The clauses of all items, in the order of the text. Room is made for so many.
 fn item_clauses<'a>(
     program: &TextItems<'a>,
@@ -81,7 +107,7 @@ fn item_clauses<'a>(
 {
     let mut clauses = with_room(program.alloc, room)?;
     for item in 0..program.trees.len() {
-        add_item(item, program.tree(item), &mut clauses)?;
+        add_item(item, program.kind(item), program.tree(item), &mut clauses)?;
     }
     Ok(clauses)
 }

@@ -77,11 +77,14 @@ fn option_rows(
     Ok(rows)
 }
 
-// What an item sets for the program.
+// What an item sets for the program. Its tree is looked at only where it is an option.
 fn setting_at<'a>(row_source: &RowSource<'a>, item: usize) -> Option<LetterSetting<'a>>
     requires { IsRowSource row_source.now }
     ensures { option_map as_setting result ≡ over row_source.now setting_at item }
 {
+    if !row_source.program.kind(item).is_option() {
+        return None;
+    }
     let view = View {
         links: row_source.links,
         item,

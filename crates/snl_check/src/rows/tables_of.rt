@@ -4,6 +4,7 @@
 ghost use Rattle.std.specs.Prelude.{◌≡◌, IfOk, length, map, option_copied};
 ghost use Rattle.snl_lex.specs.LineList.{IsLineList};
 ghost use Rattle.snl_lex.specs.Pieces.{pieces_of, tokens_of};
+ghost use Rattle.snl_scope.specs.Summaries.{kind_of};
 ghost use Rattle.snl_check.specs.Channels.{assigned_channels};
 ghost use Rattle.snl_check.specs.Collected.{IsLinked, IsStateSource, assigned, items_in, over};
 ghost use Rattle.snl_item_check.specs.Items.{IsCutUp, program_items, outlines_of};
@@ -26,7 +27,7 @@ use snl_grammar::tree::item::Item;
 use snl_item_check::Checked;
 use snl_items::TokenList;
 use snl_lex::{LineList, Piece, tokens_among};
-use snl_scope::Links;
+use snl_scope::{ItemKind, Links, kind_of};
 use snl_tables::{Rows, SetRow, Tables};
 use sqlite_items::Items;
 use std::alloc::Global;
@@ -116,8 +117,8 @@ fn rows_by_state_source(
 }
 
 /// The tables of a text, by its lines and its tokens. `ends` has, for each item, the number of the
-/// token after it; a faulty item has no tree. `checked` has what the check gave of each item that
-/// isn't faulty.
+/// token after it; a faulty item has no tree. `kinds` has what each item is, and `checked` what the
+/// check gave of each that isn't faulty.
 pub fn tables_by_tokens(
     alloc: Global,
     text: &[u8],
@@ -125,12 +126,14 @@ pub fn tables_by_tokens(
     tokens: &TokenList,
     ends: &[usize],
     items: &[Option<&Item>],
+    kinds: &[ItemKind],
     links: &Links,
     checked: &[Option<&Checked>],
 ) -> Result<Tables, OutOfMemory>
     requires lines { IsLineList text.now lines.now }
     requires tokens { tokens.now ≡ tokens_of text.now }
     requires cut { IsCutUp text.now tokens.now ends.now (length items.now) }
+    requires kinds { kinds.now ≡ map kind_of (map option_copied items.now) }
     requires links { links.now.outlines
         ≡ outlines_of text.now (program_items tokens.now ends.now (map option_copied items.now)) }
     requires checked { map told_seen checked.now
@@ -144,6 +147,7 @@ pub fn tables_by_tokens(
         tokens,
         ends,
         trees: items,
+        kinds,
         alloc,
     };
     let clauses = resolved_clauses(&program, links)?;
@@ -154,6 +158,17 @@ pub fn tables_by_tokens(
     };
     let tables = rows_of(&row_source, lines, checked)?;
     Ok(tables)
+}
+
+// What each item is, by its tree.
+fn kinds_of(alloc: Global, items: &[Option<&Item>]) -> Result<Vec<ItemKind>, OutOfMemory>
+    ensures { IfOk result (λ kinds. kinds.items ≡ map kind_of (map option_copied items.now)) }
+{
+    let mut kinds = Vec::with_capacity(alloc, items.len())?;
+    for item in items {
+        kinds.push(kind_of(*item))?;
+    }
+    Ok(kinds)
 }
 
 /// The tables of a text, by its pieces. `ends` has, for each item, the number of the token after
@@ -183,6 +198,9 @@ pub fn tables(
     let lines = LineList::of(alloc, text, pieces)?;
     let listed = tokens_among(alloc, pieces)?;
     let tokens = TokenList::listed(&listed);
-    let tables = tables_by_tokens(alloc, text, &lines, &tokens, ends, items, links, checked)?;
+    let kinds = kinds_of(alloc, items)?;
+    let tables = tables_by_tokens(
+        alloc, text, &lines, &tokens, ends, items, &kinds, links, checked,
+    )?;
     Ok(tables)
 }

@@ -8,17 +8,20 @@ use crate::rows::item_source::ItemSource;
 use snl_grammar::tree::item::Item;
 use snl_items::TokenList;
 use snl_lex::Piece;
+use snl_scope::ItemKind;
 use snl_tables::Span;
 use std::alloc::Global;
 
 /// The tokens of a text, the number of the token after each item, and the trees of the items. A
-/// faulty item has no tree.
+/// faulty item has no tree. What an item is can be asked without a look at its tree, which may be
+/// far away in memory.
 #[derive(Clone, Copy)]
 pub(crate) struct TextItems<'a> {
     pub text: &'a [u8],
     pub tokens: &'a TokenList<'a>,
     pub ends: &'a [usize],
     pub trees: &'a [Option<&'a Item>],
+    pub kinds: &'a [ItemKind],
     pub alloc: Global,
 }
 
@@ -38,6 +41,7 @@ pub(crate) fn span_of(token: Option<Piece>) -> Span
 impl<'a> TextItems<'a> {
     ghost use Rattle.std.specs.Prelude.{◌<◌, ◌≤◌, length, option_and_then, slice_get, slice_index};
     ghost use Rattle.snl_walk.specs.Tokens.{IsSource};
+    ghost use Rattle.snl_scope.specs.Summaries.{kind_of};
     ghost use Rattle.snl_check.specs.Collected.{AreTextItems, items_in};
     ghost use Rattle.snl_item_check.specs.Items.{start_of, tokens_in, tree_in};
     ghost use Rattle.snl_check.specs.ItemTokens.{own_tokens};
@@ -75,6 +79,18 @@ impl<'a> TextItems<'a> {
             self.trees[item]
         } else {
             None
+        }
+    }
+
+    /// What an item is. One that isn't there is as a faulty one.
+    pub(crate) fn kind(&self, item: usize) -> ItemKind
+        requires { AreTextItems self.now }
+        ensures { result ≡ kind_of (tree_in (items_in self.now) item) }
+    {
+        if item < self.kinds.len() {
+            self.kinds[item]
+        } else {
+            ItemKind::Faulty
         }
     }
 

@@ -11,7 +11,7 @@ ghost use Rattle.snl_kept.specs.Checks.{checks_of, checks_over, links_in, outlin
 ghost use Rattle.snl_kept.specs.Diagnostics.{diagnostics_of, shown};
 ghost use Rattle.snl_kept.specs.Linked.{linked_of, outlines_of};
 ghost use Rattle.snl_kept.specs.Order.{in_order};
-ghost use Rattle.snl_kept.specs.Parts.{IsPart, item_of_part};
+ghost use Rattle.snl_kept.specs.Parts.{AreSeen, IsPart, item_of_part};
 ghost use Rattle.snl_kept.specs.Program.{program_item};
 ghost use Rattle.snl_kept.specs.Tables.{tables_in};
 ghost use Rattle.snl_kept.specs.Warnings.{shows_warnings, warns_in};
@@ -21,6 +21,7 @@ use crate::found::diagnose::{add_linked_faults, keep_shown, on_lines};
 use crate::found::findings::{Diagnostic, Finding};
 use crate::found::order::sort;
 use crate::found::program::{CutText, Part, add_faults, items_end_in_order};
+use crate::found::seen::{SeenItems, seen_items};
 use crate::found::tables::tables_of;
 use crate::found::walked::add_walked_faults;
 use crate::found::warnings::shows_warnings;
@@ -55,6 +56,7 @@ fn shown_by(
     alloc: Global,
     cut: &CutText,
     parts: &[Part],
+    seen: &SeenItems,
     faults: &[LinkFault],
     checks: &[&Shared<Option<Checked>>],
     tables: &Tables,
@@ -62,6 +64,7 @@ fn shown_by(
 ) -> Result<Vec<Finding>, OutOfMemory>
     requires items { map (item_of_part cut.now.tokens.now) parts.now ≡ map (program_item cut.now.text.now) (members cut.now.tokens.now 0 cut.now.ends.now) }
     requires parts { All (IsPart cut.now.text.now cut.now.tokens.now) parts.now }
+    requires seen { AreSeen parts.now seen.now }
     requires faults { faults.now ≡ faults_of (linked_of cut.now.text.now (map (item_of_part cut.now.tokens.now) parts.now)) }
     requires checks { map (λ c. c.now) checks.now ≡ checks_over cut.now.text.now (map (item_of_part cut.now.tokens.now) parts.now) }
     requires tables { tables.now ≡ tables_of cut.now.text.now (map (item_of_part cut.now.tokens.now) parts.now) }
@@ -70,7 +73,7 @@ fn shown_by(
 {
     text_in_pieces();
     let mut shown = Vec::new(alloc);
-    add_faults(alloc, cut.text, cut.tokens, parts, &mut shown)?;
+    add_faults(alloc, cut.text, cut.tokens, parts, &seen.trees, &mut shown)?;
     add_linked_faults(cut.text, cut.tokens, parts, faults, &mut shown)?;
     add_checked_faults(alloc, cut.text, cut.tokens, parts, checks, &mut shown)?;
     add_walked_faults(tables, &mut shown)?;
@@ -107,10 +110,12 @@ fn told_by(
         ends,
         ..
     } = *cut;
-    // Both look at each item: the second one finds them in the cache.
-    let warns = shows_warnings(alloc, text, tokens, parts, links)?;
-    let tables = tables_of(alloc, text, lines, tokens, ends, parts, links, checks)?;
-    let shown = shown_by(alloc, cut, parts, faults, checks, &tables, warns)?;
+    let seen = seen_items(alloc, parts)?;
+    let warns = shows_warnings(alloc, text, tokens, parts, &seen.kinds, links)?;
+    let tables = tables_of(
+        alloc, text, lines, tokens, ends, parts, &seen, links, checks,
+    )?;
+    let shown = shown_by(alloc, cut, parts, &seen, faults, checks, &tables, warns)?;
     Ok(Told {
         shown,
         tables,

@@ -3,7 +3,7 @@
 //! It knows nothing of what the trees mean.
 #![tactic(auto)]
 
-ghost use Rattle.std.specs.Prelude.{◌≡◌, ◌<◌, ◌≤◌, ◌++◌, All, IfOk, List, OnOk, length, map, ℕ};
+ghost use Rattle.std.specs.Prelude.{◌≡◌, ◌<◌, ◌≤◌, ◌++◌, All, IfOk, List, OnOk, length, map, option_copied, ℕ};
 ghost use Rattle.std.specs.List.{filter_map};
 ghost use Rattle.snl_cut.specs.Cut.{members};
 ghost use Rattle.snl_items.specs.Items.{item_ends};
@@ -13,7 +13,7 @@ ghost use Rattle.snl_lex.specs.Pieces.{LiesIn, tokens_of};
 ghost use Rattle.snl_grammar.specs.Outcome.{BlamesWithin};
 ghost use Rattle.snl_kept.specs.Entries.{entry_by};
 ghost use Rattle.snl_kept.specs.Faults.{at_token, fault_at, faults_of};
-ghost use Rattle.snl_kept.specs.Parts.{EndsWithin, IsPart, item_of_part, tokens_of_part};
+ghost use Rattle.snl_kept.specs.Parts.{EndsWithin, IsPart, item_of_part, tokens_of_part, tree_of_part};
 ghost use Rattle.snl_kept.specs.Program.{program_item};
 
 use crate::entries::Entry;
@@ -21,6 +21,7 @@ use crate::found::findings::Finding;
 use crate::shared::Shared;
 use snl_codes::Code;
 use snl_cut::{OutOfMemory, one_cut};
+use snl_grammar::tree::item::Item;
 use snl_grammar::{Parsed, Tokens, outcome_told, same_spelling_same_tree};
 use snl_items::TokenList;
 use snl_lex::{LineList, Piece};
@@ -111,33 +112,37 @@ fn fault_in(
     text: &[u8],
     tokens: &TokenList,
     part: &Part,
+    tree: Option<&Item>,
     own: &mut Vec<Piece>,
 ) -> Result<Option<Finding>, OutOfMemory>
-    requires { IsPart text.now tokens.now part.now }
+    requires part { IsPart text.now tokens.now part.now }
+    requires tree { option_copied tree ≡ tree_of_part part.now }
     ensures { IfOk result (λ found. found ≡ fault_at (tokens_of_part tokens.now part.now) part.now.entry.now.parsed) }
 {
     outcome_told();
-    if let Parsed::Sound(_) = part.entry.parsed {
+    if tree.is_some() {
         return Ok(None);
     }
     tokens.list(alloc, part.start as usize, part.stop as usize, own)?;
     Ok(fault_at(own, &part.entry.parsed))
 }
 
-/// Adds what is found at the faulty ones of these items.
+/// Adds what is found at the faulty ones of these items, which have no tree.
 pub fn add_faults(
     alloc: Global,
     text: &[u8],
     tokens: &TokenList,
     parts: &[Part],
+    trees: &[Option<&Item>],
     found: &mut Vec<Finding>,
 ) -> Result<(), OutOfMemory>
     requires parts { All (IsPart text.now tokens.now) parts.now }
+    requires trees { map option_copied trees.now ≡ map tree_of_part parts.now }
     ensures { OnOk result (found.new.items ≡ found.old.items ++ faults_of text.now (map (item_of_part tokens.now) parts.now)) }
 {
     let mut own = Vec::new(alloc);
-    for part in parts {
-        if let Some(fault) = fault_in(alloc, text, tokens, part, &mut own)? {
+    for (number, part) in parts.iter().enumerate() {
+        if let Some(fault) = fault_in(alloc, text, tokens, part, trees[number], &mut own)? {
             found.push(fault)?;
         }
     }

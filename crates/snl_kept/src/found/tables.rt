@@ -2,36 +2,25 @@
 //! It knows nothing of what is found.
 #![tactic(auto)]
 
-ghost use Rattle.std.specs.Prelude.{◌≡◌, IfOk, length, map, option_copied};
+ghost use Rattle.std.specs.Prelude.{◌≡◌, IfOk, length, map};
 ghost use Rattle.snl_lex.specs.LineList.{IsLineList};
 ghost use Rattle.snl_lex.specs.Pieces.{tokens_of};
 ghost use Rattle.snl_item_check.specs.Items.{IsCutUp, outlines_of, program_items};
 ghost use Rattle.snl_check.specs.Tables.{tables_of};
 ghost use Rattle.snl_item_check.specs.Told.{told_kept, told_seen};
 ghost use Rattle.snl_kept.specs.Checks.{checks_over};
-ghost use Rattle.snl_kept.specs.Parts.{item_of_part, tree_of_part};
+ghost use Rattle.snl_kept.specs.Parts.{AreSeen, item_of_part, tree_of_part};
 
 use crate::found::program::Part;
+use crate::found::seen::SeenItems;
 use crate::shared::Shared;
 use snl_check::{Tables, tables_by_tokens};
 use snl_cut::OutOfMemory;
-use snl_grammar::tree::item::Item;
 use snl_item_check::Checked;
 use snl_items::TokenList;
 use snl_lex::LineList;
 use snl_scope::Links;
 use std::alloc::Global;
-
-// The trees of the items. A faulty one has none.
-fn trees_of<'a>(alloc: Global, parts: &[Part<'a>]) -> Result<Vec<Option<&'a Item>>, OutOfMemory>
-    ensures { IfOk result (λ trees. map option_copied trees.items ≡ map tree_of_part parts.now) }
-{
-    let mut trees = Vec::with_capacity(alloc, parts.len())?;
-    for part in parts {
-        trees.push(part.entry.parsed.tree())?;
-    }
-    Ok(trees)
-}
 
 // What the check of an item gave, if it isn't faulty.
 fn told_by<'a>(check: &'a Option<Checked>) -> Option<&'a Checked>
@@ -76,6 +65,7 @@ pub fn tables_of(
     tokens: &TokenList,
     ends: &[u32],
     parts: &[Part],
+    seen: &SeenItems,
     links: &Links,
     checks: &[&Shared<Option<Checked>>],
 ) -> Result<Tables, OutOfMemory>
@@ -83,13 +73,16 @@ pub fn tables_of(
     requires tokens { tokens.now ≡ tokens_of text.now }
     requires cut { IsCutUp text.now tokens.now ends.now (length parts.now) }
     requires items { program_items tokens.now ends.now (map tree_of_part parts.now) ≡ map (item_of_part tokens.now) parts.now }
+    requires seen { AreSeen parts.now seen.now }
     requires links { links.now.outlines ≡ outlines_of text.now (map (item_of_part tokens.now) parts.now) }
     requires checks { map (λ c. c.now) checks.now ≡ checks_over text.now (map (item_of_part tokens.now) parts.now) }
     ensures { IfOk result (λ t. t ≡ tables_of text.now (map (item_of_part tokens.now) parts.now)) }
 {
     let ends = widened(alloc, ends)?;
-    let trees = trees_of(alloc, parts)?;
     let told = told_checks(alloc, checks)?;
-    let tables = tables_by_tokens(alloc, text, lines, tokens, &ends, &trees, links, &told)?;
+    let SeenItems { trees, kinds } = seen;
+    let tables = tables_by_tokens(
+        alloc, text, lines, tokens, &ends, trees, kinds, links, &told,
+    )?;
     Ok(tables)
 }

@@ -54,7 +54,8 @@ fn kind_of_tree(tree: &Item) -> ItemKind
     }
 }
 
-fn kind_of(tree: Option<&Item>) -> ItemKind
+/// What an item is, by its tree. A faulty one has none.
+pub fn kind_of(tree: Option<&Item>) -> ItemKind
     ensures { result ≡ kind_of (option_copied tree.entry) }
 {
     match tree {

@@ -28,6 +28,18 @@ pub enum ItemKind {
     Empty,
 }
 
+impl ItemKind {
+    ghost use Rattle.std.specs.Prelude.{◌≡◌};
+    ghost use Rattle.snl_scope.specs.Summaries.{is_option};
+
+    /// Whether it is an option.
+    pub fn is_option(self) -> bool
+        ensures { result ≡ is_option self }
+    {
+        matches!(self, ItemKind::OptionLine)
+    }
+}
+
 /// The word that an item begins with, faulty or not.
 #[derive(Clone, Copy, Debug, PartialEq, Eq)]
 pub enum Opening {

@@ -11,4 +11,4 @@ returns-clause-said g c =
     let none = said_none c.args.said.now.items
     (told_by g.C.CheckedText.says c.args.self.now.encoding c.args.self.now.docs
     (noted_of c.args.told)) in
-    grind (arith, common_steps, none)
+    grind (arith, common_steps, none) steps 40000000

@@ -7,8 +7,8 @@ use Rattle.snl_document.specs.Told.{published}
 use Rattle.snl_document.proofs.Framed.{found_by, publish_is}
 use Rattle.snl_document.proofs.document.Document.publish.Goals as goal
 
-pub returns-in_ok-say_found-in-Some : goal.returns-in_ok-say_found-in-Some
-returns-in_ok-say_found-in-Some g c =
+pub returns-in_ok-say_found-in-Some-clause-said : goal.returns-in_ok-say_found-in-Some-clause-said
+returns-in_ok-say_found-in-Some-clause-said g c =
     let doc : Doc = record {
       uri = string_bytes c.self.inside.uri;
       version = c.self.inside.version;
@@ -24,8 +24,8 @@ returns-in_ok-say_found-in-Some g c =
     (publish_is g.C.CheckedText.says c.args.encoding doc _ _ _ _ c.in_ok-say_found-in-Some.ensures
     (c.deref.ensures.value ∙ c.self.invariant) found)
 
-pub returns-in_ok-say_found-in-None : goal.returns-in_ok-say_found-in-None
-returns-in_ok-say_found-in-None g c =
+pub returns-in_ok-say_found-in-None-clause-said : goal.returns-in_ok-say_found-in-None-clause-said
+returns-in_ok-say_found-in-None-clause-said g c =
     let doc : Doc = record {
       uri = string_bytes c.self.inside.uri;
       version = c.self.inside.version;

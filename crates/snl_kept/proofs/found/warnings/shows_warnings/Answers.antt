@@ -21,8 +21,8 @@ loop-item-preserved c =
     let setting = setting_of_item c.args.text.now c.args.links.now.outlines in
     let rest = filter_map setting (enumerate_from (i + 1) (drop (i + 1) xs)) in
     let told = c.in_ok-setting.ensures in
-    let shown : c.match-branch-2.shown ≡ unwrap_or (setting (i, item first)) c.loop-item.shown =
-    elim c.match-branch-2.branch [
+    let shown : c.match-setting.shown ≡ unwrap_or (setting (i, item first)) c.loop-item.shown =
+    elim c.match-setting.branch [
       | in-Some w ↦ w.shown-is ∙ ap (λ o. unwrap_or o c.loop-item.shown) (sym w.in-Some.is ∙ told)
       | in_default w ↦ w.shown-is ∙ ap (λ o. unwrap_or o c.loop-item.shown) (sym w.in_default.is ∙ told)
     ] in

@@ -1,6 +1,0 @@
-use Rattle.std.proofs.Common.{◌≡◌, map, take, option_copied}
-use Rattle.snl_kept.specs.Parts.{tree_of_part}
-use Rattle.snl_kept.proofs.found.tables.trees_of.Given as goal
-
-abbrev pub invariant-loop-part : goal.invariant-loop-part
-invariant-loop-part l = map option_copied l.trees.items ≡ map tree_of_part (take l.part-index l.parts)
