@@ -8,6 +8,7 @@ ghost use Rattle.snl_say.specs.Publish.{after_comma, found_of, item_text, items_
 
 use crate::diagnostics::{Shown, put_item};
 use crate::severity::Severity;
+use snl_facts::are_same_bytes;
 use snl_place::Place;
 use std::alloc::{AllocError, Global};
 use std::marker::Model;
@@ -90,9 +91,9 @@ impl WrittenItem {
         self.start == shown.start
             && self.stop == shown.stop
             && self.severity == shown.severity
-            && self.code == shown.code
-            && self.message == shown.message
-            && self.quoted.as_slice() == shown.quoted
+            && are_same_bytes(self.code, shown.code)
+            && are_same_bytes(self.message, shown.message)
+            && are_same_bytes(&self.quoted, shown.quoted)
     }
 
     /// Makes it say this.
