@@ -3,7 +3,8 @@
 //! Knows nothing of readers and writers.
 
 ghost use Rattle.std.specs.Prelude.{◌≡◌, ◌++◌, OnOk};
-ghost use Rattle.snl_hear.specs.Heard.{heard_of};
+ghost use Rattle.snl_hear.specs.Heard.{heard_in, heard_of};
+ghost use Rattle.snl_hear.specs.Json.{json_in};
 ghost use Rattle.snl_hear.specs.Notifications.{noted_of};
 ghost use Rattle.snl_hear.specs.Requests.{asked_of};
 ghost use Rattle.snl_say.specs.Answers.{id_data};
@@ -11,6 +12,7 @@ ghost use Rattle.snl_replies.specs.Replies.{framed_reply, said_of};
 
 use crate::phase::Phase;
 use crate::requests::answer_ready;
+use json::Scratch;
 use snl_cut::OutOfMemory;
 use snl_document::{CheckedText, Document, change, close, lose, lose_all, open};
 use snl_hear::{Body, Message, Notification, Request};
@@ -22,6 +24,9 @@ use snl_turns::Turn;
 use std::alloc::{AllocError, Global};
 use std::marker::Model;
 
+/// What a longer message is read with is let go.
+const LONGEST_KEPT: usize = 65_536;
+
 /// What is kept from one message to the next: the documents that are open, how their places are
 /// counted, and how far the talk is.
 #[derive(Drop)]
@@ -29,6 +34,8 @@ pub struct Docs<C: CheckedText> {
     documents: Vec<Document<C>>,
     encoding: Encoding,
     phase: Phase,
+    // What a message is read with, once one was read.
+    scratch: Option<Box<Scratch>>,
 }
 
 impl<C: CheckedText> Model for Docs<C> {
@@ -55,6 +62,26 @@ impl<C: CheckedText + Drop> Docs<C> {
             documents: Vec::new(alloc),
             encoding: Encoding::Utf16,
             phase: Phase::New,
+            scratch: None,
+        }
+    }
+
+    /// What a message is read with: it is large, so it is kept from one message to the next.
+    fn scratch(&mut self, alloc: Global) -> Result<Box<Scratch>, AllocError>
+        ensures { self.new ≡ self.old }
+    {
+        match self.scratch.take() {
+            Some(scratch) => Ok(scratch),
+            None => Ok(Box::new(alloc, Scratch::new(alloc))?),
+        }
+    }
+
+    /// Keeps it, unless so long a message was read that it takes much memory.
+    fn keep(&mut self, scratch: Box<Scratch>, length: usize)
+        ensures { self.new ≡ self.old }
+    {
+        if length <= LONGEST_KEPT {
+            self.scratch = Some(scratch);
         }
     }
 
@@ -77,6 +104,24 @@ impl<C: CheckedText + Drop> Docs<C> {
             Message::Request { id, request } => self.request(id, request, said),
             Message::Notification(told) => self.note(told, said),
         }
+    }
+
+    /// Reads the body of a message, and does what it says.
+    #[tactic(auto, unfolding(snl_replies::specs::Replies::said_of))]
+    fn hear_body(
+        &mut self,
+        bytes: &[u8],
+        scratch: &mut Scratch,
+        said: &mut Vec<u8>,
+    ) -> Result<(), OutOfMemory>
+        ensures state { OnOk result (self.new ≡ after_heard self.old (heard_in (json_in bytes.now))) }
+        ensures said { OnOk result (said.new.items ≡ said.old.items
+            ++ said_of (replies_to C.says self.old (heard_in (json_in bytes.now)))) }
+    {
+        let alloc = *said.allocator();
+        let body = Body::read(alloc, bytes, scratch)?;
+        let message = body.message(alloc)?;
+        self.hear(message, said)
     }
 
     fn request(
@@ -184,9 +229,10 @@ impl<C: CheckedText + Drop> Answers for Docs<C> {
             return self.hear(Message::NoJson, said);
         };
         let alloc = *said.allocator();
-        let body = Body::read(alloc, bytes)?;
-        let message = body.message(alloc)?;
-        self.hear(message, said)
+        let mut scratch = self.scratch(alloc)?;
+        self.hear_body(bytes, &mut scratch, said)?;
+        self.keep(scratch, bytes.len());
+        Ok(())
     }
 
     #[tactic(auto, unfolding(crate::specs::Served::ended_of))]

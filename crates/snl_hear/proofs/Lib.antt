@@ -2,7 +2,9 @@ mod Arrays
 mod Bodies
 mod Kept
 mod Members
+mod NumberTexts
 mod ReadBack
+mod Seen
 mod SoundAnswers
 mod SoundNotices
 mod SoundPlaces

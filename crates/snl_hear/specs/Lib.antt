@@ -7,3 +7,4 @@ pub mod Notifications
 pub mod Requests
 pub mod Sound
 pub mod Spelled
+pub mod Values

@@ -2,38 +2,67 @@
 //! In: the bytes of a body. Out: the value that they are, if they are one.
 //! Knows nothing of what the value says.
 
-ghost use Rattle.std.specs.Prelude.{◌≡◌, IfOk};
+ghost use Rattle.std.specs.Prelude.{◌≡◌, IfOk, option_map};
+ghost use Rattle.serde_json.specs.Read.{read};
 ghost use Rattle.snl_hear.specs.Heard.{HasSoundId, heard_in, heard_of};
 ghost use Rattle.snl_hear.specs.Json.{json_in, json_of};
+ghost use Rattle.snl_hear.specs.Values.{seen};
 
 use crate::messages::{Message, message_in};
-use serde_json::Value;
+use crate::ranges::are_in_range;
+use json::{Error, Reader, Scratch, Value};
 use std::alloc::{AllocError, Global};
 
-/// A body that was read. It holds the strings of the message.
+/// A value nests so deep at most.
+const MAX_DEPTH: usize = 127;
+
+/// A body that was read. It lends the strings of the message from its bytes.
 #[derive(Drop)]
-pub struct Body {
-    json: Option<Value>,
+pub struct Body<'a> {
+    json: Option<Value<'a>>,
 }
 
-impl Body {
+/// The value that a text is.
+fn value_in<'a>(
+    alloc: Global,
+    text: &'a str,
+    scratch: &'a mut Scratch,
+) -> Result<Option<Value<'a>>, AllocError>
+    ensures { IfOk result (λ value. option_map (λ v. seen v) value ≡ read text.now) }
+{
+    let mut reader = Reader::new(text, scratch)?;
+    let value = match Value::read(alloc, &mut reader, MAX_DEPTH) {
+        Ok(value) => value,
+        Err(Error::OutOfMemory) => return Err(AllocError),
+        Err(_) => return Ok(None),
+    };
+    let is_alone = reader.next().is_none();
+    if is_alone && are_in_range(&value) {
+        Ok(Some(value))
+    } else {
+        Ok(None)
+    }
+}
+
+impl<'a> Body<'a> {
     /// Bytes that are no UTF-8 or no JSON, or that nest deeper than 127 levels, are read as none.
-    /// An `Err` is want of memory.
-    pub fn read(alloc: Global, bytes: &[u8]) -> Result<Body, AllocError>
+    /// What is escaped in them is kept in `scratch`. An `Err` is want of memory.
+    pub fn read(
+        alloc: Global,
+        bytes: &'a [u8],
+        scratch: &'a mut Scratch,
+    ) -> Result<Body<'a>, AllocError>
         ensures { IfOk result (λ body. json_of body ≡ json_in bytes.now) }
     {
-        match Value::from_slice(alloc, bytes) {
-            Ok(value) => Ok(Body { json: Some(value) }),
-            Err(error) => if error.is_memory() {
-                Err(AllocError)
-            } else {
-                Ok(Body { json: None })
-            },
-        }
+        let Ok(text) = simdutf8::basic::from_utf8(bytes) else {
+            return Ok(Body { json: None });
+        };
+        let json = value_in(alloc, text, scratch)?;
+        Ok(Body { json })
     }
 
     /// What the message says. Memory is for the list of changes alone.
-    pub fn message(&self, alloc: Global) -> Result<Message<'_>, AllocError>
+    pub fn message(&self, alloc: Global) -> Result<Message<'a>, AllocError>
         ensures heard { IfOk result (λ message. heard_of message ≡ heard_in (json_of self.now)) }
         ensures id { IfOk result (λ message. HasSoundId message) }
     {

@@ -3,11 +3,12 @@
 //! Knows nothing of the text that they change.
 
 ghost use Rattle.std.specs.Prelude.{◌≡◌, IfOk, map, option_map};
-ghost use Rattle.serde_json.specs.View.{items_view, view};
 ghost use Rattle.snl_hear.specs.Changes.{change_in, changed_of, changes_in, range_in};
+ghost use Rattle.snl_hear.specs.Values.{seen, seen_all};
 
 use crate::documents::{place_in, string_at};
-use serde_json::Value;
+use crate::values::member_of;
+use json::Value;
 use snl_place::Place;
 use std::alloc::{AllocError, Global};
 
@@ -25,20 +26,20 @@ pub enum Change<'a> {
 }
 
 /// `{"start": PLACE, "end": PLACE}`
-fn range_in(value: &Value) -> Option<(Place, Place)>
-    ensures { result ≡ range_in (view value.now) }
+fn range_in(value: &Value<'_>) -> Option<(Place, Place)>
+    ensures { result ≡ range_in (seen value.now) }
 {
-    let start = place_in(value.get("start")?)?;
-    let stop = place_in(value.get("end")?)?;
+    let start = place_in(member_of(value, "start")?)?;
+    let stop = place_in(member_of(value, "end")?)?;
     Some((start, stop))
 }
 
 /// `{"range": RANGE, "text": TEXT}`, or without a range.
-fn change_in(value: &Value) -> Option<Change<'_>>
-    ensures { option_map (λ change. changed_of change) result ≡ change_in (view value.now) }
+fn change_in<'a>(value: &Value<'a>) -> Option<Change<'a>>
+    ensures { option_map (λ change. changed_of change) result ≡ change_in (seen value.now) }
 {
     let text = string_at(value, "text")?;
-    let Some(range) = value.get("range") else {
+    let Some(range) = member_of(value, "range") else {
         return Some(Change::Whole(text));
     };
     let (start, stop) = range_in(range)?;
@@ -48,10 +49,10 @@ fn change_in(value: &Value) -> Option<Change<'_>>
 /// None where a change is not well formed: those before it may not be made alone.
 pub fn changes_in<'a>(
     alloc: Global,
-    values: &'a [Value],
+    values: &[Value<'a>],
 ) -> Result<Option<Vec<Change<'a>>>, AllocError>
     ensures { IfOk result (λ told. option_map (λ v. map (λ change. changed_of change) v.items) told
-        ≡ changes_in (items_view values.now)) }
+        ≡ changes_in (seen_all values.now)) }
 {
     let mut changes = Vec::with_capacity(alloc, values.len())?;
     for value in values {

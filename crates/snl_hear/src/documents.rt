@@ -4,10 +4,11 @@
 
 ghost use Rattle.std.specs.Prelude.{◌≡◌, option_and_then, option_map};
 ghost use Rattle.serde_json.specs.Find.{get};
-ghost use Rattle.serde_json.specs.View.{view};
 ghost use Rattle.snl_hear.specs.Documents.{document_in, located_in, located_of, number_at, place_in, string_at, text_in, uri_in, version_in};
+ghost use Rattle.snl_hear.specs.Values.{seen};
 
-use serde_json::Value;
+use crate::values::{member_of, string_in, unsigned_of};
+use json::Value;
 use snl_place::Place;
 
 /// A document and a place in it, as the client names them. The text need not have such a place.
@@ -17,21 +18,21 @@ pub struct DocumentPlace<'a> {
     pub place: Place,
 }
 
-fn number_at(value: &Value, key: &str) -> Option<u64>
-    ensures { result ≡ number_at key.now (view value.now) }
+fn number_at(value: &Value<'_>, key: &str) -> Option<u64>
+    ensures { result ≡ number_at key.now (seen value.now) }
 {
-    value.get(key)?.as_u64()
+    unsigned_of(member_of(value, key)?)
 }
 
-pub fn string_at<'a>(value: &'a Value, key: &str) -> Option<&'a str>
-    ensures { option_map (λ s. s.now) result ≡ string_at key.now (view value.now) }
+pub fn string_at<'a>(value: &Value<'a>, key: &str) -> Option<&'a str>
+    ensures { option_map (λ s. s.now) result ≡ string_at key.now (seen value.now) }
 {
-    value.get(key)?.as_str()
+    string_in(member_of(value, key)?)
 }
 
 /// `{"line": LINE, "character": CHARACTER}`
-pub fn place_in(value: &Value) -> Option<Place>
-    ensures { result ≡ place_in (view value.now) }
+pub fn place_in(value: &Value<'_>) -> Option<Place>
+    ensures { result ≡ place_in (seen value.now) }
 {
     let line = number_at(value, "line")?;
     let character = number_at(value, "character")?;
@@ -42,42 +43,42 @@ pub fn place_in(value: &Value) -> Option<Place>
 }
 
 /// `{"textDocument": DOCUMENT}`
-fn document_in<'a>(params: Option<&'a Value>) -> Option<&'a Value>
-    ensures { option_map (λ v. view v.now) result
-        ≡ document_in (option_map (λ v. view v.now) params.entry) }
+fn document_in<'v, 'a>(params: Option<&'v Value<'a>>) -> Option<&'v Value<'a>>
+    ensures { option_map (λ v. seen v.now) result
+        ≡ document_in (option_map (λ v. seen v.now) params.entry) }
 {
-    params?.get("textDocument")
+    member_of(params?, "textDocument")
 }
 
 /// `{"textDocument": {"uri": URI}}`
-pub fn uri_in<'a>(params: Option<&'a Value>) -> Option<&'a str>
+pub fn uri_in<'a>(params: Option<&Value<'a>>) -> Option<&'a str>
     ensures { option_map (λ s. s.now) result
-        ≡ uri_in (option_map (λ v. view v.now) params.entry) }
+        ≡ uri_in (option_map (λ v. seen v.now) params.entry) }
 {
     string_at(document_in(params)?, "uri")
 }
 
 /// `{"textDocument": {"version": VERSION}}`
-pub fn version_in(params: Option<&Value>) -> Option<u64>
-    ensures { result ≡ version_in (option_map (λ v. view v.now) params.entry) }
+pub fn version_in(params: Option<&Value<'_>>) -> Option<u64>
+    ensures { result ≡ version_in (option_map (λ v. seen v.now) params.entry) }
 {
     number_at(document_in(params)?, "version")
 }
 
 /// `{"textDocument": {"text": TEXT}}`
-pub fn text_in<'a>(params: Option<&'a Value>) -> Option<&'a str>
+pub fn text_in<'a>(params: Option<&Value<'a>>) -> Option<&'a str>
     ensures { option_map (λ s. s.now) result
-        ≡ text_in (option_map (λ v. view v.now) params.entry) }
+        ≡ text_in (option_map (λ v. seen v.now) params.entry) }
 {
     string_at(document_in(params)?, "text")
 }
 
 /// `{"textDocument": {"uri": URI}, "position": PLACE}`
-pub fn located_in<'a>(params: Option<&'a Value>) -> Option<DocumentPlace<'a>>
+pub fn located_in<'a>(params: Option<&Value<'a>>) -> Option<DocumentPlace<'a>>
     ensures { option_map (λ at. located_of at) result
-        ≡ located_in (option_map (λ v. view v.now) params.entry) }
+        ≡ located_in (option_map (λ v. seen v.now) params.entry) }
 {
     let uri = uri_in(params)?;
-    let place = place_in(params?.get("position")?)?;
+    let place = place_in(member_of(params?, "position")?)?;
     Some(DocumentPlace { uri, place })
 }

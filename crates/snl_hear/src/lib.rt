@@ -4,7 +4,7 @@
 //! that it is neither. Strings are lent by what was read, so that a document's text is not copied
 //! again. The crate knows nothing of documents, of what is answered, and of what may be asked when.
 //!
-//! `body` reads the bytes as JSON, `messages` tells what kind of message it is, `requests` and
+//! `body` reads the bytes as JSON, `values` and `numbers` look into it, `messages` tells what kind of message it is, `requests` and
 //! `notifications` tell what it asks, `documents` what its parameters say.
 #![tactic(auto)]
 
@@ -15,7 +15,10 @@ mod ids;
 mod laws;
 mod messages;
 mod notifications;
+mod numbers;
+mod ranges;
 mod requests;
+mod values;
 
 pub use body::Body;
 pub use changes::Change;

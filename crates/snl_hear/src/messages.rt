@@ -3,14 +3,15 @@
 //! Knows nothing of what is done for it.
 
 ghost use Rattle.std.specs.Prelude.{◌≡◌, Some, IfOk, option_map};
-ghost use Rattle.serde_json.specs.View.{view};
 ghost use Rattle.snl_hear.specs.Heard.{HasSoundId, by_id, heard_in, heard_of, is_response, without_method};
+ghost use Rattle.snl_hear.specs.Values.{seen};
 
 use crate::documents::string_at;
 use crate::ids::id_in;
 use crate::notifications::{Notification, notification_in};
 use crate::requests::{Request, request_in};
-use serde_json::Value;
+use crate::values::member_of;
+use json::Value;
 use snl_say::Id;
 use std::alloc::{AllocError, Global};
 
@@ -30,14 +31,14 @@ pub enum Message<'a> {
 }
 
 /// Whether it has a result or an error.
-fn is_response(value: &Value) -> bool
-    ensures { result ≡ is_response (view value.now) }
+fn is_response(value: &Value<'_>) -> bool
+    ensures { result ≡ is_response (seen value.now) }
 {
-    value.get("result").is_some() || value.get("error").is_some()
+    member_of(value, "result").is_some() || member_of(value, "error").is_some()
 }
 
-fn without_method(value: &Value) -> Message<'_>
-    ensures heard { heard_of result ≡ without_method (view value.now) }
+fn without_method<'a>(value: &Value<'a>) -> Message<'a>
+    ensures heard { heard_of result ≡ without_method (seen value.now) }
     ensures id { HasSoundId result }
 {
     if is_response(value) {
@@ -47,9 +48,9 @@ fn without_method(value: &Value) -> Message<'_>
     }
 }
 
-fn by_id<'a>(id: &'a Value, method: &str, params: Option<&'a Value>) -> Message<'a>
+fn by_id<'a>(id: &Value<'a>, method: &str, params: Option<&Value<'a>>) -> Message<'a>
     ensures heard { heard_of result
-        ≡ by_id (view id.now) method.now (option_map (λ v. view v.now) params.entry) }
+        ≡ by_id (seen id.now) method.now (option_map (λ v. seen v.now) params.entry) }
     ensures id { HasSoundId result }
 {
     match id_in(id) {
@@ -62,15 +63,15 @@ fn by_id<'a>(id: &'a Value, method: &str, params: Option<&'a Value>) -> Message<
 }
 
 /// What the message says. Memory is for the list of changes alone.
-pub fn message_in(alloc: Global, value: &Value) -> Result<Message<'_>, AllocError>
-    ensures heard { IfOk result (λ message. heard_of message ≡ heard_in (Some (view value.now))) }
+pub fn message_in<'a>(alloc: Global, value: &Value<'a>) -> Result<Message<'a>, AllocError>
+    ensures heard { IfOk result (λ message. heard_of message ≡ heard_in (Some (seen value.now))) }
     ensures id { IfOk result (λ message. HasSoundId message) }
 {
     let Some(method) = string_at(value, "method") else {
         return Ok(without_method(value));
     };
-    let params = value.get("params");
-    match value.get("id") {
+    let params = member_of(value, "params");
+    match member_of(value, "id") {
         Some(id) => Ok(by_id(id, method, params)),
         None => {
             let told = notification_in(alloc, method, params)?;

@@ -3,14 +3,15 @@
 //! Knows nothing of the documents that are open.
 
 ghost use Rattle.std.specs.Prelude.{◌≡◌, IfOk, map, option_map};
-ghost use Rattle.serde_json.specs.View.{view};
 ghost use Rattle.snl_hear.specs.Changes.{all_changes_in, changed_of};
 ghost use Rattle.snl_hear.specs.Notifications.{changed_by, closed_by, noted_in, noted_of, notification_named, opened_by};
 ghost use Rattle.snl_hear.specs.Documents.{text_in, uri_in, version_in};
+ghost use Rattle.snl_hear.specs.Values.{seen};
 
 use crate::changes::{Change, changes_in};
 use crate::documents::{text_in, uri_in, version_in};
-use serde_json::Value;
+use crate::values::{items_of, member_of};
+use json::Value;
 use std::alloc::{AllocError, Global};
 
 /// What a notification tells. A version is given where it is an integer of 64 bits, from 0 on.
@@ -69,10 +70,10 @@ fn notification_named(name: &str) -> NotificationMethod
     }
 }
 
-fn did_open<'a>(params: Option<&'a Value>) -> Notification<'a>
-    ensures { noted_of result ≡ opened_by (uri_in (option_map (λ v. view v.now) params.entry))
-        (version_in (option_map (λ v. view v.now) params.entry))
-        (text_in (option_map (λ v. view v.now) params.entry)) }
+fn did_open<'a>(params: Option<&Value<'a>>) -> Notification<'a>
+    ensures { noted_of result ≡ opened_by (uri_in (option_map (λ v. seen v.now) params.entry))
+        (version_in (option_map (λ v. seen v.now) params.entry))
+        (text_in (option_map (λ v. seen v.now) params.entry)) }
 {
     let Some(uri) = uri_in(params) else {
         return Notification::InvalidParams { uri: None };
@@ -84,8 +85,8 @@ fn did_open<'a>(params: Option<&'a Value>) -> Notification<'a>
     Notification::DidOpen { uri, version, text }
 }
 
-fn did_close<'a>(params: Option<&'a Value>) -> Notification<'a>
-    ensures { noted_of result ≡ closed_by (uri_in (option_map (λ v. view v.now) params.entry)) }
+fn did_close<'a>(params: Option<&Value<'a>>) -> Notification<'a>
+    ensures { noted_of result ≡ closed_by (uri_in (option_map (λ v. seen v.now) params.entry)) }
 {
     match uri_in(params) {
         Some(uri) => Notification::DidClose { uri },
@@ -96,28 +97,28 @@ fn did_close<'a>(params: Option<&'a Value>) -> Notification<'a>
 /// `{"contentChanges": [CHANGE, ..]}`
 fn all_changes_in<'a>(
     alloc: Global,
-    params: Option<&'a Value>,
+    params: Option<&Value<'a>>,
 ) -> Result<Option<Vec<Change<'a>>>, AllocError>
     ensures { IfOk result (λ told. option_map (λ v. map (λ change. changed_of change) v.items) told
-        ≡ all_changes_in (option_map (λ v. view v.now) params.entry)) }
+        ≡ all_changes_in (option_map (λ v. seen v.now) params.entry)) }
 {
     let Some(params) = params else {
         return Ok(None);
     };
-    let Some(changes) = params.get("contentChanges") else {
+    let Some(changes) = member_of(params, "contentChanges") else {
         return Ok(None);
     };
-    match changes.as_array() {
-        Some(values) => changes_in(alloc, values.as_slice()),
+    match items_of(changes) {
+        Some(values) => changes_in(alloc, values),
         None => Ok(None),
     }
 }
 
-fn did_change<'a>(alloc: Global, params: Option<&'a Value>) -> Result<Notification<'a>, AllocError>
+fn did_change<'a>(alloc: Global, params: Option<&Value<'a>>) -> Result<Notification<'a>, AllocError>
     ensures { IfOk result (λ told. noted_of told
-        ≡ changed_by (uri_in (option_map (λ v. view v.now) params.entry))
-        (version_in (option_map (λ v. view v.now) params.entry))
-        (all_changes_in (option_map (λ v. view v.now) params.entry))) }
+        ≡ changed_by (uri_in (option_map (λ v. seen v.now) params.entry))
+        (version_in (option_map (λ v. seen v.now) params.entry))
+        (all_changes_in (option_map (λ v. seen v.now) params.entry))) }
 {
     let Some(uri) = uri_in(params) else {
         return Ok(Notification::InvalidParams { uri: None });
@@ -137,10 +138,10 @@ fn did_change<'a>(alloc: Global, params: Option<&'a Value>) -> Result<Notificati
 pub fn notification_in<'a>(
     alloc: Global,
     method: &str,
-    params: Option<&'a Value>,
+    params: Option<&Value<'a>>,
 ) -> Result<Notification<'a>, AllocError>
     ensures { IfOk result (λ told. noted_of told
-        ≡ noted_in method.now (option_map (λ v. view v.now) params.entry)) }
+        ≡ noted_in method.now (option_map (λ v. seen v.now) params.entry)) }
 {
     match notification_named(method) {
         NotificationMethod::Initialized => Ok(Notification::Initialized),

@@ -3,11 +3,12 @@
 //! Knows nothing of its id, and of what is answered.
 
 ghost use Rattle.std.specs.Prelude.{◌≡◌, option_map};
-ghost use Rattle.serde_json.specs.View.{items_view, view};
 ghost use Rattle.snl_hear.specs.Requests.{asked_in, asked_of, encoding_in, method_named, offered_in, offers_utf_8, says_utf_8};
+ghost use Rattle.snl_hear.specs.Values.{seen, seen_all};
 
 use crate::documents::{DocumentPlace, located_in, uri_in};
-use serde_json::Value;
+use crate::values::{items_of, member_of, string_in};
+use json::Value;
 use snl_place::Encoding;
 
 /// What a request asks. Its places count their lines in the encoding that was agreed on.
@@ -54,26 +55,25 @@ fn method_named(name: &str) -> RequestMethod
 }
 
 /// `{"capabilities": {"general": {"positionEncodings": [ENCODING, ..]}}}`
-fn offered_in<'a>(params: Option<&'a Value>) -> Option<&'a [Value]>
-    ensures { option_map (λ all. items_view all.now) result
-        ≡ offered_in (option_map (λ v. view v.now) params.entry) }
+fn offered_in<'v, 'a>(params: Option<&'v Value<'a>>) -> Option<&'v [Value<'a>]>
+    ensures { option_map (λ all. seen_all all.now) result
+        ≡ offered_in (option_map (λ v. seen v.now) params.entry) }
 {
-    let general = params?.get("capabilities")?.get("general")?;
-    let offered = general.get("positionEncodings")?.as_array()?;
-    Some(offered.as_slice())
+    let general = member_of(member_of(params?, "capabilities")?, "general")?;
+    items_of(member_of(general, "positionEncodings")?)
 }
 
-fn says_utf_8(value: &Value) -> bool
-    ensures { result ≡ says_utf_8 (view value.now) }
+fn says_utf_8(value: &Value<'_>) -> bool
+    ensures { result ≡ says_utf_8 (seen value.now) }
 {
-    match value.as_str() {
+    match string_in(value) {
         Some(name) => name == "utf-8",
         None => false,
     }
 }
 
-fn offers_utf_8(offered: &[Value]) -> bool
-    ensures { result ≡ offers_utf_8 (items_view offered.now) }
+fn offers_utf_8(offered: &[Value<'_>]) -> bool
+    ensures { result ≡ offers_utf_8 (seen_all offered.now) }
 {
     for value in offered {
         if says_utf_8(value) {
@@ -84,8 +84,8 @@ fn offers_utf_8(offered: &[Value]) -> bool
 }
 
 /// UTF-8, where the client offers it. Else UTF-16, which each client knows.
-fn encoding_in(params: Option<&Value>) -> Encoding
-    ensures { result ≡ encoding_in (option_map (λ v. view v.now) params.entry) }
+fn encoding_in(params: Option<&Value<'_>>) -> Encoding
+    ensures { result ≡ encoding_in (option_map (λ v. seen v.now) params.entry) }
 {
     match offered_in(params) {
         Some(offered) if offers_utf_8(offered) => Encoding::Utf8,
@@ -94,8 +94,8 @@ fn encoding_in(params: Option<&Value>) -> Encoding
 }
 
 /// What a request of this method asks.
-pub fn request_in<'a>(method: &str, params: Option<&'a Value>) -> Request<'a>
-    ensures { asked_of result ≡ asked_in method.now (option_map (λ v. view v.now) params.entry) }
+pub fn request_in<'a>(method: &str, params: Option<&Value<'a>>) -> Request<'a>
+    ensures { asked_of result ≡ asked_in method.now (option_map (λ v. seen v.now) params.entry) }
 {
     match method_named(method) {
         RequestMethod::Initialize => Request::Initialize(encoding_in(params)),

@@ -1,6 +1,7 @@
 //! What bodies of messages ask.
 
 use crate::words::add_message;
+use json::Scratch;
 use snl_hear::Body;
 use std::alloc::Global;
 use std::process::Abort;
@@ -9,7 +10,8 @@ use std::test::Fail;
 /// What a body asks, as words.
 fn heard(alloc: Global, body: &[u8]) -> Result<Vec<u8>, Fail> {
     let mut words = Vec::new(alloc);
-    let body = Body::read(alloc, body)?;
+    let mut scratch = Scratch::new(alloc);
+    let body = Body::read(alloc, body, &mut scratch)?;
     let message = body.message(alloc)?;
     add_message(alloc, &mut words, &message)?;
     Ok(words)
@@ -153,7 +155,7 @@ static IDS: [(&[u8], &str); 12] = [
 ];
 
 // Bodies that are no request and no notification.
-static OTHERS: [(&[u8], &str); 16] = [
+static OTHERS: [(&[u8], &str); 21] = [
     (b"", "no JSON "),
     (b"{]}", "no JSON "),
     (b"{\"method\":\"exit\"", "no JSON "),
@@ -161,6 +163,14 @@ static OTHERS: [(&[u8], &str); 16] = [
     (b"{\"method\":\"ex\xffit\"}", "no JSON "),
     (b"{\"method\":\"\\ud83d\"}", "no JSON "),
     (b"{\"method\":NaN}", "no JSON "),
+    (b"{\"method\":\"exit\",\"a\":1e999}", "no JSON "),
+    (
+        b"{\"method\":\"exit\",\"a\":[{\"b\":[0,-1e999]}]}",
+        "no JSON ",
+    ),
+    (b"{\"method\":\"exit\",\"a\":[1e308,-1e-999]}", "exit "),
+    (b"{\"method\":\"initialized\",\"method\":\"exit\"}", "exit "),
+    (b"{\"m\\u0065thod\":\"\\u0065xit\"}", "exit "),
     (b"null", "no message "),
     (b"\"exit\"", "no message "),
     (b"[{\"method\":\"exit\"}]", "no message "),

@@ -1,12 +1,11 @@
-use Rattle.std.proofs.Common.{arith}
-use Rattle.serde_json.specs.Errors.{IsMemory}
-use Rattle.snl_hear.proofs.Bodies.{json_read, json_refused}
+use Rattle.std.proofs.Common.{ap, ◌∙◌}
+use Rattle.serde_json.specs.Read.{read}
+use Rattle.snl_hear.proofs.Bodies.{json_of_text, no_json}
 use Rattle.snl_hear.proofs.body.Body.read.Goals as goal
 
-pub returns-in-Ok : goal.returns-in-Ok
-returns-in-Ok c = json_read _ _ c.in-Ok.ensures.ok.0 c.in-Ok.ensures.ok.1
+pub returns-in_default : goal.returns-in_default
+returns-in_default c = no_json c.args.bytes.now c.in_default.ensures
 
-pub returns-else-is_memory : goal.returns-else-is_memory
-returns-else-is_memory c =
-    let ordinary : IsMemory c.in-Err.error → ⊥ = grind arith in
-    json_refused _ (c.in-Err.ensures.err ordinary)
+pub returns : goal.returns
+returns c =
+    c.in_ok-json.ensures ∙ ap read c.in-Ok.ensures.0 ∙ json_of_text c.args.bytes.now c.in-Ok.ensures.1
