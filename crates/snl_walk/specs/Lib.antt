@@ -14,4 +14,3 @@ pub mod Passing
 pub mod Undeclared
 pub mod Rules
 pub mod Repeated
-pub mod Prints

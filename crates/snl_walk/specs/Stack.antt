@@ -1,7 +1,5 @@
--- What a table and a stack of declarations say of names.
-use Rattle.std.specs.Prelude.{◌≡◌, ℕ, List, [], ◌∷◌, map, reverse, Option, None, if◌then◌else◌}
-use Rattle.std.specs.Str.{bytes_eq}
-use Rattle.snl_walk.specs.declared.name_key.NameKey.{NameKey}
+-- What a book of names with their meanings, and a stack of declarations, say of names.
+use Rattle.std.specs.Prelude.{◌≡◌, ℕ, List, [], ◌∷◌, ◌++◌, bytes_eq, get_or, length, map, nat_lt, position, reverse, slice_set, Option, None, if◌then◌else◌, option_and_then}
 use Rattle.snl_walk.specs.declared.occurrence.Local.{Local}
 use Rattle.snl_walk.specs.declared.stack.VisibleName.{VisibleName}
 use Rattle.snl_walk.specs.Scopes.{look_up}
@@ -18,12 +16,18 @@ abbrev pub KeepsEarlier : List VisibleName → Type 0
 KeepsEarlier [] = Unit {0}
 KeepsEarlier (e ∷ es) = (e.earlier ≡ look_up e.name.now (map shown es)) × KeepsEarlier es
 
--- What a table says of a name.
-abbrev pub told_by : List (NameKey × Option Local) → List ℕ → Option Local
-told_by [] name = None
-told_by (e ∷ es) name = if bytes_eq name e.0.bytes.now then e.1 else told_by es name
+-- What a name means, by its number among the names of the book.
+abbrev pub told_in : List (List ℕ) → List (Option Local) → List ℕ → Option Local
+told_in names meanings name =
+    option_and_then (λ n. get_or meanings n None) (position (bytes_eq name) names)
 
--- The table says of each name what the stack says.
-pub record IsStacked (es : List VisibleName) (table : List (NameKey × Option Local)) : Type 0 where
-  pub told : (name : List ℕ) → told_by table name ≡ look_up name (newest_first es)
+-- Meanings, with another one at a number, or one more at their end.
+abbrev pub put_at : ℕ → Option Local → List (Option Local) → List (Option Local)
+put_at n meaning meanings =
+    if nat_lt n (length meanings) then slice_set meanings n meaning else meanings ++ meaning ∷ []
+
+-- The book says of each name what the stack says.
+pub record IsStacked (es : List VisibleName) (names : List (List ℕ)) (meanings : List (Option Local)) : Type 0 where
+  pub told : (name : List ℕ) → told_in names meanings name ≡ look_up name (newest_first es)
   pub kept : KeepsEarlier (reverse es)
+  pub counted : length meanings ≡ length names

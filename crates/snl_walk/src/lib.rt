@@ -8,7 +8,6 @@ mod declares;
 mod expressions;
 mod items;
 mod laws;
-mod name_key;
 mod name_set;
 mod occurrence;
 mod other_items;
@@ -26,7 +25,6 @@ pub use laws::{
     functions_are_named_first, option_letters_rise, repeated_names_resolve,
     same_answers_same_findings, same_bytes_same_occurrences, subscripts_stand_second, tokens_rise,
 };
-pub use name_key::{NameKey, print_of};
 pub use name_set::NameSet;
 pub use occurrence::{ArgumentRole, Follows, Local, Manner, Occurrence, What};
 pub use other_items::{OtherItems, Outer};

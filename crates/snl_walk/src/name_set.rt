@@ -4,21 +4,20 @@ ghost use Rattle.std.specs.Prelude.{◌≡◌, [], IfOk, OnOk, bytes_eq, not};
 ghost use Rattle.std.specs.List.{list_any};
 ghost use Rattle.snl_walk.specs.Once.{with_new};
 
-use crate::name_key::NameKey;
-use indexmap::IndexSet;
 use snl_cut::OutOfMemory;
 use snl_facts::are_same_bytes;
+use snl_names::NameBook;
 use std::alloc::Global;
 use std::marker::Model;
 
-/// So many names are looked through one by one, which takes less than to hash one.
+/// So many names are looked through one by one, which takes less than to look one up in a book.
 const FEW: usize = 8;
 
 /// Different names, which contracts see as their list, in the order in which they came. The first
-/// few are in a list, and those after them in a table.
+/// few are in a list, and those after them in a book.
 pub struct NameSet<'a> {
-    few: Vec<NameKey<'a>>,
-    more: IndexSet<NameKey<'a>>,
+    few: Vec<&'a [u8]>,
+    more: NameBook,
 }
 
 // By hand, so that whoever holds names need not know how they are held to let them go.
@@ -33,14 +32,14 @@ impl<'a> Model for NameSet<'a> {
 
     ghost Value = { List (List ℕ) };
 
-    ghost view = { λ a. map (λ k. k.bytes.now) (a.few.items ++ a.more.keys) };
+    ghost view = { λ a. map (λ k. k.now) a.few.items ++ a.more };
 }
 
 // Whether a name is one of these.
-fn is_among(keys: &[NameKey], name: &[u8]) -> bool
-    ensures { result ≡ list_any (λ k. bytes_eq name.now k.bytes.now) keys.now }
+fn is_among(names: &[&[u8]], name: &[u8]) -> bool
+    ensures { result ≡ list_any (λ k. bytes_eq name.now k.now) names.now }
 {
-    keys.iter().any(|key| are_same_bytes(name, key.bytes))
+    names.iter().any(|known| are_same_bytes(name, known))
 }
 
 impl<'a> NameSet<'a> {
@@ -49,7 +48,7 @@ impl<'a> NameSet<'a> {
     {
         NameSet {
             few: Vec::new(alloc),
-            more: IndexSet::new(alloc),
+            more: NameBook::new(alloc),
         }
     }
 
@@ -61,17 +60,19 @@ impl<'a> NameSet<'a> {
         if is_among(&self.few, name) {
             return Ok(false);
         }
-        if self.few.len() < FEW && self.more.is_empty() {
-            self.few.push(NameKey { bytes: name })?;
+        let known = self.more.count();
+        if self.few.len() < FEW && known == 0 {
+            self.few.push(name)?;
             return Ok(true);
         }
-        Ok(self.more.insert(NameKey { bytes: name })?)
+        self.more.add(name)?;
+        Ok(self.more.count() > known)
     }
 
     /// Whether a name is among them.
     pub fn contains(&self, name: &[u8]) -> bool
         ensures { result ≡ list_any (bytes_eq name.now) self.now }
     {
-        is_among(&self.few, name) || self.more.contains(&NameKey { bytes: name })
+        is_among(&self.few, name) || self.more.number(name).is_some()
     }
 }

@@ -263,5 +263,6 @@ pub(crate) fn add_block<'a>(
     for member in members {
         add_content(source, names, context, member, found)?;
     }
-    names.leave(declared.len())
+    names.leave(declared.len());
+    Ok(())
 }

@@ -11,7 +11,7 @@ use snl_facts::are_same_bytes;
 use std::alloc::Global;
 use std::marker::Model;
 
-/// So many declarations are looked through one by one, which takes less than to hash a name.
+/// So many declarations are looked through one by one, which takes less than to look a name up.
 const FEW: usize = 8;
 
 // A declaration and its name.
@@ -23,7 +23,7 @@ struct FewName<'a> {
 
 /// Names with their declarations, the last one taken in first, which contracts see as that list.
 /// The last declaration of a name that was taken in counts. The first few that were taken in are in
-/// a list, and those after them in a stack with a table.
+/// a list, and those after them in a stack with a book.
 pub(crate) struct Visible<'a> {
     few: Vec<FewName<'a>>,
     more: Stack<'a>,
@@ -94,24 +94,22 @@ impl<'a> Visible<'a> {
     }
 
     // Lets go of the declaration that was taken in last.
-    fn pop(&mut self) -> Result<(), OutOfMemory>
-        ensures { OnOk result (self.new ≡ drop 1 self.old) }
+    fn pop(&mut self)
+        ensures { self.new ≡ drop 1 self.old }
     {
         if self.more.is_empty() {
             let _last = self.few.pop();
-            Ok(())
         } else {
-            self.more.pop()
+            self.more.pop();
         }
     }
 
     /// Lets go of so many declarations, those that were taken in last.
-    pub(crate) fn leave(&mut self, count: usize) -> Result<(), OutOfMemory>
-        ensures { OnOk result (self.new ≡ drop count self.old) }
+    pub(crate) fn leave(&mut self, count: usize)
+        ensures { self.new ≡ drop count self.old }
     {
         for _ in 0..count {
-            self.pop()?;
+            self.pop();
         }
-        Ok(())
     }
 }

@@ -1,16 +1,21 @@
-use Rattle.std.proofs.Common.{◌≡◌, ap, refl, ◌∙◌}
-use Rattle.std.specs.Option.{option_flatten}
-use Rattle.snl_walk.specs.Scopes.{look_up}
-use Rattle.snl_walk.specs.Stack.{newest_first}
-use Rattle.snl_walk.proofs.Tables.{stack-push, told-lookup}
+use Rattle.std.proofs.Common.{◌≡◌, None, Some, bytes_eq, get_or, ap, sym, ◌∙◌}
+use Rattle.std.specs.List.{position}
+use Rattle.snl_names.specs.NameBook.{with_name}
+use Rattle.snl_walk.specs.declared.stack.VisibleName.{VisibleName}
+use Rattle.snl_walk.proofs.Tables.{is_put, stack-push}
 use Rattle.snl_walk.proofs.stack.Stack.push.Goals as goal
 
 pub invariant_of-self-2 : goal.invariant_of-self-2
 invariant_of-self-2 c =
-    let name = c.args.name in
-    let es = c.self.inside.entries.items in
-    let table = c.self.inside.held.entries in
-    let earlier : c.flatten.result ≡ look_up name.now (newest_first es) =
-    c.flatten.ensures ∙ ap option_flatten c.in_ok-held.ensures.old ∙ told-lookup name.now table ∙ c.self.invariant.told name.now in
-    let now = stack-push es table (record { name = name; declared = c.args.declared; earlier = c.flatten.result }) name refl earlier c.self.invariant in
-    rw (c.push_reserved.ensures.items, c.reserve.ensures.items, c.in_ok-held.ensures.entries) now
+    let name = c.args.name.now in
+    let names = c.self.inside.names in
+    let meanings = c.self.inside.meanings.items in
+    let n = c.in_ok-number.number in
+    let e : VisibleName = record { name = c.args.name; declared = c.args.declared; earlier = c.put_meaning-earlier.result } in
+    let at : position (bytes_eq name) (with_name names name) ≡ Some n =
+    ap (position (bytes_eq name)) (sym c.in_ok-number.ensures.names) ∙ c.in_ok-number.ensures.number in
+    let put = is_put names meanings name n (Some c.args.declared) c.self.invariant.counted at in
+    let earlier : e.earlier ≡ get_or meanings n None =
+    c.put_meaning-earlier.ensures.earlier ∙ ap (λ ms. get_or ms n None) c.in_ok-reserve-2.ensures.items in
+    let now = stack-push c.self.inside.entries.items names (with_name names name) meanings n e put earlier c.self.invariant in
+    rw (c.push_reserved.ensures.items, c.reserve.ensures.items, c.in_ok-number.ensures.names, c.put_meaning-earlier.ensures.meanings, c.reserve-2.ensures.items) now
