@@ -1,6 +1,6 @@
 -- The table of channels by variable and element, and the channels of each declaration: what one
 -- more channel is to them.
-use Rattle.std.proofs.Common.{◌≡◌, ℕ, zero, suc, ◌<◌, ◌≤◌, Bool, true, false, ◌&&◌, ◌||◌, cond, List, [], ◌∷◌, ◌++◌, length, get_or, slice_get, nat_eq, Option, None, Some, is_some, refl, sym, ap, ◌∙◌, true≢false, inl, inr, if◌then◌else◌, arith, length-append}
+use Rattle.std.proofs.Common.{◌≡◌, ℕ, zero, suc, ◌<◌, ◌≤◌, Bool, true, false, ◌&&◌, ◌||◌, cond, List, [], ◌∷◌, ◌++◌, length, get_or, slice_get, nat_eq, Option, None, Some, is_some, refl, sym, ap, subst, ◌∙◌, true≢false, inl, inr, if◌then◌else◌, arith, length-append}
 use Rattle.std.proofs.Math.ListN.{set}
 use Rattle.std.proofs.Math.Seq.{get_or-append_seam, set-append_seam}
 use Rattle.std.proofs.lemmas.Bool.{and_parts, cases_lt, false_from_ne_true}
@@ -58,7 +58,7 @@ known_same : (one q : ElementKey) (held : List (ElementKey × ℕ)) (b : Bool) �
 known_same one q held b h t = ap (λ c. is_some (lookup (same_key c) held)) (sym (key_true one q t)) ∙ ap is_some (sym (lookup_is one held)) ∙ h
 
 -- a key that no channel has had yet
-pub adds_new : (one : ElementKey) (number : ℕ) (before after : List (ElementKey × ℕ)) → is_some (lookup (key_eq.eq-value.it one) before) ≡ false
+adds_new : (one : ElementKey) (number : ℕ) (before after : List (ElementKey × ℕ)) → is_some (lookup (key_eq.eq-value.it one) before) ≡ false
     → ((q : ElementKey) → lookup (key_eq.eq-value.it q) after ≡ cond (key_eq.eq-value.it one q) (Some number) (lookup (key_eq.eq-value.it q) before))
     → Adds before after (same_key one) number
 adds_new one number before after absent put =
@@ -74,13 +74,20 @@ adds_new one number before after absent put =
     by q false h = sym (or_none (lookup (same_key q) before))
 
 -- a key that an earlier channel has
-pub adds_known : (one : ElementKey) (number : ℕ) (held : List (ElementKey × ℕ)) → is_some (lookup (key_eq.eq-value.it one) held) ≡ true → Adds held held (same_key one) number
+adds_known : (one : ElementKey) (number : ℕ) (held : List (ElementKey × ℕ)) → is_some (lookup (key_eq.eq-value.it one) held) ≡ true → Adds held held (same_key one) number
 adds_known one number held there = record { each = λ q. by q (same_key one q) (known_same one q held true there) }
   where
     by : (q : ElementKey) (b : Bool) → (b ≡ true → is_some (lookup (same_key q) held) ≡ true)
         → lookup (same_key q) held ≡ option_or (lookup (same_key q) held) (if b then Some number else None)
     by q true h = sym (or_known (lookup (same_key q) held) (Some number) (h refl))
     by q false h = sym (or_none (lookup (same_key q) held))
+
+pub adds_first : (one : ElementKey) (number : ℕ) (before after : List (ElementKey × ℕ)) (seen : Bool) → seen ≡ is_some (lookup (key_eq.eq-value.it one) before)
+    → (seen ≡ true → after ≡ before)
+    → (seen ≡ false → (q : ElementKey) → lookup (key_eq.eq-value.it q) after ≡ cond (key_eq.eq-value.it one q) (Some number) (lookup (key_eq.eq-value.it q) before))
+    → Adds before after (same_key one) number
+adds_first one number before after true seen stays put = subst (λ held. Adds before held (same_key one) number) (sym (stays refl)) (adds_known one number before (sym seen))
+adds_first one number before after false seen stays put = adds_new one number before after (sym seen) (put refl)
 
 -- a channel of the whole variable has no key
 pub adds_none : (held : List (ElementKey × ℕ)) (has : ElementKey → Bool) (number : ℕ) → ((k : ElementKey) → has k ≡ false) → Adds held held has number

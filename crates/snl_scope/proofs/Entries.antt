@@ -7,7 +7,6 @@ use Rattle.std.specs.List.{position}
 use Rattle.std.specs.Map.{lookup}
 use Rattle.std.specs.Option.{option_and_then, option_or}
 use Rattle.std.specs.Str.{bytes_eq}
-use Rattle.indexmap.specs.IndexMap.{insert_entry}
 use Rattle.snl_facts.specs.Options.{none_or, or_none}
 use Rattle.snl_facts.specs.Positions.{position_push}
 use Rattle.snl_scope.specs.declared.facts.LinkFault.{LinkFault}
@@ -148,20 +147,6 @@ lookup-same p q (e ∷ es) h = ap (λ b. cond b (Some e.1) (lookup p es)) (h e.0
 
 pub lookup_is : (k : QualifiedName) (entries : List (QualifiedName × ℕ)) → lookup (key_eq.eq-value.it k) entries ≡ lookup (same_key k) entries
 lookup_is k entries = lookup-same (key_eq.eq-value.it k) (same_key k) entries (key_is k)
-
--- a value that is put in the place of another and back leaves the entries as they were
-put-back : (eq : QualifiedName → QualifiedName → Bool) (k : QualifiedName) (v w : ℕ) (es : List (QualifiedName × ℕ)) → lookup (eq k) es ≡ Some w → insert_entry eq (insert_entry eq es k v) k w ≡ es
-put-back eq k v w [] h = absurd (cc)
-put-back eq k v w (e ∷ es) h = by (λ f. put-back eq k v w es f) (eq k e.0) refl h
-  where
-    by : (lookup (eq k) es ≡ Some w → insert_entry eq (insert_entry eq es k v) k w ≡ es) → (b : Bool) → eq k e.0 ≡ b → cond b (Some e.1) (lookup (eq k) es) ≡ Some w
-        → insert_entry eq (if b then (e.0, v) ∷ es else e ∷ insert_entry eq es k v) k w ≡ e ∷ es
-    by rest true g f = let same : w ≡ e.1 = cc in ap (λ b. if b then (e.0, w) ∷ es else (e.0, v) ∷ insert_entry eq es k w) g ∙ ap (λ x. (e.0, x) ∷ es) same
-    by rest false g f = ap (λ b. if b then (e.0, w) ∷ insert_entry eq es k v else e ∷ insert_entry eq (insert_entry eq es k v) k w) g ∙ ap (λ l. e ∷ l) (rest f)
-
-pub first_stays : (k : QualifiedName) (number first : ℕ) (entries : List (QualifiedName × ℕ)) → Some first ≡ lookup (key_eq.eq-value.it k) entries
-    → insert_entry key_eq.eq-value.it (insert_entry key_eq.eq-value.it entries k number) k first ≡ entries
-first_stays k number first entries h = put-back key_eq.eq-value.it k number first entries (sym h)
 
 pub put_is : (k : QualifiedName) (number : ℕ) (before after : List (QualifiedName × ℕ))
     → ((q : QualifiedName) → lookup (key_eq.eq-value.it q) after ≡ cond (key_eq.eq-value.it k q) (Some number) (lookup (key_eq.eq-value.it q) before))

@@ -1,12 +1,12 @@
 -- Lemmas on the first clause that makes a claim: what a further claim and a further clause are to
 -- the table of them.
-use Rattle.std.proofs.Common.{◌≡◌, ℕ, Bool, true, false, ◌&&◌, ◌||◌, cond, List, [], ◌∷◌, ◌++◌, length, filter, map, nat_eq, Option, None, Some, is_some, refl, sym, ap, ◌∙◌, true≢false, if◌then◌else◌}
+use Rattle.std.proofs.Common.{◌≡◌, ℕ, Bool, true, false, ◌&&◌, ◌||◌, cond, List, [], ◌∷◌, ◌++◌, length, filter, map, nat_eq, Option, None, Some, is_some, refl, sym, ap, subst, ◌∙◌, true≢false, if◌then◌else◌}
 use Rattle.std.proofs.Math.Bool.{and_assoc}
 use Rattle.std.proofs.lemmas.Bool.Decides.{Decides-eqb}
 use Rattle.std.specs.List.{list_any, position}
 use Rattle.std.specs.Map.{lookup}
 use Rattle.std.specs.Option.{option_or}
-use Rattle.snl_facts.specs.Options.{or_none}
+use Rattle.snl_facts.specs.Options.{none_or, or_none}
 use Rattle.snl_facts.specs.Positions.{any_position, position_push}
 use Rattle.snl_scope.specs.declared.clauses.clause_index.Claim.{Claim}
 use Rattle.snl_scope.specs.declared.clauses.clause_index.ClauseIndex.{ClauseIndex}
@@ -91,40 +91,42 @@ lookup_is m (e ∷ es) =
     ap (λ b. cond b (Some e.1) (lookup (claim_eq.eq-value.it m) es)) (claim_is m e.0) ∙ ap (cond (same_claim m e.0) (Some e.1)) (lookup_is m es)
 
 -- what is known of a claim is known of an equal one
-known-same : (one q : Claim) (held : List (Claim × ℕ)) (o : Option ℕ) → lookup (claim_eq.eq-value.it one) held ≡ o → same_claim one q ≡ true → lookup (same_claim q) held ≡ o
-known-same one q held o h t = ap (λ c. lookup (same_claim c) held) (sym (claim_true one q t)) ∙ sym (lookup_is one held) ∙ h
+known-same : (one q : Claim) (held : List (Claim × ℕ)) (b : Bool) → is_some (lookup (claim_eq.eq-value.it one) held) ≡ b → same_claim one q ≡ true
+    → is_some (lookup (same_claim q) held) ≡ b
+known-same one q held b h t = ap (λ c. is_some (lookup (same_claim c) held)) (sym (claim_true one q t)) ∙ ap is_some (sym (lookup_is one held)) ∙ h
 
 -- What a claim more is to the table of those on elements.
 abbrev PutsFirst : List (Claim × ℕ) → List (Claim × ℕ) → Claim → ℕ → Type 0
 PutsFirst before after one number = (q : Claim) → lookup (same_claim q) after ≡ option_or (lookup (same_claim q) before) (if same_claim one q then Some number else None)
 
 -- a claim that no clause has made yet
-pub puts-new : (one : Claim) (number : ℕ) (before after : List (Claim × ℕ)) → lookup (claim_eq.eq-value.it one) before ≡ None
+puts-new : (one : Claim) (number : ℕ) (before after : List (Claim × ℕ)) → is_some (lookup (claim_eq.eq-value.it one) before) ≡ false
     → ((q : Claim) → lookup (claim_eq.eq-value.it q) after ≡ cond (claim_eq.eq-value.it one q) (Some number) (lookup (claim_eq.eq-value.it q) before))
     → PutsFirst before after one number
 puts-new one number before after absent put = λ q.
     sym (lookup_is q after) ∙ put q ∙ ap (λ b. cond b (Some number) (lookup (claim_eq.eq-value.it q) before)) (claim_is one q)
-    ∙ ap (cond (same_claim one q) (Some number)) (lookup_is q before) ∙ by q (same_claim one q) (known-same one q before None absent)
+    ∙ ap (cond (same_claim one q) (Some number)) (lookup_is q before) ∙ by q (same_claim one q) (known-same one q before false absent)
   where
-    by : (q : Claim) (b : Bool) → (b ≡ true → lookup (same_claim q) before ≡ None)
+    by : (q : Claim) (b : Bool) → (b ≡ true → is_some (lookup (same_claim q) before) ≡ false)
         → cond b (Some number) (lookup (same_claim q) before) ≡ option_or (lookup (same_claim q) before) (if b then Some number else None)
-    by q true h = sym (ap (λ o. option_or o (Some number)) (h refl))
+    by q true h = sym (none_or (lookup (same_claim q) before) (Some number) (h refl))
     by q false h = sym (or_none (lookup (same_claim q) before))
 
--- a claim that an earlier clause has made: the number that is put in its place is taken back
-pub puts-known : (one : Claim) (number earlier : ℕ) (before between after : List (Claim × ℕ)) → lookup (claim_eq.eq-value.it one) before ≡ Some earlier
-    → ((q : Claim) → lookup (claim_eq.eq-value.it q) between ≡ cond (claim_eq.eq-value.it one q) (Some number) (lookup (claim_eq.eq-value.it q) before))
-    → ((q : Claim) → lookup (claim_eq.eq-value.it q) after ≡ cond (claim_eq.eq-value.it one q) (Some earlier) (lookup (claim_eq.eq-value.it q) between))
-    → PutsFirst before after one number
-puts-known one number earlier before between after there put back = λ q.
-    sym (lookup_is q after) ∙ back q ∙ ap (λ b. cond b (Some earlier) (lookup (claim_eq.eq-value.it q) between)) (claim_is one q)
-    ∙ ap (cond (same_claim one q) (Some earlier)) (put q ∙ ap (λ b. cond b (Some number) (lookup (claim_eq.eq-value.it q) before)) (claim_is one q)
-    ∙ ap (cond (same_claim one q) (Some number)) (lookup_is q before)) ∙ by q (same_claim one q) (known-same one q before (Some earlier) there)
+-- a claim that an earlier clause has made
+puts-known : (one : Claim) (number : ℕ) (held : List (Claim × ℕ)) → is_some (lookup (claim_eq.eq-value.it one) held) ≡ true → PutsFirst held held one number
+puts-known one number held there = λ q. by (lookup (same_claim q) held) (same_claim one q) (known-same one q held true there)
   where
-    by : (q : Claim) (b : Bool) → (b ≡ true → lookup (same_claim q) before ≡ Some earlier)
-        → cond b (Some earlier) (cond b (Some number) (lookup (same_claim q) before)) ≡ option_or (lookup (same_claim q) before) (if b then Some number else None)
-    by q true h = sym (ap (λ o. option_or o (Some number)) (h refl))
-    by q false h = sym (or_none (lookup (same_claim q) before))
+    by : (o : Option ℕ) (b : Bool) → (b ≡ true → is_some o ≡ true) → o ≡ option_or o (if b then Some number else None)
+    by (Some n) b h = refl
+    by None true h = absurd (true≢false (sym (h refl)))
+    by None false h = refl
+
+pub puts-first : (one : Claim) (number : ℕ) (before after : List (Claim × ℕ)) (seen : Bool) → seen ≡ is_some (lookup (claim_eq.eq-value.it one) before)
+    → (seen ≡ true → after ≡ before)
+    → (seen ≡ false → (q : Claim) → lookup (claim_eq.eq-value.it q) after ≡ cond (claim_eq.eq-value.it one q) (Some number) (lookup (claim_eq.eq-value.it q) before))
+    → PutsFirst before after one number
+puts-first one number before after true seen stays put = subst (λ held. PutsFirst before held one number) (sym (stays refl)) (puts-known one number before (sym seen))
+puts-first one number before after false seen stays put = puts-new one number before after (sym seen) (put refl)
 
 pub adds-same : (before after : ClauseIndex) (p q : Claim → Bool) (number : ℕ) → ((m : Claim) → p m ≡ q m) → Adds before after p number → Adds before after q number
 adds-same before after p q number h a = record { each = λ m. a.each m ∙ ap (λ b. option_or (claim_in before m) (if b then Some number else None)) (h m) }

@@ -7,9 +7,8 @@ use Rattle.std.specs.Str.{bytes_eq}
 use Rattle.std.proofs.lemmas.List.Folds.{list_any-append}
 use Rattle.std.proofs.lemmas.Map.Keys.{IsDistinct-push}
 use Rattle.std.proofs.lemmas.Map.Made.{AllPairs-from_IsDistinct}
-use Rattle.std.proofs.lemmas.Map.Views.{list_any-from_Contains}
+use Rattle.std.proofs.lemmas.Map.Views.{Contains-from_any, list_any-from_Contains}
 use Rattle.std.proofs.lemmas.Slice.Eq.{bytes_eq-Decides}
-use Rattle.indexmap.proofs.CallerLemmas.{Contains-list_any}
 use Rattle.snl_facts.specs.Bytes.{same_bytes}
 use Rattle.snl_walk.specs.Once.{once, once_after, with_new}
 
@@ -53,6 +52,6 @@ among_after found (x ∷ xs) name =
 pub once_same : (names : List (List ℕ)) (name : List ℕ) → Contains (once names) name ↔ Contains names name
 once_same names name =
     let kept : list_any (bytes_eq name) (once names) ≡ list_any (bytes_eq name) names = among_after [] names name in (
-      λ h. Contains-list_any bytes_eq same_bytes names name (sym kept ∙ list_any-from_Contains nat_list_eq_equiv name (once names) h),
-      λ h. Contains-list_any bytes_eq same_bytes (once names) name (kept ∙ list_any-from_Contains nat_list_eq_equiv name names h),
+      λ h. Contains-from_any same_bytes name names (sym kept ∙ list_any-from_Contains nat_list_eq_equiv name (once names) h),
+      λ h. Contains-from_any same_bytes name (once names) (kept ∙ list_any-from_Contains nat_list_eq_equiv name names h),
     )

@@ -1,13 +1,14 @@
 -- Items see the same where names mean the same; and what is seen of numbers of names is so of names.
 use Rattle.std.proofs.Common.{◌≡◌, ℕ, zero, suc, ◌+◌, ◌<◌, Bool, true, false, cond, nat_lt, List, [], ◌∷◌, length, take, get_or, slice_get, Option, None, Some, refl, sym, ap, ap₂, subst, ◌∙◌, arith, inl, inr, true≢false, is_some, map}
 use Rattle.std.specs.Prelude.{bytes_eq, if◌then◌else◌, option_map}
-use Rattle.std.specs.List.{position}
+use Rattle.std.specs.List.{AllByRecursion as Each, position}
 use Rattle.std.specs.Map.{lookup}
 use Rattle.std.specs.Option.{option_and_then, option_map_or, option_or}
 use Rattle.std.proofs.lemmas.Bool.{cases_lt, le-ltb, lt-ltb}
 use Rattle.std.proofs.lemmas.List.Quantifiers.{position-Some}
 use Rattle.std.proofs.lemmas.Map.Entries.{place_from_lookup}
-use Rattle.std.proofs.lemmas.Option.{get_or_from_slice_get, slice_get-map, slice_get_within}
+use Rattle.std.proofs.lemmas.Option.{slice_get-map}
+use Rattle.snl_facts.specs.Each.{each_got}
 use Rattle.snl_facts.specs.Positions.{position_cons}
 use Rattle.snl_scope.specs.Linked.{fact_at, fact_of}
 use Rattle.snl_scope.specs.Names.{entries, number_in, resolve}
@@ -163,30 +164,23 @@ module _ (both : Compared) (s t : Namespace) (b a : List (List ℕ)) (count : bo
 
 -- ---- state sets
 
--- A key that something is under is among the keys.
-pub record IsKeyAt (first : FirstNumbers) (s : Namespace) (n : ℕ) : Type 0 where
-  pub place : ℕ
-  pub within : place < length (map (λ e. e.0) first.elsewhere.entries)
-  pub key : (d : QualifiedName) → get_or (map (λ e. e.0) first.elsewhere.entries) place d ≡ record { namespace = s; name = n }
-
-key_at : (first : FirstNumbers) (s : Namespace) (n m : ℕ) → is_program s ≡ false → number_under first s n ≡ Some m → IsKeyAt first s n
-key_at first s n m elsewhere h =
-    let es : List (QualifiedName × ℕ) = first.elsewhere.entries in
+-- What is so of each key is so of one that something is under.
+at_key : (P : QualifiedName → Type 0) (first : FirstNumbers) (s : Namespace) (n m : ℕ) → is_program s ≡ false → number_under first s n ≡ Some m
+    → Each P (map (λ e. e.0) first.elsewhere) → P (record { namespace = s; name = n })
+at_key P first s n m elsewhere h each =
+    let es : List (QualifiedName × ℕ) = first.elsewhere in
     let q : QualifiedName = record { namespace = s; name = n } in
     let seen : lookup (same_key q) es ≡ Some m = sym (ap (λ (c : Bool). if c then (name_head first.heads.items n).in_program else lookup (same_key q) es) elsewhere) ∙ h in
     let at = place_from_lookup (same_key q) es m seen in
     let got : slice_get (map (λ e. e.0) es) at.0 ≡ Some at.1 = slice_get-map (λ (e : QualifiedName × ℕ). e.0) es at.0 ∙ ap (option_map (λ (e : QualifiedName × ℕ). e.0)) at.2 in
-    record {
-      place = at.0;
-      within = slice_get_within (map (λ e. e.0) es) at.0 at.1 got;
-      key = λ d. get_or_from_slice_get (map (λ e. e.0) es) at.0 at.1 d got ∙ sym (λ e. record { namespace = (key_true q at.1 at.3).0 e; name = (key_true q at.1 at.3).1 e });
-    }
+    let same : q ≡ at.1 = λ e. record { namespace = (key_true q at.1 at.3).0 e; name = (key_true q at.1 at.3).1 e } in
+    subst P (sym same) (each_got P (map (λ e. e.0) es) at.0 at.1 each got)
 
 -- The namespaces of one kind of state sets that are marked.
 module _ (S : ℕ → Namespace) (of_set : (k : ℕ) → set_in (S k) ≡ Some k) (other : (k n : ℕ) → with_set (S k) n ≡ S n) (elsewhere : (k : ℕ) → is_program (S k) ≡ false)
     (both : Compared) (moved : Moved) (marks : List Bool) (k : ℕ) (back : number_before moved (number_after moved k) ≡ k) (marked : get_or marks (number_after moved k) false ≡ true)
-    (old : (i : ℕ) (d : QualifiedName) → i < length (map (λ e. e.0) both.before.first.now.elsewhere.entries) → IsPaired both moved side.Before marks (get_or (map (λ e. e.0) both.before.first.now.elsewhere.entries) i d))
-    (new : (i : ℕ) (d : QualifiedName) → i < length (map (λ e. e.0) both.after.first.now.elsewhere.entries) → IsPaired both moved side.After marks (get_or (map (λ e. e.0) both.after.first.now.elsewhere.entries) i d))
+    (old : Each (IsPaired both moved side.Before marks) (map (λ e. e.0) both.before.first.now.elsewhere))
+    (new : Each (IsPaired both moved side.After marks) (map (λ e. e.0) both.after.first.now.elsewhere))
     (n : ℕ) where
   abbrev t : ℕ
   t = number_after moved k
@@ -194,16 +188,14 @@ module _ (S : ℕ → Namespace) (of_set : (k : ℕ) → set_in (S k) ≡ Some k
   by_old : (m : ℕ) → number_under both.before.first.now (S k) n ≡ Some m → same_under both (S k) (S t) n ≡ true
   by_old m h =
       let q : QualifiedName = record { namespace = S k; name = n } in
-      let at = key_at both.before.first.now (S k) n m (elsewhere k) h in
-      let is : IsPaired both moved side.Before marks q = subst (IsPaired both moved side.Before marks) (at.key q) (old at.place q at.within) in
+      let is : IsPaired both moved side.Before marks q = at_key (IsPaired both moved side.Before marks) both.before.first.now (S k) n m (elsewhere k) h old in
       ap (λ (x : Namespace). same_under both (S k) x n) (sym (other k t))
       ∙ is (pair_of moved side.Before (S k) k) (ap (option_map (pair_of moved side.Before (S k))) (of_set k)) marked
 
   by_new : (m : ℕ) → number_under both.after.first.now (S t) n ≡ Some m → same_under both (S k) (S t) n ≡ true
   by_new m h =
       let q : QualifiedName = record { namespace = S t; name = n } in
-      let at = key_at both.after.first.now (S t) n m (elsewhere t) h in
-      let is : IsPaired both moved side.After marks q = subst (IsPaired both moved side.After marks) (at.key q) (new at.place q at.within) in
+      let is : IsPaired both moved side.After marks q = at_key (IsPaired both moved side.After marks) both.after.first.now (S t) n m (elsewhere t) h new in
       ap (λ (x : Namespace). same_under both x (S t) n) (sym (other t (number_before moved t) ∙ ap S back))
       ∙ is (pair_of moved side.After (S t) t) (ap (option_map (pair_of moved side.After (S t))) (of_set t)) marked
 
@@ -222,18 +214,9 @@ module _ (S : ℕ → Namespace) (of_set : (k : ℕ) → set_in (S k) ≡ Some k
           (ap (λ (o : Option ℕ). if nat_lt n both.before.names then option_map (fact_at both.before.links.now.outlines) o else None) h ∙ nothing (fact_at both.before.links.now.outlines) (nat_lt n both.before.names))
           (ap (λ (o : Option ℕ). if nat_lt n both.after.names then option_map (fact_at both.after.links.now.outlines) o else None) g ∙ nothing (fact_at both.after.links.now.outlines) (nat_lt n both.after.names))
 
--- The keys up to one more: what is so of those before stays where fewer sets are marked.
-pub paired_more : (both : Compared) (moved : Moved) (v : Side) (keys : List QualifiedName) (old new : List Bool) (place : ℕ) (key : QualifiedName)
-    → Unmarks old new → ((i : ℕ) (d : QualifiedName) → i < place → IsPaired both moved v old (get_or keys i d))
-    → ((d : QualifiedName) → get_or keys place d ≡ key) → IsPaired both moved v new key
-    → (i : ℕ) (d : QualifiedName) → i < place + 1 → IsPaired both moved v new (get_or keys i d)
-paired_more both moved v keys old new place key fewer before is here i d lt =
-    elim (cases_lt i place) [
-      | inl less ↦ λ p pair marked. before i d less p pair (fewer p.set marked)
-      | inr more ↦
-          let same : i ≡ place = omega (arith, lt, more) in
-          subst (IsPaired both moved v new) (sym (is d) ∙ ap (λ (k : ℕ). get_or keys k d) (sym same)) here
-    ]
+-- What is so of a key stays where fewer sets are marked.
+pub still_paired : (both : Compared) (moved : Moved) (v : Side) (old new : List Bool) → Unmarks old new → (q : QualifiedName) → IsPaired both moved v old q → IsPaired both moved v new q
+still_paired both moved v old new fewer q is p pair marked = is p pair (fewer p.set marked)
 
 -- ---- all of it
 

@@ -100,7 +100,7 @@ extent_in e (extent.Element k) o = o
 
 -- The number of the first clause that makes a claim.
 abbrev pub claim_in : ClauseIndex → Claim → Option ℕ
-claim_in c m = extent_in (extents_on c.places.items c.claimed.items m.variable m.purpose) m.extent (lookup (same_claim m) c.elements.entries)
+claim_in c m = extent_in (extents_on c.places.items c.claimed.items m.variable m.purpose) m.extent (lookup (same_claim m) c.elements)
 
 -- What is claimed of variables stays, but for elements.
 abbrev pub KeepsExtents : ClauseIndex → ClauseIndex → Type 0

@@ -124,7 +124,7 @@ name_head heads n = get_or heads n (record { in_program = None; is_inner = false
 
 -- What the tables have for a name in a namespace.
 abbrev pub number_under : FirstNumbers → Namespace → ℕ → Option ℕ
-number_under first s n = if is_program s then (name_head first.heads.items n).in_program else lookup (same_key (record { namespace = s; name = n })) first.elsewhere.entries
+number_under first s n = if is_program s then (name_head first.heads.items n).in_program else lookup (same_key (record { namespace = s; name = n })) first.elsewhere
 
 -- A name that nothing inner is known of has nothing in the scope of a state set or of a state.
 abbrev pub TellsInner : FirstNumbers → Type 0

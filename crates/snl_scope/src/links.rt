@@ -247,6 +247,13 @@ impl Links {
         self.faults.as_slice()
     }
 
+    /// What each item is.
+    pub fn kinds(&self) -> &[ItemKind]
+        ensures { result.now ≡ self.now.kinds }
+    {
+        &self.kinds
+    }
+
     /// All findings where the items have the same outlines and these kinds: a state that became
     /// faulty, for one, gives none of its own. `set_kinds` puts both in place.
     pub fn order_faults_for(

@@ -1,7 +1,8 @@
 //! Which items are known to see of the others after an edit what they saw before it: what names mean
 //! in the program and in each state set is compared once, and not at each use.
 
-ghost use Rattle.std.specs.Prelude.{◌≡◌, ◌<◌, IsTrue, IfOk, List, Some, ℕ, false, get_or, length, true, vec_len};
+ghost use Rattle.std.specs.Prelude.{◌≡◌, ◌<◌, IsTrue, IfOk, List, Some, ℕ, false, get_or, map, true, vec_len};
+ghost use Rattle.std.specs.List.{AllByRecursion as Each};
 ghost use Rattle.snl_scope.specs.SameMeanings.{AreBoth, AreSame, ByNames, IsPaired, SamePlace, Unmarks, meaning_under, number_after, number_before, paired, same_meaning, same_under, set_in, with_set};
 ghost use Rattle.snl_scope.specs.View.{view};
 ghost use Rattle.snl_scope.specs.declared.names.namespaces.Namespace.{Namespace};
@@ -177,24 +178,38 @@ fn unmark(marks: &mut Vec<bool>, number: usize)
     }
 }
 
+// Takes the mark of a key's state set away, if the name doesn't mean in it what it meant.
+fn unmark_if_changed(
+    both: Compared,
+    moved: Moved,
+    side: Side,
+    key: QualifiedName,
+    marks: &mut Vec<bool>,
+)
+    ensures fewer { Unmarks marks.old.items marks.new.items }
+    ensures same { IsPaired both.entry moved side marks.new.items key }
+{
+    if let Some(pair) = paired(moved, side, key.namespace) {
+        if !means_the_same(both, pair.before, pair.after, key.name) {
+            unmark(marks, pair.set);
+        }
+    }
+}
+
 // Takes the marks of state sets away in which one of the names doesn't mean what it meant.
 fn unmark_changed(
     both: Compared,
     moved: Moved,
     side: Side,
-    keys: &[QualifiedName],
+    first: &FirstNumbers,
     marks: &mut Vec<bool>,
 )
     ensures fewer { Unmarks marks.old.items marks.new.items }
-    ensures same { (i : ℕ) (d : QualifiedName) → i < length keys.now
-        → IsPaired both.entry moved side marks.new.items (get_or keys.now i d) }
+    ensures same { Each (IsPaired both.entry moved side marks.new.items)
+        (map (λ e. e.0) first.now.elsewhere) }
 {
-    for key in keys {
-        if let Some(pair) = paired(moved, side, key.namespace) {
-            if !means_the_same(both, pair.before, pair.after, key.name) {
-                unmark(marks, pair.set);
-            }
-        }
+    for key in first.keys_elsewhere() {
+        unmark_if_changed(both, moved, side, *key, marks);
     }
 }
 
@@ -209,20 +224,8 @@ fn compare_names(both: Compared, moved: Moved, marks: &mut Vec<bool>) -> bool
         marks.clear();
         return false;
     }
-    unmark_changed(
-        both,
-        moved,
-        Side::Before,
-        both.before.first.keys_elsewhere(),
-        marks,
-    );
-    unmark_changed(
-        both,
-        moved,
-        Side::After,
-        both.after.first.keys_elsewhere(),
-        marks,
-    );
+    unmark_changed(both, moved, Side::Before, both.before.first, marks);
+    unmark_changed(both, moved, Side::After, both.after.first, marks);
     true
 }
 

@@ -27,6 +27,8 @@ mod names;
 #[cfg(test)]
 mod nesting;
 #[cfg(test)]
+mod numbers;
+#[cfg(test)]
 mod pieces;
 #[cfg(test)]
 mod reading;

@@ -7,8 +7,8 @@ ghost use Rattle.snl_check.specs.Hashed.{key_fed, same_key_fed, which_number};
 ghost use Rattle.snl_check.specs.Numbered.{Adds, AddsAll, Numbered, HoldsBelow, element_at, has_key, same_key};
 
 use crate::rows::channels::AssignedChannel;
-use indexmap::IndexMap;
 use snl_cut::OutOfMemory;
+use snl_numbers::NumbersByKey;
 use snl_tables::ChannelRow;
 use sqlite_items::Items;
 use std::alloc::Global;
@@ -16,7 +16,7 @@ use std::hash::{Hash, Hasher};
 use std::marker::Model;
 
 /// Which element of a variable is meant.
-#[derive(Clone, Copy, PartialEq, Eq)]
+#[derive(Clone, Copy, PartialEq, Eq, PartialOrd, Ord)]
 pub(crate) enum Which {
     Any,
     /// The element with this number.
@@ -24,7 +24,7 @@ pub(crate) enum Which {
 }
 
 /// An element of the variable that is the declaration with a number.
-#[derive(Clone, Copy, PartialEq, Eq)]
+#[derive(Clone, Copy, PartialEq, Eq, PartialOrd, Ord)]
 pub(crate) struct ElementKey {
     pub variable: usize,
     pub which: Which,
@@ -56,7 +56,7 @@ impl Hash for ElementKey {
 /// elements the number of the first. Contracts see the list of these pairs.
 #[derive(Drop)]
 pub(crate) struct ChannelNumbers {
-    held: IndexMap<ElementKey, usize>,
+    held: NumbersByKey<ElementKey>,
 }
 
 impl Model for ChannelNumbers {
@@ -65,7 +65,7 @@ impl Model for ChannelNumbers {
 
     ghost Value = { List (ElementKey × ℕ) };
 
-    ghost view = { λ a. a.held.entries };
+    ghost view = { λ a. a.held };
 }
 
 impl ChannelNumbers {
@@ -74,7 +74,7 @@ impl ChannelNumbers {
         ensures { result ≡ [] }
     {
         ChannelNumbers {
-            held: IndexMap::new(alloc),
+            held: NumbersByKey::new(alloc),
         }
     }
 
@@ -83,7 +83,7 @@ impl ChannelNumbers {
         ensures { IfOk result (λ numbers. numbers ≡ []) }
     {
         Ok(ChannelNumbers {
-            held: IndexMap::with_capacity(alloc, room)?,
+            held: NumbersByKey::with_capacity(alloc, room)?,
         })
     }
 
@@ -91,15 +91,16 @@ impl ChannelNumbers {
     pub(crate) fn number(&self, key: ElementKey) -> Option<usize>
         ensures { result ≡ lookup (same_key key) self.now }
     {
-        self.held.get(&key).copied()
+        self.held.get(&key)
     }
 
-    // Adds a key of the channel with a number. One that had it before stays the first.
+    // Adds a key of the channel with a number. One that had it before stays the first. It is sought
+    // before it is put, since the key of all elements of a variable nearly always had one before.
     fn add(&mut self, key: ElementKey, number: usize) -> Result<(), OutOfMemory>
         ensures { OnOk result (Adds self.old self.new (same_key key) number) }
     {
-        if !self.held.contains_key(&key) {
-            self.held.insert(key, number)?;
+        if self.held.get(&key).is_none() {
+            self.held.add_first(key, number)?;
         }
         Ok(())
     }

@@ -13,13 +13,13 @@ ghost use Rattle.snl_scope.specs.declared.clauses.clause_index.Extent.TheVariant
 
 use crate::by_number::{at_number, put_at};
 use crate::summaries::summary::{ClauseKind, Coverage};
-use indexmap::IndexMap;
 use snl_cut::OutOfMemory;
+use snl_numbers::NumbersByKey;
 use std::alloc::Global;
 use std::hash::{Hash, Hasher};
 
 /// What a clause is for. `sync` and `syncq` have one purpose.
-#[derive(Clone, Copy, PartialEq, Eq)]
+#[derive(Clone, Copy, PartialEq, Eq, PartialOrd, Ord)]
 pub(crate) enum Purpose {
     Assign,
     Monitor,
@@ -27,7 +27,7 @@ pub(crate) enum Purpose {
 }
 
 /// How much of a variable is claimed.
-#[derive(Clone, Copy, PartialEq, Eq)]
+#[derive(Clone, Copy, PartialEq, Eq, PartialOrd, Ord)]
 pub(crate) enum Extent {
     /// Anything at all, be it no element.
     Any,
@@ -38,7 +38,7 @@ pub(crate) enum Extent {
 }
 
 /// A claim on the variable with a number.
-#[derive(Clone, Copy, PartialEq, Eq)]
+#[derive(Clone, Copy, PartialEq, Eq, PartialOrd, Ord)]
 pub(crate) struct Claim {
     pub purpose: Purpose,
     pub variable: usize,
@@ -123,7 +123,7 @@ pub(crate) struct ClauseIndex {
     // for each variable its place among those that are claimed
     pub places: Vec<Option<usize>>,
     pub claimed: Vec<VariableClaims>,
-    pub elements: IndexMap<Claim, usize>,
+    pub elements: NumbersByKey<Claim>,
 }
 
 // By hand, so that whoever holds claims need not know how they are held to let them go.
@@ -194,24 +194,18 @@ fn place_of(places: &[Option<usize>], claimed: &[VariableClaims], variable: usiz
     }
 }
 
-// Adds the number of the first clause that makes a claim on an element. A new claim, as nearly all
-// are, takes one look-up.
+// Adds the number of the first clause that makes a claim on an element.
 fn add_element(
-    elements: &mut IndexMap<Claim, usize>,
+    elements: &mut NumbersByKey<Claim>,
     claim: Claim,
     number: usize,
 ) -> Result<(), OutOfMemory>
-    ensures { OnOk result ((m : Claim) → lookup (same_claim m) elements.new.entries
-        ≡ option_or (lookup (same_claim m) elements.old.entries)
+    ensures { OnOk result ((m : Claim) → lookup (same_claim m) elements.new
+        ≡ option_or (lookup (same_claim m) elements.old)
         (if same_claim claim m then Some number else None)) }
 {
-    match elements.insert(claim, number)? {
-        None => Ok(()),
-        Some(earlier) => {
-            elements.insert(claim, earlier)?;
-            Ok(())
-        }
-    }
+    elements.add_first(claim, number)?;
+    Ok(())
 }
 
 impl ClauseIndex {
@@ -226,7 +220,7 @@ impl ClauseIndex {
         Ok(ClauseIndex {
             places: Vec::with_capacity(alloc, below)?,
             claimed: Vec::with_capacity(alloc, claimed)?,
-            elements: IndexMap::new(alloc),
+            elements: NumbersByKey::new(alloc),
         })
     }
 
@@ -254,7 +248,7 @@ impl ClauseIndex {
                     variable,
                     extent,
                 };
-                self.elements.get(&claim).copied()
+                self.elements.get(&claim)
             }
         }
     }

@@ -9,8 +9,8 @@ ghost use Rattle.snl_scope.specs.declared.names.namespaces.Namespace.{Namespace}
 ghost use Rattle.snl_scope.specs.NameTables.{AreSame, IsPut, TellsInner, is_inner, is_program, name_head, nearest_under, number_under, same_key};
 
 use crate::names::namespaces::{Namespace, QualifiedName};
-use indexmap::IndexMap;
 use snl_cut::OutOfMemory;
+use snl_numbers::{Keys, NumbersByKey};
 use std::alloc::Global;
 
 /// What the program has under a name, and whether a state set or a state may have something under
@@ -26,7 +26,7 @@ pub(crate) struct NameHead {
 pub(crate) struct FirstNumbers {
     pub heads: Vec<NameHead>,
     // those that are elsewhere
-    pub elsewhere: IndexMap<QualifiedName, usize>,
+    pub elsewhere: NumbersByKey<QualifiedName>,
     // all, in the order in which they came
     pub numbers: Vec<usize>,
 }
@@ -76,37 +76,31 @@ fn make_head(heads: &mut Vec<NameHead>, name: usize) -> Result<(), OutOfMemory>
 }
 
 // Adds the number of the first that came with a key, and tells whether one came before, which then
-// stays the first. A new key, as nearly all are, takes one look-up.
+// stays the first.
 fn add_first(
-    table: &mut IndexMap<QualifiedName, usize>,
+    table: &mut NumbersByKey<QualifiedName>,
     key: QualifiedName,
     number: usize,
 ) -> Result<bool, OutOfMemory>
-    ensures seen { IfOk result (λ seen. seen ≡ is_some (lookup (same_key key) table.old.entries)) }
-    ensures stays { IfOk result (λ seen. seen ≡ true → table.new.entries ≡ table.old.entries) }
+    ensures seen { IfOk result (λ seen. seen ≡ is_some (lookup (same_key key) table.old)) }
+    ensures stays { IfOk result (λ seen. seen ≡ true → table.new ≡ table.old) }
     ensures put { IfOk result (λ seen. seen ≡ false → (q : QualifiedName) →
-        lookup (same_key q) table.new.entries ≡ (if same_key key q then Some number
-        else lookup (same_key q) table.old.entries)) }
+        lookup (same_key q) table.new ≡ (if same_key key q then Some number
+        else lookup (same_key q) table.old)) }
 {
-    match table.insert(key, number)? {
-        None => Ok(false),
-        Some(earlier) => {
-            table.insert(key, earlier)?;
-            Ok(true)
-        }
-    }
+    table.add_first(key, number)
 }
 
 impl FirstNumbers {
     /// No numbers, with room for those of so many names.
     pub(crate) fn with_room(alloc: Global, room: usize) -> Result<FirstNumbers, OutOfMemory>
         ensures heads { IfOk result (λ first. first.heads.items ≡ []) }
-        ensures elsewhere { IfOk result (λ first. first.elsewhere.entries ≡ []) }
+        ensures elsewhere { IfOk result (λ first. first.elsewhere ≡ []) }
         ensures numbers { IfOk result (λ first. first.numbers.items ≡ []) }
     {
         Ok(FirstNumbers {
             heads: Vec::with_capacity(alloc, room)?,
-            elsewhere: IndexMap::new(alloc),
+            elsewhere: NumbersByKey::new(alloc),
             numbers: Vec::with_capacity(alloc, room)?,
         })
     }
@@ -117,18 +111,15 @@ impl FirstNumbers {
     {
         match namespace {
             Namespace::Program => name_head(&self.heads, name).in_program,
-            _ => self
-                .elsewhere
-                .get(&QualifiedName { namespace, name })
-                .copied(),
+            _ => self.elsewhere.get(&QualifiedName { namespace, name }),
         }
     }
 
     /// The keys of what came in other namespaces than that of the program.
-    pub(crate) fn keys_elsewhere(&self) -> &[QualifiedName]
-        ensures { result.now ≡ map (λ e. e.0) self.now.elsewhere.entries }
+    pub(crate) fn keys_elsewhere(&self) -> Keys<'_, QualifiedName>
+        ensures { result ≡ map (λ e. e.0) self.now.elsewhere }
     {
-        self.elsewhere.keys().as_slice()
+        self.elsewhere.keys()
     }
 
     /// The number of the first that came in the state set, or else in the program.

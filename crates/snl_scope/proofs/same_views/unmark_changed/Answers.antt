@@ -1,50 +1,33 @@
-use Rattle.std.proofs.Common.{◌≡◌, ◌+◌, ◌<◌, ℕ, List, Bool, ap, arith, false, get_or, sym, true≢false, ◌∙◌}
-use Rattle.std.proofs.lemmas.List.{get_or_default}
-use Rattle.std.proofs.lemmas.Option.{same_Some}
-use Rattle.snl_scope.specs.SameMeanings.{IsPaired, Unmarks, same_under}
-use Rattle.snl_scope.specs.declared.names.namespaces.Namespace.TheVariants as namespace
+use Rattle.std.proofs.Common.{◌∷◌, [], Bor, List, Bool, map, subst, ◌∙◌}
+use Rattle.std.specs.List.{AllByRecursion as Each}
+use Rattle.std.specs.Map.Iter.{deref}
+use Rattle.std.proofs.lemmas.Map.Iter.{iter_end}
+use Rattle.snl_facts.specs.Each.{each_append, each_map, each_weaker}
+use Rattle.snl_scope.specs.SameMeanings.{IsPaired}
 use Rattle.snl_scope.specs.declared.names.namespaces.QualifiedName.{QualifiedName}
-use Rattle.snl_scope.specs.declared.same_views.Pair.{Pair}
-use Rattle.snl_scope.proofs.SameMeanings.{paired_more}
+use Rattle.snl_scope.proofs.SameMeanings.{still_paired}
 use Rattle.snl_scope.proofs.same_views.unmark_changed.Goals as goal
-use Rattle.snl_scope.proofs.same_views.unmark_changed.Goals.{in-Some+then-not-means_the_same, in-Some+else-not-means_the_same, in_default}
 
 pub loop-key-preserved : goal.loop-key-preserved
 loop-key-preserved c =
     let both = c.args.both in
-    let keys : List QualifiedName = c.args.keys.now in
-    let at : ℕ = c.loop-key.key-index in
-    let none : QualifiedName = record { namespace = namespace.Program; name = 0 } in
-    let key : QualifiedName = get_or keys at none in
+    let moved = c.args.moved in
+    let v = c.args.side in
     let old : List Bool = c.loop-key.marks.items in
-    let new : List Bool = c.match-paired.marks.items in
-    let is : (d : QualifiedName) → get_or keys at d ≡ key = λ d. get_or_default keys at d none (omega (arith, c.loop-key-test.true)) in
-    let more : Unmarks old new → IsPaired both c.args.moved c.args.side new key → record {
-      fewer : Unmarks c.args.marks.now.items new;
-      same : (i : ℕ) (d : QualifiedName) → i < at + 1 → IsPaired both c.args.moved c.args.side new (get_or keys i d);
-    } =
-    λ fewer here. record {
+    let new : List Bool = c.unmark_if_changed.new.marks.items in
+    let fewer = c.unmark_if_changed.ensures.fewer in
+    let Was : Bor QualifiedName → Type 0 = λ k. IsPaired both moved v old k.now in
+    let Is : Bor QualifiedName → Type 0 = λ k. IsPaired both moved v new k.now in
+    record {
       fewer = λ k h. c.loop-key.invariant.fewer k (fewer k h);
-      same = paired_more both c.args.moved c.args.side keys old new at key fewer c.loop-key.invariant.same is here;
-    } in
-    elim c.match-paired.branch [
-      | in-Some+then-not-means_the_same w ↦
-          let same : new ≡ w.unmark.new.marks.items = ap (λ v. v.items) w.marks-is in
-          more
-          (λ k h. w.unmark.ensures.fewer k (ap (λ (ms : List Bool). get_or ms k false) (sym same) ∙ h))
-          (λ p pair marked.
-          let one : w.in-Some.pair ≡ p = same_Some w.in-Some.pair p (sym w.in-Some.is ∙ c.paired.ensures ∙ pair) in
-          absurd (true≢false (sym marked ∙ ap (λ (ms : List Bool). get_or ms p.set false) same ∙ ap (λ (q : Pair). get_or w.unmark.new.marks.items q.set false) (sym one) ∙ w.unmark.ensures.gone)))
-      | in-Some+else-not-means_the_same w ↦
-          let same : new ≡ old = ap (λ v. v.items) w.marks-is in
-          more
-          (λ k h. ap (λ (ms : List Bool). get_or ms k false) (sym same) ∙ h)
-          (λ p pair marked.
-          let one : w.in-Some.pair ≡ p = same_Some w.in-Some.pair p (sym w.in-Some.is ∙ c.paired.ensures ∙ pair) in
-          ap (λ (q : Pair). same_under both q.before q.after key.name) (sym one) ∙ sym w.means_the_same.ensures ∙ w.if-not-means_the_same.false)
-      | in_default w ↦
-          let same : new ≡ old = ap (λ v. v.items) w.marks-is in
-          more
-          (λ k h. ap (λ (ms : List Bool). get_or ms k false) (sym same) ∙ h)
-          (λ p pair marked. absurd (w.in_default.not-Some p (c.paired.ensures ∙ pair)))
-    ]
+      same = each_append Is c.loop-key.yielded (c.in-Some.key ∷ [])
+          (each_weaker Was Is (λ k. still_paired both moved v old new fewer k.now) c.loop-key.yielded c.loop-key.invariant.same) (c.unmark_if_changed.ensures.same, tt);
+    }
+
+pub returns-clause-same : goal.returns-clause-same
+returns-clause-same c =
+    let P : QualifiedName → Type 0 = IsPaired c.args.both c.args.moved c.args.side c.loop-key.marks.items in
+    let keys : List QualifiedName = map (λ e. e.0) c.args.first.now.elsewhere in
+    let whole = iter_end deref keys c.loop-key.yielded c.into_iter-key-iterator.result c.loop-key.key-iterator c.next.new.self c.next.result
+    (c.into_iter-key-iterator.ensures.into_iter_gives ∙ c.keys_elsewhere-key-items.ensures) c.loop-key.yielded_by c.in-None.is c.next.ensures.steps in
+    subst (Each P) whole.0 (each_map P deref c.loop-key.yielded c.loop-key.invariant.same)

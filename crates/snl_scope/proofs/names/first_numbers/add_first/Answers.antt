@@ -1,14 +1,20 @@
-use Rattle.std.proofs.Common.{◌∙◌, ap, sym}
-use Rattle.indexmap.specs.IndexMap.{insert_entry}
+use Rattle.std.proofs.Common.{◌≡◌, Some, ap, cond, false, is_some, ◌∙◌}
+use Rattle.std.proofs.lemmas.Result.{IfOk-weaker}
+use Rattle.std.specs.Map.{lookup}
 use Rattle.snl_scope.specs.contracts.names.namespaces.QualifiedNamePartialEq.TheImpl as key_eq
-use Rattle.snl_scope.proofs.Entries.{first_stays, put_is}
+use Rattle.snl_scope.specs.declared.names.namespaces.QualifiedName.{QualifiedName}
+use Rattle.snl_scope.proofs.Entries.{lookup_is, put_is}
 use Rattle.snl_scope.proofs.names.first_numbers.add_first.Goals as goal
 
-pub returns-in-None-clause-put : goal.returns-in-None-clause-put
-returns-in-None-clause-put c = λ _. put_is c.args.key c.args.number c.args.table.now.entries c.insert.new.self.entries c.in_ok-insert.ensures.updates.0
+pub returns-clause-seen : goal.returns-clause-seen
+returns-clause-seen c =
+    IfOk-weaker c.add_first.result (λ seen. seen ≡ is_some (lookup (key_eq.eq-value.it c.args.key) c.args.table.now)) _
+    (λ seen is. is ∙ ap is_some (lookup_is c.args.key c.args.table.now)) c.add_first.ensures.seen
 
-pub returns-in_ok-insert-in-Some-clause-stays : goal.returns-in_ok-insert-in-Some-clause-stays
-returns-in_ok-insert-in-Some-clause-stays c = λ _.
-    c.in_ok-insert-in-Some.ensures.entries
-    ∙ ap (λ es. insert_entry key_eq.eq-value.it es c.args.key c.in-Some.earlier) c.in_ok-insert.ensures.entries
-    ∙ first_stays c.args.key c.args.number c.in-Some.earlier c.args.table.now.entries (sym c.in-Some.is ∙ c.in_ok-insert.ensures.old)
+pub returns-clause-put : goal.returns-clause-put
+returns-clause-put c =
+    let old = c.args.table.now in
+    let new = c.add_first.new.self in
+    IfOk-weaker c.add_first.result
+    (λ seen. seen ≡ false → (q : QualifiedName) → lookup (key_eq.eq-value.it q) new ≡ cond (key_eq.eq-value.it c.args.key q) (Some c.args.number) (lookup (key_eq.eq-value.it q) old)) _
+    (λ seen put none. put_is c.args.key c.args.number old new (put none)) c.add_first.ensures.put

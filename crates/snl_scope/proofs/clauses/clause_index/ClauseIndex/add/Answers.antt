@@ -62,9 +62,9 @@ returns-in-Any c =
     ] in
     let adds : AddsOn old new one number → Adds old new (same_claim one) number = λ made. record {
       each = λ m.
-          ap (λ es. extent_in (extents_on new.places.items new.claimed.items m.variable m.purpose) m.extent (lookup (same_claim m) es.entries)) made.elements
-          ∙ ap (λ e. extent_in e m.extent (lookup (same_claim m) old.elements.entries)) (made.extents m.variable m.purpose)
-          ∙ told (same_purpose one.purpose m.purpose) (nat_eq one.variable m.variable) (extents_on old.places.items old.claimed.items m.variable m.purpose) m.extent (lookup (same_claim m) old.elements.entries);
+          ap (λ es. extent_in (extents_on new.places.items new.claimed.items m.variable m.purpose) m.extent (lookup (same_claim m) es)) made.elements
+          ∙ ap (λ e. extent_in e m.extent (lookup (same_claim m) old.elements)) (made.extents m.variable m.purpose)
+          ∙ told (same_purpose one.purpose m.purpose) (nat_eq one.variable m.variable) (extents_on old.places.items old.claimed.items m.variable m.purpose) m.extent (lookup (same_claim m) old.elements);
     } in
     on_ok_weaker c.add_on.result adds c.add_on.ensures
 
@@ -75,13 +75,13 @@ returns-in-Element c =
     let k = c.in-Element.field-0 in
     let number = c.args.number in
     let one : Claim = record { purpose = c.args.purpose; variable = c.args.variable; extent = c.args.extent } in
-    let Found : Claim → Type 0 = λ m. lookup (same_claim m) after.elements.entries ≡ option_or (lookup (same_claim m) old.elements.entries) (if same_claim one m then Some number else None) in
+    let Found : Claim → Type 0 = λ m. lookup (same_claim m) after.elements ≡ option_or (lookup (same_claim m) old.elements) (if same_claim one m then Some number else None) in
     let adds : ((m : Claim) → Found m) → Adds old after (same_claim one) number = λ made. record {
       each = λ m.
           let p = same_purpose one.purpose m.purpose in
           let q = nat_eq one.variable m.variable in
-          let o = lookup (same_claim m) old.elements.entries in
-          let o' = lookup (same_claim m) after.elements.entries in
+          let o = lookup (same_claim m) old.elements in
+          let o' = lookup (same_claim m) after.elements in
           let e = extents_on old.places.items old.claimed.items m.variable m.purpose in
           subst (λ x. o' ≡ option_or o (number_if (p && q && same_extent x m.extent) number)
           → extent_in e m.extent o' ≡ option_or (extent_in e m.extent o) (number_if (p && q && same_extent x m.extent) number))
