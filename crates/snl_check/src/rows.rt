@@ -13,6 +13,7 @@ pub(crate) mod option_rows;
 pub(crate) mod room;
 pub(crate) mod row_source;
 pub(crate) mod set_rows;
+pub(crate) mod set_scratch;
 pub(crate) mod state_rows;
 pub(crate) mod state_source;
 pub(crate) mod syncs;

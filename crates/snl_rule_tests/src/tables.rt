@@ -6,7 +6,7 @@ use snl_reading::tables_in;
 use std::alloc::Global;
 use std::test::Fail;
 
-static TEXTS: [(&str, &str); 9] = [
+static TEXTS: [(&str, &str); 10] = [
     (
         "program p\nint x;\nassign x to \"dev:x\";\nmonitor x;\nevflag f;\nsync x to f;\nss a {\nstate s1 {\nwhen (efTest(f) && x > 3) {\npvPut(x);\n} state s2\n}\nstate s2 {\nwhen () { } state s1\n}\n}\n",
         "program p\nflag 1 f program\nchannel 0 x program \"dev:x\" monitor sync 1\nss a line 7\nstate s1 line 8 reached\n  when 0 s2\n  wake f1 c0\nstate s2 line 13 reached\n  when 0 s1\n  wake -\n",
@@ -40,6 +40,11 @@ static TEXTS: [(&str, &str); 9] = [
     (
         "option +s; option -s; ss a { state i { ( } state k { option +t; when () { } exit } }",
         "program -\noption -s\nss a line 1\nstate i line 1 faulty\nstate k line 1 unknown\n  option +t\n  when 0 exit\n  wake -\n",
+    ),
+    // many state sets, a smaller one and a faulty one between two larger ones
+    (
+        "program p\nss a {\nstate i { when () { } state k }\nstate j { when () { } state i }\nstate k { when () { } state j }\n}\nss b {\nstate i { when () { } exit }\nstate j { when () { } state i }\n}\nss c {\nstate i { ( }\nstate k { when () { } exit }\n}\nss d {\nstate i { when () { } state k }\nstate j { when () { } exit }\nstate k { when () { } exit }\n}\n",
+        "program p\nss a line 2\nstate i line 3 reached\n  when 0 k\n  wake -\nstate j line 4 reached\n  when 0 i\n  wake -\nstate k line 5 reached\n  when 0 j\n  wake -\nss b line 7\nstate i line 8 reached\n  when 0 exit\n  wake -\nstate j line 9 unreached\n  when 0 i\n  wake -\nss c line 11\nstate i line 12 faulty\nstate k line 13 unknown\n  when 0 exit\n  wake -\nss d line 15\nstate i line 16 reached\n  when 0 k\n  wake -\nstate j line 17 unreached\n  when 0 exit\n  wake -\nstate k line 18 reached\n  when 0 exit\n  wake -\n",
     ),
     ("", "program -\n"),
 ];

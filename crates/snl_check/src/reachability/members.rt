@@ -1,7 +1,7 @@
 //! What is in a state set: the items of a text and their links come in; the states of a set and the
 //! targets of each go out, and whether an item is faulty or the first state of its name.
 
-ghost use Rattle.std.specs.Prelude.{◌≡◌, ◌<◌, ◌≤◌, ◌&&◌, ℕ, IfOk, false, length, nat_eq, nat_lt, option_copied, position, None};
+ghost use Rattle.std.specs.Prelude.{◌≡◌, ◌<◌, ◌≤◌, ◌&&◌, ℕ, OnOk, false, length, nat_eq, nat_lt, option_copied, position, take, None};
 ghost use Rattle.std.specs.List.Sorted.{IsStrictlyIncreasing};
 ghost use Rattle.std.specs.Option.{option_map_or};
 ghost use Rattle.snl_scope.specs.Linked.{is_first_state, name_of_state, state_of};
@@ -15,12 +15,12 @@ ghost use Rattle.snl_check.specs.Members.{has_faulty, is_faulty_item, number_amo
 ghost use Rattle.snl_check.specs.Reach.{target_lists};
 
 use crate::rows::item_source::ItemSource;
-use crate::rows::room::with_room;
 use crate::rows::row_source::RowSource;
 use crate::rows::state_source::StateSource;
 use snl_cut::OutOfMemory;
 use snl_lex::{Class, token_text};
 use snl_scope::{Links, sets_open_in_turn};
+use std::alloc::Global;
 
 /// What is in a state set: its states, by the numbers of their items, and whether an item is
 /// faulty.
@@ -28,6 +28,16 @@ use snl_scope::{Links, sets_open_in_turn};
 pub(crate) struct Members {
     pub states: Vec<usize>,
     pub has_faulty: bool,
+}
+
+impl Members {
+    /// What is in a set that has no items.
+    pub(crate) fn new(alloc: Global) -> Members {
+        Members {
+            states: Vec::new(alloc),
+            has_faulty: false,
+        }
+    }
 }
 
 fn is_state_word(word: &[u8]) -> bool
@@ -101,27 +111,31 @@ fn end_of(links: &Links, set: usize, count: usize) -> usize
     count
 }
 
-/// What is in the state set that an item begins.
-pub(crate) fn members_of(row_source: &RowSource, set: usize) -> Result<Members, OutOfMemory>
+/// Puts what is in the state set that an item begins in the place of what was in another.
+pub(crate) fn members_of(
+    row_source: &RowSource,
+    set: usize,
+    members: &mut Members,
+) -> Result<(), OutOfMemory>
     requires linked { IsLinked row_source.now }
     requires set { set < length row_source.now.program.trees.now }
-    ensures states { IfOk result (λ m. m.states.items
+    ensures states { OnOk result (members.new.states.items
         ≡ states_in row_source.now.links.now.outlines set) }
-    ensures faulty { IfOk result (λ m. m.has_faulty
+    ensures faulty { OnOk result (members.new.has_faulty
         ≡ has_faulty (items_in row_source.now.program) row_source.now.links.now.outlines set) }
 {
     let end = end_of(row_source.links, set, row_source.program.trees.len());
-    let mut states = Vec::new(row_source.program.alloc);
-    let mut has_faulty = false;
+    members.states.clear();
+    members.has_faulty = false;
     for item in set + 1..end {
         if is_faulty(row_source, item) {
-            has_faulty = true;
+            members.has_faulty = true;
         }
         if row_source.links.is_named_state(item) {
-            states.push(item)?;
+            members.states.push(item)?;
         }
     }
-    Ok(Members { states, has_faulty })
+    Ok(())
 }
 
 // The number of an item among states.
@@ -148,44 +162,59 @@ pub(crate) fn target_number(
     number_among(states, links.state(state, name)?)
 }
 
-// The targets of a state, by their numbers among the states of its set.
+// Puts the targets of a state, by their numbers among the states of its set, in the place of those
+// that are there.
 fn target_numbers(
     state_source: &StateSource,
     states: &[usize],
     state: usize,
-) -> Result<Vec<usize>, OutOfMemory>
+    numbers: &mut Vec<usize>,
+) -> Result<(), OutOfMemory>
     requires state_source { IsStateSource state_source.now }
     requires rising { IsStrictlyIncreasing states.now }
-    ensures { IfOk result (λ v. v.items
+    ensures { OnOk result (numbers.new.items
         ≡ over state_source.now.row_source target_numbers states.now state) }
 {
     let source = state_source.row_source.program.source(state);
     let targets = state_source.target_uses(state);
-    let mut numbers = with_room(source.alloc, targets.len())?;
+    numbers.clear();
     for target in targets {
         let name = source.bytes(target.token);
         if let Some(number) = target_number(state_source.row_source.links, states, state, name) {
             numbers.push(number)?;
         }
     }
-    Ok(numbers)
+    Ok(())
 }
 
-/// The targets of each state of a set.
+// Puts empty lists after those that are there, until there are so many.
+fn make_lists(alloc: Global, lists: &mut Vec<Vec<usize>>, count: usize) -> Result<(), OutOfMemory>
+    ensures { OnOk result (count ≤ length lists.new.items) }
+{
+    if lists.len() < count {
+        lists.resize_with(count, || Vec::new(alloc))?;
+    }
+    Ok(())
+}
+
+/// Puts the targets of each state of a set in the place of the first lists. Those after them stay,
+/// so that a larger set finds them.
 pub(crate) fn targets_among(
     state_source: &StateSource,
     states: &[usize],
-) -> Result<Vec<Vec<usize>>, OutOfMemory>
+    targets: &mut Vec<Vec<usize>>,
+) -> Result<(), OutOfMemory>
     requires state_source { IsStateSource state_source.now }
     requires rising { IsStrictlyIncreasing states.now }
-    ensures { IfOk result (λ v. target_lists v.items
+    ensures each { OnOk result (length states.now ≤ length targets.new.items) }
+    ensures lists { OnOk result (target_lists (take (length states.now) targets.new.items)
         ≡ over state_source.now.row_source targets_among states.now) }
 {
-    let mut targets = with_room(state_source.row_source.program.alloc, states.len())?;
-    for state in states {
-        targets.push(target_numbers(state_source, states, *state)?)?;
+    make_lists(state_source.row_source.program.alloc, targets, states.len())?;
+    for (number, state) in states.iter().enumerate() {
+        target_numbers(state_source, states, *state, &mut targets[number])?;
     }
-    Ok(targets)
+    Ok(())
 }
 
 /// Whether a state is the first of a name in its set.

@@ -4,12 +4,17 @@ ghost use Rattle.std.specs.Prelude.{◌≡◌, ◌<◌, IfOk, length};
 ghost use Rattle.snl_check.specs.Collected.{IsStateSource, over};
 ghost use Rattle.snl_check.specs.States.{set_row, set_rows};
 
+use crate::rows::set_scratch::SetScratch;
 use crate::rows::state_rows::state_rows;
 use crate::rows::state_source::StateSource;
 use snl_cut::OutOfMemory;
 use snl_tables::{Rows, SetRow};
 
-fn set_row(state_source: &StateSource, set: usize) -> Result<SetRow, OutOfMemory>
+fn set_row(
+    state_source: &StateSource,
+    set: usize,
+    scratch: &mut SetScratch,
+) -> Result<SetRow, OutOfMemory>
     requires state_source { IsStateSource state_source.now }
     requires set { set < length state_source.now.row_source.program.trees.now }
     ensures { IfOk result (λ row. row ≡ over state_source.now.row_source set_row set) }
@@ -17,7 +22,7 @@ fn set_row(state_source: &StateSource, set: usize) -> Result<SetRow, OutOfMemory
     Ok(SetRow {
         name: state_source.row_source.item_name(set),
         line: state_source.line(set),
-        states: Rows::from_vec(state_rows(state_source, set)?),
+        states: Rows::from_vec(state_rows(state_source, set, scratch)?),
     })
 }
 
@@ -26,10 +31,12 @@ pub(crate) fn set_rows(state_source: &StateSource) -> Result<Vec<SetRow>, OutOfM
     requires { IsStateSource state_source.now }
     ensures { IfOk result (λ rows. rows.items ≡ over state_source.now.row_source set_rows) }
 {
-    let mut rows = Vec::new(state_source.row_source.program.alloc);
+    let alloc = state_source.row_source.program.alloc;
+    let mut scratch = SetScratch::new(alloc);
+    let mut rows = Vec::new(alloc);
     for item in 0..state_source.row_source.program.trees.len() {
         if state_source.row_source.links.begins_set(item) {
-            rows.push(set_row(state_source, item)?)?;
+            rows.push(set_row(state_source, item, &mut scratch)?)?;
         }
     }
     Ok(rows)

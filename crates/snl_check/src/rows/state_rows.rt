@@ -1,15 +1,16 @@
 //! The rows of states: a state set comes in, a row for each of its states goes out.
 
-ghost use Rattle.std.specs.Prelude.{◌≡◌, ◌<◌, ℕ, IfOk, false, length, slice_index_or};
+ghost use Rattle.std.specs.Prelude.{◌≡◌, ◌<◌, ℕ, IfOk, OnOk, false, length, slice_index_or};
 ghost use Rattle.snl_check.specs.Collected.{IsLinked, IsStateSource, items_in, over};
 ghost use Rattle.snl_check.specs.Members.{has_faulty, is_faulty_item, states_in};
 ghost use Rattle.snl_check.specs.States as states;
 
 use crate::reachability::marks::first_mark;
 use crate::reachability::members::{Members, is_faulty, is_first_state, members_of, targets_among};
-use crate::reachability::reaching::reach;
+use crate::reachability::reaching::Search;
 use crate::rows::body::body_of;
 use crate::rows::room::with_room;
+use crate::rows::set_scratch::SetScratch;
 use crate::rows::state_source::StateSource;
 use crate::rows::wake_ups::wake_ups;
 use snl_cut::OutOfMemory;
@@ -36,27 +37,30 @@ fn mark_of(
     first_mark(is_faulty, is_first, members.has_faulty, reached, number)
 }
 
-// Of each state of a set whether it is reached. Where an item of the set is faulty, nothing is
+// Finds of each state of a set whether it is reached. Where an item of the set is faulty, nothing is
 // said.
 fn reached_among(
     state_source: &StateSource,
     members: &Members,
     set: usize,
-) -> Result<Vec<bool>, OutOfMemory>
+    targets: &mut Vec<Vec<usize>>,
+    search: &mut Search,
+) -> Result<(), OutOfMemory>
     requires state_source { IsStateSource state_source.now }
     requires states { members.now.states.items
         ≡ states_in state_source.now.row_source.links.now.outlines set }
-    ensures { IfOk result (λ reached. members.now.has_faulty ≡ false
+    ensures { OnOk result (members.now.has_faulty ≡ false
         → (number : ℕ)
         → number < length (states_in state_source.now.row_source.links.now.outlines set)
-        → slice_index_or reached.items number false
+        → slice_index_or search.new.reached.items number false
         ≡ over state_source.now.row_source states.is_reached_in set number) }
 {
     if members.has_faulty {
-        return Ok(Vec::new(state_source.row_source.program.alloc));
+        return Ok(());
     }
-    let targets = targets_among(state_source, &members.states)?;
-    Ok(reach(state_source.row_source.program.alloc, &targets)?)
+    targets_among(state_source, &members.states, targets)?;
+    search.follow(&targets[..members.states.len()])?;
+    Ok(())
 }
 
 // The body of the row of the state that an item is.
@@ -134,14 +138,20 @@ fn rows_among(
 pub(crate) fn state_rows(
     state_source: &StateSource,
     set: usize,
+    scratch: &mut SetScratch,
 ) -> Result<Vec<StateRow>, OutOfMemory>
     requires state_source { IsStateSource state_source.now }
     requires set { set < length state_source.now.row_source.program.trees.now }
     ensures { IfOk result (λ rows. rows.items
         ≡ over state_source.now.row_source states.state_rows set) }
 {
-    let members = members_of(&state_source.row_source, set)?;
-    let reached = reached_among(state_source, &members, set)?;
-    let rows = rows_among(state_source, set, &members, &reached)?;
+    let SetScratch {
+        members,
+        targets,
+        search,
+    } = scratch;
+    members_of(&state_source.row_source, set, members)?;
+    reached_among(state_source, members, set, targets, search)?;
+    let rows = rows_among(state_source, set, members, &search.reached)?;
     Ok(rows)
 }

@@ -20,7 +20,7 @@ loop-item-init c =
     let within : end ≤ length ss = omega (arith, c.end_of-end.ensures.within, count) in
     let items : (j : ℕ) → j < length ss → stands_in ss k j ≡ (nat_lt k j && nat_lt j end) = λ j l. c.end_of-end.ensures.items j (omega (arith, l, count)) in
     record {
-      states = c.new-states.ensures.items ∙ sym (members_none ss k (is_named_state ss) end c.end_of-end.ensures.some within items);
+      states = c.clear.ensures.items ∙ sym (members_none ss k (is_named_state ss) end c.end_of-end.ensures.some within items);
       faulty = sym (members_no_one ss k (is_faulty_item (items_in c.args.row_source.now.program)) end c.end_of-end.ensures.some within items);
     }
 
