@@ -11,3 +11,4 @@ mod ShiftedTokens
 mod InFront
 pub mod OpenedItems
 pub mod Places
+mod NewPieces

@@ -3,4 +3,5 @@ pub mod Fresh
 pub mod Changes
 pub mod OwnTokens
 pub mod Places
+pub mod Reaches
 pub mod TokenForms

@@ -23,5 +23,5 @@ pub use new_pieces::pieces_after;
 pub use own_tokens::{own_tokens_after, own_tokens_before};
 pub use shifted::Shifted;
 pub use spelled::are_spelled_alike;
-pub use token_list::TokenList;
+pub use token_list::{Reach, TokenList};
 pub use tokens::{TokenChange, TokenEdit};

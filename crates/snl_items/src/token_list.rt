@@ -2,9 +2,10 @@
 //! In: tokens, or the list of the pieces. Out: tokens, by their numbers.
 
 ghost use Rattle.snl_items.specs.OwnTokens.{tokens_between};
+ghost use Rattle.snl_items.specs.Reaches.{reach_of};
 ghost use Rattle.snl_lex.specs.PieceList.{listed_pieces};
 ghost use Rattle.snl_lex.specs.Pieces.{is_token};
-ghost use Rattle.std.specs.Prelude.{◌≡◌, ◌^◌, ◌<◌, ◌≤◌, IfOk, OnOk, Some, filter, length, slice_get, vec_len};
+ghost use Rattle.std.specs.Prelude.{◌≡◌, ◌^◌, ◌<◌, ◌≤◌, IfOk, OnOk, Some, filter, length, option_map, slice_get, vec_len};
 
 use crate::numbered_tokens::NumberedTokens;
 use snl_cut::OutOfMemory;
@@ -16,6 +17,13 @@ use std::marker::Model;
 enum Form<'a> {
     Listed(&'a [Piece]),
     Numbered(NumberedTokens<'a>),
+}
+
+/// Where a token is: so many bytes, from a place on.
+#[derive(Clone, Copy)]
+pub struct Reach {
+    pub start: usize,
+    pub len: usize,
 }
 
 /// Tokens, one after another. Contracts see the list of them. Those of a long text are not listed
@@ -41,6 +49,14 @@ fn listed_at(tokens: &[Piece], number: usize) -> Piece
     ensures { slice_get tokens.now number ≡ Some result }
 {
     tokens[number]
+}
+
+// Where a token is, if there is one.
+fn reach_of(token: Option<Piece>) -> Option<Reach>
+    ensures { result ≡ option_map reach_of token }
+{
+    let Piece { start, len, .. } = token?;
+    Some(Reach { start, len })
 }
 
 impl<'a> TokenList<'a> {
@@ -106,6 +122,16 @@ impl<'a> TokenList<'a> {
         match &self.form {
             Form::Listed(tokens) => tokens.get(number).copied(),
             Form::Numbered(tokens) => tokens.get(number),
+        }
+    }
+
+    /// Where the token with a number is, if there is one. Its class isn't looked at.
+    pub fn reach(&self, number: usize) -> Option<Reach>
+        ensures { result ≡ option_map reach_of (slice_get self.now number) }
+    {
+        match &self.form {
+            Form::Listed(tokens) => reach_of(tokens.get(number).copied()),
+            Form::Numbered(tokens) => reach_of(tokens.get(number)),
         }
     }
 

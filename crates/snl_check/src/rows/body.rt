@@ -13,7 +13,6 @@ ghost use Rattle.snl_item_check.specs.Told.{told_in_item};
 
 use crate::rows::item_source::ItemSource;
 use crate::rows::option_rows::state_options;
-use crate::rows::text_items::span_of;
 use snl_cut::OutOfMemory;
 use snl_grammar::tree::item::Item;
 use snl_grammar::tree::state::{StateMember, Target};
@@ -32,7 +31,7 @@ fn named_state(source: &ItemSource, links: &Links, item: usize, token: usize) ->
         links.now.outlines item token }
 {
     NamedState {
-        name: span_of(source.token(token)),
+        name: source.span(token),
         is_known: links.has_target(item, source.bytes(token)),
     }
 }
@@ -121,7 +120,7 @@ pub(crate) fn body_of(
 {
     let members = members_in(tree);
     Ok(StateBody {
-        name: span_of(source.token(1)),
+        name: source.span(1),
         line,
         options: Items::from_vec(state_options(source, members)?),
         transitions: Rows::from_vec(destinations(source, links, item, members)?),

@@ -1,12 +1,15 @@
 //! The tokens of one item of a text: their numbers in the item come in, tokens, their bytes and
 //! values go out.
 
-ghost use Rattle.std.specs.Prelude.{◌≡◌, slice_get};
+ghost use Rattle.std.specs.Prelude.{◌≡◌, option_map, slice_get};
+ghost use Rattle.snl_items.specs.Reaches.{reach_of};
 ghost use Rattle.snl_walk.specs.Tokens.{IsSource, token_bytes, value_at};
+ghost use Rattle.snl_check.specs.ItemSpans.{span_of};
 ghost use Rattle.snl_check.specs.ItemTokens.{own_tokens};
 
-use snl_items::TokenList;
-use snl_lex::{Piece, int_value, token_text};
+use snl_items::{Reach, TokenList};
+use snl_lex::{Piece, int_value};
+use snl_tables::Span;
 use std::alloc::Global;
 
 /// The tokens of an item, which are those of a text from one number up to another, and the memory
@@ -46,14 +49,35 @@ impl<'a> ItemSource<'a> {
         }
     }
 
+    // Where the token with a number in the item is, if there is one.
+    fn reach(&self, number: usize) -> Option<Reach>
+        ensures { result ≡ option_map reach_of (slice_get (own_tokens self.now) number) }
+    {
+        if number < self.stop.saturating_sub(self.start) {
+            self.tokens.reach(self.start + number)
+        } else {
+            None
+        }
+    }
+
+    /// Where a token is.
+    pub(crate) fn span(&self, number: usize) -> Span
+        ensures { result ≡ span_of (slice_get (own_tokens self.now) number) }
+    {
+        match self.reach(number) {
+            Some(Reach { start, len }) => Span { start, len },
+            None => Span { start: 0, len: 0 },
+        }
+    }
+
     /// The bytes of a token; none, where there is no token of this number.
     #[tactic(auto, unfolding(snl_walk::specs::Tokens::token_bytes))]
     pub(crate) fn bytes(&self, number: usize) -> &'a [u8]
         requires { IsSource self.now.text.now (own_tokens self.now) }
         ensures { result.now ≡ token_bytes self.now.text.now (own_tokens self.now) number }
     {
-        match self.token(number) {
-            Some(piece) => token_text(self.text, piece),
+        match self.reach(number) {
+            Some(reach) => &self.text[reach.start..reach.start + reach.len],
             None => &[],
         }
     }

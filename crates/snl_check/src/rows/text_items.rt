@@ -2,12 +2,10 @@
 //! out. It knows no rules.
 
 ghost use Rattle.std.specs.Prelude.{◌≡◌, option_copied};
-ghost use Rattle.snl_check.specs.ItemSpans as spans;
 
 use crate::rows::item_source::ItemSource;
 use snl_grammar::tree::item::Item;
 use snl_items::TokenList;
-use snl_lex::Piece;
 use snl_scope::ItemKind;
 use snl_tables::Span;
 use std::alloc::Global;
@@ -23,19 +21,6 @@ pub(crate) struct TextItems<'a> {
     pub trees: &'a [Option<&'a Item>],
     pub kinds: &'a [ItemKind],
     pub alloc: Global,
-}
-
-/// Where a token is.
-pub(crate) fn span_of(token: Option<Piece>) -> Span
-    ensures { result ≡ spans.span_of token }
-{
-    match token {
-        Some(token) => Span {
-            start: token.start,
-            len: token.len,
-        },
-        None => Span { start: 0, len: 0 },
-    }
 }
 
 impl<'a> TextItems<'a> {
@@ -116,7 +101,7 @@ impl<'a> TextItems<'a> {
         requires { AreTextItems self.now }
         ensures { result ≡ span_at (items_in self.now) item number }
     {
-        span_of(self.source(item).token(number))
+        self.source(item).span(number)
     }
 
     // Where the name of the program is, if the item is a header.
