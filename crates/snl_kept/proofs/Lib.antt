@@ -6,6 +6,7 @@ pub mod InsideMade
 pub mod InsideTables
 pub mod InsideTold
 pub mod KeptChecks
+mod SoundTrees
 pub mod KeptOutlines
 pub mod ListedTexts
 pub mod MadeChecks

@@ -88,6 +88,11 @@ pub record HasRoomForPlaces (l : Lists) (c : Changes) : Type 0 where
   pub marks : vec_len l.items.marks + vec_len c.tokens.marks ≤ vec_capacity l.items.marks
   pub items : vec_len l.items.ends + vec_len c.items.made ≤ vec_capacity l.items.ends
 
+-- There is room for those of the tokens and the items alone.
+pub record HasRoomForTokens (l : Lists) (c : Changes) : Type 0 where
+  pub marks : vec_len l.items.marks + vec_len c.tokens.marks ≤ vec_capacity l.items.marks
+  pub items : vec_len l.items.ends + vec_len c.items.made ≤ vec_capacity l.items.ends
+
 -- There is room for what is kept of the items that it makes, and for their checks.
 pub record HasRoomForItems (l : Lists) (r : ItemsPlan) : Type 0 where
   pub entries : vec_len r.made ≤ l.entries.room

@@ -34,7 +34,7 @@ kind_of_part part = kind_of (tree_of_part part)
 -- The lists have the tree and the kind of each of these parts.
 pub record AreSeen (parts : List Part) (seen : SeenItems) : Type 0 where
   pub trees : map option_copied seen.trees.items ≡ map tree_of_part parts
-  pub kinds : seen.kinds.items ≡ map kind_of_part parts
+  pub kinds : seen.kinds.now ≡ map kind_of_part parts
 
 -- The part is some of these tokens, and what is kept of it is what these say.
 pub record IsPart (text : List ℕ) (tokens : List Piece) (part : Part) : Type 0 where

@@ -1,11 +1,14 @@
 -- What an edit makes of what a session keeps of its text.
-use Rattle.std.specs.Prelude.{◌≡◌, ℕ, ◌-◌, ◌≤◌, IfSome, List, ◌++◌, length, take, drop}
+use Rattle.std.specs.Prelude.{◌≡◌, ℕ, ◌-◌, ◌≤◌, IfSome, List, ◌++◌, None, Option, Some, length, take, drop}
 use Rattle.snl_lex.specs.Edit.{Edit, IsChange}
 use Rattle.snl_items.specs.declared.item_list.ItemChange.{ItemChange}
 use Rattle.snl_items.specs.Changes.{AreShifted, IsItemChange, IsTokenChange}
 use Rattle.snl_lex.specs.declared.line_list.LineList.{LineList}
+use Rattle.snl_lex.specs.declared.piece_list.PieceList.{PieceList}
 use Rattle.snl_lex.specs.LineList.{IsLineList}
 use Rattle.snl_lex.specs.LineShift.{moved_line}
+use Rattle.snl_lex.specs.PieceList.{piece_ends, piece_kinds}
+use Rattle.snl_lex.specs.Shift.{marker_count}
 use Rattle.snl_tables.specs.Moved.{moved_tables}
 use Rattle.snl_kept.specs.declared.work.Work.{Work}
 use Rattle.snl_kept.specs.declared.entries.Entry.{Entry}
@@ -21,7 +24,7 @@ use Rattle.snl_kept.specs.declared.plan.WholePlan.{WholePlan}
 use Rattle.snl_kept.specs.Cost.{IsCost}
 use Rattle.snl_kept.specs.Diagnostics.{diagnostics_of, shown}
 use Rattle.snl_kept.specs.Entries.{entries_of}
-use Rattle.snl_kept.specs.Kept.{HasRoomFor, IsKept}
+use Rattle.snl_kept.specs.Kept.{HasRoomFor, HasRoomForItems, HasRoomForPlaces, HasRoomForTokens, IsKept}
 use Rattle.snl_kept.specs.NewChecks.{AreChecksMade}
 use Rattle.snl_kept.specs.NewLinks.{AreLinks}
 use Rattle.snl_kept.specs.Order.{in_order}
@@ -62,12 +65,20 @@ pub record IsItemsPlan (edit : Edit) (items : ItemChange) (p : ItemsPlan) : Type
   pub kept : AreLinksAndChecks edit items p.kept
   pub warns : p.warns ≡ warns_in edit.text
 
+-- The list of the pieces of a text.
+pub record ArePieces (text : List ℕ) (l : PieceList) : Type 0 where
+  pub ends : l.ends.items ≡ piece_ends text
+  pub kinds : l.kinds.items ≡ piece_kinds text
+  pub markers : l.markers ≡ marker_count text
+
 -- What is made anew of a text on the whole way.
 pub record IsWholePlan (edit : Edit) (items : ItemChange) (p : WholePlan) : Type 0 where
   pub kept : IsItemsPlan edit items p.items
   pub findings : p.findings.items ≡ in_order (shown edit.text)
   pub tables : p.tables ≡ tables_in edit.text
   pub cost : IsCost edit p.work
+  -- if there is a list of the pieces, it is that of the new text
+  pub pieces : IfSome p.pieces (ArePieces edit.text)
 
 -- What an edit inside one item makes anew: the rows are shifted, but for this change.
 pub record IsItemPlan (edit : Edit) (items : ItemChange) (p : ItemPlan) : Type 0 where
@@ -81,9 +92,16 @@ abbrev pub IsPlan : Edit → ItemChange → Plan → Type 0
 IsPlan edit items (plan.Item p) = IsItemPlan edit items p
 IsPlan edit items (plan.Whole p) = IsWholePlan edit items p
 
+-- There is room for the places that an edit makes, but for those of the pieces where there is a
+-- list of these.
+abbrev pub HasRoomBeside : Lists → Changes → Option PieceList → Type 0
+HasRoomBeside l c None = HasRoomForPlaces l c
+HasRoomBeside l c (Some pieces) = HasRoomForTokens l c
+
 -- There is room for what is made anew, where so many diagnostics have room.
 pub record HasRoomForAll (l : Lists) (capacity : ℕ) (c : Changes) (p : WholePlan) : Type 0 where
-  pub lists : HasRoomFor l c p.items
+  pub places : HasRoomBeside l c p.pieces
+  pub items : HasRoomForItems l p.items
   pub findings : length p.findings.items ≤ capacity
 
 abbrev pub HasRoom : Lists → ℕ → Changes → Plan → Type 0

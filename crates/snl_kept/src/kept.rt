@@ -73,7 +73,7 @@ fn judge_nothing(alloc: Global, lines: &LineList) -> Result<(Links, Judgement), 
         ends: &[],
     };
     let links = link(alloc, &[])?;
-    let judgement = judge(alloc, &cut, &[], &links, links.faults(), &[])?;
+    let judgement = judge(alloc, &cut, &[], &links, links.kinds(), links.faults(), &[])?;
     Ok((links, judgement))
 }
 
@@ -166,9 +166,10 @@ impl Kept {
             findings,
             tables,
             work: _,
+            pieces,
         } = plan;
         put_on_lines(edit.text, &lines, &findings, &mut self.found);
-        self.lists.commit(edit, changes, lines, items);
+        self.lists.commit_whole(edit, changes, lines, items, pieces);
         self.tables = tables;
     }
 

@@ -3,12 +3,12 @@
 //! after a change that can't fail.
 #![tactic(auto)]
 
-ghost use Rattle.std.specs.Prelude.{◌≡◌, ◌+◌, ◌≤◌, [], length, OnOk};
+ghost use Rattle.std.specs.Prelude.{◌≡◌, ◌+◌, ◌≤◌, [], IfSome, length, OnOk};
 ghost use Rattle.snl_lex.specs.LineList.{IsLineList};
 ghost use Rattle.snl_lex.specs.Edit.{Edit, edit_of};
 ghost use Rattle.snl_items.specs.Items.{item_ends};
-ghost use Rattle.snl_kept.specs.Kept.{AreItems, ArePlaces, HasRoomFor, HasRoomForItems, HasRoomForPlaces, IsListed, SameItems, SameLists, SamePlaces};
-ghost use Rattle.snl_kept.specs.Planned.{IsChanged, IsItemsPlan};
+ghost use Rattle.snl_kept.specs.Kept.{AreItems, ArePlaces, HasRoomFor, HasRoomForItems, HasRoomForPlaces, HasRoomForTokens, IsListed, SameItems, SameLists, SamePlaces};
+ghost use Rattle.snl_kept.specs.Planned.{ArePieces, HasRoomBeside, IsChanged, IsItemsPlan};
 
 use crate::entries::Entry;
 use crate::kept_checks::put;
@@ -42,6 +42,13 @@ fn renew_lines(lines: &mut LineList, new: LineList)
     *lines = new;
 }
 
+// Puts other pieces in the place of these, which are let go here, apart from all else.
+fn renew_pieces(pieces: &mut PieceList, new: PieceList)
+    ensures { pieces.new ≡ new }
+{
+    *pieces = new;
+}
+
 impl Lists {
     /// Makes room for the places that an edit makes. An error leaves the lists as they were.
     pub fn reserve_places(&mut self, changes: &Changes) -> Result<(), OutOfMemory>
@@ -53,6 +60,27 @@ impl Lists {
         self.items
             .reserve(changes.tokens.marks.len(), changes.items.made.len())?;
         Ok(())
+    }
+
+    /// Makes room for the places that an edit makes, but for those of the pieces where there is a
+    /// list of these. An error leaves the lists as they were.
+    pub fn reserve_beside(
+        &mut self,
+        changes: &Changes,
+        pieces: &Option<PieceList>,
+    ) -> Result<(), OutOfMemory>
+        ensures lists { SameLists self.old self.new }
+        ensures items { SameItems self.old self.new }
+        ensures room { OnOk result (HasRoomBeside self.new changes.now pieces.now) }
+    {
+        match pieces {
+            None => self.reserve_places(changes),
+            Some(_) => {
+                self.items
+                    .reserve(changes.tokens.marks.len(), changes.items.made.len())?;
+                Ok(())
+            }
+        }
     }
 
     /// Makes room for what is kept of the items that an edit makes. An error leaves the lists as
@@ -89,6 +117,74 @@ impl Lists {
         self.pieces.commit(edit, &changes.pieces);
         renew_lines(&mut self.lines, lines);
         self.items.commit(edit, &changes.tokens, &changes.items);
+    }
+
+    // Makes the places in the old text those in the new one, whose pieces are taken over. There is
+    // room for those of the tokens and the items, so it can't fail.
+    fn take_pieces(
+        &mut self,
+        edit: &TextEdit,
+        changes: &Changes,
+        lines: LineList,
+        pieces: PieceList,
+    )
+        requires places { ArePlaces edit.now.old.now self.old }
+        requires changes { IsChanged (edit_of edit.now) changes.now }
+        requires lines { IsLineList edit.now.text.now lines }
+        requires pieces { ArePieces edit.now.text.now pieces }
+        requires room { HasRoomForTokens self.old changes.now }
+        ensures places { ArePlaces edit.now.text.now self.new }
+        ensures items { SameItems self.old self.new }
+    {
+        renew_pieces(&mut self.pieces, pieces);
+        renew_lines(&mut self.lines, lines);
+        self.items.commit(edit, &changes.tokens, &changes.items);
+    }
+
+    // Makes the places in the old text those in the new one. There is room for those that are made
+    // beside the list of the pieces, so it can't fail.
+    fn commit_beside(
+        &mut self,
+        edit: &TextEdit,
+        changes: &Changes,
+        lines: LineList,
+        pieces: Option<PieceList>,
+    )
+        requires places { ArePlaces edit.now.old.now self.old }
+        requires changes { IsChanged (edit_of edit.now) changes.now }
+        requires lines { IsLineList edit.now.text.now lines }
+        requires pieces { IfSome pieces (ArePieces edit.now.text.now) }
+        requires room { HasRoomBeside self.old changes.now pieces }
+        ensures places { ArePlaces edit.now.text.now self.new }
+        ensures items { SameItems self.old self.new }
+    {
+        match pieces {
+            None => self.commit_places(edit, changes, lines),
+            Some(pieces) => self.take_pieces(edit, changes, lines, pieces),
+        }
+    }
+
+    /// Makes the lists of the old text those of the new one, whose pieces are taken over where
+    /// there is a list of them. There is room for what is made beside it, so it can't fail.
+    pub fn commit_whole(
+        &mut self,
+        edit: &TextEdit,
+        changes: &Changes,
+        lines: LineList,
+        plan: ItemsPlan,
+        pieces: Option<PieceList>,
+    )
+        requires lists { IsListed edit.now.old.now self.old }
+        requires changes { IsChanged (edit_of edit.now) changes.now }
+        requires lines { IsLineList edit.now.text.now lines }
+        requires plan { IsItemsPlan (edit_of edit.now) changes.now.items plan }
+        requires pieces { IfSome pieces (ArePieces edit.now.text.now) }
+        requires places { HasRoomBeside self.old changes.now pieces }
+        requires items { HasRoomForItems self.old plan }
+        ensures { IsListed edit.now.text.now self.new }
+    {
+        self.put_items(edit, &changes.items, plan);
+        self.commit_beside(edit, changes, lines, pieces);
     }
 
     /// Makes the lists of the old text those of the new one. There is room for what is made, so it

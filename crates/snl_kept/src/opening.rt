@@ -92,6 +92,7 @@ impl Kept {
             findings,
             tables,
             work: _,
+            pieces: _,
         } = plan;
         put_on_lines(edit.text, &lines, &findings, &mut self.found);
         self.lists.fill(edit, changes, lines, items);

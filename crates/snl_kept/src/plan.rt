@@ -18,7 +18,7 @@ use crate::work::Work;
 use snl_check::{StateBody, StateMark, Tables, WakeUp};
 use snl_item_check::Checked;
 use snl_items::{ItemChange, TokenChange};
-use snl_lex::{LineShift, PieceChange};
+use snl_lex::{LineShift, PieceChange, PieceList};
 use snl_scope::{ItemKind, LinkFault, Links};
 use sqlite_items::Items;
 
@@ -111,6 +111,17 @@ impl NewLinks {
             NewLinks::Same => before.faults(),
             NewLinks::Kinds(new) => &new.faults,
             NewLinks::Other(links) => links.faults(),
+        }
+    }
+
+    /// What each item is after the edit, where these are the links before it.
+    pub fn kinds<'a>(&'a self, before: &'a Links) -> &'a [ItemKind]
+        ensures { result.now ≡ (links_now before.now self.now).kinds }
+    {
+        match self {
+            NewLinks::Same => before.kinds(),
+            NewLinks::Kinds(new) => &new.kinds,
+            NewLinks::Other(links) => links.kinds(),
         }
     }
 
@@ -254,13 +265,15 @@ impl RowChange {
 }
 
 /// What an edit makes anew on the whole way: what is made of all that is kept of the items, what is
-/// shown of what is found in the new text, in order, its tables, and the cost.
+/// shown of what is found in the new text, in order, its tables, and the cost; and the pieces of
+/// the new text, unless the edit makes all of them.
 #[derive(Drop)]
 pub struct WholePlan {
     pub items: ItemsPlan,
     pub findings: Vec<Finding>,
     pub tables: Tables,
     pub work: Work,
+    pub pieces: Option<PieceList>,
 }
 
 /// What an edit inside one item makes anew: what is made of all that is kept of the items, the

@@ -11,7 +11,7 @@ ghost use Rattle.snl_kept.specs.Checks.{checks_of, checks_over, links_in, outlin
 ghost use Rattle.snl_kept.specs.Diagnostics.{diagnostics_of, shown};
 ghost use Rattle.snl_kept.specs.Linked.{linked_of, outlines_of};
 ghost use Rattle.snl_kept.specs.Order.{in_order};
-ghost use Rattle.snl_kept.specs.Parts.{AreSeen, IsPart, item_of_part};
+ghost use Rattle.snl_kept.specs.Parts.{AreSeen, IsPart, item_of_part, kind_of_part};
 ghost use Rattle.snl_kept.specs.Program.{program_item};
 ghost use Rattle.snl_kept.specs.Tables.{tables_in};
 ghost use Rattle.snl_kept.specs.Warnings.{shows_warnings, warns_in};
@@ -31,7 +31,7 @@ use snl_cut::OutOfMemory;
 use snl_grammar::{outcome_told, same_spelling_same_tree};
 use snl_item_check::Checked;
 use snl_lex::text_in_pieces;
-use snl_scope::{LinkFault, Links, same_spelling_same_summary};
+use snl_scope::{ItemKind, LinkFault, Links, same_spelling_same_summary};
 use std::alloc::Global;
 
 /// What a text is judged to say: its diagnostics, its tables, and whether warnings are shown.
@@ -89,6 +89,7 @@ fn told_by(
     cut: &CutText,
     parts: &[Part],
     links: &Links,
+    kinds: &[ItemKind],
     faults: &[LinkFault],
     checks: &[&Shared<Option<Checked>>],
 ) -> Result<Told, OutOfMemory>
@@ -96,6 +97,7 @@ fn told_by(
     requires parts { All (IsPart cut.now.text.now cut.now.tokens.now) parts.now }
     requires links { links.now.outlines ≡ outlines_of cut.now.text.now (map (item_of_part cut.now.tokens.now) parts.now) }
     requires faults { faults.now ≡ faults_of (linked_of cut.now.text.now (map (item_of_part cut.now.tokens.now) parts.now)) }
+    requires kinds { kinds.now ≡ map kind_of_part parts.now }
     requires checks { map (λ c. c.now) checks.now ≡ checks_over cut.now.text.now (map (item_of_part cut.now.tokens.now) parts.now) }
     ensures shown { IfOk result (λ t. t.shown.items ≡ shown cut.now.text.now) }
     ensures tables { IfOk result (λ t. t.tables ≡ tables_in cut.now.text.now) }
@@ -110,8 +112,8 @@ fn told_by(
         ends,
         ..
     } = *cut;
-    let seen = seen_items(alloc, parts)?;
-    let warns = shows_warnings(alloc, text, tokens, parts, &seen.kinds, links)?;
+    let seen = seen_items(alloc, parts, kinds)?;
+    let warns = shows_warnings(alloc, text, tokens, parts, seen.kinds, links)?;
     let tables = tables_of(
         alloc, text, lines, tokens, ends, parts, &seen, links, checks,
     )?;
@@ -129,12 +131,14 @@ pub fn told_in(
     cut: &CutText,
     parts: &[Part],
     links: &Links,
+    kinds: &[ItemKind],
     faults: &[LinkFault],
     checks: &[&Shared<Option<Checked>>],
 ) -> Result<Told, OutOfMemory>
     requires items { map (item_of_part cut.now.tokens.now) parts.now ≡ map (program_item cut.now.text.now) (members cut.now.tokens.now 0 cut.now.ends.now) }
     requires parts { All (IsPart cut.now.text.now cut.now.tokens.now) parts.now }
     requires links { links.now.outlines ≡ outlines_in cut.now.text.now }
+    requires kinds { kinds.now ≡ (links_in cut.now.text.now).kinds }
     requires faults { faults.now ≡ faults_of (links_in cut.now.text.now) }
     requires checks { map (λ c. c.now) checks.now ≡ checks_of cut.now.text.now }
     ensures shown { IfOk result (λ t. t.shown.items ≡ shown cut.now.text.now) }
@@ -144,7 +148,7 @@ pub fn told_in(
     outcome_told();
     same_spelling_same_tree();
     same_spelling_same_summary();
-    told_by(alloc, cut, parts, links, faults, checks)
+    told_by(alloc, cut, parts, links, kinds, faults, checks)
 }
 
 /// The same with the findings in order.
@@ -173,19 +177,21 @@ pub fn judge(
     cut: &CutText,
     parts: &[Part],
     links: &Links,
+    kinds: &[ItemKind],
     faults: &[LinkFault],
     checks: &[&Shared<Option<Checked>>],
 ) -> Result<Judgement, OutOfMemory>
     requires items { map (item_of_part cut.now.tokens.now) parts.now ≡ map (program_item cut.now.text.now) (members cut.now.tokens.now 0 cut.now.ends.now) }
     requires parts { All (IsPart cut.now.text.now cut.now.tokens.now) parts.now }
     requires links { links.now.outlines ≡ outlines_in cut.now.text.now }
+    requires kinds { kinds.now ≡ (links_in cut.now.text.now).kinds }
     requires faults { faults.now ≡ faults_of (links_in cut.now.text.now) }
     requires checks { map (λ c. c.now) checks.now ≡ checks_of cut.now.text.now }
     ensures diagnostics { IfOk result (λ j. j.diagnostics.items ≡ diagnostics_of cut.now.text.now) }
     ensures tables { IfOk result (λ j. j.tables ≡ tables_in cut.now.text.now) }
     ensures warns { IfOk result (λ j. j.warns ≡ warns_in cut.now.text.now) }
 {
-    let told = told_in(alloc, cut, parts, links, faults, checks)?;
+    let told = told_in(alloc, cut, parts, links, kinds, faults, checks)?;
     let Told {
         shown,
         tables,

@@ -104,7 +104,8 @@ impl WholePlan {
         ensures found { found.new.items ≡ found.old.items }
         ensures room { OnOk result (HasRoomForAll lists.new (vec_capacity found.new) changes.now self.now) }
     {
-        lists.reserve(changes, &self.items)?;
+        lists.reserve_items(&self.items)?;
+        lists.reserve_beside(changes, &self.pieces)?;
         make_room(found, self.findings.len())
     }
 }

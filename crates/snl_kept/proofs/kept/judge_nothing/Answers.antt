@@ -11,6 +11,9 @@ invariant_of-cut c = record { lines_are = c.requires; tokens_are = c.listed-toke
 pub judge-requires-clause-links : goal.judge-requires-clause-links
 judge-requires-clause-links c = ap (λ (l : LinkedItems). l.outlines) (c.in_ok-links.ensures ∙ ap (linked_of []) no_items)
 
+pub judge-requires-clause-kinds : goal.judge-requires-clause-kinds
+judge-requires-clause-kinds c = c.kinds.ensures ∙ ap (λ (l : LinkedItems). l.kinds) (c.in_ok-links.ensures ∙ ap (linked_of []) no_items)
+
 pub judge-requires-clause-faults : goal.judge-requires-clause-faults
 judge-requires-clause-faults c = c.faults.ensures ∙ ap faults_of (c.in_ok-links.ensures ∙ ap (linked_of []) no_items)
 

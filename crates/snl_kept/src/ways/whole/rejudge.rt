@@ -184,7 +184,8 @@ fn told_after(
     )?;
     let links = kept.links.after(&lists.links);
     let faults = kept.links.faults(&lists.links);
-    told_in(alloc, cut, parts, links, faults, &checks)
+    let kinds = kept.links.kinds(&lists.links);
+    told_in(alloc, cut, parts, links, kinds, faults, &checks)
 }
 
 // What the new text says, by its items. Each check that is made is one tick.

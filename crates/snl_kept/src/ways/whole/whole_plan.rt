@@ -4,11 +4,11 @@
 
 ghost use Rattle.std.specs.Prelude.{◌≡◌, IfOk, IsTrue, length};
 ghost use Rattle.snl_cut.specs.Cut.{after_ticks};
-ghost use Rattle.snl_lex.specs.Edit.{made_pieces};
-ghost use Rattle.snl_lex.specs.PieceList.{piece_ends, piece_kinds};
+ghost use Rattle.snl_items.specs.declared.item_list.ItemChange.{ItemChange};
+ghost use Rattle.snl_lex.specs.Edit.{Edit, made_pieces};
 ghost use Rattle.snl_lex.specs.Pieces.{pieces_of, tokens_of};
 ghost use Rattle.snl_kept.specs.Editing.{AreEntriesIn, IsUnderWay, edit_in, items_in, parsed_in, text_in};
-ghost use Rattle.snl_kept.specs.Planned.{IsWholePlan};
+ghost use Rattle.snl_kept.specs.Planned.{ArePieces, IsWholePlan};
 
 use crate::editing::Editing;
 use crate::entries::{Entry, entries_along};
@@ -73,6 +73,7 @@ fn whole_plan(
             parsed,
             checked: checked.ticks(),
         },
+        pieces: None,
     })
 }
 
@@ -88,8 +89,7 @@ fn makes_all(editing: &Editing) -> bool
 // The pieces of the new text, as a list of its own.
 fn new_pieces(alloc: Global, editing: &Editing) -> Result<PieceList, OutOfMemory>
     requires editing { IsUnderWay editing.now }
-    ensures ends { IfOk result (λ l. l.ends.items ≡ piece_ends (text_in editing.now)) }
-    ensures kinds { IfOk result (λ l. l.kinds.items ≡ piece_kinds (text_in editing.now)) }
+    ensures { IfOk result (ArePieces (text_in editing.now)) }
 {
     let changes = editing.changes;
     pieces_after(alloc, &editing.lists.pieces, editing.edit, &changes.pieces)
@@ -101,8 +101,7 @@ fn tokens_among<'a>(
     edit: &TextEdit,
     pieces: &'a PieceList,
 ) -> Result<TokenList<'a>, OutOfMemory>
-    requires ends { pieces.now.ends.items ≡ piece_ends edit.now.text.now }
-    requires kinds { pieces.now.kinds.items ≡ piece_kinds edit.now.text.now }
+    requires { ArePieces edit.now.text.now pieces.now }
     ensures { IfOk result (λ tokens. tokens ≡ tokens_of edit.now.text.now) }
 {
     few_pieces();
@@ -141,6 +140,29 @@ fn whole_of_many(
     whole_plan(alloc, editing, tokens, made, parsed)
 }
 
+// The same by the list of the pieces of the new text.
+fn whole_of_listed(
+    alloc: Global,
+    editing: &Editing,
+    pieces: &PieceList,
+) -> Result<WholePlan, OutOfMemory>
+    requires editing { IsUnderWay editing.now }
+    requires pieces { ArePieces (text_in editing.now) pieces.now }
+    ensures { IfOk result (IsWholePlan (edit_in editing.now) (items_in editing.now)) }
+{
+    let tokens = tokens_among(alloc, editing.edit, pieces)?;
+    whole_of_many(alloc, editing, &tokens)
+}
+
+// The plan with the list of the pieces of the new text, which is taken over where the plan is
+// carried out.
+fn with_pieces(mut plan: WholePlan, pieces: PieceList) -> WholePlan
+    ensures { (edit : Edit) (items : ItemChange) → IsWholePlan edit items plan → ArePieces edit.text pieces → IsWholePlan edit items result }
+{
+    plan.pieces = Some(pieces);
+    plan
+}
+
 /// The plan, whatever items the edit makes. Where it makes all pieces, their list is at hand.
 pub fn whole_among_all(alloc: Global, editing: &Editing) -> Result<WholePlan, OutOfMemory>
     requires editing { IsUnderWay editing.now }
@@ -151,8 +173,26 @@ pub fn whole_among_all(alloc: Global, editing: &Editing) -> Result<WholePlan, Ou
         return whole_of_many(alloc, editing, &tokens);
     }
     let pieces = new_pieces(alloc, editing)?;
-    let tokens = tokens_among(alloc, editing.edit, &pieces)?;
-    whole_of_many(alloc, editing, &tokens)
+    let plan = whole_of_listed(alloc, editing, &pieces)?;
+    Ok(with_pieces(plan, pieces))
+}
+
+// The plan where the edit makes one item, by the list of the pieces of the new text.
+fn whole_of_one_listed(
+    alloc: Global,
+    editing: &Editing,
+    pieces: &PieceList,
+    made: Vec<Shared<Entry>>,
+    parsed: u64,
+) -> Result<WholePlan, OutOfMemory>
+    requires editing { IsUnderWay editing.now }
+    requires pieces { ArePieces (text_in editing.now) pieces.now }
+    requires made { AreEntriesIn editing.now made.items }
+    requires parsed { parsed ≡ parsed_in editing.now }
+    ensures { IfOk result (IsWholePlan (edit_in editing.now) (items_in editing.now)) }
+{
+    let tokens = tokens_among(alloc, editing.edit, pieces)?;
+    whole_plan(alloc, editing, &tokens, made, parsed)
 }
 
 /// The plan where the edit makes one item, by what is kept of that.
@@ -168,6 +208,6 @@ pub fn whole_of_one(
     ensures { IfOk result (IsWholePlan (edit_in editing.now) (items_in editing.now)) }
 {
     let pieces = new_pieces(alloc, editing)?;
-    let tokens = tokens_among(alloc, editing.edit, &pieces)?;
-    whole_plan(alloc, editing, &tokens, made, parsed)
+    let plan = whole_of_one_listed(alloc, editing, &pieces, made, parsed)?;
+    Ok(with_pieces(plan, pieces))
 }

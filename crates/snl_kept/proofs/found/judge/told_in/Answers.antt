@@ -1,5 +1,7 @@
 use Rattle.std.proofs.Common.{◌≡◌, List, map, ap, sym, ◌∙◌}
+use Rattle.std.proofs.lemmas.Simd.{map-map}
 use Rattle.snl_scope.specs.Linked.{faults_of}
+use Rattle.snl_scope.specs.Summaries.{kind_of}
 use Rattle.snl_kept.specs.Checks.{checks_over}
 use Rattle.snl_kept.specs.Linked.{linked_of, outlines_of}
 use Rattle.snl_kept.specs.Parts.{item_of_part}
@@ -15,6 +17,16 @@ told_by-requires-clause-links c =
     let xs = map (item_of_part cut.tokens.now) c.args.parts.now in
     let items : xs ≡ items_of text = same_items text cut.tokens.now cut.ends.now xs cut.tokens_are cut.ends_are c.requires.items in
     c.requires.links ∙ ap (outlines_of text) (sym items)
+
+pub told_by-requires-clause-kinds : goal.told_by-requires-clause-kinds
+told_by-requires-clause-kinds c =
+    let cut = c.args.cut.now in
+    let text = cut.text.now in
+    let xs = map (item_of_part cut.tokens.now) c.args.parts.now in
+    let items : xs ≡ items_of text = same_items text cut.tokens.now cut.ends.now xs cut.tokens_are cut.ends_are c.requires.items in
+    c.requires.kinds
+    ∙ ap (map (λ (x : ProgramItem). kind_of x.tree)) (sym items)
+    ∙ map-map (λ (x : ProgramItem). kind_of x.tree) (item_of_part cut.tokens.now) c.args.parts.now
 
 pub told_by-requires-clause-faults : goal.told_by-requires-clause-faults
 told_by-requires-clause-faults c =

@@ -30,8 +30,7 @@ by_trees (part ∷ parts) = ap (λ (ks : List ItemKind). kind_of_part part ∷ k
 
 pub tables_by_tokens-requires-clause-kinds : goal.tables_by_tokens-requires-clause-kinds
 tables_by_tokens-requires-clause-kinds c =
-    c.deref-3.ensures.value
-    ∙ c.requires.seen.kinds
+    c.requires.seen.kinds
     ∙ by_trees c.args.parts.now
     ∙ ap (map kind_of) (sym (ap (map (λ (o : Option (Bor Item)). option_copied o)) c.deref-2.ensures.value ∙ c.requires.seen.trees))
 
@@ -42,7 +41,7 @@ tables_by_tokens-requires-clause-checked c =
     let xs = map (item_of_part tokens) c.args.parts.now in
     let items : program_items tokens c.deref.result.now (map option_copied c.deref-2.result.now) ≡ xs =
     ap₂ (λ (es : List ℕ) (ts : List (Option Item)). program_items tokens es ts) (c.deref.ensures.value ∙ c.in_ok-ends.ensures) (ap (map (λ (o : Option (Bor Item)). option_copied o)) c.deref-2.ensures.value ∙ c.requires.seen.trees) ∙ c.requires.items in
-    ap (map told_seen) c.deref-4.ensures.value
+    ap (map told_seen) c.deref-3.ensures.value
     ∙ c.in_ok-told.ensures
     ∙ ap (map told_kept) c.requires.checks
     ∙ told_from text (outlines_of text xs) 0 xs

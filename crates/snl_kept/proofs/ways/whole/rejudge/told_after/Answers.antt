@@ -28,6 +28,14 @@ told_in-requires-clause-links c =
     ∙ ap (λ (l : LinkedItems). l.outlines) c.requires.kept.links.are
     ∙ ap outlines_in (sym c.requires.text)
 
+pub told_in-requires-clause-kinds : goal.told_in-requires-clause-kinds
+told_in-requires-clause-kinds c =
+    let links = c.args.kept.now.links in
+    c.kinds-kinds.ensures
+    ∙ ap (λ (l : LinkedItems). (links_now l links).kinds) c.requires.editing.lists.links
+    ∙ ap (λ (l : LinkedItems). l.kinds) c.requires.kept.links.are
+    ∙ ap (λ (t : List ℕ). (links_in t).kinds) (sym c.requires.text)
+
 pub faults-faults-requires : goal.faults-faults-requires
 faults-faults-requires c = subst (λ (l : LinkedItems). HasFaults l c.args.kept.now.links) (sym c.requires.editing.lists.links) c.requires.kept.links.faults
 
