@@ -12,7 +12,7 @@ use std::hash::Hash;
 use std::marker::Model;
 
 /// So many keys take little time however they are chosen, be it that all have one hash.
-const FEW: usize = 1024;
+const FEW: usize = 2048;
 
 /// Numbers by different keys. Contracts see the list of the pairs of a key and its number. The first
 /// few are in a hash table, in the order in which they came, and those after them in an ordered one.

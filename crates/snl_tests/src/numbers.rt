@@ -5,7 +5,7 @@ use std::process::Abort;
 use std::test::Fail;
 
 // More keys than are hashed.
-const COUNT: usize = 1_500;
+const COUNT: usize = 2_500;
 
 // Keys that come in another order than their own.
 fn key_of(number: usize) -> usize {

@@ -94,13 +94,20 @@ impl ChannelNumbers {
         self.held.get(&key)
     }
 
-    // Adds a key of the channel with a number. One that had it before stays the first. It is sought
-    // before it is put, since the key of all elements of a variable nearly always had one before.
+    // Adds a key of the channel with a number. One that had it before stays the first.
     fn add(&mut self, key: ElementKey, number: usize) -> Result<(), OutOfMemory>
         ensures { OnOk result (Adds self.old self.new (same_key key) number) }
     {
+        self.held.add_first(key, number)?;
+        Ok(())
+    }
+
+    // The same for a key that nearly always had one before: so it is sought before it is put.
+    fn add_known(&mut self, key: ElementKey, number: usize) -> Result<(), OutOfMemory>
+        ensures { OnOk result (Adds self.old self.new (same_key key) number) }
+    {
         if self.held.get(&key).is_none() {
-            self.held.add_first(key, number)?;
+            self.add(key, number)?;
         }
         Ok(())
     }
@@ -126,7 +133,7 @@ impl ChannelNumbers {
             variable,
             which: Which::Element(element),
         };
-        self.add(any, number)?;
+        self.add_known(any, number)?;
         self.add(one, number)
     }
 
