@@ -1,5 +1,5 @@
 -- Look-ups in a list of pairs, and in two of them, one after the other.
-use Rattle.std.proofs.Common.{◌≡◌, ℕ, Bool, true, false, cond, List, [], ◌∷◌, ◌++◌, length, Option, None, Some, is_some, refl, sym, ap, ◌∙◌, true≢false, if◌then◌else◌}
+use Rattle.std.proofs.Common.{◌≡◌, ℕ, Bool, true, false, cond, List, [], ◌∷◌, ◌++◌, Option, None, Some, is_some, refl, sym, ap, ◌∙◌, true≢false, if◌then◌else◌}
 use Rattle.std.specs.BTreeMap.{is_at}
 use Rattle.std.specs.Cmp.{IsEquivalence}
 use Rattle.std.specs.Map.{lookup}
@@ -16,10 +16,6 @@ some_or : (o p : Option ℕ) → is_some o ≡ true → option_or o p ≡ o
 some_or None p h = absurd (true≢false (sym h))
 some_or (Some n) p h = refl
 
-or_none : (o : Option ℕ) → option_or o None ≡ o
-or_none None = refl
-or_none (Some n) = refl
-
 module _ {K : Type 0} where
   -- a list that follows another one is asked after it
   pub lookup_append : (test : K → Bool) (few more : List (K × ℕ)) → lookup test (few ++ more) ≡ option_or (lookup test few) (lookup test more)
@@ -35,17 +31,10 @@ module _ {K : Type 0} where
   lookup_alike p q h [] = refl
   lookup_alike p q h (e ∷ es) = ap (λ b. cond b (Some e.1) (lookup p es)) (h e.0) ∙ ap (cond (q e.0) (Some e.1)) (lookup_alike p q h es)
 
-  lookup_nothing : (test : K → Bool) (es : List (K × ℕ)) → length es ≡ 0 → lookup test es ≡ None
-  lookup_nothing test [] h = refl
-  lookup_nothing test (e ∷ es) h = absurd cc
-
   -- ---- what a look-up in both finds
 
   pub found_first : (test : K → Bool) (few more : List (K × ℕ)) → is_some (lookup test few) ≡ true → lookup test (few ++ more) ≡ lookup test few
   found_first test few more h = lookup_append test few more ∙ some_or (lookup test few) (lookup test more) h
-
-  pub found_alone : (test : K → Bool) (few more : List (K × ℕ)) → length more ≡ 0 → lookup test (few ++ more) ≡ lookup test few
-  found_alone test few more h = lookup_append test few more ∙ ap (option_or (lookup test few)) (lookup_nothing test more h) ∙ or_none (lookup test few)
 
   pub found_after : (test same : K → Bool) → ((k : K) → test k ≡ same k) → (few more : List (K × ℕ)) → is_some (lookup test few) ≡ false
       → lookup test (few ++ more) ≡ lookup same more

@@ -58,6 +58,18 @@ fn add_to_few<K: Ord + Hash + Copy>(
     }
 }
 
+// The number of a key in the ordered table. A key that isn't there mostly comes after all that are:
+// the last one tells so.
+fn number_among<K: Ord>(more: &BTreeMap<K, usize>, key: &K) -> Option<usize>
+    ensures { result ≡ lookup (K.eq key.now) more.now.entries }
+{
+    let (last, _) = more.last_key_value()?;
+    if last.cmp(key).is_lt() {
+        return None;
+    }
+    more.get(key).copied()
+}
+
 impl<K: Ord + Hash> NumbersByKey<K> {
     /// No numbers.
     pub fn new(alloc: Global) -> NumbersByKey<K>
@@ -84,10 +96,10 @@ impl<K: Ord + Hash> NumbersByKey<K> {
         ensures { result ≡ lookup (K.eq key.now) self.now }
     {
         let found = self.few.get(key).copied();
-        if found.is_some() || self.more.is_empty() {
+        if found.is_some() {
             return found;
         }
-        self.more.get(key).copied()
+        number_among(&self.more, key)
     }
 
     /// The keys, one after another.
