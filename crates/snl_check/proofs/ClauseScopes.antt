@@ -44,7 +44,7 @@ found_passes p (x ∷ xs) n h = by (p x) refl n (found_passes p xs) (sym (positi
     by true e (suc n) rest h = absurd cc
     by false e n rest h = later (position p xs) refl rest n h
 
-each_second : {X Y : Type 0} (P : Y → Type 0) (xs : List X) (ys : List Y) → AllByRecursion P ys → AllByRecursion (λ (p : X × Y). P p.1) (zip xs ys)
+pub each_second : {X Y : Type 0} (P : Y → Type 0) (xs : List X) (ys : List Y) → AllByRecursion P ys → AllByRecursion (λ (p : X × Y). P p.1) (zip xs ys)
 each_second P [] ys h = tt
 each_second P (x ∷ xs) [] h = tt
 each_second P (x ∷ xs) (y ∷ ys) h = (h.0, each_second P xs ys h.1)

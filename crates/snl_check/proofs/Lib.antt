@@ -25,3 +25,6 @@ pub mod ToldAlike
 pub mod SetMembers
 pub mod WakesByTable
 pub mod WakesAfter
+pub mod FrontNames
+pub mod FrontClauses
+pub mod FrontRows

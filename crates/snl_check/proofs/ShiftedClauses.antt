@@ -137,7 +137,7 @@ module _ (old text : List ℕ) (tokens shifted : List Piece) (bytes : token_byte
   synced_stays flag (clauses.Assign name channel) = refl
   synced_stays flag (clauses.Monitor name subscript) = refl
 
-  joined_stays : (numbers : List ℕ) → joined text shifted numbers ≡ joined old tokens numbers
+  pub joined_stays : (numbers : List ℕ) → joined text shifted numbers ≡ joined old tokens numbers
   joined_stays numbers = ap (λ (b : ℕ → List ℕ). flat_map (λ n. between_quotes (b n)) numbers) bytes
 
 -- The item of a clause has the bytes that it had.

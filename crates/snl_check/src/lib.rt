@@ -6,6 +6,7 @@
 mod alike_laws;
 mod laws;
 mod moved_laws;
+mod quiet_laws;
 mod reachability;
 mod rows;
 
@@ -17,9 +18,11 @@ pub use moved_laws::{
     tables_move, tables_move_around_a_state, tables_move_around_an_item, tables_move_in_a_set,
     tables_move_inside_a_state, tables_move_outside_the_sets,
 };
+pub use quiet_laws::channels_stay;
 pub use reachability::marks::{SetMember, state_marks};
 pub use reachability::reaching::reach;
 pub use rows::body::state_body;
+pub use rows::quiet::after_quiet;
 pub use rows::tables_of::{tables, tables_by_tokens};
 pub use rows::wake_inside::wake_inside;
 pub use snl_item_check::{Checked, ItemFault, check_item};

@@ -10,6 +10,7 @@ pub(crate) mod flag_rows;
 pub(crate) mod item_clauses;
 pub(crate) mod item_source;
 pub(crate) mod option_rows;
+pub(crate) mod quiet;
 pub(crate) mod room;
 pub(crate) mod row_source;
 pub(crate) mod set_rows;

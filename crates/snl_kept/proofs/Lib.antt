@@ -30,6 +30,7 @@ pub mod OwnFound
 pub mod OwnOrder
 pub mod OwnPlaces
 pub mod Parts
+pub mod QuietItems
 pub mod Ranks
 pub mod Rechecks
 pub mod Replaced

@@ -1,6 +1,6 @@
 //! The rows of channels, and the channels of each declaration.
 
-ghost use Rattle.std.specs.Prelude.{◌≡◌, ◌++◌, ◌∷◌, [], IfOk, OnOk, map};
+ghost use Rattle.std.specs.Prelude.{◌≡◌, ◌++◌, ◌∷◌, [], IfOk, IfSome, OnOk, map};
 ghost use Rattle.snl_check.specs.Channels.{variables_before};
 ghost use Rattle.snl_check.specs.Collected.{IsRowSource, assigned, over};
 ghost use Rattle.snl_check.specs.Tables.{channel_row};
@@ -11,6 +11,7 @@ use crate::rows::room::with_room;
 use crate::rows::row_source::RowSource;
 use crate::rows::syncs::sync_of;
 use snl_cut::OutOfMemory;
+use snl_scope::Name;
 use snl_tables::ChannelRow;
 use sqlite_items::Items;
 use std::alloc::Global;
@@ -31,8 +32,8 @@ fn channel_row(row_source: &RowSource, channel: AssignedChannel) -> Result<Chann
     })
 }
 
-/// The rows of channels.
-pub(crate) fn channel_rows(
+// The rows of channels.
+fn channel_rows(
     row_source: &RowSource,
     channels: &[AssignedChannel],
 ) -> Result<Vec<ChannelRow>, OutOfMemory>
@@ -45,6 +46,48 @@ pub(crate) fn channel_rows(
         rows.push(channel_row(row_source, *channel)?)?;
     }
     Ok(rows)
+}
+
+fn copy_of(alloc: Global, row: &ChannelRow) -> Result<ChannelRow, OutOfMemory>
+    ensures { IfOk result (λ copy. copy ≡ row.now) }
+{
+    Ok(ChannelRow {
+        variable: row.variable,
+        element: row.element,
+        scope: row.scope,
+        pv: Name::new(alloc, row.pv.bytes())?,
+        is_monitored: row.is_monitored,
+        sync: row.sync,
+    })
+}
+
+// Copies of rows.
+fn copies_of(alloc: Global, rows: &[ChannelRow]) -> Result<Vec<ChannelRow>, OutOfMemory>
+    ensures { IfOk result (λ copies. copies.items ≡ rows.now) }
+{
+    let mut copies = with_room(alloc, rows.len())?;
+    for row in rows {
+        copies.push(copy_of(alloc, row)?)?;
+    }
+    Ok(copies)
+}
+
+/// The rows of channels: copies of those that are known, or made.
+pub(crate) fn known_or_made(
+    row_source: &RowSource,
+    channels: &[AssignedChannel],
+    known: Option<&[ChannelRow]>,
+) -> Result<Vec<ChannelRow>, OutOfMemory>
+    requires row_source { IsRowSource row_source.now }
+    requires known { IfSome known (λ rows. rows.now
+        ≡ map (over row_source.now channel_row) (map assigned channels.now)) }
+    ensures { IfOk result (λ rows. rows.items
+        ≡ map (over row_source.now channel_row) (map assigned channels.now)) }
+{
+    match known {
+        Some(rows) => copies_of(row_source.program.alloc, rows),
+        None => channel_rows(row_source, channels),
+    }
 }
 
 // A list for each declaration, of which there are so many.

@@ -1,7 +1,7 @@
 //! The tables of a text: its items, their links and what their checks gave come in, rows go out.
 //! They are made whole; the laws of src/moved_laws.rt say after which edits rows can move instead.
 
-ghost use Rattle.std.specs.Prelude.{◌≡◌, IfOk, length, map, option_copied};
+ghost use Rattle.std.specs.Prelude.{◌≡◌, IfOk, IfSome, length, map, option_copied};
 ghost use Rattle.snl_lex.specs.LineList.{IsLineList};
 ghost use Rattle.snl_lex.specs.Pieces.{pieces_of, tokens_of};
 ghost use Rattle.snl_scope.specs.Summaries.{kind_of};
@@ -9,11 +9,11 @@ ghost use Rattle.snl_check.specs.Channels.{assigned_channels};
 ghost use Rattle.snl_check.specs.Collected.{IsLinked, IsStateSource, assigned, items_in, over};
 ghost use Rattle.snl_item_check.specs.Items.{IsCutUp, program_items, outlines_of};
 ghost use Rattle.snl_check.specs.States.{set_rows};
-ghost use Rattle.snl_check.specs.Tables.{tables_by, tables_of};
+ghost use Rattle.snl_check.specs.Tables.{channel_rows, tables_by, tables_of};
 ghost use Rattle.snl_item_check.specs.Told.{told_in_item, told_seen};
 
 use crate::rows::channel_numbers::numbers_of;
-use crate::rows::channel_rows::{channel_rows, variables};
+use crate::rows::channel_rows::{known_or_made, variables};
 use crate::rows::channels::{AssignedChannel, assigned_channels};
 use crate::rows::flag_rows::flag_rows;
 use crate::rows::item_clauses::resolved_clauses;
@@ -28,7 +28,7 @@ use snl_item_check::Checked;
 use snl_items::TokenList;
 use snl_lex::{LineList, Piece, tokens_among};
 use snl_scope::{ItemKind, Links, kind_of};
-use snl_tables::{Rows, SetRow, Tables};
+use snl_tables::{ChannelRow, Rows, SetRow, Tables};
 use sqlite_items::Items;
 use std::alloc::Global;
 
@@ -37,15 +37,17 @@ fn rows_of(
     row_source: &RowSource,
     lines: &LineList,
     checked: &[Option<&Checked>],
+    known: Option<&[ChannelRow]>,
 ) -> Result<Tables, OutOfMemory>
     requires linked { IsLinked row_source.now }
     requires lines { IsLineList row_source.now.program.text.now lines.now }
     requires checked { map told_seen checked.now
         ≡ map (told_in_item row_source.now.program.text.now) (items_in row_source.now.program) }
+    requires known { IfSome known (λ rows. rows.now ≡ over row_source.now channel_rows) }
     ensures { IfOk result (λ t. t ≡ over row_source.now tables_by) }
 {
     let channels = assigned_channels(row_source)?;
-    let tables = rows_by_channels(row_source, lines, checked, channels)?;
+    let tables = rows_by_channels(row_source, lines, checked, channels, known)?;
     Ok(tables)
 }
 
@@ -55,12 +57,14 @@ fn rows_by_channels(
     lines: &LineList,
     checked: &[Option<&Checked>],
     channels: Vec<AssignedChannel>,
+    known: Option<&[ChannelRow]>,
 ) -> Result<Tables, OutOfMemory>
     requires linked { IsLinked row_source.now }
     requires lines { IsLineList row_source.now.program.text.now lines.now }
     requires checked { map told_seen checked.now
         ≡ map (told_in_item row_source.now.program.text.now) (items_in row_source.now.program) }
     requires channels { map assigned channels.items ≡ over row_source.now assigned_channels }
+    requires known { IfSome known (λ rows. rows.now ≡ over row_source.now channel_rows) }
     ensures { IfOk result (λ t. t ≡ over row_source.now tables_by) }
 {
     let numbers = numbers_of(row_source.program.alloc, &channels)?;
@@ -70,7 +74,7 @@ fn rows_by_channels(
         checked,
         numbers: &numbers,
     };
-    let tables = rows_by_state_source(&state_source, channels)?;
+    let tables = rows_by_state_source(&state_source, channels, known)?;
     Ok(tables)
 }
 
@@ -90,10 +94,13 @@ fn then_sets<T: Drop>(state_source: &StateSource, held: T) -> Result<(T, Vec<Set
 fn rows_by_state_source(
     state_source: &StateSource,
     channels: Vec<AssignedChannel>,
+    known: Option<&[ChannelRow]>,
 ) -> Result<Tables, OutOfMemory>
     requires state_source { IsStateSource state_source.now }
     requires channels { map assigned channels.items
         ≡ over state_source.now.row_source assigned_channels }
+    requires known { IfSome known (λ rows. rows.now
+        ≡ over state_source.now.row_source channel_rows) }
     ensures { IfOk result (λ t. t ≡ over state_source.now.row_source tables_by) }
 {
     let row_source = &state_source.row_source;
@@ -102,7 +109,7 @@ fn rows_by_state_source(
     let program = row_source.program.name();
     let options = program_options(row_source)?;
     let flags = flag_rows(row_source)?;
-    let rows = channel_rows(row_source, &channels)?;
+    let rows = known_or_made(row_source, &channels, known)?;
     drop(channels);
     let held = (variables, options, flags, rows);
     let ((variables, options, flags, rows), sets) = then_sets(state_source, held)?;
@@ -118,7 +125,8 @@ fn rows_by_state_source(
 
 /// The tables of a text, by its lines and its tokens. `ends` has, for each item, the number of the
 /// token after it; a faulty item has no tree. `kinds` has what each item is, and `checked` what the
-/// check gave of each that isn't faulty.
+/// check gave of each that isn't faulty. Where the rows of channels are known, as after an edit that
+/// leaves them, they are copied.
 pub fn tables_by_tokens(
     alloc: Global,
     text: &[u8],
@@ -129,6 +137,7 @@ pub fn tables_by_tokens(
     kinds: &[ItemKind],
     links: &Links,
     checked: &[Option<&Checked>],
+    known: Option<&[ChannelRow]>,
 ) -> Result<Tables, OutOfMemory>
     requires lines { IsLineList text.now lines.now }
     requires tokens { tokens.now ≡ tokens_of text.now }
@@ -139,6 +148,9 @@ pub fn tables_by_tokens(
     requires checked { map told_seen checked.now
         ≡ map (told_in_item text.now)
         (program_items tokens.now ends.now (map option_copied items.now)) }
+    requires known { IfSome known (λ rows. rows.now
+        ≡ (tables_of text.now
+        (program_items tokens.now ends.now (map option_copied items.now))).channels) }
     ensures { IfOk result (λ t. t
         ≡ tables_of text.now (program_items tokens.now ends.now (map option_copied items.now))) }
 {
@@ -156,7 +168,7 @@ pub fn tables_by_tokens(
         clauses: &clauses,
         links,
     };
-    let tables = rows_of(&row_source, lines, checked)?;
+    let tables = rows_of(&row_source, lines, checked, known)?;
     Ok(tables)
 }
 
@@ -200,7 +212,7 @@ pub fn tables(
     let tokens = TokenList::listed(&listed);
     let kinds = kinds_of(alloc, items)?;
     let tables = tables_by_tokens(
-        alloc, text, &lines, &tokens, ends, items, &kinds, links, checked,
+        alloc, text, &lines, &tokens, ends, items, &kinds, links, checked, None,
     )?;
     Ok(tables)
 }

@@ -2,7 +2,7 @@
 //! It knows nothing of what is found.
 #![tactic(auto)]
 
-ghost use Rattle.std.specs.Prelude.{◌≡◌, IfOk, length, map};
+ghost use Rattle.std.specs.Prelude.{◌≡◌, IfOk, IfSome, length, map};
 ghost use Rattle.snl_lex.specs.LineList.{IsLineList};
 ghost use Rattle.snl_lex.specs.Pieces.{tokens_of};
 ghost use Rattle.snl_item_check.specs.Items.{IsCutUp, outlines_of, program_items};
@@ -14,7 +14,7 @@ ghost use Rattle.snl_kept.specs.Parts.{AreSeen, item_of_part, tree_of_part};
 use crate::found::program::Part;
 use crate::found::seen::SeenItems;
 use crate::shared::Shared;
-use snl_check::{Tables, tables_by_tokens};
+use snl_check::{ChannelRow, Tables, tables_by_tokens};
 use snl_cut::OutOfMemory;
 use snl_item_check::Checked;
 use snl_items::TokenList;
@@ -57,7 +57,8 @@ fn widened(alloc: Global, ends: &[u32]) -> Result<Vec<usize>, OutOfMemory>
     Ok(wide)
 }
 
-/// The tables of a program. `ends` has, for each item, the number of the token after it.
+/// The tables of a program. `ends` has, for each item, the number of the token after it. Rows of
+/// channels that are known are copied.
 pub fn tables_of(
     alloc: Global,
     text: &[u8],
@@ -68,6 +69,7 @@ pub fn tables_of(
     seen: &SeenItems,
     links: &Links,
     checks: &[&Shared<Option<Checked>>],
+    channels: Option<&[ChannelRow]>,
 ) -> Result<Tables, OutOfMemory>
     requires lines { IsLineList text.now lines.now }
     requires tokens { tokens.now ≡ tokens_of text.now }
@@ -76,13 +78,14 @@ pub fn tables_of(
     requires seen { AreSeen parts.now seen.now }
     requires links { links.now.outlines ≡ outlines_of text.now (map (item_of_part tokens.now) parts.now) }
     requires checks { map (λ c. c.now) checks.now ≡ checks_over text.now (map (item_of_part tokens.now) parts.now) }
+    requires channels { IfSome channels (λ rows. rows.now ≡ (tables_of text.now (map (item_of_part tokens.now) parts.now)).channels) }
     ensures { IfOk result (λ t. t ≡ tables_of text.now (map (item_of_part tokens.now) parts.now)) }
 {
     let ends = widened(alloc, ends)?;
     let told = told_checks(alloc, checks)?;
     let SeenItems { trees, kinds } = seen;
     let tables = tables_by_tokens(
-        alloc, text, lines, tokens, &ends, trees, kinds, links, &told,
+        alloc, text, lines, tokens, &ends, trees, kinds, links, &told, channels,
     )?;
     Ok(tables)
 }

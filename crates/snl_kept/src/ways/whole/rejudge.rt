@@ -29,6 +29,7 @@ use crate::plan::{LinksAndChecks, NewCheck, NewChecks, NewLinks};
 use crate::shared::Shared;
 use crate::values::values_after;
 use crate::ways::whole::edited::edited_names;
+use crate::ways::whole::kept_channels::kept_channels;
 use crate::ways::whole::recheck::{BothLinks, KeptItems, recheck};
 use crate::ways::whole::relink::relink;
 use snl_cut::{Count, OutOfMemory, ends_in_order};
@@ -160,12 +161,14 @@ fn told_after(
     editing: &Editing,
     cut: &CutText,
     parts: &[Part],
+    made: &[Shared<Entry>],
     kept: &LinksAndChecks,
 ) -> Result<Told, OutOfMemory>
     requires editing { IsUnderWay editing.now }
     requires text { cut.now.text.now ≡ text_in editing.now }
     requires items { map (item_of_part cut.now.tokens.now) parts.now ≡ map (program_item cut.now.text.now) (members cut.now.tokens.now 0 cut.now.ends.now) }
     requires parts { All (IsPart cut.now.text.now cut.now.tokens.now) parts.now }
+    requires made { AreEntriesIn editing.now made.now }
     requires kept { AreLinksAndChecks (edit_in editing.now) (items_in editing.now) kept.now }
     ensures shown { IfOk result (λ t. t.shown.items ≡ shown (text_in editing.now)) }
     ensures tables { IfOk result (λ t. t.tables ≡ tables_in (text_in editing.now)) }
@@ -185,7 +188,8 @@ fn told_after(
     let links = kept.links.after(&lists.links);
     let faults = kept.links.faults(&lists.links);
     let kinds = kept.links.kinds(&lists.links);
-    told_in(alloc, cut, parts, links, kinds, faults, &checks)
+    let channels = kept_channels(editing, made);
+    told_in(alloc, cut, parts, links, kinds, faults, &checks, channels)
 }
 
 // What the new text says, by its items. Each check that is made is one tick.
@@ -206,7 +210,7 @@ fn retell_parts(
     ensures ticks { IfOk result (λ r. work.new ≡ after_ticks work.old (length r.kept.checks.made.items)) }
 {
     let kept = recheck_after(alloc, editing, cut.tokens, parts, made, work)?;
-    let told = told_after(alloc, editing, cut, parts, &kept)?;
+    let told = told_after(alloc, editing, cut, parts, made, &kept)?;
     Ok(Retold { told, kept })
 }
 

@@ -1,11 +1,14 @@
-use Rattle.std.proofs.Common.{◌≡◌, List, map, ap, sym, ◌∙◌}
+use Rattle.std.proofs.Common.{◌≡◌, ℕ, Bor, IfSome, List, map, ap, subst, sym, ◌∙◌}
 use Rattle.std.proofs.lemmas.Simd.{map-map}
 use Rattle.snl_scope.specs.Linked.{faults_of}
 use Rattle.snl_scope.specs.Summaries.{kind_of}
+use Rattle.snl_tables.specs.declared.rows.ChannelRow.{ChannelRow}
+use Rattle.snl_check.specs.Tables.{tables_of}
 use Rattle.snl_kept.specs.Checks.{checks_over}
 use Rattle.snl_kept.specs.Linked.{linked_of, outlines_of}
 use Rattle.snl_kept.specs.Parts.{item_of_part}
 use Rattle.snl_kept.specs.Program.{ProgramItem, items_of}
+use Rattle.snl_kept.specs.Tables.{tables_in}
 use Rattle.snl_kept.proofs.SpelledItems.{checks_told}
 use Rattle.snl_kept.proofs.Trees.{same_items}
 use Rattle.snl_kept.proofs.found.judge.told_in.Goals as goal
@@ -45,3 +48,16 @@ told_by-requires-clause-checks c =
     c.requires.checks
     ∙ sym (checks_told text (c.outcome_told.ensures.tree text) (c.same_spelling_same_tree.ensures.by_spelling text) (c.same_spelling_same_summary.ensures.bytes_by_spelling text))
     ∙ ap (checks_over text) (sym items)
+
+-- the rows of channels of a text, by its items
+same_channels : (text : List ℕ) (xs : List ProgramItem) → xs ≡ items_of text → (tables_in text).channels ≡ (tables_of text xs).channels
+unfolding tables_in
+same_channels text xs items = ap (λ (l : List ProgramItem). (tables_of text l).channels) (sym items)
+
+pub told_by-requires-clause-channels : goal.told_by-requires-clause-channels
+told_by-requires-clause-channels c =
+    let cut = c.args.cut.now in
+    let text = cut.text.now in
+    let xs = map (item_of_part cut.tokens.now) c.args.parts.now in
+    let items : xs ≡ items_of text = same_items text cut.tokens.now cut.ends.now xs cut.tokens_are cut.ends_are c.requires.items in
+    subst (λ (l : List ChannelRow). IfSome c.args.channels (λ (rows : Bor (List ChannelRow)). rows.now ≡ l)) (same_channels text xs items) c.requires.channels

@@ -1,10 +1,12 @@
-use Rattle.std.proofs.Common.{◌≡◌, ℕ, ◌+◌, List, [], ◌∷◌, map, Option, None, Some, Bor, option_copied, refl, ap, ap₂, sym, ◌∙◌}
+use Rattle.std.proofs.Common.{◌≡◌, ℕ, ◌+◌, List, [], ◌∷◌, map, IfSome, Option, None, Some, Bor, option_copied, refl, ap, ap₂, subst, sym, ◌∙◌}
 use Rattle.std.specs.List.{enumerate_from}
 use Rattle.snl_lex.specs.declared.piece.Piece.{Piece}
 use Rattle.snl_grammar.specs.declared.tree.item.Item.{Item}
 use Rattle.snl_scope.specs.declared.summaries.summary.ItemKind.{ItemKind}
 use Rattle.snl_scope.specs.declared.summaries.summary.Outline.{Outline}
 use Rattle.snl_scope.specs.Summaries.{kind_of}
+use Rattle.snl_tables.specs.declared.rows.ChannelRow.{ChannelRow}
+use Rattle.snl_check.specs.Tables.{tables_of}
 use Rattle.snl_item_check.specs.Items.{program_items}
 use Rattle.snl_item_check.specs.Told.{Told, told_in_item, told_kept, told_seen}
 use Rattle.snl_kept.specs.declared.found.program.Part.{Part}
@@ -46,3 +48,12 @@ tables_by_tokens-requires-clause-checked c =
     ∙ ap (map told_kept) c.requires.checks
     ∙ told_from text (outlines_of text xs) 0 xs
     ∙ ap (map (told_in_item text)) (sym items)
+
+pub tables_by_tokens-requires-clause-known : goal.tables_by_tokens-requires-clause-known
+tables_by_tokens-requires-clause-known c =
+    let text = c.args.text.now in
+    let tokens = c.args.tokens.now in
+    let xs = map (item_of_part tokens) c.args.parts.now in
+    let items : program_items tokens c.deref.result.now (map option_copied c.deref-2.result.now) ≡ xs =
+    ap₂ (λ (es : List ℕ) (ts : List (Option Item)). program_items tokens es ts) (c.deref.ensures.value ∙ c.in_ok-ends.ensures) (ap (map (λ (o : Option (Bor Item)). option_copied o)) c.deref-2.ensures.value ∙ c.requires.seen.trees) ∙ c.requires.items in
+    subst (λ (l : List ProgramItem). IfSome c.args.channels (λ (rows : Bor (List ChannelRow)). rows.now ≡ (tables_of text l).channels)) (sym items) c.requires.channels

@@ -1,11 +1,13 @@
-use Rattle.std.proofs.Common.{arith, ◌≡◌, ℕ, ◌-◌, ◌++◌, List, length, map, take, drop, IfOk, Option, Bor, ap, sym, subst, ◌∙◌}
+use Rattle.std.proofs.Common.{arith, ◌≡◌, ℕ, ◌-◌, ◌++◌, List, length, map, take, drop, IfOk, IfSome, Option, Bor, ap, sym, subst, ◌∙◌}
 use Rattle.snl_scope.specs.Linked.{faults_of}
 use Rattle.snl_scope.specs.LinkedItems.{LinkedItems}
+use Rattle.snl_tables.specs.declared.rows.ChannelRow.{ChannelRow}
 use Rattle.snl_item_check.specs.declared.findings.Checked.{Checked}
 use Rattle.snl_kept.specs.declared.plan.NewCheck.{NewCheck}
 use Rattle.snl_kept.specs.Checks.{checks_of, links_in, outlines_in}
 use Rattle.snl_kept.specs.NewChecks.{AreChecksMade, put}
 use Rattle.snl_kept.specs.NewLinks.{HasFaults, links_now}
+use Rattle.snl_kept.specs.Tables.{tables_in}
 use Rattle.snl_kept.specs.Warnings.{warns_in}
 use Rattle.snl_kept.proofs.MadeChecks.{count_of_checks}
 use Rattle.snl_kept.proofs.ways.whole.rejudge.told_after.Goals as goal
@@ -72,6 +74,10 @@ told_in-requires-clause-checks c =
     ∙ ap (put (take items.kept_front values ++ (vacant ++ drop (c.len.result - items.kept_back) values))) c.deref-2.ensures.value)
     c.requires.kept.checks
     ∙ ap checks_of (sym c.requires.text)
+
+pub told_in-requires-clause-channels : goal.told_in-requires-clause-channels
+told_in-requires-clause-channels c =
+    subst (λ (t : List ℕ). IfSome c.kept_channels-channels.result (λ (rows : Bor (List ChannelRow)). rows.now ≡ (tables_in t).channels)) (sym c.requires.text) c.kept_channels-channels.ensures
 
 pub returns-clause-warns : goal.returns-clause-warns
 returns-clause-warns c = subst (λ (t : List ℕ). IfOk c.told_in.result (λ j. j.warns ≡ warns_in t)) c.requires.text c.told_in.ensures.warns

@@ -1,0 +1,8 @@
+use Rattle.std.proofs.Common.{◌≡◌, drop}
+use Rattle.snl_check.specs.Quiet.{quiet_along}
+use Rattle.snl_kept.specs.ItemPlan.{outlines_kept}
+use Rattle.snl_kept.proofs.ways.whole.kept_channels.after_kept.Given as goal
+
+-- the items that are left decide for all
+abbrev pub invariant-loop-number : goal.invariant-loop-number
+invariant-loop-number l = quiet_along l.next (outlines_kept (drop l.number l.entries.values)) ≡ quiet_along l.fn.in_later_set (outlines_kept (drop l.from l.entries.values))
