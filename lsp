@@ -45,7 +45,11 @@ if [ "${1-}" = --build ]; then
 elif [ -x "$program" ]; then
     # In large pages memory is touched and read faster, where the system has them. Without lists of
     # small freed blocks they are joined when they are freed, not all at once while a key waits.
-    export GLIBC_TUNABLES=${GLIBC_TUNABLES-glibc.malloc.hugetlb=1:glibc.malloc.mxfast=0}
+    # Long lists are in large pages too, where all memory is in one piece, and up to 32 MiB that are
+    # freed at its end stay for the next key.
+    tunables=glibc.malloc.hugetlb=1:glibc.malloc.mxfast=0
+    tunables+=:glibc.malloc.mmap_threshold=33554432:glibc.malloc.trim_threshold=33554432
+    export GLIBC_TUNABLES=${GLIBC_TUNABLES-$tunables}
     exec "$program"
 else
     fail "the server is not built: ./lsp --build proves and builds it"
