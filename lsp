@@ -45,8 +45,8 @@ if [ "${1-}" = --build ]; then
 elif [ -x "$program" ]; then
     # In large pages memory is touched and read faster, where the system has them. Without lists of
     # small freed blocks they are joined when they are freed, not all at once while a key waits.
-    # All memory is in one piece, and up to 32 MiB that are freed at its end stay: keys in comments of
-    # a long text were slower without that (docs/PERF.md).
+    # All memory is in one piece, of which up to 32 MiB that are freed at its end stay: keys in
+    # comments of a long text were slower without that (docs/PERF.md).
     tunables=glibc.malloc.hugetlb=1:glibc.malloc.mxfast=0
     tunables+=:glibc.malloc.mmap_threshold=33554432:glibc.malloc.trim_threshold=33554432
     export GLIBC_TUNABLES=${GLIBC_TUNABLES-$tunables}
