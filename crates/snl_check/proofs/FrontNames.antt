@@ -59,7 +59,7 @@ position_none : {A : Type 0} (p : A → Bool) (xs : List A) → AllByRecursion (
 position_none p [] h = refl
 position_none p (x ∷ xs) h = position_cons p x xs ∙ ap (λ b. cond b (Some 0) (option_map suc (position p xs))) h.0 ∙ ap (option_map suc) (position_none p xs h.1)
 
-position_in_front : {A : Type 0} (p : A → Bool) (xs ys : List A) → AllByRecursion (λ x. p x ≡ false) ys → position p (xs ++ ys) ≡ position p xs
+pub position_in_front : {A : Type 0} (p : A → Bool) (xs ys : List A) → AllByRecursion (λ x. p x ≡ false) ys → position p (xs ++ ys) ≡ position p xs
 position_in_front p xs ys h = position_append p xs ys ∙ ap (λ o. option_or (position p xs) (option_map (λ n. length xs + n) o)) (position_none p ys h) ∙ by (position p xs)
   where
     by : (o : Option ℕ) → option_or o None ≡ o
@@ -89,7 +89,7 @@ all_below_front p a (suc b) h =
 -- ---- the places of the items in front
 
 module _ (f o : List Outline) where
-  item_in_front : (test : Outline → Bool) (i : ℕ) → i < length f → item_is test (f ++ o) i ≡ item_is test f i
+  pub item_in_front : (test : Outline → Bool) (i : ℕ) → i < length f → item_is test (f ++ o) i ≡ item_is test f i
   item_in_front test i l = ap (λ s. option_map_or test s false) (got_in_front f o i l)
 
   ends_in_front : (k i : ℕ) → i ≤ length f → ends_between (f ++ o) k i ≡ ends_between f k i
@@ -113,7 +113,7 @@ module _ (f o : List Outline) where
   same_entries n l (Some s) =
       ap (λ p. set_entries n s ++ state_entries p n s ++ map (declared_entry (if has_own_scope s.role then namespace.State n else scope_at p) n) s.declares) (front_place n l)
 
-  entries_in_front : (n : ℕ) → n ≤ length f → entries_before (f ++ o) n ≡ entries_before f n
+  pub entries_in_front : (n : ℕ) → n ≤ length f → entries_before (f ++ o) n ≡ entries_before f n
   entries_in_front zero l = refl
   entries_in_front (suc n) l =
       ap₂ (λ (a b : List Entry). a ++ b) (entries_in_front n (omega (arith, l)))
@@ -284,7 +284,7 @@ either_within : (n : ℕ) (a b : Option ℕ) → IfSome a (λ k. k < n) → IfSo
 either_within n None b h g = g
 either_within n (Some k) b h g = h
 
-number_there : (es : List Entry) (s : Namespace) (name : List ℕ) → IfSome (number_in es s name) (λ n. n < length es)
+pub number_there : (es : List Entry) (s : Namespace) (name : List ℕ) → IfSome (number_in es s name) (λ n. n < length es)
 number_there es s name = position_within (has_name s name) es
 
 resolved_around : (es : List Entry) (p : Option ℕ) (name : List ℕ) → IfSome (resolve es p name) (λ n. n < length es)

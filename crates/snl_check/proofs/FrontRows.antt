@@ -52,7 +52,7 @@ rear_got P [] ys h i x le e = each_got P ys i x h e
 rear_got P (y ∷ xs) ys h zero x le e = absurd (omega (arith, le))
 rear_got P (y ∷ xs) ys h (suc i) x le e = rear_got P xs ys h i x (omega (arith, le)) e
 
-there : {X : Type 0} (xs : List X) (i : ℕ) → i < length xs → is_some (slice_get xs i) ≡ true
+pub there : {X : Type 0} (xs : List X) (i : ℕ) → i < length xs → is_some (slice_get xs i) ≡ true
 there [] i l = absurd (omega (arith, l))
 there (x ∷ xs) zero l = refl
 there (x ∷ xs) (suc i) l = there xs i (omega (arith, l))
@@ -71,13 +71,13 @@ channels_each P text xs p h = by p.1.is_sound p.1.variable refl p.0.clause
 -- ---- items in front
 
 module _ (fs rs : List ProgramItem) (got : (i : ℕ) → i < length fs → slice_get (fs ++ rs) i ≡ slice_get fs i) where
-  front_tokens : (i : ℕ) → i < length fs → tokens_in (fs ++ rs) i ≡ tokens_in fs i
+  pub front_tokens : (i : ℕ) → i < length fs → tokens_in (fs ++ rs) i ≡ tokens_in fs i
   front_tokens i l = ap (λ (x : Option ProgramItem). option_map_or (λ (x : ProgramItem). x.tokens) x []) (got i l)
 
-  front_tree : (i : ℕ) → i < length fs → tree_in (fs ++ rs) i ≡ tree_in fs i
+  pub front_tree : (i : ℕ) → i < length fs → tree_in (fs ++ rs) i ≡ tree_in fs i
   front_tree i l = ap (option_and_then (λ (x : ProgramItem). x.tree)) (got i l)
 
-  front_span : (i n : ℕ) → i < length fs → span_at (fs ++ rs) i n ≡ span_at fs i n
+  pub front_span : (i n : ℕ) → i < length fs → span_at (fs ++ rs) i n ≡ span_at fs i n
   front_span i n l = ap (λ (ts : List Piece). span_of (slice_get ts n)) (front_tokens i l)
 
   -- their clauses are all
@@ -173,7 +173,7 @@ module _ (text : List ℕ) (fs rs : List ProgramItem) where
             ap (λ (ts : List Piece). map (assigned_channel p.0.item name variable) (channels_in text ts channel)) (front_tokens fs rs front.items p.0.item h.0)
         by _ _ = refl
 
-    assigned_same : assigned_channels text (fs ++ rs) (f ++ o) ≡ assigned_channels text fs f
+    pub assigned_same : assigned_channels text (fs ++ rs) (f ++ o) ≡ assigned_channels text fs f
     assigned_same =
         ap (flat_map (channels_of_clause text (fs ++ rs))) resolved_same
         ∙ flat_same (channels_of_clause text (fs ++ rs)) (channels_of_clause text fs) (resolved_clauses fs f)
@@ -241,7 +241,7 @@ abbrev pub HasSameBytes : (old text : List ℕ) → ProgramItem → Type 0
 HasSameBytes old text x = (m : ℕ) → token_bytes text x.tokens m ≡ token_bytes old x.tokens m
 
 module _ (old text : List ℕ) (fs : List ProgramItem) (bytes : AllByRecursion (HasSameBytes old text) fs) where
-  bytes_at : (i : ℕ) → i < length fs → token_bytes text (tokens_in fs i) ≡ token_bytes old (tokens_in fs i)
+  pub bytes_at : (i : ℕ) → i < length fs → token_bytes text (tokens_in fs i) ≡ token_bytes old (tokens_in fs i)
   bytes_at i l = by (slice_get fs i) (got_each (HasSameBytes old text) fs i bytes) (there fs i l)
     where
       by : (x : Option ProgramItem) → IfSome x (HasSameBytes old text) → is_some x ≡ true →
@@ -249,7 +249,7 @@ module _ (old text : List ℕ) (fs : List ProgramItem) (bytes : AllByRecursion (
       by None h some = absurd (false≢true some)
       by (Some x) h some = λ j m. h m j
 
-  each_bytes : (ss : List Outline) → AllByRecursion (HasBytes old text fs fs) (resolved_clauses fs ss)
+  pub each_bytes : (ss : List Outline) → AllByRecursion (HasBytes old text fs fs) (resolved_clauses fs ss)
   each_bytes ss =
       each_weaker (λ (p : ItemClause × ClauseLink). p.0.item < length fs) (HasBytes old text fs fs) (λ p l. bytes_at p.0.item l) (resolved_clauses fs ss)
       (each_beside (λ (c : ItemClause). c.item < length fs) (item_clauses fs) (clause_links ss) (items_below fs (length fs)))
@@ -284,7 +284,7 @@ unfolding token_bytes
 spelled_same old text [] h = refl
 spelled_same old text (p ∷ ps) h = ap₂ (λ (b : List ℕ) (l : List (Class × List ℕ)). (p.kind, b) ∷ l) (h 0) (spelled_same old text ps (λ m. h (suc m)))
 
-outlines_same : SummariesAlike → (old text : List ℕ) (fs : List ProgramItem) → AllByRecursion (HasSameBytes old text) fs → outlines_of text fs ≡ outlines_of old fs
+pub outlines_same : SummariesAlike → (old text : List ℕ) (fs : List ProgramItem) → AllByRecursion (HasSameBytes old text) fs → outlines_of text fs ≡ outlines_of old fs
 outlines_same law old text [] h = refl
 outlines_same law old text (x ∷ fs) h =
     ap₂ (λ (s : Outline) (ss : List Outline). s ∷ ss) (ap (λ (m : Summary). m.outline) (law text old x.tokens x.tokens (spelled_same old text x.tokens h.0) x.tree)) (outlines_same law old text fs h.1)
@@ -332,7 +332,7 @@ module _ (turns : SetsOpenInTurn) (text : List ℕ) (xs : List ProgramItem) (n :
           tree_clauses text x.tokens i x.tree
           (rear_got (λ (x : ProgramItem). (outline_of_item text x).clauses ≡ []) fs rs (each_unmap (λ (s : Outline). s.clauses ≡ []) (outline_of_item text) rs none) i x le e)
 
-  is_front : IsFront text fs rs
+  pub is_front : IsFront text fs rs
   is_front =
       let f = outlines_of text fs in
       let o = outlines_of text rs in

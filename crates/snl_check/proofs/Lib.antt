@@ -22,9 +22,13 @@ pub mod ShiftedWhole
 pub mod ShiftedRows
 pub mod ShiftedAround
 pub mod ToldAlike
+pub mod SameSets
 pub mod SetMembers
 pub mod WakesByTable
 pub mod WakesAfter
 pub mod FrontNames
 pub mod FrontClauses
 pub mod FrontRows
+pub mod ClosedSets
+pub mod FrontSets
+pub mod KnownSets

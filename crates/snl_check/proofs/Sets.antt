@@ -1,5 +1,5 @@
 -- The items of a state set follow one another; its states, and what is found in it.
-use Rattle.std.proofs.Common.{◌≡◌, ◌⊎◌, ◌&&◌, ◌||◌, ℕ, zero, suc, ◌+◌, ◌-◌, ◌<◌, ◌≤◌, Bool, true, false, not, List, [], ◌∷◌, ◌++◌, length, length-append, get_or, map, nat_eq, nat_lt, slice_get, All, Option, Some, None, inl, inr, refl, sym, ap, subst, ◌∙◌, add-one, arith, if◌then◌else◌, option_copied, is_some, Bor}
+use Rattle.std.proofs.Common.{◌≡◌, ◌⊎◌, ◌&&◌, ◌||◌, ℕ, zero, suc, ◌+◌, ◌-◌, ◌<◌, ◌≤◌, Bool, true, false, not, List, [], ◌∷◌, ◌++◌, length, length-append, append_assoc, get_or, map, nat_eq, nat_lt, slice_get, All, Option, Some, None, inl, inr, refl, sym, ap, subst, ◌∙◌, add-one, arith, if◌then◌else◌, option_copied, is_some, Bor}
 use Rattle.std.specs.List.{cons_option, filter_map}
 use Rattle.std.specs.Option.{option_map_or}
 use Rattle.std.proofs.lemmas.Bool.{cases_lt, eqb-true, false_from_ne_true, false≢true}
@@ -86,7 +86,7 @@ module _ (law : SetsOpenInTurn) (ss : List Outline) (k : ℕ) where
   none_before j l = false_from_ne_true (stands_in ss k j) (λ h. let less = law.within ss j k (stands_from j h) in omega (arith, l, less))
 
   -- after the item that ends the set no item is in it
-  none_after : (i : ℕ) → k < i → (i ≡ length ss) ⊎ (stands_in ss k i ≡ false) → (j : ℕ) → i ≤ j → j < length ss → stands_in ss k j ≡ false
+  pub none_after : (i : ℕ) → k < i → (i ≡ length ss) ⊎ (stands_in ss k i ≡ false) → (j : ℕ) → i ≤ j → j < length ss → stands_in ss k j ≡ false
   none_after i l end j le within =
       false_from_ne_true (stands_in ss k j) (λ h. elim end [ inl all ↦ omega (arith, all, le, within) | inr out ↦ false≢true (sym out ∙ between i j l le within h) ])
 
@@ -118,6 +118,15 @@ any_past p i zero h = let same : i + 0 ≡ i = omega arith in ap (any_below p) s
 any_past p i (suc d) h =
     let same : i + suc d ≡ suc (i + d) = omega arith in
     ap (any_below p) same ∙ ap (λ b. b || any_below p (i + d)) (h (i + d) (omega arith) (omega arith)) ∙ any_past p i d (λ j l m. h j l (omega (arith, m)))
+
+-- the numbers below a sum that pass a test: first those below the first number
+pub numbers_first : (p : ℕ → Bool) (a b : ℕ) → (more : List ℕ) × (all_below p (a + b) ≡ all_below p a ++ more)
+numbers_first p a zero = let same : a + 0 ≡ a = omega arith in ([], ap (all_below p) same ∙ sym (append-nil (all_below p a)))
+numbers_first p a (suc b) =
+    let next : a + suc b ≡ suc (a + b) = omega arith in
+    let rest = numbers_first p a b in
+    let last : List ℕ = if p (a + b) then (a + b) ∷ [] else [] in
+    (rest.0 ++ last, ap (all_below p) next ∙ ap (λ l. l ++ last) rest.1 ∙ append_assoc (all_below p a) rest.0 last)
 
 -- the members of a set, of which the items from `from` up to `end` are all
 module _ (ss : List Outline) (k : ℕ) (test : ℕ → Bool) (end : ℕ) (some : k < end) (within : end ≤ length ss)

@@ -23,6 +23,10 @@ gathered_same f g zero h = refl
 gathered_same {X = X} f g (suc n) h =
     ap₂ (λ (l : List X) (o : Option X). l ++ option_to_list o) (gathered_same f g n (λ i l. h i (omega (arith, l)))) (h n (omega arith))
 
+pub numbered_same : {Y : Type 0} (f g : ℕ × ℕ → Y) (n : ℕ) (js : List ℕ) → AllByRecursion (λ j. (i : ℕ) → f (i, j) ≡ g (i, j)) js → map f (enumerate_from n js) ≡ map g (enumerate_from n js)
+numbered_same f g n [] each = refl
+numbered_same {Y = Y} f g n (j ∷ js) each = ap₂ (λ (y : Y) (ys : List Y). y ∷ ys) (each.0 n) (numbered_same f g (n + 1) js each.1)
+
 -- ---- of shifted elements
 
 pub map_shift : {X Y : Type 0} (g : Y → Y) (f h : X → Y) (xs : List X) → AllByRecursion (λ x. h x ≡ g (f x)) xs → map h xs ≡ map g (map f xs)

@@ -43,10 +43,10 @@ use Rattle.snl_check.proofs.SpanLaws.{each_all}
 
 -- ---- what an item says, by the bytes of its tokens and its tree
 
-told_of_item : (ℕ → List ℕ) → Option Item → Told
+pub told_of_item : (ℕ → List ℕ) → Option Item → Told
 told_of_item bytes tree = option_map_or (told_by bytes) tree nothing
 
-told_at : (text : List ℕ) (xs : List ProgramItem) (i : ℕ) → told_in text xs i ≡ told_of_item (token_bytes text (tokens_in xs i)) (tree_in xs i)
+pub told_at : (text : List ℕ) (xs : List ProgramItem) (i : ℕ) → told_in text xs i ≡ told_of_item (token_bytes text (tokens_in xs i)) (tree_in xs i)
 unfolding told_of_item
 told_at text xs i = by (slice_get xs i)
   where
@@ -54,6 +54,10 @@ told_at text xs i = by (slice_get xs i)
         ≡ option_map_or (told_by (token_bytes text (option_map_or (λ (x : ProgramItem). x.tokens) o []))) (option_and_then (λ (x : ProgramItem). x.tree) o) nothing
     by None = refl
     by (Some x) = refl
+
+pub told_of_own : (text : List ℕ) (xs : List ProgramItem) (i : ℕ) → told_in_item text (item_at xs i) ≡ told_of_item (token_bytes text (tokens_in xs i)) (tree_in xs i)
+unfolding told_of_item
+told_of_own text xs i = refl
 
 targets_by : List Outline → List ℕ → ℕ → (ℕ → List ℕ) → Told → List ℕ
 targets_by ss states i bytes t = filter_map (target_number ss states i) (map (λ n. record { name = bytes n; token = n }) (map (λ (u : TargetUse). u.token) t.target_uses))

@@ -9,6 +9,7 @@ pub mod Numbered
 pub mod Hashed
 pub mod Tables
 pub mod Collected
+pub mod KnownRows
 pub mod Quiet
 pub mod Settings
 pub mod SettingTrees

@@ -1,12 +1,15 @@
 -- Items that say nothing that the rows of channels are made from, as those of state sets mostly.
-use Rattle.std.specs.Prelude.{◌≡◌, ℕ, Bool, true, false, ◌&&◌, ◌||◌, not, if◌then◌else◌, List, [], ◌∷◌, take, drop, Option, Some, None, is_some, option_and_then}
+use Rattle.std.specs.Prelude.{◌≡◌, ℕ, ◌-◌, Bool, true, false, ◌&&◌, ◌||◌, not, if◌then◌else◌, List, [], ◌∷◌, length, take, drop, slice_get, Option, Some, None, is_some, option_and_then}
 use Rattle.std.specs.List.{AllByRecursion, list_any}
+use Rattle.snl_lex.specs.Lines.{line_at}
 use Rattle.snl_scope.specs.declared.summaries.summary.Declared.{Declared}
 use Rattle.snl_scope.specs.declared.summaries.summary.Outline.{Outline}
+use Rattle.snl_scope.specs.Below.{all_below}
 use Rattle.snl_scope.specs.Clauses.{is_event_flag}
 use Rattle.snl_scope.specs.Names.{has_own_scope}
-use Rattle.snl_scope.specs.Places.{begins_set, ends_set}
+use Rattle.snl_scope.specs.Places.{begins_set, ends_set, is_set_begin}
 use Rattle.snl_walk.specs.Tokens.{token_bytes}
+use Rattle.snl_check.specs.ItemSpans.{span_of}
 use Rattle.snl_item_check.specs.Items.{ProgramItem, outlines_of}
 
 abbrev pub is_nothing : {A : Type 0} → List A → Bool
@@ -42,6 +45,15 @@ quiet_along in_later_set (s ∷ ss) = option_and_then (λ next. quiet_along next
 -- those.
 abbrev pub are_quiet : List Outline → Bool
 are_quiet ss = is_some (quiet_along false ss)
+
+-- How many state sets begin among so many first items, but for the last one: what is after these
+-- items may be in that.
+abbrev pub sets_before : List Outline → ℕ → ℕ
+sets_before ss n = length (all_below (is_set_begin ss) n) - 1
+
+-- The first token of an item is on the same line in both texts.
+abbrev pub HasSameLine : (old text : List ℕ) → ProgramItem → Type 0
+HasSameLine old text x = line_at text (span_of (slice_get x.tokens 0)).start ≡ line_at old (span_of (slice_get x.tokens 0)).start
 
 -- Two texts have so many first items in common, at the same places and of the same bytes, and those
 -- after them are quiet to these.

@@ -18,10 +18,11 @@ pub use moved_laws::{
     tables_move, tables_move_around_a_state, tables_move_around_an_item, tables_move_in_a_set,
     tables_move_inside_a_state, tables_move_outside_the_sets,
 };
-pub use quiet_laws::channels_stay;
+pub use quiet_laws::{channels_stay, sets_stay};
 pub use reachability::marks::{SetMember, state_marks};
 pub use reachability::reaching::reach;
 pub use rows::body::state_body;
+pub use rows::known_rows::KnownRows;
 pub use rows::quiet::after_quiet;
 pub use rows::tables_of::{tables, tables_by_tokens};
 pub use rows::wake_inside::wake_inside;

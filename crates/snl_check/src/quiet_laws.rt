@@ -1,10 +1,11 @@
-//! The law of the rows of channels that an edit leaves as they are. A function here does nothing:
-//! its contract is the law.
+//! The laws of the rows that an edit leaves as they are. A function here does nothing: its contract
+//! is the law.
 
-ghost use Rattle.std.specs.Prelude.{◌≡◌, ℕ, List};
-ghost use Rattle.snl_check.specs.Quiet.{IsQuietAfter};
+ghost use Rattle.std.specs.Prelude.{◌≡◌, ◌≤◌, ℕ, List, length, take};
+ghost use Rattle.std.specs.List.{AllByRecursion};
+ghost use Rattle.snl_check.specs.Quiet.{IsQuietAfter, HasSameLine, sets_before};
 ghost use Rattle.snl_check.specs.Tables.{tables_of};
-ghost use Rattle.snl_item_check.specs.Items.{ProgramItem};
+ghost use Rattle.snl_item_check.specs.Items.{ProgramItem, outlines_of};
 
 use snl_scope::{same_spelling_same_summary, sets_open_in_turn};
 
@@ -14,6 +15,19 @@ pub fn channels_stay()
     ensures { (old text : List ℕ) (xs ys : List ProgramItem) (n : ℕ)
         → IsQuietAfter old text xs ys n
         → (tables_of text ys).channels ≡ (tables_of old xs).channels }
+{
+    same_spelling_same_summary();
+    sets_open_in_turn();
+}
+
+/// Where besides the items in front begin on the lines that they began on, the rows of the state
+/// sets that begin and end among them are the same.
+pub fn sets_stay()
+    ensures { (old text : List ℕ) (xs ys : List ProgramItem) (n : ℕ)
+        → n ≤ length xs → IsQuietAfter old text xs ys n
+        → AllByRecursion (HasSameLine old text) (take n xs)
+        → take (sets_before (outlines_of old xs) n) (tables_of text ys).sets
+        ≡ take (sets_before (outlines_of old xs) n) (tables_of old xs).sets }
 {
     same_spelling_same_summary();
     sets_open_in_turn();

@@ -1,5 +1,6 @@
 pub mod Ends
 pub mod Faults
+pub mod FrontLines
 pub mod FreshNumbers
 pub mod InsideLaws
 pub mod InsideMade
@@ -31,6 +32,7 @@ pub mod OwnOrder
 pub mod OwnPlaces
 pub mod Parts
 pub mod QuietItems
+pub mod SetsBegun
 pub mod Ranks
 pub mod Rechecks
 pub mod Replaced

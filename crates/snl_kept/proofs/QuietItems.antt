@@ -1,5 +1,5 @@
--- Items after which the rows of channels stay: those that are kept in front of an edit, and the
--- quiet ones from there on.
+-- Items after which the rows of channels and of state sets stay: those that are kept in front of an
+-- edit, and the quiet ones from there on.
 use Rattle.std.proofs.Common.{◌≡◌, ℕ, zero, suc, ◌+◌, ◌-◌, ◌<◌, ◌≤◌, inl, inr, ◌⊎◌, Bool, true, false, List, [], ◌∷◌, ◌++◌, length, map, take, drop, slice_get, Option, None, Some, option_and_then, refl, sym, ap, ap₂, ◌∙◌, subst, append_assoc, arith, length-append, drop_of_length-le}
 use Rattle.std.specs.List.{AllByRecursion}
 use Rattle.std.proofs.lemmas.Bool.{cases_lt}
@@ -16,10 +16,13 @@ use Rattle.snl_grammar.specs.Outcome.{parsed_by, parsed_in, sound_tree}
 use Rattle.snl_grammar.specs.declared.tree.item.Item.{Item}
 use Rattle.snl_items.specs.Changes.{made_in}
 use Rattle.snl_items.specs.Items.{item_ends, spelled_items, spellings}
+use Rattle.snl_scope.specs.Below.{all_below}
+use Rattle.snl_scope.specs.Places.{is_set_begin}
 use Rattle.snl_scope.specs.Summaries.Tokens.{token_bytes}
 use Rattle.snl_scope.specs.declared.summaries.summary.Outline.{Outline}
 use Rattle.snl_item_check.specs.Items.{outline_of_item, outlines_of}
-use Rattle.snl_check.specs.Quiet.{IsQuietAfter, after_quiet, are_quiet, quiet_along}
+use Rattle.snl_check.specs.Quiet.{HasSameLine, IsQuietAfter, after_quiet, are_quiet, quiet_along, sets_before}
+use Rattle.snl_check.specs.States.{set_row}
 use Rattle.snl_check.specs.Tables.{tables_of}
 use Rattle.snl_kept.specs.declared.entries.Entry.{Entry}
 use Rattle.snl_kept.specs.declared.plan.Changes.{Changes}
@@ -32,6 +35,7 @@ use Rattle.snl_kept.specs.Tables.{tables_in}
 use Rattle.snl_kept.proofs.KeptChecks.{agreed}
 use Rattle.snl_kept.proofs.MemberParts.{members_in_front, members_take, rises_take}
 use Rattle.snl_kept.proofs.Members.{entries_count, entries_made}
+use Rattle.snl_kept.proofs.SetsBegun.{fewer_below}
 use Rattle.snl_kept.proofs.ShiftedText.{along}
 use Rattle.snl_kept.proofs.SpelledItems.{spelled_text}
 
@@ -168,7 +172,7 @@ module _ (e : Edit) (c : Changes) (changed : IsChanged e c) (made : List Entry) 
             ap length h.1,
           ))
 
-  up : last_end 0 (take k (item_ends old)) ≤ start
+  pub up : last_end 0 (take k (item_ends old)) ≤ start
   up = subst (λ (n : ℕ). last_end 0 (take n (item_ends old)) ≤ start) (sym below) (last_below start 0 (item_ends old) (omega arith))
 
   front_ends : Rises 0 (take k (item_ends old))
@@ -257,3 +261,30 @@ module _ (e : Edit) (c : Changes) (changed : IsChanged e c) (made : List Entry) 
       → are_quiet (drop k (outlines_in old)) ≡ true → are_quiet (drop k (outlines_in text)) ≡ true → (tables_in text).channels ≡ (tables_in old).channels
   unfolding tables_in
   channels_kept stay before now = stay old text (items_of old) (items_of text) k (quiet_after before now)
+
+  -- and those of the state sets that begin in front, but for the last
+  items_count : length (items_of old) ≡ length (item_ends old)
+  unfolding item_tokens
+  items_count = length-map (item_tokens old) (program_item old) ∙ length_members (tokens_of old) 0 (item_ends old)
+
+  pub sets_kept : ((old text : List ℕ) (xs ys : List ProgramItem) (n : ℕ) → n ≤ length xs → IsQuietAfter old text xs ys n → AllByRecursion (HasSameLine old text) (take n xs)
+      → take (sets_before (outlines_of old xs) n) (tables_of text ys).sets ≡ take (sets_before (outlines_of old xs) n) (tables_of old xs).sets)
+      → AllByRecursion (HasSameLine old text) (take k (items_of old)) → are_quiet (drop k (outlines_in old)) ≡ true → are_quiet (drop k (outlines_in text)) ≡ true
+      → take (sets_before (outlines_in old) k) (tables_in text).sets ≡ take (sets_before (outlines_in old) k) (tables_in old).sets
+  unfolding tables_in
+  sets_kept stay lines before now =
+      let within : k ≤ length (items_of old) = omega (arith, inside, items_count) in
+      stay old text (items_of old) (items_of text) k within (quiet_after before now) lines
+
+  -- there are as many
+  pub few_begun : sets_before (outlines_in old) k ≤ length (tables_in old).sets
+  unfolding tables_in
+  few_begun =
+      let ss = outlines_in old in
+      let whole : k + (length ss - k) ≡ length ss = omega (arith, inside, items_count, length-map (items_of old) (outline_of_item old)) in
+      omega (
+        arith,
+        fewer_below (is_set_begin ss) k (length ss - k),
+        ap (λ n. length (all_below (is_set_begin ss) n)) whole,
+        length-map (all_below (is_set_begin ss) (length ss)) (set_row old (items_of old) ss),
+      )

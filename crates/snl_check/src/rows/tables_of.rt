@@ -1,15 +1,16 @@
 //! The tables of a text: its items, their links and what their checks gave come in, rows go out.
 //! They are made whole; the laws of src/moved_laws.rt say after which edits rows can move instead.
 
-ghost use Rattle.std.specs.Prelude.{◌≡◌, IfOk, IfSome, length, map, option_copied};
+ghost use Rattle.std.specs.Prelude.{◌≡◌, IfOk, IfSome, length, map, option_copied, take};
 ghost use Rattle.snl_lex.specs.LineList.{IsLineList};
 ghost use Rattle.snl_lex.specs.Pieces.{pieces_of, tokens_of};
 ghost use Rattle.snl_scope.specs.Summaries.{kind_of};
 ghost use Rattle.snl_check.specs.Channels.{assigned_channels};
 ghost use Rattle.snl_check.specs.Collected.{IsLinked, IsStateSource, assigned, items_in, over};
 ghost use Rattle.snl_item_check.specs.Items.{IsCutUp, program_items, outlines_of};
+ghost use Rattle.snl_check.specs.KnownRows.{AreKnown};
 ghost use Rattle.snl_check.specs.States.{set_rows};
-ghost use Rattle.snl_check.specs.Tables.{channel_rows, tables_by, tables_of};
+ghost use Rattle.snl_check.specs.Tables.{tables_by, tables_of};
 ghost use Rattle.snl_item_check.specs.Told.{told_in_item, told_seen};
 
 use crate::rows::channel_numbers::numbers_of;
@@ -17,6 +18,7 @@ use crate::rows::channel_rows::{known_or_made, variables};
 use crate::rows::channels::{AssignedChannel, assigned_channels};
 use crate::rows::flag_rows::flag_rows;
 use crate::rows::item_clauses::resolved_clauses;
+use crate::rows::known_rows::{KnownRows, known_channels, known_sets};
 use crate::rows::option_rows::program_options;
 use crate::rows::row_source::RowSource;
 use crate::rows::set_rows::set_rows;
@@ -28,7 +30,7 @@ use snl_item_check::Checked;
 use snl_items::TokenList;
 use snl_lex::{LineList, Piece, tokens_among};
 use snl_scope::{ItemKind, Links, kind_of};
-use snl_tables::{ChannelRow, Rows, SetRow, Tables};
+use snl_tables::{Rows, SetRow, Tables};
 use sqlite_items::Items;
 use std::alloc::Global;
 
@@ -37,13 +39,13 @@ fn rows_of(
     row_source: &RowSource,
     lines: &LineList,
     checked: &[Option<&Checked>],
-    known: Option<&[ChannelRow]>,
+    known: Option<KnownRows>,
 ) -> Result<Tables, OutOfMemory>
     requires linked { IsLinked row_source.now }
     requires lines { IsLineList row_source.now.program.text.now lines.now }
     requires checked { map told_seen checked.now
         ≡ map (told_in_item row_source.now.program.text.now) (items_in row_source.now.program) }
-    requires known { IfSome known (λ rows. rows.now ≡ over row_source.now channel_rows) }
+    requires known { IfSome known (λ k. AreKnown k (over row_source.now tables_by)) }
     ensures { IfOk result (λ t. t ≡ over row_source.now tables_by) }
 {
     let channels = assigned_channels(row_source)?;
@@ -57,14 +59,14 @@ fn rows_by_channels(
     lines: &LineList,
     checked: &[Option<&Checked>],
     channels: Vec<AssignedChannel>,
-    known: Option<&[ChannelRow]>,
+    known: Option<KnownRows>,
 ) -> Result<Tables, OutOfMemory>
     requires linked { IsLinked row_source.now }
     requires lines { IsLineList row_source.now.program.text.now lines.now }
     requires checked { map told_seen checked.now
         ≡ map (told_in_item row_source.now.program.text.now) (items_in row_source.now.program) }
     requires channels { map assigned channels.items ≡ over row_source.now assigned_channels }
-    requires known { IfSome known (λ rows. rows.now ≡ over row_source.now channel_rows) }
+    requires known { IfSome known (λ k. AreKnown k (over row_source.now tables_by)) }
     ensures { IfOk result (λ t. t ≡ over row_source.now tables_by) }
 {
     let numbers = numbers_of(row_source.program.alloc, &channels)?;
@@ -80,12 +82,18 @@ fn rows_by_channels(
 
 // The rows of state sets, while other rows are held. These are of any type, so that the proof of
 // what is freed on the way out looks into no row.
-fn then_sets<T: Drop>(state_source: &StateSource, held: T) -> Result<(T, Vec<SetRow>), OutOfMemory>
-    requires { IsStateSource state_source.now }
+fn then_sets<T: Drop>(
+    state_source: &StateSource,
+    known: &[SetRow],
+    held: T,
+) -> Result<(T, Vec<SetRow>), OutOfMemory>
+    requires state_source { IsStateSource state_source.now }
+    requires known { known.now
+        ≡ take (length known.now) (over state_source.now.row_source set_rows) }
     ensures held { IfOk result (λ both. both.0 ≡ held) }
     ensures sets { IfOk result (λ both. both.1.items ≡ over state_source.now.row_source set_rows) }
 {
-    let sets = set_rows(state_source)?;
+    let sets = set_rows(state_source, known)?;
     Ok((held, sets))
 }
 
@@ -94,13 +102,13 @@ fn then_sets<T: Drop>(state_source: &StateSource, held: T) -> Result<(T, Vec<Set
 fn rows_by_state_source(
     state_source: &StateSource,
     channels: Vec<AssignedChannel>,
-    known: Option<&[ChannelRow]>,
+    known: Option<KnownRows>,
 ) -> Result<Tables, OutOfMemory>
     requires state_source { IsStateSource state_source.now }
     requires channels { map assigned channels.items
         ≡ over state_source.now.row_source assigned_channels }
-    requires known { IfSome known (λ rows. rows.now
-        ≡ over state_source.now.row_source channel_rows) }
+    requires known { IfSome known (λ k.
+        AreKnown k (over state_source.now.row_source tables_by)) }
     ensures { IfOk result (λ t. t ≡ over state_source.now.row_source tables_by) }
 {
     let row_source = &state_source.row_source;
@@ -109,10 +117,14 @@ fn rows_by_state_source(
     let program = row_source.program.name();
     let options = program_options(row_source)?;
     let flags = flag_rows(row_source)?;
-    let rows = known_or_made(row_source, &channels, known)?;
+    let rows = known_or_made(row_source, &channels, known_channels(known))?;
     drop(channels);
     let held = (variables, options, flags, rows);
-    let ((variables, options, flags, rows), sets) = then_sets(state_source, held)?;
+    let ((variables, options, flags, rows), sets) = then_sets(
+        state_source,
+        known_sets(known),
+        held,
+    )?;
     Ok(Tables {
         program,
         options: Items::from_vec(options),
@@ -125,8 +137,8 @@ fn rows_by_state_source(
 
 /// The tables of a text, by its lines and its tokens. `ends` has, for each item, the number of the
 /// token after it; a faulty item has no tree. `kinds` has what each item is, and `checked` what the
-/// check gave of each that isn't faulty. Where the rows of channels are known, as after an edit that
-/// leaves them, they are copied.
+/// check gave of each that isn't faulty. Rows that are known, as after an edit that leaves them, are
+/// copied.
 pub fn tables_by_tokens(
     alloc: Global,
     text: &[u8],
@@ -137,7 +149,7 @@ pub fn tables_by_tokens(
     kinds: &[ItemKind],
     links: &Links,
     checked: &[Option<&Checked>],
-    known: Option<&[ChannelRow]>,
+    known: Option<KnownRows>,
 ) -> Result<Tables, OutOfMemory>
     requires lines { IsLineList text.now lines.now }
     requires tokens { tokens.now ≡ tokens_of text.now }
@@ -148,9 +160,9 @@ pub fn tables_by_tokens(
     requires checked { map told_seen checked.now
         ≡ map (told_in_item text.now)
         (program_items tokens.now ends.now (map option_copied items.now)) }
-    requires known { IfSome known (λ rows. rows.now
-        ≡ (tables_of text.now
-        (program_items tokens.now ends.now (map option_copied items.now))).channels) }
+    requires known { IfSome known (λ k. AreKnown k
+        (tables_of text.now
+        (program_items tokens.now ends.now (map option_copied items.now)))) }
     ensures { IfOk result (λ t. t
         ≡ tables_of text.now (program_items tokens.now ends.now (map option_copied items.now))) }
 {

@@ -6,6 +6,7 @@
 ghost use Rattle.std.specs.Prelude.{◌≡◌, All, IfOk, IfSome, map};
 ghost use Rattle.snl_cut.specs.Cut.{members};
 ghost use Rattle.snl_scope.specs.Linked.{faults_of};
+ghost use Rattle.snl_check.specs.KnownRows.{AreKnown};
 ghost use Rattle.snl_check.specs.Tables.{tables_of};
 ghost use Rattle.snl_kept.specs.Checks.{checks_of, checks_over, links_in, outlines_in};
 ghost use Rattle.snl_kept.specs.Diagnostics.{diagnostics_of, shown};
@@ -26,7 +27,7 @@ use crate::found::tables::tables_of;
 use crate::found::walked::add_walked_faults;
 use crate::found::warnings::shows_warnings;
 use crate::shared::Shared;
-use snl_check::{ChannelRow, Tables};
+use snl_check::{KnownRows, Tables};
 use snl_cut::OutOfMemory;
 use snl_grammar::{outcome_told, same_spelling_same_tree};
 use snl_item_check::Checked;
@@ -92,7 +93,7 @@ fn told_by(
     kinds: &[ItemKind],
     faults: &[LinkFault],
     checks: &[&Shared<Option<Checked>>],
-    channels: Option<&[ChannelRow]>,
+    known: Option<KnownRows>,
 ) -> Result<Told, OutOfMemory>
     requires items { map (item_of_part cut.now.tokens.now) parts.now ≡ map (program_item cut.now.text.now) (members cut.now.tokens.now 0 cut.now.ends.now) }
     requires parts { All (IsPart cut.now.text.now cut.now.tokens.now) parts.now }
@@ -100,7 +101,7 @@ fn told_by(
     requires faults { faults.now ≡ faults_of (linked_of cut.now.text.now (map (item_of_part cut.now.tokens.now) parts.now)) }
     requires kinds { kinds.now ≡ map kind_of_part parts.now }
     requires checks { map (λ c. c.now) checks.now ≡ checks_over cut.now.text.now (map (item_of_part cut.now.tokens.now) parts.now) }
-    requires channels { IfSome channels (λ rows. rows.now ≡ (tables_of cut.now.text.now (map (item_of_part cut.now.tokens.now) parts.now)).channels) }
+    requires known { IfSome known (λ k. AreKnown k (tables_of cut.now.text.now (map (item_of_part cut.now.tokens.now) parts.now))) }
     ensures shown { IfOk result (λ t. t.shown.items ≡ shown cut.now.text.now) }
     ensures tables { IfOk result (λ t. t.tables ≡ tables_in cut.now.text.now) }
     ensures warns { IfOk result (λ t. t.warns ≡ warns_in cut.now.text.now) }
@@ -117,7 +118,7 @@ fn told_by(
     let seen = seen_items(alloc, parts, kinds)?;
     let warns = shows_warnings(alloc, text, tokens, parts, seen.kinds, links)?;
     let tables = tables_of(
-        alloc, text, lines, tokens, ends, parts, &seen, links, checks, channels,
+        alloc, text, lines, tokens, ends, parts, &seen, links, checks, known,
     )?;
     let shown = shown_by(alloc, cut, parts, &seen, faults, checks, &tables, warns)?;
     Ok(Told {
@@ -128,7 +129,7 @@ fn told_by(
 }
 
 /// What is shown of what is found in a text that has these items, links and checks, and its tables.
-/// Rows of channels that are known are copied.
+/// Rows that are known are copied.
 pub fn told_in(
     alloc: Global,
     cut: &CutText,
@@ -137,7 +138,7 @@ pub fn told_in(
     kinds: &[ItemKind],
     faults: &[LinkFault],
     checks: &[&Shared<Option<Checked>>],
-    channels: Option<&[ChannelRow]>,
+    known: Option<KnownRows>,
 ) -> Result<Told, OutOfMemory>
     requires items { map (item_of_part cut.now.tokens.now) parts.now ≡ map (program_item cut.now.text.now) (members cut.now.tokens.now 0 cut.now.ends.now) }
     requires parts { All (IsPart cut.now.text.now cut.now.tokens.now) parts.now }
@@ -145,7 +146,7 @@ pub fn told_in(
     requires kinds { kinds.now ≡ (links_in cut.now.text.now).kinds }
     requires faults { faults.now ≡ faults_of (links_in cut.now.text.now) }
     requires checks { map (λ c. c.now) checks.now ≡ checks_of cut.now.text.now }
-    requires channels { IfSome channels (λ rows. rows.now ≡ (tables_in cut.now.text.now).channels) }
+    requires known { IfSome known (λ k. AreKnown k (tables_in cut.now.text.now)) }
     ensures shown { IfOk result (λ t. t.shown.items ≡ shown cut.now.text.now) }
     ensures tables { IfOk result (λ t. t.tables ≡ tables_in cut.now.text.now) }
     ensures warns { IfOk result (λ t. t.warns ≡ warns_in cut.now.text.now) }
@@ -153,7 +154,7 @@ pub fn told_in(
     outcome_told();
     same_spelling_same_tree();
     same_spelling_same_summary();
-    told_by(alloc, cut, parts, links, kinds, faults, checks, channels)
+    told_by(alloc, cut, parts, links, kinds, faults, checks, known)
 }
 
 /// The same with the findings in order.

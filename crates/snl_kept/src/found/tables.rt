@@ -6,6 +6,7 @@ ghost use Rattle.std.specs.Prelude.{◌≡◌, IfOk, IfSome, length, map};
 ghost use Rattle.snl_lex.specs.LineList.{IsLineList};
 ghost use Rattle.snl_lex.specs.Pieces.{tokens_of};
 ghost use Rattle.snl_item_check.specs.Items.{IsCutUp, outlines_of, program_items};
+ghost use Rattle.snl_check.specs.KnownRows.{AreKnown};
 ghost use Rattle.snl_check.specs.Tables.{tables_of};
 ghost use Rattle.snl_item_check.specs.Told.{told_kept, told_seen};
 ghost use Rattle.snl_kept.specs.Checks.{checks_over};
@@ -14,7 +15,7 @@ ghost use Rattle.snl_kept.specs.Parts.{AreSeen, item_of_part, tree_of_part};
 use crate::found::program::Part;
 use crate::found::seen::SeenItems;
 use crate::shared::Shared;
-use snl_check::{ChannelRow, Tables, tables_by_tokens};
+use snl_check::{KnownRows, Tables, tables_by_tokens};
 use snl_cut::OutOfMemory;
 use snl_item_check::Checked;
 use snl_items::TokenList;
@@ -57,8 +58,8 @@ fn widened(alloc: Global, ends: &[u32]) -> Result<Vec<usize>, OutOfMemory>
     Ok(wide)
 }
 
-/// The tables of a program. `ends` has, for each item, the number of the token after it. Rows of
-/// channels that are known are copied.
+/// The tables of a program. `ends` has, for each item, the number of the token after it. Rows
+/// that are known are copied.
 pub fn tables_of(
     alloc: Global,
     text: &[u8],
@@ -69,7 +70,7 @@ pub fn tables_of(
     seen: &SeenItems,
     links: &Links,
     checks: &[&Shared<Option<Checked>>],
-    channels: Option<&[ChannelRow]>,
+    known: Option<KnownRows>,
 ) -> Result<Tables, OutOfMemory>
     requires lines { IsLineList text.now lines.now }
     requires tokens { tokens.now ≡ tokens_of text.now }
@@ -78,14 +79,14 @@ pub fn tables_of(
     requires seen { AreSeen parts.now seen.now }
     requires links { links.now.outlines ≡ outlines_of text.now (map (item_of_part tokens.now) parts.now) }
     requires checks { map (λ c. c.now) checks.now ≡ checks_over text.now (map (item_of_part tokens.now) parts.now) }
-    requires channels { IfSome channels (λ rows. rows.now ≡ (tables_of text.now (map (item_of_part tokens.now) parts.now)).channels) }
+    requires known { IfSome known (λ k. AreKnown k (tables_of text.now (map (item_of_part tokens.now) parts.now))) }
     ensures { IfOk result (λ t. t ≡ tables_of text.now (map (item_of_part tokens.now) parts.now)) }
 {
     let ends = widened(alloc, ends)?;
     let told = told_checks(alloc, checks)?;
     let SeenItems { trees, kinds } = seen;
     let tables = tables_by_tokens(
-        alloc, text, lines, tokens, &ends, trees, kinds, links, &told, channels,
+        alloc, text, lines, tokens, &ends, trees, kinds, links, &told, known,
     )?;
     Ok(tables)
 }

@@ -29,7 +29,7 @@ use crate::plan::{LinksAndChecks, NewCheck, NewChecks, NewLinks};
 use crate::shared::Shared;
 use crate::values::values_after;
 use crate::ways::whole::edited::edited_names;
-use crate::ways::whole::kept_channels::kept_channels;
+use crate::ways::whole::kept_rows::kept_rows;
 use crate::ways::whole::recheck::{BothLinks, KeptItems, recheck};
 use crate::ways::whole::relink::relink;
 use snl_cut::{Count, OutOfMemory, ends_in_order};
@@ -188,8 +188,8 @@ fn told_after(
     let links = kept.links.after(&lists.links);
     let faults = kept.links.faults(&lists.links);
     let kinds = kept.links.kinds(&lists.links);
-    let channels = kept_channels(editing, made);
-    told_in(alloc, cut, parts, links, kinds, faults, &checks, channels)
+    let known = kept_rows(editing, made);
+    told_in(alloc, cut, parts, links, kinds, faults, &checks, known)
 }
 
 // What the new text says, by its items. Each check that is made is one tick.

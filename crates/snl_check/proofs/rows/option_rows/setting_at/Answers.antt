@@ -1,4 +1,4 @@
-use Rattle.std.proofs.Common.{arith, ◌≡◌, ℕ, Bool, List, Option, None, Some, true, false, if◌then◌else◌, option_and_then, refl, ap, sym, ◌∙◌}
+use Rattle.std.proofs.Common.{arith, ◌≡◌, ℕ, Bool, List, Option, None, Some, true, false, if◌then◌else◌, option_and_then, refl, sym}
 use Rattle.snl_grammar.specs.declared.tree.item.Item.{Item}
 use Rattle.snl_grammar.specs.declared.tree.item.Item.TheVariants as items
 use Rattle.snl_item_check.specs.Items.{tokens_in, tree_in}

@@ -1,8 +1,9 @@
-use Rattle.std.proofs.Common.{◌≡◌, ℕ, Bor, IfSome, List, map, ap, subst, sym, ◌∙◌}
+use Rattle.std.proofs.Common.{◌≡◌, ℕ, IfSome, List, map, ap, subst, sym, ◌∙◌}
 use Rattle.std.proofs.lemmas.Simd.{map-map}
 use Rattle.snl_scope.specs.Linked.{faults_of}
 use Rattle.snl_scope.specs.Summaries.{kind_of}
-use Rattle.snl_tables.specs.declared.rows.ChannelRow.{ChannelRow}
+use Rattle.snl_tables.specs.declared.rows.Tables.{Tables}
+use Rattle.snl_check.specs.KnownRows.{AreKnown}
 use Rattle.snl_check.specs.Tables.{tables_of}
 use Rattle.snl_kept.specs.Checks.{checks_over}
 use Rattle.snl_kept.specs.Linked.{linked_of, outlines_of}
@@ -49,15 +50,15 @@ told_by-requires-clause-checks c =
     ∙ sym (checks_told text (c.outcome_told.ensures.tree text) (c.same_spelling_same_tree.ensures.by_spelling text) (c.same_spelling_same_summary.ensures.bytes_by_spelling text))
     ∙ ap (checks_over text) (sym items)
 
--- the rows of channels of a text, by its items
-same_channels : (text : List ℕ) (xs : List ProgramItem) → xs ≡ items_of text → (tables_in text).channels ≡ (tables_of text xs).channels
+-- the tables of a text, by its items
+same_tables : (text : List ℕ) (xs : List ProgramItem) → xs ≡ items_of text → tables_in text ≡ tables_of text xs
 unfolding tables_in
-same_channels text xs items = ap (λ (l : List ProgramItem). (tables_of text l).channels) (sym items)
+same_tables text xs items = ap (tables_of text) (sym items)
 
-pub told_by-requires-clause-channels : goal.told_by-requires-clause-channels
-told_by-requires-clause-channels c =
+pub told_by-requires-clause-known : goal.told_by-requires-clause-known
+told_by-requires-clause-known c =
     let cut = c.args.cut.now in
     let text = cut.text.now in
     let xs = map (item_of_part cut.tokens.now) c.args.parts.now in
     let items : xs ≡ items_of text = same_items text cut.tokens.now cut.ends.now xs cut.tokens_are cut.ends_are c.requires.items in
-    subst (λ (l : List ChannelRow). IfSome c.args.channels (λ (rows : Bor (List ChannelRow)). rows.now ≡ l)) (same_channels text xs items) c.requires.channels
+    subst (λ (t : Tables). IfSome c.args.known (λ k. AreKnown k t)) (same_tables text xs items) c.requires.known

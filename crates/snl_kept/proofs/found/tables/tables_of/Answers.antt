@@ -5,7 +5,7 @@ use Rattle.snl_grammar.specs.declared.tree.item.Item.{Item}
 use Rattle.snl_scope.specs.declared.summaries.summary.ItemKind.{ItemKind}
 use Rattle.snl_scope.specs.declared.summaries.summary.Outline.{Outline}
 use Rattle.snl_scope.specs.Summaries.{kind_of}
-use Rattle.snl_tables.specs.declared.rows.ChannelRow.{ChannelRow}
+use Rattle.snl_check.specs.KnownRows.{AreKnown}
 use Rattle.snl_check.specs.Tables.{tables_of}
 use Rattle.snl_item_check.specs.Items.{program_items}
 use Rattle.snl_item_check.specs.Told.{Told, told_in_item, told_kept, told_seen}
@@ -56,4 +56,4 @@ tables_by_tokens-requires-clause-known c =
     let xs = map (item_of_part tokens) c.args.parts.now in
     let items : program_items tokens c.deref.result.now (map option_copied c.deref-2.result.now) ≡ xs =
     ap₂ (λ (es : List ℕ) (ts : List (Option Item)). program_items tokens es ts) (c.deref.ensures.value ∙ c.in_ok-ends.ensures) (ap (map (λ (o : Option (Bor Item)). option_copied o)) c.deref-2.ensures.value ∙ c.requires.seen.trees) ∙ c.requires.items in
-    subst (λ (l : List ProgramItem). IfSome c.args.channels (λ (rows : Bor (List ChannelRow)). rows.now ≡ (tables_of text l).channels)) (sym items) c.requires.channels
+    subst (λ (l : List ProgramItem). IfSome c.args.known (λ k. AreKnown k (tables_of text l))) (sym items) c.requires.known

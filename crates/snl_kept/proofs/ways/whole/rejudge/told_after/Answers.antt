@@ -1,7 +1,7 @@
 use Rattle.std.proofs.Common.{arith, ◌≡◌, ℕ, ◌-◌, ◌++◌, List, length, map, take, drop, IfOk, IfSome, Option, Bor, ap, sym, subst, ◌∙◌}
 use Rattle.snl_scope.specs.Linked.{faults_of}
 use Rattle.snl_scope.specs.LinkedItems.{LinkedItems}
-use Rattle.snl_tables.specs.declared.rows.ChannelRow.{ChannelRow}
+use Rattle.snl_check.specs.KnownRows.{AreKnown}
 use Rattle.snl_item_check.specs.declared.findings.Checked.{Checked}
 use Rattle.snl_kept.specs.declared.plan.NewCheck.{NewCheck}
 use Rattle.snl_kept.specs.Checks.{checks_of, links_in, outlines_in}
@@ -75,9 +75,9 @@ told_in-requires-clause-checks c =
     c.requires.kept.checks
     ∙ ap checks_of (sym c.requires.text)
 
-pub told_in-requires-clause-channels : goal.told_in-requires-clause-channels
-told_in-requires-clause-channels c =
-    subst (λ (t : List ℕ). IfSome c.kept_channels-channels.result (λ (rows : Bor (List ChannelRow)). rows.now ≡ (tables_in t).channels)) (sym c.requires.text) c.kept_channels-channels.ensures
+pub told_in-requires-clause-known : goal.told_in-requires-clause-known
+told_in-requires-clause-known c =
+    subst (λ (t : List ℕ). IfSome c.kept_rows-known.result (λ k. AreKnown k (tables_in t))) (sym c.requires.text) c.kept_rows-known.ensures
 
 pub returns-clause-warns : goal.returns-clause-warns
 returns-clause-warns c = subst (λ (t : List ℕ). IfOk c.told_in.result (λ j. j.warns ≡ warns_in t)) c.requires.text c.told_in.ensures.warns

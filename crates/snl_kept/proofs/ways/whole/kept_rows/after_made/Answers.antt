@@ -1,7 +1,7 @@
 use Rattle.std.proofs.Common.{arith, sym, ◌∙◌}
 use Rattle.snl_facts.specs.Lists.{drop_here}
 use Rattle.snl_kept.proofs.QuietItems.{all_quiet, next_noisy, next_quiet}
-use Rattle.snl_kept.proofs.ways.whole.kept_channels.after_made.Goals as goal
+use Rattle.snl_kept.proofs.ways.whole.kept_rows.after_made.Goals as goal
 
 pub loop-entry-preserved : goal.loop-entry-preserved
 loop-entry-preserved c =

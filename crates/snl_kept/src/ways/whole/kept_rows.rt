@@ -1,10 +1,13 @@
-//! The rows of channels that an edit leaves as they are. In: the edit under way and what is kept of
-//! the items that it makes. Out: the rows, if no item from the edit on says anything that such a
-//! row is made from, in the old text or in the new one. Programs are written so: what channels are
-//! made from comes before the state sets.
+//! The rows that an edit leaves as they are: those of channels, and those of the state sets that
+//! begin and end before it. In: the edit under way and what is kept of the items that it makes. Out:
+//! the rows, if no item from the edit on says anything that they are made from, in the old text or
+//! in the new one. Programs are written so: what channels are made from comes before the state sets.
 #![tactic(auto)]
 
 ghost use Rattle.std.specs.Prelude.{◌≡◌, ◌≤◌, IfSome, drop, length};
+ghost use Rattle.snl_scope.specs.Below.{all_below};
+ghost use Rattle.snl_scope.specs.Places.{is_set_begin};
+ghost use Rattle.snl_check.specs.KnownRows.{AreKnown};
 ghost use Rattle.snl_check.specs.Quiet.{after_quiet, are_quiet, quiet_along};
 ghost use Rattle.snl_kept.specs.Checks.{outlines_in};
 ghost use Rattle.snl_kept.specs.Editing.{AreEntriesIn, IsUnderWay, items_in, old_in, text_in};
@@ -14,11 +17,13 @@ ghost use Rattle.snl_kept.specs.Tables.{tables_in};
 use crate::editing::Editing;
 use crate::entries::Entry;
 use crate::shared::Shared;
-use snl_check::{ChannelRow, after_quiet, channels_stay};
+use snl_check::{KnownRows, after_quiet, channels_stay, sets_stay};
 use snl_cut::ends_in_order;
 use snl_grammar::{Tokens, outcome_told, same_spelling_same_tree};
+use snl_items::tokens_around_stay;
+use snl_lex::text_in_pieces;
 use snl_lists::Ordered;
-use snl_scope::same_spelling_same_summary;
+use snl_scope::{Links, same_spelling_same_summary};
 
 fn after_entry(in_later_set: bool, entry: &Shared<Entry>) -> Option<bool>
     ensures { result ≡ after_quiet in_later_set entry.now.summary.outline }
@@ -84,23 +89,42 @@ fn are_quiet_now(editing: &Editing, made: &[Shared<Entry>]) -> bool
     }
 }
 
-/// The rows of channels, if the edit leaves them as they are. Where it makes no item, whatever is
-/// after it may have moved.
-pub fn kept_channels<'a>(
-    editing: &Editing<'a, '_>,
-    made: &[Shared<Entry>],
-) -> Option<&'a [ChannelRow]>
+// How many state sets begin among so many first items.
+fn sets_begun(links: &Links, count: usize) -> usize
+    ensures { result ≡ length (all_below (is_set_begin links.now.outlines) count) }
+{
+    let mut sets = 0;
+    for item in 0..count {
+        if links.begins_set(item) {
+            sets += 1;
+        }
+    }
+    sets
+}
+
+/// The rows of channels and of the state sets before the edit, if the edit leaves them as they are.
+/// The last of these sets may go on after it. Where it makes no item, whatever is after it may have
+/// moved.
+pub fn kept_rows<'a>(editing: &Editing<'a, '_>, made: &[Shared<Entry>]) -> Option<KnownRows<'a>>
     requires editing { IsUnderWay editing.now }
     requires made { AreEntriesIn editing.now made.now }
-    ensures { IfSome result (λ rows. rows.now ≡ (tables_in (text_in editing.now)).channels) }
+    ensures { IfSome result (λ known. AreKnown known (tables_in (text_in editing.now))) }
 {
+    text_in_pieces();
+    tokens_around_stay();
     ends_in_order::<Tokens>();
     outcome_told();
     same_spelling_same_tree();
     same_spelling_same_summary();
     channels_stay();
+    sets_stay();
     if made.is_empty() || !are_quiet_now(editing, made) || !were_quiet(editing) {
         return None;
     }
-    Some(editing.tables.channels.as_slice())
+    let begun = sets_begun(&editing.lists.links, editing.changes.items.kept_front);
+    let sets = editing.tables.sets.as_slice();
+    Some(KnownRows {
+        channels: editing.tables.channels.as_slice(),
+        sets: &sets[..begun.saturating_sub(1)],
+    })
 }

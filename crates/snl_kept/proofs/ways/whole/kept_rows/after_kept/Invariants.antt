@@ -1,7 +1,7 @@
 use Rattle.std.proofs.Common.{◌≡◌, drop}
 use Rattle.snl_check.specs.Quiet.{quiet_along}
 use Rattle.snl_kept.specs.ItemPlan.{outlines_kept}
-use Rattle.snl_kept.proofs.ways.whole.kept_channels.after_kept.Given as goal
+use Rattle.snl_kept.proofs.ways.whole.kept_rows.after_kept.Given as goal
 
 -- the items that are left decide for all
 abbrev pub invariant-loop-number : goal.invariant-loop-number

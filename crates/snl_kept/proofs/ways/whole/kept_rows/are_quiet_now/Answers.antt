@@ -4,7 +4,7 @@ use Rattle.snl_kept.specs.ItemPlan.{outlines_kept}
 use Rattle.snl_kept.proofs.InsideMade.{kept_outlines}
 use Rattle.snl_kept.proofs.Members.{entries_count}
 use Rattle.snl_kept.proofs.QuietItems.{quiet_now}
-use Rattle.snl_kept.proofs.ways.whole.kept_channels.are_quiet_now.Goals as goal
+use Rattle.snl_kept.proofs.ways.whole.kept_rows.are_quiet_now.Goals as goal
 
 pub overflow_sub-back : goal.overflow_sub-back
 overflow_sub-back c =

@@ -3,7 +3,7 @@ use Rattle.snl_check.specs.Quiet.{are_quiet}
 use Rattle.snl_kept.proofs.InsideMade.{kept_outlines}
 use Rattle.snl_kept.proofs.Members.{entries_count}
 use Rattle.snl_kept.proofs.QuietItems.{outlines_before}
-use Rattle.snl_kept.proofs.ways.whole.kept_channels.were_quiet.Goals as goal
+use Rattle.snl_kept.proofs.ways.whole.kept_rows.were_quiet.Goals as goal
 
 pub after_kept-requires : goal.after_kept-requires
 after_kept-requires c =

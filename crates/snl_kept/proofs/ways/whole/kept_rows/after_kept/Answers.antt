@@ -1,7 +1,7 @@
 use Rattle.std.proofs.Common.{arith, ◌<◌, length, option_copied, sym, ap, ◌∙◌}
 use Rattle.snl_kept.proofs.QuietItems.{all_quiet, got_here, next_noisy, next_quiet, none_missing}
-use Rattle.snl_kept.proofs.ways.whole.kept_channels.after_kept.Goals as goal
-use Rattle.snl_kept.proofs.ways.whole.kept_channels.after_kept.Goals.{in-Some+in_ok-next, in_default}
+use Rattle.snl_kept.proofs.ways.whole.kept_rows.after_kept.Goals as goal
+use Rattle.snl_kept.proofs.ways.whole.kept_rows.after_kept.Goals.{in-Some+in_ok-next, in_default}
 
 pub loop-number-preserved : goal.loop-number-preserved
 loop-number-preserved c =
