@@ -20,8 +20,8 @@ pub fn channels_stay()
     sets_open_in_turn();
 }
 
-/// Where besides the items in front begin on the lines that they began on, the rows of the state
-/// sets that begin and end among them are the same.
+/// Where besides these items begin on the lines that they began on, the rows of the state sets that
+/// begin among them are the same, but for the last of these sets: items after them may be in it.
 pub fn sets_stay()
     ensures { (old text : List ℕ) (xs ys : List ProgramItem) (n : ℕ)
         → n ≤ length xs → IsQuietAfter old text xs ys n
