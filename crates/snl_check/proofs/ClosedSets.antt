@@ -148,7 +148,7 @@ module _ (k : ℕ) (name : List ℕ) where
 
 -- ---- a set that is closed before the items that are added
 
-module _ (law : SetsOpenInTurn) (f o : List Outline) (k : ℕ) (begins : is_set_begin f k ≡ true) (closed : IsClosed f (length f) k) where
+module _ (law : SetsOpenInTurn) (f o : List Outline) (k : ℕ) (closed : IsClosed f (length f) k) where
   -- none of the items after f is in the set that item k of f begins
   pub closed_none : (j : ℕ) → length f ≤ j → stands_in (f ++ o) k j ≡ false
   closed_none j le = elim (cases_lt j (length (f ++ o))) [

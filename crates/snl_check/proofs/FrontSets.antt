@@ -1,11 +1,11 @@
 -- The rows of the state sets that begin among the first items of a text, but for the last of them:
 -- where the items after those are quiet, they go by the first items alone, and by the bytes and the
 -- lines of these.
-use Rattle.std.proofs.Common.{◌≡◌, ℕ, zero, suc, ◌-◌, ◌<◌, ◌≤◌, true, false, List, [], ◌∷◌, ◌++◌, length, map, take, drop, slice_get, Option, Some, None, IfSome, is_some, is_none, refl, sym, subst, ap, ap₂, ◌∙◌, arith, length-append}
+use Rattle.std.proofs.Common.{◌≡◌, ℕ, ◌-◌, ◌<◌, ◌≤◌, true, false, List, [], ◌++◌, length, map, take, drop, slice_get, Option, Some, None, IfSome, is_some, is_none, refl, sym, subst, ap, ap₂, ◌∙◌, arith, length-append}
 use Rattle.std.specs.List.{AllByRecursion}
 use Rattle.std.specs.Option.{option_map_or}
 use Rattle.std.proofs.lemmas.Bool.{false≢true}
-use Rattle.std.proofs.lemmas.List.{length-map, length-take-le, map-append, take-append-drop, take-map}
+use Rattle.std.proofs.lemmas.List.{length-map, length-take-le, map-append, take-append-drop, take-append-le, take-map}
 use Rattle.snl_facts.specs.Each.{each_both, each_front, each_weaker}
 use Rattle.snl_lex.specs.declared.piece.Piece.{Piece}
 use Rattle.snl_lex.specs.Lines.{line_at}
@@ -31,11 +31,6 @@ use Rattle.snl_check.proofs.SpanLaws.{each_got as got_each}
 
 -- ---- lists
 
-take_within : {A : Type 0} (c : ℕ) (xs ys : List A) → c ≤ length xs → take c (xs ++ ys) ≡ take c xs
-take_within zero xs ys le = refl
-take_within (suc c) [] ys le = absurd (omega (arith, le))
-take_within {A = A} (suc c) (x ∷ xs) ys le = ap (λ (l : List A). x ∷ l) (take_within c xs ys (omega (arith, le)))
-
 each_taken : {A : Type 0} (P : A → Type 0) (c : ℕ) (xs : List A) → AllByRecursion P xs → AllByRecursion P (take c xs)
 each_taken P c xs h = each_front P (take c xs) (drop c xs) (subst (AllByRecursion P) (sym (take-append-drop c xs)) h)
 
@@ -51,7 +46,7 @@ module _ (turns : SetsOpenInTurn) (text : List ℕ) (fs rs : List ProgramItem) (
   many : length f ≡ length fs
   many = length-map fs (outline_of_item text)
 
-  module _ (k : ℕ) (begins : is_set_begin f k ≡ true) (within : k < length f) (closed : IsClosed f (length f) k) where
+  module _ (k : ℕ) (within : k < length f) (closed : IsClosed f (length f) k) where
     abbrev IsState : ℕ → Type 0
     IsState i = (i < length f) × (enclosing_set f i ≡ Some k)
 
@@ -66,9 +61,9 @@ module _ (turns : SetsOpenInTurn) (text : List ℕ) (fs rs : List ProgramItem) (
           bytes = ap (token_bytes text) tokens;
           line = ap (λ (ts : List Piece). line_at text (span_of (slice_get ts 0)).start) tokens;
           resolves = front.names.resolves i h.0;
-          known = closed_known turns f o k begins closed front.names.got i h.0 h.1;
-          leads = closed_leads turns f o k begins closed front.names.got i h.0 h.1;
-          first = closed_first turns f o k begins closed front.names.got i h.0 h.1;
+          known = closed_known turns f o k closed front.names.got i h.0 h.1;
+          leads = closed_leads turns f o k closed front.names.got i h.0 h.1;
+          first = closed_first turns f o k closed front.names.got i h.0 h.1;
         }
 
     set_stays : IsSameSet text text fs (fs ++ rs) f (f ++ o) k
@@ -77,8 +72,8 @@ module _ (turns : SetsOpenInTurn) (text : List ℕ) (fs rs : List ProgramItem) (
         record {
           name = front_span fs rs front.items k 1 l;
           line = ap (λ (ts : List Piece). line_at text (span_of (slice_get ts 0)).start) (front_tokens fs rs front.items k l);
-          states = closed_states turns f o k begins closed;
-          faulty = closed_faulty turns f o k begins closed fs rs many;
+          states = closed_states turns f o k closed;
+          faulty = closed_faulty turns f o k closed fs rs many;
           flags = front.names.flags;
           channels = assigned_same text fs rs front;
           each = each_weaker IsState (IsSameState text text fs (fs ++ rs) f (f ++ o)) state_stays (states_in f k) (states_within f k);
@@ -103,7 +98,7 @@ module _ (turns : SetsOpenInTurn) (text : List ℕ) (fs rs : List ProgramItem) (
       let few : count ≤ length begun = omega arith in
       ap (λ n. take count (all_below (is_set_begin (f ++ o)) n)) (length-append f o)
       ∙ ap (take count) (more.1 ∙ ap (λ (l : List ℕ). l ++ more.0) begun_first)
-      ∙ take_within count begun more.0 few
+      ∙ take-append-le count begun more.0 few
 
   abbrev IsFirstSet : ℕ → Type 0
   IsFirstSet k = ((k < length f) × (is_set_begin f k ≡ true)) × IsClosed f (length f) k
@@ -119,7 +114,7 @@ module _ (turns : SetsOpenInTurn) (text : List ℕ) (fs rs : List ProgramItem) (
       take-map (set_row text (fs ++ rs) (f ++ o)) count (all_below (is_set_begin (f ++ o)) (length (f ++ o)))
       ∙ ap (map (set_row text (fs ++ rs) (f ++ o))) first_begun
       ∙ map_same (set_row text (fs ++ rs) (f ++ o)) (set_row text fs f) (take count begun)
-      (each_weaker IsFirstSet (λ k. set_row text (fs ++ rs) (f ++ o) k ≡ set_row text fs f k) (λ k h. row_stays k h.0.1 h.0.0 h.1) (take count begun) each_first)
+      (each_weaker IsFirstSet (λ k. set_row text (fs ++ rs) (f ++ o) k ≡ set_row text fs f k) (λ k h. row_stays k h.0.0 h.1) (take count begun) each_first)
 
 -- ---- the same items in another text
 

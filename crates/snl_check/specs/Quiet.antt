@@ -1,4 +1,5 @@
--- Items that say nothing that the rows of channels are made from, as those of state sets mostly.
+-- Items that say nothing that rows before them are made from, those of channels and of state sets.
+-- Items of state sets mostly are so.
 use Rattle.std.specs.Prelude.{◌≡◌, ℕ, ◌-◌, Bool, true, false, ◌&&◌, ◌||◌, not, if◌then◌else◌, List, [], ◌∷◌, length, take, drop, slice_get, Option, Some, None, is_some, option_and_then}
 use Rattle.std.specs.List.{AllByRecursion, list_any}
 use Rattle.snl_lex.specs.Lines.{line_at}

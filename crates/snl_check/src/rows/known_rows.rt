@@ -14,7 +14,7 @@ pub struct KnownRows<'a> {
 /// The rows of channels, if they are known.
 pub(crate) fn known_channels<'a>(known: Option<KnownRows<'a>>) -> Option<&'a [ChannelRow]>
     ensures { MatchOption known.entry (IfSome result (λ rows. ⊥))
-        (λ k. IfSome result (λ rows. rows.now ≡ k.channels.now)) }
+        (λ k. MatchOption result ⊥ (λ rows. rows.now ≡ k.channels.now)) }
 {
     match known {
         Some(rows) => Some(rows.channels),

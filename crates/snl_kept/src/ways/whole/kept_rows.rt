@@ -1,7 +1,8 @@
 //! The rows that an edit leaves as they are: those of channels, and those of the state sets that
-//! begin and end before it. In: the edit under way and what is kept of the items that it makes. Out:
-//! the rows, if no item from the edit on says anything that they are made from, in the old text or
-//! in the new one. Programs are written so: what channels are made from comes before the state sets.
+//! begin before it, but for the last. In: the edit under way and what is kept of the items that it
+//! makes. Out: the rows, if no item from the edit on says anything that they are made from, in the
+//! old text or in the new one. Programs are written so: what channels are made from comes before the
+//! state sets.
 #![tactic(auto)]
 
 ghost use Rattle.std.specs.Prelude.{◌≡◌, ◌≤◌, IfSome, drop, length};
