@@ -6,6 +6,7 @@
 
 mod edits;
 mod sessions;
+mod spare;
 
 pub use edits::Refused;
 pub use sessions::Session;
