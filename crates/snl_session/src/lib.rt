@@ -6,7 +6,6 @@
 
 mod edits;
 mod sessions;
-mod spare;
 
 pub use edits::Refused;
 pub use sessions::Session;

@@ -7,7 +7,6 @@ ghost use Rattle.std.specs.Prelude.{◌≡◌, ℕ, ◌+◌, ◌<◌, ◌≤◌,
 ghost use Rattle.snl_session.specs.Edit.{spliced};
 
 use crate::edits::Refused;
-use crate::spare::{place_for, spare_of};
 use snl_check::Tables;
 use snl_cut::OutOfMemory;
 use snl_kept::{Diagnostic, Kept, Work, found_once, rows_have_bytes};
@@ -15,7 +14,6 @@ use snl_lex::TextEdit;
 use snl_listing::{Lister, listing};
 use std::alloc::Global;
 use std::marker::Model;
-use std::mem::replace;
 
 /// The number of bytes that a text has at most.
 const LIMIT: usize = 1_048_576;
@@ -24,19 +22,13 @@ const LIMIT: usize = 1_048_576;
 /// text alone defines.
 pub struct Session {
     text: Vec<u8>,
-    // the place of the text before the last edit
-    spare: Vec<u8>,
     kept: Kept,
 }
 
 // By hand, so that whoever holds a session need not know what is in it to let it go.
 impl Drop for Session {
     fn drop(self) {
-        let Session {
-            text: _,
-            spare: _,
-            kept: _,
-        } = self;
+        let Session { text: _, kept: _ } = self;
     }
 }
 
@@ -56,7 +48,6 @@ impl Session {
     ghost use Rattle.std.specs.List.{AllPairs};
     ghost use Rattle.snl_check.specs.Spans.{TablesHaveBytes, TablesLieIn};
     ghost use Rattle.snl_session.specs.Edit.{limit, refusal_of};
-    ghost use Rattle.snl_session.specs.Held.{IsHeld};
     ghost use Rattle.snl_items.specs.Fresh.{fresh_items, fresh_pieces};
     ghost use Rattle.snl_listing.specs.Lister.{IsFor};
     ghost use Rattle.snl_session.specs.Listing.{listing_text};
@@ -87,7 +78,7 @@ impl Session {
             return Err(Refused::Size);
         }
         match Kept::over(alloc, &text) {
-            Ok((kept, work)) => Ok((Session::of(text, kept), work)),
+            Ok((kept, work)) => Ok((Session { text, kept }, work)),
             Err(_) => Err(Refused::Memory),
         }
     }
@@ -205,7 +196,8 @@ impl Session {
         ensures checked { IfOk result (λ work. work.checked ≡ stirred self.old start stop new.now) }
         ensures err { OnErr result (self.new ≡ self.old) }
     {
-        let text = self.text_after(start, stop, new)?;
+        let alloc = *self.text.allocator();
+        let text = spliced(alloc, &self.text, start, stop, new)?;
         let edit = TextEdit {
             old: &self.text,
             text: &text,
@@ -214,29 +206,8 @@ impl Session {
             new_stop: start + new.len(),
         };
         let work = self.kept.edit(&edit)?;
-        let before = replace(&mut self.text, text);
-        self.spare = spare_of(before, self.text.len());
+        self.text = text;
         Ok(work)
-    }
-
-    // The text after an edit, in the spare place.
-    fn text_after(&mut self, start: usize, stop: usize, new: &[u8]) -> Result<Vec<u8>, OutOfMemory>
-        requires { refusal_of self.old start stop (length new.now) ≡ None }
-        ensures text { IfOk result (λ text. text.items ≡ spliced self.old start stop new.now) }
-        ensures same { self.new ≡ self.old }
-    {
-        let alloc = *self.text.allocator();
-        let spare = replace(&mut self.spare, Vec::new(alloc));
-        spliced(spare, &self.text, start, stop, new)
-    }
-
-    // A session over a text, by what is kept of it.
-    fn of(text: Vec<u8>, kept: Kept) -> Session
-        requires { IsHeld text.items kept }
-        ensures { result ≡ text.items }
-    {
-        let spare = Vec::new(*text.allocator());
-        Session { text, spare, kept }
     }
 
     // A session over the empty text.
@@ -244,13 +215,16 @@ impl Session {
         ensures { IfOk result (λ s. s ≡ []) }
     {
         let kept = Kept::empty(alloc)?;
-        Ok(Session::of(Vec::new(alloc), kept))
+        Ok(Session {
+            text: Vec::new(alloc),
+            kept,
+        })
     }
 }
 
-// A text with other bytes in the place of those from `start` up to `stop`, in the spare place.
+// A text with other bytes in the place of those from `start` up to `stop`.
 fn spliced(
-    spare: Vec<u8>,
+    alloc: Global,
     old: &[u8],
     start: usize,
     stop: usize,
@@ -260,8 +234,8 @@ fn spliced(
     requires inside { stop ≤ length old.now }
     ensures { IfOk result (λ v. v.items ≡ spliced old.now start stop new.now) }
 {
-    let size = (old.len() - stop + start).saturating_add(new.len());
-    let mut text = place_for(spare, size)?;
+    let room = (old.len() - stop + start).saturating_add(new.len());
+    let mut text = Vec::with_capacity(alloc, room)?;
     text.extend_from_slice(&old[..start])?;
     text.extend_from_slice(new)?;
     text.extend_from_slice(&old[stop..])?;

@@ -26,24 +26,25 @@ short_of text new start stop h =
 
 pub invariant_of-self-2 : goal.invariant_of-self-2
 invariant_of-self-2 c =
-    let after_is = ap (λ v. v.items) c.replace-before.ensures.after in
-    let text_is : c.replace-before.new.dest.items ≡ spliced c.args.self.now c.args.start c.args.stop c.args.new.now =
-    after_is ∙ c.in_ok-text.ensures.text in
+    let text = c.in_ok-text.text.items in
+    let text_is : text ≡ spliced c.args.self.now c.args.start c.args.stop c.args.new.now =
+    c.in_ok-text.ensures ∙ ap (λ (t : List ℕ). spliced t c.args.start c.args.stop c.args.new.now) (c.deref.ensures.value ∙ c.self.view_is) in
     record {
       short = subst (λ (t : List ℕ). length t ≤ limit) (sym text_is) (short_of c.args.self.now c.args.new.now c.args.start c.args.stop c.requires);
-      kept = subst (λ (t : List ℕ). IsKept t c.edit.new.self) (c.deref-2.ensures.value ∙ sym after_is) c.in_ok-work.ensures.kept;
+      kept = subst (λ (t : List ℕ). IsKept t c.edit.new.self) c.deref-3.ensures.value c.in_ok-work.ensures.kept;
     }
 
 pub returns : goal.returns
 returns c =
-    let text_is = c.in_ok-text.ensures.text in
-    let old_is : c.deref.result.now ≡ c.args.self.now = c.deref.ensures.value ∙ c.self.view_is ∙ c.text_after.ensures.same in
-    let new_is : c.deref-2.result.now ≡ spliced c.args.self.now c.args.start c.args.stop c.args.new.now = c.deref-2.ensures.value ∙ text_is in
+    let text_is : c.in_ok-text.text.items ≡ spliced c.args.self.now c.args.start c.args.stop c.args.new.now =
+    c.in_ok-text.ensures ∙ ap (λ (t : List ℕ). spliced t c.args.start c.args.stop c.args.new.now) (c.deref.ensures.value ∙ c.self.view_is) in
+    let old_is : c.deref-2.result.now ≡ c.args.self.now = c.deref-2.ensures.value ∙ c.self.view_is in
+    let new_is : c.deref-3.result.now ≡ spliced c.args.self.now c.args.start c.args.stop c.args.new.now = c.deref-3.ensures.value ∙ text_is in
     let edit : List ℕ → List ℕ → Edit =
     λ (was is : List ℕ). record { old = was; text = is; start = c.args.start; old_stop = c.args.stop; new_stop = c.args.start + length c.args.new.now } in
     let cost = c.in_ok-work.ensures.cost in
     record {
-      ok = ap (λ v. v.items) c.replace-before.ensures.after ∙ text_is;
+      ok = text_is;
       lexed = cost.lexed ∙ ap₂ (λ (old text : List ℕ). fresh_pieces_of (edit old text)) old_is new_is;
       parsed = cost.parsed ∙ ap₂ (λ (old text : List ℕ). length (fresh_items_of (edit old text))) old_is new_is;
       checked = cost.checked ∙ ap₂ (λ (old text : List ℕ). stirred_of (edit old text)) old_is new_is;
