@@ -1,15 +1,17 @@
 -- Lemmas on places: what one more item is to the state set that is open.
-use Rattle.std.proofs.Common.{◌≡◌, ℕ, zero, suc, map, ◌+◌, ◌<◌, Bool, true, false, not, ◌&&◌, ◌||◌, List, [], ◌∷◌, ◌++◌, Option, None, Some, slice_get, nat_lt, refl, sym, ap, ◌∙◌, arith, length-append, if◌then◌else◌}
+use Rattle.std.proofs.Common.{◌≡◌, ℕ, zero, suc, map, take, ◌+◌, ◌<◌, Bool, true, false, not, ◌&&◌, ◌||◌, List, [], ◌∷◌, ◌++◌, Option, None, Some, slice_get, nat_lt, refl, sym, ap, ◌∙◌, arith, length-append, if◌then◌else◌}
 use Rattle.std.specs.Option.{option_map_or}
 use borrow.Author.Count.{below_more}
 use Rattle.std.proofs.lemmas.Bool.{lt-ltb}
+use Rattle.std.proofs.lemmas.List.{take_more}
+use Rattle.std.proofs.lemmas.Option.{slice_get_within}
 use Rattle.snl_scope.specs.BelowLaws.{any_below_none}
 use Rattle.snl_scope.specs.declared.summaries.summary.Outline.{Outline}
 use Rattle.snl_scope.specs.Below.{last_below}
 use Rattle.snl_scope.specs.Places.{begins_set, ends_between, ends_set, is_set_begin, is_set_end, open_before, enclosing_set}
 use Rattle.snl_scope.specs.declared.items.heads.Head.{Head}
 use Rattle.snl_scope.specs.NameTables.{Placed, head_of}
-use Rattle.snl_scope.proofs.Searches.{get-front, get-last, last_below-none, last_below-same, last_below-within, nat_lt-false}
+use Rattle.snl_scope.proofs.Searches.{get-front, get-last, get-or, last_below-none, last_below-same, last_below-within, nat_lt-false}
 
 module _ (ss : List Outline) (i : ℕ) where
   and-false : (b : Bool) → (b && false) ≡ false
@@ -82,3 +84,10 @@ pub headed : (ss : List Outline) (i : ℕ) (h : Head) → slice_get (map head_of
 headed [] i h e = absurd cc
 headed (s ∷ ss) zero h e = (s, refl, cc)
 headed (s ∷ ss) (suc i) h e = headed ss i h e
+
+-- the heads with one more item
+pub heads-push : (hs : List Head) (xs : List Head) (i : ℕ) (h : Head) → hs ≡ take i xs → slice_get xs i ≡ Some h → hs ++ h ∷ [] ≡ take (i + 1) xs
+heads-push hs xs i h so_far at =
+    ap (λ (l : List Head). l ++ h ∷ []) so_far
+    ∙ ap (λ (e : Head). take i xs ++ e ∷ []) (sym (get-or xs i h h at))
+    ∙ sym (take_more xs i h (slice_get_within xs i h at))

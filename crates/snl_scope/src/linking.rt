@@ -11,7 +11,7 @@ use crate::clauses::flags::flags_of;
 use crate::clauses::resolved::resolved_clauses;
 use crate::clauses::soundness::{JudgedClauses, judged_clauses};
 use crate::facts::{Assigned, ClauseLink, LinkFault};
-use crate::items::places::places_of;
+use crate::items::places::{ItemPlaces, places_of};
 use crate::names::name_tables::{NameTables, tables_of};
 use crate::names::scopes::Scopes;
 use crate::outlines::outline_list::OutlineList;
@@ -42,7 +42,7 @@ pub(crate) fn linked_names(alloc: Global, outlines: OutlineList) -> Result<Linke
     ensures repeated { IfOk result
         (λ names. names.repeated.items ≡ repetitions [] (entries outlines.outlines)) }
 {
-    let places = places_of(alloc, &outlines)?;
+    let ItemPlaces { places, heads } = places_of(alloc, &outlines)?;
     let tables = tables_of(alloc, &outlines, &places)?;
     let flags = flags_of(alloc, &tables)?;
     let NameTables {
@@ -52,6 +52,7 @@ pub(crate) fn linked_names(alloc: Global, outlines: OutlineList) -> Result<Linke
     } = tables;
     let scopes = Scopes {
         places,
+        heads,
         outlines,
         first,
         symbols,

@@ -13,6 +13,7 @@ use std::marker::Model;
 /// The finished tables of all items, which contracts see as the list of their outlines.
 pub(crate) struct Scopes {
     pub places: Vec<Option<usize>>,
+    pub heads: Vec<Head>,
     pub outlines: OutlineList,
     pub first: FirstNumbers,
     pub symbols: Vec<Symbol>,
@@ -23,6 +24,7 @@ impl Drop for Scopes {
     fn drop(self) {
         let Scopes {
             places: _,
+            heads: _,
             outlines: _,
             first: _,
             symbols: _,
@@ -31,16 +33,18 @@ impl Drop for Scopes {
 }
 
 impl Model for Scopes {
-    ghost use Rattle.std.specs.Prelude.{List, length};
+    ghost use Rattle.std.specs.Prelude.{◌≡◌, List, length, map};
     ghost use Rattle.snl_scope.specs.declared.summaries.summary.Outline.{Outline};
     ghost use Rattle.snl_scope.specs.Names.{entries};
-    ghost use Rattle.snl_scope.specs.NameTables.{Placed, Tabled};
+    ghost use Rattle.snl_scope.specs.NameTables.{Placed, Tabled, head_of};
 
     ghost Value = { List Outline };
 
     ghost view = { λ a. a.outlines.outlines };
 
-    ghost invariant = { λ a. Placed a.places.items a.outlines.outlines (length a.outlines.outlines)
+    ghost invariant = { λ a.
+        (Placed a.places.items a.outlines.outlines (length a.outlines.outlines)
+        × (a.heads.items ≡ map head_of a.outlines.outlines))
         × Tabled a.outlines.names a.first a.symbols.items (entries a.outlines.outlines) };
 }
 
@@ -82,14 +86,25 @@ impl Scopes {
         requires { item < length self.now }
         ensures { slice_get (map head_of self.now) item ≡ Some result }
     {
-        self.outlines.head(item)
+        self.heads[item]
+    }
+
+    // The same, if there is an item with the number.
+    fn head_at(&self, item: usize) -> Option<Head>
+        ensures { result ≡ option_map head_of (slice_get self.now item) }
+    {
+        if item < self.item_count() {
+            Some(self.head(item))
+        } else {
+            None
+        }
     }
 
     /// Whether an item begins a state set.
     pub(crate) fn begins_set(&self, item: usize) -> bool
         ensures { result ≡ is_set_begin self.now item }
     {
-        match self.outlines.head_at(item) {
+        match self.head_at(item) {
             Some(head) => matches!(head.role, Role::SetBegin),
             None => false,
         }
@@ -99,7 +114,7 @@ impl Scopes {
     pub(crate) fn is_named_state(&self, item: usize) -> bool
         ensures { result ≡ is_named_state self.now item }
     {
-        match self.outlines.head_at(item) {
+        match self.head_at(item) {
             Some(head) => is_sought(Sought::State, head),
             None => false,
         }

@@ -1,6 +1,6 @@
 //! The outlines of all items, in flat lists.
 
-ghost use Rattle.std.specs.Prelude.{◌≡◌, ◌+◌, ◌<◌, ◌≤◌, IfOk, IsTrue, Some, bytes_eq, drop, length, map, option_map, position, slice_get, take};
+ghost use Rattle.std.specs.Prelude.{◌≡◌, ◌+◌, ◌<◌, ◌≤◌, IfOk, IsTrue, Some, bytes_eq, drop, length, map, position, slice_get, take};
 ghost use Rattle.snl_names.specs.NameBook.{AllDiffer};
 ghost use Rattle.snl_scope.specs.OutlineList.{AreFlat, IsAt, IsNumbered, outline_of, outlines_by};
 ghost use Rattle.snl_scope.specs.NameTables.{head_of};
@@ -78,17 +78,6 @@ impl OutlineList {
             role,
             opening,
             is_named: second.is_some(),
-        }
-    }
-
-    /// The same, if there is an item with the number.
-    pub(crate) fn head_at(&self, item: usize) -> Option<Head>
-        ensures { result ≡ option_map head_of (slice_get self.now.outlines item) }
-    {
-        if item < self.count() {
-            Some(self.head(item))
-        } else {
-            None
         }
     }
 
