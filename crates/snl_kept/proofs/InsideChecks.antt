@@ -6,9 +6,10 @@ use Rattle.std.proofs.lemmas.List.{append-nil}
 use Rattle.snl_grammar.specs.Outcome.{parsed_by, sound_tree}
 use Rattle.snl_grammar.specs.declared.tree.item.Item.{Item}
 use Rattle.snl_scope.specs.SpelledTokens.{bytes_by}
-use Rattle.snl_scope.specs.View.{same_view, view}
+use Rattle.snl_scope.specs.View.{view}
 use Rattle.snl_scope.specs.declared.summaries.summary.Outline.{Outline}
 use Rattle.snl_scope.specs.declared.summaries.summary.Summary.{Summary}
+use Rattle.snl_views.specs.SameView.{same_view}
 use Rattle.snl_kept.specs.declared.ways.whole.recheck.KeptItems.{KeptItems}
 use Rattle.snl_kept.specs.declared.plan.NewCheck.{NewCheck}
 use Rattle.snl_kept.specs.Checks.{check_by, checked_by}

@@ -14,7 +14,8 @@ use Rattle.snl_scope.specs.declared.summaries.summary.Summary.{Summary}
 use Rattle.snl_scope.specs.Linked.{fact_of, has_target}
 use Rattle.snl_scope.specs.SpelledTokens.{bytes_by, pieces_from, summary_by, text_of}
 use Rattle.snl_scope.specs.Summaries.Tokens.{token_bytes}
-use Rattle.snl_scope.specs.View.{same_view, view}
+use Rattle.snl_scope.specs.View.{view}
+use Rattle.snl_views.specs.SameView.{same_view}
 use Rattle.snl_item_check.specs.declared.findings.Checked.{Checked}
 use Rattle.snl_item_check.specs.declared.findings.ItemFault.{ItemFault}
 use Rattle.snl_item_check.specs.SeenNames.{Agree, SameTokens, target_names, used_names}

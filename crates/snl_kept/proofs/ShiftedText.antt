@@ -25,9 +25,10 @@ use Rattle.snl_scope.specs.LinkedItems.{LinkedItems}
 use Rattle.snl_scope.specs.SpelledTokens.{summary_by}
 use Rattle.snl_scope.specs.Summaries.{summary_in}
 use Rattle.snl_scope.specs.Summaries.Tokens.{token_bytes}
-use Rattle.snl_scope.specs.View.{same_view, view}
+use Rattle.snl_scope.specs.View.{view}
 use Rattle.snl_scope.specs.declared.summaries.summary.Outline.{Outline}
 use Rattle.snl_scope.specs.declared.summaries.summary.Summary.{Summary}
+use Rattle.snl_views.specs.SameView.{same_view}
 use Rattle.snl_tables.specs.Moved.{moved_tables}
 use Rattle.snl_check.specs.Moved.{KeepsItems}
 use Rattle.snl_check.specs.Shifted.{shifted_item, shifted_tokens}

@@ -7,7 +7,7 @@ use Rattle.snl_grammar.specs.Outcome.{sound_tree}
 use Rattle.snl_items.specs.Fresh.{fresh_items_of, token_edit_of}
 use Rattle.snl_lex.specs.Edit.{Edit, splice}
 use Rattle.snl_items.specs.Items.{item_ends}
-use Rattle.snl_scope.specs.View.{same_view}
+use Rattle.snl_views.specs.SameView.{same_view}
 use Rattle.snl_kept.specs.declared.entries.Entry.{Entry}
 use Rattle.snl_kept.specs.Checks.{outlines_in}
 use Rattle.snl_kept.specs.Entries.{entries_of}

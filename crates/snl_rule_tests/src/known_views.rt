@@ -6,7 +6,8 @@ ghost use Rattle.std.specs.Prelude.{◌≡◌, length};
 
 use crate::reading::summaries;
 use snl_reading::links_of;
-use snl_scope::{Links, Moved, SameViews, Summary, link_after};
+use snl_scope::{Links, Summary, link_after};
+use snl_views::{Moved, SameViews};
 use std::alloc::Global;
 use std::process::Abort;
 use std::test::Fail;

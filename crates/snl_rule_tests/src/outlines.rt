@@ -6,7 +6,8 @@ ghost use Rattle.std.specs.Prelude.{◌≡◌, IfOk, length};
 
 use crate::reading::summaries;
 use snl_reading::links_of;
-use snl_scope::{EditedNames, ItemKind, Links, Outline, Summary, same_outline, same_view};
+use snl_scope::{EditedNames, ItemKind, Links, Outline, Summary, same_outline};
+use snl_views::same_view;
 use std::alloc::Global;
 use std::process::Abort;
 use std::test::Fail;

@@ -17,9 +17,10 @@ use Rattle.snl_scope.specs.declared.names.name_tables.Symbol.{Symbol}
 use Rattle.snl_scope.specs.contracts.names.namespaces.QualifiedNamePartialEq.TheImpl as key_eq
 use Rattle.snl_scope.specs.Below.{all_below}
 use Rattle.snl_scope.specs.Flags.{is_first_at}
+use Rattle.snl_scope.specs.KeyLaws.{key_true}
 use Rattle.snl_scope.specs.Names.{Entry, has_name, number_in, repetition, repetition_at, repetitions}
 use Rattle.snl_scope.specs.NameTables.{AreSame, Follows, IsPut, number_by, number_under, same_key, symbol_of}
-use Rattle.snl_scope.proofs.Equality.{key_is, key_true, key_same, name_same, name_true}
+use Rattle.snl_scope.proofs.Equality.{key_is, key_same, name_same, name_true}
 use Rattle.snl_scope.proofs.FirstEntries.{firsts-new, firsts-seen}
 
 -- the findings with one more entry

@@ -1,6 +1,6 @@
 -- Spaces and keys are the same where their tests say so, and the tests are those that the code
 -- derives.
-use Rattle.std.proofs.Common.{◌≡◌, ℕ, true, ◌&&◌, List, nat_eq, refl, sym, ap, ◌∙◌, true≢false}
+use Rattle.std.proofs.Common.{◌≡◌, ℕ, true, ◌&&◌, List, nat_eq, refl, ap, ◌∙◌}
 use Rattle.std.specs.Str.{bytes_eq}
 use Rattle.std.proofs.lemmas.Bool.Decides.{Decides-eqb}
 use Rattle.std.proofs.lemmas.Slice.Eq.{bytes_eq-Decides}
@@ -10,6 +10,7 @@ use Rattle.snl_scope.specs.declared.names.namespaces.Namespace.{Namespace}
 use Rattle.snl_scope.specs.declared.names.namespaces.Namespace.TheVariants as namespace
 use Rattle.snl_scope.specs.contracts.names.namespaces.QualifiedNamePartialEq.TheImpl as key_eq
 use Rattle.snl_scope.specs.contracts.names.namespaces.NamespacePartialEq.TheImpl as namespace_eq
+use Rattle.snl_scope.specs.KeyLaws.{namespace_true}
 use Rattle.snl_scope.specs.Names.{Entry, has_name, same_namespace}
 use Rattle.snl_scope.specs.NameTables.{same_key}
 
@@ -43,33 +44,6 @@ namespace_is (namespace.States a) (namespace.States b) = refl
 pub key_is : (a b : QualifiedName) → key_eq.eq-value.it a b ≡ same_key a b
 key_is a b = ap (λ c. c && nat_eq a.name b.name) (namespace_is a.namespace b.namespace)
 
-pub namespace_true : (a b : Namespace) → same_namespace a b ≡ true → a ≡ b
-namespace_true namespace.Program namespace.Program h = refl
-namespace_true namespace.Program (namespace.StateSet b) h = absurd (true≢false (sym h))
-namespace_true namespace.Program (namespace.State b) h = absurd (true≢false (sym h))
-namespace_true namespace.Program namespace.Sets h = absurd (true≢false (sym h))
-namespace_true namespace.Program (namespace.States b) h = absurd (true≢false (sym h))
-namespace_true (namespace.StateSet a) namespace.Program h = absurd (true≢false (sym h))
-namespace_true (namespace.StateSet a) (namespace.StateSet b) h = ap namespace.StateSet ((Decides-eqb a b).0 h)
-namespace_true (namespace.StateSet a) (namespace.State b) h = absurd (true≢false (sym h))
-namespace_true (namespace.StateSet a) namespace.Sets h = absurd (true≢false (sym h))
-namespace_true (namespace.StateSet a) (namespace.States b) h = absurd (true≢false (sym h))
-namespace_true (namespace.State a) namespace.Program h = absurd (true≢false (sym h))
-namespace_true (namespace.State a) (namespace.StateSet b) h = absurd (true≢false (sym h))
-namespace_true (namespace.State a) (namespace.State b) h = ap namespace.State ((Decides-eqb a b).0 h)
-namespace_true (namespace.State a) namespace.Sets h = absurd (true≢false (sym h))
-namespace_true (namespace.State a) (namespace.States b) h = absurd (true≢false (sym h))
-namespace_true namespace.Sets namespace.Program h = absurd (true≢false (sym h))
-namespace_true namespace.Sets (namespace.StateSet b) h = absurd (true≢false (sym h))
-namespace_true namespace.Sets (namespace.State b) h = absurd (true≢false (sym h))
-namespace_true namespace.Sets namespace.Sets h = refl
-namespace_true namespace.Sets (namespace.States b) h = absurd (true≢false (sym h))
-namespace_true (namespace.States a) namespace.Program h = absurd (true≢false (sym h))
-namespace_true (namespace.States a) (namespace.StateSet b) h = absurd (true≢false (sym h))
-namespace_true (namespace.States a) (namespace.State b) h = absurd (true≢false (sym h))
-namespace_true (namespace.States a) namespace.Sets h = absurd (true≢false (sym h))
-namespace_true (namespace.States a) (namespace.States b) h = ap namespace.States ((Decides-eqb a b).0 h)
-
 pub namespace_same : (a : Namespace) → same_namespace a a ≡ true
 namespace_same namespace.Program = refl
 namespace_same (namespace.StateSet a) = (Decides-eqb a a).1 refl
@@ -77,10 +51,7 @@ namespace_same (namespace.State a) = (Decides-eqb a a).1 refl
 namespace_same namespace.Sets = refl
 namespace_same (namespace.States a) = (Decides-eqb a a).1 refl
 
--- what an equal key and an entry of a name are
-pub key_true : (a b : QualifiedName) → same_key a b ≡ true → (a.namespace ≡ b.namespace) × (a.name ≡ b.name)
-key_true a b h = let p = and_parts (same_namespace a.namespace b.namespace) (nat_eq a.name b.name) h in (namespace_true a.namespace b.namespace p.0, (Decides-eqb a.name b.name).0 p.1)
-
+-- what a key and an entry of a name are
 pub key_same : (a : QualifiedName) → same_key a a ≡ true
 key_same a = ap (λ b. b && nat_eq a.name a.name) (namespace_same a.namespace) ∙ (Decides-eqb a.name a.name).1 refl
 

@@ -32,7 +32,6 @@ pub mod ClaimPlaces
 pub mod Overlaps
 pub mod SpokenChannels
 pub mod Judging
-pub mod Views
 pub mod FirstNamed
 pub mod Untouched
 pub mod AlikeTokens
@@ -40,7 +39,6 @@ pub mod SpelledAlike
 pub mod FaultPlaces
 pub mod SsWords
 pub mod SpokenTokens
-pub mod SameMeanings
 pub mod OneReplaced
 pub mod NewNames
 pub mod NewStateNames

@@ -24,6 +24,7 @@ use Rattle.snl_scope.specs.declared.summaries.summary.Summary.{Summary}
 use Rattle.snl_scope.specs.declared.summaries.summary.VariableClause.{VariableClause}
 use Rattle.snl_scope.specs.Below.{any_below, last_below}
 use Rattle.snl_scope.specs.Clauses.{LinkedClause, assigned_as, assigned_by, clauses_before, clauses_of, is_assign, linked_clause, resolve_in, same_number}
+use Rattle.snl_scope.specs.KeyLaws.{namespace_true}
 use Rattle.snl_scope.specs.Linked.{entry_fact, fact_at, fact_of, has_target}
 use Rattle.snl_scope.specs.Names.{Entry, declared_entry, entries, entries_before, entries_of, has_name, has_own_scope, named_entry, number_in, resolve, same_namespace, scope_at, set_entries, state_entries}
 use Rattle.snl_scope.specs.Order.{is_state_word}
@@ -32,7 +33,7 @@ use Rattle.snl_scope.specs.Resolved.{first_assign}
 use Rattle.snl_scope.specs.Spoken.{AreEditedNames, KeepsViews, bound, bounds, is_among, spoken, spoken_by, touches}
 use Rattle.snl_scope.specs.View.{view}
 use Rattle.snl_scope.proofs.Assigning.{assigned-first}
-use Rattle.snl_scope.proofs.Equality.{name_true, namespace_same, namespace_true}
+use Rattle.snl_scope.proofs.Equality.{name_true, namespace_same}
 use Rattle.snl_scope.proofs.FirstNamed.{Absent, Located, Present, first, first-of_name, locate, of_name}
 
 neither : (a b : Bool) → (a || b) ≡ false → (a ≡ false) × (b ≡ false)

@@ -16,6 +16,7 @@ pub mod View
 pub mod Spoken
 pub mod OutlineList
 pub mod NameTables
+pub mod KeyLaws
 pub mod Resolved
 pub mod Said
 pub mod Summaries
@@ -23,5 +24,5 @@ pub mod Once
 pub mod FaultPlaces
 pub mod NamedTokens
 pub mod SpelledTokens
-pub mod SameMeanings
+pub mod Compared
 pub mod Renamed

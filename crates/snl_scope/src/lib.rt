@@ -5,6 +5,7 @@
 
 mod by_number;
 mod clauses;
+mod compared;
 mod edited_names;
 mod facts;
 mod findings;
@@ -16,10 +17,9 @@ mod names;
 mod outlines;
 mod renamed;
 mod renamed_links;
-mod same_views;
 mod summaries;
-mod view;
 
+pub use compared::{Compared, Meanings};
 pub use edited_names::{EditedNames, unspoken_names};
 pub use facts::{Assigned, ClauseLink, Declaration, Fact, Level, LinkFault, NameKind, Scope};
 pub use laws::once_laws::{
@@ -30,9 +30,10 @@ pub use laws::spelling_laws::same_spelling_same_summary;
 pub use laws::summary_laws::{names_kept_once, plain_state_outline};
 pub use laws::token_laws::{names_are_tokens, targets_rise};
 pub use links::{Links, link, link_after};
+pub use names::first_numbers::FirstNumbers;
+pub use names::namespaces::{Namespace, QualifiedName};
 pub use renamed::{Renaming, declared_anew, named_anew, renaming_of};
 pub use renamed_links::link_renamed;
-pub use same_views::{Moved, SameViews};
 pub use snl_walk::Source;
 pub use summaries::name::Name;
 pub use summaries::same_outline::same_outline;
@@ -41,4 +42,3 @@ pub use summaries::summary::{
     ClauseKind, Coverage, Declared, Dims, ItemKind, NameRef, Opening, Outline, Role, Summary,
     SymbolKind, Variable, VariableClause,
 };
-pub use view::{same_view, views_told_apart};

@@ -84,7 +84,7 @@ impl Links {
     ghost use Rattle.std.specs.Prelude.{length};
 
     /// How many items there are.
-    pub(crate) fn item_count(&self) -> usize
+    pub fn item_count(&self) -> usize
         ensures { result ≡ length self.now.outlines }
     {
         self.scopes.item_count()
@@ -126,8 +126,8 @@ impl Links {
         at_number(&self.said().assigned, number).unwrap_or(Assigned::Unassigned)
     }
 
-    // What is known of the declaration with a number.
-    pub(crate) fn known_at(&self, number: usize) -> Option<Fact>
+    /// What is known of the declaration with a number.
+    pub fn known_at(&self, number: usize) -> Option<Fact>
         ensures { result ≡ fact_at self.now.outlines number }
     {
         let symbol = self.scopes.symbol(number)?;

@@ -12,7 +12,8 @@ use snl_grammar::{Tokens, outcome_told, same_spelling_same_tree};
 use snl_item_check::equal_views;
 use snl_items::tokens_around_stay;
 use snl_lex::{lines_move, text_in_pieces};
-use snl_scope::{same_spelling_same_summary, views_told_apart};
+use snl_scope::same_spelling_same_summary;
+use snl_views::views_told_apart;
 
 /// Such an edit replaces one item. The others are shifted and say what they said, and none of these
 /// is to be checked.

@@ -9,7 +9,8 @@ use snl_check::tables_move;
 use snl_grammar::{outcome_told, same_spelling_same_tree};
 use snl_item_check::faults_stand_in_tokens;
 use snl_lex::{lines_move, text_in_pieces};
-use snl_scope::{same_spelling_same_summary, views_told_apart};
+use snl_scope::same_spelling_same_summary;
+use snl_views::views_told_apart;
 
 /// Where an edit shifts all that a text says, the new text says the same, shifted.
 pub fn edit_shifts_all()

@@ -23,12 +23,12 @@ pub(crate) struct NameHead {
 
 /// The numbers of the first that came. Most names are the program's alone, and these are found with
 /// no look-up in a table.
-pub(crate) struct FirstNumbers {
-    pub heads: Vec<NameHead>,
+pub struct FirstNumbers {
+    pub(crate) heads: Vec<NameHead>,
     // those that are elsewhere
-    pub elsewhere: NumbersByKey<QualifiedName>,
+    pub(crate) elsewhere: NumbersByKey<QualifiedName>,
     // all, in the order in which they came
-    pub numbers: Vec<usize>,
+    pub(crate) numbers: Vec<usize>,
 }
 
 // By hand, so that whoever holds numbers need not know how they are held to let them go.
@@ -106,7 +106,7 @@ impl FirstNumbers {
     }
 
     /// The number of the first that came in a namespace.
-    pub(crate) fn number_under(&self, namespace: Namespace, name: usize) -> Option<usize>
+    pub fn number_under(&self, namespace: Namespace, name: usize) -> Option<usize>
         ensures { result ≡ number_under self.now namespace name }
     {
         match namespace {
@@ -116,7 +116,7 @@ impl FirstNumbers {
     }
 
     /// The keys of what came in other namespaces than that of the program.
-    pub(crate) fn keys_elsewhere(&self) -> Keys<'_, QualifiedName>
+    pub fn keys_elsewhere(&self) -> Keys<'_, QualifiedName>
         ensures { result ≡ map (λ e. e.0) self.now.elsewhere }
     {
         self.elsewhere.keys()

@@ -10,7 +10,7 @@ use std::hash::{Hash, Hasher};
 /// A namespace, in which a name is to occur once. A state set is told by the number of its `ss NAME
 /// {` item, and a state by that of its own item.
 #[derive(Clone, Copy, PartialEq, Eq, PartialOrd, Ord)]
-pub(crate) enum Namespace {
+pub enum Namespace {
     /// The scope of the program.
     Program,
     /// The scope of a state set.
@@ -25,7 +25,7 @@ pub(crate) enum Namespace {
 
 /// A name, by its number, in a namespace: a key of tables.
 #[derive(Clone, Copy, PartialEq, Eq, PartialOrd, Ord)]
-pub(crate) struct QualifiedName {
+pub struct QualifiedName {
     pub namespace: Namespace,
     pub name: usize,
 }

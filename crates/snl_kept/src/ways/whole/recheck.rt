@@ -6,10 +6,10 @@
 ghost use Rattle.std.specs.Prelude.{◌≡◌, ◌+◌, ◌-◌, ◌^◌, ◌<◌, ℕ, All, IfOk, IfSome, IsTrue, length, map, true};
 ghost use Rattle.snl_cut.specs.Cut.{after_ticks};
 ghost use Rattle.snl_lex.specs.Pieces.{LiesIn};
-ghost use Rattle.snl_scope.specs.SameMeanings.{AreBoth};
 ghost use Rattle.snl_scope.specs.Spoken.{KeepsViews};
 ghost use Rattle.snl_scope.specs.View.{view};
 ghost use Rattle.snl_scope.specs.declared.summaries.summary.Summary.{Summary};
+ghost use Rattle.snl_views.specs.SameMeanings.{AreBoth};
 ghost use Rattle.snl_kept.specs.Parts.{IsPart, spelled_part};
 ghost use Rattle.snl_kept.specs.NewChecks.{made_at, made_checks, made_for, number_before, sees_as_before};
 
@@ -20,9 +20,8 @@ use snl_cut::{Count, OutOfMemory};
 use snl_item_check::{Checked, check_item};
 use snl_items::TokenList;
 use snl_lex::Piece;
-use snl_scope::{
-    EditedNames, Links, SameViews, Summary, same_spelling_same_summary, same_view, views_told_apart,
-};
+use snl_scope::{EditedNames, Links, Summary, same_spelling_same_summary};
+use snl_views::{SameViews, same_view, views_told_apart};
 use std::alloc::Global;
 
 /// Which items of the new text are kept: those before `front`, with their numbers, and those from

@@ -5,7 +5,7 @@
 ghost use Rattle.std.specs.Prelude.{◌≡◌, ◌+◌, ◌-◌, ◌≤◌, All, IfOk, IfSome, length, map};
 ghost use Rattle.snl_cut.specs.Cut.{after_ticks, members};
 ghost use Rattle.snl_lex.specs.Pieces.{tokens_of};
-ghost use Rattle.snl_scope.specs.SameMeanings.{AreBoth};
+ghost use Rattle.snl_views.specs.SameMeanings.{AreBoth};
 ghost use Rattle.snl_kept.specs.Diagnostics.{shown};
 ghost use Rattle.snl_kept.specs.Entries.{entries_of};
 ghost use Rattle.snl_kept.specs.Editing.{AreEntriesIn, IsUnderWay, edit_in, items_in, old_in, text_in};
@@ -37,9 +37,8 @@ use snl_grammar::Tokens;
 use snl_item_check::equal_views;
 use snl_items::{ItemChange, TokenList};
 use snl_lex::text_in_pieces;
-use snl_scope::{
-    EditedNames, Links, Moved, SameViews, same_spelling_same_summary, views_told_apart,
-};
+use snl_scope::{EditedNames, Links, same_spelling_same_summary};
+use snl_views::{Moved, SameViews, views_told_apart};
 use std::alloc::Global;
 
 /// What is shown of what is found in the new text and its tables, and what is to be kept of its

@@ -1,7 +1,7 @@
 use Rattle.std.proofs.Common.{ap, subst, sym, ◌∙◌}
 use Rattle.std.specs.Prelude.{IfSome}
-use Rattle.snl_scope.specs.SameMeanings.{AreBoth}
 use Rattle.snl_scope.specs.View.{view}
+use Rattle.snl_views.specs.SameMeanings.{AreBoth}
 use Rattle.snl_kept.proofs.ways.whole.recheck.BothLinks.is_known.Goals as goal
 
 pub returns-in-Some : goal.returns-in-Some

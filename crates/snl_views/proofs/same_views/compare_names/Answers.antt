@@ -1,11 +1,11 @@
 use Rattle.std.proofs.Common.{map, refl}
 use Rattle.std.specs.List.{AllByRecursion as Each}
 use Rattle.snl_facts.specs.Each.{each_weaker}
-use Rattle.snl_scope.specs.SameMeanings.{IsPaired, number_after}
 use Rattle.snl_scope.specs.declared.names.namespaces.Namespace.TheVariants as namespace
-use Rattle.snl_scope.specs.declared.same_views.Side.TheVariants as side
-use Rattle.snl_scope.proofs.SameMeanings.{means_the_same, set_alike, still_paired}
-use Rattle.snl_scope.proofs.same_views.compare_names.Goals as goal
+use Rattle.snl_views.specs.SameMeanings.{IsPaired, number_after}
+use Rattle.snl_views.specs.declared.same_views.Side.TheVariants as side
+use Rattle.snl_views.proofs.SameMeanings.{means_the_same, set_alike, still_paired}
+use Rattle.snl_views.proofs.same_views.compare_names.Goals as goal
 
 pub returns : goal.returns
 returns c = λ b a names.

@@ -1,6 +1,6 @@
 use Rattle.std.specs.List.{AllByRecursion as Each}
-use Rattle.snl_scope.specs.SameMeanings.{IsPaired, Unmarks}
-use Rattle.snl_scope.proofs.same_views.unmark_changed.Given as goal
+use Rattle.snl_views.specs.SameMeanings.{IsPaired, Unmarks}
+use Rattle.snl_views.proofs.same_views.unmark_changed.Given as goal
 
 -- the keys so far are of sets that aren't marked, or their names mean what they meant
 abbrev pub invariant-loop-key : goal.invariant-loop-key

@@ -3,18 +3,16 @@
 
 ghost use Rattle.std.specs.Prelude.{◌≡◌, ◌<◌, IsTrue, IfOk, List, Some, ℕ, false, get_or, map, true, vec_len};
 ghost use Rattle.std.specs.List.{AllByRecursion as Each};
-ghost use Rattle.snl_scope.specs.SameMeanings.{AreBoth, AreSame, ByNames, IsPaired, SamePlace, Unmarks, meaning_under, number_after, number_before, paired, same_meaning, same_under, set_in, with_set};
+ghost use Rattle.snl_scope.specs.Compared.{ByNames};
 ghost use Rattle.snl_scope.specs.View.{view};
 ghost use Rattle.snl_scope.specs.declared.names.namespaces.Namespace.{Namespace};
 ghost use Rattle.snl_scope.specs.declared.names.namespaces.QualifiedName.{QualifiedName};
 ghost use Rattle.snl_scope.specs.declared.summaries.summary.Summary.{Summary};
+ghost use Rattle.snl_views.specs.SameMeanings.{AreBoth, AreSame, IsPaired, SamePlace, Unmarks, meaning_under, number_after, number_before, paired, same_meaning, same_under, set_in, with_set};
 
-use crate::facts::Fact;
-use crate::links::Links;
-use crate::names::first_numbers::FirstNumbers;
-use crate::names::namespaces::{Namespace, QualifiedName};
 use crate::view::is_same_known;
 use snl_cut::OutOfMemory;
+use snl_scope::{Compared, Fact, FirstNumbers, Links, Meanings, Namespace, QualifiedName};
 use std::alloc::Global;
 use std::marker::Model;
 
@@ -49,21 +47,6 @@ impl Moved {
             item.saturating_sub(self.stop).wrapping_add(self.back)
         }
     }
-}
-
-// What names mean by some links, told by the numbers of so many names.
-#[derive(Clone, Copy)]
-struct Meanings<'a> {
-    links: &'a Links,
-    first: &'a FirstNumbers,
-    names: usize,
-}
-
-// What names mean before an edit and after it.
-#[derive(Clone, Copy)]
-struct Compared<'a> {
-    before: Meanings<'a>,
-    after: Meanings<'a>,
 }
 
 // What is known of the first that has a name in a namespace, if there is one.
@@ -234,24 +217,13 @@ fn compare_names(both: Compared, moved: Moved, marks: &mut Vec<bool>) -> bool
 fn compare(before: &Links, after: &Links, moved: Moved, marks: &mut Vec<bool>) -> bool
     ensures { AreSame before.now.outlines after.now.outlines moved marks.new.items result }
 {
-    let (old, new) = (&before.scopes, &after.scopes);
-    if !new.outlines.numbers_as(&old.outlines) {
-        marks.clear();
-        return false;
+    match Compared::of(before, after) {
+        Some(both) => compare_names(both, moved, marks),
+        None => {
+            marks.clear();
+            false
+        }
     }
-    let both = Compared {
-        before: Meanings {
-            links: before,
-            first: &old.first,
-            names: old.outlines.name_count(),
-        },
-        after: Meanings {
-            links: after,
-            first: &new.first,
-            names: new.outlines.name_count(),
-        },
-    };
-    compare_names(both, moved, marks)
 }
 
 /// What means the same after an edit that made links anew. Contracts see the outlines before it and
@@ -267,7 +239,7 @@ pub struct SameViews<'a> {
 }
 
 impl<'a> Model for SameViews<'a> {
-    ghost use Rattle.snl_scope.specs.SameMeanings.{AreBoth, AreSame, BothOutlines};
+    ghost use Rattle.snl_views.specs.SameMeanings.{AreBoth, AreSame, BothOutlines};
 
     ghost Value = { BothOutlines };
 

@@ -16,7 +16,8 @@ use Rattle.snl_scope.specs.declared.summaries.summary.Outline.{Outline}
 use Rattle.snl_scope.specs.declared.summaries.summary.Summary.{Summary}
 use Rattle.snl_scope.specs.Linked.{fact_of, has_target}
 use Rattle.snl_scope.specs.Places.{enclosing_set}
-use Rattle.snl_scope.specs.View.{same_assigned, same_name_kind, same_bool, same_dims, same_facts, same_known, same_level, same_view, view}
+use Rattle.snl_scope.specs.View.{view}
+use Rattle.snl_views.specs.SameView.{same_assigned, same_name_kind, same_bool, same_dims, same_facts, same_known, same_level, same_view}
 
 nat_same : (a : ℕ) → nat_eq a a ≡ true
 nat_same a = (Decides-eqb a a).1 refl

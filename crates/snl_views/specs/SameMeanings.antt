@@ -1,21 +1,21 @@
 -- What names mean before an edit and after it, namespace by namespace: where that is the same, items
 -- see the same.
-use Rattle.std.specs.Prelude.{◌≡◌, ℕ, ◌+◌, ◌-◌, ◌%◌, ◌^◌, Bool, true, false, if◌then◌else◌, List, get_or, length, nat_lt, take, Option, None, Some, option_map}
+use Rattle.std.specs.Prelude.{◌≡◌, ℕ, ◌+◌, ◌-◌, ◌%◌, ◌^◌, Bool, true, false, if◌then◌else◌, List, get_or, nat_lt, Option, None, Some, option_map}
 use Rattle.snl_scope.specs.declared.facts.Fact.{Fact}
 use Rattle.snl_scope.specs.declared.names.namespaces.Namespace.{Namespace}
 use Rattle.snl_scope.specs.declared.names.namespaces.Namespace.TheVariants as namespace
 use Rattle.snl_scope.specs.declared.names.namespaces.QualifiedName.{QualifiedName}
-use Rattle.snl_scope.specs.declared.same_views.Compared.{Compared}
-use Rattle.snl_scope.specs.declared.same_views.Meanings.{Meanings}
-use Rattle.snl_scope.specs.declared.same_views.Moved.{Moved}
-use Rattle.snl_scope.specs.declared.same_views.Pair.{Pair}
-use Rattle.snl_scope.specs.declared.same_views.Side.{Side}
-use Rattle.snl_scope.specs.declared.same_views.Side.TheVariants as side
+use Rattle.snl_scope.specs.declared.compared.Compared.{Compared}
+use Rattle.snl_scope.specs.declared.compared.Meanings.{Meanings}
 use Rattle.snl_scope.specs.declared.summaries.summary.Outline.{Outline}
 use Rattle.snl_scope.specs.Linked.{fact_at}
 use Rattle.snl_scope.specs.Names.{entries, number_in}
-use Rattle.snl_scope.specs.NameTables.{number_by, number_under}
-use Rattle.snl_scope.specs.View.{same_known}
+use Rattle.snl_scope.specs.NameTables.{number_under}
+use Rattle.snl_views.specs.declared.same_views.Moved.{Moved}
+use Rattle.snl_views.specs.declared.same_views.Pair.{Pair}
+use Rattle.snl_views.specs.declared.same_views.Side.{Side}
+use Rattle.snl_views.specs.declared.same_views.Side.TheVariants as side
+use Rattle.snl_views.specs.SameView.{same_known}
 
 -- The numbers that an item gets and had, if it is kept.
 abbrev pub number_after : Moved → ℕ → ℕ
@@ -87,14 +87,6 @@ SamePlace ss _ ts _ = ⊥
 pub record AreSame (ss ts : List Outline) (moved : Moved) (marks : List Bool) (program : Bool) : Type 0 where
   pub in_program : program ≡ true → MeansTheSame ss namespace.Program ts namespace.Program
   pub in_sets : (k : ℕ) → number_before moved (number_after moved k) ≡ k → get_or marks (number_after moved k) false ≡ true → SameSets ss k ts (number_after moved k)
-
--- The numbers are those of these names, of which the ones before are the first ones after.
-pub record ByNames (both : Compared) (before after : List (List ℕ)) : Type 0 where
-  pub count : both.before.names ≡ length before
-  pub count_after : both.after.names ≡ length after
-  pub first : take (length before) after ≡ before
-  pub found : (s : Namespace) (name : List ℕ) → number_by before both.before.first.now s name ≡ number_in (entries both.before.links.now.outlines) s name
-  pub found_after : (s : Namespace) (name : List ℕ) → number_by after both.after.first.now s name ≡ number_in (entries both.after.links.now.outlines) s name
 
 -- The outlines before an edit and after it.
 pub record BothOutlines : Type 0 where

@@ -10,25 +10,26 @@ use Rattle.std.proofs.lemmas.Map.Entries.{place_from_lookup}
 use Rattle.std.proofs.lemmas.Option.{slice_get-map}
 use Rattle.snl_facts.specs.Each.{each_got}
 use Rattle.snl_facts.specs.Positions.{position_cons}
+use Rattle.snl_scope.specs.Compared.{ByNames}
+use Rattle.snl_scope.specs.KeyLaws.{key_true}
 use Rattle.snl_scope.specs.Linked.{fact_at, fact_of}
 use Rattle.snl_scope.specs.Names.{entries, number_in, resolve}
 use Rattle.snl_scope.specs.NameTables.{is_program, name_head, number_by, number_under, same_key}
 use Rattle.snl_scope.specs.Places.{enclosing_set}
-use Rattle.snl_scope.specs.SameMeanings.{ByNames, IsPaired, MeansTheSame, SamePlace, Unmarks, number_after, number_before, pair_of, same_meaning, same_under, set_in, with_set}
 use Rattle.snl_scope.specs.View.{view}
 use Rattle.snl_scope.specs.declared.facts.Fact.{Fact}
 use Rattle.snl_scope.specs.declared.names.first_numbers.FirstNumbers.{FirstNumbers}
 use Rattle.snl_scope.specs.declared.names.namespaces.Namespace.{Namespace}
 use Rattle.snl_scope.specs.declared.names.namespaces.Namespace.TheVariants as namespace
 use Rattle.snl_scope.specs.declared.names.namespaces.QualifiedName.{QualifiedName}
-use Rattle.snl_scope.specs.declared.same_views.Compared.{Compared}
-use Rattle.snl_scope.specs.declared.same_views.Moved.{Moved}
-use Rattle.snl_scope.specs.declared.same_views.Side.{Side}
-use Rattle.snl_scope.specs.declared.same_views.Side.TheVariants as side
+use Rattle.snl_scope.specs.declared.compared.Compared.{Compared}
 use Rattle.snl_scope.specs.declared.summaries.summary.Outline.{Outline}
 use Rattle.snl_scope.specs.declared.summaries.summary.Summary.{Summary}
-use Rattle.snl_scope.proofs.Equality.{key_true}
-use Rattle.snl_scope.proofs.Views.{known_equal}
+use Rattle.snl_views.specs.SameMeanings.{IsPaired, MeansTheSame, SamePlace, Unmarks, number_after, number_before, pair_of, same_meaning, same_under, set_in, with_set}
+use Rattle.snl_views.specs.declared.same_views.Moved.{Moved}
+use Rattle.snl_views.specs.declared.same_views.Side.{Side}
+use Rattle.snl_views.specs.declared.same_views.Side.TheVariants as side
+use Rattle.snl_views.proofs.Views.{known_equal}
 
 -- ---- items
 

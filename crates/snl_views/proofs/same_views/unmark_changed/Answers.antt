@@ -3,10 +3,10 @@ use Rattle.std.specs.List.{AllByRecursion as Each}
 use Rattle.std.specs.Map.Iter.{deref}
 use Rattle.std.proofs.lemmas.Map.Iter.{iter_end}
 use Rattle.snl_facts.specs.Each.{each_append, each_map, each_weaker}
-use Rattle.snl_scope.specs.SameMeanings.{IsPaired}
 use Rattle.snl_scope.specs.declared.names.namespaces.QualifiedName.{QualifiedName}
-use Rattle.snl_scope.proofs.SameMeanings.{still_paired}
-use Rattle.snl_scope.proofs.same_views.unmark_changed.Goals as goal
+use Rattle.snl_views.specs.SameMeanings.{IsPaired}
+use Rattle.snl_views.proofs.SameMeanings.{still_paired}
+use Rattle.snl_views.proofs.same_views.unmark_changed.Goals as goal
 
 pub loop-key-preserved : goal.loop-key-preserved
 loop-key-preserved c =

@@ -1,7 +1,7 @@
 use Rattle.std.proofs.Common.{◌≡◌, ◌↔◌, Bool, IsTrue, subst, sym}
 use Rattle.snl_scope.specs.View.{view}
-use Rattle.snl_scope.proofs.Views.{view-equal}
-use Rattle.snl_scope.proofs.view.same_view.Goals as goal
+use Rattle.snl_views.proofs.Views.{view-equal}
+use Rattle.snl_views.proofs.view.same_view.Goals as goal
 
 pub returns-clause-equal : goal.returns-clause-equal
 returns-clause-equal c =

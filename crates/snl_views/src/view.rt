@@ -6,12 +6,10 @@ ghost use Rattle.std.specs.List.{list_all};
 ghost use Rattle.snl_scope.specs.Linked.{fact_of, has_target};
 ghost use Rattle.snl_scope.specs.declared.summaries.summary.Outline.{Outline};
 ghost use Rattle.snl_scope.specs.declared.summaries.summary.Summary.{Summary};
-ghost use Rattle.snl_scope.specs.View.{same_assigned, same_name_kind, same_bool, same_dims, same_facts, same_known, same_level, same_view, view};
+ghost use Rattle.snl_scope.specs.View.{view};
+ghost use Rattle.snl_views.specs.SameView.{same_assigned, same_name_kind, same_bool, same_dims, same_facts, same_known, same_level, same_view};
 
-use crate::facts::{Assigned, Fact, Level, NameKind};
-use crate::links::Links;
-use crate::summaries::name::Name;
-use crate::summaries::summary::{Dims, NameRef, Summary};
+use snl_scope::{Assigned, Dims, Fact, Level, Links, Name, NameKind, NameRef, Summary};
 
 fn is_same(one: bool, other: bool) -> bool
     ensures { result ≡ same_bool one other }

@@ -1,8 +1,8 @@
 use Rattle.std.proofs.Common.{◌≡◌, inl, inr, ap, arith, sym, ◌∙◌}
 use Rattle.std.proofs.lemmas.Bool.{cases_lt}
-use Rattle.snl_scope.specs.SameMeanings.{same_under}
 use Rattle.snl_scope.specs.declared.names.namespaces.Namespace.TheVariants as namespace
-use Rattle.snl_scope.proofs.same_views.program_means_the_same.Goals as goal
+use Rattle.snl_views.specs.SameMeanings.{same_under}
+use Rattle.snl_views.proofs.same_views.program_means_the_same.Goals as goal
 
 pub loop-name-preserved : goal.loop-name-preserved
 loop-name-preserved c = λ n lt.

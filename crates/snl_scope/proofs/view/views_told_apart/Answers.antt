@@ -1,5 +1,0 @@
-use Rattle.snl_scope.proofs.Views.{view-equal}
-use Rattle.snl_scope.proofs.view.views_told_apart.Goals as goal
-
-pub returns : goal.returns
-returns c = view-equal

@@ -1,0 +1,2 @@
+pub mod SameView
+pub mod SameMeanings
