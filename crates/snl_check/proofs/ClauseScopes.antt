@@ -14,9 +14,9 @@ use Rattle.snl_scope.specs.declared.facts.Scope.{Scope}
 use Rattle.snl_scope.specs.declared.facts.Scope.TheVariants as scope
 use Rattle.snl_scope.specs.declared.names.namespaces.Namespace.{Namespace}
 use Rattle.snl_scope.specs.declared.names.namespaces.Namespace.TheVariants as namespace
-use Rattle.snl_scope.specs.declared.summaries.summary.Outline.{Outline}
-use Rattle.snl_scope.specs.declared.summaries.summary.Variable.{Variable}
-use Rattle.snl_scope.specs.declared.summaries.summary.VariableClause.{VariableClause}
+use Rattle.snl_summary.specs.declared.summary.Outline.{Outline}
+use Rattle.snl_summary.specs.declared.summary.Variable.{Variable}
+use Rattle.snl_summary.specs.declared.summary.VariableClause.{VariableClause}
 use Rattle.snl_scope.specs.Clauses.{LinkedClause, clause_link, clause_links, clauses_before, clauses_of, linked_clause, soundness}
 use Rattle.snl_scope.specs.Linked.{declaration_at, entry_declaration, scope_in, variable_declaration}
 use Rattle.snl_scope.specs.Names.{Entry, entries, has_name, number_in, resolve, same_namespace}

@@ -6,10 +6,10 @@ use Rattle.std.specs.List.{AllByRecursion, list_any, zip}
 use Rattle.std.specs.Option.{option_and_then, option_map_or}
 use Rattle.snl_facts.specs.Each.{each_append, each_by, each_map, each_weaker}
 use Rattle.snl_scope.specs.declared.facts.ClauseLink.{ClauseLink}
-use Rattle.snl_scope.specs.declared.summaries.summary.NameRef.{NameRef}
-use Rattle.snl_scope.specs.declared.summaries.summary.Outline.{Outline}
-use Rattle.snl_scope.specs.declared.summaries.summary.Variable.{Variable}
-use Rattle.snl_scope.specs.declared.summaries.summary.VariableClause.{VariableClause}
+use Rattle.snl_summary.specs.declared.summary.NameRef.{NameRef}
+use Rattle.snl_summary.specs.declared.summary.Outline.{Outline}
+use Rattle.snl_summary.specs.declared.summary.Variable.{Variable}
+use Rattle.snl_summary.specs.declared.summary.VariableClause.{VariableClause}
 use Rattle.snl_codes.specs.Codes.{is_error}
 use Rattle.snl_scope.specs.Channels.{is_monitor, is_monitored, is_sync, speaks_on, sync_number}
 use Rattle.snl_codes.specs.declared.code.Code.TheVariants.{E11}

@@ -18,15 +18,15 @@ use Rattle.snl_scope.specs.declared.facts.ClauseLink.{ClauseLink}
 use Rattle.snl_scope.specs.declared.facts.Declaration.{Declaration}
 use Rattle.snl_scope.specs.declared.facts.Scope.{Scope}
 use Rattle.snl_scope.specs.declared.facts.Scope.TheVariants as scope
-use Rattle.snl_scope.specs.declared.summaries.summary.Outline.{Outline}
-use Rattle.snl_scope.specs.declared.summaries.summary.Summary.{Summary}
-use Rattle.snl_scope.specs.declared.summaries.summary.VariableClause.{VariableClause}
+use Rattle.snl_summary.specs.declared.summary.Outline.{Outline}
+use Rattle.snl_summary.specs.declared.summary.Summary.{Summary}
+use Rattle.snl_summary.specs.declared.summary.VariableClause.{VariableClause}
 use Rattle.snl_scope.specs.Channels.{is_monitored, sync_number}
 use Rattle.snl_scope.specs.Clauses.{clause_links}
 use Rattle.snl_scope.specs.Linked.{declaration_at, entry_declaration}
 use Rattle.snl_scope.specs.Places.{begins_set, enclosing_set, is_set_begin}
-use Rattle.snl_scope.specs.Summaries.{summary_in}
-use Rattle.snl_scope.specs.Summaries.Clauses as summary
+use Rattle.snl_summary.specs.Summaries.{summary_in}
+use Rattle.snl_summary.specs.Summaries.Clauses as summary
 use Rattle.snl_walk.specs.Tokens.{token_bytes}
 use Rattle.snl_tables.specs.declared.rows.ScopeName.TheVariants as named
 use Rattle.snl_check.specs.Channels.{AssignedChannel, NamedChannel, assigned_channel, assigned_channels, channels_in, channels_of_clause, channels_on, joined}

@@ -9,9 +9,9 @@ use Rattle.snl_grammar.specs.declared.tree.item.Item.{Item}
 use Rattle.std.specs.Option.{option_copied}
 use Rattle.std.proofs.lemmas.List.{drop_all, length-map}
 use Rattle.std.proofs.lemmas.Option.{slice_get-get_or, slice_get-map, slice_get_past, slice_get_read}
-use Rattle.snl_scope.specs.declared.summaries.summary.ItemKind.{ItemKind}
-use Rattle.snl_scope.specs.declared.summaries.summary.ItemKind.TheVariants as kinds
-use Rattle.snl_scope.specs.Summaries.{kind_of}
+use Rattle.snl_summary.specs.declared.summary.ItemKind.{ItemKind}
+use Rattle.snl_summary.specs.declared.summary.ItemKind.TheVariants as kinds
+use Rattle.snl_summary.specs.Summaries.{kind_of}
 use Rattle.snl_check.specs.declared.rows.text_items.TextItems.{TextItems}
 use denote.Bor.{Bor}
 use Rattle.snl_check.specs.Collected.{AreTextItems, items_in}

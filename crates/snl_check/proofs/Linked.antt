@@ -5,9 +5,9 @@ use Rattle.std.specs.Option.{is_none, option_and_then, option_map, option_map_or
 use Rattle.std.proofs.lemmas.Option.{slice_get-map}
 use Rattle.snl_lex.specs.declared.piece.Piece.{Piece}
 use Rattle.snl_grammar.specs.declared.tree.item.Item.{Item}
-use Rattle.snl_scope.specs.declared.summaries.summary.Outline.{Outline}
-use Rattle.snl_scope.specs.Summaries.{occurrences_in}
-use Rattle.snl_scope.specs.Summaries.Tokens.{name_ref_at}
+use Rattle.snl_summary.specs.declared.summary.Outline.{Outline}
+use Rattle.snl_summary.specs.Summaries.{occurrences_in}
+use Rattle.snl_summary.specs.Summaries.Tokens.{name_ref_at}
 use Rattle.snl_walk.specs.declared.used.TargetUse.{TargetUse}
 use Rattle.snl_walk.specs.Items.{occurrences}
 use Rattle.snl_walk.specs.Tokens.{token_bytes}

@@ -10,11 +10,11 @@ use Rattle.snl_grammar.specs.declared.tree.item.Item.{Item}
 use Rattle.snl_grammar.specs.declared.tree.item.Item.TheVariants as items
 use Rattle.snl_grammar.specs.declared.tree.state.StateMember.{StateMember}
 use Rattle.snl_grammar.specs.declared.tree.state.StateMember.TheVariants as members
-use Rattle.snl_scope.specs.declared.summaries.summary.Outline.{Outline}
-use Rattle.snl_scope.specs.declared.summaries.summary.VariableClause.{VariableClause}
+use Rattle.snl_summary.specs.declared.summary.Outline.{Outline}
+use Rattle.snl_summary.specs.declared.summary.VariableClause.{VariableClause}
 use Rattle.snl_scope.specs.Clauses.{LinkedClause, clauses_before, clauses_of, linked_clause}
-use Rattle.snl_scope.specs.Summaries.{outline_in}
-use Rattle.snl_scope.specs.Summaries.Clauses as summary
+use Rattle.snl_summary.specs.Summaries.{outline_in}
+use Rattle.snl_summary.specs.Summaries.Clauses as summary
 use Rattle.snl_check.specs.Clauses.{clause_in_member, clauses_in_tree, item_clause, item_clauses, item_clauses_before, item_clauses_if, summarized}
 use Rattle.snl_item_check.specs.Items.{ProgramItem, outlines_of, tokens_in, tree_in}
 

@@ -9,8 +9,8 @@ use Rattle.std.proofs.lemmas.List.Elements.{All-append, All-map, All-nil, All-pu
 use Rattle.std.proofs.lemmas.List.Quantifiers.{position-Some}
 use borrow.Author.Tests.{eq-eqb, le-ltb, lt-ltb}
 use Rattle.snl_scope.specs.BelowLaws.{any_below_none}
-use Rattle.snl_scope.specs.declared.summaries.summary.NameRef.{NameRef}
-use Rattle.snl_scope.specs.declared.summaries.summary.Outline.{Outline}
+use Rattle.snl_summary.specs.declared.summary.NameRef.{NameRef}
+use Rattle.snl_summary.specs.declared.summary.Outline.{Outline}
 use Rattle.snl_scope.specs.Below.{all_below, any_below}
 use Rattle.snl_scope.specs.Places.{begins_set, ends_set, item_is, open_before, enclosing_set, stands_in}
 use Rattle.snl_check.specs.declared.reachability.marks.SetMember.{SetMember}

@@ -26,12 +26,12 @@ use Rattle.snl_codes.specs.declared.code.Code.{Code}
 use Rattle.snl_codes.specs.declared.code.Code.TheVariants.{E08, E09}
 use Rattle.snl_scope.specs.declared.names.namespaces.Namespace.{Namespace}
 use Rattle.snl_scope.specs.declared.names.namespaces.Namespace.TheVariants as namespace
-use Rattle.snl_scope.specs.declared.summaries.summary.Declared.{Declared}
-use Rattle.snl_scope.specs.declared.summaries.summary.ItemKind.{ItemKind}
-use Rattle.snl_scope.specs.declared.summaries.summary.ItemKind.TheVariants as kinds
-use Rattle.snl_scope.specs.declared.summaries.summary.NameRef.{NameRef}
-use Rattle.snl_scope.specs.declared.summaries.summary.Outline.{Outline}
-use Rattle.snl_scope.specs.declared.summaries.summary.Variable.{Variable}
+use Rattle.snl_summary.specs.declared.summary.Declared.{Declared}
+use Rattle.snl_summary.specs.declared.summary.ItemKind.{ItemKind}
+use Rattle.snl_summary.specs.declared.summary.ItemKind.TheVariants as kinds
+use Rattle.snl_summary.specs.declared.summary.NameRef.{NameRef}
+use Rattle.snl_summary.specs.declared.summary.Outline.{Outline}
+use Rattle.snl_summary.specs.declared.summary.Variable.{Variable}
 use Rattle.snl_scope.specs.Below.{all_below}
 use Rattle.snl_scope.specs.Clauses.{clause_links, is_event_flag, resolve_in}
 use Rattle.snl_scope.specs.Flags.{declares_flag, is_first, is_flag}
@@ -39,9 +39,9 @@ use Rattle.snl_scope.specs.Linked.{declaration_at, entry_declaration, scope_in, 
 use Rattle.snl_scope.specs.Names.{Entry, declared_entry, named_entry, entries, entries_before, entries_of, has_own_scope, scope_at, scope_of, set_entries, set_name, state_entries}
 use Rattle.snl_scope.specs.Order.{is_named_state, state_name}
 use Rattle.snl_scope.specs.Places.{begins_set, is_set_begin, enclosing_set, stands_in}
-use Rattle.snl_scope.specs.Summaries.{kind_of, role_of}
-use Rattle.snl_scope.specs.Summaries.Clauses as summary
-use Rattle.snl_scope.specs.Summaries.Declares.{declared_in}
+use Rattle.snl_summary.specs.Summaries.{kind_of, role_of}
+use Rattle.snl_summary.specs.Summaries.Clauses as summary
+use Rattle.snl_summary.specs.Summaries.Declares.{declared_in}
 use Rattle.snl_walk.specs.Tokens.{token_bytes}
 use Rattle.snl_tables.specs.declared.rows.ScopeName.TheVariants as scope_names
 use Rattle.snl_tables.specs.declared.rows.SetRow.{SetRow}

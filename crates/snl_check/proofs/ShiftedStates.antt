@@ -12,7 +12,7 @@ use Rattle.snl_grammar.specs.declared.tree.state.StateMember.{StateMember}
 use Rattle.snl_grammar.specs.declared.tree.state.StateMember.TheVariants as members
 use Rattle.snl_grammar.specs.declared.tree.state.Target.{Target}
 use Rattle.snl_grammar.specs.declared.tree.state.Target.TheVariants as target
-use Rattle.snl_scope.specs.declared.summaries.summary.Outline.{Outline}
+use Rattle.snl_summary.specs.declared.summary.Outline.{Outline}
 use Rattle.snl_scope.specs.Clauses.{resolve_in}
 use Rattle.snl_scope.specs.Linked.{has_target}
 use Rattle.snl_scope.specs.Places.{stands_in}

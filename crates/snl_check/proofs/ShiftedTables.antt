@@ -16,15 +16,15 @@ use Rattle.snl_grammar.specs.declared.tree.item.Item.{Item}
 use Rattle.snl_grammar.specs.declared.tree.item.Item.TheVariants as items
 use Rattle.snl_grammar.specs.Parsing.{kinds_in}
 use Rattle.snl_grammar.specs.Reading.Items.{item_of}
-use Rattle.snl_scope.specs.declared.summaries.summary.Outline.{Outline}
-use Rattle.snl_scope.specs.declared.summaries.summary.Summary.{Summary}
+use Rattle.snl_summary.specs.declared.summary.Outline.{Outline}
+use Rattle.snl_summary.specs.declared.summary.Summary.{Summary}
 use Rattle.snl_scope.specs.Flags.{flags_of}
-use Rattle.snl_scope.specs.NamedTokens.{NamesItsTokens, own_name}
+use Rattle.snl_summary.specs.NamedTokens.{NamesItsTokens, own_name}
 use Rattle.snl_scope.specs.Order.{is_named_state, is_state_word, state_name}
 use Rattle.snl_scope.specs.Places.{begins_set, is_set_begin}
-use Rattle.snl_scope.specs.Summaries.{kind_of, opening_in, role_of, second_in, summary_in}
-use Rattle.snl_scope.specs.Summaries.Clauses.{clauses_in}
-use Rattle.snl_scope.specs.Summaries.Declares.{declared_in}
+use Rattle.snl_summary.specs.Summaries.{kind_of, opening_in, role_of, second_in, summary_in}
+use Rattle.snl_summary.specs.Summaries.Clauses.{clauses_in}
+use Rattle.snl_summary.specs.Summaries.Declares.{declared_in}
 use Rattle.snl_walk.specs.Tokens.{token_bytes}
 use Rattle.snl_tables.specs.declared.rows.SetRow.{SetRow}
 use Rattle.snl_tables.specs.Moved.{moved_set, moved_state, moved_tables}

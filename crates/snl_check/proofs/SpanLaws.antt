@@ -25,19 +25,19 @@ use Rattle.snl_scope.specs.declared.facts.Declaration.{Declaration}
 use Rattle.snl_scope.specs.declared.facts.Scope.{Scope}
 use Rattle.snl_scope.specs.declared.names.namespaces.Namespace.{Namespace}
 use Rattle.snl_scope.specs.declared.names.namespaces.Namespace.TheVariants as namespace
-use Rattle.snl_scope.specs.declared.summaries.summary.Declared.{Declared}
-use Rattle.snl_scope.specs.declared.summaries.summary.Outline.{Outline}
+use Rattle.snl_summary.specs.declared.summary.Declared.{Declared}
+use Rattle.snl_summary.specs.declared.summary.Outline.{Outline}
 use Rattle.snl_scope.specs.Below.{all_below, last_below}
 use Rattle.snl_scope.specs.Clauses.{clause_links}
 use Rattle.snl_scope.specs.Flags.{flags_of}
 use Rattle.snl_scope.specs.Linked.{declaration_at, entry_declaration, scope_in}
-use Rattle.snl_scope.specs.NamedTokens.{NamesItsTokens, own_name}
+use Rattle.snl_summary.specs.NamedTokens.{NamesItsTokens, own_name}
 use Rattle.snl_scope.specs.Names.{Entry, declared_entry, entries, entries_before, entries_of, named_entry, scope_at, has_own_scope, scope_of, set_entries, set_name, state_entries}
 use Rattle.snl_scope.specs.Order.{is_named_state, is_state_word, state_name}
 use Rattle.snl_scope.specs.Places.{begins_set, ends_between, is_set_begin, item_is, open_before, enclosing_set, stands_in}
-use Rattle.snl_scope.specs.Summaries.{kind_of, name_if, opening_in, role_in, role_of, second_in}
-use Rattle.snl_scope.specs.Summaries.Clauses as summary
-use Rattle.snl_scope.specs.Summaries.Declares.{declared_in, declared_in_tree}
+use Rattle.snl_summary.specs.Summaries.{kind_of, name_if, opening_in, role_in, role_of, second_in}
+use Rattle.snl_summary.specs.Summaries.Clauses as summary
+use Rattle.snl_summary.specs.Summaries.Declares.{declared_in, declared_in_tree}
 use Rattle.snl_walk.specs.Declares.{declared_by_state}
 use Rattle.snl_walk.specs.Expressions.{names_if}
 use Rattle.snl_walk.specs.Items.{found_in_member, found_in_target, in_transition, occurrences}

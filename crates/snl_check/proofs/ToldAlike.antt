@@ -33,9 +33,9 @@ use Rattle.snl_scope.specs.declared.facts.ClauseLink.{ClauseLink}
 use Rattle.snl_scope.specs.declared.facts.Declaration.{Declaration}
 use Rattle.snl_scope.specs.declared.facts.Scope.{Scope}
 use Rattle.snl_scope.specs.declared.facts.Scope.TheVariants as scope
-use Rattle.snl_scope.specs.declared.summaries.summary.NameRef.{NameRef}
-use Rattle.snl_scope.specs.declared.summaries.summary.Outline.{Outline}
-use Rattle.snl_scope.specs.declared.summaries.summary.Summary.{Summary}
+use Rattle.snl_summary.specs.declared.summary.NameRef.{NameRef}
+use Rattle.snl_summary.specs.declared.summary.Outline.{Outline}
+use Rattle.snl_summary.specs.declared.summary.Summary.{Summary}
 use Rattle.snl_scope.specs.Below.{all_below, any_below}
 use Rattle.snl_scope.specs.BelowLaws.{all_below_same, any_below_same}
 use Rattle.snl_scope.specs.Channels.{is_monitored, sync_number}
@@ -46,8 +46,8 @@ use Rattle.snl_scope.specs.Order.{is_named_state}
 use Rattle.snl_scope.specs.Places.{is_set_begin, stands_in}
 use Rattle.snl_scope.specs.Renamed.{ClausesAlike, MeanAlike}
 use Rattle.snl_scope.specs.Spoken.{is_among, meets}
-use Rattle.snl_scope.specs.Summaries.{occurrences_in}
-use Rattle.snl_scope.specs.Summaries.Tokens.{name_ref_at}
+use Rattle.snl_summary.specs.Summaries.{occurrences_in}
+use Rattle.snl_summary.specs.Summaries.Tokens.{name_ref_at}
 use Rattle.snl_tables.specs.declared.rows.ChannelRow.{ChannelRow}
 use Rattle.snl_tables.specs.declared.rows.Destination.{Destination}
 use Rattle.snl_tables.specs.declared.rows.Destination.TheVariants as destinations

@@ -9,7 +9,7 @@ use Rattle.snl_grammar.specs.declared.tree.clause.Channel.TheVariants as channel
 use Rattle.snl_grammar.specs.declared.tree.clause.Clause.{Clause}
 use Rattle.snl_grammar.specs.declared.tree.clause.Clause.TheVariants as clauses
 use Rattle.snl_scope.specs.declared.facts.ClauseLink.{ClauseLink}
-use Rattle.snl_scope.specs.declared.summaries.summary.Outline.{Outline}
+use Rattle.snl_summary.specs.declared.summary.Outline.{Outline}
 use Rattle.snl_scope.specs.Below.{all_below}
 use Rattle.snl_walk.specs.Tokens.{token_bytes, value_at}
 use Rattle.snl_check.specs.Clauses.{ItemClause, resolved_clauses}

@@ -7,12 +7,12 @@ use Rattle.snl_grammar.specs.declared.tree.item.Item.TheVariants as items
 use Rattle.snl_grammar.specs.declared.tree.state.StateMember.{StateMember}
 use Rattle.snl_grammar.specs.declared.tree.state.StateMember.TheVariants as members
 use Rattle.snl_scope.specs.declared.facts.ClauseLink.{ClauseLink}
-use Rattle.snl_scope.specs.declared.summaries.summary.ItemKind.{ItemKind}
-use Rattle.snl_scope.specs.declared.summaries.summary.ItemKind.TheVariants as kinds
-use Rattle.snl_scope.specs.declared.summaries.summary.Outline.{Outline}
-use Rattle.snl_scope.specs.declared.summaries.summary.VariableClause.{VariableClause}
+use Rattle.snl_summary.specs.declared.summary.ItemKind.{ItemKind}
+use Rattle.snl_summary.specs.declared.summary.ItemKind.TheVariants as kinds
+use Rattle.snl_summary.specs.declared.summary.Outline.{Outline}
+use Rattle.snl_summary.specs.declared.summary.VariableClause.{VariableClause}
 use Rattle.snl_scope.specs.Clauses.{clause_links}
-use Rattle.snl_scope.specs.Summaries.Clauses.{clause_of}
+use Rattle.snl_summary.specs.Summaries.Clauses.{clause_of}
 use Rattle.snl_item_check.specs.Items.{ProgramItem, tokens_in, tree_in}
 
 -- The clauses of an item, as trees.

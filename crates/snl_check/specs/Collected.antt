@@ -2,14 +2,14 @@
 use Rattle.std.specs.Prelude.{◌≡◌, ℕ, List, map, length, option_copied}
 use Rattle.snl_lex.specs.LineList.{IsLineList}
 use Rattle.snl_scope.specs.declared.facts.ClauseLink.{ClauseLink}
-use Rattle.snl_scope.specs.declared.summaries.summary.Outline.{Outline}
+use Rattle.snl_summary.specs.declared.summary.Outline.{Outline}
 use Rattle.snl_check.specs.declared.rows.channels.AssignedChannel.{AssignedChannel}
 use Rattle.snl_check.specs.declared.rows.item_clauses.PlacedClause.{PlacedClause}
 use Rattle.snl_check.specs.declared.rows.item_clauses.ResolvedClause.{ResolvedClause}
 use Rattle.snl_check.specs.declared.rows.row_source.RowSource.{RowSource}
 use Rattle.snl_check.specs.declared.rows.state_source.StateSource.{StateSource}
 use Rattle.snl_check.specs.declared.rows.text_items.TextItems.{TextItems}
-use Rattle.snl_scope.specs.Summaries.{kind_of}
+use Rattle.snl_summary.specs.Summaries.{kind_of}
 use Rattle.snl_check.specs.Channels as channels
 use Rattle.snl_check.specs.Clauses.{ItemClause, resolved_clauses}
 use Rattle.snl_item_check.specs.Items.{IsCutUp, ProgramItem, program_items, outlines_of}

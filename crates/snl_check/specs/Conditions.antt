@@ -2,7 +2,7 @@
 -- up.
 use Rattle.std.specs.Prelude.{ℕ, if◌then◌else◌, List, Option, None, Some, option_and_then, option_map}
 use Rattle.std.specs.List.{filter_map}
-use Rattle.snl_scope.specs.declared.summaries.summary.Outline.{Outline}
+use Rattle.snl_summary.specs.declared.summary.Outline.{Outline}
 use Rattle.snl_scope.specs.Clauses.{resolve_in}
 use Rattle.snl_scope.specs.Flags.{flag_number}
 use Rattle.snl_walk.specs.Tokens.{token_bytes}

@@ -6,7 +6,7 @@ use Rattle.snl_lex.specs.declared.lines.Line.{Line}
 use Rattle.snl_lex.specs.declared.shift.Shift.{Shift}
 use Rattle.snl_lex.specs.Lines.{line_at}
 use Rattle.snl_scope.specs.Names.{has_own_scope}
-use Rattle.snl_scope.specs.Summaries.{kind_of}
+use Rattle.snl_summary.specs.Summaries.{kind_of}
 use Rattle.snl_walk.specs.Tokens.{token_bytes}
 use Rattle.snl_item_check.specs.Items.{ProgramItem, outline_of_item, outlines_of}
 use Rattle.snl_check.specs.Shifted.{has_line, shifted_item, shifted_tokens, start_at}

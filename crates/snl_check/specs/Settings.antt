@@ -7,7 +7,7 @@ use Rattle.snl_grammar.specs.declared.tree.item.Item.{Item}
 use Rattle.snl_grammar.specs.declared.tree.item.Item.TheVariants as items
 use Rattle.snl_grammar.specs.declared.tree.state.StateMember.{StateMember}
 use Rattle.snl_grammar.specs.declared.tree.state.StateMember.TheVariants as members
-use Rattle.snl_scope.specs.declared.summaries.summary.Outline.{Outline}
+use Rattle.snl_summary.specs.declared.summary.Outline.{Outline}
 use Rattle.snl_walk.specs.Tokens.{token_bytes}
 use Rattle.snl_tables.specs.declared.rows.OptionRow.{OptionRow}
 use Rattle.snl_item_check.specs.Options.{has_letter, is_on}

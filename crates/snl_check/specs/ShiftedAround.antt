@@ -2,10 +2,10 @@
 -- tables.
 use Rattle.std.specs.Prelude.{◌≡◌, ℕ, ◌&&◌, Bool, true, false, is_none, List, map, length, slice_get, Some}
 use Rattle.snl_lex.specs.declared.shift.Shift.{Shift}
-use Rattle.snl_scope.specs.declared.summaries.summary.Declared.{Declared}
-use Rattle.snl_scope.specs.declared.summaries.summary.ItemKind.{ItemKind}
-use Rattle.snl_scope.specs.declared.summaries.summary.ItemKind.TheVariants as kinds
-use Rattle.snl_scope.specs.declared.summaries.summary.Outline.{Outline}
+use Rattle.snl_summary.specs.declared.summary.Declared.{Declared}
+use Rattle.snl_summary.specs.declared.summary.ItemKind.{ItemKind}
+use Rattle.snl_summary.specs.declared.summary.ItemKind.TheVariants as kinds
+use Rattle.snl_summary.specs.declared.summary.Outline.{Outline}
 use Rattle.snl_scope.specs.Below.{all_below}
 use Rattle.snl_scope.specs.Clauses.{is_event_flag}
 use Rattle.snl_scope.specs.Order.{is_named_state}

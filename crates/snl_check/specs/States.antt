@@ -10,7 +10,7 @@ use Rattle.snl_grammar.specs.declared.tree.state.StateMember.{StateMember}
 use Rattle.snl_grammar.specs.declared.tree.state.StateMember.TheVariants as members
 use Rattle.snl_grammar.specs.declared.tree.state.Target.{Target}
 use Rattle.snl_grammar.specs.declared.tree.state.Target.TheVariants as target
-use Rattle.snl_scope.specs.declared.summaries.summary.Outline.{Outline}
+use Rattle.snl_summary.specs.declared.summary.Outline.{Outline}
 use Rattle.snl_scope.specs.Below.{all_below}
 use Rattle.snl_scope.specs.Linked.{has_target, is_first_state}
 use Rattle.snl_scope.specs.Places.{is_set_begin}

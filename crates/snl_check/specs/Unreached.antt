@@ -1,6 +1,6 @@
 -- States that are not reached.
 use Rattle.std.specs.Prelude.{◌≡◌, ℕ, true, false, List}
-use Rattle.snl_scope.specs.declared.summaries.summary.Outline.{Outline}
+use Rattle.snl_summary.specs.declared.summary.Outline.{Outline}
 use Rattle.snl_item_check.specs.Items.{ProgramItem}
 use Rattle.snl_scope.specs.Linked.{is_first_state}
 use Rattle.snl_check.specs.Members.{has_faulty, is_faulty_item, states_in, targets_among}

@@ -2,7 +2,7 @@
 //! the law.
 
 ghost use Rattle.std.specs.Prelude.{◌≡◌, ℕ, false, List, Some, slice_get};
-ghost use Rattle.snl_scope.specs.declared.summaries.summary.Outline.{Outline};
+ghost use Rattle.snl_summary.specs.declared.summary.Outline.{Outline};
 ghost use Rattle.snl_scope.specs.Renamed.{ClausesAlike, MeanAlike};
 ghost use Rattle.snl_scope.specs.Spoken.{meets};
 ghost use Rattle.snl_check.specs.Tables.{tables_by};

@@ -3,7 +3,7 @@
 
 ghost use Rattle.std.specs.Prelude.{◌≡◌, ◌<◌, ◌↔◌, ℕ, true, List, length, map};
 ghost use Rattle.snl_walk.specs.Tokens.{IsSource};
-ghost use Rattle.snl_scope.specs.declared.summaries.summary.Outline.{Outline};
+ghost use Rattle.snl_summary.specs.declared.summary.Outline.{Outline};
 ghost use Rattle.snl_scope.specs.Clauses.{clauses_of};
 ghost use Rattle.snl_tables.specs.declared.rows.StateMark.TheVariants.{Unreached};
 ghost use Rattle.snl_item_check.specs.Items.{ProgramItem, outlines_of, tokens_in};

@@ -11,9 +11,9 @@ use Rattle.snl_grammar.specs.declared.tree.item.Item.{Item}
 use Rattle.snl_codes.specs.declared.code.Code.{Code}
 use Rattle.snl_codes.specs.declared.code.Code.TheVariants.{E03, E04, E05, E06, E14}
 use Rattle.snl_scope.specs.declared.facts.LinkFault.{LinkFault}
-use Rattle.snl_scope.specs.declared.summaries.summary.ItemKind.{ItemKind}
-use Rattle.snl_scope.specs.declared.summaries.summary.ItemKind.TheVariants.{Faulty}
-use Rattle.snl_scope.specs.declared.summaries.summary.Outline.{Outline}
+use Rattle.snl_summary.specs.declared.summary.ItemKind.{ItemKind}
+use Rattle.snl_summary.specs.declared.summary.ItemKind.TheVariants.{Faulty}
+use Rattle.snl_summary.specs.declared.summary.Outline.{Outline}
 use Rattle.snl_scope.specs.Below.{all_below, any_below}
 use Rattle.snl_scope.specs.Clauses.{LinkedClause, at_name_ref, clause_faults, clauses_before, clauses_of, found_after, found_at, found_at_flag, found_at_variable, has_wrong_flag, linked_clause, variable_code, with_clause}
 use Rattle.snl_scope.specs.Linked as links
@@ -21,7 +21,7 @@ use Rattle.snl_scope.specs.LinkedItems.{LinkedItems, kind_is}
 use Rattle.snl_scope.specs.Names.{Entry, entries, name_faults, repetitions, told_by}
 use Rattle.snl_scope.specs.Order as order
 use Rattle.snl_scope.specs.Places.{begins_set, enclosing_set, ends_set, is_set_begin, is_set_end}
-use Rattle.snl_scope.specs.Summaries.{kind_of, outline_in}
+use Rattle.snl_summary.specs.Summaries.{kind_of, outline_in}
 use Rattle.snl_item_check.specs.Items.{outline_of_item}
 use Rattle.snl_kept.specs.Linked.{linked_of, outlines_of}
 use Rattle.snl_kept.specs.Program.{ProgramItem}

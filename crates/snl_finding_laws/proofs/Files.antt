@@ -9,7 +9,7 @@ use Rattle.snl_lex.specs.declared.piece.Piece.{Piece}
 use Rattle.snl_lex.specs.Lines.{file_by, gap_end, last_or, last_that, line_at, marker_file, names_file, number_stop, place_from}
 use Rattle.snl_lex.specs.Pieces.{LiesIn, bytes_at, pieces_of, string_joins}
 use Rattle.snl_lex.specs.Runs.{run_by}
-use Rattle.snl_scope.specs.declared.summaries.summary.Outline.{Outline}
+use Rattle.snl_summary.specs.declared.summary.Outline.{Outline}
 use Rattle.snl_scope.specs.Below.{all_below}
 use Rattle.snl_scope.specs.Places.{is_set_begin}
 use Rattle.snl_item_check.specs.Items.{ProgramItem, outlines_of}

@@ -13,11 +13,11 @@ use Rattle.snl_codes.specs.declared.code.Code.TheVariants.{W02}
 use Rattle.snl_codes.specs.Codes.{Finder, finder_of, finds_by_links, finds_in_items, is_item_code, is_link_code, parser}
 use Rattle.snl_scope.specs.declared.facts.Fact.{Fact}
 use Rattle.snl_scope.specs.declared.facts.LinkFault.{LinkFault}
-use Rattle.snl_scope.specs.declared.summaries.summary.Outline.{Outline}
+use Rattle.snl_summary.specs.declared.summary.Outline.{Outline}
 use Rattle.snl_scope.specs.FaultPlaces.{IsMissing, IsPlaced, IsPlacedBy, SpeaksOfTokens}
 use Rattle.snl_scope.specs.Linked as links
 use Rattle.snl_scope.specs.LinkedItems.{LinkedItems}
-use Rattle.snl_scope.specs.Summaries.{outline_in}
+use Rattle.snl_summary.specs.Summaries.{outline_in}
 use Rattle.snl_tables.specs.declared.rows.SetRow.{SetRow}
 use Rattle.snl_tables.specs.declared.rows.StateRow.{StateRow}
 use Rattle.snl_item_check.specs.declared.findings.ItemFault.{ItemFault}
@@ -30,7 +30,7 @@ use Rattle.snl_kept.specs.Checked.{at_own_token, checked_faults, found_in_item}
 use Rattle.snl_kept.specs.Linked.{finding_at, linked_faults, linked_finding, linked_of, outlines_of, token_of}
 use Rattle.snl_kept.specs.Program.{ProgramItem}
 use Rattle.snl_kept.specs.Tables.{found_at_state, found_in_set, is_unreached, walked_faults}
-use Rattle.snl_scope.specs.Summaries.Tokens.{token_bytes}
+use Rattle.snl_summary.specs.Summaries.Tokens.{token_bytes}
 use Rattle.snl_finding_laws.specs.OwnFaults.{finds_by_parsing, is_of_parser}
 use Rattle.snl_finding_laws.proofs.Tokens.{AreInARow}
 use Rattle.snl_facts.specs.Each.{each_by, each_weaker, each_got, each_map, each_flat}

@@ -24,7 +24,7 @@ use Rattle.snl_walk.specs.Items.{occurrences}
 use Rattle.snl_walk.specs.Rules.{findings}
 use Rattle.snl_walk.specs.Tokens.{bytes_if, token_bytes}
 use Rattle.snl_scope.specs.declared.facts.Fact.{Fact}
-use Rattle.snl_scope.specs.declared.summaries.summary.Outline.{Outline}
+use Rattle.snl_summary.specs.declared.summary.Outline.{Outline}
 use Rattle.snl_scope.specs.Linked as links
 use Rattle.snl_tables.specs.declared.rows.SetRow.{SetRow}
 use Rattle.snl_tables.specs.declared.rows.StateRow.{StateRow}

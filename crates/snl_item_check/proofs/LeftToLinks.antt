@@ -25,14 +25,14 @@ use Rattle.snl_walk.specs.Rules.{findings}
 use Rattle.snl_walk.specs.Scopes.{seen}
 use Rattle.snl_walk.specs.Statements.{found_in_declaration, found_in_declarator}
 use Rattle.snl_codes.specs.declared.code.Code.TheVariants.{E07, W04}
-use Rattle.snl_scope.specs.declared.summaries.summary.Outline.{Outline}
-use Rattle.snl_scope.specs.declared.summaries.summary.Declared.{Declared}
+use Rattle.snl_summary.specs.declared.summary.Outline.{Outline}
+use Rattle.snl_summary.specs.declared.summary.Declared.{Declared}
 use Rattle.snl_scope.specs.Names.{has_own_scope}
-use Rattle.snl_scope.specs.Once.{declared_tokens}
-use Rattle.snl_scope.specs.Summaries.{outline_in, role_of}
-use Rattle.snl_scope.specs.Summaries.Clauses.{clauses_in}
-use Rattle.snl_scope.specs.Summaries.Declares.{declared_at, declared_if_body, declared_in, function_name}
-use Rattle.snl_scope.specs.declared.summaries.summary.ItemKind.TheVariants as kinds
+use Rattle.snl_summary.specs.RisingTokens.{declared_tokens}
+use Rattle.snl_summary.specs.Summaries.{outline_in, role_of}
+use Rattle.snl_summary.specs.Summaries.Clauses.{clauses_in}
+use Rattle.snl_summary.specs.Summaries.Declares.{declared_at, declared_if_body, declared_in, function_name}
+use Rattle.snl_summary.specs.declared.summary.ItemKind.TheVariants as kinds
 use Rattle.snl_item_check.specs.declared.findings.ItemFault.{ItemFault}
 use Rattle.snl_codes.specs.Codes.{Finder, finder_of, finds_by_rules, finds_in_items, is_item_code, is_rule_code, links_or_rules, rules, undeclared_names}
 use Rattle.snl_walk.specs.Repeated.{IsApartFrom, IsNoRepetitionAt}

@@ -13,8 +13,8 @@ use Rattle.snl_walk.specs.Rules.{findings}
 use Rattle.snl_walk.specs.Tokens.{token_bytes}
 use Rattle.snl_walk.specs.Uses.{targets, uses}
 use Rattle.snl_scope.specs.declared.facts.Fact.{Fact}
-use Rattle.snl_scope.specs.declared.summaries.summary.NameRef.{NameRef}
-use Rattle.snl_scope.specs.Summaries.Tokens.{name_ref_at}
+use Rattle.snl_summary.specs.declared.summary.NameRef.{NameRef}
+use Rattle.snl_summary.specs.Summaries.Tokens.{name_ref_at}
 use Rattle.snl_item_check.specs.SeenNames.{Agree, SameTokens, target_names, used_names}
 use Rattle.snl_item_check.specs.ItemFaults.{fault_of, faults_in}
 use Rattle.snl_item_check.specs.Options.{unknown_options}

@@ -6,10 +6,10 @@ use Rattle.std.specs.Option.{option_map_or}
 use Rattle.snl_cut.specs.Cut.{members}
 use Rattle.snl_lex.specs.declared.piece.Piece.{Piece}
 use Rattle.snl_grammar.specs.declared.tree.item.Item.{Item}
-use Rattle.snl_scope.specs.declared.summaries.summary.Outline.{Outline}
-use Rattle.snl_scope.specs.declared.summaries.summary.Summary.{Summary}
+use Rattle.snl_summary.specs.declared.summary.Outline.{Outline}
+use Rattle.snl_summary.specs.declared.summary.Summary.{Summary}
 use Rattle.snl_scope.specs.LinkedItems.{LinkedItems}
-use Rattle.snl_scope.specs.Summaries.{kind_of, outline_in, summary_in}
+use Rattle.snl_summary.specs.Summaries.{kind_of, outline_in, summary_in}
 use Rattle.snl_walk.specs.Tokens.{IsSource}
 
 -- An item of a text: its tokens, and its tree, which a faulty one has not.

@@ -4,7 +4,7 @@ use Rattle.std.specs.Prelude.{◌≡◌, ℕ, List, map, Some}
 use Rattle.std.specs.List.{All}
 use Rattle.snl_lex.specs.declared.piece.Piece.{Piece}
 use Rattle.snl_grammar.specs.declared.tree.item.Item.{Item}
-use Rattle.snl_scope.specs.Summaries.{summary_in}
+use Rattle.snl_summary.specs.Summaries.{summary_in}
 use Rattle.snl_walk.specs.Tokens.{token_bytes}
 
 -- The tokens have the same bytes, wherever they are in their texts.

@@ -5,7 +5,7 @@ use Rattle.snl_scope.specs.declared.facts.Assigned.TheVariants as assigned
 use Rattle.snl_scope.specs.declared.facts.NameKind.{NameKind}
 use Rattle.snl_scope.specs.declared.facts.NameKind.TheVariants as name_kind
 use Rattle.snl_scope.specs.declared.facts.Fact.{Fact}
-use Rattle.snl_scope.specs.declared.summaries.summary.Outline.{Outline}
+use Rattle.snl_summary.specs.declared.summary.Outline.{Outline}
 use Rattle.snl_scope.specs.Linked.{fact_of, has_target}
 use Rattle.snl_scope.specs.Places.{enclosing_set}
 use Rattle.snl_walk.specs.declared.other_items.Outer.{Outer}

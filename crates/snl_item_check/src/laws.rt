@@ -9,7 +9,7 @@ ghost use Rattle.snl_grammar.specs.Reading.Items.{item_of};
 ghost use Rattle.snl_codes.specs.Codes.{is_item_code};
 ghost use Rattle.snl_walk.specs.Tokens.{token_bytes};
 ghost use Rattle.snl_scope.specs.declared.facts.Fact.{Fact};
-ghost use Rattle.snl_scope.specs.Summaries.{outline_in};
+ghost use Rattle.snl_summary.specs.Summaries.{outline_in};
 ghost use Rattle.snl_item_check.specs.FaultCodes.{LeavesToLinks};
 ghost use Rattle.snl_item_check.specs.ItemFaults.{StandsIn, faults_in};
 ghost use Rattle.snl_item_check.specs.SeenNames.{Agree, SameTokens, target_names, used_names};

@@ -9,8 +9,8 @@ use Rattle.snl_lex.specs.declared.piece.Piece.{Piece}
 use Rattle.snl_lex.specs.PieceList.{spelled, spelling}
 use Rattle.snl_lex.specs.Pieces.{tokens_of}
 use Rattle.snl_items.specs.Items.{item_ends, spelled_items}
-use Rattle.snl_scope.specs.declared.summaries.summary.Outline.{Outline}
-use Rattle.snl_scope.specs.Summaries.{outline_in}
+use Rattle.snl_summary.specs.declared.summary.Outline.{Outline}
+use Rattle.snl_summary.specs.Summaries.{outline_in}
 use Rattle.snl_item_check.specs.Items.{outline_of_item}
 use Rattle.snl_kept.specs.Checks.{outlines_in}
 use Rattle.snl_kept.specs.Program.{item_tokens, items_of, program_item, tree_in}

@@ -18,13 +18,13 @@ use Rattle.snl_grammar.specs.declared.tree.item.Item.{Item}
 use Rattle.snl_items.specs.Changes.{LeavesAround, made_in}
 use Rattle.snl_items.specs.Items.{item_ends, spelled_items}
 use Rattle.snl_scope.specs.Names.{has_own_scope}
-use Rattle.snl_scope.specs.SpelledTokens.{bytes_by, summary_by}
-use Rattle.snl_scope.specs.Summaries.{kind_of, summary_in}
-use Rattle.snl_scope.specs.Summaries.Tokens.{token_bytes}
+use Rattle.snl_summary.specs.SpelledTokens.{bytes_by, summary_by}
+use Rattle.snl_summary.specs.Summaries.{kind_of, summary_in}
+use Rattle.snl_summary.specs.Summaries.Tokens.{token_bytes}
 use Rattle.snl_scope.specs.View.{view}
-use Rattle.snl_scope.specs.declared.summaries.summary.ItemKind.{ItemKind}
-use Rattle.snl_scope.specs.declared.summaries.summary.Outline.{Outline}
-use Rattle.snl_scope.specs.declared.summaries.summary.Summary.{Summary}
+use Rattle.snl_summary.specs.declared.summary.ItemKind.{ItemKind}
+use Rattle.snl_summary.specs.declared.summary.Outline.{Outline}
+use Rattle.snl_summary.specs.declared.summary.Summary.{Summary}
 use Rattle.snl_views.specs.SameView.{same_view}
 use Rattle.snl_tables.specs.declared.rows.Span.{Span}
 use Rattle.snl_tables.specs.Shifted.{shifted_span}

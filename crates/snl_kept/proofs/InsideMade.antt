@@ -15,13 +15,13 @@ use Rattle.snl_items.specs.Items.{item_ends, spelled_items}
 use Rattle.snl_grammar.specs.Outcome.{parsed_by, parsed_in, sound_tree}
 use Rattle.snl_grammar.specs.declared.tree.item.Item.{Item}
 use Rattle.snl_scope.specs.Places.{enclosing_set}
-use Rattle.snl_scope.specs.SpelledTokens.{bytes_by, summary_by}
+use Rattle.snl_summary.specs.SpelledTokens.{bytes_by, summary_by}
 use Rattle.snl_scope.specs.View.{view}
-use Rattle.snl_scope.specs.Summaries.{kind_of, summary_in}
-use Rattle.snl_scope.specs.Summaries.Tokens.{token_bytes}
-use Rattle.snl_scope.specs.declared.summaries.summary.ItemKind.{ItemKind}
-use Rattle.snl_scope.specs.declared.summaries.summary.Outline.{Outline}
-use Rattle.snl_scope.specs.declared.summaries.summary.Summary.{Summary}
+use Rattle.snl_summary.specs.Summaries.{kind_of, summary_in}
+use Rattle.snl_summary.specs.Summaries.Tokens.{token_bytes}
+use Rattle.snl_summary.specs.declared.summary.ItemKind.{ItemKind}
+use Rattle.snl_summary.specs.declared.summary.Outline.{Outline}
+use Rattle.snl_summary.specs.declared.summary.Summary.{Summary}
 use Rattle.snl_tables.specs.declared.rows.Tables.{Tables}
 use Rattle.snl_item_check.specs.declared.findings.Checked.{Checked}
 use Rattle.snl_item_check.specs.Items.{outlines_of, summary_of_item}

@@ -6,10 +6,10 @@ use Rattle.snl_grammar.specs.Outcome.{parsed_by, parsed_in, sound_tree}
 use Rattle.snl_grammar.specs.declared.tree.item.Item.{Item}
 use Rattle.snl_grammar.specs.declared.tree.item.Item.TheVariants as items
 use Rattle.snl_scope.specs.Order.{is_faulty}
-use Rattle.snl_scope.specs.SpelledTokens.{bytes_by, summary_by}
-use Rattle.snl_scope.specs.Summaries.{kind_of, kind_of_tree, summary_in}
-use Rattle.snl_scope.specs.Summaries.Tokens.{token_bytes}
-use Rattle.snl_scope.specs.declared.summaries.summary.Outline.{Outline}
+use Rattle.snl_summary.specs.SpelledTokens.{bytes_by, summary_by}
+use Rattle.snl_summary.specs.Summaries.{kind_of, kind_of_tree, summary_in}
+use Rattle.snl_summary.specs.Summaries.Tokens.{token_bytes}
+use Rattle.snl_summary.specs.declared.summary.Outline.{Outline}
 use Rattle.snl_item_check.specs.declared.findings.Checked.{Checked}
 use Rattle.snl_item_check.specs.Items.{summary_of_item}
 use Rattle.snl_item_check.specs.Told.{Told, told_in_item, told_kept, used_by, wakes_of}

@@ -8,7 +8,7 @@ use Rattle.snl_items.specs.declared.tokens.TokenEdit.{TokenEdit}
 use Rattle.snl_items.specs.Fresh.{fresh_items_of, token_edit_of}
 use Rattle.snl_lex.specs.Edit.{Edit}
 use Rattle.snl_items.specs.Items.{item_ends, spelled_items, spellings}
-use Rattle.snl_scope.specs.declared.summaries.summary.Outline.{Outline}
+use Rattle.snl_summary.specs.declared.summary.Outline.{Outline}
 use Rattle.snl_views.specs.SameView.{same_view}
 use Rattle.snl_item_check.specs.declared.findings.Checked.{Checked}
 use Rattle.snl_kept.specs.Checks.{check_by, checks_from, checks_of, outlines_in}

@@ -13,11 +13,11 @@ use Rattle.snl_scope.specs.Linked.{faults_of}
 use Rattle.snl_scope.specs.LinkedItems.{LinkedItems}
 use Rattle.snl_scope.specs.Order.{state_name}
 use Rattle.snl_scope.specs.Places.{enclosing_set}
-use Rattle.snl_scope.specs.SpelledTokens.{bytes_by, summary_by}
-use Rattle.snl_scope.specs.Summaries.{summary_in}
-use Rattle.snl_scope.specs.Summaries.Tokens.{token_bytes}
-use Rattle.snl_scope.specs.declared.summaries.summary.ItemKind.{ItemKind}
-use Rattle.snl_scope.specs.declared.summaries.summary.Outline.{Outline}
+use Rattle.snl_summary.specs.SpelledTokens.{bytes_by, summary_by}
+use Rattle.snl_summary.specs.Summaries.{summary_in}
+use Rattle.snl_summary.specs.Summaries.Tokens.{token_bytes}
+use Rattle.snl_summary.specs.declared.summary.ItemKind.{ItemKind}
+use Rattle.snl_summary.specs.declared.summary.Outline.{Outline}
 use Rattle.snl_walk.specs.declared.used.WakeUse.{WakeUse}
 use Rattle.snl_item_check.specs.declared.findings.Checked.{Checked}
 use Rattle.snl_check.specs.Conditions.{uses_in}

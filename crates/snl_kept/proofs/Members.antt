@@ -8,8 +8,8 @@ use Rattle.snl_lex.specs.declared.piece.Piece.{Piece}
 use Rattle.snl_lex.specs.PieceList.{spelled, spelling}
 use Rattle.snl_grammar.specs.Outcome.{parsed_by, parsed_in, sound_tree}
 use Rattle.snl_grammar.specs.declared.tree.item.Item.{Item}
-use Rattle.snl_scope.specs.SpelledTokens.{summary_by}
-use Rattle.snl_scope.specs.Summaries.{summary_in}
+use Rattle.snl_summary.specs.SpelledTokens.{summary_by}
+use Rattle.snl_summary.specs.Summaries.{summary_in}
 use Rattle.snl_kept.specs.declared.entries.Entry.{Entry}
 use Rattle.snl_items.specs.Items.{item_ends, spelled_items, spellings}
 use Rattle.snl_kept.specs.Entries.{entries_of, entry_by}

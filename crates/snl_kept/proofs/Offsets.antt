@@ -6,7 +6,7 @@ use Rattle.std.proofs.lemmas.List.Elements.{recursion_from_All}
 use Rattle.snl_lex.specs.declared.piece.Piece.{Piece}
 use Rattle.snl_lex.specs.Pieces.{LiesIn}
 use Rattle.snl_codes.specs.declared.code.Code.{Code}
-use Rattle.snl_scope.specs.Summaries.Tokens.{token_bytes, bytes_if}
+use Rattle.snl_summary.specs.Summaries.Tokens.{token_bytes, bytes_if}
 use Rattle.snl_item_check.specs.declared.findings.ItemFault.{ItemFault}
 use Rattle.snl_item_check.specs.ItemFaults.{StandsIn}
 use Rattle.snl_kept.specs.Checked.{HasOffset, at_own_token}

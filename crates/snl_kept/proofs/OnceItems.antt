@@ -16,11 +16,11 @@ use Rattle.snl_grammar.specs.Reading.Items.{item_of}
 use Rattle.snl_codes.specs.declared.code.Code.{Code}
 use Rattle.snl_codes.specs.declared.code.Code.TheVariants.{E01, E02, E07}
 use Rattle.snl_scope.specs.declared.facts.Fact.{Fact}
-use Rattle.snl_scope.specs.declared.summaries.summary.Outline.{Outline}
+use Rattle.snl_summary.specs.declared.summary.Outline.{Outline}
 use Rattle.snl_scope.specs.Names.{has_own_scope}
-use Rattle.snl_scope.specs.Once.{declared_tokens}
-use Rattle.snl_scope.specs.Summaries.{outline_in}
-use Rattle.snl_scope.specs.Summaries.Tokens.{token_bytes, bytes_if}
+use Rattle.snl_summary.specs.RisingTokens.{declared_tokens}
+use Rattle.snl_summary.specs.Summaries.{outline_in}
+use Rattle.snl_summary.specs.Summaries.Tokens.{token_bytes, bytes_if}
 use Rattle.snl_item_check.specs.declared.findings.ItemFault.{ItemFault}
 use Rattle.snl_codes.specs.Codes.{finder_of, is_item_code}
 use Rattle.snl_item_check.specs.FaultCodes.{LeavesToLinks}

@@ -14,13 +14,14 @@ use Rattle.snl_grammar.specs.Reading.Items.{item_of}
 use Rattle.snl_codes.specs.declared.code.Code.{Code}
 use Rattle.snl_codes.specs.declared.code.Code.TheVariants.{E05, E06, E07}
 use Rattle.snl_scope.specs.declared.facts.LinkFault.{LinkFault}
-use Rattle.snl_scope.specs.declared.summaries.summary.Outline.{Outline}
+use Rattle.snl_summary.specs.declared.summary.Outline.{Outline}
 use Rattle.snl_scope.specs.FaultPlaces.{IsAtItem, IsMissing, IsPlaced, IsPlacedBy, SpeaksOfTokens}
 use Rattle.snl_scope.specs.Linked as links
 use Rattle.snl_scope.specs.LinkedItems.{LinkedItems}
 use Rattle.snl_scope.specs.Names.{has_own_scope}
-use Rattle.snl_scope.specs.Once.{AreFoundOnce, declared_tokens}
-use Rattle.snl_scope.specs.Summaries.{outline_in}
+use Rattle.snl_scope.specs.Once.{AreFoundOnce}
+use Rattle.snl_summary.specs.RisingTokens.{declared_tokens}
+use Rattle.snl_summary.specs.Summaries.{outline_in}
 use Rattle.snl_codes.specs.Codes.{is_item_code, is_link_code}
 use Rattle.snl_item_check.specs.Items.{outline_of_item, tokens_in}
 use Rattle.snl_kept.specs.declared.found.findings.Finding.{Finding}

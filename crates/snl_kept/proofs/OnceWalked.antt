@@ -7,11 +7,11 @@ use Rattle.snl_scope.specs.BelowLaws.{each_passing, two_below}
 use Rattle.snl_lex.specs.declared.piece.Piece.{Piece}
 use Rattle.snl_lex.specs.Pieces.{LiesIn}
 use Rattle.snl_codes.specs.declared.code.Code.TheVariants.{W02}
-use Rattle.snl_scope.specs.declared.summaries.summary.Outline.{Outline}
+use Rattle.snl_summary.specs.declared.summary.Outline.{Outline}
 use Rattle.snl_scope.specs.Below.{all_below}
 use Rattle.snl_scope.specs.Order.{is_named_state, is_state_word, state_name}
 use Rattle.snl_scope.specs.Places.{is_set_begin, enclosing_set, stands_in}
-use Rattle.snl_scope.specs.Summaries.{second_in}
+use Rattle.snl_summary.specs.Summaries.{second_in}
 use Rattle.snl_tables.specs.declared.rows.StateRow.{StateRow}
 use Rattle.snl_item_check.specs.Items.{outline_of_item}
 use Rattle.snl_check.specs.ItemSpans.{item_name, span_of}

@@ -12,10 +12,10 @@ use Rattle.snl_grammar.specs.declared.tree.item.Item.{Item}
 use Rattle.snl_grammar.specs.declared.tree.item.Item.TheVariants as items
 use Rattle.snl_grammar.specs.Outcome.{parsed_by, parsed_in}
 use Rattle.snl_scope.specs.declared.facts.LinkFault.{LinkFault}
-use Rattle.snl_scope.specs.declared.summaries.summary.Outline.{Outline}
+use Rattle.snl_summary.specs.declared.summary.Outline.{Outline}
 use Rattle.snl_scope.specs.Linked as links
-use Rattle.snl_scope.specs.Summaries.{kind_of}
-use Rattle.snl_scope.specs.Summaries.Tokens.{token_bytes}
+use Rattle.snl_summary.specs.Summaries.{kind_of}
+use Rattle.snl_summary.specs.Summaries.Tokens.{token_bytes}
 use Rattle.snl_check.specs.Shifted.{shifted_item, shifted_tokens}
 use Rattle.snl_check.specs.ShiftedAround.{is_plain}
 use Rattle.snl_kept.specs.declared.found.findings.Finding.{Finding}

@@ -5,8 +5,8 @@ use Rattle.snl_lex.specs.declared.piece.Piece.{Piece}
 use Rattle.snl_lex.specs.PieceList.{spelled}
 use Rattle.snl_grammar.specs.Outcome.{parsed_by, parsed_in, sound_tree}
 use Rattle.snl_grammar.specs.declared.tree.item.Item.{Item}
-use Rattle.snl_scope.specs.SpelledTokens.{summary_by}
-use Rattle.snl_scope.specs.Summaries.{summary_in}
+use Rattle.snl_summary.specs.SpelledTokens.{summary_by}
+use Rattle.snl_summary.specs.Summaries.{summary_in}
 use Rattle.snl_kept.specs.declared.found.program.Part.{Part}
 use Rattle.snl_kept.specs.Entries.{entry_by}
 use Rattle.snl_kept.specs.Parts.{IsPart, item_of_part, tokens_of_part}

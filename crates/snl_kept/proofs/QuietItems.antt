@@ -18,8 +18,8 @@ use Rattle.snl_items.specs.Changes.{made_in}
 use Rattle.snl_items.specs.Items.{item_ends, spelled_items, spellings}
 use Rattle.snl_scope.specs.Below.{all_below}
 use Rattle.snl_scope.specs.Places.{is_set_begin}
-use Rattle.snl_scope.specs.Summaries.Tokens.{token_bytes}
-use Rattle.snl_scope.specs.declared.summaries.summary.Outline.{Outline}
+use Rattle.snl_summary.specs.Summaries.Tokens.{token_bytes}
+use Rattle.snl_summary.specs.declared.summary.Outline.{Outline}
 use Rattle.snl_item_check.specs.Items.{outline_of_item, outlines_of}
 use Rattle.snl_check.specs.Quiet.{HasSameLine, IsQuietAfter, after_quiet, are_quiet, quiet_along, sets_before}
 use Rattle.snl_check.specs.States.{set_row}

@@ -5,8 +5,8 @@ use Rattle.std.specs.Option.{IsSome}
 use Rattle.snl_lex.specs.declared.piece.Class.{Class}
 use Rattle.snl_grammar.specs.Outcome.{parsed_by, sound_tree}
 use Rattle.snl_grammar.specs.declared.tree.item.Item.{Item}
-use Rattle.snl_scope.specs.SpelledTokens.{bytes_by}
-use Rattle.snl_scope.specs.declared.summaries.summary.Outline.{Outline}
+use Rattle.snl_summary.specs.SpelledTokens.{bytes_by}
+use Rattle.snl_summary.specs.declared.summary.Outline.{Outline}
 use Rattle.snl_views.specs.SameView.{same_view}
 use Rattle.snl_item_check.specs.declared.findings.Checked.{Checked}
 use Rattle.snl_kept.specs.declared.ways.whole.recheck.KeptItems.{KeptItems}

@@ -14,13 +14,13 @@ use Rattle.snl_items.specs.Items.{spelled_items}
 use Rattle.snl_scope.specs.declared.renamed.Renaming.{Renaming}
 use Rattle.snl_scope.specs.declared.renamed.Renaming.TheVariants as renamings
 use Rattle.snl_scope.specs.Renamed.{AreNames, ClausesAlike, DeclaresAnew, IsRenamed, MeanAlike, NamesAnew, state_names}
-use Rattle.snl_scope.specs.SpelledTokens.{bytes_by, summary_by}
+use Rattle.snl_summary.specs.SpelledTokens.{bytes_by, summary_by}
 use Rattle.snl_scope.specs.Spoken.{AreEditedNames, KeepsViews, KeepsViewsBut, is_among, meets, spoken_by, touches}
-use Rattle.snl_scope.specs.Summaries.{summary_in}
-use Rattle.snl_scope.specs.Summaries.Tokens.{token_bytes}
-use Rattle.snl_scope.specs.declared.summaries.summary.NameRef.{NameRef}
-use Rattle.snl_scope.specs.declared.summaries.summary.Outline.{Outline}
-use Rattle.snl_scope.specs.declared.summaries.summary.Summary.{Summary}
+use Rattle.snl_summary.specs.Summaries.{summary_in}
+use Rattle.snl_summary.specs.Summaries.Tokens.{token_bytes}
+use Rattle.snl_summary.specs.declared.summary.NameRef.{NameRef}
+use Rattle.snl_summary.specs.declared.summary.Outline.{Outline}
+use Rattle.snl_summary.specs.declared.summary.Summary.{Summary}
 use Rattle.snl_item_check.specs.Items.{summary_of_item}
 use Rattle.snl_check.specs.Tables.{tables_by}
 use Rattle.snl_kept.specs.declared.entries.Entry.{Entry}

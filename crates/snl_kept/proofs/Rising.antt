@@ -6,8 +6,8 @@ use Rattle.snl_lex.specs.declared.piece.Piece.{Piece}
 use Rattle.snl_grammar.specs.declared.tree.item.Item.{Item}
 use Rattle.snl_grammar.specs.Parsing.{is_bad, kinds_in}
 use Rattle.snl_grammar.specs.Reading.Items.{item_of}
-use Rattle.snl_scope.specs.Once.{TokensRise}
-use Rattle.snl_scope.specs.Summaries.{outline_in}
+use Rattle.snl_summary.specs.RisingTokens.{TokensRise}
+use Rattle.snl_summary.specs.Summaries.{outline_in}
 use Rattle.snl_item_check.specs.Items.{outline_of_item}
 use Rattle.snl_kept.specs.Program.{program_item}
 

@@ -15,8 +15,8 @@ use Rattle.snl_grammar.specs.declared.outcome.Parsed.TheVariants as parsed
 use Rattle.snl_grammar.specs.declared.tree.item.Item.{Item}
 use Rattle.snl_codes.specs.declared.code.Code.{Code}
 use Rattle.snl_scope.specs.declared.facts.LinkFault.{LinkFault}
-use Rattle.snl_scope.specs.Summaries.Tokens.{token_bytes, bytes_if}
-use Rattle.snl_scope.specs.declared.summaries.summary.Outline.{Outline}
+use Rattle.snl_summary.specs.Summaries.Tokens.{token_bytes, bytes_if}
+use Rattle.snl_summary.specs.declared.summary.Outline.{Outline}
 use Rattle.snl_tables.specs.declared.rows.SetRow.{SetRow}
 use Rattle.snl_tables.specs.declared.rows.StateRow.{StateRow}
 use Rattle.snl_tables.specs.declared.rows.Tables.{Tables}

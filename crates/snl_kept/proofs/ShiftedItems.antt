@@ -15,12 +15,12 @@ use Rattle.snl_grammar.specs.Outcome.{parsed_by, parsed_in, sound_tree}
 use Rattle.snl_grammar.specs.declared.tree.item.Item.{Item}
 use Rattle.snl_items.specs.Changes.{AreLeft}
 use Rattle.snl_items.specs.Items.{item_ends, spelled_items, spellings}
-use Rattle.snl_scope.specs.Summaries.{kind_of, summary_in}
-use Rattle.snl_scope.specs.SpelledTokens.{summary_by}
+use Rattle.snl_summary.specs.Summaries.{kind_of, summary_in}
+use Rattle.snl_summary.specs.SpelledTokens.{summary_by}
 use Rattle.snl_scope.specs.LinkedItems.{LinkedItems}
-use Rattle.snl_scope.specs.declared.summaries.summary.ItemKind.{ItemKind}
-use Rattle.snl_scope.specs.declared.summaries.summary.Outline.{Outline}
-use Rattle.snl_scope.specs.declared.summaries.summary.Summary.{Summary}
+use Rattle.snl_summary.specs.declared.summary.ItemKind.{ItemKind}
+use Rattle.snl_summary.specs.declared.summary.Outline.{Outline}
+use Rattle.snl_summary.specs.declared.summary.Summary.{Summary}
 use Rattle.snl_check.specs.Shifted.{shifted_item, shifted_tokens}
 use Rattle.snl_kept.specs.Linked.{linked_of, outlines_of}
 use Rattle.snl_kept.specs.Program.{ProgramItem, item_tokens, items_of, program_item, tree_in}

@@ -22,12 +22,12 @@ use Rattle.snl_items.specs.Items.{item_ends, spelled_items}
 use Rattle.snl_codes.specs.Codes.{is_error}
 use Rattle.snl_scope.specs.Linked as links
 use Rattle.snl_scope.specs.LinkedItems.{LinkedItems}
-use Rattle.snl_scope.specs.SpelledTokens.{summary_by}
-use Rattle.snl_scope.specs.Summaries.{summary_in}
-use Rattle.snl_scope.specs.Summaries.Tokens.{token_bytes}
+use Rattle.snl_summary.specs.SpelledTokens.{summary_by}
+use Rattle.snl_summary.specs.Summaries.{summary_in}
+use Rattle.snl_summary.specs.Summaries.Tokens.{token_bytes}
 use Rattle.snl_scope.specs.View.{view}
-use Rattle.snl_scope.specs.declared.summaries.summary.Outline.{Outline}
-use Rattle.snl_scope.specs.declared.summaries.summary.Summary.{Summary}
+use Rattle.snl_summary.specs.declared.summary.Outline.{Outline}
+use Rattle.snl_summary.specs.declared.summary.Summary.{Summary}
 use Rattle.snl_views.specs.SameView.{same_view}
 use Rattle.snl_tables.specs.Moved.{moved_tables}
 use Rattle.snl_check.specs.Moved.{KeepsItems}

@@ -3,7 +3,7 @@ use Rattle.std.proofs.Common.{◌≡◌, true, false, Option, None, Some, is_som
 use Rattle.snl_grammar.specs.declared.tree.item.Item.{Item}
 use Rattle.snl_grammar.specs.declared.tree.item.Item.TheVariants as items
 use Rattle.snl_scope.specs.Order.{is_faulty}
-use Rattle.snl_scope.specs.Summaries.{kind_of, kind_of_tree}
+use Rattle.snl_summary.specs.Summaries.{kind_of, kind_of_tree}
 
 never_faulty : (t : Item) → is_faulty (kind_of_tree t) ≡ false
 never_faulty (items.Header name parameters) = refl

@@ -11,9 +11,9 @@ use Rattle.snl_lex.specs.Pieces.{tokens_of}
 use Rattle.snl_grammar.specs.Outcome.{parsed_by, parsed_in, sound_tree}
 use Rattle.snl_grammar.specs.declared.tree.item.Item.{Item}
 use Rattle.snl_items.specs.Items.{item_ends, spelled_items, spellings}
-use Rattle.snl_scope.specs.SpelledTokens.{bytes_by}
-use Rattle.snl_scope.specs.declared.summaries.summary.Outline.{Outline}
-use Rattle.snl_scope.specs.Summaries.Tokens.{token_bytes}
+use Rattle.snl_summary.specs.SpelledTokens.{bytes_by}
+use Rattle.snl_summary.specs.declared.summary.Outline.{Outline}
+use Rattle.snl_summary.specs.Summaries.Tokens.{token_bytes}
 use Rattle.snl_item_check.specs.declared.findings.Checked.{Checked}
 use Rattle.snl_kept.specs.declared.found.program.Part.{Part}
 use Rattle.snl_kept.specs.Checks.{check_by, check_of_item, checked_by, checks_from, checks_of, checks_over, outlines_in}

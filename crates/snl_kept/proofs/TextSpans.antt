@@ -8,7 +8,7 @@ use Rattle.snl_lex.specs.Pieces.{LiesIn, is_token, pieces_of, tokens_of}
 use Rattle.snl_grammar.specs.declared.tree.item.Item.{Item}
 use Rattle.snl_grammar.specs.Parsing.{kinds_in}
 use Rattle.snl_grammar.specs.Reading.Items.{item_of}
-use Rattle.snl_scope.specs.Summaries.Tokens.{IsSource}
+use Rattle.snl_summary.specs.Summaries.Tokens.{IsSource}
 use Rattle.snl_item_check.specs.Items as items
 use Rattle.snl_check.specs.Spans.{AreRead}
 use Rattle.snl_items.specs.Items.{item_ends}

@@ -7,9 +7,9 @@ use Rattle.snl_grammar.specs.Outcome.{parsed_by, sound_tree}
 use Rattle.snl_grammar.specs.declared.tree.item.Item.{Item}
 use Rattle.snl_items.specs.Items.{spelled_items}
 use Rattle.snl_scope.specs.LinkedItems.{LinkedItems}
-use Rattle.snl_scope.specs.SpelledTokens.{bytes_by}
-use Rattle.snl_scope.specs.declared.summaries.summary.Outline.{Outline}
-use Rattle.snl_scope.specs.Summaries.Tokens.{token_bytes}
+use Rattle.snl_summary.specs.SpelledTokens.{bytes_by}
+use Rattle.snl_summary.specs.declared.summary.Outline.{Outline}
+use Rattle.snl_summary.specs.Summaries.Tokens.{token_bytes}
 use Rattle.snl_item_check.specs.declared.findings.Checked.{Checked}
 use Rattle.snl_item_check.specs.ItemFaults.{faults_in}
 use Rattle.snl_item_check.specs.View.{is_in_set, known_of, leads_to}

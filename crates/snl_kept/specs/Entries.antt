@@ -5,7 +5,7 @@ use Rattle.snl_lex.specs.declared.piece.Class.{Class}
 use Rattle.snl_items.specs.Items.{spelled_items}
 use Rattle.snl_lex.specs.PieceList.{spelled}
 use Rattle.snl_lex.specs.Pieces.{LiesIn}
-use Rattle.snl_scope.specs.SpelledTokens.{summary_by}
+use Rattle.snl_summary.specs.SpelledTokens.{summary_by}
 use Rattle.snl_grammar.specs.Outcome.{parsed_by, sound_tree}
 use Rattle.snl_kept.specs.declared.entries.CommonEntry.{CommonEntry}
 use Rattle.snl_kept.specs.declared.entries.Entry.{Entry}

@@ -10,9 +10,9 @@ use Rattle.snl_grammar.specs.Outcome.{sound_tree}
 use Rattle.snl_scope.specs.Linked.{faults_of}
 use Rattle.snl_scope.specs.Order.{state_name}
 use Rattle.snl_scope.specs.Places.{enclosing_set}
-use Rattle.snl_scope.specs.Summaries.Tokens.{token_bytes}
-use Rattle.snl_scope.specs.declared.summaries.summary.ItemKind.{ItemKind}
-use Rattle.snl_scope.specs.declared.summaries.summary.Outline.{Outline}
+use Rattle.snl_summary.specs.Summaries.Tokens.{token_bytes}
+use Rattle.snl_summary.specs.declared.summary.ItemKind.{ItemKind}
+use Rattle.snl_summary.specs.declared.summary.Outline.{Outline}
 use Rattle.snl_tables.specs.declared.rows.Tables.{Tables}
 use Rattle.snl_tables.specs.Moved.{moved_tables}
 use Rattle.snl_item_check.specs.declared.findings.Checked.{Checked}

@@ -1,7 +1,7 @@
 -- An edit that makes one item in the place of one: what is known of it, and its parts by their
 -- names.
 use Rattle.std.specs.Prelude.{ℕ, List}
-use Rattle.snl_scope.specs.declared.summaries.summary.Outline.{Outline}
+use Rattle.snl_summary.specs.declared.summary.Outline.{Outline}
 use Rattle.snl_kept.specs.declared.ways.one_item.replaced.OneItem.{OneItem}
 use Rattle.snl_lex.specs.Edit.{Edit}
 use Rattle.snl_kept.specs.Editing.{IsShiftIn, IsUnderWay, MakesOneItem, ShiftsLinesIn, edit_in, items_in, old_in, text_in}

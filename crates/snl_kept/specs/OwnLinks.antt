@@ -1,7 +1,7 @@
 -- What an edit inside one item makes of the links: names mean what they meant, and they find what
 -- they found.
 use Rattle.std.specs.Prelude.{◌≡◌, ℕ, ◌+◌, ◌∷◌, ◌++◌, take, drop}
-use Rattle.snl_scope.specs.declared.summaries.summary.ItemKind.{ItemKind}
+use Rattle.snl_summary.specs.declared.summary.ItemKind.{ItemKind}
 use Rattle.snl_scope.specs.Linked.{faults_of}
 use Rattle.snl_scope.specs.LinkedItems.{LinkedItems}
 use Rattle.snl_kept.specs.declared.plan.NewLinks.{NewLinks}

@@ -13,7 +13,7 @@ use Rattle.snl_lex.specs.Shift.{shifted_piece}
 use Rattle.snl_items.specs.Changes.{IsShiftOf}
 use Rattle.snl_items.specs.Items.{item_ends}
 use Rattle.snl_scope.specs.declared.facts.LinkFault.{LinkFault}
-use Rattle.snl_scope.specs.declared.summaries.summary.Outline.{Outline}
+use Rattle.snl_summary.specs.declared.summary.Outline.{Outline}
 use Rattle.snl_scope.specs.Clauses.{is_event_flag}
 use Rattle.snl_scope.specs.Names.{has_own_scope}
 use Rattle.snl_scope.specs.Places.{enclosing_set}

@@ -1,7 +1,7 @@
 -- The items of a state set, as the marks of its states go by them.
 use Rattle.std.specs.Prelude.{◌≡◌, ℕ, List, map}
 use Rattle.std.specs.List.{AllByRecursion}
-use Rattle.snl_scope.specs.declared.summaries.summary.Outline.{Outline}
+use Rattle.snl_summary.specs.declared.summary.Outline.{Outline}
 use Rattle.snl_scope.specs.Below.{all_below}
 use Rattle.snl_scope.specs.Places.{stands_in}
 use Rattle.snl_check.specs.declared.reachability.marks.SetMember.{SetMember}

@@ -10,8 +10,8 @@ use Rattle.snl_walk.specs.declared.occurrence.Occurrence.{Occurrence}
 use Rattle.snl_walk.specs.declared.occurrence.What.{What}
 use Rattle.snl_walk.specs.declared.occurrence.What.TheVariants as what
 use Rattle.snl_walk.specs.Tokens.{bytes_if, token_bytes}
-use Rattle.snl_scope.specs.declared.summaries.summary.Outline.{Outline}
-use Rattle.snl_scope.specs.Summaries.{occurrences_in, outline_in}
+use Rattle.snl_summary.specs.declared.summary.Outline.{Outline}
+use Rattle.snl_summary.specs.Summaries.{occurrences_in, outline_in}
 use Rattle.snl_tables.specs.declared.rows.Span.{Span}
 use Rattle.snl_kept.specs.Checks.{outlines_in}
 use Rattle.snl_kept.specs.Program.{item_tokens, tree_in}

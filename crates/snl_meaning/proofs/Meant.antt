@@ -9,10 +9,10 @@ use Rattle.snl_lex.specs.PieceList.{spelled}
 use Rattle.snl_lex.specs.Pieces.{LiesIn, is_token, pieces_of, tokens_of}
 use Rattle.snl_grammar.specs.Outcome.{parsed_by, parsed_in, sound_tree}
 use Rattle.snl_grammar.specs.declared.tree.item.Item.{Item}
-use Rattle.snl_scope.specs.declared.summaries.summary.Outline.{Outline}
-use Rattle.snl_scope.specs.declared.summaries.summary.Summary.{Summary}
-use Rattle.snl_scope.specs.SpelledTokens.{summary_by}
-use Rattle.snl_scope.specs.Summaries.{outline_in, summary_in}
+use Rattle.snl_summary.specs.declared.summary.Outline.{Outline}
+use Rattle.snl_summary.specs.declared.summary.Summary.{Summary}
+use Rattle.snl_summary.specs.SpelledTokens.{summary_by}
+use Rattle.snl_summary.specs.Summaries.{outline_in, summary_in}
 use Rattle.snl_walk.specs.Tokens.{token_bytes}
 use Rattle.snl_items.specs.Items.{item_ends, spelled_items}
 use Rattle.snl_kept.specs.declared.entries.Entry.{Entry}

@@ -24,16 +24,16 @@ use Rattle.snl_walk.specs.Tokens.{bytes_if, bytes_of, token_bytes}
 use Rattle.snl_scope.specs.declared.facts.Scope.{Scope}
 use Rattle.snl_scope.specs.declared.names.namespaces.Namespace.{Namespace}
 use Rattle.snl_scope.specs.declared.names.namespaces.Namespace.TheVariants as namespace
-use Rattle.snl_scope.specs.declared.summaries.summary.Declared.{Declared}
-use Rattle.snl_scope.specs.declared.summaries.summary.Outline.{Outline}
-use Rattle.snl_scope.specs.declared.summaries.summary.Variable.{Variable}
+use Rattle.snl_summary.specs.declared.summary.Declared.{Declared}
+use Rattle.snl_summary.specs.declared.summary.Outline.{Outline}
+use Rattle.snl_summary.specs.declared.summary.Variable.{Variable}
 use Rattle.snl_scope.specs.Clauses.{resolve_in}
 use Rattle.snl_scope.specs.Linked.{declaration_at, entry_declaration, scope_in, state_in, variable_declaration}
 use Rattle.snl_scope.specs.Names.{Entry, declared_entry, entries, entries_before, entries_of, has_name, has_own_scope, named_entry, number_in, resolve, same_namespace, scope_at, scope_of, set_entries, set_name, state_entries}
 use Rattle.snl_scope.specs.Order.{is_state_word, state_name}
 use Rattle.snl_scope.specs.Places.{begins_set, enclosing_set}
-use Rattle.snl_scope.specs.Summaries.{name_by, name_if, second_in}
-use Rattle.snl_scope.specs.Summaries.Declares.{declared_at, declared_by_declaration, declared_by_declarator, declared_by_member, declared_if_body, declared_in, declared_in_tree, foreign_name, function_name, symbol_kind_of}
+use Rattle.snl_summary.specs.Summaries.{name_by, name_if, second_in}
+use Rattle.snl_summary.specs.Summaries.Declares.{declared_at, declared_by_declaration, declared_by_declarator, declared_by_member, declared_if_body, declared_in, declared_in_tree, foreign_name, function_name, symbol_kind_of}
 use Rattle.snl_kept.specs.Checks.{outlines_in}
 use Rattle.snl_kept.specs.Program.{item_tokens, tree_in}
 use Rattle.snl_item_tokens.specs.ItemTokensLaws.{outline_at, outline_by}

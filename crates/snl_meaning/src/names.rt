@@ -3,7 +3,7 @@
 //! number of the declaration at a place.
 
 ghost use Rattle.std.specs.Prelude.{◌≡◌, IfOk, option_copied};
-ghost use Rattle.snl_scope.specs.Summaries.{occurrences_in};
+ghost use Rattle.snl_summary.specs.Summaries.{occurrences_in};
 ghost use Rattle.snl_walk.specs.Tokens.{IsSource, bytes_in};
 ghost use Rattle.snl_meaning.specs.Meanings.{clause_names, clauses_name, declaration_named};
 ghost use Rattle.snl_meaning.specs.Meanings.{declares_at, is_flag_at, is_name_of, meant_as_own_name};

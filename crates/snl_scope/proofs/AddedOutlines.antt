@@ -9,9 +9,9 @@ use Rattle.snl_facts.specs.Each.{each_append}
 use Rattle.snl_scope.specs.declared.outlines.flat.FlatClause.{FlatClause}
 use Rattle.snl_scope.specs.declared.outlines.flat.FlatDeclared.{FlatDeclared}
 use Rattle.snl_scope.specs.declared.outlines.flat.FlatOutline.{FlatOutline}
-use Rattle.snl_scope.specs.declared.summaries.summary.Declared.{Declared}
-use Rattle.snl_scope.specs.declared.summaries.summary.Outline.{Outline}
-use Rattle.snl_scope.specs.declared.summaries.summary.VariableClause.{VariableClause}
+use Rattle.snl_summary.specs.declared.summary.Declared.{Declared}
+use Rattle.snl_summary.specs.declared.summary.Outline.{Outline}
+use Rattle.snl_summary.specs.declared.summary.VariableClause.{VariableClause}
 use Rattle.snl_names.specs.NameBook.{with_name}
 use Rattle.snl_scope.specs.Names.{state_entries}
 use Rattle.snl_scope.specs.OutlineList.{Adds, AddsClauses, AddsDeclared, Extends, IsClauseNumbered, clause_by, declared_by, name_at, outline_by}

@@ -4,7 +4,7 @@ use Rattle.std.proofs.Common.{◌≡◌, ℕ, Bool, ◌&&◌, List, [], Option, 
 use Rattle.std.specs.List.{list_any, position, zip}
 use Rattle.snl_facts.specs.Positions.{position_map}
 use Rattle.snl_scope.specs.declared.facts.ClauseLink.{ClauseLink}
-use Rattle.snl_scope.specs.declared.summaries.summary.Outline.{Outline}
+use Rattle.snl_summary.specs.declared.summary.Outline.{Outline}
 use Rattle.snl_scope.specs.Channels.{is_monitor, is_monitored, is_sync, speaks_of, speaks_on, sync_number}
 use Rattle.snl_scope.specs.Clauses.{LinkedClause, clause_link, clause_links, clauses_of, same_number, soundness}
 use Rattle.snl_scope.specs.Flags.{flags_of}

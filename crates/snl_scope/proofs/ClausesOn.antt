@@ -6,7 +6,7 @@ use Rattle.std.proofs.lemmas.List.Folds.{list_any-append}
 use Rattle.snl_scope.specs.declared.outlines.flat.FlatClause.{FlatClause}
 use Rattle.snl_scope.specs.declared.outlines.flat.FlatDeclared.{FlatDeclared}
 use Rattle.snl_scope.specs.declared.outlines.flat.FlatOutline.{FlatOutline}
-use Rattle.snl_scope.specs.declared.summaries.summary.VariableClause.{VariableClause}
+use Rattle.snl_summary.specs.declared.summary.VariableClause.{VariableClause}
 use Rattle.snl_scope.specs.OutlineList.{clause_by, clauses_in, outlines_by}
 
 any_mapped : {X Y : Type 0} (p : Y → Bool) (f : X → Y) (xs : List X) → list_any p (map f xs) ≡ list_any (λ x. p (f x)) xs

@@ -12,9 +12,9 @@ use Rattle.snl_codes.specs.declared.code.Code.TheVariants.{E03, E04, E05, E06, E
 use Rattle.snl_scope.specs.declared.facts.LinkFault.{LinkFault}
 use Rattle.snl_scope.specs.declared.names.namespaces.Namespace.{Namespace}
 use Rattle.snl_scope.specs.declared.names.namespaces.Namespace.TheVariants as namespace
-use Rattle.snl_scope.specs.declared.summaries.summary.NameRef.{NameRef}
-use Rattle.snl_scope.specs.declared.summaries.summary.Outline.{Outline}
-use Rattle.snl_scope.specs.declared.summaries.summary.VariableClause.{VariableClause}
+use Rattle.snl_summary.specs.declared.summary.NameRef.{NameRef}
+use Rattle.snl_summary.specs.declared.summary.Outline.{Outline}
+use Rattle.snl_summary.specs.declared.summary.VariableClause.{VariableClause}
 use Rattle.snl_scope.specs.Below.{all_below, any_below}
 use Rattle.snl_scope.specs.Clauses.{LinkedClause, clause_faults, clauses_before, clauses_of, linked_clause}
 use Rattle.snl_codes.specs.Codes.{is_link_code}
@@ -22,7 +22,7 @@ use Rattle.snl_scope.specs.FaultPlaces.{DeclaresOutside, IsPlaced, IsPlacedBy, N
 use Rattle.snl_scope.specs.Linked.{faults_of}
 use Rattle.snl_scope.specs.LinkedItems.{LinkedItems}
 use Rattle.snl_scope.specs.Names.{Entry, declared_entry, entries, entries_before, entries_of, has_own_scope, name_faults, named_entry, repetitions, scope_at, scope_code, scope_of, set_entries, set_name, state_entries, told_by}
-use Rattle.snl_scope.specs.Once.{declared_tokens}
+use Rattle.snl_summary.specs.RisingTokens.{declared_tokens}
 use Rattle.snl_scope.specs.Order.{at_item, at_items_where, found_if, header_faults, if_missing, is_misplaced, is_program_item, is_program_word, is_repeated_header, is_ss_item, is_ss_word, is_state_word, is_stateless, is_unmatched, misplaced_items, missing_states, order_faults, state_name, unmatched_braces}
 use Rattle.snl_scope.specs.Places.{begins_set, is_set_begin, item_is, enclosing_set}
 use Rattle.snl_scope.proofs.Families.{rank}

@@ -8,10 +8,10 @@ use Rattle.std.proofs.lemmas.Option.{option_and_then_some, slice_get_within}
 use Rattle.snl_facts.specs.Lists.{put_back}
 use Rattle.snl_scope.specs.declared.renamed.Renaming.{Renaming}
 use Rattle.snl_scope.specs.declared.renamed.Renaming.TheVariants as renaming
-use Rattle.snl_scope.specs.declared.summaries.summary.ItemKind.{ItemKind}
-use Rattle.snl_scope.specs.declared.summaries.summary.Opening.{Opening}
-use Rattle.snl_scope.specs.declared.summaries.summary.Opening.TheVariants as opening
-use Rattle.snl_scope.specs.declared.summaries.summary.Outline.{Outline}
+use Rattle.snl_summary.specs.declared.summary.ItemKind.{ItemKind}
+use Rattle.snl_summary.specs.declared.summary.Opening.{Opening}
+use Rattle.snl_summary.specs.declared.summary.Opening.TheVariants as opening
+use Rattle.snl_summary.specs.declared.summary.Outline.{Outline}
 use Rattle.snl_scope.specs.Clauses.{LinkedClause, clause_link}
 use Rattle.snl_scope.specs.Flags.{flags_of}
 use Rattle.snl_scope.specs.Linked.{state_of}

@@ -8,7 +8,7 @@ use Rattle.snl_scope.specs.declared.outlines.flat.FlatClause.{FlatClause}
 use Rattle.snl_scope.specs.declared.outlines.flat.FlatDeclared.{FlatDeclared}
 use Rattle.snl_scope.specs.declared.outlines.flat.FlatOutline.{FlatOutline}
 use Rattle.snl_scope.specs.declared.outlines.making.Making.{Making}
-use Rattle.snl_scope.specs.declared.summaries.summary.Outline.{Outline}
+use Rattle.snl_summary.specs.declared.summary.Outline.{Outline}
 use Rattle.snl_scope.specs.OutlineList.{AreFlat, Extends, IsClauseNumbered, Tells, clauses_in, declares_in, outlines_by, total}
 use Rattle.snl_scope.proofs.OutlineLists.{back_counts, front_counts, joined_counts, numbered_stays, outlines_append, outlines_length, outlines_same}
 

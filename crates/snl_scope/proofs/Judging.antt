@@ -5,7 +5,7 @@ use Rattle.std.specs.List.{zip}
 use Rattle.snl_codes.specs.declared.code.Code.{Code}
 use Rattle.snl_codes.specs.declared.code.Code.TheVariants.{E13, E15, E16}
 use Rattle.snl_scope.specs.declared.facts.ClauseLink.{ClauseLink}
-use Rattle.snl_scope.specs.declared.summaries.summary.Variable.{Variable}
+use Rattle.snl_summary.specs.declared.summary.Variable.{Variable}
 use Rattle.snl_scope.specs.Claims.{sound_among}
 use Rattle.snl_scope.specs.Clauses.{LinkedClause, clause_link, found_after, found_at, is_assign, is_assignable, is_sound, misfits, repetition_code, sound_after, soundness_after, with_clause}
 use Rattle.snl_scope.specs.Names.{Entry}

@@ -16,16 +16,11 @@ pub mod AddedOutlines
 pub mod Entries
 pub mod Pairs
 pub mod Resolving
-pub mod Leaves
-pub mod Mentioned
-pub mod SomeTokens
-pub mod NamedTokens
 pub mod Families
 pub mod OnceOrder
 pub mod OnceNames
 pub mod OnceClauses
 pub mod Once
-pub mod Firsts
 pub mod Assigning
 pub mod FirstClaims
 pub mod ClaimPlaces
@@ -34,8 +29,6 @@ pub mod SpokenChannels
 pub mod Judging
 pub mod FirstNamed
 pub mod Untouched
-pub mod AlikeTokens
-pub mod SpelledAlike
 pub mod FaultPlaces
 pub mod SsWords
 pub mod SpokenTokens

@@ -6,7 +6,7 @@ use Rattle.std.proofs.lemmas.Option.{slice_get-get_or}
 use Rattle.std.proofs.lemmas.Bool.Decides.{Decides-eqb}
 use Rattle.snl_scope.specs.declared.items.heads.Head.{Head}
 use Rattle.snl_scope.specs.declared.items.heads.Sought.TheVariants as sought
-use Rattle.snl_scope.specs.declared.summaries.summary.Outline.{Outline}
+use Rattle.snl_summary.specs.declared.summary.Outline.{Outline}
 use Rattle.snl_scope.specs.Below.{any_below}
 use Rattle.snl_scope.specs.Order.{has_state, is_closed, is_stateless, is_unmatched}
 use Rattle.snl_scope.specs.Places.{begins_set, ends_set, is_set_begin, item_is, enclosing_set, stands_in}

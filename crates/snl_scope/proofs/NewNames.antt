@@ -8,9 +8,9 @@ use Rattle.std.proofs.lemmas.Bool.{and_right, or_parts}
 use Rattle.snl_codes.specs.declared.code.Code.TheVariants.{E09}
 use Rattle.snl_scope.specs.declared.names.namespaces.Namespace.{Namespace}
 use Rattle.snl_scope.specs.declared.names.namespaces.Namespace.TheVariants as namespace
-use Rattle.snl_scope.specs.declared.summaries.summary.Declared.{Declared}
-use Rattle.snl_scope.specs.declared.summaries.summary.Outline.{Outline}
-use Rattle.snl_scope.specs.declared.summaries.summary.Role.{Role}
+use Rattle.snl_summary.specs.declared.summary.Declared.{Declared}
+use Rattle.snl_summary.specs.declared.summary.Outline.{Outline}
+use Rattle.snl_summary.specs.declared.summary.Role.{Role}
 use Rattle.snl_scope.specs.Linked.{entry_declaration, is_first_state, name_of_state, scope_in, variable_declaration}
 use Rattle.snl_scope.specs.Names.{Entry, declared_entry, has_name, has_own_scope, named_entry, same_namespace, scope_at, state_entries}
 use Rattle.snl_scope.specs.Order.{state_name}

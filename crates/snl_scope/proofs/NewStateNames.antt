@@ -14,10 +14,10 @@ use Rattle.snl_codes.specs.declared.code.Code.TheVariants.{E08, E09}
 use Rattle.snl_facts.specs.Positions.{any_position}
 use Rattle.snl_scope.specs.declared.names.namespaces.Namespace.{Namespace}
 use Rattle.snl_scope.specs.declared.names.namespaces.Namespace.TheVariants as namespace
-use Rattle.snl_scope.specs.declared.summaries.summary.Declared.{Declared}
-use Rattle.snl_scope.specs.declared.summaries.summary.Outline.{Outline}
-use Rattle.snl_scope.specs.declared.summaries.summary.Role.{Role}
-use Rattle.snl_scope.specs.declared.summaries.summary.Role.TheVariants as role
+use Rattle.snl_summary.specs.declared.summary.Declared.{Declared}
+use Rattle.snl_summary.specs.declared.summary.Outline.{Outline}
+use Rattle.snl_summary.specs.declared.summary.Role.{Role}
+use Rattle.snl_summary.specs.declared.summary.Role.TheVariants as role
 use Rattle.snl_scope.specs.Linked.{entry_declaration, is_first_state, name_of_state, state_in, state_of}
 use Rattle.snl_scope.specs.Names.{Entry, declared_entry, entries, entries_before, entries_of, has_name, has_own_scope, named_entry, same_namespace, scope_at, set_entries, state_entries}
 use Rattle.snl_scope.specs.Order.{is_state_word, state_name}

@@ -6,8 +6,8 @@ use Rattle.std.specs.Option.{option_and_then}
 use Rattle.std.proofs.lemmas.Bool.{or_parts}
 use Rattle.std.proofs.lemmas.Option.{option_and_then_some}
 use Rattle.snl_scope.specs.declared.facts.Fact.{Fact}
-use Rattle.snl_scope.specs.declared.summaries.summary.NameRef.{NameRef}
-use Rattle.snl_scope.specs.declared.summaries.summary.Outline.{Outline}
+use Rattle.snl_summary.specs.declared.summary.NameRef.{NameRef}
+use Rattle.snl_summary.specs.declared.summary.Outline.{Outline}
 use Rattle.snl_scope.specs.Clauses.{LinkedClause, assigned_by, clauses_of}
 use Rattle.snl_scope.specs.Linked.{entry_fact, fact_at, fact_of, has_target, state_of}
 use Rattle.snl_scope.specs.Names.{Entry, entries, resolve}

@@ -6,7 +6,8 @@ use Rattle.snl_facts.specs.Each.{EachTwo, each_append, each_weaker, pairs_from_t
 use Rattle.snl_scope.specs.Clauses.{clause_faults}
 use Rattle.snl_scope.specs.LinkedItems.{LinkedItems}
 use Rattle.snl_scope.specs.Names.{name_faults}
-use Rattle.snl_scope.specs.Once.{AreFoundOnce, TokensRise}
+use Rattle.snl_scope.specs.Once.{AreFoundOnce}
+use Rattle.snl_summary.specs.RisingTokens.{TokensRise}
 use Rattle.snl_scope.specs.Order.{order_faults}
 use Rattle.snl_scope.proofs.Families.{Differ, rank, two_by_rank}
 use Rattle.snl_scope.proofs.OnceClauses.{clause_ranks, clauses_once}

@@ -6,15 +6,15 @@ use Rattle.snl_facts.specs.Each.{EachTwo, each_append, each_by, each_front, each
 use Rattle.snl_codes.specs.declared.code.Code.{Code}
 use Rattle.snl_codes.specs.declared.code.Code.TheVariants.{E11, E13, E14, E15, E16}
 use Rattle.snl_scope.specs.declared.facts.LinkFault.{LinkFault}
-use Rattle.snl_scope.specs.declared.summaries.summary.ClauseKind.{ClauseKind}
-use Rattle.snl_scope.specs.declared.summaries.summary.ClauseKind.TheVariants as kind
-use Rattle.snl_scope.specs.declared.summaries.summary.NameRef.{NameRef}
-use Rattle.snl_scope.specs.declared.summaries.summary.Outline.{Outline}
-use Rattle.snl_scope.specs.declared.summaries.summary.Variable.{Variable}
-use Rattle.snl_scope.specs.declared.summaries.summary.VariableClause.{VariableClause}
+use Rattle.snl_summary.specs.declared.summary.ClauseKind.{ClauseKind}
+use Rattle.snl_summary.specs.declared.summary.ClauseKind.TheVariants as kind
+use Rattle.snl_summary.specs.declared.summary.NameRef.{NameRef}
+use Rattle.snl_summary.specs.declared.summary.Outline.{Outline}
+use Rattle.snl_summary.specs.declared.summary.Variable.{Variable}
+use Rattle.snl_summary.specs.declared.summary.VariableClause.{VariableClause}
 use Rattle.snl_scope.specs.Clauses.{LinkedClause, assigns, at_name_ref, clash, clause_faults, clauses_before, clauses_of, code_on, found_after, found_at, found_at_flag, found_at_variable, has_wrong_flag, is_assign, is_assignable, linked_clause, misfits, repetition_code, variable_at, variable_code, with_clause}
 use Rattle.snl_scope.specs.Names.{Entry, entries}
-use Rattle.snl_scope.specs.Once.{TokensRise, flag_tokens, tokens_of_flag, variable_tokens}
+use Rattle.snl_summary.specs.RisingTokens.{TokensRise, flag_tokens, tokens_of_flag, variable_tokens}
 use Rattle.snl_scope.proofs.Families.{Differ, differ_by_rank, rank}
 use Rattle.snl_scope.proofs.Pairs.{across_append, each_at, two_from_rising, two_rear}
 

@@ -8,10 +8,10 @@ use Rattle.snl_codes.specs.declared.code.Code.TheVariants.{E08, E09}
 use Rattle.snl_scope.specs.declared.facts.LinkFault.{LinkFault}
 use Rattle.snl_scope.specs.declared.names.namespaces.Namespace.{Namespace}
 use Rattle.snl_scope.specs.declared.names.namespaces.Namespace.TheVariants as namespace
-use Rattle.snl_scope.specs.declared.summaries.summary.Outline.{Outline}
+use Rattle.snl_summary.specs.declared.summary.Outline.{Outline}
 use Rattle.snl_scope.specs.LinkedItems.{LinkedItems}
 use Rattle.snl_scope.specs.Names.{Entry, declared_entry, entries, entries_before, entries_of, name_faults, named_entry, number_in, repetition, repetition_at, repetitions, scope_code, scope_of, set_entries, set_name, state_entries, told_by}
-use Rattle.snl_scope.specs.Once.{TokensRise, declared_tokens}
+use Rattle.snl_summary.specs.RisingTokens.{TokensRise, declared_tokens}
 use Rattle.snl_scope.specs.Order.{state_name}
 use Rattle.snl_scope.specs.Places.{enclosing_set}
 use Rattle.snl_scope.proofs.Families.{Differ, differ_by_item, differ_by_rank, differ_by_token, rank}

@@ -12,9 +12,9 @@ use Rattle.snl_codes.specs.declared.code.Code.TheVariants.{E08}
 use Rattle.snl_facts.specs.Positions.{position_map}
 use Rattle.snl_scope.specs.declared.names.namespaces.Namespace.{Namespace}
 use Rattle.snl_scope.specs.declared.names.namespaces.Namespace.TheVariants as namespace
-use Rattle.snl_scope.specs.declared.summaries.summary.Outline.{Outline}
-use Rattle.snl_scope.specs.declared.summaries.summary.Role.{Role}
-use Rattle.snl_scope.specs.declared.summaries.summary.Role.TheVariants as role
+use Rattle.snl_summary.specs.declared.summary.Outline.{Outline}
+use Rattle.snl_summary.specs.declared.summary.Role.{Role}
+use Rattle.snl_summary.specs.declared.summary.Role.TheVariants as role
 use Rattle.snl_scope.specs.Clauses.{resolve_in}
 use Rattle.snl_scope.specs.Linked.{declaration_at, entry_declaration, has_target, is_first_state, name_of_state, state_in, state_of}
 use Rattle.snl_scope.specs.Names.{Entry, entries, entries_before, entries_of, has_name, named_entry, number_in, resolve, set_entries}

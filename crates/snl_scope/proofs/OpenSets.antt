@@ -6,7 +6,7 @@ use Rattle.std.proofs.lemmas.Bool.{lt-ltb}
 use Rattle.std.proofs.lemmas.List.{take_more}
 use Rattle.std.proofs.lemmas.Option.{slice_get_within}
 use Rattle.snl_scope.specs.BelowLaws.{any_below_none}
-use Rattle.snl_scope.specs.declared.summaries.summary.Outline.{Outline}
+use Rattle.snl_summary.specs.declared.summary.Outline.{Outline}
 use Rattle.snl_scope.specs.Below.{last_below}
 use Rattle.snl_scope.specs.Places.{begins_set, ends_between, ends_set, is_set_begin, is_set_end, open_before, enclosing_set}
 use Rattle.snl_scope.specs.declared.items.heads.Head.{Head}

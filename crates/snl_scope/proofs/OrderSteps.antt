@@ -8,8 +8,8 @@ use Rattle.snl_scope.specs.declared.facts.LinkFault.{LinkFault}
 use Rattle.snl_scope.specs.declared.items.heads.Head.{Head}
 use Rattle.snl_scope.specs.declared.items.heads.Sought.{Sought}
 use Rattle.snl_scope.specs.declared.items.heads.Sought.TheVariants as sought
-use Rattle.snl_scope.specs.declared.summaries.summary.ItemKind.{ItemKind}
-use Rattle.snl_scope.specs.declared.summaries.summary.Outline.{Outline}
+use Rattle.snl_summary.specs.declared.summary.ItemKind.{ItemKind}
+use Rattle.snl_summary.specs.declared.summary.Outline.{Outline}
 use Rattle.snl_scope.specs.Below.{all_below, any_below}
 use Rattle.snl_scope.specs.LinkedItems.{LinkedItems, kind_is}
 use Rattle.snl_scope.specs.Order.{at_item, at_items_where, exceeds, found_if, has_begun, is_barred, is_barred_in_sets, is_faulty, is_late, is_main, is_misplaced, is_program_item, is_program_word, is_repeated_header, is_state, is_state_word, phase, phase_of, state_name}

@@ -7,7 +7,7 @@ use Rattle.snl_scope.specs.declared.outlines.flat.FlatClause.{FlatClause}
 use Rattle.snl_scope.specs.declared.outlines.flat.FlatDeclared.{FlatDeclared}
 use Rattle.snl_scope.specs.declared.outlines.flat.FlatOutline.{FlatOutline}
 use Rattle.snl_scope.specs.declared.outlines.flat.FlatRef.{FlatRef}
-use Rattle.snl_scope.specs.declared.summaries.summary.Outline.{Outline}
+use Rattle.snl_summary.specs.declared.summary.Outline.{Outline}
 use Rattle.snl_scope.specs.OutlineList.{AreNumbered, Extends, IsClauseNumbered, clause_by, clauses_in, declared_by, declares_before, clauses_before, declares_in, name_at, outline_by, outlines_by, ref_by, total}
 
 pub total_append : (cs ds : List ℕ) → total (cs ++ ds) ≡ total cs + total ds

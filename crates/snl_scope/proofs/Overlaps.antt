@@ -9,10 +9,10 @@ use Rattle.snl_scope.specs.declared.clauses.clause_index.ClauseIndex.{ClauseInde
 use Rattle.snl_scope.specs.declared.clauses.clause_index.Extent.{Extent}
 use Rattle.snl_scope.specs.declared.clauses.clause_index.Extent.TheVariants as extent
 use Rattle.snl_scope.specs.declared.clauses.clause_index.Purpose.{Purpose}
-use Rattle.snl_scope.specs.declared.summaries.summary.ClauseKind.{ClauseKind}
-use Rattle.snl_scope.specs.declared.summaries.summary.ClauseKind.TheVariants as kind
-use Rattle.snl_scope.specs.declared.summaries.summary.Coverage.{Coverage}
-use Rattle.snl_scope.specs.declared.summaries.summary.Coverage.TheVariants as coverage
+use Rattle.snl_summary.specs.declared.summary.ClauseKind.{ClauseKind}
+use Rattle.snl_summary.specs.declared.summary.ClauseKind.TheVariants as kind
+use Rattle.snl_summary.specs.declared.summary.Coverage.{Coverage}
+use Rattle.snl_summary.specs.declared.summary.Coverage.TheVariants as coverage
 use Rattle.snl_scope.specs.Below.{any_below}
 use Rattle.snl_scope.specs.Claims.{Adds, Claimed, claims, has_claim, makes, overlaps_claims, purpose_of, same_claim, same_extent, same_purpose, sound_among}
 use Rattle.snl_scope.specs.Clauses.{LinkedClause, clash, overlaps, same_kind, same_number}

@@ -7,7 +7,7 @@ use Rattle.snl_scope.specs.declared.names.first_numbers.FirstNumbers.{FirstNumbe
 use Rattle.snl_scope.specs.declared.names.name_tables.Symbol.{Symbol}
 use Rattle.snl_scope.specs.declared.names.namespaces.Namespace.{Namespace}
 use Rattle.snl_scope.specs.declared.names.namespaces.Namespace.TheVariants as namespace
-use Rattle.snl_scope.specs.declared.summaries.summary.Outline.{Outline}
+use Rattle.snl_summary.specs.declared.summary.Outline.{Outline}
 use Rattle.snl_scope.specs.Clauses.{resolve_in}
 use Rattle.snl_scope.specs.Names.{entries, number_in, resolve}
 use Rattle.snl_scope.specs.NameTables.{Tabled, nearest_under, number_under}

@@ -8,11 +8,11 @@ use Rattle.snl_scope.specs.declared.clauses.clause_index.Extent.{Extent}
 use Rattle.snl_scope.specs.declared.clauses.clause_index.Extent.TheVariants as extent
 use Rattle.snl_scope.specs.declared.clauses.clause_index.Purpose.{Purpose}
 use Rattle.snl_scope.specs.declared.clauses.clause_index.Purpose.TheVariants as purpose
-use Rattle.snl_scope.specs.declared.summaries.summary.ClauseKind.{ClauseKind}
-use Rattle.snl_scope.specs.declared.summaries.summary.ClauseKind.TheVariants as kind
-use Rattle.snl_scope.specs.declared.summaries.summary.Coverage.{Coverage}
-use Rattle.snl_scope.specs.declared.summaries.summary.Coverage.TheVariants as coverage
-use Rattle.snl_scope.specs.declared.summaries.summary.Outline.{Outline}
+use Rattle.snl_summary.specs.declared.summary.ClauseKind.{ClauseKind}
+use Rattle.snl_summary.specs.declared.summary.ClauseKind.TheVariants as kind
+use Rattle.snl_summary.specs.declared.summary.Coverage.{Coverage}
+use Rattle.snl_summary.specs.declared.summary.Coverage.TheVariants as coverage
+use Rattle.snl_summary.specs.declared.summary.Outline.{Outline}
 use Rattle.snl_scope.specs.Channels.{is_monitor, is_monitored, is_sync, speaks_of, speaks_on, sync_number}
 use Rattle.snl_scope.specs.Claims.{Claimed, claim_number, claims, first_clause, lesser, makes, purpose_of, same_purpose, sound_among}
 use Rattle.snl_scope.specs.Clauses.{LinkedClause, clauses_of, same_number, soundness}

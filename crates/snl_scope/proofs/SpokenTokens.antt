@@ -12,13 +12,12 @@ use Rattle.snl_grammar.specs.Spelling.Base.{Matches}
 use Rattle.snl_grammar.specs.Spelling.Items.{spell_item}
 use Rattle.snl_grammar.specs.Tokens.{ahead}
 use Rattle.snl_scope.specs.FaultPlaces.{SpeaksOfTokens}
-use Rattle.snl_scope.specs.Once.{declared_tokens, flag_tokens, variable_tokens}
+use Rattle.snl_summary.specs.RisingTokens.{declared_tokens, flag_tokens, variable_tokens}
 use Rattle.snl_scope.specs.Order.{is_ss_word}
 use Rattle.snl_scope.specs.Places.{begins_set}
-use Rattle.snl_scope.specs.Summaries.{kind_of_tree, opening_in, outline_in, role_of, second_in}
-use Rattle.snl_scope.proofs.Leaves.{AreLeaves}
-use Rattle.snl_scope.proofs.Mentioned.{declared_leaves, flags_leaves, variable_leaves}
-use Rattle.snl_scope.proofs.NamedTokens.{below_count}
+use Rattle.snl_summary.specs.Summaries.{kind_of_tree, opening_in, outline_in, role_of, second_in}
+use Rattle.snl_summary.specs.LeafLaws.{AreLeaves, below_count}
+use Rattle.snl_summary.specs.MentionedLaws.{declared_leaves, flags_leaves, variable_leaves}
 use Rattle.snl_scope.proofs.SsWords.{opening_is_ss}
 
 two_there : (text : List ℕ) (tokens : List Piece) → is_some (second_in text tokens) ≡ true → 1 < length tokens

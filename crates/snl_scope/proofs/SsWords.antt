@@ -10,7 +10,7 @@ use Rattle.snl_lex.specs.declared.kind.Kind.{Kind}
 use Rattle.snl_lex.specs.declared.kind.Kind.TheVariants as kind
 use Rattle.snl_lex.specs.Kinds.{Entry, kind_of, look_up, punctuators, words}
 use Rattle.snl_scope.specs.Order.{is_ss_word}
-use Rattle.snl_scope.specs.Summaries.{opening_by, opening_by_word}
+use Rattle.snl_summary.specs.Summaries.{opening_by, opening_by_word}
 
 is_ss : Kind → Bool
 is_ss kind.Ss = true

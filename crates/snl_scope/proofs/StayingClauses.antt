@@ -9,10 +9,10 @@ use Rattle.snl_codes.specs.declared.code.Code.{Code}
 use Rattle.snl_codes.specs.declared.code.Code.TheVariants.{E11, E14}
 use Rattle.snl_codes.specs.Codes.{is_error}
 use Rattle.snl_scope.specs.declared.facts.LinkFault.{LinkFault}
-use Rattle.snl_scope.specs.declared.summaries.summary.NameRef.{NameRef}
-use Rattle.snl_scope.specs.declared.summaries.summary.Outline.{Outline}
-use Rattle.snl_scope.specs.declared.summaries.summary.Variable.{Variable}
-use Rattle.snl_scope.specs.declared.summaries.summary.VariableClause.{VariableClause}
+use Rattle.snl_summary.specs.declared.summary.NameRef.{NameRef}
+use Rattle.snl_summary.specs.declared.summary.Outline.{Outline}
+use Rattle.snl_summary.specs.declared.summary.Variable.{Variable}
+use Rattle.snl_summary.specs.declared.summary.VariableClause.{VariableClause}
 use Rattle.snl_scope.specs.Clauses.{LinkedClause, at_name_ref, clause_faults, clauses_before, clauses_of, code_on, found_after, found_at, has_wrong_flag, is_event_flag, is_sound, linked_clause, resolve_in, soundness, soundness_after, variable_at, variable_code, with_clause}
 use Rattle.snl_scope.specs.Names.{Entry, entries}
 use Rattle.snl_scope.specs.Places.{enclosing_set}

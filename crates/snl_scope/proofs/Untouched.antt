@@ -16,12 +16,12 @@ use Rattle.snl_scope.specs.declared.facts.Assigned.TheVariants.{Unassigned}
 use Rattle.snl_scope.specs.declared.facts.Fact.{Fact}
 use Rattle.snl_scope.specs.declared.names.namespaces.Namespace.{Namespace}
 use Rattle.snl_scope.specs.declared.names.namespaces.Namespace.TheVariants as namespace
-use Rattle.snl_scope.specs.declared.summaries.summary.NameRef.{NameRef}
-use Rattle.snl_scope.specs.declared.summaries.summary.Outline.{Outline}
-use Rattle.snl_scope.specs.declared.summaries.summary.Role.{Role}
-use Rattle.snl_scope.specs.declared.summaries.summary.Role.TheVariants as role
-use Rattle.snl_scope.specs.declared.summaries.summary.Summary.{Summary}
-use Rattle.snl_scope.specs.declared.summaries.summary.VariableClause.{VariableClause}
+use Rattle.snl_summary.specs.declared.summary.NameRef.{NameRef}
+use Rattle.snl_summary.specs.declared.summary.Outline.{Outline}
+use Rattle.snl_summary.specs.declared.summary.Role.{Role}
+use Rattle.snl_summary.specs.declared.summary.Role.TheVariants as role
+use Rattle.snl_summary.specs.declared.summary.Summary.{Summary}
+use Rattle.snl_summary.specs.declared.summary.VariableClause.{VariableClause}
 use Rattle.snl_scope.specs.Below.{any_below, last_below}
 use Rattle.snl_scope.specs.Clauses.{LinkedClause, assigned_as, assigned_by, clauses_before, clauses_of, is_assign, linked_clause, resolve_in, same_number}
 use Rattle.snl_scope.specs.KeyLaws.{namespace_true}

@@ -3,11 +3,11 @@
 -- variable.
 use Rattle.std.specs.Prelude.{ℕ, Bool, true, false, ◌&&◌, List, nat_eq, nat_lt, Option, None, Some, position}
 use Rattle.std.specs.List.{list_any, zip}
-use Rattle.snl_scope.specs.declared.summaries.summary.ClauseKind.{ClauseKind}
-use Rattle.snl_scope.specs.declared.summaries.summary.ClauseKind.TheVariants as kind
-use Rattle.snl_scope.specs.declared.summaries.summary.Coverage.{Coverage}
-use Rattle.snl_scope.specs.declared.summaries.summary.Coverage.TheVariants as coverage
-use Rattle.snl_scope.specs.declared.summaries.summary.Outline.{Outline}
+use Rattle.snl_summary.specs.declared.summary.ClauseKind.{ClauseKind}
+use Rattle.snl_summary.specs.declared.summary.ClauseKind.TheVariants as kind
+use Rattle.snl_summary.specs.declared.summary.Coverage.{Coverage}
+use Rattle.snl_summary.specs.declared.summary.Coverage.TheVariants as coverage
+use Rattle.snl_summary.specs.declared.summary.Outline.{Outline}
 use Rattle.snl_scope.specs.Clauses.{LinkedClause, clauses_of, same_number, sound_clauses, soundness}
 
 -- The clause speaks of the channel: any clause of that of the whole variable, of that of an element

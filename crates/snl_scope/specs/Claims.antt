@@ -11,10 +11,10 @@ use Rattle.snl_scope.specs.declared.clauses.clause_index.Extents.{Extents}
 use Rattle.snl_scope.specs.declared.clauses.clause_index.Purpose.{Purpose}
 use Rattle.snl_scope.specs.declared.clauses.clause_index.Purpose.TheVariants as purpose
 use Rattle.snl_scope.specs.declared.clauses.clause_index.VariableClaims.{VariableClaims}
-use Rattle.snl_scope.specs.declared.summaries.summary.ClauseKind.{ClauseKind}
-use Rattle.snl_scope.specs.declared.summaries.summary.ClauseKind.TheVariants as kind
-use Rattle.snl_scope.specs.declared.summaries.summary.Coverage.{Coverage}
-use Rattle.snl_scope.specs.declared.summaries.summary.Coverage.TheVariants as coverage
+use Rattle.snl_summary.specs.declared.summary.ClauseKind.{ClauseKind}
+use Rattle.snl_summary.specs.declared.summary.ClauseKind.TheVariants as kind
+use Rattle.snl_summary.specs.declared.summary.Coverage.{Coverage}
+use Rattle.snl_summary.specs.declared.summary.Coverage.TheVariants as coverage
 use Rattle.snl_scope.specs.Below.{any_below}
 use Rattle.snl_scope.specs.ByNumber.{at_number}
 use Rattle.snl_scope.specs.Clauses.{LinkedClause, same_number}

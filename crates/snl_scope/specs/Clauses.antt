@@ -10,18 +10,18 @@ use Rattle.snl_scope.specs.declared.facts.Assigned.TheVariants as assigned
 use Rattle.snl_scope.specs.declared.facts.ClauseLink.{ClauseLink}
 use Rattle.snl_scope.specs.declared.facts.LinkFault.{LinkFault}
 use Rattle.snl_scope.specs.declared.names.namespaces.Namespace.TheVariants as namespace
-use Rattle.snl_scope.specs.declared.summaries.summary.ClauseKind.{ClauseKind}
-use Rattle.snl_scope.specs.declared.summaries.summary.ClauseKind.TheVariants as kind
-use Rattle.snl_scope.specs.declared.summaries.summary.Coverage.{Coverage}
-use Rattle.snl_scope.specs.declared.summaries.summary.Coverage.TheVariants as coverage
-use Rattle.snl_scope.specs.declared.summaries.summary.Dims.{Dims}
-use Rattle.snl_scope.specs.declared.summaries.summary.Dims.TheVariants as dims
-use Rattle.snl_scope.specs.declared.summaries.summary.NameRef.{NameRef}
-use Rattle.snl_scope.specs.declared.summaries.summary.SymbolKind.{SymbolKind}
-use Rattle.snl_scope.specs.declared.summaries.summary.SymbolKind.TheVariants as symbol_kind
-use Rattle.snl_scope.specs.declared.summaries.summary.Outline.{Outline}
-use Rattle.snl_scope.specs.declared.summaries.summary.Variable.{Variable}
-use Rattle.snl_scope.specs.declared.summaries.summary.VariableClause.{VariableClause}
+use Rattle.snl_summary.specs.declared.summary.ClauseKind.{ClauseKind}
+use Rattle.snl_summary.specs.declared.summary.ClauseKind.TheVariants as kind
+use Rattle.snl_summary.specs.declared.summary.Coverage.{Coverage}
+use Rattle.snl_summary.specs.declared.summary.Coverage.TheVariants as coverage
+use Rattle.snl_summary.specs.declared.summary.Dims.{Dims}
+use Rattle.snl_summary.specs.declared.summary.Dims.TheVariants as dims
+use Rattle.snl_summary.specs.declared.summary.NameRef.{NameRef}
+use Rattle.snl_summary.specs.declared.summary.SymbolKind.{SymbolKind}
+use Rattle.snl_summary.specs.declared.summary.SymbolKind.TheVariants as symbol_kind
+use Rattle.snl_summary.specs.declared.summary.Outline.{Outline}
+use Rattle.snl_summary.specs.declared.summary.Variable.{Variable}
+use Rattle.snl_summary.specs.declared.summary.VariableClause.{VariableClause}
 use Rattle.snl_codes.specs.Codes.{is_error}
 use Rattle.snl_scope.specs.Names.{Entry, entries, number_in, resolve}
 use Rattle.snl_scope.specs.Places.{enclosing_set}

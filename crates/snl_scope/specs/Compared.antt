@@ -2,7 +2,7 @@
 use Rattle.std.specs.Prelude.{◌≡◌, ℕ, List, length, take}
 use Rattle.snl_scope.specs.declared.compared.Compared.{Compared}
 use Rattle.snl_scope.specs.declared.names.namespaces.Namespace.{Namespace}
-use Rattle.snl_scope.specs.declared.summaries.summary.Outline.{Outline}
+use Rattle.snl_summary.specs.declared.summary.Outline.{Outline}
 use Rattle.snl_scope.specs.Names.{entries, number_in}
 use Rattle.snl_scope.specs.NameTables.{number_by}
 

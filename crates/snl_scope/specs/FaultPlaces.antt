@@ -4,9 +4,9 @@ use Rattle.std.specs.List.{AllByRecursion, Contains}
 use Rattle.snl_codes.specs.declared.code.Code.TheVariants.{E05, E06, E07}
 use Rattle.snl_codes.specs.Codes.{is_link_code}
 use Rattle.snl_scope.specs.declared.facts.LinkFault.{LinkFault}
-use Rattle.snl_scope.specs.declared.summaries.summary.Outline.{Outline}
+use Rattle.snl_summary.specs.declared.summary.Outline.{Outline}
 use Rattle.snl_scope.specs.Names.{has_own_scope}
-use Rattle.snl_scope.specs.Once.{declared_tokens, flag_tokens, variable_tokens}
+use Rattle.snl_summary.specs.RisingTokens.{declared_tokens, flag_tokens, variable_tokens}
 use Rattle.snl_scope.specs.Order.{is_program_word, is_ss_word}
 use Rattle.snl_scope.specs.Places.{begins_set}
 

@@ -1,8 +1,8 @@
 -- The event flags of a text and their numbers.
 use Rattle.std.specs.Prelude.{ℕ, suc, Bool, false, ◌&&◌, List, length, slice_get, nat_eq, Option, option_map, position}
 use Rattle.std.specs.Option.{option_map_or}
-use Rattle.snl_scope.specs.declared.summaries.summary.Outline.{Outline}
-use Rattle.snl_scope.specs.declared.summaries.summary.Variable.{Variable}
+use Rattle.snl_summary.specs.declared.summary.Outline.{Outline}
+use Rattle.snl_summary.specs.declared.summary.Variable.{Variable}
 use Rattle.snl_scope.specs.Below.{all_below}
 use Rattle.snl_scope.specs.Clauses.{is_event_flag}
 use Rattle.snl_scope.specs.Names.{Entry, entries, number_in}

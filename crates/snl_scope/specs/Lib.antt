@@ -9,7 +9,6 @@ pub mod Clauses
 pub mod Claims
 pub mod Channels
 pub mod Flags
-pub mod HeldNames
 pub mod Hashed
 pub mod Linked
 pub mod View
@@ -19,10 +18,7 @@ pub mod NameTables
 pub mod KeyLaws
 pub mod Resolved
 pub mod Said
-pub mod Summaries
 pub mod Once
 pub mod FaultPlaces
-pub mod NamedTokens
-pub mod SpelledTokens
 pub mod Compared
 pub mod Renamed

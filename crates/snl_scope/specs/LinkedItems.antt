@@ -1,9 +1,9 @@
 -- The items of a text as their links see them.
 use Rattle.std.specs.Prelude.{ℕ, Bool, false, List, map, slice_get}
 use Rattle.std.specs.Option.{option_map_or}
-use Rattle.snl_scope.specs.declared.summaries.summary.ItemKind.{ItemKind}
-use Rattle.snl_scope.specs.declared.summaries.summary.Outline.{Outline}
-use Rattle.snl_scope.specs.declared.summaries.summary.Summary.{Summary}
+use Rattle.snl_summary.specs.declared.summary.ItemKind.{ItemKind}
+use Rattle.snl_summary.specs.declared.summary.Outline.{Outline}
+use Rattle.snl_summary.specs.declared.summary.Summary.{Summary}
 
 -- What each item says to the others, and of what kind it is.
 pub record LinkedItems : Type 0 where

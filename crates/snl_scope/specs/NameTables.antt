@@ -12,9 +12,9 @@ use Rattle.snl_scope.specs.declared.names.first_numbers.NameHead.{NameHead}
 use Rattle.snl_scope.specs.declared.names.namespaces.QualifiedName.{QualifiedName}
 use Rattle.snl_scope.specs.declared.names.namespaces.Namespace.{Namespace}
 use Rattle.snl_scope.specs.declared.names.namespaces.Namespace.TheVariants as namespace
-use Rattle.snl_scope.specs.declared.summaries.summary.ItemKind.{ItemKind}
-use Rattle.snl_scope.specs.declared.summaries.summary.Opening.{Opening}
-use Rattle.snl_scope.specs.declared.summaries.summary.Outline.{Outline}
+use Rattle.snl_summary.specs.declared.summary.ItemKind.{ItemKind}
+use Rattle.snl_summary.specs.declared.summary.Opening.{Opening}
+use Rattle.snl_summary.specs.declared.summary.Outline.{Outline}
 use Rattle.snl_scope.specs.declared.names.name_tables.NameEntry.{NameEntry}
 use Rattle.snl_scope.specs.declared.names.name_tables.NameTables.{NameTables}
 use Rattle.snl_scope.specs.declared.names.name_tables.Symbol.{Symbol}

@@ -6,12 +6,12 @@ use Rattle.snl_codes.specs.declared.code.Code.TheVariants.{E07, E08, E09}
 use Rattle.snl_scope.specs.declared.facts.LinkFault.{LinkFault}
 use Rattle.snl_scope.specs.declared.names.namespaces.Namespace.{Namespace}
 use Rattle.snl_scope.specs.declared.names.namespaces.Namespace.TheVariants as namespace
-use Rattle.snl_scope.specs.declared.summaries.summary.Declared.{Declared}
-use Rattle.snl_scope.specs.declared.summaries.summary.ItemKind.{ItemKind}
-use Rattle.snl_scope.specs.declared.summaries.summary.Outline.{Outline}
-use Rattle.snl_scope.specs.declared.summaries.summary.Role.{Role}
-use Rattle.snl_scope.specs.declared.summaries.summary.Role.TheVariants as role
-use Rattle.snl_scope.specs.declared.summaries.summary.Variable.{Variable}
+use Rattle.snl_summary.specs.declared.summary.Declared.{Declared}
+use Rattle.snl_summary.specs.declared.summary.ItemKind.{ItemKind}
+use Rattle.snl_summary.specs.declared.summary.Outline.{Outline}
+use Rattle.snl_summary.specs.declared.summary.Role.{Role}
+use Rattle.snl_summary.specs.declared.summary.Role.TheVariants as role
+use Rattle.snl_summary.specs.declared.summary.Variable.{Variable}
 use Rattle.snl_scope.specs.LinkedItems.{LinkedItems}
 use Rattle.snl_scope.specs.Order.{is_faulty, state_name}
 use Rattle.snl_scope.specs.Places.{begins_set, enclosing_set}

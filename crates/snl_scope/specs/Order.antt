@@ -3,11 +3,11 @@ use Rattle.std.specs.Prelude.{ℕ, Bool, true, false, not, ◌&&◌, ◌||◌, i
 use Rattle.snl_codes.specs.declared.code.Code.{Code}
 use Rattle.snl_codes.specs.declared.code.Code.TheVariants.{E03, E04, E05, E06}
 use Rattle.snl_scope.specs.declared.facts.LinkFault.{LinkFault}
-use Rattle.snl_scope.specs.declared.summaries.summary.ItemKind.{ItemKind}
-use Rattle.snl_scope.specs.declared.summaries.summary.ItemKind.TheVariants as kind
-use Rattle.snl_scope.specs.declared.summaries.summary.Opening.{Opening}
-use Rattle.snl_scope.specs.declared.summaries.summary.Opening.TheVariants as opening
-use Rattle.snl_scope.specs.declared.summaries.summary.Outline.{Outline}
+use Rattle.snl_summary.specs.declared.summary.ItemKind.{ItemKind}
+use Rattle.snl_summary.specs.declared.summary.ItemKind.TheVariants as kind
+use Rattle.snl_summary.specs.declared.summary.Opening.{Opening}
+use Rattle.snl_summary.specs.declared.summary.Opening.TheVariants as opening
+use Rattle.snl_summary.specs.declared.summary.Outline.{Outline}
 use Rattle.snl_scope.specs.Below.{any_below, all_below}
 use Rattle.snl_scope.specs.LinkedItems.{LinkedItems, kind_is}
 use Rattle.snl_scope.specs.Places.{item_is, is_set_begin, is_set_end, enclosing_set, stands_in}

@@ -1,9 +1,9 @@
 -- Where the items of a text are. An item is told by its number among the outlines of all.
 use Rattle.std.specs.Prelude.{ℕ, Bool, true, false, not, ◌&&◌, if◌then◌else◌, List, slice_get, nat_eq, nat_lt, Option, None}
 use Rattle.std.specs.Option.{option_map_or}
-use Rattle.snl_scope.specs.declared.summaries.summary.Outline.{Outline}
-use Rattle.snl_scope.specs.declared.summaries.summary.Role.{Role}
-use Rattle.snl_scope.specs.declared.summaries.summary.Role.TheVariants as role
+use Rattle.snl_summary.specs.declared.summary.Outline.{Outline}
+use Rattle.snl_summary.specs.declared.summary.Role.{Role}
+use Rattle.snl_summary.specs.declared.summary.Role.TheVariants as role
 use Rattle.snl_scope.specs.Below.{any_below, last_below}
 
 -- There is an item i, and it passes the test.

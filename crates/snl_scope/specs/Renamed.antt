@@ -6,12 +6,12 @@ use Rattle.std.specs.List.{list_any}
 use Rattle.std.specs.Option.{option_map_or}
 use Rattle.snl_scope.specs.declared.renamed.Renaming.{Renaming}
 use Rattle.snl_scope.specs.declared.renamed.Renaming.TheVariants as renaming
-use Rattle.snl_scope.specs.declared.summaries.summary.Declared.{Declared}
-use Rattle.snl_scope.specs.declared.summaries.summary.ItemKind.{ItemKind}
-use Rattle.snl_scope.specs.declared.summaries.summary.Outline.{Outline}
-use Rattle.snl_scope.specs.declared.summaries.summary.Role.TheVariants as role
-use Rattle.snl_scope.specs.declared.summaries.summary.Variable.{Variable}
-use Rattle.snl_scope.specs.declared.summaries.summary.VariableClause.{VariableClause}
+use Rattle.snl_summary.specs.declared.summary.Declared.{Declared}
+use Rattle.snl_summary.specs.declared.summary.ItemKind.{ItemKind}
+use Rattle.snl_summary.specs.declared.summary.Outline.{Outline}
+use Rattle.snl_summary.specs.declared.summary.Role.TheVariants as role
+use Rattle.snl_summary.specs.declared.summary.Variable.{Variable}
+use Rattle.snl_summary.specs.declared.summary.VariableClause.{VariableClause}
 use Rattle.snl_scope.specs.Channels.{is_monitored, sync_number}
 use Rattle.snl_scope.specs.Clauses.{clause_faults, clause_links, clauses_of, is_event_flag, resolve_in, soundness}
 use Rattle.snl_scope.specs.Flags.{flags_of}

@@ -2,7 +2,7 @@
 use Rattle.std.specs.Prelude.{◌≡◌, List}
 use Rattle.std.specs.List.{zip}
 use Rattle.snl_scope.specs.declared.linking.LinkedClauses.{LinkedClauses}
-use Rattle.snl_scope.specs.declared.summaries.summary.Outline.{Outline}
+use Rattle.snl_summary.specs.declared.summary.Outline.{Outline}
 use Rattle.snl_scope.specs.Claims.{Claimed}
 use Rattle.snl_scope.specs.Clauses.{clause_faults, clause_links, clauses_of, soundness}
 use Rattle.snl_scope.specs.Resolved.{Assigns}

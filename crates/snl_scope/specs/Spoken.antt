@@ -2,10 +2,10 @@
 -- wherever these items take the place of those.
 use Rattle.std.specs.Prelude.{◌≡◌, ℕ, Bool, false, ◌||◌, List, ◌++◌, map, bytes_eq, option_to_list}
 use Rattle.std.specs.List.{flat_map, list_any}
-use Rattle.snl_scope.specs.declared.summaries.summary.Outline.{Outline}
-use Rattle.snl_scope.specs.declared.summaries.summary.Role.{Role}
-use Rattle.snl_scope.specs.declared.summaries.summary.Role.TheVariants as role
-use Rattle.snl_scope.specs.declared.summaries.summary.Summary.{Summary}
+use Rattle.snl_summary.specs.declared.summary.Outline.{Outline}
+use Rattle.snl_summary.specs.declared.summary.Role.{Role}
+use Rattle.snl_summary.specs.declared.summary.Role.TheVariants as role
+use Rattle.snl_summary.specs.declared.summary.Summary.{Summary}
 use Rattle.snl_scope.specs.View.{view}
 
 -- The names that an item declares, those of the variables of its clauses, and its own.

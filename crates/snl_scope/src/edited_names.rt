@@ -8,13 +8,12 @@ ghost use Rattle.snl_scope.specs.Linked.{fact_of, has_target};
 ghost use Rattle.snl_scope.specs.Places.{enclosing_set};
 ghost use Rattle.snl_scope.specs.Renamed.{AreNames, state_names};
 ghost use Rattle.snl_scope.specs.Spoken.{AreEditedNames, KeepsViews, bound, bounds, is_among, spoken, spoken_by, touches};
-ghost use Rattle.snl_scope.specs.declared.summaries.summary.Outline.{Outline};
+ghost use Rattle.snl_summary.specs.declared.summary.Outline.{Outline};
 
 use crate::renamed::Renaming;
-use crate::summaries::name::Name;
-use crate::summaries::summary::{Declared, NameRef, Outline, Role, Summary, VariableClause};
 use snl_cut::OutOfMemory;
 use snl_facts::are_same_bytes;
+use snl_summary::{Declared, Name, NameRef, Outline, Role, Summary, VariableClause};
 use std::alloc::Global;
 use std::marker::Model;
 

@@ -1,7 +1,7 @@
 //! What links answer: facts of names, declarations, clauses and findings.
 
-use crate::summaries::summary::{ClauseKind, Coverage, Dims, Variable};
 use snl_codes::Code;
+use snl_summary::{ClauseKind, Coverage, Dims, Variable};
 
 /// The scope in which a name is declared.
 #[derive(Clone, Copy, Debug, PartialEq, Eq)]

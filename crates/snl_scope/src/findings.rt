@@ -10,8 +10,8 @@ ghost use Rattle.snl_scope.specs.Names.{entries, repetitions, told_by};
 use crate::facts::LinkFault;
 use crate::items::order::{add_order_faults, is_faulty};
 use crate::names::scopes::Scopes;
-use crate::summaries::summary::ItemKind;
 use snl_cut::OutOfMemory;
+use snl_summary::ItemKind;
 use std::alloc::Global;
 
 // Whether the item of a finding isn't faulty.

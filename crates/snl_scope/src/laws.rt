@@ -2,6 +2,3 @@
 
 pub(crate) mod once_laws;
 pub(crate) mod place_laws;
-pub(crate) mod spelling_laws;
-pub(crate) mod summary_laws;
-pub(crate) mod token_laws;

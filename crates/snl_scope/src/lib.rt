@@ -17,28 +17,21 @@ mod names;
 mod outlines;
 mod renamed;
 mod renamed_links;
-mod summaries;
 
 pub use compared::{Compared, Meanings};
 pub use edited_names::{EditedNames, unspoken_names};
 pub use facts::{Assigned, ClauseLink, Declaration, Fact, Level, LinkFault, NameKind, Scope};
-pub use laws::once_laws::{
-    each_fault_once, faults_have_places, outlines_speak_of_tokens, tokens_declared_once,
-};
+pub use laws::once_laws::{each_fault_once, faults_have_places, outlines_speak_of_tokens};
 pub use laws::place_laws::sets_open_in_turn;
-pub use laws::spelling_laws::same_spelling_same_summary;
-pub use laws::summary_laws::{names_kept_once, plain_state_outline};
-pub use laws::token_laws::{names_are_tokens, targets_rise};
 pub use links::{Links, link, link_after};
 pub use names::first_numbers::FirstNumbers;
 pub use names::namespaces::{Namespace, QualifiedName};
 pub use renamed::{Renaming, declared_anew, named_anew, renaming_of};
 pub use renamed_links::link_renamed;
-pub use snl_walk::Source;
-pub use summaries::name::Name;
-pub use summaries::same_outline::same_outline;
-pub use summaries::summarize::{kind_of, summary_of};
-pub use summaries::summary::{
-    ClauseKind, Coverage, Declared, Dims, ItemKind, NameRef, Opening, Outline, Role, Summary,
-    SymbolKind, Variable, VariableClause,
+pub use snl_summary::{
+    ClauseKind, Coverage, Declared, Dims, ItemKind, Name, NameRef, Opening, Outline, Role, Summary,
+    SymbolKind, Variable, VariableClause, kind_of, names_are_tokens, names_kept_once,
+    plain_state_outline, same_outline, same_spelling_same_summary, summary_of, targets_rise,
+    tokens_declared_once,
 };
+pub use snl_walk::Source;

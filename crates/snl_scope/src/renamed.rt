@@ -8,11 +8,10 @@ ghost use Rattle.snl_scope.specs.Linked.{name_of_state};
 ghost use Rattle.snl_scope.specs.Order.{is_state_word};
 ghost use Rattle.snl_scope.specs.Renamed.{DeclaresAnew, IsPlain, MeanAlike, NamesAnew, Renames, RenamesState, state_names, unnamed};
 ghost use Rattle.snl_scope.specs.Spoken.{KeepsViewsBut, bound, spoken_by};
-ghost use Rattle.snl_scope.specs.declared.summaries.summary.Outline.{Outline};
-ghost use Rattle.snl_scope.specs.declared.summaries.summary.Role.TheVariants as roles;
+ghost use Rattle.snl_summary.specs.declared.summary.Outline.{Outline};
+ghost use Rattle.snl_summary.specs.declared.summary.Role.TheVariants as roles;
 
-use crate::summaries::same_outline::are_same;
-use crate::summaries::summary::{Declared, Opening, Outline, Role, SymbolKind};
+use snl_summary::{Declared, Opening, Outline, Role, SymbolKind, are_same};
 
 // Whether an item bounds no state set, is no state, and has no clauses.
 fn is_plain(outline: &Outline) -> bool

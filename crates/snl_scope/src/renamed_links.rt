@@ -15,16 +15,9 @@ use crate::linking::{LinkedNames, linked_names};
 use crate::links::{Links, links_of};
 use crate::names::scopes::Scopes;
 use crate::renamed::Renaming;
-use crate::summaries::same_outline::{SameValue, are_same};
-use crate::summaries::summary::{ItemKind, Outline, Summary};
 use snl_cut::OutOfMemory;
+use snl_summary::{ItemKind, Outline, SameValue, Summary, are_same};
 use std::alloc::Global;
-
-impl SameValue for usize {
-    fn is_same(&self, other: &usize) -> bool {
-        *self == *other
-    }
-}
 
 impl SameValue for LinkFault {
     fn is_same(&self, other: &LinkFault) -> bool {

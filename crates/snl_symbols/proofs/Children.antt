@@ -13,13 +13,13 @@ use Rattle.snl_grammar.specs.declared.tree.item.Item.{Item}
 use Rattle.snl_grammar.specs.declared.tree.item.Item.TheVariants as items
 use Rattle.snl_grammar.specs.Parsing.{kinds_in}
 use Rattle.snl_grammar.specs.Reading.Items.{item_of}
-use Rattle.snl_scope.specs.declared.summaries.summary.Declared.{Declared}
-use Rattle.snl_scope.specs.declared.summaries.summary.Outline.{Outline}
-use Rattle.snl_scope.specs.NamedTokens.{NamesItsTokens}
+use Rattle.snl_summary.specs.declared.summary.Declared.{Declared}
+use Rattle.snl_summary.specs.declared.summary.Outline.{Outline}
+use Rattle.snl_summary.specs.NamedTokens.{NamesItsTokens}
 use Rattle.snl_scope.specs.Places.{begins_set, enclosing_set, ends_set, item_is, open_before, stands_in}
-use Rattle.snl_scope.specs.Summaries.{kind_of, role_of}
-use Rattle.snl_scope.specs.Summaries.Clauses.{clauses_in}
-use Rattle.snl_scope.specs.Summaries.Declares.{declared_in}
+use Rattle.snl_summary.specs.Summaries.{kind_of, role_of}
+use Rattle.snl_summary.specs.Summaries.Clauses.{clauses_in}
+use Rattle.snl_summary.specs.Summaries.Declares.{declared_in}
 use Rattle.snl_tables.specs.declared.rows.Span.{Span}
 use Rattle.snl_kept.specs.Checks.{outlines_in}
 use Rattle.snl_kept.specs.Program.{item_tokens, tree_in}

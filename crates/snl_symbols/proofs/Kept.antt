@@ -13,10 +13,10 @@ use Rattle.snl_lex.specs.Pieces.{LiesIn, is_token, piece_end, pieces_of, tokens_
 use Rattle.snl_grammar.specs.Outcome.{parsed_by, parsed_in, sound_tree}
 use Rattle.snl_grammar.specs.declared.tree.item.Item.{Item}
 use Rattle.snl_items.specs.Items.{item_ends, mark_in, marks_of, spelled_items}
-use Rattle.snl_scope.specs.declared.summaries.summary.Outline.{Outline}
-use Rattle.snl_scope.specs.declared.summaries.summary.Summary.{Summary}
-use Rattle.snl_scope.specs.SpelledTokens.{summary_by}
-use Rattle.snl_scope.specs.Summaries.{outline_in, summary_in}
+use Rattle.snl_summary.specs.declared.summary.Outline.{Outline}
+use Rattle.snl_summary.specs.declared.summary.Summary.{Summary}
+use Rattle.snl_summary.specs.SpelledTokens.{summary_by}
+use Rattle.snl_summary.specs.Summaries.{outline_in, summary_in}
 use Rattle.snl_item_check.specs.Items.{outline_of_item}
 use Rattle.snl_kept.specs.declared.entries.Entry.{Entry}
 use Rattle.snl_kept.specs.Checks.{outlines_in}

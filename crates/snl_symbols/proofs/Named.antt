@@ -10,8 +10,8 @@ use Rattle.snl_lex.specs.declared.piece.Piece.{Piece}
 use Rattle.snl_lex.specs.PieceList.{listed_pieces, piece_ends, piece_kinds}
 use Rattle.snl_lex.specs.Pieces.{LiesIn, is_token, pieces_of, tokens_of}
 use Rattle.snl_items.specs.Items.{item_ends, mark_in, marks_of}
-use Rattle.snl_scope.specs.declared.summaries.summary.Declared.{Declared}
-use Rattle.snl_scope.specs.declared.summaries.summary.Outline.{Outline}
+use Rattle.snl_summary.specs.declared.summary.Declared.{Declared}
+use Rattle.snl_summary.specs.declared.summary.Outline.{Outline}
 use Rattle.snl_tables.specs.declared.rows.Span.{Span}
 use Rattle.snl_kept.specs.Checks.{outlines_in}
 use Rattle.snl_kept.specs.Parts.{EndsWithin}

@@ -5,8 +5,8 @@ use Rattle.std.specs.Option.{option_and_then, option_map_or, option_to_list}
 use Rattle.std.proofs.lemmas.Option.{same_Some}
 use Rattle.snl_facts.specs.Each.{each_append}
 use Rattle.snl_lex.specs.declared.piece.Piece.{Piece}
-use Rattle.snl_scope.specs.declared.summaries.summary.Declared.{Declared}
-use Rattle.snl_scope.specs.declared.summaries.summary.Outline.{Outline}
+use Rattle.snl_summary.specs.declared.summary.Declared.{Declared}
+use Rattle.snl_summary.specs.declared.summary.Outline.{Outline}
 use Rattle.snl_scope.specs.Places.{enclosing_set}
 use Rattle.snl_tables.specs.declared.rows.Span.{Span}
 use Rattle.snl_item_tokens.specs.Items.{span_at}

@@ -5,12 +5,12 @@ use Rattle.std.specs.Prelude.{ℕ, zero, suc, ◌+◌, ◌-◌, Bool, true, fals
 use Rattle.std.specs.List.{filter_map, prefix_len, range_with_len}
 use Rattle.std.specs.Option.{option_map_or}
 use Rattle.snl_lex.specs.declared.piece.Piece.{Piece}
-use Rattle.snl_scope.specs.declared.summaries.summary.Declared.{Declared}
-use Rattle.snl_scope.specs.declared.summaries.summary.Opening.{Opening}
-use Rattle.snl_scope.specs.declared.summaries.summary.Opening.TheVariants as opening
-use Rattle.snl_scope.specs.declared.summaries.summary.Outline.{Outline}
-use Rattle.snl_scope.specs.declared.summaries.summary.SymbolKind.{SymbolKind}
-use Rattle.snl_scope.specs.declared.summaries.summary.SymbolKind.TheVariants as symbol_kind
+use Rattle.snl_summary.specs.declared.summary.Declared.{Declared}
+use Rattle.snl_summary.specs.declared.summary.Opening.{Opening}
+use Rattle.snl_summary.specs.declared.summary.Opening.TheVariants as opening
+use Rattle.snl_summary.specs.declared.summary.Outline.{Outline}
+use Rattle.snl_summary.specs.declared.summary.SymbolKind.{SymbolKind}
+use Rattle.snl_summary.specs.declared.summary.SymbolKind.TheVariants as symbol_kind
 use Rattle.snl_scope.specs.Places.{begins_set, enclosing_set, stands_in}
 use Rattle.snl_tables.specs.declared.rows.Span.{Span}
 use Rattle.snl_kept.specs.Checks.{outlines_in}

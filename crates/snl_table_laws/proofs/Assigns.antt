@@ -10,11 +10,11 @@ use Rattle.std.proofs.lemmas.List.Quantifiers.{all_pairs_push}
 use Rattle.snl_codes.specs.declared.code.Code.{Code}
 use Rattle.snl_codes.specs.declared.code.Code.TheVariants.{E11, E12, E13, E15, E16}
 use Rattle.snl_codes.specs.Codes.{is_error}
-use Rattle.snl_scope.specs.declared.summaries.summary.ClauseKind.TheVariants as kind
-use Rattle.snl_scope.specs.declared.summaries.summary.Coverage.{Coverage}
-use Rattle.snl_scope.specs.declared.summaries.summary.Coverage.TheVariants.{Whole, Element, Front}
-use Rattle.snl_scope.specs.declared.summaries.summary.Outline.{Outline}
-use Rattle.snl_scope.specs.declared.summaries.summary.Variable.{Variable}
+use Rattle.snl_summary.specs.declared.summary.ClauseKind.TheVariants as kind
+use Rattle.snl_summary.specs.declared.summary.Coverage.{Coverage}
+use Rattle.snl_summary.specs.declared.summary.Coverage.TheVariants.{Whole, Element, Front}
+use Rattle.snl_summary.specs.declared.summary.Outline.{Outline}
+use Rattle.snl_summary.specs.declared.summary.Variable.{Variable}
 use Rattle.snl_scope.specs.Clauses.{LinkedClause, assigns, clash, clauses_of, code_on, has_wrong_flag, is_assign, is_assignable, is_sound, misfits, overlaps, repetition_code, same_kind, same_number, sound_after, sound_clauses, variable_at, variable_code, with_clause}
 use Rattle.snl_scope.specs.Names.{Entry, entries}
 use Rattle.snl_table_laws.specs.Channels.{AreApart, AssignApart, Assigns}

@@ -15,8 +15,8 @@ use Rattle.snl_scope.specs.declared.facts.Declaration.{Declaration}
 use Rattle.snl_scope.specs.declared.facts.Scope.{Scope}
 use Rattle.snl_scope.specs.declared.facts.Scope.TheVariants as scope
 use Rattle.snl_scope.specs.declared.names.namespaces.Namespace.TheVariants as namespace
-use Rattle.snl_scope.specs.declared.summaries.summary.Outline.{Outline}
-use Rattle.snl_scope.specs.declared.summaries.summary.Variable.{Variable}
+use Rattle.snl_summary.specs.declared.summary.Outline.{Outline}
+use Rattle.snl_summary.specs.declared.summary.Variable.{Variable}
 use Rattle.snl_scope.specs.Below.{all_below}
 use Rattle.snl_scope.specs.Flags.{declares_flag, flag_number, flags_of, is_first, is_flag}
 use Rattle.snl_scope.specs.Linked.{declaration_at, entry_declaration, scope_in, variable_declaration}

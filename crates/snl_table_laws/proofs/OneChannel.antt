@@ -10,14 +10,14 @@ use Rattle.snl_grammar.specs.declared.tree.clause.Channel.TheVariants as channel
 use Rattle.snl_grammar.specs.declared.tree.clause.Clause.{Clause}
 use Rattle.snl_grammar.specs.declared.tree.clause.Clause.TheVariants as clauses
 use Rattle.snl_scope.specs.declared.facts.ClauseLink.{ClauseLink}
-use Rattle.snl_scope.specs.declared.summaries.summary.ClauseKind.TheVariants.{Assign}
-use Rattle.snl_scope.specs.declared.summaries.summary.Coverage.{Coverage}
-use Rattle.snl_scope.specs.declared.summaries.summary.Coverage.TheVariants.{Whole, Front}
-use Rattle.snl_scope.specs.declared.summaries.summary.Outline.{Outline}
-use Rattle.snl_scope.specs.declared.summaries.summary.VariableClause.{VariableClause}
+use Rattle.snl_summary.specs.declared.summary.ClauseKind.TheVariants.{Assign}
+use Rattle.snl_summary.specs.declared.summary.Coverage.{Coverage}
+use Rattle.snl_summary.specs.declared.summary.Coverage.TheVariants.{Whole, Front}
+use Rattle.snl_summary.specs.declared.summary.Outline.{Outline}
+use Rattle.snl_summary.specs.declared.summary.VariableClause.{VariableClause}
 use Rattle.snl_scope.specs.Clauses.{LinkedClause, clause_link, clauses_of, is_sound, soundness_after, with_clause}
 use Rattle.snl_scope.specs.Names.{Entry, entries}
-use Rattle.snl_scope.specs.Summaries.Clauses.{clause_of, covered_by_channel}
+use Rattle.snl_summary.specs.Summaries.Clauses.{clause_of, covered_by_channel}
 use Rattle.snl_check.specs.Channels.{AssignedChannel, assigned_channel, assigned_channels, by_element, channels_in, channels_of_clause, channels_on}
 use Rattle.snl_check.specs.Clauses.{ItemClause, item_clauses, summarized}
 use Rattle.snl_item_check.specs.Items.{ProgramItem, outlines_of, tokens_in}

@@ -4,7 +4,7 @@ use Rattle.std.specs.Prelude.{All, option_map, slice_get}
 use Rattle.std.specs.List.{cons_option, enumerate_from, flat_map}
 use Rattle.std.proofs.lemmas.List.Elements.{All-append, All-cons, All-drop, All-from_recursion, All-head, All-map, All-nil, All-tail, All-take}
 use Rattle.snl_lex.specs.declared.piece.Piece.{Piece}
-use Rattle.snl_scope.specs.declared.summaries.summary.Outline.{Outline}
+use Rattle.snl_summary.specs.declared.summary.Outline.{Outline}
 use Rattle.snl_scope.specs.Below.{all_below}
 use Rattle.snl_scope.specs.Places.{is_set_begin}
 use Rattle.snl_check.specs.Members.{states_in}

@@ -1,8 +1,8 @@
 -- The elements of a variable, and what `assign` clauses and channels have of them.
 use Rattle.std.specs.Prelude.{◌≡◌, ℕ, ◌<◌, Option, Some}
-use Rattle.snl_scope.specs.declared.summaries.summary.ClauseKind.TheVariants.{Assign}
-use Rattle.snl_scope.specs.declared.summaries.summary.Coverage.{Coverage}
-use Rattle.snl_scope.specs.declared.summaries.summary.Coverage.TheVariants.{Whole, Element, Front}
+use Rattle.snl_summary.specs.declared.summary.ClauseKind.TheVariants.{Assign}
+use Rattle.snl_summary.specs.declared.summary.Coverage.{Coverage}
+use Rattle.snl_summary.specs.declared.summary.Coverage.TheVariants.{Whole, Element, Front}
 use Rattle.snl_scope.specs.Clauses.{LinkedClause}
 use Rattle.snl_check.specs.Channels.{AssignedChannel}
 

@@ -4,7 +4,7 @@
 ghost use Rattle.snl_check.specs.Channels.{assigned_channels};
 ghost use Rattle.snl_item_check.specs.Items.{ProgramItem, outlines_of};
 ghost use Rattle.snl_scope.specs.Clauses.{sound_clauses};
-ghost use Rattle.snl_scope.specs.declared.summaries.summary.Outline.{Outline};
+ghost use Rattle.snl_summary.specs.declared.summary.Outline.{Outline};
 ghost use Rattle.snl_table_laws.specs.Channels.{AssignApart, ChannelsApart};
 ghost use Rattle.std.specs.Prelude.{ℕ, List};
 ghost use Rattle.std.specs.List.{AllPairs};

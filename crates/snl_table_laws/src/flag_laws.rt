@@ -5,7 +5,7 @@ ghost use Rattle.snl_item_check.specs.Items.{ProgramItem, outlines_of};
 ghost use Rattle.snl_check.specs.Tables.{tables_of};
 ghost use Rattle.snl_listing.specs.Listing.{flag_line, listing_of};
 ghost use Rattle.snl_scope.specs.Flags.{flag_number};
-ghost use Rattle.snl_scope.specs.declared.summaries.summary.Outline.{Outline};
+ghost use Rattle.snl_summary.specs.declared.summary.Outline.{Outline};
 ghost use Rattle.snl_table_laws.specs.Flags.{HasLine, IsRowOf, row_numbered};
 ghost use Rattle.snl_tables.specs.declared.rows.FlagRow.{FlagRow};
 ghost use Rattle.snl_tables.specs.declared.rows.Tables.{Tables};

@@ -23,8 +23,8 @@ use Rattle.snl_scope.specs.declared.names.namespaces.Namespace.{Namespace}
 use Rattle.snl_scope.specs.declared.names.namespaces.Namespace.TheVariants as namespace
 use Rattle.snl_scope.specs.declared.names.namespaces.QualifiedName.{QualifiedName}
 use Rattle.snl_scope.specs.declared.compared.Compared.{Compared}
-use Rattle.snl_scope.specs.declared.summaries.summary.Outline.{Outline}
-use Rattle.snl_scope.specs.declared.summaries.summary.Summary.{Summary}
+use Rattle.snl_summary.specs.declared.summary.Outline.{Outline}
+use Rattle.snl_summary.specs.declared.summary.Summary.{Summary}
 use Rattle.snl_views.specs.SameMeanings.{IsPaired, MeansTheSame, SamePlace, Unmarks, number_after, number_before, pair_of, same_meaning, same_under, set_in, with_set}
 use Rattle.snl_views.specs.declared.same_views.Moved.{Moved}
 use Rattle.snl_views.specs.declared.same_views.Side.{Side}

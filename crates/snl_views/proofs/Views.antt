@@ -10,10 +10,10 @@ use Rattle.snl_scope.specs.declared.facts.NameKind.TheVariants as name_kind
 use Rattle.snl_scope.specs.declared.facts.Fact.{Fact}
 use Rattle.snl_scope.specs.declared.facts.Level.{Level}
 use Rattle.snl_scope.specs.declared.facts.Level.TheVariants as level
-use Rattle.snl_scope.specs.declared.summaries.summary.Dims.{Dims}
-use Rattle.snl_scope.specs.declared.summaries.summary.Dims.TheVariants as dims
-use Rattle.snl_scope.specs.declared.summaries.summary.Outline.{Outline}
-use Rattle.snl_scope.specs.declared.summaries.summary.Summary.{Summary}
+use Rattle.snl_summary.specs.declared.summary.Dims.{Dims}
+use Rattle.snl_summary.specs.declared.summary.Dims.TheVariants as dims
+use Rattle.snl_summary.specs.declared.summary.Outline.{Outline}
+use Rattle.snl_summary.specs.declared.summary.Summary.{Summary}
 use Rattle.snl_scope.specs.Linked.{fact_of, has_target}
 use Rattle.snl_scope.specs.Places.{enclosing_set}
 use Rattle.snl_scope.specs.View.{view}

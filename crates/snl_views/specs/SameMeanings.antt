@@ -7,7 +7,7 @@ use Rattle.snl_scope.specs.declared.names.namespaces.Namespace.TheVariants as na
 use Rattle.snl_scope.specs.declared.names.namespaces.QualifiedName.{QualifiedName}
 use Rattle.snl_scope.specs.declared.compared.Compared.{Compared}
 use Rattle.snl_scope.specs.declared.compared.Meanings.{Meanings}
-use Rattle.snl_scope.specs.declared.summaries.summary.Outline.{Outline}
+use Rattle.snl_summary.specs.declared.summary.Outline.{Outline}
 use Rattle.snl_scope.specs.Linked.{fact_at}
 use Rattle.snl_scope.specs.Names.{entries, number_in}
 use Rattle.snl_scope.specs.NameTables.{number_under}

@@ -7,7 +7,7 @@ ghost use Rattle.snl_scope.specs.Compared.{ByNames};
 ghost use Rattle.snl_scope.specs.View.{view};
 ghost use Rattle.snl_scope.specs.declared.names.namespaces.Namespace.{Namespace};
 ghost use Rattle.snl_scope.specs.declared.names.namespaces.QualifiedName.{QualifiedName};
-ghost use Rattle.snl_scope.specs.declared.summaries.summary.Summary.{Summary};
+ghost use Rattle.snl_summary.specs.declared.summary.Summary.{Summary};
 ghost use Rattle.snl_views.specs.SameMeanings.{AreBoth, AreSame, IsPaired, SamePlace, Unmarks, meaning_under, number_after, number_before, paired, same_meaning, same_under, set_in, with_set};
 
 use crate::view::is_same_known;

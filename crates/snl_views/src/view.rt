@@ -4,8 +4,8 @@
 ghost use Rattle.std.specs.Prelude.{◌≡◌, ◌↔◌, IsTrue, List, ℕ};
 ghost use Rattle.std.specs.List.{list_all};
 ghost use Rattle.snl_scope.specs.Linked.{fact_of, has_target};
-ghost use Rattle.snl_scope.specs.declared.summaries.summary.Outline.{Outline};
-ghost use Rattle.snl_scope.specs.declared.summaries.summary.Summary.{Summary};
+ghost use Rattle.snl_summary.specs.declared.summary.Outline.{Outline};
+ghost use Rattle.snl_summary.specs.declared.summary.Summary.{Summary};
 ghost use Rattle.snl_scope.specs.View.{view};
 ghost use Rattle.snl_views.specs.SameView.{same_assigned, same_name_kind, same_bool, same_dims, same_facts, same_known, same_level, same_view};
 

@@ -7,7 +7,7 @@ ghost use Rattle.std.specs.Option.{option_map_or};
 ghost use Rattle.snl_scope.specs.Linked.{is_first_state, name_of_state, state_of};
 ghost use Rattle.snl_scope.specs.Order.{is_state_word, state_name};
 ghost use Rattle.snl_scope.specs.Places.{stands_in};
-ghost use Rattle.snl_scope.specs.Summaries.{opening_by_word, outline_in};
+ghost use Rattle.snl_summary.specs.Summaries.{opening_by_word, outline_in};
 ghost use Rattle.snl_walk.specs.Tokens.{IsSource};
 ghost use Rattle.snl_check.specs.Collected.{IsLinked, IsStateSource, items_in, over};
 ghost use Rattle.snl_check.specs.ItemTokens.{own_tokens};

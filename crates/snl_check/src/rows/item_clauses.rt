@@ -3,7 +3,7 @@
 
 ghost use Rattle.std.specs.Prelude.{◌≡◌, ◌++◌, IfOk, OnOk, map, option_copied};
 ghost use Rattle.std.specs.List.{flat_map};
-ghost use Rattle.snl_scope.specs.Summaries.{kind_of};
+ghost use Rattle.snl_summary.specs.Summaries.{kind_of};
 ghost use Rattle.snl_check.specs.Clauses.{clause_in_member, clauses_in_tree, has_clauses, item_clause, item_clauses, item_clauses_if, resolved_clauses};
 ghost use Rattle.snl_check.specs.Collected.{AreTextItems, items_in, placed, resolved};
 

@@ -4,7 +4,7 @@
 ghost use Rattle.std.specs.Prelude.{◌≡◌, IfOk, IfSome, length, map, option_copied, take};
 ghost use Rattle.snl_lex.specs.LineList.{IsLineList};
 ghost use Rattle.snl_lex.specs.Pieces.{pieces_of, tokens_of};
-ghost use Rattle.snl_scope.specs.Summaries.{kind_of};
+ghost use Rattle.snl_summary.specs.Summaries.{kind_of};
 ghost use Rattle.snl_check.specs.Channels.{assigned_channels};
 ghost use Rattle.snl_check.specs.Collected.{IsLinked, IsStateSource, assigned, items_in, over};
 ghost use Rattle.snl_item_check.specs.Items.{IsCutUp, program_items, outlines_of};

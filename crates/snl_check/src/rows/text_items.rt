@@ -26,7 +26,7 @@ pub(crate) struct TextItems<'a> {
 impl<'a> TextItems<'a> {
     ghost use Rattle.std.specs.Prelude.{◌<◌, ◌≤◌, length, option_and_then, slice_get, slice_index};
     ghost use Rattle.snl_walk.specs.Tokens.{IsSource};
-    ghost use Rattle.snl_scope.specs.Summaries.{kind_of};
+    ghost use Rattle.snl_summary.specs.Summaries.{kind_of};
     ghost use Rattle.snl_check.specs.Collected.{AreTextItems, items_in};
     ghost use Rattle.snl_item_check.specs.Items.{start_of, tokens_in, tree_in};
     ghost use Rattle.snl_check.specs.ItemTokens.{own_tokens};

@@ -8,7 +8,7 @@ ghost use Rattle.std.specs.List.{position};
 ghost use Rattle.snl_lex.specs.PieceList.{spelled};
 ghost use Rattle.snl_lex.specs.Pieces.{LiesIn};
 ghost use Rattle.snl_grammar.specs.Outcome.{parsed_by};
-ghost use Rattle.snl_scope.specs.declared.summaries.summary.Outline.{Outline};
+ghost use Rattle.snl_summary.specs.declared.summary.Outline.{Outline};
 ghost use Rattle.snl_kept.specs.Checks.{check_by};
 ghost use Rattle.snl_kept.specs.ReplacedItem.{own_findings};
 ghost use Rattle.snl_kept.specs.OwnFindings.{IsOwnCheck, found_around, is_same, taken_out, without};

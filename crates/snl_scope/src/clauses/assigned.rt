@@ -9,8 +9,8 @@ ghost use Rattle.snl_scope.specs.Resolved.{Assigns, linked};
 use crate::by_number::{at_number, put_at};
 use crate::clauses::resolved::Resolved;
 use crate::facts::Assigned;
-use crate::summaries::summary::{ClauseKind, Coverage};
 use snl_cut::OutOfMemory;
+use snl_summary::{ClauseKind, Coverage};
 use std::alloc::Global;
 
 /// What a clause that assigns says of its variable.

@@ -12,9 +12,9 @@ ghost use Rattle.snl_scope.specs.declared.clauses.clause_index.Extent.{Extent};
 ghost use Rattle.snl_scope.specs.declared.clauses.clause_index.Extent.TheVariants as extent;
 
 use crate::by_number::{at_number, put_at};
-use crate::summaries::summary::{ClauseKind, Coverage};
 use snl_cut::OutOfMemory;
 use snl_numbers::NumbersByKey;
+use snl_summary::{ClauseKind, Coverage};
 use std::alloc::Global;
 use std::hash::{Hash, Hasher};
 

@@ -3,14 +3,14 @@
 
 ghost use Rattle.std.specs.Prelude.{◌≡◌, ℕ, suc, IfOk, List, nat_eq, option_map, position};
 ghost use Rattle.std.specs.List.Sorted.{IsStrictlyIncreasing};
-ghost use Rattle.snl_scope.specs.declared.summaries.summary.Outline.{Outline};
+ghost use Rattle.snl_summary.specs.declared.summary.Outline.{Outline};
 ghost use Rattle.snl_scope.specs.Flags.{declares_flag, flags_of};
 ghost use Rattle.snl_scope.specs.Names.{entries};
 ghost use Rattle.snl_scope.specs.NameTables.{TablesFollow, flag_stands};
 
 use crate::names::name_tables::{NameTables, Symbol};
-use crate::summaries::summary::{SymbolKind, Variable};
 use snl_cut::OutOfMemory;
+use snl_summary::{SymbolKind, Variable};
 use std::alloc::Global;
 
 // Whether what a declaration says of a name makes it an event flag.

@@ -10,7 +10,7 @@ ghost use Rattle.snl_scope.specs.OutlineList.{IsClauseNumbered, clause_by, name_
 ghost use Rattle.snl_scope.specs.Places as Places;
 ghost use Rattle.snl_scope.specs.Resolved.{linked};
 ghost use Rattle.snl_scope.specs.declared.names.name_tables.Symbol.{Symbol};
-ghost use Rattle.snl_scope.specs.declared.summaries.summary.Outline.{Outline};
+ghost use Rattle.snl_summary.specs.declared.summary.Outline.{Outline};
 
 use crate::names::first_numbers::FirstNumbers;
 use crate::names::scopes::Scopes;

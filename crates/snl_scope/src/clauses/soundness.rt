@@ -18,9 +18,9 @@ use crate::clauses::resolved::Resolved;
 use crate::facts::{Assigned, ClauseLink, LinkFault};
 use crate::names::scopes::Scopes;
 use crate::outlines::flat::FlatClause;
-use crate::summaries::summary::{ClauseKind, Coverage, Dims, SymbolKind, Variable};
 use snl_codes::Code;
 use snl_cut::OutOfMemory;
+use snl_summary::{ClauseKind, Coverage, Dims, SymbolKind, Variable};
 use std::alloc::Global;
 
 // Whether a channel can be assigned to it.

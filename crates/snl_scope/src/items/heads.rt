@@ -3,7 +3,7 @@
 ghost use Rattle.std.specs.Prelude.{◌≡◌};
 ghost use Rattle.snl_scope.specs.NameTables.{is_sought_head};
 
-use crate::summaries::summary::{Opening, Role};
+use snl_summary::{Opening, Role};
 
 /// What an outline says of the order of items.
 #[derive(Clone, Copy)]

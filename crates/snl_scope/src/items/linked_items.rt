@@ -2,8 +2,8 @@
 
 ghost use Rattle.std.specs.Prelude.{◌≡◌, ◌≤◌, ◌++◌, IfOk, drop, length, map, take};
 
-use crate::summaries::summary::{ItemKind, Summary};
 use snl_cut::OutOfMemory;
+use snl_summary::{ItemKind, Summary};
 use std::alloc::Global;
 
 /// The kinds of all items.

@@ -10,9 +10,9 @@ use crate::facts::LinkFault;
 use crate::items::heads::{Sought, is_sought};
 use crate::items::phases::{Before, begins_with_program};
 use crate::names::scopes::Scopes;
-use crate::summaries::summary::{ItemKind, Opening, Role};
 use snl_codes::Code;
 use snl_cut::OutOfMemory;
+use snl_summary::{ItemKind, Opening, Role};
 use std::alloc::Global;
 
 /// Whether an item of the kind is faulty.

@@ -4,7 +4,7 @@ ghost use Rattle.std.specs.Prelude.{◌≡◌, false};
 ghost use Rattle.snl_scope.specs.Order.{is_barred_in_sets, is_main, is_program_word, is_state, phase_of};
 ghost use Rattle.snl_scope.specs.NameTables.{and_item, barred_at, is_below, misplaced_after, phase_in, with_phase};
 
-use crate::summaries::summary::{ItemKind, Opening};
+use snl_summary::{ItemKind, Opening};
 
 fn is_state(kind: ItemKind) -> bool
     ensures { result ≡ is_state kind }

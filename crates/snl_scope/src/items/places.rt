@@ -6,8 +6,8 @@ ghost use Rattle.snl_scope.specs.NameTables.{Placed, head_of};
 
 use crate::items::heads::Head;
 use crate::outlines::outline_list::OutlineList;
-use crate::summaries::summary::Role;
 use snl_cut::OutOfMemory;
+use snl_summary::Role;
 use std::alloc::Global;
 
 // The place of an item, where `outer` is the state set that is open before it.

@@ -5,26 +5,15 @@ ghost use Rattle.snl_lex.specs.declared.piece.Piece.{Piece};
 ghost use Rattle.snl_scope.specs.FaultPlaces.{IsPlaced, SpeaksOfTokens};
 ghost use Rattle.snl_scope.specs.LinkedItems.{LinkedItems};
 ghost use Rattle.snl_scope.specs.Linked.{faults_of};
-ghost use Rattle.snl_scope.specs.Once.{AreFoundOnce, TokensRise};
-ghost use Rattle.snl_scope.specs.Summaries.{outline_in};
+ghost use Rattle.snl_scope.specs.Once.{AreFoundOnce};
+ghost use Rattle.snl_summary.specs.RisingTokens.{TokensRise};
+ghost use Rattle.snl_summary.specs.Summaries.{outline_in};
 ghost use Rattle.snl_grammar.specs.Reading.Items.{item_of};
 ghost use Rattle.snl_grammar.specs.Parsing.{kinds_in};
 ghost use Rattle.snl_grammar.specs.declared.tree.item.Item.{Item};
 ghost use Rattle.std.specs.Prelude.{◌≡◌, ◌<◌, ℕ, All, IfSome, List, None, Some, length, slice_get};
 
 use snl_grammar::{item_read, item_spelled};
-
-/// In the outline of an item, no two declarations are at one token, nor are the variables of two
-/// clauses, nor the flags of two. A faulty item has none of them.
-pub fn tokens_declared_once()
-    ensures tree { (text : List ℕ) (tokens : List Piece) (t : Item)
-        → item_of (kinds_in text tokens) ≡ Some t → TokensRise (outline_in text tokens (Some t)) }
-    ensures faulty { (text : List ℕ) (tokens : List Piece)
-        → TokensRise (outline_in text tokens None) }
-{
-    item_read();
-    item_spelled();
-}
 
 /// Where the tokens of each outline rise, no finding of the links comes twice: no two have the same
 /// item, token and code.

@@ -1,7 +1,7 @@
 //! The law of the state sets that items are in. A function here does nothing: its contract is the
 //! law.
 
-ghost use Rattle.snl_scope.specs.declared.summaries.summary.Outline.{Outline};
+ghost use Rattle.snl_summary.specs.declared.summary.Outline.{Outline};
 ghost use Rattle.snl_scope.specs.Places.{begins_set, ends_set, open_before, enclosing_set};
 ghost use Rattle.std.specs.Prelude.{◌≡◌, ◌<◌, ℕ, suc, List, Some, None, if◌then◌else◌, slice_get};
 

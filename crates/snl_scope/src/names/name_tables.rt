@@ -7,7 +7,7 @@ ghost use Rattle.snl_names.specs.NameBook.{AllDiffer};
 ghost use Rattle.snl_scope.specs.Names.{Entry, declared_entry, entries, entries_of, has_own_scope, repetition_at, scope_at, scope_code, scope_of, set_entries, set_name, state_entries};
 ghost use Rattle.snl_scope.specs.Order.{state_name};
 ghost use Rattle.snl_scope.specs.Places as Places;
-ghost use Rattle.snl_scope.specs.declared.summaries.summary.Outline.{Outline};
+ghost use Rattle.snl_summary.specs.declared.summary.Outline.{Outline};
 ghost use Rattle.snl_codes.specs.declared.code.Code.{Code};
 ghost use Rattle.snl_scope.specs.declared.names.namespaces.Namespace.{Namespace};
 ghost use Rattle.snl_scope.specs.NameTables.{Placed, TablesFollow, entry_of, symbol_named};
@@ -18,9 +18,9 @@ use crate::names::namespaces::{Namespace, QualifiedName};
 use crate::outlines::cursor::{Cursor, ToldOutline};
 use crate::outlines::flat::{FlatDeclared, FlatOutline};
 use crate::outlines::outline_list::OutlineList;
-use crate::summaries::summary::{Opening, Role, Variable};
 use snl_codes::Code;
 use snl_cut::OutOfMemory;
+use snl_summary::{Opening, Role, Variable};
 use std::alloc::Global;
 
 /// A name that an item brings into a namespace, by its number: `code` is what it gives where an earlier one has

@@ -7,7 +7,7 @@ use crate::names::first_numbers::FirstNumbers;
 use crate::names::name_tables::Symbol;
 use crate::names::namespaces::Namespace;
 use crate::outlines::outline_list::OutlineList;
-use crate::summaries::summary::{Role, Variable};
+use snl_summary::{Role, Variable};
 use std::marker::Model;
 
 /// The finished tables of all items, which contracts see as the list of their outlines.
@@ -34,7 +34,7 @@ impl Drop for Scopes {
 
 impl Model for Scopes {
     ghost use Rattle.std.specs.Prelude.{◌≡◌, List, length, map};
-    ghost use Rattle.snl_scope.specs.declared.summaries.summary.Outline.{Outline};
+    ghost use Rattle.snl_summary.specs.declared.summary.Outline.{Outline};
     ghost use Rattle.snl_scope.specs.Names.{entries};
     ghost use Rattle.snl_scope.specs.NameTables.{Placed, Tabled, head_of};
 

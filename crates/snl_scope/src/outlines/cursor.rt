@@ -2,7 +2,7 @@
 
 ghost use Rattle.std.specs.Prelude.{◌≡◌, ◌^◌, ◌<◌, ◌+◌, List, ℕ, Some, length, slice_get};
 ghost use Rattle.snl_scope.specs.OutlineList.{IsAt, outline_of};
-ghost use Rattle.snl_scope.specs.declared.summaries.summary.Outline.{Outline};
+ghost use Rattle.snl_summary.specs.declared.summary.Outline.{Outline};
 
 use crate::outlines::flat::{FlatClause, FlatDeclared, FlatOutline};
 

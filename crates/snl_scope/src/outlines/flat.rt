@@ -1,6 +1,6 @@
 //! The elements of flat lists of outlines. A name is told by its number in a book of names.
 
-use crate::summaries::summary::{ClauseKind, Coverage, Opening, Role, Variable};
+use snl_summary::{ClauseKind, Coverage, Opening, Role, Variable};
 
 /// What an outline says beside its declarations and clauses, and how many it has of these.
 #[derive(Clone, Copy)]

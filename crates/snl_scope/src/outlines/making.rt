@@ -2,15 +2,14 @@
 //! that is at hand; the same in flat lists goes out.
 
 ghost use Rattle.std.specs.Prelude.{◌≡◌, ◌++◌, ◌∷◌, [], ◌^◌, ◌<◌, ◌≤◌, List, IfOk, IfSome, OnOk, drop, length, map, option_map, take};
-ghost use Rattle.snl_scope.specs.declared.summaries.summary.Outline.{Outline};
+ghost use Rattle.snl_summary.specs.declared.summary.Outline.{Outline};
 ghost use Rattle.snl_scope.specs.OutlineList.{AddsClauses, AddsDeclared, AreFlat, Extends, IsClauseNumbered, Tells, clause_by, clauses_in, declares_in, name_at, outlines_by, ref_by};
 
 use crate::outlines::flat::{FlatClause, FlatDeclared, FlatOutline, FlatRef};
 use crate::outlines::outline_list::OutlineList;
-use crate::summaries::name::Name;
-use crate::summaries::summary::{Declared, NameRef, Outline, Summary, VariableClause};
 use snl_cut::OutOfMemory;
 use snl_names::NameBook;
+use snl_summary::{Declared, Name, NameRef, Outline, Summary, VariableClause};
 use std::alloc::Global;
 
 // Takes the names of declarations in.

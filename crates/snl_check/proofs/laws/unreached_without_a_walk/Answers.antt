@@ -1,6 +1,6 @@
 use Rattle.std.proofs.Common.{◌≡◌, ◌<◌, ◌↔◌, ℕ, Bool, true, false, not, if◌then◌else◌, List, length, refl, sym, subst}
 use Rattle.std.proofs.lemmas.List.{length-map}
-use Rattle.snl_scope.specs.declared.summaries.summary.Outline.{Outline}
+use Rattle.snl_summary.specs.declared.summary.Outline.{Outline}
 use Rattle.snl_item_check.specs.Items.{ProgramItem}
 use Rattle.snl_scope.specs.Linked.{is_first_state}
 use Rattle.snl_check.specs.Members.{has_faulty, is_faulty_item, states_in, target_numbers, targets_among}

@@ -7,7 +7,7 @@ ghost use Rattle.std.specs.Prelude.{◌≡◌, ◌<◌, ℕ, All, IfOk, List, le
 ghost use Rattle.snl_lex.specs.LineList.{IsLineList};
 ghost use Rattle.snl_lex.specs.PieceList.{spelled};
 ghost use Rattle.snl_lex.specs.Pieces.{LiesIn};
-ghost use Rattle.snl_scope.specs.declared.summaries.summary.Outline.{Outline};
+ghost use Rattle.snl_summary.specs.declared.summary.Outline.{Outline};
 ghost use Rattle.snl_kept.specs.OneItem.{IsOneItemEdit, item_of, old_of, outlines_by, text_of};
 ghost use Rattle.snl_kept.specs.Checks.{check_by, outlines_in};
 ghost use Rattle.snl_kept.specs.Diagnostics.{diagnostic, shown_if};

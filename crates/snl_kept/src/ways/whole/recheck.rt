@@ -8,7 +8,7 @@ ghost use Rattle.snl_cut.specs.Cut.{after_ticks};
 ghost use Rattle.snl_lex.specs.Pieces.{LiesIn};
 ghost use Rattle.snl_scope.specs.Spoken.{KeepsViews};
 ghost use Rattle.snl_scope.specs.View.{view};
-ghost use Rattle.snl_scope.specs.declared.summaries.summary.Summary.{Summary};
+ghost use Rattle.snl_summary.specs.declared.summary.Summary.{Summary};
 ghost use Rattle.snl_views.specs.SameMeanings.{AreBoth};
 ghost use Rattle.snl_kept.specs.Parts.{IsPart, spelled_part};
 ghost use Rattle.snl_kept.specs.NewChecks.{made_at, made_checks, made_for, number_before, sees_as_before};

@@ -1,6 +1,6 @@
 use Rattle.std.proofs.Common.{◌≡◌, ℕ, ◌+◌, ◌++◌, ◌∷◌, [], List, ap, ap₂, append_assoc, arith, map, sym, take, ◌∙◌}
 use Rattle.std.proofs.lemmas.List.{map_more, map_push}
-use Rattle.snl_scope.specs.declared.summaries.summary.VariableClause.{VariableClause}
+use Rattle.snl_summary.specs.declared.summary.VariableClause.{VariableClause}
 use Rattle.snl_scope.proofs.edited_names.add_clauses.Goals as goal
 
 abbrev name_of : VariableClause → List ℕ

@@ -1,6 +1,6 @@
 use Rattle.std.proofs.Common.{◌≡◌, ℕ, ◌+◌, ◌++◌, ◌∷◌, [], List, ap, arith, map, sym, take, ◌∙◌}
 use Rattle.std.proofs.lemmas.List.{flat_map_more, map_more}
-use Rattle.snl_scope.specs.declared.summaries.summary.Outline.{Outline}
+use Rattle.snl_summary.specs.declared.summary.Outline.{Outline}
 use Rattle.snl_scope.specs.Spoken.{spoken, spoken_by}
 use Rattle.snl_scope.proofs.edited_names.add_spoken_by.Goals as goal
 

@@ -1,5 +1,5 @@
 use Rattle.std.proofs.Common.{◌≡◌, ◌<◌, ℕ, false, get_or, map, take}
-use Rattle.snl_scope.specs.declared.summaries.summary.Declared.{Declared}
+use Rattle.snl_summary.specs.declared.summary.Declared.{Declared}
 use Rattle.snl_scope.specs.Clauses.{is_event_flag}
 use Rattle.snl_scope.specs.Renamed.{unnamed}
 use Rattle.snl_scope.proofs.renamed.are_declared_anew.Given as goal

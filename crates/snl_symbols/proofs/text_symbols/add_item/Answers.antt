@@ -1,7 +1,7 @@
 use Rattle.std.proofs.Common.{◌≡◌, ◌++◌, List, [], Option, Some, None, slice_get, append-nil, ap, sym, subst, ◌∙◌}
 use Rattle.std.specs.Prelude.{OnOk}
 use Rattle.std.specs.Option.{option_map_or}
-use Rattle.snl_scope.specs.declared.summaries.summary.Outline.{Outline}
+use Rattle.snl_summary.specs.declared.summary.Outline.{Outline}
 use Rattle.snl_kept.specs.declared.entries.Entry.{Entry}
 use Rattle.snl_symbols.specs.declared.document_symbol.DocumentSymbol.{DocumentSymbol}
 use Rattle.snl_item_tokens.specs.Items.{tokens_by_item}

@@ -2,7 +2,7 @@ use Rattle.std.proofs.Common.{◌++◌, map, sym, ap, ◌∙◌}
 use Rattle.std.specs.List.{filter_map}
 use Rattle.std.proofs.lemmas.List.{append-nil, drop_all}
 use Rattle.std.proofs.lemmas.Simd.{map-map}
-use Rattle.snl_scope.specs.Summaries.Tokens.{name_ref_at}
+use Rattle.snl_summary.specs.Summaries.Tokens.{name_ref_at}
 use Rattle.snl_walk.specs.declared.used.TargetUse.{TargetUse}
 use Rattle.snl_check.specs.Collected.{items_in}
 use Rattle.snl_item_check.specs.Items.{tokens_in}

@@ -1,6 +1,6 @@
 use Rattle.std.proofs.Common.{◌≡◌, ◌++◌, drop, map}
 use Rattle.std.specs.List.{filter_map}
-use Rattle.snl_scope.specs.Summaries.Tokens.{name_ref_at}
+use Rattle.snl_summary.specs.Summaries.Tokens.{name_ref_at}
 use Rattle.snl_walk.specs.declared.used.TargetUse.{TargetUse}
 use Rattle.snl_check.specs.Members.{target_number}
 use Rattle.snl_check.specs.ItemTokens.{own_tokens}

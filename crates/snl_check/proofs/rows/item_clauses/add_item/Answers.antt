@@ -3,7 +3,7 @@ use Rattle.std.proofs.lemmas.List.{append-nil}
 use Rattle.std.specs.Option.{option_copied}
 use Rattle.snl_grammar.specs.declared.tree.item.Item.{Item}
 use Rattle.snl_grammar.specs.declared.tree.item.Item.TheVariants as items
-use Rattle.snl_scope.specs.Summaries.{kind_of}
+use Rattle.snl_summary.specs.Summaries.{kind_of}
 use Rattle.snl_check.specs.Clauses.{ItemClause, has_clauses, item_clauses_if}
 use Rattle.snl_check.specs.Collected.{placed}
 use Rattle.snl_check.proofs.rows.item_clauses.add_item.Goals as goal

@@ -3,7 +3,7 @@ use Rattle.snl_grammar.specs.declared.tree.item.Item.{Item}
 use Rattle.snl_grammar.specs.declared.tree.item.Item.TheVariants as items
 use Rattle.snl_item_check.specs.Items.{tokens_in, tree_in}
 use Rattle.snl_item_check.specs.View.{is_in_set}
-use Rattle.snl_scope.specs.Summaries.{is_option, kind_of}
+use Rattle.snl_summary.specs.Summaries.{is_option, kind_of}
 use Rattle.snl_walk.specs.Tokens.{token_bytes}
 use Rattle.snl_check.specs.Collected.{items_in}
 use Rattle.snl_check.specs.Settings.{LetterSetting, setting_in_tree}

@@ -1,5 +1,5 @@
 use Rattle.std.proofs.Common.{◌≡◌, take, map}
-use Rattle.snl_scope.specs.Summaries.{kind_of}
+use Rattle.snl_summary.specs.Summaries.{kind_of}
 use Rattle.snl_kept.specs.Parts.{item_of_part}
 use Rattle.snl_kept.proofs.found.summaries.kinds_of.Given as goal
 

@@ -1,6 +1,6 @@
 use Rattle.std.proofs.Common.{◌≡◌, ℕ, List, ap, map, ◌∙◌, Bor}
 use Rattle.std.proofs.lemmas.Simd.{map-map}
-use Rattle.snl_scope.specs.declared.summaries.summary.Summary.{Summary}
+use Rattle.snl_summary.specs.declared.summary.Summary.{Summary}
 use Rattle.snl_scope.specs.LinkedItems.{linked_items}
 use Rattle.snl_item_check.specs.Items.{ProgramItem, linked_of, summaries_of, summary_of_item}
 use Rattle.snl_kept.specs.Parts.{item_of_part}

@@ -2,9 +2,9 @@ use Rattle.std.proofs.Common.{◌≡◌, ℕ, ◌+◌, List, [], ◌∷◌, map,
 use Rattle.std.specs.List.{enumerate_from}
 use Rattle.snl_lex.specs.declared.piece.Piece.{Piece}
 use Rattle.snl_grammar.specs.declared.tree.item.Item.{Item}
-use Rattle.snl_scope.specs.declared.summaries.summary.ItemKind.{ItemKind}
-use Rattle.snl_scope.specs.declared.summaries.summary.Outline.{Outline}
-use Rattle.snl_scope.specs.Summaries.{kind_of}
+use Rattle.snl_summary.specs.declared.summary.ItemKind.{ItemKind}
+use Rattle.snl_summary.specs.declared.summary.Outline.{Outline}
+use Rattle.snl_summary.specs.Summaries.{kind_of}
 use Rattle.snl_check.specs.KnownRows.{AreKnown}
 use Rattle.snl_check.specs.Tables.{tables_of}
 use Rattle.snl_item_check.specs.Items.{program_items}

@@ -1,5 +1,5 @@
 use Rattle.std.proofs.lemmas.List.Elements.{All-from_recursion}
-use Rattle.snl_scope.specs.Once.{TokensRise}
+use Rattle.snl_summary.specs.RisingTokens.{TokensRise}
 use Rattle.snl_kept.specs.Linked.{linked_of}
 use Rattle.snl_kept.specs.Program.{item_tokens, items_of}
 use Rattle.snl_kept.proofs.Rising.{all_rise}

@@ -1,6 +1,6 @@
 use Rattle.std.proofs.Common.{◌≡◌, List, ap, refl, ◌∙◌}
 use Rattle.snl_scope.specs.Names.{entries, number_in}
-use Rattle.snl_scope.specs.declared.summaries.summary.Outline.{Outline}
+use Rattle.snl_summary.specs.declared.summary.Outline.{Outline}
 use Rattle.snl_scope.proofs.compared.Compared.of.Goals as goal
 
 pub returns : goal.returns

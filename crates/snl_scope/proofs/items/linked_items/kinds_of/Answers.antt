@@ -1,6 +1,6 @@
 use Rattle.std.proofs.Common.{◌≡◌, ◌+◌, ◌++◌, ◌∷◌, [], ap, arith, List, map, sym, take, ◌∙◌}
 use Rattle.std.proofs.lemmas.List.{map_more}
-use Rattle.snl_scope.specs.declared.summaries.summary.ItemKind.{ItemKind}
+use Rattle.snl_summary.specs.declared.summary.ItemKind.{ItemKind}
 use Rattle.snl_scope.proofs.items.linked_items.kinds_of.Goals as goal
 
 pub loop-summary-preserved : goal.loop-summary-preserved

@@ -1,7 +1,7 @@
 use Rattle.std.proofs.Common.{◌≡◌, ◌||◌, ◌&&◌, get_or, not, Some, slice_get, ap, ◌∙◌, arith}
 use Rattle.std.proofs.lemmas.Option.{slice_get-get_or}
 use Rattle.snl_codes.specs.declared.code.Code.TheVariants.{E05}
-use Rattle.snl_scope.specs.declared.summaries.summary.ItemKind.TheVariants.{Faulty}
+use Rattle.snl_summary.specs.declared.summary.ItemKind.TheVariants.{Faulty}
 use Rattle.snl_scope.specs.LinkedItems.{LinkedItems}
 use Rattle.snl_scope.specs.Order.{is_faulty, is_program_word, is_repeated_header}
 use Rattle.snl_scope.proofs.OrderSteps.{any-step, found-step, repeated_here}

@@ -1,7 +1,7 @@
 use Rattle.std.proofs.Common.{◌≡◌, Some, get_or, slice_get, ap, ◌∙◌, arith}
 use Rattle.std.proofs.lemmas.Option.{slice_get-get_or}
 use Rattle.snl_codes.specs.declared.code.Code.TheVariants.{E03}
-use Rattle.snl_scope.specs.declared.summaries.summary.ItemKind.TheVariants.{Faulty}
+use Rattle.snl_summary.specs.declared.summary.ItemKind.TheVariants.{Faulty}
 use Rattle.snl_scope.specs.LinkedItems.{LinkedItems}
 use Rattle.snl_scope.specs.Order.{is_misplaced}
 use Rattle.snl_scope.specs.NameTables.{and_item, before, misplaced_after}

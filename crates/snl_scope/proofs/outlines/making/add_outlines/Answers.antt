@@ -1,6 +1,6 @@
 use Rattle.std.proofs.Common.{◌≡◌, ◌∷◌, ◌++◌, [], ◌+◌, List, ap, append_assoc, arith, map, refl, subst, sym, take, ◌∙◌}
 use Rattle.std.proofs.lemmas.List.{append-nil, map_more, take_all}
-use Rattle.snl_scope.specs.declared.summaries.summary.Outline.{Outline}
+use Rattle.snl_summary.specs.declared.summary.Outline.{Outline}
 use Rattle.snl_scope.specs.OutlineList.{Tells}
 use Rattle.snl_scope.proofs.AddedOutlines.{extends_more}
 use Rattle.snl_scope.proofs.outlines.making.add_outlines.Goals as goal

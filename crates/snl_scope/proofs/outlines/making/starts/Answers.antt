@@ -2,8 +2,8 @@ use Rattle.std.proofs.Common.{None, arith}
 use Rattle.snl_scope.proofs.ReadOutlines.{counts_at}
 use Rattle.snl_scope.proofs.Searches.{index-at}
 use Rattle.snl_scope.specs.declared.outlines.flat.FlatOutline.{FlatOutline}
-use Rattle.snl_scope.specs.declared.summaries.summary.Opening.TheVariants as opening
-use Rattle.snl_scope.specs.declared.summaries.summary.Role.TheVariants as role
+use Rattle.snl_summary.specs.declared.summary.Opening.TheVariants as opening
+use Rattle.snl_summary.specs.declared.summary.Role.TheVariants as role
 use Rattle.snl_scope.proofs.outlines.making.starts.Goals as goal
 
 -- what a read after the end would give

@@ -1,7 +1,7 @@
 use Rattle.std.proofs.Common.{◌≡◌, ℕ, List, Option, arith, ap, length, subst, ◌∙◌}
 use Rattle.snl_scope.specs.Places.{enclosing_set}
 use Rattle.snl_scope.specs.declared.names.namespaces.Namespace.TheVariants as namespace
-use Rattle.snl_scope.specs.declared.summaries.summary.Outline.{Outline}
+use Rattle.snl_summary.specs.declared.summary.Outline.{Outline}
 use Rattle.snl_views.specs.SameMeanings.{MeansTheSame, SamePlace}
 use Rattle.snl_views.proofs.SameMeanings.{views_alike}
 use Rattle.snl_views.proofs.same_views.SameViews.is_known.Goals as goal

@@ -6,7 +6,7 @@ use Rattle.snl_lex.specs.PieceList.{spelled}
 use Rattle.snl_lex.specs.Edit.{edit_of}
 use Rattle.snl_lex.specs.Pieces.{LiesIn}
 use Rattle.snl_scope.specs.Linked.{faults_of}
-use Rattle.snl_scope.specs.declared.summaries.summary.Outline.{Outline}
+use Rattle.snl_summary.specs.declared.summary.Outline.{Outline}
 use Rattle.snl_item_check.specs.declared.findings.Checked.{Checked}
 use Rattle.snl_kept.specs.declared.plan.RowChange.{RowChange}
 use Rattle.snl_kept.specs.Checks.{check_by, links_in, outlines_in}

@@ -2,7 +2,7 @@ use Rattle.std.proofs.Common.{arith, ◌≡◌, ◌<◌, List, length, slice_get
 use Rattle.std.specs.List.{slice_set}
 use Rattle.std.proofs.lemmas.List.{length-map, length-set}
 use Rattle.std.proofs.lemmas.Option.{slice_get-map, slice_get_within}
-use Rattle.snl_scope.specs.declared.summaries.summary.ItemKind.{ItemKind}
+use Rattle.snl_summary.specs.declared.summary.ItemKind.{ItemKind}
 use Rattle.snl_scope.specs.Linked.{faults_of}
 use Rattle.snl_scope.specs.LinkedItems.{LinkedItems}
 use Rattle.snl_kept.specs.declared.entries.Entry.{Entry}

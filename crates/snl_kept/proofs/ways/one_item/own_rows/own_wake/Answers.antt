@@ -1,6 +1,6 @@
 use Rattle.std.proofs.Common.{List, ap, sym, ◌∙◌}
 use Rattle.snl_lex.specs.LineShift.{moved_line}
-use Rattle.snl_scope.specs.declared.summaries.summary.Outline.{Outline}
+use Rattle.snl_summary.specs.declared.summary.Outline.{Outline}
 use Rattle.snl_check.specs.States.{wake_of}
 use Rattle.snl_kept.specs.Program.{items_of}
 use Rattle.snl_kept.specs.Tables.{tables_in}

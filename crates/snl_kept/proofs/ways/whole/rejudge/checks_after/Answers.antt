@@ -7,7 +7,7 @@ use Rattle.snl_lex.specs.Pieces.{LiesIn, is_token, pieces_of}
 use Rattle.snl_items.specs.Items.{item_ends, marks_of, spelled_items}
 use Rattle.snl_scope.specs.LinkedItems.{LinkedItems}
 use Rattle.snl_scope.specs.Spoken.{KeepsViews}
-use Rattle.snl_scope.specs.declared.summaries.summary.Outline.{Outline}
+use Rattle.snl_summary.specs.declared.summary.Outline.{Outline}
 use Rattle.snl_kept.specs.declared.found.program.Part.{Part}
 use Rattle.snl_kept.specs.declared.ways.whole.recheck.KeptItems.{KeptItems}
 use Rattle.snl_kept.specs.declared.plan.NewCheck.{NewCheck}

@@ -7,8 +7,8 @@ use Rattle.snl_scope.specs.OutlineList.{IsClauseNumbered, clause_by}
 use Rattle.snl_scope.specs.Resolved.{linked}
 use Rattle.snl_scope.proofs.Searches.{index-at}
 use Rattle.snl_scope.specs.declared.outlines.flat.FlatClause.{FlatClause}
-use Rattle.snl_scope.specs.declared.summaries.summary.ClauseKind.TheVariants as kind
-use Rattle.snl_scope.specs.declared.summaries.summary.Coverage.TheVariants as coverage
+use Rattle.snl_summary.specs.declared.summary.ClauseKind.TheVariants as kind
+use Rattle.snl_summary.specs.declared.summary.Coverage.TheVariants as coverage
 use Rattle.snl_scope.proofs.clauses.resolved.Place.add_clauses.Goals as goal
 
 -- what a read after the end would give

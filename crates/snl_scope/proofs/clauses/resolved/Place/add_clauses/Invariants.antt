@@ -1,6 +1,6 @@
 use Rattle.std.proofs.Common.{◌≡◌, ◌++◌, List, map, take}
 use Rattle.snl_scope.specs.declared.names.name_tables.Symbol.{Symbol}
-use Rattle.snl_scope.specs.declared.summaries.summary.Outline.{Outline}
+use Rattle.snl_summary.specs.declared.summary.Outline.{Outline}
 use Rattle.snl_scope.specs.Clauses.{linked_clause}
 use Rattle.snl_scope.specs.NameTables.{Tabled}
 use Rattle.snl_scope.specs.Names.{entries}

@@ -8,8 +8,8 @@ use Rattle.snl_scope.specs.NameTables.{Follows}
 use Rattle.snl_scope.specs.OutlineList.{declared_by, name_at}
 use Rattle.snl_scope.proofs.Searches.{index-at}
 use Rattle.snl_scope.specs.declared.outlines.flat.FlatDeclared.{FlatDeclared}
-use Rattle.snl_scope.specs.declared.summaries.summary.Dims.TheVariants as dims
-use Rattle.snl_scope.specs.declared.summaries.summary.SymbolKind.TheVariants as symbol_kind
+use Rattle.snl_summary.specs.declared.summary.Dims.TheVariants as dims
+use Rattle.snl_summary.specs.declared.summary.SymbolKind.TheVariants as symbol_kind
 use Rattle.snl_scope.proofs.names.name_tables.NameTables.add_declared.Goals as goal
 
 -- what a read after the end would give

@@ -1,5 +1,5 @@
 use Rattle.std.proofs.Common.{◌++◌, List, append_assoc, ap, drop, map, take, ◌∙◌}
-use Rattle.snl_scope.specs.declared.summaries.summary.Outline.{Outline}
+use Rattle.snl_summary.specs.declared.summary.Outline.{Outline}
 use Rattle.snl_scope.proofs.outlines.outline_list.OutlineList.after.Goals as goal
 
 pub finished-requires : goal.finished-requires

@@ -1,0 +1,5 @@
+pub mod SomeTokens
+pub mod NamedTokens
+pub mod Firsts
+pub mod AlikeTokens
+pub mod SpelledAlike
