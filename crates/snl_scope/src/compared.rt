@@ -23,8 +23,8 @@ pub struct Compared<'a> {
 }
 
 impl<'a> Compared<'a> {
-    /// What names mean by the old links and by the new ones. There is none where the old names don't
-    /// keep their numbers.
+    /// What names mean by the old links and by the new ones, or None where the old names don't keep
+    /// their numbers.
     pub fn of(before: &'a Links, after: &'a Links) -> Option<Compared<'a>>
         ensures { IfSome result (AreCompared before.now.outlines after.now.outlines) }
     {

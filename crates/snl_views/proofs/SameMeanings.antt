@@ -1,5 +1,5 @@
 -- Items see the same where names mean the same; and what is seen of numbers of names is so of names.
-use Rattle.std.proofs.Common.{◌≡◌, ℕ, zero, suc, ◌+◌, ◌<◌, Bool, true, false, cond, nat_lt, List, [], ◌∷◌, length, take, get_or, slice_get, Option, None, Some, refl, sym, ap, ap₂, subst, ◌∙◌, arith, inl, inr, true≢false, is_some, map}
+use Rattle.std.proofs.Common.{◌≡◌, ℕ, zero, suc, ◌<◌, Bool, true, false, cond, nat_lt, List, [], ◌∷◌, length, take, get_or, slice_get, Option, None, Some, refl, sym, ap, ap₂, subst, ◌∙◌, arith, inl, inr, true≢false, is_some, map}
 use Rattle.std.specs.Prelude.{bytes_eq, if◌then◌else◌, option_map}
 use Rattle.std.specs.List.{AllByRecursion as Each, position}
 use Rattle.std.specs.Map.{lookup}
