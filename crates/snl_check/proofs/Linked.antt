@@ -1,31 +1,17 @@
 -- What links know of an item, by the item itself.
-use Rattle.std.proofs.Common.{◌≡◌, ℕ, ◌<◌, Bool, true, false, not, List, [], length, map, slice_get, Option, Some, None, refl, ap, ◌∙◌, sym, Bor}
-use Rattle.std.specs.List.{filter_map}
+use Rattle.std.proofs.Common.{◌≡◌, ℕ, ◌<◌, Bool, true, false, not, List, length, map, slice_get, Option, Some, None, refl, ap, ◌∙◌, sym, Bor}
 use Rattle.std.specs.Option.{is_none, option_and_then, option_map, option_map_or, unwrap_or}
 use Rattle.std.proofs.lemmas.Option.{slice_get-map}
-use Rattle.snl_lex.specs.declared.piece.Piece.{Piece}
-use Rattle.snl_grammar.specs.declared.tree.item.Item.{Item}
 use Rattle.snl_summary.specs.declared.summary.Outline.{Outline}
-use Rattle.snl_summary.specs.Summaries.{occurrences_in}
-use Rattle.snl_summary.specs.Summaries.Tokens.{name_ref_at}
-use Rattle.snl_walk.specs.declared.used.TargetUse.{TargetUse}
-use Rattle.snl_walk.specs.Items.{occurrences}
-use Rattle.snl_walk.specs.Tokens.{token_bytes}
-use Rattle.snl_walk.specs.Uses.{targets}
 use Rattle.snl_item_check.specs.declared.findings.Checked.{Checked}
 use Rattle.snl_check.specs.declared.rows.text_items.TextItems.{TextItems}
 use Rattle.snl_check.specs.Collected.{AreTextItems, items_in}
-use Rattle.snl_item_check.specs.Items.{ProgramItem, outlines_of, outline_of_item, summary_of_item, tokens_in, tree_in}
-use Rattle.snl_check.specs.Members.{is_faulty_item, target_number, target_numbers}
-use Rattle.snl_item_check.specs.Told.{Told, nothing, told_by, told_in, told_in_item, told_seen}
+use Rattle.snl_item_check.specs.Items.{ProgramItem, outlines_of, outline_of_item, tree_in}
+use Rattle.snl_check.specs.Members.{is_faulty_item}
+use Rattle.snl_item_check.specs.Told.{Told, nothing, told_in, told_in_item, told_seen}
 use Rattle.snl_check.proofs.Items.{count_in}
 use Rattle.std.proofs.lemmas.List.{length-map}
-use Rattle.snl_check.proofs.Sets.{get_here}
-use Rattle.snl_check.proofs.Targets.{uses_at_targets}
-
--- the outline of an item
-pub outline_at : (text : List ℕ) (xs : List ProgramItem) (i : ℕ) → slice_get (outlines_of text xs) i ≡ option_map (outline_of_item text) (slice_get xs i)
-outline_at text xs i = slice_get-map (outline_of_item text) xs i
+use Rattle.snl_check.specs.SetsLaws.{get_here}
 
 -- an item is faulty that has no tree
 pub faulty_is : (xs : List ProgramItem) (i : ℕ) → i < length xs → is_faulty_item xs i ≡ is_none (tree_in xs i)
@@ -43,21 +29,6 @@ turned false false h = absurd cc
 -- there are as many outlines as items
 pub counted : (p : TextItems) (ss : List Outline) → AreTextItems p → ss ≡ outlines_of p.text.now (items_in p) → length p.trees.now ≡ length ss
 counted p ss is linked = sym (ap length linked ∙ length-map (items_in p) (outline_of_item p.text.now) ∙ count_in p is)
-
--- the targets of an item
-pub targets_at : (text : List ℕ) (xs : List ProgramItem) (ss : List Outline) (states : List ℕ) (i : ℕ) →
-    target_numbers text xs ss states i ≡ filter_map (target_number ss states i) (map (name_ref_at text (tokens_in xs i)) (map (λ (u : TargetUse). u.token) (told_in text xs i).target_uses))
-targets_at text xs ss states i = by (slice_get xs i)
-  where
-    by_tree : (tokens : List Piece) (t : Option Item) → filter_map (target_number ss states i) (map (name_ref_at text tokens) (targets (occurrences_in (token_bytes text tokens) t)))
-        ≡ filter_map (target_number ss states i) (map (name_ref_at text tokens) (map (λ (u : TargetUse). u.token) (option_map_or (told_by (token_bytes text tokens)) t nothing).target_uses))
-    by_tree tokens None = refl
-    by_tree tokens (Some t) = ap (λ l. filter_map (target_number ss states i) (map (name_ref_at text tokens) l)) (sym (uses_at_targets false (occurrences (token_bytes text tokens) t)))
-
-    by : (o : Option ProgramItem) → option_map_or (λ (x : ProgramItem). filter_map (target_number ss states i) (summary_of_item text x).targets) o []
-        ≡ filter_map (target_number ss states i) (map (name_ref_at text (option_map_or (λ (x : ProgramItem). x.tokens) o [])) (map (λ (u : TargetUse). u.token) (option_map_or (told_in_item text) o nothing).target_uses))
-    by None = refl
-    by (Some x) = by_tree x.tokens x.tree
 
 -- what the check of an item has told
 pub told_at : (text : List ℕ) (xs : List ProgramItem) (checked : List (Option (Bor Checked))) (i : ℕ) → map told_seen checked ≡ map (told_in_item text) xs →

@@ -1,10 +1,10 @@
 -- The table of channels by variable and element, and the channels of each declaration: what one
 -- more channel is to them.
-use Rattle.std.proofs.Common.{◌≡◌, ℕ, zero, suc, ◌<◌, ◌≤◌, Bool, true, false, ◌&&◌, ◌||◌, cond, List, [], ◌∷◌, ◌++◌, length, get_or, slice_get, nat_eq, Option, None, Some, is_some, refl, sym, ap, subst, ◌∙◌, true≢false, inl, inr, if◌then◌else◌, arith, length-append}
+use Rattle.std.proofs.Common.{◌≡◌, ℕ, zero, suc, ◌<◌, ◌≤◌, Bool, true, false, ◌&&◌, ◌||◌, cond, List, [], ◌∷◌, ◌++◌, length, slice_get, nat_eq, Option, None, Some, is_some, refl, sym, ap, subst, ◌∙◌, true≢false, inl, inr, if◌then◌else◌, arith, length-append}
 use Rattle.std.proofs.Math.ListN.{set}
-use Rattle.std.proofs.Math.Seq.{get_or-append_seam, set-append_seam}
+use Rattle.std.proofs.Math.Seq.{set-append_seam}
 use Rattle.std.proofs.lemmas.Bool.{and_parts, cases_lt, false_from_ne_true}
-use Rattle.std.proofs.lemmas.List.{append-nil, get_or_append_left, set-append_left}
+use Rattle.std.proofs.lemmas.List.{append-nil, set-append_left}
 use borrow.Author.Tests.{eq-eqb}
 use Rattle.std.proofs.lemmas.Bool.Decides.{Decides-eqb}
 use Rattle.std.specs.Map.{lookup}
@@ -18,6 +18,7 @@ use Rattle.snl_check.specs.declared.rows.channel_numbers.Which.{Which}
 use Rattle.snl_check.specs.declared.rows.channel_numbers.Which.TheVariants as which
 use Rattle.snl_check.specs.contracts.rows.channel_numbers.ElementKeyPartialEq.TheImpl as key_eq
 use Rattle.snl_check.specs.contracts.rows.channel_numbers.WhichPartialEq.TheImpl as which_eq
+use Rattle.snl_check.specs.ChannelLaws.{lists_count}
 use Rattle.snl_check.specs.Channels.{AssignedChannel, channels_of, element_number, is_channel_of, is_element, is_element_of, is_on, variables_before}
 use Rattle.snl_check.specs.Numbered.{Adds, Numbered, element_in, is_key_of, same_key, same_which}
 
@@ -178,10 +179,6 @@ channels_other cs c v ne = channels_more cs c v ∙ ap (λ b. channels_of cs v +
 channels_own : (cs : List AssignedChannel) (c : AssignedChannel) → channels_of (cs ++ c ∷ []) c.variable ≡ channels_of cs c.variable ++ length cs ∷ []
 channels_own cs c = channels_more cs c c.variable ∙ ap (λ b. channels_of cs c.variable ++ (if b then length cs ∷ [] else [])) (eq-eqb c.variable c.variable refl)
 
-pub lists_count : (cs : List AssignedChannel) (n : ℕ) → length (variables_before cs n) ≡ n
-lists_count cs zero = refl
-lists_count cs (suc n) = omega (arith, length-append (variables_before cs n) (channels_of cs n ∷ []), lists_count cs n)
-
 -- a declaration that is none of these
 pub lists_same : (cs : List AssignedChannel) (c : AssignedChannel) (n : ℕ) → n ≤ c.variable → variables_before (cs ++ c ∷ []) n ≡ variables_before cs n
 lists_same cs c zero h = refl
@@ -206,17 +203,4 @@ lists_more cs c (suc n) h =
           ∙ set-append_seam (variables_before cs n) (channels_of cs n) [] (channels_of cs c.variable ++ length cs ∷ [])
           ∙ ap (λ l. l ++ (channels_of cs c.variable ++ length cs ∷ []) ∷ []) (sym (lists_same cs c n (omega (arith, m))))
           ∙ ap (λ l. variables_before (cs ++ c ∷ []) n ++ l ∷ []) (sym (channels_own cs c) ∙ ap (channels_of (cs ++ c ∷ [])) same)
-    ]
-
--- what the list of a declaration is
-pub list_at : (cs : List AssignedChannel) (n v : ℕ) (d : List ℕ) → v < n → get_or (variables_before cs n) v d ≡ channels_of cs v
-list_at cs zero v d h = absurd (omega (arith, h))
-list_at cs (suc n) v d h =
-    elim (cases_lt v n) [
-      | inl l ↦ get_or_append_left (variables_before cs n) (channels_of cs n ∷ []) d v (omega (arith, l, lists_count cs n)) ∙ list_at cs n v d l
-      | inr m ↦
-          let same : v ≡ n = omega (arith, h, m) in
-          let last : v ≡ length (variables_before cs n) = omega (arith, same, lists_count cs n) in
-          ap (λ k. get_or (variables_before cs n ++ channels_of cs n ∷ []) k d) last ∙ get_or-append_seam (variables_before cs n) (channels_of cs n) [] d
-          ∙ ap (channels_of cs) (sym same)
     ]

@@ -18,7 +18,8 @@ use Rattle.snl_item_check.specs.Items.{ProgramItem, summary_of_item}
 use Rattle.snl_check.specs.Members.{AreSetMembers, IsSetMember, has_faulty, has_name, is_faulty_item, is_first_by_member, numbers_by_member, states_in, target_number, target_numbers, targets_among}
 use Rattle.snl_check.specs.States.{first_mark, is_reached_in, is_repeated, mark_of, mark_by_member, marks_of}
 use Rattle.snl_check.proofs.Marks.{marks_alike}
-use Rattle.snl_check.proofs.Sets.{copied_some, get_here}
+use Rattle.snl_check.proofs.Sets.{copied_some}
+use Rattle.snl_check.specs.SetsLaws.{get_here}
 
 -- ---- numbers below another that pass two tests
 

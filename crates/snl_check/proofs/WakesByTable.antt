@@ -29,8 +29,8 @@ use Rattle.snl_check.specs.Channels.{AssignedChannel, element_number, is_channel
 use Rattle.snl_check.specs.Conditions.{by_flag, on_declaration, on_variable, wake_up, wake_ups}
 use Rattle.snl_item_check.specs.Items.{ProgramItem, tokens_in}
 use Rattle.snl_check.specs.Numbered.{Adds, AddsAll, HoldsBelow, element_at, element_in, first_meant, first_of, has_key, has_subscript, meant_by, same_key, variable_by, wake_by}
-use Rattle.snl_check.proofs.Numbers.{list_at, lists_count}
-use Rattle.snl_check.proofs.Sets.{get_here}
+use Rattle.snl_check.specs.ChannelLaws.{list_at, lists_count}
+use Rattle.snl_check.specs.SetsLaws.{get_here}
 
 -- ---- a name means a declaration that there is
 

@@ -10,13 +10,9 @@ pub mod Hashed
 pub mod Tables
 pub mod Collected
 pub mod KnownRows
-pub mod Quiet
 pub mod Settings
 pub mod SettingTrees
 pub mod States
-pub mod Unreached
-pub mod WakeSets
-pub mod Spans
-pub mod Shifted
-pub mod ShiftedAround
-pub mod Moved
+pub mod SetsLaws
+pub mod TargetLaws
+pub mod ChannelLaws

@@ -26,7 +26,7 @@ use Rattle.snl_item_check.specs.ItemFaults.{faults_in}
 use Rattle.snl_item_check.specs.Items.{outline_of_item, tokens_in}
 use Rattle.snl_check.specs.ItemSpans.{item_name, span_of}
 use Rattle.snl_check.specs.Members.{has_faulty, is_faulty_item, states_in}
-use Rattle.snl_check.specs.Spans.{HasByte, InSet, InState, TablesHaveBytes}
+use Rattle.snl_moved.specs.Spans.{HasByte, InSet, InState, TablesHaveBytes}
 use Rattle.snl_check.specs.States.{first_mark, is_reached_in, is_repeated, mark_of, numbered_row, set_row, state_rows}
 use Rattle.snl_check.specs.Tables.{tables_of}
 use Rattle.snl_item_check.specs.View.{is_in_set, known_of, leads_to}

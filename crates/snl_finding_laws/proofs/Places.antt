@@ -32,7 +32,7 @@ use Rattle.snl_items.specs.Items.{item_ends, marks_of}
 use Rattle.snl_item_check.specs.declared.findings.ItemFault.{ItemFault}
 use Rattle.snl_item_check.specs.ItemFaults.{StandsIn, fault_of, faults_in, faults_of_rules}
 use Rattle.snl_item_check.specs.Options.{found_at_letter, is_known, letter_fault, program_letters, state_letters, unknown_in_member, unknown_letters, unknown_options}
-use Rattle.snl_check.specs.Spans.{InSet, InState, SpanLiesIn, TablesLieIn}
+use Rattle.snl_moved.specs.Spans.{InSet, InState, SpanLiesIn, TablesLieIn}
 use Rattle.snl_item_check.specs.View.{is_in_set, known_of, leads_to, misses_by, outer_by}
 use Rattle.snl_kept.specs.declared.found.findings.Finding.{Finding}
 use Rattle.snl_kept.specs.Checked.{at_own_token, checked_faults, found_in_item, moved}

@@ -29,9 +29,9 @@ use Rattle.snl_views.specs.SameView.{same_view}
 use Rattle.snl_tables.specs.declared.rows.Span.{Span}
 use Rattle.snl_tables.specs.Shifted.{shifted_span}
 use Rattle.snl_check.specs.ItemSpans.{span_of}
-use Rattle.snl_check.specs.Moved.{KeepsItem, ReplacesItem, ReplacesOne}
-use Rattle.snl_check.specs.Shifted.{shifted_item, shifted_tokens}
-use Rattle.snl_check.specs.ShiftedAround.{IsFlagPlaced, IsPlacedAt, is_plain}
+use Rattle.snl_moved.specs.Moved.{KeepsItem, ReplacesItem, ReplacesOne}
+use Rattle.snl_moved.specs.Shifted.{shifted_item, shifted_tokens}
+use Rattle.snl_moved.specs.ShiftedAround.{IsFlagPlaced, IsPlacedAt, is_plain}
 use Rattle.snl_check.specs.Tables.{tables_by, tables_of}
 use Rattle.snl_kept.specs.declared.entries.Entry.{Entry}
 use Rattle.snl_kept.specs.declared.plan.Changes.{Changes}

@@ -13,8 +13,8 @@ use Rattle.snl_summary.specs.Summaries.{kind_of}
 use Rattle.snl_tables.specs.declared.rows.Tables.{Tables}
 use Rattle.snl_tables.specs.Moved.{moved_tables}
 use Rattle.snl_item_check.specs.Items.{outline_of_item, outlines_of}
-use Rattle.snl_check.specs.Shifted.{shifted_item}
-use Rattle.snl_check.specs.ShiftedAround.{IsSoundAsItWas, SaysAlike, SaysAlikeAt, is_plain}
+use Rattle.snl_moved.specs.Shifted.{shifted_item}
+use Rattle.snl_moved.specs.ShiftedAround.{IsSoundAsItWas, SaysAlike, SaysAlikeAt, is_plain}
 use Rattle.snl_kept.specs.declared.entries.Entry.{Entry}
 use Rattle.snl_kept.specs.declared.found.findings.Finding.{Finding}
 use Rattle.snl_kept.specs.declared.plan.Changes.{Changes}

@@ -26,7 +26,7 @@ use Rattle.snl_tables.specs.declared.rows.Tables.{Tables}
 use Rattle.snl_item_check.specs.declared.findings.Checked.{Checked}
 use Rattle.snl_item_check.specs.Items.{outlines_of, summary_of_item}
 use Rattle.snl_item_check.specs.Told.{wakes_of}
-use Rattle.snl_check.specs.ShiftedAround.{SaysAlike}
+use Rattle.snl_moved.specs.ShiftedAround.{SaysAlike}
 use Rattle.snl_check.specs.Tables.{tables_by}
 use Rattle.snl_kept.specs.declared.entries.Entry.{Entry}
 use Rattle.snl_kept.specs.declared.found.findings.Diagnostic.{Diagnostic}

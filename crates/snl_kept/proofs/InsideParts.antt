@@ -16,7 +16,7 @@ use Rattle.snl_lex.specs.Shift.{shifted_piece}
 use Rattle.snl_items.specs.declared.tokens.TokenEdit.{TokenEdit}
 use Rattle.snl_items.specs.Changes.{IsItemChange, IsTokenChange, LeavesAround, made_in}
 use Rattle.snl_items.specs.Items.{item_ends, spelled_items, spellings}
-use Rattle.snl_check.specs.Shifted.{shifted_tokens}
+use Rattle.snl_moved.specs.Shifted.{shifted_tokens}
 use Rattle.snl_kept.specs.declared.entries.Entry.{Entry}
 use Rattle.snl_kept.specs.declared.plan.Changes.{Changes}
 use Rattle.snl_kept.specs.Entries.{entries_of, entry_by}

@@ -22,8 +22,8 @@ use Rattle.snl_walk.specs.declared.used.WakeUse.{WakeUse}
 use Rattle.snl_item_check.specs.declared.findings.Checked.{Checked}
 use Rattle.snl_check.specs.Conditions.{uses_in}
 use Rattle.snl_item_check.specs.Items.{ProgramItem, tokens_in}
-use Rattle.snl_check.specs.ShiftedAround.{SaysAlike}
-use Rattle.snl_check.specs.Spans.{AreRead}
+use Rattle.snl_moved.specs.ShiftedAround.{SaysAlike}
+use Rattle.snl_moved.specs.Spans.{AreRead}
 use Rattle.snl_item_check.specs.Told.{Told, nothing, told_in_item, told_kept}
 use Rattle.snl_kept.specs.declared.entries.Entry.{Entry}
 use Rattle.snl_kept.specs.declared.lists.Lists.{Lists}

@@ -16,8 +16,8 @@ use Rattle.snl_summary.specs.declared.summary.Outline.{Outline}
 use Rattle.snl_scope.specs.Linked as links
 use Rattle.snl_summary.specs.Summaries.{kind_of}
 use Rattle.snl_summary.specs.Summaries.Tokens.{token_bytes}
-use Rattle.snl_check.specs.Shifted.{shifted_item, shifted_tokens}
-use Rattle.snl_check.specs.ShiftedAround.{is_plain}
+use Rattle.snl_moved.specs.Shifted.{shifted_item, shifted_tokens}
+use Rattle.snl_moved.specs.ShiftedAround.{is_plain}
 use Rattle.snl_kept.specs.declared.found.findings.Finding.{Finding}
 use Rattle.snl_item_check.specs.declared.findings.Checked.{Checked}
 use Rattle.snl_item_check.specs.Options.{warning_setting}

@@ -21,7 +21,7 @@ use Rattle.snl_scope.specs.Places.{is_set_begin}
 use Rattle.snl_summary.specs.Summaries.Tokens.{token_bytes}
 use Rattle.snl_summary.specs.declared.summary.Outline.{Outline}
 use Rattle.snl_item_check.specs.Items.{outline_of_item, outlines_of}
-use Rattle.snl_check.specs.Quiet.{HasSameLine, IsQuietAfter, after_quiet, are_quiet, quiet_along, sets_before}
+use Rattle.snl_moved.specs.Quiet.{HasSameLine, IsQuietAfter, after_quiet, are_quiet, quiet_along, sets_before}
 use Rattle.snl_check.specs.States.{set_row}
 use Rattle.snl_check.specs.Tables.{tables_of}
 use Rattle.snl_kept.specs.declared.entries.Entry.{Entry}

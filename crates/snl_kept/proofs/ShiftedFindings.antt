@@ -24,7 +24,7 @@ use Rattle.snl_tables.specs.Moved.{moved_set, moved_state, moved_tables}
 use Rattle.snl_item_check.specs.declared.findings.ItemFault.{ItemFault}
 use Rattle.snl_item_check.specs.Options.{warning_setting}
 use Rattle.snl_item_check.specs.View.{is_in_set}
-use Rattle.snl_check.specs.Shifted.{shifted_item, shifted_tokens}
+use Rattle.snl_moved.specs.Shifted.{shifted_item, shifted_tokens}
 use Rattle.snl_kept.specs.declared.found.findings.Finding.{Finding}
 use Rattle.snl_kept.specs.Checked.{at_own_token, faults_kept, found_in_item, moved}
 use Rattle.snl_kept.specs.Checks.{checked_by}

@@ -21,7 +21,7 @@ use Rattle.snl_scope.specs.LinkedItems.{LinkedItems}
 use Rattle.snl_summary.specs.declared.summary.ItemKind.{ItemKind}
 use Rattle.snl_summary.specs.declared.summary.Outline.{Outline}
 use Rattle.snl_summary.specs.declared.summary.Summary.{Summary}
-use Rattle.snl_check.specs.Shifted.{shifted_item, shifted_tokens}
+use Rattle.snl_moved.specs.Shifted.{shifted_item, shifted_tokens}
 use Rattle.snl_kept.specs.Linked.{linked_of, outlines_of}
 use Rattle.snl_kept.specs.Program.{ProgramItem, item_tokens, items_of, program_item, tree_in}
 use Rattle.snl_kept.proofs.KeptChecks.{agreed}

@@ -11,7 +11,7 @@ use Rattle.snl_lex.specs.declared.line_shift.LineShift.{LineShift}
 use Rattle.snl_lex.specs.LineShift.{moved_line, shifted_file}
 use Rattle.snl_lex.specs.Lines.{line_at}
 use Rattle.snl_lex.specs.Shift.{IsOutside, most, shifted_offset}
-use Rattle.snl_check.specs.Shifted.{shifted_tokens, start_at}
+use Rattle.snl_moved.specs.Shifted.{shifted_tokens, start_at}
 use Rattle.snl_kept.specs.Shifted.{IsOnOneSide}
 
 module _ (old text : List ℕ) (t : LineShift) (order : t.by.start ≤ t.by.old_stop)

@@ -30,9 +30,9 @@ use Rattle.snl_summary.specs.declared.summary.Outline.{Outline}
 use Rattle.snl_summary.specs.declared.summary.Summary.{Summary}
 use Rattle.snl_views.specs.SameView.{same_view}
 use Rattle.snl_tables.specs.Moved.{moved_tables}
-use Rattle.snl_check.specs.Moved.{KeepsItems}
-use Rattle.snl_check.specs.Shifted.{shifted_item, shifted_tokens}
-use Rattle.snl_check.specs.Spans.{AreRead}
+use Rattle.snl_moved.specs.Moved.{KeepsItems}
+use Rattle.snl_moved.specs.Shifted.{shifted_item, shifted_tokens}
+use Rattle.snl_moved.specs.Spans.{AreRead}
 use Rattle.snl_check.specs.Tables.{tables_of}
 use Rattle.snl_kept.specs.declared.entries.Entry.{Entry}
 use Rattle.snl_kept.specs.declared.found.findings.Finding.{Finding}

@@ -10,7 +10,7 @@ use Rattle.snl_grammar.specs.Parsing.{kinds_in}
 use Rattle.snl_grammar.specs.Reading.Items.{item_of}
 use Rattle.snl_summary.specs.Summaries.Tokens.{IsSource}
 use Rattle.snl_item_check.specs.Items as items
-use Rattle.snl_check.specs.Spans.{AreRead}
+use Rattle.snl_moved.specs.Spans.{AreRead}
 use Rattle.snl_items.specs.Items.{item_ends}
 use Rattle.snl_kept.specs.Program.{item_tokens, items_of, program_item}
 use Rattle.snl_kept.specs.TokenLaws.{read_tree}

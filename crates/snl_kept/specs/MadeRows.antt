@@ -6,8 +6,8 @@ use Rattle.snl_lex.specs.LineShift.{moved_line}
 use Rattle.snl_lex.specs.PieceList.{spelled}
 use Rattle.snl_lex.specs.Pieces.{LiesIn}
 use Rattle.snl_item_check.specs.declared.findings.Checked.{Checked}
-use Rattle.snl_check.specs.Moved.{ReplacesOne}
-use Rattle.snl_check.specs.Spans.{AreRead}
+use Rattle.snl_moved.specs.Moved.{ReplacesOne}
+use Rattle.snl_moved.specs.Spans.{AreRead}
 use Rattle.snl_kept.specs.declared.entries.Entry.{Entry}
 use Rattle.snl_kept.specs.declared.lists.Lists.{Lists}
 use Rattle.snl_kept.specs.declared.ways.one_item.replaced.OneItem.{OneItem}

@@ -10,7 +10,7 @@ use Rattle.snl_tables.specs.declared.rows.StateMark.{StateMark}
 use Rattle.snl_tables.specs.declared.rows.StateRow.{StateRow}
 use Rattle.snl_tables.specs.Shifted.{changed_at, marked, shifted_state, with_body, with_marks, with_wake}
 use Rattle.snl_item_check.specs.Items.{ProgramItem}
-use Rattle.snl_check.specs.ShiftedAround.{set_number, state_number}
+use Rattle.snl_moved.specs.ShiftedAround.{set_number, state_number}
 use Rattle.snl_check.specs.States.{marks_of, state_body, wake_of}
 use Rattle.snl_kept.specs.declared.found.findings.Finding.{Finding}
 use Rattle.snl_kept.specs.declared.plan.RowPlace.{RowPlace}

@@ -20,9 +20,9 @@ use Rattle.snl_scope.specs.Places.{enclosing_set}
 use Rattle.snl_scope.specs.View.{view}
 use Rattle.snl_item_check.specs.declared.findings.Checked.{Checked}
 use Rattle.snl_item_check.specs.Items.{outline_of_item}
-use Rattle.snl_check.specs.Shifted.{shifted_item, shifted_tokens}
-use Rattle.snl_check.specs.Moved.{ReplacesOne}
-use Rattle.snl_check.specs.ShiftedAround.{is_plain}
+use Rattle.snl_moved.specs.Shifted.{shifted_item, shifted_tokens}
+use Rattle.snl_moved.specs.Moved.{ReplacesOne}
+use Rattle.snl_moved.specs.ShiftedAround.{is_plain}
 use Rattle.snl_check.specs.Tables.{tables_by, tables_of}
 use Rattle.snl_kept.specs.declared.entries.Entry.{Entry}
 use Rattle.snl_kept.specs.declared.found.findings.Finding.{Finding}

@@ -10,7 +10,7 @@ use Rattle.snl_lex.specs.LineShift.{IsLineShift, moved_line}
 use Rattle.snl_lex.specs.Shift.{IsOutside, shifted_offset}
 use Rattle.snl_items.specs.Changes.{AreShifted}
 use Rattle.snl_tables.specs.Moved.{moved_tables}
-use Rattle.snl_check.specs.Shifted.{start_at}
+use Rattle.snl_moved.specs.Shifted.{start_at}
 use Rattle.snl_kept.specs.declared.found.findings.Diagnostic.{Diagnostic}
 use Rattle.snl_kept.specs.declared.found.findings.Finding.{Finding}
 use Rattle.snl_kept.specs.Checks.{checks_of, links_in}

@@ -46,7 +46,7 @@ impl Model for Session {
 impl Session {
     ghost use Rattle.snl_kept.specs.Diagnostics.{diagnostics_of, errors_of, stands_before, warnings_of};
     ghost use Rattle.std.specs.List.{AllPairs};
-    ghost use Rattle.snl_check.specs.Spans.{TablesHaveBytes, TablesLieIn};
+    ghost use Rattle.snl_moved.specs.Spans.{TablesHaveBytes, TablesLieIn};
     ghost use Rattle.snl_session.specs.Edit.{limit, refusal_of};
     ghost use Rattle.snl_items.specs.Fresh.{fresh_items, fresh_pieces};
     ghost use Rattle.snl_listing.specs.Lister.{IsFor};

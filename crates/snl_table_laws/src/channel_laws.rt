@@ -9,7 +9,7 @@ ghost use Rattle.snl_table_laws.specs.Channels.{AssignApart, ChannelsApart};
 ghost use Rattle.std.specs.Prelude.{ℕ, List};
 ghost use Rattle.std.specs.List.{AllPairs};
 
-use snl_check::same_clauses;
+use snl_moved::same_clauses;
 
 /// No two sound `assign`s of one declaration cover a common element, and none covers the whole
 /// beside another.

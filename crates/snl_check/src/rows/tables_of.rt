@@ -1,5 +1,5 @@
 //! The tables of a text: its items, their links and what their checks gave come in, rows go out.
-//! They are made whole; the laws of src/moved_laws.rt say after which edits rows can move instead.
+//! They are made whole; the laws of snl_moved say after which edits rows can move instead.
 
 ghost use Rattle.std.specs.Prelude.{◌≡◌, IfOk, IfSome, length, map, option_copied, take};
 ghost use Rattle.snl_lex.specs.LineList.{IsLineList};

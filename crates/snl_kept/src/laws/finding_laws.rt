@@ -6,7 +6,7 @@ ghost use Rattle.snl_lex.specs.declared.shift.Shift.{Shift};
 ghost use Rattle.snl_scope.specs.Linked.{faults_of};
 ghost use Rattle.snl_summary.specs.Summaries.{kind_of};
 ghost use Rattle.snl_item_check.specs.Items.{ProgramItem};
-ghost use Rattle.snl_check.specs.ShiftedAround.{is_plain};
+ghost use Rattle.snl_moved.specs.ShiftedAround.{is_plain};
 ghost use Rattle.snl_kept.specs.Checks.{links_in};
 ghost use Rattle.snl_kept.specs.declared.found.findings.Finding.{Finding};
 ghost use Rattle.snl_kept.specs.Diagnostics.{diagnostics_of, shown, shown_if};

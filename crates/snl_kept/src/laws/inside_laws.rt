@@ -6,7 +6,7 @@ ghost use Rattle.snl_lex.specs.declared.line_shift.LineShift.{LineShift};
 ghost use Rattle.snl_scope.specs.Linked.{faults_of};
 ghost use Rattle.snl_scope.specs.Order.{state_name};
 ghost use Rattle.snl_scope.specs.Places.{enclosing_set};
-ghost use Rattle.snl_check.specs.ShiftedAround.{SaysAlike};
+ghost use Rattle.snl_moved.specs.ShiftedAround.{SaysAlike};
 ghost use Rattle.snl_lex.specs.Edit.{Edit};
 ghost use Rattle.snl_kept.specs.declared.entries.Entry.{Entry};
 ghost use Rattle.snl_kept.specs.declared.plan.Changes.{Changes};
@@ -19,11 +19,11 @@ ghost use Rattle.snl_kept.specs.ReplacedItem.{IsInside, SparesInside, own_head};
 
 use crate::laws::finding_laws::{diagnostics_are_found, findings_around_an_item};
 use crate::laws::item_laws::one_item_replaced;
-use snl_check::{
+use snl_lex::text_in_pieces;
+use snl_moved::{
     tables_move_around_a_state, tables_move_around_an_item, tables_move_in_a_set,
     tables_move_inside_a_state, tables_move_outside_the_sets,
 };
-use snl_lex::text_in_pieces;
 
 /// After an edit inside a state with a name that says to the other items and in its conditions what
 /// it said, the text says what it said, shifted, but for what is found at that state and for the

@@ -5,10 +5,10 @@ ghost use Rattle.snl_lex.specs.declared.line_shift.LineShift.{LineShift};
 ghost use Rattle.snl_lex.specs.Edit.{Edit};
 ghost use Rattle.snl_kept.specs.Shifted.{IsShifted, ShiftsAll};
 
-use snl_check::tables_move;
 use snl_grammar::{outcome_told, same_spelling_same_tree};
 use snl_item_check::faults_stand_in_tokens;
 use snl_lex::{lines_move, text_in_pieces};
+use snl_moved::tables_move;
 use snl_scope::same_spelling_same_summary;
 use snl_views::views_told_apart;
 

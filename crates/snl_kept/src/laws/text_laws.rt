@@ -5,12 +5,12 @@ ghost use Rattle.std.specs.Prelude.{ℕ, List};
 ghost use Rattle.snl_scope.specs.Linked.{faults_of};
 ghost use Rattle.snl_scope.specs.Once.{AreFoundOnce};
 ghost use Rattle.snl_kept.specs.Linked.{linked_of};
-ghost use Rattle.snl_check.specs.Spans.{TablesHaveBytes, TablesLieIn};
+ghost use Rattle.snl_moved.specs.Spans.{TablesHaveBytes, TablesLieIn};
 ghost use Rattle.snl_kept.specs.Program.{items_of};
 ghost use Rattle.snl_kept.specs.Tables.{tables_in};
 
-use snl_check::spans_lie_in_text;
 use snl_lex::text_in_pieces;
+use snl_moved::spans_lie_in_text;
 use snl_scope::{each_fault_once, tokens_declared_once};
 
 /// By the links of a text's items nothing is found twice: no two findings have the same item, token

@@ -7,7 +7,7 @@ ghost use Rattle.snl_lex.specs.Pieces.{LiesIn};
 ghost use Rattle.snl_scope.specs.Linked.{faults_of};
 ghost use Rattle.snl_scope.specs.Clauses.{is_event_flag};
 ghost use Rattle.snl_scope.specs.Names.{has_own_scope};
-ghost use Rattle.snl_check.specs.ShiftedAround.{is_plain};
+ghost use Rattle.snl_moved.specs.ShiftedAround.{is_plain};
 ghost use Rattle.snl_kept.specs.ItemPlan.{AreAlike};
 ghost use Rattle.snl_kept.specs.ReplacedItem.{FlagsInHead, SparesInside, TakesPlace};
 

@@ -5,7 +5,7 @@
 ghost use Rattle.std.specs.Prelude.{◌≡◌, is_some};
 ghost use Rattle.snl_scope.specs.Order.{state_name};
 ghost use Rattle.snl_scope.specs.Places.{stands_in};
-ghost use Rattle.snl_check.specs.ShiftedAround.{set_number, state_number};
+ghost use Rattle.snl_moved.specs.ShiftedAround.{set_number, state_number};
 
 use crate::plan::RowPlace;
 use snl_scope::{Links, Opening, Outline, sets_open_in_turn};

@@ -29,12 +29,13 @@ use crate::ways::one_item::replaced::OneItem;
 use crate::ways::one_item::set_members::set_members;
 use crate::ways::one_item::touched_rows::TouchedRows;
 use snl_check::{
-    StateBody, StateMark, Tables, TargetUse, WakeUp, WakeUse, state_body, state_marks, wake_inside,
+    StateBody, StateMark, Tables, TargetUse, WakeUp, WakeUse, state_body, state_marks,
 };
 use snl_cut::OutOfMemory;
 use snl_grammar::{outcome_told, same_spelling_same_tree};
 use snl_item_check::Checked;
 use snl_lex::{Line, LineList, Piece, TextEdit};
+use snl_moved::wake_inside;
 use snl_scope::{Links, Source, same_spelling_same_summary};
 use sqlite_items::Items;
 use std::alloc::Global;

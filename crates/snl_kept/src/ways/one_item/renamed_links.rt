@@ -19,10 +19,10 @@ ghost use Rattle.snl_kept.specs.ReplacedItem.{SeesAlike};
 use crate::entries::Entry;
 use crate::shared::Shared;
 use crate::ways::one_item::replaced::{OldItem, OneItem};
-use snl_check::tables_told_alike;
 use snl_cut::OutOfMemory;
 use snl_grammar::{outcome_told, same_spelling_same_tree};
 use snl_lists::Ordered;
+use snl_moved::tables_told_alike;
 use snl_scope::{
     EditedNames, Links, Renaming, declared_anew, link_renamed, named_anew,
     same_spelling_same_summary, unspoken_names,

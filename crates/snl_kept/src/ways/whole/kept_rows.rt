@@ -9,7 +9,7 @@ ghost use Rattle.std.specs.Prelude.{◌≡◌, ◌≤◌, IfSome, drop, length};
 ghost use Rattle.snl_scope.specs.Below.{all_below};
 ghost use Rattle.snl_scope.specs.Places.{is_set_begin};
 ghost use Rattle.snl_check.specs.KnownRows.{AreKnown};
-ghost use Rattle.snl_check.specs.Quiet.{after_quiet, are_quiet, quiet_along};
+ghost use Rattle.snl_moved.specs.Quiet.{after_quiet, are_quiet, quiet_along};
 ghost use Rattle.snl_kept.specs.Checks.{outlines_in};
 ghost use Rattle.snl_kept.specs.Editing.{AreEntriesIn, IsUnderWay, items_in, old_in, text_in};
 ghost use Rattle.snl_kept.specs.ItemPlan.{outlines_kept};
@@ -18,12 +18,13 @@ ghost use Rattle.snl_kept.specs.Tables.{tables_in};
 use crate::editing::Editing;
 use crate::entries::Entry;
 use crate::shared::Shared;
-use snl_check::{KnownRows, after_quiet, channels_stay, sets_stay};
+use snl_check::KnownRows;
 use snl_cut::ends_in_order;
 use snl_grammar::{Tokens, outcome_told, same_spelling_same_tree};
 use snl_items::tokens_around_stay;
 use snl_lex::text_in_pieces;
 use snl_lists::Ordered;
+use snl_moved::{after_quiet, channels_stay, sets_stay};
 use snl_scope::{Links, same_spelling_same_summary};
 
 fn after_entry(in_later_set: bool, entry: &Shared<Entry>) -> Option<bool>

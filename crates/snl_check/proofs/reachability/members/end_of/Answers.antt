@@ -1,7 +1,7 @@
 use Rattle.std.proofs.Common.{◌≡◌, true, inl, inr, sym, subst, ◌∙◌, arith}
 use Rattle.std.proofs.lemmas.Bool.{cases_eq}
 use Rattle.snl_scope.specs.Places.{stands_in}
-use Rattle.snl_check.proofs.Sets.{stand_within}
+use Rattle.snl_check.specs.SetsLaws.{stand_within}
 use Rattle.snl_check.proofs.reachability.members.end_of.Goals as goal
 
 pub loop-item-preserved : goal.loop-item-preserved

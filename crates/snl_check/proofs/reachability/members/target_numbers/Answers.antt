@@ -8,7 +8,7 @@ use Rattle.snl_check.specs.Collected.{items_in}
 use Rattle.snl_item_check.specs.Items.{tokens_in}
 use Rattle.snl_check.specs.Members.{target_number}
 use Rattle.snl_item_check.specs.Told.{told_in}
-use Rattle.snl_check.proofs.Linked.{targets_at}
+use Rattle.snl_check.specs.TargetLaws.{targets_at}
 use Rattle.snl_check.specs.ItemTokens.{own_tokens}
 use Rattle.snl_check.proofs.reachability.members.target_numbers.Goals as goal
 

@@ -6,7 +6,8 @@ use Rattle.snl_check.specs.declared.rows.channels.AssignedChannel.{AssignedChann
 use Rattle.snl_check.specs.Channels.{channels_of, variables_before}
 use Rattle.snl_check.specs.Collected.{assigned}
 use Rattle.snl_check.proofs.Beside.{mapped_more}
-use Rattle.snl_check.proofs.Numbers.{list_at, lists_count, lists_more, lists_same}
+use Rattle.snl_check.specs.ChannelLaws.{list_at, lists_count}
+use Rattle.snl_check.proofs.Numbers.{lists_more, lists_same}
 use Rattle.snl_check.proofs.rows.channel_rows.variables.Goals as goal
 use Rattle.snl_check.proofs.rows.channel_rows.variables.Goals.{then-channel-len+in_ok-add_number, else-channel-len}
 

@@ -5,7 +5,7 @@ use Rattle.snl_scope.specs.Order.{is_named_state}
 use Rattle.snl_scope.specs.Places.{stands_in}
 use Rattle.snl_check.specs.Collected.{items_in}
 use Rattle.snl_check.specs.Reach.{AreStates, target_lists}
-use Rattle.snl_check.proofs.Sets.{targets_are_states}
+use Rattle.snl_check.specs.SetsLaws.{targets_are_states}
 use Rattle.snl_check.proofs.rows.state_rows.reached_among.Goals as goal
 
 pub targets_among-requires-clause-rising : goal.targets_among-requires-clause-rising

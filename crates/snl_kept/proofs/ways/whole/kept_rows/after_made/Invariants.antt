@@ -1,5 +1,5 @@
 use Rattle.std.proofs.Common.{◌≡◌, drop}
-use Rattle.snl_check.specs.Quiet.{quiet_along}
+use Rattle.snl_moved.specs.Quiet.{quiet_along}
 use Rattle.snl_kept.specs.ItemPlan.{outlines_kept}
 use Rattle.snl_kept.proofs.ways.whole.kept_rows.after_made.Given as goal
 

@@ -1,5 +1,5 @@
 use Rattle.std.proofs.Common.{arith, ℕ, ◌-◌, Bool, Option, is_some, length, drop, option_and_then, ap, sym, ◌∙◌}
-use Rattle.snl_check.specs.Quiet.{quiet_along}
+use Rattle.snl_moved.specs.Quiet.{quiet_along}
 use Rattle.snl_kept.specs.ItemPlan.{outlines_kept}
 use Rattle.snl_kept.proofs.InsideMade.{kept_outlines}
 use Rattle.snl_kept.proofs.Members.{entries_count}

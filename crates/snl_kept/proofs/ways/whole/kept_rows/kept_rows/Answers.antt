@@ -7,7 +7,7 @@ use Rattle.snl_items.specs.Items.{marks_of}
 use Rattle.snl_scope.specs.Below.{all_below}
 use Rattle.snl_scope.specs.LinkedItems.{LinkedItems}
 use Rattle.snl_scope.specs.Places.{is_set_begin}
-use Rattle.snl_check.specs.Quiet.{sets_before}
+use Rattle.snl_moved.specs.Quiet.{sets_before}
 use Rattle.snl_kept.specs.Checks.{outlines_in}
 use Rattle.snl_kept.specs.Tables.{tables_in}
 use Rattle.snl_kept.proofs.FrontLines.{front_lines}

@@ -1,5 +1,5 @@
 use Rattle.std.proofs.Common.{arith, length, is_some, ap, ◌∙◌}
-use Rattle.snl_check.specs.Quiet.{are_quiet}
+use Rattle.snl_moved.specs.Quiet.{are_quiet}
 use Rattle.snl_kept.proofs.InsideMade.{kept_outlines}
 use Rattle.snl_kept.proofs.Members.{entries_count}
 use Rattle.snl_kept.proofs.QuietItems.{outlines_before}

@@ -1,5 +1,0 @@
-use Rattle.snl_check.proofs.ToldAlike.{told_alike}
-use Rattle.snl_check.proofs.alike_laws.tables_told_alike.Goals as goal
-
-pub returns : goal.returns
-returns c = told_alike

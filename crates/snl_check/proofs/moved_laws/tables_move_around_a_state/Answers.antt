@@ -1,8 +1,0 @@
-use Rattle.snl_check.proofs.ShiftedAround.{tables_of_state}
-use Rattle.snl_check.proofs.ShiftedTables.{SpellingLaws}
-use Rattle.snl_check.proofs.moved_laws.tables_move_around_a_state.Goals as goal
-
-pub returns : goal.returns
-returns c =
-    let laws : SpellingLaws = record { named = c.names_are_tokens.ensures; summaries = c.same_spelling_same_summary.ensures.summary } in
-    λ old text s line xs ys j set y before read rep stands named here. tables_of_state laws old text s line xs ys j before read rep set stands named y here

@@ -1,8 +1,0 @@
-use Rattle.snl_check.proofs.ShiftedAround.{tables_in_set}
-use Rattle.snl_check.proofs.ShiftedTables.{SpellingLaws}
-use Rattle.snl_check.proofs.moved_laws.tables_move_in_a_set.Goals as goal
-
-pub returns : goal.returns
-returns c =
-    let laws : SpellingLaws = record { named = c.names_are_tokens.ensures; summaries = c.same_spelling_same_summary.ensures.summary } in
-    λ old text s line xs ys j set before read rep stands unnamed. tables_in_set laws old text s line xs ys j before read rep set stands unnamed
