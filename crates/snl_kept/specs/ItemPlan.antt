@@ -20,6 +20,7 @@ use Rattle.snl_item_check.specs.Told.{used_by, wakes_of}
 use Rattle.snl_kept.specs.declared.entries.Entry.{Entry}
 use Rattle.snl_kept.specs.declared.found.findings.Diagnostic.{Diagnostic}
 use Rattle.snl_kept.specs.declared.found.findings.Finding.{Finding}
+use Rattle.snl_kept.specs.declared.ways.one_item.item_plan.OwnPlan.{OwnPlan}
 use Rattle.snl_kept.specs.declared.ways.one_item.own_parts.OwnParts.{OwnParts}
 use Rattle.snl_kept.specs.declared.ways.one_item.replaced.OldItem.{OldItem}
 use Rattle.snl_kept.specs.declared.ways.one_item.replaced.OwnTokens.{OwnTokens}
@@ -99,6 +100,11 @@ pub record AreOwnParts (edit : Edit) (c : Changes) (p : OwnParts) : Type 0 where
 pub record IsOwnPlan (edit : Edit) (c : Changes) (links : NewLinks) (p : OwnParts) : Type 0 where
   pub are_links : AreLinks edit.old edit.text links
   pub parts : AreOwnParts edit c p
+
+-- How many checks such a plan makes; none, where there is no plan.
+abbrev pub checks_made : Option OwnPlan → ℕ
+checks_made None = 0
+checks_made (Some p) = length p.parts.checks.made.items
 
 -- The item that an edit replaces, by its number.
 pub record IsWas (old : List ℕ) (item : ℕ) (w : OldItem) : Type 0 where

@@ -3,11 +3,11 @@
 //! what it said.
 #![tactic(auto)]
 
-ghost use Rattle.std.specs.Prelude.{◌≡◌, IfOk, IfSome, OnOk, length, vec_capacity};
+ghost use Rattle.std.specs.Prelude.{◌≡◌, IfOk, IfSome, OnOk, vec_capacity};
 ghost use Rattle.snl_cut.specs.Cut.{after_ticks, ticked};
 ghost use Rattle.snl_kept.specs.OneItem.{IsOneItemEdit, edit_by};
 ghost use Rattle.snl_kept.specs.Editing.{AreEntriesIn, IsShiftIn, IsUnderWay, MakesOneItem, ShiftsLinesIn, edit_in, items_in};
-ghost use Rattle.snl_kept.specs.ItemPlan.{IsOwnPlan};
+ghost use Rattle.snl_kept.specs.ItemPlan.{IsOwnPlan, checks_made};
 ghost use Rattle.snl_kept.specs.Kept.{SameLists};
 ghost use Rattle.snl_kept.specs.Planned.{HasRoom, HasRoomForAll, IsPlan};
 
@@ -27,7 +27,7 @@ use snl_lex::LineShift;
 use std::alloc::Global;
 
 // What is kept of the one item that an edit makes, alone in a list, and what the edit makes of it,
-// if it is inside the item. The item is parsed once.
+// if it is inside the item. The item is parsed once, and checked only then.
 fn made_and_planned(
     alloc: Global,
     one: &OneItem,
@@ -38,7 +38,7 @@ fn made_and_planned(
     ensures made { IfOk result (λ r. AreEntriesIn one.now.editing r.0.items) }
     ensures inside { IfOk result (λ r. IfSome r.1 (λ p. IsOwnPlan (edit_by one.now) one.now.editing.changes.now p.links p.parts)) }
     ensures parsed { IfOk result (λ r. parsed.new ≡ ticked parsed.old) }
-    ensures checked { IfOk result (λ r. IfSome r.1 (λ p. checked.new ≡ after_ticks checked.old (length p.parts.checks.made.items))) }
+    ensures checked { IfOk result (λ r. checked.new ≡ after_ticks checked.old (checks_made r.1)) }
 {
     let made = made_alone(alloc, one, parsed)?;
     let plan = own_plan(alloc, one, &made, made[0].get(), checked)?;
@@ -73,7 +73,7 @@ fn plan_of_one(alloc: Global, editing: &Editing, shift: LineShift) -> Result<Pla
             Ok(Plan::Item(item_plan(editing, made, plan, work)))
         }
         None => {
-            let plan = whole_of_one(alloc, editing, made, parsed)?;
+            let plan = whole_of_one(alloc, editing, made, parsed, &mut checked)?;
             Ok(Plan::Whole(plan))
         }
     }

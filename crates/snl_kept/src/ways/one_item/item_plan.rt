@@ -11,7 +11,7 @@ ghost use Rattle.snl_kept.specs.Checks.{outlines_in};
 ghost use Rattle.snl_kept.specs.Cost.{IsCost};
 ghost use Rattle.snl_kept.specs.Editing.{AreEntriesIn, IsUnderWay, MakesOneItem, edit_in, items_in, old_in};
 ghost use Rattle.snl_kept.specs.Entries.{entry_by};
-ghost use Rattle.snl_kept.specs.ItemPlan.{FitsRows, IsOwnPlan, IsWas, SaysWhatItSaid};
+ghost use Rattle.snl_kept.specs.ItemPlan.{FitsRows, IsOwnPlan, IsWas, SaysWhatItSaid, checks_made};
 ghost use Rattle.snl_kept.specs.Kept.{IsListed};
 ghost use Rattle.snl_kept.specs.OwnLinks.{AreOwnLinks};
 ghost use Rattle.snl_kept.specs.Planned.{IsItemPlan};
@@ -199,7 +199,7 @@ fn plan_of_same(
     requires outline { made.now.summary.outline ≡ was.entry.now.summary.outline }
     requires head { head ≡ head_of one.now }
     ensures inside { IfOk result (λ o. IfSome o (λ p. IsOwnPlan (edit_by one.now) one.now.editing.changes.now p.links p.parts)) }
-    ensures ticks { IfOk result (λ o. IfSome o (λ p. work.new ≡ after_ticks work.old (length p.parts.checks.made.items))) }
+    ensures ticks { IfOk result (λ o. work.new ≡ after_ticks work.old (checks_made o)) }
 {
     let Editing {
         lists,
@@ -233,7 +233,7 @@ pub fn own_plan(
     requires entry { made.now ≡ entry.now ∷ [] }
     requires alone { AreEntriesIn one.now.editing made.now }
     ensures inside { IfOk result (λ o. IfSome o (λ p. IsOwnPlan (edit_by one.now) one.now.editing.changes.now p.links p.parts)) }
-    ensures ticks { IfOk result (λ o. IfSome o (λ p. work.new ≡ after_ticks work.old (length p.parts.checks.made.items))) }
+    ensures ticks { IfOk result (λ o. work.new ≡ after_ticks work.old (checks_made o)) }
 {
     let Editing {
         lists,

@@ -5,6 +5,7 @@
 #![tactic(auto)]
 
 ghost use Rattle.std.specs.Prelude.{◌≡◌, [], ◌∷◌, IfOk, IfSome, IsTrue, length};
+ghost use Rattle.std.specs.Option.{option_map_or};
 ghost use Rattle.snl_cut.specs.Cut.{after_ticks};
 ghost use Rattle.snl_lex.specs.PieceList.{spelled};
 ghost use Rattle.snl_scope.specs.Linked.{faults_of};
@@ -162,7 +163,7 @@ pub fn renamed_parts(
     requires alone { AreEntriesIn one.now.editing made.now }
     requires head { head ≡ head_of one.now }
     ensures inside { IfOk result (λ o. IfSome o (λ p. IsOwnPlan (edit_by one.now) one.now.editing.changes.now p.1 p.0)) }
-    ensures ticks { IfOk result (λ o. IfSome o (λ p. work.new ≡ after_ticks work.old (length p.0.checks.made.items))) }
+    ensures ticks { IfOk result (λ o. work.new ≡ after_ticks work.old (option_map_or (λ p. length p.0.checks.made.items) o 0)) }
 {
     let Editing {
         lists,

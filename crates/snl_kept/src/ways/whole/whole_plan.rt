@@ -44,22 +44,23 @@ fn made_entries(
 }
 
 // The plan by the tokens of the new text and what is kept of the fresh items, where so many were
-// parsed.
+// parsed and none was checked yet.
 fn whole_plan(
     alloc: Global,
     editing: &Editing,
     tokens: &TokenList,
     made: Vec<Shared<Entry>>,
     parsed: u64,
+    checked: &mut Count,
 ) -> Result<WholePlan, OutOfMemory>
     requires editing { IsUnderWay editing.now }
     requires tokens { tokens.now ≡ tokens_of (text_in editing.now) }
     requires made { AreEntriesIn editing.now made.items }
     requires parsed { parsed ≡ parsed_in editing.now }
+    requires checked { checked.old ≡ 0 }
     ensures { IfOk result (IsWholePlan (edit_in editing.now) (items_in editing.now)) }
 {
-    let mut checked = Count::new();
-    let retold = rejudge(alloc, editing, tokens, &made, &mut checked)?;
+    let retold = rejudge(alloc, editing, tokens, &made, checked)?;
     Ok(WholePlan {
         items: ItemsPlan {
             made,
@@ -134,10 +135,10 @@ fn whole_of_many(
     requires tokens { tokens.now ≡ tokens_of (text_in editing.now) }
     ensures { IfOk result (IsWholePlan (edit_in editing.now) (items_in editing.now)) }
 {
-    let mut parsed = Count::new();
+    let (mut parsed, mut checked) = (Count::new(), Count::new());
     let made = made_entries(alloc, editing, tokens, &mut parsed)?;
     let parsed = parsed.ticks();
-    whole_plan(alloc, editing, tokens, made, parsed)
+    whole_plan(alloc, editing, tokens, made, parsed, &mut checked)
 }
 
 // The same by the list of the pieces of the new text.
@@ -184,30 +185,34 @@ fn whole_of_one_listed(
     pieces: &PieceList,
     made: Vec<Shared<Entry>>,
     parsed: u64,
+    checked: &mut Count,
 ) -> Result<WholePlan, OutOfMemory>
     requires editing { IsUnderWay editing.now }
     requires pieces { ArePieces (text_in editing.now) pieces.now }
     requires made { AreEntriesIn editing.now made.items }
     requires parsed { parsed ≡ parsed_in editing.now }
+    requires checked { checked.old ≡ 0 }
     ensures { IfOk result (IsWholePlan (edit_in editing.now) (items_in editing.now)) }
 {
     let tokens = tokens_among(alloc, editing.edit, pieces)?;
-    whole_plan(alloc, editing, &tokens, made, parsed)
+    whole_plan(alloc, editing, &tokens, made, parsed, checked)
 }
 
-/// The plan where the edit makes one item, by what is kept of that.
+/// The plan where the edit makes one item, by what is kept of that. No item is checked yet.
 pub fn whole_of_one(
     alloc: Global,
     editing: &Editing,
     made: Vec<Shared<Entry>>,
     parsed: u64,
+    checked: &mut Count,
 ) -> Result<WholePlan, OutOfMemory>
     requires editing { IsUnderWay editing.now }
     requires made { AreEntriesIn editing.now made.items }
     requires parsed { parsed ≡ parsed_in editing.now }
+    requires checked { checked.old ≡ 0 }
     ensures { IfOk result (IsWholePlan (edit_in editing.now) (items_in editing.now)) }
 {
     let pieces = new_pieces(alloc, editing)?;
-    let plan = whole_of_one_listed(alloc, editing, &pieces, made, parsed)?;
+    let plan = whole_of_one_listed(alloc, editing, &pieces, made, parsed, checked)?;
     Ok(with_pieces(plan, pieces))
 }

@@ -2,7 +2,7 @@ use Rattle.std.proofs.Common.{arith, ◌≡◌, ◌^◌, ◌<◌, IfSome, Option
 use Rattle.snl_cut.specs.Cut.{after_ticks, ticked}
 use Rattle.snl_kept.specs.declared.ways.one_item.item_plan.OwnPlan.{OwnPlan}
 use Rattle.snl_kept.specs.Editing.{edit_in}
-use Rattle.snl_kept.specs.ItemPlan.{IsOwnPlan}
+use Rattle.snl_kept.specs.ItemPlan.{IsOwnPlan, checks_made}
 use Rattle.snl_kept.proofs.Ticks.{exact_ticks}
 use Rattle.snl_kept.proofs.ways.planning.plan_of_one.Goals as goal
 
@@ -13,7 +13,7 @@ item_plan-requires-clause-cost c =
     let made = plan.parts.checks.made in
     let few : length made.items < 2 ^ 64 = omega (arith, made.ok, made.small) in
     let ticks : c.made_and_planned.new.checked ≡ after_ticks c.new-checked.result (length made.items) =
-    subst (λ (o : Option OwnPlan). IfSome o (λ p. c.made_and_planned.new.checked ≡ after_ticks c.new-checked.result (length p.parts.checks.made.items))) c.in-Some.is c.in_ok-made.ensures.checked in
+    subst (λ (o : Option OwnPlan). c.made_and_planned.new.checked ≡ after_ticks c.new-checked.result (checks_made o)) c.in-Some.is c.in_ok-made.ensures.checked in
     let inside : IsOwnPlan (edit_in editing) editing.changes.now plan.links plan.parts =
     subst (λ (o : Option OwnPlan). IfSome o (λ p. IsOwnPlan (edit_in editing) editing.changes.now p.links p.parts)) c.in-Some.is c.in_ok-made.ensures.inside in
     record {

@@ -15,7 +15,7 @@ returns c =
       cost = record {
         lexed = c.requires.editing.lexed;
         parsed = c.requires.parsed;
-        checked = c.ticks.ensures ∙ c.in_ok-retold.ensures.ticks ∙ ap (λ n. after_ticks n (length checked.items)) c.new-checked.ensures ∙ exact_ticks (length checked.items) few_checked ∙ judged.stirred;
+        checked = c.ticks.ensures ∙ c.in_ok-retold.ensures.ticks ∙ ap (λ n. after_ticks n (length checked.items)) c.requires.checked ∙ exact_ticks (length checked.items) few_checked ∙ judged.stirred;
       };
       pieces = tt;
     }
