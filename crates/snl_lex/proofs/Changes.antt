@@ -1,10 +1,9 @@
 -- What an edit makes of the lists of the pieces.
 use Rattle.std.proofs.Common.{◌≡◌, ℕ, zero, suc, ◌+◌, ◌-◌, ◌<◌, ◌≤◌, List, [], ◌∷◌, ◌++◌, length, take, drop, map, get_or, refl, sym, ap, ap₂, ◌∙◌, subst, arith, append_assoc, length-append, length-drop}
 use Rattle.std.specs.Prelude.{slice_index}
-use Rattle.std.proofs.lemmas.List.{drop-map, get_or-map, get_or_append_left, get_or-append-add, length-map, map-append, take-append-drop, take-map}
+use Rattle.std.proofs.lemmas.List.{drop-map, get_or_append_left, get_or-append-add, length-map, map-append, take-append-drop, take-map}
 use Rattle.snl_cut.specs.Cut.{IsEdit, IsRecut, Walks, joined, last_end, moved}
 use Rattle.snl_lex.specs.declared.piece.Class.{Class}
-use Rattle.snl_lex.specs.declared.piece.Class.TheVariants.{Bad}
 use Rattle.snl_lex.specs.declared.piece.Piece.{Piece}
 use Rattle.snl_lex.specs.declared.piece_list.PieceChange.{PieceChange}
 use Rattle.snl_lex.specs.Edit.{Edit, IsChange, made_pieces}

@@ -1,12 +1,11 @@
 -- The pieces of a text, as two lists say them.
-use Rattle.std.proofs.Common.{◌≡◌, ℕ, zero, suc, ◌+◌, ◌-◌, ◌<◌, ◌≤◌, Bool, true, false, cond, List, [], ◌∷◌, ◌++◌, length, take, drop, map, filter, get_or, refl, sym, ap, ap₂, ◌∙◌, subst, arith}
-use Rattle.std.proofs.lemmas.List.{map-append, take_all, take_more, get_or-drop, length-drop}
-use Rattle.std.proofs.lemmas.List.Elements.{filter-append}
+use Rattle.std.proofs.Common.{◌≡◌, ℕ, zero, suc, ◌+◌, ◌-◌, ◌<◌, ◌≤◌, List, [], ◌∷◌, ◌++◌, length, take, drop, map, filter, get_or, refl, sym, ap, ap₂, ◌∙◌, subst, arith}
+use Rattle.std.proofs.lemmas.List.{take_all, take_more, get_or-drop, length-drop}
 use Rattle.snl_cut.specs.Cut.{Walks, last_end, notes_along}
 use Rattle.snl_lex.specs.declared.piece.Class.{Class}
 use Rattle.snl_lex.specs.declared.piece.Piece.{Piece}
 use Rattle.snl_lex.specs.PieceList.{listed_pieces, piece_ends, piece_kinds, pieces_between}
-use Rattle.snl_lex.specs.Pieces.{is_token, moved_piece, piece_at, piece_class, piece_end, piece_length, pieces_along, pieces_of}
+use Rattle.snl_lex.specs.Pieces.{is_token, piece_at, piece_class, piece_end, piece_length, pieces_along, pieces_of}
 use Rattle.snl_lex.proofs.Members.{Leads, end_at, pieces_lead}
 
 -- A piece of a text by its end.
@@ -107,32 +106,8 @@ listed_piece begin ends kinds n end kind start len d lt lt_kinds end_is kind_is 
     ∙ ap (λ (k : Class). let q : Piece = record { kind = k; start = first; len = get_or ends n 0 - first } in q) (sym kind_is)
     ∙ same_piece kind first start (get_or ends n 0 - first) len (sym start_is) long
 
--- The same piece, moved.
-pub pushed_piece : (kind : Class) (start end b c s m : ℕ) → s ≡ start - b → m ≡ end - start
-    → let p : Piece = record { kind = kind; start = s + c; len = m } in p ≡ moved_piece b c (record { kind = kind; start = start; len = end - start })
-pushed_piece kind start end b c s m s_is m_is = same_piece kind (s + c) ((start - b) + c) m (end - start) (ap (λ (k : ℕ). k + c) s_is) m_is
-
--- The moved tokens of pieces and one more.
-pub tokens_and_one : (b c : ℕ) (ps : List Piece) (p : Piece)
-    → map (moved_piece b c) (filter is_token (ps ++ p ∷ [])) ≡ map (moved_piece b c) (filter is_token ps) ++ cond (is_token p) (moved_piece b c p ∷ []) []
-tokens_and_one b c ps p =
-    let one : (t : Bool) → map (moved_piece b c) (cond t (p ∷ []) []) ≡ cond t (moved_piece b c p ∷ []) [] = elim [ true ↦ refl | false ↦ refl ] in
-    ap (map (moved_piece b c)) (filter-append is_token ps (p ∷ []))
-    ∙ map-append (moved_piece b c) (filter is_token ps) (filter is_token (p ∷ []))
-    ∙ ap (λ (l : List Piece). map (moved_piece b c) (filter is_token ps) ++ l) (one (is_token p))
-
-not_moved_one : (p : Piece) → moved_piece 0 0 p ≡ p
-not_moved_one p =
-    let same : (p.start - 0) + 0 ≡ p.start = omega arith in
-    ap (λ (s : ℕ). let q : Piece = record { kind = p.kind; start = s; len = p.len } in q) same
-
-pub not_moved : (ps : List Piece) → map (moved_piece 0 0) ps ≡ ps
-not_moved [] = refl
-not_moved (p ∷ ps) = ap₂ (λ (q : Piece) (l : List Piece). q ∷ l) (not_moved_one p) (not_moved ps)
-
 -- All tokens among the pieces that the lists say.
 pub listed_all : (from : ℕ) (ends : List ℕ) (kinds : List Class) (n : ℕ) → n ≡ length ends
-    → map (moved_piece 0 0) (filter is_token (pieces_between (listed_pieces from ends kinds) 0 n)) ≡ filter is_token (listed_pieces from ends kinds)
+    → filter is_token (pieces_between (listed_pieces from ends kinds) 0 n) ≡ filter is_token (listed_pieces from ends kinds)
 listed_all from ends kinds n all =
-    not_moved (filter is_token (pieces_between (listed_pieces from ends kinds) 0 n))
-    ∙ ap (filter is_token) (ap (λ (m : ℕ). pieces_between (listed_pieces from ends kinds) 0 m) all ∙ between_all from ends kinds)
+    ap (filter is_token) (ap (λ (m : ℕ). pieces_between (listed_pieces from ends kinds) 0 m) all ∙ between_all from ends kinds)

@@ -12,4 +12,4 @@ mod text_items;
 
 pub use items::span_bytes;
 pub use laws::names_mean_their_like;
-pub use meanings::{Meaning, meaning_at, meaning_near};
+pub use meanings::{Meaning, meaning_near};

@@ -125,29 +125,11 @@ fn meaning_near_among(
     meaning_among(alloc, lists, items, offset - 1)
 }
 
-/// What the name means that has the byte at an offset of a text, by its lists. None where no token
-/// has the byte, or it names nothing that the text declares. A name of an item that the grammar has
-/// no tree for means nothing, but for that of a state. The time is that of the text's tokens.
-pub fn meaning_at<'a>(
-    alloc: Global,
-    text: &'a [u8],
-    lists: &'a Lists,
-    offset: usize,
-) -> Result<Option<Meaning>, OutOfMemory>
-    requires { IsListed text.now lists.now }
-    ensures { IfOk result (λ m. m ≡ meaning_of text.now offset) }
-{
-    let tokens = all_tokens(alloc, &lists.pieces)?;
-    let items = TextItems {
-        text,
-        items: ItemTokens::of_text(text, &tokens, &lists.items.ends),
-    };
-    meaning_among(alloc, lists, &items, offset)
-}
-
 /// What the name means that a cursor at an offset is on: that which has the byte there, and where
 /// it means nothing that which has the byte before. So a cursor right after a word's last letter is
-/// on that word. The time is that of `meaning_at`: the tokens are listed once for both offsets.
+/// on that word. None where no token has these bytes, or they name nothing that the text declares.
+/// A name of an item that the grammar has no tree for means nothing, but for that of a state. The
+/// time is that of the text's tokens, which are listed once for both offsets.
 pub fn meaning_near<'a>(
     alloc: Global,
     text: &'a [u8],

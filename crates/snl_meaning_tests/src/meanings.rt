@@ -1,6 +1,6 @@
 //! What names of a text mean.
 
-use snl_meaning::{meaning_at, meaning_near, span_bytes};
+use snl_meaning::{meaning_near, span_bytes};
 use snl_session::Session;
 use std::process::Abort;
 use std::test::Fail;
@@ -61,7 +61,7 @@ fn names_mean_declarations(rt: HostRuntime) -> Result<(), Fail> {
     let mut session = Session::new(rt.alloc())?;
     session.edit(0, 0, TEXT)?;
     for (offset, wanted) in &NAMES {
-        let found = match meaning_at(rt.alloc(), session.text(), &session.kept().lists, *offset)? {
+        let found = match meaning_near(rt.alloc(), session.text(), &session.kept().lists, *offset)? {
             Some(meaning) => Some(meaning.declared.start),
             None => None,
         };
@@ -107,7 +107,7 @@ fn names_are_spelled_alike(rt: HostRuntime) -> Result<(), Fail> {
     let mut session = Session::new(rt.alloc())?;
     session.edit(0, 0, TEXT)?;
     let text = session.text();
-    let meaning = meaning_at(rt.alloc(), text, &session.kept().lists, 308)?.ok_or("no meaning")?;
+    let meaning = meaning_near(rt.alloc(), text, &session.kept().lists, 308)?.ok_or("no meaning")?;
     assert!(rt; span_bytes(text, meaning.name) == span_bytes(text, meaning.declared));
     Ok(())
 }

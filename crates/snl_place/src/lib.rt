@@ -16,6 +16,6 @@ pub use laws::{
     ascii_counts_alike, characters_counted, edits_keep_text, late_places_end_the_text, lines_agree,
     lines_begin_anew, offsets_are_whole, offsets_rise, places_return, places_rise,
 };
-pub use line_places::{line_around, offset_by, place_by, place_from};
+pub use line_places::{line_around, offset_by, place_from};
 pub use places::{Encoding, Place};
 pub use trim::{Splice, trimmed};

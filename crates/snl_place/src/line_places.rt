@@ -109,18 +109,6 @@ fn place_on_line(
     Place { line, character }
 }
 
-/// The place of an offset.
-pub fn place_by(encoding: Encoding, text: &[u8], ends: &[usize], offset: usize) -> Place
-    requires lines { ends.now ≡ line_ends text.now }
-    requires small { length text.now < 2 ^ 32 }
-    requires inside { offset ≤ length text.now }
-    ensures { result ≡ place_in encoding (take offset text.now) }
-{
-    ends_rise();
-    let line = count_before(ends, offset);
-    place_on_line(encoding, text, ends, line, offset)
-}
-
 /// The place of an offset, from that of another one: it counts on from there where the offset is
 /// after that one on its line, and looks the line up, from the next one on, where it isn't. So
 /// offsets that rise are counted once each, also in a text of one long line.

@@ -25,13 +25,3 @@ pub fn frame_from(out: &mut Vec<u8>, start: usize) -> Result<(), AllocError>
     out[start..].rotate_right(header);
     Ok(())
 }
-
-/// A body in its frame: the header says how many bytes it has. An `Err`, of memory, may leave a
-/// front of the message.
-pub fn put_framed(out: &mut Vec<u8>, body: &[u8]) -> Result<(), AllocError>
-    ensures { OnOk result (out.new.items ≡ out.old.items ++ framed body.now) }
-{
-    let start = out.len();
-    out.extend_from_slice(body)?;
-    frame_from(out, start)
-}

@@ -29,7 +29,7 @@ mod written;
 pub use answers::{ErrorCode, Id, put_error, put_initialize, put_null};
 pub use bytes::put_quoted;
 pub use diagnostics::{Shown, put_publish};
-pub use frames::{frame_from, put_framed};
+pub use frames::frame_from;
 pub use hover::put_hover;
 pub use laws::{
     error_is_json, hover_is_json, initialize_is_json, location_is_json, message_is_json,

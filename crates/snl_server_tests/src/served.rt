@@ -1,7 +1,7 @@
 //! What a server answers to a client's messages, one after another.
 
 use snl_docs::Docs;
-use snl_say::put_framed;
+use snl_say::frame_from;
 use snl_shown::SessionText;
 use snl_talk::Answers;
 use snl_turns::Turn;
@@ -68,7 +68,9 @@ static TALK: [(&[u8], &str); 13] = [
 fn framed(alloc: Global, bodies: &str) -> Result<Vec<u8>, Fail> {
     let mut all = Vec::new(alloc);
     for body in bodies.lines() {
-        put_framed(&mut all, body.as_bytes())?;
+        let start = all.len();
+        all.extend_from_slice(body.as_bytes())?;
+        frame_from(&mut all, start)?;
     }
     Ok(all)
 }
