@@ -20,7 +20,7 @@ use Rattle.snl_token_laws.proofs.Values.{all_digits, decimal_digit_is, same_valu
 -- ---- the digits
 
 -- A run ends with the bytes that pass, if the byte after them doesn't.
-run_end : (p : ℕ → Bool) (xs ys : List ℕ) → list_all p xs ≡ true → p (slice_index ys 0) ≡ false → run_of p (xs ++ ys) ≡ length xs
+pub run_end : (p : ℕ → Bool) (xs ys : List ℕ) → list_all p xs ≡ true → p (slice_index ys 0) ≡ false → run_of p (xs ++ ys) ≡ length xs
 run_end p [] [] all stop = refl
 run_end p [] (y ∷ ys) all stop = ap (λ (b : Bool). cond b (suc (run_of p ys)) 0) stop
 run_end p (x ∷ xs) ys all stop =
@@ -35,7 +35,7 @@ no_digit : (b : ℕ) → is_white b ≡ true → is_digit b ≡ false
 unfolding is_white is_digit
 no_digit b h = grind (arith, nat_tests)
 
-zero_no_digit : is_digit 0 ≡ false
+pub zero_no_digit : is_digit 0 ≡ false
 unfolding is_digit
 zero_no_digit = refl
 

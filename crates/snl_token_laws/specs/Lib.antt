@@ -2,3 +2,4 @@ pub mod Fronts
 pub mod Written
 pub mod Unmarked
 pub mod Recuts
+pub mod Numbers
