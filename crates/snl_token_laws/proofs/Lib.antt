@@ -17,3 +17,5 @@ pub mod FloatForms
 pub mod NumberForms
 pub mod NumberPieces
 pub mod NumberKinds
+pub mod MarkerFiles
+pub mod MarkerLines

@@ -3,3 +3,4 @@ pub mod Written
 pub mod Unmarked
 pub mod Recuts
 pub mod Numbers
+pub mod Markers
