@@ -6,3 +6,5 @@ pub mod FlagLines
 pub mod Assigns
 pub mod OneChannel
 pub mod TableBytes
+pub mod Clashes
+pub mod Repetitions

@@ -1,3 +1,4 @@
 pub mod Lines
 pub mod Flags
 pub mod Channels
+pub mod Clauses
