@@ -8,3 +8,5 @@ pub mod OneChannel
 pub mod TableBytes
 pub mod Clashes
 pub mod Repetitions
+pub mod Phases
+pub mod InOrder

@@ -2,3 +2,4 @@ pub mod Lines
 pub mod Flags
 pub mod Channels
 pub mod Clauses
+pub mod Order
