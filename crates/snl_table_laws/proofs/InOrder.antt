@@ -8,17 +8,22 @@ use Rattle.std.proofs.lemmas.List.{map-append}
 use Rattle.std.proofs.lemmas.List.Elements.{All-from_recursion, Contains-append_left, Contains-append_right}
 use Rattle.snl_codes.specs.declared.code.Code.{Code}
 use Rattle.snl_codes.specs.declared.code.Code.TheVariants.{E03, E04, E05, E06}
-use Rattle.snl_facts.specs.Each.{each_append, each_by, each_map}
+use Rattle.snl_facts.specs.Each.{each_append, each_by, each_map, each_weaker}
 use Rattle.snl_scope.specs.declared.facts.LinkFault.{LinkFault}
 use Rattle.snl_scope.specs.Below.{all_below, any_below}
 use Rattle.snl_scope.specs.BelowLaws.{any_below_none, each_below}
+use Rattle.snl_scope.specs.Clauses.{clause_faults}
+use Rattle.snl_scope.specs.Linked.{faults_of}
 use Rattle.snl_scope.specs.LinkedItems.{LinkedItems, kind_is}
+use Rattle.snl_scope.specs.Names.{name_faults}
 use Rattle.snl_scope.specs.Order.{at_item, at_items_where, exceeds, found_if, has_begun, header_faults, if_missing, is_barred, is_barred_in_sets, is_faulty, is_late, is_later_program, is_misplaced, is_program_item, is_repeated_header, is_ss_item, is_state, is_stateless, is_unmatched, misplaced_items, missing_states, order_faults, phase, phase_of, unmatched_braces}
-use Rattle.snl_scope.specs.Places.{enclosing_set}
+use Rattle.snl_scope.specs.Places.{begins_set, enclosing_set, open_before}
 use Rattle.snl_summary.specs.declared.summary.ItemKind.{ItemKind}
 use Rattle.snl_summary.specs.declared.summary.ItemKind.TheVariants.{Faulty, Header, SsBegin, SsEnd, State, Entry, Exit, Declaration, Foreign, Clause, OptionLine, Function, StructDef, CBlock, Empty}
 use Rattle.snl_summary.specs.declared.summary.Outline.{Outline}
 use Rattle.snl_table_laws.specs.Order.{AreSetsFree, IsAtProgramLevel, IsBarred, IsDeclared, IsInOrder, MayBe, Parts}
+use Rattle.std.proofs.lemmas.Option.{slice_get_within}
+use Rattle.snl_table_laws.proofs.OrderCodes.{IsOther, clauses_other, names_other}
 use Rattle.snl_table_laws.proofs.Phases.{exceeds_parts, in_place, phase_outside, some_below}
 
 -- ---- an E03 is at an item that is misplaced
@@ -58,13 +63,21 @@ order_found l =
     each_append P ((misplaced_items l ++ unmatched_braces ss) ++ header_faults l) (missing_states ss)
     (each_append P (misplaced_items l ++ unmatched_braces ss) (header_faults l) (each_append P (misplaced_items l) (unmatched_braces ss) first braces) headers) states
 
-all_found : (l : LinkedItems) → All (AtMisplaced l) (order_faults l)
-all_found l = All-from_recursion (AtMisplaced l) (order_faults l) (order_found l)
+links_found : (l : LinkedItems) → Each (AtMisplaced l) (faults_of l)
+links_found l =
+    let P : LinkFault → Type 0 = AtMisplaced l in
+    let by_other : (f : LinkFault) → IsOther f → P f = λ f other e. absurd (other e) in
+    each_append P (order_faults l ++ name_faults l) (clause_faults l.outlines)
+    (each_append P (order_faults l) (name_faults l) (order_found l) (each_weaker IsOther P by_other (name_faults l) (names_other l)))
+    (each_weaker IsOther P by_other (clause_faults l.outlines) (clauses_other l.outlines))
 
-pub none_outside : (l : LinkedItems) → IsInOrder l → All (λ f. f.code ≡ E03 → IsAtProgramLevel l f.item → ⊥) (order_faults l)
+all_found : (l : LinkedItems) → All (AtMisplaced l) (faults_of l)
+all_found l = All-from_recursion (AtMisplaced l) (faults_of l) (links_found l)
+
+pub none_outside : (l : LinkedItems) → IsInOrder l → All (λ f. f.code ≡ E03 → IsAtProgramLevel l f.item → ⊥) (faults_of l)
 none_outside l o k d lt e level =
     let told = all_found l k d lt e in
-    true≢false (sym told.0 ∙ in_place l o (get_or (order_faults l) k d).item level)
+    true≢false (sym told.0 ∙ in_place l o (get_or (faults_of l) k d).item level)
 
 -- ---- items in a state set
 
@@ -111,9 +124,9 @@ none_at : (l : LinkedItems) (i : ℕ) (o : Option ℕ) → IsInOrder l → AreSe
 none_at l i None order free within is h = true≢false (sym h ∙ in_place l order i (record { within = within; outside = is }))
 none_at l i (Some set) order free within is h = placed_inside l i set free is h
 
-pub none_found : (l : LinkedItems) → IsInOrder l → AreSetsFree l → All (λ f. f.code ≡ E03 → ⊥) (order_faults l)
+pub none_found : (l : LinkedItems) → IsInOrder l → AreSetsFree l → All (λ f. f.code ≡ E03 → ⊥) (faults_of l)
 none_found l order free k d lt e =
-    let f : LinkFault = get_or (order_faults l) k d in
+    let f : LinkFault = get_or (faults_of l) k d in
     let told = all_found l k d lt e in
     none_at l f.item (enclosing_set l.outlines f.item) order free told.1 refl told.0
 
@@ -139,26 +152,48 @@ among_is fs f among = among.2
 
 -- None of the findings is an E03 or an E05 at program level.
 abbrev pub NoneFound : LinkedItems → Type 0
-NoneFound l = All (λ f. (f.code ≡ E03) ⊎ (f.code ≡ E05) → IsAtProgramLevel l f.item → ⊥) (order_faults l)
+NoneFound l = All (λ f. (f.code ≡ E03) ⊎ (f.code ≡ E05) → IsAtProgramLevel l f.item → ⊥) (faults_of l)
 
-not_found : (l : LinkedItems) (f : LinkFault) → NoneFound l → Contains (order_faults l) f → (f.code ≡ E03) ⊎ (f.code ≡ E05) → IsAtProgramLevel l f.item → ⊥
+not_found : (l : LinkedItems) (f : LinkFault) → NoneFound l → Contains (faults_of l) f → (f.code ≡ E03) ⊎ (f.code ≡ E05) → IsAtProgramLevel l f.item → ⊥
 not_found l f none among =
-    subst (λ (g : LinkFault). (g.code ≡ E03) ⊎ (g.code ≡ E05) → IsAtProgramLevel l g.item → ⊥) (among_is (order_faults l) f among) (none among.0 f among.1)
+    subst (λ (g : LinkFault). (g.code ≡ E03) ⊎ (g.code ≡ E05) → IsAtProgramLevel l g.item → ⊥) (among_is (faults_of l) f among) (none among.0 f among.1)
 
-misplaced_found : (l : LinkedItems) (i : ℕ) → i < length l.outlines → is_misplaced l i ≡ true → Contains (order_faults l) (at_item E03 i)
+ordered_found : (l : LinkedItems) (f : LinkFault) → Contains (order_faults l) f → Contains (faults_of l) f
+ordered_found l f h =
+    Contains-append_left (order_faults l ++ name_faults l) (clause_faults l.outlines) f (Contains-append_left (order_faults l) (name_faults l) f h)
+
+misplaced_found : (l : LinkedItems) (i : ℕ) → i < length l.outlines → is_misplaced l i ≡ true → Contains (faults_of l) (at_item E03 i)
 misplaced_found l i within h =
     let ss : List Outline = l.outlines in
-    Contains-append_left ((misplaced_items l ++ unmatched_braces ss) ++ header_faults l) (missing_states ss) (at_item E03 i)
+    ordered_found l (at_item E03 i)
+    (Contains-append_left ((misplaced_items l ++ unmatched_braces ss) ++ header_faults l) (missing_states ss) (at_item E03 i)
     (Contains-append_left (misplaced_items l ++ unmatched_braces ss) (header_faults l) (at_item E03 i)
-    (Contains-append_left (misplaced_items l) (unmatched_braces ss) (at_item E03 i) (found_there E03 (is_misplaced l) (length ss) i within h)))
+    (Contains-append_left (misplaced_items l) (unmatched_braces ss) (at_item E03 i) (found_there E03 (is_misplaced l) (length ss) i within h))))
 
-repeated_found : (l : LinkedItems) (i : ℕ) → i < length l.outlines → is_repeated_header l i ≡ true → Contains (order_faults l) (at_item E05 i)
+repeated_found : (l : LinkedItems) (i : ℕ) → i < length l.outlines → is_repeated_header l i ≡ true → Contains (faults_of l) (at_item E05 i)
 repeated_found l i within h =
     let ss : List Outline = l.outlines in
-    Contains-append_left ((misplaced_items l ++ unmatched_braces ss) ++ header_faults l) (missing_states ss) (at_item E05 i)
+    ordered_found l (at_item E05 i)
+    (Contains-append_left ((misplaced_items l ++ unmatched_braces ss) ++ header_faults l) (missing_states ss) (at_item E05 i)
     (Contains-append_right (misplaced_items l ++ unmatched_braces ss) (header_faults l) (at_item E05 i)
     (Contains-append_left (at_items_where E05 (is_repeated_header l) (length ss)) (if_missing E05 (is_program_item ss) (length ss)) (at_item E05 i)
-    (found_there E05 (is_repeated_header l) (length ss) i within h)))
+    (found_there E05 (is_repeated_header l) (length ss) i within h))))
+
+-- What is out of place gives an E03 or an E05, if it isn't faulty.
+abbrev NotAt : LinkedItems → ℕ → Type 0
+NotAt l i = (f : LinkFault) → Contains (faults_of l) f → (f.code ≡ E03) ⊎ (f.code ≡ E05) → f.item ≡ i → ⊥
+
+out_found : (l : LinkedItems) (i : ℕ) (kind : ItemKind) → i < length l.outlines → slice_get l.kinds i ≡ Some kind → is_faulty kind ≡ false → (is_late l i || is_barred l i) ≡ true → NotAt l i → ⊥
+out_found l i kind within is sound out none =
+    elim (cases_Bool (is_later_program l.outlines i)) [
+      | inl again ↦
+          let told : is_repeated_header l i ≡ true =
+          and_from (kind_is (λ k. not (is_faulty k)) l i) (is_later_program l.outlines i) (ap (λ o. option_map_or (λ k. not (is_faulty k)) o false) is ∙ ap not sound) again in
+          none (at_item E05 i) (repeated_found l i within told) (inr refl) refl
+      | inr once ↦
+          let told : is_misplaced l i ≡ true = and_from (is_late l i || is_barred l i) (not (is_later_program l.outlines i)) out (ap not once) in
+          none (at_item E03 i) (misplaced_found l i within told) (inl refl) refl
+    ]
 
 -- The least number that passes a test, or else the number of all.
 record Least (test : ℕ → Bool) (n : ℕ) : Type 0 where
@@ -201,16 +236,7 @@ module _ (l : LinkedItems) (none : NoneFound l) where
 
   not_out : (i : ℕ) (kind : ItemKind) → IsAtProgramLevel l i → slice_get l.kinds i ≡ Some kind → is_faulty kind ≡ false → (is_late l i || is_barred l i) ≡ true → ⊥
   not_out i kind level is sound out =
-      elim (cases_Bool (is_later_program l.outlines i)) [
-        | inl again ↦
-            let told : is_repeated_header l i ≡ true =
-            and_from (kind_is (λ k. not (is_faulty k)) l i) (is_later_program l.outlines i) (ap (λ o. option_map_or (λ k. not (is_faulty k)) o false) is ∙ ap not sound) again in
-            not_found l (at_item E05 i) none (repeated_found l i level.within told) (inr refl) level
-        | inr once ↦
-            let told : is_misplaced l i ≡ true =
-            and_from (is_late l i || is_barred l i) (not (is_later_program l.outlines i)) out (ap not once) in
-            not_found l (at_item E03 i) none (misplaced_found l i level.within told) (inl refl) level
-      ]
+      out_found l i kind level.within is sound out (λ f among code there. not_found l f none among code (subst (IsAtProgramLevel l) (sym there) level))
 
   not_late : (i : ℕ) (kind : ItemKind) → IsAtProgramLevel l i → slice_get l.kinds i ≡ Some kind → is_faulty kind ≡ false → is_late l i ≡ true → ⊥
   not_late i kind level is sound late = not_out i kind level is sound (or_left (is_late l i) (is_barred l i) late)
@@ -301,3 +327,37 @@ module _ (l : LinkedItems) (none : NoneFound l) where
     rising = record { entries = rises 0; state_sets = rises 1; exits = rises 2; rest = rises 3 };
     each = may_be;
   }
+
+-- ---- no item in a state set that may not be in one
+
+by_kind : (kind other : ItemKind) → kind ≡ other → is_barred_in_sets other ≡ true → is_faulty other ≡ false → (is_barred_in_sets kind ≡ true) × (is_faulty kind ≡ false)
+by_kind kind other e h k = (ap is_barred_in_sets e ∙ h, ap is_faulty e ∙ k)
+
+barred_is : (kind : ItemKind) → IsBarred kind → (is_barred_in_sets kind ≡ true) × (is_faulty kind ≡ false)
+barred_is kind h =
+    elim h [
+      | inl e ↦ by_kind kind Header e refl refl
+      | inr h1 ↦ elim h1 [
+        | inl e ↦ by_kind kind OptionLine e refl refl
+        | inr h2 ↦ elim h2 [
+          | inl e ↦ by_kind kind Entry e refl refl
+          | inr h3 ↦ elim h3 [
+            | inl e ↦ by_kind kind Exit e refl refl
+            | inr h4 ↦ elim h4 [ inl e ↦ by_kind kind Function e refl refl | inr e ↦ by_kind kind StructDef e refl refl ]
+          ]
+        ]
+      ]
+    ]
+
+within_by : (l : LinkedItems) (i set : ℕ) (o : Option Outline) → slice_get l.outlines i ≡ o → (if option_map_or (λ s. not (begins_set s.role)) o false then open_before l.outlines i else None) ≡ Some set → i < length l.outlines
+within_by l i set None is h = absurd cc
+within_by l i set (Some s) is h = slice_get_within l.outlines i s is
+
+pub sets_free : (l : LinkedItems) → All (λ f. (f.code ≡ E03) ⊎ (f.code ≡ E05) → ⊥) (faults_of l) → AreSetsFree l
+sets_free l none i set kind inside is barred =
+    let told = barred_is kind barred in
+    let within : i < length l.outlines = within_by l i set (slice_get l.outlines i) refl inside in
+    let there : is_barred l i ≡ true =
+    ap (λ b. kind_is (λ k. if b then is_state k else is_barred_in_sets k) l i) (ap is_none inside) ∙ (ap (λ o. option_map_or is_barred_in_sets o false) is ∙ told.0) in
+    out_found l i kind within is told.1 (or_right (is_late l i) (is_barred l i) there)
+    (λ f among code _. subst (λ (g : LinkFault). (g.code ≡ E03) ⊎ (g.code ≡ E05) → ⊥) (among_is (faults_of l) f among) (none among.0 f among.1) code)

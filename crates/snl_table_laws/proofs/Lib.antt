@@ -9,4 +9,5 @@ pub mod TableBytes
 pub mod Clashes
 pub mod Repetitions
 pub mod Phases
+pub mod OrderCodes
 pub mod InOrder
