@@ -11,8 +11,8 @@ ghost use Rattle.std.specs.Prelude.{◌≡◌, ◌⊎◌, ℕ, All, List};
 use snl_item_check::faults_have_item_codes;
 use snl_table_laws::{items_with_places_are_ordered, ordered_items_have_places};
 
-/// A text has no E03 where its items at program level are in the order of the language, and no state
-/// set has an item that may not be in one. Where it has neither E03 nor E05, both are so.
+/// A text has no E03 where its items at program level are in the order of the language, and no
+/// state set has an item that may not be in one. Where it has neither E03 nor E05, both are so.
 pub fn ordered_texts_have_no_misplaced_item()
     ensures none { (text : List ℕ) → IsInOrder (linked_of text (items_of text))
         → AreSetsFree (linked_of text (items_of text))

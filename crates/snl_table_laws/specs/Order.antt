@@ -56,7 +56,8 @@ pub record IsInOrder (l : LinkedItems) : Type 0 where
   pub rising : AreRising parts
   pub each : (i : ℕ) (kind : ItemKind) → IsAtProgramLevel l i → slice_get l.kinds i ≡ Some kind → MayBe parts i kind
 
--- What may not be in a state set: a header, an option, an entry or exit block, a function, a struct.
+-- What may not be in a state set: a header, an option, an entry or exit block, a function or a
+-- struct.
 abbrev pub IsBarred : ItemKind → Type 0
 IsBarred kind = (kind ≡ Header) ⊎ ((kind ≡ OptionLine) ⊎ ((kind ≡ Entry) ⊎ ((kind ≡ Exit) ⊎ ((kind ≡ Function) ⊎ (kind ≡ StructDef)))))
 

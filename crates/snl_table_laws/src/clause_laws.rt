@@ -1,5 +1,5 @@
-//! The laws of `sync` and `monitor` clauses that meet on a variable. A function here does nothing of
-//! its own: its contract is the law.
+//! The laws of `sync` and `monitor` clauses that meet on a variable. A function here does nothing
+//! of its own: its contract is the law.
 
 ghost use Rattle.snl_codes.specs.declared.code.Code.TheVariants.{W05};
 ghost use Rattle.snl_scope.specs.Clauses.{clause_faults, sound_clauses};

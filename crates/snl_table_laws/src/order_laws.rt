@@ -1,4 +1,5 @@
-//! The laws of the order of items. A function here does nothing of its own: its contract is the law.
+//! The laws of the order of items. A function here does nothing of its own: its contract is the
+//! law.
 
 ghost use Rattle.snl_codes.specs.declared.code.Code.TheVariants.{E03, E05};
 ghost use Rattle.snl_scope.specs.Linked.{faults_of};

@@ -43,9 +43,9 @@ pub fn markers_read_back()
         → marker_number (codes "#line " ++ (decimal n ++ rest)) ≡ Some n }
 {}
 
-/// A marker that is written with a number and a file's name between quotes sets both. The lines after
-/// it have that file, byte for byte, up to the end of the line of the next marker that names one. What
-/// the marker has after the name is skipped.
+/// A marker that is written with a number and a file's name between quotes sets both. The lines
+/// after it have that file, byte for byte, up to and with the line of the next marker that names
+/// one. What the marker has after the name is skipped.
 pub fn marker_files_read_back()
     ensures number { (n : ℕ) (file marker : List ℕ) → IsNaming n file marker
         → marker_number marker ≡ Some n }

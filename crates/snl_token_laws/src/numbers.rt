@@ -13,8 +13,8 @@ use snl_lex::text_in_pieces;
 /// piece each. What follows them belongs to that piece only if it begins with a letter, a digit,
 /// `_` or a dot: a sign after a number isn't part of it.
 pub fn numbers_read_back()
-    ensures integer { (v : ℕ) (bytes rest : List ℕ) → IsInteger v bytes → goes_on_digits rest ≡ false
-        → first_piece (bytes ++ rest) ≡ (Int, length bytes) }
+    ensures integer { (v : ℕ) (bytes rest : List ℕ) → IsInteger v bytes
+        → goes_on_digits rest ≡ false → first_piece (bytes ++ rest) ≡ (Int, length bytes) }
     ensures floating { (bytes rest : List ℕ) → IsFloating bytes → goes_on_digits rest ≡ false
         → first_piece (bytes ++ rest) ≡ (Float, length bytes) }
 {}
