@@ -9,3 +9,6 @@ pub mod Places
 pub mod KeptItems
 pub mod FaultyLinks
 pub mod OnlyFault
+pub mod Settings
+pub mod Withheld
+pub mod OrderedTexts

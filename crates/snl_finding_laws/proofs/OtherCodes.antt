@@ -95,7 +95,7 @@ placed_code counts ss f = by (slice_get ss f.item)
     by None h = missing_code ss f h
     by (Some s) h = not_linked f.code h.code
 
-code_there : (code : Code) (o : Option Piece) → (finding_at code o).code ≡ code
+pub code_there : (code : Code) (o : Option Piece) → (finding_at code o).code ≡ code
 code_there code None = refl
 code_there code (Some p) = refl
 

@@ -1,3 +1,4 @@
 pub mod OwnFaults
 pub mod Places
 pub mod KeptItems
+pub mod Settings

@@ -48,7 +48,7 @@ apart_where_none_overlaps (Front n) (Front m) h = record {
 
 -- ---- a sound `assign` clashes with none before it
 
-abbrev gives_error : Option Code → Bool
+abbrev pub gives_error : Option Code → Bool
 gives_error code = option_map_or is_error code false
 
 -- Whatever else is wrong with it, an `assign` that clashes gives an error.

@@ -6,3 +6,8 @@ pub mod FlagLines
 pub mod Assigns
 pub mod OneChannel
 pub mod TableBytes
+pub mod Clashes
+pub mod Repetitions
+pub mod Phases
+pub mod OrderCodes
+pub mod InOrder

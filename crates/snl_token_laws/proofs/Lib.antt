@@ -10,3 +10,12 @@ pub mod Marked
 pub mod Meeting
 pub mod Recuts
 pub mod MarkerNumbers
+pub mod Spelled
+pub mod DigitRuns
+pub mod IntegerForms
+pub mod FloatForms
+pub mod NumberForms
+pub mod NumberPieces
+pub mod NumberKinds
+pub mod MarkerFiles
+pub mod MarkerLines

@@ -71,7 +71,7 @@ ends_line text p class lies h = marker_end text p class lies (marker_kind text p
 -- ---- the pieces after a marker
 
 -- The pieces end one after another, and all after a place.
-abbrev EndAfter : ℕ → List Piece → Type 0
+abbrev pub EndAfter : ℕ → List Piece → Type 0
 EndAfter from [] = Unit {0}
 EndAfter from (p ∷ ps) = (from < piece_end p) × EndAfter (piece_end p) ps
 
@@ -86,7 +86,7 @@ pieces_after text at (suc most) h =
     let next : ℕ = at + piece_length (drop at text) in
     after_if text at (nat_lt at (length text)) (piece_at text at) (pieces_from text next most) refl h (pieces_after text next most)
 
-all_after : (text : List ℕ) → All (LiesIn text) (pieces_of text) → EndAfter 0 (pieces_of text)
+pub all_after : (text : List ℕ) → All (LiesIn text) (pieces_of text) → EndAfter 0 (pieces_of text)
 unfolding pieces_of
 all_after text h = pieces_after text 0 (length text) h
 
@@ -118,7 +118,7 @@ last_at text o passes is from (p ∷ ps) found (suc k) d h lt e t =
     ]
 
 -- Each end is above the ones before it.
-end_above : (from : ℕ) (ps : List Piece) (k : ℕ) (d : Piece) → EndAfter from ps → k < length ps → from < piece_end (get_or ps k d)
+pub end_above : (from : ℕ) (ps : List Piece) (k : ℕ) (d : Piece) → EndAfter from ps → k < length ps → from < piece_end (get_or ps k d)
 end_above from [] k d h lt = absurd (omega arith)
 end_above from (p ∷ ps) zero d h lt = h.0
 end_above from (p ∷ ps) (suc k) d h lt = omega (arith, h.0, end_above (piece_end p) ps k d h.1 (omega arith))

@@ -20,7 +20,7 @@ use Rattle.snl_token_laws.proofs.Values.{all_digits, decimal_digit_is, same_valu
 -- ---- the digits
 
 -- A run ends with the bytes that pass, if the byte after them doesn't.
-run_end : (p : ℕ → Bool) (xs ys : List ℕ) → list_all p xs ≡ true → p (slice_index ys 0) ≡ false → run_of p (xs ++ ys) ≡ length xs
+pub run_end : (p : ℕ → Bool) (xs ys : List ℕ) → list_all p xs ≡ true → p (slice_index ys 0) ≡ false → run_of p (xs ++ ys) ≡ length xs
 run_end p [] [] all stop = refl
 run_end p [] (y ∷ ys) all stop = ap (λ (b : Bool). cond b (suc (run_of p ys)) 0) stop
 run_end p (x ∷ xs) ys all stop =
@@ -35,11 +35,11 @@ no_digit : (b : ℕ) → is_white b ≡ true → is_digit b ≡ false
 unfolding is_white is_digit
 no_digit b h = grind (arith, nat_tests)
 
-zero_no_digit : is_digit 0 ≡ false
+pub zero_no_digit : is_digit 0 ≡ false
 unfolding is_digit
 zero_no_digit = refl
 
-end_no_digit : (rest : List ℕ) → EndsNumber rest → is_digit (slice_index rest 0) ≡ false
+pub end_no_digit : (rest : List ℕ) → EndsNumber rest → is_digit (slice_index rest 0) ≡ false
 end_no_digit rest h =
     elim h [
       | inl none ↦ ap (λ (l : List ℕ). is_digit (slice_index l 0)) none ∙ zero_no_digit
@@ -54,7 +54,7 @@ some_if true false c d w h i j k = cc
 some_if false b c d w h i j k = cc
 
 -- A marker whose number is at a place.
-number_told : (marker : List ℕ) (place : ℕ) (ds rest : List ℕ) (n : ℕ) → number_place marker ≡ place → drop place marker ≡ ds ++ rest → length marker ≡ place + length (ds ++ rest)
+pub number_told : (marker : List ℕ) (place : ℕ) (ds rest : List ℕ) (n : ℕ) → number_place marker ≡ place → drop place marker ≡ ds ++ rest → length marker ≡ place + length (ds ++ rest)
     → list_all is_digit ds ≡ true → 0 < length ds → length ds ≤ 10 → value_after Decimal 0 ds ≡ n → n ≤ 2147483647 → EndsNumber rest → marker_number marker ≡ Some n
 unfolding marker_number
 number_told marker place ds rest n at there size all some few worth small ends =
@@ -79,18 +79,18 @@ number_told marker place ds rest n at there size all some few worth small ends =
 
 -- ---- where the number is
 
-digit_no_gap : (b : ℕ) → is_digit b ≡ true → is_gap b ≡ false
+pub digit_no_gap : (b : ℕ) → is_digit b ≡ true → is_gap b ≡ false
 unfolding is_digit is_gap
 digit_no_gap b h = grind (arith, nat_tests)
 
-digit_no_letter_l : (b : ℕ) → is_digit b ≡ true → (b == 108) ≡ false
+pub digit_no_letter_l : (b : ℕ) → is_digit b ≡ true → (b == 108) ≡ false
 unfolding is_digit
 digit_no_letter_l b h = grind (arith, nat_tests)
 
 no_gap : (c : ℕ) (cs : List ℕ) → is_digit c ≡ true → run_of is_gap (c ∷ cs) ≡ 0
 no_gap c cs h = ap (λ (b : Bool). cond b (suc (run_of is_gap cs)) 0) (digit_no_gap c h)
 
-no_word : (a b c : Bool) (x y : ℕ) → a ≡ false → cond ((a && b) && c) x y ≡ y
+pub no_word : (a b c : Bool) (x y : ℕ) → a ≡ false → cond ((a && b) && c) x y ≡ y
 no_word true b c x y h = cc
 no_word false b c x y h = refl
 

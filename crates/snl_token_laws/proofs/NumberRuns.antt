@@ -8,17 +8,16 @@ use Rattle.std.proofs.lemmas.Bool.Decides.{nat_tests}
 use Rattle.std.proofs.lemmas.Fmt.{digits_is_IsNumeral}
 use Rattle.std.proofs.Math.Seq.{take-append_seam}
 use Rattle.snl_lex.specs.declared.alphabet.Start.{Start}
-use Rattle.snl_lex.specs.declared.alphabet.Start.TheVariants.{Blank, Letter, Digit}
 use Rattle.snl_lex.specs.declared.piece.Class.{Class}
 use Rattle.snl_lex.specs.declared.piece.Class.TheVariants.{Int}
-use Rattle.snl_lex.specs.Alphabet.{is_digit, is_hexadecimal_digit, is_letter, is_plain, is_white, is_word_byte, start_of}
+use Rattle.snl_lex.specs.Alphabet.{is_digit, is_hexadecimal_digit, is_letter, is_plain, is_word_byte}
 use Rattle.snl_lex.specs.Numbers.{awaits_sign, int_value_of, is_power, is_sign, number_class, number_joins}
 use Rattle.snl_lex.specs.Pieces.{first_piece, piece_by}
 use Rattle.snl_lex.specs.Runs.{run_by}
 use Rattle.snl_token_laws.specs.Written.{goes_on_digits, hexadecimal, octal}
 use Rattle.snl_token_laws.proofs.Limits.{int_class}
 use Rattle.snl_token_laws.proofs.Values.{all_digits, decimal_digit_is, decimal_value, hexadecimal_digit_is, hexadecimal_value, octal_value}
-use Rattle.snl_lex.specs.PieceLaws.{digit_not_white, digit_not_letter, digit_start}
+use Rattle.snl_lex.specs.PieceLaws.{digit_start}
 use Rattle.std.proofs.Math.Numerals.{one-add}
 
 -- ---- the run of a number
@@ -31,23 +30,23 @@ stops_at false false false true h k = cc
 stops_at false true sign awaits h k = cc
 stops_at true dot sign awaits h k = cc
 
-stops : (before rest : List ℕ) → awaits_sign before ≡ false → goes_on_digits rest ≡ false → run_by number_joins before rest ≡ 0
+pub stops : (before rest : List ℕ) → awaits_sign before ≡ false → goes_on_digits rest ≡ false → run_by number_joins before rest ≡ 0
 unfolding number_joins
 stops before [] h k = refl
 stops before (b ∷ bs) h k = ap (λ (c : Bool). cond c (suc (run_by number_joins (b ∷ before) bs)) 0) (stops_at (is_word_byte b) (b == 46) (is_sign b) (awaits_sign before) k h)
 
-joins : (before : List ℕ) (b : ℕ) → is_word_byte b ≡ true → number_joins before b ≡ true
+pub joins : (before : List ℕ) (b : ℕ) → (is_word_byte b || b == 46) ≡ true → number_joins before b ≡ true
 unfolding number_joins
-joins before b h = or_left (is_word_byte b || b == 46) (is_sign b && awaits_sign before) (or_left (is_word_byte b) (b == 46) h)
+joins before b h = or_left (is_word_byte b || b == 46) (is_sign b && awaits_sign before) h
 
 -- Bytes that pass a test go on a number, where none of them leaves a sign to come: `keeps` holds of
 -- what is before each.
 pub record IsQuiet (passes : ℕ → Bool) (keeps : List ℕ → Bool) : Type 0 where
-  pub word : (b : ℕ) → passes b ≡ true → is_word_byte b ≡ true
+  pub word : (b : ℕ) → passes b ≡ true → (is_word_byte b || b == 46) ≡ true
   pub kept : (before : List ℕ) (b : ℕ) → keeps before ≡ true → passes b ≡ true → keeps (b ∷ before) ≡ true
   pub quiet : (before : List ℕ) → keeps before ≡ true → awaits_sign before ≡ false
 
-run_on : (passes : ℕ → Bool) (keeps : List ℕ → Bool) → IsQuiet passes keeps → (before ds rest : List ℕ) → keeps before ≡ true → list_all passes ds ≡ true → goes_on_digits rest ≡ false
+pub run_on : (passes : ℕ → Bool) (keeps : List ℕ → Bool) → IsQuiet passes keeps → (before ds rest : List ℕ) → keeps before ≡ true → list_all passes ds ≡ true → goes_on_digits rest ≡ false
     → run_by number_joins before (ds ++ rest) ≡ length ds
 run_on passes keeps is before [] rest k all end = stops before rest (is.quiet before k) end
 run_on passes keeps is before (d ∷ ds) rest k all end =
@@ -56,37 +55,37 @@ run_on passes keeps is before (d ∷ ds) rest k all end =
     ap (λ (c : Bool). cond c (suc (run_by number_joins (d ∷ before) (ds ++ rest))) 0) (joins before d (is.word d parts.0)) ∙ ap suc again
 
 -- After a digit no sign comes.
-abbrev after_digit : List ℕ → Bool
+abbrev pub after_digit : List ℕ → Bool
 after_digit before = not (awaits_sign before)
 
-digit_is_word : (b : ℕ) → is_digit b ≡ true → is_word_byte b ≡ true
+pub digit_is_word : (b : ℕ) → is_digit b ≡ true → is_word_byte b ≡ true
 unfolding is_word_byte
 digit_is_word b h = or_right (is_letter b) (is_digit b) h
 
-digit_is_no_power : (b : ℕ) → is_digit b ≡ true → is_power b ≡ false
+pub digit_is_no_power : (b : ℕ) → is_digit b ≡ true → is_power b ≡ false
 unfolding is_digit is_power
 digit_is_no_power b h = grind (arith, nat_tests)
 
-digit_awaits_none : (before : List ℕ) (b : ℕ) → is_digit b ≡ true → awaits_sign (b ∷ before) ≡ false
+pub digit_awaits_none : (before : List ℕ) (b : ℕ) → is_digit b ≡ true → awaits_sign (b ∷ before) ≡ false
 unfolding awaits_sign
 digit_awaits_none before b h = and_left (is_power b) (list_all is_plain before) (digit_is_no_power b h)
 
 digits_quiet : IsQuiet is_digit after_digit
 digits_quiet = record {
-  word = digit_is_word;
+  word = λ b h. or_left (is_word_byte b) (b == 46) (digit_is_word b h);
   kept = λ before b k h. not_from_false (awaits_sign (b ∷ before)) (digit_awaits_none before b h);
   quiet = λ before k. not-true (awaits_sign before) k;
 }
 
 -- Nor where a byte before is neither a digit nor a dot.
-abbrev after_letter : List ℕ → Bool
+abbrev pub after_letter : List ℕ → Bool
 after_letter before = not (awaits_sign before) && not (list_all is_plain before)
 
-hexadecimal_is_word : (b : ℕ) → is_hexadecimal_digit b ≡ true → is_word_byte b ≡ true
+pub hexadecimal_is_word : (b : ℕ) → is_hexadecimal_digit b ≡ true → is_word_byte b ≡ true
 unfolding is_hexadecimal_digit is_word_byte is_letter is_digit
 hexadecimal_is_word b h = grind (arith, nat_tests)
 
-letter_kept : (before : List ℕ) (b : ℕ) → after_letter before ≡ true → after_letter (b ∷ before) ≡ true
+pub letter_kept : (before : List ℕ) (b : ℕ) → after_letter before ≡ true → after_letter (b ∷ before) ≡ true
 unfolding awaits_sign
 letter_kept before b h =
     let mixed : list_all is_plain before ≡ false = not-true (list_all is_plain before) (and_parts (not (awaits_sign before)) (not (list_all is_plain before)) h).1 in
@@ -96,7 +95,7 @@ letter_kept before b h =
 
 letters_quiet : IsQuiet is_hexadecimal_digit after_letter
 letters_quiet = record {
-  word = hexadecimal_is_word;
+  word = λ b h. or_left (is_word_byte b) (b == 46) (hexadecimal_is_word b h);
   kept = λ before b k h. letter_kept before b k;
   quiet = λ before k. not-true (awaits_sign before) (and_parts (not (awaits_sign before)) (not (list_all is_plain before)) k).0;
 }
@@ -141,14 +140,14 @@ octal_piece v rest h end =
 hexadecimal_run : (x : ℕ) (ds rest : List ℕ) → is_word_byte x ≡ true → after_letter (x ∷ 48 ∷ []) ≡ true → list_all is_hexadecimal_digit ds ≡ true → goes_on_digits rest ≡ false
     → run_by number_joins (48 ∷ []) (x ∷ ds ++ rest) ≡ suc (length ds)
 hexadecimal_run x ds rest word quiet all end =
-    ap (λ (c : Bool). cond c (suc (run_by number_joins (x ∷ 48 ∷ []) (ds ++ rest))) 0) (joins (48 ∷ []) x word)
+    ap (λ (c : Bool). cond c (suc (run_by number_joins (x ∷ 48 ∷ []) (ds ++ rest))) 0) (joins (48 ∷ []) x (or_left (is_word_byte x) (x == 46) word))
     ∙ ap suc (run_on is_hexadecimal_digit after_letter letters_quiet (x ∷ 48 ∷ []) ds rest quiet all end)
 
-small_x : (is_word_byte 120 ≡ true) × (after_letter (120 ∷ 48 ∷ []) ≡ true)
+pub small_x : (is_word_byte 120 ≡ true) × (after_letter (120 ∷ 48 ∷ []) ≡ true)
 unfolding is_word_byte is_letter is_digit awaits_sign is_power is_plain
 small_x = (refl, refl)
 
-capital_x : (is_word_byte 88 ≡ true) × (after_letter (88 ∷ 48 ∷ []) ≡ true)
+pub capital_x : (is_word_byte 88 ≡ true) × (after_letter (88 ∷ 48 ∷ []) ≡ true)
 unfolding is_word_byte is_letter is_digit awaits_sign is_power is_plain
 capital_x = (refl, refl)
 

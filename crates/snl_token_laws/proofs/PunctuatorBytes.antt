@@ -1,5 +1,5 @@
 -- What holds of each punctuator, and the starts that punctuators have.
-use Rattle.std.proofs.Common.{◌≡◌, ◌==◌, ℕ, zero, suc, Bool, true, false, cond, List, [], ◌∷◌, take, refl, sym, ap, ◌∙◌, eqb-true, inl, inr}
+use Rattle.std.proofs.Common.{◌≡◌, ◌==◌, ℕ, zero, suc, Bool, true, false, cond, List, [], ◌∷◌, take, refl, sym, ap, ◌∙◌, inl, inr}
 use Rattle.std.specs.Prelude.{slice_index}
 use Rattle.std.specs.List.{list_all, list_any}
 use Rattle.std.specs.Str.{bytes_eq}
@@ -53,6 +53,7 @@ first_byte (x ∷ xs) (suc n) h = punctuator_again (x ∷ take n xs) h
 
 -- What the start of a piece says of its first byte.
 abbrev pub says : Start → ℕ → Bool
+says Digit b = is_digit b
 says Dot b = b == 46
 says Slash b = b == 47
 says Percent b = b == 37
@@ -68,7 +69,7 @@ unfolding start_of
 start_says b =
     says_if (is_white b) Blank _ b (λ e. refl)
     (says_if (is_letter b) Letter _ b (λ e. refl)
-    (says_if (is_digit b) Digit _ b (λ e. refl)
+    (says_if (is_digit b) Digit _ b (λ e. e)
     (says_if (b == 46) Dot _ b (λ e. e)
     (says_if (b == 35) Hash _ b (λ e. refl)
     (says_if (b == 47) Slash _ b (λ e. e)

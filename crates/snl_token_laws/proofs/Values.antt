@@ -97,11 +97,11 @@ zero_value : int_value_of (48 ∷ []) ≡ Some 0
 unfolding int_value_of base_of value_in is_int_suffix is_octal_digit digit_value is_digit
 zero_value = refl
 
-decimal_base : (bytes : List ℕ) → (slice_index bytes 0 == 48) ≡ false → base_of bytes ≡ Decimal
+pub decimal_base : (bytes : List ℕ) → (slice_index bytes 0 == 48) ≡ false → base_of bytes ≡ Decimal
 unfolding base_of
 decimal_base bytes h = ap (λ (b : Bool). cond b (cond (slice_index bytes 1 == 120 || slice_index bytes 1 == 88) Hexadecimal Octal) Decimal) h
 
-of_base : (base : NumberBase) (bytes : List ℕ) → base_of bytes ≡ base → int_value_of bytes ≡ value_in base (from_digits base bytes)
+pub of_base : (base : NumberBase) (bytes : List ℕ) → base_of bytes ≡ base → int_value_of bytes ≡ value_in base (from_digits base bytes)
 unfolding int_value_of
 of_base base bytes e = ap (λ (b : NumberBase). value_in b (from_digits b bytes)) e
 

@@ -1,5 +1,6 @@
 //! What lines are numbered, and which files they are of.
 
+ghost use Rattle.snl_token_laws.specs.Markers.{IsNaming, NoneNames, bytes_of, file_name_at};
 ghost use Rattle.snl_token_laws.specs.Unmarked.{IsPlainEnd};
 ghost use Rattle.snl_token_laws.specs.Written.{EndsNumber};
 ghost use Rattle.snl_lex.specs.Lines.{line_at, lines_between, marker_file, marker_number};
@@ -41,6 +42,23 @@ pub fn markers_read_back()
     ensures with_word { (n : ℕ) (rest : List ℕ) → n ≤ 2147483647 → EndsNumber rest
         → marker_number (codes "#line " ++ (decimal n ++ rest)) ≡ Some n }
 {}
+
+/// A marker that is written with a number and a file's name between quotes sets both. The lines
+/// after it have that file, byte for byte, up to and with the line of the next marker that names
+/// one. What the marker has after the name is skipped.
+pub fn marker_files_read_back()
+    ensures number { (n : ℕ) (file marker : List ℕ) → IsNaming n file marker
+        → marker_number marker ≡ Some n }
+    ensures named { (n : ℕ) (file marker : List ℕ) → IsNaming n file marker
+        → bytes_of marker (marker_file marker) ≡ Some file }
+    ensures file { (text : List ℕ) → All
+        (λ p. (n : ℕ) (file : List ℕ) (offset : ℕ) → IsNaming n file (bytes_at text p)
+        → piece_end p < offset → offset ≤ length text → NoneNames text (piece_end p) offset
+        → file_name_at text offset ≡ Some file)
+        (pieces_of text) }
+{
+    text_in_pieces();
+}
 
 /// The first line has the number 1 and no file. All of a line has one number and one file. The line
 /// after it has the next number and the same file, unless a marker that sets a line is on it.
