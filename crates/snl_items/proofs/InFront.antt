@@ -1,10 +1,11 @@
 -- Which pieces, and which tokens, begin before a place.
-use Rattle.std.proofs.Common.{◌≡◌, ℕ, zero, suc, ◌+◌, ◌<◌, ◌≤◌, inl, inr, Bool, true, false, cond, min, nat_lt, All, List, [], ◌∷◌, length, filter, count_by, take, drop, get_or, sym, ap, ◌∙◌, subst, arith}
+use Rattle.std.proofs.Common.{◌≡◌, ℕ, zero, suc, ◌+◌, ◌<◌, ◌≤◌, inl, inr, Bool, true, false, cond, min, nat_lt, All, List, [], ◌∷◌, length, filter, count_by, take, drop, get_or, refl, sym, ap, ◌∙◌, subst, arith, length-append}
 use Rattle.std.specs.List.{AllByRecursion}
 use Rattle.std.specs.List.Sorted.{IsNonDecreasing, IsPartitionPoint}
-use Rattle.std.proofs.lemmas.Bool.{cases_lt}
-use Rattle.std.proofs.lemmas.List.{take_min}
-use Rattle.std.proofs.lemmas.List.Elements.{All-filter, All-from_recursion, All-same}
+use Rattle.std.proofs.lemmas.Bool.{cases_lt, le-ltb, lt-ltb}
+use Rattle.std.proofs.lemmas.List.{take-append-drop, take_min}
+use Rattle.std.proofs.lemmas.List.Elements.{All-filter, All-from_recursion, All-head, All-same, All-tail, filter-append}
+use Rattle.std.proofs.lemmas.List.Sums.{length-filter}
 use Rattle.snl_cut.specs.Cut.{Rises, ends_below}
 use Rattle.snl_lex.specs.declared.piece.Class.{Class}
 use Rattle.snl_lex.specs.declared.piece.Piece.{Piece}
@@ -63,6 +64,31 @@ late_begin place from (e ∷ es) (k ∷ ks) r =
           (begin_after place e es ks r.1 more)
     ]
 
+-- Of pieces that begin before a place all pass, and of pieces that begin there or after it none.
+abbrev begins_before : (place : ℕ) → Piece → Bool
+begins_before place p = nat_lt p.start place
+
+all_pass : (place : ℕ) (ps : List Piece) → All (λ p. p.start < place) ps → length (filter (begins_before place) ps) ≡ length ps
+all_pass place [] h = refl
+all_pass place (p ∷ ps) h =
+    ap (λ (t : Bool). length (cond t (p ∷ filter (begins_before place) ps) (filter (begins_before place) ps))) (lt-ltb p.start place (All-head (λ q. q.start < place) p ps h))
+    ∙ ap suc (all_pass place ps (All-tail (λ q. q.start < place) p ps h))
+
+none_pass : (place : ℕ) (ps : List Piece) → All (λ p. place ≤ p.start) ps → length (filter (begins_before place) ps) ≡ 0
+none_pass place [] h = refl
+none_pass place (p ∷ ps) h =
+    ap (λ (t : Bool). length (cond t (p ∷ filter (begins_before place) ps) (filter (begins_before place) ps))) (le-ltb p.start place (All-head (λ q. place ≤ q.start) p ps h))
+    ∙ none_pass place ps (All-tail (λ q. place ≤ q.start) p ps h)
+
+-- So where the first ones begin before the place and the others don't, the first ones are counted.
+first_pass : (place count : ℕ) (ps : List Piece) → All (λ p. p.start < place) (take count ps) → All (λ p. place ≤ p.start) (drop count ps) → count_by (begins_before place) ps ≡ length (take count ps)
+first_pass place count ps front back =
+    sym (length-filter (begins_before place) ps)
+    ∙ ap (λ (l : List Piece). length (filter (begins_before place) l)) (sym (take-append-drop count ps))
+    ∙ ap length (filter-append (begins_before place) (take count ps) (drop count ps))
+    ∙ length-append (filter (begins_before place) (take count ps)) (filter (begins_before place) (drop count ps))
+    ∙ omega (arith, all_pass place (take count ps) front, none_pass place (drop count ps) back)
+
 -- So do the tokens: as many are in front as there are among the pieces that begin before the place,
 -- which their classes tell.
 module _ (text ends : List ℕ) (kinds : List Class) (place before pieces count : ℕ) (ends_are : ends ≡ piece_ends text) (kinds_are : kinds ≡ piece_kinds text) (rises : Rises 0 (piece_ends text))
@@ -97,3 +123,9 @@ module _ (text ends : List ℕ) (kinds : List Class) (place before pieces count 
       (All-filter is_token (λ p. place ≤ p.start) (drop number (pieces_of text))
       (subst (λ (ps : List Piece). All (λ p. place ≤ p.start) (drop number ps)) listed
       (All-from_recursion (λ p. place ≤ p.start) (drop number (listed_pieces 0 (piece_ends text) (piece_kinds text))) (late_begin place 0 (piece_ends text) (piece_kinds text) rises))))
+
+  pub begin_count : 0 < place → count ≡ count_by (λ p. nat_lt p.start place) (tokens_of text)
+  begin_count lt =
+      as_many
+      ∙ sym (ap length (ap (λ (n : ℕ). take n (tokens_of text)) as_many ∙ taken_tokens (pieces_of text) number))
+      ∙ sym (first_pass place count (tokens_of text) (begin_in_front lt) begin_behind)

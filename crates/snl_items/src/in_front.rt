@@ -4,7 +4,7 @@
 ghost use Rattle.snl_cut.specs.Cut.{Rises, ends_below};
 ghost use Rattle.snl_lex.specs.PieceList.{piece_ends, piece_kinds};
 ghost use Rattle.snl_lex.specs.Pieces.{tokens_of};
-ghost use Rattle.std.specs.Prelude.{◌≡◌, ℕ, ◌<◌, ◌≤◌, All, List, drop, length, take};
+ghost use Rattle.std.specs.Prelude.{◌≡◌, ℕ, ◌<◌, ◌≤◌, All, List, count_by, drop, length, nat_lt, take};
 
 use crate::tokens::count_tokens;
 use snl_cut::{ends_in_order, one_cut};
@@ -23,6 +23,7 @@ fn ends_before(ends: &[u32], place: usize) -> usize
 /// by halving, and those of them that their classes call tokens are counted.
 pub fn tokens_in_front(pieces: &PieceList, place: usize) -> usize
     requires some { 0 < place }
+    ensures count { (text : List ℕ) → pieces.now.ends.items ≡ piece_ends text → pieces.now.kinds.items ≡ piece_kinds text → result ≡ count_by (λ p. nat_lt p.start place) (tokens_of text) }
     ensures front { (text : List ℕ) → pieces.now.ends.items ≡ piece_ends text → pieces.now.kinds.items ≡ piece_kinds text → All (λ p. p.start < place) (take result (tokens_of text)) }
     ensures back { (text : List ℕ) → pieces.now.ends.items ≡ piece_ends text → pieces.now.kinds.items ≡ piece_kinds text → All (λ p. place ≤ p.start) (drop result (tokens_of text)) }
 {

@@ -1,7 +1,7 @@
 //! The script engine.
 //! In: a source and a script. Out: the answers to the script's commands.
-//! No clause says that each is written before more is read:
-//! the test `writes_an_answer_before_it_reads_on` shows it.
+//! Each is written before more is read. No one clause says that, but `ran`, `read` and `write` leave
+//! no other way, for all readers and writers: docs/PROVED.md says why.
 //! Knows nothing of files, terminals and the command line.
 #![tactic(auto)]
 

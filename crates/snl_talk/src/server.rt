@@ -1,7 +1,8 @@
 //! The loop of a server.
 //! In: a reader that gives a client's messages, and whoever answers them. Out: the answers, to a
 //! writer.
-//! No clause says that each is written before more is read: tests/lsp shows it.
+//! Each is written before more is read. No one clause says that, but `ran`, `read` and `write` leave
+//! no other way, for all readers and writers: docs/PROVED.md says why.
 //! Knows nothing of what a message asks, and of what is answered.
 
 ghost use Rattle.std.specs.Prelude.{◌≡◌, ◌≢◌, ◌^◌, ◌≤◌, ◌||◌, [], Err, false, is_err, IsErrOf, None, Ok};
