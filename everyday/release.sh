@@ -1,0 +1,112 @@
+# Takes a program from the release. ./check and ./lsp read this in a clone in which no build was
+# asked for; they name the program's crate (target). What is unpacked is in release/out, in a folder
+# named by the archive's checksum. Beside the archive's own folder it has what is noted when the
+# sources are compared with those of the release: their folders, a time from before that, and
+# whether it was said that they differ.
+
+build_it="./$self --build proves and builds it, where the toolchain is"
+
+# Finds the program, and unpacks the release where that was not done yet.
+take_release() {
+    local sum archive inner
+    [[ $root = /* ]] || root=$PWD/$root
+    { read -r sum archive < "$root/release/SHA256SUMS"; } 2> /dev/null \
+        || fail "release/SHA256SUMS is not there; $build_it"
+    is_for_this_machine
+    place=$root/release/out/${sum:0:12}
+    inner=${archive%.tar.xz}/lib/snl-check/$target
+    [ -x "$place/$inner" ] || unpack
+    program=$place/$inner
+    is_told || compare_sources
+}
+
+# The variables are bash's own; where it was started by a tcsh, they can be that one's.
+is_for_this_machine() {
+    local machine=$HOSTTYPE
+    [ "$machine" = x86_64 ] || machine=$(uname -m)
+    [ "$machine" = x86_64 ] && [[ $OSTYPE = linux* ]] \
+        || fail "the release is for Linux on x86-64, and this machine is another (${OSTYPE%-*} on $machine): run it on one of that kind"
+}
+
+# Unpacks the archive apart, and puts that in its place at once: two calls may do so side by side.
+# Where the clone cannot be written, it is unpacked into a temporary folder, which goes at the end.
+unpack() {
+    local why open is_kept=1
+    [ -r "$root/release/$archive" ] \
+        || fail "release/$archive is not there: git checkout release brings it back; $build_it"
+    [ "$(sha256sum < "$root/release/$archive")" = "$sum  -" ] \
+        || fail "release/$archive is damaged: git checkout release mends that; $build_it"
+    choose_opener
+    trap 'rm -rf "${room:-}" "${apart:-}"' EXIT
+    apart=$place.$$
+    mkdir -p "$apart" 2> /dev/null || { apart=$(mktemp -d) && is_kept=; } || exit 2
+    why=$({ "${open[@]}" "$root/release/$archive" | tar -xf - -C "$apart"; } 2>&1) \
+        || fail "release/$archive cannot be unpacked: ${why%%$'\n'*}"
+    trial | "$apart/$inner" > /dev/null 2>&1 || fail "the program of the release does not run here"
+    [ -z "$is_kept" ] && place=$apart || put_in_place
+}
+
+# Finds a program that reads the archive: the second is that of busybox.
+choose_opener() {
+    local of_python='import lzma, sys; sys.stdout.buffer.write(lzma.open(sys.argv[1]).read())'
+    open=(xz -dc)
+    command -v xz > /dev/null && return
+    open=(xzcat)
+    command -v xzcat > /dev/null && return
+    open=(python3 -c "$of_python")
+    command -v python3 > /dev/null || fail "to unpack the release, xz is wanted, or python3"
+}
+
+# Where another call was first, its folder stays, if nothing is gone of it. What was unpacked of
+# earlier releases goes.
+put_in_place() {
+    local old
+    [ -x "$place/$inner" ] || [ ! -e "$place" ] || rm -rf "$place"
+    [ -e "$place" ] || mv "$apart" "$place" 2> /dev/null
+    rm -rf "$apart" "$place/${apart##*/}"
+    apart=
+    for old in "${place%/*}"/*; do
+        [ "$old" = "$place" ] || [[ ${old##*/} = *.* ]] || rm -rf "$old"
+    done
+}
+
+# Whether it was said that the sources differ, or nothing was changed since they were compared.
+is_told() {
+    local folders changed
+    [ ! -e "$place/said" ] || return 0
+    { read -r folders < "$place/folders"; } 2> /dev/null && changed=$(find_newer) \
+        && [ -z "$changed" ]
+}
+
+# Not every find knows the time of a change, as that of busybox.
+find_newer() {
+    local newer
+    cd "$root" || return
+    for newer in -cnewer -newer; do
+        # The folders have plain names, with blanks between.
+        # shellcheck disable=SC2086
+        find crates.txt release/sources $folders "$newer" "$place/time" -print -quit && return
+    done
+} 2> /dev/null
+
+# Compares the sources with those of the release, and says once where they differ.
+compare_sources() {
+    . "$parts/sources.sh"
+    { : > "$place/time.$$"; } 2> /dev/null
+    find_released
+    if [ "${#folders[@]}" -gt 0 ] \
+        && [ "$(sums_of "${folders[@]}")" = "$(< "$root/release/sources")" ]; then
+        note_compared
+    else
+        rm -f "$place/time.$$"
+        archive=${archive#snl-}
+        mkdir "$place/said" 2> /dev/null \
+            && say "release ${archive%%-*} is of earlier sources; ./$self --build proves and builds these"
+    fi
+    return 0
+}
+
+note_compared() {
+    echo "${folders[*]}" > "$place/folders.$$" && mv "$place/folders.$$" "$place/folders" \
+        && mv "$place/time.$$" "$place/time"
+} 2> /dev/null
