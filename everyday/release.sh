@@ -1,8 +1,8 @@
 # Takes a program from the release. ./check and ./lsp read this in a clone in which no build was
 # asked for; they name the program's crate (target). What is unpacked is in release/out, in a folder
 # named by the archive's checksum. Beside the archive's own folder it has what is noted when the
-# sources are compared with those of the release: their folders, a time from before that, and
-# whether it was said that they differ.
+# sources are compared with those of the release: which paths are to be looked at from then on, a
+# time from before that, and whether it was said that the sources differ.
 
 build_it="./$self --build proves and builds it, where the toolchain is"
 
@@ -72,10 +72,9 @@ put_in_place() {
 
 # Whether it was said that the sources differ, or nothing was changed since they were compared.
 is_told() {
-    local folders changed
+    local paths changed
     [ ! -e "$place/said" ] || return 0
-    { read -r folders < "$place/folders"; } 2> /dev/null && changed=$(find_newer) \
-        && [ -z "$changed" ]
+    { read -r paths < "$place/paths"; } 2> /dev/null && changed=$(find_newer) && [ -z "$changed" ]
 }
 
 # Not every find knows the time of a change, as that of busybox.
@@ -83,9 +82,9 @@ find_newer() {
     local newer
     cd "$root" || return
     for newer in -cnewer -newer; do
-        # The folders have plain names, with blanks between.
+        # The paths are plain names, with blanks between.
         # shellcheck disable=SC2086
-        find crates.txt release/sources $folders "$newer" "$place/time" -print -quit && return
+        find $paths "$newer" "$place/time" -print -quit && return
     done
 } 2> /dev/null
 
@@ -106,7 +105,13 @@ compare_sources() {
     return 0
 }
 
+# Of proofs there are twice as many files as of all else, and no program is another by them: they
+# are compared again where git has brought something.
 note_compared() {
-    echo "${folders[*]}" > "$place/folders.$$" && mv "$place/folders.$$" "$place/folders" \
+    local paths=(crates.txt release/sources)
+    [ ! -e "$root/.git/logs/HEAD" ] || paths+=(.git/logs/HEAD)
+    find_folders src specs
+    paths+=("${folders[@]}")
+    echo "${paths[*]}" > "$place/paths.$$" && mv "$place/paths.$$" "$place/paths" \
         && mv "$place/time.$$" "$place/time"
 } 2> /dev/null
