@@ -44,7 +44,7 @@ fi
 
 if [ "${1-}" = --build ]; then
     [ -e "$root/crates.txt" ] || fail "there are no sources here to build: --build is for a clone"
-    build_time="two hours of one processor's time, or minutes where ./check is built,"
+    build_time="two hours by the clock on four processors, or one where ./check is built,"
     . "$parts/build.sh" && bring_up_to_date
     say "built: $(realpath "$here") is the command for an editor"
     exit
