@@ -65,6 +65,8 @@ put_in_place() {
     [ -e "$place" ] || mv "$apart" "$place" 2> /dev/null
     rm -rf "$apart" "$place/${apart##*/}"
     apart=
+    # What root has unpacked is for whom the clone belongs to.
+    [ "$EUID" != 0 ] || chown -R --reference="$root/release" "${place%/*}" 2> /dev/null
     for old in "${place%/*}"/*; do
         [ "$old" = "$place" ] || [[ ${old##*/} = *.* ]] || rm -rf "$old"
     done
