@@ -46,15 +46,16 @@ unpack() {
     [ -z "$is_kept" ] && place=$apart || put_in_place
 }
 
-# Finds a program that reads the archive: the second is that of busybox.
+# Finds a program that reads the archive.
 choose_opener() {
-    local of_python='import lzma, sys; sys.stdout.buffer.write(lzma.open(sys.argv[1]).read())'
-    open=(xz -dc)
-    command -v xz > /dev/null && return
-    open=(xzcat)
-    command -v xzcat > /dev/null && return
-    open=(python3 -c "$of_python")
-    command -v python3 > /dev/null || fail "to unpack the release, xz is wanted, or python3"
+    local of_python='import lzma, sys; sys.stdout.buffer.write(lzma.open(sys.argv[1]).read())' words
+    for words in 'xz -dc' xzcat 'busybox xzcat' 'python3 -c'; do
+        read -ra open <<< "$words"
+        command -v "${open[0]}" > /dev/null && break
+        open=()
+    done
+    [ "${#open[@]}" -gt 0 ] || fail "to unpack the release, xz is wanted, or busybox or python3"
+    [ "${open[0]}" != python3 ] || open+=("$of_python")
 }
 
 # Where another call was first, its folder stays, if nothing is gone of it. What was unpacked of
